@@ -1,0 +1,37 @@
+-- The slices of a model: the positive one, and one for each negative value. (This project's rule.)
+use Rattle.std.specs.Prelude.{ℕ, not, List, [], ◌∷◌, map, length, Option, slice_set}
+use Rattle.std.specs.List.{filter, flat_map, range_with_len}
+use Rattle.cov_model.specs.declared.slice.Slice.{Slice}
+use Rattle.cov_model.specs.declared.slice.Slice.TheVariants.{Positive, Negative}
+use Rattle.cov_model.specs.Sound.{ModelView}
+use Rattle.cov_model.specs.Rows.{value_in}
+use Rattle.cov_model.specs.Meaning.{value_at}
+use Rattle.cov_model.specs.Sound.{param_at}
+use Rattle.cov_model.specs.Valid.{negatives, param_numbers}
+
+-- the numbers of the values of a parameter, of those that aren't negative, and of those that are
+abbrev pub value_numbers : ModelView → ℕ → List ℕ
+value_numbers m p = range_with_len 0 (length (param_at m.params p).values)
+
+abbrev pub positive_values : ModelView → ℕ → List ℕ
+positive_values m p = filter (λ v. not (value_at m p v).negative) (value_numbers m p)
+
+abbrev pub negative_values : ModelView → ℕ → List ℕ
+negative_values m p = filter (λ v. (value_at m p v).negative) (value_numbers m p)
+
+-- the slices in order: the positive one, then the negative ones by parameter and by value
+abbrev pub slices : ModelView → List Slice
+slices m = Positive ∷ flat_map (λ p. map (λ v. Negative p v) (negative_values m p)) (param_numbers m)
+
+-- each parameter's values in a slice
+abbrev pub slice_values : ModelView → Slice → List (List ℕ)
+slice_values m Positive = map (positive_values m) (param_numbers m)
+slice_values m (Negative q v) = slice_set (map (positive_values m) (param_numbers m)) q (v ∷ [])
+
+-- the slice of a partial row with at most one negative value
+abbrev pub slice_of : ModelView → List (Option ℕ) → Slice
+slice_of m cells = of_negatives (negatives m cells)
+  where
+    of_negatives : List ℕ → Slice
+    of_negatives [] = Positive
+    of_negatives (p ∷ rest) = Negative p (value_in cells p)

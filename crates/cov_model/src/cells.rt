@@ -1,0 +1,78 @@
+ghost use Rattle.std.specs.Prelude.{◌≡◌, ◌<◌, Option, Some, None, length, replicate, slice_index_or, slice_set, IfOk};
+
+use crate::parameter::{ParamNo, ValueNo};
+use std::alloc::Global;
+use std::marker::Model;
+use value_text::{NoMemory, OwnedList};
+
+/// A partial row: for each parameter of a model the number of its value, where it has one.
+#[derive(Drop)]
+pub struct Cells {
+    places: Vec<Option<ValueNo>>,
+}
+
+/// A list of complete rows.
+pub type Rows = OwnedList<Cells>;
+
+impl Model for Cells {
+    ghost use Rattle.std.specs.Prelude.{List, Option, ℕ};
+
+    ghost Value = { List (Option ℕ) };
+
+    ghost view = { λ cells. cells.places.items };
+}
+
+impl Cells {
+    /// A partial row of `n` parameters that gives none a value.
+    ///
+    /// # Errors
+    ///
+    /// `NoMemory` where there is no room for `n` places.
+    pub fn empty(alloc: Global, n: usize) -> Result<Cells, NoMemory>
+        ensures { IfOk result (λ cells. cells ≡ replicate n None) }
+    {
+        match vec![in alloc; None; n] {
+            Ok(places) => Ok(Cells { places }),
+            Err(_) => Err(NoMemory),
+        }
+    }
+
+    /// The number of parameters.
+    pub fn len(&self) -> usize
+        ensures { result ≡ length self.now }
+    {
+        self.places.len()
+    }
+
+    /// The value of a parameter; `None` exactly where it has none.
+    pub fn get(&self, p: ParamNo) -> Option<ValueNo>
+        requires { p < length self.now }
+        ensures { result ≡ slice_index_or self.now p None }
+    {
+        self.places[p as usize]
+    }
+
+    /// Gives a parameter a value, in place of the one it had. Takes no memory.
+    pub fn set_cell(&mut self, p: ParamNo, v: ValueNo)
+        requires { p < length self.old }
+        ensures { self.new ≡ slice_set self.old p (Some v) }
+    {
+        self.places[p as usize] = Some(v);
+    }
+
+    /// Takes the value of a parameter away. Takes no memory.
+    pub fn clear_cell(&mut self, p: ParamNo)
+        requires { p < length self.old }
+        ensures { self.new ≡ slice_set self.old p None }
+    {
+        self.places[p as usize] = None;
+    }
+
+    /// Becomes the other partial row. Takes no memory.
+    pub fn copy_from(&mut self, other: &Cells)
+        requires { length self.old ≡ length other.now }
+        ensures { self.new ≡ other.now }
+    {
+        self.places.copy_from_slice(other.places.as_slice());
+    }
+}

@@ -1,0 +1,25 @@
+//! The test model that every other crate speaks of: parameters with their values, constraints,
+//! what is demanded, and the rows and tuples over them.
+//!
+//! - `TestModel` keeps that its model is sound: every accessor says so.
+//! - `Cells` is a partial row, with a place for each parameter; `Tuple` is one as its rising pairs.
+//! - specs/Meaning says when a constraint holds on a row, and what is known of it on a partial row.
+#![tactic(auto)]
+
+mod cells;
+mod constraint;
+mod demand;
+mod model;
+mod parameter;
+mod slice;
+mod truth;
+mod tuple;
+
+pub use cells::{Cells, Rows};
+pub use constraint::{Body, Literal, LiteralList, Pred, PredList, Rel, Rule, RuleList, Term};
+pub use demand::{Demand, Group, GroupList, NoList};
+pub use model::TestModel;
+pub use parameter::{Param, ParamList, ParamNo, Value, ValueList, ValueNo};
+pub use slice::Slice;
+pub use truth::Truth;
+pub use tuple::{Tuple, TupleList};

@@ -1,0 +1,95 @@
+ghost use Rattle.std.specs.Prelude.{◌≡◌};
+ghost use Rattle.cov_model.specs.Sound.{IsSound};
+
+use crate::constraint::RuleList;
+use crate::demand::Demand;
+use crate::parameter::ParamList;
+use std::marker::Model;
+
+/// A sound test model: what a model file describes (PICT's guide; the ACTS guide for relations).
+///
+/// It is sound from its making on, as `IsSound` says, and every accessor hands that on.
+#[derive(Drop)]
+pub struct TestModel {
+    all_params: ParamList,
+    all_rules: RuleList,
+    wanted: Demand,
+    mark: u8,
+    folds: bool,
+}
+
+impl Model for TestModel {
+    ghost use Rattle.std.specs.Coded.{codes};
+    ghost use Rattle.cov_model.specs.Sound.{ModelView, IsSound};
+    ghost use Rattle.cov_model.specs.contracts.constraint.Pred as predicate;
+
+    ghost Value = { ModelView };
+
+    ghost coded = { Prim.hlevel (codes, predicate.the_row.coded) };
+
+    ghost view = { λ a. record { params = a.all_params; rules = a.all_rules; demand = a.wanted; prefix = a.mark; fold = a.folds } };
+
+    ghost invariant = { λ a. IsSound (record { params = a.all_params; rules = a.all_rules; demand = a.wanted; prefix = a.mark; fold = a.folds }) };
+}
+
+impl TestModel {
+    /// The model of these parts, which have to be sound together. Takes no memory.
+    pub fn new(
+        params: ParamList,
+        rules: RuleList,
+        demand: Demand,
+        prefix: u8,
+        fold: bool,
+    ) -> TestModel
+        requires { IsSound (record { params = params; rules = rules; demand = demand; prefix = prefix; fold = fold }) }
+        ensures { result ≡ record { params = params; rules = rules; demand = demand; prefix = prefix; fold = fold } }
+    {
+        TestModel {
+            all_params: params,
+            all_rules: rules,
+            wanted: demand,
+            mark: prefix,
+            folds: fold,
+        }
+    }
+
+    /// The parameters, in order of declaration.
+    pub fn params(&self) -> &ParamList
+        ensures value { result.now ≡ self.now.params }
+        ensures sound { IsSound self.now }
+    {
+        &self.all_params
+    }
+
+    /// The constraints, in order; the one at place i has the number i + 1.
+    pub fn rules(&self) -> &RuleList
+        ensures value { result.now ≡ self.now.rules }
+        ensures sound { IsSound self.now }
+    {
+        &self.all_rules
+    }
+
+    /// What a suite has to cover.
+    pub fn demand(&self) -> &Demand
+        ensures value { result.now ≡ self.now.demand }
+        ensures sound { IsSound self.now }
+    {
+        &self.wanted
+    }
+
+    /// The mark before the names of negative values, an ASCII byte.
+    pub fn prefix(&self) -> u8
+        ensures value { result ≡ self.now.prefix }
+        ensures sound { IsSound self.now }
+    {
+        self.mark
+    }
+
+    /// Whether ASCII letters are folded before texts are compared.
+    pub fn fold(&self) -> bool
+        ensures value { result ≡ self.now.fold }
+        ensures sound { IsSound self.now }
+    {
+        self.folds
+    }
+}

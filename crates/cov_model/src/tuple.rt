@@ -1,0 +1,53 @@
+ghost use Rattle.std.specs.Prelude.{◌≡◌, IfOk};
+ghost use Rattle.cov_model.specs.Tuples.{IsRising};
+
+use crate::parameter::{ParamNo, ValueNo};
+use smallvec::SmallVec;
+use std::alloc::Global;
+use std::marker::Model;
+use value_text::{NoMemory, OwnedList};
+
+/// A partial row as the list of its parameters with their values, parameters rising.
+#[derive(Drop)]
+pub struct Tuple {
+    pairs: SmallVec<(ParamNo, ValueNo), 8>,
+}
+
+/// A list of tuples.
+pub type TupleList = OwnedList<Tuple>;
+
+impl Model for Tuple {
+    ghost use Rattle.std.specs.Prelude.{List, ℕ};
+    ghost use Rattle.cov_model.specs.Tuples.{IsRising};
+
+    ghost Value = { List (ℕ × ℕ) };
+
+    ghost view = { λ tuple. tuple.pairs.items };
+
+    ghost invariant = { λ tuple. IsRising tuple.pairs.items };
+}
+
+impl Tuple {
+    /// The tuple of these pairs.
+    ///
+    /// # Errors
+    ///
+    /// `NoMemory` where there is no room for them.
+    pub fn of(alloc: Global, pairs: &[(ParamNo, ValueNo)]) -> Result<Tuple, NoMemory>
+        requires { IsRising pairs.now }
+        ensures { IfOk result (λ tuple. tuple ≡ pairs.now) }
+    {
+        match SmallVec::from_slice(alloc, pairs) {
+            Ok(pairs) => Ok(Tuple { pairs }),
+            Err(_) => Err(NoMemory),
+        }
+    }
+
+    /// The pairs of parameter and value, parameters rising.
+    pub fn as_slice(&self) -> &[(ParamNo, ValueNo)]
+        ensures value { result.now ≡ self.now }
+        ensures rising { IsRising self.now }
+    {
+        self.pairs.as_slice()
+    }
+}
