@@ -11,13 +11,14 @@ is_blank byte = (byte == 32) || (byte == 9)
 abbrev pub is_trimmed : List ℕ → Bool
 is_trimmed text = nat_lt 0 (length text) && not (is_blank (slice_index text 0)) && not (is_blank (slice_index text (length text - 1)))
 
--- no control character and no byte-order mark
-abbrev pub is_name_char : ℕ → Bool
-is_name_char c = not (nat_lt c 32 || (c == 127) || (c == 0xfeff))
+-- no control character
+abbrev pub is_plain : ℕ → Bool
+is_plain byte = not (nat_lt byte 32 || (byte == 127))
 
--- what a parameter or a value may be called
+-- what a parameter or a value may be called: no blank at its ends, no control character and no
+-- byte-order mark anywhere
 abbrev pub is_name : List ℕ → Bool
-is_name text = is_trimmed text && list_all is_name_char (chars text)
+is_name text = is_trimmed text && list_all is_plain text && not (list_any (λ c. c == 0xfeff) (chars text))
 
 abbrev pub is_letter : ℕ → Bool
 is_letter c = (nat_le 65 c && nat_le c 90) || (nat_le 97 c && nat_le c 122)

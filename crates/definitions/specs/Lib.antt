@@ -1,0 +1,4 @@
+pub mod Demand
+pub mod Covering
+pub mod Report
+pub mod RowFile
