@@ -1,0 +1,4 @@
+//! The program `pict`: words to settings, model files to models, models to reports.
+#![tactic(auto)]
+
+mod first_form;
