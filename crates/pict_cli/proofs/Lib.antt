@@ -1,2 +1,4 @@
+pub mod Lines
+pub mod Given
 pub mod Pairs
 pub mod TwoParameters

@@ -10,21 +10,21 @@ use Rattle.pict_cli.specs.Pairs.{rows_from, pair_rows}
 pub range-more : (a n k : ℕ) → a + n ≡ k → range_with_len a (n + 1) ≡ range_with_len a n ++ k ∷ []
 range-more a n k e = ap (range_with_len a) (add-one n) ∙ one_more a n k e
   where
-  one_more : (a n k : ℕ) → a + n ≡ k → range_with_len a (suc n) ≡ range_with_len a n ++ k ∷ []
-  one_more a zero k e = ap (λ x. x ∷ []) (omega arith)
-  one_more a (suc n) k e = ap (λ xs. a ∷ xs) (one_more (a + 1) n k (omega arith))
+    one_more : (a n k : ℕ) → a + n ≡ k → range_with_len a (suc n) ≡ range_with_len a n ++ k ∷ []
+    one_more a zero k e = ap (λ x. x ∷ []) (omega arith)
+    one_more a (suc n) k e = ap (λ xs. a ∷ xs) (one_more (a + 1) n k (omega arith))
 
 -- the rows with the values so far, one after another, and the next
 pub rows_from-more : (rows old : List (List (Option ℕ))) (j i : ℕ) → rows ≡ old ++ rows_from j i → rows ++ (Some i ∷ Some j ∷ []) ∷ [] ≡ old ++ rows_from (j + 1) i
 rows_from-more rows old j i e =
     ap (λ xs. xs ++ (Some i ∷ Some j ∷ []) ∷ []) e ∙ append_assoc old (rows_from j i) _
-      ∙ ap (λ xs. old ++ xs) (sym (ap (map (λ k. Some i ∷ Some k ∷ [])) (range-more 0 j j (omega arith)) ∙ map-append (λ k. Some i ∷ Some k ∷ []) (range_with_len 0 j) (j ∷ [])))
+    ∙ ap (λ xs. old ++ xs) (sym (ap (map (λ k. Some i ∷ Some k ∷ [])) (range-more 0 j j (omega arith)) ∙ map-append (λ k. Some i ∷ Some k ∷ []) (range_with_len 0 j) (j ∷ [])))
 
 pub pair_rows-more : (rows : List (List (Option ℕ))) (i count : ℕ) → rows ≡ pair_rows i count → rows ++ rows_from count i ≡ pair_rows (i + 1) count
 pair_rows-more rows i count e =
     ap (λ xs. xs ++ rows_from count i) e
-      ∙ sym (ap (flat_map (rows_from count)) (range-more 0 i i (omega arith)) ∙ flat_map-append (rows_from count) (range_with_len 0 i) (i ∷ [])
-        ∙ ap (λ xs. pair_rows i count ++ xs) (append-nil (rows_from count i)))
+    ∙ sym (ap (flat_map (rows_from count)) (range-more 0 i i (omega arith)) ∙ flat_map-append (rows_from count) (range_with_len 0 i) (i ∷ [])
+    ∙ ap (λ xs. pair_rows i count ++ xs) (append-nil (rows_from count i)))
 
 -- what holds of each number below a limit holds of each element that is made of one
 all_over : {X : Type 0} (P : X → Type 0) (f : ℕ → X) (a n : ℕ) → ((k : ℕ) → k < a + n → P (f k)) → All P (map f (range_with_len a n))

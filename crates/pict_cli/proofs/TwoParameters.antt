@@ -76,7 +76,7 @@ outer_pairs : (xs ys : List ℕ) → flat_map (λ i. map (λ cells. Some i ∷ c
 outer_pairs [] ys = refl
 outer_pairs (i ∷ xs) ys =
     ap (λ rows. rows ++ flat_map (λ k. map (λ cells. Some k ∷ cells) (flat_map (λ j. (Some j ∷ []) ∷ []) ys)) xs) (inner_pairs i ys)
-      ∙ ap (λ rows. map (λ j. Some i ∷ Some j ∷ []) ys ++ rows) (outer_pairs xs ys)
+    ∙ ap (λ rows. map (λ j. Some i ∷ Some j ∷ []) ys ++ rows) (outer_pairs xs ys)
 
 module _ (a b : Param) (prefix : ℕ) (fold : Bool) (a_positive : IsPositive a) (b_positive : IsPositive b) where
   abbrev m : ModelView
@@ -101,10 +101,10 @@ module _ (a b : Param) (prefix : ℕ) (fold : Bool) (a_positive : IsPositive a) 
   demanded-two =
       let set : List ℕ = 0 ∷ 1 ∷ [] in
       let shape : List ℕ → List ℕ → List (List (Option ℕ)) =
-        λ xs ys. flat_map (λ i. map (λ cells. Some i ∷ cells) (flat_map (λ j. (Some j ∷ []) ∷ []) ys)) xs in
+      λ xs ys. flat_map (λ i. map (λ cells. Some i ∷ cells) (flat_map (λ j. (Some j ∷ []) ∷ []) ys)) xs in
       ap (λ parts. flat_map (tuples_in m set) parts ++ []) one_slice ∙ append-nil (tuples_in m set Positive ++ []) ∙ append-nil (tuples_in m set Positive)
-        ∙ ap (λ xs. shape xs (positive_values m 1)) a_values ∙ ap (shape (range_with_len 0 (length a.values))) b_values
-        ∙ outer_pairs (range_with_len 0 (length a.values)) (range_with_len 0 (length b.values))
+      ∙ ap (λ xs. shape xs (positive_values m 1)) a_values ∙ ap (shape (range_with_len 0 (length a.values))) b_values
+      ∙ outer_pairs (range_with_len 0 (length a.values)) (range_with_len 0 (length b.values))
 
   -- each pair of values is a valid row, which serves itself
   pair_valid : (i j : ℕ) → i < length a.values → j < length b.values → is_valid m (Some i ∷ Some j ∷ []) ≡ true
@@ -119,10 +119,10 @@ module _ (a b : Param) (prefix : ℕ) (fold : Bool) (a_positive : IsPositive a) 
 
   pub covering-two : IsCovering m (demanded_tuples m)
   covering-two = subst (IsCovering m) (sym demanded-two) (record {
-      valid = All-pair_rows (λ row. is_valid m row ≡ true) _ _ pair_valid;
-      served = subst (All (λ tuple. Any (λ row. serves m row tuple ≡ true) (pair_rows (length a.values) (length b.values)))) (sym demanded-two)
+    valid = All-pair_rows (λ row. is_valid m row ≡ true) _ _ pair_valid;
+    served = subst (All (λ tuple. Any (λ row. serves m row tuple ≡ true) (pair_rows (length a.values) (length b.values)))) (sym demanded-two)
         (Any-itself (λ row tuple. serves m row tuple ≡ true) _ (All-pair_rows (λ row. serves m row row ≡ true) _ _ pair_serves));
-    })
+  })
 
 -- the demanded tuples of a model of the first form are a covering array of it, and rows
 pub covering : (m : ModelView) → HasFirstShape m → IsCovering m (demanded_tuples m)
@@ -135,7 +135,7 @@ demanded_rows m h =
     let two = two_of m h in
     let n = two_model two.a two.b m.prefix m.fold in
     subst (λ n. All (λ row. is_row n row ≡ true) (demanded_tuples n)) (sym two.is)
-      (subst (All (λ row. is_row n row ≡ true)) (sym (demanded-two two.a two.b m.prefix m.fold two.a_positive two.b_positive)) (rows-two two.a two.b m.prefix m.fold two.a_positive two.b_positive))
+    (subst (All (λ row. is_row n row ≡ true)) (sym (demanded-two two.a two.b m.prefix m.fold two.a_positive two.b_positive)) (rows-two two.a two.b m.prefix m.fold two.a_positive two.b_positive))
 
 -- the pairs of the values of the two parameters are the demanded tuples
 pub pairs-demanded : (m : ModelView) → HasFirstShape m → (params : List Param) (d e : Param) (first second : ℕ) → params ≡ m.params → first ≡ length (get_or params 0 d).values → second ≡ length (get_or params 1 e).values → pair_rows first second ≡ demanded_tuples m
@@ -143,5 +143,5 @@ pairs-demanded m h params d e first second is first_is second_is =
     let two = two_of m h in
     let both : params ≡ two.a ∷ two.b ∷ [] = is ∙ ap (λ (n : ModelView). n.params) two.is in
     ap (λ n. pair_rows n second) (first_is ∙ ap (λ xs. length (get_or xs 0 d).values) both)
-      ∙ ap (pair_rows (length two.a.values)) (second_is ∙ ap (λ xs. length (get_or xs 1 e).values) both)
-      ∙ sym (demanded-two two.a two.b m.prefix m.fold two.a_positive two.b_positive) ∙ ap demanded_tuples (sym two.is)
+    ∙ ap (pair_rows (length two.a.values)) (second_is ∙ ap (λ xs. length (get_or xs 1 e).values) both)
+    ∙ sym (demanded-two two.a two.b m.prefix m.fold two.a_positive two.b_positive) ∙ ap demanded_tuples (sym two.is)

@@ -1,2 +1,3 @@
 pub mod FirstForm
 pub mod Pairs
+pub mod Lines

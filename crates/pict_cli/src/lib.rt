@@ -3,3 +3,4 @@
 
 mod first_form;
 mod growth;
+mod report;

@@ -1,0 +1,29 @@
+-- Lines of a report, cell by cell.
+use Rattle.std.proofs.Common.{◌≡◌, ◌≢◌, ℕ, zero, suc, ◌+◌, ◌<◌, ◌≤◌, List, [], ◌∷◌, ◌++◌, map, length, get_or, take, sym, refl, ap, ◌∙◌, arith, append_assoc}
+use Rattle.std.proofs.lemmas.List.{take_more, length-take-le, get_or-map, length-map}
+use Rattle.std.specs.List.{join_with_byte}
+use Rattle.pict_cli.specs.Lines.{cell_behind}
+
+-- a cell that isn't the first
+pub cell_behind-later : (place : ℕ) (text : List ℕ) → place ≢ 0 → cell_behind place text ≡ 9 ∷ text
+cell_behind-later zero text h = absurd (h refl)
+cell_behind-later (suc place) text h = refl
+
+-- a cell at the end of the others
+join_with_byte-push : (cells : List (List ℕ)) (cell : List ℕ) → join_with_byte 9 (cells ++ cell ∷ []) ≡ join_with_byte 9 cells ++ cell_behind (length cells) cell
+join_with_byte-push [] cell = refl
+join_with_byte-push (a ∷ []) cell = refl
+join_with_byte-push (a ∷ b ∷ cells) cell =
+    ap (λ rest. a ++ (9 ∷ rest)) (join_with_byte-push (b ∷ cells) cell) ∙ sym (append_assoc a (9 ∷ join_with_byte 9 (b ∷ cells)) (9 ∷ cell))
+
+-- the cells so far, one for each element, and the next
+pub line_more : {X : Type 0} (f : X → List ℕ) (xs : List X) (text line : List ℕ) (i : ℕ) (d : X) (cell : List ℕ) → i < length xs → cell ≡ f (get_or xs i d) → text ≡ line ++ join_with_byte 9 (take i (map f xs)) → text ++ cell_behind i cell ≡ line ++ join_with_byte 9 (take (i + 1) (map f xs))
+line_more f xs text line i d cell inside is so_far =
+    let cells = map f xs in
+    let inside_map : i < length cells = omega (arith, length-map xs f) in
+    let same : cell ≡ get_or cells i [] = is ∙ sym (get_or-map f xs i d [] inside) in
+    let place : length (take i cells) ≡ i = length-take-le i cells (omega arith) in
+    let pushed : join_with_byte 9 (take (i + 1) cells) ≡ join_with_byte 9 (take i cells) ++ cell_behind i cell =
+    ap (join_with_byte 9) (take_more cells i [] inside_map) ∙ join_with_byte-push (take i cells) (get_or cells i [])
+    ∙ ap (λ n. join_with_byte 9 (take i cells) ++ cell_behind n (get_or cells i [])) place ∙ ap (λ x. join_with_byte 9 (take i cells) ++ cell_behind i x) (sym same) in
+    ap (λ t. t ++ cell_behind i cell) so_far ∙ append_assoc line (join_with_byte 9 (take i cells)) (cell_behind i cell) ∙ ap (λ t. line ++ t) (sym pushed)
