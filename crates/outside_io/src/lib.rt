@@ -1,0 +1,21 @@
+//! What the programs touch of the world outside: a folder of files, sinks that take bytes, and the
+//! gate at which workers begin.
+//!
+//! - `Folder` and `Sink` say what a call did where that is told, and count the faults of the device
+//!   behind them: a call answers `Failed` only where its count of faults rose.
+//! - `MemFolder` and `MemSink` stand in memory and tell everything, `SureFolder` and `SureSink` never
+//!   fail, and `RealFolder` and `RealSink` are the edge to the operating system's files and streams.
+//! - `write_file` and `put` take no memory of the caller.
+#![tactic(auto)]
+
+mod answers;
+mod folder;
+mod mem_sink;
+mod sink;
+mod sure_sink;
+
+pub use answers::{ReadAnswer, WriteAnswer};
+pub use folder::Folder;
+pub use mem_sink::MemSink;
+pub use sink::Sink;
+pub use sure_sink::SureSink;
