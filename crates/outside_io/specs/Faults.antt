@@ -37,3 +37,8 @@ is_failed_read read.NoMemory = false
 abbrev pub is_failed_write : WriteAnswer → Bool
 is_failed_write write.Done = false
 is_failed_write write.Failed = true
+
+-- the counts of faults of a folder that has one for the reads of all names, and one for the writes
+pub record FaultCounts : Type 0 where
+  pub reads : ℕ
+  pub writes : ℕ

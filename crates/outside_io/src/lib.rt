@@ -10,12 +10,18 @@
 
 mod answers;
 mod folder;
+mod gate;
 mod mem_sink;
+mod real_folder;
+mod real_sink;
 mod sink;
 mod sure_sink;
 
 pub use answers::{ReadAnswer, WriteAnswer};
 pub use folder::Folder;
+pub use gate::{Gate, OpenGate};
 pub use mem_sink::MemSink;
+pub use real_folder::RealFolder;
+pub use real_sink::RealSink;
 pub use sink::Sink;
 pub use sure_sink::SureSink;
