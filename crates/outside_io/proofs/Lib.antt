@@ -1,1 +1,2 @@
 pub mod PutsLaws
+mod SlotLemmas

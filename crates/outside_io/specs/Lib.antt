@@ -2,3 +2,4 @@ pub mod Faults
 pub mod Files
 pub mod Puts
 pub mod MemSink
+pub mod MemFolder

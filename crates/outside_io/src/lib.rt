@@ -11,6 +11,8 @@
 mod answers;
 mod folder;
 mod gate;
+mod mem_file;
+mod mem_folder;
 mod mem_sink;
 mod real_folder;
 mod real_sink;
@@ -20,6 +22,7 @@ mod sure_sink;
 pub use answers::{ReadAnswer, WriteAnswer};
 pub use folder::Folder;
 pub use gate::{Gate, OpenGate};
+pub use mem_folder::{Calls, MemFolder};
 pub use mem_sink::MemSink;
 pub use real_folder::RealFolder;
 pub use real_sink::RealSink;
