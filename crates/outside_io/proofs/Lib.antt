@@ -1,2 +1,3 @@
 pub mod PutsLaws
 mod SlotLemmas
+mod FileListLemmas

@@ -3,3 +3,4 @@ pub mod Files
 pub mod Puts
 pub mod MemSink
 pub mod MemFolder
+pub mod FileLists

@@ -9,17 +9,21 @@
 #![tactic(auto)]
 
 mod answers;
+mod file_list;
 mod folder;
 mod gate;
 mod mem_file;
 mod mem_folder;
 mod mem_sink;
+mod read;
 mod real_folder;
 mod real_sink;
 mod sink;
+mod sure_folder;
 mod sure_sink;
 
 pub use answers::{ReadAnswer, WriteAnswer};
+pub use file_list::{ByteList, FileHeld, FileList};
 pub use folder::Folder;
 pub use gate::{Gate, OpenGate};
 pub use mem_folder::{Calls, MemFolder};
@@ -27,4 +31,5 @@ pub use mem_sink::MemSink;
 pub use real_folder::RealFolder;
 pub use real_sink::RealSink;
 pub use sink::Sink;
+pub use sure_folder::SureFolder;
 pub use sure_sink::SureSink;

@@ -5,6 +5,7 @@ ghost use Rattle.outside_io.specs.Faults.{GoesOn, one_more, is_failed_read, is_f
 use crate::answers::{ReadAnswer, WriteAnswer};
 use crate::folder::Folder;
 use crate::mem_file::MemFile;
+use crate::read::copy_up_to;
 use std::alloc::Global;
 use std::marker::Model;
 use value_text::{NoMemory, OwnedList};
@@ -234,24 +235,5 @@ impl Folder for MemFolder {
             return WriteAnswer::Failed;
         }
         WriteAnswer::Done
-    }
-}
-
-/// Appends bytes, where they are at most `most`.
-fn copy_up_to(bytes: &[u8], into: &mut Vec<u8>, most: usize) -> ReadAnswer
-    requires { into.old.items ≡ [] }
-    ensures whole { result ≡ ReadAnswer.Whole → into.new.items ≡ bytes.now }
-    ensures within { result ≡ ReadAnswer.Whole → length bytes.now ≤ most }
-    ensures too_long { result ≡ ReadAnswer.TooLong → most < length bytes.now }
-    ensures fits { result ≡ ReadAnswer.NoMemory → length bytes.now ≤ most }
-    ensures empty { result ≢ ReadAnswer.Whole → into.new.items ≡ [] }
-    ensures no_fault { is_failed_read result ≡ false }
-{
-    if bytes.len() > most {
-        return ReadAnswer::TooLong;
-    }
-    match into.extend_from_slice(bytes) {
-        Ok(()) => ReadAnswer::Whole,
-        Err(_) => ReadAnswer::NoMemory,
     }
 }
