@@ -1,17 +1,11 @@
 -- How the words on a sink compose: one text after another, a stop at the first fault, and no text.
 use Rattle.std.proofs.Common.{◌≡◌, ℕ, suc, ◌+◌, ◌-◌, ◌≤◌, min, Option, Some, None, List, [], ◌∷◌, ◌++◌, length, take, IsSome, is_some, refl, ap, sym, ◌∙◌, subst, arith, length-append, append_assoc}
+use Rattle.std.proofs.Math.Seq.{take-append-add}
 use Rattle.std.proofs.lemmas.List.{append-nil, take-append-le, take_min}
 use Rattle.std.proofs.lemmas.Grind.{common_steps}
 use Rattle.outside_io.specs.declared.answers.WriteAnswer.{WriteAnswer}
 use Rattle.outside_io.specs.declared.answers.WriteAnswer.TheVariants.{Done, Failed}
 use Rattle.outside_io.specs.Puts.{Puts, Leaves, Balances, CountsFaults}
-
--- some of the second text after the whole first one is some of the joined text
-take-past : (x y : List ℕ) (count : ℕ) → take (length x + count) (x ++ y) ≡ x ++ take count y
-take-past [] y count = grind (arith, common_steps)
-take-past (b ∷ x) y count =
-    let e : length (b ∷ x) + count ≡ suc (length x + count) = omega arith in
-    rw e (ap (λ rest. b ∷ rest) (take-past x y count))
 
 -- some of the first text is some of the joined text
 take-within : (x y : List ℕ) (count : ℕ) → take (min count (length x)) (x ++ y) ≡ take count x
@@ -28,7 +22,7 @@ Puts-then Done (Some w) m a x y first second =
     put ∙ ap Some (append_assoc w x y)
 Puts-then Failed (Some w) m a x y first second =
     let put = subst (λ (o : Option (List ℕ)). Puts Failed o a y) first second in
-    (length x + put.0, put.1 ∙ ap Some (append_assoc w x (take put.0 y) ∙ ap (λ t. w ++ t) (sym (take-past x y put.0))))
+    (length x + put.0, put.1 ∙ ap Some (append_assoc w x (take put.0 y) ∙ ap (λ t. w ++ t) (sym (take-append-add x y put.0))))
 
 -- a fault in the first step is one of the joined text
 pub Puts-stopped : (b a : Option (List ℕ)) (x y : List ℕ) → Puts Failed b a x → Puts Failed b a (x ++ y)

@@ -15,12 +15,12 @@ mod gate;
 mod mem_file;
 mod mem_folder;
 mod mem_sink;
-mod read;
 mod real_folder;
 mod real_sink;
 mod sink;
 mod sure_folder;
 mod sure_sink;
+mod transfer;
 
 pub use answers::{ReadAnswer, WriteAnswer};
 pub use file_list::{ByteList, FileHeld, FileList};

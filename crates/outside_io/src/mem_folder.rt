@@ -5,7 +5,7 @@ ghost use Rattle.outside_io.specs.Faults.{GoesOn, one_more, is_failed_read, is_f
 use crate::answers::{ReadAnswer, WriteAnswer};
 use crate::folder::Folder;
 use crate::mem_file::MemFile;
-use crate::read::copy_up_to;
+use crate::transfer::copy_up_to;
 use std::alloc::Global;
 use std::marker::Model;
 use value_text::{NoMemory, OwnedList};

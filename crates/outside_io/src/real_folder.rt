@@ -1,10 +1,10 @@
-ghost use Rattle.std.specs.Prelude.{◌≡◌, ◌≢◌, ◌≤◌, [], None, length};
+ghost use Rattle.std.specs.Prelude.{◌≡◌, ◌≢◌, ◌≤◌, [], None, length, if◌then◌else◌};
+ghost use Rattle.outside_io.specs.Faults.{GoesOn, one_more, is_failed_read, is_failed_write};
 
 use crate::answers::{ReadAnswer, WriteAnswer};
 use crate::folder::Folder;
-use crate::real_sink::write_whole;
+use crate::transfer::{read_whole, write_whole};
 use std::fs;
-use std::io::Read;
 use std::marker::Model;
 use std::rt::Files;
 
@@ -69,7 +69,14 @@ impl<R: Files + Drop> Folder for RealFolder<R> {
     ghost write_fails = { λ _ _ _. None };
 
     /// Stops at the first byte beyond `most`, at the end or at a fault.
-    fn read_file(&mut self, name: &str, into: &mut Vec<u8>, most: usize) -> ReadAnswer {
+    fn read_file(&mut self, name: &str, into: &mut Vec<u8>, most: usize) -> ReadAnswer
+        ensures within { result ≡ ReadAnswer.Whole → length into.new.items ≤ most }
+        ensures empty { result ≢ ReadAnswer.Whole → into.new.items ≡ [] }
+        ensures counts { self.new ≡ record self.old {
+            reads = if is_failed_read result then one_more self.old.reads else self.old.reads
+        } }
+        ensures goes_on { GoesOn self.old.reads self.new.reads }
+    {
         into.clear();
         let answer = self.read_named(name, into, most);
         if answer != ReadAnswer::Whole {
@@ -82,34 +89,17 @@ impl<R: Files + Drop> Folder for RealFolder<R> {
     }
 
     /// Empties the file, or makes it, and stops at the end of the bytes or at a fault.
-    fn write_file(&mut self, name: &str, bytes: &[u8]) -> WriteAnswer {
+    fn write_file(&mut self, name: &str, bytes: &[u8]) -> WriteAnswer
+        ensures counts { self.new ≡ record self.old {
+            writes = if is_failed_write result then one_more self.old.writes else self.old.writes
+        } }
+        ensures goes_on { GoesOn self.old.writes self.new.writes }
+    {
         if self.write_named(name, bytes) {
             WriteAnswer::Done
         } else {
             self.write_errors = self.write_errors.saturating_add(1);
             WriteAnswer::Failed
-        }
-    }
-}
-
-/// Appends what a file has left, up to `most` bytes in all.
-fn read_whole<F: Read>(file: &mut F, into: &mut Vec<u8>, most: usize) -> ReadAnswer
-    requires { length into.old.items ≤ most }
-    ensures { result ≡ ReadAnswer.Whole → length into.new.items ≤ most }
-{
-    let mut piece = [0u8; 8192];
-    loop {
-        match file.read(&mut piece) {
-            Ok(0) => return ReadAnswer::Whole,
-            Ok(count) => {
-                if count > most - into.len() {
-                    return ReadAnswer::TooLong;
-                }
-                if into.extend_from_slice(&piece[..count]).is_err() {
-                    return ReadAnswer::NoMemory;
-                }
-            }
-            Err(_) => return ReadAnswer::Failed,
         }
     }
 }

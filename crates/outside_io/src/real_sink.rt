@@ -1,7 +1,9 @@
-ghost use Rattle.std.specs.Prelude.{◌≡◌, None};
+ghost use Rattle.std.specs.Prelude.{◌≡◌, None, if◌then◌else◌};
+ghost use Rattle.outside_io.specs.Faults.{GoesOn, one_more, is_failed_write};
 
 use crate::answers::WriteAnswer;
 use crate::sink::Sink;
+use crate::transfer::write_whole;
 use std::io::Write;
 use std::marker::Model;
 
@@ -37,7 +39,11 @@ impl<W: Write + Drop> Sink for RealSink<W> {
 
     ghost faults = { λ sink. sink };
 
-    fn put(&mut self, bytes: &[u8]) -> WriteAnswer {
+    /// Ends at the end of the bytes or at the first fault.
+    fn put(&mut self, bytes: &[u8]) -> WriteAnswer
+        ensures counts { self.new ≡ (if is_failed_write result then one_more self.old else self.old) }
+        ensures goes_on { GoesOn self.old self.new }
+    {
         if write_whole(&mut self.stream, bytes) {
             WriteAnswer::Done
         } else {
@@ -45,16 +51,4 @@ impl<W: Write + Drop> Sink for RealSink<W> {
             WriteAnswer::Failed
         }
     }
-}
-
-/// Writes all bytes, and says whether no fault came: no error, and no write that took nothing.
-pub(crate) fn write_whole<W: Write>(stream: &mut W, bytes: &[u8]) -> bool {
-    let mut at = 0;
-    while at < bytes.len() {
-        match stream.write(&bytes[at..]) {
-            Ok(0) | Err(_) => return false,
-            Ok(count) => at += count,
-        }
-    }
-    true
 }

@@ -4,7 +4,7 @@ ghost use Rattle.outside_io.specs.Faults.{is_failed_read};
 use crate::answers::{ReadAnswer, WriteAnswer};
 use crate::file_list::FileList;
 use crate::folder::Folder;
-use crate::read::copy_up_to;
+use crate::transfer::copy_up_to;
 use std::marker::Model;
 
 /// A folder that never fails. It is given its files, and tells each of them until its name is written.
