@@ -8,13 +8,15 @@
 #![tactic(auto)]
 
 mod compare;
+mod count;
 mod digits;
 mod fixed;
 mod no_memory;
 mod owned_list;
 mod text;
 
-pub use compare::same_text;
+pub use compare::{order_text, same_text};
+pub use count::read_count;
 pub use fixed::{Fixed, FixedAnswer, read_fixed};
 pub use no_memory::NoMemory;
 pub use owned_list::OwnedList;
