@@ -2,3 +2,4 @@ pub mod DigitLemmas
 pub mod NumberLemmas
 pub mod CharLemmas
 pub mod LikeLemmas
+pub mod Laws

@@ -35,10 +35,7 @@ takes_one x p (c ∷ t) mark is =
     let e = rw other at is in
     (and_parts ((x == 63) || (x == c)) (matches p t) e).1
 
--- the steps of the part before a `*`
-pub starts : (p t : List ℕ) → Continues p t p t
-starts p t = record { same = refl; later = λ k is. is }
-
+-- a step of the part before a `*`
 step_same : (x c : ℕ) (p t : List ℕ) → x ≢ 42 → ((x ≡ 63) ⊎ (x ≡ c)) → matches (x ∷ p) (c ∷ t) ≡ matches p t
 step_same x c p t mark (inl any) = rw (ne_eqb x 42 mark, eq-eqb x 63 any)
 step_same x c p t mark (inr same) = rw (ne_eqb x 42 mark, eq-eqb x c same, or-true (x == 63))
@@ -52,34 +49,25 @@ drop_step c t zero = refl
 drop_step c [] (suc k) = ap (drop 1) (drop_nil k) ∙ sym (drop_nil (suc k))
 drop_step c (d ∷ t) (suc k) = drop_step d t k
 
-pub step : (p₀ t₀ p t whole rest : List ℕ) (x c : ℕ) → Continues p₀ t₀ whole rest → whole ≡ x ∷ p → rest ≡ c ∷ t → x ≢ 42 → ((x ≡ 63) ⊎ (x ≡ c)) → Continues p₀ t₀ p t
-step p₀ t₀ p t whole rest x c so_far whole_is rest_is mark fits = record {
-  same = so_far.same ∙ rw (whole_is, rest_is) (step_same x c p t mark fits);
+pub step : (pattern text pattern_rest text_rest behind later : List ℕ) (x c : ℕ) → Continues pattern text pattern_rest text_rest
+    → pattern_rest ≡ x ∷ behind → text_rest ≡ c ∷ later → x ≢ 42 → ((x ≡ 63) ⊎ (x ≡ c)) → Continues pattern text behind later
+step pattern text pattern_rest text_rest behind later x c so_far first letter mark fits = record {
+  same = so_far.same ∙ rw (first, letter) (step_same x c behind later mark fits);
   later = λ k is.
-      let there : matches (x ∷ p) (drop k (c ∷ t)) ≡ true = rw (← whole_is, ← rest_is) (so_far.later k is) in
-      rw (← drop_step c t k) (takes_one x p (drop k (c ∷ t)) mark there);
+      let there : matches (x ∷ behind) (drop k (c ∷ later)) ≡ true = rw (← first, ← letter) (so_far.later k is) in
+      rw (← drop_step c later k) (takes_one x behind (drop k (c ∷ later)) mark there);
 }
 
--- the ends of that part
+-- where the pattern ends
+pub both_end : (pattern text pattern_rest text_rest : List ℕ) → Continues pattern text pattern_rest text_rest → pattern_rest ≡ [] → text_rest ≡ [] → matches pattern text ≡ true
+both_end pattern text pattern_rest text_rest so_far ends text_ends = so_far.same ∙ rw (ends, text_ends)
+
+pub pattern_ends : (pattern text pattern_rest text_rest later : List ℕ) (c : ℕ) → Continues pattern text pattern_rest text_rest → pattern_rest ≡ [] → text_rest ≡ c ∷ later → matches pattern text ≡ false
+pattern_ends pattern text pattern_rest text_rest later c so_far ends letter = so_far.same ∙ rw (ends, letter)
+
 refuted : (b : Bool) → (b ≡ true → ⊥) → b ≡ false
 refuted true never = absurd (never refl)
 refuted false never = refl
-
-pub text_ends : (p₀ t₀ p whole rest : List ℕ) (x : ℕ) → Continues p₀ t₀ whole rest → whole ≡ x ∷ p → rest ≡ [] → x ≢ 42 → (k : ℕ) → matches p₀ (drop k t₀) ≡ false
-text_ends p₀ t₀ p whole rest x so_far whole_is rest_is mark k =
-    let none : matches whole (drop k rest) ≡ false = rw (whole_is, rest_is, drop_nil k, ne_eqb x 42 mark) in
-    refuted (matches p₀ (drop k t₀)) (λ is. true≢false (sym (so_far.later k is) ∙ none))
-
-pub differs : (p₀ t₀ p t whole rest : List ℕ) (x c : ℕ) → Continues p₀ t₀ whole rest → whole ≡ x ∷ p → rest ≡ c ∷ t → x ≢ 42 → x ≢ 63 → x ≢ c → matches p₀ t₀ ≡ false
-differs p₀ t₀ p t whole rest x c so_far whole_is rest_is mark any other =
-    so_far.same ∙ rw (whole_is, rest_is, ne_eqb x 42 mark, ne_eqb x 63 any, ne_eqb x c other)
-
--- where the pattern ends
-pub both_end : (p₀ t₀ whole rest : List ℕ) → Continues p₀ t₀ whole rest → whole ≡ [] → rest ≡ [] → matches p₀ t₀ ≡ true
-both_end p₀ t₀ whole rest so_far whole_is rest_is = so_far.same ∙ rw (whole_is, rest_is)
-
-pub pattern_ends : (p₀ t₀ whole rest t : List ℕ) (c : ℕ) → Continues p₀ t₀ whole rest → whole ≡ [] → rest ≡ c ∷ t → matches p₀ t₀ ≡ false
-pattern_ends p₀ t₀ whole rest t c so_far whole_is rest_is = so_far.same ∙ rw (whole_is, rest_is)
 
 -- the search behind the last `*`: what a pattern and a text come to, where a `*` stands before the pattern or not
 abbrev pub matches_after : Bool → List ℕ → List ℕ → Bool
@@ -100,10 +88,3 @@ next_star true p t behind rest so_far =
     both_ways _ _
     (λ is. let found = star_found p t is in star_later behind rest found.0 (so_far.later found.0 found.1))
     (λ is. star_here p t (so_far.same ∙ is))
-
--- where a character differs, the `*` takes one more
-pub moves_on : (p t later : List ℕ) (c : ℕ) → matches p t ≡ false → t ≡ c ∷ later → matches (42 ∷ p) t ≡ matches (42 ∷ p) later
-moves_on p t later c not is = rw is (ap (λ b. b || matches (42 ∷ p) later) (ap (matches p) (sym is) ∙ not))
-
-pub moves_nowhere : (p t : List ℕ) → matches p t ≡ false → t ≡ [] → matches (42 ∷ p) t ≡ false
-moves_nowhere p t not is = rw is (ap (matches p) (sym is) ∙ not)
