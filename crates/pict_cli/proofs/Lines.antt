@@ -36,11 +36,11 @@ row_lines-push : (m : ModelView) (earlier rows : List (List (Option ℕ))) (row 
 row_lines-push m earlier [] row = append-nil (row_line m earlier row) ∙ ap (λ before. row_line m before row) (sym (append-nil earlier))
 row_lines-push m earlier (first ∷ rows) row =
     ap (λ rest. row_line m earlier first ++ rest) (row_lines-push m (earlier ++ first ∷ []) rows row
-        ∙ ap (λ before. row_lines m (earlier ++ first ∷ []) rows ++ row_line m before row) (append_assoc earlier (first ∷ []) rows))
-      ∙ sym (append_assoc (row_line m earlier first) (row_lines m (earlier ++ first ∷ []) rows) (row_line m (earlier ++ first ∷ rows) row))
+    ∙ ap (λ before. row_lines m (earlier ++ first ∷ []) rows ++ row_line m before row) (append_assoc earlier (first ∷ []) rows))
+    ∙ sym (append_assoc (row_line m earlier first) (row_lines m (earlier ++ first ∷ []) rows) (row_line m (earlier ++ first ∷ rows) row))
 
 -- the rows so far, and the next
 pub report_text-more : (m : ModelView) (text : List ℕ) (rows : List (List (Option ℕ))) (i : ℕ) (d row : List (Option ℕ)) → i < length rows → row ≡ get_or rows i d → text ≡ report_text m (take i rows) → text ++ row_line m (take i rows) row ≡ report_text m (take (i + 1) rows)
 report_text-more m text rows i d row inside is so_far =
     ap (λ t. t ++ row_line m (take i rows) row) so_far ∙ append_assoc (header_line m) (row_lines m [] (take i rows)) (row_line m (take i rows) row)
-      ∙ ap (λ t. header_line m ++ t) (sym (ap (row_lines m []) (take_more rows i d inside ∙ ap (λ x. take i rows ++ x ∷ []) (sym is)) ∙ row_lines-push m [] (take i rows) row))
+    ∙ ap (λ t. header_line m ++ t) (sym (ap (row_lines m []) (take_more rows i d inside ∙ ap (λ x. take i rows ++ x ∷ []) (sym is)) ∙ row_lines-push m [] (take i rows) row))

@@ -4,3 +4,4 @@
 mod first_form;
 mod growth;
 mod report;
+mod stop;
