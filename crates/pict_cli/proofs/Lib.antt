@@ -1,5 +1,5 @@
 pub mod Lines
 pub mod Given
 pub mod Pairs
-pub mod Pieces
+pub mod PutPieces
 pub mod TwoParameters

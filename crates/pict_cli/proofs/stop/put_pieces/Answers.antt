@@ -1,6 +1,6 @@
 use Rattle.std.proofs.Common.{[]}
 use Rattle.outside_io.specs.Puts.{Puts}
-use Rattle.pict_cli.proofs.Pieces.{Puts-failed_at}
+use Rattle.pict_cli.proofs.PutPieces.{Puts-failed_at}
 use Rattle.pict_cli.proofs.stop.put_pieces.Goals as goal
 
 pub returns-in-Failed-clause-puts : goal.returns-in-Failed-clause-puts
