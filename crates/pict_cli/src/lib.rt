@@ -2,3 +2,4 @@
 #![tactic(auto)]
 
 mod first_form;
+mod param_line;

@@ -1,0 +1,5 @@
+pub mod LineLemmas
+pub mod Pieces
+pub mod Soundness
+pub mod Spaces
+pub mod TwoLines
