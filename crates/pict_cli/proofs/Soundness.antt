@@ -1,8 +1,8 @@
 -- Every model of the first form is sound, and of the first shape.
-use Rattle.std.proofs.Common.{◌≡◌, ◌≢◌, ℕ, ◌+◌, ◌-◌, ◌<◌, ◌≤◌, Bool, true, false, not, ◌&&◌, ◌||◌, ◌==◌, cond, eqb, ltb, leb, List, [], ◌∷◌, ◌++◌, length, take, drop, map, get_or, Option, Some, None, refl, sym, ◌∙◌, ap, subst, lit<, lit≤, arith}
+use Rattle.std.proofs.Common.{◌≡◌, ◌≢◌, ℕ, ◌+◌, ◌-◌, ◌<◌, ◌≤◌, Bool, true, false, not, ◌&&◌, ◌||◌, ◌==◌, cond, eqb, ltb, leb, List, [], ◌∷◌, ◌++◌, length, take, drop, map, get_or, Option, Some, None, refl, sym, ◌∙◌, ap, subst, if◌then◌else◌, lit<, lit≤, arith}
 use Rattle.std.specs.List.{All, AllPairs, list_all, list_any, flat_map, slice_split, before_first, after_first, count_by, position_or_len}
 use Rattle.std.specs.Str.{IsAscii, chars}
-use Rattle.std.proofs.lemmas.Bool.{and_parts, and_from, or_from, or_parts, not-true, not_from_false, ltb-true, lt-ltb, leb-true, eqb-true, eqb-false, ne_eqb, eq-eqb, false_from_ne_true, both_ways, true≢false, agree_below_at}
+use Rattle.std.proofs.lemmas.Bool.{and_parts, and_from, or_from, or_parts, not-true, not_from_false, ltb-true, lt-ltb, leb-true, eqb-true, eqb-false, ne_eqb, eq-eqb, false_from_ne_true, both_ways, le-leb, cond-true}
 use Rattle.std.proofs.lemmas.Bool.Decides.{nat_tests}
 use Rattle.std.proofs.lemmas.List.{length-map, length-take, get_or-take}
 use Rattle.std.proofs.lemmas.List.Elements.{All-nil, All-cons, All-map, All-take, All-drop, All-weaker}
@@ -205,3 +205,24 @@ first_form_shape bytes m e =
         All-cons (λ param. All P param.values) a (b ∷ []) (All-map P plain_value (line_values read.first) (λ k d within. known (get_or (line_values read.first) k d)))
         (All-cons (λ param. All P param.values) b [] (All-map P plain_value (line_values read.second) (λ k d within. known (get_or (line_values read.second) k d))) (All-nil (λ param. All P param.values))) in
     subst HasFirstShape (sym read.model) (record { two = refl; no_rules = refl; demand = refl; positive = each (λ value. value.negative ≡ false) (λ name. refl); one_name = each (λ value. length value.names ≡ 1) (λ name. refl) })
+
+-- a parameter that was read is the one that the line declares
+declared : (number : ℕ) (line : List ℕ) (param : Param) → Some param ≡ (if is_param_line line then Some (param_of number line) else None) → (is_param_line line ≡ true) × (param ≡ param_of number line)
+declared number line param e = decide (is_param_line line) refl e
+  where
+    decide : (b : Bool) → is_param_line line ≡ b → Some param ≡ cond b (Some (param_of number line)) None → (is_param_line line ≡ true) × (param ≡ param_of number line)
+    decide true t e = (t, cc)
+    decide false t e = cc
+
+-- two such parameters with distinct names make the model
+pub model_read : (bytes text first second : List ℕ) (a b : Param) → length bytes ≤ 4194304 → (text ≡ bytes) × (list_all is_allowed bytes ≡ true) → slice_split (λ byte. byte == 10) text ≡ first ∷ second ∷ [] ∷ []
+    → Some a ≡ (if is_param_line first then Some (param_of 1 first) else None) → Some b ≡ (if is_param_line second then Some (param_of 2 second) else None) → is_same_text true a.name b.name ≡ false
+    → first_form bytes ≡ Some (model_of_two a b)
+model_read bytes text first second a b short allowed lines one two apart =
+    let one' = declared 1 first a one in
+    let two' = declared 2 second b two in
+    let names : is_same_text true (line_name first) (line_name second) ≡ false = ap (λ p. is_same_text true p.name (line_name second)) (sym one'.1) ∙ ap (λ p. is_same_text true a.name p.name) (sym two'.1) ∙ apart in
+    let test : (is_param_line first && is_param_line second && true && are_distinct (line_name first ∷ line_name second ∷ [])) ≡ true =
+        and_from _ _ (and_from _ _ (and_from _ _ one'.0 two'.0) refl) (and_from _ _ (not_from_false _ (or_from _ false names refl)) refl) in
+    cond-true _ _ _ (and_from _ _ (le-leb (length bytes) 4194304 short) allowed.1) ∙ ap model_of_lines (ap (slice_split (λ byte. byte == 10)) (sym allowed.0) ∙ lines) ∙ cond-true _ _ _ test
+    ∙ ap (λ p. Some (model_of_two p (param_of 2 second))) (sym one'.1) ∙ ap (λ p. Some (model_of_two a p)) (sym two'.1)

@@ -67,8 +67,8 @@ fn value_names(alloc: Global, list: &str) -> Result<Vec<&str>, NoMemory>
 {
     let names = list
         .split(',')
-        .map(without_spaces)
         .take(MOST_VALUES + 1)
+        .map(without_spaces)
         .collect(alloc);
     match names {
         Ok(names) => Ok(names),
@@ -95,7 +95,7 @@ fn are_value_names(names: &[&str]) -> bool
 
 // Whether each name has a byte.
 fn are_nonempty(names: &[&str]) -> bool
-    ensures { result ≡ list_all (λ name. nat_lt 0 (length name)) (map (λ name. name.now) names.now) }
+    ensures { result ≡ list_all (λ name. nat_lt 0 (length name.now)) names.now }
 {
     names.iter().all(|name| !name.is_empty())
 }
@@ -104,22 +104,24 @@ fn are_nonempty(names: &[&str]) -> bool
 fn are_distinct(names: &[&str]) -> bool
     ensures { result ≡ are_distinct (map (λ name. name.now) names.now) }
 {
-    match names {
-        [] => true,
-        [first, rest @ ..] => !is_among(first, rest) && are_distinct(rest),
+    for (at, name) in names.iter().enumerate() {
+        if is_among(name, &names[at + 1..]) {
+            return false;
+        }
     }
+    true
 }
 
 // Whether a name is one of the others, whatever the case of its letters.
 fn is_among(name: &str, others: &[&str]) -> bool
-    ensures { result ≡ list_any (is_same_text true name.now) (map (λ other. other.now) others.now) }
+    ensures { result ≡ list_any (λ other. is_same_text true name.now other.now) others.now }
 {
     others.iter().any(|other| same_text(name, other, true))
 }
 
 // Whether each text spells a number.
 fn are_numbers(texts: &[&str]) -> bool
-    ensures { result ≡ list_all is_number (map (λ text. text.now) texts.now) }
+    ensures { result ≡ list_all (λ text. is_number text.now) texts.now }
 {
     texts
         .iter()
