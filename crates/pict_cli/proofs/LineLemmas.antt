@@ -74,6 +74,6 @@ pub made_param : (number : ℕ) (line name : List ℕ) (values : List (List ℕ)
 made_param number line name values param test e f made =
     let numbers : list_all is_number values ≡ is_numeric (map plain_value values) = sym (list_all-map (λ value. is_number (first_name value)) plain_value values) in
     let same : param ≡ param_of number line = made ∙ ap (λ numeric. record { name = name; line = number; numeric = numeric; values = map plain_value values }) numbers
-        ∙ ap (λ n. record { name = n; line = number; numeric = is_numeric (map plain_value values); values = map plain_value values }) e
-        ∙ ap (λ vs. record { name = line_name line; line = number; numeric = is_numeric (map plain_value vs); values = map plain_value vs }) f in
+    ∙ ap (λ n. record { name = n; line = number; numeric = is_numeric (map plain_value values); values = map plain_value values }) e
+    ∙ ap (λ vs. record { name = line_name line; line = number; numeric = is_numeric (map plain_value vs); values = map plain_value vs }) f in
     ap Some same ∙ sym (cond-true (is_param_line line) (Some (param_of number line)) None test)

@@ -91,5 +91,5 @@ last_is_no_space text h =
     let size : length (without_spaces text) ≡ k = omega (arith, length-take k rest) in
     let more : s < length rest = omega arith in
     let read : get_or (without_spaces text) (length (without_spaces text) - 1) 0 ≡ get_or (reverse rest) s 0 =
-        get_or-take k rest (length (without_spaces text) - 1) 0 (omega arith) ∙ ap (λ i. get_or rest i 0) (omega arith) ∙ sym (get_or-reverse rest s 0 more) in
+    get_or-take k rest (length (without_spaces text) - 1) 0 (omega arith) ∙ ap (λ i. get_or rest i 0) (omega arith) ∙ sym (get_or-reverse rest s 0 more) in
     ap is_space read ∙ prefix_len_stops is_space (reverse rest) 0 (omega (arith, length-reverse rest))

@@ -5,4 +5,6 @@ mod first_form;
 mod growth;
 mod param_line;
 mod report;
+mod run;
 mod stop;
+mod words;
