@@ -2,7 +2,7 @@
 use Rattle.std.proofs.Common.{◌≡◌, ℕ, ◌+◌, ◌-◌, ◌<◌, ◌≤◌, Bool, true, false, not, ◌&&◌, ◌==◌, cond, if◌then◌else◌, eqb, ltb, leb, List, [], ◌∷◌, length, map, take, drop, get_or, Option, Some, None, refl, sym, ◌∙◌, ap, Bor, arith}
 use Rattle.std.specs.List.{list_all, list_any, slice_split, after_first, count_by}
 use Rattle.std.proofs.lemmas.Bool.{and_parts, and_left, and_right, and_from, leb-true, le-leb, lt-ltb, cond-true}
-use Rattle.std.proofs.lemmas.List.{take_all, length-take, length-map, drop_more}
+use Rattle.std.proofs.lemmas.List.{take_all, length-take, length-map, drop_more, take_rest}
 use Rattle.std.proofs.lemmas.List.Folds.{list_all-map}
 use Rattle.value_text.specs.Numbers.{is_number}
 use Rattle.value_text.specs.Texts.{is_same_text}
@@ -46,13 +46,17 @@ pub taken_names : (line : List ℕ) (names : List (List ℕ)) → (count_by is_c
 taken_names line names one some e h =
     param_line_parts line ∙ and_from _ _ (and_from _ _ one (lt-ltb 0 (length (line_name line)) some)) (ap are_value_names (sym (few_enough (line_values line) names e h)) ∙ h)
 
--- one more name of which no later one is the same
-pub distinct_more : (names : List (Bor (List ℕ))) (at : ℕ) (name : Bor (List ℕ)) → at < length names → name ≡ get_or names at name
-    → are_distinct (map (λ name. name.now) (drop at names)) ≡ (not (list_any (λ other. is_same_text true name.now other.now) (drop (at + 1) names)) && are_distinct (map (λ name. name.now) (drop (at + 1) names)))
-distinct_more names at name within read =
+-- one more name, with whether a later one is the same
+pub distinct_more : (names : List (Bor (List ℕ))) (at : ℕ) (d : Bor (List ℕ)) (repeated : Bool) → at < length names
+    → repeated ≡ list_any (λ other. is_same_text true (get_or names at d).now other.now) (take (length names - (at + 1)) (drop (at + 1) names))
+    → are_distinct (map (λ name. name.now) (drop at names)) ≡ (not repeated && are_distinct (map (λ name. name.now) (drop (at + 1) names)))
+distinct_more names at d repeated within e =
     let texts = λ (parts : List (Bor (List ℕ))). map (λ (part : Bor (List ℕ)). part.now) parts in
-    ap (λ parts. are_distinct (texts parts)) (drop_more names at name within ∙ ap (λ n. n ∷ drop (at + 1) names) (sym read))
-    ∙ ap (λ b. not b && are_distinct (texts (drop (at + 1) names))) (list_any-map (is_same_text true name.now) (λ other. other.now) (drop (at + 1) names))
+    let rest = drop (at + 1) names in
+    let text = (get_or names at d).now in
+    let same : list_any (is_same_text true text) (texts rest) ≡ repeated =
+        list_any-map (is_same_text true text) (λ other. other.now) rest ∙ ap (list_any (λ other. is_same_text true text other.now)) (sym (take_rest names (at + 1))) ∙ sym e in
+    ap (λ parts. are_distinct (texts parts)) (drop_more names at d within) ∙ ap (λ b. not b && are_distinct (texts rest)) same
 
 -- the test in the reader's order
 pub few_value_names : (names : List (Bor (List ℕ))) (nonempty : Bool) → length names ≤ 16 → nonempty ≡ list_all (λ name. ltb 0 (length name.now)) names
