@@ -1,5 +1,5 @@
-pub mod LineLemmas
+pub mod FirstFormSound
+pub mod ParamLineLemmas
 pub mod Pieces
-pub mod Soundness
 pub mod Spaces
 pub mod TwoLines

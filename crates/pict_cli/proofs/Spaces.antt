@@ -1,12 +1,12 @@
 -- A text without spaces at its ends: what `trim_start_matches` and `trim_end_matches` give, what it
 -- begins and ends with, and what it passes.
-use Rattle.std.proofs.Common.{◌≡◌, ◌≢◌, ℕ, ◌+◌, ◌-◌, ◌<◌, ◌≤◌, Bool, true, false, not, ◌&&◌, cond, eqb, List, [], ◌∷◌, ◌++◌, length, take, drop, reverse, get_or, Option, Some, None, suc, refl, sym, ◌∙◌, ap, subst, lit<, add-zero, arith}
+use Rattle.std.proofs.Common.{◌≡◌, ◌≢◌, ℕ, ◌+◌, ◌-◌, ◌<◌, ◌≤◌, Bool, false, eqb, List, [], ◌∷◌, ◌++◌, length, take, drop, reverse, get_or, Option, Some, None, suc, refl, sym, ◌∙◌, ap, subst, lit<, add-zero, arith}
 use Rattle.std.specs.List.{prefix_len, suffix_len}
 use Rattle.std.specs.Option.{IfSome}
-use Rattle.std.specs.Str.Pattern.{HasCharAt, FindsCharPrefix, FindsCharSuffix, CutsPrefixes, CutsSuffixes, IsFullyTrimmed, IsTrimStartMatches, IsTrimEndMatches}
+use Rattle.std.specs.Str.Pattern.{HasCharAt, FindsCharPrefix, FindsCharSuffix, CutsPrefixes, CutsSuffixes, IsTrimStartMatches, IsTrimEndMatches}
 use Rattle.std.proofs.lemmas.Bool.{cond-false, ne_eqb}
 use Rattle.std.proofs.lemmas.List.{take-append-le, take-append-drop, take_all, drop_all, length-append, length-take, length-drop, length-reverse, reverse-append, reverse-reverse, get_or-take, get_or-drop, get_or-reverse}
-use Rattle.std.proofs.lemmas.List.Sums.{suffix_len-le-length, prefix_len-le-length, prefix_len_stops}
+use Rattle.std.proofs.lemmas.List.Sums.{suffix_len-le-length, prefix_len_stops}
 use Rattle.std.proofs.lemmas.Str.Pattern.{drop_at_char}
 use lib.Utf8.{encode}
 use Rattle.definitions.specs.RowFile.{without_spaces}
@@ -91,5 +91,5 @@ last_is_no_space text h =
     let size : length (without_spaces text) ≡ k = omega (arith, length-take k rest) in
     let more : s < length rest = omega arith in
     let read : get_or (without_spaces text) (length (without_spaces text) - 1) 0 ≡ get_or (reverse rest) s 0 =
-        get_or-take k rest (length (without_spaces text) - 1) 0 (omega arith) ∙ ap (λ i. get_or rest i 0) (omega arith) ∙ sym (get_or-reverse rest s 0 more) in
+    get_or-take k rest (length (without_spaces text) - 1) 0 (omega arith) ∙ ap (λ i. get_or rest i 0) (omega arith) ∙ sym (get_or-reverse rest s 0 more) in
     ap is_space read ∙ prefix_len_stops is_space (reverse rest) 0 (omega (arith, length-reverse rest))
