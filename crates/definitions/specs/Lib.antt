@@ -2,3 +2,4 @@ pub mod Demand
 pub mod Covering
 pub mod Report
 pub mod RowFile
+pub mod Laws

@@ -1,5 +1,10 @@
-pub mod FirstFormSound
-pub mod ParamLineLemmas
+pub mod Given
+pub mod LineLemmas
+pub mod Lines
+pub mod Pairs
 pub mod Pieces
+pub mod PutPieces
+pub mod Soundness
 pub mod Spaces
 pub mod TwoLines
+pub mod TwoParameters

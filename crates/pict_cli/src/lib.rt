@@ -2,4 +2,7 @@
 #![tactic(auto)]
 
 mod first_form;
+mod growth;
 mod param_line;
+mod report;
+mod stop;

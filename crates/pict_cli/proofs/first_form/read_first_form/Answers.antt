@@ -1,7 +1,7 @@
 use Rattle.std.proofs.Common.{sym, ◌∙◌, ap, true, Some}
 use Rattle.value_text.specs.Texts.{is_same_text}
 use Rattle.pict_cli.specs.FirstForm.{model_of_two}
-use Rattle.pict_cli.proofs.FirstFormSound.{first_form_sound, model_read}
+use Rattle.pict_cli.proofs.Soundness.{first_form_sound, model_read}
 use Rattle.pict_cli.proofs.first_form.read_first_form.Goals as goal
 
 pub model_of_two-requires : goal.model_of_two-requires

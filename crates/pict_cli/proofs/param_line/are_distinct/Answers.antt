@@ -1,5 +1,5 @@
 use Rattle.std.proofs.Common.{ℕ, List, [], Bor, true, false, sym, ◌∙◌}
-use Rattle.pict_cli.proofs.ParamLineLemmas.{distinct_more}
+use Rattle.pict_cli.proofs.LineLemmas.{distinct_more}
 use Rattle.pict_cli.proofs.param_line.are_distinct.Goals as goal
 
 -- what a read past the end of a slice of texts gives

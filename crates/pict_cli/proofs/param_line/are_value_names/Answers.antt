@@ -1,5 +1,5 @@
 use Rattle.std.proofs.Common.{sym, ◌∙◌, true, false}
-use Rattle.pict_cli.proofs.ParamLineLemmas.{few_value_names}
+use Rattle.pict_cli.proofs.LineLemmas.{few_value_names}
 use Rattle.pict_cli.proofs.param_line.are_value_names.Goals as goal
 
 pub returns-then-are_nonempty : goal.returns-then-are_nonempty

@@ -1,7 +1,7 @@
 use Rattle.std.proofs.Common.{sym, ◌∙◌}
 use Rattle.std.proofs.lemmas.List.Folds.{list_all-map}
 use Rattle.value_text.specs.Numbers.{is_number}
-use Rattle.pict_cli.proofs.ParamLineLemmas.{same_param}
+use Rattle.pict_cli.proofs.LineLemmas.{same_param}
 use Rattle.pict_cli.proofs.param_line.param_of.Goals as goal
 
 pub returns : goal.returns

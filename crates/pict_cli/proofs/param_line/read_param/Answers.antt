@@ -1,5 +1,5 @@
 use Rattle.std.proofs.Common.{map}
-use Rattle.pict_cli.proofs.ParamLineLemmas.{made_param}
+use Rattle.pict_cli.proofs.LineLemmas.{made_param}
 use Rattle.pict_cli.proofs.param_line.read_param.Goals as goal
 
 pub returns-in_ok-param_of-in-Some : goal.returns-in_ok-param_of-in-Some

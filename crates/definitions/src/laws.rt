@@ -1,0 +1,10 @@
+//! What is proved of the definitions together. A function here does nothing: its contract is a law
+//! that holds of every model, and is proved with the crate.
+
+ghost use Rattle.definitions.specs.Laws.{ReportsReadBack};
+
+/// Reading a report gives its rows: the text that is written of rows of a sound model, read as a
+/// row file, holds these rows in their order (this project's rule).
+pub fn reports_read_back()
+    ensures { ReportsReadBack }
+{}
