@@ -1,8 +1,8 @@
 -- Every model of the first form is sound, and of the first shape.
-use Rattle.std.proofs.Common.{◌≡◌, ◌≢◌, ℕ, ◌+◌, ◌-◌, ◌<◌, ◌≤◌, Bool, true, false, not, ◌&&◌, ◌||◌, ◌==◌, cond, eqb, ltb, leb, List, [], ◌∷◌, ◌++◌, length, take, drop, map, get_or, Option, Some, None, refl, sym, ◌∙◌, ap, subst, if◌then◌else◌, lit<, lit≤, arith}
+use Rattle.std.proofs.Common.{◌≡◌, ◌≢◌, ℕ, ◌+◌, ◌-◌, ◌<◌, ◌≤◌, Bool, true, false, not, ◌&&◌, ◌||◌, ◌==◌, cond, ltb, leb, List, [], ◌∷◌, length, map, get_or, Some, None, refl, sym, ◌∙◌, ap, subst, if◌then◌else◌, lit<, lit≤, arith}
 use Rattle.std.specs.List.{All, AllPairs, list_all, list_any, flat_map, slice_split, before_first, after_first, count_by, position_or_len}
-use Rattle.std.specs.Str.{IsAscii, chars}
-use Rattle.std.proofs.lemmas.Bool.{and_parts, and_from, or_from, or_parts, not-true, not_from_false, ltb-true, lt-ltb, leb-true, eqb-true, eqb-false, ne_eqb, eq-eqb, false_from_ne_true, both_ways, le-leb, cond-true}
+use Rattle.std.specs.Str.{chars}
+use Rattle.std.proofs.lemmas.Bool.{and_parts, and_from, or_from, or_parts, not-true, not_from_false, ltb-true, lt-ltb, leb-true, ne_eqb, false_from_ne_true, both_ways, le-leb, cond-true}
 use Rattle.std.proofs.lemmas.Bool.Decides.{nat_tests}
 use Rattle.std.proofs.lemmas.List.{length-map, length-take, get_or-take}
 use Rattle.std.proofs.lemmas.List.Elements.{All-nil, All-cons, All-map, All-take, All-drop, All-weaker}
@@ -15,13 +15,12 @@ use Rattle.std.proofs.lemmas.Str.Ascii.{IsAscii-from_all}
 use Rattle.value_text.specs.Texts.{is_same_text}
 use Rattle.cov_model.specs.declared.parameter.Param.{Param}
 use Rattle.cov_model.specs.declared.parameter.Value.{Value}
-use Rattle.cov_model.specs.declared.constraint.Rule.{Rule}
 use Rattle.cov_model.specs.Names.{is_name, is_trimmed, is_blank, is_plain}
-use Rattle.cov_model.specs.Sound.{ModelView, IsSound, IsSoundDemand, IsSoundParam, IsSoundValue}
-use Rattle.definitions.specs.RowFile.{without_spaces}
+use Rattle.cov_model.specs.Sound.{ModelView, IsSound, IsSoundParam, IsSoundValue}
+use Rattle.definitions.specs.RowFile.{without_spaces, without_first_spaces}
 use Rattle.pict_cli.specs.FirstForm.{is_allowed, is_colon, line_name, line_values, are_distinct, is_param_line, plain_value, param_of, model_of_two, model_of_lines, first_form, HasFirstShape}
 use Rattle.pict_cli.proofs.Pieces.{list_all-weaker, list_all-take, list_all-drop, split_passes}
-use Rattle.pict_cli.proofs.Spaces.{is_space, after_spaces, first_is_no_space, last_is_no_space}
+use Rattle.pict_cli.proofs.Spaces.{is_space, first_is_no_space, last_is_no_space}
 
 -- the bytes of a line
 abbrev pub is_line_byte : ℕ → Bool
@@ -46,7 +45,7 @@ line_bytes text h = All-weaker (λ b. is_line_byte b ≡ true) IsLineByte line_b
 
 -- a text of a line without spaces at its ends is made of its bytes
 name_bytes : (text : List ℕ) → list_all is_line_byte text ≡ true → All IsLineByte (without_spaces text)
-name_bytes text h = line_bytes (without_spaces text) (list_all-take is_line_byte _ (after_spaces text) (list_all-drop is_line_byte _ text h))
+name_bytes text h = line_bytes (without_spaces text) (list_all-take is_line_byte _ (without_first_spaces text) (list_all-drop is_line_byte _ text h))
 
 -- so it is a name, where it has a byte
 name_sound : (text : List ℕ) → list_all is_line_byte text ≡ true → 0 < length (without_spaces text) → is_name (without_spaces text) ≡ true
@@ -117,7 +116,7 @@ param_sound number line h test =
     let count : length (line_values line) ≡ count_by (λ byte. byte == 44) list + 1 = length-map pieces without_spaces ∙ length-slice_split (λ byte. byte == 44) list in
     record {
       named = name_sound front front_bytes facts.named;
-      no_colon = list_any_none is_colon (without_spaces front) (All-take (λ b. is_colon b ≡ false) _ (after_spaces front) (All-drop (λ b. is_colon b ≡ false) _ front front_free));
+      no_colon = list_any_none is_colon (without_spaces front) (All-take (λ b. is_colon b ≡ false) _ (without_first_spaces front) (All-drop (λ b. is_colon b ≡ false) _ front front_free));
       some = omega (arith, length-map (line_values line) plain_value);
       few = omega (arith, length-map (line_values line) plain_value, facts.few);
       values = All-map (IsSoundValue 126) plain_value (line_values line) (All-map (λ name. IsSoundValue 126 (plain_value name)) without_spaces pieces

@@ -81,7 +81,7 @@ fn without_spaces(text: &str) -> &str
 
 // Whether these may be the names of a parameter's values: at most 16, none empty, and no two the same.
 fn are_value_names(names: &[&str]) -> bool
-    ensures { let texts = map (λ name. name.now) names.now in result ≡ (nat_le (length texts) 16 && list_all (λ name. nat_lt 0 (length name)) texts && are_distinct texts) }
+    ensures { let texts = map (λ name. name.now) names.now in result ≡ (nat_le (length texts) MOST_VALUES && list_all (λ name. nat_lt 0 (length name)) texts && are_distinct texts) }
 {
     if names.len() > MOST_VALUES {
         return false;
