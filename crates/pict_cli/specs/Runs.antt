@@ -1,11 +1,8 @@
 -- What a run of `pict` does, where the folder and the sinks tell what they hold.
-use Rattle.std.specs.Prelude.{◌≡◌, ℕ, ◌++◌, List, [], Option, Some, None, IfSome, IsSomeAnd}
-use Rattle.outside_io.specs.declared.answers.WriteAnswer.{WriteAnswer}
-use Rattle.outside_io.specs.Puts.{Puts}
+use Rattle.std.specs.Prelude.{◌≡◌, ℕ, ◌++◌, List, Option, Some, None, IfSome, IsSomeAnd}
 use Rattle.cov_model.specs.Sound.{ModelView}
 use Rattle.definitions.specs.Demand.{demanded_tuples}
 use Rattle.definitions.specs.Covering.{IsCovering}
-use Rattle.definitions.specs.Report.{report_text}
 use Rattle.definitions.specs.RowFile.{rows_of}
 use Rattle.pict_cli.specs.FirstForm.{first_form}
 

@@ -8,3 +8,5 @@ mod report;
 mod run;
 mod stop;
 mod words;
+
+pub use run::run_pict;
