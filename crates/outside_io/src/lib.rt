@@ -21,8 +21,10 @@ mod sink;
 mod sure_folder;
 mod sure_sink;
 mod transfer;
+mod words;
 
 pub use answers::{ReadAnswer, WriteAnswer};
+
 pub use file_list::{ByteList, FileHeld, FileList};
 pub use folder::Folder;
 pub use gate::{Gate, OpenGate};
@@ -33,3 +35,4 @@ pub use real_sink::RealSink;
 pub use sink::Sink;
 pub use sure_folder::SureFolder;
 pub use sure_sink::SureSink;
+pub use words::command_words;
