@@ -33,3 +33,6 @@ pub use real_sink::RealSink;
 pub use sink::Sink;
 pub use sure_folder::SureFolder;
 pub use sure_sink::SureSink;
+
+#[cfg(test)]
+mod tests;
