@@ -73,7 +73,7 @@ impl<R: Files + Drop> Folder for RealFolder<R> {
         ensures within { result ≡ ReadAnswer.Whole → length into.new.items ≤ most }
         ensures empty { result ≢ ReadAnswer.Whole → into.new.items ≡ [] }
         ensures counts { self.new ≡ record self.old {
-            reads = if is_failed_read result then one_more self.old.reads else self.old.reads
+          reads = if is_failed_read result then one_more self.old.reads else self.old.reads;
         } }
         ensures goes_on { GoesOn self.old.reads self.new.reads }
     {
@@ -91,7 +91,7 @@ impl<R: Files + Drop> Folder for RealFolder<R> {
     /// Empties the file, or makes it, and stops at the end of the bytes or at a fault.
     fn write_file(&mut self, name: &str, bytes: &[u8]) -> WriteAnswer
         ensures counts { self.new ≡ record self.old {
-            writes = if is_failed_write result then one_more self.old.writes else self.old.writes
+          writes = if is_failed_write result then one_more self.old.writes else self.old.writes;
         } }
         ensures goes_on { GoesOn self.old.writes self.new.writes }
     {

@@ -1,9 +1,8 @@
 use super::*;
 use std::alloc::Global;
-use std::fs;
-use std::io;
 use std::io::Write;
 use std::test::Fail;
+use std::{fs, io};
 use value_text::{NoMemory, Text};
 
 /// A stream that takes one byte a call, and nothing once it is full.
@@ -55,9 +54,17 @@ fn a_folder_in_memory(rt: HostRuntime) -> Result<(), Fail> {
         ("c", 9, ReadAnswer::Failed),
     ];
     for (name, most, answer) in reads {
-        assert_eq!(rt; folder.read_file(name, &mut into, most), answer, "{name} {most}");
+        assert_eq!(rt;
+            folder.read_file(name, &mut into, most),
+            answer,
+            "{name} {most}"
+        );
         let whole = answer == ReadAnswer::Whole;
-        assert_eq!(rt; into.as_slice() == b"xyz".as_slice(), whole, "{name} {most}");
+        assert_eq!(rt;
+            into.as_slice() == b"xyz".as_slice(),
+            whole,
+            "{name} {most}"
+        );
         assert_eq!(rt; into.is_empty(), !whole, "{name} {most}");
     }
     let writes = [
@@ -68,7 +75,11 @@ fn a_folder_in_memory(rt: HostRuntime) -> Result<(), Fail> {
         ("a", "uvw", WriteAnswer::Done),
     ];
     for (name, text, answer) in writes {
-        assert_eq!(rt; folder.write_file(name, text.as_bytes()), answer, "{name} {text}");
+        assert_eq!(rt;
+            folder.write_file(name, text.as_bytes()),
+            answer,
+            "{name} {text}"
+        );
         let stands = folder.held(name) == Some(text.as_bytes());
         assert_eq!(rt; stands, answer == WriteAnswer::Done, "{name} {text}");
     }
@@ -80,7 +91,11 @@ fn a_folder_in_memory(rt: HostRuntime) -> Result<(), Fail> {
 
 #[test]
 fn sinks(rt: HostRuntime) -> Result<(), Fail> {
-    for (most, answer) in [(0, WriteAnswer::Failed), (2, WriteAnswer::Failed), (3, WriteAnswer::Done)] {
+    for (most, answer) in [
+        (0, WriteAnswer::Failed),
+        (2, WriteAnswer::Failed),
+        (3, WriteAnswer::Done),
+    ] {
         let mut sink = MemSink::up_to(rt.alloc(), most)?;
         assert_eq!(rt; sink.put(b""), WriteAnswer::Done);
         assert_eq!(rt; sink.put(b"xyz"), answer, "{most}");
