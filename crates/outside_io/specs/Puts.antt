@@ -28,3 +28,9 @@ Balances written written_after room room_after =
 abbrev pub CountsFaults : WriteAnswer → ℕ → ℕ → Type 0
 CountsFaults Done before after = after ≡ before
 CountsFaults Failed before after = Rose before after × GoesOn before after
+
+-- a sink over a stream: what the stream says that it holds, None where it says nothing, and the
+-- faults so far
+pub record StreamState : Type 0 where
+  pub contents : Option (List ℕ)
+  pub faults : ℕ

@@ -48,11 +48,11 @@ impl<R: Files + Drop> RealFolder<R> {
         }
     }
 
-    /// Makes a file, and writes it whole; whether neither met a fault.
-    fn write_named(&self, name: &str, bytes: &[u8]) -> bool {
+    /// Makes a file, and writes it whole; `Failed` where the one or the other met a fault.
+    fn write_named(&self, name: &str, bytes: &[u8]) -> WriteAnswer {
         match fs::create(&self.rt, name) {
             Ok(mut file) => write_whole(&mut file, bytes),
-            Err(_) => false,
+            Err(_) => WriteAnswer::Failed,
         }
     }
 }
@@ -95,11 +95,12 @@ impl<R: Files + Drop> Folder for RealFolder<R> {
         } }
         ensures goes_on { GoesOn self.old.writes self.new.writes }
     {
-        if self.write_named(name, bytes) {
-            WriteAnswer::Done
-        } else {
-            self.write_errors = self.write_errors.saturating_add(1);
-            WriteAnswer::Failed
+        match self.write_named(name, bytes) {
+            WriteAnswer::Done => WriteAnswer::Done,
+            WriteAnswer::Failed => {
+                self.write_errors = self.write_errors.saturating_add(1);
+                WriteAnswer::Failed
+            }
         }
     }
 }
