@@ -1,5 +1,5 @@
 -- Slots found by their name, and what a write of one slot does to the others.
-use Rattle.std.proofs.Common.{◌≡◌, ℕ, ◌<◌, ◌≤◌, Bool, true, false, cond, max, Option, Some, None, List, [], ◌∷◌, ◌++◌, length, get_or, set, find, position, nat_lt, nat_le, unwrap_or, Result, Ok, Err, OnOk, refl, ap, sym, ◌∙◌, subst, inl, inr, arith}
+use Rattle.std.proofs.Common.{◌≡◌, ℕ, ◌<◌, ◌≤◌, Bool, true, false, cond, max, Option, Some, None, List, [], ◌∷◌, ◌++◌, length, get_or, set, position, nat_lt, nat_le, unwrap_or, Result, Ok, Err, OnOk, refl, ap, sym, ◌∙◌, subst, inl, inr, arith}
 use Rattle.std.specs.List.{position_or_len, slice_get}
 use Rattle.std.specs.Option.{option_map, option_and_then, option_or}
 use Rattle.std.specs.Str.{bytes_eq}
@@ -54,7 +54,7 @@ module _ (slots : List Slot) (name : List ℕ) where
       let value = read ∙ ap (λ l. get_or l at held) same in
       let passes : p held ≡ true = ap p value ∙ here.1 in
       let first : position_or_len p slots ≡ at =
-          position_or_len_is p slots at held (omega (arith, here.0)) (here.2) (λ _. here.1) in
+      position_or_len_is p slots at held (omega (arith, here.0)) (here.2) (λ _. here.1) in
       record {
         within = here.0;
         named = (bytes_eq-Decides held.name name).0 passes;
@@ -125,7 +125,7 @@ module _ (slots : List Slot) (slot : Slot) where
       find-set (is_named name) slots at slot first f.within test
   set_by at held name false f read test =
       let other : is_named name (get_or slots at held) ≡ false =
-          ap (λ s. is_named name s) (sym read) ∙ ap (λ n. bytes_eq n name) f.named ∙ test in
+      ap (λ s. is_named name s) (sym read) ∙ ap (λ n. bytes_eq n name) f.named ∙ test in
       find_past (is_named name) slots at slot held other test
 
   -- a name's slot is added: what each name then has
@@ -147,7 +147,7 @@ module _ (slots : List Slot) (slot : Slot) where
       let g = subst (λ n. Found slots n at held) (sym named) f in
       let value = read ∙ ap (λ l. get_or l at held) same in
       let list : set slots at slot ≡ set items at changed =
-          ap (λ l. set l at slot) (sym same) ∙ ap (λ s. set items at s) (sym (becomes f)) in
+      ap (λ l. set l at slot) (sym same) ∙ ap (λ s. set items at s) (sym (becomes f)) in
       subst (λ l. PutsSlot slot slots l) list
       (λ n. set_by at held n (bytes_eq slot.name n) g value refl)
 

@@ -110,6 +110,7 @@ fn sinks(rt: HostRuntime) -> Result<(), Fail> {
     assert_eq!(rt; narrow.put(b"xyz"), WriteAnswer::Done);
     assert_eq!(rt; narrow.put(b"xyz"), WriteAnswer::Failed);
     assert_eq!(rt; narrow.put(b""), WriteAnswer::Done);
+    assert_eq!(rt; RealSink::new(rt.stdout()).put(b""), WriteAnswer::Done);
     Ok(())
 }
 
