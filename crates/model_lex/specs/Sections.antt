@@ -144,7 +144,7 @@ abbrev pub Splits : Result Split Diag → Result Sections ModelFault → Type 0
 Splits split (Ok sections) = split ≡ Ok (split_seen sections)
 Splits split (Err (Bad diag)) = split ≡ Err diag
 Splits split (Err (BadRule diag)) = ⊥
-Splits split (Err (Limit name count)) = ⊥
+Splits split (Err (Limit limit count)) = ⊥
 Splits split (Err NoMemory) = Unit {0}
 
 -- the sections are those of some model file

@@ -1,10 +1,10 @@
-ghost use Rattle.std.specs.Prelude.{◌≡◌, take, drop};
+ghost use Rattle.std.specs.Prelude.{◌≡◌, ◌≤◌, length, take, drop};
 ghost use Rattle.std.specs.List.{prefix_len};
 ghost use Rattle.std.specs.Str.{str_eq_ignore_ascii_case};
 ghost use Rattle.model_lex.specs.Blanks.{is_blank, without_first_blanks};
 ghost use Rattle.model_lex.specs.Sections.{is_word_byte, first_word};
 
-// Whether a byte is a space or a tab.
+/// Whether a byte is a space or a tab.
 pub fn is_blank(byte: u8) -> bool
     ensures { result ≡ is_blank byte }
 {
@@ -12,12 +12,12 @@ pub fn is_blank(byte: u8) -> bool
 }
 
 /// How many blanks stand at the start of a text.
+#[tactic(auto, using(crate::proofs::Runs::run_len, crate::proofs::Runs::run_within))]
 pub fn blank_len(text: &[u8]) -> usize
-    ensures { result ≡ prefix_len is_blank text.now }
+    ensures value { result ≡ prefix_len is_blank text.now }
+    ensures within { result ≤ length text.now }
 {
-    text.iter()
-        .position(|byte| !is_blank(*byte))
-        .unwrap_or(text.len())
+    text.iter().take_while(|byte| is_blank(**byte)).count()
 }
 
 /// A text without the blanks at its start.
@@ -35,12 +35,12 @@ fn is_word_byte(byte: u8) -> bool
 }
 
 /// How long the word at the start of a text is.
+#[tactic(auto, using(crate::proofs::Runs::run_len, crate::proofs::Runs::run_within))]
 pub fn word_len(text: &[u8]) -> usize
-    ensures { result ≡ prefix_len is_word_byte text.now }
+    ensures value { result ≡ prefix_len is_word_byte text.now }
+    ensures within { result ≤ length text.now }
 {
-    text.iter()
-        .position(|byte| !is_word_byte(*byte))
-        .unwrap_or(text.len())
+    text.iter().take_while(|byte| is_word_byte(**byte)).count()
 }
 
 /// The word at the start of a text.

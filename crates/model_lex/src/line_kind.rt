@@ -1,4 +1,4 @@
-ghost use Rattle.std.specs.Prelude.{◌≡◌};
+ghost use Rattle.std.specs.Prelude.{◌≡◌, ◌≤◌, length};
 ghost use Rattle.std.specs.List.{list_any};
 ghost use Rattle.model_lex.specs.Sections.{goes_on, has_colon, is_among, is_ignored, is_opening_mark, kind_of, misplaced, opening_len, opening_words, opens_group, opens_rule};
 
@@ -17,10 +17,12 @@ pub enum LineKind {
 }
 
 /// Whether a line is ignored: it has blanks alone, or is a comment.
+#[tactic(auto, using(crate::proofs::Runs::all_blank_is))]
 pub fn is_ignored(text: &[u8]) -> bool
     ensures { result ≡ is_ignored text.now }
 {
-    matches!(without_first_blanks(text), [] | [b'#', ..])
+    let rest = without_first_blanks(text);
+    rest.is_empty() || rest[0] == b'#'
 }
 
 /// What a line that isn't ignored is, behind a line of a kind.
@@ -62,11 +64,12 @@ fn opens_group(text: &[u8]) -> bool
 }
 
 // Whether a line opens a constraint.
+#[tactic(auto, using(crate::proofs::Runs::all_blank_is, crate::proofs::Opening::goes_on_blanks))]
 fn opens_rule(text: &[u8]) -> bool
     ensures { result ≡ opens_rule text.now }
 {
-    let text = without_first_blanks(text);
-    !text.is_empty() && goes_on(text)
+    let rest = without_first_blanks(text);
+    !rest.is_empty() && goes_on(rest)
 }
 
 // Whether opening words alone are left, or opening words before an opening mark.
@@ -96,7 +99,8 @@ fn is_opening_mark(byte: u8) -> bool
 
 // How long the opening word at the start of a text is; 0 where none stands there.
 fn opening_len(text: &[u8]) -> usize
-    ensures { result ≡ opening_len text.now }
+    ensures value { result ≡ opening_len text.now }
+    ensures within { result ≤ length text.now }
 {
     let word = first_word(text);
     if is_opening_word(word) { word.len() } else { 0 }

@@ -1,4 +1,4 @@
-ghost use Rattle.std.specs.Prelude.{◌≡◌, ◌<◌, ◌^◌, length, drop, IfSome};
+ghost use Rattle.std.specs.Prelude.{◌≡◌, ◌<◌, ◌^◌, ◌≤◌, length, drop, IfSome};
 ghost use Rattle.std.specs.List.{prefix_len};
 ghost use Rattle.value_text.specs.Numbers.{number_of};
 ghost use Rattle.model_lex.specs.Sections.{first_word, is_among};
@@ -94,12 +94,14 @@ fn is_number_byte(byte: u8) -> bool
 }
 
 // How long the run of a number at the start of a text is.
+#[tactic(auto, using(crate::proofs::Runs::run_len, crate::proofs::Runs::run_within))]
 fn number_len(text: &[u8]) -> usize
-    ensures { result ≡ prefix_len is_number_byte text.now }
+    ensures value { result ≡ prefix_len is_number_byte text.now }
+    ensures within { result ≤ length text.now }
 {
     text.iter()
-        .position(|byte| !is_number_byte(*byte))
-        .unwrap_or(text.len())
+        .take_while(|byte| is_number_byte(**byte))
+        .count()
 }
 
 // The number at the start of a text.

@@ -1,5 +1,7 @@
-ghost use Rattle.std.specs.Prelude.{◌≡◌, ◌<◌, length};
+ghost use Rattle.std.specs.Prelude.{◌≡◌, ◌+◌, ◌≤◌, drop};
+ghost use Rattle.std.specs.List.{prefix_len};
 ghost use Rattle.std.specs.Str.{IsCharBoundary};
+ghost use Rattle.model_lex.specs.Blanks.{is_blank};
 ghost use Rattle.model_lex.specs.Tokens.{HasMarks, IfToken, StandsIn, token_at};
 
 use crate::bytes::blank_len;
@@ -45,6 +47,16 @@ pub enum Lexed {
     Bad(DiagCode),
 }
 
+// The place behind the blanks that begin at a place.
+fn token_start(line: &str, at: usize) -> usize
+    requires { IsCharBoundary line.now at }
+    ensures value { result ≡ at + prefix_len is_blank (drop at line.now) }
+    ensures behind { at ≤ result }
+    ensures cut { IsCharBoundary line.now result }
+{
+    at + blank_len(&line.as_bytes()[at..])
+}
+
 /// The next token of a constraint line behind the blanks that begin at a place: the longest that
 /// stands there. `End` comes exactly where only blanks are left. A line may be cut at the ends of a
 /// token, and the search for the next one may go on there. Takes no memory (PICT's guide; quoting
@@ -60,9 +72,8 @@ pub fn next_token(line: &str, at: usize) -> Lexed
     ensures span { IfToken result (StandsIn line.now at) }
     ensures marks { IfToken result (HasMarks line.now) }
 {
-    let bytes = line.as_bytes();
-    let start = at + blank_len(&bytes[at..]);
-    if start == bytes.len() {
+    let start = token_start(line, at);
+    if start == line.len() {
         return Lexed::End;
     }
     match first_token(&line[start..]) {
