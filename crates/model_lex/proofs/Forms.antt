@@ -1,5 +1,5 @@
 -- The form of a token: it isn't empty, it ends with an ASCII byte, and names and texts have their marks.
-use Rattle.std.proofs.Common.{◌≡◌, ℕ, zero, suc, ◌+◌, ◌-◌, ◌<◌, ◌≤◌, Bool, true, false, ◌&&◌, ◌||◌, cond, List, [], ◌∷◌, length, take, drop, get_or, refl, ap, subst, arith, ◌∙◌, sym, get_or-drop, length-drop}
+use Rattle.std.proofs.Common.{◌≡◌, ℕ, suc, ◌+◌, ◌-◌, ◌<◌, ◌≤◌, Bool, true, false, ◌&&◌, List, [], ◌∷◌, length, drop, get_or, refl, ap, subst, arith, ◌∙◌, sym, get_or-drop, length-drop}
 use Rattle.std.proofs.lemmas.Bool.{eqb-true, ne_eqb}
 use Rattle.std.proofs.lemmas.Bool.Decides.{nat_tests}
 use Rattle.std.proofs.lemmas.List.Sums.{prefix_len-le-length, prefix_len_passes}
@@ -15,10 +15,9 @@ use Rattle.value_text.specs.declared.fixed.FixedAnswer.TheVariants.{Number as Is
 use Rattle.model_lex.proofs.Runs.{run_len, ascii_number, ascii_word}
 use Rattle.model_lex.specs.Blanks.{is_blank}
 use Rattle.model_lex.specs.Sections.{first_word, is_among, is_word_byte}
-use Rattle.model_lex.specs.Tokens.{HasMarks, StandsBetween, StandsIn, begins_number, begins_relation, first_token, is_mark, is_number_byte, is_pair, is_quotable, keywords, lexed_at, token_at, number_run, number_token, quoted_len, quoted_token, relation_len, word_token}
+use Rattle.model_lex.specs.Tokens.{HasMarks, StandsBetween, StandsIn, begins_number, begins_relation, first_token, is_mark, is_number_byte, is_pair, is_quotable, keywords, lexed_at, token_at, number_run, number_token, quoted_len, quoted_token}
 use Rattle.model_lex.specs.declared.diag.DiagCode.{DiagCode}
-use Rattle.model_lex.specs.declared.diag.DiagCode.TheVariants.{StrayCharacter, NameNotClosed, TextNotClosed, BadNumber, NumberTooWide, UnknownWord}
-use Rattle.model_lex.specs.declared.token.Token.{Token}
+use Rattle.model_lex.specs.declared.diag.DiagCode.TheVariants.{NameNotClosed, TextNotClosed, UnknownWord}
 use Rattle.model_lex.specs.declared.token.TokenKind.{TokenKind}
 use Rattle.model_lex.specs.declared.token.TokenKind.TheVariants.{Name, Words, Number, Word, Relation, Mark}
 

@@ -1,14 +1,14 @@
 -- How the sections of a file are found line by line.
-use Rattle.std.proofs.Common.{◌≡◌, ℕ, zero, suc, ◌+◌, ◌-◌, ◌*◌, ◌^◌, ◌<◌, ◌≤◌, Bool, true, false, List, [], ◌∷◌, ◌++◌, length, refl, ap, arith, ◌∙◌, sym, append_assoc}
+use Rattle.std.proofs.Common.{◌≡◌, ℕ, ◌+◌, ◌^◌, ◌<◌, ◌≤◌, true, false, List, [], ◌∷◌, ◌++◌, length, refl, arith, ◌∙◌, append_assoc}
 use Rattle.std.proofs.lemmas.List.{append-nil}
 use Rattle.std.proofs.lemmas.Bool.{false_from_ne_true}
 use Rattle.std.proofs.lemmas.Str.{IsUtf8-from_is_utf8, is_utf8-from_IsUtf8}
 use Rattle.std.specs.Str.{IsUtf8, is_utf8}
 use Rattle.model_lex.specs.declared.diag.DiagCode.TheVariants.{NotText}
 use Rattle.std.specs.List.{enumerate_from}
-use Rattle.std.specs.Prelude.{Option, Some, None, Result, Ok, Err}
+use Rattle.std.specs.Prelude.{Some, None, Result, Ok, Err}
 use Rattle.model_lex.specs.Lines.{file_lines}
-use Rattle.model_lex.specs.Sections.{Split, is_ignored, kind_of, misplaced, no_lines, put_before, put_behind, refusal_of, refused_or, sections_behind, with_line}
+use Rattle.model_lex.specs.Sections.{Split, is_ignored, kind_of, misplaced, no_lines, put_behind, refusal_of, sections_behind, with_line}
 use Rattle.model_lex.specs.declared.diag.Diag.{Diag}
 use Rattle.model_lex.specs.declared.diag.DiagCode.{DiagCode}
 use Rattle.model_lex.specs.declared.line_kind.LineKind.{LineKind}

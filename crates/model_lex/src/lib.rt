@@ -1,4 +1,13 @@
 //! The lines, the sections and the tokens of a model file, and the codes by which it is refused.
+//!
+//! - `split_model` sorts the lines of a file into parameters, groups and constraints.
+//! - `next_token` gives the tokens of a constraint line, one after another.
+//! - `ModelFault` is why a file is refused, a line and a `DiagCode`; `Note` is what is told of a
+//!   file that is accepted.
+//! - `ModelOpts` is how a file is to be read.
+//!
+//! The texts of `Sections` are slices of the file, and tokens are places in their line. But for
+//! `split_model`, which answers `NoMemory` where a list could not grow, no call takes memory.
 #![tactic(auto)]
 
 mod bytes;
@@ -10,6 +19,8 @@ mod note;
 mod options;
 mod scan;
 mod sections;
+#[cfg(test)]
+mod tests;
 mod token;
 
 pub use diag::{Diag, DiagCode};

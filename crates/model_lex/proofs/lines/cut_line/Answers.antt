@@ -1,4 +1,4 @@
-use Rattle.std.proofs.Common.{sym, ◌∙◌, ◌+◌}
+use Rattle.std.proofs.Common.{sym, ◌+◌}
 use Rattle.std.proofs.lemmas.List.{take_rest}
 use Rattle.model_lex.proofs.Cutting.{first_line, last_line}
 use Rattle.model_lex.proofs.lines.cut_line.Goals as goal

@@ -1,4 +1,4 @@
-use Rattle.std.proofs.Common.{sym, ◌∙◌, ap}
+use Rattle.std.proofs.Common.{sym, ◌∙◌}
 use Rattle.model_lex.proofs.Splitting.{read_text, refused_text}
 use Rattle.model_lex.proofs.sections.read_line.Goals as goal
 

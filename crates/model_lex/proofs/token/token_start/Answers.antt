@@ -1,4 +1,4 @@
-use Rattle.std.proofs.Common.{◌≡◌, drop, ap, arith, ◌∙◌}
+use Rattle.std.proofs.Common.{drop, ap, arith, ◌∙◌}
 use Rattle.std.proofs.lemmas.List.{take_rest}
 use Rattle.std.specs.List.{prefix_len}
 use Rattle.model_lex.specs.Blanks.{is_blank}
