@@ -1,6 +1,8 @@
 pub mod Examples
 pub mod DemandExamples
 pub mod ReportExamples
+pub mod CompletionExamples
+pub mod SearchExamples
 pub mod Cells
 pub mod Names
 pub mod ReadRow
