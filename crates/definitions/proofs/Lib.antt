@@ -1,8 +1,10 @@
 pub mod Examples
+pub mod Models
 pub mod DemandExamples
 pub mod ReportExamples
 pub mod CompletionExamples
 pub mod SearchExamples
+pub mod GrowthExamples
 pub mod Cells
 pub mod Names
 pub mod ReadRow

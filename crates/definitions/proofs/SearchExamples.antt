@@ -9,15 +9,8 @@ use Rattle.cov_model.specs.Sound.{ModelView}
 use Rattle.cov_model.specs.Rows.{is_assigned}
 use Rattle.definitions.specs.Search.{plain_search, plain_cost, constrained_params, breaks_a_rule, try_values, Outcome}
 use Rattle.definitions.specs.Completion.{preferred_values}
+use Rattle.definitions.proofs.Models.{twin, barred}
 use Rattle.definitions.proofs.Examples.{model, two, param, value, negative_value, with_rules, number, words, is, are, declared}
-
--- three parameters with the values 1 and 2; where A is 1, B and C are equal, and they aren't
-abbrev one_or_two : List ℕ → Param
-one_or_two name = param name (value (codes "1") ∷ value (codes "2") ∷ [])
-
-abbrev twin : ModelView
-twin = with_rules (model (one_or_two (codes "A") ∷ one_or_two (codes "B") ∷ one_or_two (codes "C") ∷ []) 1 [] [])
-    (IfThen (is 0 Eq (number 1)) (are 1 Eq 2) ∷ IfThen (is 0 Eq (number 1)) (are 1 Ne 2) ∷ [])
 
 abbrev cost : List (Option ℕ) → ℕ
 cost cells = plain_cost twin (declared twin) Positive cells
@@ -56,13 +49,7 @@ blind values (p ∷ params) cells =
 twin-blind : (blind (preferred_values twin (declared twin) Positive) (0 ∷ 1 ∷ 2 ∷ []) (Some 0 ∷ None ∷ None ∷ [])).cost ≡ 7
 twin-blind = refl
 
--- where A is 1, C is none of its values p, q, r; B is in no constraint
-abbrev barred : ModelView
-barred = with_rules (model
-    (one_or_two (codes "A") ∷ param (codes "B") (value (codes "x") ∷ value (codes "y") ∷ [])
-    ∷ param (codes "C") (value (codes "p") ∷ value (codes "q") ∷ value (codes "r") ∷ []) ∷ []) 2 [] [])
-    (IfThen (is 0 Eq (number 1)) (is 2 Ne (words (codes "p"))) ∷ IfThen (is 0 Eq (number 1)) (is 2 Ne (words (codes "q"))) ∷ IfThen (is 0 Eq (number 1)) (is 2 Ne (words (codes "r"))) ∷ [])
-
+-- B is in no constraint
 barred-params : constrained_params barred ≡ 0 ∷ 2 ∷ []
 barred-params = refl
 

@@ -4,4 +4,6 @@ pub mod Report
 pub mod RowFile
 pub mod Completion
 pub mod Search
+pub mod Seeds
+pub mod Growth
 pub mod Laws
