@@ -5,6 +5,7 @@ pub mod ReportExamples
 pub mod CompletionExamples
 pub mod SearchExamples
 pub mod GrowthExamples
+pub mod RefutationExamples
 pub mod Cells
 pub mod Names
 pub mod ReadRow

@@ -6,4 +6,5 @@ pub mod Completion
 pub mod Search
 pub mod Seeds
 pub mod Growth
+pub mod Refutation
 pub mod Laws
