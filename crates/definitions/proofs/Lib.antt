@@ -6,6 +6,7 @@ pub mod CompletionExamples
 pub mod SearchExamples
 pub mod GrowthExamples
 pub mod RefutationExamples
+pub mod ProofTextExamples
 pub mod Cells
 pub mod Names
 pub mod ReadRow

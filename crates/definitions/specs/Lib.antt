@@ -7,4 +7,6 @@ pub mod Search
 pub mod Seeds
 pub mod Growth
 pub mod Refutation
+pub mod Pairs
+pub mod ProofText
 pub mod Laws
