@@ -1,4 +1,10 @@
-pub mod Lines
 pub mod Given
+pub mod LineLemmas
+pub mod Lines
 pub mod Pairs
+pub mod Pieces
+pub mod PutPieces
+pub mod Soundness
+pub mod Spaces
+pub mod TwoLines
 pub mod TwoParameters

@@ -1,3 +1,5 @@
 pub mod FirstForm
 pub mod Pairs
 pub mod Lines
+pub mod Words
+pub mod Stops

@@ -3,4 +3,6 @@
 
 mod first_form;
 mod growth;
+mod param_line;
 mod report;
+mod stop;

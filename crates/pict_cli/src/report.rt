@@ -67,3 +67,23 @@ fn push_values(into: &mut Vec<u8>, model: &TestModel, row: &Cells) -> Result<(),
     }
     Ok(())
 }
+
+/// The report of rows of a model in which each value has one name (PICT's guide).
+pub(crate) fn render_report(
+    alloc: Global,
+    model: &TestModel,
+    rows: &Rows,
+) -> Result<Vec<u8>, NoMemory>
+    requires shape { HasFirstShape model.now }
+    requires rows { All (λ row. is_row model.now row ≡ true) rows.now }
+    ensures { IfOk result (λ text. text.items ≡ report_text model.now rows.now) }
+{
+    let mut text = Vec::new(alloc);
+    push_names(&mut text, model.params().as_slice())?;
+    push_bytes(&mut text, b"\n")?;
+    for row in rows.as_slice() {
+        push_values(&mut text, model, row)?;
+        push_bytes(&mut text, b"\n")?;
+    }
+    Ok(text)
+}

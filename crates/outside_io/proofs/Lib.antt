@@ -1,0 +1,3 @@
+pub mod PutsLaws
+mod SlotLemmas
+mod FileListLemmas

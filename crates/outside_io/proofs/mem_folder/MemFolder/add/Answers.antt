@@ -1,0 +1,26 @@
+use Rattle.std.proofs.Common.{Some, length, refl, ap, sym, ◌∙◌, ◌≡◌}
+use Rattle.outside_io.specs.MemFolder.{Slot}
+use Rattle.outside_io.proofs.SlotLemmas.{raised, fresh, not_found, put_at, put_new, on_ok}
+use Rattle.outside_io.proofs.mem_folder.MemFolder.add.Goals as goal
+
+pub returns-in_ok-raise_room-in-Some-clause-ok : goal.returns-in_ok-raise_room-in-Some-clause-ok
+returns-in_ok-raise_room-in-Some-clause-ok c =
+    let slots = c.args.self.now.slots in
+    let held = c.index_mut-file.result.now in
+    let bytes = c.args.bytes.now in
+    put_at slots c.self.inside.files.items c.args.name.now c.in-Some.at held c.fill.new.self _
+    (ap (λ v. v.slots) c.self.view_is) c.in-Some.ensures c.index_mut-file.ensures.value refl
+    (λ f. c.fill.ensures ∙ ap (λ (s : Slot). record s { file = Some bytes }) c.in_ok-raise_room-in-Some.ensures.ok
+    ∙ raised slots c.args.name.now c.in-Some.at held (Some bytes) (length bytes) f)
+
+pub returns-in_ok-file-in-None-clause-ok : goal.returns-in_ok-file-in-None-clause-ok
+returns-in_ok-file-in-None-clause-ok c =
+    let slots = c.args.self.now.slots in
+    let bytes = c.args.bytes.now in
+    let absent = not_found slots c.args.name.now c.in-None.ensures in
+    on_ok c.push.result
+    (λ pushed. put_new slots c.push.new.self.slots c.args.name.now c.fill-in-None.new.self _ absent refl
+    (c.fill-in-None.ensures ∙ ap (λ (s : Slot). record s { file = Some bytes }) c.in_ok-file-in-None.ensures
+    ∙ fresh slots c.args.name.now (Some bytes) (length bytes) absent)
+    (ap (λ v. v.slots) pushed))
+    c.push.ensures.ok
