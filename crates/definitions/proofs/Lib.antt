@@ -7,6 +7,9 @@ pub mod SearchExamples
 pub mod GrowthExamples
 pub mod RefutationExamples
 pub mod ProofTextExamples
+pub mod FiguresExamples
+pub mod VerdictExamples
+pub mod DiagnosticsExamples
 pub mod Cells
 pub mod Names
 pub mod ReadRow

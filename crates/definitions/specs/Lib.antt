@@ -9,4 +9,8 @@ pub mod Growth
 pub mod Refutation
 pub mod Pairs
 pub mod ProofText
+pub mod Figures
+pub mod Statistics
+pub mod Verdict
+pub mod Diagnostics
 pub mod Laws
