@@ -1,7 +1,8 @@
 -- The lines beside the output, computed.
-use Rattle.std.specs.Prelude.{◌≡◌, List, ◌++◌, codes, refl}
+use Rattle.std.specs.Prelude.{◌≡◌, ◌++◌, codes, refl}
 use Rattle.std.specs.Fmt.{digits}
 use Rattle.definitions.specs.Diagnostics
+use Rattle.definitions.specs.Limits.{Values, DemandedSets, DemandedTuples, ProofFile}
 use Rattle.definitions.proofs.Models.{row}
 
 seed : Diagnostics.used_seed_line 5 ≡ codes "Used seed: 5\n"
@@ -51,18 +52,18 @@ cannot_read = refl
 cannot_write : Diagnostics.cannot_write_line (codes "p") ≡ codes "error: cannot write p\n"
 cannot_write = refl
 
-sets : Diagnostics.count_limit_line Diagnostics.DemandedSets 2763520 ≡ codes "error: limit: demanded sets 2763520 above 1048576\n"
+sets : Diagnostics.count_limit_line DemandedSets 2763520 ≡ codes "error: limit: demanded sets 2763520 above 1048576\n"
 unfolding digits
 sets = refl
 
-values : Diagnostics.count_limit_line Diagnostics.Values 4096 ≡ codes "error: limit: values 4096 above 4095\n"
+values : Diagnostics.count_limit_line Values 4096 ≡ codes "error: limit: values 4096 above 4095\n"
 unfolding digits
 values = refl
 
-tuples : Diagnostics.count_limit_line Diagnostics.DemandedTuples 67108865 ≡ codes "error: limit: demanded tuples 67108865 above 67108864\n"
+tuples : Diagnostics.count_limit_line DemandedTuples 67108865 ≡ codes "error: limit: demanded tuples 67108865 above 67108864\n"
 unfolding digits
 tuples = refl
 
-proof : Diagnostics.bytes_limit_line Diagnostics.ProofFile ≡ codes "error: limit: proof bytes above 268435456\n"
+proof : Diagnostics.bytes_limit_line ProofFile ≡ codes "error: limit: proof bytes above 268435456\n"
 unfolding digits
 proof = refl

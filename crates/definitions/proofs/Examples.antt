@@ -1,5 +1,5 @@
 -- Small models, written as contracts see them, on which the definitions are computed.
-use Rattle.std.specs.Prelude.{ℕ, ◌+◌, ◌*◌, ◌^◌, pos, true, false, List, [], ◌∷◌, map, length, codes}
+use Rattle.std.specs.Prelude.{ℕ, ◌*◌, ◌^◌, pos, true, false, List, [], ◌∷◌, map, length, codes}
 use Rattle.std.specs.List.{enumerate_from, range_with_len}
 use Rattle.cov_model.specs.declared.constraint.Body.{Body}
 use Rattle.cov_model.specs.declared.constraint.Rel.{Rel}

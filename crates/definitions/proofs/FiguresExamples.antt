@@ -1,8 +1,7 @@
 -- Figures, statistics and their texts, computed on small models.
-use Rattle.std.specs.Prelude.{◌≡◌, ℕ, Bool, true, false, List, [], ◌∷◌, ◌++◌, codes, refl}
+use Rattle.std.specs.Prelude.{◌≡◌, [], ◌∷◌, codes, refl}
 use Rattle.std.specs.Fmt.{digits}
-use Rattle.cov_model.specs.Sound.{ModelView}
-use Rattle.definitions.specs.Figures.{Figures, figures, servable, is_at}
+use Rattle.definitions.specs.Figures.{figures}
 use Rattle.definitions.specs.Statistics.{statistics, statistics_text, figures_text}
 use Rattle.definitions.proofs.Examples.{declared}
 use Rattle.definitions.proofs.Models.{row, table, bound, negative, mixed, barred, triple}

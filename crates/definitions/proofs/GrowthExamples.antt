@@ -1,13 +1,14 @@
 -- Suites, omission lists and questions, computed on small models.
-use Rattle.std.specs.Prelude.{◌≡◌, ℕ, true, false, List, [], ◌∷◌, map, length, take, drop, Option, Some, None, codes, refl}
-use Rattle.cov_model.specs.declared.slice.Slice.TheVariants.{Positive, Negative}
+use Rattle.std.specs.Prelude.{◌≡◌, ℕ, false, List, [], ◌∷◌, map, Option, codes, refl}
+use Rattle.cov_model.specs.declared.slice.Slice.TheVariants.{Positive}
 use Rattle.cov_model.specs.Sound.{ModelView}
 use Rattle.cov_model.specs.Slices.{slice_of}
 use Rattle.definitions.specs.Search.{plain_cost}
 use Rattle.definitions.specs.Seeds.{kept_seeds, dropped_lines, asked_seeds}
-use Rattle.definitions.specs.Growth.{growth, Grown, gain, agrees, union, tuples_in_play, across}
-use Rattle.definitions.specs.Completion.{is_extendable}
-use Rattle.definitions.proofs.Examples.{model, param, value, declared}
+use Rattle.definitions.specs.Growth.{growth, Grown, gain, tuples_in_play}
+use Rattle.cov_model.specs.declared.constraint.Body.TheVariants.{IfThen}
+use Rattle.cov_model.specs.declared.constraint.Rel.TheVariants.{Eq, Ne}
+use Rattle.definitions.proofs.Examples.{model, param, value, two, is, number, with_rules, declared}
 use Rattle.definitions.proofs.Models.{row, table, pair, triple, bound, signed, negative, barred, mixed, twin, twin_and_one}
 
 -- without seeds, with the values in declared order
@@ -118,3 +119,36 @@ twin_and_one-omitted = refl
 twin_and_one-asked : (plain twin_and_one).asked
     ≡ table (codes "00__ 01__ 10__ 11__ 100_ 111_ 0_0_ 0_1_ _01_ _10_ 1000 1111 _010 _100 0010 0100 0__0 0__1 _0_1 _001 1000 1111 _010 _100 _001")
 twin_and_one-asked = refl
+
+-- four parameters, where A is 0, B isn't 0, and where C is 1, D isn't 0: a value of greater gain and a row
+-- that comes earlier are passed over where they leave no completion
+abbrev forked : ModelView
+forked = with_rules (model (two (codes "A") ∷ two (codes "B") ∷ two (codes "C") ∷ two (codes "D") ∷ []) 2 [] [])
+    (IfThen (is 0 Eq (number 0)) (is 1 Ne (number 0)) ∷ IfThen (is 2 Eq (number 1)) (is 3 Ne (number 0)) ∷ [])
+
+forked-rows : (plain forked).rows ≡ table (codes "0100 1001 1111 0111 1011 1000")
+forked-rows = refl
+
+forked-omitted : (plain forked).omitted ≡ table (codes "00__ __10")
+forked-omitted = refl
+
+forked-asked : (plain forked).asked
+    ≡ table (codes "00__ 01__ 10__ 11__ 010_ 100_ 111_ 0_1_ 001_ _01_ 0100 1001 1110 1111 0_10 0_11 _010 1010 1__0 _010 10_0 _010 1010 __10 0100 1001 1111 0_11 _01_ 10_0")
+forked-asked = refl
+
+-- two partial rows with the same completion
+abbrev single : ModelView
+single = model (two (codes "A") ∷ two (codes "B") ∷ []) 1 [] []
+
+single-grown : growth single (declared single) ((2, row (codes "00")) ∷ (3, row (codes "11")) ∷ (4, row (codes "0_")) ∷ [])
+    ≡ record { rows = table (codes "00 11"); omitted = []; asked = table (codes "00 11 0_ 00 11 0_") }
+single-grown = refl
+
+-- a seed grows in its own slice alone
+negative-seeded : growth negative (declared negative) ((2, row (codes "1__")) ∷ (3, row (codes "0__")) ∷ [])
+    ≡ record {
+      rows = table (codes "000 011 100 111");
+      omitted = table (codes "_00 _01 _10 _11");
+      asked = table (codes "1__ 0__ _00 _01 _10 _11 00_ 01_ 000 011 000 011 10_ 11_ 100 111 100 111");
+    }
+negative-seeded = refl

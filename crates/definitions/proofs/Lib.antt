@@ -2,6 +2,7 @@ pub mod Examples
 pub mod Models
 pub mod DemandExamples
 pub mod ReportExamples
+pub mod RowReadingExamples
 pub mod CompletionExamples
 pub mod SearchExamples
 pub mod GrowthExamples

@@ -1,7 +1,6 @@
 -- Texts of proofs, and the proofs that files hold, computed on small models.
-use Rattle.std.specs.Prelude.{◌≡◌, ℕ, Bool, true, false, List, [], ◌∷◌, ◌++◌, Option, Some, None, Result, Ok, Err, codes, refl}
+use Rattle.std.specs.Prelude.{◌≡◌, ℕ, List, [], ◌∷◌, ◌++◌, Ok, Err, codes, refl}
 use Rattle.std.specs.Fmt.{digits}
-use Rattle.cov_model.specs.Sound.{ModelView}
 use Rattle.definitions.specs.Refutation.{Token, Branch, ByRule, ByNegative, ByOmission}
 use Rattle.definitions.specs.Pairs.{cells_of, pairs_of, cells_text}
 use Rattle.definitions.specs.ProofText.{Omission, proof_text, omissions_of}

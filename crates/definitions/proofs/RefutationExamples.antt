@@ -1,5 +1,5 @@
 -- Trees that refute a tuple, and lists of tokens that don't, computed on small models.
-use Rattle.std.specs.Prelude.{◌≡◌, ℕ, Bool, true, false, List, [], ◌∷◌, ◌++◌, Option, Some, None, codes, refl}
+use Rattle.std.specs.Prelude.{◌≡◌, ℕ, Bool, true, false, List, [], ◌∷◌, ◌++◌, Option, codes, refl}
 use Rattle.cov_model.specs.Sound.{ModelView}
 use Rattle.definitions.specs.Refutation.{Token, Branch, ByRule, ByNegative, ByOmission, refutes, refutes_each, is_eager}
 use Rattle.definitions.proofs.Models.{row, table, bound, negative, barred, mixed, twin, twin_and_one}

@@ -1,16 +1,14 @@
 -- Plain search and its cost, computed on small models.
-use Rattle.std.specs.Prelude.{◌≡◌, ℕ, suc, ◌+◌, Bool, true, false, not, List, [], ◌∷◌, Option, Some, None, codes, refl, slice_index_or, if◌then◌else◌}
-use Rattle.cov_model.specs.declared.constraint.Body.{Body}
-use Rattle.cov_model.specs.declared.constraint.Body.TheVariants.{Plain, IfThen, IfElse}
-use Rattle.cov_model.specs.declared.constraint.Rel.TheVariants.{Eq, Ne, Lt}
-use Rattle.cov_model.specs.declared.parameter.Param.{Param}
+use Rattle.std.specs.Prelude.{◌≡◌, ℕ, suc, true, false, not, List, [], ◌∷◌, Option, Some, None, codes, refl, slice_index_or, if◌then◌else◌}
+use Rattle.cov_model.specs.declared.constraint.Body.TheVariants.{Plain, IfThen}
+use Rattle.cov_model.specs.declared.constraint.Rel.TheVariants.{Eq, Lt}
 use Rattle.cov_model.specs.declared.slice.Slice.TheVariants.{Positive, Negative}
 use Rattle.cov_model.specs.Sound.{ModelView}
 use Rattle.cov_model.specs.Rows.{is_assigned}
 use Rattle.definitions.specs.Search.{plain_search, plain_cost, constrained_params, breaks_a_rule, try_values, Outcome}
 use Rattle.definitions.specs.Completion.{preferred_values}
 use Rattle.definitions.proofs.Models.{twin, barred}
-use Rattle.definitions.proofs.Examples.{model, two, param, value, negative_value, with_rules, number, words, is, are, declared}
+use Rattle.definitions.proofs.Examples.{model, two, param, value, negative_value, with_rules, number, is, declared}
 
 abbrev cost : List (Option ℕ) → ℕ
 cost cells = plain_cost twin (declared twin) Positive cells

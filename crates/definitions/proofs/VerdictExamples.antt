@@ -1,9 +1,8 @@
 -- Verdicts and their texts, computed on small models.
-use Rattle.std.specs.Prelude.{◌≡◌, ℕ, Bool, true, false, List, [], ◌∷◌, ◌++◌, Option, codes, refl}
+use Rattle.std.specs.Prelude.{◌≡◌, ℕ, List, [], ◌++◌, Option, codes, refl}
 use Rattle.std.specs.Fmt.{digits}
 use Rattle.std.specs.List.{enumerate_from}
-use Rattle.cov_model.specs.Sound.{ModelView}
-use Rattle.definitions.specs.Verdict.{Verdict, Accepted, BadRow, BadProof, BadOmission, Uncovered, verdict, verdict_text}
+use Rattle.definitions.specs.Verdict.{Accepted, BadRow, BadProof, BadOmission, Uncovered, verdict, verdict_text}
 use Rattle.definitions.proofs.Models.{row, table, bound, barred, negative, twin_and_one}
 
 -- the rows stand on the lines from 2 on

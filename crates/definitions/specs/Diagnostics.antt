@@ -1,5 +1,6 @@
 -- The lines that a run writes beside its output, each with its line feed. (This project's rules.)
-use Rattle.std.specs.Prelude.{ℕ, ◌*◌, ◌^◌, List, ◌++◌, Option, codes, decimal}
+use Rattle.std.specs.Prelude.{ℕ, List, ◌++◌, Option, codes, decimal}
+use Rattle.definitions.specs.Limits.{Counted, Parameters, Values, Names, Constraints, DemandedSets, DemandedTuples, Rows, SuspectCandidates, most_counted, Measured, ModelFile, RowFile, ProofFile, most_bytes}
 use Rattle.definitions.specs.Pairs.{cells_text}
 
 -- the seed of a shuffle that no word gives
@@ -70,18 +71,7 @@ cannot_write_line name = codes "error: cannot write " ++ name ++ codes "\n"
 abbrev pub cannot_write_report_line : List ℕ
 cannot_write_report_line = codes "error: cannot write the report\n"
 
--- what is counted and has a limit
-pub data Counted : Type 0 where
-  Parameters : Counted
-  Values : Counted
-  Names : Counted
-  Constraints : Counted
-  DemandedSets : Counted
-  DemandedTuples : Counted
-  Rows : Counted
-  SuspectCandidates : Counted
-
--- what it is called
+-- what a counted thing is called
 abbrev pub counted_name : Counted → List ℕ
 counted_name Parameters = codes "parameters"
 counted_name Values = codes "values"
@@ -92,38 +82,16 @@ counted_name DemandedTuples = codes "demanded tuples"
 counted_name Rows = codes "rows"
 counted_name SuspectCandidates = codes "suspect candidates"
 
--- the most there may be: of the values of one parameter, and of the names of one value
-abbrev pub most_counted : Counted → ℕ
-most_counted Parameters = 256
-most_counted Values = 4095
-most_counted Names = 64
-most_counted Constraints = 4096
-most_counted DemandedSets = 2 ^ 20
-most_counted DemandedTuples = 2 ^ 26
-most_counted Rows = 2 ^ 20
-most_counted SuspectCandidates = 2 ^ 22
-
--- there are more than that
+-- there are more of it than the most
 abbrev pub count_limit_line : Counted → ℕ → List ℕ
 count_limit_line counted n =
     codes "error: limit: " ++ counted_name counted ++ codes " " ++ decimal n ++ codes " above " ++ decimal (most_counted counted) ++ codes "\n"
 
--- the files whose bytes have a limit; a report is a row file
-pub data Measured : Type 0 where
-  ModelFile : Measured
-  RowFile : Measured
-  ProofFile : Measured
-
+-- what the bytes of a file are called
 abbrev pub bytes_name : Measured → List ℕ
 bytes_name ModelFile = codes "model bytes"
 bytes_name RowFile = codes "row file bytes"
 bytes_name ProofFile = codes "proof bytes"
-
--- the most bytes that such a file may have
-abbrev pub most_bytes : Measured → ℕ
-most_bytes ModelFile = 2 ^ 22
-most_bytes RowFile = 2 ^ 26
-most_bytes ProofFile = 2 ^ 28
 
 -- it has more than that
 abbrev pub bytes_limit_line : Measured → List ℕ

@@ -3,7 +3,7 @@
 -- treatment of constraints by extendability, and the order of slices are this project's rules.)
 -- Each step answers its rows, the tuples that it omits, and the partial rows whose extendability it asks,
 -- in the order in which it asks.
-use Rattle.std.specs.Prelude.{ℕ, zero, ◌+◌, Bool, true, false, ◌&&◌, not, List, [], ◌∷◌, ◌++◌, map, length, filter_map, Option, Some, None, is_some, ◌==◌, nat_lt, slice_index_or, if◌then◌else◌}
+use Rattle.std.specs.Prelude.{ℕ, Bool, true, false, ◌&&◌, not, List, [], ◌∷◌, ◌++◌, map, length, filter_map, Option, Some, None, ◌==◌, slice_index_or, if◌then◌else◌}
 use Rattle.std.specs.List.{filter, flat_map, list_any, last_or}
 use Rattle.std.specs.Option.{option_map_or}
 use Rattle.cov_model.specs.declared.slice.Slice.{Slice}

@@ -1,7 +1,9 @@
 pub mod Demand
 pub mod Covering
 pub mod Report
+pub mod Limits
 pub mod RowFile
+pub mod RowReading
 pub mod Completion
 pub mod Search
 pub mod Seeds

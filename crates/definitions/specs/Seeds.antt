@@ -2,7 +2,6 @@
 -- A seed row is the number of its line and the partial row that the line gives.
 use Rattle.std.specs.Prelude.{ℕ, Bool, ◌&&◌, not, List, [], ◌∷◌, map, Option, is_some}
 use Rattle.std.specs.List.{filter, list_any}
-use Rattle.cov_model.specs.declared.slice.Slice.{Slice}
 use Rattle.cov_model.specs.Sound.{ModelView}
 use Rattle.cov_model.specs.Rows.{contains}
 use Rattle.definitions.specs.Completion.{is_of_a_slice, can_be_served}
