@@ -11,6 +11,7 @@ pub mod ProofTextExamples
 pub mod FiguresExamples
 pub mod VerdictExamples
 pub mod DiagnosticsExamples
+pub mod WordsExamples
 pub mod Cells
 pub mod Names
 pub mod ReadRow

@@ -15,4 +15,6 @@ pub mod Figures
 pub mod Statistics
 pub mod Verdict
 pub mod Diagnostics
+pub mod Settings
+pub mod Words
 pub mod Laws
