@@ -9,7 +9,7 @@ use Rattle.definitions.specs.Growth.{growth, Grown, gain, tuples_in_play}
 use Rattle.cov_model.specs.declared.constraint.Body.TheVariants.{IfThen}
 use Rattle.cov_model.specs.declared.constraint.Rel.TheVariants.{Eq, Ne}
 use Rattle.definitions.proofs.Examples.{model, param, value, two, is, number, with_rules, declared}
-use Rattle.definitions.proofs.Models.{row, table, pair, triple, bound, signed, negative, barred, mixed, twin, twin_and_one}
+use Rattle.definitions.proofs.Models.{row, table, pair, triple, bound, signed, negative, barred, mixed, impossible, twin, twin_and_one}
 
 -- without seeds, with the values in declared order
 abbrev plain : ModelView → Grown
@@ -152,3 +152,7 @@ negative-seeded : growth negative (declared negative) ((2, row (codes "1__")) �
       asked = table (codes "1__ 0__ _00 _01 _10 _11 00_ 01_ 000 011 000 011 10_ 11_ 100 111 100 111");
     }
 negative-seeded = refl
+
+-- where no row is valid there is none, and every tuple is omitted
+impossible-grown : plain impossible ≡ record { rows = []; omitted = table (codes "0 1"); asked = table (codes "0 1") }
+impossible-grown = refl

@@ -2,7 +2,7 @@
 use Rattle.std.specs.Prelude.{ℕ, ◌-◌, List, [], ◌∷◌, map, Option, Some, None, ◌==◌, codes, if◌then◌else◌}
 use Rattle.std.specs.List.{slice_split}
 use Rattle.cov_model.specs.declared.constraint.Body.TheVariants.{Plain, IfThen}
-use Rattle.cov_model.specs.declared.constraint.Rel.TheVariants.{Eq, Ne, Lt}
+use Rattle.cov_model.specs.declared.constraint.Rel.TheVariants.{Eq, Ne, Gt, Lt}
 use Rattle.cov_model.specs.declared.parameter.Param.{Param}
 use Rattle.cov_model.specs.Sound.{ModelView}
 use Rattle.definitions.proofs.Examples.{model, param, value, negative_value, with_rules, number, words, is, are}
@@ -74,3 +74,7 @@ twin = twin_with [] 1
 
 abbrev pub twin_and_one : ModelView
 twin_and_one = twin_with (one_or_two (codes "D") ∷ []) 2
+
+-- A is 1 or 2, and above 5
+abbrev pub impossible : ModelView
+impossible = with_rules (model (one_or_two (codes "A") ∷ []) 1 [] []) (Plain (is 0 Gt (number 5)) ∷ [])

@@ -2,7 +2,7 @@
 use Rattle.std.specs.Prelude.{◌≡◌, ℕ, Bool, true, false, List, [], ◌∷◌, ◌++◌, Option, codes, refl}
 use Rattle.cov_model.specs.Sound.{ModelView}
 use Rattle.definitions.specs.Refutation.{Token, Branch, ByRule, ByNegative, ByOmission, refutes, refutes_each, is_eager}
-use Rattle.definitions.proofs.Models.{row, table, bound, negative, barred, mixed, twin, twin_and_one}
+use Rattle.definitions.proofs.Models.{row, table, bound, negative, barred, mixed, impossible, twin, twin_and_one}
 
 -- a tree of format 1, which cites nothing
 abbrev accepts : ModelView → List (Option ℕ) → List Token → Bool
@@ -138,3 +138,14 @@ negative-cites = refl
 
 negative-contains : refutes negative 2 (row (codes "0_0") ∷ []) (row (codes "000")) (ByOmission 1 ∷ []) ≡ true
 negative-contains = refl
+
+-- what counts is the tuple's negative values, and not those of the path
+negative-foreign : refutes negative 2 (row (codes "__0") ∷ []) (row (codes "_00")) (Branch 0 ∷ ByOmission 1 ∷ ByOmission 1 ∷ []) ≡ true
+negative-foreign = refl
+
+-- no row is valid; but a parameter of the path is no branch
+impossible-tree : is_eager impossible 1 [] (row (codes "0")) (ByRule 1 ∷ []) ≡ true
+impossible-tree = refl
+
+impossible-branch : accepts impossible (row (codes "0")) (Branch 0 ∷ ByRule 1 ∷ ByRule 1 ∷ []) ≡ false
+impossible-branch = refl

@@ -1,5 +1,5 @@
 -- What the checker says of a report and a proof. (This project's rule.)
-use Rattle.std.specs.Prelude.{◌≡◌, ℕ, ◌+◌, ◌&&◌, not, List, [], ◌∷◌, ◌++◌, map, length, find, Option, Some, None, Result, Ok, Err, codes, decimal, if◌then◌else◌}
+use Rattle.std.specs.Prelude.{◌≡◌, ℕ, ◌+◌, ◌&&◌, true, not, List, [], ◌∷◌, ◌++◌, map, length, find, Option, Some, None, Result, Ok, Err, codes, decimal, if◌then◌else◌}
 use Rattle.std.specs.List.{list_any}
 use Rattle.cov_model.specs.Sound.{ModelView}
 use Rattle.cov_model.specs.Valid.{is_valid}
@@ -70,6 +70,10 @@ verdict m lines bytes = of_row (find (λ line. not (is_valid m line.1)) lines)
 -- the report and the proof are accepted
 abbrev pub IsAccepted : ModelView → List (ℕ × List (Option ℕ)) → List ℕ → Type 0
 IsAccepted m lines bytes = (rows : ℕ) × (omissions : ℕ) × (verdict m lines bytes ≡ Accepted rows omissions)
+
+-- a line of the proof file lists the tuple
+abbrev pub IsListed : ModelView → List ℕ → List (Option ℕ) → Type 0
+IsListed m bytes tuple = (proof : ℕ × List Omission) × (omissions_of m bytes ≡ Ok proof) × (list_any (is_same_row tuple) (listed m proof.1) ≡ true)
 
 -- the line that tells the verdict
 abbrev pub verdict_text : Verdict → List ℕ
