@@ -1,7 +1,7 @@
 -- Trees that refute a tuple, and lists of tokens that don't, computed on small models.
 use Rattle.std.specs.Prelude.{◌≡◌, ℕ, Bool, true, false, List, [], ◌∷◌, ◌++◌, Option, codes, refl}
 use Rattle.cov_model.specs.Sound.{ModelView}
-use Rattle.definitions.specs.Refutation.{Token, Branch, ByRule, ByNegative, ByOmission, refutes, refutes_each, is_eager}
+use Rattle.definitions.specs.Refutation.{Token, Branch, ByRule, ByNegative, ByOmission, refutes, refutes_each, leaves, is_eager}
 use Rattle.definitions.proofs.Models.{row, table, bound, negative, barred, mixed, impossible, twin, twin_and_one}
 
 -- a tree of format 1, which cites nothing
@@ -149,3 +149,7 @@ impossible-tree = refl
 
 impossible-branch : accepts impossible (row (codes "0")) (Branch 0 ∷ ByRule 1 ∷ ByRule 1 ∷ []) ≡ false
 impossible-branch = refl
+
+-- where a negative value and a constraint both make a leaf, the negative one comes first
+mixed-leaves : leaves mixed 1 [] (row (codes "1_1")) (row (codes "111")) ≡ ByNegative ∷ ByRule 1 ∷ []
+mixed-leaves = refl

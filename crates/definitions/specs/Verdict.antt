@@ -37,35 +37,30 @@ abbrev pub first_uncovered : ModelView → List (List (Option ℕ)) → List Omi
 first_uncovered m rows omissions =
     find (λ tuple. not (is_served m rows tuple) && not (list_any (is_same_row tuple) (listed m omissions))) (demanded_tuples m)
 
--- the verdict where rows and trees are good: on the demanded tuples
-abbrev pub on_tuples : ModelView → List (List (Option ℕ)) → List Omission → Verdict
-on_tuples m rows omissions = of_uncovered (first_uncovered m rows omissions)
-  where
-    of_uncovered : Option (List (Option ℕ)) → Verdict
-    of_uncovered (Some tuple) = Uncovered tuple
-    of_uncovered None = Accepted (length rows) (length omissions)
+-- the verdict where rows and trees are good, by the first demanded tuple that is left
+abbrev pub by_tuple : ℕ → ℕ → Option (List (Option ℕ)) → Verdict
+by_tuple rows omissions (Some tuple) = Uncovered tuple
+by_tuple rows omissions None = Accepted rows omissions
 
--- where the rows are good and the proof has its reading: the first omission stands on line 2
-abbrev pub on_omissions : ModelView → List (List (Option ℕ)) → ℕ → List Omission → Verdict
-on_omissions m rows format omissions = of_unrefuted (first_unrefuted m format [] 2 omissions)
-  where
-    of_unrefuted : Option ℕ → Verdict
-    of_unrefuted (Some line) = BadOmission line
-    of_unrefuted None = on_tuples m rows omissions
+-- where the rows are good and the proof has its reading, by the first line whose tree is bad
+abbrev pub by_omission : ModelView → List (List (Option ℕ)) → List Omission → Option ℕ → Verdict
+by_omission m rows omissions (Some line) = BadOmission line
+by_omission m rows omissions None = by_tuple (length rows) (length omissions) (first_uncovered m rows omissions)
 
--- where the rows are good
-abbrev pub on_proof : ModelView → List (List (Option ℕ)) → Result (ℕ × List Omission) ℕ → Verdict
-on_proof m rows (Err line) = BadProof line
-on_proof m rows (Ok proof) = on_omissions m rows proof.0 proof.1
+-- where the rows are good, by the reading of the proof, whose first omission stands on line 2
+abbrev pub by_proof : ModelView → List (List (Option ℕ)) → Result (ℕ × List Omission) ℕ → Verdict
+by_proof m rows (Err line) = BadProof line
+by_proof m rows (Ok proof) = by_omission m rows proof.1 (first_unrefuted m proof.0 [] 2 proof.1)
 
--- the verdict on the rows of a report, each with its line, and the bytes of a proof file; a row that isn't
--- complete isn't valid
+-- by the first bad row
+abbrev pub by_row : ModelView → List (List (Option ℕ)) → List ℕ → Option (ℕ × List (Option ℕ)) → Verdict
+by_row m rows bytes (Some line) = BadRow line.0
+by_row m rows bytes None = by_proof m rows (omissions_of m bytes)
+
+-- the verdict on the rows of a report, each with its line, and the bytes of a proof file: the first of these
+-- that applies; a row that isn't complete isn't valid
 abbrev pub verdict : ModelView → List (ℕ × List (Option ℕ)) → List ℕ → Verdict
-verdict m lines bytes = of_row (find (λ line. not (is_valid m line.1)) lines)
-  where
-    of_row : Option (ℕ × List (Option ℕ)) → Verdict
-    of_row (Some line) = BadRow line.0
-    of_row None = on_proof m (map (λ line. line.1) lines) (omissions_of m bytes)
+verdict m lines bytes = by_row m (map (λ line. line.1) lines) bytes (find (λ line. not (is_valid m line.1)) lines)
 
 -- the report and the proof are accepted
 abbrev pub IsAccepted : ModelView → List (ℕ × List (Option ℕ)) → List ℕ → Type 0
