@@ -1,17 +1,17 @@
 -- What holds of the definitions together. (This project's rules.)
-use Rattle.std.specs.Prelude.{◌≡◌, ℕ, ◌+◌, ◌^◌, ◌<◌, ◌≤◌, ◌↔◌, ◌⊎◌, slice_index_or, Bool, true, false, not, List, [], ◌∷◌, ◌++◌, map, filter, length, Option, Result, Ok, Err, All, Contains, IsPermutation, sum_by}
+use Rattle.std.specs.Prelude.{◌≡◌, ℕ, ◌+◌, ◌^◌, ◌<◌, ◌≤◌, ◌↔◌, ◌⊎◌, slice_index_or, true, false, not, List, [], map, filter, length, Option, Ok, All, Contains, IsPermutation}
 use Rattle.std.specs.List.{Any, list_any}
 use Rattle.cov_model.specs.declared.slice.Slice.{Slice}
 use Rattle.cov_model.specs.Sound.{ModelView, IsSound, param_at}
 use Rattle.cov_model.specs.Rows.{contains}
 use Rattle.cov_model.specs.Tuples.{IsRising}
-use Rattle.cov_model.specs.Valid.{is_row, is_valid, serves, param_numbers}
+use Rattle.cov_model.specs.Valid.{is_row, is_valid, serves}
 use Rattle.cov_model.specs.Slices.{slice_of, slice_values, value_numbers}
 use Rattle.definitions.specs.Demand.{demanded_tuples}
 use Rattle.definitions.specs.Report.{report_text}
 use Rattle.definitions.specs.RowFile.{rows_of, suite_rows}
 use Rattle.definitions.specs.RowReading.{RowReading, Suite, read_rows}
-use Rattle.definitions.specs.Completion.{completions, meets_rules, is_of_a_slice, is_extendable, can_be_served}
+use Rattle.definitions.specs.Completion.{completions, meets_rules, is_of_a_slice, is_extendable}
 use Rattle.definitions.specs.Search.{plain_search}
 use Rattle.definitions.specs.Seeds.{is_same_row, kept_seeds}
 use Rattle.definitions.specs.Growth.{growth}
@@ -112,4 +112,4 @@ pub record IsCertified (m : ModelView) (lines : List (ℕ × List (Option ℕ)))
   pub covered : All (λ tuple. Any (λ line. serves m line.1 tuple ≡ true) lines ⊎ (IsListed m bytes tuple × ((row : List (Option ℕ)) → serves m row tuple ≡ false))) (demanded_tuples m)
 
 abbrev pub AcceptedAreCertified : Type 0
-AcceptedAreCertified = (m : ModelView) (lines : List (ℕ × List (Option ℕ))) (bytes : List ℕ) → IsSound m → IsAccepted m lines bytes → IsCertified m lines bytes
+AcceptedAreCertified = (m : ModelView) (lines : List (ℕ × List (Option ℕ))) (bytes : List ℕ) → IsAccepted m lines bytes → IsCertified m lines bytes
