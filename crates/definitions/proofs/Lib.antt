@@ -1,6 +1,17 @@
 pub mod Examples
+pub mod Models
 pub mod DemandExamples
 pub mod ReportExamples
+pub mod RowReadingExamples
+pub mod CompletionExamples
+pub mod SearchExamples
+pub mod GrowthExamples
+pub mod RefutationExamples
+pub mod ProofTextExamples
+pub mod FiguresExamples
+pub mod VerdictExamples
+pub mod DiagnosticsExamples
+pub mod WordsExamples
 pub mod Cells
 pub mod Names
 pub mod ReadRow

@@ -1,10 +1,115 @@
--- What holds of the definitions together. (This project's rule.)
-use Rattle.std.specs.Prelude.{◌≡◌, ℕ, true, List, Option, All}
-use Rattle.cov_model.specs.Sound.{ModelView, IsSound}
-use Rattle.cov_model.specs.Valid.{is_row}
+-- What holds of the definitions together. (This project's rules.)
+use Rattle.std.specs.Prelude.{◌≡◌, ℕ, ◌+◌, ◌^◌, ◌<◌, ◌≤◌, ◌↔◌, ◌⊎◌, slice_index_or, true, false, not, List, [], map, filter, length, Option, Ok, All, Contains, IsPermutation}
+use Rattle.std.specs.List.{Any, list_any}
+use Rattle.cov_model.specs.declared.slice.Slice.{Slice}
+use Rattle.cov_model.specs.Sound.{ModelView, IsSound, param_at}
+use Rattle.cov_model.specs.Rows.{contains}
+use Rattle.cov_model.specs.Tuples.{IsRising}
+use Rattle.cov_model.specs.Valid.{is_row, is_valid, serves}
+use Rattle.cov_model.specs.Slices.{slice_of, slice_values, value_numbers}
+use Rattle.definitions.specs.Demand.{demanded_tuples}
 use Rattle.definitions.specs.Report.{report_text}
-use Rattle.definitions.specs.RowFile.{rows_of}
+use Rattle.definitions.specs.RowFile.{rows_of, suite_rows}
+use Rattle.definitions.specs.RowReading.{RowReading, Suite, read_rows}
+use Rattle.definitions.specs.Completion.{completions, meets_rules, is_of_a_slice, is_extendable}
+use Rattle.definitions.specs.Search.{plain_search}
+use Rattle.definitions.specs.Seeds.{is_same_row, kept_seeds}
+use Rattle.definitions.specs.Growth.{growth}
+use Rattle.definitions.specs.Refutation.{Token, Branch, ByRule, ByNegative, ByOmission, refutes_each}
+use Rattle.definitions.specs.ProofText.{Omission, proof_text, omissions_of}
+use Rattle.definitions.specs.Figures.{all_rows, is_served}
+use Rattle.definitions.specs.Verdict.{IsAccepted, IsListed}
 
 -- reading a report gives its rows
 abbrev pub ReportsReadBack : Type 0
 ReportsReadBack = (m : ModelView) (rows : List (List (Option ℕ))) → IsSound m → All (λ row. is_row m row ≡ true) rows → rows_of m (report_text m rows) ≡ rows
+
+-- a suite that is read without a fault has the rows that its bytes hold as a suite
+abbrev pub SuitesAreRead : Type 0
+SuitesAreRead = (m : ModelView) (bytes : List ℕ) (reading : RowReading) → read_rows m Suite bytes ≡ Ok reading → map (λ row. row.1) reading.rows ≡ suite_rows m bytes
+
+-- if each token list of a proof refutes its tuple after the tuples before it, no row serves any of them
+abbrev pub RefutedAreUnserved : Type 0
+RefutedAreUnserved = (m : ModelView) (format : ℕ) (omissions : List (List (Option ℕ) × List Token))
+    → refutes_each m format [] omissions ≡ true → (row : List (Option ℕ)) → All (λ omission. serves m row omission.0 ≡ false) omissions
+
+-- a token is of a model and a format: its parameter or constraint exists, and a citation is of format 2 and
+-- has a number from 1 to 2^32 - 1
+abbrev pub IsTokenOf : ModelView → ℕ → Token → Type 0
+IsTokenOf m format (Branch p) = p < length m.params
+IsTokenOf m format (ByRule k) = (1 ≤ k) × (k ≤ length m.rules)
+IsTokenOf m format ByNegative = Unit {0}
+IsTokenOf m format (ByOmission n) = (format ≡ 2) × (1 ≤ n) × (n < 2 ^ 32)
+
+-- an omission is of a model and a format: neither its tuple nor its tree is empty, its parameters rise, and
+-- parameters, values and tokens are of the model
+pub record IsOmissionOf (m : ModelView) (format : ℕ) (omission : Omission) : Type 0 where
+  pub some_tuple : 0 < length omission.tuple
+  pub some_tree : 0 < length omission.tree
+  pub rising : IsRising omission.tuple
+  pub exist : All (λ pair. (pair.0 < length m.params) × (pair.1 < length (param_at m.params pair.0).values)) omission.tuple
+  pub tokens : All (IsTokenOf m format) omission.tree
+
+-- reading the text of a proof gives the proof, so different proofs have different texts
+abbrev pub ProofsReadBack : Type 0
+ProofsReadBack = (m : ModelView) (format : ℕ) (omissions : List Omission) → IsSound m → (format ≡ 1) ⊎ (format ≡ 2)
+    → All (IsOmissionOf m format) omissions → omissions_of m (proof_text format omissions) ≡ Ok (format, omissions)
+
+-- and a file that is read as a proof is its text
+abbrev pub ProofsHaveOneText : Type 0
+ProofsHaveOneText = (m : ModelView) (bytes : List ℕ) (format : ℕ) (omissions : List Omission) → IsSound m
+    → omissions_of m bytes ≡ Ok (format, omissions) → (bytes ≡ proof_text format omissions) × All (IsOmissionOf m format) omissions
+
+-- the completions of a partial row are the rows that contain it and give each parameter one of its values
+abbrev pub CompletionsAreRows : Type 0
+CompletionsAreRows = (lists : List (List ℕ)) (cells row : List (Option ℕ))
+    → Contains (completions lists cells) row ↔ (Contains (completions lists []) row × (contains row cells ≡ true))
+
+-- a row serves a tuple with at most one negative value exactly if it is a row of the tuple's slice that
+-- contains the tuple and meets every constraint
+abbrev pub SlicesServe : Type 0
+SlicesServe = (m : ModelView) (row tuple : List (Option ℕ)) → IsSound m → is_of_a_slice m tuple ≡ true
+    → (serves m row tuple ≡ true) ↔ (Contains (completions (slice_values m (slice_of m tuple)) tuple) row × (meets_rules m row ≡ true))
+
+-- so some row serves it exactly if it is extendable in its slice
+abbrev pub ServableAreExtendable : Type 0
+ServableAreExtendable = (m : ModelView) (tuple : List (Option ℕ)) → IsSound m → is_of_a_slice m tuple ≡ true
+    → is_served m (all_rows m) tuple ≡ is_extendable m (slice_of m tuple) tuple
+
+-- the lists are the values of each parameter in some order
+abbrev pub ArePreferences : ModelView → List (List ℕ) → Type 0
+ArePreferences m pref = (length pref ≡ length m.params) × ((p : ℕ) → p < length m.params → IsPermutation (value_numbers m p) (slice_index_or pref p []))
+
+-- plain search succeeds exactly on what is extendable, of partial rows with values of the slice
+abbrev pub SearchFindsExtendable : Type 0
+SearchFindsExtendable = (m : ModelView) (pref : List (List ℕ)) (slice : Slice) (cells : List (Option ℕ)) → IsSound m → ArePreferences m pref
+    → Any (λ row. contains row cells ≡ true) (completions (slice_values m slice) [])
+    → (plain_search m pref slice cells).found ≡ is_extendable m slice cells
+
+-- what growth gives: every row is valid; a demanded tuple is omitted exactly if no row of the model serves
+-- it, and else a row of the suite does; each kept seed is in a row; and there are no more rows than demanded
+-- tuples outside the omission list and kept seeds
+pub record IsGrownSuite (m : ModelView) (pref : List (List ℕ)) (seeds : List (ℕ × List (Option ℕ))) : Type 0 where
+  pub valid : All (λ row. is_valid m row ≡ true) (growth m pref seeds).rows
+  pub demanded : All (Contains (demanded_tuples m)) (growth m pref seeds).omitted
+  pub omitted : All (λ tuple. Contains (growth m pref seeds).omitted tuple ↔ ((row : List (Option ℕ)) → serves m row tuple ≡ false)) (demanded_tuples m)
+  pub served : All (λ tuple. Any (λ row. serves m row tuple ≡ true) (growth m pref seeds).rows ↔ (Contains (growth m pref seeds).omitted tuple → ⊥)) (demanded_tuples m)
+  pub kept : All (λ seed. Any (λ row. contains row seed ≡ true) (growth m pref seeds).rows) (kept_seeds m seeds)
+  pub few : length (growth m pref seeds).rows
+      ≤ length (filter (λ tuple. not (list_any (is_same_row tuple) (growth m pref seeds).omitted)) (demanded_tuples m)) + length (kept_seeds m seeds)
+
+-- the seed rows are as long as the model's list of parameters, and their values exist
+abbrev pub AreSeeds : ModelView → List (ℕ × List (Option ℕ)) → Type 0
+AreSeeds m seeds = All (λ seed. Any (λ row. contains row seed.1 ≡ true) (all_rows m) × (length seed.1 ≡ length m.params)) seeds
+
+abbrev pub GrowthCovers : Type 0
+GrowthCovers = (m : ModelView) (pref : List (List ℕ)) (seeds : List (ℕ × List (Option ℕ))) → IsSound m → ArePreferences m pref → AreSeeds m seeds → IsGrownSuite m pref seeds
+
+-- if report and proof are accepted, every row is valid, and each demanded tuple is served by one of the
+-- rows, or is listed, and then no row serves it
+pub record IsCertified (m : ModelView) (lines : List (ℕ × List (Option ℕ))) (bytes : List ℕ) : Type 0 where
+  pub valid : All (λ line. is_valid m line.1 ≡ true) lines
+  pub covered : All (λ tuple. Any (λ line. serves m line.1 tuple ≡ true) lines ⊎ (IsListed m bytes tuple × ((row : List (Option ℕ)) → serves m row tuple ≡ false))) (demanded_tuples m)
+
+abbrev pub AcceptedAreCertified : Type 0
+AcceptedAreCertified = (m : ModelView) (lines : List (ℕ × List (Option ℕ))) (bytes : List ℕ) → IsAccepted m lines bytes → IsCertified m lines bytes

@@ -1,6 +1,9 @@
-//! What has to be believed of a covering array and its report, and nothing else: which tuples are
-//! demanded, what a report says, and which rows its bytes hold. Each notion has a module in specs/,
-//! in the order in which a reader needs them; docs/definitions.md says each in prose.
+//! What has to be believed of a suite, its report and its proof, and nothing else: which tuples are
+//! demanded, what makes a suite cover them, how a suite grows, when a partial row is extendable and
+//! what a search for that costs, when a tree refutes a tuple, what reports, proofs, figures and
+//! verdicts say, which rows and proofs the bytes of files hold, and what the words of a command mean.
+//! Each notion has a module in specs/, in the order in which a reader needs them; proofs/ computes
+//! each on small models; docs/definitions.md says each in prose.
 #![tactic(auto)]
 
 mod laws;

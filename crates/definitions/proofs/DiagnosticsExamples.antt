@@ -1,0 +1,69 @@
+-- The lines beside the output, computed.
+use Rattle.std.specs.Prelude.{◌≡◌, ◌++◌, codes, refl}
+use Rattle.std.specs.Fmt.{digits}
+use Rattle.definitions.specs.Diagnostics
+use Rattle.definitions.specs.Limits.{Values, DemandedSets, DemandedTuples, ProofFile}
+use Rattle.definitions.proofs.Models.{row}
+
+seed : Diagnostics.used_seed_line 5 ≡ codes "Used seed: 5\n"
+unfolding digits
+seed = refl
+
+repeated : Diagnostics.repeated_name_line 1 ≡ codes "warning: model line 1: V1 repeated value name dropped\n"
+unfolding digits
+repeated = refl
+
+notes : Diagnostics.unknown_column_line 1 ++ Diagnostics.unknown_value_line 7 ++ Diagnostics.row_dropped_line 5
+    ≡ codes "warning: row file line 1: V2 unknown column\nwarning: row file line 7: V3 unknown value\nwarning: row file line 5: V4 no valid row serves this row\n"
+unfolding digits
+notes = refl
+
+budget : Diagnostics.budget_line 2 (row (codes "_0_1")) ≡ codes "error: search budget 2 spent on 1=0 3=1\n"
+unfolding digits
+budget = refl
+
+word : Diagnostics.word_line 12 ≡ codes "error: word 12 is not understood\n"
+unfolding digits
+word = refl
+
+model : Diagnostics.model_line 1 (codes "M18") (codes "order above the number of parameters") ≡ codes "error: model line 1: M18 order above the number of parameters\n"
+unfolding digits
+model = refl
+
+two_columns : Diagnostics.two_columns_line 1 ≡ codes "error: row file line 1: F2 parameter in two columns\n"
+unfolding digits
+two_columns = refl
+
+no_column : Diagnostics.no_column_line 1 ≡ codes "error: row file: F3 no column for parameter 1\n"
+unfolding digits
+no_column = refl
+
+too_wide : Diagnostics.too_wide_line 2 ≡ codes "error: row file line 2: F4 more cells than the header\n"
+unfolding digits
+too_wide = refl
+
+bad_result : Diagnostics.bad_result_line 10 ≡ codes "error: row file line 10: F6 neither pass nor fail\n"
+unfolding digits
+bad_result = refl
+
+cannot_read : Diagnostics.cannot_read_line (codes "s") ≡ codes "error: cannot read s\n"
+cannot_read = refl
+
+cannot_write : Diagnostics.cannot_write_line (codes "p") ≡ codes "error: cannot write p\n"
+cannot_write = refl
+
+sets : Diagnostics.count_limit_line DemandedSets 2763520 ≡ codes "error: limit: demanded sets 2763520 above 1048576\n"
+unfolding digits
+sets = refl
+
+values : Diagnostics.count_limit_line Values 4096 ≡ codes "error: limit: values 4096 above 4095\n"
+unfolding digits
+values = refl
+
+tuples : Diagnostics.count_limit_line DemandedTuples 67108865 ≡ codes "error: limit: demanded tuples 67108865 above 67108864\n"
+unfolding digits
+tuples = refl
+
+proof : Diagnostics.bytes_limit_line ProofFile ≡ codes "error: limit: proof bytes above 268435456\n"
+unfolding digits
+proof = refl

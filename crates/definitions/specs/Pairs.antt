@@ -1,0 +1,26 @@
+-- A partial row as the pairs of its parameters and values, and their text. (This project's rule.)
+use Rattle.std.specs.Prelude.{ℕ, ◌+◌, List, [], ◌∷◌, ◌++◌, map, replicate, Option, Some, None, decimal}
+use Rattle.std.specs.List.{join_with_byte}
+use Rattle.definitions.specs.Completion.{with_value}
+
+-- the partial row of n parameters with these values
+abbrev pub cells_of : ℕ → List (ℕ × ℕ) → List (Option ℕ)
+cells_of n [] = replicate n None
+cells_of n (pair ∷ pairs) = with_value (cells_of n pairs) pair.0 pair.1
+
+-- the pairs of a partial row whose first cell is that of parameter p, the parameters rising
+abbrev pub pairs_from : ℕ → List (Option ℕ) → List (ℕ × ℕ)
+pairs_from p [] = []
+pairs_from p (None ∷ cells) = pairs_from (p + 1) cells
+pairs_from p (Some v ∷ cells) = (p, v) ∷ pairs_from (p + 1) cells
+
+abbrev pub pairs_of : List (Option ℕ) → List (ℕ × ℕ)
+pairs_of cells = pairs_from 0 cells
+
+-- `p=v`
+abbrev pub pair_text : ℕ × ℕ → List ℕ
+pair_text pair = decimal pair.0 ++ 61 ∷ decimal pair.1
+
+-- `p=v p=v` by rising p
+abbrev pub cells_text : List (Option ℕ) → List ℕ
+cells_text cells = join_with_byte 32 (map pair_text (pairs_of cells))
