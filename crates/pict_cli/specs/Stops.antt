@@ -1,8 +1,9 @@
 -- Why a run may end before its report is written: its status and its line on standard error.
 -- (This project's rules.)
 use Rattle.std.specs.List.{list_any}
-use Rattle.std.specs.Prelude.{◌≡◌, ℕ, true, List, [], ◌∷◌, Option, unwrap_or, ◌++◌, ◌==◌, if◌then◌else◌, codes, decimal}
+use Rattle.std.specs.Prelude.{◌≡◌, ℕ, true, List, [], ◌∷◌, Option, unwrap_or, ◌==◌, if◌then◌else◌, codes}
 use Rattle.pict_cli.specs.Words.{word_fault, model_name}
+use Rattle.definitions.specs.Diagnostics.{memory_line, word_line, cannot_read_line, cannot_write_report_line}
 use Rattle.outside_io.specs.declared.answers.WriteAnswer.{WriteAnswer}
 use Rattle.outside_io.specs.Puts.{Puts, CountsFaults}
 use Rattle.pict_cli.specs.declared.stop.Stop.{Stop}
@@ -17,11 +18,11 @@ status_of CannotWriteReport = 8
 
 -- the line, where the model file has this name
 abbrev pub line_of : Stop → List ℕ → List ℕ
-line_of OutOfMemory name = codes "error: out of memory\n"
-line_of (BadWord index) name = codes "error: word " ++ decimal index ++ codes " is not understood\n"
+line_of OutOfMemory name = memory_line
+line_of (BadWord index) name = word_line index
 line_of NotBuilt name = codes "error: model line 1: M0 form not built yet\n"
-line_of CannotRead name = codes "error: cannot read " ++ name ++ codes "\n"
-line_of CannotWriteReport name = codes "error: cannot write the report\n"
+line_of CannotRead name = cannot_read_line name
+line_of CannotWriteReport name = cannot_write_report_line
 
 -- what may stop a run whose words were read
 abbrev pub IsAfterWords : Stop → Type 0
