@@ -1,6 +1,6 @@
 -- Decimal numbers as model files spell them: an optional sign, 1 to 28 digits, and optionally a
 -- point with 1 to 9 digits. A number is kept as an integer scaled by 10^9. (This project's rule.)
-use Rattle.std.specs.Prelude.{ℕ, ◌-◌, ◌*◌, ◌^◌, ℤ, pos, neg_ℤ, Bool, true, false, ◌&&◌, ◌||◌, not, List, [], ◌∷◌, ◌++◌, length, ◌==◌, nat_le, nat_lt, if◌then◌else◌, Option, Some, None}
+use Rattle.std.specs.Prelude.{ℕ, ◌-◌, ◌*◌, ◌^◌, pos, neg_ℤ, Bool, true, false, ◌&&◌, ◌||◌, not, List, [], ◌∷◌, ◌++◌, length, ◌==◌, nat_le, nat_lt, if◌then◌else◌, Option, Some, None}
 use Rattle.std.specs.List.{before_first, after_first, list_all, list_any}
 use Rattle.std.specs.Char.{is_ascii_digit}
 use Rattle.std.specs.Str.Parse.{digits_value}
@@ -21,7 +21,7 @@ is_minus [] = false
 is_minus (b ∷ rest) = b == 45
 
 -- the digits before the point, whether there is a point, and the digits behind it
-abbrev is_point : ℕ → Bool
+abbrev pub is_point : ℕ → Bool
 is_point b = b == 46
 
 abbrev pub whole_digits : List ℕ → List ℕ
