@@ -2,6 +2,7 @@ pub mod Tuples
 pub mod Names
 pub mod Sound
 pub mod Rows
+pub mod Fits
 pub mod Meaning
 pub mod Kleene
 pub mod Valid

@@ -9,9 +9,11 @@
 mod cells;
 mod constraint;
 mod demand;
+mod eval;
 mod model;
 mod parameter;
 mod slice;
+mod stubs;
 mod truth;
 mod tuple;
 
