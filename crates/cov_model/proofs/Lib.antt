@@ -1,2 +1,5 @@
 pub mod SoundLemmas
 pub mod TruthLemmas
+pub mod RowLemmas
+pub mod KnownLemmas
+pub mod FaultLemmas

@@ -6,4 +6,6 @@ pub mod Fits
 pub mod Meaning
 pub mod Kleene
 pub mod Valid
+pub mod RowFault
+pub mod Laws
 pub mod Slices

@@ -73,7 +73,7 @@ impl TestModel {
     }
 
     // The value that the cells give a parameter.
-    fn given(&self, p: ParamNo, cells: &Cells) -> Option<&Value>
+    pub(crate) fn given(&self, p: ParamNo, cells: &Cells) -> Option<&Value>
         requires parameter { p < length self.now.params }
         requires fits { FitsModel self.now cells.now }
         ensures assigned { is_some result ≡ is_assigned cells.now p }
@@ -227,7 +227,7 @@ impl TestModel {
     }
 
     // What is known of a constraint.
-    fn body_truth(&self, body: &Body, cells: &Cells) -> Truth
+    pub(crate) fn body_truth(&self, body: &Body, cells: &Cells) -> Truth
         requires sound { IsSoundBody self.now.params body.now }
         requires fits { FitsModel self.now cells.now }
         ensures { result ≡ body_truth self.now body.now cells.now }
