@@ -18,14 +18,12 @@ is_digits_nonempty text some = grind (arith, nat_tests)
 digit_below_ten : (b : ℕ) (rest : Bool) → is_ascii_digit b && rest ≡ true → (digit_value b < 10) × (rest ≡ true)
 digit_below_ten b rest are = (grind (arith, nat_tests), grind (arith, nat_tests))
 
+-- the test in the words of `parse`
 pub all_digits : (text : List ℕ) → list_all is_ascii_digit text ≡ true → AllDigits 10 text
 all_digits [] are = tt
 all_digits (b ∷ rest) are =
     let parts = digit_below_ten b (list_all is_ascii_digit rest) are in
     (parts.0, all_digits rest parts.1)
-
-pub all_from_digits : (text : List ℕ) → is_digits text ≡ true → list_all is_ascii_digit text ≡ true
-all_from_digits text are = grind (arith, nat_tests)
 
 -- one more digit, among at most 38
 pub record Grows (text : List ℕ) (i value : ℕ) : Type 0 where
@@ -51,17 +49,17 @@ pub whole_value : (text : List ℕ) (i value : ℕ) → list_all is_ascii_digit 
 whole_value text i value are past is = rw (is, take_all i text past) (value_small text are)
 
 -- digits behind others
-append_after : (n : ℕ) (xs ys : List ℕ) → digits_value_after 10 n (xs ++ ys) ≡ digits_value_after 10 (digits_value_after 10 n xs) ys
-append_after n [] ys = refl
-append_after n (x ∷ xs) ys = append_after (n * 10 + digit_value x) xs ys
+digits_value_after-append : (n : ℕ) (xs ys : List ℕ) → digits_value_after 10 n (xs ++ ys) ≡ digits_value_after 10 (digits_value_after 10 n xs) ys
+digits_value_after-append n [] ys = refl
+digits_value_after-append n (x ∷ xs) ys = digits_value_after-append (n * 10 + digit_value x) xs ys
 
-after : (n : ℕ) (xs : List ℕ) → digits_value_after 10 n xs ≡ n * 10 ^ length xs + digits_value 10 xs
-after n [] = omega arith
-after n (x ∷ xs) =
-    let here = after (n * 10 + digit_value x) xs in
-    let first = after (0 + digit_value x) xs in
+digits_value_after-sum : (n : ℕ) (xs : List ℕ) → digits_value_after 10 n xs ≡ n * 10 ^ length xs + digits_value 10 xs
+digits_value_after-sum n [] = omega arith
+digits_value_after-sum n (x ∷ xs) =
+    let here = digits_value_after-sum (n * 10 + digit_value x) xs in
+    let first = digits_value_after-sum (0 + digit_value x) xs in
     let power = pow-suc 10 (length xs) in
     rw power (omega arith)
 
 pub digits_value-append : (xs ys : List ℕ) → digits_value 10 (xs ++ ys) ≡ digits_value 10 xs * 10 ^ length ys + digits_value 10 ys
-digits_value-append xs ys = append_after 0 xs ys ∙ after (digits_value 10 xs) ys
+digits_value-append xs ys = digits_value_after-append 0 xs ys ∙ digits_value_after-sum (digits_value 10 xs) ys

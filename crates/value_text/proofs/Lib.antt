@@ -1,2 +1,5 @@
 pub mod DigitLemmas
 pub mod NumberLemmas
+pub mod CharLemmas
+pub mod LikeLemmas
+pub mod Laws

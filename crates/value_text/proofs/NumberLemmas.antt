@@ -53,9 +53,7 @@ decimal_without_point text unsigned is none =
 
 -- the size that at most 28 digits before the point and 9 behind it write
 pub record Scales (whole decimals : List ℕ) : Type 0 where
-  pub unit : 10 ^ (9 - length decimals) < 2 ^ 128
   pub whole_fits : digits_value 10 whole * 1000000000 < 2 ^ 128
-  pub decimals_fit : digits_value 10 decimals * 10 ^ (9 - length decimals) < 2 ^ 128
   pub fits : digits_value 10 whole * 1000000000 + digits_value 10 decimals * 10 ^ (9 - length decimals) < 2 ^ 127
   pub size : digits_value 10 whole * 1000000000 + digits_value 10 decimals * 10 ^ (9 - length decimals) ≡ digits_value 10 (whole ++ decimals) * 10 ^ (9 - length decimals)
 
@@ -67,12 +65,9 @@ scales whole decimals are few are_too few_too =
     let whole_power : length decimals + (9 - length decimals) ≡ 9 = omega arith in
     let power : 10 ^ length decimals * 10 ^ (9 - length decimals) ≡ 1000000000 =
     sym (pow-add 10 (length decimals) (9 - length decimals)) ∙ ap (λ n. 10 ^ n) whole_power in
-    let unit_room = pow-le-pow_right {n = 10} (omega arith) {i = 9 - length decimals} {j = 9} (omega arith) in
     let product : digits_value 10 decimals * 10 ^ (9 - length decimals) ≤ 1000000000 = grind (arith, mul-le-mul_right (10 ^ (9 - length decimals)) below) in
     record {
-      unit = omega arith;
       whole_fits = omega arith;
-      decimals_fit = omega arith;
       fits = omega arith;
       size = rw (digits_value-append whole decimals) (omega (arith, ap (λ n. digits_value 10 whole * n) power));
     }

@@ -13,6 +13,10 @@ matches (x ∷ pattern) (c ∷ text) =
     if x == 42 then matches pattern (c ∷ text) || matches (x ∷ pattern) text
     else ((x == 63) || (x == c)) && matches pattern text
 
+-- the characters of a text under the case rule
+abbrev pub folded_chars : Bool → List ℕ → List ℕ
+folded_chars fold text = chars (folded fold text)
+
 -- whether a pattern matches a text, both given as their bytes
 abbrev pub is_like : Bool → List ℕ → List ℕ → Bool
-is_like fold pattern text = matches (chars (folded fold pattern)) (chars (folded fold text))
+is_like fold pattern text = matches (folded_chars fold pattern) (folded_chars fold text)

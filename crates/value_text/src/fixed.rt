@@ -117,3 +117,58 @@ fn scaled_size(whole: &[u8], decimals: &[u8]) -> i128
     let decimal_unit = 10u128.pow(9 - decimals.len() as u32);
     (value_of(whole) * 1_000_000_000 + value_of(decimals) * decimal_unit) as i128
 }
+
+#[cfg(test)]
+mod tests {
+    use super::*;
+
+    #[test]
+    fn reads_numbers(rt: HostRuntime) {
+        let cases = [
+            ("0", 0),
+            ("-0", 0),
+            ("+7", 7_000_000_000),
+            ("007", 7_000_000_000),
+            ("1.5", 1_500_000_000),
+            ("1.50", 1_500_000_000),
+            ("-0.000000001", -1),
+            ("-12.25", -12_250_000_000),
+            (
+                "9999999999999999999999999999",
+                9_999_999_999_999_999_999_999_999_999_000_000_000,
+            ),
+            (
+                "-9999999999999999999999999999.999999999",
+                -9_999_999_999_999_999_999_999_999_999_999_999_999,
+            ),
+        ];
+        for (text, scaled) in cases {
+            assert_eq!(rt;
+                read_fixed(text),
+                FixedAnswer::Number(Fixed { scaled }),
+                "{text}"
+            );
+        }
+    }
+
+    #[test]
+    fn refuses_other_texts(rt: HostRuntime) {
+        let none = [
+            "", "+", "-", ".", "1.", ".5", "-.5", "1e3", "1..2", "1.2.3", "+-1", "--1", "1-", " 1",
+            "1 ", "1. 5", "0x1", "1,5", "x", "1.x", "\u{0661}",
+        ];
+        for text in none {
+            assert_eq!(rt; read_fixed(text), FixedAnswer::NotNumber, "{text}");
+        }
+        let wide = [
+            "99999999999999999999999999999",
+            "-00000000000000000000000000001",
+            "1.1234567890",
+            "0.0000000000",
+            "10000000000000000000000000000.1234567890",
+        ];
+        for text in wide {
+            assert_eq!(rt; read_fixed(text), FixedAnswer::TooWide, "{text}");
+        }
+    }
+}
