@@ -10,10 +10,9 @@ use crate::cells::Cells;
 use crate::constraint::{Body, Literal, Pred, Rel, Term};
 use crate::model::TestModel;
 use crate::parameter::{Param, ParamNo, Value, ValueNo};
-use crate::stubs::{like, order_text};
 use crate::truth::Truth;
 use std::cmp::Ordering;
-use value_text::{Fixed, FixedAnswer, read_fixed};
+use value_text::{Fixed, FixedAnswer, like, order_text, read_fixed};
 
 // The number that the first name of a numeric parameter's value spells.
 fn number_at(name: &str) -> Fixed

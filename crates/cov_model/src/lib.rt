@@ -14,7 +14,6 @@ mod model;
 mod parameter;
 mod row_fault;
 mod slice;
-mod stubs;
 mod truth;
 mod tuple;
 

@@ -1,7 +1,0 @@
-use Rattle.cov_model.proofs.stubs.like.Goals as goal
-
-pub returns-then-fold : goal.returns-then-fold
-returns-then-fold c = ?
-
-pub returns-else-fold : goal.returns-else-fold
-returns-else-fold c = ?
