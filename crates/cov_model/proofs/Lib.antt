@@ -3,3 +3,5 @@ pub mod TruthLemmas
 pub mod RowLemmas
 pub mod KnownLemmas
 pub mod FaultLemmas
+pub mod SortLemmas
+pub mod PreferenceLemmas

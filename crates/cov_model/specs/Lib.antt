@@ -8,4 +8,5 @@ pub mod Kleene
 pub mod Valid
 pub mod RowFault
 pub mod Laws
+pub mod Preference
 pub mod Slices

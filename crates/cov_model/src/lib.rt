@@ -12,6 +12,7 @@ mod demand;
 mod eval;
 mod model;
 mod parameter;
+mod prefs;
 mod row_fault;
 mod slice;
 mod truth;
@@ -22,6 +23,7 @@ pub use constraint::{Body, Literal, LiteralList, Pred, PredList, Rel, Rule, Rule
 pub use demand::{Demand, Group, GroupList, NoList};
 pub use model::TestModel;
 pub use parameter::{Param, ParamList, ParamNo, Value, ValueList, ValueNo};
+pub use prefs::Prefs;
 pub use row_fault::{RowWhy, partial_rows_tell};
 pub use slice::Slice;
 pub use truth::Truth;
