@@ -5,3 +5,4 @@ pub mod KnownLemmas
 pub mod FaultLemmas
 pub mod SortLemmas
 pub mod PreferenceLemmas
+mod Examples

@@ -233,15 +233,18 @@ impl TestModel {
     {
         match body {
             Body::Plain(pred) => self.pred_truth(pred, cells),
-            Body::IfThen(premise, pred) => {
-                let implied = self.pred_truth(premise, cells).negated();
-                implied.or(self.pred_truth(pred, cells))
-            }
-            Body::IfElse(premise, pred, other) => {
-                let met = self.pred_truth(premise, cells);
-                let first = met.negated().or(self.pred_truth(pred, cells));
-                first.and(met.or(self.pred_truth(other, cells)))
-            }
+            Body::IfThen(premise, pred) => match self.pred_truth(premise, cells) {
+                Truth::No => Truth::Yes,
+                met => met.negated().or(self.pred_truth(pred, cells)),
+            },
+            Body::IfElse(premise, pred, other) => match self.pred_truth(premise, cells) {
+                Truth::Yes => self.pred_truth(pred, cells),
+                Truth::No => self.pred_truth(other, cells),
+                Truth::Unknown => {
+                    let first = Truth::Unknown.or(self.pred_truth(pred, cells));
+                    first.and(Truth::Unknown.or(self.pred_truth(other, cells)))
+                }
+            },
         }
     }
 
