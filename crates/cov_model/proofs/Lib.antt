@@ -6,3 +6,4 @@ pub mod FaultLemmas
 pub mod SortLemmas
 pub mod PreferenceLemmas
 mod Examples
+pub mod SampleSound

@@ -3,7 +3,7 @@ use mathlib.Core.Former.{Count}
 use Rattle.std.proofs.Common.{◌≡◌, ℕ, Bool, true, false, ◌&&◌, if◌then◌else◌, ◌∙◌, sym, ap, subst, refl, List, [], ◌∷◌, Option, All}
 use Rattle.std.specs.List.{list_any}
 use Rattle.std.specs.Ordering.{is_eq}
-use Rattle.std.proofs.lemmas.List.Elements.{All-nil, All-cons}
+use Rattle.std.proofs.lemmas.List.Elements.{All-nil, All-cons, All-head, All-tail}
 use Rattle.cov_model.specs.declared.truth.Truth.{Truth}
 use Rattle.cov_model.specs.declared.constraint.Pred as preds
 use Rattle.cov_model.specs.declared.constraint.Pred.{Pred, Term, Not', All', Any', Row_of-Pred, end_of-Pred, more_of-Pred, items-the_row-Pred, items_hidden-the_row-Pred-0}
@@ -66,3 +66,18 @@ term_truth-OneOf_none m p literals cells numeric name assigned same_kind same_na
     subst (λ (n : List ℕ). list_any (λ literal. is_eq (literal_order m.fold (operand_of (param_at m.params p).numeric n) literal)) literals ≡ false) same_name
     (subst (λ (k : Bool). list_any (λ literal. is_eq (literal_order m.fold (operand_of k name) literal)) literals ≡ false) same_kind none) in
     sym (ap (λ (b : Bool). if b && true then known (term_holds m (OneOf p literals) cells) else Unknown) assigned ∙ ap known found)
+
+rows_sound : {n : _} (params : List Param) (parts : Row_of-Pred n)
+    → All (IsSoundPred params) (items-the_row-Pred n parts) → AreSoundPreds params parts
+rows_sound params end_of-Pred sound = tt
+rows_sound params (more_of-Pred part rest) sound =
+    (All-head (IsSoundPred params) part (items-the_row-Pred _ rest) sound, rows_sound params rest (All-tail (IsSoundPred params) part (items-the_row-Pred _ rest) sound))
+
+-- and the other way
+pub IsSoundPred-from_All : (params : List Param) (parts : List Pred) → All (IsSoundPred params) parts → IsSoundPred params (preds.All parts)
+IsSoundPred-from_All params parts sound =
+    rows_sound params (row_of (preds.All parts)).1 (subst (λ list. All (IsSoundPred params) list) (sym (items_hidden-the_row-Pred-0 parts)) sound)
+
+pub IsSoundPred-from_Any : (params : List Param) (parts : List Pred) → All (IsSoundPred params) parts → IsSoundPred params (preds.Any parts)
+IsSoundPred-from_Any params parts sound =
+    rows_sound params (row_of (preds.Any parts)).1 (subst (λ list. All (IsSoundPred params) list) (sym (items_hidden-the_row-Pred-0 parts)) sound)

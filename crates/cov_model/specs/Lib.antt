@@ -10,3 +10,4 @@ pub mod RowFault
 pub mod Laws
 pub mod Preference
 pub mod Slices
+pub mod Sample
