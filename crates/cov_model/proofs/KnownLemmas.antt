@@ -1,9 +1,8 @@
 -- What is known on a partial row is so on every row that contains it.
-use Rattle.std.proofs.Common.{◌≡◌, ℕ, ◌<◌, Bool, true, false, ◌&&◌, ◌||◌, not, if◌then◌else◌, List, [], ◌∷◌, length, Option, None, get_or, unwrap_or, ◌∙◌, sym, ap, subst, refl, arith}
+use Rattle.std.proofs.Common.{◌≡◌, ℕ, Bool, true, false, ◌&&◌, ◌||◌, not, if◌then◌else◌, List, [], ◌∷◌, Option, unwrap_or, ◌∙◌, sym, ap, subst, refl}
 use Rattle.std.specs.List.{list_all, list_any}
 use Rattle.std.specs.Ordering.{is_eq}
 use Rattle.std.proofs.lemmas.Bool.{false≢true}
-use Rattle.std.proofs.lemmas.Grind.{common_steps}
 use Rattle.cov_model.specs.declared.truth.Truth.{Truth}
 use Rattle.cov_model.specs.declared.truth.Truth.TheVariants.{Yes, No, Unknown}
 use Rattle.cov_model.specs.declared.constraint.Body.{Body}
@@ -13,7 +12,7 @@ use Rattle.cov_model.specs.declared.constraint.Term as terms
 use Rattle.cov_model.specs.declared.constraint.Term.TheVariants.{ValueIs, ParamIs, OneOf, Like, Negative, Positive}
 use Rattle.cov_model.specs.declared.constraint.Pred.{Pred, Term, Not', All', Any', Row_of-Pred, end_of-Pred, more_of-Pred}
 use Rattle.value_text.specs.Like.{is_like}
-use Rattle.cov_model.specs.Sound.{ModelView, IsSoundTerm, IsSoundPred, AreSoundPreds, IsSoundBody, param_at, first_name}
+use Rattle.cov_model.specs.Sound.{ModelView, IsSoundTerm, IsSoundPred, AreSoundPreds, param_at, first_name}
 use Rattle.cov_model.specs.Rows.{contains, is_assigned}
 use Rattle.cov_model.specs.Meaning.{given_value, value_at, operand, operand_of, literal_order, stands_in, term_holds, pred_holds, all_hold, any_holds, body_holds}
 use Rattle.cov_model.specs.Kleene.{known, not_of, and_of, or_of, term_params, term_truth, pred_truth, all_truth, any_truth, body_truth}

@@ -1,6 +1,6 @@
 -- The preference order of a parameter lists each of its values once.
-use Rattle.std.proofs.Common.{◌≡◌, ℕ, zero, suc, ◌+◌, ◌-◌, ◌<◌, ◌≤◌, ◌%◌, Bool, true, false, if◌then◌else◌, List, [], ◌∷◌, length, get_or, nat_le, All, IsPermutation, Option, None, Some, ◌∙◌, sym, ap, subst, refl, arith, zero-add}
-use Rattle.std.specs.List.{range_with_len, swap}
+use Rattle.std.proofs.Common.{◌≡◌, ℕ, zero, suc, ◌+◌, ◌-◌, ◌<◌, ◌≤◌, ◌%◌, Bool, true, false, if◌then◌else◌, List, [], ◌∷◌, length, get_or, nat_le, All, IsPermutation, Option, None, Some, ap, refl, arith}
+use Rattle.std.specs.List.{swap}
 use Rattle.std.proofs.lemmas.List.Elements.{All-from_get_or}
 use Rattle.std.proofs.lemmas.List.FromFn.{length-range_with_len, get_or-range_with_len}
 use Rattle.std.proofs.lemmas.List.Sorted.{IsPermutation-refl, IsPermutation-cons, IsPermutation-middle, IsPermutation-swap, IsPermutation-trans, All-permutation, length_permutation}
@@ -8,7 +8,7 @@ use Rattle.rand_pcg.specs.Lcg.{Lcg}
 use Rattle.rand_pcg.specs.Pcg.{pcg32}
 use Rattle.cov_model.specs.declared.parameter.Param.{Param}
 use Rattle.cov_model.specs.declared.parameter.Value.{Value}
-use Rattle.cov_model.specs.Sound.{ModelView, param_at, no_param}
+use Rattle.cov_model.specs.Sound.{ModelView, param_at}
 use Rattle.cov_model.specs.Preference.{shuffled_to, shuffled, insert_by_weight, by_falling_weight, weight_in, declared_order, preferred, preferences, generator_of, preference, OrdersValues}
 
 IsPermutation-shuffled_to : (n : ℕ) (values : List ℕ) (generator : Lcg) → n ≤ length values - 1 → IsPermutation values (shuffled_to n values generator).0

@@ -1,12 +1,11 @@
 -- The model of the tests is sound, and which rows fit it.
-use Rattle.std.proofs.Common.{◌≡◌, ℕ, zero, suc, ◌+◌, ◌<◌, ◌≤◌, true, false, List, [], ◌∷◌, ◌++◌, length, get_or, All, AllPairs, Option, Some, None, IfSome, nat_lt, ◌&&◌, ◌∙◌, refl, sym, subst, ap, arith, codes}
+use Rattle.std.proofs.Common.{◌≡◌, ℕ, zero, suc, ◌+◌, ◌<◌, ◌≤◌, true, false, List, [], ◌∷◌, ◌++◌, length, get_or, AllPairs, Option, Some, None, IfSome, nat_lt, ◌&&◌, ◌∙◌, refl, sym, subst, ap, arith, codes}
 use Rattle.std.specs.Str.{chars}
 use Rattle.std.specs.List.{AllByRecursion}
 use Rattle.std.proofs.lemmas.Bool.{false≢true}
 use Rattle.std.proofs.lemmas.List.Elements.{All-from_recursion, All-push}
 use Rattle.std.proofs.lemmas.Grind.{common_steps}
 use Rattle.cov_model.specs.declared.constraint.Rule.{Rule}
-use Rattle.cov_model.specs.declared.parameter.Value.{Value}
 use Rattle.cov_model.specs.declared.parameter.Param.{Param}
 use Rattle.value_text.specs.Texts.{is_same_text}
 use Rattle.cov_model.specs.Sound.{ModelView, IsSound, IsSoundParam, IsSoundValue, IsSoundGroup, IsSoundBody, param_at}

@@ -1,10 +1,8 @@
 -- What a sound model says of one parameter, one value and one constraint.
-use Rattle.std.proofs.Common.{◌≡◌, ℕ, ◌+◌, ◌-◌, ◌<◌, ◌≤◌, true, List, [], length, slice_index_or, get_or, All, AllPairs, ◌∙◌, sym, arith}
+use Rattle.std.proofs.Common.{◌≡◌, ℕ, ◌-◌, ◌<◌, ◌≤◌, true, length, ◌∙◌, sym, arith}
 use Rattle.std.proofs.lemmas.List.Elements.{All-get_or}
 use Rattle.std.proofs.lemmas.List.Sums.{AllPass-from_list_all}
 use Rattle.value_text.specs.Numbers.{is_number}
-use Rattle.cov_model.specs.declared.parameter.Param.{Param}
-use Rattle.cov_model.specs.declared.parameter.Value.{Value}
 use Rattle.cov_model.specs.Sound.{ModelView, IsSound, IsSoundParam, IsSoundValue, IsSoundBody, param_at, rule_at, first_name, no_param, no_rule}
 use Rattle.cov_model.specs.Meaning.{value_at, no_value}
 

@@ -1,13 +1,12 @@
 -- Predicates over rows of parts and over lists of parts.
 use mathlib.Core.Former.{Count}
-use Rattle.std.proofs.Common.{◌≡◌, ℕ, Bool, true, false, ◌&&◌, if◌then◌else◌, ◌∙◌, sym, ap, subst, refl, List, [], ◌∷◌, Option, All}
+use Rattle.std.proofs.Common.{◌≡◌, ℕ, Bool, true, false, ◌&&◌, if◌then◌else◌, ◌∙◌, sym, ap, subst, refl, List, Option, All}
 use Rattle.std.specs.List.{list_any}
 use Rattle.std.specs.Ordering.{is_eq}
 use Rattle.std.proofs.lemmas.List.Elements.{All-nil, All-cons, All-head, All-tail}
-use Rattle.cov_model.specs.declared.truth.Truth.{Truth}
 use Rattle.cov_model.specs.declared.constraint.Pred as preds
 use Rattle.cov_model.specs.declared.constraint.Pred.{Pred, Term, Not', All', Any', Row_of-Pred, end_of-Pred, more_of-Pred, items-the_row-Pred, items_hidden-the_row-Pred-0}
-use Rattle.cov_model.specs.declared.truth.Truth.TheVariants.{Yes, No, Unknown}
+use Rattle.cov_model.specs.declared.truth.Truth.TheVariants.{No, Unknown}
 use Rattle.cov_model.specs.declared.constraint.Literal.{Literal}
 use Rattle.cov_model.specs.declared.constraint.Term.TheVariants.{OneOf}
 use Rattle.cov_model.specs.declared.parameter.Param.{Param}

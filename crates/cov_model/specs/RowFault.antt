@@ -1,5 +1,5 @@
 -- What is wrong with a row. (The rule on negative values is PICT's guide's.)
-use Rattle.std.specs.Prelude.{ℕ, not, List, [], ◌∷◌, Option, Some, None, find}
+use Rattle.std.specs.Prelude.{ℕ, not, List, ◌∷◌, Option, Some, None, find}
 use Rattle.cov_model.specs.declared.constraint.Rule.{Rule}
 use Rattle.cov_model.specs.declared.row_fault.RowWhy as faults
 use Rattle.cov_model.specs.declared.row_fault.RowWhy.{RowWhy}

@@ -3,7 +3,10 @@
 //!
 //! - `TestModel` keeps that its model is sound: every accessor says so.
 //! - `Cells` is a partial row, with a place for each parameter; `Tuple` is one as its rising pairs.
-//! - specs/Meaning says when a constraint holds on a row, and what is known of it on a partial row.
+//! - specs/Meaning says when a constraint holds on a row, and specs/Kleene what is known of it on a
+//!   partial row; `TestModel::eval` tells the latter. By `partial_rows_tell` what is known stays.
+//! - `TestModel::row_fault` says why a row isn't valid.
+//! - `Prefs` keeps in which order the values of each parameter are taken.
 #![tactic(auto)]
 
 mod cells;

@@ -1,4 +1,4 @@
-use Rattle.std.proofs.Common.{◌≡◌, ◌-◌, length}
+use Rattle.std.proofs.Common.{◌≡◌, ◌-◌}
 use Rattle.cov_model.specs.Preference.{shuffled, shuffled_to}
 use Rattle.cov_model.proofs.prefs.shuffle.Given as goal
 

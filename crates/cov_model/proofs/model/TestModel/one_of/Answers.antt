@@ -1,4 +1,4 @@
-use Rattle.std.proofs.Common.{arith, ap, subst, sym, ◌∙◌, take}
+use Rattle.std.proofs.Common.{arith}
 use Rattle.std.proofs.lemmas.Grind.{common_steps}
 use Rattle.cov_model.proofs.TruthLemmas.{term_truth-OneOf_none}
 use Rattle.cov_model.proofs.model.TestModel.one_of.Goals as goal

@@ -1,4 +1,4 @@
-use Rattle.std.proofs.Common.{◌≡◌, ◌<◌, false, not, length, arith, ap, ◌∙◌, slice_index_or, is_none}
+use Rattle.std.proofs.Common.{◌≡◌, not, arith, ap, ◌∙◌, is_none}
 use Rattle.std.proofs.lemmas.Grind.{common_steps}
 use Rattle.cov_model.specs.Sound.{no_rule}
 use Rattle.cov_model.specs.Meaning.{body_holds}
