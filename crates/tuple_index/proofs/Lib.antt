@@ -1,0 +1,4 @@
+pub mod ListingLemmas
+pub mod TupleLemmas
+pub mod PlaceLemmas
+pub mod RankLemmas
