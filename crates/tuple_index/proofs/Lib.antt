@@ -2,3 +2,5 @@ pub mod ListingLemmas
 pub mod TupleLemmas
 pub mod PlaceLemmas
 pub mod RankLemmas
+pub mod ToldLemmas
+pub mod LoopLemmas

@@ -1,18 +1,24 @@
 -- The values of a demanded tuple stand at their rank.
-use Rattle.std.proofs.Common.{inl, inr, ◌⊎◌, ◌≡◌, ◌≢◌, ℕ, zero, suc, ◌+◌, ◌*◌, ◌<◌, ◌≤◌, Bool, true, false, ◌||◌, ◌&&◌, List, [], ◌∷◌, ◌++◌, map, length, get_or, Option, Some, None, sum_by, ◌∙◌, refl, sym, subst, ap, arith, zero-add, length-append}
-use Rattle.std.specs.Prelude.{◌==◌, slice_get, if◌then◌else◌}
+use Rattle.std.proofs.Common.{inl, inr, ◌⊎◌, ◌≡◌, ◌≢◌, ℕ, zero, suc, ◌+◌, ◌*◌, ◌^◌, ◌<◌, ◌≤◌, Bool, true, false, ◌||◌, ◌&&◌, List, [], ◌∷◌, ◌++◌, map, length, get_or, Option, Some, None, sum_by, ◌∙◌, refl, sym, subst, ap, arith, zero-add, length-append}
 use Rattle.std.specs.List.{flat_map}
+use Rattle.std.specs.Prelude.{sum, ◌==◌, slice_get, if◌then◌else◌}
+use Rattle.std.specs.Option.{option_map}
+use Rattle.std.proofs.lemmas.Option.{slice_get_within, slice_get-map}
+use Rattle.std.proofs.lemmas.List.FromFn.{length-map-range_with_len}
+use Rattle.cov_model.specs.Sound.{ModelView}
+use Rattle.cov_model.specs.Slices.{positive_values}
 use Rattle.std.proofs.lemmas.Bool.{cases_eq, false≢true}
 use Rattle.std.proofs.lemmas.Bool.Decides.{nat_tests}
 use Rattle.std.proofs.lemmas.List.Concat.{length-flat_map}
-use Rattle.std.proofs.lemmas.List.Sums.{sum_by-cons}
+use Rattle.std.proofs.lemmas.List.Sums.{sum_by-cons, get_or-le-sum_by}
 use Rattle.cov_model.specs.declared.slice.Slice.{Slice}
 use Rattle.cov_model.specs.declared.slice.Slice.TheVariants.{Positive, Negative}
-use Rattle.definitions.specs.Demand.{is_among}
-use Rattle.tuple_index.specs.Plan.{PlanView, IsChoice, are_values, is_negative, is_value, negative_count}
+use Rattle.definitions.specs.Demand.{is_among, tuples_of}
+use Rattle.tuple_index.specs.Kept.{IsKept}
+use Rattle.tuple_index.specs.Plan.{PlanView, plan_of, set_at, tuple_cells, IsChoice, are_values, is_negative, is_value, negative_count}
 use Rattle.tuple_index.specs.Places.{RisesFrom, values_in, negatives_of, value_lists, ways, place_of, place, negative_ways, ways_before, tuple_count, negative_lists, tuple_lists, start_of, slice_given, rank_of}
 use Rattle.tuple_index.proofs.ListingLemmas.{same_test, apart_test, above_test, rises_lower}
-use Rattle.tuple_index.proofs.TupleLemmas.{among_more}
+use Rattle.tuple_index.proofs.TupleLemmas.{among_more, tuples_of-lists}
 use Rattle.tuple_index.proofs.PlaceLemmas.{all_among, both_true, length-value_lists, length-flat_map_same, slice_get-append_left, slice_get-append_right, slice_get-pieces, slice_get-place_of, slice_get-place}
 
 -- values of a slice: each is its member's there, and a negative slice is that of a member's negative value
@@ -165,3 +171,34 @@ pub slice_get-rank_of : (plan : PlanView) (set chosen : List ℕ) (e : ℕ) → 
     → slice_get (tuple_lists plan set) (rank_of plan set chosen) ≡ Some chosen
 slice_get-rank_of plan set chosen e rises choice =
     slice_get-slice plan set chosen (slice_given plan set chosen) (are_of_slice plan set chosen 0 e rises choice.exist choice.few)
+
+-- a choice has a value for each member
+pub choice_long : (plan : PlanView) (set chosen : List ℕ) → are_values plan set chosen ≡ true → length chosen ≡ length set
+choice_long plan [] [] exist = refl
+choice_long plan [] (v ∷ chosen) exist = absurd (false≢true exist)
+choice_long plan (p ∷ set) [] exist = absurd (false≢true exist)
+choice_long plan (p ∷ set) (v ∷ chosen) exist =
+    let parts = both_true (is_value plan p v) (are_values plan set chosen) exist in
+    ap suc (choice_long plan set chosen parts.1)
+
+-- the tuples of a set are few
+pub count_within : (plan : PlanView) (set : ℕ) → IsKept plan → set < length plan.sets → tuple_count plan (set_at plan set) ≤ 2 ^ 26
+count_within plan set kept exists =
+    let inside : set < length plan.sizes = omega (arith, kept.as_many) in
+    let part : get_or plan.sizes set 0 ≤ sum plan.sizes = get_or-le-sum_by (λ n. n) plan.sizes set 0 inside in
+    omega (arith, part, kept.within, kept.counted set exists)
+
+pub rank_within : (plan : PlanView) (set : ℕ) (chosen : List ℕ) (e : ℕ) → IsKept plan → set < length plan.sets → RisesFrom 0 e (set_at plan set)
+    → IsChoice plan (set_at plan set) chosen → rank_of plan (set_at plan set) chosen < 2 ^ 26
+rank_within plan set chosen e kept exists rises choice =
+    let inside = slice_get_within (tuple_lists plan (set_at plan set)) (rank_of plan (set_at plan set) chosen) chosen (slice_get-rank_of plan (set_at plan set) chosen e rises choice) in
+    omega (arith, inside, length-tuple_lists plan (set_at plan set), count_within plan set kept exists)
+
+-- what stands where in the lists of values stands there in the demanded tuples
+pub slice_get-tuples_of : (m : ModelView) (plan : PlanView) (set : List ℕ) (rank : ℕ) (chosen : List ℕ) → plan ≡ plan_of m → RisesFrom 0 (length plan.positives) set
+    → slice_get (tuple_lists plan set) rank ≡ Some chosen → slice_get (tuples_of m set) rank ≡ Some (tuple_cells m set chosen)
+slice_get-tuples_of m plan set rank chosen same rises here =
+    let long : length plan.positives ≡ length m.params = ap (λ p. length p.positives) same ∙ length-map-range_with_len (positive_values m) 0 (length m.params) in
+    let whole = tuples_of-lists m set (subst (λ n. RisesFrom 0 n set) long rises) in
+    let there = subst (λ p. slice_get (tuple_lists p set) rank ≡ Some chosen) same here in
+    ap (λ ts. slice_get ts rank) whole ∙ slice_get-map (tuple_cells m set) (tuple_lists (plan_of m) set) rank ∙ ap (option_map (tuple_cells m set)) there

@@ -73,6 +73,11 @@ slice_given plan [] chosen = Positive
 slice_given plan (p ∷ set) [] = Positive
 slice_given plan (p ∷ set) (v ∷ chosen) = if is_negative plan p v then Negative p v else slice_given plan set chosen
 
+-- the parameter of a negative slice exists
+abbrev pub IsSliceOf : PlanView → Slice → Type 0
+IsSliceOf plan Positive = Unit {0}
+IsSliceOf plan (Negative q v) = q < length plan.positives
+
 -- the rank of values
 abbrev pub rank_of : PlanView → List ℕ → List ℕ → ℕ
 rank_of plan set chosen =

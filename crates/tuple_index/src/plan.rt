@@ -1,10 +1,12 @@
-ghost use Rattle.std.specs.Prelude.{◌≡◌, ◌+◌, ◌<◌, Some, None, length, take, sum, slice_get, slice_index_or, IfOk, IfErr};
+ghost use Rattle.std.specs.Prelude.{◌≡◌, ◌<◌, [], All, Some, length, take, sum, slice_get, slice_index_or};
 ghost use Rattle.cov_model.specs.Sound.{ModelView};
 ghost use Rattle.definitions.specs.Demand.{tuples_of};
-ghost use Rattle.tuple_index.specs.Plan.{IsChoice, plan_of, set_at, tuple_cells};
-ghost use Rattle.tuple_index.specs.PlanFault.{IsFaultOf, limit_passed};
+ghost use Rattle.tuple_index.specs.Kept.{IsKept};
+ghost use Rattle.tuple_index.specs.Places.{RisesFrom, negative_ways, IsSliceOf, negatives_of, place, place_of, rank_of, slice_given, start_of, values_in, ways, ways_before};
+ghost use Rattle.tuple_index.specs.Plan.{IsChoice, is_negative, plan_of, set_at, tuple_cells};
+ghost use Rattle.tuple_index.specs.PlanFault.{told};
 
-use cov_model::ParamNo;
+use cov_model::{ParamNo, Slice, ValueNo};
 use std::marker::Model;
 
 /// The plan of a model: its demanded sets, and the ranks of their demanded tuples.
@@ -60,4 +62,189 @@ impl Plan {
     {
         self.bases[set as usize]
     }
+
+    /// The place of a demanded tuple among those of its set, counted from 0: slice by slice, the
+    /// positive one first, and inside a slice in lexicographic order of the value numbers. The values
+    /// are those of the members in their order, and at most one is negative. Takes no memory.
+    pub fn rank(&self, set: u32, values: &[ValueNo]) -> u32
+        requires set { set < length self.now.sets }
+        requires choice { IsChoice self.now (set_at self.now set) values.now }
+        ensures { (m : ModelView) → self.now ≡ plan_of m → slice_get (tuples_of m (set_at self.now set)) result ≡ Some (tuple_cells m (set_at self.now set) values.now) }
+    {
+        self.place_of_values(self.kept_members(set), values) as u32
+    }
+
+    // What is kept of the parts.
+    fn keeps(&self)
+        ensures { IsKept self.now }
+    {
+        let _ = &self.members_of;
+    }
+
+    // The parameters of a set, with what is kept of them.
+    fn kept_members(&self, set: u32) -> &[ParamNo]
+        requires { set < length self.now.sets }
+        ensures value { result.now ≡ set_at self.now set }
+        ensures rising { RisesFrom 0 (length self.now.positives) result.now }
+        ensures exist { All (λ p. p < length self.now.positives) result.now }
+        ensures kept { IsKept self.now }
+    {
+        self.keeps();
+        self.members(set)
+    }
+
+    // The values of a parameter that aren't negative.
+    fn positives(&self, p: ParamNo) -> &[ValueNo]
+        requires { p < length self.now.positives }
+        ensures { result.now ≡ slice_index_or self.now.positives p [] }
+    {
+        self.positive[p as usize].as_slice()
+    }
+
+    // The negative values of a parameter.
+    fn negatives(&self, p: ParamNo) -> &[ValueNo]
+        requires { p < length self.now.positives }
+        ensures { result.now ≡ negatives_of self.now p }
+    {
+        self.negative[p as usize].as_slice()
+    }
+
+    // How many values a parameter has in a slice.
+    fn radix(&self, p: ParamNo, slice: Slice) -> u64
+        requires { p < length self.now.positives }
+        ensures { result ≡ length (values_in self.now slice p) }
+    {
+        match slice {
+            Slice::Negative(q, _) if p == q => 1,
+            _ => self.positives(p).len() as u64,
+        }
+    }
+
+    // The place of a value among those of its parameter in a slice.
+    fn digit(&self, p: ParamNo, v: ValueNo, slice: Slice) -> u64
+        requires { p < length self.now.positives }
+        ensures { result ≡ place_of (values_in self.now slice p) v }
+    {
+        match slice {
+            Slice::Negative(q, w) if p == q => place_in(&[w], v),
+            _ => place_in(self.positives(p), v),
+        }
+    }
+
+    // How many choices of values a slice has.
+    fn ways(&self, members: &[ParamNo], slice: Slice) -> u64
+        requires { All (λ p. p < length self.now.positives) members.now }
+        ensures { result ≡ told (ways (values_in self.now slice) members.now) }
+    {
+        let mut count: u64 = 1;
+        for p in members {
+            count = count.saturating_mul(self.radix(*p, slice));
+        }
+        count
+    }
+
+    // The place of a choice of values in a slice.
+    fn place(&self, members: &[ParamNo], values: &[ValueNo], slice: Slice) -> u64
+        requires exist { All (λ p. p < length self.now.positives) members.now }
+        requires as_long { length values.now ≡ length members.now }
+        ensures { result ≡ told (place (values_in self.now slice) members.now values.now) }
+    {
+        let mut count: u64 = 0;
+        for (i, p) in members.iter().enumerate() {
+            count = count
+                .saturating_mul(self.radix(*p, slice))
+                .saturating_add(self.digit(*p, values[i], slice));
+        }
+        count
+    }
+
+    // Whether a value is a negative one of the parameter.
+    fn has_negative(&self, p: ParamNo, v: ValueNo) -> bool
+        requires { p < length self.now.positives }
+        ensures { result ≡ is_negative self.now p v }
+    {
+        self.negatives(p).iter().any(|w| *w == v)
+    }
+
+    // The slice of these values.
+    fn given_slice(&self, members: &[ParamNo], values: &[ValueNo]) -> Slice
+        requires exist { All (λ p. p < length self.now.positives) members.now }
+        requires as_long { length values.now ≡ length members.now }
+        ensures value { result ≡ slice_given self.now members.now values.now }
+        ensures own { IsSliceOf self.now result }
+    {
+        for (i, p) in members.iter().enumerate() {
+            if self.has_negative(*p, values[i]) {
+                return Slice::Negative(*p, values[i]);
+            }
+        }
+        Slice::Positive
+    }
+
+    // How many tuples have a negative value of this member.
+    fn negative_ways(&self, members: &[ParamNo], p: ParamNo) -> u64
+        requires exist { All (λ p. p < length self.now.positives) members.now }
+        requires own { p < length self.now.positives }
+        ensures { result ≡ told (negative_ways self.now members.now p) }
+    {
+        let count = self.negatives(p).len() as u64;
+        count.saturating_mul(self.ways(members, Slice::Negative(p, 0)))
+    }
+
+    // How many tuples have a negative value of a member before this one.
+    fn ways_before(&self, members: &[ParamNo], q: ParamNo) -> u64
+        requires { All (λ p. p < length self.now.positives) members.now }
+        ensures { result ≡ told (ways_before self.now members.now q members.now) }
+    {
+        let mut count: u64 = 0;
+        for p in members {
+            if *p == q {
+                return count;
+            }
+            count = count.saturating_add(self.negative_ways(members, *p));
+        }
+        count
+    }
+
+    // How many tuples of a set stand in the slices before.
+    fn start(&self, members: &[ParamNo], slice: Slice) -> u64
+        requires exist { All (λ p. p < length self.now.positives) members.now }
+        requires own { IsSliceOf self.now slice }
+        ensures { result ≡ told (start_of self.now members.now slice) }
+    {
+        match slice {
+            Slice::Positive => 0,
+            Slice::Negative(q, v) => {
+                let inside = place_in(self.negatives(q), v).saturating_mul(self.ways(
+                    members,
+                    Slice::Negative(q, 0),
+                ));
+                let before = self.ways_before(members, q).saturating_add(inside);
+                self.ways(members, Slice::Positive).saturating_add(before)
+            }
+        }
+    }
+
+    // The place of values among the tuples of a set.
+    fn place_of_values(&self, members: &[ParamNo], values: &[ValueNo]) -> u64
+        requires exist { All (λ p. p < length self.now.positives) members.now }
+        requires as_long { length values.now ≡ length members.now }
+        ensures { result ≡ told (rank_of self.now members.now values.now) }
+    {
+        let slice = self.given_slice(members, values);
+        self.start(members, slice)
+            .saturating_add(self.place(members, values, slice))
+    }
+}
+
+// The place of a value in a list, or the list's length.
+fn place_in(values: &[ValueNo], v: ValueNo) -> u64
+    ensures { result ≡ place_of values.now v }
+{
+    for (i, w) in values.iter().enumerate() {
+        if *w == v {
+            return i as u64;
+        }
+    }
+    values.len() as u64
 }

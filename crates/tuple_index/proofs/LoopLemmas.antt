@@ -1,0 +1,96 @@
+-- The steps and the ends of the loops over the members of a set.
+use Rattle.std.proofs.Common.{◌≡◌, ℕ, ◌+◌, ◌*◌, ◌-◌, ◌^◌, ◌<◌, ◌≤◌, true, false, List, [], ◌∷◌, All, drop, length, get_or, ◌∙◌, refl, sym, ap, arith}
+use Rattle.std.specs.Prelude.{◌==◌, if◌then◌else◌}
+use Rattle.std.specs.List.{AllByRecursion}
+use Rattle.std.proofs.lemmas.List.Elements.{All-from_recursion}
+use Rattle.std.proofs.lemmas.Bool.Decides.{nat_tests}
+use Rattle.std.proofs.lemmas.List.{at_drop_more, at_drop_all, drop_more}
+use Rattle.tuple_index.specs.Plan.{PlanView}
+use Rattle.tuple_index.specs.Places.{RisesFrom, ways, place, place_of, negative_ways, ways_before}
+use Rattle.tuple_index.specs.PlanFault.{told}
+use Rattle.tuple_index.proofs.ToldLemmas.{told-add, told-both, told-factor, told-digit}
+
+-- the ways of the members so far, times those of the rest
+pub ways_step : (values : ℕ → List ℕ) (members : List ℕ) (i n r next t : ℕ) → i < length members → r ≡ length (values (get_or members i 0)) → next ≡ told (n * r)
+    → told (n * ways values (drop i members)) ≡ t → told (next * ways values (drop (i + 1) members)) ≡ t
+ways_step values members i n r next t within radix product before =
+    ap (λ k. told (k * ways values (drop (i + 1) members))) product
+    ∙ told-factor n r (ways values (drop (i + 1) members))
+    ∙ ap (λ k. told (n * (k * ways values (drop (i + 1) members)))) radix
+    ∙ sym (at_drop_more (λ ms. told (n * ways values ms)) members i 0 within) ∙ before
+
+pub ways_end : (values : ℕ → List ℕ) (members : List ℕ) (i n t : ℕ) → length members ≤ i → n ≤ 2 ^ 64 - 1 → told (n * ways values (drop i members)) ≡ t → n ≡ t
+ways_end values members i n t past fits before =
+    let last : told (n * ways values (drop i members)) ≡ told (n * 1) = at_drop_all (λ ms. told (n * ways values ms)) members i past in
+    let exact : told (n * 1) ≡ n = omega (arith, fits) in
+    sym exact ∙ sym last ∙ before
+
+-- the place of the values so far, and that of the rest
+pub place_step : (values : ℕ → List ℕ) (members chosen : List ℕ) (i n r d product next t : ℕ) → i < length members → i < length chosen
+    → r ≡ length (values (get_or members i 0)) → d ≡ place_of (values (get_or members i 0)) (get_or chosen i 0)
+    → product ≡ told (n * r) → next ≡ told (product + d)
+    → told (n * ways values (drop i members) + place values (drop i members) (drop i chosen)) ≡ t
+    → told (next * ways values (drop (i + 1) members) + place values (drop (i + 1) members) (drop (i + 1) chosen)) ≡ t
+place_step values members chosen i n r d product next t within in_chosen radix digit multiplied added before =
+    let w = ways values (drop (i + 1) members) in
+    let p = place values (drop (i + 1) members) (drop (i + 1) chosen) in
+    let now : next ≡ told (told (n * r) + d) = added ∙ ap (λ k. told (k + d)) multiplied in
+    let opened : told (n * ways values (drop i members) + place values (drop i members) (drop i chosen))
+    ≡ told (n * (length (values (get_or members i 0)) * w) + (place_of (values (get_or members i 0)) (get_or chosen i 0) * w + p))
+    = ap (λ ms. told (n * ways values ms + place values ms (drop i chosen))) (drop_more members i 0 within)
+    ∙ ap (λ cs. told (n * ways values (get_or members i 0 ∷ drop (i + 1) members) + place values (get_or members i 0 ∷ drop (i + 1) members) cs)) (drop_more chosen i 0 in_chosen) in
+    ap (λ k. told (k * w + p)) now
+    ∙ told-digit n r d w p
+    ∙ ap (λ k. told (n * (k * w) + (d * w + p))) radix
+    ∙ ap (λ k. told (n * (length (values (get_or members i 0)) * w) + (k * w + p))) digit
+    ∙ sym opened ∙ before
+
+pub place_end : (values : ℕ → List ℕ) (members chosen : List ℕ) (i n t : ℕ) → length members ≤ i → n ≤ 2 ^ 64 - 1
+    → told (n * ways values (drop i members) + place values (drop i members) (drop i chosen)) ≡ t → n ≡ t
+place_end values members chosen i n t past fits before =
+    let last : told (n * ways values (drop i members) + place values (drop i members) (drop i chosen)) ≡ told (n * 1 + 0)
+    = at_drop_all (λ ms. told (n * ways values ms + place values ms (drop i chosen))) members i past in
+    let exact : told (n * 1 + 0) ≡ n = omega (arith, fits) in
+    sym exact ∙ sym last ∙ before
+
+-- the tuples with a negative value of a member before q: one member more, q itself, and no q
+pub before_step : (plan : PlanView) (set members : List ℕ) (q i n own next t : ℕ) → i < length members → (get_or members i 0 == q) ≡ false
+    → own ≡ told (negative_ways plan set (get_or members i 0)) → next ≡ told (n + own)
+    → told (n + ways_before plan set q (drop i members)) ≡ t → told (next + ways_before plan set q (drop (i + 1) members)) ≡ t
+before_step plan set members q i n own next t within test ways added before =
+    let rest = ways_before plan set q (drop (i + 1) members) in
+    let opened : told (n + ways_before plan set q (drop i members)) ≡ told (n + (negative_ways plan set (get_or members i 0) + rest))
+    = at_drop_more (λ ms. told (n + ways_before plan set q ms)) members i 0 within
+    ∙ ap (λ b. told (n + (if b then 0 else negative_ways plan set (get_or members i 0) + rest))) test in
+    let sums : told (told (n + own) + rest) ≡ told (n + (negative_ways plan set (get_or members i 0) + rest)) =
+    ap (λ k. told (told (n + k) + rest)) ways ∙ told_in n (negative_ways plan set (get_or members i 0)) rest in
+    ap (λ k. told (k + rest)) added ∙ sums ∙ sym opened ∙ before
+  where
+    told_in : (n a b : ℕ) → told (told (n + told a) + b) ≡ told (n + (a + b))
+    told_in n a b = omega arith
+
+pub before_here : (plan : PlanView) (set members : List ℕ) (q i n t : ℕ) → i < length members → get_or members i 0 ≡ q → n ≤ 2 ^ 64 - 1
+    → told (n + ways_before plan set q (drop i members)) ≡ t → n ≡ t
+before_here plan set members q i n t within here fits before =
+    let test : (get_or members i 0 == q) ≡ true = grind (arith, nat_tests) in
+    let rest = ways_before plan set q (drop (i + 1) members) in
+    let opened : told (n + ways_before plan set q (drop i members)) ≡ told (n + 0)
+    = at_drop_more (λ ms. told (n + ways_before plan set q ms)) members i 0 within
+    ∙ ap (λ b. told (n + (if b then 0 else negative_ways plan set (get_or members i 0) + rest))) test in
+    let exact : told (n + 0) ≡ n = omega (arith, fits) in
+    sym exact ∙ sym opened ∙ before
+
+pub before_end : (plan : PlanView) (set members : List ℕ) (q i n t : ℕ) → length members ≤ i → n ≤ 2 ^ 64 - 1
+    → told (n + ways_before plan set q (drop i members)) ≡ t → n ≡ t
+before_end plan set members q i n t past fits before =
+    let last : told (n + ways_before plan set q (drop i members)) ≡ told (n + 0) = at_drop_all (λ ms. told (n + ways_before plan set q ms)) members i past in
+    let exact : told (n + 0) ≡ n = omega (arith, fits) in
+    sym exact ∙ sym last ∙ before
+
+-- members of a rising list exist
+pub rises_within : (set : List ℕ) (p e : ℕ) → RisesFrom p e set → All (λ q. q < e) set
+rises_within set p e rises = All-from_recursion (λ q. q < e) set (each set p e rises)
+  where
+    each : (set : List ℕ) (p e : ℕ) → RisesFrom p e set → AllByRecursion (λ q. q < e) set
+    each [] p e rises = tt
+    each (q ∷ set) p e rises = (rises.1, each set (q + 1) e rises.2)
