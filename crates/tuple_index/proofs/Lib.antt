@@ -4,3 +4,4 @@ pub mod PlaceLemmas
 pub mod RankLemmas
 pub mod ToldLemmas
 pub mod LoopLemmas
+pub mod UnrankLemmas

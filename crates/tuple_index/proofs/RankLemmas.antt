@@ -100,14 +100,14 @@ are_of_slice plan (r ∷ set) (w ∷ chosen) p e rises exist few = by_sign (is_n
         (rest parts.1 (rest_count (is_negative plan r w) (negative_count plan set chosen) 1 few)))
 
 -- the numbers of ways
-ways_negative : (plan : PlanView) (q v w : ℕ) (set : List ℕ) → ways (values_in plan (Negative q v)) set ≡ ways (values_in plan (Negative q w)) set
+pub ways_negative : (plan : PlanView) (q v w : ℕ) (set : List ℕ) → ways (values_in plan (Negative q v)) set ≡ ways (values_in plan (Negative q w)) set
 ways_negative plan q v w [] = refl
 ways_negative plan q v w (p ∷ set) =
     let own : length (if p == q then v ∷ [] else values_in plan Positive p) ≡ length (if p == q then w ∷ [] else values_in plan Positive p) =
     elim (p == q) as (λ b. length (if b then v ∷ [] else values_in plan Positive p) ≡ length (if b then w ∷ [] else values_in plan Positive p)) [ true ↦ refl | false ↦ refl ] in
     ap (λ n. n * ways (values_in plan (Negative q v)) set) own ∙ ap (λ n. length (values_in plan (Negative q w) p) * n) (ways_negative plan q v w set)
 
-length_negative : (plan : PlanView) (set : List ℕ) (p v : ℕ) → length (value_lists (values_in plan (Negative p v)) set) ≡ ways (values_in plan (Negative p 0)) set
+pub length_negative : (plan : PlanView) (set : List ℕ) (p v : ℕ) → length (value_lists (values_in plan (Negative p v)) set) ≡ ways (values_in plan (Negative p 0)) set
 length_negative plan set p v = length-value_lists (values_in plan (Negative p v)) set ∙ ways_negative plan p v 0 set
 
 pub length-negative_lists : (plan : PlanView) (set : List ℕ) (p : ℕ) → length (negative_lists plan set p) ≡ negative_ways plan set p

@@ -1,8 +1,8 @@
-ghost use Rattle.std.specs.Prelude.{◌≡◌, ◌<◌, [], All, Some, length, take, sum, slice_get, slice_index_or};
+ghost use Rattle.std.specs.Prelude.{◌≡◌, ◌^◌, ◌<◌, ℕ, List, [], All, Some, length, take, sum, slice_get, slice_index_or};
 ghost use Rattle.cov_model.specs.Sound.{ModelView};
 ghost use Rattle.definitions.specs.Demand.{tuples_of};
 ghost use Rattle.tuple_index.specs.Kept.{IsKept};
-ghost use Rattle.tuple_index.specs.Places.{RisesFrom, negative_ways, IsSliceOf, negatives_of, place, place_of, rank_of, slice_given, start_of, values_in, ways, ways_before};
+ghost use Rattle.tuple_index.specs.Places.{RisesFrom, negative_lists, negative_ways, IsSliceOf, negatives_of, place, place_of, rank_of, slice_given, start_of, tuple_count, tuple_lists, value_lists, values_in, ways, ways_before};
 ghost use Rattle.tuple_index.specs.Plan.{IsChoice, is_negative, plan_of, set_at, tuple_cells};
 ghost use Rattle.tuple_index.specs.PlanFault.{told};
 
@@ -72,6 +72,19 @@ impl Plan {
         ensures { (m : ModelView) → self.now ≡ plan_of m → slice_get (tuples_of m (set_at self.now set)) result ≡ Some (tuple_cells m (set_at self.now set) values.now) }
     {
         self.place_of_values(self.kept_members(set), values) as u32
+    }
+
+    /// Puts the values of the demanded tuple of this rank, those of the members in their order.
+    /// Takes no memory.
+    pub fn unrank(&self, set: u32, rank: u32, into: &mut [ValueNo])
+        requires set { set < length self.now.sets }
+        requires rank { rank < slice_index_or self.now.sizes set 0 }
+        requires room { length into.old ≡ length (set_at self.now set) }
+        ensures { (m : ModelView) → self.now ≡ plan_of m → slice_get (tuples_of m (set_at self.now set)) rank ≡ Some (tuple_cells m (set_at self.now set) into.new) }
+    {
+        let members = self.kept_members(set);
+        let (slice, rest) = self.slice_holding(members, rank as u64);
+        self.put_values(members, slice, rest, into);
     }
 
     // What is kept of the parts.
@@ -234,6 +247,73 @@ impl Plan {
         let slice = self.given_slice(members, values);
         self.start(members, slice)
             .saturating_add(self.place(members, values, slice))
+    }
+
+    // Of a tuple with a negative value of this member, the slice and the place in it.
+    fn negative_holding(&self, members: &[ParamNo], q: ParamNo, place: u64) -> (Slice, u64)
+        requires exist { All (λ p. p < length self.now.positives) members.now }
+        requires own { q < length self.now.positives }
+        requires small { place < 2 ^ 26 }
+        requires within { place < negative_ways self.now members.now q }
+        ensures holds { (chosen : List ℕ) → slice_get (value_lists (values_in self.now result.0) members.now) result.1 ≡ Some chosen → slice_get (negative_lists self.now members.now q) place ≡ Some chosen }
+        ensures within { result.1 < ways (values_in self.now result.0) members.now }
+        ensures small { result.1 < 2 ^ 26 }
+    {
+        let each = self.ways(members, Slice::Negative(q, 0));
+        let v = self.negatives(q)[(place / each) as usize];
+        (Slice::Negative(q, v), place % each)
+    }
+
+    // Of a tuple of a set, the slice and the place in it.
+    fn slice_holding(&self, members: &[ParamNo], rank: u64) -> (Slice, u64)
+        requires exist { All (λ p. p < length self.now.positives) members.now }
+        requires small { rank < 2 ^ 26 }
+        requires within { rank < tuple_count self.now members.now }
+        ensures holds { (chosen : List ℕ) → slice_get (value_lists (values_in self.now result.0) members.now) result.1 ≡ Some chosen → slice_get (tuple_lists self.now members.now) rank ≡ Some chosen }
+        ensures within { result.1 < ways (values_in self.now result.0) members.now }
+        ensures small { result.1 < 2 ^ 26 }
+    {
+        let positive = self.ways(members, Slice::Positive);
+        if rank < positive {
+            return (Slice::Positive, rank);
+        }
+        let mut place = rank - positive;
+        for q in members {
+            let count = self.negative_ways(members, *q);
+            if place < count {
+                return self.negative_holding(members, *q, place);
+            }
+            place -= count;
+        }
+        unreachable!()
+    }
+
+    // The value of a parameter at a place of its values in a slice.
+    fn value_at(&self, p: ParamNo, slice: Slice, place: u64) -> ValueNo
+        requires own { p < length self.now.positives }
+        requires within { place < length (values_in self.now slice p) }
+        ensures { slice_get (values_in self.now slice p) place ≡ Some result }
+    {
+        match slice {
+            Slice::Negative(q, v) if p == q => v,
+            _ => self.positives(p)[place as usize],
+        }
+    }
+
+    // Puts the values of a choice of a slice.
+    fn put_values(&self, members: &[ParamNo], slice: Slice, place: u64, into: &mut [ValueNo])
+        requires exist { All (λ p. p < length self.now.positives) members.now }
+        requires small { place < 2 ^ 26 }
+        requires within { place < ways (values_in self.now slice) members.now }
+        requires room { length into.old ≡ length members.now }
+        ensures { slice_get (value_lists (values_in self.now slice) members.now) place ≡ Some into.new }
+    {
+        let mut rest = place;
+        for i in 0..members.len() {
+            let each = self.ways(&members[i + 1..], slice);
+            into[i] = self.value_at(members[i], slice, rest / each);
+            rest %= each;
+        }
     }
 }
 
