@@ -5,3 +5,4 @@ pub mod RankLemmas
 pub mod ToldLemmas
 pub mod LoopLemmas
 pub mod UnrankLemmas
+pub mod ChoiceLemmas
