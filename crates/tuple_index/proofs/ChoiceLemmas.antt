@@ -1,8 +1,13 @@
 -- The steps and the ends of the loops that list choices.
-use Rattle.std.proofs.Common.{◌≡◌, ℕ, zero, suc, ◌+◌, ◌-◌, ◌<◌, ◌≤◌, List, [], ◌∷◌, ◌++◌, map, drop, length, get_or, ◌∙◌, refl, sym, ap, arith, append_assoc}
-use Rattle.std.specs.List.{flat_map}
-use Rattle.std.proofs.lemmas.List.{drop_more, at_drop_more, at_drop_all, append-nil, length-drop}
-use Rattle.definitions.specs.Demand.{choose}
+use Rattle.std.proofs.Common.{Some, Bool, true, false, ◌||◌, ◌≡◌, ℕ, zero, suc, ◌+◌, ◌-◌, ◌<◌, ◌≤◌, List, [], ◌∷◌, ◌++◌, map, drop, length, get_or, ◌∙◌, refl, sym, ap, arith, append_assoc}
+use Rattle.std.specs.List.{flat_map, filter, list_any, range_with_len}
+use Rattle.std.proofs.lemmas.List.FromFn.{length-map-range_with_len, get_or-map-range_with_len}
+use Rattle.tuple_index.proofs.ListingLemmas.{map_map}
+use Rattle.tuple_index.proofs.TupleLemmas.{flat_map_map}
+use Rattle.std.proofs.lemmas.List.{drop_more, at_drop_more, at_drop_all, append-nil, length-drop, map-append, same_lists, get_or_default}
+use Rattle.std.specs.Prelude.{slice_get}
+use Rattle.std.proofs.lemmas.Option.{get_or_from_slice_get}
+use Rattle.definitions.specs.Demand.{choose, unions}
 
 -- one item more of a list whose pieces are put one after another
 pub flat_step : {X Y : Type 0} (f : X → List Y) (xs : List X) (i : ℕ) (x : X) (before after whole : List Y) → i < length xs → x ≡ get_or xs i x
@@ -48,3 +53,70 @@ pub choose_end : {X : Type 0} (k i : ℕ) (xs : List X) (before whole : List (Li
 choose_end k i xs before whole some past so_far =
     let few : length (drop i xs) < k = omega (arith, length-drop i xs, past, some) in
     sym (append-nil before) ∙ ap (λ ys. before ++ ys) (sym (choose_few k (drop i xs) few)) ∙ so_far
+
+-- the numbers from p on
+range_more : (p count : ℕ) → p < count → range_with_len p (count - p) ≡ p ∷ range_with_len (p + 1) (count - (p + 1))
+range_more p count within =
+    let next : count - p ≡ suc (count - (p + 1)) = omega (arith, within) in
+    ap (range_with_len p) next
+
+-- one number more that passes a test, and one that doesn't
+pub single_found : {Y : Type 0} (f : ℕ → Bool) (g : ℕ → Y) (p count : ℕ) (before after whole : List Y) → p < count → f p ≡ true → after ≡ before ++ g p ∷ []
+    → before ++ map g (filter f (range_with_len p (count - p))) ≡ whole → after ++ map g (filter f (range_with_len (p + 1) (count - (p + 1)))) ≡ whole
+single_found f g p count before after whole within passes longer so_far =
+    let later = map g (filter f (range_with_len (p + 1) (count - (p + 1)))) in
+    let opened : map g (filter f (range_with_len p (count - p))) ≡ g p ∷ later = rw (range_more p count within, passes) refl in
+    ap (λ ys. ys ++ later) longer ∙ append_assoc before (g p ∷ []) later ∙ ap (λ ys. before ++ ys) (sym opened) ∙ so_far
+
+pub single_passed : {Y : Type 0} (f : ℕ → Bool) (g : ℕ → Y) (p count : ℕ) (before after whole : List Y) → p < count → f p ≡ false → after ≡ before
+    → before ++ map g (filter f (range_with_len p (count - p))) ≡ whole → after ++ map g (filter f (range_with_len (p + 1) (count - (p + 1)))) ≡ whole
+single_passed f g p count before after whole within fails same so_far =
+    let opened : map g (filter f (range_with_len p (count - p))) ≡ map g (filter f (range_with_len (p + 1) (count - (p + 1)))) = rw (range_more p count within, fails) refl in
+    ap (λ ys. ys ++ map g (filter f (range_with_len (p + 1) (count - (p + 1))))) same ∙ ap (λ ys. before ++ ys) (sym opened) ∙ so_far
+
+-- choices of places are choices of the items there
+pub choose-map : {X Y : Type 0} (f : X → Y) (k : ℕ) (xs : List X) → choose k (map f xs) ≡ map (map f) (choose k xs)
+choose-map f zero xs = refl
+choose-map f (suc k) [] = refl
+choose-map f (suc k) (x ∷ xs) =
+    let with_it = choose-map f k xs in
+    let without = choose-map f (suc k) xs in
+    let front : map (λ rest. f x ∷ rest) (choose k (map f xs)) ≡ map (map f) (map (λ rest. x ∷ rest) (choose k xs)) =
+    ap (map (λ rest. f x ∷ rest)) with_it ∙ map_map (λ rest. f x ∷ rest) (map f) (choose k xs) ∙ sym (map_map (map f) (λ rest. x ∷ rest) (choose k xs)) in
+    ap (λ ys. ys ++ choose (suc k) (map f xs)) front
+    ∙ ap (λ ys. map (map f) (map (λ rest. x ∷ rest) (choose k xs)) ++ ys) without
+    ∙ sym (map-append (map f) (map (λ rest. x ∷ rest) (choose k xs)) (choose (suc k) xs))
+
+-- the items at all places
+items_at : {X : Type 0} (xs : List X) (d : X) → map (λ i. get_or xs i d) (range_with_len 0 (length xs)) ≡ xs
+items_at xs d =
+    same_lists (map (λ i. get_or xs i d) (range_with_len 0 (length xs))) xs (length-map-range_with_len (λ i. get_or xs i d) 0 (length xs))
+    (λ k e within.
+    let inside : k < length xs = omega (arith, within, length-map-range_with_len (λ i. get_or xs i d) 0 (length xs)) in
+    get_or-map-range_with_len (λ i. get_or xs i d) 0 (length xs) k k e inside (omega arith) ∙ get_or_default xs k d e inside)
+
+pub choices_at : {X Y : Type 0} (f : List X → List Y) (k : ℕ) (xs : List X) (d : X) (picks : List (List ℕ)) → picks ≡ choose k (range_with_len 0 (length xs))
+    → flat_map (λ pick. f (map (λ i. get_or xs i d) pick)) picks ≡ flat_map f (choose k xs)
+choices_at f k xs d picks all =
+    ap (flat_map (λ pick. f (map (λ i. get_or xs i d) pick))) all
+    ∙ sym (flat_map_map f (map (λ i. get_or xs i d)) (choose k (range_with_len 0 (length xs))))
+    ∙ ap (flat_map f) (sym (choose-map (λ i. get_or xs i d) k (range_with_len 0 (length xs))))
+    ∙ ap (λ ys. flat_map f (choose k ys)) (items_at xs d)
+
+-- one item more that fails a test
+pub any_step : {X : Type 0} (f : X → Bool) (xs : List X) (i : ℕ) (x : X) (whole : Bool) → i < length xs → x ≡ get_or xs i x → f x ≡ false
+    → list_any f (drop i xs) ≡ whole → list_any f (drop (i + 1) xs) ≡ whole
+any_step f xs i x whole within read fails so_far =
+    let opened : list_any f (drop i xs) ≡ list_any f (drop (i + 1) xs) =
+    at_drop_more (list_any f) xs i x within ∙ ap (λ y. f y || list_any f (drop (i + 1) xs)) (sym read) ∙ ap (λ b. b || list_any f (drop (i + 1) xs)) fails in
+    sym opened ∙ so_far
+
+-- the unions of the units taken are those of the first with those of the others
+pub unions_first : (units : List (List (List ℕ))) (taken : List ℕ) (ways first others : List (List ℕ)) → 0 < length taken → slice_get units (get_or taken 0 0) ≡ Some ways
+    → first ≡ ways → others ≡ unions (map (λ u. get_or units u []) (drop 1 taken))
+    → flat_map (λ way. map (λ other. way ++ other) others) first ≡ unions (map (λ u. get_or units u []) taken)
+unions_first units [] ways first others some found same rest = absurd (omega (arith, some))
+unions_first units (u ∷ taken) ways first others some found same rest =
+    let own : first ≡ get_or units u [] = same ∙ sym (get_or_from_slice_get units u ways [] found) in
+    ap (λ ys. flat_map (λ way. map (λ other. way ++ other) ys) first) rest
+    ∙ ap (flat_map (λ way. map (λ other. way ++ other) (unions (map (λ u. get_or units u []) taken)))) own

@@ -6,3 +6,4 @@ pub mod ToldLemmas
 pub mod LoopLemmas
 pub mod UnrankLemmas
 pub mod ChoiceLemmas
+pub mod CountLemmas

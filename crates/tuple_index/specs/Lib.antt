@@ -2,3 +2,4 @@ pub mod Plan
 pub mod PlanFault
 pub mod Places
 pub mod Kept
+pub mod Counts

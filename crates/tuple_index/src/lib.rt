@@ -5,6 +5,7 @@
 #![tactic(auto)]
 
 mod choices;
+mod demand;
 mod fault;
 mod plan;
 

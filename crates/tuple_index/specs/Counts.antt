@@ -1,0 +1,23 @@
+-- How many choices of demanded sets there are, counted before any is listed. (This project's rule.)
+use Rattle.std.specs.Prelude.{ℕ, zero, suc, ◌+◌, ◌*◌, ◌-◌, min, not, List, [], ◌∷◌, ◌++◌, map, length, sum_by, replicate}
+use Rattle.cov_model.specs.declared.demand.Group.{Group}
+use Rattle.cov_model.specs.Sound.{ModelView}
+use Rattle.definitions.specs.Demand.{singles}
+
+-- the sum of the products of any k of the counts
+abbrev pub products : ℕ → List ℕ → ℕ
+products zero counts = 1
+products (suc k) [] = 0
+products (suc k) (n ∷ counts) = n * products k counts + products (suc k) counts
+
+-- how many ways there are to take as many members of a group as its order says
+abbrev pub group_ways : Group → ℕ
+group_ways group = products group.order (replicate (length group.members) 1)
+
+-- the number of ways of each unit
+abbrev pub unit_counts : ModelView → List ℕ
+unit_counts m = map group_ways m.demand.subs ++ replicate (length (singles m)) 1
+
+-- the number of choices
+abbrev pub choice_count : ModelView → ℕ
+choice_count m = products (min m.demand.order (length (unit_counts m))) (unit_counts m) + sum_by group_ways m.demand.relations
