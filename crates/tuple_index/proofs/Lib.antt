@@ -7,3 +7,4 @@ pub mod LoopLemmas
 pub mod UnrankLemmas
 pub mod ChoiceLemmas
 pub mod CountLemmas
+pub mod RowLemmas

@@ -5,6 +5,7 @@
 #![tactic(auto)]
 
 mod choices;
+mod count;
 mod demand;
 mod fault;
 mod plan;

@@ -1,0 +1,77 @@
+ghost use Rattle.std.specs.Prelude.{◌≡◌, ◌<◌, [], map, length, IfOk};
+ghost use Rattle.std.specs.List.{range_with_len};
+ghost use Rattle.tuple_index.specs.Counts.{IsRow, group_ways, next_entry, products};
+ghost use Rattle.tuple_index.specs.PlanFault.{told};
+
+use cov_model::Group;
+use std::alloc::Global;
+use value_text::NoMemory;
+
+// What the next row has at a place.
+fn entry_at(row: &[u64], count: u64, j: usize) -> u64
+    requires { j < length row.now }
+    ensures { result ≡ next_entry count row.now j }
+{
+    if j == 0 {
+        return 1;
+    }
+    count.saturating_mul(row[j - 1]).saturating_add(row[j])
+}
+
+// The row of one count more.
+fn next_row(alloc: Global, row: &[u64], count: u64) -> Result<Vec<u64>, NoMemory>
+    ensures { IfOk result (λ next. next.items ≡ map (next_entry count row.now) (range_with_len 0 (length row.now))) }
+{
+    let mut next = Vec::new(alloc);
+    for j in 0..row.len() {
+        if next.push(entry_at(row, count, j)).is_err() {
+            return Err(NoMemory);
+        }
+    }
+    Ok(next)
+}
+
+// The row of no count.
+fn first_row(alloc: Global, k: u32) -> Result<Vec<u64>, NoMemory>
+    ensures { IfOk result (λ row. IsRow k [] row.items) }
+{
+    match vec![in alloc; 0; k as usize + 1] {
+        Ok(mut row) => {
+            row[0] = 1;
+            Ok(row)
+        }
+        Err(_) => Err(NoMemory),
+    }
+}
+
+/// The sum of the products of any k of the counts, or 2^64 - 1 where that is less.
+///
+/// # Errors
+///
+/// `NoMemory` where there is no room for the sums.
+pub fn sum_of_products(alloc: Global, k: u32, counts: &[u64]) -> Result<u64, NoMemory>
+    ensures { IfOk result (λ sum. sum ≡ told (products k counts.now)) }
+{
+    let mut row = first_row(alloc, k)?;
+    let mut left = counts.len();
+    while left > 0 {
+        left -= 1;
+        row = next_row(alloc, &row, counts[left])?;
+    }
+    Ok(row[k as usize])
+}
+
+/// How many ways there are to take as many members of a group as its order says, or 2^64 - 1 where
+/// that is less.
+///
+/// # Errors
+///
+/// `NoMemory` where there is no room for counting them.
+pub fn count_group(alloc: Global, group: &Group) -> Result<u64, NoMemory>
+    ensures { IfOk result (λ count. count ≡ told (group_ways group.now)) }
+{
+    match vec![in alloc; 1; group.members.len()] {
+        Ok(ones) => sum_of_products(alloc, group.order, ones.as_slice()),
+        Err(_) => Err(NoMemory),
+    }
+}
