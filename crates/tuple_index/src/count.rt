@@ -1,9 +1,11 @@
-ghost use Rattle.std.specs.Prelude.{◌≡◌, ◌<◌, [], map, length, IfOk};
+ghost use Rattle.definitions.specs.Demand.{choices, singles};
+ghost use Rattle.std.specs.Prelude.{◌++◌, sum_by, OnOk, ◌≡◌, ◌<◌, [], map, length, IfOk};
 ghost use Rattle.std.specs.List.{range_with_len};
 ghost use Rattle.tuple_index.specs.Counts.{IsRow, group_ways, next_entry, products};
 ghost use Rattle.tuple_index.specs.PlanFault.{told};
 
-use cov_model::Group;
+use crate::demand::is_single;
+use cov_model::{Group, TestModel};
 use std::alloc::Global;
 use value_text::NoMemory;
 
@@ -74,4 +76,61 @@ pub fn count_group(alloc: Global, group: &Group) -> Result<u64, NoMemory>
         Ok(ones) => sum_of_products(alloc, group.order, ones.as_slice()),
         Err(_) => Err(NoMemory),
     }
+}
+
+// Adds the number of ways of each single parameter, which is 1.
+fn push_single_counts(model: &TestModel, into: &mut Vec<u64>) -> Result<(), NoMemory>
+    ensures { OnOk result (into.new.items ≡ into.old.items ++ map (λ p. 1) (singles model.now)) }
+{
+    let count = model.params().len() as u16;
+    for p in 0..count {
+        if is_single(model, p) {
+            if into.push(1).is_err() {
+                return Err(NoMemory);
+            }
+        }
+    }
+    Ok(())
+}
+
+// The number of ways of each group.
+fn group_counts(alloc: Global, groups: &[Group]) -> Result<Vec<u64>, NoMemory>
+    ensures { IfOk result (λ counts. counts.items ≡ map (λ group. told (group_ways group)) groups.now) }
+{
+    let mut counts = Vec::new(alloc);
+    for group in groups {
+        let ways = count_group(alloc, group)?;
+        if counts.push(ways).is_err() {
+            return Err(NoMemory);
+        }
+    }
+    Ok(counts)
+}
+
+// The number of subsets of all relations.
+fn count_relations(alloc: Global, relations: &[Group]) -> Result<u64, NoMemory>
+    ensures { IfOk result (λ count. count ≡ told (sum_by group_ways relations.now)) }
+{
+    let mut count: u64 = 0;
+    for relation in relations {
+        count = count.saturating_add(count_group(alloc, relation)?);
+    }
+    Ok(count)
+}
+
+/// The number of choices of demanded sets, before equal ones are joined, or 2^64 - 1 where that is
+/// less. None is listed.
+///
+/// # Errors
+///
+/// `NoMemory` where there is no room for counting them.
+pub fn count_choices(alloc: Global, model: &TestModel) -> Result<u64, NoMemory>
+    ensures { IfOk result (λ count. count ≡ told (length (choices model.now))) }
+{
+    let demand = model.demand();
+    let mut units = group_counts(alloc, demand.subs.as_slice())?;
+    push_single_counts(model, &mut units)?;
+    let taken = units.len().min(demand.order as usize) as u32;
+    let unions = sum_of_products(alloc, taken, &units)?;
+    Ok(unions.saturating_add(count_relations(alloc, demand.relations.as_slice())?))
 }

@@ -15,8 +15,8 @@ fn is_listed(numbers: &NoList, n: u16) -> bool
     numbers.as_slice().iter().any(|k| *k == n)
 }
 
-// Whether a parameter is in no sub-model.
-fn is_single(model: &TestModel, p: ParamNo) -> bool
+/// Whether a parameter is in no sub-model.
+pub fn is_single(model: &TestModel, p: ParamNo) -> bool
     ensures { result ≡ not (list_any (λ sub. is_among sub.members p) model.now.demand.subs) }
 {
     for sub in model.demand().subs.as_slice() {
