@@ -120,3 +120,9 @@ unions_first units (u ∷ taken) ways first others some found same rest =
     let own : first ≡ get_or units u [] = same ∙ sym (get_or_from_slice_get units u ways [] found) in
     ap (λ ys. flat_map (λ way. map (λ other. way ++ other) ys) first) rest
     ∙ ap (flat_map (λ way. map (λ other. way ++ other) (unions (map (λ u. get_or units u []) taken)))) own
+
+pub single_end : {Y : Type 0} (f : ℕ → Bool) (g : ℕ → Y) (p count : ℕ) (before whole : List Y) → count ≤ p
+    → before ++ map g (filter f (range_with_len p (count - p))) ≡ whole → before ≡ whole
+single_end f g p count before whole past so_far =
+    let none : count - p ≡ 0 = omega (arith, past) in
+    sym (append-nil before) ∙ ap (λ n. before ++ map g (filter f (range_with_len p n))) (sym none) ∙ so_far

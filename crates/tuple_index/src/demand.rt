@@ -8,8 +8,8 @@ use cov_model::{Group, NoList, ParamNo, TestModel};
 use std::alloc::Global;
 use value_text::{NoMemory, OwnedList};
 
-// Whether a number is in a list.
-fn is_listed(numbers: &NoList, n: u16) -> bool
+/// Whether a number is in a list.
+pub fn is_listed(numbers: &NoList, n: u16) -> bool
     ensures { result ≡ is_among numbers.now n }
 {
     numbers.as_slice().iter().any(|k| *k == n)

@@ -9,6 +9,7 @@ mod count;
 mod demand;
 mod fault;
 mod plan;
+mod values;
 
 pub use fault::PlanFault;
 pub use plan::Plan;
