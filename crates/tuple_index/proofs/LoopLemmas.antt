@@ -1,9 +1,10 @@
 -- The steps and the ends of the loops over the members of a set.
-use Rattle.std.proofs.Common.{◌≡◌, ℕ, ◌+◌, ◌*◌, ◌-◌, ◌^◌, ◌<◌, ◌≤◌, true, false, List, [], ◌∷◌, All, drop, length, get_or, ◌∙◌, refl, sym, ap, arith}
+use Rattle.std.proofs.Common.{sum_by, ◌≡◌, ℕ, ◌+◌, ◌*◌, ◌-◌, ◌^◌, ◌<◌, ◌≤◌, true, false, List, [], ◌∷◌, All, drop, length, get_or, ◌∙◌, refl, sym, ap, arith}
 use Rattle.std.specs.Prelude.{◌==◌, if◌then◌else◌}
 use Rattle.std.specs.List.{AllByRecursion}
 use Rattle.std.proofs.lemmas.List.Elements.{All-from_recursion}
 use Rattle.std.proofs.lemmas.Bool.Decides.{nat_tests}
+use Rattle.std.proofs.lemmas.List.Sums.{sum_by-cons}
 use Rattle.std.proofs.lemmas.List.{at_drop_more, at_drop_all, drop_more}
 use Rattle.tuple_index.specs.Plan.{PlanView}
 use Rattle.tuple_index.specs.Places.{RisesFrom, ways, place, place_of, negative_ways, ways_before}
@@ -94,3 +95,16 @@ rises_within set p e rises = All-from_recursion (λ q. q < e) set (each set p e 
     each : (set : List ℕ) (p e : ℕ) → RisesFrom p e set → AllByRecursion (λ q. q < e) set
     each [] p e rises = tt
     each (q ∷ set) p e rises = (rises.1, each set (q + 1) e rises.2)
+
+-- one term more of a sum, and the end
+pub sum_step : (f : ℕ → ℕ) (xs : List ℕ) (i count term next whole : ℕ) → i < length xs → term ≡ told (f (get_or xs i 0)) → next ≡ told (count + term)
+    → told (count + sum_by f (drop i xs)) ≡ whole → told (next + sum_by f (drop (i + 1) xs)) ≡ whole
+sum_step f xs i count term next whole within counted added so_far =
+    let opened : sum_by f (drop i xs) ≡ f (get_or xs i 0) + sum_by f (drop (i + 1) xs) =
+    at_drop_more (sum_by f) xs i 0 within ∙ sum_by-cons f (get_or xs i 0) (drop (i + 1) xs) in
+    omega (arith, opened, counted, added, so_far)
+
+pub sum_end : (f : ℕ → ℕ) (xs : List ℕ) (i count whole : ℕ) → length xs ≤ i → count ≤ 2 ^ 64 - 1 → told (count + sum_by f (drop i xs)) ≡ whole → count ≡ whole
+sum_end f xs i count whole past fits so_far =
+    let none : sum_by f (drop i xs) ≡ 0 = at_drop_all (sum_by f) xs i past in
+    omega (arith, none, fits, so_far)

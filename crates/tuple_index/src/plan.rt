@@ -204,6 +204,18 @@ impl Plan {
         count.saturating_mul(self.ways(members, Slice::Negative(p, 0)))
     }
 
+    // How many demanded tuples a set has.
+    fn count_tuples(&self, members: &[ParamNo]) -> u64
+        requires { All (λ p. p < length self.now.positives) members.now }
+        ensures { result ≡ told (tuple_count self.now members.now) }
+    {
+        let mut count = self.ways(members, Slice::Positive);
+        for p in members {
+            count = count.saturating_add(self.negative_ways(members, *p));
+        }
+        count
+    }
+
     // How many tuples have a negative value of a member before this one.
     fn ways_before(&self, members: &[ParamNo], q: ParamNo) -> u64
         requires { All (λ p. p < length self.now.positives) members.now }
