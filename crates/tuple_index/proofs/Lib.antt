@@ -8,3 +8,4 @@ pub mod UnrankLemmas
 pub mod ChoiceLemmas
 pub mod CountLemmas
 pub mod RowLemmas
+pub mod BaseLemmas

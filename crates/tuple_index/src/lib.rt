@@ -4,6 +4,7 @@
 //! ranks from 0; `Plan::base` puts the ranks of all sets one after another.
 #![tactic(auto)]
 
+mod bases;
 mod choices;
 mod count;
 mod demand;

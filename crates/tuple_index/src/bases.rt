@@ -1,0 +1,25 @@
+ghost use Rattle.std.specs.Prelude.{◌≤◌, ◌^◌, sum, IfOk};
+ghost use Rattle.tuple_index.specs.Kept.{AreBases};
+
+use std::alloc::Global;
+use value_text::NoMemory;
+
+/// The sums of the sizes before each place.
+///
+/// # Errors
+///
+/// `NoMemory` where there is no room for them.
+pub fn bases_of(alloc: Global, sizes: &[u32]) -> Result<Vec<u32>, NoMemory>
+    requires { sum sizes.now ≤ 2 ^ 26 }
+    ensures { IfOk result (λ bases. AreBases sizes.now bases.items) }
+{
+    let mut bases = Vec::new(alloc);
+    let mut total: u32 = 0;
+    for size in sizes {
+        if bases.push(total).is_err() {
+            return Err(NoMemory);
+        }
+        total += *size;
+    }
+    Ok(bases)
+}
