@@ -3,3 +3,4 @@ pub mod PlanFault
 pub mod Places
 pub mod Kept
 pub mod Counts
+pub mod Signs

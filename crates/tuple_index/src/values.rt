@@ -1,8 +1,9 @@
-ghost use Rattle.std.specs.Prelude.{◌≡◌, IfOk};
+ghost use Rattle.std.specs.Prelude.{◌≡◌, ◌<◌, ◌≤◌, length, IfOk};
 ghost use Rattle.definitions.specs.Demand.{rising};
+ghost use Rattle.tuple_index.specs.Signs.{has_sign, values_of_sign};
 
 use crate::demand::is_listed;
-use cov_model::{NoList, ParamNo, TestModel};
+use cov_model::{NoList, ParamNo, TestModel, Value, ValueNo};
 use std::alloc::Global;
 use value_text::NoMemory;
 
@@ -28,4 +29,37 @@ pub fn rising_of(
         }
     }
     Ok(set)
+}
+
+// Whether a value is negative, or is not.
+fn is_of_sign(values: &[Value], v: ValueNo, negative: bool) -> bool
+    requires { v < length values.now }
+    ensures { result ≡ has_sign negative values.now v }
+{
+    if negative {
+        values[v as usize].negative
+    } else {
+        !values[v as usize].negative
+    }
+}
+
+/// The numbers of the values that are negative, or of those that aren't.
+///
+/// # Errors
+///
+/// `NoMemory` where there is no room for them.
+pub fn values_of(alloc: Global, values: &[Value], negative: bool) -> Result<Vec<ValueNo>, NoMemory>
+    requires { length values.now ≤ 4095 }
+    ensures { IfOk result (λ numbers. numbers.items ≡ values_of_sign negative values.now) }
+{
+    let count = values.len() as u16;
+    let mut numbers = Vec::new(alloc);
+    for v in 0..count {
+        if is_of_sign(values, v, negative) {
+            if numbers.push(v).is_err() {
+                return Err(NoMemory);
+            }
+        }
+    }
+    Ok(numbers)
 }
