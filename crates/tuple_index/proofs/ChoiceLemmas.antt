@@ -4,7 +4,7 @@ use Rattle.std.specs.List.{flat_map, filter, list_any, range_with_len}
 use Rattle.std.proofs.lemmas.List.FromFn.{length-map-range_with_len, get_or-map-range_with_len}
 use Rattle.tuple_index.proofs.ListingLemmas.{map_map}
 use Rattle.tuple_index.proofs.TupleLemmas.{flat_map_map}
-use Rattle.std.proofs.lemmas.List.{drop_more, at_drop_more, at_drop_all, append-nil, length-drop, map-append, same_lists, get_or_default}
+use Rattle.std.proofs.lemmas.List.{at_drop_more, at_drop_all, append-nil, length-drop, map-append, same_lists, get_or_default}
 use Rattle.std.specs.Prelude.{slice_get}
 use Rattle.std.proofs.lemmas.Option.{get_or_from_slice_get}
 use Rattle.definitions.specs.Demand.{choose, unions}

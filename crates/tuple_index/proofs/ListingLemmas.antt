@@ -1,13 +1,13 @@
 -- The tuples of a set are the choices of values of its members.
-use Rattle.std.proofs.Common.{inl, inr, ◌⊎◌, ◌≡◌, ◌≢◌, ℕ, zero, suc, ◌+◌, ◌*◌, ◌-◌, ◌<◌, ◌≤◌, Bool, true, false, cond, ◌||◌, List, [], ◌∷◌, ◌++◌, map, length, get_or, Option, Some, None, sum_by, ◌∙◌, refl, sym, subst, ap, arith, length-append, mul_comm}
-use Rattle.std.specs.Prelude.{◌==◌, slice_get, if◌then◌else◌}
-use Rattle.std.specs.List.{flat_map, range_with_len, list_any}
+use Rattle.std.proofs.Common.{inl, inr, ◌≡◌, ℕ, zero, suc, ◌+◌, ◌<◌, ◌≤◌, true, false, List, [], ◌∷◌, ◌++◌, map, length, get_or, Option, Some, None, ◌∙◌, refl, sym, subst, ap, arith}
+use Rattle.std.specs.Prelude.{◌==◌}
+use Rattle.std.specs.List.{flat_map, range_with_len}
 use Rattle.std.proofs.lemmas.Bool.{cases_eq}
 use Rattle.std.proofs.lemmas.Bool.Decides.{nat_tests}
-use Rattle.std.proofs.lemmas.List.{map-append, length-map}
+use Rattle.std.proofs.lemmas.List.{map-append}
 use Rattle.definitions.specs.Demand.{is_among, value_choices}
 use Rattle.tuple_index.specs.Plan.{value_given}
-use Rattle.tuple_index.specs.Places.{RisesFrom, value_lists, ways}
+use Rattle.tuple_index.specs.Places.{RisesFrom, value_lists}
 
 -- two numbers as a test
 pub same_test : (p : ℕ) → (p == p) ≡ true

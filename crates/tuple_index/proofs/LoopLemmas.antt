@@ -1,5 +1,5 @@
 -- The steps and the ends of the loops over the members of a set.
-use Rattle.std.proofs.Common.{sum_by, ◌≡◌, ℕ, ◌+◌, ◌*◌, ◌-◌, ◌^◌, ◌<◌, ◌≤◌, true, false, List, [], ◌∷◌, All, drop, length, get_or, ◌∙◌, refl, sym, ap, arith}
+use Rattle.std.proofs.Common.{sum_by, ◌≡◌, ℕ, ◌+◌, ◌*◌, ◌-◌, ◌^◌, ◌<◌, ◌≤◌, true, false, List, [], ◌∷◌, All, drop, length, get_or, ◌∙◌, sym, ap, arith}
 use Rattle.std.specs.Prelude.{◌==◌, if◌then◌else◌}
 use Rattle.std.specs.List.{AllByRecursion}
 use Rattle.std.proofs.lemmas.List.Elements.{All-from_recursion}
@@ -9,7 +9,7 @@ use Rattle.std.proofs.lemmas.List.{at_drop_more, at_drop_all, drop_more}
 use Rattle.tuple_index.specs.Plan.{PlanView}
 use Rattle.tuple_index.specs.Places.{RisesFrom, ways, place, place_of, negative_ways, ways_before}
 use Rattle.tuple_index.specs.PlanFault.{told}
-use Rattle.tuple_index.proofs.ToldLemmas.{told-add, told-both, told-factor, told-digit}
+use Rattle.tuple_index.proofs.ToldLemmas.{told-factor, told-digit}
 
 -- the ways of the members so far, times those of the rest
 pub ways_step : (values : ℕ → List ℕ) (members : List ℕ) (i n r next t : ℕ) → i < length members → r ≡ length (values (get_or members i 0)) → next ≡ told (n * r)

@@ -1,6 +1,5 @@
 -- Numbers that are told up to the greatest of 64 bits: sums and products of what is told.
-use Rattle.std.proofs.Common.{inl, inr, ◌⊎◌, ◌≡◌, ℕ, zero, suc, ◌+◌, ◌*◌, ◌-◌, ◌^◌, ◌<◌, ◌≤◌, min, ◌∙◌, refl, sym, ap, arith, List, [], ◌∷◌, drop, length, get_or}
-use Rattle.std.proofs.lemmas.List.{drop_more, at_drop_more, at_drop_all}
+use Rattle.std.proofs.Common.{inl, inr, ◌⊎◌, ◌≡◌, ℕ, zero, suc, ◌+◌, ◌*◌, ◌-◌, ◌^◌, ◌<◌, ◌≤◌, min, ◌∙◌, sym, ap, arith}
 use Rattle.tuple_index.specs.PlanFault.{told}
 
 capped : (m a b c : ℕ) → min (min a m * b + c) m ≡ min (a * b + c) m

@@ -1,20 +1,19 @@
 -- The demanded tuples of a set of a model are those of its plan, as cells.
-use Rattle.std.proofs.Common.{inl, inr, ◌⊎◌, ◌≡◌, ◌≢◌, ℕ, zero, suc, ◌+◌, ◌<◌, ◌≤◌, Bool, true, false, ◌||◌, List, [], ◌∷◌, ◌++◌, map, length, get_or, Option, ◌∙◌, refl, sym, subst, ap, arith, zero-add, append_assoc}
-use Rattle.std.specs.Prelude.{◌==◌, slice_get, slice_set, if◌then◌else◌}
-use Rattle.std.specs.List.{flat_map, range_with_len, list_any}
+use Rattle.std.proofs.Common.{inl, inr, ◌≡◌, ℕ, zero, suc, ◌+◌, ◌<◌, ◌≤◌, true, false, ◌||◌, List, [], ◌∷◌, ◌++◌, map, length, get_or, ◌∙◌, refl, sym, subst, ap, arith, zero-add}
+use Rattle.std.specs.Prelude.{◌==◌, slice_set, if◌then◌else◌}
+use Rattle.std.specs.List.{flat_map, range_with_len}
 use Rattle.std.proofs.lemmas.Bool.{cases_eq, false≢true}
 use Rattle.std.proofs.lemmas.Bool.Decides.{nat_tests}
-use Rattle.std.proofs.lemmas.List.{length-map, length-set, map-append, get_or-set_same, get_or-set_other}
+use Rattle.std.proofs.lemmas.List.{length-set, map-append, get_or-set_same, get_or-set_other}
 use Rattle.std.proofs.lemmas.List.Concat.{flat_map-append}
-use Rattle.std.proofs.lemmas.List.FromFn.{length-range_with_len, length-map-range_with_len, get_or-map-range_with_len}
-use Rattle.cov_model.specs.declared.slice.Slice.{Slice}
+use Rattle.std.proofs.lemmas.List.FromFn.{length-map-range_with_len, get_or-map-range_with_len}
 use Rattle.cov_model.specs.declared.slice.Slice.TheVariants.{Positive, Negative}
 use Rattle.cov_model.specs.Sound.{ModelView}
 use Rattle.cov_model.specs.Valid.{param_numbers}
-use Rattle.cov_model.specs.Slices.{slices, slice_values, positive_values, negative_values}
-use Rattle.definitions.specs.Demand.{is_among, value_choices, tuples_in, tuples_of}
-use Rattle.tuple_index.specs.Plan.{plan_of, tuple_cells, value_given}
-use Rattle.tuple_index.specs.Places.{RisesFrom, value_lists, values_in, negatives_of, negative_lists, tuple_lists}
+use Rattle.cov_model.specs.Slices.{slice_values, positive_values, negative_values}
+use Rattle.definitions.specs.Demand.{is_among, tuples_in, tuples_of}
+use Rattle.tuple_index.specs.Plan.{plan_of, tuple_cells}
+use Rattle.tuple_index.specs.Places.{RisesFrom, value_lists, values_in, negative_lists, tuple_lists}
 use Rattle.tuple_index.proofs.ListingLemmas.{same_test, apart_test, map_flat_map, flat_map_same, value_choices_lists, spread, not_among_before}
 
 -- a list of lists, flattened

@@ -1,9 +1,9 @@
 -- The values at a place.
-use Rattle.std.proofs.Common.{inl, inr, ◌⊎◌, ◌≡◌, ℕ, zero, suc, ◌+◌, ◌*◌, ◌-◌, ◌/◌, ◌%◌, ◌^◌, ◌<◌, ◌≤◌, min, List, [], ◌∷◌, ◌++◌, map, take, drop, length, get_or, Option, Some, sum_by, ◌∙◌, refl, sym, subst, ap, arith, append_assoc}
+use Rattle.std.proofs.Common.{inl, inr, ◌⊎◌, ◌≡◌, ℕ, zero, suc, ◌+◌, ◌*◌, ◌-◌, ◌/◌, ◌%◌, ◌^◌, ◌<◌, ◌≤◌, List, [], ◌∷◌, ◌++◌, map, take, drop, length, get_or, Some, sum_by, ◌∙◌, sym, subst, ap, arith, append_assoc}
 use Rattle.std.specs.Prelude.{slice_get, slice_set}
 use Rattle.std.specs.Option.{option_map}
 use Rattle.std.specs.List.{flat_map}
-use Rattle.std.proofs.lemmas.List.{drop_more, at_drop_more, at_drop_all, take_more_set, take_all, append-nil, length-map, length-set}
+use Rattle.std.proofs.lemmas.List.{at_drop_more, at_drop_all, take_more_set, take_all, append-nil, length-map, length-set}
 use Rattle.std.proofs.lemmas.List.Sums.{sum_by-cons}
 use Rattle.std.proofs.lemmas.Option.{slice_get-map, slice_get-get_or}
 use Rattle.std.proofs.Math.Nat.{mod-lt, div-add-mod, div-lt_iff_lt-mul, div-eq_of_lt, mod-eq_of_lt}
@@ -12,7 +12,7 @@ use Rattle.tuple_index.specs.Plan.{PlanView}
 use Rattle.tuple_index.specs.Places.{values_in, negatives_of, value_lists, ways, negative_ways, negative_lists, tuple_lists, tuple_count}
 use Rattle.tuple_index.specs.PlanFault.{told}
 use Rattle.tuple_index.proofs.PlaceLemmas.{length-value_lists, slice_get-pieces, slice_get-append_left, slice_get-append_right}
-use Rattle.tuple_index.proofs.RankLemmas.{length_negative, ways_negative, length-negative_lists}
+use Rattle.tuple_index.proofs.RankLemmas.{length_negative, length-negative_lists}
 
 -- a place, parted by a number of ways that is told up to the greatest of 64 bits
 pub record Parts (r len w each : ℕ) : Type 0 where

@@ -1,6 +1,6 @@
 -- How many choices of demanded sets there are, counted before any is listed. (This project's rule.)
 use Rattle.tuple_index.specs.PlanFault.{told}
-use Rattle.std.specs.Prelude.{◌≡◌, ◌≤◌, ◌==◌, slice_index_or, if◌then◌else◌, ℕ, zero, suc, ◌+◌, ◌*◌, ◌-◌, min, not, List, [], ◌∷◌, ◌++◌, map, length, sum_by, replicate}
+use Rattle.std.specs.Prelude.{◌≡◌, ◌≤◌, ◌==◌, slice_index_or, if◌then◌else◌, ℕ, zero, suc, ◌+◌, ◌*◌, ◌-◌, min, List, [], ◌∷◌, ◌++◌, map, length, sum_by, replicate}
 use Rattle.cov_model.specs.declared.demand.Group.{Group}
 use Rattle.cov_model.specs.Sound.{ModelView}
 use Rattle.definitions.specs.Demand.{singles}

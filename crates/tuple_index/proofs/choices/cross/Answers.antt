@@ -1,5 +1,5 @@
 use Rattle.std.proofs.Common.{◌++◌, map, ◌∙◌, ap, List, ℕ}
-use Rattle.tuple_index.proofs.ChoiceLemmas.{flat_step, flat_end}
+use Rattle.tuple_index.proofs.ChoiceLemmas.{flat_step}
 use Rattle.tuple_index.proofs.choices.cross.Goals as goal
 
 pub loop-way-preserved : goal.loop-way-preserved

@@ -1,4 +1,4 @@
-use Rattle.std.proofs.Common.{◌≡◌, ◌++◌, ◌-◌, ◌∷◌, [], map, not, length}
+use Rattle.std.proofs.Common.{◌≡◌, ◌++◌, ◌-◌, map, not, length}
 use Rattle.std.specs.List.{filter, list_any, range_with_len}
 use Rattle.definitions.specs.Demand.{is_among, singles}
 use Rattle.tuple_index.proofs.count.push_single_counts.Given as goal

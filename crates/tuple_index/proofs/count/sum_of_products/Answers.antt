@@ -1,6 +1,5 @@
 use Rattle.std.proofs.Common.{refl, get_or, ◌-◌, arith, length, map, ◌∙◌, ap}
 use Rattle.std.specs.List.{range_with_len}
-use Rattle.std.proofs.lemmas.Grind.{common_steps}
 use Rattle.tuple_index.specs.Counts.{next_entry}
 use Rattle.tuple_index.proofs.RowLemmas.{row_step}
 use Rattle.tuple_index.proofs.count.sum_of_products.Goals as goal

@@ -1,4 +1,4 @@
-use Rattle.std.proofs.Common.{Bool, ◌≡◌, ◌<◌, List, length, get_or, subst, ◌∙◌, sym, ap}
+use Rattle.std.proofs.Common.{Bool, ◌≡◌, ◌<◌, length, get_or, subst, ◌∙◌, sym, ap}
 use Rattle.cov_model.specs.declared.demand.Group.{Group}
 use Rattle.definitions.specs.Demand.{is_among}
 use Rattle.tuple_index.proofs.ChoiceLemmas.{any_step}

@@ -1,4 +1,4 @@
-use Rattle.std.proofs.Common.{◌++◌, List, ℕ, ◌∙◌, ap, map}
+use Rattle.std.proofs.Common.{◌++◌, List, ℕ, ◌∙◌, ap}
 use Rattle.std.proofs.lemmas.List.{map-id}
 use Rattle.cov_model.specs.declared.demand.Group.{Group}
 use Rattle.definitions.specs.Demand.{choose}

@@ -1,4 +1,4 @@
-use Rattle.std.proofs.Common.{[], ◌∷◌, List, ℕ, Bool, not, arith, ◌≡◌, ◌<◌, ◌∙◌, sym, ap, true, false}
+use Rattle.std.proofs.Common.{[], ◌∷◌, List, ℕ, Bool, not, arith, ◌∙◌, sym}
 use Rattle.std.specs.List.{list_any}
 use Rattle.std.proofs.lemmas.Grind.{common_steps}
 use Rattle.definitions.specs.Demand.{is_among}

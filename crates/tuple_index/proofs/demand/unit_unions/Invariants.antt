@@ -1,4 +1,4 @@
-use Rattle.std.proofs.Common.{◌≡◌, ◌++◌, [], drop, map, get_or, List, ℕ}
+use Rattle.std.proofs.Common.{◌≡◌, ◌++◌, [], drop, map, get_or}
 use Rattle.std.specs.List.{flat_map}
 use Rattle.definitions.specs.Demand.{unions}
 use Rattle.tuple_index.proofs.demand.unit_unions.Given as goal

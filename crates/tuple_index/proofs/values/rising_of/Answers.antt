@@ -1,4 +1,4 @@
-use Rattle.std.proofs.Common.{[], ◌∷◌, ◌++◌, List, ℕ, arith, ◌≡◌, ◌∙◌, sym, ap}
+use Rattle.std.proofs.Common.{[], ◌∷◌, ◌++◌, ℕ, arith, ◌≡◌, ◌∙◌, sym, ap}
 use Rattle.std.proofs.lemmas.List.{map-id}
 use Rattle.std.proofs.lemmas.Grind.{common_steps}
 use Rattle.definitions.specs.Demand.{is_among, rising}

@@ -1,4 +1,4 @@
-use Rattle.std.proofs.Common.{length, [], ◌∷◌, ◌++◌, List, ℕ, arith, ◌≡◌, ◌∙◌, sym, ap}
+use Rattle.std.proofs.Common.{length, [], ◌∷◌, ◌++◌, ℕ, arith, ◌≡◌, ◌∙◌, sym, ap}
 use Rattle.std.proofs.lemmas.List.{map-id}
 use Rattle.std.proofs.lemmas.Grind.{common_steps}
 use Rattle.tuple_index.specs.Signs.{has_sign, values_of_sign}

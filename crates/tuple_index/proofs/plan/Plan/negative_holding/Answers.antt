@@ -1,4 +1,4 @@
-use Rattle.std.proofs.Common.{◌/◌, get_or, ap, refl, ◌∙◌}
+use Rattle.std.proofs.Common.{◌/◌, get_or, ap}
 use Rattle.tuple_index.proofs.UnrankLemmas.{negative_at}
 use Rattle.tuple_index.proofs.plan.Plan.negative_holding.Goals as goal
 

@@ -1,6 +1,5 @@
-use Rattle.std.proofs.Common.{◌≡◌, ◌+◌, ◌-◌, ◌∙◌, ap, drop, take, length, get_or}
+use Rattle.std.proofs.Common.{◌≡◌, ◌+◌, ◌∙◌, ap, drop, length, get_or}
 use Rattle.std.proofs.lemmas.List.{take_rest}
-use Rattle.std.proofs.lemmas.Grind.{common_steps}
 use Rattle.tuple_index.specs.Places.{values_in, ways}
 use Rattle.tuple_index.specs.PlanFault.{told}
 use Rattle.tuple_index.proofs.UnrankLemmas.{parts, left_within, put_step, put_end}

@@ -1,6 +1,6 @@
-use Rattle.std.proofs.Common.{◌≡◌, ◌<◌, ◌^◌, ◌∙◌, ap, arith, length, sym, subst, Some}
+use Rattle.std.proofs.Common.{◌≡◌, ◌∙◌, ap, arith, length, sym, subst}
 use Rattle.std.specs.Prelude.{slice_get}
-use Rattle.tuple_index.specs.Plan.{set_at, tuple_cells}
+use Rattle.tuple_index.specs.Plan.{set_at}
 use Rattle.definitions.specs.Demand.{tuples_of}
 use Rattle.tuple_index.specs.Places.{RisesFrom, rank_of}
 use Rattle.tuple_index.proofs.RankLemmas.{choice_long, rank_within, slice_get-rank_of, slice_get-tuples_of}

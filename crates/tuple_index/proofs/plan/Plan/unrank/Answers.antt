@@ -1,4 +1,4 @@
-use Rattle.std.proofs.Common.{◌≡◌, List, ℕ, ap, subst, length, Some}
+use Rattle.std.proofs.Common.{◌≡◌, subst, length, Some}
 use Rattle.std.specs.Prelude.{slice_get}
 use Rattle.tuple_index.specs.Plan.{set_at}
 use Rattle.tuple_index.specs.Places.{RisesFrom, tuple_lists}

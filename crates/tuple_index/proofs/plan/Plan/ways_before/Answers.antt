@@ -1,4 +1,3 @@
-use Rattle.std.proofs.Common.{arith}
 use Rattle.tuple_index.proofs.LoopLemmas.{before_here, before_end}
 use Rattle.tuple_index.proofs.plan.Plan.ways_before.Goals as goal
 
