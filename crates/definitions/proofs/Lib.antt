@@ -16,3 +16,5 @@ pub mod Cells
 pub mod Names
 pub mod ReadRow
 pub mod ReadBack
+pub mod Nothing
+pub mod Readings

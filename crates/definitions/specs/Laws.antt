@@ -11,7 +11,7 @@ use Rattle.definitions.specs.Demand.{demanded_tuples}
 use Rattle.definitions.specs.Report.{report_text}
 use Rattle.definitions.specs.RowFile.{rows_of, suite_rows}
 use Rattle.definitions.specs.RowReading.{RowReading, Suite, read_rows}
-use Rattle.definitions.specs.Completion.{completions, meets_rules, is_of_a_slice, is_extendable}
+use Rattle.definitions.specs.Completion.{completions, meets_rules, has_slice, is_extendable}
 use Rattle.definitions.specs.Search.{plain_search}
 use Rattle.definitions.specs.Seeds.{is_same_row, kept_seeds}
 use Rattle.definitions.specs.Growth.{growth}
@@ -68,12 +68,12 @@ CompletionsAreRows = (lists : List (List ℕ)) (cells row : List (Option ℕ))
 -- a row serves a tuple with at most one negative value exactly if it is a row of the tuple's slice that
 -- contains the tuple and meets every constraint
 abbrev pub SlicesServe : Type 0
-SlicesServe = (m : ModelView) (row tuple : List (Option ℕ)) → IsSound m → is_of_a_slice m tuple ≡ true
+SlicesServe = (m : ModelView) (row tuple : List (Option ℕ)) → IsSound m → has_slice m tuple ≡ true
     → (serves m row tuple ≡ true) ↔ (Contains (completions (slice_values m (slice_of m tuple)) tuple) row × (meets_rules m row ≡ true))
 
 -- so some row serves it exactly if it is extendable in its slice
 abbrev pub ServableAreExtendable : Type 0
-ServableAreExtendable = (m : ModelView) (tuple : List (Option ℕ)) → IsSound m → is_of_a_slice m tuple ≡ true
+ServableAreExtendable = (m : ModelView) (tuple : List (Option ℕ)) → IsSound m → has_slice m tuple ≡ true
     → is_served m (all_rows m) tuple ≡ is_extendable m (slice_of m tuple) tuple
 
 -- the lists are the values of each parameter in some order

@@ -8,4 +8,4 @@
 
 mod laws;
 
-pub use laws::reports_read_back;
+pub use laws::{reports_read_back, suites_are_read};
