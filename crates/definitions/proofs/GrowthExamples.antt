@@ -182,3 +182,7 @@ all-gained = refl
 -- the greatest gain first, and for equal gain the order of the list
 by-gain : values_by_gain (table (codes "_0 _1 _2 01 11")) [] (row (codes "0_")) 1 (2 ∷ 0 ∷ 3 ∷ 1 ∷ []) ≡ 1 ∷ 2 ∷ 0 ∷ []
 by-gain = refl
+
+-- a seed that is dropped is told once, at its first line, and an empty one isn't
+impossible-dropped : dropped_lines impossible ((2, row (codes "_")) ∷ (3, row (codes "0")) ∷ (4, row (codes "0")) ∷ []) ≡ 3 ∷ []
+impossible-dropped = refl
