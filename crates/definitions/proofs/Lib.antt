@@ -18,3 +18,5 @@ pub mod ReadRow
 pub mod ReadBack
 pub mod Nothing
 pub mod Readings
+pub mod Contained
+pub mod Extendable

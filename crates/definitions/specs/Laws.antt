@@ -65,6 +65,11 @@ abbrev pub CompletionsAreRows : Type 0
 CompletionsAreRows = (lists : List (List ℕ)) (cells row : List (Option ℕ))
     → Contains (completions lists cells) row ↔ (Contains (completions lists []) row × (contains row cells ≡ true))
 
+-- what an extendable partial row contains is extendable
+abbrev pub ExtendableContains : Type 0
+ExtendableContains = (m : ModelView) (slice : Slice) (cells part : List (Option ℕ)) → contains cells part ≡ true
+    → is_extendable m slice cells ≡ true → is_extendable m slice part ≡ true
+
 -- a row serves a tuple with at most one negative value exactly if it is a row of the tuple's slice that
 -- contains the tuple and meets every constraint
 abbrev pub SlicesServe : Type 0

@@ -8,4 +8,4 @@
 
 mod laws;
 
-pub use laws::{reports_read_back, suites_are_read};
+pub use laws::{extendable_contains, reports_read_back, suites_are_read};
