@@ -67,6 +67,15 @@ abbrev mutual
   any_truth m end_of-Pred cells = No
   any_truth m (more_of-Pred part rest) cells = or_of (pred_truth m part cells) (any_truth m rest cells)
 
+-- the same of a list of predicates: that each holds, and that some predicate holds
+abbrev pub all_truths : ModelView → List Pred → List (Option ℕ) → Truth
+all_truths m [] cells = Yes
+all_truths m (part ∷ parts) cells = and_of (pred_truth m part cells) (all_truths m parts cells)
+
+abbrev pub any_truths : ModelView → List Pred → List (Option ℕ) → Truth
+any_truths m [] cells = No
+any_truths m (part ∷ parts) cells = or_of (pred_truth m part cells) (any_truths m parts cells)
+
 -- what is known of a constraint
 abbrev pub body_truth : ModelView → Body → List (Option ℕ) → Truth
 body_truth m (Plain pred) cells = pred_truth m pred cells

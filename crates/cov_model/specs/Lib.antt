@@ -2,7 +2,12 @@ pub mod Tuples
 pub mod Names
 pub mod Sound
 pub mod Rows
+pub mod Fits
 pub mod Meaning
 pub mod Kleene
 pub mod Valid
+pub mod RowFault
+pub mod Laws
+pub mod Preference
 pub mod Slices
+pub mod Sample

@@ -23,7 +23,7 @@ use Rattle.cov_model.specs.declared.constraint.Pred.{Pred, Term, Not', All', Any
 use Rattle.cov_model.specs.Sound.{ModelView, first_name, param_at}
 use Rattle.cov_model.specs.Rows.{value_in}
 
-abbrev no_value : Value
+abbrev pub no_value : Value
 no_value = record { names = []; weight = 0; negative = false }
 
 -- the value of a number of a parameter
@@ -35,16 +35,19 @@ abbrev pub given_value : ModelView → List (Option ℕ) → ℕ → Value
 given_value m row p = value_at m p (value_in row p)
 
 -- the number that a name spells
-abbrev number_in : FixedAnswer → ℤ
+abbrev pub number_in : FixedAnswer → ℤ
 number_in (answers.Number n) = n
 number_in answers.NotNumber = pos 0
 number_in answers.TooWide = pos 0
 
--- what constraints compare of a value: its first name, as a number if the parameter is numeric
+-- what constraints compare of a value's first name: the number that it spells if its parameter is
+-- numeric, else the name
+abbrev pub operand_of : Bool → List ℕ → Literal
+operand_of numeric name = if numeric then Number (number_in (number_of name)) else Words name
+
+-- what constraints compare of a parameter's value
 abbrev pub operand : ModelView → List (Option ℕ) → ℕ → Literal
-operand m row p =
-    if (param_at m.params p).numeric then Number (number_in (number_of (first_name (given_value m row p))))
-    else Words (first_name (given_value m row p))
+operand m row p = operand_of (param_at m.params p).numeric (first_name (given_value m row p))
 
 -- numbers are compared as numbers, texts under the case rule; the two never meet in a sound model
 abbrev pub literal_order : Bool → Literal → Literal → Ordering

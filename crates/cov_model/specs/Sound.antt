@@ -1,5 +1,5 @@
 -- The model that contracts see, and when it is sound.
-use Rattle.std.specs.Prelude.{◌≡◌, ◌≢◌, ℕ, ◌+◌, ◌<◌, ◌≤◌, Bool, true, false, List, [], length, slice_index, slice_index_or, All, AllPairs, ◌==◌}
+use Rattle.std.specs.Prelude.{◌≡◌, ◌≢◌, ℕ, ◌+◌, ◌-◌, ◌<◌, ◌≤◌, Bool, true, false, List, [], length, slice_index, slice_index_or, All, AllPairs, ◌==◌}
 use Rattle.std.specs.List.{list_all, list_any, flat_map}
 use Rattle.value_text.specs.Texts.{is_same_text}
 use Rattle.value_text.specs.Numbers.{is_number}
@@ -51,7 +51,7 @@ pub record IsSoundParam (prefix : ℕ) (fold : Bool) (param : Param) : Type 0 wh
   pub distinct : AllPairs (λ a b. is_same_text fold a b ≡ false) (flat_map (λ value. value.names) param.values)
   pub numeric : param.numeric ≡ is_numeric param.values
 
-abbrev no_param : Param
+abbrev pub no_param : Param
 no_param = record { name = []; line = 0; numeric = false; values = [] }
 
 -- the parameter of a number
@@ -116,3 +116,10 @@ pub record IsSound (m : ModelView) : Type 0 where
   pub numbered : (i : ℕ) (d : Rule) → i < length m.rules → (slice_index_or m.rules i d).number ≡ i + 1
   pub rules : All (λ rule. IsSoundBody m.params rule.body) m.rules
   pub demand : IsSoundDemand (length m.params) m.demand
+
+abbrev pub no_rule : Rule
+no_rule = record { number = 0; line = 0; body = Plain (Term (Negative 0)) }
+
+-- the constraint of a number
+abbrev pub rule_at : ModelView → ℕ → Rule
+rule_at m n = slice_index_or m.rules (n - 1) no_rule

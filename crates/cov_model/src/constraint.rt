@@ -1,4 +1,7 @@
+ghost use Rattle.std.specs.Prelude.{◌≡◌};
+
 use crate::parameter::ParamNo;
+use std::cmp::Ordering;
 use value_text::{Fixed, OwnedList, Text};
 
 /// How two operands are compared.
@@ -16,6 +19,24 @@ pub enum Rel {
     Lt,
     /// `<=`
     Le,
+}
+
+impl Rel {
+    ghost use Rattle.cov_model.specs.Meaning.{stands_in};
+
+    /// Whether two operands in this order stand in the relation.
+    pub fn holds(self, order: Ordering) -> bool
+        ensures { result ≡ stands_in self order }
+    {
+        match self {
+            Rel::Eq => order.is_eq(),
+            Rel::Ne => order.is_ne(),
+            Rel::Gt => order.is_gt(),
+            Rel::Ge => order.is_ge(),
+            Rel::Lt => order.is_lt(),
+            Rel::Le => order.is_le(),
+        }
+    }
 }
 
 /// What a parameter's value is compared with.

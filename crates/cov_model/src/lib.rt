@@ -3,14 +3,20 @@
 //!
 //! - `TestModel` keeps that its model is sound: every accessor says so.
 //! - `Cells` is a partial row, with a place for each parameter; `Tuple` is one as its rising pairs.
-//! - specs/Meaning says when a constraint holds on a row, and what is known of it on a partial row.
+//! - specs/Meaning says when a constraint holds on a row, and specs/Kleene what is known of it on a
+//!   partial row; `TestModel::eval` tells the latter. By `partial_rows_tell` what is known stays.
+//! - `TestModel::row_fault` says why a row isn't valid.
+//! - `Prefs` keeps in which order the values of each parameter are taken.
 #![tactic(auto)]
 
 mod cells;
 mod constraint;
 mod demand;
+mod eval;
 mod model;
 mod parameter;
+mod prefs;
+mod row_fault;
 mod slice;
 mod truth;
 mod tuple;
@@ -20,6 +26,11 @@ pub use constraint::{Body, Literal, LiteralList, Pred, PredList, Rel, Rule, Rule
 pub use demand::{Demand, Group, GroupList, NoList};
 pub use model::TestModel;
 pub use parameter::{Param, ParamList, ParamNo, Value, ValueList, ValueNo};
+pub use prefs::Prefs;
+pub use row_fault::{RowWhy, partial_rows_tell};
 pub use slice::Slice;
 pub use truth::Truth;
 pub use tuple::{Tuple, TupleList};
+
+#[cfg(test)]
+mod tests;

@@ -1,3 +1,4 @@
 pub mod PutsLaws
+pub mod FaultsLaws
 mod SlotLemmas
 mod FileListLemmas

@@ -1,8 +1,7 @@
 -- How the words on a sink compose: one text after another, a stop at the first fault, and no text.
-use Rattle.std.proofs.Common.{◌≡◌, ℕ, suc, ◌+◌, ◌-◌, ◌≤◌, min, Option, Some, None, List, [], ◌∷◌, ◌++◌, length, take, IsSome, is_some, refl, ap, sym, ◌∙◌, subst, arith, length-append, append_assoc}
+use Rattle.std.proofs.Common.{◌≡◌, ℕ, ◌+◌, ◌-◌, ◌≤◌, min, Option, Some, None, List, [], ◌++◌, length, take, IsSome, is_some, refl, ap, sym, ◌∙◌, subst, arith, length-append, append_assoc}
 use Rattle.std.proofs.Math.Seq.{take-append-add}
 use Rattle.std.proofs.lemmas.List.{append-nil, take-append-le, take_min}
-use Rattle.std.proofs.lemmas.Grind.{common_steps}
 use Rattle.outside_io.specs.declared.answers.WriteAnswer.{WriteAnswer}
 use Rattle.outside_io.specs.declared.answers.WriteAnswer.TheVariants.{Done, Failed}
 use Rattle.outside_io.specs.Puts.{Puts, Leaves, Balances, CountsFaults}
@@ -14,7 +13,8 @@ take-within x y count =
     take-append-le (min count (length x)) x y short ∙ take_min count x
 
 -- the bytes: what was appended in two steps is the joined text
-pub Puts-then : (r : WriteAnswer) (b m a : Option (List ℕ)) (x y : List ℕ) → Puts Done b m x → Puts r m a y → Puts r b a (x ++ y)
+pub Puts-then : (r : WriteAnswer) (b m a : Option (List ℕ)) (x y : List ℕ)
+    → Puts Done b m x → Puts r m a y → Puts r b a (x ++ y)
 Puts-then Done None m a x y first second = tt
 Puts-then Failed None m a x y first second = tt
 Puts-then Done (Some w) m a x y first second =
@@ -22,10 +22,12 @@ Puts-then Done (Some w) m a x y first second =
     put ∙ ap Some (append_assoc w x y)
 Puts-then Failed (Some w) m a x y first second =
     let put = subst (λ (o : Option (List ℕ)). Puts Failed o a y) first second in
-    (length x + put.0, put.1 ∙ ap Some (append_assoc w x (take put.0 y) ∙ ap (λ t. w ++ t) (sym (take-append-add x y put.0))))
+    let joined = append_assoc w x (take put.0 y) ∙ ap (λ t. w ++ t) (sym (take-append-add x y put.0)) in
+    (length x + put.0, put.1 ∙ ap Some joined)
 
 -- a fault in the first step is one of the joined text
-pub Puts-stopped : (b a : Option (List ℕ)) (x y : List ℕ) → Puts Failed b a x → Puts Failed b a (x ++ y)
+pub Puts-stopped : (b a : Option (List ℕ)) (x y : List ℕ)
+    → Puts Failed b a x → Puts Failed b a (x ++ y)
 Puts-stopped None a x y put = tt
 Puts-stopped (Some w) a x y put =
     (min put.0 (length x), put.1 ∙ ap (λ t. Some (w ++ t)) (sym (take-within x y put.0)))
@@ -36,14 +38,16 @@ Puts-nothing None = tt
 Puts-nothing (Some w) = ap Some (sym (append-nil w))
 
 -- bytes that are told stay told
-pub Puts-told : (r : WriteAnswer) (b a : Option (List ℕ)) (x : List ℕ) → Puts r b a x → IsSome b → IsSome a
+pub Puts-told : (r : WriteAnswer) (b a : Option (List ℕ)) (x : List ℕ)
+    → Puts r b a x → IsSome b → IsSome a
 Puts-told Done None a x put told = absurd (cc)
 Puts-told Failed None a x put told = absurd (cc)
 Puts-told Done (Some w) a x put told = ap is_some put
 Puts-told Failed (Some w) a x put told = ap is_some put.1
 
 -- the room: two texts take what the joined text does
-pub Leaves-then : (r : WriteAnswer) (b m a : Option ℕ) (x y : List ℕ) → Leaves Done b m x → Leaves r m a y → Leaves r b a (x ++ y)
+pub Leaves-then : (r : WriteAnswer) (b m a : Option ℕ) (x y : List ℕ)
+    → Leaves Done b m x → Leaves r m a y → Leaves r b a (x ++ y)
 Leaves-then Done None m a x y first second = tt
 Leaves-then Failed None m a x y first second = tt
 Leaves-then Done (Some room) m a x y first second =
@@ -56,7 +60,8 @@ Leaves-then Failed (Some room) m a x y first second =
     (omega (arith, length-append x y), (length x + put.1.0, omega arith, put.1.2 ∙ ap Some less))
 
 -- a fault in the first step is one of the joined text
-pub Leaves-stopped : (b a : Option ℕ) (x y : List ℕ) → Leaves Failed b a x → Leaves Failed b a (x ++ y)
+pub Leaves-stopped : (b a : Option ℕ) (x y : List ℕ)
+    → Leaves Failed b a x → Leaves Failed b a (x ++ y)
 Leaves-stopped None a x y put = tt
 Leaves-stopped (Some room) a x y put = (omega (arith, length-append x y), put.1)
 
@@ -66,19 +71,22 @@ Leaves-nothing None = tt
 Leaves-nothing (Some room) = (omega arith, ap Some (omega arith))
 
 -- a room that is told stays told
-pub Leaves-told : (r : WriteAnswer) (b a : Option ℕ) (x : List ℕ) → Leaves r b a x → IsSome b → IsSome a
+pub Leaves-told : (r : WriteAnswer) (b a : Option ℕ) (x : List ℕ)
+    → Leaves r b a x → IsSome b → IsSome a
 Leaves-told Done None a x put told = absurd (cc)
 Leaves-told Failed None a x put told = absurd (cc)
 Leaves-told Done (Some room) a x put told = ap is_some put.1
 Leaves-told Failed (Some room) a x put told = ap is_some put.1.2
 
 -- a told room that is enough: no fault comes
-pub Leaves-enough : (r : WriteAnswer) (room : ℕ) (a : Option ℕ) (x : List ℕ) → Leaves r (Some room) a x → length x ≤ room → r ≡ Done
+pub Leaves-enough : (r : WriteAnswer) (room : ℕ) (a : Option ℕ) (x : List ℕ)
+    → Leaves r (Some room) a x → length x ≤ room → r ≡ Done
 Leaves-enough Done room a x put enough = refl
 Leaves-enough Failed room a x put enough = absurd (omega arith)
 
 -- bytes and room stay in balance over two steps, where both are told in between
-pub Balances-then : (b c d : Option (List ℕ)) (q r s : Option ℕ) → IsSome c → IsSome r → Balances b c q r → Balances c d r s → Balances b d q s
+pub Balances-then : (b c d : Option (List ℕ)) (q r s : Option ℕ)
+    → IsSome c → IsSome r → Balances b c q r → Balances c d r s → Balances b d q s
 Balances-then None c d q r s told left first second = tt
 Balances-then (Some w) c None q r s told left first second = tt
 Balances-then (Some w) c (Some v) None r s told left first second = tt
@@ -94,6 +102,7 @@ Balances-nothing (Some w) None = tt
 Balances-nothing (Some w) (Some m) = refl
 
 -- the count of faults over two steps
-pub CountsFaults-then : (r : WriteAnswer) (b m a : ℕ) → CountsFaults Done b m → CountsFaults r m a → CountsFaults r b a
+pub CountsFaults-then : (r : WriteAnswer) (b m a : ℕ)
+    → CountsFaults Done b m → CountsFaults r m a → CountsFaults r b a
 CountsFaults-then Done b m a first second = second ∙ first
 CountsFaults-then Failed b m a first second = subst (λ (k : ℕ). CountsFaults Failed k a) first second

@@ -1,5 +1,5 @@
 -- Lists of files, each with a name. (This project's rule.)
-use Rattle.std.specs.Prelude.{Bool, not, Option, Some, List, ℕ, filter, find}
+use Rattle.std.specs.Prelude.{Bool, not, Option, List, ℕ, filter, find}
 use Rattle.std.specs.Option.{option_map}
 use Rattle.std.specs.Str.{bytes_eq}
 use Rattle.outside_io.specs.declared.file_list.FileHeld.{FileHeld}

@@ -5,7 +5,8 @@ use Rattle.std.specs.Option.{option_and_then, option_map, option_map_or}
 use Rattle.std.specs.Str.{bytes_eq}
 use Rattle.outside_io.specs.Faults.{one_more}
 
--- what stands under one name: its file, where there is one, and the most bytes that a write may put there
+-- what stands under one name: its file, where there is one, and the most bytes that a write may put
+-- there
 pub record Slot : Type 0 where
   pub name : List ℕ
   pub file : Option (List ℕ)
@@ -35,7 +36,8 @@ file_of slots name = option_and_then (λ slot. slot.file) (slot_of slots name)
 abbrev pub room_of : List Slot → List ℕ → Option ℕ
 room_of slots name = option_map (λ slot. slot.room) (slot_of slots name)
 
--- a call fails because its number, counted from 1, is listed; the last number counts for every later call
+-- the next call fails because its number, counted from 1, is listed; the last number, 2^64 - 1,
+-- is that of every later call too
 abbrev pub is_listed : FolderInMemory → Bool
 is_listed folder = list_any (λ number. nat_eq number (one_more folder.calls)) folder.fail
 

@@ -9,22 +9,32 @@ use Rattle.outside_io.specs.Faults.{Rose, GoesOn}
 -- the bytes written: all of the text was appended, or after a fault a prefix of it
 abbrev pub Puts : WriteAnswer → Option (List ℕ) → Option (List ℕ) → List ℕ → Type 0
 Puts Done before after text = IfSome before (λ written. after ≡ Some (written ++ text))
-Puts Failed before after text = IfSome before (λ written. (count : ℕ) × (after ≡ Some (written ++ take count text)))
+Puts Failed before after text =
+    IfSome before (λ written. (count : ℕ) × (after ≡ Some (written ++ take count text)))
 
 -- the room left: it falls by the bytes of the text, or after a fault, which comes only where they
 -- are more than the room, by those of them that were appended
 abbrev pub Leaves : WriteAnswer → Option ℕ → Option ℕ → List ℕ → Type 0
-Leaves Done before after text = IfSome before (λ room. (length text ≤ room) × (after ≡ Some (room - length text)))
+Leaves Done before after text =
+    IfSome before (λ room. (length text ≤ room) × (after ≡ Some (room - length text)))
 Leaves Failed before after text =
-    IfSome before (λ room. (room < length text) × ((count : ℕ) × (count ≤ room) × (after ≡ Some (room - count))))
+    IfSome before (λ room. (room < length text)
+    × ((count : ℕ) × (count ≤ room) × (after ≡ Some (room - count))))
 
 -- what the room lost is what the bytes gained, where all four are told
 abbrev pub Balances : Option (List ℕ) → Option (List ℕ) → Option ℕ → Option ℕ → Type 0
 Balances written written_after room room_after =
-    IfSome written (λ bytes. IfSome written_after (λ bytes_after. IfSome room (λ left. IfSome room_after (λ left_after.
+    IfSome written (λ bytes. IfSome written_after (λ bytes_after.
+    IfSome room (λ left. IfSome room_after (λ left_after.
     left_after + length bytes_after ≡ left + length bytes))))
 
 -- the count of faults: it stays, or after a fault it rose
 abbrev pub CountsFaults : WriteAnswer → ℕ → ℕ → Type 0
 CountsFaults Done before after = after ≡ before
 CountsFaults Failed before after = Rose before after × GoesOn before after
+
+-- a sink over a stream: what the stream says that it holds, None where it says nothing, and the
+-- faults so far
+pub record StreamState : Type 0 where
+  pub contents : Option (List ℕ)
+  pub faults : ℕ

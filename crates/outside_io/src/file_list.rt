@@ -106,7 +106,8 @@ impl FileList {
     pub(crate) fn take_out(&mut self, name: &str)
         ensures taken_out { self.new ≡ without self.old name.now }
         ensures gone { bytes_of self.new name.now ≡ None }
-        ensures others { (other : List ℕ) → other ≢ name.now → bytes_of self.new other ≡ bytes_of self.old other }
+        ensures others { (other : List ℕ) → other ≢ name.now →
+            bytes_of self.new other ≡ bytes_of self.old other }
     {
         self.files.retain(|file| file.name.as_str() != name);
     }

@@ -1,4 +1,5 @@
-/// Where each worker reports before its share of the work. The workers of a call are numbered from 1.
+/// Where each worker reports before its share of the work. The workers of a call are numbered
+/// from 1.
 pub trait Gate {
     /// Called by a worker before its share. Takes no memory.
     fn come(&self, worker: u32);

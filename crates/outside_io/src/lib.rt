@@ -3,9 +3,12 @@
 //!
 //! - `Folder` and `Sink` say what a call did where that is told, and count the faults of the device
 //!   behind them: a call answers `Failed` only where its count of faults rose.
-//! - `MemFolder` and `MemSink` stand in memory and tell everything, `SureFolder` and `SureSink` never
-//!   fail, and `RealFolder` and `RealSink` are the edge to the operating system's files and streams.
+//! - `MemFolder` and `MemSink` stand in memory and tell everything, `SureFolder` and `SureSink`
+//!   never fail, and `RealFolder` and `RealSink` are the edge to the operating system's files and
+//!   streams.
 //! - `write_file` and `put` take no memory of the caller.
+//! - Who writes several texts in a row says what a sink did by `Puts`, `Leaves`, `Balances` and
+//!   `CountsFaults`, which compose by the laws beside them.
 #![tactic(auto)]
 
 mod answers;
@@ -21,6 +24,7 @@ mod sink;
 mod sure_folder;
 mod sure_sink;
 mod transfer;
+mod words;
 
 pub use answers::{ReadAnswer, WriteAnswer};
 pub use file_list::{ByteList, FileHeld, FileList};
@@ -33,3 +37,7 @@ pub use real_sink::RealSink;
 pub use sink::Sink;
 pub use sure_folder::SureFolder;
 pub use sure_sink::SureSink;
+pub use words::command_words;
+
+#[cfg(test)]
+mod tests;

@@ -5,8 +5,8 @@ use std::alloc::Global;
 use std::marker::Model;
 use value_text::{NoMemory, Text};
 
-/// What a folder in memory keeps under one name: the file, where there is one, and the most bytes that
-/// a write may put there. Memory for as many bytes is kept from the start.
+/// What a folder in memory keeps under one name: the file, where there is one, and the most bytes
+/// that a write may put there. Memory for as many bytes is kept from the start.
 #[derive(Drop)]
 pub(crate) struct MemFile {
     name: Text,
@@ -21,9 +21,14 @@ impl Model for MemFile {
 
     ghost Value = { Slot };
 
-    ghost view = { λ file. record { name = file.name; file = if file.is_there then Some file.bytes.items else None; room = file.room } };
+    ghost view = { λ file. record {
+      name = file.name;
+      file = if file.is_there then Some file.bytes.items else None;
+      room = file.room;
+    } };
 
-    ghost invariant = { λ file. (length file.bytes.items ≤ file.room) × (file.room ≤ vec_capacity file.bytes) };
+    ghost invariant = { λ file.
+        (length file.bytes.items ≤ file.room) × (file.room ≤ vec_capacity file.bytes) };
 }
 
 impl MemFile {

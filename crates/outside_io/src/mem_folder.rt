@@ -32,11 +32,11 @@ impl Model for MemFolder {
     ghost Value = { FolderInMemory };
 
     ghost view = { λ folder. record {
-        slots = folder.files.items;
-        calls = folder.calls;
-        fail = folder.fail;
-        read_faults = folder.read_errors;
-        write_faults = folder.write_errors
+      slots = folder.files.items;
+      calls = folder.calls;
+      fail = folder.fail;
+      read_faults = folder.read_errors;
+      write_faults = folder.write_errors;
     } };
 }
 
@@ -46,7 +46,13 @@ impl MemFolder {
     /// A folder without files. `fail` lists the numbers of the calls of `read_file` and `write_file`
     /// that fail; they are counted together, from 1. Takes no memory.
     pub fn new(alloc: Global, fail: Calls) -> MemFolder
-        ensures { result ≡ record { slots = []; calls = 0; fail = fail; read_faults = 0; write_faults = 0 } }
+        ensures { result ≡ record {
+          slots = [];
+          calls = 0;
+          fail = fail;
+          read_faults = 0;
+          write_faults = 0;
+        } }
     {
         MemFolder {
             files: Vec::new(alloc),
@@ -64,8 +70,11 @@ impl MemFolder {
     /// `NoMemory` where memory for it was refused. The folder is then as before.
     pub fn add(&mut self, name: &str, bytes: &[u8]) -> Result<(), NoMemory>
         ensures ok { OnOk result (PutsSlot
-            (record { name = name.now; file = Some bytes.now;
-            room = max (unwrap_or (room_of self.old.slots name.now) 0) (length bytes.now) })
+            (record {
+              name = name.now;
+              file = Some bytes.now;
+              room = max (unwrap_or (room_of self.old.slots name.now) 0) (length bytes.now);
+            })
             self.old.slots self.new.slots) }
         ensures rest { self.new ≡ record self.old { slots = self.new.slots } }
         ensures err { OnErr result (self.new ≡ self.old) }
@@ -92,8 +101,11 @@ impl MemFolder {
     /// `NoMemory` where that room could not be had. The folder is then as before.
     pub fn room_for(&mut self, name: &str, most: usize) -> Result<(), NoMemory>
         ensures ok { OnOk result (PutsSlot
-            (record { name = name.now; file = file_of self.old.slots name.now;
-            room = max (unwrap_or (room_of self.old.slots name.now) 0) most })
+            (record {
+              name = name.now;
+              file = file_of self.old.slots name.now;
+              room = max (unwrap_or (room_of self.old.slots name.now) 0) most;
+            })
             self.old.slots self.new.slots) }
         ensures rest { self.new ≡ record self.old { slots = self.new.slots } }
         ensures err { OnErr result (self.new ≡ self.old) }
@@ -139,7 +151,11 @@ impl MemFolder {
     fn overwrite(&mut self, name: &str, bytes: &[u8]) -> bool
         ensures fits { result ≡ fits (room_of self.old.slots name.now) (length bytes.now) }
         ensures done { result ≡ true → PutsSlot
-            (record { name = name.now; file = Some bytes.now; room = unwrap_or (room_of self.old.slots name.now) 0 })
+            (record {
+              name = name.now;
+              file = Some bytes.now;
+              room = unwrap_or (room_of self.old.slots name.now) 0;
+            })
             self.old.slots self.new.slots }
         ensures rest { self.new ≡ record self.old { slots = self.new.slots } }
         ensures refused { result ≡ false → self.new ≡ self.old }
@@ -202,8 +218,9 @@ impl Folder for MemFolder {
         ensures fails { next_read_fails self.old name.now ≡ is_failed_read result }
         ensures goes_on { GoesOn self.old.read_faults self.new.read_faults }
         ensures folder { self.new ≡ record self.old {
-            calls = one_more self.old.calls;
-            read_faults = if is_failed_read result then one_more self.old.read_faults else self.old.read_faults
+          calls = one_more self.old.calls;
+          read_faults =
+              if is_failed_read result then one_more self.old.read_faults else self.old.read_faults;
         } }
     {
         into.clear();
@@ -220,14 +237,19 @@ impl Folder for MemFolder {
     fn write_file(&mut self, name: &str, bytes: &[u8]) -> WriteAnswer
         ensures fails { next_write_fails self.old name.now (length bytes.now) ≡ is_failed_write result }
         ensures done { result ≡ WriteAnswer.Done → PutsSlot
-            (record { name = name.now; file = Some bytes.now; room = unwrap_or (room_of self.old.slots name.now) 0 })
+            (record {
+              name = name.now;
+              file = Some bytes.now;
+              room = unwrap_or (room_of self.old.slots name.now) 0;
+            })
             self.old.slots self.new.slots }
         ensures failed { result ≡ WriteAnswer.Failed → self.new.slots ≡ self.old.slots }
         ensures goes_on { GoesOn self.old.write_faults self.new.write_faults }
         ensures folder { self.new ≡ record self.old {
-            slots = self.new.slots;
-            calls = one_more self.old.calls;
-            write_faults = if is_failed_write result then one_more self.old.write_faults else self.old.write_faults
+          slots = self.new.slots;
+          calls = one_more self.old.calls;
+          write_faults =
+              if is_failed_write result then one_more self.old.write_faults else self.old.write_faults;
         } }
     {
         if self.begin_call() || !self.overwrite(name, bytes) {

@@ -1,5 +1,5 @@
 ghost use Rattle.std.specs.Prelude.{◌≡◌, ℕ, ◌-◌, ◌≤◌, ◌++◌, [], Some, length, take, nat_le, IfOk, if◌then◌else◌};
-ghost use Rattle.outside_io.specs.Faults.{one_more};
+ghost use Rattle.outside_io.specs.Faults.{one_more, is_failed_write};
 ghost use Rattle.outside_io.specs.Puts.{CountsFaults};
 
 use crate::answers::WriteAnswer;
@@ -8,8 +8,8 @@ use std::alloc::Global;
 use std::marker::Model;
 use value_text::NoMemory;
 
-/// A sink in memory, with room for a number of bytes that is fixed when it is made. It tells its bytes
-/// and its room.
+/// A sink in memory, with room for a number of bytes that is fixed when it is made. It tells its
+/// bytes and its room.
 #[derive(Drop)]
 pub struct MemSink {
     taken: Vec<u8>,
@@ -23,9 +23,14 @@ impl Model for MemSink {
 
     ghost Value = { SinkInMemory };
 
-    ghost view = { λ sink. record { bytes = sink.taken.items; room = sink.limit - length sink.taken.items; faults = sink.errors } };
+    ghost view = { λ sink. record {
+      bytes = sink.taken.items;
+      room = sink.limit - length sink.taken.items;
+      faults = sink.errors;
+    } };
 
-    ghost invariant = { λ sink. (length sink.taken.items ≤ sink.limit) × (sink.limit ≤ vec_capacity sink.taken) };
+    ghost invariant = { λ sink.
+        (length sink.taken.items ≤ sink.limit) × (sink.limit ≤ vec_capacity sink.taken) };
 }
 
 impl MemSink {
@@ -66,9 +71,11 @@ impl Sink for MemSink {
     fn put(&mut self, bytes: &[u8]) -> WriteAnswer
         ensures bytes { self.new.bytes ≡ self.old.bytes ++ take self.old.room bytes.now }
         ensures room { self.new.room ≡ self.old.room - length bytes.now }
-        ensures answer { result ≡ (if nat_le (length bytes.now) self.old.room then WriteAnswer.Done else WriteAnswer.Failed) }
+        ensures answer { result ≡
+            (if nat_le (length bytes.now) self.old.room then WriteAnswer.Done else WriteAnswer.Failed) }
         ensures counts { CountsFaults result self.old.faults self.new.faults }
-        ensures faults { self.new.faults ≡ (if nat_le (length bytes.now) self.old.room then self.old.faults else one_more self.old.faults) }
+        ensures faults { self.new.faults ≡
+            (if is_failed_write result then one_more self.old.faults else self.old.faults) }
     {
         let room = self.limit - self.taken.len();
         if bytes.len() <= room {

@@ -48,11 +48,11 @@ impl<R: Files + Drop> RealFolder<R> {
         }
     }
 
-    /// Makes a file, and writes it whole; whether neither met a fault.
-    fn write_named(&self, name: &str, bytes: &[u8]) -> bool {
+    /// Makes a file, and writes it whole; `Failed` where the one or the other met a fault.
+    fn write_named(&self, name: &str, bytes: &[u8]) -> WriteAnswer {
         match fs::create(&self.rt, name) {
             Ok(mut file) => write_whole(&mut file, bytes),
-            Err(_) => false,
+            Err(_) => WriteAnswer::Failed,
         }
     }
 }
@@ -73,7 +73,7 @@ impl<R: Files + Drop> Folder for RealFolder<R> {
         ensures within { result ≡ ReadAnswer.Whole → length into.new.items ≤ most }
         ensures empty { result ≢ ReadAnswer.Whole → into.new.items ≡ [] }
         ensures counts { self.new ≡ record self.old {
-            reads = if is_failed_read result then one_more self.old.reads else self.old.reads
+          reads = if is_failed_read result then one_more self.old.reads else self.old.reads;
         } }
         ensures goes_on { GoesOn self.old.reads self.new.reads }
     {
@@ -91,15 +91,16 @@ impl<R: Files + Drop> Folder for RealFolder<R> {
     /// Empties the file, or makes it, and stops at the end of the bytes or at a fault.
     fn write_file(&mut self, name: &str, bytes: &[u8]) -> WriteAnswer
         ensures counts { self.new ≡ record self.old {
-            writes = if is_failed_write result then one_more self.old.writes else self.old.writes
+          writes = if is_failed_write result then one_more self.old.writes else self.old.writes;
         } }
         ensures goes_on { GoesOn self.old.writes self.new.writes }
     {
-        if self.write_named(name, bytes) {
-            WriteAnswer::Done
-        } else {
-            self.write_errors = self.write_errors.saturating_add(1);
-            WriteAnswer::Failed
+        match self.write_named(name, bytes) {
+            WriteAnswer::Done => WriteAnswer::Done,
+            WriteAnswer::Failed => {
+                self.write_errors = self.write_errors.saturating_add(1);
+                WriteAnswer::Failed
+            }
         }
     }
 }

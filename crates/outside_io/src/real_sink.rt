@@ -1,5 +1,6 @@
 ghost use Rattle.std.specs.Prelude.{◌≡◌, None, if◌then◌else◌};
 ghost use Rattle.outside_io.specs.Faults.{GoesOn, one_more, is_failed_write};
+ghost use Rattle.outside_io.specs.Puts.{Puts};
 
 use crate::answers::WriteAnswer;
 use crate::sink::Sink;
@@ -8,7 +9,8 @@ use std::io::Write;
 use std::marker::Model;
 
 /// A sink over a stream of the operating system, as standard output. It tells neither bytes nor room.
-/// Contracts see its count of faults: each error, and each write that took nothing.
+/// Contracts see what the stream says that it holds, and the count of faults: each error, and each
+/// write that took nothing.
 #[derive(Drop)]
 pub struct RealSink<W: Write + Drop> {
     stream: W,
@@ -16,17 +18,17 @@ pub struct RealSink<W: Write + Drop> {
 }
 
 impl<W: Write + Drop> Model for RealSink<W> {
-    ghost use Rattle.std.specs.Prelude.{ℕ};
+    ghost use Rattle.outside_io.specs.Puts.{StreamState};
 
-    ghost Value = { ℕ };
+    ghost Value = { StreamState };
 
-    ghost view = { λ sink. sink.errors };
+    ghost view = { λ sink. record { contents = W.contents sink.stream; faults = sink.errors } };
 }
 
 impl<W: Write + Drop> RealSink<W> {
     /// A sink over a stream, with no fault so far.
     pub fn new(stream: W) -> Self
-        ensures { result ≡ 0 }
+        ensures { result ≡ record { contents = W.contents stream; faults = 0 } }
     {
         RealSink { stream, errors: 0 }
     }
@@ -37,18 +39,21 @@ impl<W: Write + Drop> Sink for RealSink<W> {
 
     ghost room = { λ _. None };
 
-    ghost faults = { λ sink. sink };
+    ghost faults = { λ sink. sink.faults };
 
     /// Ends at the end of the bytes or at the first fault.
     fn put(&mut self, bytes: &[u8]) -> WriteAnswer
-        ensures counts { self.new ≡ (if is_failed_write result then one_more self.old else self.old) }
-        ensures goes_on { GoesOn self.old self.new }
+        ensures stream { Puts result self.old.contents self.new.contents bytes.now }
+        ensures counts { self.new.faults ≡
+            (if is_failed_write result then one_more self.old.faults else self.old.faults) }
+        ensures goes_on { GoesOn self.old.faults self.new.faults }
     {
-        if write_whole(&mut self.stream, bytes) {
-            WriteAnswer::Done
-        } else {
-            self.errors = self.errors.saturating_add(1);
-            WriteAnswer::Failed
+        match write_whole(&mut self.stream, bytes) {
+            WriteAnswer::Done => WriteAnswer::Done,
+            WriteAnswer::Failed => {
+                self.errors = self.errors.saturating_add(1);
+                WriteAnswer::Failed
+            }
         }
     }
 }

@@ -7,8 +7,8 @@ use crate::folder::Folder;
 use crate::transfer::copy_up_to;
 use std::marker::Model;
 
-/// A folder that never fails. It is given its files, and tells each of them until its name is written.
-/// Every other name is untold and reads as no bytes. A write keeps no bytes.
+/// A folder that never fails. It is given its files, and tells each of them until its name is
+/// written. Every other name is untold and reads as no bytes. A write keeps no bytes.
 #[derive(Drop)]
 pub struct SureFolder {
     files: FileList,
@@ -49,10 +49,12 @@ impl Folder for SureFolder {
 
     /// A name that was not given, or that was written, reads as no bytes.
     fn read_file(&mut self, name: &str, into: &mut Vec<u8>, most: usize) -> ReadAnswer
-        ensures whole { result ≡ ReadAnswer.Whole → into.new.items ≡ unwrap_or (bytes_of self.old name.now) [] }
+        ensures whole { result ≡ ReadAnswer.Whole →
+            into.new.items ≡ unwrap_or (bytes_of self.old name.now) [] }
         ensures within { result ≡ ReadAnswer.Whole → length into.new.items ≤ most }
         ensures empty { result ≢ ReadAnswer.Whole → into.new.items ≡ [] }
-        ensures too_long { result ≡ ReadAnswer.TooLong → most < length (unwrap_or (bytes_of self.old name.now) []) }
+        ensures too_long { result ≡ ReadAnswer.TooLong →
+            most < length (unwrap_or (bytes_of self.old name.now) []) }
         ensures never_fails { is_failed_read result ≡ false }
         ensures same { self.new ≡ self.old }
     {
@@ -65,7 +67,8 @@ impl Folder for SureFolder {
     fn write_file(&mut self, name: &str, bytes: &[u8]) -> WriteAnswer
         ensures done { result ≡ WriteAnswer.Done }
         ensures untold { bytes_of self.new name.now ≡ None }
-        ensures others { (other : List ℕ) → other ≢ name.now → bytes_of self.new other ≡ bytes_of self.old other }
+        ensures others { (other : List ℕ) → other ≢ name.now →
+            bytes_of self.new other ≡ bytes_of self.old other }
         ensures taken_out { self.new ≡ without self.old name.now }
     {
         let _ = bytes;

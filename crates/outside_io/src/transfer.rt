@@ -1,9 +1,8 @@
 ghost use Rattle.std.specs.Prelude.{◌≡◌, ◌≢◌, ◌<◌, ◌≤◌, [], IfSome, false, length};
-ghost use Rattle.std.specs.Bool.{OnTrue};
-ghost use Rattle.std.specs.Io.KnownBytes.{Appends};
 ghost use Rattle.outside_io.specs.Faults.{is_failed_read};
+ghost use Rattle.outside_io.specs.Puts.{Puts};
 
-use crate::answers::ReadAnswer;
+use crate::answers::{ReadAnswer, WriteAnswer};
 use std::io::{Read, Write};
 
 /// Appends bytes, where they are at most `most`.
@@ -29,8 +28,10 @@ pub(crate) fn copy_up_to(bytes: &[u8], into: &mut Vec<u8>, most: usize) -> ReadA
 pub(crate) fn read_whole<F: Read>(file: &mut F, into: &mut Vec<u8>, most: usize) -> ReadAnswer
     requires { into.old.items ≡ [] }
     ensures within { result ≡ ReadAnswer.Whole → length into.new.items ≤ most }
-    ensures whole { result ≡ ReadAnswer.Whole → IfSome (F.remaining file.old) (λ left. into.new.items ≡ left) }
-    ensures too_long { result ≡ ReadAnswer.TooLong → IfSome (F.remaining file.old) (λ left. most < length left) }
+    ensures whole { result ≡ ReadAnswer.Whole →
+        IfSome (F.remaining file.old) (λ left. into.new.items ≡ left) }
+    ensures too_long { result ≡ ReadAnswer.TooLong →
+        IfSome (F.remaining file.old) (λ left. most < length left) }
 {
     let mut piece = [0u8; 8192];
     loop {
@@ -49,17 +50,17 @@ pub(crate) fn read_whole<F: Read>(file: &mut F, into: &mut Vec<u8>, most: usize)
     }
 }
 
-/// Writes all bytes, and says whether no fault came: no error, and no write that took nothing. Each
-/// turn writes one byte at least.
-pub(crate) fn write_whole<W: Write>(stream: &mut W, bytes: &[u8]) -> bool
-    ensures { OnTrue result (Appends (W.contents stream.old) (W.contents stream.new) bytes.now) }
+/// Writes all bytes; `Failed` where a fault came: an error, or a write that took nothing. Each turn
+/// writes one byte at least.
+pub(crate) fn write_whole<W: Write>(stream: &mut W, bytes: &[u8]) -> WriteAnswer
+    ensures { Puts result (W.contents stream.old) (W.contents stream.new) bytes.now }
 {
     let mut at = 0;
     while at < bytes.len() {
         match stream.write(&bytes[at..]) {
-            Ok(0) | Err(_) => return false,
+            Ok(0) | Err(_) => return WriteAnswer::Failed,
             Ok(count) => at += count,
         }
     }
-    true
+    WriteAnswer::Done
 }

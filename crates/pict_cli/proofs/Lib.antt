@@ -4,6 +4,7 @@ pub mod Lines
 pub mod Pairs
 pub mod Pieces
 pub mod PutPieces
+pub mod Runs
 pub mod Soundness
 pub mod Spaces
 pub mod TwoLines

@@ -1,15 +1,14 @@
 -- The names in a line, of which the reader takes at most 17.
-use Rattle.std.proofs.Common.{◌≡◌, ℕ, ◌+◌, ◌-◌, ◌<◌, ◌≤◌, Bool, true, false, not, ◌&&◌, ◌==◌, cond, if◌then◌else◌, eqb, ltb, leb, List, [], ◌∷◌, length, map, take, drop, get_or, Option, Some, None, refl, sym, ◌∙◌, ap, Bor, arith}
-use Rattle.std.specs.List.{list_all, list_any, slice_split, after_first, count_by}
+use Rattle.std.proofs.Common.{◌≡◌, ℕ, ◌+◌, ◌-◌, ◌<◌, ◌≤◌, Bool, true, false, not, ◌&&◌, ◌==◌, if◌then◌else◌, ltb, leb, List, length, map, take, drop, get_or, Some, None, refl, sym, ◌∙◌, ap, Bor, arith}
+use Rattle.std.specs.List.{list_all, list_any, count_by}
 use Rattle.std.proofs.lemmas.Bool.{and_parts, and_left, and_right, and_from, leb-true, le-leb, lt-ltb, cond-true}
-use Rattle.std.proofs.lemmas.List.{take_all, length-take, length-map, drop_more}
+use Rattle.std.proofs.lemmas.List.{take_all, length-take, length-map, drop_more, take_rest}
 use Rattle.std.proofs.lemmas.List.Folds.{list_all-map}
 use Rattle.value_text.specs.Numbers.{is_number}
 use Rattle.value_text.specs.Texts.{is_same_text}
 use Rattle.cov_model.specs.declared.parameter.Param.{Param}
 use Rattle.cov_model.specs.declared.parameter.Value.{Value}
 use Rattle.cov_model.specs.Sound.{is_numeric, first_name}
-use Rattle.definitions.specs.RowFile.{without_spaces}
 use Rattle.pict_cli.proofs.Pieces.{list_any-map}
 use Rattle.pict_cli.specs.FirstForm.{is_colon, line_name, line_values, are_distinct, is_param_line, plain_value, param_of}
 
@@ -33,7 +32,7 @@ too_many values names e h = decide (leb (length values) 16) refl
     decide true t = ap are_value_names (sym (e ∙ take_all 17 values (omega (arith, leb-true (length values) 16 t)))) ∙ h
     decide false t = and_left _ _ (and_left _ _ t)
 
-pub few_enough : (values names : List (List ℕ)) → names ≡ take 17 values → are_value_names names ≡ true → names ≡ values
+few_enough : (values names : List (List ℕ)) → names ≡ take 17 values → are_value_names names ≡ true → names ≡ values
 few_enough values names e h =
     let few = leb-true (length names) 16 (and_parts _ (list_all (λ name. ltb 0 (length name)) names) (and_parts _ (are_distinct names) h).0).0 in
     let all : length values ≤ 17 = omega (arith, few, length-take 17 values, ap length e) in
@@ -46,13 +45,17 @@ pub taken_names : (line : List ℕ) (names : List (List ℕ)) → (count_by is_c
 taken_names line names one some e h =
     param_line_parts line ∙ and_from _ _ (and_from _ _ one (lt-ltb 0 (length (line_name line)) some)) (ap are_value_names (sym (few_enough (line_values line) names e h)) ∙ h)
 
--- one more name of which no later one is the same
-pub distinct_more : (names : List (Bor (List ℕ))) (at : ℕ) (name : Bor (List ℕ)) → at < length names → name ≡ get_or names at name
-    → are_distinct (map (λ name. name.now) (drop at names)) ≡ (not (list_any (λ other. is_same_text true name.now other.now) (drop (at + 1) names)) && are_distinct (map (λ name. name.now) (drop (at + 1) names)))
-distinct_more names at name within read =
+-- one more name, with whether a later one is the same
+pub distinct_more : (names : List (Bor (List ℕ))) (at : ℕ) (d : Bor (List ℕ)) (repeated : Bool) → at < length names
+    → repeated ≡ list_any (λ other. is_same_text true (get_or names at d).now other.now) (take (length names - (at + 1)) (drop (at + 1) names))
+    → are_distinct (map (λ name. name.now) (drop at names)) ≡ (not repeated && are_distinct (map (λ name. name.now) (drop (at + 1) names)))
+distinct_more names at d repeated within e =
     let texts = λ (parts : List (Bor (List ℕ))). map (λ (part : Bor (List ℕ)). part.now) parts in
-    ap (λ parts. are_distinct (texts parts)) (drop_more names at name within ∙ ap (λ n. n ∷ drop (at + 1) names) (sym read))
-    ∙ ap (λ b. not b && are_distinct (texts (drop (at + 1) names))) (list_any-map (is_same_text true name.now) (λ other. other.now) (drop (at + 1) names))
+    let rest = drop (at + 1) names in
+    let text = (get_or names at d).now in
+    let same : list_any (is_same_text true text) (texts rest) ≡ repeated =
+    list_any-map (is_same_text true text) (λ other. other.now) rest ∙ ap (list_any (λ other. is_same_text true text other.now)) (sym (take_rest names (at + 1))) ∙ sym e in
+    ap (λ parts. are_distinct (texts parts)) (drop_more names at d within) ∙ ap (λ b. not b && are_distinct (texts rest)) same
 
 -- the test in the reader's order
 pub few_value_names : (names : List (Bor (List ℕ))) (nonempty : Bool) → length names ≤ 16 → nonempty ≡ list_all (λ name. ltb 0 (length name.now)) names
@@ -74,6 +77,6 @@ pub made_param : (number : ℕ) (line name : List ℕ) (values : List (List ℕ)
 made_param number line name values param test e f made =
     let numbers : list_all is_number values ≡ is_numeric (map plain_value values) = sym (list_all-map (λ value. is_number (first_name value)) plain_value values) in
     let same : param ≡ param_of number line = made ∙ ap (λ numeric. record { name = name; line = number; numeric = numeric; values = map plain_value values }) numbers
-        ∙ ap (λ n. record { name = n; line = number; numeric = is_numeric (map plain_value values); values = map plain_value values }) e
-        ∙ ap (λ vs. record { name = line_name line; line = number; numeric = is_numeric (map plain_value vs); values = map plain_value vs }) f in
+    ∙ ap (λ n. record { name = n; line = number; numeric = is_numeric (map plain_value values); values = map plain_value values }) e
+    ∙ ap (λ vs. record { name = line_name line; line = number; numeric = is_numeric (map plain_value vs); values = map plain_value vs }) f in
     ap Some same ∙ sym (cond-true (is_param_line line) (Some (param_of number line)) None test)

@@ -1,8 +1,8 @@
 -- Every model of the first form is sound, and of the first shape.
-use Rattle.std.proofs.Common.{◌≡◌, ◌≢◌, ℕ, ◌+◌, ◌-◌, ◌<◌, ◌≤◌, Bool, true, false, not, ◌&&◌, ◌||◌, ◌==◌, cond, eqb, ltb, leb, List, [], ◌∷◌, ◌++◌, length, take, drop, map, get_or, Option, Some, None, refl, sym, ◌∙◌, ap, subst, if◌then◌else◌, lit<, lit≤, arith}
+use Rattle.std.proofs.Common.{◌≡◌, ◌≢◌, ℕ, ◌+◌, ◌-◌, ◌<◌, ◌≤◌, Bool, true, false, not, ◌&&◌, ◌||◌, ◌==◌, cond, ltb, leb, List, [], ◌∷◌, length, map, get_or, Some, None, refl, sym, ◌∙◌, ap, subst, if◌then◌else◌, lit<, lit≤, arith}
 use Rattle.std.specs.List.{All, AllPairs, list_all, list_any, flat_map, slice_split, before_first, after_first, count_by, position_or_len}
-use Rattle.std.specs.Str.{IsAscii, chars}
-use Rattle.std.proofs.lemmas.Bool.{and_parts, and_from, or_from, or_parts, not-true, not_from_false, ltb-true, lt-ltb, leb-true, eqb-true, eqb-false, ne_eqb, eq-eqb, false_from_ne_true, both_ways, le-leb, cond-true}
+use Rattle.std.specs.Str.{chars}
+use Rattle.std.proofs.lemmas.Bool.{and_parts, and_from, or_from, or_parts, not-true, not_from_false, ltb-true, lt-ltb, leb-true, ne_eqb, false_from_ne_true, both_ways, le-leb, cond-true}
 use Rattle.std.proofs.lemmas.Bool.Decides.{nat_tests}
 use Rattle.std.proofs.lemmas.List.{length-map, length-take, get_or-take}
 use Rattle.std.proofs.lemmas.List.Elements.{All-nil, All-cons, All-map, All-take, All-drop, All-weaker}
@@ -15,13 +15,12 @@ use Rattle.std.proofs.lemmas.Str.Ascii.{IsAscii-from_all}
 use Rattle.value_text.specs.Texts.{is_same_text}
 use Rattle.cov_model.specs.declared.parameter.Param.{Param}
 use Rattle.cov_model.specs.declared.parameter.Value.{Value}
-use Rattle.cov_model.specs.declared.constraint.Rule.{Rule}
 use Rattle.cov_model.specs.Names.{is_name, is_trimmed, is_blank, is_plain}
-use Rattle.cov_model.specs.Sound.{ModelView, IsSound, IsSoundDemand, IsSoundParam, IsSoundValue}
-use Rattle.definitions.specs.RowFile.{without_spaces}
+use Rattle.cov_model.specs.Sound.{ModelView, IsSound, IsSoundParam, IsSoundValue}
+use Rattle.definitions.specs.RowFile.{without_spaces, without_first_spaces}
 use Rattle.pict_cli.specs.FirstForm.{is_allowed, is_colon, line_name, line_values, are_distinct, is_param_line, plain_value, param_of, model_of_two, model_of_lines, first_form, HasFirstShape}
 use Rattle.pict_cli.proofs.Pieces.{list_all-weaker, list_all-take, list_all-drop, split_passes}
-use Rattle.pict_cli.proofs.Spaces.{is_space, after_spaces, first_is_no_space, last_is_no_space}
+use Rattle.pict_cli.proofs.Spaces.{is_space, first_is_no_space, last_is_no_space}
 
 -- the bytes of a line
 abbrev pub is_line_byte : ℕ → Bool
@@ -46,7 +45,7 @@ line_bytes text h = All-weaker (λ b. is_line_byte b ≡ true) IsLineByte line_b
 
 -- a text of a line without spaces at its ends is made of its bytes
 name_bytes : (text : List ℕ) → list_all is_line_byte text ≡ true → All IsLineByte (without_spaces text)
-name_bytes text h = line_bytes (without_spaces text) (list_all-take is_line_byte _ (after_spaces text) (list_all-drop is_line_byte _ text h))
+name_bytes text h = line_bytes (without_spaces text) (list_all-take is_line_byte _ (without_first_spaces text) (list_all-drop is_line_byte _ text h))
 
 -- so it is a name, where it has a byte
 name_sound : (text : List ℕ) → list_all is_line_byte text ≡ true → 0 < length (without_spaces text) → is_name (without_spaces text) ≡ true
@@ -54,13 +53,13 @@ name_sound text h some =
     let name = without_spaces text in
     let bytes = name_bytes text h in
     let no_blank = λ (i : ℕ) (l : i < length name) (e : is_space (get_or name i 0) ≡ false).
-        not_from_false (is_blank (get_or name i 0)) (or_from _ _ e (ne_eqb (get_or name i 0) 9 (bytes i 0 l).no_tab)) in
+    not_from_false (is_blank (get_or name i 0)) (or_from _ _ e (ne_eqb (get_or name i 0) 9 (bytes i 0 l).no_tab)) in
     let trimmed : is_trimmed name ≡ true =
-        and_from _ _ (and_from _ _ (lt-ltb 0 (length name) some) (no_blank 0 some (first_is_no_space text some))) (no_blank (length name - 1) (omega arith) (last_is_no_space text some)) in
+    and_from _ _ (and_from _ _ (lt-ltb 0 (length name) some) (no_blank 0 some (first_is_no_space text some))) (no_blank (length name - 1) (omega arith) (last_is_no_space text some)) in
     let plain : list_all is_plain name ≡ true = list_all-from_AllPass is_plain name (λ i d l. (bytes i d l).plain) in
     let ascii : chars name ≡ name = chars-IsAscii name (IsAscii-from_all name (λ i d l. (bytes i d l).small)) in
     let no_mark : list_any (λ c. c == 0xfeff) name ≡ false =
-        list_any_none (λ c. c == 0xfeff) name (λ i d l. let small = (bytes i d l).small in ne_eqb (get_or name i d) 0xfeff (λ e. absurd (omega arith))) in
+    list_any_none (λ c. c == 0xfeff) name (λ i d l. let small = (bytes i d l).small in ne_eqb (get_or name i d) 0xfeff (λ e. absurd (omega arith))) in
     and_from _ _ (and_from _ _ trimmed plain) (not_from_false _ (ap (list_any (λ c. c == 0xfeff)) ascii ∙ no_mark))
 
 value_sound : (text : List ℕ) → list_all is_line_byte text ≡ true → 0 < length (without_spaces text) → IsSoundValue 126 (plain_value (without_spaces text))
@@ -94,7 +93,7 @@ pairs_distinct [] h = λ i j d before within. absurd (omega arith)
 pairs_distinct (name ∷ names) h =
     let parts = and_parts (not (list_any (is_same_text true name) names)) (are_distinct names) h in
     let others = λ (k : ℕ) (d : List ℕ) (within : k < length names).
-        false_from_ne_true (is_same_text true name (get_or names k d)) (λ e. both_ways _ (not-true _ parts.0) (list_any_at (is_same_text true name) names k d within e)) in
+    false_from_ne_true (is_same_text true name (get_or names k d)) (λ e. both_ways _ (not-true _ parts.0) (list_any_at (is_same_text true name) names k d within e)) in
     AllPairs-cons (λ a b. is_same_text true a b ≡ false) name names others (pairs_distinct names parts.1)
 
 one_name : (names : List (List ℕ)) → flat_map (λ value. value.names) (map plain_value names) ≡ names
@@ -109,15 +108,15 @@ param_sound number line h test =
     let pieces = slice_split (λ byte. byte == 44) list in
     let front_bytes : list_all is_line_byte front ≡ true = list_all-take is_line_byte _ line h in
     let front_free : All (λ b. is_colon b ≡ false) front =
-        (λ k d within. let early : k < position_or_len is_colon line = omega (arith, length-take (position_or_len is_colon line) line) in
-            ap is_colon (get_or-take (position_or_len is_colon line) line k d early) ∙ fails_before_first is_colon line k d early) in
+    (λ k d within. let early : k < position_or_len is_colon line = omega (arith, length-take (position_or_len is_colon line) line) in
+    ap is_colon (get_or-take (position_or_len is_colon line) line k d early) ∙ fails_before_first is_colon line k d early) in
     let list_bytes : list_all is_line_byte list ≡ true = list_all-drop is_line_byte _ line h in
     let piece_bytes = AllPass-from_list_all (list_all (λ b. is_line_byte b && not (b == 44))) pieces (split_passes is_line_byte (λ b. b == 44) list list_bytes) in
     let piece_named = AllPass-from_list_all (λ piece. ltb 0 (length (without_spaces piece))) pieces (sym (list_all-map (λ name. ltb 0 (length name)) without_spaces pieces) ∙ facts.values) in
     let count : length (line_values line) ≡ count_by (λ byte. byte == 44) list + 1 = length-map pieces without_spaces ∙ length-slice_split (λ byte. byte == 44) list in
     record {
       named = name_sound front front_bytes facts.named;
-      no_colon = list_any_none is_colon (without_spaces front) (All-take (λ b. is_colon b ≡ false) _ (after_spaces front) (All-drop (λ b. is_colon b ≡ false) _ front front_free));
+      no_colon = list_any_none is_colon (without_spaces front) (All-take (λ b. is_colon b ≡ false) _ (without_first_spaces front) (All-drop (λ b. is_colon b ≡ false) _ front front_free));
       some = omega (arith, length-map (line_values line) plain_value);
       few = omega (arith, length-map (line_values line) plain_value, facts.few);
       values = All-map (IsSoundValue 126) plain_value (line_values line) (All-map (λ name. IsSoundValue 126 (plain_value name)) without_spaces pieces
@@ -144,7 +143,7 @@ reads_lines (first ∷ second ∷ []) m h e = cc
 reads_lines (first ∷ second ∷ rest ∷ []) m h e = decide (is_param_line first && is_param_line second && (length rest == 0) && are_distinct (line_name first ∷ line_name second ∷ [])) refl e
   where
     decide : (b : Bool) → (is_param_line first && is_param_line second && (length rest == 0) && are_distinct (line_name first ∷ line_name second ∷ [])) ≡ b → cond b (Some (model_of_two (param_of 1 first) (param_of 2 second))) None ≡ Some m → ReadsAs m
-    decide true t e = 
+    decide true t e =
         let outer = and_parts _ (are_distinct (line_name first ∷ line_name second ∷ [])) t in
         let ended = and_parts _ (length rest == 0) outer.0 in
         let lines = and_parts (is_param_line first) (is_param_line second) ended.0 in
@@ -191,7 +190,7 @@ first_form_sound bytes m e =
     })
   where
     pairs_of_params : (a b : Param) → is_same_text true a.name b.name ≡ false → AllPairs (λ p q. is_same_text true p.name q.name ≡ false) (a ∷ b ∷ [])
-    pairs_of_params a b h = 
+    pairs_of_params a b h =
         AllPairs-cons (λ p q. is_same_text true p.name q.name ≡ false) a (b ∷ []) (All-cons (λ q. is_same_text true a.name q.name ≡ false) b [] h (All-nil (λ q. is_same_text true a.name q.name ≡ false)))
         (λ i j d before within. absurd (omega arith))
 
@@ -202,8 +201,8 @@ first_form_shape bytes m e =
     let a = param_of 1 read.first in
     let b = param_of 2 read.second in
     let each = λ (P : Value → Type 0) (known : (name : List ℕ) → P (plain_value name)).
-        All-cons (λ param. All P param.values) a (b ∷ []) (All-map P plain_value (line_values read.first) (λ k d within. known (get_or (line_values read.first) k d)))
-        (All-cons (λ param. All P param.values) b [] (All-map P plain_value (line_values read.second) (λ k d within. known (get_or (line_values read.second) k d))) (All-nil (λ param. All P param.values))) in
+    All-cons (λ param. All P param.values) a (b ∷ []) (All-map P plain_value (line_values read.first) (λ k d within. known (get_or (line_values read.first) k d)))
+    (All-cons (λ param. All P param.values) b [] (All-map P plain_value (line_values read.second) (λ k d within. known (get_or (line_values read.second) k d))) (All-nil (λ param. All P param.values))) in
     subst HasFirstShape (sym read.model) (record { two = refl; no_rules = refl; demand = refl; positive = each (λ value. value.negative ≡ false) (λ name. refl); one_name = each (λ value. length value.names ≡ 1) (λ name. refl) })
 
 -- a parameter that was read is the one that the line declares
@@ -223,6 +222,6 @@ model_read bytes text first second a b short allowed lines one two apart =
     let two' = declared 2 second b two in
     let names : is_same_text true (line_name first) (line_name second) ≡ false = ap (λ p. is_same_text true p.name (line_name second)) (sym one'.1) ∙ ap (λ p. is_same_text true a.name p.name) (sym two'.1) ∙ apart in
     let test : (is_param_line first && is_param_line second && true && are_distinct (line_name first ∷ line_name second ∷ [])) ≡ true =
-        and_from _ _ (and_from _ _ (and_from _ _ one'.0 two'.0) refl) (and_from _ _ (not_from_false _ (or_from _ false names refl)) refl) in
+    and_from _ _ (and_from _ _ (and_from _ _ one'.0 two'.0) refl) (and_from _ _ (not_from_false _ (or_from _ false names refl)) refl) in
     cond-true _ _ _ (and_from _ _ (le-leb (length bytes) 4194304 short) allowed.1) ∙ ap model_of_lines (ap (slice_split (λ byte. byte == 10)) (sym allowed.0) ∙ lines) ∙ cond-true _ _ _ test
     ∙ ap (λ p. Some (model_of_two p (param_of 2 second))) (sym one'.1) ∙ ap (λ p. Some (model_of_two a p)) (sym two'.1)

@@ -1,5 +1,5 @@
 -- The lines of a text that is cut at its first two line feeds.
-use Rattle.std.proofs.Common.{◌≡◌, ◌≢◌, ℕ, ◌<◌, Bool, true, false, ◌&&◌, cond, eqb, List, [], ◌∷◌, length, Some, None, Result, Ok, Err, refl, sym, ◌∙◌, ap, MatchOption, MatchResult, arith}
+use Rattle.std.proofs.Common.{◌≡◌, ◌≢◌, ℕ, ◌<◌, Bool, true, false, eqb, List, [], ◌∷◌, length, None, Result, Ok, Err, refl, sym, ◌∙◌, ap, MatchOption, MatchResult, arith}
 use Rattle.std.specs.List.{list_all, slice_split, before_first, after_first, position_or_len, join_with_byte}
 use Rattle.std.specs.Result.{result_ok}
 use Rattle.std.specs.Str.{IsUtf8, IsAscii}
@@ -11,13 +11,13 @@ use Rattle.std.proofs.lemmas.Bool.{ne_eqb, and_left, and_right, cond-false}
 use Rattle.std.proofs.lemmas.List.Splits.{slice_split_none, slice_split_first}
 use Rattle.std.proofs.lemmas.List.Sums.{fails_before_first, AllPass-from_list_all}
 use denote.Ref.{Bor}
-use Rattle.pict_cli.specs.FirstForm.{is_allowed, model_of_lines, is_param_line, line_name, are_distinct, model_of_two, param_of}
+use Rattle.pict_cli.specs.FirstForm.{is_allowed, model_of_lines}
 
 abbrev pub is_feed : ℕ → Bool
 is_feed byte = eqb byte 10
 
 -- a text without a line feed is one part
-pub split_whole : {X : Type 0} (p : X → Bool) (xs : List X) → position_or_len p xs ≡ length xs → slice_split p xs ≡ xs ∷ []
+split_whole : {X : Type 0} (p : X → Bool) (xs : List X) → position_or_len p xs ≡ length xs → slice_split p xs ≡ xs ∷ []
 split_whole p xs h = slice_split_none p xs (λ k d l. fails_before_first p xs k d (omega arith))
 
 -- what stands behind the second line feed has to be empty
@@ -28,7 +28,7 @@ has_more first second rest (x ∷ []) e h =
 has_more first second rest (x ∷ y ∷ lines) e h = refl
 
 -- the text of bytes that all are allowed
-pub all_ascii : (bytes : List ℕ) → list_all is_allowed bytes ≡ true → IsAscii bytes
+all_ascii : (bytes : List ℕ) → list_all is_allowed bytes ≡ true → IsAscii bytes
 all_ascii bytes h = IsAscii-from_all bytes (All-weaker (λ b. is_allowed b ≡ true) (λ b. b < 128) allowed_small bytes (AllPass-from_list_all is_allowed bytes h))
   where
     allowed_small : (b : ℕ) → is_allowed b ≡ true → b < 128

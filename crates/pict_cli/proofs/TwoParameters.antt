@@ -1,22 +1,20 @@
 -- Models of two parameters without negative values: their demanded tuples are all pairs of values, and
 -- each pair is a valid row that serves itself.
-use Rattle.std.proofs.Common.{◌≡◌, ℕ, zero, suc, ◌+◌, ◌<◌, Bool, true, false, ltb, eqb, not, List, [], ◌∷◌, ◌++◌, map, length, get_or, Some, Option, sym, refl, ap, subst, ◌∙◌, arith, ⊎_elim}
+use Rattle.std.proofs.Common.{◌≡◌, ℕ, ◌<◌, Bool, true, false, not, List, [], ◌∷◌, ◌++◌, map, length, get_or, Some, Option, sym, refl, ap, subst, ◌∙◌, arith, ⊎_elim}
 use Rattle.std.proofs.lemmas.List.{get_or_past, append-nil}
-use Rattle.std.proofs.lemmas.List.Elements.{All-nil, All-cons, All-append}
 use Rattle.std.proofs.lemmas.Bool.{cases_lt, lt-ltb, eq-eqb}
 use Rattle.std.specs.List.{All, Any, flat_map, filter, range_with_len}
 use Rattle.cov_model.specs.declared.parameter.Param.{Param}
 use Rattle.cov_model.specs.declared.parameter.Value.{Value}
-use Rattle.cov_model.specs.declared.demand.Demand.{Demand}
-use Rattle.cov_model.specs.declared.slice.Slice.TheVariants.{Positive, Negative}
+use Rattle.cov_model.specs.declared.slice.Slice.TheVariants.{Positive}
 use Rattle.cov_model.specs.Sound.{ModelView}
 use Rattle.cov_model.specs.Meaning.{value_at}
 use Rattle.cov_model.specs.Valid.{is_row, is_valid, serves}
-use Rattle.cov_model.specs.Slices.{slices, positive_values, negative_values}
-use Rattle.definitions.specs.Demand.{demanded_sets, demanded_tuples, value_choices, tuples_in}
+use Rattle.cov_model.specs.Slices.{slices, positive_values}
+use Rattle.definitions.specs.Demand.{demanded_tuples, tuples_in}
 use Rattle.definitions.specs.Covering.{IsCovering}
 use Rattle.pict_cli.specs.FirstForm.{HasFirstShape}
-use Rattle.pict_cli.specs.Pairs.{rows_from, pair_rows}
+use Rattle.pict_cli.specs.Pairs.{pair_rows}
 use Rattle.pict_cli.proofs.Pairs.{All-pair_rows, Any-itself}
 
 -- the model of two parameters at order 2, without constraints

@@ -3,3 +3,4 @@ pub mod Pairs
 pub mod Lines
 pub mod Words
 pub mod Stops
+pub mod Runs

@@ -16,10 +16,7 @@ use value_text::{NoMemory, OwnedList, same_text};
 /// # Errors
 ///
 /// `NoMemory` where there is no room for the model.
-pub(crate) fn read_first_form(
-    alloc: Global,
-    bytes: &[u8],
-) -> Result<Option<TestModel>, NoMemory>
+pub(crate) fn read_first_form(alloc: Global, bytes: &[u8]) -> Result<Option<TestModel>, NoMemory>
     requires { length bytes.now ≤ most_model_bytes }
     ensures { IfOk result (λ found. found ≡ first_form bytes.now) }
 {
@@ -92,11 +89,5 @@ fn model_of_two(alloc: Global, first: Param, second: Param) -> Result<TestModel,
         subs: OwnedList::new(alloc),
         relations: OwnedList::new(alloc),
     };
-    Ok(TestModel::new(
-        params,
-        OwnedList::new(alloc),
-        demand,
-        b'~',
-        true,
-    ))
+    Ok(TestModel::new(params, OwnedList::new(alloc), demand, b'~', true))
 }

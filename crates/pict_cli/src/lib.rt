@@ -5,4 +5,8 @@ mod first_form;
 mod growth;
 mod param_line;
 mod report;
+mod run;
 mod stop;
+mod words;
+
+pub use run::run_pict;

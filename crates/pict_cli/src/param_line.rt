@@ -19,11 +19,7 @@ const MOST_VALUES: usize = 16;
 /// # Errors
 ///
 /// `NoMemory` where there is no room for the parameter.
-pub(crate) fn read_param(
-    alloc: Global,
-    number: u32,
-    line: &str,
-) -> Result<Option<Param>, NoMemory>
+pub(crate) fn read_param(alloc: Global, number: u32, line: &str) -> Result<Option<Param>, NoMemory>
     ensures { IfOk result (λ found. found ≡ (if is_param_line line.now then Some (param_of number line.now) else None)) }
 {
     match cut_line(alloc, line)? {
@@ -85,7 +81,7 @@ fn without_spaces(text: &str) -> &str
 
 // Whether these may be the names of a parameter's values: at most 16, none empty, and no two the same.
 fn are_value_names(names: &[&str]) -> bool
-    ensures { let texts = map (λ name. name.now) names.now in result ≡ (nat_le (length texts) 16 && list_all (λ name. nat_lt 0 (length name)) texts && are_distinct texts) }
+    ensures { let texts = map (λ name. name.now) names.now in result ≡ (nat_le (length texts) MOST_VALUES && list_all (λ name. nat_lt 0 (length name)) texts && are_distinct texts) }
 {
     if names.len() > MOST_VALUES {
         return false;
@@ -129,12 +125,7 @@ fn are_numbers(texts: &[&str]) -> bool
 }
 
 // The parameter of a line, with this name and these names of values.
-fn param_of(
-    alloc: Global,
-    line: u32,
-    name: &str,
-    values: &[&str],
-) -> Result<Param, NoMemory>
+fn param_of(alloc: Global, line: u32, name: &str, values: &[&str]) -> Result<Param, NoMemory>
     ensures { let texts = map (λ value. value.now) values.now in IfOk result (λ param. param ≡ record { name = name.now; line = line; numeric = list_all is_number texts; values = map plain_value texts }) }
 {
     Ok(Param {

@@ -23,6 +23,15 @@ impl Model for Fixed {
     ghost inverse = { λ scaled. record { scaled = scaled } };
 }
 
+impl Fixed {
+    /// The number times 10^9. Takes no memory.
+    pub fn scaled(self) -> i128
+        ensures { result ≡ self }
+    {
+        self.scaled
+    }
+}
+
 /// What a text is as a number.
 #[derive(Debug, Drop, Clone, Copy, PartialEq, Eq)]
 pub enum FixedAnswer {

@@ -5,7 +5,8 @@ use Rattle.outside_io.proofs.transfer.write_whole.Given as goal
 -- the bytes before the place were written
 abbrev pub invariant-loop-at : goal.invariant-loop-at
 invariant-loop-at g l =
-    (l.at ≤ length l.bytes) × Appends (g.W.Write.contents l.initial.stream) (g.W.Write.contents l.stream) (take l.at l.bytes)
+    (l.at ≤ length l.bytes)
+    × Appends (g.W.Write.contents l.initial.stream) (g.W.Write.contents l.stream) (take l.at l.bytes)
 
 abbrev pub decreases-loop-at : goal.decreases-loop-at
 decreases-loop-at g l = length l.bytes - l.at

@@ -1,4 +1,4 @@
-use Rattle.std.proofs.Common.{◌≡◌, ◌++◌, ◌∷◌, [], ap, ◌∙◌}
+use Rattle.std.proofs.Common.{◌++◌, ◌∷◌, [], ap, ◌∙◌}
 use Rattle.pict_cli.proofs.Pairs.{rows_from-more}
 use Rattle.pict_cli.proofs.growth.push_rows_from.Goals as goal
 

@@ -10,7 +10,7 @@ use Rattle.pict_cli.proofs.param_line.value_names.Goals as goal
 pub returns-in-Ok : goal.returns-in-Ok
 returns-in-Ok c =
     let names =
-        map_from_collect c.collect-names.result c.collect-names.ensures.ran (YieldsList-from_map_by _ (λ (r : Bor (List ℕ)). r.now) without_spaces (YieldsList-at c.map.ensures.source
-            (YieldsList-from_take 17 (YieldsList-at c.take.ensures.source (YieldsList-from_str_split 44 c.args.list.now (lit< tt) c.split.ensures.text c.split.ensures.has_more c.split.ensures.pattern)) c.take.ensures.count))
-            c.map.ensures.closure (λ x r q k. search (rules, tests))) in
+    map_from_collect c.collect-names.result c.collect-names.ensures.ran (YieldsList-from_map_by _ (λ (r : Bor (List ℕ)). r.now) without_spaces (YieldsList-at c.map.ensures.source
+    (YieldsList-from_take 17 (YieldsList-at c.take.ensures.source (YieldsList-from_str_split 44 c.args.list.now (lit< tt) c.split.ensures.text c.split.ensures.has_more c.split.ensures.pattern)) c.take.ensures.count))
+    c.map.ensures.closure (λ x r q k. search (rules, tests))) in
     rw (take-map without_spaces 17 (slice_split (λ byte. eqb byte 44) c.args.list.now)) (rw c.in-Ok.is at names)

@@ -1,4 +1,4 @@
-use Rattle.std.proofs.Common.{◌≡◌, ◌++◌, ◌∷◌, [], take, length, get_or, ◌∙◌, ap, arith, append_assoc}
+use Rattle.std.proofs.Common.{◌++◌, ◌∷◌, [], take, length, get_or, ◌∙◌, ap, arith, append_assoc}
 use Rattle.pict_cli.proofs.Lines.{report_text-more}
 use Rattle.pict_cli.proofs.report.render_report.Goals as goal
 

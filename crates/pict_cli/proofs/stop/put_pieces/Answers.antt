@@ -1,5 +1,4 @@
 use Rattle.std.proofs.Common.{[]}
-use Rattle.outside_io.specs.Puts.{Puts}
 use Rattle.pict_cli.proofs.PutPieces.{Puts-failed_at}
 use Rattle.pict_cli.proofs.stop.put_pieces.Goals as goal
 

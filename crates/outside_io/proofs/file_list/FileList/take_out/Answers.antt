@@ -1,4 +1,4 @@
-use Rattle.std.proofs.Common.{◌≡◌, rules, ap, ◌∙◌}
+use Rattle.std.proofs.Common.{rules, ap, ◌∙◌}
 use Rattle.std.proofs.lemmas.Fn.{filter_same}
 use Rattle.outside_io.specs.FileLists.{bytes_of, without}
 use Rattle.outside_io.proofs.FileListLemmas.{bytes_of-without, bytes_of-others}
@@ -11,8 +11,10 @@ returns-clause-taken_out c =
 
 pub returns-clause-gone : goal.returns-clause-gone
 returns-clause-gone c =
-    ap (λ files. bytes_of files c.args.name.now) (returns-clause-taken_out c) ∙ bytes_of-without c.args.self.now c.args.name.now
+    ap (λ files. bytes_of files c.args.name.now) (returns-clause-taken_out c)
+    ∙ bytes_of-without c.args.self.now c.args.name.now
 
 pub returns-clause-others : goal.returns-clause-others
 returns-clause-others c other apart =
-    ap (λ files. bytes_of files other) (returns-clause-taken_out c) ∙ bytes_of-others c.args.self.now c.args.name.now other apart
+    ap (λ files. bytes_of files other) (returns-clause-taken_out c)
+    ∙ bytes_of-others c.args.self.now c.args.name.now other apart

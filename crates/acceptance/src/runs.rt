@@ -1,0 +1,84 @@
+//! One run of a program over a folder and sinks in memory.
+
+use outside_io::{Calls, MemFolder, MemSink};
+use pict_cli::run_pict;
+use std::alloc::{AllocError, Global};
+use std::process::Abort;
+use std::test::Fail;
+use std::thread::Threads;
+use value_text::NoMemory;
+
+/// What a run is given.
+#[derive(Clone, Copy)]
+pub struct Given<'a> {
+    /// The words behind the program's name.
+    pub words: &'a [&'a str],
+    /// The files, by name.
+    pub files: &'a [(&'a str, &'a str)],
+    /// The numbers of the calls of the folder that fail, from 1.
+    pub fail: &'a [u64],
+    /// How many bytes fit into standard output, and into standard error.
+    pub room: (usize, usize),
+}
+
+/// A run of `m` over this model file, with room enough.
+pub fn on_model<'a>(files: &'a [(&'a str, &'a str)]) -> Given<'a> {
+    Given {
+        words: &["m"],
+        files,
+        fail: &[],
+        room: (1 << 16, 1 << 10),
+    }
+}
+
+fn listed(alloc: Global, numbers: &[u64]) -> Result<Calls, NoMemory> {
+    let mut calls = Calls::new(alloc);
+    for number in numbers {
+        calls.push(*number)?;
+    }
+    Ok(calls)
+}
+
+fn owned(alloc: Global, words: &[&str]) -> Result<Vec<String>, AllocError> {
+    let mut all = Vec::new(alloc);
+    for word in words {
+        all.push(String::from_str(alloc, word)?)?;
+    }
+    Ok(all)
+}
+
+fn folder(alloc: Global, given: &Given) -> Result<MemFolder, NoMemory> {
+    let mut folder = MemFolder::new(alloc, listed(alloc, given.fail)?);
+    for (name, text) in given.files {
+        folder.add(name, text.as_bytes())?;
+    }
+    Ok(folder)
+}
+
+/// Runs `pict`, and asserts the status and what the two streams got.
+pub fn expect<R: AllocGlobal + Abort + Threads + Sync>(
+    rt: &R,
+    given: &Given,
+    status: u8,
+    out: &str,
+    diag: &str,
+) -> Result<(), Fail> {
+    let alloc = rt.alloc();
+    let words = owned(alloc, given.words)?;
+    let mut files = folder(alloc, given)?;
+    let mut written = MemSink::up_to(alloc, given.room.0)?;
+    let mut told = MemSink::up_to(alloc, given.room.1)?;
+    let got = run_pict(
+        rt,
+        alloc,
+        words.as_slice(),
+        &mut files,
+        &mut written,
+        &mut told,
+        5,
+    );
+    assert_eq!(rt; got, status, "status");
+    assert_eq!(rt; written.bytes(), out.as_bytes(), "standard output");
+    assert_eq!(rt; told.bytes(), diag.as_bytes(), "standard error");
+    Ok(())
+}

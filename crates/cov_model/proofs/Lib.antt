@@ -1,0 +1,9 @@
+pub mod SoundLemmas
+pub mod TruthLemmas
+pub mod RowLemmas
+pub mod KnownLemmas
+pub mod FaultLemmas
+pub mod SortLemmas
+pub mod PreferenceLemmas
+mod Examples
+pub mod SampleSound

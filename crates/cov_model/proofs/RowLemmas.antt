@@ -1,0 +1,55 @@
+-- Rows and the partial rows that they contain.
+use Rattle.std.proofs.Common.{◌≡◌, ℕ, zero, suc, ◌<◌, true, List, [], ◌∷◌, length, Option, Some, None, get_or, ◌∙◌, sym, ap, arith, zero-add}
+use Rattle.std.proofs.lemmas.Bool.{false≢true}
+use Rattle.std.specs.List.{list_all}
+use Rattle.std.proofs.lemmas.List.Elements.{All-get_or}
+use Rattle.std.proofs.lemmas.List.Sums.{AllPass-from_list_all}
+use Rattle.std.proofs.lemmas.List.FromFn.{length-range_with_len, get_or-range_with_len}
+use Rattle.std.proofs.lemmas.Grind.{common_steps}
+use Rattle.cov_model.specs.Sound.{ModelView}
+use Rattle.cov_model.specs.Rows.{contains, is_assigned}
+use Rattle.cov_model.specs.Fits.{FitsModel}
+use Rattle.cov_model.specs.Valid.{is_row, has_value, param_numbers}
+
+-- a row gives what a partial row gives that it contains
+pub contains-get_or : (row cells : List (Option ℕ)) (p : ℕ) → contains row cells ≡ true → is_assigned cells p ≡ true
+    → get_or row p None ≡ get_or cells p None
+contains-get_or row [] p contained assigned = absurd (false≢true assigned)
+contains-get_or [] (None ∷ cells) zero contained assigned = absurd (false≢true assigned)
+contains-get_or [] (Some v ∷ cells) zero contained assigned = absurd (false≢true contained)
+contains-get_or [] (None ∷ cells) (suc p) contained assigned = contains-get_or [] cells p contained assigned
+contains-get_or [] (Some v ∷ cells) (suc p) contained assigned = absurd (false≢true contained)
+contains-get_or (given ∷ row) (None ∷ cells) zero contained assigned = absurd (false≢true assigned)
+contains-get_or (given ∷ row) (None ∷ cells) (suc p) contained assigned = contains-get_or row cells p contained assigned
+contains-get_or (None ∷ row) (Some v ∷ cells) p contained assigned = absurd (false≢true contained)
+contains-get_or (Some w ∷ row) (Some v ∷ cells) zero contained assigned = grind (arith, common_steps)
+contains-get_or (Some w ∷ row) (Some v ∷ cells) (suc p) contained assigned =
+    contains-get_or row cells p (grind (arith, common_steps)) assigned
+
+pub row_has_value : (m : ModelView) (row : List (Option ℕ)) (p : ℕ) → is_row m row ≡ true → p < length m.params → has_value m row p ≡ true
+row_has_value m row p complete within =
+    let every : list_all (has_value m row) (param_numbers m) ≡ true = grind (arith, common_steps) in
+    let inside : p < length (param_numbers m) = omega (arith, length-range_with_len 0 (length m.params)) in
+    let here = All-get_or (λ q. has_value m row q ≡ true) (param_numbers m) p 0 inside (AllPass-from_list_all (has_value m row) (param_numbers m) every) in
+    ap (has_value m row) (sym (get_or-range_with_len 0 (length m.params) p 0 within ∙ zero-add p)) ∙ here
+
+pub row_is_assigned : (m : ModelView) (row : List (Option ℕ)) (p : ℕ) → is_row m row ≡ true → p < length m.params → is_assigned row p ≡ true
+row_is_assigned m row p complete within = let has = row_has_value m row p complete within in grind (arith, common_steps)
+
+assigned_within : (cells : List (Option ℕ)) (p : ℕ) → is_assigned cells p ≡ true → p < length cells
+assigned_within [] p assigned = absurd (false≢true assigned)
+assigned_within (cell ∷ cells) zero assigned = omega arith
+assigned_within (cell ∷ cells) (suc p) assigned = let rest = assigned_within cells p assigned in omega arith
+
+-- a row fits
+pub FitsModel-is_row : (m : ModelView) (row : List (Option ℕ)) → is_row m row ≡ true → FitsModel m row
+FitsModel-is_row m row complete =
+    let long : length row ≡ length m.params = grind (arith, common_steps) in
+    record {
+      as_long = long;
+      exist = λ p assigned.
+          let inside = assigned_within row p assigned in
+          let within : p < length m.params = omega arith in
+          let has = row_has_value m row p complete within in
+          grind (arith, common_steps);
+    }

@@ -1,0 +1,28 @@
+-- What a sound model says of one parameter, one value and one constraint.
+use Rattle.std.proofs.Common.{◌≡◌, ℕ, ◌-◌, ◌<◌, ◌≤◌, true, length, ◌∙◌, sym, arith}
+use Rattle.std.proofs.lemmas.List.Elements.{All-get_or}
+use Rattle.std.proofs.lemmas.List.Sums.{AllPass-from_list_all}
+use Rattle.value_text.specs.Numbers.{is_number}
+use Rattle.cov_model.specs.Sound.{ModelView, IsSound, IsSoundParam, IsSoundValue, IsSoundBody, param_at, rule_at, first_name, no_param, no_rule}
+use Rattle.cov_model.specs.Meaning.{value_at, no_value}
+
+pub param_sound : (m : ModelView) (p : ℕ) → IsSound m → p < length m.params → IsSoundParam m.prefix m.fold (param_at m.params p)
+param_sound m p sound within = All-get_or (IsSoundParam m.prefix m.fold) m.params p no_param within sound.params
+
+pub value_sound : (m : ModelView) (p v : ℕ) → IsSound m → p < length m.params → v < length (param_at m.params p).values
+    → IsSoundValue m.prefix (value_at m p v)
+value_sound m p v sound within in_values =
+    All-get_or (IsSoundValue m.prefix) (param_at m.params p).values v no_value in_values (param_sound m p sound within).values
+
+-- the first name of a value of a numeric parameter is a number
+pub value_number : (m : ModelView) (p v : ℕ) → IsSound m → p < length m.params → v < length (param_at m.params p).values
+    → (param_at m.params p).numeric ≡ true → is_number (first_name (value_at m p v)) ≡ true
+value_number m p v sound within in_values numeric =
+    All-get_or (λ value. is_number (first_name value) ≡ true) (param_at m.params p).values v no_value in_values
+    (AllPass-from_list_all (λ value. is_number (first_name value)) (param_at m.params p).values
+    (sym (param_sound m p sound within).numeric ∙ numeric))
+
+pub rule_sound : (m : ModelView) (n : ℕ) → IsSound m → 0 < n → n ≤ length m.rules → IsSoundBody m.params (rule_at m n).body
+rule_sound m n sound positive within =
+    let inside : n - 1 < length m.rules = omega arith in
+    All-get_or (λ rule. IsSoundBody m.params rule.body) m.rules (n - 1) no_rule inside sound.rules

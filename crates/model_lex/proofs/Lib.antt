@@ -1,0 +1,8 @@
+pub mod Cutting
+pub mod Forms
+mod LineExamples
+pub mod Opening
+pub mod Quoting
+pub mod Runs
+pub mod Splitting
+mod TokenExamples

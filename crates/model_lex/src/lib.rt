@@ -1,0 +1,31 @@
+//! The lines, the sections and the tokens of a model file, and the codes by which it is refused.
+//!
+//! - `split_model` sorts the lines of a file into parameters, groups and constraints.
+//! - `next_token` gives the tokens of a constraint line, one after another.
+//! - `ModelFault` is why a file is refused, a line and a `DiagCode`; `Note` is what is told of a
+//!   file that is accepted.
+//! - `ModelOpts` is how a file is to be read.
+//!
+//! The texts of `Sections` are slices of the file, and tokens are places in their line. But for
+//! `split_model`, which answers `NoMemory` where a list could not grow, no call takes memory.
+#![tactic(auto)]
+
+mod bytes;
+mod diag;
+mod fault;
+mod line_kind;
+mod lines;
+mod note;
+mod options;
+mod scan;
+mod sections;
+#[cfg(test)]
+mod tests;
+mod token;
+
+pub use diag::{Diag, DiagCode};
+pub use fault::{LimitName, ModelFault};
+pub use note::{Note, NoteCode, NoteList};
+pub use options::{Marks, ModelOpts, OrderWord};
+pub use sections::{NumLine, NumLineList, Sections, split_model};
+pub use token::{Lexed, Token, TokenKind, next_token};

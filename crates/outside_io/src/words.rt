@@ -1,0 +1,48 @@
+ghost use Rattle.std.specs.Prelude.{◌≤◌, vec_len, IfOk, IfSome};
+
+use std::alloc::{AllocError, Global};
+use std::env::FillError;
+use std::rt::Env;
+use std::str;
+
+/// The bytes of the word of this number, which `buffer` begins with; `None` behind the last word.
+fn word_bytes<R: Env>(
+    rt: &R,
+    number: usize,
+    buffer: &mut Vec<u8>,
+) -> Result<Option<usize>, AllocError>
+    ensures { IfOk result (λ found. IfSome found (λ len. len ≤ vec_len buffer.new)) }
+{
+    for _ in 0..usize::BITS {
+        match rt.arg(number, buffer.as_mut_slice()) {
+            Ok(len) => return Ok(Some(len)),
+            Err(FillError::NotPresent) => return Ok(None),
+            Err(FillError::TooLong) => {
+                let doubled = buffer.len().saturating_mul(2);
+                buffer.resize(doubled, 0)?;
+            }
+        }
+    }
+    Err(AllocError)
+}
+
+/// The words of the command line behind the program's name.
+///
+/// A word that isn't UTF-8 stands as the empty word, which has no reading in any place: so the
+/// command line is refused at that word.
+///
+/// # Errors
+///
+/// `AllocError` where memory was refused.
+pub fn command_words<R: Env>(rt: &R, alloc: Global) -> Result<Vec<String>, AllocError> {
+    let mut buffer = vec![in alloc; 0u8; 256]?;
+    let mut words = Vec::new(alloc);
+    for number in 1..usize::MAX {
+        let Some(len) = word_bytes(rt, number, &mut buffer)? else {
+            break;
+        };
+        let word = str::from_utf8(&buffer[..len]).unwrap_or("");
+        words.push(String::from_str(alloc, word)?)?;
+    }
+    Ok(words)
+}
