@@ -1,5 +1,5 @@
 -- Partial rows that contain others.
-use Rattle.std.proofs.Common.{◌≡◌, ℕ, Bool, true, false, ◌&&◌, List, [], ◌∷◌, Option, Some, None, refl, arith}
+use Rattle.std.proofs.Common.{◌≡◌, ℕ, Bool, true, false, ◌&&◌, List, [], ◌∷◌, Option, Some, None, nat_eq, refl, arith}
 use Rattle.std.proofs.lemmas.Bool.{false≢true}
 use Rattle.std.proofs.lemmas.Grind.{common_steps}
 use Rattle.cov_model.specs.Rows.{contains}
@@ -26,5 +26,5 @@ contains-trans (given ∷ row) (None ∷ path) (Some v ∷ cells) h k = absurd (
 contains-trans (None ∷ row) (Some w ∷ path) (cell ∷ cells) h k = absurd (false≢true h)
 contains-trans (Some u ∷ row) (Some w ∷ path) (None ∷ cells) h k = contains-trans row path cells (right _ _ h) k
 contains-trans (Some u ∷ row) (Some w ∷ path) (Some v ∷ cells) h k =
-    let rest = contains-trans row path cells (right _ _ h) (right _ _ k) in
+    let rest : contains row cells ≡ true = contains-trans row path cells (right (nat_eq u w) _ h) (right (nat_eq w v) _ k) in
     grind (arith, common_steps)

@@ -1,10 +1,9 @@
 -- What an extendable partial row contains is extendable: each of its completions is one of the part's.
-use Rattle.std.proofs.Common.{◌≡◌, ℕ, Bool, true, false, ◌&&◌, ◌||◌, cond, List, [], ◌∷◌, ◌++◌, map, Option, Some, None, nat_eq, filter, flat_map, ◌∙◌, sym, ap, subst, refl, arith}
+use Rattle.std.proofs.Common.{◌≡◌, ℕ, Bool, true, false, ◌||◌, cond, List, [], ◌∷◌, map, Option, Some, None, nat_eq, filter, flat_map, ◌∙◌, sym, ap, subst, refl, arith}
 use Rattle.std.specs.List.{list_any}
 use Rattle.std.proofs.lemmas.Bool.{false≢true}
 use Rattle.std.proofs.lemmas.Grind.{common_steps}
 use Rattle.std.proofs.lemmas.List.Folds.{list_any-append}
-use Rattle.cov_model.specs.Sound.{ModelView}
 use Rattle.cov_model.specs.Rows.{contains}
 use Rattle.cov_model.specs.Slices.{slice_values}
 use Rattle.definitions.specs.Completion.{completions, cell_values, meets_rules}

@@ -20,3 +20,5 @@ pub mod Nothing
 pub mod Readings
 pub mod Contained
 pub mod Extendable
+pub mod Refuted
+pub mod Certified
