@@ -6,7 +6,7 @@ use Rattle.std.proofs.lemmas.Bool.{false≢true, cond-false, or_from}
 use Rattle.std.proofs.lemmas.Grind.{common_steps}
 use Rattle.cov_model.specs.Sound.{ModelView}
 use Rattle.cov_model.specs.Valid.{param_numbers}
-use Rattle.definitions.specs.RowFile.{numbered_lines, cells_of_line, is_bad_header, row_of_line, rows_of_lines}
+use Rattle.definitions.specs.RowFile.{filled_lines, cells_of_line, is_bad_header, row_of_line, rows_of_lines}
 use Rattle.definitions.specs.RowReading.{RowReading, RowsFault, Missing, Width, Twice, Suite, column_count, twice_fault, missing_fault, count_fault, width_fault, first_fault, read_under, read_numbered, unless_fault}
 use Rattle.definitions.specs.Laws.{SuitesAreRead}
 use Rattle.definitions.proofs.Nothing.{is_nothing, none_found}
@@ -77,4 +77,4 @@ numbered_read m (first ∷ lines) reading h =
     ∙ sym (cond-false (is_bad_header m header || list_any (λ line. nat_lt (length header) (length (cells_of_line line.1))) lines) _ _ (or_from _ _ one narrow))
 
 pub suites_read : SuitesAreRead
-suites_read m bytes reading h = numbered_read m (numbered_lines bytes) reading h
+suites_read m bytes reading h = numbered_read m (filled_lines bytes) reading h
