@@ -1,0 +1,6 @@
+//! Whether a partial row is extendable: plain search for a completion, held to a budget.
+#![tactic(auto)]
+
+mod answer;
+
+pub use answer::{Answer, Question, SearchFault};
