@@ -15,7 +15,7 @@ abbrev pub tried : {X : Type 0} → (ℕ → Option X) → List ℕ → Option X
 tried f [] = None
 tried f (v ∷ values) = option_or (f v) (tried f values)
 
-same_number : (a b : ℕ) → (a == b) ≡ true → a ≡ b
+pub same_number : (a b : ℕ) → (a == b) ≡ true → a ≡ b
 same_number a b same = grind (arith, common_steps)
 
 equal_number : (a : ℕ) → (a == a) ≡ true
