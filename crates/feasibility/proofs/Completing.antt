@@ -49,6 +49,7 @@ tried_first f v values alike = by_case (f v) (tried f values) (λ is. tried_none
     nothing : {X : Type 0} (o : Option X) → is_some o ≡ false → o ≡ None
     nothing None h = refl
     nothing (Some x) h = absurd (false≢true (sym h))
+
     by_case : {X : Type 0} (o rest : Option X) → (o ≡ None → rest ≡ None) → option_or o rest ≡ o
     by_case (Some x) rest h = refl
     by_case None rest h = h refl
@@ -69,6 +70,7 @@ tried_equal f w (v ∷ values) = by_case (v == w) (is_among values w) (same_numb
     inner : {X : Type 0} (f : ℕ → Option X) (w : ℕ) (listed : Bool) (rest : Option X) → rest ≡ (if listed then f w else None) → option_or (f w) rest ≡ f w
     inner f w true rest is = ap (option_or (f w)) is ∙ or_same (f w)
     inner f w false rest is = ap (option_or (f w)) is ∙ or_none (f w)
+
     by_case : (equal listed : Bool) → (equal ≡ true → v ≡ w) → tried f (filter (λ v. v == w) values) ≡ (if listed then f w else None)
         → tried f (cond equal (v ∷ filter (λ v. v == w) values) (filter (λ v. v == w) values)) ≡ (if equal || listed then f w else None)
     by_case true listed same rest =
@@ -134,9 +136,9 @@ first_of-free : (v : ℕ) (values : List ℕ) (rest : List (List ℕ)) (cells : 
 first_of-free v values rest cells test free =
     first_of-cons (v ∷ values) rest None cells test
     ∙ tried_first (first_with rest cells test) v values (λ w.
-      is_some-mapped (λ row. Some w ∷ row) (first_of rest cells (λ row. test (Some w ∷ row)))
-      ∙ ap is_some (find_same (λ row. test (Some w ∷ row)) (λ row. test (Some v ∷ row)) (completions rest cells) (λ row. free (None ∷ row) (Some w) (Some v)))
-      ∙ sym (is_some-mapped (λ row. Some v ∷ row) (first_of rest cells (λ row. test (Some v ∷ row)))))
+    is_some-mapped (λ row. Some w ∷ row) (first_of rest cells (λ row. test (Some w ∷ row)))
+    ∙ ap is_some (find_same (λ row. test (Some w ∷ row)) (λ row. test (Some v ∷ row)) (completions rest cells) (λ row. free (None ∷ row) (Some w) (Some v)))
+    ∙ sym (is_some-mapped (λ row. Some v ∷ row) (first_of rest cells (λ row. test (Some v ∷ row)))))
 
 -- the parameters before one have values or don't matter
 abbrev pub Decided : (List (Option ℕ) → Bool) → List (Option ℕ) → ℕ → Type 0
@@ -160,14 +162,14 @@ first_of-branch (values ∷ rest) (Some w ∷ cells) test zero long within unass
 first_of-branch (values ∷ rest) (None ∷ cells) test zero long within unassigned decided =
     first_of-cons values rest None cells test
     ∙ tried_same (first_with rest cells test) (λ v. first_of (values ∷ rest) (Some v ∷ cells) test) values (λ v listed.
-      sym (first_of-given values rest v cells test ∙ ap (λ b. if b then first_with rest cells test v else None) listed))
+    sym (first_of-given values rest v cells test ∙ ap (λ b. if b then first_with rest cells test v else None) listed))
 first_of-branch (values ∷ rest) (Some w ∷ cells) test (suc p) long within unassigned decided =
     let inner = first_of-branch rest cells (λ row. test (Some w ∷ row)) p (omega arith) (omega arith) unassigned (behind test (Some w) cells p w decided) in
     first_of-given values rest w cells test
     ∙ by_case (is_among values w) inner
     ∙ sym (tried_same (λ v. first_of (values ∷ rest) (Some w ∷ set cells p (Some v)) test)
-      (λ v. if is_among values w then first_with rest (set cells p (Some v)) test w else None) (get_or rest p [])
-      (λ v listed. first_of-given values rest w (set cells p (Some v)) test))
+    (λ v. if is_among values w then first_with rest (set cells p (Some v)) test w else None) (get_or rest p [])
+    (λ v listed. first_of-given values rest w (set cells p (Some v)) test))
   where
     by_case : (listed : Bool)
         → first_of rest cells (λ row. test (Some w ∷ row)) ≡ tried (λ v. first_of rest (set cells p (Some v)) (λ row. test (Some w ∷ row))) (get_or rest p [])
@@ -194,7 +196,7 @@ first_of-branch (values ∷ rest) (None ∷ cells) test (suc p) long within unas
         ∙ ap (option_map (λ row. Some u ∷ row)) (inner u)
         ∙ tried_mapped (λ row. Some u ∷ row) (λ v. first_of rest (set cells p (Some v)) (λ row. test (Some u ∷ row))) (get_or rest p [])
         ∙ sym (tried_same (λ v. first_of ((u ∷ values) ∷ rest) (None ∷ set cells p (Some v)) test) (λ v. first_with rest (set cells p (Some v)) test u) (get_or rest p [])
-          (λ v listed. first_of-free u values rest (set cells p (Some v)) test free))
+        (λ v listed. first_of-free u values rest (set cells p (Some v)) test free))
 
 -- the row is a completion of the partial row
 abbrev pub IsCompletion : List (List ℕ) → List (Option ℕ) → List (Option ℕ) → Type 0
@@ -298,6 +300,7 @@ among_equal v w (u ∷ values) listed = by_case (u == v) (same_number u v) (amon
         → (equal || is_among (filter (λ u. u == v) values) w) ≡ true → v ≡ w
     here true same is later h = sym is ∙ same refl
     here false same is later h = later h
+
     by_case : (equal : Bool) → (equal ≡ true → u ≡ v) → (is_among (filter (λ u. u == v) values) w ≡ true → v ≡ w)
         → is_among (cond equal (u ∷ filter (λ u. u == v) values) (filter (λ u. u == v) values)) w ≡ true → v ≡ w
     by_case true same later h = here (u == w) (same_number u w) (same refl) later h
@@ -325,7 +328,7 @@ completion_length (values ∷ rest) [] row is = absurd is
 completion_length (values ∷ rest) (cell ∷ cells) [] is = absurd is
 completion_length (values ∷ rest) (cell ∷ cells) (None ∷ row) is = absurd is
 
-among_filter : (test : ℕ → Bool) (v : ℕ) (values : List ℕ) → is_among (filter test values) v ≡ true → is_among values v ≡ true
+pub among_filter : (test : ℕ → Bool) (v : ℕ) (values : List ℕ) → is_among (filter test values) v ≡ true → is_among values v ≡ true
 among_filter test v [] listed = listed
 among_filter test v (w ∷ values) listed = by_case (test w) (among_filter test v values) listed
   where
@@ -333,6 +336,7 @@ among_filter test v (w ∷ values) listed = by_case (test w) (among_filter test 
         → (equal || is_among values v) ≡ true
     here true later h = refl
     here false later h = later h
+
     by_case : (b : Bool) → (is_among (filter test values) v ≡ true → is_among values v ≡ true)
         → is_among (cond b (w ∷ filter test values) (filter test values)) v ≡ true → is_among (w ∷ values) v ≡ true
     by_case true later h = here (w == v) later h
@@ -368,7 +372,7 @@ completion_moves (values ∷ rest) (other ∷ others) (None ∷ cells) (Some v �
     (moves 0 v is.0, completion_moves rest others cells row (omega arith) (λ p. moves (suc p)) is.1)
 completion_moves (values ∷ rest) (other ∷ others) (Some w ∷ cells) (Some v ∷ row) same moves is = (
   subst (λ (u : ℕ). is_among (filter (λ k. k == w) other) u ≡ true) (among_equal w v values is.0)
-  (is_among-equal w other (moves 0 w (subst (λ (u : ℕ). is_among values u ≡ true) (sym (among_equal w v values is.0)) (among_filter (λ k. k == w) v values is.0)))),
+      (is_among-equal w other (moves 0 w (subst (λ (u : ℕ). is_among values u ≡ true) (sym (among_equal w v values is.0)) (among_filter (λ k. k == w) v values is.0)))),
   completion_moves rest others cells row (omega arith) (λ p. moves (suc p)) is.1,
 )
 completion_moves [] [] [] (x ∷ row) same moves is = absurd is

@@ -1,3 +1,4 @@
 pub mod Completing
+pub mod Extendable
 pub mod Local
 pub mod Searching

@@ -42,9 +42,9 @@ local_one holds x y same = (ap (λ (cell : Option ℕ). if is_some cell && true 
 local_two : (holds : Option ℕ → Option ℕ → Bool) (x y u v : Option ℕ) → x ≡ y → u ≡ v
     → SameOf (if is_some x && (is_some u && true) then known (holds x u) else Unknown) (if is_some y && (is_some v && true) then known (holds y v) else Unknown) (holds x u) (holds y v)
 local_two holds x y u v first second = (
-    ap (λ (cell : Option ℕ). if is_some cell && (is_some u && true) then known (holds cell u) else Unknown) first
-    ∙ ap (λ (cell : Option ℕ). if is_some y && (is_some cell && true) then known (holds y cell) else Unknown) second,
-    ap (λ (cell : Option ℕ). holds cell u) first ∙ ap (λ (cell : Option ℕ). holds y cell) second,
+  ap (λ (cell : Option ℕ). if is_some cell && (is_some u && true) then known (holds cell u) else Unknown) first
+      ∙ ap (λ (cell : Option ℕ). if is_some y && (is_some cell && true) then known (holds y cell) else Unknown) second,
+  ap (λ (cell : Option ℕ). holds cell u) first ∙ ap (λ (cell : Option ℕ). holds y cell) second,
 )
 
 -- what constraints compare of the value in a cell

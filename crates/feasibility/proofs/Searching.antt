@@ -56,7 +56,7 @@ not_true : (b : Bool) → not b ≡ true → b ≡ false
 not_true true h = absurd (false≢true h)
 not_true false h = refl
 
-not_true_false : (b : Bool) → (b ≡ true → ⊥) → b ≡ false
+pub not_true_false : (b : Bool) → (b ≡ true → ⊥) → b ≡ false
 not_true_false true h = absurd (h refl)
 not_true_false false h = refl
 
@@ -93,6 +93,7 @@ none_differs test (w ∷ values) v none listed = by_test (test w) refl none (non
         → (list_any (λ u. not (test u)) values ≡ false → is_among values v ≡ true → test v ≡ true) → test v ≡ true
     by_equal true is passes none h later = subst (λ (u : ℕ). test u ≡ true) (same_number w v is) passes
     by_equal false is passes none h later = later none h
+
     by_test : (b : Bool) → test w ≡ b → (not b || list_any (λ u. not (test u)) values) ≡ false
         → (list_any (λ u. not (test u)) values ≡ false → is_among values v ≡ true → test v ≡ true) → test v ≡ true
     by_test true is none later = by_equal (w == v) refl is none listed later
@@ -184,6 +185,7 @@ can_be_filled m lists cells p values is none within =
     some_live : (test : ℕ → Bool) (values : List ℕ) → not (list_any test values) ≡ false → 0 < length values
     some_live test [] h = absurd (false≢true (sym h))
     some_live test (v ∷ values) h = omega arith
+
     by_cell : (cell : Option ℕ) → get_or cells p None ≡ cell → is_stuck m lists cells p ≡ false → CanBeFilled (get_or lists p []) cell
     by_cell (Some v) has h =
         subst (λ (u : ℕ). is_among (get_or lists p []) u ≡ true) (ap (λ (cell : Option ℕ). unwrap_or cell 0) has) (is.listed p (ap (λ (cell : Option ℕ). is_some cell) has))
@@ -202,6 +204,7 @@ completion_is_row m lists cells row values is =
     has p within =
         let gives = completion_gives lists cells row p is (omega (arith, values.as_many)) in
         join_hold (is_assigned row p) _ gives.assigned (lt-ltb (value_in row p) (length (param_at m.params p).values) (values.exist p (value_in row p) gives.listed))
+
     has_all : (a n : ℕ) → a + n ≡ length m.params → list_all (has_value m row) (range_with_len a n) ≡ true
     has_all a zero whole = refl
     has_all a (suc n) whole = join_hold (has_value m row a) (list_all (has_value m row) (range_with_len (a + 1) n)) (has a (omega arith)) (has_all (a + 1) n (omega arith))
@@ -215,19 +218,21 @@ leaf_meets : (m : ModelView) (lists : List (List ℕ)) (cells row : List (Option
     → AssignedBelow m cells (length m.params) → breaks_a_rule m cells ≡ false → IsCompletion lists cells row → meets_rules m row ≡ true
 leaf_meets m lists cells row sound values long below unbroken is =
     list_all-from_AllPass (λ rule. body_holds m rule.body row) m.rules (λ i d within.
-      holds (get_or m.rules i d) (sound.rules i d within)
-      (not_true_false (is_no (body_truth m (get_or m.rules i d).body cells)) (λ no. false≢true (sym unbroken ∙ list_any_at (λ rule. is_no (body_truth m rule.body cells)) m.rules i d within no)))
-      (λ q named. list_any_at (λ rule. is_among (body_params rule.body) q) m.rules i d within named))
+    holds (get_or m.rules i d) (sound.rules i d within)
+    (not_true_false (is_no (body_truth m (get_or m.rules i d).body cells)) (λ no. false≢true (sym unbroken ∙ list_any_at (λ rule. is_no (body_truth m rule.body cells)) m.rules i d within no)))
+    (λ q named. list_any_at (λ rule. is_among (body_params rule.body) q) m.rules i d within named))
   where
     is_no-known : (b : Bool) → is_no (known b) ≡ false → b ≡ true
     is_no-known true h = refl
     is_no-known false h = absurd (false≢true (sym h))
+
     same_cell : (q : ℕ) → is_named m q ≡ true → get_or cells q None ≡ get_or row q None
     same_cell q named =
         elim (cases_lt q (length m.params)) [
           | inl within ↦ sym (contains-get_or row cells q (completion_contains lists cells row is) (below q within named))
           | inr past ↦ get_or_past cells q None (omega (arith, values.as_many)) ∙ sym (get_or_past row q None (omega (arith, values.as_many, completion_length lists cells row is)))
         ]
+
     holds : (rule : Rule) → IsSoundBody m.params rule.body → is_no (body_truth m rule.body cells) ≡ false
         → ((q : ℕ) → is_among (body_params rule.body) q ≡ true → is_named m q ≡ true) → body_holds m rule.body row ≡ true
     holds rule good other named =
@@ -251,7 +256,7 @@ try_given visited reach cells p (v ∷ values) =
         → tried (λ v. given_by (visited (with_value cells p v)) (reach (with_value cells p v))) values ≡ given_by (try_values visited cells p values) (reached_by visited reach cells p values)
         → option_or (if b then Some (reach (with_value cells p v)) else None) (tried (λ v. given_by (visited (with_value cells p v)) (reach (with_value cells p v))) values)
         ≡ given_by (if b then first else record { found = (try_values visited cells p values).found; cost = first.cost + (try_values visited cells p values).cost })
-          (if b then reach (with_value cells p v) else reached_by visited reach cells p values)
+        (if b then reach (with_value cells p v) else reached_by visited reach cells p values)
     by_case first true is later = sym (ap (λ (b : Bool). if b then Some (reach (with_value cells p v)) else None) is)
     by_case first false is later = later
 
@@ -312,19 +317,20 @@ node_gives m lists k params cells values is within below later = by_cell (get_or
   where
     by_failing : (b : Bool) → is_failing m lists cells ≡ b → get_or cells k None ≡ None → first_of lists cells (meets_rules m)
         ≡ given_by (if b then record { found = false; cost = 1 } else record { found = (try_values (visit m lists params) cells k (get_or lists k [])).found; cost = suc (try_values (visit m lists params) cells k (get_or lists k [])).cost })
-          (reached_by (visit m lists params) (reached m lists params) cells k (get_or lists k []))
+        (reached_by (visit m lists params) (reached m lists params) cells k (get_or lists k []))
     by_failing true failing unassigned = failing_gives m lists cells values is failing
     by_failing false failing unassigned =
         first_of-branch lists cells (meets_rules m) k is.long (omega (arith, is.long, values.as_many)) unassigned (decided m cells k below)
         ∙ tried_same (λ v. first_of lists (with_value cells k v) (meets_rules m))
-          (λ v. given_by (visit m lists params (with_value cells k v)) (reached m lists params (with_value cells k v))) (get_or lists k [])
-          (λ v listed. later (with_value cells k v) (IsListed-with_value lists cells k v is (omega (arith, values.as_many)) listed) (below_set m cells k v below (omega (arith, is.long, values.as_many))))
+        (λ v. given_by (visit m lists params (with_value cells k v)) (reached m lists params (with_value cells k v))) (get_or lists k [])
+        (λ v listed. later (with_value cells k v) (IsListed-with_value lists cells k v is (omega (arith, values.as_many)) listed) (below_set m cells k v below (omega (arith, is.long, values.as_many))))
         ∙ try_given (visit m lists params) (reached m lists params) cells k (get_or lists k [])
+
     by_cell : (cell : Option ℕ) → get_or cells k None ≡ cell → first_of lists cells (meets_rules m)
         ≡ given_by (if is_some cell then visit m lists params cells
-            else if is_failing m lists cells then record { found = false; cost = 1 }
-            else record { found = (try_values (visit m lists params) cells k (get_or lists k [])).found; cost = suc (try_values (visit m lists params) cells k (get_or lists k [])).cost })
-          (if is_some cell then reached m lists params cells else reached_by (visit m lists params) (reached m lists params) cells k (get_or lists k []))
+        else if is_failing m lists cells then record { found = false; cost = 1 }
+        else record { found = (try_values (visit m lists params) cells k (get_or lists k [])).found; cost = suc (try_values (visit m lists params) cells k (get_or lists k [])).cost })
+        (if is_some cell then reached m lists params cells else reached_by (visit m lists params) (reached m lists params) cells k (get_or lists k []))
     by_cell (Some v) has = later cells is (below_skip m cells k below (λ named. ap (λ (cell : Option ℕ). is_some cell) has))
     by_cell None has = by_failing (is_failing m lists cells) refl has
 
