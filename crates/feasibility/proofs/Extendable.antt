@@ -17,11 +17,12 @@ use Rattle.definitions.specs.Demand.{is_among}
 use Rattle.definitions.specs.Completion.{completions, meets_rules, is_extendable, preferred_values, first_completion}
 use Rattle.definitions.specs.Search.{constrained_params, plain_search}
 use Rattle.definitions.specs.Laws.{ArePreferences}
+use Rattle.feasibility.specs.Tree.{ListsValues}
 use Rattle.feasibility.specs.Path.{reached}
 use Rattle.feasibility.specs.Slices.{IsSliceOf, IsOfSlice}
 use Rattle.feasibility.specs.Laws.{PlainSearchIsExact}
 use Rattle.feasibility.proofs.Completing.{same_number, first_of, IsCompletion, first_of-none, first_of-some, completion_moves, among_filter, among_tail}
-use Rattle.feasibility.proofs.Searching.{ListsValues, IsListed, given_by, visit_gives, not_true_false}
+use Rattle.feasibility.proofs.Searching.{IsListed, given_by, visit_gives, not_true_false}
 
 list_any-find : {X : Type 0} (test : X → Bool) (xs : List X) → list_any test xs ≡ is_some (find test xs)
 list_any-find test [] = refl

@@ -1,4 +1,5 @@
 pub mod Completing
 pub mod Extendable
 pub mod Local
+pub mod Naming
 pub mod Searching

@@ -20,6 +20,7 @@ use Rattle.cov_model.proofs.RowLemmas.{contains-get_or}
 use Rattle.definitions.specs.Demand.{is_among}
 use Rattle.definitions.specs.Completion.{with_value, meets_rules}
 use Rattle.definitions.specs.Search.{Outcome, body_params, breaks_a_rule, is_no, is_stuck, is_failing, try_values, visit}
+use Rattle.feasibility.specs.Tree.{ListsValues, is_named}
 use Rattle.feasibility.specs.Path.{filled, reached, reached_by}
 use Rattle.feasibility.proofs.Completing.{tried, tried_same, among_head, among_tail, same_number, first_of, IsFree, Decided, first_of-branch, IsCompletion, first_of-none, CanBeFilled, filled_is_completion, first_of-filled, completion_contains, completion_length, completion_gives}
 use Rattle.feasibility.proofs.Local.{AgreeOn, local_body}
@@ -129,10 +130,6 @@ failing_fails m lists cells row as_many failing is = by_case (breaks_a_rule m ce
     by_case true broken h = broken_fails m m.rules cells row (completion_contains lists cells row is) broken
     by_case false broken h = any_stuck_fails m lists cells row 0 (length m.params) is (omega arith) h
 
--- some constraint names the parameter
-abbrev pub is_named : ModelView → ℕ → Bool
-is_named m p = list_any (λ rule. is_among (body_params rule.body) p) m.rules
-
 agree_away : (params : List ℕ) (row : List (Option ℕ)) (p : ℕ) (a b : Option ℕ) → is_among params p ≡ false → AgreeOn params (set row p a) (set row p b)
 agree_away [] row p a b away = tt
 agree_away (q ∷ params) row p a b away =
@@ -162,11 +159,6 @@ decided m cells k below q before = by_case (is_named m q) refl
     by_case : (b : Bool) → is_named m q ≡ b → (is_assigned cells q ≡ true) ⊎ IsFree (meets_rules m) q
     by_case true named = inl (below q before named)
     by_case false named = inr (is_free m q named)
-
--- one list of values for each parameter, and these values exist
-pub record ListsValues (m : ModelView) (lists : List (List ℕ)) : Type 0 where
-  pub as_many : length lists ≡ length m.params
-  pub exist : (p v : ℕ) → is_among (get_or lists p []) v ≡ true → v < length (param_at m.params p).values
 
 -- the values of the partial row are listed
 pub record IsListed (lists : List (List ℕ)) (cells : List (Option ℕ)) : Type 0 where

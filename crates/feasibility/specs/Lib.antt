@@ -2,3 +2,4 @@ pub mod Answers
 pub mod Laws
 pub mod Path
 pub mod Slices
+pub mod Tree

@@ -2,5 +2,8 @@
 #![tactic(auto)]
 
 mod answer;
+mod named;
+mod tree;
 
 pub use answer::{Answer, Question, SearchFault};
+pub use tree::SearchTree;
