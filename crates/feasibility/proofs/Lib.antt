@@ -2,4 +2,5 @@ pub mod Completing
 pub mod Extendable
 pub mod Local
 pub mod Naming
+pub mod Nodes
 pub mod Searching

@@ -5,12 +5,16 @@ use Rattle.cov_model.specs.Rows.{is_assigned}
 use Rattle.definitions.specs.Completion.{with_value}
 use Rattle.definitions.specs.Search.{Outcome, visit}
 
--- each parameter that has no value gets the first of its list
+-- a cell without a value gets the first of the list
+abbrev pub filled_cell : List ℕ → Option ℕ → Option ℕ
+filled_cell values (Some v) = Some v
+filled_cell values None = slice_get values 0
+
+-- so does each parameter without a value
 abbrev pub filled : List (List ℕ) → List (Option ℕ) → List (Option ℕ)
 filled lists [] = []
 filled [] (cell ∷ cells) = cell ∷ cells
-filled (values ∷ rest) (Some v ∷ cells) = Some v ∷ filled rest cells
-filled (values ∷ rest) (None ∷ cells) = slice_get values 0 ∷ filled rest cells
+filled (values ∷ rest) (cell ∷ cells) = filled_cell values cell ∷ filled rest cells
 
 -- the row that the first value with a successful visit leads to
 abbrev pub reached_by : (List (Option ℕ) → Outcome) → (List (Option ℕ) → List (Option ℕ)) → List (Option ℕ) → ℕ → List ℕ → List (Option ℕ)

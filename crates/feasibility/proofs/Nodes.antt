@@ -1,0 +1,89 @@
+-- Nodes of a search: what setting, clearing and filling cells gives.
+use Rattle.std.proofs.Common.{◌≡◌, ◌≢◌, ℕ, zero, suc, ◌+◌, ◌<◌, ◌≤◌, Bool, true, false, ◌==◌, List, [], ◌∷◌, length, Option, Some, None, is_some, unwrap_or, get_or, set, ◌∙◌, sym, ap, subst, refl, arith, inl, inr, eq-eqb}
+use Rattle.std.specs.List.{list_any}
+use Rattle.std.proofs.lemmas.Bool.{cases_lt, cases_eq}
+use Rattle.std.proofs.lemmas.List.{get_or-set_other, get_or-set_same, length-set, same_lists, set-set}
+use Rattle.std.proofs.lemmas.List.Folds.{list_any_at}
+use Rattle.cov_model.specs.Sound.{ModelView, param_at}
+use Rattle.cov_model.specs.Rows.{is_assigned, value_in}
+use Rattle.cov_model.specs.Fits.{FitsModel}
+use Rattle.definitions.specs.Demand.{is_among}
+use Rattle.definitions.specs.Completion.{with_value}
+use Rattle.feasibility.specs.Path.{filled, filled_cell}
+use Rattle.feasibility.specs.Tree.{ListsValues}
+
+set_back : (cells : List (Option ℕ)) (p : ℕ) → get_or cells p None ≡ None → set cells p None ≡ cells
+set_back [] p unassigned = refl
+set_back (cell ∷ cells) zero unassigned = ap (λ (first : Option ℕ). first ∷ cells) (sym unassigned)
+set_back (cell ∷ cells) (suc p) unassigned = ap (λ (rest : List (Option ℕ)). cell ∷ rest) (set_back cells p unassigned)
+
+-- a cell that is set and cleared is as before
+pub set_clear : (cells : List (Option ℕ)) (p v : ℕ) → get_or cells p None ≡ None → set (set cells p (Some v)) p None ≡ cells
+set_clear cells p v unassigned = set-set cells p (Some v) None ∙ set_back cells p unassigned
+
+-- a value of a parameter's list exists
+pub listed_exists : (m : ModelView) (lists : List (List ℕ)) (p i : ℕ) → ListsValues m lists → i < length (get_or lists p [])
+    → get_or (get_or lists p []) i 0 < length (param_at m.params p).values
+listed_exists m lists p i values within =
+    values.exist p (get_or (get_or lists p []) i 0)
+    (list_any_at (λ k. k == get_or (get_or lists p []) i 0) (get_or lists p []) i 0 within (eq-eqb _ _ refl))
+
+-- cells with one more value that exists fit
+pub FitsModel-with_value : (m : ModelView) (cells : List (Option ℕ)) (p v : ℕ) → FitsModel m cells → p < length m.params → v < length (param_at m.params p).values
+    → FitsModel m (with_value cells p v)
+FitsModel-with_value m cells p v fits within exists = record {
+  as_long = length-set cells p (Some v) ∙ fits.as_long;
+  exist = λ q assigned.
+      elim (cases_eq q p) [
+        | inl same ↦
+            let here : get_or (with_value cells p v) q None ≡ Some v = ap (λ (k : ℕ). get_or (with_value cells p v) k None) same ∙ get_or-set_same cells p (Some v) None (omega (arith, fits.as_long)) in
+            subst (λ (u : ℕ). u < length (param_at m.params q).values) (sym (ap (λ (cell : Option ℕ). unwrap_or cell 0) here))
+            (subst (λ (k : ℕ). v < length (param_at m.params k).values) (sym same) exists)
+        | inr differs ↦
+            let there : get_or (with_value cells p v) q None ≡ get_or cells q None = get_or-set_other cells p q (Some v) None differs in
+            subst (λ (u : ℕ). u < length (param_at m.params q).values) (sym (ap (λ (cell : Option ℕ). unwrap_or cell 0) there))
+            (fits.exist q (sym (ap (λ (cell : Option ℕ). is_some cell) there) ∙ assigned))
+      ];
+}
+
+pub length-filled : (lists : List (List ℕ)) (cells : List (Option ℕ)) → length (filled lists cells) ≡ length cells
+length-filled lists [] = refl
+length-filled [] (cell ∷ cells) = refl
+length-filled (values ∷ rest) (cell ∷ cells) = ap suc (length-filled rest cells)
+
+get_or-filled : (lists : List (List ℕ)) (cells : List (Option ℕ)) (p : ℕ) → p < length cells → p < length lists
+    → get_or (filled lists cells) p None ≡ filled_cell (get_or lists p []) (get_or cells p None)
+get_or-filled lists [] p within listed = absurd (omega arith)
+get_or-filled [] (cell ∷ cells) p within listed = absurd (omega arith)
+get_or-filled (values ∷ rest) (cell ∷ cells) zero within listed = refl
+get_or-filled (values ∷ rest) (cell ∷ cells) (suc p) within listed = get_or-filled rest cells p (omega arith) (omega arith)
+
+-- the cells before a place are filled, the others as at the start
+pub record FilledTo (lists : List (List ℕ)) (start cells : List (Option ℕ)) (p : ℕ) : Type 0 where
+  pub long : length cells ≡ length start
+  pub done : (q : ℕ) → q < p → get_or cells q None ≡ get_or (filled lists start) q None
+  pub rest : (q : ℕ) → p ≤ q → get_or cells q None ≡ get_or start q None
+
+pub filled_init : (lists : List (List ℕ)) (start : List (Option ℕ)) → FilledTo lists start start 0
+filled_init lists start = record { long = refl; done = λ q before. absurd (omega arith); rest = λ q after. refl }
+
+pub filled_more : (lists : List (List ℕ)) (start cells : List (Option ℕ)) (p : ℕ) → p < length start → p < length lists → FilledTo lists start cells p
+    → FilledTo lists start (set cells p (filled_cell (get_or lists p []) (get_or cells p None))) (p + 1)
+filled_more lists start cells p within listed to = record {
+  long = length-set cells p _ ∙ to.long;
+  done = λ q before.
+      elim (cases_eq q p) [
+        | inl same ↦
+            ap (λ (k : ℕ). get_or (set cells p (filled_cell (get_or lists p []) (get_or cells p None))) k None) same
+            ∙ get_or-set_same cells p _ None (omega (arith, to.long))
+            ∙ ap (λ (cell : Option ℕ). filled_cell (get_or lists p []) cell) (to.rest p (omega arith))
+            ∙ sym (get_or-filled lists start p within listed)
+            ∙ ap (λ (k : ℕ). get_or (filled lists start) k None) (sym same)
+        | inr differs ↦ get_or-set_other cells p q _ None differs ∙ to.done q (omega (arith, differs))
+      ];
+  rest = λ q after. get_or-set_other cells p q _ None (λ same. omega (arith, same)) ∙ to.rest q (omega arith);
+}
+
+pub filled_all : (lists : List (List ℕ)) (start cells : List (Option ℕ)) (p : ℕ) → p ≡ length start → FilledTo lists start cells p → cells ≡ filled lists start
+filled_all lists start cells p whole to =
+    same_lists cells (filled lists start) None (to.long ∙ sym (length-filled lists start)) (λ q within. to.done q (omega (arith, to.long)))
