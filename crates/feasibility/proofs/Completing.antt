@@ -24,7 +24,7 @@ equal_number a = grind (arith, common_steps)
 pub among_head : (v : ℕ) (values : List ℕ) → is_among (v ∷ values) v ≡ true
 among_head v values = ap (λ (b : Bool). b || is_among values v) (equal_number v)
 
-or_right : (a b : Bool) → b ≡ true → (a || b) ≡ true
+pub or_right : (a b : Bool) → b ≡ true → (a || b) ≡ true
 or_right true b h = refl
 or_right false b h = h
 
