@@ -4,3 +4,4 @@ pub mod Local
 pub mod Naming
 pub mod Nodes
 pub mod Searching
+pub mod Visiting

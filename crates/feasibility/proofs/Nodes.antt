@@ -2,7 +2,7 @@
 use Rattle.std.proofs.Common.{◌≡◌, ◌≢◌, ℕ, zero, suc, ◌+◌, ◌<◌, ◌≤◌, Bool, true, false, not, ◌&&◌, ◌||◌, ◌==◌, List, [], ◌∷◌, ◌++◌, map, take, length, Option, Some, None, is_some, unwrap_or, get_or, set, ◌∙◌, sym, ap, subst, refl, arith, inl, inr, eq-eqb, zero-add}
 use Rattle.std.specs.List.{list_any, range_with_len}
 use Rattle.std.proofs.lemmas.Bool.{false≢true, cases_eq}
-use Rattle.std.proofs.lemmas.List.{get_or-set_other, get_or-set_same, length-set, same_lists, set-set}
+use Rattle.std.proofs.lemmas.List.{get_or-set_other, get_or-set_same, get_or_default, length-set, same_lists, set-set}
 use Rattle.std.proofs.lemmas.List.Folds.{list_any_at, list_any_more, list_any-append}
 use Rattle.std.proofs.lemmas.List.FromFn.{length-range_with_len, get_or-range_with_len, map-range_with_len_more}
 use Rattle.cov_model.specs.Sound.{ModelView, IsSound, param_at, rule_at}
@@ -92,7 +92,8 @@ filled_more lists start cells p within listed to = record {
 
 pub filled_all : (lists : List (List ℕ)) (start cells : List (Option ℕ)) (p : ℕ) → p ≡ length start → FilledTo lists start cells p → cells ≡ filled lists start
 filled_all lists start cells p whole to =
-    same_lists cells (filled lists start) (to.long ∙ sym (length-filled lists start)) None (λ q within. to.done q (omega (arith, to.long)))
+    same_lists cells (filled lists start) (to.long ∙ sym (length-filled lists start)) (λ q d within.
+    get_or_default cells q d None within ∙ to.done q (omega (arith, to.long)) ∙ get_or_default (filled lists start) q None d (omega (arith, to.long, length-filled lists start)))
 
 pub none_of : (o : Option ℕ) → is_some o ≡ false → o ≡ None
 none_of None h = refl

@@ -1,4 +1,4 @@
-use Rattle.std.proofs.Common.{◌≡◌, ◌∙◌, sym, subst, length, arith}
+use Rattle.std.proofs.Common.{◌≡◌, ◌+◌, ◌∙◌, sym, subst, length, arith}
 use Rattle.feasibility.proofs.Nodes.{FilledTo, filled_init, filled_more, filled_all}
 use Rattle.feasibility.proofs.tree.SearchTree.fill.Goals as goal
 
