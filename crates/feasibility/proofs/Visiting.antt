@@ -137,7 +137,7 @@ told_leaf m lists p cells after start finish answer whole told =
     subst (λ (list : List ℕ). Told (visit m lists list cells) (reached m lists list cells) cells after start finish answer) (sym (constrained_end m p whole)) told
 
 -- a node where values are tried: it isn't skipped
-pub told_node : (m : ModelView) (lists : List (List ℕ)) (p : ℕ) (cells after : List (Option ℕ)) (start finish : ℕ) (answer : Answer) (failing : Bool) → p < length m.params
+told_node : (m : ModelView) (lists : List (List ℕ)) (p : ℕ) (cells after : List (Option ℕ)) (start finish : ℕ) (answer : Answer) (failing : Bool) → p < length m.params
     → is_named m p ≡ true → is_assigned cells p ≡ false → is_failing m lists cells ≡ failing
     → Told (if failing then record { found = false; cost = 1 }
     else record { found = (try_values (outcome_at m lists (p + 1)) cells p (get_or lists p [])).found; cost = suc (try_values (outcome_at m lists (p + 1)) cells p (get_or lists p [])).cost })
@@ -159,7 +159,7 @@ told_node m lists p cells after start finish answer failing within named unassig
     cells after start finish answer) (sym fails) told))
 
 -- what a failing node tells
-pub told_failing : (path cells : List (Option ℕ)) (start : ℕ) → 0 < start → Told (record { found = false; cost = 1 }) path cells cells start (start - 1) No
+told_failing : (path cells : List (Option ℕ)) (start : ℕ) → 0 < start → Told (record { found = false; cost = 1 }) path cells cells start (start - 1) No
 told_failing path cells start some = record {
   answer = sym (answer_enough false 1 start some);
   left = refl;
@@ -171,21 +171,38 @@ told_failing path cells start some = record {
     no_yes : No ≡ Yes → ⊥
     no_yes e = cc
 
--- and a node that the budget doesn't reach
-pub told_over : (outcome : Outcome) (path cells : List (Option ℕ)) → 0 < outcome.cost → Told outcome path cells cells 0 0 Spent
-told_over outcome path cells some = record {
-  answer = sym (answer_spent outcome.found outcome.cost 0 some);
-  left = omega arith;
-  yes = λ e. absurd (spent_yes e);
-  other = λ e. absurd (spent_no e);
-  long = refl;
-}
-  where
-    spent_yes : Spent ≡ Yes → ⊥
-    spent_yes e = cc
+pub told_failed : (m : ModelView) (lists : List (List ℕ)) (p : ℕ) (cells : List (Option ℕ)) (start : ℕ) → p < length m.params
+    → is_named m p ≡ true → is_assigned cells p ≡ false → is_failing m lists cells ≡ true → 0 < start
+    → Told (outcome_at m lists p cells) (reached_at m lists p cells) cells cells start (start - 1) No
+told_failed m lists p cells start within named unassigned fails some =
+    told_node m lists p cells cells start (start - 1) No true within named unassigned fails
+    (told_failing (reached_by (outcome_at m lists (p + 1)) (reached_at m lists (p + 1)) cells p (get_or lists p [])) cells start some)
 
-    spent_no : Spent ≡ No → ⊥
-    spent_no e = cc
+-- and a node that the budget doesn't reach
+pub told_over : (outcome : Outcome) (start : ℕ) → start ≡ 0 → 0 < outcome.cost → Spent ≡ answer_of outcome.found outcome.cost start
+told_over outcome start none some = sym (answer_spent outcome.found outcome.cost start (omega arith))
+
+-- what is told of a partial row and an answer is told of equal ones
+pub told_moved : (m : ModelView) (lists : List (List ℕ)) (p : ℕ) (put other after : List (Option ℕ)) (start finish : ℕ) (given wanted : Answer) → put ≡ other → given ≡ wanted
+    → Told (outcome_at m lists p put) (reached_at m lists p put) put after start finish given
+    → Told (outcome_at m lists p other) (reached_at m lists p other) other after start finish wanted
+told_moved m lists p put other after start finish given wanted same is told =
+    subst (λ (cells : List (Option ℕ)). Told (outcome_at m lists p cells) (reached_at m lists p cells) cells after start finish wanted) same
+    (subst (λ (answer : Answer). Told (outcome_at m lists p put) (reached_at m lists p put) put after start finish answer) is told)
+
+-- the outcome of a node whose values are tried
+abbrev pub node_outcome : (List (Option ℕ) → Outcome) → List (Option ℕ) → ℕ → List ℕ → Outcome
+node_outcome visited cells p values = record { found = (try_values visited cells p values).found; cost = suc (try_values visited cells p values).cost }
+
+-- a node whose values are tried
+pub told_tried : (m : ModelView) (lists : List (List ℕ)) (p : ℕ) (cells after : List (Option ℕ)) (values : List ℕ) (start whole finish : ℕ) (answer : Answer) → p < length m.params
+    → is_named m p ≡ true → is_assigned cells p ≡ false → is_failing m lists cells ≡ false → values ≡ get_or lists p [] → start + 1 ≡ whole
+    → Told (node_outcome (outcome_at m lists (p + 1)) cells p values) (reached_by (outcome_at m lists (p + 1)) (reached_at m lists (p + 1)) cells p values) cells after (start + 1) finish answer
+    → Told (outcome_at m lists p cells) (reached_at m lists p cells) cells after whole finish answer
+told_tried m lists p cells after values start whole finish answer within named unassigned fails listed same told =
+    told_node m lists p cells after whole finish answer false within named unassigned fails
+    (subst (λ (list : List ℕ). Told (node_outcome (outcome_at m lists (p + 1)) cells p list) (reached_by (outcome_at m lists (p + 1)) (reached_at m lists (p + 1)) cells p list) cells after whole finish answer) listed
+    (subst (λ (budget : ℕ). Told (node_outcome (outcome_at m lists (p + 1)) cells p values) (reached_by (outcome_at m lists (p + 1)) (reached_at m lists (p + 1)) cells p values) cells after budget finish answer) same told))
 
 -- the values from a place on decide what the search through all of them finds and costs
 pub record Going (visited : List (Option ℕ) → Outcome) (reach : List (Option ℕ) → List (Option ℕ)) (cells : List (Option ℕ)) (p : ℕ) (values rest : List ℕ) (start left : ℕ) : Type 0 where
@@ -237,10 +254,6 @@ going_more visited reach cells after p i values start left finish within going t
           omega (arith, going.cost, told.left, ended.enough, cost);
       path = going.path ∙ ap (reached_by visited reach cells p) here ∙ one.path;
     }
-
--- the outcome of a node whose values are tried
-abbrev pub node_outcome : (List (Option ℕ) → Outcome) → List (Option ℕ) → ℕ → List ℕ → Outcome
-node_outcome visited cells p values = record { found = (try_values visited cells p values).found; cost = suc (try_values visited cells p values).cost }
 
 -- a value with a completion
 pub going_yes : (visited : List (Option ℕ) → Outcome) (reach : List (Option ℕ) → List (Option ℕ)) (cells after : List (Option ℕ)) (p i : ℕ) (values : List ℕ) (start left finish : ℕ)
@@ -315,3 +328,16 @@ going_no visited reach cells p i values start left past going =
   where
     no_yes : No ≡ Yes → ⊥
     no_yes e = cc
+
+-- a visit costs a node at least
+pub cost_some : (m : ModelView) (lists : List (List ℕ)) (params : List ℕ) (cells : List (Option ℕ)) → 0 < (visit m lists params cells).cost
+cost_some m lists [] cells = omega arith
+cost_some m lists (p ∷ params) cells = by_case (is_assigned cells p) (is_failing m lists cells) (cost_some m lists params cells)
+  where
+    by_case : (assigned failing : Bool) → 0 < (visit m lists params cells).cost
+        → 0 < (if assigned then visit m lists params cells
+        else if failing then record { found = false; cost = 1 }
+        else record { found = (try_values (visit m lists params) cells p (get_or lists p [])).found; cost = suc (try_values (visit m lists params) cells p (get_or lists p [])).cost }).cost
+    by_case true failing some = some
+    by_case false true some = omega arith
+    by_case false false some = omega arith

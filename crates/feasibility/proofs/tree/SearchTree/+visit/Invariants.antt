@@ -8,5 +8,5 @@ decreases-visit l = length l.self.now.model.params - l.p
 -- the values from here on decide what the search through all of them finds
 abbrev pub invariant-loop-v : goal.invariant-loop-v
 invariant-loop-v l =
-    (l.cells ≡ l.initial.cells)
-    × Going (outcome_at l.self.model l.self.values (l.p + 1)) (reached_at l.self.model l.self.values (l.p + 1)) l.initial.cells l.p l.values (drop l.v-index l.values) l.initial.left l.left
+    (l.cells ≡ l.fn.cells)
+    × Going (outcome_at l.self.model l.self.values (l.p + 1)) (reached_at l.self.model l.self.values (l.p + 1)) l.fn.cells l.p l.values (drop l.v-index l.values) l.initial.left l.left
