@@ -3,15 +3,21 @@ ghost use Rattle.std.specs.List.{list_any};
 ghost use Rattle.cov_model.specs.Fits.{FitsModel};
 ghost use Rattle.cov_model.specs.Kleene.{body_truth};
 ghost use Rattle.cov_model.specs.Sound.{IsSound, rule_at};
+ghost use Rattle.cov_model.specs.Preference.{OrdersValues};
+ghost use Rattle.definitions.specs.Completion.{preferred_values};
 ghost use Rattle.definitions.specs.Demand.{is_among};
-ghost use Rattle.definitions.specs.Search.{breaks_a_rule, is_failing, is_no, is_stuck, visit};
+ghost use Rattle.definitions.specs.Search.{breaks_a_rule, constrained_params, is_failing, is_no, is_stuck, visit};
 ghost use Rattle.feasibility.specs.Answers.{answer_of};
 ghost use Rattle.feasibility.specs.Path.{filled, filled_cell, reached};
+ghost use Rattle.feasibility.specs.Slices.{IsSliceOf};
 ghost use Rattle.feasibility.specs.Tree.{ListsValues, TreeView, constrained_from, is_named, naming};
 
 use crate::answer::Answer;
-use cov_model::{Cells, ParamNo, TestModel, Truth, ValueNo};
+use crate::build::{naming_lists, preferred_lists};
+use cov_model::{Cells, ParamNo, Prefs, Slice, TestModel, Truth, ValueNo};
+use std::alloc::Global;
 use std::marker::Model;
+use value_text::NoMemory;
 
 /// What a plain search looks at in each node: the values of each parameter in the order in which
 /// they are tried, and the numbers of the constraints that name it.
@@ -37,7 +43,34 @@ impl<'a> Model for SearchTree<'a> {
     ghost invariant = { λ a. IsTree a.model.now (map (λ list. list.items) a.values.items) (map (λ list. list.items) a.naming.items) };
 }
 
-impl SearchTree<'_> {
+impl<'a> SearchTree<'a> {
+    // What a search of a slice needs, in the order of the preferences.
+    pub(crate) fn new(
+        alloc: Global,
+        model: &'a TestModel,
+        prefs: &Prefs,
+        slice: Slice,
+    ) -> Result<SearchTree<'a>, NoMemory>
+        requires slice { IsSliceOf model.now slice }
+        requires orders { OrdersValues model.now prefs.now }
+        ensures { IfOk result (λ tree. tree ≡ record { model = model.now; values = preferred_values model.now prefs.now slice }) }
+    {
+        let values = preferred_lists(alloc, model, prefs, slice)?;
+        let naming = naming_lists(alloc, model)?;
+        Ok(SearchTree {
+            model,
+            values,
+            naming,
+        })
+    }
+
+    // The number of parameters of the model.
+    pub(crate) fn count(&self) -> usize
+        ensures { result ≡ length self.now.model.params }
+    {
+        self.model().params().len()
+    }
+
     // The model.
     fn model(&self) -> &TestModel
         ensures value { result.now ≡ self.now.model }
@@ -228,5 +261,20 @@ impl SearchTree<'_> {
             }
         }
         Answer::No
+    }
+
+    // Searches for a completion of the cells. After Yes the room holds the row that was found.
+    pub(crate) fn search(&self, cells: &Cells, room: &mut Cells, budget: u64) -> Answer
+        requires fits { FitsModel self.now.model cells.now }
+        requires long { length room.old ≡ length cells.now }
+        ensures answer { result ≡ answer_of (visit self.now.model self.now.values (constrained_params self.now.model) cells.now).found (visit self.now.model self.now.values (constrained_params self.now.model) cells.now).cost budget }
+        ensures yes { result ≡ Answer.Yes → room.new ≡ reached self.now.model self.now.values (constrained_params self.now.model) cells.now }
+        ensures long { length room.new ≡ length room.old }
+        ensures sound { IsSound self.now.model }
+    {
+        let _ = self.model();
+        room.copy_from(cells);
+        let mut left = budget;
+        self.visit(0, room, &mut left)
     }
 }
