@@ -1,11 +1,11 @@
 -- The first completion of a partial row that meets a test, over plain lists.
-use Rattle.std.proofs.Common.{◌≡◌, ℕ, zero, suc, ◌<◌, Bool, true, false, ◌&&◌, ◌||◌, ◌==◌, cond, if◌then◌else◌, List, [], ◌∷◌, ◌++◌, map, length, Option, Some, None, is_some, unwrap_or, find, get_or, set, ◌⊎◌, ◌∙◌, sym, ap, subst, refl, arith, inl, inr}
+use Rattle.std.proofs.Common.{◌≡◌, ℕ, zero, suc, ◌<◌, Bool, true, false, ◌&&◌, ◌||◌, ◌==◌, cond, if◌then◌else◌, List, [], ◌∷◌, map, length, Option, Some, None, is_some, unwrap_or, find, get_or, set, ◌⊎◌, ◌∙◌, sym, ap, subst, refl, arith, inl, inr}
 use Rattle.std.specs.Option.{option_or, option_map}
-use Rattle.std.specs.List.{filter, flat_map, list_any}
+use Rattle.std.specs.List.{filter, flat_map}
 use Rattle.std.proofs.lemmas.Bool.{false≢true}
 use Rattle.std.proofs.lemmas.List.Folds.{find-append}
 use Rattle.std.proofs.lemmas.Grind.{common_steps}
-use Rattle.cov_model.specs.Rows.{contains, is_assigned, value_in}
+use Rattle.cov_model.specs.Rows.{contains, is_assigned}
 use Rattle.definitions.specs.Demand.{is_among}
 use Rattle.definitions.specs.Completion.{cell_values, completions}
 use Rattle.feasibility.specs.Path.{filled}

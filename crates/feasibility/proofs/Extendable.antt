@@ -1,5 +1,5 @@
 -- Plain search in a slice of a model.
-use Rattle.std.proofs.Common.{◌≡◌, ◌≢◌, ℕ, zero, suc, ◌+◌, ◌<◌, ◌≤◌, Bool, true, false, not, ◌||◌, ◌==◌, cond, List, [], ◌∷◌, map, length, Option, Some, None, is_some, find, get_or, ◌∙◌, sym, ap, subst, refl, arith, inl, inr, eq-eqb, zero-add}
+use Rattle.std.proofs.Common.{◌≡◌, ℕ, zero, suc, ◌+◌, ◌<◌, ◌≤◌, Bool, true, false, not, ◌||◌, ◌==◌, cond, List, [], ◌∷◌, map, length, Option, Some, None, is_some, find, get_or, ◌∙◌, sym, ap, subst, refl, arith, inl, inr, eq-eqb, zero-add}
 use Rattle.std.specs.List.{filter, list_any, range_with_len}
 use Rattle.std.proofs.lemmas.Bool.{false≢true, cases_lt, cases_eq}
 use Rattle.std.proofs.lemmas.List.{get_or-set_other, get_or-set_same, get_or_past, length-set}
@@ -9,19 +9,24 @@ use Rattle.std.proofs.lemmas.List.FromFn.{length-range_with_len, get_or-range_wi
 use Rattle.cov_model.specs.declared.slice.Slice.{Slice}
 use Rattle.cov_model.specs.declared.slice.Slice.TheVariants.{Positive, Negative}
 use Rattle.cov_model.specs.Sound.{ModelView, IsSound, param_at}
-use Rattle.cov_model.specs.Rows.{is_assigned, value_in}
+use Rattle.cov_model.specs.Rows.{value_in}
 use Rattle.cov_model.specs.Meaning.{value_at}
 use Rattle.cov_model.specs.Valid.{param_numbers}
 use Rattle.cov_model.specs.Slices.{slice_values, positive_values, value_numbers}
 use Rattle.definitions.specs.Demand.{is_among}
 use Rattle.definitions.specs.Completion.{completions, meets_rules, is_extendable, preferred_values, first_completion}
-use Rattle.definitions.specs.Search.{constrained_params, plain_search}
+use Rattle.definitions.specs.Search.{constrained_params, plain_search, plain_cost, visit}
 use Rattle.definitions.specs.Laws.{ArePreferences}
+use Rattle.feasibility.specs.Answers.{answer_of}
+use Rattle.feasibility.specs.declared.answer.Answer.{Answer}
+use Rattle.feasibility.specs.declared.answer.Answer.TheVariants.{Yes}
+use Rattle.feasibility.specs.Solving.{SolverView, IsSolver}
 use Rattle.feasibility.specs.Tree.{ListsValues}
+use Rattle.feasibility.proofs.Visiting.{told_yes}
 use Rattle.feasibility.specs.Path.{reached}
 use Rattle.feasibility.specs.Slices.{IsSliceOf, IsOfSlice}
 use Rattle.feasibility.specs.Laws.{PlainSearchIsExact}
-use Rattle.feasibility.proofs.Completing.{same_number, first_of, IsCompletion, first_of-none, first_of-some, completion_moves, among_filter, among_tail}
+use Rattle.feasibility.proofs.Completing.{same_number, first_of, first_of-none, first_of-some, completion_moves, among_filter, among_tail}
 use Rattle.feasibility.proofs.Searching.{IsListed, given_by, visit_gives, not_true_false}
 
 list_any-find : {X : Type 0} (test : X → Bool) (xs : List X) → list_any test xs ≡ is_some (find test xs)
@@ -218,3 +223,60 @@ plain_search_is_exact m pref slice cells sound are is of =
           ∙ sym (ap (λ (o : Option (List (Option ℕ))). is_some o) (plain_search_gives m pref slice cells sound are is of)) ∙ whole,
       whole,
     )
+
+-- whether a value is one of a slice
+listed_positive : (m : ModelView) (p v : ℕ) → p < length m.params → v < length (param_at m.params p).values
+    → is_among (get_or (map (positive_values m) (param_numbers m)) p []) v ≡ not (value_at m p v).negative
+listed_positive m p v within exists =
+    ap (λ (values : List ℕ). is_among values v) (get_or-map-range_with_len (positive_values m) 0 (length m.params) p p [] within (zero-add p))
+    ∙ both_ways (is_among (positive_values m p) v) (not (value_at m p v).negative)
+    (λ listed. among_filter_test (λ w. not (value_at m p w).negative) v (value_numbers m p) listed)
+    (λ positive. among_filter_in (λ w. not (value_at m p w).negative) v (value_numbers m p) positive (among_range (length (param_at m.params p).values) v exists))
+
+pub slice_positive : (m : ModelView) (p v : ℕ) → p < length m.params → v < length (param_at m.params p).values
+    → not (value_at m p v).negative ≡ is_among (get_or (slice_values m Positive) p []) v
+slice_positive m p v within exists = sym (listed_positive m p v within exists)
+
+pub slice_other : (m : ModelView) (q w p v : ℕ) → (q ≡ p → ⊥) → p < length m.params → v < length (param_at m.params p).values
+    → not (value_at m p v).negative ≡ is_among (get_or (slice_values m (Negative q w)) p []) v
+slice_other m q w p v differs within exists =
+    sym (ap (λ (values : List ℕ). is_among values v) (get_or-set_other (map (positive_values m) (param_numbers m)) q p (w ∷ []) [] (λ e. differs (sym e))) ∙ listed_positive m p v within exists)
+
+pub slice_fixed : (m : ModelView) (q w p v : ℕ) → q ≡ p → p < length m.params → (w == v) ≡ is_among (get_or (slice_values m (Negative q w)) p []) v
+slice_fixed m q w p v same within =
+    let here : get_or (slice_values m (Negative q w)) p [] ≡ w ∷ [] =
+    ap (λ (k : ℕ). get_or (slice_values m (Negative k w)) p []) same
+    ∙ get_or-set_same (map (positive_values m) (param_numbers m)) p (w ∷ []) [] (omega (arith, length-map-range_with_len (positive_values m) 0 (length m.params))) in
+    sym (ap (λ (values : List ℕ). is_among values v) here ∙ or_false (w == v))
+  where
+    or_false : (b : Bool) → (b || false) ≡ b
+    or_false true = refl
+    or_false false = refl
+
+-- what a search over a solver's values answers is what is asked of the solver
+pub solver_asks : (solver : SolverView) (lists : List (List ℕ)) (room cells : List (Option ℕ)) (budget : ℕ) (answer : Answer) → IsSolver solver lists room
+    → IsSound solver.model → IsOfSlice solver.model solver.slice cells
+    → answer ≡ answer_of (visit solver.model lists (constrained_params solver.model) cells).found (visit solver.model lists (constrained_params solver.model) cells).cost budget
+    → answer ≡ answer_of (is_extendable solver.model solver.slice cells) (plain_cost solver.model solver.prefs solver.slice cells) budget
+solver_asks solver lists room cells budget answer is sound of told =
+    told
+    ∙ ap (λ (values : List (List ℕ)). answer_of (visit solver.model values (constrained_params solver.model) cells).found (visit solver.model values (constrained_params solver.model) cells).cost budget) is.tried
+    ∙ ap (λ (found : Bool). answer_of found (plain_cost solver.model solver.prefs solver.slice cells) budget)
+    (plain_search_is_exact solver.model solver.prefs solver.slice cells sound (is.orders.as_many, is.orders.each) is.slice of).0
+
+-- and the row that it reaches is the first completion
+pub solver_completes : (solver : SolverView) (lists : List (List ℕ)) (room cells row : List (Option ℕ)) (budget : ℕ) (answer : Answer) → IsSolver solver lists room
+    → IsSound solver.model → IsOfSlice solver.model solver.slice cells
+    → answer ≡ answer_of (visit solver.model lists (constrained_params solver.model) cells).found (visit solver.model lists (constrained_params solver.model) cells).cost budget
+    → answer ≡ Yes → row ≡ reached solver.model lists (constrained_params solver.model) cells
+    → Some row ≡ first_completion solver.model solver.prefs solver.slice cells
+solver_completes solver lists room cells row budget answer is sound of told answers reaches =
+    let whole : Yes ≡ answer_of (plain_search solver.model solver.prefs solver.slice cells).found (plain_cost solver.model solver.prefs solver.slice cells) budget =
+    sym answers ∙ told
+    ∙ ap (λ (values : List (List ℕ)). answer_of (visit solver.model values (constrained_params solver.model) cells).found (visit solver.model values (constrained_params solver.model) cells).cost budget) is.tried in
+    let found = (told_yes (plain_search solver.model solver.prefs solver.slice cells).found (plain_cost solver.model solver.prefs solver.slice cells) budget whole).is in
+    let last : row ≡ reached solver.model (preferred_values solver.model solver.prefs solver.slice) (constrained_params solver.model) cells =
+    reaches ∙ ap (λ (values : List (List ℕ)). reached solver.model values (constrained_params solver.model) cells) is.tried in
+    sym (plain_search_gives solver.model solver.prefs solver.slice cells sound (is.orders.as_many, is.orders.each) is.slice of
+    ∙ ap (λ (b : Bool). cond b (Some (reached solver.model (preferred_values solver.model solver.prefs solver.slice) (constrained_params solver.model) cells)) None) found
+    ∙ ap (λ (r : List (Option ℕ)). Some r) (sym last))

@@ -1,5 +1,5 @@
 -- Nodes of a search: what setting, clearing and filling cells gives.
-use Rattle.std.proofs.Common.{◌≡◌, ◌≢◌, ℕ, zero, suc, ◌+◌, ◌<◌, ◌≤◌, Bool, true, false, not, ◌&&◌, ◌||◌, ◌==◌, List, [], ◌∷◌, ◌++◌, map, take, length, Option, Some, None, is_some, unwrap_or, get_or, set, ◌∙◌, sym, ap, subst, refl, arith, inl, inr, eq-eqb, zero-add}
+use Rattle.std.proofs.Common.{◌≡◌, ℕ, zero, suc, ◌+◌, ◌<◌, ◌≤◌, Bool, true, false, not, ◌&&◌, ◌||◌, ◌==◌, List, [], ◌∷◌, ◌++◌, map, take, length, Option, Some, None, is_some, unwrap_or, get_or, set, ◌∙◌, sym, ap, subst, refl, arith, inl, inr, eq-eqb, zero-add}
 use Rattle.std.specs.List.{list_any, range_with_len}
 use Rattle.std.proofs.lemmas.Bool.{false≢true, cases_eq}
 use Rattle.std.proofs.lemmas.List.{get_or-set_other, get_or-set_same, get_or_default, length-set, same_lists, set-set}
@@ -8,9 +8,7 @@ use Rattle.std.proofs.lemmas.List.FromFn.{length-range_with_len, get_or-range_wi
 use Rattle.cov_model.specs.Sound.{ModelView, IsSound, param_at, rule_at}
 use Rattle.cov_model.specs.Kleene.{body_truth}
 use Rattle.cov_model.specs.Valid.{param_numbers}
-use Rattle.cov_model.specs.Rows.{is_assigned, value_in}
 use Rattle.cov_model.specs.Fits.{FitsModel}
-use Rattle.definitions.specs.Demand.{is_among}
 use Rattle.definitions.specs.Completion.{with_value}
 use Rattle.definitions.specs.Search.{breaks_a_rule, is_no, is_stuck, is_failing}
 use Rattle.feasibility.specs.Path.{filled, filled_cell}

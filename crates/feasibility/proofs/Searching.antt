@@ -1,10 +1,10 @@
 -- Plain search finds the first completion that meets every constraint.
-use Rattle.std.proofs.Common.{◌≡◌, ◌≢◌, lt-ltb, eq-eqb, zero-add, ℕ, zero, suc, ◌+◌, ◌<◌, ◌≤◌, Bool, true, false, not, ◌&&◌, ◌||◌, ◌==◌, cond, if◌then◌else◌, List, [], ◌∷◌, length, Option, Some, None, is_some, unwrap_or, get_or, set, ◌⊎◌, ◌∙◌, sym, ap, subst, refl, arith, inl, inr, All, add-suc}
+use Rattle.std.proofs.Common.{◌≡◌, ◌≢◌, lt-ltb, eq-eqb, zero-add, ℕ, zero, suc, ◌+◌, ◌<◌, Bool, true, false, not, ◌&&◌, ◌||◌, ◌==◌, cond, if◌then◌else◌, List, [], ◌∷◌, length, Option, Some, None, is_some, unwrap_or, get_or, set, ◌⊎◌, ◌∙◌, sym, ap, subst, refl, arith, inl, inr}
 use Rattle.std.specs.Option.{option_or}
 use Rattle.std.specs.List.{filter, list_any, list_all, range_with_len}
 use Rattle.std.proofs.lemmas.Bool.{false≢true, cases_lt, cases_eq, and_right}
 use Rattle.std.proofs.lemmas.List.{get_or-set_other, get_or-set_same, get_or_past, length-set}
-use Rattle.std.proofs.lemmas.List.Folds.{list_any_at, list_any_none}
+use Rattle.std.proofs.lemmas.List.Folds.{list_any_at}
 use Rattle.std.proofs.lemmas.List.Sums.{list_all-from_AllPass}
 use Rattle.std.proofs.lemmas.List.FromFn.{length-range_with_len, get_or-range_with_len}
 use Rattle.cov_model.specs.declared.truth.Truth.{Truth}

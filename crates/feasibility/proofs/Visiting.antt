@@ -1,5 +1,5 @@
 -- The visit of a node: what it answers, and what is left of the budget.
-use Rattle.std.proofs.Common.{◌≡◌, ℕ, zero, suc, ◌+◌, ◌-◌, ◌<◌, ◌≤◌, Bool, true, false, not, ◌||◌, cond, if◌then◌else◌, nat_lt, List, [], ◌∷◌, length, drop, get_or, Option, Some, None, is_some, ◌∙◌, sym, ap, subst, refl, arith, inl, inr, lt-ltb, drop-cons, add-one}
+use Rattle.std.proofs.Common.{◌≡◌, ℕ, suc, ◌+◌, ◌-◌, ◌<◌, ◌≤◌, Bool, true, false, not, ◌||◌, cond, if◌then◌else◌, nat_lt, List, [], ◌∷◌, length, drop, get_or, Option, ◌∙◌, sym, ap, subst, refl, arith, inl, inr, lt-ltb, drop-cons, add-one}
 use Rattle.std.specs.List.{filter, range_with_len}
 use Rattle.std.proofs.lemmas.Bool.{cases_lt}
 use Rattle.std.proofs.lemmas.List.{length-set, drop_all}
@@ -33,11 +33,11 @@ answer_spent : (found : Bool) (cost budget : ℕ) → budget < cost → answer_o
 answer_spent found cost budget over = ap (λ (k : Bool). if k then Spent else if found then Yes else No) (lt-ltb budget cost over)
 
 -- what an answer tells of the outcome
-record Ended (found wanted : Bool) (cost budget : ℕ) : Type 0 where
-  is : found ≡ wanted
-  enough : cost ≤ budget
+pub record Ended (found wanted : Bool) (cost budget : ℕ) : Type 0 where
+  pub is : found ≡ wanted
+  pub enough : cost ≤ budget
 
-told_yes : (found : Bool) (cost budget : ℕ) → Yes ≡ answer_of found cost budget → Ended found true cost budget
+pub told_yes : (found : Bool) (cost budget : ℕ) → Yes ≡ answer_of found cost budget → Ended found true cost budget
 told_yes found cost budget told =
     elim (cases_lt budget cost) [
       | inl over ↦ absurd (yes_spent (told ∙ answer_spent found cost budget over))

@@ -1,5 +1,5 @@
 -- Where plain search ends when it succeeds. (This project's rule.)
-use Rattle.std.specs.Prelude.{ℕ, Bool, List, [], ◌∷◌, Option, Some, None, slice_index_or, slice_get, if◌then◌else◌}
+use Rattle.std.specs.Prelude.{ℕ, List, [], ◌∷◌, Option, Some, None, slice_index_or, slice_get, if◌then◌else◌}
 use Rattle.cov_model.specs.Sound.{ModelView}
 use Rattle.cov_model.specs.Rows.{is_assigned}
 use Rattle.definitions.specs.Completion.{with_value}

@@ -1,8 +1,9 @@
-ghost use Rattle.std.specs.Prelude.{◌≡◌, ◌<◌, [], length, map, slice_index_or, IfOk};
+ghost use Rattle.std.specs.Prelude.{◌≡◌, ◌<◌, [], length, map, slice_index_or, not, IfOk};
 ghost use Rattle.std.specs.List.{filter};
 ghost use Rattle.cov_model.specs.Preference.{OrdersValues};
 ghost use Rattle.cov_model.specs.Slices.{slice_values};
 ghost use Rattle.cov_model.specs.Sound.{param_at};
+ghost use Rattle.cov_model.specs.Meaning.{value_at};
 ghost use Rattle.definitions.specs.Completion.{preferred_values};
 ghost use Rattle.definitions.specs.Demand.{is_among};
 ghost use Rattle.feasibility.specs.Slices.{IsSliceOf};
@@ -13,6 +14,16 @@ use cov_model::{ParamNo, Prefs, Slice, TestModel, ValueNo};
 use std::alloc::Global;
 use value_text::NoMemory;
 
+// Whether a value isn't negative.
+fn is_positive(model: &TestModel, p: ParamNo, v: ValueNo) -> bool
+    requires parameter { p < length model.now.params }
+    requires value { v < length (param_at model.now.params p).values }
+    ensures { result ≡ not (value_at model.now p v).negative }
+{
+    let param = &model.params().as_slice()[p as usize];
+    !param.values.as_slice()[v as usize].negative
+}
+
 // Whether a value of a parameter is one of the slice.
 fn is_in_slice(model: &TestModel, slice: Slice, p: ParamNo, v: ValueNo) -> bool
     requires slice { IsSliceOf model.now slice }
@@ -20,13 +31,15 @@ fn is_in_slice(model: &TestModel, slice: Slice, p: ParamNo, v: ValueNo) -> bool
     requires value { v < length (param_at model.now.params p).values }
     ensures { result ≡ is_among (slice_index_or (slice_values model.now slice) p []) v }
 {
-    if let Slice::Negative(fixed, w) = slice {
-        if fixed == p {
-            return w == v;
+    match slice {
+        Slice::Positive => is_positive(model, p, v),
+        Slice::Negative(fixed, w) => {
+            if fixed == p {
+                return w == v;
+            }
+            is_positive(model, p, v)
         }
     }
-    let param = &model.params().as_slice()[p as usize];
-    !param.values.as_slice()[v as usize].negative
 }
 
 // A parameter's values in the slice, in preference order.

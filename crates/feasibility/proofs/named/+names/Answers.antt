@@ -1,4 +1,3 @@
-use Rattle.std.proofs.Common.{◌≡◌}
 use Rattle.feasibility.proofs.Naming.{is_among-All, is_among-Any}
 use Rattle.feasibility.proofs.named.+names.Goals as goal
 

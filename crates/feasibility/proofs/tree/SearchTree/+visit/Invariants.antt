@@ -1,4 +1,4 @@
-use Rattle.std.proofs.Common.{◌≡◌, ◌-◌, ◌+◌, ◌<◌, length, drop, slice_index_or, []}
+use Rattle.std.proofs.Common.{◌≡◌, ◌-◌, ◌+◌, length, drop}
 use Rattle.feasibility.proofs.Visiting.{Going, outcome_at, reached_at}
 use Rattle.feasibility.proofs.tree.SearchTree.+visit.Given as goal
 

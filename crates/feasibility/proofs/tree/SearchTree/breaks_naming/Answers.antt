@@ -1,4 +1,4 @@
-use Rattle.std.proofs.Common.{◌<◌, ◌≤◌, length, get_or, subst, sym, arith}
+use Rattle.std.proofs.Common.{◌<◌, ◌≤◌, length, get_or, subst, sym}
 use Rattle.std.specs.List.{All}
 use Rattle.feasibility.proofs.Naming.{naming_exist}
 use Rattle.feasibility.proofs.tree.SearchTree.breaks_naming.Goals as goal

@@ -1,5 +1,5 @@
-use Rattle.std.proofs.Common.{◌≡◌, ◌+◌, ◌∙◌, sym, subst, length, arith}
-use Rattle.feasibility.proofs.Nodes.{FilledTo, filled_init, filled_more, filled_all}
+use Rattle.std.proofs.Common.{◌+◌, sym, subst, arith}
+use Rattle.feasibility.proofs.Nodes.{FilledTo, filled_more, filled_all}
 use Rattle.feasibility.proofs.tree.SearchTree.fill.Goals as goal
 
 pub loop-p-preserved : goal.loop-p-preserved

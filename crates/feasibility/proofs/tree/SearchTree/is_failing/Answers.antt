@@ -1,5 +1,4 @@
 use Rattle.std.proofs.Common.{◌≡◌, ◌<◌, ◌∙◌, sym, ap, true, false, length, arith}
-use Rattle.std.proofs.lemmas.Grind.{common_steps}
 use Rattle.definitions.specs.Search.{is_stuck}
 use Rattle.feasibility.proofs.Nodes.{stuck_more, stuck_fails_node}
 use Rattle.feasibility.proofs.tree.SearchTree.is_failing.Goals as goal

@@ -1,8 +1,6 @@
-use Rattle.std.proofs.Common.{◌≡◌, ◌∙◌, sym, ap, true, false, not, None, get_or, arith}
+use Rattle.std.proofs.Common.{◌≡◌, ◌∙◌, true, false, None, get_or, arith}
 use Rattle.std.proofs.lemmas.Grind.{common_steps}
 use Rattle.cov_model.specs.Rows.{is_assigned}
-use Rattle.definitions.specs.Search.{breaks_a_rule}
-use Rattle.definitions.specs.Completion.{with_value}
 use Rattle.feasibility.proofs.Nodes.{none_of, tries, tried_breaks, live_not_stuck, dead_more}
 use Rattle.feasibility.proofs.tree.SearchTree.is_stuck.Goals as goal
 

@@ -1,5 +1,4 @@
-use Rattle.std.proofs.Common.{◌≡◌, ◌∙◌, ap, length, arith}
-use Rattle.std.proofs.lemmas.Grind.{common_steps}
+use Rattle.std.proofs.Common.{◌∙◌, ap, length}
 use Rattle.feasibility.proofs.Nodes.{length-filled}
 use Rattle.feasibility.proofs.tree.SearchTree.visit_leaf.Goals as goal
 
