@@ -16,6 +16,3 @@ mod tree;
 pub use answer::{Answer, Question, SearchFault};
 pub use laws::plain_search_is_exact;
 pub use solver::Solver;
-
-#[cfg(test)]
-mod tests;
