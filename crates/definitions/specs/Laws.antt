@@ -12,7 +12,6 @@ use Rattle.definitions.specs.Report.{report_text}
 use Rattle.definitions.specs.RowFile.{rows_of, suite_rows}
 use Rattle.definitions.specs.RowReading.{RowReading, Suite, read_rows}
 use Rattle.definitions.specs.Completion.{completions, meets_rules, has_slice, is_extendable}
-use Rattle.definitions.specs.Search.{plain_search}
 use Rattle.definitions.specs.Seeds.{is_same_row, kept_seeds}
 use Rattle.definitions.specs.Growth.{growth}
 use Rattle.definitions.specs.Refutation.{Token, Branch, ByRule, ByNegative, ByOmission, refutes_each}
@@ -89,11 +88,6 @@ ArePreferences m pref = (length pref ≡ length m.params) × ((p : ℕ) → p < 
 abbrev pub HasSliceValues : ModelView → Slice → List (Option ℕ) → Type 0
 HasSliceValues m slice cells =
     (length cells ≡ length m.params) × ((p : ℕ) → is_assigned cells p ≡ true → Contains (slice_index_or (slice_values m slice) p []) (value_in cells p))
-
--- plain search succeeds exactly on what is extendable
-abbrev pub SearchFindsExtendable : Type 0
-SearchFindsExtendable = (m : ModelView) (pref : List (List ℕ)) (slice : Slice) (cells : List (Option ℕ)) → IsSound m → ArePreferences m pref
-    → HasSliceValues m slice cells → (plain_search m pref slice cells).found ≡ is_extendable m slice cells
 
 -- what growth gives: every row is valid; a demanded tuple is omitted exactly if no row of the model serves
 -- it, and else a row of the suite does; each kept seed is in a row; and there are no more rows than demanded

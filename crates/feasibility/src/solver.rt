@@ -85,6 +85,7 @@ impl<'a> Solver<'a> {
         ensures answer { result ≡ answer_of (is_extendable self.old.model self.old.slice cells.now) (plain_cost self.old.model self.old.prefs self.old.slice cells.now) budget }
         ensures completed { result ≡ Answer.Yes → Some into.new ≡ first_completion self.old.model self.old.prefs self.old.slice cells.now }
         ensures kept { result ≢ Answer.Yes → into.new ≡ into.old }
+        ensures long { length into.new ≡ length into.old }
         ensures same { self.new ≡ self.old }
     {
         match self.tree.search(cells, &mut self.room, budget) {
