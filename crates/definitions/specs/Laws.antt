@@ -3,7 +3,7 @@ use Rattle.std.specs.Prelude.{◌≡◌, ℕ, ◌+◌, ◌^◌, ◌<◌, ◌≤�
 use Rattle.std.specs.List.{Any, list_any}
 use Rattle.cov_model.specs.declared.slice.Slice.{Slice}
 use Rattle.cov_model.specs.Sound.{ModelView, IsSound, param_at}
-use Rattle.cov_model.specs.Rows.{contains, is_assigned, value_in}
+use Rattle.cov_model.specs.Rows.{contains}
 use Rattle.cov_model.specs.Tuples.{IsRising}
 use Rattle.cov_model.specs.Valid.{is_row, is_valid, serves}
 use Rattle.cov_model.specs.Slices.{slice_of, slice_values, value_numbers}
@@ -83,11 +83,6 @@ ServableAreExtendable = (m : ModelView) (tuple : List (Option ℕ)) → IsSound 
 -- the lists are the values of each parameter in some order
 abbrev pub ArePreferences : ModelView → List (List ℕ) → Type 0
 ArePreferences m pref = (length pref ≡ length m.params) × ((p : ℕ) → p < length m.params → IsPermutation (value_numbers m p) (slice_index_or pref p []))
-
--- the partial row is as long as the model's list of parameters, and its values are of the slice
-abbrev pub HasSliceValues : ModelView → Slice → List (Option ℕ) → Type 0
-HasSliceValues m slice cells =
-    (length cells ≡ length m.params) × ((p : ℕ) → is_assigned cells p ≡ true → Contains (slice_index_or (slice_values m slice) p []) (value_in cells p))
 
 -- what growth gives: every row is valid; a demanded tuple is omitted exactly if no row of the model serves
 -- it, and else a row of the suite does; each kept seed is in a row; and there are no more rows than demanded
