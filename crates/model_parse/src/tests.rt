@@ -150,6 +150,7 @@ fn reads_models(rt: HostRuntime) -> Result<(), Fail> {
         ),
     ];
     for (model, expected) in cases {
+        assert!(rt; model.len() < 100_000);
         assert_model(&rt, rt.alloc(), model, &plain(2), expected)?;
     }
     assert_model(
@@ -205,6 +206,7 @@ fn refuses_models(rt: HostRuntime) {
         ("A: 1, 2\n\n#", 1, DiagCode::OrderTooLarge),
     ];
     for (model, line, code) in cases {
+        assert!(rt; model.len() < 100_000);
         match read(rt.alloc(), model, &plain(2)) {
             Ok(_) => assert!(rt; false, "{model}"),
             Err(fault) => assert_eq!(rt; fault, ModelFault::Bad(Diag { line, code }), "{model}"),
