@@ -63,3 +63,8 @@ is_none-row_fault m row complete =
     is_none-fault_of (find (λ rule. not (body_holds m rule.body row)) m.rules) (negatives m row)
     ∙ ap (λ (b : Bool). b && nat_le (length (negatives m row)) 1) (is_none-find (λ rule. body_holds m rule.body row) m.rules)
     ∙ ap (λ (b : Bool). (b && list_all (λ rule. body_holds m rule.body row) m.rules) && nat_le (length (negatives m row)) 1) (sym complete)
+
+-- a value that a test doesn't let through
+pub unless_passed : (b : Bool) (v : ℕ) → cond b (Some v) None ≡ None → b ≡ false
+unless_passed true v none = absurd cc
+unless_passed false v none = refl

@@ -28,10 +28,11 @@ abbrev pub slice_values : ModelView → Slice → List (List ℕ)
 slice_values m Positive = map (positive_values m) (param_numbers m)
 slice_values m (Negative q v) = slice_set (map (positive_values m) (param_numbers m)) q (v ∷ [])
 
+-- the slice of a partial row, given the parameters with negative values, of which there is at most one
+abbrev pub slice_by : List (Option ℕ) → List ℕ → Slice
+slice_by cells [] = Positive
+slice_by cells (p ∷ rest) = Negative p (value_in cells p)
+
 -- the slice of a partial row with at most one negative value
 abbrev pub slice_of : ModelView → List (Option ℕ) → Slice
-slice_of m cells = of_negatives (negatives m cells)
-  where
-    of_negatives : List ℕ → Slice
-    of_negatives [] = Positive
-    of_negatives (p ∷ rest) = Negative p (value_in cells p)
+slice_of m cells = slice_by cells (negatives m cells)

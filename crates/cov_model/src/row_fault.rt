@@ -42,7 +42,7 @@ impl TestModel {
     }
 
     // Whether the cells give a parameter a negative value.
-    fn is_negative(&self, p: ParamNo, cells: &Cells) -> bool
+    pub(crate) fn is_negative(&self, p: ParamNo, cells: &Cells) -> bool
         requires parameter { p < length self.now.params }
         requires fits { FitsModel self.now cells.now }
         ensures { result ≡ (is_assigned cells.now p && (given_value self.now cells.now p).negative) }

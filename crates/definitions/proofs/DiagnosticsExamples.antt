@@ -1,8 +1,8 @@
 -- The lines beside the output, computed.
-use Rattle.std.specs.Prelude.{◌≡◌, ◌++◌, codes, refl}
+use Rattle.std.specs.Prelude.{◌≡◌, [], ◌∷◌, ◌++◌, map, codes, refl}
 use Rattle.std.specs.Fmt.{digits}
 use Rattle.definitions.specs.Diagnostics
-use Rattle.definitions.specs.Limits.{Values, DemandedSets, DemandedTuples, ProofFile}
+use Rattle.definitions.specs.Limits.{Parameters, Values, Names, Constraints, DemandedSets, DemandedTuples, Rows, SuspectCandidates, most_counted, ModelFile, RowFile, ProofFile, most_bytes}
 use Rattle.definitions.proofs.Models.{row}
 
 seed : Diagnostics.used_seed_line 5 ≡ codes "Used seed: 5\n"
@@ -67,3 +67,26 @@ tuples = refl
 proof : Diagnostics.bytes_limit_line ProofFile ≡ codes "error: limit: proof bytes above 268435456\n"
 unfolding digits
 proof = refl
+
+counted-most : map most_counted (Parameters ∷ Values ∷ Names ∷ Constraints ∷ DemandedSets ∷ DemandedTuples ∷ Rows ∷ SuspectCandidates ∷ [])
+    ≡ 256 ∷ 4095 ∷ 64 ∷ 4096 ∷ 1048576 ∷ 67108864 ∷ 1048576 ∷ 4194304 ∷ []
+counted-most = refl
+
+bytes-most : map most_bytes (ModelFile ∷ RowFile ∷ ProofFile ∷ []) ≡ 4194304 ∷ 67108864 ∷ 268435456 ∷ []
+bytes-most = refl
+
+names : Diagnostics.count_limit_line Parameters 257 ++ Diagnostics.count_limit_line Names 65 ++ Diagnostics.count_limit_line Constraints 4097
+    ++ Diagnostics.count_limit_line Rows 1048577 ++ Diagnostics.count_limit_line SuspectCandidates 4194305
+    ≡ codes "error: limit: parameters 257 above 256\nerror: limit: names 65 above 64\nerror: limit: constraints 4097 above 4096\nerror: limit: rows 1048577 above 1048576\nerror: limit: suspect candidates 4194305 above 4194304\n"
+unfolding digits
+names = refl
+
+files : Diagnostics.bytes_limit_line ModelFile ++ Diagnostics.bytes_limit_line RowFile
+    ≡ codes "error: limit: model bytes above 4194304\nerror: limit: row file bytes above 67108864\n"
+unfolding digits
+files = refl
+
+-- lines without a number
+plain_lines : Diagnostics.memory_line ++ Diagnostics.no_header_line ++ Diagnostics.no_result_line ++ Diagnostics.cannot_write_report_line
+    ≡ codes "error: out of memory\nerror: row file: F1 no header\nerror: row file: F5 no result column\nerror: cannot write the report\n"
+plain_lines = refl

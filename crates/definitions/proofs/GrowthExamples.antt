@@ -1,11 +1,10 @@
 -- Suites, omission lists and questions, computed on small models.
-use Rattle.std.specs.Prelude.{◌≡◌, ℕ, false, List, [], ◌∷◌, map, Option, codes, refl}
+use Rattle.std.specs.Prelude.{◌≡◌, ℕ, false, List, [], ◌∷◌, map, Option, codes, refl, Some, None}
 use Rattle.cov_model.specs.declared.slice.Slice.TheVariants.{Positive}
 use Rattle.cov_model.specs.Sound.{ModelView}
-use Rattle.cov_model.specs.Slices.{slice_of}
-use Rattle.definitions.specs.Search.{plain_cost}
+use Rattle.definitions.specs.Search.{question_cost, first_over}
 use Rattle.definitions.specs.Seeds.{kept_seeds, dropped_lines, asked_seeds}
-use Rattle.definitions.specs.Growth.{growth, Grown, gain, tuples_in_play}
+use Rattle.definitions.specs.Growth.{growth, Grown, gain, values_by_gain, tuples_in_play}
 use Rattle.cov_model.specs.declared.constraint.Body.TheVariants.{IfThen}
 use Rattle.cov_model.specs.declared.constraint.Rel.TheVariants.{Eq, Ne}
 use Rattle.definitions.proofs.Examples.{model, param, value, two, is, number, with_rules, declared}
@@ -17,7 +16,7 @@ plain m = growth m (declared m) []
 
 -- the plain cost of each question
 abbrev costs : ModelView → List (List (Option ℕ)) → List ℕ
-costs m questions = map (λ cells. plain_cost m (declared m) (slice_of m cells) cells) questions
+costs m questions = map (question_cost m (declared m)) questions
 
 pair-grown : plain pair ≡ record { rows = table (codes "00 01 10 11"); omitted = []; asked = table (codes "00 01 10 11 00 01 10 11") }
 pair-grown = refl
@@ -110,6 +109,25 @@ twin-grown = refl
 twin-costs : costs twin (plain twin).asked ≡ 3 ∷ 3 ∷ 2 ∷ 4 ∷ 1 ∷ 3 ∷ 1 ∷ 3 ∷ []
 twin-costs = refl
 
+-- the first question above a budget
+abbrev spent : ModelView → ℕ → Option (List (Option ℕ))
+spent m budget = first_over m (declared m) budget (plain m).asked
+
+twin-spent : spent twin 2 ≡ Some (row (codes "0__"))
+twin-spent = refl
+
+twin-spent_later : spent twin 3 ≡ Some (row (codes "_1_"))
+twin-spent_later = refl
+
+twin-unspent : spent twin 4 ≡ None
+twin-unspent = refl
+
+barred-spent : spent barred 2 ≡ Some (row (codes "_01"))
+barred-spent = refl
+
+barred-unspent : spent barred 3 ≡ None
+barred-unspent = refl
+
 twin_and_one-rows : (plain twin_and_one).rows ≡ table (codes "1000 1111 1010 1100 1001")
 twin_and_one-rows = refl
 
@@ -156,3 +174,15 @@ negative-seeded = refl
 -- where no row is valid there is none, and every tuple is omitted
 impossible-grown : plain impossible ≡ record { rows = []; omitted = table (codes "0 1"); asked = table (codes "0 1") }
 impossible-grown = refl
+
+-- a value that gains every tuple counts too; one that gains nothing doesn't
+all-gained : values_by_gain (table (codes "00")) (table (codes "0_ 1_")) (row (codes "0_")) 1 (1 ∷ 0 ∷ []) ≡ 0 ∷ []
+all-gained = refl
+
+-- the greatest gain first, and for equal gain the order of the list
+by-gain : values_by_gain (table (codes "_0 _1 _2 01 11")) [] (row (codes "0_")) 1 (2 ∷ 0 ∷ 3 ∷ 1 ∷ []) ≡ 1 ∷ 2 ∷ 0 ∷ []
+by-gain = refl
+
+-- a seed that is dropped is told once, at its first line, and an empty one isn't
+impossible-dropped : dropped_lines impossible ((2, row (codes "_")) ∷ (3, row (codes "0")) ∷ (4, row (codes "0")) ∷ []) ≡ 3 ∷ []
+impossible-dropped = refl

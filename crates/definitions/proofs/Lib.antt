@@ -16,3 +16,9 @@ pub mod Cells
 pub mod Names
 pub mod ReadRow
 pub mod ReadBack
+pub mod Nothing
+pub mod Readings
+pub mod Contained
+pub mod Extendable
+pub mod Refuted
+pub mod Certified

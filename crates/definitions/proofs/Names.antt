@@ -6,7 +6,7 @@ use Rattle.std.proofs.lemmas.Slice.Eq.{bytes_eq-Decides}
 use Rattle.std.proofs.lemmas.List.Elements.{All-weaker, All-cons}
 use Rattle.std.specs.List.{starts_with, list_any}
 use Rattle.std.specs.Str.{chars}
-use Rattle.definitions.specs.RowFile.{byte_order_mark}
+use Rattle.model_lex.specs.Lines.{byte_order_mark}
 use Rattle.std.proofs.lemmas.List.Concat.{get_or-flat_map}
 use Rattle.std.proofs.lemmas.List.Folds.{length-flat_map-take}
 use Rattle.std.proofs.lemmas.List.Sums.{AllPass-from_list_all}

@@ -11,7 +11,8 @@ use Rattle.cov_model.specs.Rows.{is_complete}
 use Rattle.cov_model.specs.Valid.{is_row, param_numbers}
 use Rattle.cov_model.specs.Names.{is_name}
 use Rattle.definitions.specs.Report.{report_text, row_lines, header_line, line_of_cells, cell_text}
-use Rattle.definitions.specs.RowFile.{suite_rows, rows_of_lines, row_of_line, is_bad_header, without_mark, byte_order_mark, cells_of_line, columns_of, file_lines}
+use Rattle.definitions.specs.RowFile.{suite_rows, rows_of_lines, row_of_line, is_bad_header, cells_of_line, columns_of}
+use Rattle.model_lex.specs.Lines.{without_mark, byte_order_mark, file_lines}
 use Rattle.definitions.specs.Laws.{ReportsReadBack}
 use Rattle.definitions.proofs.Cells.{IsRow, joined, text_of, file_lines-text_of, numbered_all, joined_some, cells_of_line-joined}
 use Rattle.definitions.proofs.Names.{name_unmarked}

@@ -62,11 +62,11 @@ is_extendable m slice cells = list_any (meets_rules m) (completions (slice_value
 abbrev pub first_completion : ModelView → List (List ℕ) → Slice → List (Option ℕ) → Option (List (Option ℕ))
 first_completion m pref slice cells = find (meets_rules m) (completions (preferred_values m pref slice) cells)
 
--- at most one of the values is negative
-abbrev pub is_of_a_slice : ModelView → List (Option ℕ) → Bool
-is_of_a_slice m cells = nat_le (length (negatives m cells)) 1
+-- at most one of the values is negative, so the partial row belongs to a slice
+abbrev pub has_slice : ModelView → List (Option ℕ) → Bool
+has_slice m cells = nat_le (length (negatives m cells)) 1
 
 -- the partial row has at most one negative value and is extendable in the slice of that value, or in the
 -- positive one
 abbrev pub can_be_served : ModelView → List (Option ℕ) → Bool
-can_be_served m cells = is_of_a_slice m cells && is_extendable m (slice_of m cells) cells
+can_be_served m cells = has_slice m cells && is_extendable m (slice_of m cells) cells

@@ -11,8 +11,7 @@ use Rattle.definitions.specs.Demand.{demanded_tuples}
 use Rattle.definitions.specs.Report.{report_text}
 use Rattle.definitions.specs.RowFile.{rows_of, suite_rows}
 use Rattle.definitions.specs.RowReading.{RowReading, Suite, read_rows}
-use Rattle.definitions.specs.Completion.{completions, meets_rules, is_of_a_slice, is_extendable}
-use Rattle.definitions.specs.Search.{plain_search}
+use Rattle.definitions.specs.Completion.{completions, meets_rules, has_slice, is_extendable}
 use Rattle.definitions.specs.Seeds.{is_same_row, kept_seeds}
 use Rattle.definitions.specs.Growth.{growth}
 use Rattle.definitions.specs.Refutation.{Token, Branch, ByRule, ByNegative, ByOmission, refutes_each}
@@ -65,26 +64,25 @@ abbrev pub CompletionsAreRows : Type 0
 CompletionsAreRows = (lists : List (List ℕ)) (cells row : List (Option ℕ))
     → Contains (completions lists cells) row ↔ (Contains (completions lists []) row × (contains row cells ≡ true))
 
+-- what an extendable partial row contains is extendable
+abbrev pub ExtendableContains : Type 0
+ExtendableContains = (m : ModelView) (slice : Slice) (cells part : List (Option ℕ)) → contains cells part ≡ true
+    → is_extendable m slice cells ≡ true → is_extendable m slice part ≡ true
+
 -- a row serves a tuple with at most one negative value exactly if it is a row of the tuple's slice that
 -- contains the tuple and meets every constraint
 abbrev pub SlicesServe : Type 0
-SlicesServe = (m : ModelView) (row tuple : List (Option ℕ)) → IsSound m → is_of_a_slice m tuple ≡ true
+SlicesServe = (m : ModelView) (row tuple : List (Option ℕ)) → IsSound m → has_slice m tuple ≡ true
     → (serves m row tuple ≡ true) ↔ (Contains (completions (slice_values m (slice_of m tuple)) tuple) row × (meets_rules m row ≡ true))
 
 -- so some row serves it exactly if it is extendable in its slice
 abbrev pub ServableAreExtendable : Type 0
-ServableAreExtendable = (m : ModelView) (tuple : List (Option ℕ)) → IsSound m → is_of_a_slice m tuple ≡ true
+ServableAreExtendable = (m : ModelView) (tuple : List (Option ℕ)) → IsSound m → has_slice m tuple ≡ true
     → is_served m (all_rows m) tuple ≡ is_extendable m (slice_of m tuple) tuple
 
 -- the lists are the values of each parameter in some order
 abbrev pub ArePreferences : ModelView → List (List ℕ) → Type 0
 ArePreferences m pref = (length pref ≡ length m.params) × ((p : ℕ) → p < length m.params → IsPermutation (value_numbers m p) (slice_index_or pref p []))
-
--- plain search succeeds exactly on what is extendable, of partial rows with values of the slice
-abbrev pub SearchFindsExtendable : Type 0
-SearchFindsExtendable = (m : ModelView) (pref : List (List ℕ)) (slice : Slice) (cells : List (Option ℕ)) → IsSound m → ArePreferences m pref
-    → Any (λ row. contains row cells ≡ true) (completions (slice_values m slice) [])
-    → (plain_search m pref slice cells).found ≡ is_extendable m slice cells
 
 -- what growth gives: every row is valid; a demanded tuple is omitted exactly if no row of the model serves
 -- it, and else a row of the suite does; each kept seed is in a row; and there are no more rows than demanded

@@ -1,35 +1,14 @@
 -- How a row file is read: seed rows, a suite that is measured, or a report. (PICT's guide for seed
 -- files; the details are this project's rules.)
-use Rattle.std.specs.Prelude.{ℕ, ◌-◌, Bool, false, not, ◌&&◌, ◌||◌, List, [], ◌∷◌, map, length, take, drop, Option, ◌==◌, nat_lt, slice_index, slice_index_or, if◌then◌else◌, position}
-use Rattle.std.specs.List.{filter, list_any, slice_split, range_with_len, prefix_len, suffix_len, enumerate_from, starts_with}
-use Rattle.std.specs.Prelude.{nat_eq}
+use Rattle.std.specs.Prelude.{ℕ, ◌-◌, Bool, false, not, ◌||◌, List, [], ◌∷◌, map, length, take, drop, Option, ◌==◌, nat_lt, slice_index_or, if◌then◌else◌, position}
+use Rattle.std.specs.List.{filter, list_any, slice_split, range_with_len, prefix_len, suffix_len}
 use Rattle.std.specs.Option.{option_map_or}
+use Rattle.model_lex.specs.Lines.{numbered_lines}
 use Rattle.value_text.specs.Texts.{is_same_text}
 use Rattle.cov_model.specs.Sound.{ModelView, param_at}
 use Rattle.cov_model.specs.Rows.{is_complete}
 use Rattle.cov_model.specs.Valid.{param_numbers}
 use Rattle.definitions.specs.Report.{printed}
-
--- the bytes without a byte-order mark at the start
-abbrev pub byte_order_mark : List ℕ
-byte_order_mark = 0xef ∷ 0xbb ∷ 0xbf ∷ []
-
-abbrev pub without_mark : List ℕ → List ℕ
-without_mark bytes = if starts_with nat_eq bytes byte_order_mark then drop 3 bytes else bytes
-
--- a line without one carriage return at its end
-abbrev pub without_return : List ℕ → List ℕ
-without_return line = if nat_lt 0 (length line) && (slice_index line (length line - 1) == 13) then take (length line - 1) line else line
-
--- the pieces between line feeds that are lines: the last one, which no line feed ends, only if it has a byte
-abbrev pub ended_lines : List (List ℕ) → List (List ℕ)
-ended_lines [] = []
-ended_lines (line ∷ []) = if length line == 0 then [] else line ∷ []
-ended_lines (line ∷ next ∷ lines) = line ∷ ended_lines (next ∷ lines)
-
--- the lines of a file
-abbrev pub file_lines : List ℕ → List (List ℕ)
-file_lines bytes = map without_return (ended_lines (slice_split (λ byte. byte == 10) bytes))
 
 -- a text without spaces at its start
 abbrev pub without_first_spaces : List ℕ → List ℕ
@@ -48,8 +27,8 @@ abbrev pub cells_of_line : List ℕ → List (List ℕ)
 cells_of_line line = map without_spaces (slice_split (λ byte. byte == 9) line)
 
 -- the lines that have a byte, each with its number from 1
-abbrev pub numbered_lines : List ℕ → List (ℕ × List ℕ)
-numbered_lines bytes = filter (λ line. nat_lt 0 (length line.1)) (enumerate_from 1 (file_lines (without_mark bytes)))
+abbrev pub filled_lines : List ℕ → List (ℕ × List ℕ)
+filled_lines bytes = filter (λ line. nat_lt 0 (length line.1)) (numbered_lines bytes)
 
 -- the parameter that a header cell names
 abbrev pub named_param : ModelView → List ℕ → Option ℕ
@@ -87,7 +66,7 @@ rows_of_lines m (header ∷ lines) =
 
 -- the partial rows that the bytes hold as a suite
 abbrev pub suite_rows : ModelView → List ℕ → List (List (Option ℕ))
-suite_rows m bytes = rows_of_lines m (numbered_lines bytes)
+suite_rows m bytes = rows_of_lines m (filled_lines bytes)
 
 -- the complete rows that a report's bytes hold
 abbrev pub rows_of : ModelView → List ℕ → List (List (Option ℕ))

@@ -6,7 +6,7 @@ use Rattle.std.specs.Option.{option_or, option_map_or}
 use Rattle.cov_model.specs.Sound.{ModelView}
 use Rattle.cov_model.specs.Valid.{param_numbers}
 use Rattle.definitions.specs.Limits.{Rows, most_counted}
-use Rattle.definitions.specs.RowFile.{numbered_lines, cells_of_line, columns_of, named_param, named_value, row_of_line}
+use Rattle.definitions.specs.RowFile.{filled_lines, cells_of_line, columns_of, named_param, named_value, row_of_line}
 
 -- seed rows, which may leave parameters out, or a whole suite, in which every parameter has a column
 pub data RowMode : Type 0 where
@@ -94,4 +94,4 @@ read_numbered m mode (first ∷ lines) =
 
 -- the reading of a row file's bytes
 abbrev pub read_rows : ModelView → RowMode → List ℕ → Result RowReading RowsFault
-read_rows m mode bytes = read_numbered m mode (numbered_lines bytes)
+read_rows m mode bytes = read_numbered m mode (filled_lines bytes)

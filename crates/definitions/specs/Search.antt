@@ -1,6 +1,6 @@
 -- Plain search for a completion of a partial row, and its cost: the number of nodes that it visits. It
 -- looks one value ahead, and looking at a value visits nothing. (This project's rule.)
-use Rattle.std.specs.Prelude.{ℕ, suc, ◌+◌, Bool, true, false, ◌||◌, ◌&&◌, not, List, [], ◌∷◌, ◌++◌, Option, slice_index_or, if◌then◌else◌}
+use Rattle.std.specs.Prelude.{ℕ, suc, ◌+◌, Bool, true, false, ◌||◌, ◌&&◌, not, List, [], ◌∷◌, ◌++◌, Option, slice_index_or, if◌then◌else◌, find, nat_lt}
 use Rattle.std.specs.List.{filter, list_any}
 use Rattle.cov_model.specs.declared.slice.Slice.{Slice}
 use Rattle.cov_model.specs.declared.truth.Truth.{Truth}
@@ -12,6 +12,7 @@ use Rattle.cov_model.specs.Sound.{ModelView}
 use Rattle.cov_model.specs.Rows.{is_assigned}
 use Rattle.cov_model.specs.Kleene.{term_params, body_truth}
 use Rattle.cov_model.specs.Valid.{param_numbers}
+use Rattle.cov_model.specs.Slices.{slice_of}
 use Rattle.definitions.specs.Demand.{is_among}
 use Rattle.definitions.specs.Completion.{preferred_values, with_value}
 
@@ -87,3 +88,11 @@ plain_search m pref slice cells = visit m (preferred_values m pref slice) (const
 -- the plain cost: the number of nodes that it visits
 abbrev pub plain_cost : ModelView → List (List ℕ) → Slice → List (Option ℕ) → ℕ
 plain_cost m pref slice cells = (plain_search m pref slice cells).cost
+
+-- the plain cost of a question: of a partial row with at most one negative value, in its slice
+abbrev pub question_cost : ModelView → List (List ℕ) → List (Option ℕ) → ℕ
+question_cost m pref cells = plain_cost m pref (slice_of m cells) cells
+
+-- the first of the questions whose plain cost is above the budget
+abbrev pub first_over : ModelView → List (List ℕ) → ℕ → List (List (Option ℕ)) → Option (List (Option ℕ))
+first_over m pref budget questions = find (λ cells. nat_lt budget (question_cost m pref cells)) questions

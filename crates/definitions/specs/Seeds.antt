@@ -4,7 +4,7 @@ use Rattle.std.specs.Prelude.{ℕ, Bool, ◌&&◌, not, List, [], ◌∷◌, map
 use Rattle.std.specs.List.{filter, list_any}
 use Rattle.cov_model.specs.Sound.{ModelView}
 use Rattle.cov_model.specs.Rows.{contains}
-use Rattle.definitions.specs.Completion.{is_of_a_slice, can_be_served}
+use Rattle.definitions.specs.Completion.{has_slice, can_be_served}
 
 -- two partial rows of one model are the same if each contains the other
 abbrev pub is_same_row : List (Option ℕ) → List (Option ℕ) → Bool
@@ -25,7 +25,7 @@ seed_rows seeds = filter (λ seed. list_any is_some seed.1) (distinct_by (λ see
 
 -- the seeds whose extendability is asked: those with at most one negative value
 abbrev pub asked_seeds : ModelView → List (ℕ × List (Option ℕ)) → List (List (Option ℕ))
-asked_seeds m seeds = filter (is_of_a_slice m) (map (λ seed. seed.1) (seed_rows seeds))
+asked_seeds m seeds = filter (has_slice m) (map (λ seed. seed.1) (seed_rows seeds))
 
 -- the kept seeds: those that are extendable besides
 abbrev pub kept_seeds : ModelView → List (ℕ × List (Option ℕ)) → List (List (Option ℕ))

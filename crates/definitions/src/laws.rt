@@ -1,10 +1,36 @@
 //! What is proved of the definitions together. A function here does nothing: its contract is a law
 //! that holds of every model, and is proved with the crate.
 
-ghost use Rattle.definitions.specs.Laws.{ReportsReadBack};
+ghost use Rattle.definitions.specs.Laws.{AcceptedAreCertified, ExtendableContains, RefutedAreUnserved, ReportsReadBack, SuitesAreRead};
 
 /// Reading a report gives its rows: the text that is written of rows of a sound model, read as a
 /// row file, holds these rows in their order (this project's rule).
 pub fn reports_read_back()
     ensures { ReportsReadBack }
+{}
+
+/// Reading a suite gives the rows that its bytes hold: where the reading of a row file as a suite
+/// finds no fault, its rows are those of the file's lines, in their order (this project's rule).
+pub fn suites_are_read()
+    ensures { SuitesAreRead }
+{}
+
+/// What an extendable partial row contains is extendable: a row that meets every constraint and
+/// contains the one contains the other (this project's rule).
+pub fn extendable_contains()
+    ensures { ExtendableContains }
+{}
+
+/// No row serves a tuple of a proof: if each token list of a proof is a tree that refutes its tuple
+/// after the tuples before it, no row serves any of these tuples, whichever format the proof has
+/// (this project's rule).
+pub fn refuted_are_unserved()
+    ensures { RefutedAreUnserved }
+{}
+
+/// An accepted report covers what can be covered: if the verdict on a report's rows and a proof's
+/// bytes accepts them, every row is valid, and each demanded tuple is served by one of the rows, or
+/// is listed in the proof, and then no row serves it (this project's rule).
+pub fn accepted_are_certified()
+    ensures { AcceptedAreCertified }
 {}

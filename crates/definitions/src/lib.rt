@@ -8,4 +8,7 @@
 
 mod laws;
 
-pub use laws::reports_read_back;
+pub use laws::{
+    accepted_are_certified, extendable_contains, refuted_are_unserved, reports_read_back,
+    suites_are_read,
+};

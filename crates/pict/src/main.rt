@@ -1,11 +1,10 @@
 //! The program `pict`: makes a covering array of the model file that its words name.
 #![tactic(auto)]
 
-use std::process::ExitCode;
-use std::time::SystemTime;
-
 use outside_io::{RealFolder, RealSink, Sink, command_words};
 use pict_cli::run_pict;
+use std::process::ExitCode;
+use std::time::SystemTime;
 
 /// The seconds of the clock, or 0 where it can't be read: what a shuffle without a number starts from.
 fn clock_word(rt: &HostRuntime) -> u64 {

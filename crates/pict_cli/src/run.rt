@@ -1,14 +1,12 @@
 ghost use Rattle.std.specs.Prelude.{◌≡◌, ◌≢◌, ℕ, List, ◌⊎◌, ◌↔◌, ◌≤◌, length, map, IfSome, IsSomeAnd, IsSome, IsNone, None, Some, Ok, Err, IfOk, IfErr, OnOk, OnErr};
-ghost use Rattle.std.specs.String.{string_bytes};
 ghost use Rattle.outside_io.specs.Faults.{Rose, KeepsCounts};
 ghost use Rattle.outside_io.specs.Files.{KeepsFiles};
-ghost use Rattle.outside_io.specs.Puts.{Puts};
 ghost use Rattle.cov_model.specs.Sound.{IsSound};
 ghost use Rattle.definitions.specs.Report.{report_text};
 ghost use Rattle.pict_cli.specs.FirstForm.{first_form, most_model_bytes, HasFirstShape};
-ghost use Rattle.pict_cli.specs.Words.{word_fault, model_name};
+ghost use Rattle.pict_cli.specs.Words.{word_fault, texts, model_file};
 ghost use Rattle.pict_cli.specs.Stops.{IsAfterWords, IsStatus, Tells, diag_text};
-ghost use Rattle.pict_cli.specs.Runs.{suite_of, HasModel, HasNoModel, PrintsCovering};
+ghost use Rattle.pict_cli.specs.Runs.{suite_of, PrintsReport, HasModel, HasNoModel, PrintsCovering};
 
 use crate::first_form::read_first_form;
 use crate::growth::cover_pairs;
@@ -96,9 +94,10 @@ fn generate<F: Folder, O: Sink>(
     files: &mut F,
     out: &mut O,
 ) -> Result<(), Stop>
-    ensures done { OnOk result (HasModel (F.file files.old name.now) (λ model. IsSound model × HasFirstShape model × Puts WriteAnswer.Done (O.written out.old) (O.written out.new) (report_text model (suite_of model)))) }
+    ensures done { OnOk result (HasModel (F.file files.old name.now) (λ model.
+        IsSound model × HasFirstShape model × PrintsReport WriteAnswer.Done model (O.written out.old) (O.written out.new))) }
     ensures cut { result ≡ Err Stop.CannotWriteReport →
-        HasModel (F.file files.old name.now) (λ model. Puts WriteAnswer.Failed (O.written out.old) (O.written out.new) (report_text model (suite_of model)))
+        HasModel (F.file files.old name.now) (λ model. PrintsReport WriteAnswer.Failed model (O.written out.old) (O.written out.new))
         × Rose (O.faults out.old) (O.faults out.new) }
     ensures nothing { result ≢ Ok tt → result ≢ Err Stop.CannotWriteReport →
         (O.written out.new ≡ O.written out.old) × (O.faults out.new ≡ O.faults out.old) }
@@ -134,37 +133,40 @@ pub fn run_pict<R: Threads + Sync, F: Folder, O: Sink, E: Sink>(
     seed_word: u64,
 ) -> u8
     // The headline: what is printed with status 0 is a covering array.
-    ensures headline { result ≡ 0 →
-        HasModel (F.file files.old (model_name (map string_bytes words.now))) (λ model. PrintsCovering model (O.written out.old) (O.written out.new)) }
+    ensures headline { result ≡ 0 → HasModel (F.file files.old (model_file words.now)) (λ model.
+        PrintsCovering model (O.written out.old) (O.written out.new)) }
 
     // What `out` gets: the report, or a prefix of it where it failed, or nothing.
-    ensures report { result ≡ 0 →
-        HasModel (F.file files.old (model_name (map string_bytes words.now))) (λ model. Puts WriteAnswer.Done (O.written out.old) (O.written out.new) (report_text model (suite_of model))) }
-    ensures cut { result ≡ 8 →
-        HasModel (F.file files.old (model_name (map string_bytes words.now))) (λ model. Puts WriteAnswer.Failed (O.written out.old) (O.written out.new) (report_text model (suite_of model))) }
-    ensures nothing { result ≢ 0 → result ≢ 8 → (O.written out.new ≡ O.written out.old) × (O.faults out.new ≡ O.faults out.old) }
+    ensures report { result ≡ 0 → HasModel (F.file files.old (model_file words.now)) (λ model.
+        PrintsReport WriteAnswer.Done model (O.written out.old) (O.written out.new)) }
+    ensures cut { result ≡ 8 → HasModel (F.file files.old (model_file words.now)) (λ model.
+        PrintsReport WriteAnswer.Failed model (O.written out.old) (O.written out.new)) }
+    ensures nothing { result ≢ 0 → result ≢ 8 →
+        (O.written out.new ≡ O.written out.old) × (O.faults out.new ≡ O.faults out.old) }
 
     // When each status comes.
     ensures statuses { IsStatus result }
-    ensures words { (result ≡ 3) ↔ IsSome (word_fault (map string_bytes words.now)) }
-    ensures model { result ≡ 4 → HasNoModel (F.file files.old (model_name (map string_bytes words.now))) }
-    ensures read { result ≡ 7 → Rose (F.read_faults files.old (model_name (map string_bytes words.now))) (F.read_faults files.new (model_name (map string_bytes words.now))) }
+    ensures words { (result ≡ 3) ↔ IsSome (word_fault (texts words.now)) }
+    ensures model { result ≡ 4 → HasNoModel (F.file files.old (model_file words.now)) }
+    ensures read { result ≡ 7 →
+        Rose (F.read_faults files.old (model_file words.now)) (F.read_faults files.new (model_file words.now)) }
     ensures write { result ≡ 8 → Rose (O.faults out.old) (O.faults out.new) }
 
     // Which status must come, of a told file, where memory is found.
-    ensures complete { (bytes : List ℕ) → word_fault (map string_bytes words.now) ≡ None →
-        F.file files.old (model_name (map string_bytes words.now)) ≡ Some (Some bytes) → IsSome (first_form bytes) →
-        ¬ Rose (F.read_faults files.old (model_name (map string_bytes words.now))) (F.read_faults files.new (model_name (map string_bytes words.now))) →
+    ensures complete { (bytes : List ℕ) → word_fault (texts words.now) ≡ None →
+        F.file files.old (model_file words.now) ≡ Some (Some bytes) → IsSome (first_form bytes) →
+        ¬ Rose (F.read_faults files.old (model_file words.now)) (F.read_faults files.new (model_file words.now)) →
         ¬ Rose (O.faults out.old) (O.faults out.new) → (result ≡ 0) ⊎ (result ≡ 1) }
-    ensures refused { (bytes : List ℕ) → word_fault (map string_bytes words.now) ≡ None →
-        F.file files.old (model_name (map string_bytes words.now)) ≡ Some (Some bytes) → first_form bytes ≡ None →
-        ¬ Rose (F.read_faults files.old (model_name (map string_bytes words.now))) (F.read_faults files.new (model_name (map string_bytes words.now))) →
+    ensures refused { (bytes : List ℕ) → word_fault (texts words.now) ≡ None →
+        F.file files.old (model_file words.now) ≡ Some (Some bytes) → first_form bytes ≡ None →
+        ¬ Rose (F.read_faults files.old (model_file words.now)) (F.read_faults files.new (model_file words.now)) →
         (result ≡ 4) ⊎ (result ≡ 1) }
-    ensures missing { word_fault (map string_bytes words.now) ≡ None →
-        F.file files.old (model_name (map string_bytes words.now)) ≡ Some None → (result ≡ 7) ⊎ (result ≡ 1) }
+    ensures missing { word_fault (texts words.now) ≡ None →
+        F.file files.old (model_file words.now) ≡ Some None → (result ≡ 7) ⊎ (result ≡ 1) }
 
     // What `diag` gets: the one line of the status.
-    ensures told { Tells (E.written diag.old) (E.written diag.new) (E.faults diag.old) (E.faults diag.new) (diag_text result (map string_bytes words.now)) }
+    ensures told { Tells (E.written diag.old) (E.written diag.new) (E.faults diag.old) (E.faults diag.new)
+        (diag_text result (texts words.now)) }
 
     // The folder.
     ensures files { KeepsFiles (F.file files.old) (F.file files.new) }

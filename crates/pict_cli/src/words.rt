@@ -1,6 +1,5 @@
-ghost use Rattle.std.specs.Prelude.{◌≡◌, map, None, Some, MatchResult};
-ghost use Rattle.std.specs.String.{string_bytes};
-ghost use Rattle.pict_cli.specs.Words.{word_fault, model_name};
+ghost use Rattle.std.specs.Prelude.{◌≡◌, None, Some, MatchResult};
+ghost use Rattle.pict_cli.specs.Words.{word_fault, texts, model_file};
 
 /// A command line that has no reading.
 #[derive(Debug, Drop, Clone, Copy, PartialEq, Eq)]
@@ -16,8 +15,8 @@ pub(crate) struct WordFault {
 /// The first word where it is missing or empty, else the second where there is one.
 pub(crate) fn read_words(words: &[String]) -> Result<&str, WordFault>
     ensures { MatchResult result
-        (λ name. (word_fault (map string_bytes words.now) ≡ None) × (name.now ≡ model_name (map string_bytes words.now)))
-        (λ fault. word_fault (map string_bytes words.now) ≡ Some fault.index) }
+        (λ name. (word_fault (texts words.now) ≡ None) × (name.now ≡ model_file words.now))
+        (λ fault. word_fault (texts words.now) ≡ Some fault.index) }
 {
     match words {
         [name] if !name.is_empty() => Ok(name.as_str()),

@@ -1,0 +1,11 @@
+pub mod Complete
+pub mod Sound
+pub mod Finish
+pub mod Deeper
+pub mod Refusal
+pub mod Parts
+pub mod Rules
+pub mod Answer
+pub mod Lexing
+pub mod Unquoting
+pub mod Trimming

@@ -1,0 +1,10 @@
+use Rattle.std.proofs.Common.{◌≡◌, length, map}
+use Rattle.constraint_ast.specs.Trees.{rule_tree}
+use Rattle.constraint_ast.specs.Machine.{Between, run, with_rules}
+use Rattle.constraint_ast.proofs.parser.parse_tokens.Given as goal
+
+abbrev pub invariant-loop-ahead : goal.invariant-loop-ahead
+invariant-loop-ahead l = run 64 l.fn.last l.fn.tokens Between ≡ with_rules (map rule_tree l.rules) (run 64 l.fn.last l.ahead Between)
+
+abbrev pub decreases-loop-ahead : goal.decreases-loop-ahead
+decreases-loop-ahead l = length l.ahead

@@ -1,0 +1,5 @@
+pub mod Trees
+pub mod Grammar
+pub mod Machine
+pub mod Reading
+pub mod Lexing

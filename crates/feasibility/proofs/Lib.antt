@@ -1,0 +1,7 @@
+pub mod Completing
+pub mod Extendable
+pub mod Local
+pub mod Naming
+pub mod Nodes
+pub mod Searching
+pub mod Visiting

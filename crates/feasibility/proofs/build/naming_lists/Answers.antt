@@ -1,0 +1,18 @@
+use Rattle.std.proofs.Common.{◌≡◌, ◌++◌, ◌∷◌, [], ◌∙◌, sym, ap, map, arith, zero-add}
+use Rattle.std.specs.List.{range_with_len}
+use Rattle.std.proofs.lemmas.List.{map-append}
+use Rattle.std.proofs.lemmas.List.FromFn.{map-range_with_len_more}
+use Rattle.std.proofs.lemmas.Grind.{common_steps}
+use Rattle.feasibility.specs.Tree.{naming}
+use Rattle.feasibility.proofs.build.naming_lists.Goals as goal
+
+pub loop-p-preserved : goal.loop-p-preserved
+loop-p-preserved c =
+    let pushed : c.push.new.self.items ≡ c.loop-p.lists.items ++ c.in_ok-list.list ∷ [] = grind (arith, common_steps) in (
+      c.loop-p.invariant.0,
+      ap (map (λ list. list.items)) pushed
+          ∙ map-append (λ list. list.items) c.loop-p.lists.items (c.in_ok-list.list ∷ [])
+          ∙ ap (λ lists. lists ++ c.in_ok-list.list.items ∷ []) c.loop-p.invariant.1
+          ∙ ap (λ list. map (naming c.args.model.now) (range_with_len 0 c.loop-p.p) ++ list ∷ []) c.in_ok-list.ensures
+          ∙ sym (map-range_with_len_more (naming c.args.model.now) 0 c.loop-p.p c.loop-p.p (zero-add c.loop-p.p)),
+    )

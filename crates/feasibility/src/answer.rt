@@ -1,0 +1,28 @@
+use cov_model::Tuple;
+
+/// Whether a partial row is extendable in a slice, as far as a budget goes.
+#[derive(Debug, Drop, Clone, Copy, PartialEq, Eq)]
+pub enum Answer {
+    /// It is.
+    Yes,
+    /// It isn't.
+    No,
+    /// The plain cost of the question exceeds the budget.
+    Spent,
+}
+
+/// A question that was asked of a search: whether these values can be completed.
+#[derive(Drop)]
+pub struct Question {
+    /// The values of the partial row.
+    pub cells: Tuple,
+}
+
+/// Why a run of questions ended early.
+#[derive(Drop)]
+pub enum SearchFault {
+    /// The plain cost of this question exceeds the budget.
+    Spent(Question),
+    /// There was no room.
+    NoMemory,
+}

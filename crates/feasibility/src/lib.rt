@@ -1,0 +1,18 @@
+//! Whether a partial row is extendable: plain search for a completion, held to a budget.
+//!
+//! - `Solver` asks and completes; `SearchTree` has the search, whose nodes, answers and rows are those
+//!   of the definition of plain search.
+//! - That a search succeeds exactly on what is extendable, and reaches the first completion, is a law
+//!   over plain lists: `plain_search_is_exact`.
+#![tactic(auto)]
+
+mod answer;
+mod build;
+mod laws;
+mod named;
+mod solver;
+mod tree;
+
+pub use answer::{Answer, Question, SearchFault};
+pub use laws::plain_search_is_exact;
+pub use solver::Solver;

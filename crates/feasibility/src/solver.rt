@@ -1,0 +1,100 @@
+ghost use Rattle.std.specs.Prelude.{◌≡◌, ◌≢◌, Some, length, IfOk};
+ghost use Rattle.cov_model.specs.Preference.{OrdersValues};
+ghost use Rattle.definitions.specs.Completion.{first_completion, is_extendable};
+ghost use Rattle.definitions.specs.Search.{plain_cost};
+ghost use Rattle.feasibility.specs.Answers.{answer_of};
+ghost use Rattle.feasibility.specs.Slices.{IsOfSlice, IsSliceOf};
+
+use crate::answer::Answer;
+use crate::tree::SearchTree;
+use cov_model::{Cells, Prefs, Slice, TestModel};
+use std::alloc::Global;
+use std::marker::Model;
+use value_text::NoMemory;
+
+/// Tells of partial rows of one slice whether they are extendable, and completes them. The search
+/// is the plain one: it looks one value ahead and has a budget of nodes (this project's rule).
+/// Contracts see the model, the preference orders and the slice, and no call changes them.
+#[derive(Drop)]
+pub struct Solver<'a> {
+    tree: SearchTree<'a>,
+    prefs: &'a Prefs,
+    slice: Slice,
+    room: Cells,
+}
+
+impl<'a> Model for Solver<'a> {
+    ghost use Rattle.std.specs.Coded.{codes};
+    ghost use Rattle.cov_model.specs.contracts.constraint.Pred as predicate;
+    ghost use Rattle.feasibility.specs.Solving.{IsSolver, SolverView};
+
+    ghost Value = { SolverView };
+
+    ghost coded = { Prim.hlevel (codes, predicate.the_row.coded) };
+
+    ghost view = { λ a. record { model = a.tree.model; prefs = a.prefs.now; slice = a.slice } };
+
+    ghost invariant = { λ a. IsSolver (record { model = a.tree.model; prefs = a.prefs.now; slice = a.slice }) a.tree.values a.room };
+}
+
+impl<'a> Solver<'a> {
+    /// A solver for this slice of the model, which has to be one of the model's; the preferences
+    /// have to be the model's too. All room that questions need is taken here.
+    ///
+    /// # Errors
+    ///
+    /// `NoMemory` where there is no room.
+    pub fn new(
+        alloc: Global,
+        model: &'a TestModel,
+        prefs: &'a Prefs,
+        slice: Slice,
+    ) -> Result<Solver<'a>, NoMemory>
+        requires slice { IsSliceOf model.now slice }
+        requires orders { OrdersValues model.now prefs.now }
+        ensures { IfOk result (λ solver. solver ≡ record { model = model.now; prefs = prefs.now; slice = slice }) }
+    {
+        let tree = SearchTree::new(alloc, model, prefs, slice)?;
+        let room = Cells::empty(alloc, tree.count())?;
+        Ok(Solver {
+            tree,
+            prefs,
+            slice,
+            room,
+        })
+    }
+
+    /// Whether a partial row of the slice is extendable there. `Spent` exactly where the plain cost
+    /// of the question, the number of nodes that plain search visits, exceeds the budget. Takes no
+    /// memory.
+    pub fn ask(&mut self, cells: &Cells, budget: u64) -> Answer
+        requires { IsOfSlice self.old.model self.old.slice cells.now }
+        ensures answer { result ≡ answer_of (is_extendable self.old.model self.old.slice cells.now) (plain_cost self.old.model self.old.prefs self.old.slice cells.now) budget }
+        ensures same { self.new ≡ self.old }
+    {
+        self.tree.search(cells, &mut self.room, budget)
+    }
+
+    /// Completes a partial row of the slice. After `Yes` the other cells are the first of its
+    /// completions in preference order that meets every constraint; after `No` and `Spent`, which
+    /// come as from `ask`, they are as before. They have to be as long as the partial row. Takes no
+    /// memory.
+    pub fn complete(&mut self, cells: &Cells, budget: u64, into: &mut Cells) -> Answer
+        requires of { IsOfSlice self.old.model self.old.slice cells.now }
+        requires long { length into.old ≡ length self.old.model.params }
+        ensures answer { result ≡ answer_of (is_extendable self.old.model self.old.slice cells.now) (plain_cost self.old.model self.old.prefs self.old.slice cells.now) budget }
+        ensures completed { result ≡ Answer.Yes → Some into.new ≡ first_completion self.old.model self.old.prefs self.old.slice cells.now }
+        ensures kept { result ≢ Answer.Yes → into.new ≡ into.old }
+        ensures long { length into.new ≡ length into.old }
+        ensures same { self.new ≡ self.old }
+    {
+        match self.tree.search(cells, &mut self.room, budget) {
+            Answer::Yes => {
+                into.copy_from(&self.room);
+                Answer::Yes
+            }
+            Answer::No => Answer::No,
+            Answer::Spent => Answer::Spent,
+        }
+    }
+}

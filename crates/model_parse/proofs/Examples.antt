@@ -1,0 +1,95 @@
+-- Models as they are read, computed from the definitions.
+use Rattle.std.proofs.Common.{◌≡◌, ℕ, Bool, true, false, List, [], ◌∷◌, Result, Ok, refl, codes}
+use Rattle.std.specs.Str.{chars}
+use Rattle.cov_model.specs.declared.parameter.Param.{Param}
+use Rattle.cov_model.specs.declared.parameter.Value.{Value}
+use Rattle.cov_model.specs.declared.demand.Demand.{Demand}
+use Rattle.model_lex.specs.declared.diag.DiagCode.{DiagCode}
+use Rattle.model_lex.specs.declared.diag.DiagCode.TheVariants.{EmptyParameterName, BadParameterName, RepeatedParameter, EmptyValueName, BadValueName, BadWeight, UnknownReference, GroupNotClosed, UnknownMember, RepeatedMember, BadGroupOrder, TextAfterGroup, RelationNoOrder, NoParameters, OrderTooLarge}
+use Rattle.model_lex.specs.declared.fault.ModelFault.{ModelFault}
+use Rattle.model_lex.specs.declared.note.Note.{Note}
+use Rattle.model_lex.specs.declared.note.NoteCode.TheVariants.{RepeatedValueName}
+use Rattle.model_lex.specs.declared.options.ModelOpts.{ModelOpts}
+use Rattle.model_lex.specs.declared.options.OrderWord.TheVariants.{Number, Max}
+use Rattle.model_parse.specs.Steps.{refused}
+use Rattle.model_parse.specs.RawModels.{raw_model_of}
+use Rattle.model_parse.specs.declared.raw_model.RawModel.{RawModel}
+
+-- the default marks, order 1
+abbrev opts : Bool → ModelOpts
+opts fold = record { order = Number 1; marks = record { separator = 44; alias = 124; prefix = 126 }; fold = fold }
+
+-- lines with their numbers, and the lines of groups
+abbrev read : Bool → List (ℕ × List ℕ) → List (ℕ × List ℕ) → Result RawModel ModelFault
+read fold params groups = raw_model_of (opts fold) (record { params = params; groups = groups; rules = [] })
+
+-- a value of one name with the weight 1
+abbrev plain : List ℕ → Value
+plain name = record { names = name ∷ []; weight = 1; negative = false }
+
+abbrev param : List ℕ → ℕ → Bool → List Value → Param
+param name line numeric values = record { name = name; line = line; numeric = numeric; values = values }
+
+abbrev model : List Param → List Note → Result RawModel ModelFault
+model params notes = Ok (record { params = params; demand = record { order = 1; subs = []; relations = [] }; notes = notes })
+
+repeated_name : read true ((1, codes "A: a, A, b") ∷ []) [] ≡ model (param (codes "A") 1 false (plain (codes "a") ∷ plain (codes "b") ∷ []) ∷ []) (record { line = 1; code = RepeatedValueName } ∷ [])
+unfolding chars
+repeated_name = refl
+
+case_counts : read false ((1, codes "A: a, A, b") ∷ []) [] ≡ model (param (codes "A") 1 false (plain (codes "a") ∷ plain (codes "A") ∷ plain (codes "b") ∷ []) ∷ []) []
+unfolding chars
+case_counts = refl
+
+reference : read true ((1, codes "A: 1, 2") ∷ (2, codes "B: <A>, 3") ∷ []) [] ≡ model (param (codes "A") 1 true (plain (codes "1") ∷ plain (codes "2") ∷ []) ∷ param (codes "B") 2 true (plain (codes "1") ∷ plain (codes "2") ∷ plain (codes "3") ∷ []) ∷ []) []
+unfolding chars
+reference = refl
+
+weights :
+    read true ((1, codes "B: x (007), Foo (bar), ~y | z") ∷ []) []
+    ≡ model (param (codes "B") 1 false (record { names = codes "x" ∷ []; weight = 7; negative = false } ∷ plain (codes "Foo (bar)") ∷ record { names = codes "y" ∷ codes "z" ∷ []; weight = 1; negative = true } ∷ []) ∷ []) []
+unfolding chars
+weights = refl
+
+other_separator :
+    raw_model_of (record { order = Max; marks = record { separator = 59; alias = 124; prefix = 126 }; fold = true }) (record { params = (1, codes "A: 1; 2,5") ∷ []; groups = []; rules = [] })
+    ≡ model (param (codes "A") 1 false (plain (codes "1") ∷ plain (codes "2,5") ∷ []) ∷ []) []
+unfolding chars
+other_separator = refl
+
+-- two parameters and a group line, or a refusal
+abbrev groups : List ℕ → Result RawModel ModelFault
+groups line = read true ((1, codes "A: 1") ∷ (2, codes "B: 2") ∷ []) ((3, line) ∷ [])
+
+abbrev demanded : Demand → Result RawModel ModelFault
+demanded demand = Ok (record { params = param (codes "A") 1 true (plain (codes "1") ∷ []) ∷ param (codes "B") 2 true (plain (codes "2") ∷ []) ∷ []; demand = demand; notes = [] })
+
+sub_model : groups (codes "{ b, A }") ≡ demanded (record { order = 1; subs = record { order = 1; members = 1 ∷ 0 ∷ [] } ∷ []; relations = [] })
+unfolding chars
+sub_model = refl
+
+relation : groups (codes " @ 02 {A,B}") ≡ demanded (record { order = 1; subs = []; relations = record { order = 2; members = 0 ∷ 1 ∷ [] } ∷ [] })
+unfolding chars
+relation = refl
+
+abbrev at : ℕ → DiagCode → Result RawModel ModelFault
+at line code = refused line code
+
+refusals :
+    (read true [] [] ≡ at 1 NoParameters) × (read true ((2, codes ": 1") ∷ []) [] ≡ at 2 EmptyParameterName) × (read true ((2, 1 ∷ 58 ∷ []) ∷ []) [] ≡ at 2 BadParameterName)
+    × (read true ((1, codes "A: 1") ∷ (2, codes "a: 2") ∷ []) [] ≡ at 2 RepeatedParameter) × (read true ((1, codes "A: 1, ") ∷ []) [] ≡ at 1 EmptyValueName)
+    × (read true ((1, codes "A: ~~a") ∷ []) [] ≡ at 1 BadValueName) × (read true ((1, codes "A: ~~a (0)") ∷ []) [] ≡ at 1 BadWeight)
+    × (read true ((1, codes "A: |a (4294967296)") ∷ []) [] ≡ at 1 BadWeight) × (read true ((1, codes "A: <A>") ∷ []) [] ≡ at 1 UnknownReference)
+unfolding chars
+refusals = (refl, refl, refl, refl, refl, refl, refl, refl, refl)
+
+group_refusals :
+    (groups (codes "@ { A") ≡ at 3 RelationNoOrder) × (groups (codes "@ 2 A }") ≡ at 3 GroupNotClosed) × (groups (codes "{ A, Z") ≡ at 3 GroupNotClosed) × (groups (codes "{ Z } x") ≡ at 3 TextAfterGroup)
+    × (groups (codes "@ 9 { Z } @") ≡ at 3 TextAfterGroup) × (groups (codes "{ Z } @ 9") ≡ at 3 UnknownMember) × (groups (codes "{ A, a }") ≡ at 3 RepeatedMember) × (groups (codes "@ 3 { A, B }") ≡ at 3 BadGroupOrder)
+    × (groups (codes "{ A, B } @ 2 x") ≡ at 3 BadGroupOrder)
+unfolding chars
+group_refusals = (refl, refl, refl, refl, refl, refl, refl, refl, refl)
+
+order_too_large : raw_model_of (record { order = Number 2; marks = record { separator = 44; alias = 124; prefix = 126 }; fold = true }) (record { params = (4, codes "A: 1") ∷ []; groups = []; rules = [] }) ≡ at 4 OrderTooLarge
+unfolding chars
+order_too_large = refl

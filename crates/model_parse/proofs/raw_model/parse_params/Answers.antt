@@ -1,0 +1,23 @@
+use Rattle.std.proofs.Common.{◌≡◌, Result, Ok, Err, map, length, sym, ap}
+use Rattle.cov_model.specs.declared.demand.Demand.{Demand}
+use Rattle.model_lex.specs.Sections.{line_seen, split_seen}
+use Rattle.model_lex.specs.declared.fault.ModelFault.{ModelFault}
+use Rattle.model_parse.specs.GroupLines.{read_groups}
+use Rattle.model_parse.specs.RawModels.{order_in, raw_model_of, with_demand}
+use Rattle.model_parse.specs.Steps.{and_then}
+use Rattle.model_parse.proofs.Answering.{gives_same, raw_goes}
+use Rattle.model_parse.proofs.raw_model.parse_params.Goals as goal
+use Rattle.model_parse.proofs.raw_model.parse_params.Goals.{After-read_demand}
+
+goes : (c : After-read_demand) (demand : Result Demand ModelFault)
+    → read_groups c.args.opts.now c.in_ok-read.read.known (order_in c.args.opts.now.order (length c.in_ok-read.read.params)) (map line_seen c.as_slice.result.now) ≡ demand
+    → raw_model_of c.args.opts.now (split_seen c.args.sections.now) ≡ and_then demand (λ d. with_demand (map line_seen c.as_slice-lines.result.now) c.in_ok-read.read d)
+goes c demand is =
+    raw_goes c.args.opts.now (split_seen c.args.sections.now) (map line_seen c.as_slice-lines.result.now) (map line_seen c.as_slice.result.now) c.in_ok-read.read demand
+    (ap (map line_seen) c.as_slice-lines.ensures) (ap (map line_seen) c.as_slice.ensures) c.in_ok-read.ensures.value is
+
+pub returns-in-Ok : goal.returns-in-Ok
+returns-in-Ok c = gives_same (λ raw. raw) c.with_demand.result _ _ (sym (goes (goal.at.returns-in-Ok c).After-read_demand (Ok c.in-Ok.demand) c.in-Ok.ensures)) c.with_demand.ensures
+
+pub returns-in-Err : goal.returns-in-Err
+returns-in-Err c = λ n. goes (goal.at.returns-in-Err c).After-read_demand (Err c.in-Err.fault) (c.in-Err.ensures n)

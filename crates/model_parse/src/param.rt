@@ -1,0 +1,226 @@
+//! Reading parameter lines.
+ghost use Rattle.std.specs.Prelude.{◌≡◌, ◌<◌, ◌≤◌, false, map, length, IfOk, OnOk};
+ghost use Rattle.std.specs.List.{list_all};
+ghost use Rattle.value_text.specs.Numbers.{is_number};
+ghost use Rattle.cov_model.specs.Sound.{first_name, is_numeric};
+ghost use Rattle.model_lex.specs.Sections.{line_seen};
+ghost use Rattle.model_parse.specs.Steps.{Gives, and_each};
+ghost use Rattle.model_parse.specs.Values.{is_known, add_piece};
+ghost use Rattle.model_parse.specs.ParamLines.{Counts, IsOneMore, param_code, read_values, add_param, read_param, read_params, no_params};
+
+use crate::cut::{cut_colon, is_unfit, pieces, trimmed};
+use crate::fault::{bad, kept};
+use crate::name_set::NameSet;
+use crate::piece::add_piece;
+use crate::reading::{ParamsRead, Reading};
+use cov_model::{Param, ParamList, Value};
+use model_lex::{DiagCode, LimitName, ModelFault, ModelOpts, NoteList, NumLine};
+use std::alloc::Global;
+use value_text::{FixedAnswer, NoMemory, OwnedList, Text, read_fixed};
+
+// Why a parameter may not be called so, behind parameters with these names.
+fn param_code(
+    alloc: Global,
+    known: &NameSet,
+    name: &str,
+    fold: bool,
+) -> Result<Option<DiagCode>, NoMemory>
+    ensures { IfOk result (λ code. code ≡ param_code fold known.now name.now) }
+{
+    if name.is_empty() {
+        return Ok(Some(DiagCode::EmptyParameterName));
+    }
+    if is_unfit(name) {
+        return Ok(Some(DiagCode::BadParameterName));
+    }
+    if known.holds(alloc, name, fold)? {
+        Ok(Some(DiagCode::RepeatedParameter))
+    } else {
+        Ok(None)
+    }
+}
+
+// The values of a list of values.
+fn add_pieces(
+    alloc: Global,
+    opts: &ModelOpts,
+    line: u32,
+    params: &[Param],
+    known: &NameSet,
+    mut read: Reading,
+    pieces: &[&str],
+) -> Result<Reading, ModelFault>
+    requires alias { opts.now.marks.alias < 128 }
+    requires prefix { opts.now.marks.prefix < 128 }
+    requires numbered { length known.now ≤ length params.now }
+    ensures { Gives (and_each (add_piece opts.now line params.now known.now) read (map (λ piece. piece.now) pieces.now)) (λ next. next) result }
+{
+    for piece in pieces {
+        read = add_piece(alloc, opts, line, params, known, read, piece)?;
+    }
+    Ok(read)
+}
+
+// The values of a list of values, with the notes so far.
+fn read_values(
+    alloc: Global,
+    opts: &ModelOpts,
+    line: u32,
+    params: &[Param],
+    known: &NameSet,
+    notes: NoteList,
+    list: &str,
+) -> Result<Reading, ModelFault>
+    requires separator { opts.now.marks.separator < 128 }
+    requires alias { opts.now.marks.alias < 128 }
+    requires prefix { opts.now.marks.prefix < 128 }
+    requires numbered { length known.now ≤ length params.now }
+    ensures { Gives (read_values opts.now line params.now known.now notes list.now) (λ next. next) result }
+{
+    let pieces = kept(pieces(alloc, list, opts.marks.separator))?;
+    let start = Reading {
+        values: OwnedList::new(alloc),
+        known: NameSet::new(alloc),
+        notes,
+    };
+    add_pieces(alloc, opts, line, params, known, start, pieces.as_slice())
+}
+
+// Whether the first name of each value is a number.
+fn is_numeric(values: &[Value]) -> bool
+    ensures { result ≡ is_numeric values.now }
+{
+    values.iter().all(has_number)
+}
+
+// Whether the first name of a value is a number.
+fn has_number(value: &Value) -> bool
+    ensures { result ≡ is_number (first_name value.now) }
+{
+    match value.names.as_slice() {
+        [first, ..] => matches!(read_fixed(first.as_str()), FixedAnswer::Number(_)),
+        [] => false,
+    }
+}
+
+// One more parameter of this name with these values.
+fn add_param(
+    alloc: Global,
+    fold: bool,
+    line: u32,
+    name: &str,
+    mut params: ParamList,
+    mut known: NameSet,
+    values: Reading,
+) -> Result<ParamsRead, ModelFault>
+    requires { is_known fold known name.now ≡ false }
+    ensures value { Gives (add_param fold line name.now params known values) (λ next. next) result }
+    ensures more { IfOk result (λ next. IsOneMore (length params) (length known) next) }
+{
+    let Reading {
+        values,
+        notes,
+        known: _,
+    } = values;
+    let count = values.len() as u64;
+    if count > LimitName::Values.most() {
+        return Err(ModelFault::Limit(LimitName::Values, count));
+    }
+    kept(known.add(alloc, name, fold))?;
+    kept(params.push(Param {
+        name: kept(Text::copy(alloc, name))?,
+        line,
+        numeric: is_numeric(values.as_slice()),
+        values,
+    }))?;
+    Ok(ParamsRead {
+        params,
+        known,
+        notes,
+    })
+}
+
+// One more line.
+fn read_param(
+    alloc: Global,
+    opts: &ModelOpts,
+    read: ParamsRead,
+    line: NumLine<'_>,
+) -> Result<ParamsRead, ModelFault>
+    requires separator { opts.now.marks.separator < 128 }
+    requires alias { opts.now.marks.alias < 128 }
+    requires prefix { opts.now.marks.prefix < 128 }
+    requires numbered { length read.known ≤ length read.params }
+    ensures value { Gives (read_param opts.now read (line_seen line.entry)) (λ next. next) result }
+    ensures more { IfOk result (λ next. IsOneMore (length read.params) (length read.known) next) }
+{
+    let (name, list) = cut_colon(line.text);
+    let name = trimmed(name);
+    let ParamsRead {
+        params,
+        known,
+        notes,
+    } = read;
+    if let Some(code) = kept(param_code(alloc, &known, name, opts.fold))? {
+        return Err(bad(line.line, code));
+    }
+    match read_values(
+        alloc,
+        opts,
+        line.line,
+        params.as_slice(),
+        &known,
+        notes,
+        list,
+    ) {
+        Ok(values) => add_param(alloc, opts.fold, line.line, name, params, known, values),
+        Err(fault) => Err(fault),
+    }
+}
+
+// The parameters of these lines, one after another.
+fn read_lines(
+    alloc: Global,
+    opts: &ModelOpts,
+    lines: &[NumLine<'_>],
+) -> Result<ParamsRead, ModelFault>
+    requires separator { opts.now.marks.separator < 128 }
+    requires alias { opts.now.marks.alias < 128 }
+    requires prefix { opts.now.marks.prefix < 128 }
+    ensures value { Gives (and_each (read_param opts.now) no_params (map line_seen lines.now)) (λ next. next) result }
+    ensures count { IfOk result (λ read. Counts read (length lines.now)) }
+{
+    let mut read = ParamsRead {
+        params: OwnedList::new(alloc),
+        known: NameSet::new(alloc),
+        notes: OwnedList::new(alloc),
+    };
+    for line in lines {
+        read = read_param(alloc, opts, read, *line)?;
+    }
+    Ok(read)
+}
+
+/// The parameters of all parameter lines.
+pub(crate) fn read_params(
+    alloc: Global,
+    opts: &ModelOpts,
+    lines: &[NumLine<'_>],
+) -> Result<ParamsRead, ModelFault>
+    requires separator { opts.now.marks.separator < 128 }
+    requires alias { opts.now.marks.alias < 128 }
+    requires prefix { opts.now.marks.prefix < 128 }
+    ensures value { Gives (read_params opts.now (map line_seen lines.now)) (λ next. next) result }
+    ensures count { IfOk result (λ read. Counts read (length lines.now)) }
+    ensures some { OnOk result (0 < length lines.now) }
+    ensures few { OnOk result (length lines.now ≤ 256) }
+{
+    if lines.is_empty() {
+        return Err(bad(1, DiagCode::NoParameters));
+    }
+    let count = lines.len() as u64;
+    if count > LimitName::Params.most() {
+        return Err(ModelFault::Limit(LimitName::Params, count));
+    }
+    read_lines(alloc, opts, lines)
+}
