@@ -9,3 +9,4 @@ pub mod ChoiceLemmas
 pub mod CountLemmas
 pub mod RowLemmas
 pub mod BaseLemmas
+pub mod OrderLemmas

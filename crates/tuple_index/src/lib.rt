@@ -10,6 +10,7 @@ mod count;
 mod demand;
 mod fault;
 mod plan;
+mod sets;
 mod values;
 
 pub use fault::PlanFault;
