@@ -1,11 +1,11 @@
 -- The steps and the ends of the loops over the members of a set.
-use Rattle.std.proofs.Common.{sum_by, ◌≡◌, ℕ, ◌+◌, ◌*◌, ◌-◌, ◌^◌, ◌<◌, ◌≤◌, true, false, List, [], ◌∷◌, All, drop, length, get_or, ◌∙◌, sym, ap, arith}
+use Rattle.std.proofs.Common.{sum_by, ◌≡◌, ℕ, ◌+◌, ◌*◌, ◌-◌, ◌^◌, ◌<◌, ◌≤◌, true, false, List, [], ◌∷◌, All, map, subst, drop, length, get_or, ◌∙◌, sym, ap, arith}
 use Rattle.std.specs.Prelude.{◌==◌, if◌then◌else◌}
 use Rattle.std.specs.List.{AllByRecursion}
-use Rattle.std.proofs.lemmas.List.Elements.{All-from_recursion}
+use Rattle.std.proofs.lemmas.List.Elements.{All-from_recursion, All-get_or}
 use Rattle.std.proofs.lemmas.Bool.Decides.{nat_tests}
 use Rattle.std.proofs.lemmas.List.Sums.{sum_by-cons}
-use Rattle.std.proofs.lemmas.List.{at_drop_more, at_drop_all, drop_more}
+use Rattle.std.proofs.lemmas.List.{at_drop_more, at_drop_all, drop_more, get_or-map, length-map}
 use Rattle.tuple_index.specs.Plan.{PlanView}
 use Rattle.tuple_index.specs.Places.{RisesFrom, ways, place, place_of, negative_ways, ways_before}
 use Rattle.tuple_index.specs.PlanFault.{told}
@@ -97,14 +97,20 @@ rises_within set p e rises = All-from_recursion (λ q. q < e) set (each set p e 
     each (q ∷ set) p e rises = (rises.1, each set (q + 1) e rises.2)
 
 -- one term more of a sum, and the end
-pub sum_step : (f : ℕ → ℕ) (xs : List ℕ) (i count term next whole : ℕ) → i < length xs → term ≡ told (f (get_or xs i 0)) → next ≡ told (count + term)
+pub sum_step : {X : Type 0} (f : X → ℕ) (xs : List X) (d : X) (i count term next whole : ℕ) → i < length xs → term ≡ told (f (get_or xs i d)) → next ≡ told (count + term)
     → told (count + sum_by f (drop i xs)) ≡ whole → told (next + sum_by f (drop (i + 1) xs)) ≡ whole
-sum_step f xs i count term next whole within counted added so_far =
-    let opened : sum_by f (drop i xs) ≡ f (get_or xs i 0) + sum_by f (drop (i + 1) xs) =
-    at_drop_more (sum_by f) xs i 0 within ∙ sum_by-cons f (get_or xs i 0) (drop (i + 1) xs) in
+sum_step f xs d i count term next whole within counted added so_far =
+    let opened : sum_by f (drop i xs) ≡ f (get_or xs i d) + sum_by f (drop (i + 1) xs) =
+    at_drop_more (sum_by f) xs i d within ∙ sum_by-cons f (get_or xs i d) (drop (i + 1) xs) in
     omega (arith, opened, counted, added, so_far)
 
-pub sum_end : (f : ℕ → ℕ) (xs : List ℕ) (i count whole : ℕ) → length xs ≤ i → count ≤ 2 ^ 64 - 1 → told (count + sum_by f (drop i xs)) ≡ whole → count ≡ whole
+pub sum_end : {X : Type 0} (f : X → ℕ) (xs : List X) (i count whole : ℕ) → length xs ≤ i → count ≤ 2 ^ 64 - 1 → told (count + sum_by f (drop i xs)) ≡ whole → count ≡ whole
 sum_end f xs i count whole past fits so_far =
     let none : sum_by f (drop i xs) ≡ 0 = at_drop_all (sum_by f) xs i past in
     omega (arith, none, fits, so_far)
+
+-- a set of those that rise
+pub rising_at : {X : Type 0} (f : X → List ℕ) (e : ℕ) (xs : List X) (i : ℕ) (d : X) → i < length xs → All (RisesFrom 0 e) (map f xs) → RisesFrom 0 e (f (get_or xs i d))
+rising_at f e xs i d within all =
+    let inside : i < length (map f xs) = omega (arith, within, length-map xs f) in
+    subst (RisesFrom 0 e) (get_or-map f xs i d [] within) (All-get_or (RisesFrom 0 e) (map f xs) i [] inside all)

@@ -1,7 +1,14 @@
 -- What a plan keeps of its parts.
-use Rattle.std.specs.Prelude.{◌≡◌, ℕ, ◌^◌, ◌<◌, ◌≤◌, List, length, take, sum, All, slice_index_or}
+use Rattle.std.specs.Prelude.{◌≡◌, ℕ, ◌^◌, ◌<◌, ◌≤◌, List, [], map, length, take, sum, All, slice_index_or}
 use Rattle.tuple_index.specs.Plan.{PlanView, set_at}
 use Rattle.tuple_index.specs.Places.{RisesFrom, tuple_count}
+
+-- a plan of the same values, with no set, and with these sets
+abbrev pub of_values : PlanView → PlanView
+of_values plan = record { sets = []; sizes = []; positives = plan.positives; negatives = plan.negatives }
+
+abbrev pub with_sets : PlanView → List (List ℕ) → PlanView
+with_sets plan sets = record { sets = sets; sizes = map (tuple_count plan) sets; positives = plan.positives; negatives = plan.negatives }
 
 -- the bases are the sums of the sizes before
 pub record AreBases (sizes bases : List ℕ) : Type 0 where

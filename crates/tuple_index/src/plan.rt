@@ -1,13 +1,20 @@
-ghost use Rattle.std.specs.Prelude.{◌≡◌, ◌^◌, ◌<◌, ℕ, List, [], All, Some, length, take, sum, slice_get, slice_index_or};
+ghost use Rattle.std.specs.Prelude.{◌≡◌, ◌^◌, ◌<◌, ◌≤◌, ℕ, List, [], All, Some, None, IfErr, IfOk, OnOk, length, map, take, sum, sum_by, slice_get, slice_index_or};
 ghost use Rattle.cov_model.specs.Sound.{ModelView};
 ghost use Rattle.definitions.specs.Demand.{tuples_of};
-ghost use Rattle.tuple_index.specs.Kept.{IsKept};
+ghost use Rattle.tuple_index.specs.Kept.{IsKept, of_values, with_sets};
 ghost use Rattle.tuple_index.specs.Places.{RisesFrom, negative_lists, negative_ways, IsSliceOf, negatives_of, place, place_of, rank_of, slice_given, start_of, tuple_count, tuple_lists, value_lists, values_in, ways, ways_before};
 ghost use Rattle.tuple_index.specs.Plan.{IsChoice, is_negative, plan_of, set_at, tuple_cells};
-ghost use Rattle.tuple_index.specs.PlanFault.{told};
+ghost use Rattle.tuple_index.specs.PlanFault.{IsFaultOf, limit_passed, told};
 
-use cov_model::{ParamNo, Slice, ValueNo};
+use crate::bases::bases_of;
+use crate::count::count_choices;
+use crate::fault::PlanFault;
+use crate::sets::sets_of;
+use crate::values::values_by_sign;
+use cov_model::{ParamNo, Slice, TestModel, ValueNo};
+use std::alloc::Global;
 use std::marker::Model;
+use value_text::NoMemory;
 
 /// The plan of a model: its demanded sets, and the ranks of their demanded tuples.
 #[derive(Drop)]
@@ -32,6 +39,100 @@ impl Model for Plan {
 }
 
 impl Plan {
+    /// The plan of a model. The choices of sets are counted before any is listed, and the tuples of
+    /// a set are never listed.
+    ///
+    /// # Errors
+    ///
+    /// `TooManySets` where there are more than 2^20 choices of demanded sets, before equal ones are
+    /// joined; else `TooManyTuples` where there are more than 2^26 demanded tuples; `NoMemory` where
+    /// memory is refused.
+    pub fn new(alloc: Global, model: &TestModel) -> Result<Plan, PlanFault>
+        ensures made { IfOk result (λ plan. plan ≡ plan_of model.now) }
+        ensures within { OnOk result (limit_passed model.now ≡ None) }
+        ensures refused { IfErr result (IsFaultOf model.now) }
+    {
+        let Ok(choices) = count_choices(alloc, model) else {
+            return Err(PlanFault::NoMemory);
+        };
+        if choices > 1 << 20 {
+            return Err(PlanFault::TooManySets(choices));
+        }
+        let (Ok(sets), Ok(values)) = (sets_of(alloc, model), Plan::without_sets(alloc, model))
+        else {
+            return Err(PlanFault::NoMemory);
+        };
+        let tuples = values.count_all(&sets);
+        if tuples > 1 << 26 {
+            return Err(PlanFault::TooManyTuples(tuples));
+        }
+        match values.with_sets(alloc, sets) {
+            Ok(plan) => Ok(plan),
+            Err(_) => Err(PlanFault::NoMemory),
+        }
+    }
+
+    // The values of the parameters by their signs, and no set.
+    fn without_sets(alloc: Global, model: &TestModel) -> Result<Plan, NoMemory>
+        ensures { IfOk result (λ plan. plan ≡ of_values (plan_of model.now)) }
+    {
+        let positive = values_by_sign(alloc, model, false)?;
+        let negative = values_by_sign(alloc, model, true)?;
+        Ok(Plan {
+            members_of: Vec::new(alloc),
+            counts: Vec::new(alloc),
+            bases: Vec::new(alloc),
+            positive,
+            negative,
+        })
+    }
+
+    // The plan with these sets, and with the values of this one.
+    fn with_sets(self, alloc: Global, sets: Vec<Vec<ParamNo>>) -> Result<Plan, NoMemory>
+        requires rising { All (RisesFrom 0 (length self.positives)) (map (λ set. set.items) sets.items) }
+        requires few { length sets.items ≤ 2 ^ 20 }
+        requires within { sum_by (λ set. tuple_count self set.items) sets.items ≤ 2 ^ 26 }
+        ensures { IfOk result (λ plan. plan ≡ with_sets self (map (λ set. set.items) sets.items)) }
+    {
+        let counts = self.sizes_of(alloc, &sets)?;
+        let bases = bases_of(alloc, &counts)?;
+        Ok(Plan {
+            members_of: sets,
+            counts,
+            bases,
+            positive: self.positive,
+            negative: self.negative,
+        })
+    }
+
+    // How many demanded tuples these sets have.
+    fn count_all(&self, sets: &[Vec<ParamNo>]) -> u64
+        requires { All (RisesFrom 0 (length self.now.positives)) (map (λ set. set.items) sets.now) }
+        ensures { result ≡ told (sum_by (λ set. tuple_count self.now set.items) sets.now) }
+    {
+        let mut count: u64 = 0;
+        for set in sets {
+            count = count.saturating_add(self.count_tuples(set.as_slice()));
+        }
+        count
+    }
+
+    // How many demanded tuples each of these sets has.
+    fn sizes_of(&self, alloc: Global, sets: &[Vec<ParamNo>]) -> Result<Vec<u32>, NoMemory>
+        requires rising { All (RisesFrom 0 (length self.now.positives)) (map (λ set. set.items) sets.now) }
+        requires within { sum_by (λ set. tuple_count self.now set.items) sets.now ≤ 2 ^ 26 }
+        ensures { IfOk result (λ sizes. sizes.items ≡ map (λ set. tuple_count self.now set.items) sets.now) }
+    {
+        let mut sizes = Vec::new(alloc);
+        for set in sets {
+            let count = self.count_tuples(set.as_slice()) as u32;
+            if sizes.push(count).is_err() {
+                return Err(NoMemory);
+            }
+        }
+        Ok(sizes)
+    }
+
     /// The number of demanded sets. Takes no memory.
     pub fn set_count(&self) -> u32
         ensures { result ≡ length self.now.sets }

@@ -1,4 +1,4 @@
-ghost use Rattle.std.specs.Prelude.{◌≡◌, ◌<◌, ◌≤◌, length, IfOk};
+ghost use Rattle.std.specs.Prelude.{◌≡◌, ◌<◌, ◌≤◌, length, map, IfOk};
 ghost use Rattle.definitions.specs.Demand.{rising};
 ghost use Rattle.tuple_index.specs.Signs.{has_sign, values_of_sign};
 
@@ -62,4 +62,26 @@ pub fn values_of(alloc: Global, values: &[Value], negative: bool) -> Result<Vec<
         }
     }
     Ok(numbers)
+}
+
+/// The numbers of the values of each parameter that are negative, or of those that aren't.
+///
+/// # Errors
+///
+/// `NoMemory` where there is no room for them.
+pub fn values_by_sign(
+    alloc: Global,
+    model: &TestModel,
+    negative: bool,
+) -> Result<Vec<Vec<ValueNo>>, NoMemory>
+    ensures { IfOk result (λ lists. map (λ list. list.items) lists.items ≡ map (λ param. values_of_sign negative param.values) model.now.params) }
+{
+    let mut lists = Vec::new(alloc);
+    for param in model.params().as_slice() {
+        let list = values_of(alloc, param.values.as_slice(), negative)?;
+        if lists.push(list).is_err() {
+            return Err(NoMemory);
+        }
+    }
+    Ok(lists)
 }

@@ -16,7 +16,7 @@ loop-p-init c = (
 pub loop-p-preserved : goal.loop-p-preserved
 loop-p-preserved c = (
   omega (arith, c.saturating_add-count.ensures),
-  sum_step (negative_ways c.args.self.now c.args.members.now) c.args.members.now c.loop-p.p-index c.loop-p.count c.negative_ways.result c.saturating_add-count.result _
+  sum_step (negative_ways c.args.self.now c.args.members.now) c.args.members.now 0 c.loop-p.p-index c.loop-p.count c.negative_ways.result c.saturating_add-count.result _
       c.loop-p-test.true c.negative_ways.ensures c.saturating_add-count.ensures c.loop-p.invariant.1,
 )
 
