@@ -88,7 +88,7 @@ choose-map f (suc k) (x ∷ xs) =
     ∙ sym (map-append (map f) (map (λ rest. x ∷ rest) (choose k xs)) (choose (suc k) xs))
 
 -- the items at all places
-items_at : {X : Type 0} (xs : List X) (d : X) → map (λ i. get_or xs i d) (range_with_len 0 (length xs)) ≡ xs
+pub items_at : {X : Type 0} (xs : List X) (d : X) → map (λ i. get_or xs i d) (range_with_len 0 (length xs)) ≡ xs
 items_at xs d =
     same_lists (map (λ i. get_or xs i d) (range_with_len 0 (length xs))) xs (length-map-range_with_len (λ i. get_or xs i d) 0 (length xs))
     (λ k e within.

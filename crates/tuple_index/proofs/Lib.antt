@@ -10,3 +10,4 @@ pub mod CountLemmas
 pub mod RowLemmas
 pub mod BaseLemmas
 pub mod OrderLemmas
+pub mod PlanLemmas

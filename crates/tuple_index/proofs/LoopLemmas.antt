@@ -1,11 +1,11 @@
 -- The steps and the ends of the loops over the members of a set.
-use Rattle.std.proofs.Common.{sum_by, ◌≡◌, ℕ, ◌+◌, ◌*◌, ◌-◌, ◌^◌, ◌<◌, ◌≤◌, true, false, List, [], ◌∷◌, All, map, subst, drop, length, get_or, ◌∙◌, sym, ap, arith}
+use Rattle.std.proofs.Common.{sum_by, ◌≡◌, ℕ, ◌+◌, ◌*◌, ◌-◌, ◌^◌, ◌<◌, ◌≤◌, true, false, List, [], ◌∷◌, ◌++◌, All, map, subst, take, drop, length, get_or, ◌∙◌, sym, ap, arith}
 use Rattle.std.specs.Prelude.{◌==◌, if◌then◌else◌}
 use Rattle.std.specs.List.{AllByRecursion}
 use Rattle.std.proofs.lemmas.List.Elements.{All-from_recursion, All-get_or}
 use Rattle.std.proofs.lemmas.Bool.Decides.{nat_tests}
-use Rattle.std.proofs.lemmas.List.Sums.{sum_by-cons}
-use Rattle.std.proofs.lemmas.List.{at_drop_more, at_drop_all, drop_more, get_or-map, length-map}
+use Rattle.std.proofs.lemmas.List.Sums.{get_or-le-sum_by, sum_by-cons}
+use Rattle.std.proofs.lemmas.List.{at_drop_more, at_drop_all, drop_more, get_or-map, length-map, map-append, take_more}
 use Rattle.tuple_index.specs.Plan.{PlanView}
 use Rattle.tuple_index.specs.Places.{RisesFrom, ways, place, place_of, negative_ways, ways_before}
 use Rattle.tuple_index.specs.PlanFault.{told}
@@ -114,3 +114,13 @@ pub rising_at : {X : Type 0} (f : X → List ℕ) (e : ℕ) (xs : List X) (i : �
 rising_at f e xs i d within all =
     let inside : i < length (map f xs) = omega (arith, within, length-map xs f) in
     subst (RisesFrom 0 e) (get_or-map f xs i d [] within) (All-get_or (RisesFrom 0 e) (map f xs) i [] inside all)
+
+-- a size within the limit of the sum is told exactly
+pub told_size : {X : Type 0} (f : X → ℕ) (xs : List X) (i : ℕ) (d : X) (n : ℕ) → i < length xs → sum_by f xs ≤ 2 ^ 26 → n ≡ told (f (get_or xs i d)) → (n ≡ f (get_or xs i d)) × (n ≤ 2 ^ 26)
+told_size f xs i d n within limit told_is =
+    let own = get_or-le-sum_by f xs i d within in
+    (omega (arith, own, limit, told_is), omega (arith, own, limit, told_is))
+
+-- one item more
+pub map_more : {X Y : Type 0} (f : X → Y) (xs : List X) (i : ℕ) (d : X) → i < length xs → map f (take (i + 1) xs) ≡ map f (take i xs) ++ f (get_or xs i d) ∷ []
+map_more f xs i d within = ap (map f) (take_more xs i d within) ∙ map-append f (take i xs) (get_or xs i d ∷ [])

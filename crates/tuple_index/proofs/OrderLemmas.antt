@@ -117,12 +117,15 @@ filter_rises f p (suc n) e end = by_test (f p) refl (filter_rises f (p + 1) n e 
     by_test true test rest = rw test (omega arith, omega (arith, end), rest)
     by_test false test rest = rw test (rises_lower (filter f (range_with_len (p + 1) n)) (p + 1) p e (omega arith) rest)
 
-pub demanded_rise : (m : ModelView) → All (RisesFrom 0 (length m.params)) (demanded_sets m)
-demanded_rise m = All-from_recursion (RisesFrom 0 (length m.params)) (demanded_sets m) (each_in_order (RisesFrom 0 (length m.params)) (map (rising m) (choices m)) (each (choices m)))
+pub each_rises : (m : ModelView) → AllByRecursion (RisesFrom 0 (length m.params)) (demanded_sets m)
+each_rises m = each_in_order (RisesFrom 0 (length m.params)) (map (rising m) (choices m)) (each (choices m))
   where
     each : (picks : List (List ℕ)) → AllByRecursion (RisesFrom 0 (length m.params)) (map (rising m) picks)
     each [] = tt
     each (pick ∷ picks) = (filter_rises (is_among pick) 0 (length m.params) (length m.params) (omega arith), each picks)
+
+pub demanded_rise : (m : ModelView) → All (RisesFrom 0 (length m.params)) (demanded_sets m)
+demanded_rise m = All-from_recursion (RisesFrom 0 (length m.params)) (demanded_sets m) (each_rises m)
 
 -- a list without what is below all of it
 none_below : (x : List ℕ) (ys : List (List ℕ)) → AllByRecursion (λ y. lex x y ≡ Less) ys → list_any (λ y. is_eq (lex x y)) ys ≡ false
