@@ -3,7 +3,7 @@ use Rattle.std.proofs.Common.{◌≡◌, ℕ, ◌+◌, ◌<◌, ◌≤◌, ◌^�
 use Rattle.std.specs.Prelude.{nat_lt}
 use Rattle.std.specs.List.{AllByRecursion, flat_map}
 use Rattle.std.proofs.lemmas.Bool.Decides.{nat_tests}
-use Rattle.std.proofs.lemmas.List.{length-map}
+use Rattle.std.proofs.lemmas.List.{get_or-map, length-map}
 use Rattle.std.proofs.lemmas.List.Concat.{length-flat_map}
 use Rattle.std.proofs.lemmas.List.FromFn.{length-map-range_with_len}
 use Rattle.std.proofs.lemmas.List.Sums.{sum-map}
@@ -12,7 +12,7 @@ use Rattle.cov_model.specs.Slices.{positive_values}
 use Rattle.cov_model.specs.Valid.{param_numbers}
 use Rattle.definitions.specs.Demand.{choices, demanded_sets, demanded_tuples, rising, tuples_of}
 use Rattle.tuple_index.specs.declared.fault.PlanFault.TheVariants.{TooManySets, TooManyTuples}
-use Rattle.tuple_index.specs.Kept.{of_values, with_sets}
+use Rattle.tuple_index.specs.Kept.{IsKept, of_values, with_sets}
 use Rattle.tuple_index.specs.Places.{RisesFrom, tuple_count, tuple_lists}
 use Rattle.tuple_index.specs.Plan.{PlanView, plan_of, tuple_cells}
 use Rattle.tuple_index.specs.PlanFault.{limit_passed, told}
@@ -111,3 +111,28 @@ none_passed m n k is few total most =
     let inside : length (demanded_tuples m) ≤ 2 ^ 26 = omega (arith, total, most) in
     let second : nat_lt (2 ^ 26) (length (demanded_tuples m)) ≡ false = grind (arith, nat_tests) in
     rw (first, second) refl
+
+-- a plan with these sets keeps what a plan keeps
+pub kept_with : {X : Type 0} (plan : PlanView) (f : X → List ℕ) (sets : List X) → IsKept plan → All (RisesFrom 0 (length plan.positives)) (map f sets)
+    → length sets ≤ 2 ^ 20 → sum_by (λ set. tuple_count plan (f set)) sets ≤ 2 ^ 26 → IsKept (with_sets plan (map f sets))
+kept_with plan f sets kept rise few_sets few_tuples =
+    let summed : sum (map (tuple_count plan) (map f sets)) ≡ sum_by (λ set. tuple_count plan (f set)) sets =
+    ap sum (map_map (tuple_count plan) f sets) ∙ sum-map (λ set. tuple_count plan (f set)) sets in
+    record {
+      few = omega (arith, length-map sets f, few_sets);
+      as_many = length-map (map f sets) (tuple_count plan);
+      within = omega (arith, summed, few_tuples);
+      both = kept.both;
+      rising = rise;
+      counted = λ i within. get_or-map (tuple_count plan) (map f sets) i [] 0 within;
+    }
+
+-- the values of a plan with these sets and sizes
+abbrev pub with_sizes : PlanView → List (List ℕ) → List ℕ → PlanView
+with_sizes plan sets sizes = record { sets = sets; sizes = sizes; positives = plan.positives; negatives = plan.negatives }
+
+pub sized_is : {X : Type 0} (own plan : PlanView) (f : X → List ℕ) (sets : List X) (sizes : List ℕ) → own ≡ plan
+    → sizes ≡ map (λ set. tuple_count plan (f set)) sets → with_sizes own (map f sets) sizes ≡ with_sets plan (map f sets)
+sized_is own plan f sets sizes same each =
+    same_plan (with_sizes own (map f sets) sizes) (with_sets plan (map f sets)) refl (each ∙ sym (map_map (tuple_count plan) f sets))
+    (ap (λ p. p.positives) same) (ap (λ p. p.negatives) same)
