@@ -1,6 +1,5 @@
-use Rattle.std.proofs.Common.{◌≡◌, ap, length, map, sum_by, sym, ◌∙◌}
+use Rattle.std.proofs.Common.{◌≡◌, ap, length, map, ◌∙◌}
 use Rattle.definitions.specs.Demand.{demanded_sets, demanded_tuples}
-use Rattle.tuple_index.specs.Places.{tuple_count}
 use Rattle.tuple_index.specs.PlanFault.{told}
 use Rattle.tuple_index.proofs.PlanLemmas.{made_is, none_passed, sets_few, sets_rise, tuples_counted, tuples_passed}
 use Rattle.tuple_index.proofs.plan.Plan.new.Goals as goal

@@ -1,4 +1,4 @@
-use Rattle.std.proofs.Common.{arith, ap, sym, subst, length, map, take, get_or, ◌≡◌, ◌++◌, ◌∷◌, [], ◌∙◌}
+use Rattle.std.proofs.Common.{arith, ap, sym, subst, length, map, take, ◌≡◌, ◌++◌, ◌∷◌, [], ◌∙◌}
 use Rattle.std.proofs.lemmas.Grind.{common_steps}
 use Rattle.tuple_index.specs.Places.{RisesFrom, tuple_count}
 use Rattle.tuple_index.specs.PlanFault.{told}

@@ -1,4 +1,4 @@
-use Rattle.std.proofs.Common.{ap, map, [], ◌∙◌}
+use Rattle.std.proofs.Common.{ap, map}
 use Rattle.tuple_index.proofs.PlanLemmas.{same_values}
 use Rattle.tuple_index.proofs.plan.Plan.without_sets.Goals as goal
 
