@@ -11,3 +11,4 @@ pub mod RowLemmas
 pub mod BaseLemmas
 pub mod OrderLemmas
 pub mod PlanLemmas
+pub mod SampleSound

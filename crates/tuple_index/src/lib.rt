@@ -15,3 +15,6 @@ mod values;
 
 pub use fault::PlanFault;
 pub use plan::Plan;
+
+#[cfg(test)]
+mod tests;
