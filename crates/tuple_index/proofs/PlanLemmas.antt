@@ -60,7 +60,7 @@ each_counted m (set ∷ sets) rise =
 sizes_counted : (m : ModelView) → map (tuple_count (plan_of m)) (demanded_sets m) ≡ map (λ set. length (tuples_of m set)) (demanded_sets m)
 sizes_counted m = each_counted m (demanded_sets m) (each_rises m)
 
-pub tuples_counted : {X : Type 0} (m : ModelView) (values : PlanView) (f : X → List ℕ) (sets : List X) → values ≡ of_values (plan_of m)
+tuples_counted : {X : Type 0} (m : ModelView) (values : PlanView) (f : X → List ℕ) (sets : List X) → values ≡ of_values (plan_of m)
     → map f sets ≡ demanded_sets m → sum_by (λ set. tuple_count values (f set)) sets ≡ length (demanded_tuples m)
 tuples_counted m values f sets same listed =
     ap (λ plan. sum_by (λ set. tuple_count plan (f set)) sets) same
@@ -68,6 +68,11 @@ tuples_counted m values f sets same listed =
     ∙ ap sum (sym (map_map (tuple_count (plan_of m)) f sets) ∙ ap (map (tuple_count (plan_of m))) listed ∙ sizes_counted m)
     ∙ sum-map (λ set. length (tuples_of m set)) (demanded_sets m)
     ∙ sym (length-flat_map (tuples_of m) (demanded_sets m))
+
+pub total_told : {X : Type 0} (m : ModelView) (values : PlanView) (f : X → List ℕ) (sets lent : List X) (n : ℕ) → values ≡ of_values (plan_of m)
+    → map f sets ≡ demanded_sets m → lent ≡ sets → n ≡ told (sum_by (λ set. tuple_count values (f set)) lent) → n ≡ told (length (demanded_tuples m))
+total_told m values f sets lent n same listed all is =
+    is ∙ ap (λ xs. told (sum_by (λ set. tuple_count values (f set)) xs)) all ∙ ap told (tuples_counted m values f sets same listed)
 
 -- with the demanded sets it is the plan
 pub made_is : (m : ModelView) (values plan : PlanView) (sets : List (List ℕ)) → values ≡ of_values (plan_of m) → sets ≡ demanded_sets m

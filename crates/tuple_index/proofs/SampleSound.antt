@@ -1,5 +1,5 @@
 -- The model of the tests is sound.
-use Rattle.std.proofs.Common.{◌≡◌, ◌≢◌, ℕ, zero, suc, ◌+◌, ◌<◌, ◌≤◌, true, false, List, [], ◌∷◌, length, get_or, AllPairs, ◌∙◌, refl, sym, subst, ap, arith, codes}
+use Rattle.std.proofs.Common.{◌≡◌, ◌≢◌, ℕ, ◌<◌, true, false, List, [], ◌∷◌, get_or, AllPairs, ◌∙◌, refl, sym, subst, ap, arith, codes}
 use Rattle.std.specs.Str.{chars}
 use Rattle.std.specs.List.{AllByRecursion}
 use Rattle.std.proofs.lemmas.List.Elements.{All-from_recursion}

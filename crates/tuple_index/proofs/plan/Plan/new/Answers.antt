@@ -1,7 +1,7 @@
 use Rattle.std.proofs.Common.{◌≡◌, ap, length, map, ◌∙◌}
 use Rattle.definitions.specs.Demand.{demanded_sets, demanded_tuples}
 use Rattle.tuple_index.specs.PlanFault.{told}
-use Rattle.tuple_index.proofs.PlanLemmas.{made_is, none_passed, sets_few, sets_rise, tuples_counted, tuples_passed}
+use Rattle.tuple_index.proofs.PlanLemmas.{made_is, none_passed, sets_few, sets_rise, total_told, tuples_passed}
 use Rattle.tuple_index.proofs.plan.Plan.new.Goals as goal
 
 pub count_all-tuples-requires : goal.count_all-tuples-requires
@@ -12,10 +12,9 @@ count_all-tuples-requires c =
 
 pub returns-then-tuples-clause-refused : goal.returns-then-tuples-clause-refused
 returns-then-tuples-clause-refused c =
-    let listed : map (λ set. set.items) c.deref.result.now ≡ demanded_sets c.args.model.now =
-    ap (map (λ set. set.items)) c.deref.ensures.value ∙ c.in-Ok-Ok.ensures in
     let total : c.count_all-tuples.result ≡ told (length (demanded_tuples c.args.model.now)) =
-    c.count_all-tuples.ensures ∙ ap told (tuples_counted c.args.model.now c.in-Ok-Ok.values (λ set. set.items) c.deref.result.now c.in-Ok-Ok.ensures' listed) in
+    total_told c.args.model.now c.in-Ok-Ok.values (λ set. set.items) c.in-Ok-Ok.sets.items c.deref.result.now c.count_all-tuples.result
+    c.in-Ok-Ok.ensures' c.in-Ok-Ok.ensures c.deref.ensures.value c.count_all-tuples.ensures in
     tuples_passed c.args.model.now c.in-Ok.choices c.count_all-tuples.result c.in-Ok.ensures c.if-choices.false total c.if-tuples.true
 
 pub with_sets-requires-clause-rising : goal.with_sets-requires-clause-rising
@@ -30,8 +29,7 @@ returns-in-Ok-with_sets-clause-made c = made_is c.args.model.now c.in-Ok-Ok.valu
 
 pub returns-in-Ok-with_sets-clause-within : goal.returns-in-Ok-with_sets-clause-within
 returns-in-Ok-with_sets-clause-within c =
-    let listed : map (λ set. set.items) c.deref.result.now ≡ demanded_sets c.args.model.now =
-    ap (map (λ set. set.items)) c.deref.ensures.value ∙ c.in-Ok-Ok.ensures in
     let total : c.count_all-tuples.result ≡ told (length (demanded_tuples c.args.model.now)) =
-    c.count_all-tuples.ensures ∙ ap told (tuples_counted c.args.model.now c.in-Ok-Ok.values (λ set. set.items) c.deref.result.now c.in-Ok-Ok.ensures' listed) in
+    total_told c.args.model.now c.in-Ok-Ok.values (λ set. set.items) c.in-Ok-Ok.sets.items c.deref.result.now c.count_all-tuples.result
+    c.in-Ok-Ok.ensures' c.in-Ok-Ok.ensures c.deref.ensures.value c.count_all-tuples.ensures in
     none_passed c.args.model.now c.in-Ok.choices c.count_all-tuples.result c.in-Ok.ensures c.if-choices.false total c.if-tuples.false
