@@ -163,7 +163,7 @@ fn assert_tokens(rt: &impl Abort, line: &str, tokens: &[(TokenKind, &str)], last
 #[test]
 fn reads_tokens(rt: HostRuntime) {
     use TokenKind::{Mark, Name, Number, Relation, Word, Words};
-    let cases: [(&str, &[(TokenKind, &str)]); 8] = [
+    let cases: [(&str, &[(TokenKind, &str)]); 6] = [
         ("", &[]),
         (" \t", &[]),
         (
@@ -195,6 +195,28 @@ fn reads_tokens(rt: HostRuntime) {
             ],
         ),
         (
+            "iN{+7,0}Like",
+            &[
+                (Word, "iN"),
+                (Mark, "{"),
+                (Number, "+7"),
+                (Mark, ","),
+                (Number, "0"),
+                (Mark, "}"),
+                (Word, "Like"),
+            ],
+        ),
+    ];
+    for (line, tokens) in cases {
+        assert_tokens(&rt, line, tokens, Lexed::End);
+    }
+}
+
+#[test]
+fn reads_quoted_tokens(rt: HostRuntime) {
+    use TokenKind::{Mark, Name, Relation, Words};
+    let cases: [(&str, &[(TokenKind, &str)]); 2] = [
+        (
             "[a\\]b\\\\](\"\\\"\\]\\\\\\x\")",
             &[
                 (Name, "[a\\]b\\\\]"),
@@ -209,18 +231,6 @@ fn reads_tokens(rt: HostRuntime) {
                 (Name, "[Gr\u{f6}\u{df}e]"),
                 (Relation, "="),
                 (Words, "\"\u{20ac}]\""),
-            ],
-        ),
-        (
-            "iN{+7,0}Like",
-            &[
-                (Word, "iN"),
-                (Mark, "{"),
-                (Number, "+7"),
-                (Mark, ","),
-                (Number, "0"),
-                (Mark, "}"),
-                (Word, "Like"),
             ],
         ),
     ];
