@@ -4,6 +4,7 @@ pub mod Report
 pub mod Limits
 pub mod RowFile
 pub mod RowReading
+pub mod SliceRows
 pub mod Completion
 pub mod Search
 pub mod Seeds

@@ -24,7 +24,7 @@ use Rattle.feasibility.specs.Solving.{SolverView, IsSolver}
 use Rattle.feasibility.specs.Tree.{ListsValues}
 use Rattle.feasibility.proofs.Visiting.{told_yes}
 use Rattle.feasibility.specs.Path.{reached}
-use Rattle.feasibility.specs.Slices.{IsSliceOf, IsOfSlice}
+use Rattle.definitions.specs.SliceRows.{IsSliceOf, IsOfSlice}
 use Rattle.feasibility.specs.Laws.{PlainSearchIsExact}
 use Rattle.feasibility.proofs.Completing.{same_number, first_of, first_of-none, first_of-some, completion_moves, among_filter, among_tail}
 use Rattle.feasibility.proofs.Searching.{IsListed, given_by, visit_gives, not_true_false}

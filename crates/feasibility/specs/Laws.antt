@@ -5,7 +5,7 @@ use Rattle.cov_model.specs.Sound.{ModelView, IsSound}
 use Rattle.definitions.specs.Completion.{is_extendable, first_completion}
 use Rattle.definitions.specs.Search.{plain_search}
 use Rattle.definitions.specs.Laws.{ArePreferences}
-use Rattle.feasibility.specs.Slices.{IsSliceOf, IsOfSlice}
+use Rattle.definitions.specs.SliceRows.{IsSliceOf, IsOfSlice}
 
 -- plain search succeeds on a partial row of a slice exactly if it is extendable there, and then it has a
 -- first completion, whatever the preferences

@@ -1,6 +1,5 @@
 pub mod Answers
 pub mod Laws
 pub mod Path
-pub mod Slices
 pub mod Solving
 pub mod Tree

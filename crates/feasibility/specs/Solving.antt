@@ -4,7 +4,7 @@ use Rattle.cov_model.specs.declared.slice.Slice.{Slice}
 use Rattle.cov_model.specs.Sound.{ModelView}
 use Rattle.cov_model.specs.Preference.{OrdersValues}
 use Rattle.definitions.specs.Completion.{preferred_values}
-use Rattle.feasibility.specs.Slices.{IsSliceOf}
+use Rattle.definitions.specs.SliceRows.{IsSliceOf}
 
 -- a solver answers questions about one slice of a model, and completes by these preferences
 pub record SolverView : Type 0 where

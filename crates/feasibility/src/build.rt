@@ -6,7 +6,7 @@ ghost use Rattle.cov_model.specs.Sound.{param_at};
 ghost use Rattle.cov_model.specs.Meaning.{value_at};
 ghost use Rattle.definitions.specs.Completion.{preferred_values};
 ghost use Rattle.definitions.specs.Demand.{is_among};
-ghost use Rattle.feasibility.specs.Slices.{IsSliceOf};
+ghost use Rattle.definitions.specs.SliceRows.{IsSliceOf};
 ghost use Rattle.feasibility.specs.Tree.{all_naming, naming, preferred_at};
 
 use crate::named::body_names;

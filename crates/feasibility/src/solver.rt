@@ -3,7 +3,7 @@ ghost use Rattle.cov_model.specs.Preference.{OrdersValues};
 ghost use Rattle.definitions.specs.Completion.{first_completion, is_extendable};
 ghost use Rattle.definitions.specs.Search.{plain_cost};
 ghost use Rattle.feasibility.specs.Answers.{answer_of};
-ghost use Rattle.feasibility.specs.Slices.{IsOfSlice, IsSliceOf};
+ghost use Rattle.definitions.specs.SliceRows.{IsOfSlice, IsSliceOf};
 
 use crate::answer::Answer;
 use crate::tree::SearchTree;

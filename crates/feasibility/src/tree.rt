@@ -9,7 +9,7 @@ ghost use Rattle.definitions.specs.Demand.{is_among};
 ghost use Rattle.definitions.specs.Search.{breaks_a_rule, constrained_params, is_failing, is_no, is_stuck, visit};
 ghost use Rattle.feasibility.specs.Answers.{answer_of};
 ghost use Rattle.feasibility.specs.Path.{filled, filled_cell, reached};
-ghost use Rattle.feasibility.specs.Slices.{IsSliceOf};
+ghost use Rattle.definitions.specs.SliceRows.{IsSliceOf};
 ghost use Rattle.feasibility.specs.Tree.{ListsValues, TreeView, constrained_from, is_named, naming};
 
 use crate::answer::Answer;

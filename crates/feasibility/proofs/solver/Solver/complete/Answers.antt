@@ -2,7 +2,7 @@ use Rattle.std.proofs.Common.{◌≡◌, ◌∙◌, sym, subst, Some}
 use Rattle.definitions.specs.Completion.{is_extendable, first_completion}
 use Rattle.definitions.specs.Search.{plain_cost}
 use Rattle.feasibility.specs.Answers.{answer_of}
-use Rattle.feasibility.specs.Slices.{IsOfSlice}
+use Rattle.definitions.specs.SliceRows.{IsOfSlice}
 use Rattle.feasibility.specs.Solving.{SolverView}
 use Rattle.feasibility.specs.declared.answer.Answer.TheVariants.{Yes, No, Spent}
 use Rattle.feasibility.proofs.Extendable.{solver_asks, solver_completes}
