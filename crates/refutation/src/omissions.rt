@@ -1,0 +1,95 @@
+ghost use Rattle.std.specs.Prelude.{◌≡◌, ◌++◌, ◌∷◌, [], length, slice_get, option_copied, OnOk, OnErr};
+
+use crate::token::TreeBuf;
+use cov_model::Tuple;
+use std::alloc::Global;
+use std::marker::Model;
+use value_text::{NoMemory, OwnedList};
+
+/// The format of a proof (this project's rule).
+#[derive(Debug, Drop, Clone, Copy, PartialEq, Eq)]
+pub enum ProofForm {
+    /// Trees stand on constraints and negative values alone.
+    One,
+    /// Trees may cite earlier omissions too.
+    Two,
+}
+
+/// A tuple that no row serves, with the tree that refutes it.
+#[derive(Drop)]
+pub struct Omission {
+    /// The tuple.
+    pub tuple: Tuple,
+    /// The tokens of its tree.
+    pub tree: TreeBuf,
+}
+
+/// Some omissions, in order.
+pub type OmissionList = OwnedList<Omission>;
+
+/// A proof: its format, and the omitted tuples with their trees, in order. Contracts see both.
+#[derive(Drop)]
+pub struct Omissions {
+    format: ProofForm,
+    listed: OmissionList,
+}
+
+impl Model for Omissions {
+    ghost use Rattle.refutation.specs.Proofs.{ProofView};
+
+    ghost Value = { ProofView };
+
+    ghost view = { λ a. record { form = a.format; omissions = a.listed } };
+}
+
+impl Omissions {
+    /// A proof of this format without omissions. Takes no memory.
+    pub fn empty(alloc: Global, form: ProofForm) -> Omissions
+        ensures { result ≡ record { form = form; omissions = [] } }
+    {
+        Omissions {
+            format: form,
+            listed: OwnedList::new(alloc),
+        }
+    }
+
+    /// The format. Takes no memory.
+    pub fn form(&self) -> ProofForm
+        ensures { result ≡ self.now.form }
+    {
+        self.format
+    }
+
+    /// The number of omissions. Takes no memory.
+    pub fn len(&self) -> usize
+        ensures { result ≡ length self.now.omissions }
+    {
+        self.listed.len()
+    }
+
+    /// The omission at a place, counted from 0, or `None` at and behind the end. Takes no memory.
+    pub fn get(&self, i: usize) -> Option<&Omission>
+        ensures { option_copied result ≡ slice_get self.now.omissions i }
+    {
+        self.listed.get(i)
+    }
+
+    /// The omissions in order. Takes no memory.
+    pub fn as_slice(&self) -> &[Omission]
+        ensures { result.now ≡ self.now.omissions }
+    {
+        self.listed.as_slice()
+    }
+
+    /// Adds an omission at the end.
+    ///
+    /// # Errors
+    ///
+    /// `NoMemory` where there is no room; the proof is then as before.
+    pub fn push(&mut self, omission: Omission) -> Result<(), NoMemory>
+        ensures ok { OnOk result (self.new ≡ record { form = self.old.form; omissions = self.old.omissions ++ omission ∷ [] }) }
+        ensures err { OnErr result (self.new ≡ self.old) }
+    {
+        self.listed.push(omission)
+    }
+}
