@@ -22,3 +22,5 @@ pub mod Contained
 pub mod Extendable
 pub mod Refuted
 pub mod Certified
+pub mod Members
+pub mod Choices

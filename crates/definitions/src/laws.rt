@@ -1,7 +1,7 @@
 //! What is proved of the definitions together. A function here does nothing: its contract is a law
 //! that holds of every model, and is proved with the crate.
 
-ghost use Rattle.definitions.specs.Laws.{AcceptedAreCertified, ExtendableContains, RefutedAreUnserved, ReportsReadBack, SuitesAreRead};
+ghost use Rattle.definitions.specs.Laws.{AcceptedAreCertified, CompletionsAreRows, ExtendableContains, RefutedAreUnserved, ReportsReadBack, SuitesAreRead};
 
 /// Reading a report gives its rows: the text that is written of rows of a sound model, read as a
 /// row file, holds these rows in their order (this project's rule).
@@ -13,6 +13,12 @@ pub fn reports_read_back()
 /// finds no fault, its rows are those of the file's lines, in their order (this project's rule).
 pub fn suites_are_read()
     ensures { SuitesAreRead }
+{}
+
+/// The completions of a partial row are rows: those that contain it, of the rows that give each
+/// parameter one of its listed values (this project's rule).
+pub fn completions_are_rows()
+    ensures { CompletionsAreRows }
 {}
 
 /// What an extendable partial row contains is extendable: a row that meets every constraint and

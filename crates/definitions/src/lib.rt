@@ -9,6 +9,6 @@
 mod laws;
 
 pub use laws::{
-    accepted_are_certified, extendable_contains, refuted_are_unserved, reports_read_back,
-    suites_are_read,
+    accepted_are_certified, completions_are_rows, extendable_contains, refuted_are_unserved,
+    reports_read_back, suites_are_read,
 };
