@@ -24,3 +24,6 @@ pub mod Refuted
 pub mod Certified
 pub mod Members
 pub mod Choices
+pub mod Distinct
+pub mod SliceLemmas
+pub mod Serving
