@@ -1,7 +1,7 @@
 //! What is proved of the definitions together. A function here does nothing: its contract is a law
 //! that holds of every model, and is proved with the crate.
 
-ghost use Rattle.definitions.specs.Laws.{AcceptedAreCertified, CompletionsAreRows, ExtendableContains, RefutedAreUnserved, ReportsReadBack, SlicesServe, SuitesAreRead};
+ghost use Rattle.definitions.specs.Laws.{AcceptedAreCertified, CompletionsAreRows, ExtendableContains, RefutedAreUnserved, ReportsReadBack, ServableAreExtendable, SlicesServe, SuitesAreRead};
 
 /// Reading a report gives its rows: the text that is written of rows of a sound model, read as a
 /// row file, holds these rows in their order (this project's rule).
@@ -45,4 +45,10 @@ pub fn accepted_are_certified()
 /// of the tuple's slice, contains the tuple, and meets every constraint (this project's rule).
 pub fn slices_serve()
     ensures { SlicesServe }
+{}
+
+/// What can be served is extendable: some row serves a tuple with at most one negative value exactly
+/// if the tuple is extendable in its slice (this project's rule).
+pub fn servable_are_extendable()
+    ensures { ServableAreExtendable }
 {}
