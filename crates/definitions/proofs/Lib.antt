@@ -27,3 +27,8 @@ pub mod Choices
 pub mod Distinct
 pub mod SliceLemmas
 pub mod Serving
+pub mod Joining
+pub mod Keeping
+pub mod Settling
+pub mod Once
+pub mod Finishing
