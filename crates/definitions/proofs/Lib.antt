@@ -32,3 +32,6 @@ pub mod Keeping
 pub mod Settling
 pub mod Once
 pub mod Finishing
+pub mod Totals
+pub mod Demanded
+pub mod InPlay
