@@ -35,3 +35,5 @@ pub mod Finishing
 pub mod Totals
 pub mod Demanded
 pub mod InPlay
+pub mod Grown
+pub mod GrowthLaw

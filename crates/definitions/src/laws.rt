@@ -1,7 +1,7 @@
 //! What is proved of the definitions together. A function here does nothing: its contract is a law
 //! that holds of every model, and is proved with the crate.
 
-ghost use Rattle.definitions.specs.Laws.{AcceptedAreCertified, CompletionsAreRows, ExtendableContains, RefutedAreUnserved, ReportsReadBack, ServableAreExtendable, SlicesServe, SuitesAreRead};
+ghost use Rattle.definitions.specs.Laws.{AcceptedAreCertified, CompletionsAreRows, ExtendableContains, GrowthCovers, RefutedAreUnserved, ReportsReadBack, ServableAreExtendable, SlicesServe, SuitesAreRead};
 
 /// Reading a report gives its rows: the text that is written of rows of a sound model, read as a
 /// row file, holds these rows in their order (this project's rule).
@@ -51,4 +51,12 @@ pub fn slices_serve()
 /// if the tuple is extendable in its slice (this project's rule).
 pub fn servable_are_extendable()
     ensures { ServableAreExtendable }
+{}
+
+/// Growth covers what can be covered: every row of a suite is valid, and no two are the same; a
+/// demanded tuple is omitted exactly if no row of the model serves it, and else a row of the suite
+/// serves it; each kept seed is in a row; and there are no more rows than demanded tuples outside the
+/// omission list and kept seeds (Lei and others 2007 for growth; the bound is this project's rule).
+pub fn growth_covers()
+    ensures { GrowthCovers }
 {}
