@@ -9,3 +9,4 @@ pub mod Answer
 pub mod Lexing
 pub mod Unquoting
 pub mod Trimming
+pub mod RuleTextExamples

@@ -3,3 +3,4 @@ pub mod Grammar
 pub mod Machine
 pub mod Reading
 pub mod Lexing
+pub mod RuleText
