@@ -10,3 +10,4 @@ pub mod Lexing
 pub mod Unquoting
 pub mod Trimming
 pub mod RuleTextExamples
+pub mod OneReading

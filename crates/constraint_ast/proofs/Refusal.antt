@@ -18,14 +18,14 @@ use Rattle.constraint_ast.proofs.Finish.{finishes}
 use Rattle.constraint_ast.proofs.Deeper.{DeeperStep, deeper, deeper_outer, deeper_state, step_deeper}
 
 -- some tokens lead from a state to another, past these constraints
-record Leads (room : ℕ) (front : List LineToken) (done : List RuleTree) (start state : State) : Type 0 where
-  runs : (last : ℕ) (more : List LineToken) → run room last (front ++ more) start ≡ with_rules done (run room last more state)
-  ends : (more : List LineToken) (rules : List RuleTree) → Ends room state more rules → Ends room start (front ++ more) (done ++ rules)
+pub record Leads (room : ℕ) (front : List LineToken) (done : List RuleTree) (start state : State) : Type 0 where
+  pub runs : (last : ℕ) (more : List LineToken) → run room last (front ++ more) start ≡ with_rules done (run room last more state)
+  pub ends : (more : List LineToken) (rules : List RuleTree) → Ends room state more rules → Ends room start (front ++ more) (done ++ rules)
 
-leads_nowhere : (room : ℕ) (state : State) → Leads room [] [] state state
+pub leads_nowhere : (room : ℕ) (state : State) → Leads room [] [] state state
 leads_nowhere room state = record { runs = λ last more. refl; ends = λ more rules ends. ends }
 
-leads_on :
+pub leads_on :
     (room : ℕ) (token : LineToken) (front : List LineToken) (done : List RuleTree) (start next state : State)
     → step room start token.line token.token ≡ Next next → Leads room front done next state → Leads room (token ∷ front) done start state
 leads_on room token front done start next state e rest = record {
@@ -33,7 +33,7 @@ leads_on room token front done start next state e rest = record {
   ends = λ more rules ends. led room (front ++ more) (done ++ rules) start token.line token.token (subst (λ to. EndsStep room to (front ++ more) (done ++ rules)) (sym e) (rest.ends more rules ends));
 }
 
-leads_past :
+pub leads_past :
     (room : ℕ) (token : LineToken) (front : List LineToken) (rule : RuleTree) (done : List RuleTree) (start state : State)
     → step room start token.line token.token ≡ Done rule → Leads room front done Between state → Leads room (token ∷ front) (rule ∷ done) start state
 leads_past room token front rule done start state e rest = record {
@@ -121,7 +121,7 @@ stop room last (token ∷ tokens) start diag stops =
     stop_on room last token tokens start diag (step room start token.line token.token) refl (step_deeper room start token.line token.token) stops (λ state stops. stop room last tokens state diag stops)
 
 -- what could stand behind some tokens, and what couldn't
-abbrev IsGood : Step → Type 0
+abbrev pub IsGood : Step → Type 0
 IsGood (Next state) = Unit {0}
 IsGood (Done rule) = Unit {0}
 IsGood (Bad code) = ⊥
@@ -138,7 +138,7 @@ module _ (room : ℕ) (front : List LineToken) (done : List RuleTree) (state : S
   can_begin : CanBegin room front
   can_begin = let rest = finishes room state in (rest.0, done ++ rest.1, leads.ends rest.0 rest.1 rest.2)
 
-  could : (token : LineToken) → IsGood (step room state token.line token.token) → CanBegin room (front ++ token ∷ [])
+  pub could : (token : LineToken) → IsGood (step room state token.line token.token) → CanBegin room (front ++ token ∷ [])
   could token good =
       let rest = step_finishes room (step room state token.line token.token) good in (
         rest.0,
@@ -147,7 +147,7 @@ module _ (room : ℕ) (front : List LineToken) (done : List RuleTree) (state : S
             (leads.ends (token ∷ rest.0) rest.1 (led room rest.0 rest.1 state token.line token.token rest.2)),
       )
 
-  could_not : (token : LineToken) (code : DiagCode) → step room state token.line token.token ≡ Bad code → ¬ (CanBegin room (front ++ token ∷ []))
+  pub could_not : (token : LineToken) (code : DiagCode) → step room state token.line token.token ≡ Bad code → ¬ (CanBegin room (front ++ token ∷ []))
   could_not token code e (more, rules, spelled) =
       no_answer (rules_read (subst (λ tokens. AreRules room tokens rules) (append_assoc front (token ∷ []) more) spelled) 0)
       (

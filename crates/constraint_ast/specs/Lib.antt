@@ -4,3 +4,4 @@ pub mod Machine
 pub mod Reading
 pub mod Lexing
 pub mod RuleText
+pub mod Laws

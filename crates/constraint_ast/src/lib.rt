@@ -2,8 +2,11 @@
 //!
 //! - `RawRule` is a constraint as it is written, with parameter names in place of parameters.
 //! - `parse_rules` reads the constraints of a model file.
+//! - `grammar_has_one_reading` and `lines_have_one_reading` state that tokens and lines either spell
+//!   one list of constraints, or are refused at one place with one code.
 #![tactic(auto)]
 
+mod laws;
 mod lexer;
 mod parser;
 mod quoting;
@@ -12,6 +15,7 @@ mod tests;
 mod token;
 mod tree;
 
+pub use laws::{grammar_has_one_reading, lines_have_one_reading};
 pub use parser::parse_rules;
 pub use tree::{
     RawBody, RawLiteral, RawLiteralList, RawPred, RawPredList, RawRel, RawRule, RawRuleList,
