@@ -3,15 +3,15 @@ use Rattle.std.proofs.Common.{◌≡◌, ◌⊎◌, inl, inr, ℕ, zero, suc, Li
 use Rattle.std.specs.Prelude.{Result, Ok, Err}
 use Rattle.model_lex.specs.declared.diag.Diag.{Diag}
 use Rattle.model_lex.specs.declared.diag.DiagCode.{DiagCode}
-use Rattle.model_lex.specs.declared.diag.DiagCode.TheVariants.{PredicateExpected, RelationExpected, OperandExpected, MarkExpected, TooDeep}
+use Rattle.model_lex.specs.declared.diag.DiagCode.TheVariants.{PredicateExpected, OperandExpected, MarkExpected, TooDeep}
 use Rattle.constraint_ast.specs.Trees.{Tree, RuleTree}
-use Rattle.constraint_ast.specs.Grammar.{at, AreRules, no_rule, CanBegin, CannotGoOn, CouldDeeper, Expects, Explains, Refused, last_line, refusal_line}
+use Rattle.constraint_ast.specs.Grammar.{at, AreRules, no_rule, CanBegin, CouldDeeper, Expects, Explains, Refused, last_line}
 use Rattle.constraint_ast.specs.declared.token.LineToken.{LineToken}
 use Rattle.constraint_ast.specs.declared.token.RuleToken.{RuleToken}
 use Rattle.constraint_ast.specs.declared.token.RuleToken.TheVariants.{Name, Literal, Relation, If, Then, Else, And, Or, Not, In, Like, Sign, OpenParen, CloseParen, OpenBrace, CloseBrace, Comma, Semicolon}
 use Rattle.constraint_ast.specs.declared.token.Sign.TheVariants.{Negative}
 use Rattle.constraint_ast.specs.declared.tree.RawLiteral.TheVariants.{Words, Number}
-use Rattle.constraint_ast.specs.Machine.{After, Around, Bad, Between, Done, InElse, InIf, InPlain, InThen, Itemed, Liked, Listed, Named, NamedNot, Need, Next, Opened, Outer, Paren, Part, Related, SignNamed, SignOpened, Signed, Spot, State, Step, Top, Within, at_end, begin, ended, finished, go_on, missing, need, run, step, with_rule, with_rules}
+use Rattle.constraint_ast.specs.Machine.{After, Around, Bad, Between, Done, InElse, InIf, InPlain, InThen, Itemed, Liked, Listed, Named, NamedNot, Need, Next, Opened, Outer, Paren, Related, SignNamed, SignOpened, Signed, Spot, State, Step, Top, at_end, begin, ended, finished, go_on, missing, need, run, step, with_rule, with_rules}
 use Rattle.constraint_ast.proofs.Complete.{rules_read, rules_refused}
 use Rattle.constraint_ast.proofs.Sound.{Ends, EndsStep, led}
 use Rattle.constraint_ast.proofs.Finish.{finishes}

@@ -1,5 +1,5 @@
 -- What holds of the definitions together. (This project's rules.)
-use Rattle.std.specs.Prelude.{◌≡◌, ◌⊎◌, ℕ, List, [], ◌∷◌}
+use Rattle.std.specs.Prelude.{◌≡◌, ◌⊎◌, ℕ, List}
 use Rattle.model_lex.specs.declared.diag.Diag.{Diag}
 use Rattle.constraint_ast.specs.Trees.{RuleTree}
 use Rattle.constraint_ast.specs.Grammar.{AreRules, Refused}
