@@ -11,3 +11,6 @@ pub mod Unquoting
 pub mod Trimming
 pub mod RuleTextExamples
 pub mod OneReading
+pub mod Backslashes
+pub mod Decimals
+pub mod Written

@@ -1,10 +1,10 @@
 -- The lines of trees, computed on small constraints, and what the grammar reads in them. 34 is `"`, 92 the backslash.
 use Rattle.std.proofs.Common.{◌≡◌, ◌≢◌, ℕ, ◌*◌, ◌^◌, pos, negsuc, List, [], ◌∷◌, ◌++◌, codes, refl, ap, sym, true≢false}
 use Rattle.std.specs.Fmt.{digits}
-use Rattle.std.specs.Prelude.{Bool, true, false, Result, Ok, Err, ℤ}
+use Rattle.std.specs.Prelude.{Bool, true, false, Result, Ok, Err}
 use Rattle.model_lex.specs.declared.diag.Diag.{Diag}
 use Rattle.constraint_ast.specs.Trees.{Tree, Trees, Leaf, Negated, Each, Either, End, More, RuleTree, BodyTree, Plain, IfThen, IfElse}
-use Rattle.constraint_ast.specs.Lexing.{Spell, tokens_in, tokens_of}
+use Rattle.constraint_ast.specs.Lexing.{Spell, tokens_of}
 use Rattle.constraint_ast.specs.Machine.{Between, run}
 use Rattle.constraint_ast.specs.RuleText.{number_text, rule_at, rule_text}
 use Rattle.constraint_ast.specs.declared.token.LineToken.{LineToken}

@@ -5,3 +5,4 @@ pub mod Reading
 pub mod Lexing
 pub mod RuleText
 pub mod Laws
+pub mod Writing

@@ -12,6 +12,8 @@ use Rattle.constraint_ast.specs.declared.tree.RawLiteral.{RawLiteral}
 use Rattle.constraint_ast.specs.declared.tree.RawLiteral.TheVariants.{Words, Number}
 use Rattle.constraint_ast.specs.declared.tree.RawTerm.{RawTerm}
 use Rattle.constraint_ast.specs.declared.tree.RawTerm.TheVariants as terms
+use Rattle.constraint_ast.specs.declared.writer.Place.{Place}
+use Rattle.constraint_ast.specs.declared.writer.Place.TheVariants.{Alone, InAny, InAllOrNot}
 
 -- ---- which tokens are written; each function writes before a rest
 
@@ -32,13 +34,7 @@ term_before (terms.Like name pattern) rest = Name name ∷ Like ∷ Literal (Wor
 term_before (terms.Negative name) rest = Sign Negative ∷ OpenParen ∷ Name name ∷ CloseParen ∷ rest
 term_before (terms.Positive name) rest = Sign Positive ∷ OpenParen ∷ Name name ∷ CloseParen ∷ rest
 
--- what a predicate stands in: nothing, an Any, or an All or a Not
-pub data Place : Type 0 where
-  Alone : Place
-  InAny : Place
-  InAllOrNot : Place
-
--- parentheses stand round an All in an All or a Not, and round an Any in anything
+-- parentheses stand round an All in an All or a Not, and round an Any in an Any, an All or a Not
 abbrev pub all_has_parens : Place → Bool
 all_has_parens Alone = false
 all_has_parens InAny = false

@@ -2,6 +2,7 @@
 //!
 //! - `RawRule` is a constraint as it is written, with parameter names in place of parameters.
 //! - `parse_rules` reads the constraints of a model file.
+//! - `rule_text` writes the line of a constraint.
 //! - `grammar_has_one_reading` and `lines_have_one_reading` state that tokens and lines either spell
 //!   one list of constraints, or are refused at one place with one code.
 #![tactic(auto)]
@@ -14,6 +15,7 @@ mod quoting;
 mod tests;
 mod token;
 mod tree;
+mod writer;
 
 pub use laws::{grammar_has_one_reading, lines_have_one_reading};
 pub use parser::parse_rules;
@@ -21,3 +23,4 @@ pub use tree::{
     RawBody, RawLiteral, RawLiteralList, RawPred, RawPredList, RawRel, RawRule, RawRuleList,
     RawTerm,
 };
+pub use writer::rule_text;
