@@ -27,7 +27,7 @@ use Rattle.constraint_ast.specs.declared.token.LineToken.{LineToken}
 use Rattle.constraint_ast.specs.declared.token.RuleToken.{RuleToken}
 
 -- behind the rest of a token, and behind blanks
-rest_skipped : (line n : ℕ) (text : List ℕ) → tokens_in line n text ≡ tokens_in line 0 (drop n text)
+pub rest_skipped : (line n : ℕ) (text : List ℕ) → tokens_in line n text ≡ tokens_in line 0 (drop n text)
 rest_skipped line zero text = refl
 rest_skipped line (suc n) [] = refl
 rest_skipped line (suc n) (b ∷ text) = rest_skipped line n text

@@ -14,3 +14,9 @@ pub mod OneReading
 pub mod Backslashes
 pub mod Decimals
 pub mod Written
+pub mod ReadBack
+pub mod NameText
+pub mod NumberText
+pub mod Contents
+pub mod TokenText
+pub mod RoundTrip

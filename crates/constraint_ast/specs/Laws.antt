@@ -1,9 +1,10 @@
 -- What holds of the definitions together. (This project's rules.)
-use Rattle.std.specs.Prelude.{◌≡◌, ◌⊎◌, ℕ, List}
+use Rattle.std.specs.Prelude.{◌≡◌, ◌⊎◌, ℕ, List, [], ◌∷◌, All}
 use Rattle.model_lex.specs.declared.diag.Diag.{Diag}
 use Rattle.constraint_ast.specs.Trees.{RuleTree}
 use Rattle.constraint_ast.specs.Grammar.{AreRules, Refused}
 use Rattle.constraint_ast.specs.Lexing.{AreRefused, Spell}
+use Rattle.constraint_ast.specs.RuleText.{rule_at, rule_text}
 use Rattle.constraint_ast.specs.declared.token.LineToken.{LineToken}
 
 -- tokens spell at most one list of constraints
@@ -35,3 +36,7 @@ pub record HaveOneReading (lines : List (ℕ × List ℕ)) : Type 0 where
 
 abbrev pub LinesHaveOneReading : Type 0
 LinesHaveOneReading = (lines : List (ℕ × List ℕ)) → HaveOneReading lines
+
+-- the line of a constraint that some lines spell, read as the only one, spells the constraint again, at this line
+abbrev pub RuleTextReadsBack : Type 0
+RuleTextReadsBack = (lines : List (ℕ × List ℕ)) (rules : List RuleTree) (line : ℕ) → Spell lines rules → All (λ rule. Spell ((line, rule_text rule) ∷ []) (rule_at line rule ∷ [])) rules
