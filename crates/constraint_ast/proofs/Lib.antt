@@ -20,3 +20,4 @@ pub mod NumberText
 pub mod Contents
 pub mod TokenText
 pub mod RoundTrip
+pub mod Openers

@@ -39,14 +39,14 @@ LiteralReads (Number n) = IsSmall n
 -- ---- what stands behind a token
 
 -- a blank, or `)`, `}`, `,`, `;`
-abbrev ends_token : ℕ → Bool
+abbrev pub ends_token : ℕ → Bool
 ends_token b = (b == 32) || (b == 41) || (b == 125) || (b == 44) || (b == 59)
 
-data Ends : List ℕ → Type 0 where
+pub data Ends : List ℕ → Type 0 where
   ends_here : Ends []
   ends_at : (b : ℕ) (tail : List ℕ) → ends_token b ≡ true → Ends (b ∷ tail)
 
-ends_word : {tail : List ℕ} → Ends tail → Stops is_word_byte tail
+pub ends_word : {tail : List ℕ} → Ends tail → Stops is_word_byte tail
 ends_word ends_here = tt
 ends_word (ends_at b tail e) = grind (arith, nat_tests)
 
@@ -60,7 +60,7 @@ not_equals b e = grind (arith, nat_tests)
 not_greater : (b : ℕ) → ends_token b ≡ true → (b == 62) ≡ false
 not_greater b e = grind (arith, nat_tests)
 
-spaced_ends : (tokens : List RuleToken) → Ends (spaced false tokens)
+pub spaced_ends : (tokens : List RuleToken) → Ends (spaced false tokens)
 spaced_ends [] = ends_here
 spaced_ends (CloseParen ∷ rest) = ends_at 41 _ refl
 spaced_ends (CloseBrace ∷ rest) = ends_at 125 _ refl

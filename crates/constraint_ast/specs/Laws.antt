@@ -1,5 +1,6 @@
 -- What holds of the definitions together. (This project's rules.)
-use Rattle.std.specs.Prelude.{◌≡◌, ◌⊎◌, ℕ, List, [], ◌∷◌, All}
+use Rattle.std.specs.Prelude.{true, ◌≡◌, ◌⊎◌, ℕ, List, [], ◌∷◌, All}
+use Rattle.model_lex.specs.Sections.{opens_rule}
 use Rattle.model_lex.specs.declared.diag.Diag.{Diag}
 use Rattle.constraint_ast.specs.Trees.{RuleTree}
 use Rattle.constraint_ast.specs.Grammar.{AreRules, Refused}
@@ -40,3 +41,7 @@ LinesHaveOneReading = (lines : List (ℕ × List ℕ)) → HaveOneReading lines
 -- the line of a constraint that some lines spell, read as the only one, spells the constraint again, at this line
 abbrev pub RuleTextReadsBack : Type 0
 RuleTextReadsBack = (lines : List (ℕ × List ℕ)) (rules : List RuleTree) (line : ℕ) → Spell lines rules → All (λ rule. Spell ((line, rule_text rule) ∷ []) (rule_at line rule ∷ [])) rules
+
+-- and it opens the constraints of a file
+abbrev pub RuleTextOpens : Type 0
+RuleTextOpens = (lines : List (ℕ × List ℕ)) (rules : List RuleTree) → Spell lines rules → All (λ rule. opens_rule (rule_text rule) ≡ true) rules
