@@ -16,6 +16,7 @@ pub mod Decimals
 pub mod Written
 pub mod ReadBack
 pub mod NameText
+pub mod Digits
 pub mod NumberText
 pub mod Contents
 pub mod TokenText

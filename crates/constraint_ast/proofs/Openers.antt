@@ -15,7 +15,7 @@ use Rattle.constraint_ast.specs.declared.token.LineToken.{LineToken}
 use Rattle.constraint_ast.specs.declared.token.RuleToken.{RuleToken}
 use Rattle.constraint_ast.specs.declared.token.RuleToken.TheVariants.{Name, If, Not, Sign, OpenParen}
 use Rattle.constraint_ast.specs.declared.token.Sign.TheVariants.{Negative, Positive}
-use Rattle.constraint_ast.proofs.NumberText.{run_prefix}
+use Rattle.constraint_ast.proofs.Digits.{run_prefix}
 use Rattle.constraint_ast.proofs.ReadBack.{rules_back}
 use Rattle.constraint_ast.proofs.TokenText.{ends_word, spaced_ends}
 

@@ -26,7 +26,8 @@ use Rattle.constraint_ast.specs.declared.tree.RawRel.TheVariants.{Eq, Ne, Gt, Ge
 use Rattle.constraint_ast.proofs.Contents.{TokenIs, WrittenAre}
 use Rattle.constraint_ast.proofs.Lexing.{rest_skipped}
 use Rattle.constraint_ast.proofs.NameText.{quoted_closes, unquoted_quoted}
-use Rattle.constraint_ast.proofs.NumberText.{IsSmall, Stops, number_bytes, run_prefix, small_again}
+use Rattle.constraint_ast.proofs.Digits.{Stops, run_prefix}
+use Rattle.constraint_ast.proofs.NumberText.{IsSmall, number_bytes, small_again}
 
 -- a name and a literal that read back
 abbrev pub NameReads : List ℕ → Type 0
