@@ -8,4 +8,3 @@ pub mod Rules
 pub mod Answer
 pub mod Lexing
 pub mod Unquoting
-pub mod Trimming
