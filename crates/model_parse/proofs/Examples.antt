@@ -10,10 +10,10 @@ use Rattle.model_lex.specs.declared.diag.DiagCode.TheVariants.{EmptyParameterNam
 use Rattle.model_lex.specs.declared.fault.ModelFault.{ModelFault}
 use Rattle.model_lex.specs.declared.note.Note.{Note}
 use Rattle.model_lex.specs.declared.note.NoteCode.TheVariants.{RepeatedValueName}
+use Rattle.model_lex.specs.declared.options.Marks.{Marks}
 use Rattle.model_lex.specs.declared.options.ModelOpts.{ModelOpts}
 use Rattle.model_lex.specs.declared.options.OrderWord.TheVariants.{Number, Max}
 use Rattle.model_parse.specs.Steps.{refused}
-use Rattle.model_lex.specs.declared.options.Marks.{Marks}
 use Rattle.model_parse.specs.RawModels.{raw_model_of}
 use Rattle.model_parse.specs.Written.{written_param}
 use Rattle.model_parse.specs.declared.raw_model.RawModel.{RawModel}

@@ -25,6 +25,7 @@ use Rattle.model_parse.specs.Values.{Kept, is_known, keep_name, keep_names, add_
 use Rattle.model_parse.specs.Written.{joined, written_value, written_param, written_lines, IsWritable, ParamsReadBack}
 use Rattle.model_parse.proofs.Answering.{read_goes, raw_goes}
 use Rattle.model_parse.proofs.Joining.{IsWhole, AreBlanks, Lacks, trimmed_back, joined_back, before_first_back, after_first_back}
+use Rattle.model_parse.proofs.SoundParams.{names_of}
 use Rattle.model_parse.proofs.SoundValues.{texts_of}
 use Rattle.model_parse.proofs.WrittenPieces.{ReadsBack, value_back, values_back}
 use Rattle.model_parse.proofs.WrittenValues.{mark_blank, none_stands, named_fit}
@@ -144,9 +145,6 @@ line_back opts read param are sound writable new =
 -- all lines
 abbrev line_of : Marks → Param → ℕ × List ℕ
 line_of marks param = (param.line, written_param marks param)
-
-abbrev names_of : List Param → List (List ℕ)
-names_of params = map (λ (param : Param). param.name) params
 
 lines_back : (opts : ModelOpts) (read : ParamsRead) (texts : List (List ℕ)) (params : List Param) → AreOpts opts → read.known ≡ map (folded opts.fold) texts → Distinct opts.fold (texts ++ names_of params)
     → All (IsSoundParam opts.marks.prefix opts.fold) params → All (λ param. All (IsWritable opts.marks) param.values) params
