@@ -8,7 +8,6 @@ pub mod Rules
 pub mod Answer
 pub mod Lexing
 pub mod Unquoting
-pub mod Trimming
 pub mod RuleTextExamples
 pub mod OneReading
 pub mod Backslashes
