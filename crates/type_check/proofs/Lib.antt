@@ -1,0 +1,2 @@
+pub mod TermExamples
+pub mod FileExamples

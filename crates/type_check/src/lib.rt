@@ -1,0 +1,2 @@
+//! The model that a model file spells.
+#![tactic(auto)]
