@@ -1,8 +1,8 @@
 -- Whole files, with the models that they spell and their refusals, computed.
-use Rattle.std.proofs.Common.{◌≡◌, ℕ, true, false, List, [], ◌∷◌, ◌++◌, refl, arith}
-use Rattle.std.specs.Prelude.{Ok, Err, pos, codes}
+use Rattle.std.proofs.Common.{ℕ, true, false, List, [], ◌∷◌, ◌++◌, refl, arith}
+use Rattle.std.specs.Prelude.{pos, codes}
 use Rattle.std.specs.Str.{chars, is_utf8}
-use Rattle.model_lex.specs.declared.diag.DiagCode.TheVariants.{TypeMismatch, UnknownParameter, NoColon, OrderTooLarge}
+use Rattle.model_lex.specs.declared.diag.DiagCode.TheVariants.{TypeMismatch, NoColon, OrderTooLarge}
 use Rattle.model_lex.specs.declared.fault.ModelFault.TheVariants.{Bad, BadRule}
 use Rattle.model_lex.specs.declared.options.ModelOpts.{ModelOpts}
 use Rattle.model_lex.specs.declared.options.OrderWord.TheVariants as orders
@@ -15,16 +15,15 @@ use Rattle.cov_model.specs.declared.constraint.Literal.TheVariants as literal
 use Rattle.cov_model.specs.declared.constraint.Pred as preds
 use Rattle.cov_model.specs.declared.constraint.Rel.TheVariants as rel
 use Rattle.cov_model.specs.declared.constraint.Term.TheVariants as term
-use Rattle.constraint_ast.specs.Grammar.{at, value_is, last_unit, last_conj, if_then, plain, no_rule, next_rule}
+use Rattle.constraint_ast.specs.Grammar.{value_is, last_unit, last_conj, if_then, plain, no_rule, next_rule}
 use Rattle.constraint_ast.specs.Lexing.{Spell}
 use Rattle.constraint_ast.specs.Trees.{Leaf, IfThen, Plain, RuleTree}
 use Rattle.constraint_ast.specs.declared.tree.RawRel.TheVariants.{Eq}
 use Rattle.constraint_ast.specs.declared.tree.RawLiteral.TheVariants.{Number, Words}
 use Rattle.constraint_ast.specs.declared.tree.RawTerm.TheVariants.{ValueIs}
-use Rattle.model_lex.specs.Sections.{Split, sections_of}
-use Rattle.model_parse.specs.RawModels.{raw_model_of}
+use Rattle.model_lex.specs.Sections.{Split}
 use Rattle.model_parse.specs.declared.raw_model.RawModel.{RawModel}
-use Rattle.type_check.specs.ModelOf.{IsRead, AreTrees, IsModelOf, IsRefusalOf, by_sections, by_params, by_terms}
+use Rattle.type_check.specs.ModelOf.{IsRead, IsModelOf, IsRefusalOf, by_sections, by_params, by_terms}
 
 -- the default marks and order
 abbrev opts : ModelOpts

@@ -1,2 +1,3 @@
 pub mod TermExamples
 pub mod FileExamples
+pub mod Lists

@@ -1,7 +1,6 @@
 -- What terms and constraints mean over two parameters, A numeric and B not, computed.
-use Rattle.std.proofs.Common.{◌≡◌, ℕ, Bool, true, false, List, [], ◌∷◌, Option, Some, None, refl}
+use Rattle.std.proofs.Common.{◌≡◌, true, false, [], ◌∷◌, Some, None, refl}
 use Rattle.std.specs.Prelude.{Result, Ok, Err, pos, codes}
-use Rattle.model_lex.specs.declared.diag.Diag.{Diag}
 use Rattle.model_lex.specs.declared.diag.DiagCode.{DiagCode}
 use Rattle.model_lex.specs.declared.diag.DiagCode.TheVariants.{UnknownParameter, TypeMismatch, LikeNeedsText}
 use Rattle.cov_model.specs.Sample.{sample_params}
@@ -11,13 +10,13 @@ use Rattle.cov_model.specs.declared.constraint.Pred as preds
 use Rattle.cov_model.specs.declared.constraint.Rel.TheVariants as rel
 use Rattle.cov_model.specs.declared.constraint.Term as terms
 use Rattle.cov_model.specs.declared.constraint.Term.TheVariants as term
-use Rattle.constraint_ast.specs.Trees.{Tree, Leaf, Negated, Each, Either, End, More, BodyTree, Plain, IfThen, IfElse, RuleTree}
-use Rattle.constraint_ast.specs.declared.tree.RawRel.TheVariants.{Eq, Ne, Gt, Ge, Lt, Le}
+use Rattle.constraint_ast.specs.Trees.{Leaf, Negated, Either, End, More, IfThen, IfElse, RuleTree}
+use Rattle.constraint_ast.specs.declared.tree.RawRel.TheVariants.{Eq, Ne, Ge, Lt}
 use Rattle.constraint_ast.specs.declared.tree.RawLiteral.TheVariants.{Number, Words}
 use Rattle.constraint_ast.specs.declared.tree.RawTerm.{RawTerm}
 use Rattle.constraint_ast.specs.declared.tree.RawTerm.TheVariants.{ValueIs, ParamIs, OneOf, Like, Negative, Positive}
-use Rattle.type_check.specs.Checking.{term_of, terms_of, rules_terms, first_refusal}
-use Rattle.type_check.specs.Constraints.{IsBodyOf, AreRulesOf}
+use Rattle.type_check.specs.Checking.{term_of, rules_terms, first_refusal}
+use Rattle.type_check.specs.Constraints.{AreRulesOf}
 
 -- a term, where letters of either case are one
 abbrev read : RawTerm → Result terms.Term DiagCode
