@@ -1,3 +1,4 @@
 pub mod TermExamples
 pub mod FileExamples
 pub mod Lists
+pub mod Refusals

@@ -93,7 +93,7 @@ abbrev mutual
 abbrev pub body_terms : BodyTree → List (ℕ × RawTerm)
 body_terms (Plain tree) = terms_of tree
 body_terms (IfThen premise tree) = terms_of premise ++ terms_of tree
-body_terms (IfElse premise tree other) = terms_of premise ++ terms_of tree ++ terms_of other
+body_terms (IfElse premise tree other) = terms_of premise ++ (terms_of tree ++ terms_of other)
 
 abbrev pub rules_terms : List RuleTree → List (ℕ × RawTerm)
 rules_terms trees = flat_map (λ tree. body_terms tree.body) trees

@@ -23,6 +23,12 @@ abbrev mutual
   ArePredsOf fold params (More tree trees) (more_of-Pred part rest) = IsPredOf fold params tree part × ArePredsOf fold params trees rest
   ArePredsOf fold params trees parts = ⊥
 
+-- the same of a list of predicates
+abbrev pub ArePredsIn : Bool → List Param → Trees → List Pred → Type 0
+ArePredsIn fold params End [] = Unit {0}
+ArePredsIn fold params (More tree trees) (pred ∷ preds) = IsPredOf fold params tree pred × ArePredsIn fold params trees preds
+ArePredsIn fold params trees preds = ⊥
+
 -- so are the predicates of a constraint those of its tree
 abbrev pub IsBodyOf : Bool → List Param → BodyTree → Body → Type 0
 IsBodyOf fold params (Plain tree) (bodies.Plain pred) = IsPredOf fold params tree pred

@@ -1,7 +1,5 @@
 ghost use Rattle.std.specs.Prelude.{◌≡◌, [], ◌∷◌, ◌++◌, Err, IfOk, OnOk, OnErr};
-ghost use Rattle.cov_model.specs.declared.constraint.Pred.{Not'};
 
-use cov_model::Pred;
 use model_lex::{Diag, DiagCode, ModelFault};
 use std::alloc::Global;
 use value_text::{NoMemory, OwnedList, Text};

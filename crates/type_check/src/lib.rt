@@ -1,5 +1,6 @@
 //! The model that a model file spells: its reading from the bytes on.
 #![tactic(auto)]
 
+mod constraint;
 mod fault;
 mod scope;
