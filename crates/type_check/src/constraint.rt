@@ -59,7 +59,7 @@ impl Scope<'_> {
     }
 
     // What a raw constraint demands.
-    fn body(&self, alloc: Global, raw: &RawBody) -> Result<Body, ModelFault>
+    pub(crate) fn body(&self, alloc: Global, raw: &RawBody) -> Result<Body, ModelFault>
         requires { length self.now.params.now ≤ 256 }
         ensures ok { IfOk result (λ body. IsBodyOf self.now.fold self.now.params.now (body_tree raw.now) body) }
         ensures err { IfErr result (λ fault. IfRefused fault (λ diag. first_refusal self.now.fold self.now.params.now (body_terms (body_tree raw.now)) ≡ Some diag)) }

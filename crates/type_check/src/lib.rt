@@ -3,4 +3,5 @@
 
 mod constraint;
 mod fault;
+mod rules;
 mod scope;
