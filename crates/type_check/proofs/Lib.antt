@@ -5,3 +5,5 @@ pub mod Refusals
 pub mod RuleLists
 pub mod Soundness
 pub mod Models
+pub mod OneReading
+pub mod OneModel

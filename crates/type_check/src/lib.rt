@@ -9,8 +9,10 @@
 
 mod constraint;
 mod fault;
+mod laws;
 mod reading;
 mod rules;
 mod scope;
 
+pub use laws::{files_have_one_model, models_are_not_refused};
 pub use reading::read_model;
