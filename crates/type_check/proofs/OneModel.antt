@@ -1,10 +1,13 @@
 -- A file spells one model, or it is refused.
-use Rattle.std.proofs.Common.{◌≡◌, ℕ, List, Option, Some, None, length, sym, ap, subst, ◌∙◌, arith}
+use Rattle.std.proofs.Common.{◌≡◌, ◌≢◌, refl, ℕ, List, Option, Some, None, length, sym, ap, subst, ◌∙◌, arith}
+use Rattle.std.specs.Prelude.{Result, Ok, Err, IfErr}
 use Rattle.cov_model.specs.Sound.{ModelView}
 use Rattle.cov_model.specs.declared.constraint.Rule.{Rule}
 use Rattle.model_lex.specs.Sections.{Split, sections_of}
 use Rattle.model_lex.specs.declared.diag.Diag.{Diag}
 use Rattle.model_lex.specs.declared.fault.ModelFault.{ModelFault}
+use Rattle.model_lex.specs.declared.fault.ModelFault.TheVariants.{Bad, BadRule, Limit, NoMemory}
+use Rattle.model_lex.specs.declared.fault.LimitName.{LimitName}
 use Rattle.model_lex.specs.declared.note.Note.{Note}
 use Rattle.model_lex.specs.declared.options.ModelOpts.{ModelOpts}
 use Rattle.model_parse.specs.RawModels.{raw_model_of}
@@ -15,6 +18,7 @@ use Rattle.type_check.specs.Checking.{first_refusal, rules_terms}
 use Rattle.type_check.specs.Constraints.{AreRulesOf}
 use Rattle.type_check.specs.Laws.{AreOne, FilesHaveOneModel, ModelsAreNotRefused}
 use Rattle.type_check.specs.ModelOf.{IsRead, AreTrees, IsModelOf, IsRefusalOf, by_grammar, by_number, by_params, by_sections, by_terms}
+use Rattle.type_check.proofs.Models.{RefusesFiles}
 use Rattle.type_check.proofs.OneReading.{one_reading, read_or_refused}
 use Rattle.type_check.proofs.RuleLists.{rules_unrefused}
 use Rattle.type_check.proofs.Soundness.{ok_or_err, one_ok}
@@ -82,3 +86,29 @@ files_have_one_model = one_model
 
 pub models_are_not_refused : ModelsAreNotRefused
 models_are_not_refused = not_refused
+
+-- a file that spells a model is read, but for want of memory
+differs_bad : (diag : Diag) → Bad diag ≢ NoMemory
+differs_bad diag e = cc
+
+differs_rule : (diag : Diag) → BadRule diag ≢ NoMemory
+differs_rule diag e = cc
+
+differs_limit : (limit : LimitName) (count : ℕ) → Limit limit count ≢ NoMemory
+differs_limit limit count e = cc
+
+pub only_models :
+    {A : Type 0} (opts : ModelOpts) (bytes : List ℕ) (result : Result A ModelFault) → IfErr result (λ fault. fault ≢ NoMemory → IsRefusalOf opts bytes fault)
+    → (m : ModelView) (notes : List Note) → IsModelOf opts bytes m notes → IfErr result (λ fault. fault ≡ NoMemory)
+only_models opts bytes (Ok read) told m notes model = tt
+only_models opts bytes (Err NoMemory) told m notes model = refl
+only_models opts bytes (Err (Bad diag)) told m notes model = absurd (not_refused opts bytes m notes (Bad diag) model (told (differs_bad diag)))
+only_models opts bytes (Err (BadRule diag)) told m notes model = absurd (not_refused opts bytes m notes (BadRule diag) model (told (differs_rule diag)))
+only_models opts bytes (Err (Limit limit count)) told m notes model = absurd (not_refused opts bytes m notes (Limit limit count) model (told (differs_limit limit count)))
+
+-- what the sections of a file tell of it
+pub of_file :
+    {A : Type 0} (opts : ModelOpts) (bytes : List ℕ) (split : Split) (result : Result A ModelFault) → sections_of bytes ≡ Ok split
+    → IfErr result (RefusesFiles opts split) → IfErr result (λ fault. fault ≢ NoMemory → IsRefusalOf opts bytes fault)
+of_file opts bytes split (Ok read) sections told = tt
+of_file opts bytes split (Err fault) sections told = told bytes sections
