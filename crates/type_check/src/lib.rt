@@ -13,6 +13,8 @@ mod laws;
 mod reading;
 mod rules;
 mod scope;
+#[cfg(test)]
+mod tests;
 
 pub use laws::{files_have_one_model, models_are_not_refused};
 pub use reading::read_model;
