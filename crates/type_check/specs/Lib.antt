@@ -1,0 +1,5 @@
+pub mod Checking
+pub mod Constraints
+pub mod ModelOf
+pub mod Reading
+pub mod Laws
