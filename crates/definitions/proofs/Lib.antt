@@ -39,3 +39,5 @@ pub mod Grown
 pub mod GrowthLaw
 pub mod Spelling
 pub mod ProofWords
+pub mod ProofLines
+pub mod ProofFiles
