@@ -1,7 +1,7 @@
 //! What is proved of the definitions together. A function here does nothing: its contract is a law
 //! that holds of every model, and is proved with the crate.
 
-ghost use Rattle.definitions.specs.Laws.{AcceptedAreCertified, CompletionsAreRows, ExtendableContains, GrowthCovers, ProofsReadBack, RefutedAreUnserved, ReportsReadBack, ServableAreExtendable, SlicesServe, SuitesAreRead};
+ghost use Rattle.definitions.specs.Laws.{AcceptedAreCertified, CompletionsAreRows, ExtendableContains, GrowthCovers, ProofsHaveOneText, ProofsReadBack, RefutedAreUnserved, ReportsReadBack, ServableAreExtendable, SlicesServe, SuitesAreRead};
 
 /// Reading a report gives its rows: the text that is written of rows of a sound model, read as a
 /// row file, holds these rows in their order (this project's rule).
@@ -65,4 +65,10 @@ pub fn growth_covers()
 /// trees are of a sound model. So different proofs have different texts (this project's rule).
 pub fn proofs_read_back()
     ensures { ProofsReadBack }
+{}
+
+/// A proof has one text: bytes that are read as a proof are its text, and its omissions are of the
+/// model and the format (this project's rule).
+pub fn proofs_have_one_text()
+    ensures { ProofsHaveOneText }
 {}
