@@ -153,7 +153,7 @@ serving_is_row m row tuple is =
       listed = subst (λ vs. Has vs (value_in row p)) (sym (get_or-map-range_with_len (value_numbers m) 0 (length m.params) p p [] inside (zero-add p))) (has_numbers m p (value_in row p) own.exists);
     })) refl
 
-same_answer : (a b : Bool) → (a ≡ true → b ≡ true) → (b ≡ true → a ≡ true) → a ≡ b
+pub same_answer : (a b : Bool) → (a ≡ true → b ≡ true) → (b ≡ true → a ≡ true) → a ≡ b
 same_answer true b f g = sym (f refl)
 same_answer false true f g = g refl
 same_answer false false f g = refl

@@ -84,13 +84,14 @@ ServableAreExtendable = (m : ModelView) (tuple : List (Option ℕ)) → IsSound 
 abbrev pub ArePreferences : ModelView → List (List ℕ) → Type 0
 ArePreferences m pref = (length pref ≡ length m.params) × ((p : ℕ) → p < length m.params → IsPermutation (value_numbers m p) (slice_index_or pref p []))
 
--- what growth gives: every row is valid, and no two are the same; a demanded tuple is omitted exactly if no
--- row of the model serves it, and else a row of the suite does; each kept seed is in a row; and there are no
--- more rows than demanded tuples outside the omission list and kept seeds
+-- what growth gives: every row is valid, and no two are the same; a demanded tuple is omitted, and then
+-- once, exactly if no row of the model serves it, and else a row of the suite does; each kept seed is in a
+-- row; and there are no more rows than demanded tuples outside the omission list and kept seeds
 pub record IsGrownSuite (m : ModelView) (pref : List (List ℕ)) (seeds : List (ℕ × List (Option ℕ))) : Type 0 where
   pub valid : All (λ row. is_valid m row ≡ true) (growth m pref seeds).rows
   pub distinct : AllPairs (λ a b. is_same_row a b ≡ false) (growth m pref seeds).rows
   pub demanded : All (Contains (demanded_tuples m)) (growth m pref seeds).omitted
+  pub once : AllPairs (λ a b. is_same_row a b ≡ false) (growth m pref seeds).omitted
   pub omitted : All (λ tuple. Contains (growth m pref seeds).omitted tuple ↔ ((row : List (Option ℕ)) → serves m row tuple ≡ false)) (demanded_tuples m)
   pub served : All (λ tuple. Any (λ row. serves m row tuple ≡ true) (growth m pref seeds).rows ↔ (Contains (growth m pref seeds).omitted tuple → ⊥)) (demanded_tuples m)
   pub kept : All (λ seed. Any (λ row. contains row seed ≡ true) (growth m pref seeds).rows) (kept_seeds m seeds)
