@@ -31,6 +31,7 @@ pub mod Joining
 pub mod Keeping
 pub mod Settling
 pub mod Once
+pub mod Preferred
 pub mod Finishing
 pub mod Totals
 pub mod SetOrder

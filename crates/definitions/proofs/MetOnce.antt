@@ -17,8 +17,7 @@ use Rattle.definitions.specs.Seeds.{is_same_row}
 use Rattle.definitions.specs.Growth.{growth, sets_in_play, tuples_in_play}
 use Rattle.definitions.specs.Laws.{ArePreferences}
 use Rattle.definitions.proofs.SetOrder.{lex, sorted_in_order}
-use Rattle.definitions.proofs.Members.{Has, of_map, of_flat, has_filter, of_filter, among_has, of_among}
-use Rattle.definitions.proofs.Serving.{same_answer}
+use Rattle.definitions.proofs.Members.{Has, of_map, of_flat, has_filter, of_filter, among_has, of_among, same_answer}
 use Rattle.definitions.proofs.Distinct.{NoRepeats, repeats_filter, repeats_range, repeats_map, repeats_flat}
 use Rattle.definitions.proofs.SliceLemmas.{IsSlice, is_slice, slice_is, slice_length, values_at, values_positive, values_own, values_other, of_params}
 use Rattle.definitions.proofs.Once.{AreApart, apart_pairs}
