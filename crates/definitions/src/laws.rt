@@ -15,8 +15,8 @@ pub fn suites_are_read()
     ensures { SuitesAreRead }
 {}
 
-/// The completions of a partial row are rows: those that contain it, of the rows that give each
-/// parameter one of its listed values (this project's rule).
+/// The completions of a partial row are the rows that contain it and give each parameter one of its
+/// listed values, and no others (this project's rule).
 pub fn completions_are_rows()
     ensures { CompletionsAreRows }
 {}
