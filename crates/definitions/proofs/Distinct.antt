@@ -1,5 +1,5 @@
 -- Lists without repetitions.
-use Rattle.std.proofs.Common.{◌≡◌, ℕ, zero, suc, ◌+◌, ◌≤◌, Bool, true, false, cond, List, [], ◌∷◌, ◌++◌, map, length, inl, inr, ◌∙◌, sym, ap, subst, refl, arith}
+use Rattle.std.proofs.Common.{◌≡◌, ℕ, zero, suc, ◌+◌, Bool, true, false, cond, List, [], ◌∷◌, ◌++◌, map, inl, inr, ◌∙◌, sym, ap, subst, refl, arith}
 use Rattle.std.specs.List.{filter, flat_map, range_with_len}
 use Rattle.definitions.proofs.Members.{Has, of_append, of_map, of_flat, of_filter, of_range}
 
@@ -19,12 +19,6 @@ one_member a (x ∷ xs) once has only =
     let first : x ≡ a = only x (inl refl) in
     let rest : xs ≡ [] = no_members xs (λ y later. once.0 (subst (Has xs) (only y (inr later) ∙ sym first) later)) in
     ap (λ y. y ∷ xs) first ∙ ap (λ ys. a ∷ ys) rest
-
-pub few_members : {X : Type 0} (a : X) (xs : List X) → NoRepeats xs → ((x : X) → Has xs x → x ≡ a) → length xs ≤ 1
-few_members a [] once only = omega arith
-few_members a (x ∷ xs) once only =
-    let rest : xs ≡ [] = no_members xs (λ y later. once.0 (subst (Has xs) (only y (inr later) ∙ sym (only x (inl refl))) later)) in
-    omega (arith, ap length rest)
 
 pub repeats_filter : {X : Type 0} (test : X → Bool) (xs : List X) → NoRepeats xs → NoRepeats (filter test xs)
 repeats_filter test [] once = tt
