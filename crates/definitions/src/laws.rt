@@ -1,7 +1,7 @@
 //! What is proved of the definitions together. A function here does nothing: its contract is a law
 //! that holds of every model, and is proved with the crate.
 
-ghost use Rattle.definitions.specs.Laws.{AcceptedAreCertified, CompletionsAreRows, ExtendableContains, GrowthCovers, RefutedAreUnserved, ReportsReadBack, ServableAreExtendable, SlicesServe, SuitesAreRead};
+ghost use Rattle.definitions.specs.Laws.{AcceptedAreCertified, CompletionsAreRows, ExtendableContains, GrowthCovers, ProofsHaveOneText, ProofsReadBack, RefutedAreUnserved, ReportsReadBack, ServableAreExtendable, SlicesServe, SuitesAreRead};
 
 /// Reading a report gives its rows: the text that is written of rows of a sound model, read as a
 /// row file, holds these rows in their order (this project's rule).
@@ -15,8 +15,8 @@ pub fn suites_are_read()
     ensures { SuitesAreRead }
 {}
 
-/// The completions of a partial row are rows: those that contain it, of the rows that give each
-/// parameter one of its listed values (this project's rule).
+/// The completions of a partial row are the rows that contain it and give each parameter one of its
+/// listed values, and no others (this project's rule).
 pub fn completions_are_rows()
     ensures { CompletionsAreRows }
 {}
@@ -54,9 +54,22 @@ pub fn servable_are_extendable()
 {}
 
 /// Growth covers what can be covered: every row of a suite is valid, and no two are the same; a
-/// demanded tuple is omitted exactly if no row of the model serves it, and else a row of the suite
-/// serves it; each kept seed is in a row; and there are no more rows than demanded tuples outside the
-/// omission list and kept seeds (Lei and others 2007 for growth; the bound is this project's rule).
+/// demanded tuple is omitted, and then once, exactly if no row of the model serves it, and else a row
+/// of the suite serves it; each kept seed is in a row; and there are no more rows than demanded tuples
+/// outside the omission list and kept seeds (Lei and others 2007 for growth; the law is this
+/// project's).
 pub fn growth_covers()
     ensures { GrowthCovers }
+{}
+
+/// Reading the text of a proof gives the proof: its format and its omissions, where their tuples and
+/// trees are of a sound model. So different proofs have different texts (this project's rule).
+pub fn proofs_read_back()
+    ensures { ProofsReadBack }
+{}
+
+/// A proof has one text: bytes that are read as a proof are its text, and its omissions are of the
+/// model and the format (this project's rule).
+pub fn proofs_have_one_text()
+    ensures { ProofsHaveOneText }
 {}
