@@ -9,7 +9,16 @@
 #![tactic(auto)]
 
 mod figures;
+mod lines_out;
+mod next_names;
+mod numbers;
+mod out_buffer;
+mod report;
 mod row_file;
+mod turns;
 
 pub use figures::{Figures, Stats};
+pub use numbers::{put_figures, put_stats};
+pub use report::put_report;
 pub use row_file::{FileRow, FileRowList, RowFile, RowMode};
+pub use turns::Turns;
