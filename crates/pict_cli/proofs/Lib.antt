@@ -9,3 +9,6 @@ pub mod Soundness
 pub mod Spaces
 pub mod TwoLines
 pub mod TwoParameters
+pub mod Colons
+pub mod KindLemmas
+pub mod WordLemmas

@@ -4,3 +4,4 @@ pub mod Lines
 pub mod Words
 pub mod Stops
 pub mod Runs
+pub mod Options

@@ -1,0 +1,5 @@
+pub mod RowFiles
+pub mod Told
+pub mod Buffering
+pub mod Turns
+pub mod Samples
