@@ -6,8 +6,8 @@ ghost use Rattle.model_lex.specs.Tokens.{is_quotable, quotes_next, unquoted};
 use std::alloc::Global;
 use value_text::{NoMemory, Text};
 
-// Whether a byte is one that a backslash before it quotes.
-fn is_quotable(byte: u8) -> bool
+/// Whether a byte is one that a backslash before it quotes.
+pub fn is_quotable(byte: u8) -> bool
     ensures { result ≡ is_quotable byte }
 {
     byte == b'"' || byte == b']' || byte == b'\\'
