@@ -7,3 +7,4 @@ pub mod Soundness
 pub mod Models
 pub mod OneReading
 pub mod OneModel
+pub mod OneRefusal

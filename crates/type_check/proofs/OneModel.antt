@@ -23,12 +23,12 @@ use Rattle.type_check.proofs.OneReading.{one_reading, read_or_refused}
 use Rattle.type_check.proofs.RuleLists.{rules_unrefused}
 use Rattle.type_check.proofs.Soundness.{ok_or_err, one_ok}
 
-none_or_some : (found : Option Diag) (diag : Diag) → found ≡ None → found ≡ Some diag → ⊥
+pub none_or_some : (found : Option Diag) (diag : Diag) → found ≡ None → found ≡ Some diag → ⊥
 none_or_some found diag none some = cc
 
 module _ (opts : ModelOpts) (bytes : List ℕ) where
   -- a file is read in one way by each pass
-  same_read : (split other : Split) (raw raws : RawModel) → IsRead opts bytes split raw → IsRead opts bytes other raws → (split ≡ other) × (raw ≡ raws)
+  pub same_read : (split other : Split) (raw raws : RawModel) → IsRead opts bytes split raw → IsRead opts bytes other raws → (split ≡ other) × (raw ≡ raws)
   same_read split other raw raws one two =
       let same : split ≡ other = one_ok (sections_of bytes) split other one.sections two.sections in
       (same, one_ok (raw_model_of opts other) raw raws (ap (λ s. raw_model_of opts s) (sym same) ∙ one.model) two.model)
@@ -49,7 +49,7 @@ module _ (opts : ModelOpts) (bytes : List ℕ) where
   of_model m raw trees params fold are =
       subst (λ f. AreRulesOf f m.params trees m.rules) (sym fold) (subst (λ ps. AreRulesOf opts.fold ps trees m.rules) (sym params) are)
 
-  not_refused : (m : ModelView) (notes : List Note) (fault : ModelFault) → IsModelOf opts bytes m notes → ¬ (IsRefusalOf opts bytes fault)
+  pub not_refused : (m : ModelView) (notes : List Note) (fault : ModelFault) → IsModelOf opts bytes m notes → ¬ (IsRefusalOf opts bytes fault)
   not_refused m notes fault model (by_sections told) = ok_or_err (sections_of bytes) model.read.split _ model.read.read.sections told
   not_refused m notes fault model (by_params split sections told) =
       let same : model.read.split ≡ split = one_ok (sections_of bytes) model.read.split split model.read.read.sections sections in

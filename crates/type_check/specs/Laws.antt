@@ -28,3 +28,7 @@ FilesHaveOneModel = (opts : ModelOpts) (bytes : List ℕ) (m other : ModelView) 
 abbrev pub ModelsAreNotRefused : Type 0
 ModelsAreNotRefused = (opts : ModelOpts) (bytes : List ℕ) (m : ModelView) (notes : List Note) (fault : ModelFault)
     → IsModelOf opts bytes m notes → ¬ (IsRefusalOf opts bytes fault)
+
+-- a file is refused in at most one way
+abbrev pub RefusalsAreOne : Type 0
+RefusalsAreOne = (opts : ModelOpts) (bytes : List ℕ) (fault other : ModelFault) → IsRefusalOf opts bytes fault → IsRefusalOf opts bytes other → fault ≡ other

@@ -16,5 +16,5 @@ mod scope;
 #[cfg(test)]
 mod tests;
 
-pub use laws::{files_have_one_model, models_are_not_refused};
+pub use laws::{files_have_one_model, models_are_not_refused, refusals_are_one};
 pub use reading::read_model;

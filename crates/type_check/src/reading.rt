@@ -1,4 +1,4 @@
-ghost use Rattle.std.specs.Prelude.{◌≡◌, ◌≢◌, ◌≤◌, ◌^◌, ℕ, List, Ok, IfOk, IfErr, length};
+ghost use Rattle.std.specs.Prelude.{◌≡◌, ◌≢◌, ◌≤◌, ◌^◌, ℕ, List, Ok, IfOk, IfErr, MatchResult, length};
 ghost use Rattle.cov_model.specs.Sound.{ModelView};
 ghost use Rattle.model_lex.specs.Sections.{AreSections, sections_of, split_seen};
 ghost use Rattle.model_lex.specs.declared.note.Note.{Note};
@@ -56,6 +56,7 @@ pub fn read_model(
     ensures ok { IfOk result (λ read. IsModelOf opts.now bytes.now read.0 read.1) }
     ensures err { IfErr result (λ fault. fault ≢ ModelFault.NoMemory → IsRefusalOf opts.now bytes.now fault) }
     ensures only_models { (m : ModelView) (notes : List Note) → IsModelOf opts.now bytes.now m notes → IfErr result (λ fault. fault ≡ ModelFault.NoMemory) }
+    ensures only_refusals { (fault : ModelFault) → IsRefusalOf opts.now bytes.now fault → MatchResult result (λ _. ⊥) (λ told. told ≢ ModelFault.NoMemory → told ≡ fault) }
 {
     match split_model(alloc, bytes) {
         Ok(sections) => read_sections(alloc, &sections, opts),
