@@ -1,5 +1,5 @@
 -- The tuples of a set in a slice are within those of the set.
-use Rattle.std.proofs.Common.{inl, inr, ◌≡◌, ℕ, suc, ◌+◌, ◌*◌, ◌^◌, ◌<◌, ◌≤◌, true, false, ◌||◌, List, [], ◌∷◌, length, get_or, sum_by, ◌∙◌, sym, subst, ap, arith}
+use Rattle.std.proofs.Common.{inl, inr, ◌⊎◌, Bool, refl, ◌≡◌, ℕ, ◌+◌, ◌*◌, ◌^◌, ◌<◌, ◌≤◌, true, false, ◌||◌, List, [], ◌∷◌, length, get_or, sum_by, ◌∙◌, sym, subst, ap, arith}
 use Rattle.std.specs.Prelude.{◌==◌, if◌then◌else◌}
 use Rattle.std.proofs.lemmas.Bool.{cases_eq, false≢true}
 use Rattle.std.proofs.lemmas.Bool.Decides.{nat_tests}
@@ -35,7 +35,7 @@ before_within plan set q (p ∷ members) among =
 one_more : (k n w : ℕ) → k < n → k * w + w ≤ n * w
 one_more k n w less = grind arith
 
-within_count : (plan : PlanView) (set : List ℕ) (slice : Slice) → IsOwnSlice plan slice → has_part set slice ≡ true
+pub within_count : (plan : PlanView) (set : List ℕ) (slice : Slice) → IsOwnSlice plan slice → has_part set slice ≡ true
     → start_of plan set slice + ways (values_in plan slice) set ≤ tuple_count plan set
 within_count plan set Positive own part = omega arith
 within_count plan set (Negative q v) own part =
@@ -67,3 +67,21 @@ slice_within plan set slice start count kept exists own part told_start told_cou
       within = omega (arith, first, exact, inside, kept.counted set exists);
       few = omega (arith, first, exact, inside, most);
     }
+
+-- a set has at most all its tuples in a slice
+pub ways_within : (plan : PlanView) (set : ℕ) (slice : Slice) → IsKept plan → set < length plan.sets → IsOwnSlice plan slice
+    → ways_in plan (set_at plan set) slice ≤ get_or plan.sizes set 0
+ways_within plan set slice kept exists own =
+    elim (split (has_part (set_at plan set) slice)) [
+      | inl part ↦
+          let inside = within_count plan (set_at plan set) slice own part in
+          let many = ap (λ b. if b then ways (values_in plan slice) (set_at plan set) else 0) part in
+          omega (arith, inside, many, kept.counted set exists)
+      | inr none ↦
+          let many = ap (λ b. if b then ways (values_in plan slice) (set_at plan set) else 0) none in
+          omega (arith, many)
+    ]
+  where
+    split : (b : Bool) → (b ≡ true) ⊎ (b ≡ false)
+    split true = inl refl
+    split false = inr refl

@@ -1,6 +1,5 @@
 use Rattle.std.proofs.Common.{◌≡◌, ◌∙◌, ap, arith, sym, true}
 use Rattle.std.proofs.lemmas.Grind.{common_steps}
-use Rattle.tuple_index.specs.Plan.{set_at}
 use Rattle.tuple_index.specs.Places.{has_part, start_of, values_in, ways}
 use Rattle.tuple_index.specs.PlanFault.{told}
 use Rattle.tuple_index.proofs.SliceLemmas.{SliceWithin, slice_within}
