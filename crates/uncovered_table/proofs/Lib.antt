@@ -5,3 +5,4 @@ pub mod PlaceLemmas
 pub mod LoopLemmas
 pub mod LastLemmas
 pub mod TableLemmas
+pub mod ScoreLemmas

@@ -1,6 +1,7 @@
 ghost use Rattle.std.specs.Prelude.{◌≡◌, ◌<◌, ◌≤◌, ◌+◌, ◌^◌, ◌&&◌, ◌++◌, All, IfOk, IfSome, OnOk, None, length, map};
 ghost use Rattle.std.specs.List.{range_with_len};
 ghost use Rattle.cov_model.specs.Rows.{contains};
+ghost use Rattle.cov_model.specs.Sound.{IsSound};
 ghost use Rattle.definitions.specs.Demand.{demanded_sets};
 ghost use Rattle.definitions.specs.SliceRows.{IsSliceOf};
 ghost use Rattle.tuple_index.specs.Kept.{IsKept};
@@ -138,6 +139,20 @@ impl<'a> SliceSets<'a> {
             part: slice,
             ends,
         })
+    }
+
+    // The model of the sets.
+    pub(crate) fn model(&self) -> &TestModel
+        ensures { result.now ≡ self.now.model }
+    {
+        self.of
+    }
+
+    // The model is sound.
+    pub(crate) fn keeps_sound(&self)
+        ensures { IsSound self.now.model }
+    {
+        let _ = self.of.params();
     }
 
     // The places of all tuples of the slice.

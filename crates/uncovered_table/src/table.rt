@@ -1,5 +1,5 @@
-ghost use Rattle.std.specs.Prelude.{◌≡◌, ◌<◌, ◌&&◌, All, IfOk, IfSome, length, not, true};
-ghost use Rattle.std.specs.List.{filter, list_any};
+ghost use Rattle.std.specs.Prelude.{◌≡◌, ◌+◌, ◌≤◌, map, ◌<◌, ◌&&◌, All, IfOk, IfSome, length, not, true};
+ghost use Rattle.std.specs.List.{filter, list_any, range_with_len};
 ghost use Rattle.cov_model.specs.Rows.{contains};
 ghost use Rattle.cov_model.specs.Sound.{param_at};
 ghost use Rattle.definitions.specs.SliceRows.{IsOfSlice, IsSliceOf};
@@ -84,6 +84,13 @@ impl<'a> Uncovered<'a> {
         Ok(Uncovered { sets, places })
     }
 
+    /// The model that the table was made from. Takes no memory.
+    pub fn model(&self) -> &TestModel
+        ensures { result.now ≡ self.now.model }
+    {
+        self.sets.model()
+    }
+
     /// Whether the tuple of this place is open. Takes no memory.
     pub fn is_open(&self, set: u32, rank: u32) -> bool
         requires { IsPlaceOf self.now (set, rank) }
@@ -154,5 +161,19 @@ impl<'a> Uncovered<'a> {
             }
         }
         count
+    }
+
+    /// Puts the gains of as many values of this column as there are scores, from one value on. Takes no
+    /// memory.
+    pub fn gains(&self, cells: &Cells, column: ParamNo, from: ValueNo, scores: &mut [u32])
+        requires cells { IsOfSlice self.now.model self.now.slice cells.now }
+        requires column { column < length self.now.model.params }
+        requires values { from + length scores.old ≤ length (param_at self.now.model.params column).values }
+        ensures { scores.new ≡ map (gain self.now cells.now column) (range_with_len from (length scores.old)) }
+    {
+        self.sets.keeps_sound();
+        for i in 0..scores.len() {
+            scores[i] = self.gain(cells, column, from + i as ValueNo);
+        }
     }
 }
