@@ -6,3 +6,4 @@ pub mod LoopLemmas
 pub mod LastLemmas
 pub mod TableLemmas
 pub mod ScoreLemmas
+pub mod SampleSound

@@ -3,3 +3,4 @@ pub mod Places
 pub mod Kept
 pub mod Lasts
 pub mod Held
+pub mod Sample

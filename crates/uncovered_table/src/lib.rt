@@ -9,3 +9,6 @@ mod sets;
 mod table;
 
 pub use table::Uncovered;
+
+#[cfg(test)]
+mod tests;
