@@ -12,11 +12,11 @@ use Rattle.cov_model.specs.Sound.{ModelView, IsSound, IsSoundParam, IsSoundValue
 use Rattle.cov_model.specs.Names.{is_name}
 use Rattle.tuple_index.specs.Sample.{sample_values, sample_param, sample_params, sample_demand, sample_model}
 
-abbrev PairsByRecursion : {X : Type 0} → (X → X → Type 0) → List X → Type 0
+abbrev pub PairsByRecursion : {X : Type 0} → (X → X → Type 0) → List X → Type 0
 PairsByRecursion R [] = Unit {0}
 PairsByRecursion R (x ∷ xs) = AllByRecursion (R x) xs × PairsByRecursion R xs
 
-AllPairs-from_recursion : {X : Type 0} (R : X → X → Type 0) (xs : List X) → PairsByRecursion R xs → AllPairs R xs
+pub AllPairs-from_recursion : {X : Type 0} (R : X → X → Type 0) (xs : List X) → PairsByRecursion R xs → AllPairs R xs
 AllPairs-from_recursion R [] pairs = λ i j d before within. absurd (omega arith)
 AllPairs-from_recursion R (x ∷ xs) pairs = AllPairs-cons R x xs (All-from_recursion (R x) xs pairs.0) (AllPairs-from_recursion R xs pairs.1)
 
@@ -32,7 +32,7 @@ values_sound : AllByRecursion (IsSoundValue 126) sample_values
 unfolding chars
 values_sound = (one_name (codes "on") refl (λ e. omega (arith, e)), (one_name (codes "off") refl (λ e. omega (arith, e)), tt))
 
-letter_sound : (letter : ℕ) → is_name (letter ∷ []) ≡ true → (letter ≡ 58 → ⊥) → IsSoundParam 126 true (sample_param (letter ∷ []))
+pub letter_sound : (letter : ℕ) → is_name (letter ∷ []) ≡ true → (letter ≡ 58 → ⊥) → IsSoundParam 126 true (sample_param (letter ∷ []))
 unfolding chars
 letter_sound letter named plain = record {
   named = named;

@@ -1,0 +1,6 @@
+pub mod Open
+pub mod Places
+pub mod Kept
+pub mod Lasts
+pub mod Held
+pub mod Sample
