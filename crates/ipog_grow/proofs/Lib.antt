@@ -1,0 +1,4 @@
+pub mod Lists
+pub mod Falling
+pub mod Holding
+pub mod Settling
