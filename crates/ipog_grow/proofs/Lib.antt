@@ -2,3 +2,4 @@ pub mod Lists
 pub mod Falling
 pub mod Holding
 pub mod Settling
+pub mod Places
