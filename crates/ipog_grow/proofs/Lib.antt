@@ -3,3 +3,4 @@ pub mod Falling
 pub mod Holding
 pub mod Settling
 pub mod Places
+pub mod Tuples

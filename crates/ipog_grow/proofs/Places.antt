@@ -1,6 +1,6 @@
 -- The places of a slice in play for a column, and the tuples there.
-use Rattle.std.proofs.Common.{◌≡◌, ◌≢◌, ℕ, zero, suc, ◌+◌, ◌<◌, Bool, true, false, cond, ◌&&◌, ◌||◌, not, List, [], ◌∷◌, ◌++◌, map, length, filter, flat_map, Option, Some, None, get_or, nat_eq, ◌∙◌, sym, ap, subst, refl, arith, append_assoc}
-use Rattle.std.specs.Prelude.{take_while, sum_by}
+use Rattle.std.proofs.Common.{◌≡◌, ℕ, zero, suc, ◌+◌, ◌<◌, Bool, true, false, cond, ◌&&◌, ◌||◌, not, List, [], ◌∷◌, ◌++◌, map, length, filter, flat_map, Option, get_or, nat_eq, ◌∙◌, sym, ap, refl, arith, append_assoc}
+use Rattle.std.specs.Prelude.{take_while}
 use Rattle.std.specs.List.{list_any, range_with_len}
 use Rattle.std.proofs.lemmas.Bool.{false≢true}
 use Rattle.std.proofs.lemmas.Bool.Decides.{nat_tests}
@@ -15,10 +15,10 @@ use Rattle.cov_model.specs.Sound.{ModelView, param_at}
 use Rattle.cov_model.specs.Meaning.{value_at}
 use Rattle.cov_model.specs.Valid.{param_numbers}
 use Rattle.cov_model.specs.Slices.{slices, value_numbers, negative_values}
-use Rattle.definitions.specs.Demand.{is_among, demanded_sets, tuples_in, tuples_of}
+use Rattle.definitions.specs.Demand.{is_among, demanded_sets, tuples_in}
 use Rattle.definitions.specs.Growth.{tuples_in_play}
 use Rattle.definitions.specs.SliceRows.{IsSliceOf}
-use Rattle.tuple_index.proofs.ListingLemmas.{map_same, flat_map_same, map_map, map_flat_map}
+use Rattle.tuple_index.proofs.ListingLemmas.{flat_map_same, map_map, map_flat_map}
 use Rattle.uncovered_table.specs.Places.{set_at, tuple_at, is_slice, slice_start, places_in, slice_places, ends_with_column, is_in_play}
 use Rattle.ipog_grow.proofs.Lists.{filter-map}
 use Rattle.ipog_grow.proofs.Falling.{among_first, among_later}
