@@ -62,7 +62,7 @@ among_range : (n v : ℕ) → v < n → is_among (range_with_len 0 n) v ≡ true
 among_range n v within =
     list_any_at (λ k. k == v) (range_with_len 0 n) v 0 (omega (arith, length-range_with_len 0 n)) (eq-eqb _ v (get_or-range_with_len 0 n v 0 within ∙ zero-add v))
 
-among_range_below : (a n v : ℕ) → is_among (range_with_len a n) v ≡ true → v < a + n
+pub among_range_below : (a n v : ℕ) → is_among (range_with_len a n) v ≡ true → v < a + n
 among_range_below a zero v listed = absurd (false≢true listed)
 among_range_below a (suc n) v listed = by_case (a == v) (same_number a v) listed (among_range_below (a + 1) n v)
   where
@@ -71,7 +71,7 @@ among_range_below a (suc n) v listed = by_case (a == v) (same_number a v) listed
     by_case true same h later = omega (arith, same refl)
     by_case false same h later = omega (arith, later h)
 
-among_filter_test : (test : ℕ → Bool) (v : ℕ) (values : List ℕ) → is_among (filter test values) v ≡ true → test v ≡ true
+pub among_filter_test : (test : ℕ → Bool) (v : ℕ) (values : List ℕ) → is_among (filter test values) v ≡ true → test v ≡ true
 among_filter_test test v [] listed = absurd (false≢true listed)
 among_filter_test test v (w ∷ values) listed = by_case (test w) refl listed (among_filter_test test v values)
   where
@@ -101,7 +101,7 @@ among_filter_in test v (w ∷ values) passes listed = by_equal (w == v) refl lis
         ∙ ap (λ (b : Bool). b || is_among (filter test values) v) is
     by_equal false is h later = by_test (test w) (later h)
 
-length-slice_values : (m : ModelView) (slice : Slice) → length (slice_values m slice) ≡ length m.params
+pub length-slice_values : (m : ModelView) (slice : Slice) → length (slice_values m slice) ≡ length m.params
 length-slice_values m Positive = length-map-range_with_len (positive_values m) 0 (length m.params)
 length-slice_values m (Negative p v) =
     length-set (map (positive_values m) (param_numbers m)) p (v ∷ []) ∙ length-map-range_with_len (positive_values m) 0 (length m.params)
@@ -115,7 +115,7 @@ positive_exist m p v within listed =
     omega (arith, low)
 
 -- the values of a slice exist
-slice_exist : (m : ModelView) (slice : Slice) (p v : ℕ) → IsSliceOf m slice → p < length m.params → is_among (get_or (slice_values m slice) p []) v ≡ true
+pub slice_exist : (m : ModelView) (slice : Slice) (p v : ℕ) → IsSliceOf m slice → p < length m.params → is_among (get_or (slice_values m slice) p []) v ≡ true
     → v < length (param_at m.params p).values
 slice_exist m Positive p v is within listed = positive_exist m p v within listed
 slice_exist m (Negative q w) p v is within listed =

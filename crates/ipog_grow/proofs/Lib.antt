@@ -1,0 +1,6 @@
+pub mod Lists
+pub mod Falling
+pub mod Holding
+pub mod Settling
+pub mod Places
+pub mod Tuples

@@ -1,0 +1,28 @@
+-- What the growth of a slice looks at on its way. (This project's rules.)
+use Rattle.std.specs.Prelude.{◌≡◌, ℕ, true, List, [], ◌∷◌, Option, Some, None, nat_lt, if◌then◌else◌}
+use Rattle.cov_model.specs.declared.slice.Slice.{Slice}
+use Rattle.cov_model.specs.declared.slice.Slice.TheVariants.{Positive, Negative}
+use Rattle.cov_model.specs.Sound.{ModelView}
+use Rattle.cov_model.specs.Rows.{is_assigned}
+use Rattle.definitions.specs.SliceRows.{IsOfSlice}
+
+-- of two values, where there are both, the first unless the second has the greater score
+abbrev pub better : (ℕ → ℕ) → Option ℕ → Option ℕ → Option ℕ
+better score None other = other
+better score (Some v) None = Some v
+better score (Some v) (Some w) = if nat_lt (score v) (score w) then Some w else Some v
+
+-- the first value of the greatest score in a list, where one has a score above 0
+abbrev pub best : (ℕ → ℕ) → List ℕ → Option ℕ
+best score [] = None
+best score (v ∷ values) = better score (if nat_lt 0 (score v) then Some v else None) (best score values)
+
+-- a negative slice fixes the value of a parameter, so a partial row has one there
+abbrev pub HasFixed : Slice → List (Option ℕ) → Type 0
+HasFixed Positive cells = Unit {0}
+HasFixed (Negative q v) cells = is_assigned cells q ≡ true
+
+-- a partial row that grows in a slice has values of the slice, and the fixed one
+pub record GrowsIn (m : ModelView) (slice : Slice) (cells : List (Option ℕ)) : Type 0 where
+  pub of : IsOfSlice m slice cells
+  pub fixed : HasFixed slice cells
