@@ -4,3 +4,5 @@ pub mod Holding
 pub mod Settling
 pub mod Places
 pub mod Tuples
+pub mod PairLists
+pub mod SameRows

@@ -1,3 +1,9 @@
 //! The growth of a suite: column by column in each slice, each partial row is extended by the value
 //! that covers most, then the tuples that are left are put into rows.
 #![tactic(auto)]
+
+mod distinct;
+mod question;
+mod suite;
+
+pub use suite::{GrowOpts, LineList, Suite};
