@@ -4,3 +4,4 @@ pub mod Holding
 pub mod Settling
 pub mod Places
 pub mod Tuples
+pub mod Table
