@@ -5,3 +5,4 @@ pub mod Settling
 pub mod Places
 pub mod Tuples
 pub mod Table
+pub mod Asking

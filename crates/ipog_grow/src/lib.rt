@@ -1,3 +1,6 @@
 //! The growth of a suite: column by column in each slice, each partial row is extended by the value
 //! that covers most, then the tuples that are left are put into rows.
 #![tactic(auto)]
+
+mod asker;
+mod stop;
