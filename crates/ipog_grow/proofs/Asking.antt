@@ -2,10 +2,13 @@
 use Rattle.std.proofs.Common.{◌≡◌, ℕ, Bool, true, false, cond, nat_lt, List, [], ◌∷◌, Option, Some, None, ◌∙◌, sym, subst, refl}
 use Rattle.cov_model.specs.declared.slice.Slice.{Slice}
 use Rattle.definitions.specs.Search.{plain_cost}
+use Rattle.std.specs.Prelude.{Err}
+use Rattle.ipog_grow.specs.declared.stop.Stop.{Stop}
+use Rattle.ipog_grow.specs.declared.stop.Stop.TheVariants as stops
 use Rattle.feasibility.specs.declared.answer.Answer.{Answer}
 use Rattle.feasibility.specs.declared.answer.Answer.TheVariants.{Yes, No, Spent}
 use Rattle.feasibility.specs.Answers.{answer_of}
-use Rattle.ipog_grow.specs.Asking.{World, IsWorld, Grows, extends, first_spent}
+use Rattle.ipog_grow.specs.Asking.{World, IsWorld, Grows, Told, extends, first_spent}
 use Rattle.ipog_grow.proofs.Tuples.{grows-slice}
 
 -- what an answer tells of one question
@@ -40,3 +43,9 @@ asked world cells answer is grows told =
     let parts = subst (λ (slice : Slice). Parts cells answer (nat_lt world.budget (plain_cost world.model world.prefs slice cells)))
     (sym (grows-slice world.model world.slice cells is.slice grows)) (by_cost cells answer (nat_lt world.budget (plain_cost world.model world.prefs world.slice cells)) (extends world cells) told) in
     record { yes = parts.yes; no = parts.no; spent = parts.spent }
+
+-- a fault of a part is one of the whole, where its question is
+pub told-err : (A B : Type 0) (stop : Stop) (question : List (Option ℕ)) (part whole : Option (List (Option ℕ))) → (part ≡ Some question → whole ≡ Some question)
+    → Told {A = A} (Err stop) question part → Told {A = B} (Err stop) question whole
+told-err A B stops.Spent question part whole more told = more told
+told-err A B stops.NoMemory question part whole more told = tt

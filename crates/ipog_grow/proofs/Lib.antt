@@ -6,3 +6,4 @@ pub mod Places
 pub mod Tuples
 pub mod Table
 pub mod Asking
+pub mod Trying

@@ -1,9 +1,10 @@
 -- What questions are asked of a slice, and what their answers tell. (This project's rules.)
-use Rattle.std.specs.Prelude.{◌≡◌, ℕ, Bool, List, length, Option, None, Some, Result, Ok, Err}
+use Rattle.std.specs.Prelude.{◌≡◌, ℕ, Bool, List, map, length, slice_index, Option, None, Some, Result, Ok, Err}
 use Rattle.cov_model.specs.declared.slice.Slice.{Slice}
 use Rattle.cov_model.specs.Sound.{ModelView}
 use Rattle.cov_model.specs.Preference.{OrdersValues}
-use Rattle.definitions.specs.Completion.{is_extendable}
+use Rattle.definitions.specs.Completion.{is_extendable, falling, with_value}
+use Rattle.definitions.specs.Growth.{Filled, first_extendable}
 use Rattle.definitions.specs.Search.{first_over}
 use Rattle.definitions.specs.SliceRows.{IsSliceOf}
 use Rattle.ipog_grow.specs.declared.stop.Stop.{Stop}
@@ -48,3 +49,7 @@ abbrev pub Told : {A : Type 0} → Result A Stop → List (Option ℕ) → Optio
 Told (Ok value) question over = over ≡ None
 Told (Err Spent) question over = over ≡ Some question
 Told (Err NoMemory) question over = Unit {0}
+
+-- the values of a column by falling score, the first that leaves the row extendable taken, each asked up to it
+abbrev pub tried : World → ℕ → List ℕ → List ℕ → ℕ → List (Option ℕ) → Filled
+tried world n scores order p row = first_extendable (extends world) row (map (with_value row p) (falling n (λ v. slice_index scores v) order))

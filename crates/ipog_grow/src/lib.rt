@@ -4,3 +4,4 @@
 
 mod asker;
 mod stop;
+mod values;
