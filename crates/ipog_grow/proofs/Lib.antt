@@ -1,8 +1,11 @@
+pub mod PairLists
+pub mod SameRows
 pub mod Lists
 pub mod Falling
 pub mod Holding
 pub mod Settling
 pub mod Places
 pub mod Tuples
-pub mod PairLists
-pub mod SameRows
+pub mod Table
+pub mod Asking
+pub mod Trying

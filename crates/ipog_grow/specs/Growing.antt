@@ -1,10 +1,13 @@
 -- What the growth of a slice looks at on its way. (This project's rules.)
-use Rattle.std.specs.Prelude.{◌≡◌, ℕ, true, List, [], ◌∷◌, Option, Some, None, nat_lt, if◌then◌else◌}
+use Rattle.std.specs.Prelude.{◌≡◌, ℕ, true, List, [], ◌∷◌, map, Option, Some, None, All, nat_lt, if◌then◌else◌}
+use Rattle.std.specs.List.{filter}
 use Rattle.cov_model.specs.declared.slice.Slice.{Slice}
 use Rattle.cov_model.specs.declared.slice.Slice.TheVariants.{Positive, Negative}
 use Rattle.cov_model.specs.Sound.{ModelView}
 use Rattle.cov_model.specs.Rows.{is_assigned}
 use Rattle.definitions.specs.SliceRows.{IsOfSlice}
+use Rattle.uncovered_table.specs.Open.{OpenView}
+use Rattle.uncovered_table.specs.Places.{is_behind, is_in_play, tuple_at}
 
 -- of two values, where there are both, the first unless the second has the greater score
 abbrev pub better : (ℕ → ℕ) → Option ℕ → Option ℕ → Option ℕ
@@ -26,3 +29,15 @@ HasFixed (Negative q v) cells = is_assigned cells q ≡ true
 pub record GrowsIn (m : ModelView) (slice : Slice) (cells : List (Option ℕ)) : Type 0 where
   pub of : IsOfSlice m slice cells
   pub fixed : HasFixed slice cells
+
+-- the places of the open tuples that are in play for a column, and these tuples
+abbrev pub open_places : OpenView → ℕ → List (ℕ × ℕ)
+open_places table p = filter (is_in_play table.model table.slice p) table.places
+
+abbrev pub open_tuples : OpenView → ℕ → List (List (Option ℕ))
+open_tuples table p = map (tuple_at table.model) (open_places table p)
+
+-- each place stands behind those before it
+abbrev pub Rises : List (ℕ × ℕ) → Type 0
+Rises [] = Unit {0}
+Rises (place ∷ places) = All (λ other. is_behind place other ≡ true) places × Rises places

@@ -1,3 +1,4 @@
-pub mod Growing
 pub mod Suites
 pub mod Rows
+pub mod Growing
+pub mod Asking

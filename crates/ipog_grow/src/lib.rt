@@ -2,8 +2,11 @@
 //! that covers most, then the tuples that are left are put into rows.
 #![tactic(auto)]
 
+mod asker;
 mod distinct;
 mod question;
+mod stop;
 mod suite;
+mod values;
 
 pub use suite::{GrowOpts, LineList, Suite};

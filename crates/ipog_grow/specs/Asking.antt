@@ -1,0 +1,55 @@
+-- What questions are asked of a slice, and what their answers tell. (This project's rules.)
+use Rattle.std.specs.Prelude.{◌≡◌, ℕ, Bool, List, map, length, slice_index, Option, None, Some, Result, Ok, Err}
+use Rattle.cov_model.specs.declared.slice.Slice.{Slice}
+use Rattle.cov_model.specs.Sound.{ModelView}
+use Rattle.cov_model.specs.Preference.{OrdersValues}
+use Rattle.definitions.specs.Completion.{is_extendable, falling, with_value}
+use Rattle.definitions.specs.Growth.{Filled, first_extendable}
+use Rattle.definitions.specs.Search.{first_over}
+use Rattle.definitions.specs.SliceRows.{IsSliceOf}
+use Rattle.ipog_grow.specs.declared.stop.Stop.{Stop}
+use Rattle.ipog_grow.specs.declared.stop.Stop.TheVariants.{Spent, NoMemory}
+use Rattle.ipog_grow.specs.Growing.{GrowsIn}
+
+-- what decides the answers: the model, the preference orders, the slice and the budget of each question
+pub record World : Type 0 where
+  pub model : ModelView
+  pub prefs : List (List ℕ)
+  pub slice : Slice
+  pub budget : ℕ
+
+-- the slice and the orders are the model's
+pub record IsWorld (world : World) : Type 0 where
+  pub slice : IsSliceOf world.model world.slice
+  pub orders : OrdersValues world.model world.prefs
+
+-- who asks, and the last question whose cost exceeded the budget
+pub record AskerView : Type 0 where
+  pub world : World
+  pub question : List (Option ℕ)
+
+pub record IsAsker (asker : AskerView) : Type 0 where
+  pub world : IsWorld asker.world
+  pub room : length asker.question ≡ length asker.world.model.params
+
+-- a partial row of the slice
+abbrev pub Grows : World → List (Option ℕ) → Type 0
+Grows world cells = GrowsIn world.model world.slice cells
+
+abbrev pub extends : World → List (Option ℕ) → Bool
+extends world cells = is_extendable world.model world.slice cells
+
+-- the first of the questions whose plain cost exceeds the budget
+abbrev pub first_spent : World → List (List (Option ℕ)) → Option (List (Option ℕ))
+first_spent world questions = first_over world.model world.prefs world.budget questions
+
+-- an end without a fault tells that no question exceeded the budget, and Spent which one did first; want
+-- of memory may come before either
+abbrev pub Told : {A : Type 0} → Result A Stop → List (Option ℕ) → Option (List (Option ℕ)) → Type 0
+Told (Ok value) question over = over ≡ None
+Told (Err Spent) question over = over ≡ Some question
+Told (Err NoMemory) question over = Unit {0}
+
+-- the values of a column by falling score, the first that leaves the row extendable taken, each asked up to it
+abbrev pub tried : World → ℕ → List ℕ → List ℕ → ℕ → List (Option ℕ) → Filled
+tried world n scores order p row = first_extendable (extends world) row (map (with_value row p) (falling n (λ v. slice_index scores v) order))

@@ -1,0 +1,83 @@
+ghost use Rattle.std.specs.Prelude.{◌≡◌, ◌∷◌, [], None, length, replicate, IfOk};
+ghost use Rattle.cov_model.specs.Preference.{OrdersValues};
+ghost use Rattle.definitions.specs.SliceRows.{IsSliceOf};
+ghost use Rattle.ipog_grow.specs.Asking.{Grows, IsWorld, Told, extends, first_spent};
+
+use crate::stop::Stop;
+use cov_model::{Cells, Prefs, Slice, TestModel};
+use feasibility::{Answer, Solver};
+use std::alloc::Global;
+use std::marker::Model;
+use value_text::NoMemory;
+
+// Asks whether partial rows of a slice are extendable, within a budget for each question, and keeps
+// the question that exceeds it. Contracts see what decides the answers, and that question.
+#[derive(Drop)]
+pub(crate) struct Asker<'a> {
+    solver: Solver<'a>,
+    budget: u64,
+    question: Cells,
+}
+
+impl<'a> Model for Asker<'a> {
+    ghost use Rattle.std.specs.Prelude.{◌≡◌, length};
+    ghost use Rattle.std.specs.Coded.{codes};
+    ghost use Rattle.cov_model.specs.contracts.constraint.Pred as predicate;
+    ghost use Rattle.ipog_grow.specs.Asking.{AskerView, IsAsker};
+
+    ghost Value = { AskerView };
+
+    ghost coded = { Prim.hlevel (codes, predicate.the_row.coded) };
+
+    ghost view = { λ a. record { world = record { model = a.solver.model; prefs = a.solver.prefs; slice = a.solver.slice; budget = a.budget }; question = a.question } };
+
+    ghost invariant = { λ a. IsAsker (record { world = record { model = a.solver.model; prefs = a.solver.prefs; slice = a.solver.slice; budget = a.budget }; question = a.question }) };
+}
+
+impl<'a> Asker<'a> {
+    // For this slice of the model, which has to be one of the model's; the preferences have to be
+    // the model's too.
+    pub(crate) fn new(
+        alloc: Global,
+        model: &'a TestModel,
+        prefs: &'a Prefs,
+        slice: Slice,
+        budget: u64,
+    ) -> Result<Asker<'a>, NoMemory>
+        requires slice { IsSliceOf model.now slice }
+        requires orders { OrdersValues model.now prefs.now }
+        ensures { IfOk result (λ asker. asker.world ≡ record { model = model.now; prefs = prefs.now; slice = slice; budget = budget }) }
+    {
+        let solver = Solver::new(alloc, model, prefs, slice)?;
+        let question = Cells::empty(alloc, model.params().len())?;
+        Ok(Asker {
+            solver,
+            budget,
+            question,
+        })
+    }
+
+    // What decides the answers is of one model.
+    pub(crate) fn keeps(&self)
+        ensures { IsWorld self.now.world }
+    {
+        let _ = &self.solver;
+    }
+
+    // Whether a partial row of the slice is extendable.
+    pub(crate) fn ask(&mut self, cells: &Cells) -> Result<bool, Stop>
+        requires { Grows self.old.world cells.now }
+        ensures asked { Told result self.new.question (first_spent self.old.world (cells.now ∷ [])) }
+        ensures value { IfOk result (λ yes. yes ≡ extends self.old.world cells.now) }
+        ensures same { self.new.world ≡ self.old.world }
+    {
+        match self.solver.ask(cells, self.budget) {
+            Answer::Yes => Ok(true),
+            Answer::No => Ok(false),
+            Answer::Spent => {
+                self.question.copy_from(cells);
+                Err(Stop::Spent)
+            }
+        }
+    }
+}
