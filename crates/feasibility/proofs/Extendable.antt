@@ -206,7 +206,7 @@ found_given : (found : Bool) (row : List (Option ℕ)) → is_some (cond found (
 found_given true row = refl
 found_given false row = refl
 
-completed_is_extendable : (m : ModelView) (pref : List (List ℕ)) (slice : Slice) (cells : List (Option ℕ)) → ArePreferences m pref
+pub completed_is_extendable : (m : ModelView) (pref : List (List ℕ)) (slice : Slice) (cells : List (Option ℕ)) → ArePreferences m pref
     → IsSliceOf m slice → IsOfSlice m slice cells → is_some (first_completion m pref slice cells) ≡ is_extendable m slice cells
 completed_is_extendable m pref slice cells are is of =
     let some = length-preferred_values m pref slice in

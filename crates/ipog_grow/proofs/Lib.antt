@@ -1,3 +1,5 @@
+pub mod Spending
+pub mod Completed
 pub mod PairLists
 pub mod SameRows
 pub mod Lists

@@ -1,4 +1,5 @@
 pub mod Suites
 pub mod Rows
+pub mod Completing
 pub mod Growing
 pub mod Asking

@@ -1,7 +1,8 @@
-ghost use Rattle.std.specs.Prelude.{◌≡◌, ◌∷◌, [], None, length, replicate, IfOk};
+ghost use Rattle.std.specs.Prelude.{◌≡◌, ◌∷◌, [], Some, None, length, replicate, if◌then◌else◌, IfOk};
 ghost use Rattle.cov_model.specs.Preference.{OrdersValues};
 ghost use Rattle.definitions.specs.SliceRows.{IsSliceOf};
 ghost use Rattle.ipog_grow.specs.Asking.{Grows, IsWorld, Told, extends, first_spent};
+ghost use Rattle.ipog_grow.specs.Completing.{completed};
 
 use crate::stop::Stop;
 use cov_model::{Cells, Prefs, Slice, TestModel};
@@ -79,5 +80,33 @@ impl<'a> Asker<'a> {
                 Err(Stop::Spent)
             }
         }
+    }
+
+    // Whether a partial row of the slice is extendable; where it is, the other cells become its
+    // first completion.
+    pub(crate) fn complete(&mut self, cells: &Cells, into: &mut Cells) -> Result<bool, Stop>
+        requires grows { Grows self.old.world cells.now }
+        requires room { length into.old ≡ length self.old.world.model.params }
+        ensures asked { Told result self.new.question (first_spent self.old.world (cells.now ∷ [])) }
+        ensures completed { IfOk result (λ found. completed self.old.world cells.now ≡ (if found then Some into.new else None)) }
+        ensures room { length into.new ≡ length into.old }
+        ensures same { self.new.world ≡ self.old.world }
+    {
+        match self.solver.complete(cells, self.budget, into) {
+            Answer::Yes => Ok(true),
+            Answer::No => Ok(false),
+            Answer::Spent => {
+                self.question.copy_from(cells);
+                Err(Stop::Spent)
+            }
+        }
+    }
+
+    // The last question whose cost exceeded the budget.
+    pub(crate) fn question(&self) -> &Cells
+        ensures value { result.now ≡ self.now.question }
+        ensures long { length result.now ≡ length self.now.world.model.params }
+    {
+        &self.question
     }
 }

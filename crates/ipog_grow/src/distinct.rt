@@ -1,7 +1,7 @@
-ghost use Rattle.std.specs.Prelude.{◌≡◌, ◌<◌, ◌^◌, [], All, length, not, IfOk};
+ghost use Rattle.std.specs.Prelude.{◌≡◌, ◌<◌, ◌^◌, ◌++◌, [], ℕ, List, Option, All, length, not, IfOk, OnOk};
 ghost use Rattle.ipog_grow.specs.Rows.{is_known_row, with_row};
 
-use cov_model::{Cells, ParamNo, ValueNo};
+use cov_model::{Cells, ParamNo, Rows, ValueNo};
 use indexmap::IndexSet;
 use std::alloc::Global;
 use std::marker::Model;
@@ -65,4 +65,33 @@ fn places_of(alloc: Global, row: &Cells) -> Result<Vec<Option<ValueNo>>, NoMemor
         }
     }
     Ok(places)
+}
+
+// A copy of a row.
+pub(crate) fn copy_of(alloc: Global, row: &Cells) -> Result<Cells, NoMemory>
+    ensures { IfOk result (λ copy. copy ≡ row.now) }
+{
+    let mut copy = Cells::empty(alloc, row.len())?;
+    copy.copy_from(row);
+    Ok(copy)
+}
+
+// Adds a row to those that are known, and behind others, unless it is known.
+pub(crate) fn add_row(
+    alloc: Global,
+    row: &Cells,
+    known: &mut RowSet,
+    rows: &mut Rows,
+) -> Result<(), NoMemory>
+    requires short { length row.now < 2 ^ 16 }
+    requires same { All (λ other. length other ≡ length row.now) known.old }
+    ensures known { OnOk result (known.new ≡ with_row known.old row.now) }
+    ensures rows { OnOk result ((start : List (List (Option ℕ))) → rows.old ≡ start ++ known.old → rows.new ≡ start ++ known.new) }
+    ensures long { OnOk result (All (λ other. length other ≡ length row.now) known.new) }
+{
+    if !known.add(alloc, row)? {
+        return Ok(());
+    }
+    let copy = copy_of(alloc, row)?;
+    rows.push(copy)
 }

@@ -3,6 +3,7 @@
 #![tactic(auto)]
 
 mod asker;
+mod completing;
 mod distinct;
 mod question;
 mod stop;
