@@ -1,3 +1,7 @@
+pub mod OfSlice
+pub mod Sorting
+pub mod Seeding
+pub mod SliceSteps
 pub mod Spending
 pub mod Completed
 pub mod PairLists

@@ -1,5 +1,5 @@
 -- When a suite is the one that growth gives, and how a run of questions ends. (This project's rules.)
-use Rattle.std.specs.Prelude.{◌≡◌, ℕ, [], List, map, length, Option, Some, All, option_map, unwrap_or}
+use Rattle.std.specs.Prelude.{◌≡◌, ℕ, [], List, map, length, Option, Some, None, Result, Ok, Err, All, option_map, unwrap_or}
 use Rattle.cov_model.specs.Sound.{ModelView}
 use Rattle.definitions.specs.Growth.{growth}
 use Rattle.definitions.specs.Pairs.{cells_of, pairs_of}
@@ -29,3 +29,8 @@ pub record IsSuiteOf (m : ModelView) (pref : List (List ℕ)) (seeds : List (ℕ
 abbrev pub EndsBy : Option (List (Option ℕ)) → SearchFault → Type 0
 EndsBy over (Spent question) = option_map pairs_of over ≡ Some question.cells
 EndsBy over NoMemory = Unit {0}
+
+-- a run without a fault asked no question whose cost is above the budget
+abbrev pub Ends : {A : Type 0} → Result A SearchFault → Option (List (Option ℕ)) → Type 0
+Ends (Ok value) over = over ≡ None
+Ends (Err fault) over = EndsBy over fault

@@ -6,6 +6,8 @@ mod asker;
 mod completing;
 mod distinct;
 mod question;
+mod seeds;
+mod slices;
 mod stop;
 mod suite;
 mod values;

@@ -1,7 +1,9 @@
-ghost use Rattle.std.specs.Prelude.{◌≡◌, ◌<◌, ◌^◌, length, IfOk};
+ghost use Rattle.std.specs.Prelude.{◌≡◌, ◌<◌, ◌^◌, Some, length, IfOk};
 ghost use Rattle.definitions.specs.Pairs.{pairs_of};
+ghost use Rattle.ipog_grow.specs.Suites.{EndsBy};
 
 use cov_model::{Cells, ParamNo, Tuple};
+use feasibility::{Question, SearchFault};
 use std::alloc::Global;
 use value_text::NoMemory;
 
@@ -20,4 +22,15 @@ pub(crate) fn tuple_of(alloc: Global, cells: &Cells) -> Result<Tuple, NoMemory>
         }
     }
     Tuple::of(alloc, pairs.as_slice())
+}
+
+// The fault of a question whose cost exceeds the budget.
+pub(crate) fn over_budget(alloc: Global, cells: &Cells) -> SearchFault
+    requires { length cells.now < 2 ^ 16 }
+    ensures { EndsBy (Some cells.now) result }
+{
+    match tuple_of(alloc, cells) {
+        Ok(cells) => SearchFault::Spent(Question { cells }),
+        Err(_) => SearchFault::NoMemory,
+    }
 }
