@@ -1,8 +1,8 @@
 -- The pairs of a partial row: one place after another, and that their parameters rise.
-use Rattle.std.proofs.Common.{◌≡◌, ℕ, ◌+◌, ◌<◌, ◌≤◌, List, [], ◌∷◌, ◌++◌, take, length, get_or, Option, Some, None, ◌∙◌, ap, refl, arith}
-use Rattle.std.proofs.lemmas.List.{take_more, length-take-le}
+use Rattle.std.proofs.Common.{◌≡◌, ℕ, zero, suc, set, replicate, zero-add, sym, ◌+◌, ◌<◌, ◌≤◌, List, [], ◌∷◌, ◌++◌, take, length, get_or, Option, Some, None, ◌∙◌, ap, refl, arith}
+use Rattle.std.proofs.lemmas.List.{take_more, length-take-le, replicate_more, append_assoc, append-nil}
 use Rattle.cov_model.specs.Tuples.{IsRising}
-use Rattle.definitions.specs.Pairs.{pairs_from, pairs_of}
+use Rattle.definitions.specs.Pairs.{cells_of, pairs_from, pairs_of}
 
 -- the pair of a cell, where it has a value
 abbrev pub pair_at : ℕ → Option ℕ → List (ℕ × ℕ)
@@ -37,3 +37,20 @@ rising k (a ∷ b ∷ pairs) rises = (omega (arith, rises.1.0), rising (a.0 + 1)
 
 pub pairs_of-rise : (cells : List (Option ℕ)) → IsRising (pairs_of cells)
 pairs_of-rise cells = rising 0 (pairs_of cells) (rises_from 0 0 cells (omega arith))
+
+-- the pairs of a partial row give it again
+none-more : (p : ℕ) (cells : List (Option ℕ)) → replicate (p + 1) None ++ cells ≡ replicate p None ++ None ∷ cells
+none-more p cells = ap (λ front. front ++ cells) (sym (replicate_more p None)) ∙ append_assoc (replicate p None) (None ∷ []) cells
+
+set-behind : (p : ℕ) (cells : List (Option ℕ)) (v : ℕ) → set (replicate p None ++ None ∷ cells) p (Some v) ≡ replicate p None ++ Some v ∷ cells
+set-behind zero cells v = refl
+set-behind (suc p) cells v = ap (λ rest. None ∷ rest) (set-behind p cells v)
+
+cells_of-pairs_from : (n p : ℕ) (cells : List (Option ℕ)) → p + length cells ≡ n → cells_of n (pairs_from p cells) ≡ replicate p None ++ cells
+cells_of-pairs_from n p [] long = let same : n ≡ p = omega (arith, long) in ap (λ k. replicate k None) same ∙ sym (append-nil (replicate p None))
+cells_of-pairs_from n p (None ∷ cells) long = cells_of-pairs_from n (p + 1) cells (omega (arith, long)) ∙ none-more p cells
+cells_of-pairs_from n p (Some v ∷ cells) long =
+    ap (λ row. set row p (Some v)) (cells_of-pairs_from n (p + 1) cells (omega (arith, long)) ∙ none-more p cells) ∙ set-behind p cells v
+
+pub cells_of-pairs_of : (cells : List (Option ℕ)) → cells_of (length cells) (pairs_of cells) ≡ cells
+cells_of-pairs_of cells = cells_of-pairs_from (length cells) 0 cells (zero-add (length cells))

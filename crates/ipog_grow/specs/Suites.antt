@@ -9,11 +9,17 @@ use Rattle.feasibility.specs.declared.answer.SearchFault.TheVariants.{Spent, NoM
 use Rattle.refutation.specs.declared.omissions.Omission.{Omission}
 use Rattle.refutation.specs.declared.omissions.ProofForm.{ProofForm}
 use Rattle.refutation.specs.declared.omissions.ProofForm.TheVariants.{One}
+use Rattle.ipog_grow.specs.declared.stop.Stop.{Stop}
+use Rattle.ipog_grow.specs.declared.stop.Stop.TheVariants as stops
 use Rattle.ipog_grow.specs.declared.suite.Suite.{Suite}
 
 -- the tuple of an omission, as a partial row of n parameters
 abbrev pub omitted_cells : ℕ → Omission → List (Option ℕ)
 omitted_cells n omission = cells_of n omission.tuple
+
+-- an omission without a tree
+abbrev pub HasNoTree : Omission → Type 0
+HasNoTree omission = omission.tree ≡ []
 
 -- a suite is what growth gives with these preferences and seeds; its omissions have no trees, and their
 -- form is the one asked for, or the first where none was
@@ -21,7 +27,7 @@ pub record IsSuiteOf (m : ModelView) (pref : List (List ℕ)) (seeds : List (ℕ
   pub rows : suite.rows ≡ (growth m pref seeds).rows
   pub omitted : map (omitted_cells (length m.params)) suite.omitted.omissions ≡ (growth m pref seeds).omitted
   pub form : suite.omitted.form ≡ unwrap_or proof One
-  pub trees : All (λ omission. omission.tree ≡ []) suite.omitted.omissions
+  pub trees : All HasNoTree suite.omitted.omissions
   pub kept : suite.kept ≡ length (kept_seeds m seeds)
   pub dropped : suite.dropped ≡ dropped_lines m seeds
 
@@ -34,3 +40,8 @@ EndsBy over NoMemory = Unit {0}
 abbrev pub Ends : {A : Type 0} → Result A SearchFault → Option (List (Option ℕ)) → Type 0
 Ends (Ok value) over = over ≡ None
 Ends (Err fault) over = EndsBy over fault
+
+-- a run stopped at this question, the first whose cost is above the budget, or for want of memory
+abbrev pub IsStopped : Stop → List (Option ℕ) → Option (List (Option ℕ)) → Type 0
+IsStopped stops.Spent question over = over ≡ Some question
+IsStopped stops.NoMemory question over = Unit {0}

@@ -5,6 +5,7 @@
 mod asker;
 mod completing;
 mod distinct;
+mod finish;
 mod question;
 mod seeds;
 mod slices;

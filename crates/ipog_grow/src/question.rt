@@ -1,7 +1,8 @@
-ghost use Rattle.std.specs.Prelude.{◌≡◌, ◌<◌, ◌^◌, Some, length, IfOk};
+ghost use Rattle.std.specs.Prelude.{◌≡◌, ◌<◌, ◌^◌, Option, Some, List, ℕ, length, IfOk};
 ghost use Rattle.definitions.specs.Pairs.{pairs_of};
-ghost use Rattle.ipog_grow.specs.Suites.{EndsBy};
+ghost use Rattle.ipog_grow.specs.Suites.{EndsBy, IsStopped};
 
+use crate::stop::Stop;
 use cov_model::{Cells, ParamNo, Tuple};
 use feasibility::{Question, SearchFault};
 use std::alloc::Global;
@@ -32,5 +33,16 @@ pub(crate) fn over_budget(alloc: Global, cells: &Cells) -> SearchFault
     match tuple_of(alloc, cells) {
         Ok(cells) => SearchFault::Spent(Question { cells }),
         Err(_) => SearchFault::NoMemory,
+    }
+}
+
+// The fault of a run that stopped, at this question where its cost exceeds the budget.
+pub(crate) fn fault_of(alloc: Global, stop: Stop, question: &Cells) -> SearchFault
+    requires { length question.now < 2 ^ 16 }
+    ensures { (over : Option (List (Option ℕ))) → IsStopped stop question.now over → EndsBy over result }
+{
+    match stop {
+        Stop::Spent => over_budget(alloc, question),
+        Stop::NoMemory => SearchFault::NoMemory,
     }
 }
