@@ -1,3 +1,4 @@
+pub mod Slicing
 pub mod OfSlice
 pub mod Sorting
 pub mod Seeding
