@@ -3,11 +3,13 @@
 #![tactic(auto)]
 
 mod asker;
+mod columns_wanted;
 mod completing;
 mod distinct;
 mod finish;
 mod question;
 mod seeds;
+mod slice_growth;
 mod slices;
 mod stop;
 mod suite;
