@@ -7,6 +7,7 @@ mod columns_wanted;
 mod completing;
 mod distinct;
 mod finish;
+mod generating;
 mod question;
 mod seeds;
 mod slice_growth;
@@ -15,4 +16,5 @@ mod stop;
 mod suite;
 mod values;
 
+pub use generating::generate;
 pub use suite::{GrowOpts, LineList, Suite};
