@@ -1,9 +1,9 @@
 -- Slices one after another, and the suite that they make.
-use Rattle.std.proofs.Common.{◌≡◌, ℕ, suc, ◌+◌, ◌<◌, Bool, true, false, ◌&&◌, ◌||◌, nat_le, nat_lt, List, [], ◌∷◌, ◌++◌, map, length, filter, flat_map, find, take, drop, get_or, All, Option, Some, None, ◌∙◌, sym, ap, subst, refl, arith}
+use Rattle.std.proofs.Common.{◌≡◌, ℕ, suc, Bool, true, false, ◌&&◌, ◌||◌, nat_le, nat_lt, List, [], ◌∷◌, ◌++◌, length, flat_map, find, Option, Some, None, ◌∙◌, sym, ap, subst, refl, arith}
 use Rattle.std.specs.Prelude.{◌==◌}
 use Rattle.std.proofs.lemmas.Bool.{false≢true, and_parts}
 use Rattle.std.proofs.lemmas.Bool.Decides.{nat_tests, Decides-eqb}
-use Rattle.std.proofs.lemmas.List.{take_more, append-nil, append_assoc}
+use Rattle.std.proofs.lemmas.List.{append-nil}
 use Rattle.std.proofs.lemmas.Grind.{flat_map-append}
 use Rattle.cov_model.specs.declared.slice.Slice.{Slice}
 use Rattle.cov_model.specs.declared.slice.Slice.TheVariants.{Positive, Negative}
@@ -19,7 +19,6 @@ use Rattle.definitions.specs.Search.{first_over, question_cost}
 use Rattle.definitions.proofs.Grown.{rows_of_slice, omitted_in_slice, rows_by_slice, omitted_by_slice}
 use Rattle.ipog_grow.specs.Growing.{GrowsIn}
 use Rattle.ipog_grow.proofs.Seeding.{slice_of-grows}
-use Rattle.ipog_grow.proofs.Sorting.{split_at}
 use Rattle.ipog_grow.proofs.Spending.{find-later, find-earlier}
 
 too_many : (n : ℕ) → nat_le (suc (suc n)) 1 ≡ true → ⊥
