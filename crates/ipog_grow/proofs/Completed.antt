@@ -1,5 +1,5 @@
 -- Completing partial rows one after another.
-use Rattle.std.proofs.Common.{◌≡◌, ℕ, ◌+◌, ◌<◌, Bool, true, false, cond, nat_lt, All, List, [], ◌∷◌, ◌++◌, map, take, get_or, length, find, filter_map, Option, Some, None, is_some, ◌∙◌, sym, ap, subst, refl}
+use Rattle.std.proofs.Common.{◌≡◌, ℕ, ◌+◌, ◌<◌, Bool, true, false, cond, nat_lt, All, List, [], ◌∷◌, ◌++◌, take, get_or, length, filter_map, Option, Some, None, is_some, ◌∙◌, sym, ap, subst, refl}
 use Rattle.std.specs.List.{cons_option}
 use Rattle.std.proofs.lemmas.Bool.{false≢true}
 use Rattle.std.proofs.lemmas.List.{take_more, append-nil}
@@ -11,7 +11,6 @@ use Rattle.feasibility.proofs.Extendable.{completed_is_extendable}
 use Rattle.definitions.specs.Search.{plain_cost, question_cost}
 use Rattle.definitions.specs.Seeds.{distinct}
 use Rattle.ipog_grow.specs.Asking.{World, IsWorld, Grows, extends, first_spent}
-use Rattle.ipog_grow.specs.Rows.{is_known_row, with_row}
 use Rattle.ipog_grow.specs.Completing.{completed, with_given}
 use Rattle.ipog_grow.proofs.Spending.{find-more, find-at}
 use Rattle.ipog_grow.proofs.SameRows.{distinct_by-push}

@@ -1,11 +1,10 @@
 -- Seed rows one after another, and the slices that they belong to.
 use Rattle.std.proofs.Common.{◌≡◌, ℕ, suc, ◌+◌, ◌<◌, Bool, true, false, cond, not, ◌||◌, List, [], ◌∷◌, ◌++◌, map, length, filter, Option, is_some, nat_le, All, inl, inr, ◌∙◌, sym, ap, subst, refl, arith}
 use Rattle.std.specs.List.{list_any, range_with_len}
-use Rattle.std.proofs.lemmas.Bool.{false≢true, cases_eq}
+use Rattle.std.proofs.lemmas.Bool.{cases_eq}
 use Rattle.std.proofs.lemmas.Bool.Decides.{nat_tests, Decides-eqb}
 use Rattle.std.proofs.lemmas.List.{map-append, append-nil, length-append}
 use Rattle.std.proofs.lemmas.List.Elements.{filter-append, All-nil, All-cons, All-head, All-tail}
-use Rattle.cov_model.specs.declared.slice.Slice.TheVariants.{Positive, Negative}
 use Rattle.cov_model.specs.Sound.{ModelView}
 use Rattle.cov_model.specs.Rows.{is_assigned, value_in}
 use Rattle.cov_model.specs.Fits.{FitsModel}
@@ -13,7 +12,7 @@ use Rattle.cov_model.specs.Valid.{negatives}
 use Rattle.cov_model.specs.Slices.{slice_of, slice_by}
 use Rattle.definitions.specs.Completion.{has_slice}
 use Rattle.definitions.specs.Seeds.{is_same_row, distinct_by, seed_rows}
-use Rattle.definitions.specs.SliceRows.{IsSliceOf, IsOfSlice}
+use Rattle.definitions.specs.SliceRows.{IsSliceOf}
 use Rattle.definitions.proofs.Members.{Has}
 use Rattle.definitions.proofs.SliceLemmas.{is_negative, of_negatives, has_negatives, IsNegativeAt, negative_exists}
 use Rattle.feasibility.proofs.Extendable.{slice_positive, slice_other, slice_fixed}

@@ -1,9 +1,9 @@
 -- Slices one after another, and the suite that they make.
-use Rattle.std.proofs.Common.{◌≡◌, ℕ, suc, ◌+◌, ◌<◌, Bool, true, false, cond, ◌&&◌, ◌||◌, nat_le, nat_lt, List, [], ◌∷◌, ◌++◌, map, length, filter, flat_map, find, take, drop, get_or, All, Option, Some, None, ◌∙◌, sym, ap, subst, refl, arith}
+use Rattle.std.proofs.Common.{◌≡◌, ℕ, suc, Bool, true, false, cond, ◌&&◌, ◌||◌, nat_le, nat_lt, List, [], ◌∷◌, ◌++◌, length, filter, flat_map, find, All, Option, Some, None, ◌∙◌, sym, ap, subst, refl, arith}
 use Rattle.std.specs.Prelude.{◌==◌, Err}
 use Rattle.std.proofs.lemmas.Bool.{false≢true, and_parts}
 use Rattle.std.proofs.lemmas.Bool.Decides.{nat_tests, Decides-eqb}
-use Rattle.std.proofs.lemmas.List.{take_more, append-nil, append_assoc}
+use Rattle.std.proofs.lemmas.List.{append-nil}
 use Rattle.std.proofs.lemmas.Grind.{flat_map-append}
 use Rattle.std.proofs.lemmas.List.Elements.{All-nil, All-cons, All-head, All-tail}
 use Rattle.cov_model.specs.declared.slice.Slice.{Slice}
@@ -24,7 +24,6 @@ use Rattle.ipog_grow.specs.Asking.{Told}
 use Rattle.ipog_grow.specs.Suites.{IsStopped}
 use Rattle.ipog_grow.specs.Growing.{GrowsIn}
 use Rattle.ipog_grow.proofs.Seeding.{slice_of-grows}
-use Rattle.ipog_grow.proofs.Sorting.{split_at}
 use Rattle.ipog_grow.proofs.Spending.{find-later, find-earlier}
 
 too_many : (n : ℕ) → nat_le (suc (suc n)) 1 ≡ true → ⊥

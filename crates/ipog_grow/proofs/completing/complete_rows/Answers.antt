@@ -1,5 +1,5 @@
-use Rattle.std.proofs.Common.{◌≡◌, [], ◌∷◌, ◌∙◌}
-use Rattle.ipog_grow.specs.Asking.{Told, first_spent}
+use Rattle.std.proofs.Common.{[], ◌∷◌, ◌∙◌}
+use Rattle.ipog_grow.specs.Asking.{first_spent}
 use Rattle.ipog_grow.proofs.Asking.{told-err}
 use Rattle.ipog_grow.proofs.Completed.{completes-next, completes-spent}
 use Rattle.std.proofs.lemmas.Result.{err_from_is_err_and}

@@ -1,4 +1,4 @@
-use Rattle.std.proofs.Common.{◌≡◌, ◌+◌, ◌≤◌, ◌&&◌, ℕ, Bool, cond, length, filter, ◌∙◌, sym, ap, arith}
+use Rattle.std.proofs.Common.{◌≡◌, ◌+◌, ◌&&◌, ℕ, Bool, cond, length, filter, ◌∙◌, sym, ap, arith}
 use Rattle.std.specs.List.{range_with_len}
 use Rattle.cov_model.specs.Meaning.{given_value}
 use Rattle.cov_model.specs.Rows.{is_assigned}

@@ -1,4 +1,4 @@
-use Rattle.std.proofs.Common.{◌≡◌, ◌+◌, ◌++◌, ◌∷◌, [], ℕ, List, Option, None, map, take, drop, filter, not, ◌∙◌, sym, ap, subst}
+use Rattle.std.proofs.Common.{◌≡◌, ◌+◌, ◌++◌, ◌∷◌, [], ℕ, List, Option, map, take, drop, filter, not, ◌∙◌, sym, ap, subst}
 use Rattle.std.proofs.lemmas.List.{take_more, take_all, map-append}
 use Rattle.std.proofs.lemmas.Result.{err_from_is_err_and}
 use Rattle.definitions.specs.Completion.{can_be_served, has_slice}
@@ -6,7 +6,6 @@ use Rattle.definitions.specs.Search.{first_over}
 use Rattle.definitions.specs.Seeds.{seed_rows, asked_seeds}
 use Rattle.row_text.specs.RowFiles.{row_seen, seeds_seen}
 use Rattle.row_text.specs.declared.row_file.FileRow.{FileRow}
-use Rattle.ipog_grow.specs.Suites.{EndsBy}
 use Rattle.ipog_grow.proofs.Sorting.{Sorted, sorted-next, sorted-spent, split_at, ends-by}
 use Rattle.ipog_grow.proofs.seeds.sort_seeds.Goals as goal
 
