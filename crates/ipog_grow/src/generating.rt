@@ -1,13 +1,14 @@
-ghost use Rattle.std.specs.Prelude.{◌≡◌, ◌≤◌, ◌^◌, true, [], All, length, unwrap_or, IfOk, OnOk};
+ghost use Rattle.std.specs.Prelude.{◌≡◌, ◌≤◌, ◌^◌, true, [], ℕ, List, Option, All, map, length, unwrap_or, IfOk, OnOk};
 ghost use Rattle.cov_model.specs.Fits.{FitsModel};
 ghost use Rattle.cov_model.specs.Preference.{OrdersValues};
 ghost use Rattle.definitions.specs.Completion.{has_slice};
-ghost use Rattle.definitions.specs.Growth.{growth};
+ghost use Rattle.definitions.specs.Growth.{growth, slices_growth};
 ghost use Rattle.definitions.specs.Search.{first_over};
+ghost use Rattle.definitions.specs.Seeds.{kept_seeds};
 ghost use Rattle.definitions.specs.SliceRows.{IsSliceOf};
 ghost use Rattle.row_text.specs.RowFiles.{seeds_seen};
 ghost use Rattle.tuple_index.specs.Plan.{plan_of};
-ghost use Rattle.ipog_grow.specs.Suites.{Ends, HasNoTree, IsSuiteOf};
+ghost use Rattle.ipog_grow.specs.Suites.{Ends, HasNoTree, IsSuiteOf, omitted_cells};
 
 use crate::seeds::sort_seeds;
 use crate::slice_growth::grow_slice;
@@ -39,9 +40,13 @@ fn grow_slices(
     requires slices { All (IsSliceOf model.now) slices.now }
     requires fit { All (FitsModel model.now) kept.now }
     requires few { All (λ seed. has_slice model.now seed ≡ true) kept.now }
-    requires trees { All HasNoTree omissions.old.omissions }
+    requires none { rows.old ≡ [] }
+    requires none_omitted { omissions.old.omissions ≡ [] }
+    ensures rows { OnOk result ((seeds : List (ℕ × List (Option ℕ))) → kept.now ≡ kept_seeds model.now seeds → rows.new ≡ (slices_growth model.now prefs.now seeds slices.now).rows) }
+    ensures tuples { OnOk result ((seeds : List (ℕ × List (Option ℕ))) → kept.now ≡ kept_seeds model.now seeds → map (omitted_cells (length model.now.params)) omissions.new.omissions ≡ (slices_growth model.now prefs.now seeds slices.now).omitted) }
     ensures trees { OnOk result (All HasNoTree omissions.new.omissions) }
     ensures form { OnOk result (omissions.new.form ≡ omissions.old.form) }
+    ensures asked { (seeds : List (ℕ × List (Option ℕ))) → kept.now ≡ kept_seeds model.now seeds → Ends result (first_over model.now prefs.now budget (slices_growth model.now prefs.now seeds slices.now).asked) }
 {
     for slice in slices {
         grow_slice(
