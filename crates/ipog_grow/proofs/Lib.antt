@@ -1,3 +1,4 @@
+pub mod Beginning
 pub mod Slicing
 pub mod OfSlice
 pub mod Sorting

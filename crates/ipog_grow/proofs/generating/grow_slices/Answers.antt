@@ -1,11 +1,9 @@
-use Rattle.std.proofs.Common.{◌≡◌, ◌+◌, ◌++◌, ◌∷◌, [], ℕ, List, Option, None, length, map, take, drop, get_or, filter, ◌∙◌, sym, ap, subst}
+use Rattle.std.proofs.Common.{◌+◌, ◌++◌, ℕ, List, Option, length, map, take, drop, get_or, filter, ◌∙◌, sym, ap, subst}
 use Rattle.std.proofs.lemmas.List.{take_more}
 use Rattle.std.proofs.lemmas.Result.{err_from_is_err_and}
 use Rattle.cov_model.specs.declared.slice.Slice.{Slice}
 use Rattle.cov_model.specs.declared.slice.Slice.TheVariants.{Positive}
-use Rattle.definitions.specs.Growth.{is_of_slice, slices_growth, slice_growth}
-use Rattle.definitions.specs.Search.{first_over}
-use Rattle.definitions.specs.Seeds.{kept_seeds}
+use Rattle.definitions.specs.Growth.{is_of_slice, slices_growth}
 use Rattle.ipog_grow.specs.Asking.{World, first_spent}
 use Rattle.ipog_grow.specs.SliceGrowing.{grown_from}
 use Rattle.ipog_grow.specs.Suites.{omitted_cells}

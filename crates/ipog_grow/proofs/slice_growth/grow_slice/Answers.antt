@@ -1,7 +1,7 @@
 use Rattle.std.proofs.Common.{◌≡◌, ◌++◌, ℕ, Bool, List, Option, Err, All, nat_lt, filter, ◌∙◌, sym, ap, subst}
 use Rattle.definitions.specs.Growth.{is_of_slice}
 use Rattle.definitions.specs.Search.{question_cost}
-use Rattle.ipog_grow.specs.Asking.{AskerView, World, Grows, Told, first_spent}
+use Rattle.ipog_grow.specs.Asking.{World, Grows, Told, first_spent}
 use Rattle.ipog_grow.specs.SliceGrowing.{grown_columns}
 use Rattle.ipog_grow.specs.Suites.{Ends}
 use Rattle.ipog_grow.proofs.Slicing.{seeds_grow, stopped-in}
