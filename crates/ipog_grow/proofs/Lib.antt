@@ -7,3 +7,5 @@ pub mod Tuples
 pub mod Table
 pub mod Asking
 pub mod Trying
+pub mod Uniting
+pub mod Joining

@@ -191,7 +191,7 @@ grows-with_value m slice cells p v is grows free value = record {
               ∙ grows.of.listed q (ap (λ (cell : Option ℕ). is_some cell) (sym there) ∙ has)
         ]
 
-get_or-union : (row cells : List (Option ℕ)) (q : ℕ) → get_or (union row cells) q None ≡ cond (is_some (get_or row q None)) (get_or row q None) (get_or cells q None)
+pub get_or-union : (row cells : List (Option ℕ)) (q : ℕ) → get_or (union row cells) q None ≡ cond (is_some (get_or row q None)) (get_or row q None) (get_or cells q None)
 get_or-union [] cells q = refl
 get_or-union (None ∷ row) [] zero = refl
 get_or-union (Some v ∷ row) [] zero = refl
@@ -205,7 +205,7 @@ get_or-union (Some v ∷ row) (cell ∷ cells) zero = refl
 get_or-union (None ∷ row) (cell ∷ cells) (suc q) = get_or-union row cells q
 get_or-union (Some v ∷ row) (cell ∷ cells) (suc q) = get_or-union row cells q
 
-length-union : (row cells : List (Option ℕ)) → length row ≡ length cells → length (union row cells) ≡ length row
+pub length-union : (row cells : List (Option ℕ)) → length row ≡ length cells → length (union row cells) ≡ length row
 length-union [] cells long = sym long
 length-union (given ∷ row) [] long = refl
 length-union (None ∷ row) (cell ∷ cells) long = ap suc (length-union row cells (omega (arith, long)))

@@ -1,10 +1,10 @@
 -- What questions are asked of a slice, and what their answers tell. (This project's rules.)
-use Rattle.std.specs.Prelude.{◌≡◌, ℕ, Bool, List, map, length, slice_index, Option, None, Some, Result, Ok, Err}
+use Rattle.std.specs.Prelude.{◌≡◌, ℕ, ◌<◌, Bool, true, List, [], map, slice_index_or, slice_set, length, slice_index, Option, None, Some, Result, Ok, Err}
 use Rattle.cov_model.specs.declared.slice.Slice.{Slice}
-use Rattle.cov_model.specs.Sound.{ModelView}
+use Rattle.cov_model.specs.Sound.{ModelView, IsSound}
 use Rattle.cov_model.specs.Preference.{OrdersValues}
 use Rattle.definitions.specs.Completion.{is_extendable, falling, with_value}
-use Rattle.definitions.specs.Growth.{Filled, first_extendable}
+use Rattle.definitions.specs.Growth.{Filled, agrees, union, first_extendable}
 use Rattle.definitions.specs.Search.{first_over}
 use Rattle.definitions.specs.SliceRows.{IsSliceOf}
 use Rattle.ipog_grow.specs.declared.stop.Stop.{Stop}
@@ -18,8 +18,9 @@ pub record World : Type 0 where
   pub slice : Slice
   pub budget : ℕ
 
--- the slice and the orders are the model's
+-- the slice and the orders are the model's, which is sound
 pub record IsWorld (world : World) : Type 0 where
+  pub sound : IsSound world.model
   pub slice : IsSliceOf world.model world.slice
   pub orders : OrdersValues world.model world.prefs
 
@@ -53,3 +54,9 @@ Told (Err NoMemory) question over = Unit {0}
 -- the values of a column by falling score, the first that leaves the row extendable taken, each asked up to it
 abbrev pub tried : World → ℕ → List ℕ → List ℕ → ℕ → List (Option ℕ) → Filled
 tried world n scores order p row = first_extendable (extends world) row (map (with_value row p) (falling n (λ v. slice_index scores v) order))
+
+-- one partial row, which agrees with the tuple, has become the union with it
+pub record IsUnionAt (rows after : List (List (Option ℕ))) (tuple : List (Option ℕ)) (i : ℕ) : Type 0 where
+  pub within : i < length rows
+  pub agree : agrees (slice_index_or rows i []) tuple ≡ true
+  pub put : after ≡ slice_set rows i (union (slice_index_or rows i []) tuple)

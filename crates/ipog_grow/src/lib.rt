@@ -3,5 +3,7 @@
 #![tactic(auto)]
 
 mod asker;
+mod join;
+mod partial;
 mod stop;
 mod values;
