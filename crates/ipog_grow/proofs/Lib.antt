@@ -9,3 +9,4 @@ pub mod Asking
 pub mod Trying
 pub mod Uniting
 pub mod Joining
+pub mod Filling

@@ -19,7 +19,7 @@ use Rattle.definitions.specs.Growth.{union, tuples_in_play}
 use Rattle.definitions.specs.SliceRows.{IsSliceOf, IsOfSlice}
 use Rattle.feasibility.proofs.Extendable.{slice_exist, length-slice_values, among_range_below, slice_positive, slice_other, slice_fixed}
 use Rattle.uncovered_table.specs.Places.{ends_with_column}
-use Rattle.ipog_grow.specs.Growing.{HasFixed, GrowsIn}
+use Rattle.ipog_grow.specs.Growing.{HasFixed, GrowsIn, IsInPlay}
 use Rattle.ipog_grow.proofs.Falling.{among_first, among_later, filter-none}
 use Rattle.ipog_grow.proofs.Holding.{contains-assigned, union-contains_row, with_value-contains}
 
@@ -105,11 +105,6 @@ of_slice m slice cells is long listed = record {
   };
   listed = listed;
 }
-
--- a tuple that is in play for a column grows in its slice, and has a value in the column
-pub record IsInPlay (m : ModelView) (slice : Slice) (p : ℕ) (tuple : List (Option ℕ)) : Type 0 where
-  pub grows : GrowsIn m slice tuple
-  pub own : is_assigned tuple p ≡ true
 
 last_test : (test : ℕ → Bool) (start : Option ℕ) (xs : List ℕ) (p : ℕ) → ((q : ℕ) → start ≡ Some q → test q ≡ true) → last_or start (filter test xs) ≡ Some p → test p ≡ true
 last_test test start [] p first e = first p e

@@ -3,12 +3,13 @@ use Rattle.std.specs.Prelude.{◌≡◌, ℕ, ◌<◌, Bool, true, List, [], map
 use Rattle.cov_model.specs.declared.slice.Slice.{Slice}
 use Rattle.cov_model.specs.Sound.{ModelView, IsSound}
 use Rattle.cov_model.specs.Preference.{OrdersValues}
-use Rattle.definitions.specs.Completion.{is_extendable, falling, with_value}
-use Rattle.definitions.specs.Growth.{Filled, agrees, union, first_extendable}
+use Rattle.definitions.specs.Completion.{is_extendable, preferred_values, falling, with_value}
+use Rattle.definitions.specs.Growth.{Filled, agrees, fill, union, first_extendable}
 use Rattle.definitions.specs.Search.{first_over}
 use Rattle.definitions.specs.SliceRows.{IsSliceOf}
 use Rattle.ipog_grow.specs.declared.stop.Stop.{Stop}
 use Rattle.ipog_grow.specs.declared.stop.Stop.TheVariants.{Spent, NoMemory}
+use Rattle.uncovered_table.specs.Open.{OpenView}
 use Rattle.ipog_grow.specs.Growing.{GrowsIn}
 
 -- what decides the answers: the model, the preference orders, the slice and the budget of each question
@@ -60,3 +61,11 @@ pub record IsUnionAt (rows after : List (List (Option ℕ))) (tuple : List (Opti
   pub within : i < length rows
   pub agree : agrees (slice_index_or rows i []) tuple ≡ true
   pub put : after ≡ slice_set rows i (union (slice_index_or rows i []) tuple)
+
+-- the table is of the same model and slice
+abbrev pub IsTableOf : World → OpenView → Type 0
+IsTableOf world table = (table.model ≡ world.model) × (table.slice ≡ world.slice)
+
+-- a partial row in a column, given the other rows and the tuples in play there
+abbrev pub filled : World → ℕ → List (List (Option ℕ)) → List (List (Option ℕ)) → List (Option ℕ) → Filled
+filled world p rows tuples row = fill (extends world) p (slice_index_or (preferred_values world.model world.prefs world.slice) p []) tuples rows row

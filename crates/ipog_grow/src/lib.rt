@@ -3,6 +3,7 @@
 #![tactic(auto)]
 
 mod asker;
+mod fill;
 mod join;
 mod partial;
 mod stop;
