@@ -10,3 +10,4 @@ pub mod Trying
 pub mod Uniting
 pub mod Joining
 pub mod Filling
+pub mod Crossing

@@ -4,7 +4,7 @@ use Rattle.cov_model.specs.declared.slice.Slice.{Slice}
 use Rattle.cov_model.specs.Sound.{ModelView, IsSound}
 use Rattle.cov_model.specs.Preference.{OrdersValues}
 use Rattle.definitions.specs.Completion.{is_extendable, preferred_values, falling, with_value}
-use Rattle.definitions.specs.Growth.{Filled, agrees, fill, union, first_extendable}
+use Rattle.definitions.specs.Growth.{Filled, Grown, across, agrees, fill, union, first_extendable}
 use Rattle.definitions.specs.Search.{first_over}
 use Rattle.definitions.specs.SliceRows.{IsSliceOf}
 use Rattle.ipog_grow.specs.declared.stop.Stop.{Stop}
@@ -69,3 +69,7 @@ IsTableOf world table = (table.model ≡ world.model) × (table.slice ≡ world.
 -- a partial row in a column, given the other rows and the tuples in play there
 abbrev pub filled : World → ℕ → List (List (Option ℕ)) → List (List (Option ℕ)) → List (Option ℕ) → Filled
 filled world p rows tuples row = fill (extends world) p (slice_index_or (preferred_values world.model world.prefs world.slice) p []) tuples rows row
+
+-- horizontal growth of the rows that are left, behind those that are done, given the tuples in play
+abbrev pub crossed : World → ℕ → List (List (Option ℕ)) → List (List (Option ℕ)) → List (List (Option ℕ)) → Grown
+crossed world p tuples done rows = across (extends world) p (slice_index_or (preferred_values world.model world.prefs world.slice) p []) tuples done rows

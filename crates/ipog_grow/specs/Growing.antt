@@ -1,5 +1,5 @@
 -- What the growth of a slice looks at on its way. (This project's rules.)
-use Rattle.std.specs.Prelude.{◌≡◌, ◌⊎◌, ℕ, true, List, [], ◌∷◌, map, Option, Some, None, All, nat_lt, if◌then◌else◌}
+use Rattle.std.specs.Prelude.{◌≡◌, ◌≢◌, ◌⊎◌, ℕ, true, List, [], ◌∷◌, map, Option, Some, None, All, nat_lt, if◌then◌else◌}
 use Rattle.std.specs.List.{filter}
 use Rattle.cov_model.specs.declared.slice.Slice.{Slice}
 use Rattle.cov_model.specs.declared.slice.Slice.TheVariants.{Positive, Negative}
@@ -50,3 +50,10 @@ pub record IsInPlay (m : ModelView) (slice : Slice) (p : ℕ) (tuple : List (Opt
 -- a partial row that becomes another closes what it then contains, unless it stays as it is
 abbrev pub IsClosedBy : OpenView → OpenView → ℕ → List (Option ℕ) → List (Option ℕ) → Type 0
 IsClosedBy table after p row grown = ((grown ≡ row) × (after ≡ table)) ⊎ (after ≡ row_closed table p grown)
+
+-- a table that keeps what it has of other columns, and its order
+pub record Keeps (table after : OpenView) (p : ℕ) : Type 0 where
+  pub model : after.model ≡ table.model
+  pub slice : after.slice ≡ table.slice
+  pub others : (q : ℕ) → q ≢ p → open_places after q ≡ open_places table q
+  pub rises : Rises table.places → Rises after.places

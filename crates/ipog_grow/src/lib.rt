@@ -2,6 +2,7 @@
 //! that covers most, then the tuples that are left are put into rows.
 #![tactic(auto)]
 
+mod across;
 mod asker;
 mod fill;
 mod join;
