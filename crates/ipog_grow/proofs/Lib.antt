@@ -11,3 +11,4 @@ pub mod Uniting
 pub mod Joining
 pub mod Filling
 pub mod Crossing
+pub mod Closing

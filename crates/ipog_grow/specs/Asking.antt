@@ -1,16 +1,18 @@
 -- What questions are asked of a slice, and what their answers tell. (This project's rules.)
-use Rattle.std.specs.Prelude.{◌≡◌, ℕ, ◌<◌, Bool, true, List, [], map, slice_index_or, slice_set, length, slice_index, Option, None, Some, Result, Ok, Err}
+use Rattle.std.specs.Prelude.{◌≡◌, ℕ, ◌<◌, Bool, true, List, [], ◌∷◌, ◌++◌, map, drop, slice_get, slice_index_or, slice_set, length, slice_index, if◌then◌else◌, All, Option, None, Some, Result, Ok, Err}
+use Rattle.std.specs.List.{filter}
 use Rattle.cov_model.specs.declared.slice.Slice.{Slice}
 use Rattle.cov_model.specs.Sound.{ModelView, IsSound}
 use Rattle.cov_model.specs.Preference.{OrdersValues}
 use Rattle.definitions.specs.Completion.{is_extendable, preferred_values, falling, with_value}
-use Rattle.definitions.specs.Growth.{Filled, Grown, across, agrees, fill, union, first_extendable}
+use Rattle.definitions.specs.Growth.{Filled, Grown, across, agrees, fill, union, first_extendable, is_uncovered}
 use Rattle.definitions.specs.Search.{first_over}
 use Rattle.definitions.specs.SliceRows.{IsSliceOf}
 use Rattle.ipog_grow.specs.declared.stop.Stop.{Stop}
 use Rattle.ipog_grow.specs.declared.stop.Stop.TheVariants.{Spent, NoMemory}
-use Rattle.uncovered_table.specs.Open.{OpenView}
-use Rattle.ipog_grow.specs.Growing.{GrowsIn}
+use Rattle.uncovered_table.specs.Open.{IsPlaceOf, OpenView}
+use Rattle.uncovered_table.specs.Places.{is_behind, tuple_at}
+use Rattle.ipog_grow.specs.Growing.{GrowsIn, IsInPlay, Keeps, Rises, open_places, open_tuples}
 
 -- what decides the answers: the model, the preference orders, the slice and the budget of each question
 pub record World : Type 0 where
@@ -73,3 +75,28 @@ filled world p rows tuples row = fill (extends world) p (slice_index_or (preferr
 -- horizontal growth of the rows that are left, behind those that are done, given the tuples in play
 abbrev pub crossed : World → ℕ → List (List (Option ℕ)) → List (List (Option ℕ)) → List (List (Option ℕ)) → Grown
 crossed world p tuples done rows = across (extends world) p (slice_index_or (preferred_values world.model world.prefs world.slice) p []) tuples done rows
+
+-- the place is that of the first open tuple in play for a column, and no row contains an open one
+pub record IsNext (world : World) (table : OpenView) (p : ℕ) (place : ℕ × ℕ) (tuple : List (Option ℕ)) (rows : List (List (Option ℕ))) : Type 0 where
+  pub of : IsTableOf world table
+  pub own : IsPlaceOf table place
+  pub first : slice_get (open_places table p) 0 ≡ Some place
+  pub tuple_is : tuple ≡ tuple_at table.model place
+  pub rises : Rises table.places
+  pub uncovered : All (λ open_one. is_uncovered rows open_one ≡ true) (open_tuples table p)
+  pub in_play : All (IsInPlay world.model world.slice p) (open_tuples table p)
+  pub grows : All (Grows world) rows
+
+-- then the tuple is closed: the open ones are those of the others that no row contains, and stand behind it
+pub record IsPassed (world : World) (table after : OpenView) (p : ℕ) (place : ℕ × ℕ) (rows : List (List (Option ℕ))) : Type 0 where
+  pub moment : open_tuples after p ≡ filter (is_uncovered rows) (drop 1 (open_tuples table p))
+  pub behind : All (λ other. is_behind place other ≡ true) (open_places after p)
+  pub keeps : Keeps table after p
+  pub grows : All (Grows world) rows
+
+-- a tuple that no row takes becomes a new row where it is extendable, else it is omitted
+abbrev pub rows_alone : World → List (Option ℕ) → List (List (Option ℕ)) → List (List (Option ℕ))
+rows_alone world tuple rows = if extends world tuple then rows ++ tuple ∷ [] else rows
+
+abbrev pub omitted_alone : World → List (Option ℕ) → List (List (Option ℕ))
+omitted_alone world tuple = if extends world tuple then [] else tuple ∷ []

@@ -22,6 +22,7 @@ pub(crate) fn join_first(
     ensures rows { OnOk result (rows.new ≡ (join (extends asker.old.world) tuple.now rows.old).rows) }
     ensures taken { IfOk result (λ at. is_some at ≡ (join (extends asker.old.world) tuple.now rows.old).taken) }
     ensures place { IfOk result (λ at. IfSome at (λ i. IsUnionAt rows.old rows.new tuple.now i)) }
+    ensures unchanged { IfOk result (λ at. at ≡ None → rows.new ≡ rows.old) }
     ensures grows { OnOk result (All (Grows asker.old.world) rows.new) }
     ensures same { asker.new.world ≡ asker.old.world }
     ensures long { length room.new ≡ length room.old }

@@ -7,5 +7,6 @@ mod asker;
 mod fill;
 mod join;
 mod partial;
+mod settle;
 mod stop;
 mod values;
