@@ -27,7 +27,7 @@ filter-empty test (tuple ∷ tuples) all =
     ap (λ (b : Bool). cond b (tuple ∷ filter test tuples) (filter test tuples)) (All-head (λ t. test t ≡ false) tuple tuples all)
     ∙ filter-empty test tuples (All-tail (λ t. test t ≡ false) tuple tuples all)
 
-filter-most : {X : Type 0} (test : X → Bool) (xs : List X) → length (filter test xs) ≤ length xs
+pub filter-most : {X : Type 0} (test : X → Bool) (xs : List X) → length (filter test xs) ≤ length xs
 filter-most test xs = omega (arith, length-filter test xs, count_by-le-length test xs)
 
 -- a value that isn't of the slice gains nothing

@@ -12,3 +12,5 @@ pub mod Joining
 pub mod Filling
 pub mod Crossing
 pub mod Closing
+pub mod Loading
+pub mod Downing

@@ -100,3 +100,11 @@ rows_alone world tuple rows = if extends world tuple then rows ++ tuple ∷ [] e
 
 abbrev pub omitted_alone : World → List (Option ℕ) → List (List (Option ℕ))
 omitted_alone world tuple = if extends world tuple then [] else tuple ∷ []
+
+-- a table in the growth of a column: its open tuples are in play there and contained in no row
+pub record IsOpen (world : World) (table : OpenView) (p : ℕ) (rows : List (List (Option ℕ))) : Type 0 where
+  pub of : IsTableOf world table
+  pub rises : Rises table.places
+  pub uncovered : All (λ open_one. is_uncovered rows open_one ≡ true) (open_tuples table p)
+  pub in_play : All (IsInPlay world.model world.slice p) (open_tuples table p)
+  pub grows : All (Grows world) rows

@@ -4,8 +4,10 @@
 
 mod across;
 mod asker;
+mod down;
 mod fill;
 mod join;
+mod load;
 mod partial;
 mod settle;
 mod stop;
