@@ -1,14 +1,13 @@
 -- Vertical growth, tuple by tuple.
-use Rattle.std.proofs.Common.{◌≡◌, ◌⊎◌, ℕ, zero, suc, ◌+◌, ◌<◌, ◌≤◌, Bool, true, false, cond, not, List, [], ◌∷◌, ◌++◌, map, length, drop, filter, find, Option, Some, None, All, ◌∙◌, sym, ap, subst, refl, arith, append_assoc}
+use Rattle.std.proofs.Common.{◌≡◌, ℕ, ◌<◌, Bool, true, false, cond, List, [], ◌∷◌, ◌++◌, map, length, drop, filter, Option, Some, None, All, ◌∙◌, sym, ap, subst, refl, arith, append_assoc}
 use Rattle.std.specs.Prelude.{slice_get}
-use Rattle.std.proofs.lemmas.Bool.{false≢true}
-use Rattle.std.proofs.lemmas.List.{append-nil, length-map}
-use Rattle.std.proofs.lemmas.List.Elements.{All-nil, All-cons, All-head, All-tail, All-weaker}
+use Rattle.std.proofs.lemmas.List.{append-nil}
+use Rattle.std.proofs.lemmas.List.Elements.{All-nil, All-cons, All-head, All-tail}
 use Rattle.definitions.specs.Growth.{Grown, down, settle, is_uncovered}
 use Rattle.uncovered_table.specs.Open.{OpenView, IsPlaceOf, is_after, next_open}
-use Rattle.uncovered_table.specs.Places.{is_behind, tuple_at}
-use Rattle.ipog_grow.specs.Growing.{GrowsIn, IsInPlay, Keeps, Rises, open_places, open_tuples}
-use Rattle.ipog_grow.specs.Asking.{World, Grows, IsNext, IsOpen, IsPassed, IsTableOf, extends, first_spent}
+use Rattle.uncovered_table.specs.Places.{tuple_at}
+use Rattle.ipog_grow.specs.Growing.{IsInPlay, Keeps, open_places, open_tuples}
+use Rattle.ipog_grow.specs.Asking.{World, IsNext, IsOpen, IsPassed, extends, first_spent}
 use Rattle.ipog_grow.proofs.Crossing.{keeps-same, keeps-both, find-past, find-stops}
 use Rattle.ipog_grow.proofs.Filling.{filter-most}
 use Rattle.ipog_grow.proofs.Lists.{All-filter}

@@ -1,13 +1,13 @@
 -- The tuple of a place is put into cells.
-use Rattle.std.proofs.Common.{◌≡◌, ℕ, suc, ◌+◌, ◌<◌, ◌≤◌, Bool, true, false, cond, List, [], ◌∷◌, map, length, drop, get_or, nat_eq, Option, Some, None, ◌∙◌, sym, ap, subst, refl, arith, add-one, drop-cons}
-use Rattle.std.specs.List.{list_any, range_with_len}
+use Rattle.std.proofs.Common.{◌≡◌, ℕ, ◌+◌, ◌<◌, ◌≤◌, true, cond, List, [], ◌∷◌, length, drop, get_or, nat_eq, Some, ◌∙◌, sym, ap, subst, arith, add-one, drop-cons}
+use Rattle.std.specs.List.{list_any}
 use Rattle.cov_model.specs.Sound.{ModelView}
 use Rattle.cov_model.specs.declared.slice.Slice.{Slice}
 use Rattle.tuple_index.specs.Kept.{IsKept}
 use Rattle.tuple_index.specs.Plan.{PlanView, plan_of, value_given}
 use Rattle.uncovered_table.specs.Open.{OpenView, IsPlaceOf}
-use Rattle.uncovered_table.specs.Places.{is_place, set_at, slice_places}
-use Rattle.uncovered_table.proofs.PlaceLemmas.{PlaceKnown, SetKnown, place_known, set_known}
+use Rattle.uncovered_table.specs.Places.{is_place, slice_places}
+use Rattle.uncovered_table.proofs.PlaceLemmas.{place_known, set_known}
 use Rattle.ipog_grow.specs.Asking.{World, IsTableOf, IsWorld}
 
 pub given-at : (set values : List ℕ) (p i : ℕ) → i < length set → length values ≡ length set

@@ -1,8 +1,7 @@
-use Rattle.std.proofs.Common.{◌≡◌, ◌∙◌, [], ℕ, None, List, length, map, get_or, ap, sym, arith}
+use Rattle.std.proofs.Common.{◌∙◌, [], length, map, get_or, ap, sym}
 use Rattle.std.specs.List.{range_with_len}
 use Rattle.std.proofs.lemmas.List.FromFn.{length-map-range_with_len}
 use Rattle.tuple_index.specs.Plan.{PlanView, value_given}
-use Rattle.uncovered_table.specs.Places.{set_at}
 use Rattle.uncovered_table.proofs.PlaceLemmas.{tuple_read}
 use Rattle.ipog_grow.proofs.load.put_tuple.Goals as goal
 

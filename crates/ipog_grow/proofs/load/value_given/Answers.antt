@@ -1,5 +1,4 @@
 use Rattle.std.proofs.Common.{◌≡◌, ◌∙◌, Bool, false, Some, nat_eq, cond, get_or, drop, ◌+◌, sym, ap, arith}
-use Rattle.std.proofs.lemmas.Grind.{common_steps}
 use Rattle.std.proofs.lemmas.Bool.Decides.{nat_tests}
 use Rattle.tuple_index.specs.Plan.{value_given}
 use Rattle.ipog_grow.proofs.Loading.{given-at}

@@ -1,4 +1,4 @@
-use Rattle.std.proofs.Common.{◌≡◌, ◌∙◌, ◌∷◌, ◌++◌, [], ℕ, Bool, Err, List, Option, None, Some, true, false, length, ap, sym, subst, arith}
+use Rattle.std.proofs.Common.{◌≡◌, ◌∙◌, ◌++◌, Err, None, true, length, ap, sym, subst}
 use Rattle.std.specs.List.{list_any}
 use Rattle.std.proofs.lemmas.Result.{err_from_is_err_and}
 use Rattle.cov_model.specs.Sound.{ModelView}
@@ -9,7 +9,7 @@ use Rattle.ipog_grow.specs.Growing.{open_tuples}
 use Rattle.ipog_grow.specs.Asking.{World, IsNext, IsPassed, Told, extends, first_spent}
 use Rattle.ipog_grow.proofs.Asking.{told-err}
 use Rattle.ipog_grow.proofs.Loading.{placed}
-use Rattle.ipog_grow.proofs.Downing.{Downing, downing-next, downing-more, downing-spent, downing-end, downing-falls}
+use Rattle.ipog_grow.proofs.Downing.{downing-next, downing-more, downing-spent, downing-end, downing-falls}
 use Rattle.ipog_grow.proofs.settle.SliceGrowth.grow_down.Goals as goal
 
 pub put_tuple-requires-clause-set : goal.put_tuple-requires-clause-set
