@@ -14,3 +14,4 @@ pub mod Crossing
 pub mod Closing
 pub mod Loading
 pub mod Downing
+pub mod Starting
