@@ -10,5 +10,6 @@ mod join;
 mod load;
 mod partial;
 mod settle;
+mod start;
 mod stop;
 mod values;
