@@ -82,7 +82,7 @@ down_first world table p tuple rows some =
     ap (λ list. down (extends world) list rows) some.all
     ∙ ap (λ (b : Bool). followed (passed b rows (settle (extends world) tuple rows)) (down (extends world) some.rest (passed b rows (settle (extends world) tuple rows)).rows)) some.first
 
-All-passes : (test : List (Option ℕ) → Bool) (xs : List (List (Option ℕ))) → All (λ x. test x ≡ true) (filter test xs)
+pub All-passes : (test : List (Option ℕ) → Bool) (xs : List (List (Option ℕ))) → All (λ x. test x ≡ true) (filter test xs)
 All-passes test [] = All-nil (λ x. test x ≡ true)
 All-passes test (x ∷ xs) = at (test x) refl (All-passes test xs)
   where

@@ -15,3 +15,4 @@ pub mod Closing
 pub mod Loading
 pub mod Downing
 pub mod Starting
+pub mod Halves

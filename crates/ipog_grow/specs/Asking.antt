@@ -5,7 +5,7 @@ use Rattle.cov_model.specs.declared.slice.Slice.{Slice}
 use Rattle.cov_model.specs.Sound.{ModelView, IsSound}
 use Rattle.cov_model.specs.Preference.{OrdersValues}
 use Rattle.definitions.specs.Completion.{is_extendable, preferred_values, falling, with_value}
-use Rattle.definitions.specs.Growth.{Filled, Grown, across, agrees, fill, union, first_extendable, is_uncovered}
+use Rattle.definitions.specs.Growth.{Filled, Grown, across, agrees, column, fill, union, first_extendable, is_uncovered, tuples_in_play}
 use Rattle.definitions.specs.Search.{first_over}
 use Rattle.definitions.specs.SliceRows.{IsSliceOf}
 use Rattle.ipog_grow.specs.declared.stop.Stop.{Stop}
@@ -108,3 +108,14 @@ pub record IsOpen (world : World) (table : OpenView) (p : ℕ) (rows : List (Lis
   pub uncovered : All (λ open_one. is_uncovered rows open_one ≡ true) (open_tuples table p)
   pub in_play : All (IsInPlay world.model world.slice p) (open_tuples table p)
   pub grows : All (Grows world) rows
+
+-- before a column grows, all its tuples are open
+pub record IsReady (world : World) (table : OpenView) (p : ℕ) (rows : List (List (Option ℕ))) : Type 0 where
+  pub of : IsTableOf world table
+  pub rises : Rises table.places
+  pub all_open : open_tuples table p ≡ tuples_in_play world.model world.slice p
+  pub grows : All (Grows world) rows
+
+-- a column of the slice
+abbrev pub column_grown : World → ℕ → List (List (Option ℕ)) → Grown
+column_grown world p rows = column (extends world) p (slice_index_or (preferred_values world.model world.prefs world.slice) p []) (tuples_in_play world.model world.slice p) rows

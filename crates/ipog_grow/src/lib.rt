@@ -4,6 +4,7 @@
 
 mod across;
 mod asker;
+mod column;
 mod down;
 mod fill;
 mod join;
