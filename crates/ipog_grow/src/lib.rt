@@ -2,16 +2,25 @@
 //! that covers most, then the tuples that are left are put into rows.
 #![tactic(auto)]
 
+mod across;
 mod asker;
+mod column;
 mod columns_wanted;
 mod completing;
 mod distinct;
+mod down;
+mod fill;
 mod finish;
 mod generating;
+mod join;
+mod load;
+mod partial;
 mod question;
 mod seeds;
+mod settle;
 mod slice_growth;
 mod slices;
+mod start;
 mod stop;
 mod suite;
 mod values;
