@@ -1,0 +1,51 @@
+-- What the answer to a question tells of the budget.
+use Rattle.std.proofs.Common.{◌≡◌, ℕ, Bool, true, false, cond, nat_lt, List, [], ◌∷◌, Option, Some, None, ◌∙◌, sym, subst, refl}
+use Rattle.cov_model.specs.declared.slice.Slice.{Slice}
+use Rattle.definitions.specs.Search.{plain_cost}
+use Rattle.std.specs.Prelude.{Err}
+use Rattle.ipog_grow.specs.declared.stop.Stop.{Stop}
+use Rattle.ipog_grow.specs.declared.stop.Stop.TheVariants as stops
+use Rattle.feasibility.specs.declared.answer.Answer.{Answer}
+use Rattle.feasibility.specs.declared.answer.Answer.TheVariants.{Yes, No, Spent}
+use Rattle.feasibility.specs.Answers.{answer_of}
+use Rattle.ipog_grow.specs.Asking.{World, IsWorld, Grows, Told, extends, first_spent}
+use Rattle.ipog_grow.proofs.Tuples.{grows-slice}
+
+-- what an answer tells of one question
+pub record Asked (world : World) (cells : List (Option ℕ)) (answer : Answer) : Type 0 where
+  pub yes : answer ≡ Yes → first_spent world (cells ∷ []) ≡ None
+  pub no : answer ≡ No → first_spent world (cells ∷ []) ≡ None
+  pub spent : answer ≡ Spent → first_spent world (cells ∷ []) ≡ Some cells
+
+-- the same, where it is known whether the cost exceeds the budget
+record Parts (cells : List (Option ℕ)) (answer : Answer) (over : Bool) : Type 0 where
+  yes : answer ≡ Yes → cond over (Some cells) None ≡ None
+  no : answer ≡ No → cond over (Some cells) None ≡ None
+  spent : answer ≡ Spent → cond over (Some cells) None ≡ Some cells
+
+by_cost : (cells : List (Option ℕ)) (answer : Answer) (over found : Bool) → answer ≡ cond over Spent (cond found Yes No) → Parts cells answer over
+by_cost cells answer true found told = record { yes = λ e. absurd (spent_yes (sym told ∙ e)); no = λ e. absurd (spent_no (sym told ∙ e)); spent = λ e. refl }
+  where
+    spent_yes : Spent ≡ Yes → ⊥
+    spent_yes e = cc
+
+    spent_no : Spent ≡ No → ⊥
+    spent_no e = cc
+by_cost cells answer false found told = record { yes = λ e. refl; no = λ e. refl; spent = λ e. absurd (other found (sym told ∙ e)) }
+  where
+    other : (b : Bool) → cond b Yes No ≡ Spent → ⊥
+    other true e = cc
+    other false e = cc
+
+pub asked : (world : World) (cells : List (Option ℕ)) (answer : Answer) → IsWorld world → Grows world cells
+    → answer ≡ answer_of (extends world cells) (plain_cost world.model world.prefs world.slice cells) world.budget → Asked world cells answer
+asked world cells answer is grows told =
+    let parts = subst (λ (slice : Slice). Parts cells answer (nat_lt world.budget (plain_cost world.model world.prefs slice cells)))
+    (sym (grows-slice world.model world.slice cells is.slice grows)) (by_cost cells answer (nat_lt world.budget (plain_cost world.model world.prefs world.slice cells)) (extends world cells) told) in
+    record { yes = parts.yes; no = parts.no; spent = parts.spent }
+
+-- a fault of a part is one of the whole, where its question is
+pub told-err : (A B : Type 0) (stop : Stop) (question : List (Option ℕ)) (part whole : Option (List (Option ℕ))) → (part ≡ Some question → whole ≡ Some question)
+    → Told {A = A} (Err stop) question part → Told {A = B} (Err stop) question whole
+told-err A B stops.Spent question part whole more told = more told
+told-err A B stops.NoMemory question part whole more told = tt

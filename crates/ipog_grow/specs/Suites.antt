@@ -1,0 +1,47 @@
+-- When a suite is the one that growth gives, and how a run of questions ends. (This project's rules.)
+use Rattle.std.specs.Prelude.{◌≡◌, ℕ, [], List, map, length, Option, Some, None, Result, Ok, Err, All, option_map, unwrap_or}
+use Rattle.cov_model.specs.Sound.{ModelView}
+use Rattle.definitions.specs.Growth.{growth}
+use Rattle.definitions.specs.Pairs.{cells_of, pairs_of}
+use Rattle.definitions.specs.Seeds.{kept_seeds, dropped_lines}
+use Rattle.feasibility.specs.declared.answer.SearchFault.{SearchFault}
+use Rattle.feasibility.specs.declared.answer.SearchFault.TheVariants.{Spent, NoMemory}
+use Rattle.refutation.specs.declared.omissions.Omission.{Omission}
+use Rattle.refutation.specs.declared.omissions.ProofForm.{ProofForm}
+use Rattle.refutation.specs.declared.omissions.ProofForm.TheVariants.{One}
+use Rattle.ipog_grow.specs.declared.stop.Stop.{Stop}
+use Rattle.ipog_grow.specs.declared.stop.Stop.TheVariants as stops
+use Rattle.ipog_grow.specs.declared.suite.Suite.{Suite}
+
+-- the tuple of an omission, as a partial row of n parameters
+abbrev pub omitted_cells : ℕ → Omission → List (Option ℕ)
+omitted_cells n omission = cells_of n omission.tuple
+
+-- an omission without a tree
+abbrev pub HasNoTree : Omission → Type 0
+HasNoTree omission = omission.tree ≡ []
+
+-- a suite is what growth gives with these preferences and seeds; its omissions have no trees, and their
+-- form is the one asked for, or the first where none was
+pub record IsSuiteOf (m : ModelView) (pref : List (List ℕ)) (seeds : List (ℕ × List (Option ℕ))) (proof : Option ProofForm) (suite : Suite) : Type 0 where
+  pub rows : suite.rows ≡ (growth m pref seeds).rows
+  pub omitted : map (omitted_cells (length m.params)) suite.omitted.omissions ≡ (growth m pref seeds).omitted
+  pub form : suite.omitted.form ≡ unwrap_or proof One
+  pub trees : All HasNoTree suite.omitted.omissions
+  pub kept : suite.kept ≡ length (kept_seeds m seeds)
+  pub dropped : suite.dropped ≡ dropped_lines m seeds
+
+-- a run ends by the first of its questions whose cost is above the budget, or for want of memory
+abbrev pub EndsBy : Option (List (Option ℕ)) → SearchFault → Type 0
+EndsBy over (Spent question) = option_map pairs_of over ≡ Some question.cells
+EndsBy over NoMemory = Unit {0}
+
+-- a run without a fault asked no question whose cost is above the budget
+abbrev pub Ends : {A : Type 0} → Result A SearchFault → Option (List (Option ℕ)) → Type 0
+Ends (Ok value) over = over ≡ None
+Ends (Err fault) over = EndsBy over fault
+
+-- a run stopped at this question, the first whose cost is above the budget, or for want of memory
+abbrev pub IsStopped : Stop → List (Option ℕ) → Option (List (Option ℕ)) → Type 0
+IsStopped stops.Spent question over = over ≡ Some question
+IsStopped stops.NoMemory question over = Unit {0}

@@ -1,0 +1,113 @@
+ghost use Rattle.std.specs.Prelude.{◌≡◌, ◌∷◌, [], Some, None, length, replicate, if◌then◌else◌, IfOk};
+ghost use Rattle.cov_model.specs.Preference.{OrdersValues};
+ghost use Rattle.definitions.specs.SliceRows.{IsSliceOf};
+ghost use Rattle.ipog_grow.specs.Asking.{Grows, IsWorld, Told, extends, first_spent};
+ghost use Rattle.ipog_grow.specs.Completing.{completed};
+
+use crate::stop::Stop;
+use cov_model::{Cells, Prefs, Slice, TestModel};
+use feasibility::{Answer, Solver};
+use std::alloc::Global;
+use std::marker::Model;
+use value_text::NoMemory;
+
+// Asks whether partial rows of a slice are extendable, within a budget for each question, and keeps
+// the question that exceeds it. Contracts see what decides the answers, and that question.
+#[derive(Drop)]
+pub(crate) struct Asker<'a> {
+    solver: Solver<'a>,
+    budget: u64,
+    question: Cells,
+}
+
+impl<'a> Model for Asker<'a> {
+    ghost use Rattle.std.specs.Prelude.{◌≡◌, length};
+    ghost use Rattle.std.specs.Coded.{codes};
+    ghost use Rattle.cov_model.specs.contracts.constraint.Pred as predicate;
+    ghost use Rattle.ipog_grow.specs.Asking.{AskerView, IsAsker};
+
+    ghost Value = { AskerView };
+
+    ghost coded = { Prim.hlevel (codes, predicate.the_row.coded) };
+
+    ghost view = { λ a. record { world = record { model = a.solver.model; prefs = a.solver.prefs; slice = a.solver.slice; budget = a.budget }; question = a.question } };
+
+    ghost invariant = { λ a. IsAsker (record { world = record { model = a.solver.model; prefs = a.solver.prefs; slice = a.solver.slice; budget = a.budget }; question = a.question }) };
+}
+
+impl<'a> Asker<'a> {
+    // For this slice of the model, which has to be one of the model's; the preferences have to be
+    // the model's too.
+    pub(crate) fn new(
+        alloc: Global,
+        model: &'a TestModel,
+        prefs: &'a Prefs,
+        slice: Slice,
+        budget: u64,
+    ) -> Result<Asker<'a>, NoMemory>
+        requires slice { IsSliceOf model.now slice }
+        requires orders { OrdersValues model.now prefs.now }
+        ensures { IfOk result (λ asker. asker.world ≡ record { model = model.now; prefs = prefs.now; slice = slice; budget = budget }) }
+    {
+        let count = model.params().len();
+        let solver = Solver::new(alloc, model, prefs, slice)?;
+        let question = Cells::empty(alloc, count)?;
+        Ok(Asker {
+            solver,
+            budget,
+            question,
+        })
+    }
+
+    // What decides the answers is of one model.
+    pub(crate) fn keeps(&self)
+        ensures { IsWorld self.now.world }
+    {
+        let _ = &self.solver;
+    }
+
+    // Whether a partial row of the slice is extendable.
+    pub(crate) fn ask(&mut self, cells: &Cells) -> Result<bool, Stop>
+        requires { Grows self.old.world cells.now }
+        ensures asked { Told result self.new.question (first_spent self.old.world (cells.now ∷ [])) }
+        ensures value { IfOk result (λ yes. yes ≡ extends self.old.world cells.now) }
+        ensures same { self.new.world ≡ self.old.world }
+    {
+        match self.solver.ask(cells, self.budget) {
+            Answer::Yes => Ok(true),
+            Answer::No => Ok(false),
+            Answer::Spent => {
+                self.question.copy_from(cells);
+                Err(Stop::Spent)
+            }
+        }
+    }
+
+    // Whether a partial row of the slice is extendable; where it is, the other cells become its
+    // first completion.
+    pub(crate) fn complete(&mut self, cells: &Cells, into: &mut Cells) -> Result<bool, Stop>
+        requires grows { Grows self.old.world cells.now }
+        requires room { length into.old ≡ length self.old.world.model.params }
+        ensures asked { Told result self.new.question (first_spent self.old.world (cells.now ∷ [])) }
+        ensures completed { IfOk result (λ found. completed self.old.world cells.now ≡ (if found then Some into.new else None)) }
+        ensures room { length into.new ≡ length into.old }
+        ensures same { self.new.world ≡ self.old.world }
+    {
+        match self.solver.complete(cells, self.budget, into) {
+            Answer::Yes => Ok(true),
+            Answer::No => Ok(false),
+            Answer::Spent => {
+                self.question.copy_from(cells);
+                Err(Stop::Spent)
+            }
+        }
+    }
+
+    // The last question whose cost exceeded the budget.
+    pub(crate) fn question(&self) -> &Cells
+        ensures value { result.now ≡ self.now.question }
+        ensures long { length result.now ≡ length self.now.world.model.params }
+    {
+        &self.question
+    }
+}

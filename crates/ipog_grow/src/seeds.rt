@@ -1,0 +1,227 @@
+ghost use Rattle.std.specs.Prelude.{◌≡◌, ◌<◌, ◌^◌, ◌++◌, ◌∷◌, [], ◌&&◌, true, not, is_some, map, length, if◌then◌else◌, All, IfOk, OnOk};
+ghost use Rattle.std.specs.List.{filter, list_any};
+ghost use Rattle.cov_model.specs.Fits.{FitsModel};
+ghost use Rattle.cov_model.specs.Meaning.{given_value};
+ghost use Rattle.cov_model.specs.Preference.{OrdersValues};
+ghost use Rattle.cov_model.specs.Rows.{is_assigned};
+ghost use Rattle.cov_model.specs.Valid.{negatives};
+ghost use Rattle.definitions.specs.Completion.{can_be_served, has_slice};
+ghost use Rattle.definitions.specs.Search.{first_over};
+ghost use Rattle.definitions.specs.Seeds.{asked_seeds, dropped_lines, kept_seeds, seed_rows};
+ghost use Rattle.definitions.specs.Growth.{is_of_slice};
+ghost use Rattle.row_text.specs.RowFiles.{row_seen, seeds_seen};
+ghost use Rattle.ipog_grow.specs.Rows.{with_row, with_seed};
+ghost use Rattle.ipog_grow.specs.Suites.{Ends};
+
+use crate::distinct::{RowSet, copy_of};
+use crate::question::over_budget;
+use crate::suite::LineList;
+use cov_model::{Cells, ParamNo, Prefs, Rows, Slice, TestModel};
+use feasibility::{Answer, SearchFault, Solver};
+use row_text::{FileRow, FileRowList, RowFile};
+use std::alloc::Global;
+use value_text::NoMemory;
+
+// The seed rows that are kept, and the lines of those that aren't.
+#[derive(Drop)]
+pub(crate) struct SortedSeeds {
+    pub(crate) kept: Rows,
+    pub(crate) dropped: LineList,
+}
+
+// Whether a partial row gives no parameter a value.
+fn is_blank(cells: &Cells) -> bool
+    requires { length cells.now < 2 ^ 16 }
+    ensures { result ≡ not (list_any is_some cells.now) }
+{
+    let count = cells.len() as ParamNo;
+    for p in 0..count {
+        if cells.get(p).is_some() {
+            return false;
+        }
+    }
+    true
+}
+
+// Whether a partial row gives a parameter a negative value.
+fn is_negative(model: &TestModel, p: ParamNo, cells: &Cells) -> bool
+    requires parameter { p < length model.now.params }
+    requires fits { FitsModel model.now cells.now }
+    ensures { result ≡ (is_assigned cells.now p && (given_value model.now cells.now p).negative) }
+{
+    match cells.get(p) {
+        Some(v) => {
+            let param = &model.params().as_slice()[p as usize];
+            param.values.as_slice()[v as usize].negative
+        }
+        None => false,
+    }
+}
+
+// Whether at most one value of a partial row is negative.
+fn is_of_some_slice(model: &TestModel, cells: &Cells) -> bool
+    requires { FitsModel model.now cells.now }
+    ensures { result ≡ has_slice model.now cells.now }
+{
+    let count = model.params().len() as ParamNo;
+    let mut found: u32 = 0;
+    for p in 0..count {
+        if is_negative(model, p, cells) {
+            found += 1;
+        }
+    }
+    found <= 1
+}
+
+// Puts a seed row behind others, unless it gives no value or an earlier one is the same.
+fn add_seed(
+    alloc: Global,
+    seed: &FileRow,
+    known: &mut RowSet,
+    list: &mut FileRowList,
+) -> Result<(), NoMemory>
+    requires short { length seed.now.cells < 2 ^ 16 }
+    requires same { All (λ other. length other ≡ length seed.now.cells) known.old }
+    ensures known { OnOk result (known.new ≡ with_row known.old seed.now.cells) }
+    ensures list { OnOk result (map row_seen list.new ≡ with_seed known.old (map row_seen list.old) (row_seen seed.now)) }
+    ensures long { OnOk result (All (λ other. length other ≡ length seed.now.cells) known.new) }
+{
+    if !known.add(alloc, &seed.cells)? {
+        return Ok(());
+    }
+    if is_blank(&seed.cells) {
+        return Ok(());
+    }
+    let cells = copy_of(alloc, &seed.cells)?;
+    list.push(FileRow {
+        line: seed.line,
+        cells,
+    })
+}
+
+// The distinct seed rows that give some parameter a value, each by its first occurrence.
+fn distinct_seeds(
+    alloc: Global,
+    model: &TestModel,
+    seeds: &[FileRow],
+) -> Result<FileRowList, NoMemory>
+    requires { All (λ seed. FitsModel model.now seed.cells) seeds.now }
+    ensures seeds { IfOk result (λ list. map row_seen list ≡ seed_rows (map row_seen seeds.now)) }
+    ensures fit { IfOk result (λ list. All (λ seed. FitsModel model.now seed.cells) list) }
+{
+    let _ = model.params();
+    let mut known = RowSet::new(alloc);
+    let mut list = FileRowList::new(alloc);
+    for seed in seeds {
+        add_seed(alloc, seed, &mut known, &mut list)?;
+    }
+    Ok(list)
+}
+
+// Whether a seed row is kept: at most one value is negative, and the row is extendable.
+fn is_kept(
+    alloc: Global,
+    model: &TestModel,
+    prefs: &Prefs,
+    cells: &Cells,
+    budget: u64,
+) -> Result<bool, SearchFault>
+    requires fits { FitsModel model.now cells.now }
+    requires orders { OrdersValues model.now prefs.now }
+    ensures kept { IfOk result (λ kept. kept ≡ can_be_served model.now cells.now) }
+    ensures asked { Ends result (first_over model.now prefs.now budget (filter (has_slice model.now) (cells.now ∷ []))) }
+{
+    let _ = model.params();
+    if !is_of_some_slice(model, cells) {
+        return Ok(false);
+    }
+    let slice = model.slice_of(cells);
+    let Ok(mut solver) = Solver::new(alloc, model, prefs, slice) else {
+        return Err(SearchFault::NoMemory);
+    };
+    match solver.ask(cells, budget) {
+        Answer::Yes => Ok(true),
+        Answer::No => Ok(false),
+        Answer::Spent => Err(over_budget(alloc, cells)),
+    }
+}
+
+// Puts a seed row behind those that are kept, or its line behind those of the others.
+fn place_seed(
+    alloc: Global,
+    model: &TestModel,
+    prefs: &Prefs,
+    seed: &FileRow,
+    budget: u64,
+    sorted: &mut SortedSeeds,
+) -> Result<(), SearchFault>
+    requires fits { FitsModel model.now seed.now.cells }
+    requires orders { OrdersValues model.now prefs.now }
+    ensures kept { OnOk result (sorted.new.kept ≡ sorted.old.kept ++ filter (can_be_served model.now) (seed.now.cells ∷ [])) }
+    ensures dropped { OnOk result (sorted.new.dropped ≡ sorted.old.dropped ++ (if can_be_served model.now seed.now.cells then [] else seed.now.line ∷ [])) }
+    ensures asked { Ends result (first_over model.now prefs.now budget (filter (has_slice model.now) (seed.now.cells ∷ []))) }
+{
+    if !is_kept(alloc, model, prefs, &seed.cells, budget)? {
+        return match sorted.dropped.push(seed.line) {
+            Ok(()) => Ok(()),
+            Err(_) => Err(SearchFault::NoMemory),
+        };
+    }
+    let Ok(copy) = copy_of(alloc, &seed.cells) else {
+        return Err(SearchFault::NoMemory);
+    };
+    match sorted.kept.push(copy) {
+        Ok(()) => Ok(()),
+        Err(_) => Err(SearchFault::NoMemory),
+    }
+}
+
+// Asks of each seed row of a file that counts, in order, whether it is kept.
+pub(crate) fn sort_seeds(
+    alloc: Global,
+    model: &TestModel,
+    prefs: &Prefs,
+    seeds: &RowFile,
+    budget: u64,
+) -> Result<SortedSeeds, SearchFault>
+    requires fits { All (λ seed. FitsModel model.now seed.cells) seeds.now.rows }
+    requires orders { OrdersValues model.now prefs.now }
+    ensures kept { IfOk result (λ sorted. sorted.kept ≡ kept_seeds model.now (seeds_seen seeds.now)) }
+    ensures dropped { IfOk result (λ sorted. sorted.dropped ≡ dropped_lines model.now (seeds_seen seeds.now)) }
+    ensures asked { Ends result (first_over model.now prefs.now budget (asked_seeds model.now (seeds_seen seeds.now))) }
+{
+    let Ok(distinct) = distinct_seeds(alloc, model, seeds.rows.as_slice()) else {
+        return Err(SearchFault::NoMemory);
+    };
+    let mut sorted = SortedSeeds {
+        kept: Rows::new(alloc),
+        dropped: LineList::new(alloc),
+    };
+    for seed in distinct.as_slice() {
+        place_seed(alloc, model, prefs, seed, budget, &mut sorted)?;
+    }
+    Ok(sorted)
+}
+
+// Copies of the kept seeds of a slice, in order.
+pub(crate) fn seeds_of_slice(
+    alloc: Global,
+    model: &TestModel,
+    kept: &Rows,
+    slice: Slice,
+) -> Result<Vec<Cells>, NoMemory>
+    requires fit { All (FitsModel model.now) kept.now }
+    requires few { All (λ seed. has_slice model.now seed ≡ true) kept.now }
+    ensures { IfOk result (λ rows. rows.items ≡ filter (is_of_slice model.now slice) kept.now) }
+{
+    let mut rows = Vec::new(alloc);
+    for seed in kept.as_slice() {
+        if model.slice_of(seed) == slice {
+            let copy = copy_of(alloc, seed)?;
+            if rows.push(copy).is_err() {
+                return Err(NoMemory);
+            }
+        }
+    }
+    Ok(rows)
+}

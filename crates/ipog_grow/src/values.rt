@@ -1,0 +1,76 @@
+ghost use Rattle.std.specs.Prelude.{◌≡◌, ◌<◌, ◌≤◌, ℕ, true, false, Some, None, All, [], length, map, slice_index, slice_index_or, slice_set, if◌then◌else◌, nat_lt, IfOk, IfSome, OnOk};
+ghost use Rattle.cov_model.specs.Rows.{contains, is_assigned};
+ghost use Rattle.cov_model.specs.Slices.{slice_values};
+ghost use Rattle.cov_model.specs.Sound.{param_at};
+ghost use Rattle.definitions.specs.Demand.{is_among};
+ghost use Rattle.ipog_grow.specs.Asking.{Grows, Told, first_spent, tried};
+ghost use Rattle.ipog_grow.specs.Growing.{best, better};
+
+use crate::asker::Asker;
+use crate::stop::Stop;
+use cov_model::{Cells, ParamNo, ValueNo};
+
+// Of a value found before and another one, the first, unless the other has the greater score. A
+// value without a score doesn't count.
+fn better_value(found: Option<ValueNo>, other: ValueNo, scores: &[u32]) -> Option<ValueNo>
+    requires found { IfSome found (λ v. v < length scores.now) }
+    requires other { other < length scores.now }
+    ensures better { result ≡ better (λ v. slice_index scores.now v) found (if nat_lt 0 (slice_index scores.now other) then Some other else None) }
+    ensures within { IfSome result (λ v. v < length scores.now) }
+{
+    if scores[other as usize] == 0 {
+        return found;
+    }
+    match found {
+        Some(v) if scores[v as usize] >= scores[other as usize] => Some(v),
+        _ => Some(other),
+    }
+}
+
+// The first value of the greatest score, if one has a score above 0.
+fn best_value(order: &[ValueNo], scores: &[u32]) -> Option<ValueNo>
+    requires { All (λ v. v < length scores.now) order.now }
+    ensures best { result ≡ best (λ v. slice_index scores.now v) order.now }
+    ensures within { IfSome result (λ v. v < length scores.now) }
+{
+    let mut found = None;
+    for v in order {
+        found = better_value(found, *v, scores);
+    }
+    found
+}
+
+// Gives a row, which has no value in the column, the first value by falling score that leaves it
+// extendable, if there is one, and tells whether it did. The scores are lost.
+pub(crate) fn try_values(
+    asker: &mut Asker,
+    order: &[ValueNo],
+    scores: &mut [u32],
+    column: ParamNo,
+    row: &mut Cells,
+) -> Result<bool, Stop>
+    requires column { column < length asker.old.world.model.params }
+    requires order { order.now ≡ slice_index_or asker.old.world.prefs column [] }
+    requires scores { length scores.old ≡ length (param_at asker.old.world.model.params column).values }
+    requires listed { (v : ℕ) → 0 < slice_index scores.old v → is_among (slice_index_or (slice_values asker.old.world.model asker.old.world.slice) column []) v ≡ true }
+    requires grows { Grows asker.old.world row.old }
+    requires free { is_assigned row.old column ≡ false }
+    ensures asked { (n : ℕ) → All (λ score. score ≤ n) scores.old → Told result asker.new.question (first_spent asker.old.world (tried asker.old.world n scores.old order.now column row.old).asked) }
+    ensures row { OnOk result ((n : ℕ) → All (λ score. score ≤ n) scores.old → row.new ≡ (tried asker.old.world n scores.old order.now column row.old).row) }
+    ensures kept { IfOk result (λ given. given ≡ false → row.new ≡ row.old) }
+    ensures grows { OnOk result (Grows asker.old.world row.new) }
+    ensures more { OnOk result (contains row.new row.old ≡ true) }
+    ensures same { asker.new.world ≡ asker.old.world }
+    ensures long { length scores.new ≡ length scores.old }
+{
+    asker.keeps();
+    while let Some(v) = best_value(order, scores) {
+        row.set_cell(column, v);
+        if asker.ask(row)? {
+            return Ok(true);
+        }
+        row.clear_cell(column);
+        scores[v as usize] = 0;
+    }
+    Ok(false)
+}
