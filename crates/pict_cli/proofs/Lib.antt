@@ -1,11 +1,3 @@
-pub mod Given
-pub mod LineLemmas
-pub mod Lines
-pub mod Pairs
-pub mod Pieces
+pub mod PutLines
+pub mod PutPairs
 pub mod PutPieces
-pub mod Runs
-pub mod Soundness
-pub mod Spaces
-pub mod TwoLines
-pub mod TwoParameters

@@ -1,6 +1,2 @@
-pub mod FirstForm
-pub mod Pairs
-pub mod Lines
-pub mod Words
+pub mod Pieces
 pub mod Stops
-pub mod Runs

@@ -1,12 +1,5 @@
-//! The program `pict`: words to settings, model files to models, models to reports.
+//! The command line of `pict`.
 #![tactic(auto)]
 
-mod first_form;
-mod growth;
-mod param_line;
-mod report;
-mod run;
+mod put;
 mod stop;
-mod words;
-
-pub use run::run_pict;
