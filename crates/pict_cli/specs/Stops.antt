@@ -2,8 +2,6 @@
 -- (This project's rules.)
 use Rattle.std.specs.Prelude.{◌≡◌, ℕ, List, ◌++◌, map, Option, codes, decimal}
 use Rattle.std.specs.List.{join_with_byte}
-use Rattle.outside_io.specs.declared.answers.WriteAnswer.{WriteAnswer}
-use Rattle.outside_io.specs.Puts.{Puts, CountsFaults}
 use Rattle.model_lex.specs.Codes.{diag_code, diag_text}
 use Rattle.model_lex.specs.declared.diag.Diag.{Diag}
 use Rattle.definitions.specs.Limits as limits
@@ -44,8 +42,3 @@ line_of CannotRead name = cannot_read_line name
 line_of CannotWriteReport name = cannot_write_report_line
 line_of (TooMany quantity count) name = count_limit_line (counted quantity) count
 line_of TooLong name = bytes_limit_line limits.ModelFile
-
--- a sink was asked for a text: it has the whole text, or a prefix of it where its count of faults rose
-abbrev pub Tells : Option (List ℕ) → Option (List ℕ) → ℕ → ℕ → List ℕ → Type 0
-Tells before after faults faults_after text =
-    (answer : WriteAnswer) × Puts answer before after text × CountsFaults answer faults faults_after

@@ -3,3 +3,4 @@
 
 mod put;
 mod stop;
+mod told;

@@ -5,7 +5,7 @@ ghost use Rattle.definitions.specs.Limits.{ModelFile, most_counted};
 
 ghost use Rattle.model_lex.specs.Codes.{diag_code, diag_text};
 ghost use Rattle.pict_cli.specs.Pieces.{spent_opening};
-ghost use Rattle.pict_cli.specs.Stops.{counted, line_of, status_of, Tells};
+ghost use Rattle.pict_cli.specs.Stops.{counted, line_of, status_of};
 
 use crate::put::{put_pairs, put_pieces};
 use feasibility::Question;
@@ -164,7 +164,7 @@ fn put_word<E: Sink>(index: u32, sink: &mut E) -> WriteAnswer
 
 impl Stop {
     /// The exit status of a run that ended so.
-    fn status(&self) -> u8
+    pub(crate) fn status(&self) -> u8
         ensures { result ≡ status_of self.now }
     {
         match self {
@@ -180,7 +180,7 @@ impl Stop {
     }
 
     /// Writes the line that says why, where the model file has this name. Takes no memory.
-    fn put_line<E: Sink>(&self, name: &str, diag: &mut E) -> WriteAnswer
+    pub(crate) fn put_line<E: Sink>(&self, name: &str, diag: &mut E) -> WriteAnswer
         ensures puts { Puts result (E.written diag.old) (E.written diag.new) (line_of self.now name.now) }
         ensures counts { CountsFaults result (E.faults diag.old) (E.faults diag.new) }
     {
@@ -195,15 +195,5 @@ impl Stop {
             Stop::TooMany(quantity, count) => put_limit(*quantity, *count, diag),
             Stop::TooLong => put_too_long(diag),
         }
-    }
-
-    /// Ends a run on the model file of this name: tells `diag` why, and gives the status. A fault of
-    /// `diag` changes nothing. Takes no memory.
-    pub(crate) fn end_run<E: Sink>(&self, name: &str, diag: &mut E) -> u8
-        ensures status { result ≡ status_of self.now }
-        ensures line { Tells (E.written diag.old) (E.written diag.new) (E.faults diag.old) (E.faults diag.new) (line_of self.now name.now) }
-    {
-        let _ = self.put_line(name, diag);
-        self.status()
     }
 }
