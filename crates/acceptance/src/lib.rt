@@ -2,6 +2,16 @@
 #![tactic(auto)]
 
 #[cfg(test)]
-mod first_path;
+mod faults;
+#[cfg(test)]
+mod growth;
+#[cfg(test)]
+mod language;
+#[cfg(test)]
+mod limits;
+#[cfg(test)]
+mod refusals;
 #[cfg(test)]
 mod runs;
+#[cfg(test)]
+mod words;
