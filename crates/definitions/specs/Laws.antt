@@ -1,5 +1,5 @@
 -- What holds of the definitions together. (This project's rules.)
-use Rattle.std.specs.Prelude.{◌≡◌, ℕ, ◌+◌, ◌^◌, ◌<◌, ◌≤◌, ◌↔◌, ◌⊎◌, slice_index_or, true, false, not, List, [], map, filter, length, Option, Ok, All, Contains, IsPermutation}
+use Rattle.std.specs.Prelude.{◌≡◌, ℕ, ◌+◌, ◌^◌, ◌<◌, ◌≤◌, ◌↔◌, ◌⊎◌, slice_index_or, true, false, not, List, [], map, filter, length, Option, Ok, All, AllPairs, Contains, IsPermutation}
 use Rattle.std.specs.List.{Any, list_any}
 use Rattle.cov_model.specs.declared.slice.Slice.{Slice}
 use Rattle.cov_model.specs.Sound.{ModelView, IsSound, param_at}
@@ -84,11 +84,12 @@ ServableAreExtendable = (m : ModelView) (tuple : List (Option ℕ)) → IsSound 
 abbrev pub ArePreferences : ModelView → List (List ℕ) → Type 0
 ArePreferences m pref = (length pref ≡ length m.params) × ((p : ℕ) → p < length m.params → IsPermutation (value_numbers m p) (slice_index_or pref p []))
 
--- what growth gives: every row is valid; a demanded tuple is omitted exactly if no row of the model serves
--- it, and else a row of the suite does; each kept seed is in a row; and there are no more rows than demanded
--- tuples outside the omission list and kept seeds
+-- what growth gives: every row is valid, and no two are the same; a demanded tuple is omitted exactly if no
+-- row of the model serves it, and else a row of the suite does; each kept seed is in a row; and there are no
+-- more rows than demanded tuples outside the omission list and kept seeds
 pub record IsGrownSuite (m : ModelView) (pref : List (List ℕ)) (seeds : List (ℕ × List (Option ℕ))) : Type 0 where
   pub valid : All (λ row. is_valid m row ≡ true) (growth m pref seeds).rows
+  pub distinct : AllPairs (λ a b. is_same_row a b ≡ false) (growth m pref seeds).rows
   pub demanded : All (Contains (demanded_tuples m)) (growth m pref seeds).omitted
   pub omitted : All (λ tuple. Contains (growth m pref seeds).omitted tuple ↔ ((row : List (Option ℕ)) → serves m row tuple ≡ false)) (demanded_tuples m)
   pub served : All (λ tuple. Any (λ row. serves m row tuple ≡ true) (growth m pref seeds).rows ↔ (Contains (growth m pref seeds).omitted tuple → ⊥)) (demanded_tuples m)
@@ -96,12 +97,9 @@ pub record IsGrownSuite (m : ModelView) (pref : List (List ℕ)) (seeds : List (
   pub few : length (growth m pref seeds).rows
       ≤ length (filter (λ tuple. not (list_any (is_same_row tuple) (growth m pref seeds).omitted)) (demanded_tuples m)) + length (kept_seeds m seeds)
 
--- the seed rows are as long as the model's list of parameters, and their values exist
-abbrev pub AreSeeds : ModelView → List (ℕ × List (Option ℕ)) → Type 0
-AreSeeds m seeds = All (λ seed. Any (λ row. contains row seed.1 ≡ true) (all_rows m) × (length seed.1 ≡ length m.params)) seeds
-
+-- of a sound model, preference orders, and any seed rows
 abbrev pub GrowthCovers : Type 0
-GrowthCovers = (m : ModelView) (pref : List (List ℕ)) (seeds : List (ℕ × List (Option ℕ))) → IsSound m → ArePreferences m pref → AreSeeds m seeds → IsGrownSuite m pref seeds
+GrowthCovers = (m : ModelView) (pref : List (List ℕ)) (seeds : List (ℕ × List (Option ℕ))) → IsSound m → ArePreferences m pref → IsGrownSuite m pref seeds
 
 -- if report and proof are accepted, every row is valid, and each demanded tuple is served by one of the
 -- rows, or is listed, and then no row serves it

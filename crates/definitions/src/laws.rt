@@ -1,7 +1,7 @@
 //! What is proved of the definitions together. A function here does nothing: its contract is a law
 //! that holds of every model, and is proved with the crate.
 
-ghost use Rattle.definitions.specs.Laws.{AcceptedAreCertified, ExtendableContains, RefutedAreUnserved, ReportsReadBack, SuitesAreRead};
+ghost use Rattle.definitions.specs.Laws.{AcceptedAreCertified, CompletionsAreRows, ExtendableContains, GrowthCovers, RefutedAreUnserved, ReportsReadBack, ServableAreExtendable, SlicesServe, SuitesAreRead};
 
 /// Reading a report gives its rows: the text that is written of rows of a sound model, read as a
 /// row file, holds these rows in their order (this project's rule).
@@ -13,6 +13,12 @@ pub fn reports_read_back()
 /// finds no fault, its rows are those of the file's lines, in their order (this project's rule).
 pub fn suites_are_read()
     ensures { SuitesAreRead }
+{}
+
+/// The completions of a partial row are rows: those that contain it, of the rows that give each
+/// parameter one of its listed values (this project's rule).
+pub fn completions_are_rows()
+    ensures { CompletionsAreRows }
 {}
 
 /// What an extendable partial row contains is extendable: a row that meets every constraint and
@@ -33,4 +39,24 @@ pub fn refuted_are_unserved()
 /// is listed in the proof, and then no row serves it (this project's rule).
 pub fn accepted_are_certified()
     ensures { AcceptedAreCertified }
+{}
+
+/// Rows serve by slices: a row serves a tuple with at most one negative value exactly if it has values
+/// of the tuple's slice, contains the tuple, and meets every constraint (this project's rule).
+pub fn slices_serve()
+    ensures { SlicesServe }
+{}
+
+/// What can be served is extendable: some row serves a tuple with at most one negative value exactly
+/// if the tuple is extendable in its slice (this project's rule).
+pub fn servable_are_extendable()
+    ensures { ServableAreExtendable }
+{}
+
+/// Growth covers what can be covered: every row of a suite is valid, and no two are the same; a
+/// demanded tuple is omitted exactly if no row of the model serves it, and else a row of the suite
+/// serves it; each kept seed is in a row; and there are no more rows than demanded tuples outside the
+/// omission list and kept seeds (Lei and others 2007 for growth; the bound is this project's rule).
+pub fn growth_covers()
+    ensures { GrowthCovers }
 {}

@@ -9,6 +9,7 @@
 mod laws;
 
 pub use laws::{
-    accepted_are_certified, extendable_contains, refuted_are_unserved, reports_read_back,
+    accepted_are_certified, completions_are_rows, extendable_contains, growth_covers,
+    refuted_are_unserved, reports_read_back, servable_are_extendable, slices_serve,
     suites_are_read,
 };

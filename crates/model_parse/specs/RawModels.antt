@@ -1,6 +1,8 @@
 -- What the parameter lines and the group lines of a model file say. (PICT's guide; the ACTS guide.)
-use Rattle.std.specs.Prelude.{◌≡◌, ℕ, ◌-◌, ◌≤◌, true, List, [], length, Result, Ok, nat_lt, slice_index_or, if◌then◌else◌}
+use Rattle.std.specs.Prelude.{◌≡◌, ℕ, ◌-◌, ◌<◌, ◌≤◌, true, false, List, [], length, Result, Ok, nat_lt, slice_index_or, if◌then◌else◌, All, AllPairs}
+use Rattle.value_text.specs.Texts.{is_same_text}
 use Rattle.cov_model.specs.Names.{is_mark}
+use Rattle.cov_model.specs.Sound.{IsSoundParam, IsSoundDemand}
 use Rattle.cov_model.specs.declared.demand.Demand.{Demand}
 use Rattle.model_lex.specs.Sections.{Split}
 use Rattle.model_lex.specs.declared.diag.DiagCode.TheVariants.{OrderTooLarge}
@@ -50,3 +52,11 @@ raw_model_of opts split =
     and_then (read_params opts split.params) (λ read.
     and_then (read_groups opts read.known (order_in opts.order (length read.params)) split.groups) (λ demand.
     with_demand split.params read demand))
+
+-- the parameters and the demand of a raw model are sound under these options
+pub record IsSoundRaw (opts : ModelOpts) (raw : RawModel) : Type 0 where
+  pub some : 0 < length raw.params
+  pub few : length raw.params ≤ 256
+  pub params : All (IsSoundParam opts.marks.prefix opts.fold) raw.params
+  pub distinct : AllPairs (λ a b. is_same_text opts.fold a.name b.name ≡ false) raw.params
+  pub demand : IsSoundDemand (length raw.params) raw.demand

@@ -1,7 +1,7 @@
-ghost use Rattle.std.specs.Prelude.{◌≡◌, ◌<◌, ◌≤◌, length, map};
+ghost use Rattle.std.specs.Prelude.{◌≡◌, ◌<◌, ◌≤◌, length, map, IfOk};
 ghost use Rattle.model_lex.specs.Sections.{line_seen, split_seen};
 ghost use Rattle.model_parse.specs.Steps.{Gives};
-ghost use Rattle.model_parse.specs.RawModels.{AreOpts, order_in, raw_model_of, with_demand};
+ghost use Rattle.model_parse.specs.RawModels.{AreOpts, IsSoundRaw, order_in, raw_model_of, with_demand};
 ghost use Rattle.model_parse.specs.GroupLines.{read_groups};
 
 use crate::fault::bad;
@@ -94,7 +94,8 @@ pub fn parse_params(
     opts: &ModelOpts,
 ) -> Result<RawModel, ModelFault>
     requires { AreOpts opts.now }
-    ensures { Gives (raw_model_of opts.now (split_seen sections.now)) (λ raw. raw) result }
+    ensures value { Gives (raw_model_of opts.now (split_seen sections.now)) (λ raw. raw) result }
+    ensures sound { IfOk result (IsSoundRaw opts.now) }
 {
     let lines = sections.params.as_slice();
     let read = read_params(alloc, opts, lines)?;
