@@ -1,0 +1,32 @@
+use Rattle.std.proofs.Common.{rules, ◌++◌}
+use Rattle.constraint_ast.specs.Trees.{tree_of}
+use Rattle.type_check.specs.Checking.{terms_of}
+use Rattle.type_check.proofs.Refusals.{refused_behind, refused_front}
+use Rattle.type_check.proofs.scope.Scope.body.Goals as goal
+
+pub returns-in_err-premise-in-IfThen-clause-err : goal.returns-in_err-premise-in-IfThen-clause-err
+returns-in_err-premise-in-IfThen-clause-err c =
+    let told = refused_front c.args.self.now.fold c.args.self.now.params.now (terms_of (tree_of c.in-IfThen.premise)) (terms_of (tree_of c.in-IfThen.pred)) c.in_err-premise-in-IfThen.field-0.0 c.in_err-premise-in-IfThen.ensures.err in
+    search rules
+
+pub returns-in_err-pred-in-IfThen-clause-err : goal.returns-in_err-pred-in-IfThen-clause-err
+returns-in_err-pred-in-IfThen-clause-err c =
+    let told = refused_behind c.args.self.now.fold c.args.self.now.params.now (tree_of c.in-IfThen.premise) c.in_ok-premise-in-IfThen.premise (terms_of (tree_of c.in-IfThen.pred)) c.in_err-pred-in-IfThen.field-0.0 c.in_ok-premise-in-IfThen.ensures.ok c.in_err-pred-in-IfThen.ensures.err in
+    search rules
+
+pub returns-in_err-premise-in-IfElse-clause-err : goal.returns-in_err-premise-in-IfElse-clause-err
+returns-in_err-premise-in-IfElse-clause-err c =
+    let told = refused_front c.args.self.now.fold c.args.self.now.params.now (terms_of (tree_of c.in-IfElse.premise)) (terms_of (tree_of c.in-IfElse.pred) ++ terms_of (tree_of c.in-IfElse.other)) c.in_err-premise-in-IfElse.field-0.0 c.in_err-premise-in-IfElse.ensures.err in
+    search rules
+
+pub returns-in_err-pred-in-IfElse-clause-err : goal.returns-in_err-pred-in-IfElse-clause-err
+returns-in_err-pred-in-IfElse-clause-err c =
+    let front = refused_front c.args.self.now.fold c.args.self.now.params.now (terms_of (tree_of c.in-IfElse.pred)) (terms_of (tree_of c.in-IfElse.other)) c.in_err-pred-in-IfElse.field-0.0 c.in_err-pred-in-IfElse.ensures.err in
+    let told = refused_behind c.args.self.now.fold c.args.self.now.params.now (tree_of c.in-IfElse.premise) c.in_ok-premise-in-IfElse.premise (terms_of (tree_of c.in-IfElse.pred) ++ terms_of (tree_of c.in-IfElse.other)) c.in_err-pred-in-IfElse.field-0.0 c.in_ok-premise-in-IfElse.ensures.ok front in
+    search rules
+
+pub returns-in_err-pred-in-IfElse-2-clause-err : goal.returns-in_err-pred-in-IfElse-2-clause-err
+returns-in_err-pred-in-IfElse-2-clause-err c =
+    let behind = refused_behind c.args.self.now.fold c.args.self.now.params.now (tree_of c.in-IfElse.pred) c.in_ok-pred-in-IfElse.pred (terms_of (tree_of c.in-IfElse.other)) c.in_err-pred-in-IfElse-2.field-0.0 c.in_ok-pred-in-IfElse.ensures.ok c.in_err-pred-in-IfElse-2.ensures.err in
+    let told = refused_behind c.args.self.now.fold c.args.self.now.params.now (tree_of c.in-IfElse.premise) c.in_ok-premise-in-IfElse.premise (terms_of (tree_of c.in-IfElse.pred) ++ terms_of (tree_of c.in-IfElse.other)) c.in_err-pred-in-IfElse-2.field-0.0 c.in_ok-premise-in-IfElse.ensures.ok behind in
+    search rules
