@@ -1,0 +1,4 @@
+pub mod RowFiles
+pub mod Told
+pub mod Buffering
+pub mod Turns

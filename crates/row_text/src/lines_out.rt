@@ -1,0 +1,52 @@
+ghost use Rattle.std.specs.Prelude.{◌≡◌, List, ℕ};
+ghost use Rattle.row_text.specs.Buffering.{SinkState, state_of, PutsText, Holds, Adds, empty_buffer};
+
+use crate::out_buffer::is_fault;
+use outside_io::{Sink, WriteAnswer};
+use std::marker::Model;
+
+/// Short text on its way to a sink, without a buffer. After a fault nothing more is put.
+#[derive(Drop)]
+pub(crate) struct LinesOut {
+    faulty: bool,
+}
+
+impl Model for LinesOut {
+    ghost use Rattle.std.specs.Prelude.{[]};
+    ghost use Rattle.row_text.specs.Buffering.{Buffered};
+
+    ghost Value = { Buffered };
+
+    ghost view = { λ lines. record { held = []; failed = lines.faulty } };
+}
+
+impl LinesOut {
+    /// No text so far. Takes no memory.
+    pub(crate) fn new() -> LinesOut
+        ensures { result ≡ empty_buffer }
+    {
+        LinesOut { faulty: false }
+    }
+
+    /// Writes bytes.
+    pub(crate) fn add<O: Sink>(&mut self, bytes: &[u8], out: &mut O)
+        ensures { Adds self.old (state_of O.written O.room O.faults out.old)
+            self.new (state_of O.written O.room O.faults out.new) bytes.now }
+    {
+        if self.faulty {
+            return;
+        }
+        self.faulty = is_fault(out.put(bytes));
+    }
+
+    /// Whether all of the text was put.
+    pub(crate) fn answer(&self) -> WriteAnswer
+        ensures { (start now : SinkState) (text : List ℕ) → Holds start self.now now text → PutsText result start now text }
+    {
+        if self.faulty {
+            WriteAnswer::Failed
+        } else {
+            WriteAnswer::Done
+        }
+    }
+}
