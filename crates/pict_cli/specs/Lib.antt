@@ -1,3 +1,5 @@
 pub mod Pieces
+pub mod Runs
 pub mod Stops
 pub mod Told
+pub mod Words
