@@ -1,5 +1,5 @@
 -- Cells put into lines and lines into a text are read back: facts on plain lists.
-use Rattle.std.proofs.Common.{◌≡◌, ℕ, ◌+◌, ◌-◌, ◌<◌, ◌≤◌, ◌≢◌, false, List, [], ◌∷◌, ◌++◌, map, length, get_or, take, ◌==◌, All, sym, refl, ap, ◌∙◌, arith, ne_eqb, lt-ltb, nat_lt, ◌&&◌, filter, length-append, append_assoc, take_all, flat_map}
+use Rattle.std.proofs.Common.{◌≡◌, ℕ, ◌+◌, ◌-◌, ◌<◌, ◌≤◌, ◌≢◌, false, List, [], ◌∷◌, ◌++◌, map, length, get_or, take, ◌==◌, All, sym, refl, ap, ◌∙◌, arith, ne_eqb, eq-eqb, lt-ltb, nat_lt, ◌&&◌, filter, length-append, append_assoc, take_all, flat_map}
 use Rattle.std.specs.List.{slice_split, join_with_byte, prefix_len, suffix_len, enumerate_from}
 use Rattle.std.proofs.lemmas.List.Splits.{slice_split_none, slice_split_at}
 use Rattle.std.proofs.lemmas.List.Elements.{All-head, All-tail, All-weaker, All-nil, All-cons, All-append, All-map}
@@ -32,14 +32,20 @@ without_spaces-cell cell is =
 pub without_byte : (c : ℕ) (cell : List ℕ) → c < 32 → All (λ byte. 32 ≤ byte) cell → All (λ byte. (byte == c) ≡ false) cell
 without_byte c cell low plain = All-weaker (λ byte. 32 ≤ byte) (λ byte. (byte == c) ≡ false) (λ byte least. ne_eqb byte c (λ e. omega arith)) cell plain
 
--- cells parted by tabs are parted again as they were
+-- pieces joined by a byte that none of them has are parted again as they were
+pub split_joined_by : (c : ℕ) (pieces : List (List ℕ)) → 0 < length pieces → All (λ piece. All (λ byte. (byte == c) ≡ false) piece) pieces
+    → slice_split (λ byte. byte == c) (join_with_byte c pieces) ≡ pieces
+split_joined_by c [] some are = absurd (omega arith)
+split_joined_by c (piece ∷ []) some are =
+    slice_split_none (λ byte. byte == c) piece (All-head (λ piece. All (λ byte. (byte == c) ≡ false) piece) piece [] are)
+split_joined_by c (piece ∷ next ∷ pieces) some are =
+    slice_split_at (λ byte. byte == c) piece c (join_with_byte c (next ∷ pieces)) (All-head (λ piece. All (λ byte. (byte == c) ≡ false) piece) piece (next ∷ pieces) are) (eq-eqb c c refl)
+    ∙ ap (λ rest. piece ∷ rest) (split_joined_by c (next ∷ pieces) (omega arith) (All-tail (λ piece. All (λ byte. (byte == c) ≡ false) piece) piece (next ∷ pieces) are))
+
+-- cells parted by tabs
 pub split_joined : (cells : List (List ℕ)) → 0 < length cells → All IsCell cells → slice_split (λ byte. byte == 9) (join_with_byte 9 cells) ≡ cells
-split_joined [] some are = absurd (omega arith)
-split_joined (cell ∷ []) some are =
-    slice_split_none (λ byte. byte == 9) cell (without_byte 9 cell (omega arith) (All-head IsCell cell [] are).plain)
-split_joined (cell ∷ next ∷ cells) some are =
-    slice_split_at (λ byte. byte == 9) cell 9 (join_with_byte 9 (next ∷ cells)) (without_byte 9 cell (omega arith) (All-head IsCell cell (next ∷ cells) are).plain) refl
-    ∙ ap (λ rest. cell ∷ rest) (split_joined (next ∷ cells) (omega arith) (All-tail IsCell cell (next ∷ cells) are))
+split_joined cells some are =
+    split_joined_by 9 cells some (All-weaker IsCell (λ cell. All (λ byte. (byte == 9) ≡ false) cell) (λ cell is. without_byte 9 cell (omega arith) is.plain) cells are)
 
 -- the cells of a line are read back
 pub cells_of_line-joined : (cells : List (List ℕ)) → 0 < length cells → All IsCell cells → cells_of_line (join_with_byte 9 cells) ≡ cells

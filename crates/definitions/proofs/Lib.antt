@@ -37,3 +37,7 @@ pub mod Demanded
 pub mod InPlay
 pub mod Grown
 pub mod GrowthLaw
+pub mod Spelling
+pub mod ProofWords
+pub mod ProofLines
+pub mod ProofFiles

@@ -1,7 +1,7 @@
 //! What is proved of the definitions together. A function here does nothing: its contract is a law
 //! that holds of every model, and is proved with the crate.
 
-ghost use Rattle.definitions.specs.Laws.{AcceptedAreCertified, CompletionsAreRows, ExtendableContains, GrowthCovers, RefutedAreUnserved, ReportsReadBack, ServableAreExtendable, SlicesServe, SuitesAreRead};
+ghost use Rattle.definitions.specs.Laws.{AcceptedAreCertified, CompletionsAreRows, ExtendableContains, GrowthCovers, ProofsHaveOneText, ProofsReadBack, RefutedAreUnserved, ReportsReadBack, ServableAreExtendable, SlicesServe, SuitesAreRead};
 
 /// Reading a report gives its rows: the text that is written of rows of a sound model, read as a
 /// row file, holds these rows in their order (this project's rule).
@@ -59,4 +59,16 @@ pub fn servable_are_extendable()
 /// omission list and kept seeds (Lei and others 2007 for growth; the bound is this project's rule).
 pub fn growth_covers()
     ensures { GrowthCovers }
+{}
+
+/// Reading the text of a proof gives the proof: its format and its omissions, where their tuples and
+/// trees are of a sound model. So different proofs have different texts (this project's rule).
+pub fn proofs_read_back()
+    ensures { ProofsReadBack }
+{}
+
+/// A proof has one text: bytes that are read as a proof are its text, and its omissions are of the
+/// model and the format (this project's rule).
+pub fn proofs_have_one_text()
+    ensures { ProofsHaveOneText }
 {}
