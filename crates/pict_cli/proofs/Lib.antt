@@ -1,3 +1,4 @@
+pub mod Headline
 pub mod PutLines
 pub mod PutPairs
 pub mod PutPieces

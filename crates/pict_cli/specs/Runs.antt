@@ -11,8 +11,9 @@ use Rattle.model_lex.specs.declared.options.OrderWord as words
 use Rattle.model_lex.specs.declared.options.OrderWord.TheVariants.{Number, Max}
 use Rattle.model_lex.specs.declared.note.Note.{Note}
 use Rattle.model_lex.specs.declared.fault.LimitName.{LimitName}
-use Rattle.model_lex.specs.declared.fault.LimitName.TheVariants as named
-use Rattle.model_lex.specs.declared.fault.ModelFault.TheVariants as faults
+use Rattle.model_lex.specs.declared.fault.LimitName.TheVariants.{Params, Rules}
+use Rattle.model_lex.specs.declared.fault.LimitName.TheVariants as limits
+use Rattle.model_lex.specs.declared.fault.ModelFault.TheVariants.{Bad, BadRule, Limit}
 use Rattle.definitions.specs.Covering.{Covers}
 use Rattle.definitions.specs.Growth.{Grown, growth}
 use Rattle.definitions.specs.Limits.{ModelFile, most_bytes}
@@ -23,6 +24,7 @@ use Rattle.definitions.specs.Search.{first_over}
 use Rattle.definitions.specs.Settings.{OrderWord, OrderOf, OrderMax, Shuffle, NoShuffle, AnyShuffle, ShuffleBy, Settings}
 use Rattle.definitions.specs.Statistics.{statistics, statistics_text}
 use Rattle.tuple_index.specs.PlanFault.{limit_passed}
+use Rattle.tuple_index.specs.declared.fault.PlanFault.{PlanFault}
 use Rattle.tuple_index.specs.declared.fault.PlanFault.TheVariants.{TooManySets, TooManyTuples}
 use Rattle.type_check.specs.ModelOf.{IsModelOf, IsRefusalOf}
 use Rattle.pict_cli.specs.declared.stop.Stop.{Stop}
@@ -64,38 +66,79 @@ printed s seed m = if s.stats then statistics_text (statistics m (orders_of s se
 abbrev pub question_over : Settings → ℕ → ModelView → Option (List (Option ℕ))
 question_over s seed m = first_over m (orders_of s seed m) s.budget (growth_of s seed m).asked
 
--- the bytes spell a sound model with these notes, and P holds of it
-abbrev pub HasModel : Settings → List ℕ → List Note → (ModelView → Type 0) → Type 0
-HasModel s bytes notes P = (m : ModelView) × IsModelOf (opts_of s) bytes m notes × IsSound m × P m
+-- what the limit on a part of a model is called
+abbrev pub limit_named : Quantity → Option LimitName
+limit_named Parameters = Some Params
+limit_named Values = Some limits.Values
+limit_named Names = Some limits.Names
+limit_named Constraints = Some Rules
+limit_named DemandedSets = None
+limit_named DemandedTuples = None
 
--- there are so many of something, above its limit
-abbrev pub IsAbove : Settings → List ℕ → List Note → Quantity → ℕ → Type 0
-IsAbove s bytes notes Parameters n = IsRefusalOf (opts_of s) bytes (faults.Limit named.Params n) × (notes ≡ [])
-IsAbove s bytes notes Values n = IsRefusalOf (opts_of s) bytes (faults.Limit named.Values n) × (notes ≡ [])
-IsAbove s bytes notes Names n = IsRefusalOf (opts_of s) bytes (faults.Limit named.Names n) × (notes ≡ [])
-IsAbove s bytes notes Constraints n = IsRefusalOf (opts_of s) bytes (faults.Limit named.Rules n) × (notes ≡ [])
-IsAbove s bytes notes DemandedSets n = HasModel s bytes notes (λ m. limit_passed m ≡ Some (TooManySets n))
-IsAbove s bytes notes DemandedTuples n = HasModel s bytes notes (λ m. limit_passed m ≡ Some (TooManyTuples n))
+-- why the reading of the bytes of a model file may stop
+abbrev pub StopsReading : ModelOpts → List ℕ → Stop → Type 0
+StopsReading opts bytes OutOfMemory = Unit {0}
+StopsReading opts bytes (BadModel diag) = IsRefusalOf opts bytes (Bad diag)
+StopsReading opts bytes (BadConstraint diag) = IsRefusalOf opts bytes (BadRule diag)
+StopsReading opts bytes (TooMany quantity n) = IsSomeAnd (limit_named quantity) (λ limit. IsRefusalOf opts bytes (Limit limit n))
+StopsReading opts bytes TooLong = most_bytes ModelFile < length bytes
+StopsReading opts bytes (Spent budget question) = ⊥
+StopsReading opts bytes (BadWord index) = ⊥
+StopsReading opts bytes CannotRead = ⊥
+StopsReading opts bytes CannotWriteReport = ⊥
 
--- a suite was grown: no limit is passed and no question is above the budget
+-- a suite was grown: no limit is passed, and no question is above the budget
 pub record IsGrown (s : Settings) (seed : ℕ) (m : ModelView) : Type 0 where
   pub within : limit_passed m ≡ None
   pub answered : question_over s seed m ≡ None
 
--- how a run on the bytes of a model file may end, with which notes told, and what the output, which told
--- the first before, tells after
+-- the fault of a plan that has more of something than its limit
+abbrev pub plan_fault : Quantity → ℕ → Option PlanFault
+plan_fault Parameters n = None
+plan_fault Values n = None
+plan_fault Names n = None
+plan_fault Constraints n = None
+plan_fault DemandedSets n = Some (TooManySets n)
+plan_fault DemandedTuples n = Some (TooManyTuples n)
+
+-- why a run may stop once its model is read
+abbrev pub StopsBehind : Settings → ℕ → ModelView → Stop → Type 0
+StopsBehind s seed m OutOfMemory = Unit {0}
+StopsBehind s seed m (TooMany quantity n) = IsSomeAnd (plan_fault quantity n) (λ fault. limit_passed m ≡ Some fault)
+StopsBehind s seed m (Spent budget question) =
+    (budget ≡ s.budget) × (limit_passed m ≡ None) × (option_map pairs_of (question_over s seed m) ≡ Some question.cells)
+StopsBehind s seed m CannotWriteReport = IsGrown s seed m
+StopsBehind s seed m (BadModel diag) = ⊥
+StopsBehind s seed m (BadConstraint diag) = ⊥
+StopsBehind s seed m (BadWord index) = ⊥
+StopsBehind s seed m CannotRead = ⊥
+StopsBehind s seed m TooLong = ⊥
+
+-- how a run may end once its model is read
+abbrev pub EndsBehind : Settings → ℕ → ModelView → Result (Unit {0}) Stop → Type 0
+EndsBehind s seed m (Ok done) = IsGrown s seed m
+EndsBehind s seed m (Err stop) = StopsBehind s seed m stop
+
+-- the bytes spell a sound model with these notes, and P holds of it
+abbrev pub HasModel : Settings → List ℕ → List Note → (ModelView → Type 0) → Type 0
+HasModel s bytes notes P = (m : ModelView) × IsModelOf (opts_of s) bytes m notes × IsSound m × P m
+
+-- the reading of the bytes stopped, before there were notes
+abbrev pub EndsReading : Settings → List ℕ → List Note → Result (Unit {0}) Stop → Type 0
+EndsReading s bytes notes (Ok done) = ⊥
+EndsReading s bytes notes (Err stop) = StopsReading (opts_of s) bytes stop × (notes ≡ [])
+
+-- what the output, which told the first before, tells after a run of this end: all that is to be printed,
+-- or after a fault a prefix of it, or nothing more
+abbrev pub Prints : List ℕ → Option (List ℕ) → Option (List ℕ) → Result (Unit {0}) Stop → Type 0
+Prints text before after (Ok done) = Puts Done before after text
+Prints text before after (Err CannotWriteReport) = Puts Failed before after text
+Prints text before after (Err stop) = after ≡ before
+
+-- how a run on the bytes of a model file may end, with which notes, and what it prints
 abbrev pub Ends : Settings → ℕ → List ℕ → List Note → Option (List ℕ) → Option (List ℕ) → Result (Unit {0}) Stop → Type 0
-Ends s seed bytes notes before after (Ok done) = HasModel s bytes notes (λ m. IsGrown s seed m × Puts Done before after (printed s seed m))
-Ends s seed bytes notes before after (Err CannotWriteReport) = HasModel s bytes notes (λ m. IsGrown s seed m × Puts Failed before after (printed s seed m))
-Ends s seed bytes notes before after (Err (Spent budget question)) =
-    (budget ≡ s.budget) × HasModel s bytes notes (λ m. (limit_passed m ≡ None) × (option_map pairs_of (question_over s seed m) ≡ Some question.cells))
-Ends s seed bytes notes before after (Err (TooMany quantity n)) = IsAbove s bytes notes quantity n
-Ends s seed bytes notes before after (Err (BadModel diag)) = IsRefusalOf (opts_of s) bytes (faults.Bad diag) × (notes ≡ [])
-Ends s seed bytes notes before after (Err (BadConstraint diag)) = IsRefusalOf (opts_of s) bytes (faults.BadRule diag) × (notes ≡ [])
-Ends s seed bytes notes before after (Err TooLong) = (most_bytes ModelFile < length bytes) × (notes ≡ [])
-Ends s seed bytes notes before after (Err OutOfMemory) = (notes ≡ []) ⊎ HasModel s bytes notes (λ m. Unit {0})
-Ends s seed bytes notes before after (Err CannotRead) = notes ≡ []
-Ends s seed bytes notes before after (Err (BadWord index)) = ⊥
+Ends s seed bytes notes before after end =
+    (EndsReading s bytes notes end × (after ≡ before)) ⊎ HasModel s bytes notes (λ m. EndsBehind s seed m end × Prints (printed s seed m) before after end)
 
 -- what was printed, behind what the output held before, is a report whose rows cover what can be covered
 abbrev pub PrintsCovering : ModelView → Option (List ℕ) → Option (List ℕ) → Type 0
