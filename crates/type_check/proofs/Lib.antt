@@ -3,3 +3,5 @@ pub mod FileExamples
 pub mod Lists
 pub mod Refusals
 pub mod RuleLists
+pub mod Soundness
+pub mod Models

@@ -15,7 +15,7 @@ use Rattle.model_lex.specs.declared.diag.DiagCode.{DiagCode}
 use Rattle.model_lex.specs.declared.fault.ModelFault.{ModelFault}
 use Rattle.model_lex.specs.declared.fault.ModelFault.TheVariants.{Bad, BadRule, Limit, NoMemory}
 use Rattle.constraint_ast.specs.Reading.{IfRefused}
-use Rattle.constraint_ast.specs.Trees.{Tree, Trees, Leaf, Negated, Each, Either, End, More, BodyTree, Plain, IfThen, IfElse, RuleTree, tree_of, trees_in}
+use Rattle.constraint_ast.specs.Trees.{Tree, Trees, Leaf, Negated, Each, Either, End, More, BodyTree, Plain, IfThen, IfElse, tree_of, trees_in}
 use Rattle.constraint_ast.specs.declared.tree.RawPred.{RawPred}
 use Rattle.constraint_ast.specs.declared.tree.RawTerm.{RawTerm}
 use Rattle.type_check.specs.Checking.{term_of, terms_of, terms_in, body_terms, first_refusal, refused_or}

@@ -1,5 +1,5 @@
 -- What the functions of the reading answer.
-use Rattle.std.specs.Prelude.{◌≡◌, ◌<◌, ℕ, Bool, List, length, Some, None}
+use Rattle.std.specs.Prelude.{◌≡◌, ◌<◌, Bool, List, length, Some, None}
 use Rattle.cov_model.specs.declared.parameter.Param.{Param}
 use Rattle.model_lex.specs.Codes.{most_of}
 use Rattle.model_lex.specs.declared.fault.LimitName.TheVariants.{Params, Values, Names, Rules}

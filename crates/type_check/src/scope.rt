@@ -67,6 +67,7 @@ fn are_of_type(numeric: bool, literals: &[RawLiteral]) -> bool
 
 // What the names of constraints are looked up in: the parameters, and whether letters of either case
 // are one.
+#[derive(Drop, Clone, Copy)]
 pub(crate) struct Scope<'a> {
     pub(crate) params: &'a [Param],
     pub(crate) fold: bool,

@@ -1,4 +1,4 @@
-use Rattle.std.proofs.Common.{rules, arith, sym, ap, subst}
+use Rattle.std.proofs.Common.{rules, arith}
 use Rattle.std.proofs.lemmas.Grind.{common_steps}
 use Rattle.constraint_ast.specs.Trees.{trees_in}
 use Rattle.constraint_ast.proofs.Parts.{each_is, either_is}
