@@ -13,6 +13,7 @@ use Rattle.model_lex.specs.declared.note.Note.{Note}
 use Rattle.model_lex.specs.declared.fault.LimitName.{LimitName}
 use Rattle.model_lex.specs.declared.fault.LimitName.TheVariants.{Params, Rules}
 use Rattle.model_lex.specs.declared.fault.LimitName.TheVariants as limits
+use Rattle.model_lex.specs.declared.fault.ModelFault.{ModelFault}
 use Rattle.model_lex.specs.declared.fault.ModelFault.TheVariants.{Bad, BadRule, Limit}
 use Rattle.definitions.specs.Covering.{Covers}
 use Rattle.definitions.specs.Growth.{Grown, growth}
@@ -75,17 +76,21 @@ limit_named Constraints = Some Rules
 limit_named DemandedSets = None
 limit_named DemandedTuples = None
 
--- why the reading of the bytes of a model file may stop
-abbrev pub StopsReading : ModelOpts → List ℕ → Stop → Type 0
-StopsReading opts bytes OutOfMemory = Unit {0}
-StopsReading opts bytes (BadModel diag) = IsRefusalOf opts bytes (Bad diag)
-StopsReading opts bytes (BadConstraint diag) = IsRefusalOf opts bytes (BadRule diag)
-StopsReading opts bytes (TooMany quantity n) = IsSomeAnd (limit_named quantity) (λ limit. IsRefusalOf opts bytes (Limit limit n))
-StopsReading opts bytes TooLong = most_bytes ModelFile < length bytes
-StopsReading opts bytes (Spent budget question) = ⊥
-StopsReading opts bytes (BadWord index) = ⊥
-StopsReading opts bytes CannotRead = ⊥
-StopsReading opts bytes CannotWriteReport = ⊥
+-- the model file is there, and is refused so
+abbrev pub IsRefused : ModelOpts → Option (List ℕ) → ModelFault → Type 0
+IsRefused opts held fault = IsSomeAnd held (λ bytes. IsRefusalOf opts bytes fault)
+
+-- why the reading of a model file, which holds these bytes if it is there, may stop
+abbrev pub StopsReading : ModelOpts → Option (List ℕ) → Stop → Type 0
+StopsReading opts held OutOfMemory = Unit {0}
+StopsReading opts held CannotRead = Unit {0}
+StopsReading opts held (BadModel diag) = IsRefused opts held (Bad diag)
+StopsReading opts held (BadConstraint diag) = IsRefused opts held (BadRule diag)
+StopsReading opts held (TooMany quantity n) = IsSomeAnd (limit_named quantity) (λ limit. IsRefused opts held (Limit limit n))
+StopsReading opts held TooLong = IsSomeAnd held (λ bytes. most_bytes ModelFile < length bytes)
+StopsReading opts held (Spent budget question) = ⊥
+StopsReading opts held (BadWord index) = ⊥
+StopsReading opts held CannotWriteReport = ⊥
 
 -- a suite was grown: no limit is passed, and no question is above the budget
 pub record IsGrown (s : Settings) (seed : ℕ) (m : ModelView) : Type 0 where
@@ -119,14 +124,18 @@ abbrev pub EndsBehind : Settings → ℕ → ModelView → Result (Unit {0}) Sto
 EndsBehind s seed m (Ok done) = IsGrown s seed m
 EndsBehind s seed m (Err stop) = StopsBehind s seed m stop
 
--- the bytes spell a sound model with these notes, and P holds of it
-abbrev pub HasModel : Settings → List ℕ → List Note → (ModelView → Type 0) → Type 0
-HasModel s bytes notes P = (m : ModelView) × IsModelOf (opts_of s) bytes m notes × IsSound m × P m
+-- the model file is there and spells this model with these notes
+abbrev pub IsLoaded : ModelOpts → Option (List ℕ) → ModelView → List Note → Type 0
+IsLoaded opts held m notes = IsSomeAnd held (λ bytes. IsModelOf opts bytes m notes)
 
--- the reading of the bytes stopped, before there were notes
-abbrev pub EndsReading : Settings → List ℕ → List Note → Result (Unit {0}) Stop → Type 0
-EndsReading s bytes notes (Ok done) = ⊥
-EndsReading s bytes notes (Err stop) = StopsReading (opts_of s) bytes stop × (notes ≡ [])
+-- the model file is there and spells a sound model with these notes, and P holds of it
+abbrev pub HasModel : Settings → Option (List ℕ) → List Note → (ModelView → Type 0) → Type 0
+HasModel s held notes P = (m : ModelView) × IsLoaded (opts_of s) held m notes × IsSound m × P m
+
+-- the reading of the model file stopped, before there were notes
+abbrev pub EndsReading : Settings → Option (List ℕ) → List Note → Result (Unit {0}) Stop → Type 0
+EndsReading s held notes (Ok done) = ⊥
+EndsReading s held notes (Err stop) = StopsReading (opts_of s) held stop × (notes ≡ [])
 
 -- what the output, which told the first before, tells after a run of this end: all that is to be printed,
 -- or after a fault a prefix of it, or nothing more
@@ -135,16 +144,12 @@ Prints text before after (Ok done) = Puts Done before after text
 Prints text before after (Err CannotWriteReport) = Puts Failed before after text
 Prints text before after (Err stop) = after ≡ before
 
--- how a run on the bytes of a model file may end, with which notes, and what it prints
-abbrev pub Ends : Settings → ℕ → List ℕ → List Note → Option (List ℕ) → Option (List ℕ) → Result (Unit {0}) Stop → Type 0
-Ends s seed bytes notes before after end =
-    (EndsReading s bytes notes end × (after ≡ before)) ⊎ HasModel s bytes notes (λ m. EndsBehind s seed m end × Prints (printed s seed m) before after end)
+-- how a run on a model file may end, with which notes, and what it prints
+abbrev pub Ends : Settings → ℕ → Option (List ℕ) → List Note → Option (List ℕ) → Option (List ℕ) → Result (Unit {0}) Stop → Type 0
+Ends s seed held notes before after end =
+    (EndsReading s held notes end × (after ≡ before)) ⊎ HasModel s held notes (λ m. EndsBehind s seed m end × Prints (printed s seed m) before after end)
 
 -- what was printed, behind what the output held before, is a report whose rows cover what can be covered
 abbrev pub PrintsCovering : ModelView → Option (List ℕ) → Option (List ℕ) → Type 0
 PrintsCovering m before after =
     IfSome before (λ written. (added : List ℕ) × (after ≡ Some (written ++ added)) × Covers m (rows_of m added))
-
--- P holds of the bytes of the told file; a file that isn't there has none
-abbrev pub OfFile : Option (Option (List ℕ)) → (List ℕ → Type 0) → Type 0
-OfFile file P = IfSome file (λ held. IsSomeAnd held P)

@@ -1,6 +1,7 @@
 //! The command line of `pict`.
 #![tactic(auto)]
 
+mod load;
 mod put;
 mod stop;
 mod told;
