@@ -1,5 +1,9 @@
+pub mod Colons
 pub mod Headline
+pub mod KindLemmas
+pub mod Pieces
 pub mod PutLines
 pub mod PutPairs
 pub mod PutPieces
 pub mod PutTold
+pub mod WordLemmas

@@ -25,11 +25,10 @@ pairs_more pairs i d inside =
 pairs_behind : (pairs more : List (ℕ × ℕ)) → (rest : List ℕ) × (pairs_text (pairs ++ more) ≡ pairs_text pairs ++ rest)
 pairs_behind pairs [] = ([], ap pairs_text (append-nil pairs) ∙ sym (append-nil (pairs_text pairs)))
 pairs_behind pairs (pair ∷ more) =
-    let later = pairs_behind (pairs ++ pair ∷ []) more in
-    (
+    let later = pairs_behind (pairs ++ pair ∷ []) more in (
       pair_behind (length pairs) pair ++ later.0,
       ap pairs_text (sym (append_assoc pairs (pair ∷ []) more)) ∙ later.1 ∙ ap (λ text. text ++ later.0) (pairs_push pairs pair)
-      ∙ append_assoc (pairs_text pairs) (pair_behind (length pairs) pair) later.0,
+          ∙ append_assoc (pairs_text pairs) (pair_behind (length pairs) pair) later.0,
     )
 
 -- a pair was put behind the pairs before it

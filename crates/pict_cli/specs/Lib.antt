@@ -1,3 +1,4 @@
+pub mod Options
 pub mod Pieces
 pub mod Runs
 pub mod Stops

@@ -43,11 +43,7 @@ fn stop_of(fault: ModelFault) -> Stop
 /// # Errors
 ///
 /// The first refusal, or `OutOfMemory` where memory was refused.
-fn parse_model(
-    alloc: Global,
-    bytes: &[u8],
-    opts: &ModelOpts,
-) -> Result<(TestModel, NoteList), Stop>
+fn parse_model(alloc: Global, bytes: &[u8], opts: &ModelOpts) -> Result<(TestModel, NoteList), Stop>
     requires len { length bytes.now ≤ 2 ^ 22 }
     requires opts { AreOpts opts.now }
     ensures model { IfOk result (λ read. IsModelOf opts.now bytes.now read.0 read.1 × IsSound read.0) }

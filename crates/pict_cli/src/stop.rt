@@ -2,7 +2,6 @@ ghost use Rattle.std.specs.Prelude.{◌≡◌};
 ghost use Rattle.outside_io.specs.Puts.{Puts, CountsFaults};
 ghost use Rattle.definitions.specs.Diagnostics.{bytes_limit_line, count_limit_line, counted_name, model_line, spent_line, word_line};
 ghost use Rattle.definitions.specs.Limits.{ModelFile, most_counted};
-
 ghost use Rattle.model_lex.specs.Codes.{diag_code, diag_text};
 ghost use Rattle.pict_cli.specs.Pieces.{spent_opening};
 ghost use Rattle.pict_cli.specs.Stops.{counted, line_of, status_of};

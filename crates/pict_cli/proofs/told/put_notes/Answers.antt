@@ -18,7 +18,7 @@ returns-in-Failed-clause-puts g c =
 pub loop-note-preserved : goal.loop-note-preserved
 loop-note-preserved g c = record {
   puts = Puts-piece note_line c.args.notes.now c.loop-note.note-index no_note
-    (g.E.Sink.written c.args.sink.now) (g.E.Sink.written c.loop-note.sink) (g.E.Sink.written c.put_note.new.sink)
-    c.loop-note-test.true c.loop-note.invariant.puts c.in-Done.ensures.puts;
+      (g.E.Sink.written c.args.sink.now) (g.E.Sink.written c.loop-note.sink) (g.E.Sink.written c.put_note.new.sink)
+      c.loop-note-test.true c.loop-note.invariant.puts c.in-Done.ensures.puts;
   counts = c.in-Done.ensures.counts ∙ c.loop-note.invariant.counts;
 }

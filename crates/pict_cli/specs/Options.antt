@@ -1,0 +1,117 @@
+-- The settings of a command as the program has them, and as definitions name them.
+use Rattle.std.specs.Prelude.{◌≡◌, ℕ, ◌+◌, ◌-◌, ◌^◌, min, Bool, true, false, ◌&&◌, ◌||◌, List, [], ◌∷◌, filter_map, take, drop, slice_index_or, Option, Some, Result, Err}
+use Rattle.std.specs.List.{list_any}
+use Rattle.std.specs.Option.{option_map}
+use Rattle.definitions.specs.Settings as defined
+use Rattle.definitions.specs.Words.{Command, is_generating, is_measuring, is_of_a_file, is_faulty, set_by}
+use Rattle.pict_cli.specs.declared.kinds.Kinds.{Kinds}
+use Rattle.pict_cli.specs.declared.options.Opts.{Opts}
+use Rattle.model_lex.specs.declared.options.OrderWord.{OrderWord}
+use Rattle.model_lex.specs.declared.options.OrderWord.TheVariants as orders
+use Rattle.pict_cli.specs.declared.setting.Shuffle.{Shuffle}
+use Rattle.pict_cli.specs.declared.setting.Shuffle.TheVariants as shuffles
+use Rattle.refutation.specs.Proofs.{format_of}
+use Rattle.pict_cli.specs.declared.setting.Setting.{Setting}
+use Rattle.pict_cli.specs.declared.setting.Setting.TheVariants as settings
+
+abbrev pub order_seen : OrderWord → defined.OrderWord
+order_seen (orders.Number n) = defined.OrderOf n
+order_seen orders.Max = defined.OrderMax
+
+abbrev pub shuffle_seen : Shuffle → defined.Shuffle
+shuffle_seen shuffles.Off = defined.NoShuffle
+shuffle_seen shuffles.Bare = defined.AnyShuffle
+shuffle_seen (shuffles.Number n) = defined.ShuffleBy n
+
+-- what one word sets
+abbrev pub setting_seen : Setting → defined.Setting
+setting_seen (settings.Order order) = defined.Order (order_seen order)
+setting_seen (settings.Separator c) = defined.Separator c
+setting_seen (settings.Alias c) = defined.Alias c
+setting_seen (settings.Prefix c) = defined.Prefix c
+setting_seen (settings.SeedFile name) = defined.SeedFile name.now
+setting_seen (settings.ShuffleValues shuffle) = defined.ShuffleValues (shuffle_seen shuffle)
+setting_seen settings.CaseCounts = defined.CaseCounts
+setting_seen settings.Statistics = defined.Statistics
+setting_seen (settings.Workers n) = defined.Workers n
+setting_seen (settings.Budget n) = defined.Budget n
+setting_seen (settings.ProofFile name) = defined.ProofFile name.now
+setting_seen (settings.ProofFormat form) = defined.ProofFormat (format_of form)
+setting_seen (settings.MeasureFile name) = defined.MeasureFile name.now
+setting_seen (settings.Make n) = defined.Make n
+setting_seen (settings.SuspectFile name) = defined.SuspectFile name.now
+
+-- all that is set
+abbrev pub settings_seen : Opts → defined.Settings
+settings_seen o = record {
+  order = order_seen o.opts.order;
+  separator = o.opts.marks.separator;
+  alias = o.opts.marks.alias;
+  prefix = o.opts.marks.prefix;
+  fold_case = o.opts.fold;
+  seeds = option_map (λ name. name.now) o.seeds;
+  shuffle = shuffle_seen o.shuffle;
+  stats = o.stats;
+  workers = o.workers;
+  budget = o.budget;
+  proof = option_map (λ name. name.now) o.proof;
+  form = format_of o.form;
+  measure = option_map (λ name. name.now) o.measure;
+  make = o.make;
+  suspect = option_map (λ name. name.now) o.suspect;
+}
+
+-- the whole command
+abbrev pub command_seen : Opts → Command
+command_seen o = record { names = o.model.now ∷ []; settings = settings_seen o }
+
+-- what a setting is about, and what several are about together
+abbrev pub is_suspecting : defined.Setting → Bool
+is_suspecting (defined.SuspectFile name) = true
+is_suspecting setting = false
+
+abbrev pub is_making : defined.Setting → Bool
+is_making (defined.Make n) = true
+is_making setting = false
+
+abbrev pub kind_of : defined.Setting → Kinds
+kind_of s = record { generating = is_generating s; measuring = is_measuring s; suspecting = is_suspecting s; making = is_making s; of_a_file = is_of_a_file s }
+
+abbrev pub kinds_of : List defined.Setting → Kinds
+kinds_of settings = record {
+  generating = list_any is_generating settings;
+  measuring = list_any is_measuring settings;
+  suspecting = list_any is_suspecting settings;
+  making = list_any is_making settings;
+  of_a_file = list_any is_of_a_file settings;
+}
+
+abbrev pub joined_kinds : Kinds → Kinds → Kinds
+joined_kinds a b = record {
+  generating = a.generating || b.generating;
+  measuring = a.measuring || b.measuring;
+  suspecting = a.suspecting || b.suspecting;
+  making = a.making || b.making;
+  of_a_file = a.of_a_file || b.of_a_file;
+}
+
+-- settings about the first leave no place for settings about the second
+abbrev pub excludes_by_kinds : Kinds → Kinds → Bool
+excludes_by_kinds a b = a.measuring && b.generating || a.suspecting && (b.generating || b.measuring) || a.making && b.of_a_file
+
+-- these words were taken: the settings are what they set, and the kinds what they are about
+pub record IsReading (opts : Opts) (about : Kinds) (words : List (List ℕ)) : Type 0 where
+  pub settings : settings_seen opts ≡ set_by words
+  pub kinds : about ≡ kinds_of (filter_map defined.setting_of words)
+
+-- the word of this place, from 0, has no reading between the others
+abbrev pub is_faulty_at : List (List ℕ) → ℕ → Bool
+is_faulty_at words place = is_faulty (take place words) (slice_index_or words place []) (drop (place + 1) words)
+
+-- there is a fault, and it is told by its number, or by 2^32 - 1 where it is greater
+abbrev pub HasFault : Option ℕ → ℕ → Type 0
+HasFault fault index = (n : ℕ) × (fault ≡ Some n) × (index ≡ min n (2 ^ 32 - 1))
+
+-- the words have no reading, and the number of the fault is told so
+abbrev pub IsRefused : Result Command ℕ → ℕ → Type 0
+IsRefused reading index = (n : ℕ) × (reading ≡ Err n) × (index ≡ min n (2 ^ 32 - 1))

@@ -1,0 +1,261 @@
+ghost use Rattle.std.specs.Prelude.{◌≡◌, ◌-◌, ◌+◌, ◌^◌, ◌<◌, ◌&&◌, ◌||◌, ℕ, List, [], ◌∷◌, true, not, length, map, take, drop, min, slice_index_or, Ok, Err, MatchResult, IfSome, Option, Some, None, is_none};
+ghost use Rattle.std.specs.List.{list_any};
+ghost use Rattle.std.specs.String.{string_bytes};
+ghost use Rattle.definitions.specs.Settings as defined;
+ghost use Rattle.definitions.specs.Words as reading;
+ghost use Rattle.pict_cli.specs.Options.{setting_seen, settings_seen, command_seen, IsReading, is_faulty_at, HasFault, IsRefused};
+ghost use Rattle.pict_cli.specs.Words.{texts};
+
+use crate::kinds::Kinds;
+use crate::setting::{Setting, Shuffle, is_named, setting_of};
+use model_lex::{Marks, ModelOpts, OrderWord};
+use refutation::ProofForm;
+
+/// What the words of a command ask for (PICT's guide; this project's rules). It borrows the words.
+#[derive(Drop, Clone, Copy)]
+pub struct Opts<'w> {
+    /// The name of the model file.
+    pub model: &'w str,
+    /// How the model file is to be read.
+    pub opts: ModelOpts,
+    /// The file of seed rows.
+    pub seeds: Option<&'w str>,
+    /// How values are shuffled.
+    pub shuffle: Shuffle,
+    /// Whether statistics are printed in place of rows.
+    pub stats: bool,
+    /// The number of workers.
+    pub workers: u32,
+    /// The most nodes that one question may visit.
+    pub budget: u64,
+    /// The file that the proof is written to.
+    pub proof: Option<&'w str>,
+    /// The form of the proof file.
+    pub form: ProofForm,
+    /// The suite that is measured, in place of generating one.
+    pub measure: Option<&'w str>,
+    /// The number of the model that is made and written to the model file.
+    pub make: Option<u64>,
+    /// The suite with results in which suspicious tuples are looked for, in place of generating one.
+    pub suspect: Option<&'w str>,
+}
+
+/// A command line that has no reading.
+#[derive(Debug, Drop, Clone, Copy, PartialEq, Eq)]
+pub struct WordFault {
+    /// The number of the first word without a reading, from 1; 2^32 - 1 stands for a greater one too.
+    pub index: u32,
+}
+
+impl<'w> Opts<'w> {
+    /// What holds for a model file without further words.
+    fn of(model: &'w str) -> Opts<'w>
+        ensures model { result.model.now ≡ model.now }
+        ensures settings { settings_seen result ≡ defined.defaults }
+    {
+        Opts {
+            model,
+            opts: ModelOpts {
+                order: OrderWord::Number(2),
+                marks: Marks {
+                    separator: b',',
+                    alias: b'|',
+                    prefix: b'~',
+                },
+                fold: true,
+            },
+            seeds: None,
+            shuffle: Shuffle::Off,
+            stats: false,
+            workers: 1,
+            budget: 1_000_000,
+            proof: None,
+            form: ProofForm::One,
+            measure: None,
+            make: None,
+            suspect: None,
+        }
+    }
+
+    /// The same with one more setting.
+    fn with(self, setting: Setting<'w>) -> Opts<'w>
+        ensures model { result.model ≡ self.entry.model }
+        ensures settings { settings_seen result ≡ defined.set (settings_seen self.entry) (setting_seen setting.entry) }
+    {
+        match setting {
+            Setting::Order(order) => Opts {
+                opts: ModelOpts { order, ..self.opts },
+                ..self
+            },
+            Setting::Separator(separator) => self.with_marks(Marks {
+                separator,
+                ..self.opts.marks
+            }),
+            Setting::Alias(alias) => self.with_marks(Marks {
+                alias,
+                ..self.opts.marks
+            }),
+            Setting::Prefix(prefix) => self.with_marks(Marks {
+                prefix,
+                ..self.opts.marks
+            }),
+            Setting::CaseCounts => Opts {
+                opts: ModelOpts {
+                    fold: false,
+                    ..self.opts
+                },
+                ..self
+            },
+            Setting::SeedFile(name) => Opts {
+                seeds: Some(name),
+                ..self
+            },
+            Setting::ShuffleValues(shuffle) => Opts { shuffle, ..self },
+            Setting::Statistics => Opts {
+                stats: true,
+                ..self
+            },
+            Setting::Workers(workers) => Opts { workers, ..self },
+            Setting::Budget(budget) => Opts { budget, ..self },
+            Setting::ProofFile(name) => Opts {
+                proof: Some(name),
+                ..self
+            },
+            Setting::ProofFormat(form) => Opts { form, ..self },
+            Setting::MeasureFile(name) => Opts {
+                measure: Some(name),
+                ..self
+            },
+            Setting::Make(number) => Opts {
+                make: Some(number),
+                ..self
+            },
+            Setting::SuspectFile(name) => Opts {
+                suspect: Some(name),
+                ..self
+            },
+        }
+    }
+
+    /// The same with other marks.
+    fn with_marks(self, marks: Marks) -> Opts<'w>
+        ensures { result ≡ record self.entry { opts = record self.entry.opts { marks = marks } } }
+    {
+        Opts {
+            opts: ModelOpts { marks, ..self.opts },
+            ..self
+        }
+    }
+
+    /// Whether two of the three marks are equal.
+    fn has_equal_marks(&self) -> bool
+        ensures { result ≡ reading.has_equal_marks (settings_seen self.now) }
+    {
+        let marks = self.opts.marks;
+        marks.separator == marks.alias
+            || marks.separator == marks.prefix
+            || marks.alias == marks.prefix
+    }
+}
+
+/// Whether a word sets a mark, even if its value is no mark.
+fn is_mark_word(word: &str) -> bool
+    ensures { result ≡ reading.is_mark_word word.now }
+{
+    is_named(word, "/d") || is_named(word, "/a") || is_named(word, "/n")
+}
+
+/// Whether one of the words sets a mark.
+fn has_mark_word(words: &[String]) -> bool
+    ensures { result ≡ list_any (λ word. reading.is_mark_word (string_bytes word)) words.now }
+{
+    words.iter().any(|word| is_mark_word(word.as_str()))
+}
+
+/// Whether a word sets a mark, and none behind it does.
+fn is_last_mark(words: &[String], place: usize) -> bool
+    requires { place < length words.now }
+    ensures { result ≡ (reading.is_mark_word (slice_index_or (texts words.now) place []) && not (list_any reading.is_mark_word (drop (place + 1) (texts words.now)))) }
+{
+    is_mark_word(words[place].as_str()) && !has_mark_word(&words[place + 1..])
+}
+
+/// The fault of the option of this number from 0, of which the first is the second word.
+fn fault_at(place: usize) -> WordFault
+    ensures { result.index ≡ min (place + 2) (2 ^ 32 - 1) }
+{
+    WordFault {
+        index: u32::try_from(place.saturating_add(2)).unwrap_or(u32::MAX),
+    }
+}
+
+/// What the options so far ask for, and what they are about.
+#[derive(Drop, Clone, Copy)]
+struct Reading<'w> {
+    opts: Opts<'w>,
+    kinds: Kinds,
+}
+
+impl<'w> Reading<'w> {
+    /// The reading with the option of this number from 0 behind those so far; `None` exactly where this option
+    /// has no reading.
+    fn with_option(self, options: &'w [String], place: usize) -> Option<Reading<'w>>
+        requires place { place < length options.now }
+        requires reads { IsReading self.opts self.kinds (take place (texts options.now)) }
+        ensures faulty { is_none result ≡ is_faulty_at (texts options.now) place }
+        ensures reads { IfSome result (λ more. IsReading more.opts more.kinds (take (place + 1) (texts options.now))) }
+        ensures model { IfSome result (λ more. more.opts.model ≡ self.entry.opts.model) }
+    {
+        let word = options[place].as_str();
+        let Some(setting) = setting_of(word) else {
+            return None;
+        };
+        let kind = Kinds::of(&setting);
+        if kind.exclude_each_other(self.kinds) {
+            return None;
+        }
+        let opts = self.opts.with(setting);
+        if is_last_mark(options, place) && opts.has_equal_marks() {
+            return None;
+        }
+        Some(Reading {
+            opts,
+            kinds: self.kinds.join(kind),
+        })
+    }
+}
+
+/// What options ask for, of this model file.
+fn read_options<'w>(model: &'w str, options: &'w [String]) -> Result<Opts<'w>, WordFault>
+    ensures { MatchResult result
+        (λ opts. (reading.first_faulty 2 [] (texts options.now) ≡ None) × (opts.model.now ≡ model.now) × (settings_seen opts ≡ reading.set_by (texts options.now)))
+        (λ fault. HasFault (reading.first_faulty 2 [] (texts options.now)) fault.index) }
+{
+    let mut reading = Reading {
+        opts: Opts::of(model),
+        kinds: Kinds::none(),
+    };
+    for place in 0..options.len() {
+        let Some(more) = reading.with_option(options, place) else {
+            return Err(fault_at(place));
+        };
+        reading = more;
+    }
+    Ok(reading.opts)
+}
+
+/// What the words of `pict` ask for, those behind the program's name. Takes no memory.
+///
+/// # Errors
+///
+/// The first word that has no reading; the first where there is none.
+pub fn read_words<'w>(words: &'w [String]) -> Result<Opts<'w>, WordFault>
+    ensures { MatchResult result
+        (λ opts. reading.read_words (texts words.now) ≡ Ok (command_seen opts))
+        (λ fault. IsRefused (reading.read_words (texts words.now)) fault.index) }
+{
+    match words {
+        [name, options @ ..] if !name.is_empty() => read_options(name.as_str(), options),
+        _ => Err(WordFault { index: 1 }),
+    }
+}
