@@ -77,73 +77,27 @@ impl<'w> Opts<'w> {
         }
     }
 
-    /// The same with one more setting.
-    fn with(self, setting: Setting<'w>) -> Opts<'w>
-        ensures model { result.model ≡ self.entry.model }
-        ensures settings { settings_seen result ≡ defined.set (settings_seen self.entry) (setting_seen setting.entry) }
+    /// Sets one thing more.
+    fn set(&mut self, setting: Setting<'w>)
+        ensures model { self.new.model ≡ self.old.model }
+        ensures settings { settings_seen self.new ≡ defined.set (settings_seen self.old) (setting_seen setting.entry) }
     {
         match setting {
-            Setting::Order(order) => Opts {
-                opts: ModelOpts { order, ..self.opts },
-                ..self
-            },
-            Setting::Separator(separator) => self.with_marks(Marks {
-                separator,
-                ..self.opts.marks
-            }),
-            Setting::Alias(alias) => self.with_marks(Marks {
-                alias,
-                ..self.opts.marks
-            }),
-            Setting::Prefix(prefix) => self.with_marks(Marks {
-                prefix,
-                ..self.opts.marks
-            }),
-            Setting::CaseCounts => Opts {
-                opts: ModelOpts {
-                    fold: false,
-                    ..self.opts
-                },
-                ..self
-            },
-            Setting::SeedFile(name) => Opts {
-                seeds: Some(name),
-                ..self
-            },
-            Setting::ShuffleValues(shuffle) => Opts { shuffle, ..self },
-            Setting::Statistics => Opts {
-                stats: true,
-                ..self
-            },
-            Setting::Workers(workers) => Opts { workers, ..self },
-            Setting::Budget(budget) => Opts { budget, ..self },
-            Setting::ProofFile(name) => Opts {
-                proof: Some(name),
-                ..self
-            },
-            Setting::ProofFormat(form) => Opts { form, ..self },
-            Setting::MeasureFile(name) => Opts {
-                measure: Some(name),
-                ..self
-            },
-            Setting::Make(number) => Opts {
-                make: Some(number),
-                ..self
-            },
-            Setting::SuspectFile(name) => Opts {
-                suspect: Some(name),
-                ..self
-            },
-        }
-    }
-
-    /// The same with other marks.
-    fn with_marks(self, marks: Marks) -> Opts<'w>
-        ensures { result ≡ record self.entry { opts = record self.entry.opts { marks = marks } } }
-    {
-        Opts {
-            opts: ModelOpts { marks, ..self.opts },
-            ..self
+            Setting::Order(order) => self.opts.order = order,
+            Setting::Separator(mark) => self.opts.marks.separator = mark,
+            Setting::Alias(mark) => self.opts.marks.alias = mark,
+            Setting::Prefix(mark) => self.opts.marks.prefix = mark,
+            Setting::CaseCounts => self.opts.fold = false,
+            Setting::SeedFile(name) => self.seeds = Some(name),
+            Setting::ShuffleValues(shuffle) => self.shuffle = shuffle,
+            Setting::Statistics => self.stats = true,
+            Setting::Workers(workers) => self.workers = workers,
+            Setting::Budget(budget) => self.budget = budget,
+            Setting::ProofFile(name) => self.proof = Some(name),
+            Setting::ProofFormat(form) => self.form = form,
+            Setting::MeasureFile(name) => self.measure = Some(name),
+            Setting::Make(number) => self.make = Some(number),
+            Setting::SuspectFile(name) => self.suspect = Some(name),
         }
     }
 
@@ -214,7 +168,8 @@ impl<'w> Reading<'w> {
         if kind.exclude_each_other(self.kinds) {
             return None;
         }
-        let opts = self.opts.with(setting);
+        let mut opts = self.opts;
+        opts.set(setting);
         if is_last_mark(options, place) && opts.has_equal_marks() {
             return None;
         }

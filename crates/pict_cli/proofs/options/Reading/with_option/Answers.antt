@@ -30,7 +30,7 @@ returns-then-has_equal_marks-clause-faulty c =
     let clashes : clash (kind_of setting) (kinds_of (filter_map setting_of before)) ≡ false =
     sym (sym c.if-exclude_each_other.false ∙ c.exclude_each_other.ensures ∙ ap (λ kind. clash kind c.args.self.kinds) c.of-kind.ensures ∙ ap (clash (kind_of setting)) c.requires.reads.kinds) in
     let equal : has_equal_marks (set (set_by before) setting) ≡ true =
-    sym (sym c.if-has_equal_marks.true ∙ c.has_equal_marks.ensures ∙ ap has_equal_marks (c.with-opts.ensures.settings ∙ ap (λ settings. set settings setting) c.requires.reads.settings)) in
+    sym (sym c.if-has_equal_marks.true ∙ c.has_equal_marks.ensures ∙ ap has_equal_marks (c.set.ensures.settings ∙ ap (λ settings. set settings setting) c.requires.reads.settings)) in
     sym (faulty-by before (drop (c.args.place + 1) words) (get_or words c.args.place []) setting false true true (ap setting_of (sym word) ∙ sym c.in-Some.ensures) clashes
     (sym c.is_last_mark.ensures ∙ c.if-is_last_mark.true) equal)
 
@@ -44,7 +44,7 @@ returns-clause-faulty c =
     let word = word_at c.args.options.now c.args.place c.index-options-place.result c.as_str-word.result.now c.requires.place c.index-options-place.is c.as_str-word.ensures.value in
     let clashes : clash (kind_of setting) (kinds_of (filter_map setting_of before)) ≡ false =
     sym (sym c.if-exclude_each_other.false ∙ c.exclude_each_other.ensures ∙ ap (λ kind. clash kind c.args.self.kinds) c.of-kind.ensures ∙ ap (clash (kind_of setting)) c.requires.reads.kinds) in
-    let settings = ap has_equal_marks (c.with-opts.ensures.settings ∙ ap (λ settings. set settings setting) c.requires.reads.settings) in
+    let settings = ap has_equal_marks (c.set.ensures.settings ∙ ap (λ settings. set settings setting) c.requires.reads.settings) in
     let parts = λ (last equal : Bool). faulty-by before after own setting false last equal (ap setting_of (sym word) ∙ sym c.in-Some.ensures) clashes in
     elim c.else-is_last_mark.branch [
       | else-is_last_mark-via-then-is_last_mark+else-has_equal_marks w ↦ sym (parts true false (sym c.is_last_mark.ensures ∙ w.if-is_last_mark.true) (sym (sym w.if-has_equal_marks.false ∙ w.has_equal_marks.ensures ∙ settings)))
@@ -62,7 +62,7 @@ returns-clause-reads c =
     let inside : c.args.place < length words = omega (arith, length-map c.args.options.now string_bytes) in
     let more = take_more words c.args.place [] inside in
     record {
-      settings = c.with-opts.ensures.settings ∙ ap (λ settings. set settings setting) c.requires.reads.settings ∙ sym (set_by-push before own setting sets) ∙ ap set_by (sym more);
+      settings = c.set.ensures.settings ∙ ap (λ settings. set settings setting) c.requires.reads.settings ∙ sym (set_by-push before own setting sets) ∙ ap set_by (sym more);
       kinds = c.join.ensures ∙ ap (λ kind. joined_kinds c.args.self.kinds kind) c.of-kind.ensures ∙ ap (λ kinds. joined_kinds kinds (kind_of setting)) c.requires.reads.kinds
           ∙ sym (about-push before own setting sets) ∙ ap (λ taken. kinds_of (filter_map setting_of taken)) (sym more);
     }
