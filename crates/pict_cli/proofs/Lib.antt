@@ -6,4 +6,6 @@ pub mod PutLines
 pub mod PutPairs
 pub mod PutPieces
 pub mod PutTold
+pub mod RangeLemmas
+pub mod Unbuilt
 pub mod WordLemmas

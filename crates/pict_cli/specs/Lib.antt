@@ -1,5 +1,6 @@
 pub mod Options
 pub mod Pieces
+pub mod Ranges
 pub mod Runs
 pub mod Stops
 pub mod Told

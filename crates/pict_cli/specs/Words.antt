@@ -1,6 +1,6 @@
 -- The words behind the program's name. (PICT's guide; which options aren't built yet is this project's
 -- affair, and they go.)
-use Rattle.std.specs.Prelude.{ℕ, ◌+◌, Bool, true, false, List, map, drop, Option, Some, None, Result, Ok, Err, option_map, position, slice_index_or, []}
+use Rattle.std.specs.Prelude.{◌≡◌, ℕ, ◌+◌, ◌-◌, ◌^◌, min, Bool, true, false, List, map, drop, Option, Some, None, Result, Ok, Err, option_map, position, slice_index_or, []}
 use Rattle.std.specs.Option.{option_map_or}
 use Rattle.std.specs.String.{string_bytes}
 use Rattle.std.specs.declared.string.String.{String}
@@ -26,9 +26,13 @@ is_unbuilt (MeasureFile name) = true
 is_unbuilt (Make n) = true
 is_unbuilt (SuspectFile name) = true
 
--- the number of the first word for such an option, counted from 1
+-- the word asks for what isn't built yet
+abbrev pub asks_unbuilt : List ℕ → Bool
+asks_unbuilt word = option_map_or is_unbuilt (setting_of word) false
+
+-- the number of the first word that does, counted from 1
 abbrev pub first_unbuilt : List (List ℕ) → Option ℕ
-first_unbuilt words = option_map (λ i. i + 2) (position (λ word. option_map_or is_unbuilt (setting_of word) false) (drop 1 words))
+first_unbuilt words = option_map (λ i. i + 2) (position asks_unbuilt (drop 1 words))
 
 -- the settings of a command, or the word where it needs what isn't built yet
 abbrev pub if_built : Option ℕ → Settings → Result Settings ℕ
@@ -40,8 +44,12 @@ abbrev pub built_from : List (List ℕ) → Result Command ℕ → Result Settin
 built_from words (Ok command) = if_built (first_unbuilt words) command.settings
 built_from words (Err index) = Err index
 
-abbrev pub settings_of : List (List ℕ) → Result Settings ℕ
-settings_of words = built_from words (read_words words)
+abbrev pub asked_by : List (List ℕ) → Result Settings ℕ
+asked_by words = built_from words (read_words words)
+
+-- the number of a word that has no reading is told, or 2^32 - 1 where it is greater
+abbrev pub IsWordFault : List (List ℕ) → ℕ → Type 0
+IsWordFault words index = (n : ℕ) × (asked_by words ≡ Err n) × (index ≡ min n (2 ^ 32 - 1))
 
 -- the name of the model file, and the words as they are passed, as texts
 abbrev pub model_name : List (List ℕ) → List ℕ

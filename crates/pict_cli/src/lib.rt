@@ -8,6 +8,7 @@ mod put;
 mod setting;
 mod stop;
 mod told;
+mod words;
 
 pub use options::{Opts, WordFault, read_words};
 pub use setting::Shuffle;
