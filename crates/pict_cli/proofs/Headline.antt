@@ -35,3 +35,7 @@ prints_covering m shuffle (Some written) after sound put =
     let rows = (growth m (preference m shuffle) []).rows in
     let covers = suites_cover m (preference m shuffle) [] sound (are_preferences m shuffle) in
     (report_text m rows, put, subst (Covers m) (sym (read_back m rows sound (are_rows m rows covers.valid))) covers)
+
+-- the rows of a suite are rows
+pub suite_rows : (m : ModelView) (shuffle : Option ℕ) → IsSound m → All (λ row. is_row m row ≡ true) (growth m (preference m shuffle) []).rows
+suite_rows m shuffle sound = are_rows m (growth m (preference m shuffle) []).rows (suites_cover m (preference m shuffle) [] sound (are_preferences m shuffle)).valid

@@ -1,4 +1,5 @@
 pub mod Colons
+pub mod GrowthEnds
 pub mod Headline
 pub mod KindLemmas
 pub mod Pieces
@@ -7,5 +8,6 @@ pub mod PutPairs
 pub mod PutPieces
 pub mod PutTold
 pub mod RangeLemmas
+pub mod Stopping
 pub mod Unbuilt
 pub mod WordLemmas

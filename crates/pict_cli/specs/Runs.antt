@@ -1,9 +1,10 @@
 -- What a run of `pict` does with the bytes of a model file. (PICT's guide for what is printed; the steps,
 -- their order and their statuses are this project's rules.)
-use Rattle.std.specs.Prelude.{◌≡◌, ℕ, ◌<◌, ◌⊎◌, List, [], ◌++◌, length, Option, Some, None, Result, Ok, Err, option_map, if◌then◌else◌, IfSome, IsSomeAnd}
+use Rattle.std.specs.Prelude.{◌≡◌, ℕ, ◌<◌, ◌⊎◌, List, [], ◌++◌, length, Option, Some, None, Result, Ok, Err, option_map, IfSome, IsSomeAnd}
 use Rattle.outside_io.specs.declared.answers.WriteAnswer.{WriteAnswer}
 use Rattle.outside_io.specs.declared.answers.WriteAnswer.TheVariants.{Done, Failed}
 use Rattle.outside_io.specs.Puts.{Puts}
+use Rattle.outside_io.specs.Faults.{Rose}
 use Rattle.cov_model.specs.Sound.{ModelView, IsSound}
 use Rattle.cov_model.specs.Preference.{preference}
 use Rattle.model_lex.specs.declared.options.ModelOpts.{ModelOpts}
@@ -23,7 +24,6 @@ use Rattle.definitions.specs.Report.{report_text}
 use Rattle.definitions.specs.RowFile.{rows_of}
 use Rattle.definitions.specs.Search.{first_over}
 use Rattle.definitions.specs.Settings.{OrderWord, OrderOf, OrderMax, Shuffle, NoShuffle, AnyShuffle, ShuffleBy, Settings}
-use Rattle.definitions.specs.Statistics.{statistics, statistics_text}
 use Rattle.tuple_index.specs.PlanFault.{limit_passed}
 use Rattle.tuple_index.specs.declared.fault.PlanFault.{PlanFault}
 use Rattle.tuple_index.specs.declared.fault.PlanFault.TheVariants.{TooManySets, TooManyTuples}
@@ -59,9 +59,9 @@ orders_of s seed m = preference m (shuffled_by s.shuffle seed)
 abbrev pub growth_of : Settings → ℕ → ModelView → Grown
 growth_of s seed m = growth m (orders_of s seed m) []
 
--- what is printed: the statistics, or the report of the suite
+-- what is printed: the report of the suite
 abbrev pub printed : Settings → ℕ → ModelView → List ℕ
-printed s seed m = if s.stats then statistics_text (statistics m (orders_of s seed m) []) else report_text m (growth_of s seed m).rows
+printed s seed m = report_text m (growth_of s seed m).rows
 
 -- the first question of the run whose plain cost is above the budget
 abbrev pub question_over : Settings → ℕ → ModelView → Option (List (Option ℕ))
@@ -153,3 +153,8 @@ Ends s seed held notes before after end =
 abbrev pub PrintsCovering : ModelView → Option (List ℕ) → Option (List ℕ) → Type 0
 PrintsCovering m before after =
     IfSome before (λ written. (added : List ℕ) × (after ≡ Some (written ++ added)) × Covers m (rows_of m added))
+
+-- the count of faults of the output: it rose where the output couldn't be written, and else it stays
+abbrev pub CountsOut : Result (Unit {0}) Stop → ℕ → ℕ → Type 0
+CountsOut (Err CannotWriteReport) before after = Rose before after
+CountsOut end before after = after ≡ before

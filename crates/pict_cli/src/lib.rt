@@ -7,6 +7,7 @@ mod options;
 mod put;
 mod setting;
 mod stop;
+mod suite;
 mod told;
 mod words;
 

@@ -13,6 +13,7 @@ fn is_unbuilt(setting: &Setting<'_>) -> bool
 {
     match setting {
         Setting::SeedFile(_)
+        | Setting::Statistics
         | Setting::ProofFile(_)
         | Setting::MeasureFile(_)
         | Setting::Make(_)
