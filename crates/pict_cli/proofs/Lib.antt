@@ -8,6 +8,7 @@ pub mod PutPairs
 pub mod PutPieces
 pub mod PutTold
 pub mod RangeLemmas
+pub mod RunEnds
 pub mod Stopping
 pub mod Unbuilt
 pub mod WordLemmas

@@ -1,6 +1,6 @@
 -- What a run of `pict` does with the bytes of a model file. (PICT's guide for what is printed; the steps,
 -- their order and their statuses are this project's rules.)
-use Rattle.std.specs.Prelude.{◌≡◌, ℕ, ◌<◌, ◌⊎◌, List, [], ◌++◌, length, Option, Some, None, Result, Ok, Err, option_map, IfSome, IsSomeAnd}
+use Rattle.std.specs.Prelude.{◌≡◌, ◌≢◌, ℕ, ◌<◌, ◌⊎◌, List, [], ◌++◌, length, Option, Some, None, Result, Ok, Err, option_map, IfSome, IsSomeAnd}
 use Rattle.outside_io.specs.declared.answers.WriteAnswer.{WriteAnswer}
 use Rattle.outside_io.specs.declared.answers.WriteAnswer.TheVariants.{Done, Failed}
 use Rattle.outside_io.specs.Puts.{Puts}
@@ -28,6 +28,7 @@ use Rattle.tuple_index.specs.PlanFault.{limit_passed}
 use Rattle.tuple_index.specs.declared.fault.PlanFault.{PlanFault}
 use Rattle.tuple_index.specs.declared.fault.PlanFault.TheVariants.{TooManySets, TooManyTuples}
 use Rattle.type_check.specs.ModelOf.{IsModelOf, IsRefusalOf}
+use Rattle.pict_cli.specs.Told.{Tells, end_status, told_text}
 use Rattle.pict_cli.specs.declared.stop.Stop.{Stop}
 use Rattle.pict_cli.specs.declared.stop.Stop.TheVariants.{OutOfMemory, Spent, BadWord, BadModel, BadConstraint, CannotRead, CannotWriteReport, TooMany, TooLong}
 use Rattle.pict_cli.specs.declared.stop.Quantity.{Quantity}
@@ -149,12 +150,25 @@ abbrev pub Ends : Settings → ℕ → Option (List ℕ) → List Note → Optio
 Ends s seed held notes before after end =
     (EndsReading s held notes end × (after ≡ before)) ⊎ HasModel s held notes (λ m. EndsBehind s seed m end × Prints (printed s seed m) before after end)
 
--- what was printed, behind what the output held before, is a report whose rows cover what can be covered
+-- what was printed, behind what the output held before, is a report whose rows cover what can be covered:
+-- every printed row is valid, and every demanded tuple is served by a printed row, or no row serves it
 abbrev pub PrintsCovering : ModelView → Option (List ℕ) → Option (List ℕ) → Type 0
 PrintsCovering m before after =
     IfSome before (λ written. (added : List ℕ) × (after ≡ Some (written ++ added)) × Covers m (rows_of m added))
+
+-- a stop of the reading of a model file is neither one of the words nor one of the output
+abbrev pub IsOfReading : Stop → Type 0
+IsOfReading stop = (stop ≢ CannotWriteReport) × ((index : ℕ) → stop ≢ BadWord index)
 
 -- the count of faults of the output: it rose where the output couldn't be written, and else it stays
 abbrev pub CountsOut : Result (Unit {0}) Stop → ℕ → ℕ → Type 0
 CountsOut (Err CannotWriteReport) before after = Rose before after
 CountsOut end before after = after ≡ before
+
+-- a run on a model file of this name: what it printed, what it told, and its status
+pub record IsRun (s : Settings) (seed : ℕ) (held : Option (List ℕ)) (name : List ℕ) (before after told_before told_after : Option (List ℕ)) (faults faults_after status : ℕ) : Type 0 where
+  pub notes : List Note
+  pub end : Result (Unit {0}) Stop
+  pub ends : Ends s seed held notes before after end
+  pub told : Tells told_before told_after faults faults_after (told_text (used_seed s.shuffle seed) notes name end)
+  pub ended : status ≡ end_status end

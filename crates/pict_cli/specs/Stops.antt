@@ -1,7 +1,7 @@
 -- Why a run may end before its output is written whole: its status, and its line on standard error.
 -- (This project's rules.)
-use Rattle.std.specs.Prelude.{◌≡◌, ℕ, List, ◌++◌, map, Option, codes, decimal}
-use Rattle.std.specs.List.{join_with_byte}
+use Rattle.std.specs.Prelude.{◌≡◌, ℕ, true, List, [], ◌∷◌, ◌==◌}
+use Rattle.std.specs.List.{list_any}
 use Rattle.model_lex.specs.Codes.{diag_code, diag_text}
 use Rattle.model_lex.specs.declared.diag.Diag.{Diag}
 use Rattle.definitions.specs.Limits as limits
@@ -42,3 +42,7 @@ line_of CannotRead name = cannot_read_line name
 line_of CannotWriteReport name = cannot_write_report_line
 line_of (TooMany quantity count) name = count_limit_line (counted quantity) count
 line_of TooLong name = bytes_limit_line limits.ModelFile
+
+-- the statuses that a run may end with
+abbrev pub IsStatus : ℕ → Type 0
+IsStatus status = list_any (λ s. s == status) (0 ∷ 1 ∷ 2 ∷ 3 ∷ 4 ∷ 5 ∷ 7 ∷ 8 ∷ 9 ∷ []) ≡ true

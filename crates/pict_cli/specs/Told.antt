@@ -7,7 +7,7 @@ use Rattle.model_lex.specs.Codes.{note_code, note_text}
 use Rattle.model_lex.specs.declared.note.Note.{Note}
 use Rattle.definitions.specs.Diagnostics.{model_note_line, used_seed_line}
 use Rattle.pict_cli.specs.declared.stop.Stop.{Stop}
-use Rattle.pict_cli.specs.Stops.{line_of}
+use Rattle.pict_cli.specs.Stops.{line_of, status_of}
 
 -- the line of a seed that no word gave
 abbrev pub seed_text : Option ℕ → List ℕ
@@ -34,3 +34,8 @@ told_text seed notes name end = seed_text seed ++ (notes_text notes ++ end_text 
 abbrev pub Tells : Option (List ℕ) → Option (List ℕ) → ℕ → ℕ → List ℕ → Type 0
 Tells before after faults faults_after text =
     (answer : WriteAnswer) × Puts answer before after text × CountsFaults answer faults faults_after
+
+-- the status of a run: 0 where it came to its end, else that of its stop
+abbrev pub end_status : Result (Unit {0}) Stop → ℕ
+end_status (Ok done) = 0
+end_status (Err stop) = status_of stop

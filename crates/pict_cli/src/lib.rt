@@ -5,6 +5,7 @@ mod kinds;
 mod load;
 mod options;
 mod put;
+mod run;
 mod setting;
 mod stop;
 mod suite;
@@ -12,4 +13,5 @@ mod told;
 mod words;
 
 pub use options::{Opts, WordFault, read_words};
+pub use run::run_pict;
 pub use setting::Shuffle;

@@ -4,7 +4,7 @@ ghost use Rattle.outside_io.specs.Files.{KeepsFiles};
 ghost use Rattle.cov_model.specs.Sound.{IsSound};
 ghost use Rattle.model_parse.specs.RawModels.{AreOpts};
 ghost use Rattle.type_check.specs.ModelOf.{IsModelOf, IsRefusalOf};
-ghost use Rattle.pict_cli.specs.Runs.{IsLoaded, StopsReading, limit_named};
+ghost use Rattle.pict_cli.specs.Runs.{IsLoaded, IsOfReading, StopsReading, limit_named};
 
 use crate::stop::{MOST_MODEL_BYTES, Quantity, Stop};
 use cov_model::TestModel;
@@ -28,6 +28,7 @@ fn quantity_of(limit: LimitName) -> Quantity
 /// Why a run stops whose model file is refused.
 fn stop_of(fault: ModelFault) -> Stop
     ensures read { result ≢ Stop.CannotRead }
+    ensures other { IsOfReading result }
     ensures refused { (opts : ModelOpts) (bytes : List ℕ) → (fault ≢ ModelFault.NoMemory → IsRefusalOf opts bytes fault) → StopsReading opts (Some bytes) result }
 {
     match fault {
@@ -49,6 +50,7 @@ fn parse_model(alloc: Global, bytes: &[u8], opts: &ModelOpts) -> Result<(TestMod
     ensures model { IfOk result (λ read. IsModelOf opts.now bytes.now read.0 read.1 × IsSound read.0) }
     ensures stops { IfErr result (StopsReading opts.now (Some bytes.now)) }
     ensures read { result ≢ Err Stop.CannotRead }
+    ensures other { IfErr result IsOfReading }
 {
     match read_model(alloc, bytes, opts) {
         Ok((model, notes)) => {
@@ -76,6 +78,7 @@ pub(crate) fn load_model<F: Folder>(
     ensures stops { IfErr result (λ stop. IfSome (F.file files.old name.now) (λ held. StopsReading opts.now held stop)) }
     ensures cannot_read { result ≡ Err Stop.CannotRead → Rose (F.read_faults files.old name.now) (F.read_faults files.new name.now) }
     ensures no_fault { result ≢ Err Stop.CannotRead → KeepsCounts (F.read_faults files.old) (F.read_faults files.new) }
+    ensures other { IfErr result IsOfReading }
     ensures missing { IfSome (F.file files.old name.now) (λ held. held ≡ None → IfErr result (λ stop. (stop ≡ Stop.CannotRead) ⊎ (stop ≡ Stop.OutOfMemory))) }
     ensures files { KeepsFiles (F.file files.old) (F.file files.new) }
     ensures write_faults { KeepsCounts (F.write_faults files.old) (F.write_faults files.new) }
