@@ -1,0 +1,31 @@
+-- When a suite is the one that growth gives, and how a run of questions ends. (This project's rules.)
+use Rattle.std.specs.Prelude.{◌≡◌, ℕ, [], List, map, length, Option, Some, All, option_map, unwrap_or}
+use Rattle.cov_model.specs.Sound.{ModelView}
+use Rattle.definitions.specs.Growth.{growth}
+use Rattle.definitions.specs.Pairs.{cells_of, pairs_of}
+use Rattle.definitions.specs.Seeds.{kept_seeds, dropped_lines}
+use Rattle.feasibility.specs.declared.answer.SearchFault.{SearchFault}
+use Rattle.feasibility.specs.declared.answer.SearchFault.TheVariants.{Spent, NoMemory}
+use Rattle.refutation.specs.declared.omissions.Omission.{Omission}
+use Rattle.refutation.specs.declared.omissions.ProofForm.{ProofForm}
+use Rattle.refutation.specs.declared.omissions.ProofForm.TheVariants.{One}
+use Rattle.ipog_grow.specs.declared.suite.Suite.{Suite}
+
+-- the tuple of an omission, as a partial row of n parameters
+abbrev pub omitted_cells : ℕ → Omission → List (Option ℕ)
+omitted_cells n omission = cells_of n omission.tuple
+
+-- a suite is what growth gives with these preferences and seeds; its omissions have no trees, and their
+-- form is the one asked for, or the first where none was
+pub record IsSuiteOf (m : ModelView) (pref : List (List ℕ)) (seeds : List (ℕ × List (Option ℕ))) (proof : Option ProofForm) (suite : Suite) : Type 0 where
+  pub rows : suite.rows ≡ (growth m pref seeds).rows
+  pub omitted : map (omitted_cells (length m.params)) suite.omitted.omissions ≡ (growth m pref seeds).omitted
+  pub form : suite.omitted.form ≡ unwrap_or proof One
+  pub trees : All (λ omission. omission.tree ≡ []) suite.omitted.omissions
+  pub kept : suite.kept ≡ length (kept_seeds m seeds)
+  pub dropped : suite.dropped ≡ dropped_lines m seeds
+
+-- a run ends by the first of its questions whose cost is above the budget, or for want of memory
+abbrev pub EndsBy : Option (List (Option ℕ)) → SearchFault → Type 0
+EndsBy over (Spent question) = option_map pairs_of over ≡ Some question.cells
+EndsBy over NoMemory = Unit {0}
