@@ -1,47 +1,137 @@
-//! The words of the command line.
+//! The words of a command: which have a reading, and what they ask for.
 
-use crate::runs::expect_on;
+use model_lex::OrderWord;
+use pict_cli::{Shuffle, read_words};
+use refutation::ProofForm;
+use std::alloc::{AllocError, Global};
 use std::test::Fail;
 
-const MODEL: &[u8] = b"A: 1, 2\nB: x, y\n";
+// The words of a text, parted by spaces.
+fn words_of(alloc: Global, text: &str) -> Result<Vec<String>, AllocError> {
+    let mut words = Vec::new(alloc);
+    for word in text.split(' ') {
+        words.push(String::from_str(alloc, word)?)?;
+    }
+    Ok(words)
+}
+
+// The number of the first word without a reading; 0 where each has one.
+fn fault_in(words: &[String]) -> u32 {
+    match read_words(words) {
+        Ok(_) => 0,
+        Err(fault) => fault.index,
+    }
+}
 
 #[test]
-fn tells_the_word_that_is_not_understood(rt: HostRuntime) -> Result<(), Fail> {
-    let cases: [(&[&str], &str); 12] = [
-        (&[], "1"),
-        (&[""], "1"),
-        (&["", "/q"], "1"),
-        (&["m", "/q"], "2"),
-        (&["m", "/o:0"], "2"),
-        (&["m", "/o:257"], "2"),
-        (&["m", "/d:~"], "2"),
-        (&["m", "/n:! /d:!"], "2"),
-        (&["m", "/n:!", "/d:!"], "3"),
-        (&["m", "/measure:t", "/s"], "3"),
-        (&["m", "/s", "/measure:t"], "3"),
-        (&["m", "/d:~", "/q", "/n:!"], "3"),
+fn tells_the_first_word_without_a_reading(rt: HostRuntime) -> Result<(), Fail> {
+    let cases = [
+        ("m", 0),
+        ("/s", 0),
+        ("", 1),
+        (" /q", 1),
+        ("m /q", 2),
+        ("m n", 2),
+        ("m ", 2),
+        ("m /s /q", 3),
+        ("m /o:1 /o:256 /O:Max", 0),
+        ("m /o:0", 2),
+        ("m /o:257", 2),
+        ("m /o:", 2),
+        ("m /o", 2),
+        ("m /e:a:b", 0),
+        ("m /e:", 2),
+        ("m /r:18446744073709551615 /R", 0),
+        ("m /r:18446744073709551616", 2),
+        ("m /r:", 2),
+        ("m /c /C /S", 0),
+        ("m /s:", 2),
+        ("m /workers:64", 0),
+        ("m /workers:65", 2),
+        ("m /budget:1099511627776", 0),
+        ("m /budget:1099511627777", 2),
+        ("m /proof:p /proofformat:2", 0),
+        ("m /proofformat:3", 2),
+        ("m /make:0 /r:7 /s /proof:p", 0),
+        ("m /measure:t /o:256 /d:;", 0),
+        ("m -s", 2),
     ];
-    for (words, index) in cases {
-        let alloc = rt.alloc();
-        let mut line = String::from_str(alloc, "error: word ")?;
-        line.push_str(index)?;
-        line.push_str(" is not understood\n")?;
-        expect_on(&rt, words, MODEL, 3, "", line.as_str())?;
+    for (text, index) in cases {
+        let words = words_of(rt.alloc(), text)?;
+        assert_eq!(rt; fault_in(words.as_slice()), index, "{text}");
+    }
+    assert_eq!(rt; fault_in(&[]), 1);
+    Ok(())
+}
+
+#[test]
+fn tells_words_that_exclude_each_other(rt: HostRuntime) -> Result<(), Fail> {
+    let cases = [
+        ("m /measure:t /s", 3),
+        ("m /s /measure:t", 3),
+        ("m /measure:t /e:s", 3),
+        ("m /r /measure:t", 3),
+        ("m /measure:t /proof:p", 3),
+        ("m /make:1 /measure:t", 3),
+        ("m /suspect:t /c /measure:t", 4),
+        ("m /measure:t /suspect:t", 3),
+        ("m /proofformat:1 /suspect:t", 3),
+        ("m /suspect:t /make:1", 3),
+        ("m /e:s /make:1", 3),
+        ("m /make:1 /e:s", 3),
+        ("m /make:1 /d:;", 3),
+        ("m /n:! /make:1", 3),
+        ("m /suspect:t /d:;", 0),
+    ];
+    for (text, index) in cases {
+        let words = words_of(rt.alloc(), text)?;
+        assert_eq!(rt; fault_in(words.as_slice()), index, "{text}");
     }
     Ok(())
 }
 
 #[test]
-fn the_last_of_a_repeated_option_counts(rt: HostRuntime) -> Result<(), Fail> {
-    let refused = "error: model line 2: M18 order above the number of parameters\n";
-    expect_on(&rt, &["m", "/o:1", "/O:3"], MODEL, 4, "", refused)?;
-    let report = "A\tB\n1\tx\n2\ty\n";
-    expect_on(&rt, &["m", "/o:3", "/O:1"], MODEL, 0, report, "")
+fn tells_marks_that_are_equal(rt: HostRuntime) -> Result<(), Fail> {
+    let cases = [
+        ("m /d:~", 2),
+        ("m /n:! /d:!", 3),
+        ("m /a:,", 2),
+        ("m /d:~ /n:!", 0),
+        ("m /d:~ /n:zz", 3),
+        ("m /d:~ /q /n:!", 3),
+        ("m /d:~ /n", 2),
+        ("m /d:~ /N:! /s", 0),
+        ("m /d:x", 2),
+        ("m /d:7", 2),
+        ("m /d::", 2),
+        ("m /d:;;", 2),
+    ];
+    for (text, index) in cases {
+        let words = words_of(rt.alloc(), text)?;
+        assert_eq!(rt; fault_in(words.as_slice()), index, "{text}");
+    }
+    Ok(())
 }
 
 #[test]
-fn prints_statistics_in_place_of_rows(rt: HostRuntime) -> Result<(), Fail> {
-    let text = "Demanded sets: 1\nDemanded tuples: 4\nOmitted tuples: 0\nKept seeds: 0\n\
-        Generated tests: 4\n";
-    expect_on(&rt, &["m", "/s"], MODEL, 0, text, "")
+fn gives_what_is_asked_for(rt: HostRuntime) -> Result<(), Fail> {
+    let text =
+        "m /O:MAX /d:; /a:! /N:- /c /e:a:b /R:7 /r:18446744073709551615 /s /workers:64 /budget:9 /Proof:p /proofFormat:2";
+    let words = words_of(rt.alloc(), text)?;
+    let Ok(opts) = read_words(words.as_slice()) else {
+        return Err("each word has a reading")?;
+    };
+    assert_eq!(rt; opts.model, "m");
+    assert_eq!(rt; opts.opts.order, OrderWord::Max);
+    assert_eq!(rt; opts.opts.marks.separator, b';');
+    assert_eq!(rt; opts.opts.marks.alias, b'!');
+    assert_eq!(rt; opts.opts.marks.prefix, b'-');
+    assert!(rt; !opts.opts.fold && opts.stats);
+    assert!(rt; opts.seeds == Some("a:b") && opts.proof == Some("p"));
+    assert_eq!(rt; opts.shuffle, Shuffle::Number(u64::MAX));
+    assert_eq!(rt; opts.workers, 64);
+    assert_eq!(rt; opts.budget, 9);
+    assert_eq!(rt; opts.form, ProofForm::Two);
+    assert!(rt; opts.measure.is_none() && opts.make.is_none() && opts.suspect.is_none());
+    Ok(())
 }

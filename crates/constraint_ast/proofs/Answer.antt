@@ -1,5 +1,5 @@
 -- What an answer of the parser says in the words of the grammar.
-use Rattle.std.proofs.Common.{◌≡◌, ◌⊎◌, inl, inr, ℕ, List, map, refl, subst}
+use Rattle.std.proofs.Common.{◌≡◌, inl, inr, ℕ, List, map, refl, subst}
 use Rattle.constraint_ast.specs.Lexing.{AreRefused, Spell, tokens_of}
 use Rattle.std.specs.Prelude.{Result, Ok, Err, IfOk, IfErr, MatchResult}
 use Rattle.model_lex.specs.declared.diag.Diag.{Diag}

@@ -1,5 +1,5 @@
 -- What the grammar spells is read.
-use Rattle.std.proofs.Common.{◌≡◌, ℕ, Bool, true, false, List, [], ◌∷◌, ◌++◌, ◌<◌, length, arith, refl, ap, ◌∙◌, append_assoc}
+use Rattle.std.proofs.Common.{◌≡◌, ℕ, false, List, [], ◌∷◌, ◌++◌, ◌<◌, length, arith, refl, ap, ◌∙◌, append_assoc}
 use Rattle.std.specs.Prelude.{Result, Ok, Err}
 use Rattle.model_lex.specs.declared.diag.Diag.{Diag}
 use Rattle.constraint_ast.specs.Trees.{Tree, Trees, Leaf, Negated, End, More, added, all_of, any_of, joined, RuleTree, IfThen, IfElse}
@@ -11,7 +11,7 @@ use Rattle.constraint_ast.specs.declared.token.RuleToken.{RuleToken}
 use Rattle.constraint_ast.specs.declared.token.RuleToken.TheVariants.{If}
 use Rattle.constraint_ast.specs.declared.tree.RawLiteral.{RawLiteral}
 use Rattle.constraint_ast.specs.declared.tree.RawTerm.TheVariants.{OneOf}
-use Rattle.constraint_ast.specs.Machine.{After, Around, Between, InElse, InIf, InPlain, InThen, Need, Opened, Outer, Paren, Part, State, Top, Within, begin, close, need, run, whole, with_rule, with_rules}
+use Rattle.constraint_ast.specs.Machine.{After, Around, Between, InElse, InIf, InPlain, InThen, Need, Opened, Outer, Paren, Part, Top, Within, begin, close, need, run, with_rule, with_rules}
 
 -- a tree behind trees, and then others
 pub joined_added : (front : Trees) (tree : Tree) (others : Trees) → joined (added front tree) others ≡ joined front (More tree others)

@@ -1,5 +1,5 @@
 -- The tokens of a line, from place to place.
-use Rattle.std.proofs.Common.{◌≡◌, ℕ, zero, suc, ◌+◌, ◌-◌, ◌<◌, ◌≤◌, Bool, true, false, List, [], ◌∷◌, ◌++◌, length, take, drop, map, get_or, refl, ap, sym, subst, arith, ◌∙◌, append_assoc, append-nil, get_or-drop, length-drop, one-add}
+use Rattle.std.proofs.Common.{◌≡◌, ℕ, zero, suc, ◌+◌, ◌-◌, ◌<◌, ◌≤◌, Bool, true, false, List, [], ◌∷◌, ◌++◌, length, take, drop, get_or, refl, ap, sym, subst, arith, ◌∙◌, append_assoc, append-nil, get_or-drop, length-drop, one-add}
 use Rattle.std.specs.List.{prefix_len}
 use Rattle.std.specs.Prelude.{Result, Ok, Err, nat_eq}
 use Rattle.std.proofs.lemmas.Str.{IsCharBoundary-start}
@@ -22,12 +22,12 @@ use Rattle.model_lex.specs.declared.token.Lexed.{Lexed}
 use Rattle.model_lex.specs.declared.token.Lexed.TheVariants.{Token as Found, End, Bad}
 use Rattle.model_lex.proofs.Forms.{token_behind_blanks}
 use Rattle.model_lex.proofs.Opening.{solid}
-use Rattle.constraint_ast.specs.Lexing.{both_tokens, meant, token_before, token_len, token_meant, tokens_in}
+use Rattle.constraint_ast.specs.Lexing.{both_tokens, meant, token_before, tokens_in}
 use Rattle.constraint_ast.specs.declared.token.LineToken.{LineToken}
 use Rattle.constraint_ast.specs.declared.token.RuleToken.{RuleToken}
 
 -- behind the rest of a token, and behind blanks
-rest_skipped : (line n : ℕ) (text : List ℕ) → tokens_in line n text ≡ tokens_in line 0 (drop n text)
+pub rest_skipped : (line n : ℕ) (text : List ℕ) → tokens_in line n text ≡ tokens_in line 0 (drop n text)
 rest_skipped line zero text = refl
 rest_skipped line (suc n) [] = refl
 rest_skipped line (suc n) (b ∷ text) = rest_skipped line n text

@@ -8,4 +8,16 @@ pub mod Rules
 pub mod Answer
 pub mod Lexing
 pub mod Unquoting
-pub mod Trimming
+pub mod RuleTextExamples
+pub mod OneReading
+pub mod Backslashes
+pub mod Decimals
+pub mod Written
+pub mod ReadBack
+pub mod NameText
+pub mod Digits
+pub mod NumberText
+pub mod Contents
+pub mod TokenText
+pub mod RoundTrip
+pub mod Openers

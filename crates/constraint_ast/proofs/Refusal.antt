@@ -3,29 +3,29 @@ use Rattle.std.proofs.Common.{◌≡◌, ◌⊎◌, inl, inr, ℕ, zero, suc, Li
 use Rattle.std.specs.Prelude.{Result, Ok, Err}
 use Rattle.model_lex.specs.declared.diag.Diag.{Diag}
 use Rattle.model_lex.specs.declared.diag.DiagCode.{DiagCode}
-use Rattle.model_lex.specs.declared.diag.DiagCode.TheVariants.{PredicateExpected, RelationExpected, OperandExpected, MarkExpected, TooDeep}
+use Rattle.model_lex.specs.declared.diag.DiagCode.TheVariants.{PredicateExpected, OperandExpected, MarkExpected, TooDeep}
 use Rattle.constraint_ast.specs.Trees.{Tree, RuleTree}
-use Rattle.constraint_ast.specs.Grammar.{at, AreRules, no_rule, CanBegin, CannotGoOn, CouldDeeper, Expects, Explains, Refused, last_line, refusal_line}
+use Rattle.constraint_ast.specs.Grammar.{at, AreRules, no_rule, CanBegin, CouldDeeper, Expects, Explains, Refused, last_line}
 use Rattle.constraint_ast.specs.declared.token.LineToken.{LineToken}
 use Rattle.constraint_ast.specs.declared.token.RuleToken.{RuleToken}
 use Rattle.constraint_ast.specs.declared.token.RuleToken.TheVariants.{Name, Literal, Relation, If, Then, Else, And, Or, Not, In, Like, Sign, OpenParen, CloseParen, OpenBrace, CloseBrace, Comma, Semicolon}
 use Rattle.constraint_ast.specs.declared.token.Sign.TheVariants.{Negative}
 use Rattle.constraint_ast.specs.declared.tree.RawLiteral.TheVariants.{Words, Number}
-use Rattle.constraint_ast.specs.Machine.{After, Around, Bad, Between, Done, InElse, InIf, InPlain, InThen, Itemed, Liked, Listed, Named, NamedNot, Need, Next, Opened, Outer, Paren, Part, Related, SignNamed, SignOpened, Signed, Spot, State, Step, Top, Within, at_end, begin, ended, finished, go_on, missing, need, run, step, with_rule, with_rules}
+use Rattle.constraint_ast.specs.Machine.{After, Around, Bad, Between, Done, InElse, InIf, InPlain, InThen, Itemed, Liked, Listed, Named, NamedNot, Need, Next, Opened, Outer, Paren, Related, SignNamed, SignOpened, Signed, Spot, State, Step, Top, at_end, begin, ended, finished, go_on, missing, need, run, step, with_rule, with_rules}
 use Rattle.constraint_ast.proofs.Complete.{rules_read, rules_refused}
 use Rattle.constraint_ast.proofs.Sound.{Ends, EndsStep, led}
 use Rattle.constraint_ast.proofs.Finish.{finishes}
 use Rattle.constraint_ast.proofs.Deeper.{DeeperStep, deeper, deeper_outer, deeper_state, step_deeper}
 
 -- some tokens lead from a state to another, past these constraints
-record Leads (room : ℕ) (front : List LineToken) (done : List RuleTree) (start state : State) : Type 0 where
-  runs : (last : ℕ) (more : List LineToken) → run room last (front ++ more) start ≡ with_rules done (run room last more state)
-  ends : (more : List LineToken) (rules : List RuleTree) → Ends room state more rules → Ends room start (front ++ more) (done ++ rules)
+pub record Leads (room : ℕ) (front : List LineToken) (done : List RuleTree) (start state : State) : Type 0 where
+  pub runs : (last : ℕ) (more : List LineToken) → run room last (front ++ more) start ≡ with_rules done (run room last more state)
+  pub ends : (more : List LineToken) (rules : List RuleTree) → Ends room state more rules → Ends room start (front ++ more) (done ++ rules)
 
-leads_nowhere : (room : ℕ) (state : State) → Leads room [] [] state state
+pub leads_nowhere : (room : ℕ) (state : State) → Leads room [] [] state state
 leads_nowhere room state = record { runs = λ last more. refl; ends = λ more rules ends. ends }
 
-leads_on :
+pub leads_on :
     (room : ℕ) (token : LineToken) (front : List LineToken) (done : List RuleTree) (start next state : State)
     → step room start token.line token.token ≡ Next next → Leads room front done next state → Leads room (token ∷ front) done start state
 leads_on room token front done start next state e rest = record {
@@ -33,7 +33,7 @@ leads_on room token front done start next state e rest = record {
   ends = λ more rules ends. led room (front ++ more) (done ++ rules) start token.line token.token (subst (λ to. EndsStep room to (front ++ more) (done ++ rules)) (sym e) (rest.ends more rules ends));
 }
 
-leads_past :
+pub leads_past :
     (room : ℕ) (token : LineToken) (front : List LineToken) (rule : RuleTree) (done : List RuleTree) (start state : State)
     → step room start token.line token.token ≡ Done rule → Leads room front done Between state → Leads room (token ∷ front) (rule ∷ done) start state
 leads_past room token front rule done start state e rest = record {
@@ -121,7 +121,7 @@ stop room last (token ∷ tokens) start diag stops =
     stop_on room last token tokens start diag (step room start token.line token.token) refl (step_deeper room start token.line token.token) stops (λ state stops. stop room last tokens state diag stops)
 
 -- what could stand behind some tokens, and what couldn't
-abbrev IsGood : Step → Type 0
+abbrev pub IsGood : Step → Type 0
 IsGood (Next state) = Unit {0}
 IsGood (Done rule) = Unit {0}
 IsGood (Bad code) = ⊥
@@ -138,7 +138,7 @@ module _ (room : ℕ) (front : List LineToken) (done : List RuleTree) (state : S
   can_begin : CanBegin room front
   can_begin = let rest = finishes room state in (rest.0, done ++ rest.1, leads.ends rest.0 rest.1 rest.2)
 
-  could : (token : LineToken) → IsGood (step room state token.line token.token) → CanBegin room (front ++ token ∷ [])
+  pub could : (token : LineToken) → IsGood (step room state token.line token.token) → CanBegin room (front ++ token ∷ [])
   could token good =
       let rest = step_finishes room (step room state token.line token.token) good in (
         rest.0,
@@ -147,7 +147,7 @@ module _ (room : ℕ) (front : List LineToken) (done : List RuleTree) (state : S
             (leads.ends (token ∷ rest.0) rest.1 (led room rest.0 rest.1 state token.line token.token rest.2)),
       )
 
-  could_not : (token : LineToken) (code : DiagCode) → step room state token.line token.token ≡ Bad code → ¬ (CanBegin room (front ++ token ∷ []))
+  pub could_not : (token : LineToken) (code : DiagCode) → step room state token.line token.token ≡ Bad code → ¬ (CanBegin room (front ++ token ∷ []))
   could_not token code e (more, rules, spelled) =
       no_answer (rules_read (subst (λ tokens. AreRules room tokens rules) (append_assoc front (token ∷ []) more) spelled) 0)
       (

@@ -1,10 +1,9 @@
 -- The constraints of a list of tokens, one after another.
-use Rattle.std.proofs.Common.{◌≡◌, ℕ, ◌-◌, ◌<◌, suc, List, [], ◌∷◌, ◌++◌, length, map, get_or, refl, ap, sym, subst, arith, false, ◌∙◌}
+use Rattle.std.proofs.Common.{◌≡◌, ℕ, ◌-◌, ◌<◌, suc, List, [], ◌∷◌, ◌++◌, length, map, get_or, refl, ap, sym, arith, false, ◌∙◌}
 use Rattle.std.specs.Prelude.{Result, Ok, Err, IfErr}
-use Rattle.model_lex.specs.declared.diag.Diag.{Diag}
 use Rattle.model_lex.specs.declared.fault.ModelFault.{ModelFault}
 use Rattle.model_lex.specs.declared.fault.ModelFault.TheVariants.{Bad, BadRule, Limit, NoMemory}
-use Rattle.constraint_ast.specs.Trees.{RuleTree, body_tree, rule_tree, End}
+use Rattle.constraint_ast.specs.Trees.{body_tree, rule_tree, End}
 use Rattle.constraint_ast.specs.Grammar.{last_line}
 use Rattle.constraint_ast.specs.Machine.{Between, InPlain, Need, Part, Top, run, with_rule, with_rules}
 use Rattle.constraint_ast.specs.Reading.{ReadsRule, RefusesBody, RefusesRules, begins_if, first_line}

@@ -2,7 +2,7 @@
 use Rattle.std.proofs.Common.{◌≡◌, ◌⊎◌, inl, inr, ℕ, zero, suc, List, [], ◌∷◌, ◌++◌, refl, ap, sym, subst, ◌∙◌, append_assoc, append-nil}
 use Rattle.constraint_ast.specs.Trees.{Tree, Trees, Leaf, Negated, End, More, added, all_of, any_of, joined, RuleTree, IfThen, IfElse}
 use Rattle.constraint_ast.specs.Trees as trees
-use Rattle.constraint_ast.specs.Grammar.{at, AreConjs, AreLiterals, AreRules, AreUnits, IsRule, IsUnit, if_else, if_then, last_conj, last_literal, last_unit, like, negation, next_conj, next_literal, next_rule, next_unit, no_rule, none_of, not_like, one_of, param_is, parens, plain, sign_term, signed, value_is}
+use Rattle.constraint_ast.specs.Grammar.{at, AreConjs, AreLiterals, AreRules, AreUnits, IsUnit, if_else, if_then, last_conj, last_literal, last_unit, like, negation, next_conj, next_literal, next_rule, next_unit, none_of, not_like, one_of, param_is, parens, plain, sign_term, signed, value_is}
 use Rattle.constraint_ast.specs.declared.token.LineToken.{LineToken}
 use Rattle.constraint_ast.specs.declared.token.RuleToken.{RuleToken}
 use Rattle.constraint_ast.specs.declared.token.RuleToken.TheVariants.{Name, Literal, Relation, If, Then, Else, And, Or, Not, In, Like, Sign, OpenParen, CloseParen, OpenBrace, CloseBrace, Comma, Semicolon}
@@ -11,7 +11,7 @@ use Rattle.constraint_ast.specs.declared.tree.RawRel.{RawRel}
 use Rattle.constraint_ast.specs.declared.tree.RawLiteral.{RawLiteral}
 use Rattle.constraint_ast.specs.declared.tree.RawLiteral.TheVariants.{Words, Number}
 use Rattle.constraint_ast.specs.declared.tree.RawTerm.TheVariants as terms
-use Rattle.constraint_ast.specs.Machine.{After, Around, Bad, Between, Done, InElse, InIf, InPlain, InThen, Itemed, Liked, Listed, Named, NamedNot, Need, Next, Opened, Outer, Paren, Part, Related, SignNamed, SignOpened, Signed, Spot, State, Step, Top, Within, after, begin, close, ended, finished, itemed, liked, listed, named, named_not, need, opened, related, run, sign_named, sign_opened, sign_word, step}
+use Rattle.constraint_ast.specs.Machine.{After, Around, Bad, Between, Done, InElse, InIf, InPlain, InThen, Itemed, Liked, Listed, Named, NamedNot, Need, Next, Opened, Outer, Paren, Part, Related, SignNamed, SignOpened, Signed, Spot, State, Step, Top, Within, after, begin, close, ended, finished, itemed, liked, listed, named, named_not, need, opened, related, sign_named, sign_opened, sign_word, step}
 use Rattle.constraint_ast.proofs.Complete.{joined_added}
 
 -- more units behind some, and more conjunctions

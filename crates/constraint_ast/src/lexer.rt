@@ -5,10 +5,10 @@ ghost use Rattle.model_lex.specs.Tokens.{HasMarks};
 ghost use Rattle.constraint_ast.specs.Reading.{IfRefused};
 ghost use Rattle.constraint_ast.specs.Lexing.{inside, keyword_of, mark_of, meant, relation_of, tokens_in, tokens_of};
 
-use crate::quoting::{trimmed, unquoted};
+use crate::quoting::unquoted;
 use crate::token::{LineToken, LineTokenList, RuleToken, Sign};
 use crate::tree::{RawLiteral, RawRel};
-use model_lex::{Diag, DiagCode, Lexed, ModelFault, NumLine, TokenKind, next_token};
+use model_lex::{Diag, DiagCode, Lexed, ModelFault, NumLine, TokenKind, next_token, trimmed};
 use std::alloc::Global;
 use value_text::{FixedAnswer, NoMemory, OwnedList, read_fixed};
 

@@ -3,6 +3,7 @@ ghost use Rattle.std.specs.Prelude.{◌≤◌, ◌^◌, length};
 use super::*;
 use model_lex::{Diag, ModelFault, split_model};
 use std::alloc::{AllocError, Global};
+use value_text::NoMemory;
 
 fn write_literal(alloc: Global, out: &mut String, literal: &RawLiteral) -> Result<(), AllocError> {
     match literal {
@@ -270,6 +271,139 @@ fn counts_depth(rt: HostRuntime) -> Result<(), AllocError> {
         let bytes = bytes.as_str().as_bytes();
         assert!(rt; bytes.len() < 1000);
         assert_eq!(rt; read(rt.alloc(), bytes)?.as_str(), told);
+    }
+    Ok(())
+}
+
+// The lines of the constraints of a file, one behind another, or why there are none.
+fn lines(alloc: Global, bytes: &[u8]) -> Result<String, AllocError>
+    requires { length bytes.now ≤ 2 ^ 28 }
+{
+    let mut out = String::new(alloc);
+    match split_model(alloc, bytes) {
+        Ok(sections) => match parse_rules(alloc, &sections) {
+            Ok(rules) => {
+                for rule in rules.as_slice() {
+                    match rule_text(alloc, rule) {
+                        Ok(text) => out.push_str(text.as_str())?,
+                        Err(NoMemory) => out.push_str("no memory")?,
+                    }
+                }
+            }
+            Err(_) => out.push_str("refused")?,
+        },
+        Err(_) => out.push_str("no sections")?,
+    }
+    Ok(out)
+}
+
+#[test]
+fn writes_parentheses(rt: HostRuntime) -> Result<(), AllocError> {
+    let cases: [(&str, &str); 14] = [
+        (
+            "NOT ([A] = 1 OR [A] = 2) AND [B] LIKE \"x*\";",
+            "NOT ([A] = 1 OR [A] = 2) AND [B] LIKE \"x*\";",
+        ),
+        (
+            "NOT [A] = 1 OR [A] = 2 AND [B] LIKE \"x*\";",
+            "NOT [A] = 1 OR [A] = 2 AND [B] LIKE \"x*\";",
+        ),
+        ("(([A] = 1));", "[A] = 1;"),
+        (
+            "([A] = 1 OR [B] = 2) AND [C] = 3;",
+            "([A] = 1 OR [B] = 2) AND [C] = 3;",
+        ),
+        (
+            "[A] = 1 OR ([B] = 2 AND [C] = 3);",
+            "[A] = 1 OR [B] = 2 AND [C] = 3;",
+        ),
+        (
+            "[A] = 1 OR ([B] = 2 OR [C] = 3);",
+            "[A] = 1 OR ([B] = 2 OR [C] = 3);",
+        ),
+        (
+            "[A] = 1 AND ([B] = 2 AND [C] = 3);",
+            "[A] = 1 AND ([B] = 2 AND [C] = 3);",
+        ),
+        (
+            "(([A]=1 and [B]=2)or [C]=3);",
+            "[A] = 1 AND [B] = 2 OR [C] = 3;",
+        ),
+        ("NOT (NOT ([A] = 1));", "NOT NOT [A] = 1;"),
+        (
+            "NOT ([A] = 1 AND NOT ([B] = 2 OR [C] = 3));",
+            "NOT ([A] = 1 AND NOT ([B] = 2 OR [C] = 3));",
+        ),
+        ("(NOT [A] = 1) AND [B] = 2;", "NOT [A] = 1 AND [B] = 2;"),
+        (
+            "IF [A] = 1 THEN [B] = \"x\";",
+            "IF [A] = 1 THEN [B] = \"x\";",
+        ),
+        (
+            "if([A]=1 or[A]=2)then([B]=\"x\")\n# note\nelse([C]=3) ;",
+            "IF [A] = 1 OR [A] = 2 THEN [B] = \"x\" ELSE [C] = 3;",
+        ),
+        ("[A] = 1 ; [B] = 2;", "[A] = 1;[B] = 2;"),
+    ];
+    for (text, line) in cases {
+        assert!(rt; text.len() < 1000 && line.len() < 1000);
+        assert_eq!(rt; lines(rt.alloc(), text.as_bytes())?.as_str(), line);
+        assert_eq!(rt; lines(rt.alloc(), line.as_bytes())?.as_str(), line);
+    }
+    Ok(())
+}
+
+#[test]
+fn writes_terms(rt: HostRuntime) -> Result<(), AllocError> {
+    let cases: [(&str, &str); 15] = [
+        ("[A] NOT IN {1,\"x\" , 2};", "NOT [A] IN {1, \"x\", 2};"),
+        ("[A]IN{ \"a\" };", "[A] IN {\"a\"};"),
+        ("[B] not like \"?\";", "NOT [B] LIKE \"?\";"),
+        (
+            "ISNEGATIVE([A]) OR NOT IsPositive ( [B] );",
+            "ISNEGATIVE ([A]) OR NOT ISPOSITIVE ([B]);",
+        ),
+        (
+            "[A]<[B] AND [A]<=[B] AND [A]>[B];",
+            "[A] < [B] AND [A] <= [B] AND [A] > [B];",
+        ),
+        ("[A]>=1 OR [A]<>2;", "[A] >= 1 OR [A] <> 2;"),
+        ("NOT [A] NOT IN {1};", "NOT NOT [A] IN {1};"),
+        ("[A] = -000.50;", "[A] = -0.5;"),
+        ("[A] = +007;", "[A] = 7;"),
+        ("[A] = -0;", "[A] = 0;"),
+        ("[A] = 1.500000000;", "[A] = 1.5;"),
+        ("[A] = -0.000000001;", "[A] = -0.000000001;"),
+        (
+            "[A] = 9999999999999999999999999999.999999999;",
+            "[A] = 9999999999999999999999999999.999999999;",
+        ),
+        ("[A] = 10.010;", "[A] = 10.01;"),
+        ("[A] IN {100, 0.0, -20.30};", "[A] IN {100, 0, -20.3};"),
+    ];
+    for (text, line) in cases {
+        assert!(rt; text.len() < 1000 && line.len() < 1000);
+        assert_eq!(rt; lines(rt.alloc(), text.as_bytes())?.as_str(), line);
+        assert_eq!(rt; lines(rt.alloc(), line.as_bytes())?.as_str(), line);
+    }
+    Ok(())
+}
+
+#[test]
+fn writes_names_and_texts(rt: HostRuntime) -> Result<(), AllocError> {
+    let cases: [(&str, &str); 7] = [
+        ("[ a b\t] = \" a \";", "[a b] = \" a \";"),
+        ("[a\\]b] = \"x\";", "[a\\]b] = \"x\";"),
+        ("[a\"b] = \"c]d\";", "[a\\\"b] = \"c\\]d\";"),
+        ("[a\\x] = \"\\\\\";", "[a\\\\x] = \"\\\\\";"),
+        ("[ ] = \"\";", "[] = \"\";"),
+        ("[a\\ ] = [b\\\\];", "[a\\\\] = [b\\\\];"),
+        ("[\u{e9}] LIKE \"\u{e9}*\";", "[\u{e9}] LIKE \"\u{e9}*\";"),
+    ];
+    for (text, line) in cases {
+        assert!(rt; text.len() < 1000 && line.len() < 1000);
+        assert_eq!(rt; lines(rt.alloc(), text.as_bytes())?.as_str(), line);
+        assert_eq!(rt; lines(rt.alloc(), line.as_bytes())?.as_str(), line);
     }
     Ok(())
 }

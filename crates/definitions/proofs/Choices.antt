@@ -2,9 +2,9 @@
 use Rattle.std.proofs.Common.{◌≡◌, ℕ, zero, suc, ◌<◌, Bool, true, false, cond, List, [], ◌∷◌, map, length, get_or, Option, Some, None, is_some, unwrap_or, inl, inr, ap, subst, refl, arith}
 use Rattle.std.specs.Prelude.{◌==◌}
 use Rattle.std.proofs.lemmas.Bool.{false≢true, and_parts, and_from, eqb-true, eq-eqb}
-use Rattle.cov_model.specs.Rows.{contains}
+use Rattle.cov_model.specs.Rows.{contains, value_in}
 use Rattle.definitions.specs.Completion.{completions, cell_values}
-use Rattle.definitions.specs.Laws.{CompletionsAreRows}
+use Rattle.definitions.specs.Laws.{GivesListed, CompletionsAreRows}
 use Rattle.definitions.proofs.Members.{Has, has_contained, contains_member, has_map, of_map, has_flat, of_flat, has_filter, of_filter}
 
 -- the row gives each parameter one of its listed values
@@ -70,16 +70,6 @@ completion_is (values ∷ lists) (cell ∷ cells) row has =
     let own = of_cell values cell first.0 rest.0 cells first.1 later.contained in
     subst (IsChosen (values ∷ lists) (cell ∷ cells)) rest.2 (record { choice = (own.0, later.choice); contained = own.1 })
 
-pub completions_are_rows : CompletionsAreRows
-completions_are_rows lists cells row = (
-  λ has.
-      let is = completion_is lists cells row (has_contained (completions lists cells) row has) in
-      (contains_member (completions lists []) row (choice_completes lists [] row is.choice refl), is.contained),
-  λ both.
-      let is = completion_is lists [] row (has_contained (completions lists []) row both.0) in
-      contains_member (completions lists cells) row (choice_completes lists cells row is.choice both.1),
-)
-
 -- by the number of the parameter
 pub record IsListed (values : List ℕ) (cell : Option ℕ) : Type 0 where
   pub assigned : is_some cell ≡ true
@@ -108,3 +98,24 @@ choice_from (values ∷ lists) [] long each = absurd (omega arith)
 choice_from (values ∷ lists) (None ∷ row) long each = absurd (false≢true (each 0 (omega arith)).assigned)
 choice_from (values ∷ lists) (Some v ∷ row) long each =
     ((each 0 (omega arith)).listed, choice_from lists row (omega arith) (λ p within. each (suc p) (omega arith)))
+
+-- such a row gives each parameter a listed value
+choice_gives : (lists : List (List ℕ)) (row : List (Option ℕ)) → IsChoice lists row → GivesListed lists row
+choice_gives lists row is = record {
+  as_long = choice_length lists row is;
+  assigned = λ p within. (choice_at lists row p is within).assigned;
+  listed = λ p within. contains_member (get_or lists p []) (value_in row p) (choice_at lists row p is within).listed;
+}
+
+gives_choice : (lists : List (List ℕ)) (row : List (Option ℕ)) → GivesListed lists row → IsChoice lists row
+gives_choice lists row gives =
+    choice_from lists row gives.as_long
+    (λ p within. record { assigned = gives.assigned p within; listed = has_contained (get_or lists p []) (value_in row p) (gives.listed p within) })
+
+pub completions_are_rows : CompletionsAreRows
+completions_are_rows lists cells row = (
+  λ has.
+      let is = completion_is lists cells row (has_contained (completions lists cells) row has) in
+      (choice_gives lists row is.choice, is.contained),
+  λ both. contains_member (completions lists cells) row (choice_completes lists cells row (gives_choice lists row both.0) both.1),
+)

@@ -1,34 +1,21 @@
 -- Every demanded set has a parameter of the model.
-use Rattle.std.proofs.Common.{◌≡◌, ℕ, zero, suc, ◌<◌, min, Bool, true, false, not, cond, List, [], ◌∷◌, ◌++◌, map, length, inl, inr, ◌⊎◌, sym, subst, refl, arith}
+use Rattle.std.proofs.Common.{◌≡◌, ℕ, zero, suc, ◌<◌, min, true, not, List, [], ◌∷◌, ◌++◌, map, length, inl, inr, sym, subst, refl, arith}
 use Rattle.std.specs.List.{flat_map, list_any}
-use Rattle.std.specs.Ordering.{nat_cmp, is_lt, is_eq}
-use Rattle.std.specs.Cmp.Lexicographic.{slice_cmp}
+use Rattle.std.proofs.lemmas.List.Elements.{All-from_recursion, recursion_from_All}
 use Rattle.std.proofs.lemmas.Bool.{cases_Bool, not_from_false}
 use Rattle.cov_model.specs.declared.demand.Group.{Group}
 use Rattle.cov_model.specs.Sound.{ModelView, IsSound, IsSoundGroup}
 use Rattle.cov_model.specs.Valid.{param_numbers}
-use Rattle.definitions.specs.Demand.{is_among, choose, singles, units, unions, choices, rising, with_set, in_order, demanded_sets}
-use Rattle.definitions.proofs.Members.{Has, member_of_all, has_left, has_right, of_append, has_map, of_map, of_flat, has_filter, of_filter, of_any, among_has}
+use Rattle.definitions.specs.Demand.{is_among, choose, singles, units, unions, choices, rising, in_order, demanded_sets}
+use Rattle.definitions.proofs.SetOrder.{each_in_order}
+use Rattle.definitions.proofs.Members.{Has, all_members, member_of_all, has_left, has_right, of_append, has_map, of_map, of_flat, has_filter, of_filter, of_any, among_has}
 use Rattle.definitions.proofs.SliceLemmas.{of_params, has_params}
 
 -- the sets in order are those of the list
-of_with_set : (set : List ℕ) (sets : List (List ℕ)) (x : List ℕ) → Has (with_set set sets) x → (set ≡ x) ⊎ Has sets x
-of_with_set set [] x (inl same) = inl same
-of_with_set set [] x (inr none) = absurd none
-of_with_set set (other ∷ sets) x has = at (is_lt (slice_cmp nat_cmp set other)) (is_eq (slice_cmp nat_cmp set other)) has (of_with_set set sets x)
-  where
-    at : (lt eq : Bool) → Has (cond lt (set ∷ other ∷ sets) (cond eq (other ∷ sets) (other ∷ with_set set sets))) x
-        → (Has (with_set set sets) x → (set ≡ x) ⊎ Has sets x) → (set ≡ x) ⊎ Has (other ∷ sets) x
-    at true eq (inl same) later = inl same
-    at true eq (inr has) later = inr has
-    at false true has later = inr has
-    at false false (inl same) later = inr (inl same)
-    at false false (inr has) later = elim (later has) [ inl same ↦ inl same | inr there ↦ inr (inr there) ]
-
 pub of_in_order : (sets : List (List ℕ)) (x : List ℕ) → Has (in_order sets) x → Has sets x
-of_in_order [] x has = absurd has
-of_in_order (set ∷ sets) x has =
-    elim (of_with_set set (in_order sets) x has) [ inl same ↦ inl same | inr later ↦ inr (of_in_order sets x later) ]
+of_in_order sets x has =
+    member_of_all (Has sets) (in_order sets) x
+    (All-from_recursion (Has sets) (in_order sets) (each_in_order (Has sets) sets (recursion_from_All (Has sets) sets (all_members (Has sets) sets (λ y own. own))))) has
 
 -- the first of some items that are taken
 record Taken {X : Type 0} (items pick : List X) : Type 0 where

@@ -1,5 +1,5 @@
 -- Lists without repetitions.
-use Rattle.std.proofs.Common.{◌≡◌, ℕ, zero, suc, ◌+◌, ◌≤◌, Bool, true, false, cond, List, [], ◌∷◌, ◌++◌, map, length, inl, inr, ◌∙◌, sym, ap, subst, refl, arith}
+use Rattle.std.proofs.Common.{◌≡◌, ℕ, zero, suc, ◌+◌, Bool, true, false, cond, List, [], ◌∷◌, ◌++◌, map, inl, inr, ◌∙◌, sym, ap, subst, refl, arith}
 use Rattle.std.specs.List.{filter, flat_map, range_with_len}
 use Rattle.definitions.proofs.Members.{Has, of_append, of_map, of_flat, of_filter, of_range}
 
@@ -19,12 +19,6 @@ one_member a (x ∷ xs) once has only =
     let first : x ≡ a = only x (inl refl) in
     let rest : xs ≡ [] = no_members xs (λ y later. once.0 (subst (Has xs) (only y (inr later) ∙ sym first) later)) in
     ap (λ y. y ∷ xs) first ∙ ap (λ ys. a ∷ ys) rest
-
-pub few_members : {X : Type 0} (a : X) (xs : List X) → NoRepeats xs → ((x : X) → Has xs x → x ≡ a) → length xs ≤ 1
-few_members a [] once only = omega arith
-few_members a (x ∷ xs) once only =
-    let rest : xs ≡ [] = no_members xs (λ y later. once.0 (subst (Has xs) (only y (inr later) ∙ sym (only x (inl refl))) later)) in
-    omega (arith, ap length rest)
 
 pub repeats_filter : {X : Type 0} (test : X → Bool) (xs : List X) → NoRepeats xs → NoRepeats (filter test xs)
 repeats_filter test [] once = tt
@@ -51,9 +45,11 @@ repeats_map f (x ∷ xs) apart once =
     (λ has. let found = of_map f xs (f x) has in once.0 (subst (Has xs) (apart found.0 x found.2) found.1), repeats_map f xs apart once.1)
 
 -- lists that share nothing, joined
-pub repeats_flat : {X Y : Type 0} (f : X → List Y) (xs : List X) → ((x : X) → NoRepeats (f x)) → ((x y : X) (z : Y) → Has (f x) z → Has (f y) z → x ≡ y)
+pub repeats_flat : {X Y : Type 0} (f : X → List Y) (xs : List X) → ((x : X) → Has xs x → NoRepeats (f x)) → ((x y : X) (z : Y) → Has xs x → Has xs y → Has (f x) z → Has (f y) z → x ≡ y)
     → NoRepeats xs → NoRepeats (flat_map f xs)
 repeats_flat f [] each apart once = tt
 repeats_flat f (x ∷ xs) each apart once =
-    repeats_append (f x) (flat_map f xs) (each x) (repeats_flat f xs each apart once.1)
-    (λ z here there. let found = of_flat f xs z there in once.0 (subst (Has xs) (apart found.0 x z found.2 here) found.1))
+    repeats_append (f x) (flat_map f xs) (each x (inl refl)) (repeats_flat f xs (λ y has. each y (inr has)) (λ y z w first second. apart y z w (inr first) (inr second)) once.1)
+    (λ z here there.
+    let found = of_flat f xs z there in
+    once.0 (subst (Has xs) (apart found.0 x z (inr found.1) (inl refl) found.2 here) found.1))

@@ -1,26 +1,25 @@
 -- The growth of a slice, finished: each partial row becomes its first completion.
-use Rattle.std.proofs.Common.{◌≡◌, ℕ, ◌+◌, ◌<◌, ◌≤◌, true, not, List, [], ◌∷◌, map, length, get_or, Option, Some, inl, inr, ◌∙◌, sym, ap, subst, refl, arith, zero-add}
+use Rattle.std.proofs.Common.{◌≡◌, ℕ, ◌+◌, ◌≤◌, true, not, List, [], ◌∷◌, map, length, Option, Some, inl, inr, ◌∙◌, ap, subst, refl, arith}
 use Rattle.std.specs.Prelude.{◌==◌, filter_map}
 use Rattle.std.specs.List.{filter, flat_map, list_all}
 use Rattle.std.proofs.lemmas.Bool.{and_parts, and_from, eq-eqb, eqb-true, leb-true}
-use Rattle.std.proofs.lemmas.List.Sorted.{Contains-permutation}
-use Rattle.std.proofs.lemmas.List.FromFn.{length-map-range_with_len, get_or-map-range_with_len}
 use Rattle.cov_model.specs.declared.slice.Slice.{Slice}
 use Rattle.cov_model.specs.declared.slice.Slice.TheVariants.{Positive, Negative}
 use Rattle.cov_model.specs.Sound.{ModelView}
 use Rattle.cov_model.specs.Rows.{contains, value_in}
 use Rattle.cov_model.specs.Valid.{negatives}
-use Rattle.cov_model.specs.Slices.{slice_values, slice_by, slice_of, value_numbers}
+use Rattle.cov_model.specs.Slices.{slice_values, slice_by, slice_of}
 use Rattle.definitions.specs.Demand.{is_among}
 use Rattle.definitions.specs.Completion.{completions, column_order, preferred_values, meets_rules, is_extendable, first_completion, has_slice, can_be_served}
 use Rattle.definitions.specs.Seeds.{distinct, kept_seeds, seed_rows}
 use Rattle.definitions.specs.Growth.{Grown, columns, tuples_in_play, is_of_slice, slice_growth}
 use Rattle.definitions.specs.Laws.{ArePreferences}
 use Rattle.definitions.proofs.Contained.{contains-trans}
-use Rattle.definitions.proofs.Members.{Has, has_contained, contains_member, has_filter, of_filter, has_given, of_given, any_member, of_any, all_pass, passes_all, of_find, find_some, among_has, of_among}
-use Rattle.definitions.proofs.Choices.{IsChoice, choice_at, choice_from, choice_length, choice_completes, completion_is}
-use Rattle.definitions.proofs.SliceLemmas.{values_at, slice_length, IsSlice, value_exists, has_numbers}
+use Rattle.definitions.proofs.Members.{Has, of_filter, has_given, of_given, any_member, of_any, all_pass, passes_all, of_find, find_some, among_has, of_among}
+use Rattle.definitions.proofs.Choices.{IsChoice, choice_completes, completion_is}
+use Rattle.definitions.proofs.SliceLemmas.{IsSlice}
 use Rattle.definitions.proofs.Joining.{contains_self}
+use Rattle.definitions.proofs.Preferred.{preferred_are_values, values_are_preferred}
 use Rattle.definitions.proofs.Keeping.{is_held}
 use Rattle.definitions.proofs.Settling.{columns_settle}
 use Rattle.definitions.proofs.Once.{AreApart, distinct_apart, of_distinct, has_distinct, few_distinct, few_given}
@@ -29,39 +28,6 @@ use Rattle.definitions.proofs.Once.{AreApart, distinct_apart, of_distinct, has_d
 pub record IsSliceRow (m : ModelView) (slice : Slice) (row : List (Option ℕ)) : Type 0 where
   pub choice : IsChoice (slice_values m slice) row
   pub meets : meets_rules m row ≡ true
-
--- each parameter's values in preference order
-preferred_length : (m : ModelView) (pref : List (List ℕ)) (slice : Slice) → length (preferred_values m pref slice) ≡ length m.params
-preferred_length m pref slice = length-map-range_with_len (λ p. filter (is_among (values_at m slice p)) (get_or pref p [])) 0 (length m.params)
-
-preferred_at : (m : ModelView) (pref : List (List ℕ)) (slice : Slice) (p : ℕ) → p < length m.params → get_or (preferred_values m pref slice) p [] ≡ filter (is_among (values_at m slice p)) (get_or pref p [])
-preferred_at m pref slice p within =
-    get_or-map-range_with_len (λ p. filter (is_among (values_at m slice p)) (get_or pref p [])) 0 (length m.params) p p [] within (zero-add p)
-
-preferred_are_values : (m : ModelView) (pref : List (List ℕ)) (slice : Slice) (row : List (Option ℕ)) → IsChoice (preferred_values m pref slice) row → IsChoice (slice_values m slice) row
-preferred_are_values m pref slice row choice =
-    let same : length (preferred_values m pref slice) ≡ length (slice_values m slice) = preferred_length m pref slice ∙ sym (slice_length m slice) in
-    choice_from (slice_values m slice) row (choice_length (preferred_values m pref slice) row choice ∙ same) (λ p within.
-    let inside : p < length m.params = omega (arith, within, slice_length m slice) in
-    let own = choice_at (preferred_values m pref slice) row p choice (omega (arith, within, same)) in
-    let kept = of_filter (is_among (values_at m slice p)) (get_or pref p []) (value_in row p) (subst (λ vs. Has vs (value_in row p)) (preferred_at m pref slice p inside) own.listed) in
-    record { assigned = own.assigned; listed = of_among (values_at m slice p) (value_in row p) kept.1 })
-
-values_are_preferred : (m : ModelView) (pref : List (List ℕ)) (slice : Slice) (row : List (Option ℕ)) → ArePreferences m pref → IsSlice m slice → IsChoice (slice_values m slice) row
-    → IsChoice (preferred_values m pref slice) row
-values_are_preferred m pref slice row orders is choice =
-    let same : length (slice_values m slice) ≡ length (preferred_values m pref slice) = slice_length m slice ∙ sym (preferred_length m pref slice) in
-    choice_from (preferred_values m pref slice) row (choice_length (slice_values m slice) row choice ∙ same) (λ p within.
-    let inside : p < length m.params = omega (arith, within, preferred_length m pref slice) in
-    let own = choice_at (slice_values m slice) row p choice (omega (arith, within, same)) in
-    let number = has_numbers m p (value_in row p) (value_exists m slice p (value_in row p) is inside own.listed) in
-    let ordered = has_contained (get_or pref p []) (value_in row p)
-    (Contains-permutation (value_numbers m p) (get_or pref p []) (value_in row p) (orders.1 p inside) (contains_member (value_numbers m p) (value_in row p) number)) in
-    record {
-      assigned = own.assigned;
-      listed = subst (λ vs. Has vs (value_in row p)) (sym (preferred_at m pref slice p inside))
-          (has_filter (is_among (values_at m slice p)) (get_or pref p []) (value_in row p) ordered (among_has (values_at m slice p) (value_in row p) own.listed));
-    })
 
 -- the first completion is a row of the slice
 pub record Completes (m : ModelView) (slice : Slice) (cells row : List (Option ℕ)) : Type 0 where

@@ -45,9 +45,9 @@ slices_once m = (
       let by_value = of_map (λ v. Negative by_param.0 v) (negative_values m by_param.0) Positive by_param.2 in
       apart by_param.0 by_value.0 by_value.2,
   repeats_flat (λ p. map (λ v. Negative p v) (negative_values m p)) (param_numbers m)
-      (λ p. repeats_map (λ v. Negative p v) (negative_values m p) (same_value p)
+      (λ p has. repeats_map (λ v. Negative p v) (negative_values m p) (same_value p)
       (repeats_filter (λ v. (value_at m p v).negative) (value_numbers m p) (repeats_range 0 (length (param_at m.params p).values))))
-      (λ p q slice here there.
+      (λ p q slice first second here there.
       let one = of_map (λ v. Negative p v) (negative_values m p) slice here in
       let other = of_map (λ v. Negative q v) (negative_values m q) slice there in
       same_param p q one.0 other.0 (one.2 ∙ sym other.2))

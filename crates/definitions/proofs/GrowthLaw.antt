@@ -24,6 +24,7 @@ use Rattle.definitions.proofs.Once.{AreApart, apart_append, apart_pairs}
 use Rattle.definitions.proofs.Finishing.{IsSliceRow, slice_grows, seeds_of, met_in, kept_is, of_slice_is, is_of_own_slice}
 use Rattle.definitions.proofs.Totals.{count, counted, count_flat, count_sum, count_less, sum_less, sum_same, sum_plus, sum_swap, sum_ones, sum_once}
 use Rattle.definitions.proofs.InPlay.{tuple_is, has_met, few_met}
+use Rattle.definitions.proofs.MetOnce.{omitted_once}
 use Rattle.definitions.proofs.Grown.{same_row_is, slices_once, rows_of_slice, rows_by_slice, of_rows, has_rows, IsDemanded, demanded_in, of_demanded, has_demanded, IsOmitted, of_omitted, has_omitted}
 
 any_of_member : {X : Type 0} (P : X → Type 0) (xs : List X) (x : X) → Has xs x → P x → Any P xs
@@ -177,6 +178,7 @@ growth_covers m pref seeds sound orders = record {
   distinct = grown_distinct m pref seeds orders;
   demanded = all_members (Contains (demanded_tuples m)) (growth m pref seeds).omitted
       (λ tuple has. contains_member (demanded_tuples m) tuple (has_demanded m tuple (of_omitted m pref seeds tuple orders has).demanded));
+  once = omitted_once m pref seeds orders;
   omitted = all_members (λ tuple. Contains (growth m pref seeds).omitted tuple ↔ ((row : List (Option ℕ)) → serves m row tuple ≡ false)) (demanded_tuples m) (λ tuple has. (
     λ listed. unserved m tuple (of_omitted m pref seeds tuple orders (has_contained (growth m pref seeds).omitted tuple listed)),
     λ none. contains_member (growth m pref seeds).omitted tuple (has_omitted m pref seeds tuple sound orders (unservable m tuple (of_demanded m tuple has) none)),

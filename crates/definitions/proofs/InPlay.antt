@@ -146,7 +146,7 @@ last_some o [] x has = absurd has
 last_some o (z ∷ []) x has = (z, inl refl, refl)
 last_some o (z ∷ w ∷ xs) x has = let later = last_some (Some z) (w ∷ xs) w (inl refl) in (later.0, inr later.1, later.2)
 
-one_last : (m : ModelView) (slice : Slice) (set : List ℕ) (p q : ℕ) → is_last m slice set p ≡ true → is_last m slice set q ≡ true → p ≡ q
+pub one_last : (m : ModelView) (slice : Slice) (set : List ℕ) (p q : ℕ) → is_last m slice set p ≡ true → is_last m slice set q ≡ true → p ≡ q
 one_last m slice set p q first second = at (last_or None (filter (is_among set) (column_order m slice))) first second
   where
     at : (o : Option ℕ) → option_map_or (λ r. r == p) o false ≡ true → option_map_or (λ r. r == q) o false ≡ true → p ≡ q

@@ -31,11 +31,14 @@ pub mod Joining
 pub mod Keeping
 pub mod Settling
 pub mod Once
+pub mod Preferred
 pub mod Finishing
 pub mod Totals
+pub mod SetOrder
 pub mod Demanded
 pub mod InPlay
 pub mod Grown
+pub mod MetOnce
 pub mod GrowthLaw
 pub mod Spelling
 pub mod ProofWords

@@ -135,6 +135,12 @@ passes_all test [] x all has = absurd has
 passes_all test (y ∷ xs) x all (inl is) = ap test (sym is) ∙ (and_parts (test y) (list_all test xs) all).0
 passes_all test (y ∷ xs) x all (inr has) = passes_all test xs x (and_parts (test y) (list_all test xs) all).1 has
 
+-- two tests that follow from each other
+pub same_answer : (a b : Bool) → (a ≡ true → b ≡ true) → (b ≡ true → a ≡ true) → a ≡ b
+same_answer true b f g = sym (f refl)
+same_answer false true f g = g refl
+same_answer false false f g = refl
+
 -- what is found
 pub of_find : {X : Type 0} (test : X → Bool) (xs : List X) (x : X) → find test xs ≡ Some x → Has xs x × (test x ≡ true)
 of_find {X} test [] x found = absurd (none_some x found)

@@ -86,7 +86,7 @@ pair_lacks m c pair sound is other apart =
     (All-cons (λ b. (b == c) ≡ false) 61 (decimal pair.1) apart (number_lacks c pair.1 v_small other))
 
 -- the constraints have the numbers from 1 on
-rule_numbers : (m : ModelView) → IsSound m → All (λ rule. (1 ≤ rule.number) × (rule.number ≤ length m.rules)) m.rules
+pub rule_numbers : (m : ModelView) → IsSound m → All (λ rule. (0 < rule.number) × (rule.number ≤ length m.rules)) m.rules
 rule_numbers m sound i d within = let here = sound.numbered i d within in (omega (arith, here), omega (arith, here, within))
 
 has_rule : (m : ModelView) (k : ℕ) → IsSound m → 1 ≤ k → k ≤ length m.rules → list_any (λ rule. rule.number == k) m.rules ≡ true
@@ -97,7 +97,7 @@ has_rule m k sound least most =
 of_rule : (m : ModelView) (k : ℕ) → IsSound m → list_any (λ rule. rule.number == k) m.rules ≡ true → (1 ≤ k) × (k ≤ length m.rules)
 of_rule m k sound some =
     let found = of_any (λ rule. rule.number == k) m.rules some in
-    let range = member_of_all (λ rule. (1 ≤ rule.number) × (rule.number ≤ length m.rules)) m.rules found.0 (rule_numbers m sound) found.1 in
+    let range = member_of_all (λ rule. (0 < rule.number) × (rule.number ≤ length m.rules)) m.rules found.0 (rule_numbers m sound) found.1 in
     let same : found.0.number ≡ k = eqb-true found.0.number k found.2 in
     (omega (arith, range.0, same), omega (arith, range.1, same))
 

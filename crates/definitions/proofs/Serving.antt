@@ -1,5 +1,5 @@
 -- Which rows serve a tuple with at most one negative value.
-use Rattle.std.proofs.Common.{◌≡◌, ℕ, zero, suc, ◌<◌, ◌≤◌, Bool, true, false, ◌&&◌, not, List, [], ◌∷◌, map, length, get_or, Option, Some, None, inl, inr, unwrap_or, zero-add, ◌∙◌, sym, ap, subst, refl, arith}
+use Rattle.std.proofs.Common.{◌≡◌, ℕ, zero, suc, ◌<◌, ◌≤◌, true, false, ◌&&◌, not, List, [], ◌∷◌, map, length, get_or, Option, Some, None, inl, inr, unwrap_or, zero-add, ◌∙◌, sym, ap, subst, refl, arith}
 use Rattle.std.specs.Prelude.{◌==◌, nat_lt, nat_le}
 use Rattle.std.specs.List.{list_all}
 use Rattle.std.proofs.lemmas.List.FromFn.{length-map-range_with_len, get_or-map-range_with_len}
@@ -13,7 +13,7 @@ use Rattle.cov_model.specs.Slices.{value_numbers, slice_values, slice_by, slice_
 use Rattle.definitions.specs.Completion.{completions, meets_rules, has_slice, is_extendable}
 use Rattle.definitions.specs.Figures.{all_rows, is_served}
 use Rattle.definitions.specs.Laws.{SlicesServe, ServableAreExtendable}
-use Rattle.definitions.proofs.Members.{Has, has_contained, contains_member, has_filter, all_pass, passes_all, any_member, of_any}
+use Rattle.definitions.proofs.Members.{Has, has_contained, contains_member, has_filter, all_pass, passes_all, any_member, of_any, same_answer}
 use Rattle.definitions.proofs.Choices.{IsChoice, choice_from, choice_completes, completion_is}
 use Rattle.definitions.proofs.SliceLemmas.{values_at, slice_length, values_positive, values_own, values_other, is_negative, has_numbers, has_params, IsNegativeAt, of_negatives, has_negatives, IsFixedBy, negative_of, slice_of_is, row_in_slice, choice_is_valid}
 
@@ -152,11 +152,6 @@ serving_is_row m row tuple is =
       assigned = own.assigned;
       listed = subst (λ vs. Has vs (value_in row p)) (sym (get_or-map-range_with_len (value_numbers m) 0 (length m.params) p p [] inside (zero-add p))) (has_numbers m p (value_in row p) own.exists);
     })) refl
-
-same_answer : (a b : Bool) → (a ≡ true → b ≡ true) → (b ≡ true → a ≡ true) → a ≡ b
-same_answer true b f g = sym (f refl)
-same_answer false true f g = g refl
-same_answer false false f g = refl
 
 -- a row that serves a tuple shows it extendable
 pub served_extends : (m : ModelView) (row tuple : List (Option ℕ)) → has_slice m tuple ≡ true → serves m row tuple ≡ true → is_extendable m (slice_of m tuple) tuple ≡ true

@@ -3,7 +3,7 @@ use Rattle.std.specs.Prelude.{◌≡◌, ℕ, ◌+◌, ◌^◌, ◌<◌, ◌≤�
 use Rattle.std.specs.List.{Any, list_any}
 use Rattle.cov_model.specs.declared.slice.Slice.{Slice}
 use Rattle.cov_model.specs.Sound.{ModelView, IsSound, param_at}
-use Rattle.cov_model.specs.Rows.{contains}
+use Rattle.cov_model.specs.Rows.{contains, is_assigned, value_in}
 use Rattle.cov_model.specs.Tuples.{IsRising}
 use Rattle.cov_model.specs.Valid.{is_row, is_valid, serves}
 use Rattle.cov_model.specs.Slices.{slice_of, slice_values, value_numbers}
@@ -60,10 +60,16 @@ abbrev pub ProofsHaveOneText : Type 0
 ProofsHaveOneText = (m : ModelView) (bytes : List ℕ) (format : ℕ) (omissions : List Omission) → IsSound m
     → omissions_of m bytes ≡ Ok (format, omissions) → (bytes ≡ proof_text format omissions) × All (IsOmissionOf m format) omissions
 
+-- the row gives each parameter one of its listed values
+pub record GivesListed (lists : List (List ℕ)) (row : List (Option ℕ)) : Type 0 where
+  pub as_long : length row ≡ length lists
+  pub assigned : (p : ℕ) → p < length lists → is_assigned row p ≡ true
+  pub listed : (p : ℕ) → p < length lists → Contains (slice_index_or lists p []) (value_in row p)
+
 -- the completions of a partial row are the rows that contain it and give each parameter one of its values
 abbrev pub CompletionsAreRows : Type 0
 CompletionsAreRows = (lists : List (List ℕ)) (cells row : List (Option ℕ))
-    → Contains (completions lists cells) row ↔ (Contains (completions lists []) row × (contains row cells ≡ true))
+    → Contains (completions lists cells) row ↔ (GivesListed lists row × (contains row cells ≡ true))
 
 -- what an extendable partial row contains is extendable
 abbrev pub ExtendableContains : Type 0
@@ -85,13 +91,14 @@ ServableAreExtendable = (m : ModelView) (tuple : List (Option ℕ)) → IsSound 
 abbrev pub ArePreferences : ModelView → List (List ℕ) → Type 0
 ArePreferences m pref = (length pref ≡ length m.params) × ((p : ℕ) → p < length m.params → IsPermutation (value_numbers m p) (slice_index_or pref p []))
 
--- what growth gives: every row is valid, and no two are the same; a demanded tuple is omitted exactly if no
--- row of the model serves it, and else a row of the suite does; each kept seed is in a row; and there are no
--- more rows than demanded tuples outside the omission list and kept seeds
+-- what growth gives: every row is valid, and no two are the same; a demanded tuple is omitted, and then
+-- once, exactly if no row of the model serves it, and else a row of the suite does; each kept seed is in a
+-- row; and there are no more rows than demanded tuples outside the omission list and kept seeds
 pub record IsGrownSuite (m : ModelView) (pref : List (List ℕ)) (seeds : List (ℕ × List (Option ℕ))) : Type 0 where
   pub valid : All (λ row. is_valid m row ≡ true) (growth m pref seeds).rows
   pub distinct : AllPairs (λ a b. is_same_row a b ≡ false) (growth m pref seeds).rows
   pub demanded : All (Contains (demanded_tuples m)) (growth m pref seeds).omitted
+  pub once : AllPairs (λ a b. is_same_row a b ≡ false) (growth m pref seeds).omitted
   pub omitted : All (λ tuple. Contains (growth m pref seeds).omitted tuple ↔ ((row : List (Option ℕ)) → serves m row tuple ≡ false)) (demanded_tuples m)
   pub served : All (λ tuple. Any (λ row. serves m row tuple ≡ true) (growth m pref seeds).rows ↔ (Contains (growth m pref seeds).omitted tuple → ⊥)) (demanded_tuples m)
   pub kept : All (λ seed. Any (λ row. contains row seed ≡ true) (growth m pref seeds).rows) (kept_seeds m seeds)

@@ -15,8 +15,8 @@ pub fn suites_are_read()
     ensures { SuitesAreRead }
 {}
 
-/// The completions of a partial row are rows: those that contain it, of the rows that give each
-/// parameter one of its listed values (this project's rule).
+/// The completions of a partial row are the rows that contain it and give each parameter one of its
+/// listed values, and no others (this project's rule).
 pub fn completions_are_rows()
     ensures { CompletionsAreRows }
 {}
@@ -54,9 +54,10 @@ pub fn servable_are_extendable()
 {}
 
 /// Growth covers what can be covered: every row of a suite is valid, and no two are the same; a
-/// demanded tuple is omitted exactly if no row of the model serves it, and else a row of the suite
-/// serves it; each kept seed is in a row; and there are no more rows than demanded tuples outside the
-/// omission list and kept seeds (Lei and others 2007 for growth; the bound is this project's rule).
+/// demanded tuple is omitted, and then once, exactly if no row of the model serves it, and else a row
+/// of the suite serves it; each kept seed is in a row; and there are no more rows than demanded tuples
+/// outside the omission list and kept seeds (Lei and others 2007 for growth; the law is this
+/// project's).
 pub fn growth_covers()
     ensures { GrowthCovers }
 {}

@@ -1,11 +1,9 @@
 -- Plain search in a slice of a model.
-use Rattle.std.proofs.Common.{◌≡◌, ℕ, zero, suc, ◌+◌, ◌<◌, ◌≤◌, Bool, true, false, not, ◌||◌, ◌==◌, cond, List, [], ◌∷◌, map, length, Option, Some, None, is_some, find, get_or, ◌∙◌, sym, ap, subst, refl, arith, inl, inr, eq-eqb, zero-add}
-use Rattle.std.specs.List.{filter, list_any, range_with_len}
-use Rattle.std.proofs.lemmas.Bool.{false≢true, cases_lt, cases_eq}
-use Rattle.std.proofs.lemmas.List.{get_or-set_other, get_or-set_same, get_or_past, length-set}
-use Rattle.std.proofs.lemmas.List.Folds.{list_any_at}
-use Rattle.std.proofs.lemmas.List.Sorted.{list_any-IsPermutation}
-use Rattle.std.proofs.lemmas.List.FromFn.{length-range_with_len, get_or-range_with_len, length-map-range_with_len, get_or-map-range_with_len}
+use Rattle.std.proofs.Common.{◌≡◌, ℕ, ◌<◌, ◌≤◌, Bool, true, false, not, ◌||◌, ◌==◌, cond, List, [], ◌∷◌, map, length, Option, Some, None, is_some, find, get_or, ◌∙◌, sym, ap, refl, arith, inl, inr, zero-add}
+use Rattle.std.specs.List.{list_any}
+use Rattle.std.proofs.lemmas.Bool.{false≢true, cases_lt}
+use Rattle.std.proofs.lemmas.List.{get_or-set_other, get_or-set_same, get_or_past}
+use Rattle.std.proofs.lemmas.List.FromFn.{length-map-range_with_len, get_or-map-range_with_len}
 use Rattle.cov_model.specs.declared.slice.Slice.{Slice}
 use Rattle.cov_model.specs.declared.slice.Slice.TheVariants.{Positive, Negative}
 use Rattle.cov_model.specs.Sound.{ModelView, IsSound, param_at}
@@ -17,6 +15,9 @@ use Rattle.definitions.specs.Demand.{is_among}
 use Rattle.definitions.specs.Completion.{completions, meets_rules, is_extendable, preferred_values, first_completion}
 use Rattle.definitions.specs.Search.{constrained_params, plain_search, plain_cost, visit}
 use Rattle.definitions.specs.Laws.{ArePreferences}
+use Rattle.definitions.proofs.Members.{has_filter, of_filter, among_has, of_among, same_answer}
+use Rattle.definitions.proofs.SliceLemmas.{slice_length, IsSlice, value_exists, has_numbers}
+use Rattle.definitions.proofs.Preferred.{preferred_length, of_preferred, has_preferred}
 use Rattle.feasibility.specs.Answers.{answer_of}
 use Rattle.feasibility.specs.declared.answer.Answer.{Answer}
 use Rattle.feasibility.specs.declared.answer.Answer.TheVariants.{Yes}
@@ -26,7 +27,7 @@ use Rattle.feasibility.proofs.Visiting.{told_yes}
 use Rattle.feasibility.specs.Path.{reached}
 use Rattle.definitions.specs.SliceRows.{IsSliceOf, IsOfSlice}
 use Rattle.feasibility.specs.Laws.{PlainSearchIsExact}
-use Rattle.feasibility.proofs.Completing.{same_number, first_of, first_of-none, first_of-some, completion_moves, among_filter, among_tail}
+use Rattle.feasibility.proofs.Completing.{first_of, first_of-none, first_of-some, completion_moves}
 use Rattle.feasibility.proofs.Searching.{IsListed, given_by, visit_gives, not_true_false}
 
 list_any-find : {X : Type 0} (test : X → Bool) (xs : List X) → list_any test xs ≡ is_some (find test xs)
@@ -53,99 +54,15 @@ found_moves lists others cells test long same moves found = by_case (is_some (fi
         not_true_false (test row) (λ meets. false≢true (sym is ∙ first_of-some others cells row test (completion_moves lists others cells row same moves completes) meets)))))
         ∙ found))
 
-both_ways : (a b : Bool) → (a ≡ true → b ≡ true) → (b ≡ true → a ≡ true) → a ≡ b
-both_ways true b h k = sym (h refl)
-both_ways false true h k = k refl
-both_ways false false h k = refl
-
-among_range : (n v : ℕ) → v < n → is_among (range_with_len 0 n) v ≡ true
-among_range n v within =
-    list_any_at (λ k. k == v) (range_with_len 0 n) v 0 (omega (arith, length-range_with_len 0 n)) (eq-eqb _ v (get_or-range_with_len 0 n v 0 within ∙ zero-add v))
-
-among_range_below : (a n v : ℕ) → is_among (range_with_len a n) v ≡ true → v < a + n
-among_range_below a zero v listed = absurd (false≢true listed)
-among_range_below a (suc n) v listed = by_case (a == v) (same_number a v) listed (among_range_below (a + 1) n v)
-  where
-    by_case : (equal : Bool) → (equal ≡ true → a ≡ v) → (equal || is_among (range_with_len (a + 1) n) v) ≡ true
-        → (is_among (range_with_len (a + 1) n) v ≡ true → v < a + 1 + n) → v < a + suc n
-    by_case true same h later = omega (arith, same refl)
-    by_case false same h later = omega (arith, later h)
-
-among_filter_test : (test : ℕ → Bool) (v : ℕ) (values : List ℕ) → is_among (filter test values) v ≡ true → test v ≡ true
-among_filter_test test v [] listed = absurd (false≢true listed)
-among_filter_test test v (w ∷ values) listed = by_case (test w) refl listed (among_filter_test test v values)
-  where
-    here : (equal : Bool) → (w == v) ≡ equal → test w ≡ true → (equal || is_among (filter test values) v) ≡ true
-        → (is_among (filter test values) v ≡ true → test v ≡ true) → test v ≡ true
-    here true is passes h later = subst (λ (u : ℕ). test u ≡ true) (same_number w v is) passes
-    here false is passes h later = later h
-
-    by_case : (b : Bool) → test w ≡ b → is_among (cond b (w ∷ filter test values) (filter test values)) v ≡ true
-        → (is_among (filter test values) v ≡ true → test v ≡ true) → test v ≡ true
-    by_case true is h later = here (w == v) refl is h later
-    by_case false is h later = later h
-
-among_filter_in : (test : ℕ → Bool) (v : ℕ) (values : List ℕ) → test v ≡ true → is_among values v ≡ true → is_among (filter test values) v ≡ true
-among_filter_in test v [] passes listed = listed
-among_filter_in test v (w ∷ values) passes listed = by_equal (w == v) refl listed (among_filter_in test v values passes)
-  where
-    by_test : (b : Bool) → is_among (filter test values) v ≡ true → is_among (cond b (w ∷ filter test values) (filter test values)) v ≡ true
-    by_test true h = among_tail w v (filter test values) h
-    by_test false h = h
-
-    by_equal : (equal : Bool) → (w == v) ≡ equal → (equal || is_among values v) ≡ true → (is_among values v ≡ true → is_among (filter test values) v ≡ true)
-        → is_among (cond (test w) (w ∷ filter test values) (filter test values)) v ≡ true
-    by_equal true is h later =
-        let same = same_number w v is in
-        ap (λ (b : Bool). is_among (cond b (w ∷ filter test values) (filter test values)) v) (ap test same ∙ passes)
-        ∙ ap (λ (b : Bool). b || is_among (filter test values) v) is
-    by_equal false is h later = by_test (test w) (later h)
-
-length-slice_values : (m : ModelView) (slice : Slice) → length (slice_values m slice) ≡ length m.params
-length-slice_values m Positive = length-map-range_with_len (positive_values m) 0 (length m.params)
-length-slice_values m (Negative p v) =
-    length-set (map (positive_values m) (param_numbers m)) p (v ∷ []) ∙ length-map-range_with_len (positive_values m) 0 (length m.params)
-
-positive_exist : (m : ModelView) (p v : ℕ) → p < length m.params → is_among (get_or (map (positive_values m) (param_numbers m)) p []) v ≡ true
-    → v < length (param_at m.params p).values
-positive_exist m p v within listed =
-    let here : get_or (map (positive_values m) (param_numbers m)) p [] ≡ positive_values m p = get_or-map-range_with_len (positive_values m) 0 (length m.params) p p [] within (zero-add p) in
-    let low = among_range_below 0 (length (param_at m.params p).values) v
-    (among_filter (λ w. not (value_at m p w).negative) v (value_numbers m p) (subst (λ (values : List ℕ). is_among values v ≡ true) here listed)) in
-    omega (arith, low)
+-- the slice is one of the model's
+as_slice : (m : ModelView) (slice : Slice) → IsSliceOf m slice → IsSlice m slice
+as_slice m Positive is = tt
+as_slice m (Negative q v) is = (is.0, is.2)
 
 -- the values of a slice exist
 slice_exist : (m : ModelView) (slice : Slice) (p v : ℕ) → IsSliceOf m slice → p < length m.params → is_among (get_or (slice_values m slice) p []) v ≡ true
     → v < length (param_at m.params p).values
-slice_exist m Positive p v is within listed = positive_exist m p v within listed
-slice_exist m (Negative q w) p v is within listed =
-    elim (cases_eq p q) [
-      | inl same ↦
-          let here : get_or (slice_values m (Negative q w)) p [] ≡ w ∷ [] =
-          ap (λ (k : ℕ). get_or (slice_values m (Negative q w)) k []) same
-          ∙ get_or-set_same (map (positive_values m) (param_numbers m)) q (w ∷ []) [] (omega (arith, length-map-range_with_len (positive_values m) 0 (length m.params), is.0)) in
-          let equal : w ≡ v = one w v (subst (λ (values : List ℕ). is_among values v ≡ true) here listed) in
-          subst (λ (u : ℕ). u < length (param_at m.params p).values) equal (subst (λ (k : ℕ). w < length (param_at m.params k).values) (sym same) is.1)
-      | inr differs ↦
-          positive_exist m p v within
-          (subst (λ (values : List ℕ). is_among values v ≡ true) (get_or-set_other (map (positive_values m) (param_numbers m)) q p (w ∷ []) [] differs) listed)
-    ]
-  where
-    one : (w v : ℕ) → ((w == v) || false) ≡ true → w ≡ v
-    one w v h = by_case (w == v) (same_number w v) h
-      where
-        by_case : (b : Bool) → (b ≡ true → w ≡ v) → (b || false) ≡ true → w ≡ v
-        by_case true same h = same refl
-        by_case false same h = absurd (false≢true h)
-
-length-preferred_values : (m : ModelView) (pref : List (List ℕ)) (slice : Slice) → length (preferred_values m pref slice) ≡ length m.params
-length-preferred_values m pref slice =
-    length-map-range_with_len (λ p. filter (is_among (get_or (slice_values m slice) p [])) (get_or pref p [])) 0 (length m.params)
-
-get_or-preferred_values : (m : ModelView) (pref : List (List ℕ)) (slice : Slice) (p : ℕ) → p < length m.params
-    → get_or (preferred_values m pref slice) p [] ≡ filter (is_among (get_or (slice_values m slice) p [])) (get_or pref p [])
-get_or-preferred_values m pref slice p within =
-    get_or-map-range_with_len (λ q. filter (is_among (get_or (slice_values m slice) q [])) (get_or pref q [])) 0 (length m.params) p p [] within (zero-add p)
+slice_exist m slice p v is within listed = value_exists m slice p v (as_slice m slice is) within (of_among (get_or (slice_values m slice) p []) v listed)
 
 -- a value that is listed in preference order is one of the slice
 preferred_listed : (m : ModelView) (pref : List (List ℕ)) (slice : Slice) (p v : ℕ) → is_among (get_or (preferred_values m pref slice) p []) v ≡ true
@@ -153,10 +70,9 @@ preferred_listed : (m : ModelView) (pref : List (List ℕ)) (slice : Slice) (p v
 preferred_listed m pref slice p v listed =
     elim (cases_lt p (length m.params)) [
       | inl within ↦
-          among_filter_test (is_among (get_or (slice_values m slice) p [])) v (get_or pref p [])
-          (subst (λ (values : List ℕ). is_among values v ≡ true) (get_or-preferred_values m pref slice p within) listed)
+          among_has (get_or (slice_values m slice) p []) v (of_preferred m pref slice p v within (of_among (get_or (preferred_values m pref slice) p []) v listed))
       | inr past ↦
-          absurd (false≢true (ap (λ (values : List ℕ). is_among values v) (sym (get_or_past (preferred_values m pref slice) p [] (omega (arith, length-preferred_values m pref slice)))) ∙ listed))
+          absurd (false≢true (ap (λ (values : List ℕ). is_among values v) (sym (get_or_past (preferred_values m pref slice) p [] (omega (arith, preferred_length m pref slice)))) ∙ listed))
     ]
 
 -- and each value of the slice is listed
@@ -165,21 +81,19 @@ slice_listed : (m : ModelView) (pref : List (List ℕ)) (slice : Slice) (p v : �
 slice_listed m pref slice p v are is listed =
     elim (cases_lt p (length m.params)) [
       | inl within ↦
-          subst (λ (values : List ℕ). is_among values v ≡ true) (sym (get_or-preferred_values m pref slice p within))
-          (among_filter_in (is_among (get_or (slice_values m slice) p [])) v (get_or pref p []) listed
-          (sym (list_any-IsPermutation (λ k. k == v) (value_numbers m p) (get_or pref p []) (are.1 p within))
-          ∙ among_range (length (param_at m.params p).values) v (slice_exist m slice p v is within listed)))
+          among_has (get_or (preferred_values m pref slice) p []) v
+          (has_preferred m pref slice p v are (as_slice m slice is) within (of_among (get_or (slice_values m slice) p []) v listed))
       | inr past ↦
-          absurd (false≢true (ap (λ (values : List ℕ). is_among values v) (sym (get_or_past (slice_values m slice) p [] (omega (arith, length-slice_values m slice)))) ∙ listed))
+          absurd (false≢true (ap (λ (values : List ℕ). is_among values v) (sym (get_or_past (slice_values m slice) p [] (omega (arith, slice_length m slice)))) ∙ listed))
     ]
 
 past_exist : (m : ModelView) (pref : List (List ℕ)) (slice : Slice) (p v : ℕ) → length m.params ≤ p → is_among (get_or (slice_values m slice) p []) v ≡ true → ⊥
 past_exist m pref slice p v past listed =
-    false≢true (ap (λ (values : List ℕ). is_among values v) (sym (get_or_past (slice_values m slice) p [] (omega (arith, length-slice_values m slice)))) ∙ listed)
+    false≢true (ap (λ (values : List ℕ). is_among values v) (sym (get_or_past (slice_values m slice) p [] (omega (arith, slice_length m slice)))) ∙ listed)
 
 pub preferred_are_values : (m : ModelView) (pref : List (List ℕ)) (slice : Slice) → IsSliceOf m slice → ListsValues m (preferred_values m pref slice)
 preferred_are_values m pref slice is = record {
-  as_many = length-preferred_values m pref slice;
+  as_many = preferred_length m pref slice;
   exist = λ p v listed.
       elim (cases_lt p (length m.params)) [
         | inl within ↦ slice_exist m slice p v is within (preferred_listed m pref slice p v listed)
@@ -190,7 +104,7 @@ preferred_are_values m pref slice is = record {
 pub is_listed : (m : ModelView) (pref : List (List ℕ)) (slice : Slice) (cells : List (Option ℕ)) → ArePreferences m pref → IsSliceOf m slice → IsOfSlice m slice cells
     → IsListed (preferred_values m pref slice) cells
 is_listed m pref slice cells are is of = record {
-  long = of.fits.as_long ∙ sym (length-preferred_values m pref slice);
+  long = of.fits.as_long ∙ sym (preferred_length m pref slice);
   listed = λ p assigned. slice_listed m pref slice p (value_in cells p) are is (of.listed p assigned);
 }
 
@@ -209,9 +123,9 @@ found_given false row = refl
 completed_is_extendable : (m : ModelView) (pref : List (List ℕ)) (slice : Slice) (cells : List (Option ℕ)) → ArePreferences m pref
     → IsSliceOf m slice → IsOfSlice m slice cells → is_some (first_completion m pref slice cells) ≡ is_extendable m slice cells
 completed_is_extendable m pref slice cells are is of =
-    let some = length-preferred_values m pref slice in
-    let all = length-slice_values m slice in
-    both_ways (is_some (first_of (preferred_values m pref slice) cells (meets_rules m))) (is_some (first_of (slice_values m slice) cells (meets_rules m)))
+    let some = preferred_length m pref slice in
+    let all = slice_length m slice in
+    same_answer (is_some (first_of (preferred_values m pref slice) cells (meets_rules m))) (is_some (first_of (slice_values m slice) cells (meets_rules m)))
     (found_moves (preferred_values m pref slice) (slice_values m slice) cells (meets_rules m) (of.fits.as_long ∙ sym some) (some ∙ sym all) (preferred_listed m pref slice))
     (found_moves (slice_values m slice) (preferred_values m pref slice) cells (meets_rules m) (of.fits.as_long ∙ sym all) (all ∙ sym some) (λ p v. slice_listed m pref slice p v are is))
     ∙ sym (list_any-find (meets_rules m) (completions (slice_values m slice) cells))
@@ -229,9 +143,9 @@ listed_positive : (m : ModelView) (p v : ℕ) → p < length m.params → v < le
     → is_among (get_or (map (positive_values m) (param_numbers m)) p []) v ≡ not (value_at m p v).negative
 listed_positive m p v within exists =
     ap (λ (values : List ℕ). is_among values v) (get_or-map-range_with_len (positive_values m) 0 (length m.params) p p [] within (zero-add p))
-    ∙ both_ways (is_among (positive_values m p) v) (not (value_at m p v).negative)
-    (λ listed. among_filter_test (λ w. not (value_at m p w).negative) v (value_numbers m p) listed)
-    (λ positive. among_filter_in (λ w. not (value_at m p w).negative) v (value_numbers m p) positive (among_range (length (param_at m.params p).values) v exists))
+    ∙ same_answer (is_among (positive_values m p) v) (not (value_at m p v).negative)
+    (λ listed. (of_filter (λ w. not (value_at m p w).negative) (value_numbers m p) v (of_among (positive_values m p) v listed)).1)
+    (λ positive. among_has (positive_values m p) v (has_filter (λ w. not (value_at m p w).negative) (value_numbers m p) v (has_numbers m p v exists) positive))
 
 pub slice_positive : (m : ModelView) (p v : ℕ) → p < length m.params → v < length (param_at m.params p).values
     → not (value_at m p v).negative ≡ is_among (get_or (slice_values m Positive) p []) v

@@ -16,6 +16,7 @@ use Rattle.cov_model.specs.declared.constraint.Pred.{Pred, Term, Not', All', Any
 use Rattle.definitions.specs.Demand.{is_among}
 use Rattle.definitions.specs.Completion.{with_value}
 use Rattle.definitions.specs.Search.{pred_params, parts_params, body_params, is_no, breaks_a_rule}
+use Rattle.definitions.proofs.ProofWords.{rule_numbers}
 use Rattle.feasibility.specs.Tree.{is_named, naming}
 use Rattle.feasibility.proofs.Local.{AgreeOn, local_body}
 use Rattle.feasibility.proofs.Searching.{neither}
@@ -53,10 +54,7 @@ named_at m n named p same is within =
       is = ap (λ (lists : List (List ℕ)). get_or lists p []) whole ∙ get_or-map-range_with_len (naming n) 0 (length n.params) p p [] within (zero-add p);
     }
 
--- a constraint has the number of its place
-numbers_exist : (m : ModelView) → IsSound m → All (λ rule. (0 < rule.number) × (rule.number ≤ length m.rules)) m.rules
-numbers_exist m sound i d within = let here = sound.numbered i d within in (omega (arith, here), omega (arith, here))
-
+-- a constraint is found by its number
 numbers_find : (m : ModelView) → IsSound m → All (λ rule. rule_at m rule.number ≡ rule) m.rules
 numbers_find m sound i d within =
     let here = sound.numbered i d within in
@@ -66,7 +64,7 @@ numbers_find m sound i d within =
 pub naming_exist : (m : ModelView) (p : ℕ) → IsSound m → All (λ k. (0 < k) × (k ≤ length m.rules)) (naming m p)
 naming_exist m p sound =
     All-map (λ k. (0 < k) × (k ≤ length m.rules)) (λ rule. rule.number) (filter (λ rule. is_among (body_params rule.body) p) m.rules)
-    (All-filter (λ rule. is_among (body_params rule.body) p) (λ rule. (0 < rule.number) × (rule.number ≤ length m.rules)) m.rules (numbers_exist m sound))
+    (All-filter (λ rule. is_among (body_params rule.body) p) (λ rule. (0 < rule.number) × (rule.number ≤ length m.rules)) m.rules (rule_numbers m sound))
 
 -- a parameter is constrained exactly if the list of the constraints that name it isn't empty
 pub named_some : (m : ModelView) (p : ℕ) → (0 < length (naming m p) → is_named m p ≡ true) × (length (naming m p) ≡ 0 → is_named m p ≡ false)

@@ -1,11 +1,12 @@
 -- Runs: how many elements at the start of a list pass a test, and where a text may be cut behind them.
-use Rattle.std.proofs.Common.{◌≡◌, ℕ, zero, suc, ◌+◌, ◌-◌, ◌<◌, ◌≤◌, Bool, true, false, ◌&&◌, cond, List, [], ◌∷◌, length, drop, get_or, refl, subst, ◌∙◌, sym, one-add, arith, length-drop, get_or-drop}
+use Rattle.std.proofs.Common.{◌≡◌, ℕ, zero, suc, ◌+◌, ◌-◌, ◌<◌, ◌≤◌, Bool, true, false, ◌&&◌, cond, List, [], ◌∷◌, length, drop, reverse, get_or, refl, subst, ◌∙◌, sym, one-add, arith, length-drop, get_or-drop}
 use Rattle.std.proofs.lemmas.Bool.{ne_eqb}
 use Rattle.std.proofs.lemmas.Bool.Decides.{nat_tests}
+use Rattle.std.proofs.lemmas.List.{get_or-reverse}
 use Rattle.std.proofs.lemmas.List.Folds.{length-prefix_len}
-use Rattle.std.proofs.lemmas.List.Sums.{prefix_len-le-length, prefix_len_passes}
-use Rattle.std.proofs.lemmas.Str.{IsCharBoundary-after_ascii, IsCharBoundary-start}
-use Rattle.std.specs.List.{prefix_len, take_while, list_all}
+use Rattle.std.proofs.lemmas.List.Sums.{prefix_len-le-length, prefix_len_passes, suffix_len-le-length}
+use Rattle.std.proofs.lemmas.Str.{IsCharBoundary-after_ascii, IsCharBoundary-before_ascii, IsCharBoundary-start, IsCharBoundary-end}
+use Rattle.std.specs.List.{prefix_len, suffix_len, take_while, list_all}
 use Rattle.std.specs.Prelude.{nat_eq}
 use Rattle.std.specs.Str.{IsUtf8, IsCharBoundary}
 use Rattle.model_lex.specs.Blanks.{is_blank, is_all_blank, without_first_blanks}
@@ -57,3 +58,11 @@ pub run_ends : (p : ℕ → Bool) → ((b : ℕ) → p b ≡ true → b < 128) �
 run_ends p ascii text utf8 n len =
     let from : IsCharBoundary text (0 + n) = run_boundary p ascii text 0 utf8 (IsCharBoundary-start text utf8) n (omega arith) in
     subst (λ k. IsCharBoundary text k) (omega arith) from
+
+-- before a run of ASCII bytes at the end too
+pub suffix_cut : (p : ℕ → Bool) → ((b : ℕ) → p b ≡ true → b < 128) → (text : List ℕ) (n : ℕ) → n ≡ suffix_len p text → IsCharBoundary text (length text - n)
+suffix_cut p ascii text zero e = subst (λ k. IsCharBoundary text k) (omega arith) (IsCharBoundary-end text)
+suffix_cut p ascii text (suc m) e =
+    let within : suffix_len p text ≤ length text = suffix_len-le-length p text in
+    let here : get_or text (length text - 1 - m) 0 < 128 = rw (← get_or-reverse text m 0 (omega arith)) (ascii (get_or (reverse text) m 0) (prefix_len_passes p (reverse text) m 0 (omega arith))) in
+    subst (λ k. IsCharBoundary text k) (omega arith) (IsCharBoundary-before_ascii text (length text - 1 - m) (omega arith) here)

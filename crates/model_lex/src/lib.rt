@@ -5,6 +5,7 @@
 //! - `ModelFault` is why a file is refused, a line and a `DiagCode`; `Note` is what is told of a
 //!   file that is accepted.
 //! - `ModelOpts` is how a file is to be read.
+//! - `trimmed` is a text without the blanks at its ends.
 //!
 //! The texts of `Sections` are slices of the file, and tokens are places in their line. But for
 //! `split_model`, which answers `NoMemory` where a list could not grow, no call takes memory.
@@ -22,6 +23,7 @@ mod sections;
 #[cfg(test)]
 mod tests;
 mod token;
+mod trim;
 
 pub use diag::{Diag, DiagCode};
 pub use fault::{LimitName, ModelFault};
@@ -29,3 +31,4 @@ pub use note::{Note, NoteCode, NoteList};
 pub use options::{Marks, ModelOpts, OrderWord};
 pub use sections::{NumLine, NumLineList, Sections, split_model};
 pub use token::{Lexed, Token, TokenKind, next_token};
+pub use trim::{trimmed, without_first_blanks};

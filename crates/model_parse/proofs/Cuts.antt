@@ -1,22 +1,18 @@
 -- Where texts are cut.
-use Rattle.std.proofs.Common.{◌≡◌, ℕ, zero, suc, ◌-◌, ◌<◌, ◌≤◌, Bool, true, false, not, List, length, take, reverse, get_or, refl, sym, ◌∙◌, subst, arith}
-use Rattle.std.proofs.lemmas.Bool.{and_parts, ltb-true}
+use Rattle.std.proofs.Common.{◌≡◌, ℕ, ◌-◌, ◌<◌, ◌≤◌, Bool, true, false, not, List, length, take, reverse, get_or, ◌∙◌, subst, arith}
+use Rattle.std.proofs.lemmas.Bool.{and_parts, ltb-true, not-true, not-false}
 use Rattle.std.proofs.lemmas.Bool.Decides.{nat_tests}
 use Rattle.std.proofs.lemmas.List.{get_or-reverse, length-reverse}
 use Rattle.std.proofs.lemmas.List.Elements.{All-from_get_or}
-use Rattle.std.proofs.lemmas.List.Folds.{length-prefix_len, list_any_none, list_any_at}
+use Rattle.std.proofs.lemmas.List.Folds.{list_any_none, list_any_at}
 use Rattle.std.proofs.lemmas.List.Sorted.{IsPermutation-reverse, list_any-IsPermutation}
 use Rattle.std.proofs.lemmas.List.Sums.{suffix_len-le-length, prefix_len_passes, prefix_len_stops}
-use Rattle.std.proofs.lemmas.Str.{IsCharBoundary-after_ascii, IsCharBoundary-before_ascii, IsCharBoundary-end}
+use Rattle.std.proofs.lemmas.Str.{IsCharBoundary-after_ascii, IsCharBoundary-before_ascii}
 use Rattle.std.specs.Char.{is_ascii_digit}
-use Rattle.std.specs.List.{prefix_len, suffix_len, take_while, list_any, slice_range}
+use Rattle.std.specs.List.{prefix_len, suffix_len, list_any, slice_range}
 use Rattle.std.specs.Str.{IsUtf8, IsCharBoundary}
 use Rattle.model_parse.specs.Pieces.{is_byte, begins_with}
 use borrow.Author.Tests.{eqb-true}
-
--- the run that `take_while` takes is so long
-pub run_len : (p : ℕ → Bool) (xs : List ℕ) → length (take_while p xs) ≡ prefix_len p xs
-run_len p xs = length-prefix_len p xs
 
 -- behind an ASCII mark at the start a text may be cut
 pub begins_cut : (mark : ℕ) (text : List ℕ) → mark < 128 → IsUtf8 text → begins_with mark text ≡ true → IsCharBoundary text 1
@@ -29,22 +25,6 @@ begins_cut mark text ascii utf8 begins =
 -- what stands so many bytes before the end
 from_end : (text : List ℕ) (n : ℕ) → n < length text → get_or (reverse text) n 0 ≡ get_or text (length text - 1 - n) 0
 from_end text n within = get_or-reverse text n 0 within
-
--- before a run of ASCII bytes at the end a text may be cut
-pub suffix_cut : (p : ℕ → Bool) → ((b : ℕ) → p b ≡ true → b < 128) → (text : List ℕ) (n : ℕ) → n ≡ suffix_len p text → IsCharBoundary text (length text - n)
-suffix_cut p ascii text zero e = subst (λ k. IsCharBoundary text k) (omega arith) (IsCharBoundary-end text)
-suffix_cut p ascii text (suc m) e =
-    let within : suffix_len p text ≤ length text = suffix_len-le-length p text in
-    let here : get_or text (length text - 1 - m) 0 < 128 = rw (← from_end text m (omega arith)) (ascii (get_or (reverse text) m 0) (prefix_len_passes p (reverse text) m 0 (omega arith))) in
-    subst (λ k. IsCharBoundary text k) (omega arith) (IsCharBoundary-before_ascii text (length text - 1 - m) (omega arith) here)
-
-not-true : (b : Bool) → not b ≡ true → b ≡ false
-not-true true h = sym h
-not-true false h = refl
-
-not-false : (b : Bool) → not b ≡ false → b ≡ true
-not-false true h = refl
-not-false false h = sym h
 
 -- a mark stands in a text where not each byte is another
 first_mark : (p : ℕ → Bool) (xs : List ℕ) → (length xs ≤ prefix_len (λ x. not (p x)) xs → list_any p xs ≡ false) × (prefix_len (λ x. not (p x)) xs < length xs → list_any p xs ≡ true)

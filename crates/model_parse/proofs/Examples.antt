@@ -1,5 +1,6 @@
 -- Models as they are read, computed from the definitions.
-use Rattle.std.proofs.Common.{◌≡◌, ℕ, Bool, true, false, List, [], ◌∷◌, Result, Ok, refl, codes}
+use Rattle.std.proofs.Common.{◌≡◌, ℕ, Bool, true, false, List, [], ◌∷◌, ◌++◌, Result, Ok, refl, ap, arith, codes}
+use Rattle.std.proofs.lemmas.Fmt.{decimal_digit}
 use Rattle.std.specs.Str.{chars}
 use Rattle.cov_model.specs.declared.parameter.Param.{Param}
 use Rattle.cov_model.specs.declared.parameter.Value.{Value}
@@ -9,10 +10,12 @@ use Rattle.model_lex.specs.declared.diag.DiagCode.TheVariants.{EmptyParameterNam
 use Rattle.model_lex.specs.declared.fault.ModelFault.{ModelFault}
 use Rattle.model_lex.specs.declared.note.Note.{Note}
 use Rattle.model_lex.specs.declared.note.NoteCode.TheVariants.{RepeatedValueName}
+use Rattle.model_lex.specs.declared.options.Marks.{Marks}
 use Rattle.model_lex.specs.declared.options.ModelOpts.{ModelOpts}
 use Rattle.model_lex.specs.declared.options.OrderWord.TheVariants.{Number, Max}
 use Rattle.model_parse.specs.Steps.{refused}
 use Rattle.model_parse.specs.RawModels.{raw_model_of}
+use Rattle.model_parse.specs.Written.{written_param}
 use Rattle.model_parse.specs.declared.raw_model.RawModel.{RawModel}
 
 -- the default marks, order 1
@@ -93,3 +96,13 @@ group_refusals = (refl, refl, refl, refl, refl, refl, refl, refl, refl)
 order_too_large : raw_model_of (record { order = Number 2; marks = record { separator = 44; alias = 124; prefix = 126 }; fold = true }) (record { params = (4, codes "A: 1") ∷ []; groups = []; rules = [] }) ≡ at 4 OrderTooLarge
 unfolding chars
 order_too_large = refl
+
+-- parameters as they are written
+abbrev marks : Marks
+marks = record { separator = 44; alias = 124; prefix = 126 }
+
+written : written_param marks (param (codes "A") 1 false (record { names = codes "a" ∷ codes "b" ∷ []; weight = 3; negative = false } ∷ record { names = codes "c" ∷ []; weight = 1; negative = true } ∷ plain (codes "d") ∷ [])) ≡ codes "A: a | b (3), ~c, d"
+written = ap (λ w. codes "A: a | b (" ++ ((w ++ 41 ∷ []) ++ codes ", ~c, d")) (decimal_digit 3 (omega arith))
+
+weight_kept : written_param marks (param (codes "B") 1 false (plain (codes "x (y)") ∷ plain (codes "<A>") ∷ [])) ≡ codes "B: x (y) (1), <A> (1)"
+weight_kept = ap (λ w. codes "B: x (y) (" ++ ((w ++ 41 ∷ []) ++ (codes ", <A> (" ++ ((w ++ 41 ∷ []) ++ [])))) (decimal_digit 1 (omega arith))

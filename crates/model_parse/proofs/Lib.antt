@@ -1,6 +1,7 @@
 mod Examples
 pub mod Answering
 pub mod Cuts
+pub mod Joining
 pub mod Keeping
 pub mod Names
 pub mod Readings
@@ -9,3 +10,6 @@ pub mod SoundNames
 pub mod SoundParams
 pub mod SoundValues
 pub mod Weights
+pub mod WrittenParams
+pub mod WrittenPieces
+pub mod WrittenValues

@@ -1,14 +1,11 @@
 -- The names that a line gives.
 use Rattle.std.proofs.Common.{◌≡◌, ◌≢◌, ℕ, ◌-◌, ◌<◌, ◌≤◌, Bool, true, false, ◌||◌, cond, List, [], ◌∷◌, map, length, drop, reverse, get_or, All, Option, Some, None, refl, sym, ◌∙◌, ap, subst, arith, eqb, ltb}
 use Rattle.std.proofs.lemmas.Bool.{and_from, or_parts, not-false, true≢false, lt-ltb, eq-eqb, eqb-false, not_from_false}
-use Rattle.std.proofs.lemmas.List.{get_or-take, get_or-drop, length-take, length-take-le, length-drop, length-reverse, get_or-reverse}
-use Rattle.std.proofs.lemmas.List.Elements.{All-nil, All-cons, All-head, All-tail, All-map}
+use Rattle.std.proofs.lemmas.List.{length-map, get_or-take, get_or-drop, length-take, length-take-le, length-drop, length-reverse, get_or-reverse}
+use Rattle.std.proofs.lemmas.List.Elements.{All-nil, All-cons, All-head, All-tail, All-map, All-take, All-drop}
 use Rattle.std.proofs.lemmas.List.Splits.{length-slice_split}
-use Rattle.std.proofs.lemmas.List.Sums.{prefix_len_stops, suffix_len-le-length}
+use Rattle.std.proofs.lemmas.List.Sums.{prefix_len_stops, suffix_len-le-length, fails_before_first}
 use Rattle.std.proofs.lemmas.List.Folds.{list_any_none}
-use Rattle.std.proofs.lemmas.List.Sums.{fails_before_first}
-use Rattle.std.proofs.lemmas.List.Elements.{All-take, All-drop}
-use Rattle.std.proofs.lemmas.List.{length-map}
 use Rattle.std.specs.List.{prefix_len, suffix_len, before_first, list_any, slice_split, position_or_len}
 use Rattle.std.specs.Option.{option_or}
 use Rattle.std.specs.Prelude.{slice_index}

@@ -21,7 +21,7 @@ use Rattle.model_parse.proofs.SoundNames.{fit_name, none_before, some_pieces}
 use Rattle.model_parse.proofs.SoundValues.{AreKnown, known_more, texts_of, IsRead, IsReadSome, add_piece_ok}
 
 -- the names of parameters, one after another
-abbrev names_of : List Param → List (List ℕ)
+abbrev pub names_of : List Param → List (List ℕ)
 names_of params = map (λ (param : Param). param.name) params
 
 -- what has been read of the parameter lines

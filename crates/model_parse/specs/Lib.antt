@@ -4,3 +4,4 @@ pub mod Values
 pub mod ParamLines
 pub mod GroupLines
 pub mod RawModels
+pub mod Written

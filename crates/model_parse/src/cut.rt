@@ -1,69 +1,23 @@
 //! Cutting lines into parts.
 ghost use Rattle.std.specs.Prelude.{◌≡◌, ◌<◌, map, drop, length, IfOk, MatchOption, true, false, not, ◌==◌};
-ghost use Rattle.std.specs.List.{before_first, after_first, before_last, after_last, list_all, list_any, prefix_len, suffix_len};
+ghost use Rattle.std.specs.List.{before_first, after_first, before_last, after_last, list_all, list_any, suffix_len};
 ghost use Rattle.std.specs.Str.{chars};
 ghost use Rattle.cov_model.specs.Names.{is_plain};
-ghost use Rattle.model_lex.specs.Blanks.{is_blank, trimmed, without_first_blanks, without_last_blanks};
 ghost use Rattle.model_parse.specs.Pieces.{is_byte, pieces, begins_with, ends_with, before_end, is_unfit};
 
+use model_lex::trimmed;
 use std::alloc::Global;
 use value_text::NoMemory;
-
-// Whether a byte is a space or a tab.
-fn is_blank(byte: u8) -> bool
-    ensures { result ≡ is_blank byte }
-{
-    byte == b' ' || byte == b'\t'
-}
-
-// How many blanks stand at the start of a text.
-#[tactic(auto, using(crate::proofs::Cuts::run_len))]
-fn first_blanks(text: &[u8]) -> usize
-    ensures { result ≡ prefix_len is_blank text.now }
-{
-    text.iter().take_while(|byte| is_blank(**byte)).count()
-}
-
-// How many blanks stand at the end of a text.
-#[tactic(auto, using(crate::proofs::Cuts::run_len))]
-fn last_blanks(text: &[u8]) -> usize
-    ensures { result ≡ suffix_len is_blank text.now }
-{
-    text.iter()
-        .rev()
-        .take_while(|byte| is_blank(**byte))
-        .count()
-}
-
-/// A text without the blanks at its start.
-pub(crate) fn without_first_blanks(text: &str) -> &str
-    ensures { result.now ≡ without_first_blanks text.now }
-{
-    let blanks = first_blanks(text.as_bytes());
-    &text[blanks..]
-}
-
-// A text without the blanks at its end.
-fn without_last_blanks(text: &str) -> &str
-    ensures { result.now ≡ without_last_blanks text.now }
-{
-    let blanks = last_blanks(text.as_bytes());
-    &text[..text.len() - blanks]
-}
-
-/// A text without the blanks at both ends.
-pub(crate) fn trimmed(text: &str) -> &str
-    ensures { result.now ≡ trimmed text.now }
-{
-    without_last_blanks(without_first_blanks(text))
-}
 
 /// The parts of a text between an ASCII mark, each trimmed.
 pub(crate) fn pieces(alloc: Global, text: &str, mark: u8) -> Result<Vec<&str>, NoMemory>
     requires { mark < 128 }
     ensures { IfOk result (λ parts. map (λ part. part.now) parts.items ≡ pieces mark text.now) }
 {
-    let parts = text.split(char::from(mark)).map(trimmed).collect(alloc);
+    let parts = text
+        .split(char::from(mark))
+        .map(|part| trimmed(part))
+        .collect(alloc);
     match parts {
         Ok(parts) => Ok(parts),
         Err(_) => Err(NoMemory),
@@ -82,7 +36,7 @@ pub(crate) fn cut_colon(text: &str) -> (&str, &str)
 }
 
 // How many bytes stand behind the last one that is a mark.
-#[tactic(auto, using(crate::proofs::Cuts::run_len))]
+#[tactic(auto, using(model_lex::proofs::Runs::run_len))]
 fn bytes_behind(text: &[u8], mark: u8) -> usize
     ensures { result ≡ suffix_len (λ byte. not (is_byte mark byte)) text.now }
 {

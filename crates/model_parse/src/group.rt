@@ -10,11 +10,11 @@ ghost use Rattle.model_parse.specs.Pieces.{pieces};
 ghost use Rattle.model_parse.specs.Steps.{Gives, and_each};
 ghost use Rattle.model_parse.specs.GroupLines.{add_group, add_member, behind_strength, braces_code, group_code, group_list, group_order, has_braces, inside_braces, behind_braces, is_relation, order_text, read_group, read_groups, relation_code, strength_text, sub_order};
 
-use crate::cut::{begins_with, behind_mark, cut_last, pieces, trimmed, without_first_blanks};
+use crate::cut::{begins_with, behind_mark, cut_last, pieces};
 use crate::fault::{bad, kept};
 use crate::name_set::NameSet;
 use cov_model::{Demand, Group, NoList};
-use model_lex::{DiagCode, ModelFault, ModelOpts, NumLine};
+use model_lex::{DiagCode, ModelFault, ModelOpts, NumLine, trimmed, without_first_blanks};
 use std::alloc::Global;
 use value_text::{OwnedList, read_count};
 
@@ -27,7 +27,7 @@ struct Spelled<'a> {
 }
 
 // How many digits stand at the start of a text.
-#[tactic(auto, using(crate::proofs::Cuts::run_len))]
+#[tactic(auto, using(model_lex::proofs::Runs::run_len))]
 fn digit_len(text: &[u8]) -> usize
     ensures { result ≡ prefix_len is_ascii_digit text.now }
 {

@@ -1,6 +1,7 @@
 //! The parameter lines and the group lines of a model file, read to parameters and a demand.
 //!
-//! - `parse_params` reads both, and answers the raw model or the first refusal.
+//! - `parse_params` reads both, and answers the raw model or the first refusal. By
+//!   `params_read_back` it reads what is written.
 //!
 //! It takes memory for what it gives, and for the names that it looks up; `NoMemory` comes where
 //! that is refused.
@@ -17,4 +18,4 @@ mod reading;
 #[cfg(test)]
 mod tests;
 
-pub use raw_model::{RawModel, parse_params};
+pub use raw_model::{RawModel, params_read_back, parse_params};

@@ -8,13 +8,13 @@ ghost use Rattle.model_parse.specs.Steps.{Gives, and_each};
 ghost use Rattle.model_parse.specs.Values.{is_known, add_piece};
 ghost use Rattle.model_parse.specs.ParamLines.{Counts, IsOneMore, param_code, read_values, add_param, read_param, read_params, no_params};
 
-use crate::cut::{cut_colon, is_unfit, pieces, trimmed};
+use crate::cut::{cut_colon, is_unfit, pieces};
 use crate::fault::{bad, kept};
 use crate::name_set::NameSet;
 use crate::piece::add_piece;
 use crate::reading::{ParamsRead, Reading};
 use cov_model::{Param, ParamList, Value};
-use model_lex::{DiagCode, LimitName, ModelFault, ModelOpts, NoteList, NumLine};
+use model_lex::{DiagCode, LimitName, ModelFault, ModelOpts, NoteList, NumLine, trimmed};
 use std::alloc::Global;
 use value_text::{FixedAnswer, NoMemory, OwnedList, Text, read_fixed};
 

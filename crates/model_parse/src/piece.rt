@@ -9,12 +9,14 @@ ghost use Rattle.model_parse.specs.Pieces.{begins_with};
 ghost use Rattle.model_parse.specs.Steps.{Gives, and_each, and_then, refused_or};
 ghost use Rattle.model_parse.specs.Values.{has_weight, weight_of, weight_text, names_text, without_prefix, names_of, value_of, name_code, names_code, piece_code, is_reference, referred, is_known, place_of, piece_values, keep_name, keep_names, add_value, add_piece};
 
-use crate::cut::{before_mark, begins_with, behind_mark, cut_last, is_unfit, pieces, trimmed};
+use crate::cut::{before_mark, begins_with, behind_mark, cut_last, is_unfit, pieces};
 use crate::fault::{bad, kept};
 use crate::name_set::NameSet;
 use crate::reading::Reading;
 use cov_model::{Param, Value};
-use model_lex::{DiagCode, LimitName, Marks, ModelFault, ModelOpts, Note, NoteCode, NoteList};
+use model_lex::{
+    DiagCode, LimitName, Marks, ModelFault, ModelOpts, Note, NoteCode, NoteList, trimmed,
+};
 use std::alloc::Global;
 use value_text::{NoMemory, OwnedList, Text, TextList};
 

@@ -3,6 +3,7 @@ ghost use Rattle.model_lex.specs.Sections.{line_seen, split_seen};
 ghost use Rattle.model_parse.specs.Steps.{Gives};
 ghost use Rattle.model_parse.specs.RawModels.{AreOpts, IsSoundRaw, order_in, raw_model_of, with_demand};
 ghost use Rattle.model_parse.specs.GroupLines.{read_groups};
+ghost use Rattle.model_parse.specs.Written.{ParamsReadBack};
 
 use crate::fault::bad;
 use crate::group::read_groups;
@@ -104,3 +105,10 @@ pub fn parse_params(
         Err(fault) => Err(fault),
     }
 }
+
+/// The parameters of a model read back: where a line is written for each, as `NAME: a | b (3), ~c, d`,
+/// reading these lines gives the parameters, and no note. Names may hold neither a separator nor an
+/// alias mark.
+pub fn params_read_back()
+    ensures { ParamsReadBack }
+{}

@@ -207,10 +207,95 @@ fn refuses_models(rt: HostRuntime) {
     ];
     for (model, line, code) in cases {
         assert!(rt; model.len() < 100_000);
-        match read(rt.alloc(), model, &plain(2)) {
-            Ok(_) => assert!(rt; false, "{model}"),
-            Err(fault) => assert_eq!(rt; fault, ModelFault::Bad(Diag { line, code }), "{model}"),
-        }
+        assert_refused(&rt, rt.alloc(), model, line, code, &plain(2));
+    }
+}
+
+fn assert_refused(
+    rt: &impl Abort,
+    alloc: Global,
+    model: &str,
+    line: u32,
+    code: DiagCode,
+    opts: &ModelOpts,
+)
+    requires len { length model.now ≤ 2 ^ 28 }
+    requires opts { AreOpts opts.now }
+{
+    match read(alloc, model, opts) {
+        Ok(_) => assert!(rt; false, "{model}"),
+        Err(fault) => assert_eq!(rt; fault, ModelFault::Bad(Diag { line, code }), "{model}"),
+    }
+}
+
+#[test]
+fn refuses_at_the_first_cause_in_parameters(rt: HostRuntime) {
+    let cases = [
+        ("{ A }", 1, DiagCode::NoParameters),
+        ("\n@ { Z", 1, DiagCode::NoParameters),
+        (": ,\nA: <Z>", 1, DiagCode::EmptyParameterName),
+        ("A\u{1}: ,", 1, DiagCode::BadParameterName),
+        ("A: 1,\nA: 2", 1, DiagCode::EmptyValueName),
+        ("A: 1\nA: 2,", 2, DiagCode::RepeatedParameter),
+        ("a: 1\nA\t: <A>,", 2, DiagCode::RepeatedParameter),
+        (
+            "A: 1\n\n# x\nB: 2\nA: 3\nB: 4",
+            5,
+            DiagCode::RepeatedParameter,
+        ),
+        ("A: , <Z>", 1, DiagCode::EmptyValueName),
+        ("A: <Z>,", 1, DiagCode::UnknownReference),
+        ("A: 1\nB: <A>, <C>,\nC: 1", 2, DiagCode::UnknownReference),
+        ("A: 1\nB: ~~x, <Z>", 2, DiagCode::BadValueName),
+        ("A: 1\nB: (0), ~~x", 2, DiagCode::BadWeight),
+        ("A: ~~x, y (0)", 1, DiagCode::BadValueName),
+        ("A: x (0), ~~y", 1, DiagCode::BadWeight),
+        ("A: x|, y (0)", 1, DiagCode::EmptyValueName),
+        ("A: x|~~y|", 1, DiagCode::BadValueName),
+        ("A: x||~~y", 1, DiagCode::EmptyValueName),
+        ("A: x|\u{feff}y|z (00)", 1, DiagCode::BadWeight),
+        ("A: 1,\n{ A, A }", 1, DiagCode::EmptyValueName),
+    ];
+    for (model, line, code) in cases {
+        assert!(rt; model.len() < 100_000);
+        assert_refused(&rt, rt.alloc(), model, line, code, &plain(2));
+    }
+}
+
+#[test]
+fn refuses_at_the_first_cause_in_groups(rt: HostRuntime) {
+    let cases = [
+        ("A: 1\n@ Z x", 2, DiagCode::RelationNoOrder),
+        ("A: 1\n@ 9 Z } x", 2, DiagCode::GroupNotClosed),
+        ("A: 1\n@ 9 { Z } x", 2, DiagCode::TextAfterGroup),
+        ("A: 1\n@ 9 { Z, A, A }", 2, DiagCode::UnknownMember),
+        ("A: 1\n@ 9 { A, A, Z }", 2, DiagCode::RepeatedMember),
+        ("A: 1\n@ 9 { A }", 2, DiagCode::BadGroupOrder),
+        ("A: 1\n@ 1 { A }", 1, DiagCode::OrderTooLarge),
+        ("A: 1\n{ Z x", 2, DiagCode::GroupNotClosed),
+        ("A: 1\n{ Z } x", 2, DiagCode::TextAfterGroup),
+        ("A: 1\n{ Z, A, a } @ 0", 2, DiagCode::UnknownMember),
+        ("A: 1\n{ A, a, Z } @ 0", 2, DiagCode::RepeatedMember),
+        ("A: 1\n{ A } @ 0", 2, DiagCode::BadGroupOrder),
+        ("A: 1\nB: 2\n@ 0 {}", 3, DiagCode::UnknownMember),
+        (
+            "A: 1\nB: 2\n@ 000000000000000000001 { A }",
+            3,
+            DiagCode::BadGroupOrder,
+        ),
+        ("A: 1\nB: 2\n{ A } @ 2\n{ Z", 3, DiagCode::BadGroupOrder),
+        ("A: 1\nB: 2\n{ A, Z\n@ { A }", 3, DiagCode::GroupNotClosed),
+        ("A: 1\nB: 2\n@ { A }\n{ Z", 3, DiagCode::RelationNoOrder),
+        ("A: 1\nB: 2\n{ A }\n\n{ B } B", 5, DiagCode::TextAfterGroup),
+        (
+            "A: 1\n#\nB: 1\n{ A } @ 1\n{ B }",
+            3,
+            DiagCode::OrderTooLarge,
+        ),
+    ];
+    for (model, line, code) in cases {
+        assert!(rt; model.len() < 100_000);
+        assert_refused(&rt, rt.alloc(), model, line, code, &plain(3));
     }
 }
 

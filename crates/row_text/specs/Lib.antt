@@ -2,3 +2,4 @@ pub mod RowFiles
 pub mod Told
 pub mod Buffering
 pub mod Turns
+pub mod Samples

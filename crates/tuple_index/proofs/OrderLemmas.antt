@@ -2,8 +2,8 @@
 use Rattle.std.proofs.Common.{Ordering, Less, Equal, Greater, ◌≡◌, ℕ, zero, suc, ◌+◌, ◌≤◌, Bool, true, false, ◌||◌, ◌&&◌, List, [], ◌∷◌, All, map, length, ◌∙◌, refl, sym, subst, ap, arith}
 use Rattle.std.specs.List.{AllByRecursion, dedup, dedup_from, filter, list_any, range_with_len}
 use Rattle.std.specs.List.Sorted.{IsPermutation, IsSorted, IsStrictlySortedBy}
-use Rattle.std.specs.Ordering.{nat_cmp, is_lt, is_eq, ordering_reverse}
-use Rattle.std.specs.Cmp.Lexicographic.{on_texts, slice_cmp}
+use Rattle.std.specs.Ordering.{is_lt, is_eq}
+use Rattle.std.specs.Cmp.Lexicographic.{on_texts}
 use Rattle.std.specs.Str.{bytes_eq}
 use Rattle.std.proofs.lemmas.Bool.{false≢true}
 use Rattle.std.proofs.lemmas.Cmp.{nat_list_cmp_total, tied_itself}
@@ -15,12 +15,9 @@ use Rattle.std.proofs.lemmas.List.Sorted.{list_any-IsPermutation}
 use Rattle.std.proofs.lemmas.List.Elements.{All-from_recursion}
 use Rattle.cov_model.specs.Sound.{ModelView}
 use Rattle.definitions.specs.Demand.{choices, demanded_sets, in_order, is_among, rising, with_set}
+use Rattle.definitions.proofs.SetOrder.{lex, flipped, above_more, sorted_in_order, each_in_order}
 use Rattle.tuple_index.specs.Places.{RisesFrom}
 use Rattle.tuple_index.proofs.ListingLemmas.{rises_lower}
-
--- the lexicographic order
-abbrev pub lex : List ℕ → List ℕ → Ordering
-lex = slice_cmp nat_cmp
 
 or_swap : (a b c : Bool) → (b || (a || c)) ≡ (a || (b || c))
 or_swap true true c = refl
@@ -40,9 +37,6 @@ and_all : (b : Bool) → (b && true) ≡ b
 and_all true = refl
 and_all false = refl
 
-flipped : (x y : List ℕ) → lex x y ≡ Greater → lex y x ≡ Less
-flipped x y e = nat_list_cmp_total.antisymm y x ∙ ap ordering_reverse e
-
 -- what one set and others pass, and what the others pass with it among them
 any_with_set : (p : List ℕ → Bool) (set : List ℕ) (sets : List (List ℕ)) → list_any p (with_set set sets) ≡ (p set || list_any p sets)
 any_with_set p set [] = refl
@@ -60,36 +54,6 @@ pub any_in_order : (p : List ℕ → Bool) (sets : List (List ℕ)) → list_any
 any_in_order p [] = refl
 any_in_order p (set ∷ sets) = any_with_set p set (in_order sets) ∙ ap (λ b. p set || b) (any_in_order p sets)
 
--- what is above a set is above one below it
-above_more : (x y : List ℕ) (zs : List (List ℕ)) → lex x y ≡ Less → AllByRecursion (λ z. lex y z ≡ Less) zs → AllByRecursion (λ z. lex x z ≡ Less) zs
-above_more x y [] e above = tt
-above_more x y (z ∷ zs) e above = (nat_list_cmp_total.trans x y z e above.0, above_more x y zs e above.1)
-
--- what holds of a set and of others holds with it among them
-each_with_set : (P : List ℕ → Type 0) (set : List ℕ) (sets : List (List ℕ)) → P set → AllByRecursion P sets → AllByRecursion P (with_set set sets)
-each_with_set P set [] own each = (own, tt)
-each_with_set P set (other ∷ sets) own each = by_order (lex set other) refl (each_with_set P set sets own each.1)
-  where
-    by_order : (o : Ordering) → lex set other ≡ o → AllByRecursion P (with_set set sets) → AllByRecursion P (with_set set (other ∷ sets))
-    by_order Less e rest = rw e (own, each)
-    by_order Equal e rest = rw e each
-    by_order Greater e rest = rw e (each.0, rest)
-
-sorted_with_set : (set : List ℕ) (sets : List (List ℕ)) → IsStrictlySortedBy lex sets → IsStrictlySortedBy lex (with_set set sets)
-unfolding IsStrictlySortedBy
-sorted_with_set set [] sorted = (tt, tt)
-sorted_with_set set (other ∷ sets) sorted = by_order (lex set other) refl (sorted_with_set set sets sorted.1)
-  where
-    by_order : (o : Ordering) → lex set other ≡ o → IsStrictlySortedBy lex (with_set set sets) → IsStrictlySortedBy lex (with_set set (other ∷ sets))
-    by_order Less e rest = rw e ((e, above_more set other sets e sorted.0), sorted)
-    by_order Equal e rest = rw e sorted
-    by_order Greater e rest = rw e (each_with_set (λ z. lex other z ≡ Less) set sets (flipped set other e) sorted.0, rest)
-
-pub sorted_in_order : (sets : List (List ℕ)) → IsStrictlySortedBy lex (in_order sets)
-unfolding IsStrictlySortedBy
-sorted_in_order [] = tt
-sorted_in_order (set ∷ sets) = sorted_with_set set (in_order sets) (sorted_in_order sets)
-
 -- there are no more of them
 few_with_set : (set : List ℕ) (sets : List (List ℕ)) → length (with_set set sets) ≤ length sets + 1
 few_with_set set [] = omega arith
@@ -103,10 +67,6 @@ few_with_set set (other ∷ sets) = by_order (lex set other) refl (few_with_set 
 pub few_in_order : (sets : List (List ℕ)) → length (in_order sets) ≤ length sets
 few_in_order [] = omega arith
 few_in_order (set ∷ sets) = omega (arith, few_with_set set (in_order sets), few_in_order sets)
-
-each_in_order : (P : List ℕ → Type 0) (sets : List (List ℕ)) → AllByRecursion P sets → AllByRecursion P (in_order sets)
-each_in_order P [] each = tt
-each_in_order P (set ∷ sets) each = each_with_set P set (in_order sets) each.0 (each_in_order P sets each.1)
 
 -- the demanded sets rise
 filter_rises : (f : ℕ → Bool) (p n e : ℕ) → e ≡ p + n → RisesFrom p e (filter f (range_with_len p n))

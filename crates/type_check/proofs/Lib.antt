@@ -5,3 +5,6 @@ pub mod Refusals
 pub mod RuleLists
 pub mod Soundness
 pub mod Models
+pub mod OneReading
+pub mod OneModel
+pub mod OneRefusal

@@ -9,8 +9,12 @@
 
 mod constraint;
 mod fault;
+mod laws;
 mod reading;
 mod rules;
 mod scope;
+#[cfg(test)]
+mod tests;
 
+pub use laws::{files_have_one_model, models_are_not_refused, refusals_are_one};
 pub use reading::read_model;

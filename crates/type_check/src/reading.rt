@@ -1,6 +1,7 @@
-ghost use Rattle.std.specs.Prelude.{◌≡◌, ◌≢◌, ◌≤◌, ◌^◌, ℕ, List, Ok, IfOk, IfErr, length};
+ghost use Rattle.std.specs.Prelude.{◌≡◌, ◌≢◌, ◌≤◌, ◌^◌, ℕ, List, Ok, IfOk, IfErr, MatchResult, length};
 ghost use Rattle.cov_model.specs.Sound.{ModelView};
 ghost use Rattle.model_lex.specs.Sections.{AreSections, sections_of, split_seen};
+ghost use Rattle.model_lex.specs.declared.note.Note.{Note};
 ghost use Rattle.model_parse.specs.RawModels.{AreOpts};
 ghost use Rattle.type_check.specs.ModelOf.{IsModelOf, IsRefusalOf};
 
@@ -54,6 +55,8 @@ pub fn read_model(
     requires opts { AreOpts opts.now }
     ensures ok { IfOk result (λ read. IsModelOf opts.now bytes.now read.0 read.1) }
     ensures err { IfErr result (λ fault. fault ≢ ModelFault.NoMemory → IsRefusalOf opts.now bytes.now fault) }
+    ensures only_models { (m : ModelView) (notes : List Note) → IsModelOf opts.now bytes.now m notes → IfErr result (λ fault. fault ≡ ModelFault.NoMemory) }
+    ensures only_refusals { (fault : ModelFault) → IsRefusalOf opts.now bytes.now fault → MatchResult result (λ _. ⊥) (λ told. told ≢ ModelFault.NoMemory → told ≡ fault) }
 {
     match split_model(alloc, bytes) {
         Ok(sections) => read_sections(alloc, &sections, opts),

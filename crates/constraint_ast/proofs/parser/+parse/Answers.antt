@@ -1,7 +1,6 @@
-use Rattle.std.proofs.Common.{◌≡◌, false, rules, refl, ap, arith, ◌∙◌, length, length-append}
-use Rattle.constraint_ast.specs.Trees.{Trees, End, More, added, any_of, tree_of, trees_in}
+use Rattle.std.proofs.Common.{refl, ap, arith, ◌∙◌, length, length-append}
+use Rattle.constraint_ast.specs.Trees.{End, More, added, any_of, tree_of, trees_in}
 use Rattle.constraint_ast.specs.Machine.{After, Need, Part, run}
-use Rattle.constraint_ast.specs.Reading.{begins_and, begins_or}
 use Rattle.constraint_ast.proofs.Parts.{all_is, any_is, where_none, with_more}
 use Rattle.constraint_ast.proofs.parser.+parse.Goals as goal
 

@@ -1,4 +1,4 @@
-use Rattle.std.proofs.Common.{◌≡◌, ◌<◌, ap, arith, ◌∙◌, length, rules}
+use Rattle.std.proofs.Common.{◌<◌, ap, arith, ◌∙◌, length}
 use Rattle.constraint_ast.proofs.Rules.{last_at}
 use Rattle.constraint_ast.proofs.parser.last_line.Goals as goal
 

@@ -1,5 +1,3 @@
-use Rattle.std.proofs.Common.{subst}
-use Rattle.std.specs.Prelude.{IfOk, IfErr, Ok, map, ◌≡◌}
 use Rattle.constraint_ast.proofs.Answer.{are_refused, are_spelled, only_these}
 use Rattle.constraint_ast.proofs.parser.parse_all.Goals as goal
 

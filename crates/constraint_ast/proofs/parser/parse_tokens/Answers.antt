@@ -1,4 +1,4 @@
-use Rattle.std.proofs.Common.{◌≡◌, length, rules, arith}
+use Rattle.std.proofs.Common.{◌≡◌, length, arith}
 use Rattle.std.proofs.lemmas.Bool.Decides.{nat_tests}
 use Rattle.constraint_ast.proofs.Rules.{all_read, one_more, refused_later}
 use Rattle.constraint_ast.proofs.parser.parse_tokens.Goals as goal

@@ -1,4 +1,4 @@
-use Rattle.std.proofs.Common.{◌≡◌, true, false, drop, ap, sym, rules, ◌∙◌, arith}
+use Rattle.std.proofs.Common.{◌≡◌, true, false, drop, rules, arith}
 use Rattle.model_lex.specs.Tokens.{quotes_next}
 use Rattle.constraint_ast.proofs.Unquoting.{begins, copies, passes}
 use Rattle.constraint_ast.proofs.quoting.unquoted.Goals as goal

@@ -1,8 +1,0 @@
-use Rattle.std.proofs.Common.{ap, ◌∙◌}
-use Rattle.std.specs.List.{prefix_len}
-use Rattle.model_lex.specs.Blanks.{is_blank}
-use Rattle.model_lex.proofs.Runs.{ascii_blank, run_ends}
-use Rattle.model_parse.proofs.cut.without_first_blanks.Goals as goal
-
-pub range_from-requires : goal.range_from-requires
-range_from-requires c = λ h. run_ends is_blank ascii_blank c.args.text.now c.utf8.text c.first_blanks-blanks.result (c.first_blanks-blanks.ensures ∙ ap (prefix_len is_blank) c.as_bytes.ensures.value)
