@@ -2,7 +2,17 @@
 #![tactic(auto)]
 
 #[cfg(test)]
-mod first_path;
+mod commands;
+#[cfg(test)]
+mod faults;
+#[cfg(test)]
+mod growth;
+#[cfg(test)]
+mod language;
+#[cfg(test)]
+mod limits;
+#[cfg(test)]
+mod refusals;
 #[cfg(test)]
 mod runs;
 #[cfg(test)]

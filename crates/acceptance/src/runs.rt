@@ -14,15 +14,15 @@ pub struct Given<'a> {
     /// The words behind the program's name.
     pub words: &'a [&'a str],
     /// The files, by name.
-    pub files: &'a [(&'a str, &'a str)],
+    pub files: &'a [(&'a str, &'a [u8])],
     /// The numbers of the calls of the folder that fail, from 1.
     pub fail: &'a [u64],
     /// How many bytes fit into standard output, and into standard error.
     pub room: (usize, usize),
 }
 
-/// A run of `m` over this model file, with room enough.
-pub fn on_model<'a>(files: &'a [(&'a str, &'a str)]) -> Given<'a> {
+/// A run of `m` over these files, with room enough.
+pub fn on_model<'a>(files: &'a [(&'a str, &'a [u8])]) -> Given<'a> {
     Given {
         words: &["m"],
         files,
@@ -50,7 +50,7 @@ fn owned(alloc: Global, words: &[&str]) -> Result<Vec<String>, AllocError> {
 fn folder(alloc: Global, given: &Given) -> Result<MemFolder, NoMemory> {
     let mut folder = MemFolder::new(alloc, listed(alloc, given.fail)?);
     for (name, text) in given.files {
-        folder.add(name, text.as_bytes())?;
+        folder.add(name, text)?;
     }
     Ok(folder)
 }
@@ -81,4 +81,21 @@ pub fn expect<R: AllocGlobal + Abort + Threads + Sync>(
     assert_eq!(rt; written.bytes(), out.as_bytes(), "standard output");
     assert_eq!(rt; told.bytes(), diag.as_bytes(), "standard error");
     Ok(())
+}
+
+/// Runs `pict` with these words over the model file `m`, with room enough, and asserts as `expect`.
+pub fn expect_on<R: AllocGlobal + Abort + Threads + Sync>(
+    rt: &R,
+    words: &[&str],
+    model: &[u8],
+    status: u8,
+    out: &str,
+    diag: &str,
+) -> Result<(), Fail> {
+    let files = [("m", model)];
+    let given = Given {
+        words,
+        ..on_model(&files)
+    };
+    expect(rt, &given, status, out, diag)
 }

@@ -1,7 +1,8 @@
 //! The words of a command: which have a reading, and what they ask for.
 
 use model_lex::OrderWord;
-use pict_cli::{ProofForm, Shuffle, read_words};
+use pict_cli::{Shuffle, read_words};
+use refutation::ProofForm;
 use std::alloc::{AllocError, Global};
 use std::test::Fail;
 

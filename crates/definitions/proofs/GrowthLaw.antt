@@ -1,6 +1,6 @@
 -- The law of growth: a suite covers what can be covered.
 use Rattle.std.proofs.Common.{◌≡◌, ℕ, ◌+◌, ◌≤◌, Bool, true, false, not, List, [], ◌∷◌, length, sum_by, Option, All, inl, inr, ◌∙◌, sym, ap, subst, refl, arith}
-use Rattle.std.specs.Prelude.{◌↔◌, Contains, AllPairs}
+use Rattle.std.specs.Prelude.{◌↔◌, ◌⊎◌, Contains, AllPairs}
 use Rattle.std.specs.List.{Any, flat_map, list_any}
 use Rattle.std.proofs.lemmas.Bool.{false≢true, false_from_ne_true, cases_Bool, not_from_false}
 use Rattle.std.proofs.lemmas.List.Concat.{length-flat_map}
@@ -13,7 +13,8 @@ use Rattle.definitions.specs.Demand.{demanded_sets, demanded_tuples, tuples_in, 
 use Rattle.definitions.specs.Completion.{completions, meets_rules, is_extendable}
 use Rattle.definitions.specs.Seeds.{is_same_row, kept_seeds}
 use Rattle.definitions.specs.Growth.{is_of_slice, growth}
-use Rattle.definitions.specs.Laws.{ArePreferences, GrowthCovers}
+use Rattle.definitions.specs.Covering.{IsUnserved}
+use Rattle.definitions.specs.Laws.{ArePreferences, GrowthCovers, SuitesCover}
 use Rattle.definitions.proofs.Members.{Has, has_contained, contains_member, all_members, of_flat, has_filter, of_any}
 use Rattle.definitions.proofs.Distinct.{NoRepeats}
 use Rattle.definitions.proofs.Choices.{choice_length, completion_is}
@@ -186,4 +187,15 @@ growth_covers m pref seeds sound orders = record {
       (λ tuple has. grown_served m pref seeds tuple sound orders (of_demanded m tuple has));
   kept = all_members (λ seed. Any (λ row. contains row seed ≡ true) (growth m pref seeds).rows) (kept_seeds m seeds) (λ seed has. seed_kept m pref seeds seed orders has);
   few = grown_few m pref seeds orders;
+}
+
+pub suites_cover : SuitesCover
+suites_cover m pref seeds sound orders = record {
+  valid = grown_valid m pref seeds orders;
+  served = all_members (λ tuple. Any (λ row. serves m row tuple ≡ true) (growth m pref seeds).rows ⊎ IsUnserved m tuple) (demanded_tuples m) (λ tuple has.
+      let is = of_demanded m tuple has in
+      elim (cases_Bool (is_extendable m (slice_of m tuple) tuple)) [
+        | inl extends ↦ inl (extendable_served m pref seeds tuple sound orders is extends)
+        | inr fails ↦ inr (unserved m tuple (record { demanded = is; fails = fails }))
+      ]);
 }

@@ -1,7 +1,7 @@
 -- The lines that a run writes beside its output, each with its line feed. (This project's rules.)
 use Rattle.std.specs.Prelude.{ℕ, List, ◌++◌, Option, codes, decimal}
 use Rattle.definitions.specs.Limits.{Counted, Parameters, Values, Names, Constraints, DemandedSets, DemandedTuples, Rows, SuspectCandidates, most_counted, Measured, ModelFile, RowFile, ProofFile, most_bytes}
-use Rattle.definitions.specs.Pairs.{cells_text}
+use Rattle.definitions.specs.Pairs.{pairs_of, pairs_text}
 
 -- the seed of a shuffle that no word gives
 abbrev pub used_seed_line : ℕ → List ℕ
@@ -30,9 +30,12 @@ row_dropped_line line = row_note_line line (codes "V4") (codes "no valid row ser
 abbrev pub memory_line : List ℕ
 memory_line = codes "error: out of memory\n"
 
--- a question's plain cost is above the budget
+-- the plain cost of a question, given by its pairs of parameter and value, is above the budget
+abbrev pub spent_line : ℕ → List (ℕ × ℕ) → List ℕ
+spent_line budget question = codes "error: search budget " ++ decimal budget ++ codes " spent on " ++ pairs_text question ++ codes "\n"
+
 abbrev pub budget_line : ℕ → List (Option ℕ) → List ℕ
-budget_line budget question = codes "error: search budget " ++ decimal budget ++ codes " spent on " ++ cells_text question ++ codes "\n"
+budget_line budget question = spent_line budget (pairs_of question)
 
 -- the word of this number, from 1, has no reading
 abbrev pub word_line : ℕ → List ℕ

@@ -21,6 +21,10 @@ pairs_of cells = pairs_from 0 cells
 abbrev pub pair_text : ℕ × ℕ → List ℕ
 pair_text pair = decimal pair.0 ++ 61 ∷ decimal pair.1
 
--- `p=v p=v` by rising p
+-- `p=v p=v`
+abbrev pub pairs_text : List (ℕ × ℕ) → List ℕ
+pairs_text pairs = join_with_byte 32 (map pair_text pairs)
+
+-- the same of a partial row, by rising p
 abbrev pub cells_text : List (Option ℕ) → List ℕ
-cells_text cells = join_with_byte 32 (map pair_text (pairs_of cells))
+cells_text cells = pairs_text (pairs_of cells)

@@ -1,7 +1,7 @@
 //! What is proved of the definitions together. A function here does nothing: its contract is a law
 //! that holds of every model, and is proved with the crate.
 
-ghost use Rattle.definitions.specs.Laws.{AcceptedAreCertified, CompletionsAreRows, ExtendableContains, GrowthCovers, ProofsHaveOneText, ProofsReadBack, RefutedAreUnserved, ReportsReadBack, ServableAreExtendable, SlicesServe, SuitesAreRead};
+ghost use Rattle.definitions.specs.Laws.{AcceptedAreCertified, CompletionsAreRows, ExtendableContains, GrowthCovers, ProofsHaveOneText, ProofsReadBack, RefutedAreUnserved, ReportsReadBack, ServableAreExtendable, SlicesServe, SuitesAreRead, SuitesCover};
 
 /// Reading a report gives its rows: the text that is written of rows of a sound model, read as a
 /// row file, holds these rows in their order (this project's rule).
@@ -72,4 +72,10 @@ pub fn proofs_read_back()
 /// model and the format (this project's rule).
 pub fn proofs_have_one_text()
     ensures { ProofsHaveOneText }
+{}
+
+/// The suite of growth covers: every row is valid, and every demanded tuple is served by one of the
+/// rows, or no row of the model serves it (Lei and others 2007).
+pub fn suites_cover()
+    ensures { SuitesCover }
 {}

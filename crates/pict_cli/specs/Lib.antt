@@ -1,7 +1,7 @@
-pub mod FirstForm
-pub mod Pairs
-pub mod Lines
-pub mod Words
-pub mod Stops
-pub mod Runs
 pub mod Options
+pub mod Pieces
+pub mod Ranges
+pub mod Runs
+pub mod Stops
+pub mod Told
+pub mod Words

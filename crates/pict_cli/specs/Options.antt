@@ -10,8 +10,7 @@ use Rattle.model_lex.specs.declared.options.OrderWord.{OrderWord}
 use Rattle.model_lex.specs.declared.options.OrderWord.TheVariants as orders
 use Rattle.pict_cli.specs.declared.setting.Shuffle.{Shuffle}
 use Rattle.pict_cli.specs.declared.setting.Shuffle.TheVariants as shuffles
-use Rattle.pict_cli.specs.declared.setting.ProofForm.{ProofForm}
-use Rattle.pict_cli.specs.declared.setting.ProofForm.TheVariants.{One, Two}
+use Rattle.refutation.specs.Proofs.{format_of}
 use Rattle.pict_cli.specs.declared.setting.Setting.{Setting}
 use Rattle.pict_cli.specs.declared.setting.Setting.TheVariants as settings
 
@@ -23,11 +22,6 @@ abbrev pub shuffle_seen : Shuffle → defined.Shuffle
 shuffle_seen shuffles.Off = defined.NoShuffle
 shuffle_seen shuffles.Bare = defined.AnyShuffle
 shuffle_seen (shuffles.Number n) = defined.ShuffleBy n
-
--- the number of a form of proof file
-abbrev pub form_seen : ProofForm → ℕ
-form_seen One = 1
-form_seen Two = 2
 
 -- what one word sets
 abbrev pub setting_seen : Setting → defined.Setting
@@ -42,7 +36,7 @@ setting_seen settings.Statistics = defined.Statistics
 setting_seen (settings.Workers n) = defined.Workers n
 setting_seen (settings.Budget n) = defined.Budget n
 setting_seen (settings.ProofFile name) = defined.ProofFile name.now
-setting_seen (settings.ProofFormat form) = defined.ProofFormat (form_seen form)
+setting_seen (settings.ProofFormat form) = defined.ProofFormat (format_of form)
 setting_seen (settings.MeasureFile name) = defined.MeasureFile name.now
 setting_seen (settings.Make n) = defined.Make n
 setting_seen (settings.SuspectFile name) = defined.SuspectFile name.now
@@ -61,7 +55,7 @@ settings_seen o = record {
   workers = o.workers;
   budget = o.budget;
   proof = option_map (λ name. name.now) o.proof;
-  form = form_seen o.form;
+  form = format_of o.form;
   measure = option_map (λ name. name.now) o.measure;
   make = o.make;
   suspect = option_map (λ name. name.now) o.suspect;

@@ -1,20 +1,60 @@
--- The words behind the program's name. So far there is one, the name of the model file.
-use Rattle.std.specs.Prelude.{ℕ, List, [], ◌∷◌, map, length, Option, Some, None, ◌==◌, if◌then◌else◌, slice_index_or}
+-- The words behind the program's name. (PICT's guide; which options aren't built yet is this project's
+-- affair, and they go.)
+use Rattle.std.specs.Prelude.{◌≡◌, ℕ, ◌+◌, ◌-◌, ◌^◌, min, Bool, true, false, List, map, drop, Option, Some, None, Result, Ok, Err, option_map, position, slice_index_or, []}
+use Rattle.std.specs.Option.{option_map_or}
 use Rattle.std.specs.String.{string_bytes}
 use Rattle.std.specs.declared.string.String.{String}
 use Rattle.std.specs.declared.alloc.Global.{Global}
+use Rattle.definitions.specs.Settings.{Setting, Settings, Order, Separator, Alias, Prefix, SeedFile, ShuffleValues, CaseCounts, Statistics, Workers, Budget, ProofFile, ProofFormat, MeasureFile, Make, SuspectFile, setting_of}
+use Rattle.definitions.specs.Words.{Command, read_words}
 
--- the number, from 1, of the first word that has no reading: a missing or empty name, or a second word
-abbrev pub word_fault : List (List ℕ) → Option ℕ
-word_fault [] = Some 1
-word_fault (name ∷ []) = if length name == 0 then Some 1 else None
-word_fault (name ∷ more ∷ words) = if length name == 0 then Some 1 else Some 2
+-- what an option sets isn't built yet
+abbrev pub is_unbuilt : Setting → Bool
+is_unbuilt (Order order) = false
+is_unbuilt (Separator c) = false
+is_unbuilt (Alias c) = false
+is_unbuilt (Prefix c) = false
+is_unbuilt (SeedFile name) = true
+is_unbuilt (ShuffleValues _) = false
+is_unbuilt CaseCounts = false
+is_unbuilt Statistics = true
+is_unbuilt (Workers n) = false
+is_unbuilt (Budget n) = false
+is_unbuilt (ProofFile name) = true
+is_unbuilt (ProofFormat n) = false
+is_unbuilt (MeasureFile name) = true
+is_unbuilt (Make n) = true
+is_unbuilt (SuspectFile name) = true
 
--- the name of the model file
+-- the word asks for what isn't built yet
+abbrev pub asks_unbuilt : List ℕ → Bool
+asks_unbuilt word = option_map_or is_unbuilt (setting_of word) false
+
+-- the number of the first word that does, counted from 1
+abbrev pub first_unbuilt : List (List ℕ) → Option ℕ
+first_unbuilt words = option_map (λ i. i + 2) (position asks_unbuilt (drop 1 words))
+
+-- the settings of a command, or the word where it needs what isn't built yet
+abbrev pub if_built : Option ℕ → Settings → Result Settings ℕ
+if_built None settings = Ok settings
+if_built (Some index) settings = Err index
+
+-- what words ask for, or the number of the first that has no reading
+abbrev pub built_from : List (List ℕ) → Result Command ℕ → Result Settings ℕ
+built_from words (Ok command) = if_built (first_unbuilt words) command.settings
+built_from words (Err index) = Err index
+
+abbrev pub asked_by : List (List ℕ) → Result Settings ℕ
+asked_by words = built_from words (read_words words)
+
+-- the number of a word that has no reading is told, or 2^32 - 1 where it is greater
+abbrev pub IsWordFault : List (List ℕ) → ℕ → Type 0
+IsWordFault words index = (n : ℕ) × (asked_by words ≡ Err n) × (index ≡ min n (2 ^ 32 - 1))
+
+-- the name of the model file, and the words as they are passed, as texts
 abbrev pub model_name : List (List ℕ) → List ℕ
 model_name words = slice_index_or words 0 []
 
--- the words as they are passed, as texts
 abbrev pub texts : List (String Global) → List (List ℕ)
 texts words = map string_bytes words
 

@@ -1,17 +1,17 @@
-//! The program `pict`: words to settings, model files to models, models to reports.
+//! The command line of `pict`.
 #![tactic(auto)]
 
-mod first_form;
-mod growth;
 mod kinds;
+mod load;
 mod options;
-mod param_line;
-mod report;
+mod put;
 mod run;
 mod setting;
 mod stop;
+mod suite;
+mod told;
 mod words;
 
 pub use options::{Opts, WordFault, read_words};
 pub use run::run_pict;
-pub use setting::{ProofForm, Shuffle};
+pub use setting::Shuffle;

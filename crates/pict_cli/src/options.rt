@@ -7,8 +7,9 @@ ghost use Rattle.pict_cli.specs.Options.{setting_seen, settings_seen, command_se
 ghost use Rattle.pict_cli.specs.Words.{texts};
 
 use crate::kinds::Kinds;
-use crate::setting::{ProofForm, Setting, Shuffle, is_named, setting_of};
+use crate::setting::{Setting, Shuffle, is_named, setting_of};
 use model_lex::{Marks, ModelOpts, OrderWord};
+use refutation::ProofForm;
 
 /// What the words of a command ask for (PICT's guide; this project's rules). It borrows the words.
 #[derive(Drop, Clone, Copy)]
@@ -134,7 +135,7 @@ fn is_last_mark(words: &[String], place: usize) -> bool
 }
 
 /// The fault of the option of this number from 0, of which the first is the second word.
-fn fault_at(place: usize) -> WordFault
+pub(crate) fn fault_at(place: usize) -> WordFault
     ensures { result.index ≡ min (place + 2) (2 ^ 32 - 1) }
 {
     WordFault {

@@ -1,128 +1,91 @@
-ghost use Rattle.std.specs.Prelude.{◌≡◌, ◌≢◌, ℕ, List, ◌⊎◌, ◌↔◌, ◌≤◌, length, map, IfSome, IsSomeAnd, IsSome, IsNone, None, Some, Ok, Err, IfOk, IfErr, OnOk, OnErr};
+ghost use Rattle.std.specs.Prelude.{◌≡◌, ◌≢◌, ◌⊎◌, ℕ, List, Some, None, Ok, Err, IfSome, IfErr};
+ghost use Rattle.std.specs.List.{list_any};
 ghost use Rattle.outside_io.specs.Faults.{Rose, KeepsCounts};
 ghost use Rattle.outside_io.specs.Files.{KeepsFiles};
-ghost use Rattle.cov_model.specs.Sound.{IsSound};
-ghost use Rattle.definitions.specs.Report.{report_text};
-ghost use Rattle.pict_cli.specs.FirstForm.{first_form, most_model_bytes, HasFirstShape};
-ghost use Rattle.pict_cli.specs.Words.{word_fault, texts, model_file};
-ghost use Rattle.pict_cli.specs.Stops.{IsAfterWords, IsStatus, Tells, diag_text};
-ghost use Rattle.pict_cli.specs.Runs.{suite_of, PrintsReport, HasModel, HasNoModel, PrintsCovering};
+ghost use Rattle.outside_io.specs.Puts.{CountsFaults};
+ghost use Rattle.cov_model.specs.Sound.{ModelView};
+ghost use Rattle.definitions.specs.Diagnostics.{word_line};
+ghost use Rattle.definitions.specs.Settings.{Settings};
+ghost use Rattle.model_lex.specs.declared.fault.ModelFault.{ModelFault};
+ghost use Rattle.model_lex.specs.declared.note.Note.{Note};
+ghost use Rattle.type_check.specs.ModelOf.{IsModelOf, IsRefusalOf};
+ghost use Rattle.pict_cli.specs.Options.{settings_seen, shuffle_seen};
+ghost use Rattle.pict_cli.specs.Ranges.{AreFit};
+ghost use Rattle.pict_cli.specs.Runs.{CountsOut, Ends, IsRun, IsLoaded, PrintsCovering, opts_of, used_seed};
+ghost use Rattle.pict_cli.specs.Stops.{IsStatus};
+ghost use Rattle.pict_cli.specs.Told.{Tells, end_status};
+ghost use Rattle.pict_cli.specs.Words.{IsWordFault, asked_by, model_file, texts};
 
-use crate::first_form::read_first_form;
-use crate::growth::cover_pairs;
-use crate::report::render_report;
+use crate::load::load_model;
+use crate::options::Opts;
+use crate::setting::Shuffle;
 use crate::stop::Stop;
-use crate::words::read_words;
-use cov_model::TestModel;
-use outside_io::{Folder, ReadAnswer, Sink, WriteAnswer};
+use crate::suite::run_model;
+use crate::told::tell;
+use crate::words::read_command;
+use model_lex::NoteList;
+use outside_io::{Folder, Sink};
 use std::alloc::Global;
 use std::thread::Threads;
+use value_text::OwnedList;
 
-/// The most bytes that a model file may have.
-const MOST_MODEL_BYTES: usize = 4_194_304;
-
-/// The model of the bytes of a model file.
-///
-/// # Errors
-///
-/// `NotBuilt` exactly where the bytes have no form that is built, `OutOfMemory` where memory was refused.
-fn parse_model(alloc: Global, bytes: &[u8]) -> Result<TestModel, Stop>
-    requires { length bytes.now ≤ most_model_bytes }
-    ensures model { IfOk result (λ model. first_form bytes.now ≡ Some model) }
-    ensures not_built { result ≡ Err Stop.NotBuilt → first_form bytes.now ≡ None }
-    ensures stops { IfErr result (λ stop. (stop ≡ Stop.NotBuilt) ⊎ (stop ≡ Stop.OutOfMemory)) }
+/// The seed that is told, since no word gave it.
+fn told_seed(shuffle: Shuffle, seed_word: u64) -> Option<u64>
+    ensures { result ≡ used_seed (shuffle_seen shuffle) seed_word }
 {
-    match read_first_form(alloc, bytes) {
-        Ok(Some(model)) => Ok(model),
-        Ok(None) => Err(Stop::NotBuilt),
-        Err(_) => Err(Stop::OutOfMemory),
+    match shuffle {
+        Shuffle::Bare => Some(seed_word),
+        Shuffle::Off | Shuffle::Number(_) => None,
     }
 }
 
-/// The model of the model file of this name.
-///
-/// # Errors
-///
-/// `CannotRead` where the folder failed, `NotBuilt` where the file is too long or has no form that is
-/// built, `OutOfMemory` where memory was refused.
-fn load_model<F: Folder>(alloc: Global, name: &str, files: &mut F) -> Result<TestModel, Stop>
-    ensures model { IfOk result (λ model. (HasFirstShape model × IsSound model)
-        × IfSome (F.file files.old name.now) (λ held. IsSomeAnd held (λ bytes. first_form bytes ≡ Some model))) }
-    ensures not_built { result ≡ Err Stop.NotBuilt → HasNoModel (F.file files.old name.now) }
-    ensures cannot_read { result ≡ Err Stop.CannotRead → Rose (F.read_faults files.old name.now) (F.read_faults files.new name.now) }
-    ensures stops { IfErr result (λ stop. IsAfterWords stop × (stop ≢ Stop.CannotWriteReport)) }
-    ensures files { KeepsFiles (F.file files.old) (F.file files.new) }
-    ensures write_faults { KeepsCounts (F.write_faults files.old) (F.write_faults files.new) }
+/// The exit status of a run that ended so.
+fn status_of(end: &Result<(), Stop>) -> u8
+    ensures { result ≡ end_status end.now }
 {
-    let mut bytes = Vec::new(alloc);
-    match files.read_file(name, &mut bytes, MOST_MODEL_BYTES) {
-        ReadAnswer::Whole => parse_model(alloc, bytes.as_slice()),
-        ReadAnswer::TooLong => Err(Stop::NotBuilt),
-        ReadAnswer::Failed => Err(Stop::CannotRead),
-        ReadAnswer::NoMemory => Err(Stop::OutOfMemory),
+    match end {
+        Ok(()) => 0,
+        Err(stop) => stop.status(),
     }
 }
 
-/// The report of the suite of a model.
-///
-/// # Errors
-///
-/// `OutOfMemory` where memory was refused.
-fn report_of(alloc: Global, model: &TestModel) -> Result<Vec<u8>, Stop>
-    requires { HasFirstShape model.now }
-    ensures text { IfOk result (λ text. text.items ≡ report_text model.now (suite_of model.now)) }
-    ensures stops { IfErr result (λ stop. stop ≡ Stop.OutOfMemory) }
-{
-    let Ok(rows) = cover_pairs(alloc, model) else {
-        return Err(Stop::OutOfMemory);
-    };
-    let Ok(text) = render_report(alloc, model, &rows) else {
-        return Err(Stop::OutOfMemory);
-    };
-    Ok(text)
-}
-
-/// Reads the model file of this name and writes the report of its suite. All memory is taken before
-/// the first byte is written.
-///
-/// # Errors
-///
-/// As `load_model` and `report_of`, and `CannotWriteReport` where `out` failed.
-fn generate<F: Folder, O: Sink>(
+/// Reads the model file and prints the report of its suite, with the notes on the file.
+fn run<R: Threads + Sync, F: Folder, O: Sink>(
+    rt: &R,
     alloc: Global,
-    name: &str,
+    opts: &Opts<'_>,
     files: &mut F,
     out: &mut O,
-) -> Result<(), Stop>
-    ensures done { OnOk result (HasModel (F.file files.old name.now) (λ model.
-        IsSound model × HasFirstShape model × PrintsReport WriteAnswer.Done model (O.written out.old) (O.written out.new))) }
-    ensures cut { result ≡ Err Stop.CannotWriteReport →
-        HasModel (F.file files.old name.now) (λ model. PrintsReport WriteAnswer.Failed model (O.written out.old) (O.written out.new))
-        × Rose (O.faults out.old) (O.faults out.new) }
-    ensures nothing { result ≢ Ok tt → result ≢ Err Stop.CannotWriteReport →
-        (O.written out.new ≡ O.written out.old) × (O.faults out.new ≡ O.faults out.old) }
-    ensures not_built { result ≡ Err Stop.NotBuilt → HasNoModel (F.file files.old name.now) }
-    ensures cannot_read { result ≡ Err Stop.CannotRead → Rose (F.read_faults files.old name.now) (F.read_faults files.new name.now) }
-    ensures stops { IfErr result IsAfterWords }
+    seed_word: u64,
+) -> (NoteList, Result<(), Stop>)
+    requires { AreFit (settings_seen opts.now) }
+    ensures ends { IfSome (F.file files.old opts.now.model.now) (λ held. Ends (settings_seen opts.now) seed_word held result.0 (O.written out.old) (O.written out.new) result.1) }
+    ensures counts { CountsOut result.1 (O.faults out.old) (O.faults out.new) }
+    ensures nothing { result.1 ≢ Ok tt → result.1 ≢ Err Stop.CannotWriteReport → O.written out.new ≡ O.written out.old }
+    ensures words { IfErr result.1 (λ stop. (index : ℕ) → stop ≢ Stop.BadWord index) }
+    ensures cannot_read { result.1 ≡ Err Stop.CannotRead → Rose (F.read_faults files.old opts.now.model.now) (F.read_faults files.new opts.now.model.now) }
+    ensures no_fault { result.1 ≢ Err Stop.CannotRead → KeepsCounts (F.read_faults files.old) (F.read_faults files.new) }
+    ensures missing { IfSome (F.file files.old opts.now.model.now) (λ held. held ≡ None → (result.1 ≡ Err Stop.CannotRead) ⊎ (result.1 ≡ Err Stop.OutOfMemory)) }
     ensures files { KeepsFiles (F.file files.old) (F.file files.new) }
     ensures write_faults { KeepsCounts (F.write_faults files.old) (F.write_faults files.new) }
 {
-    let model = load_model(alloc, name, files)?;
-    let text = report_of(alloc, &model)?;
-    match out.put(text.as_slice()) {
-        WriteAnswer::Done => Ok(()),
-        WriteAnswer::Failed => Err(Stop::CannotWriteReport),
+    match load_model(alloc, opts.model, &opts.opts, files) {
+        Ok((model, notes)) => {
+            let end = run_model(rt, alloc, &model, opts, seed_word, out);
+            (notes, end)
+        }
+        Err(stop) => (OwnedList::new(alloc), Err(stop)),
     }
 }
 
 /// Runs `pict` on its words, those behind the program's name, and gives the exit status.
 ///
-/// So far there is one word, the name of the model file, and a model file has two lines, each a
-/// parameter with 1 to 16 values; `rt` and `seed_word` have no use yet. The steps come in this order:
-/// words, read of the model file, model, suite, write to `out`. Each has its status: 3 where the words
-/// have no reading, 7 where the folder failed, 4 where the model has no form that is built, 1 where
-/// memory was refused, 8 where `out` failed, and 0 where the report was written whole. Every status but
-/// 0 has one line on `diag`, whose faults change nothing.
+/// The steps come in this order: words, read of the model file, model, limits of the plan, growth, write
+/// to `out`. All memory is taken before the first byte is written. `seed_word` is the number of a shuffle
+/// that no word gives. Statuses: 0 where the report was written whole, 1 where memory was refused, 2 where
+/// a question of the search costs more than the budget, 3 where the words have no reading, 4 and 5 where
+/// the model or a constraint of it is refused, 7 where the folder failed, 8 where `out` did, 9 where
+/// something is above its limit. What is told goes to `diag`, whose faults change nothing.
 pub fn run_pict<R: Threads + Sync, F: Folder, O: Sink, E: Sink>(
     rt: &R,
     alloc: Global,
@@ -132,54 +95,44 @@ pub fn run_pict<R: Threads + Sync, F: Folder, O: Sink, E: Sink>(
     diag: &mut E,
     seed_word: u64,
 ) -> u8
-    // The headline: what is printed with status 0 is a covering array.
-    ensures headline { result ≡ 0 → HasModel (F.file files.old (model_file words.now)) (λ model.
-        PrintsCovering model (O.written out.old) (O.written out.new)) }
+    // The headline: what is printed with status 0 covers what can be covered.
+    ensures headline { result ≡ 0 → (s : Settings) → asked_by (texts words.now) ≡ Ok s →
+        IfSome (F.file files.old (model_file words.now)) (λ held. (m : ModelView) × (notes : List Note) × IsLoaded (opts_of s) held m notes
+        × PrintsCovering m (O.written out.old) (O.written out.new)) }
 
-    // What `out` gets: the report, or a prefix of it where it failed, or nothing.
-    ensures report { result ≡ 0 → HasModel (F.file files.old (model_file words.now)) (λ model.
-        PrintsReport WriteAnswer.Done model (O.written out.old) (O.written out.new)) }
-    ensures cut { result ≡ 8 → HasModel (F.file files.old (model_file words.now)) (λ model.
-        PrintsReport WriteAnswer.Failed model (O.written out.old) (O.written out.new)) }
-    ensures nothing { result ≢ 0 → result ≢ 8 →
-        (O.written out.new ≡ O.written out.old) × (O.faults out.new ≡ O.faults out.old) }
+    // What a run does, where the words have a reading.
+    ensures run { (s : Settings) → asked_by (texts words.now) ≡ Ok s →
+        IfSome (F.file files.old (model_file words.now)) (λ held. IsRun s seed_word held (model_file words.now)
+        (O.written out.old) (O.written out.new) (E.written diag.old) (E.written diag.new) (E.faults diag.old) (E.faults diag.new) result) }
 
-    // When each status comes.
-    ensures statuses { IsStatus result }
-    ensures words { (result ≡ 3) ↔ IsSome (word_fault (texts words.now)) }
-    ensures model { result ≡ 4 → HasNoModel (F.file files.old (model_file words.now)) }
+    // Where they have none, the first such word is told.
+    ensures words { (index : ℕ) → IsWordFault (texts words.now) index →
+        (result ≡ 3) × Tells (E.written diag.old) (E.written diag.new) (E.faults diag.old) (E.faults diag.new) (word_line index) }
+    ensures read_words { (s : Settings) → asked_by (texts words.now) ≡ Ok s → result ≢ 3 }
+
+    // What `out` gets with every other status.
+    ensures nothing { result ≢ 0 → result ≢ 8 → (O.written out.new ≡ O.written out.old) × (O.faults out.new ≡ O.faults out.old) }
+
+    // When the folder and `out` are told of.
     ensures read { result ≡ 7 →
         Rose (F.read_faults files.old (model_file words.now)) (F.read_faults files.new (model_file words.now)) }
     ensures write { result ≡ 8 → Rose (O.faults out.old) (O.faults out.new) }
-
-    // Which status must come, of a told file, where memory is found.
-    ensures complete { (bytes : List ℕ) → word_fault (texts words.now) ≡ None →
-        F.file files.old (model_file words.now) ≡ Some (Some bytes) → IsSome (first_form bytes) →
-        ¬ Rose (F.read_faults files.old (model_file words.now)) (F.read_faults files.new (model_file words.now)) →
-        ¬ Rose (O.faults out.old) (O.faults out.new) → (result ≡ 0) ⊎ (result ≡ 1) }
-    ensures refused { (bytes : List ℕ) → word_fault (texts words.now) ≡ None →
-        F.file files.old (model_file words.now) ≡ Some (Some bytes) → first_form bytes ≡ None →
-        ¬ Rose (F.read_faults files.old (model_file words.now)) (F.read_faults files.new (model_file words.now)) →
-        (result ≡ 4) ⊎ (result ≡ 1) }
-    ensures missing { word_fault (texts words.now) ≡ None →
-        F.file files.old (model_file words.now) ≡ Some None → (result ≡ 7) ⊎ (result ≡ 1) }
-
-    // What `diag` gets: the one line of the status.
-    ensures told { Tells (E.written diag.old) (E.written diag.new) (E.faults diag.old) (E.faults diag.new)
-        (diag_text result (texts words.now)) }
+    ensures statuses { IsStatus result }
 
     // The folder.
     ensures files { KeepsFiles (F.file files.old) (F.file files.new) }
     ensures write_faults { KeepsCounts (F.write_faults files.old) (F.write_faults files.new) }
 {
-    let _ = rt;
-    let _ = seed_word;
-    let name = match read_words(words) {
-        Ok(name) => name,
-        Err(fault) => return Stop::BadWord(fault.index).end_run("", diag),
+    let opts = match read_command(words) {
+        Ok(opts) => opts,
+        Err(fault) => {
+            let end = Err(Stop::BadWord(fault.index));
+            let _ = tell(None, &[], &end, "", diag);
+            return 3;
+        }
     };
-    match generate(alloc, name, files, out) {
-        Ok(()) => 0,
-        Err(stop) => stop.end_run(name, diag),
-    }
+    let (notes, end) = run(rt, alloc, &opts, files, out, seed_word);
+    let seed = told_seed(opts.shuffle, seed_word);
+    let _ = tell(seed, notes.as_slice(), &end, opts.model, diag);
+    status_of(&end)
 }

@@ -4,9 +4,11 @@ ghost use Rattle.std.specs.Option.{option_map};
 ghost use Rattle.cov_model.specs.Names.{is_letter, is_digit, reserved, is_mark};
 ghost use Rattle.definitions.specs.Settings as defined;
 ghost use Rattle.value_text.specs.Numbers.{count_of};
-ghost use Rattle.pict_cli.specs.Options.{setting_seen, order_seen, form_seen};
+ghost use Rattle.refutation.specs.Proofs.{format_of};
+ghost use Rattle.pict_cli.specs.Options.{setting_seen, order_seen};
 
 use model_lex::OrderWord;
+use refutation::ProofForm;
 use value_text::{read_count, same_text};
 
 /// The most nodes that one question may visit, 2^40.
@@ -21,15 +23,6 @@ pub enum Shuffle {
     Bare,
     /// By this seed.
     Number(u64),
-}
-
-/// The form of a proof file (this project's rule).
-#[derive(Debug, Drop, Clone, Copy, PartialEq, Eq)]
-pub enum ProofForm {
-    /// Each omission stands by itself.
-    One,
-    /// An omission may cite an earlier one.
-    Two,
 }
 
 /// What one word sets.
@@ -101,7 +94,7 @@ fn order_of(value: &str) -> Option<OrderWord>
 
 /// The form of a proof file that a value gives.
 fn form_of(value: &str) -> Option<ProofForm>
-    ensures { option_map form_seen result ≡ count_of value.now 1 2 }
+    ensures { option_map format_of result ≡ count_of value.now 1 2 }
 {
     match read_count(value, 1, 2) {
         Some(1) => Some(ProofForm::One),

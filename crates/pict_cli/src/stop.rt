@@ -1,79 +1,198 @@
 ghost use Rattle.std.specs.Prelude.{◌≡◌};
-ghost use Rattle.std.specs.List.{flat_map};
 ghost use Rattle.outside_io.specs.Puts.{Puts, CountsFaults};
-ghost use Rattle.pict_cli.specs.Stops.{status_of, line_of, Tells};
+ghost use Rattle.definitions.specs.Diagnostics.{bytes_limit_line, count_limit_line, counted_name, model_line, spent_line, word_line};
+ghost use Rattle.definitions.specs.Limits.{ModelFile, most_counted};
+ghost use Rattle.model_lex.specs.Codes.{diag_code, diag_text};
+ghost use Rattle.pict_cli.specs.Pieces.{spent_opening};
+ghost use Rattle.pict_cli.specs.Stops.{counted, line_of, status_of};
 
+use crate::put::{put_pairs, put_pieces};
+use feasibility::Question;
 use itoa::Buffer;
+use model_lex::Diag;
 use outside_io::{Sink, WriteAnswer};
 
-/// Why a run ended before its report was written whole.
+/// The most bytes that a model file may have.
+pub(crate) const MOST_MODEL_BYTES: usize = 4_194_304;
+
+/// What a model may have only so many of.
 #[derive(Debug, Drop, Clone, Copy, PartialEq, Eq)]
+pub(crate) enum Quantity {
+    /// Parameters.
+    Parameters,
+    /// Values of one parameter.
+    Values,
+    /// Names of one value.
+    Names,
+    /// Constraints.
+    Constraints,
+    /// Choices of demanded sets.
+    DemandedSets,
+    /// Demanded tuples.
+    DemandedTuples,
+}
+
+impl Quantity {
+    /// What it is called.
+    fn name(self) -> &'static str
+        ensures { result.now ≡ counted_name (counted self) }
+    {
+        match self {
+            Quantity::Parameters => "parameters",
+            Quantity::Values => "values",
+            Quantity::Names => "names",
+            Quantity::Constraints => "constraints",
+            Quantity::DemandedSets => "demanded sets",
+            Quantity::DemandedTuples => "demanded tuples",
+        }
+    }
+
+    /// The most there may be.
+    fn most(self) -> u64
+        ensures { result ≡ most_counted (counted self) }
+    {
+        match self {
+            Quantity::Parameters => 256,
+            Quantity::Values => 4095,
+            Quantity::Names => 64,
+            Quantity::Constraints => 4096,
+            Quantity::DemandedSets => 1 << 20,
+            Quantity::DemandedTuples => 1 << 26,
+        }
+    }
+}
+
+/// Why a run ended before its output was written whole.
+#[derive(Drop)]
 pub(crate) enum Stop {
     /// Memory was refused: status 1.
     OutOfMemory,
+    /// The plain cost of this question is above this budget: status 2.
+    Spent(u64, Question),
     /// The word of this number, from 1, has no reading: status 3.
     BadWord(u32),
-    /// The model file has a form that isn't built yet: status 4.
-    NotBuilt,
+    /// A line, a parameter or a group of the model file is refused: status 4.
+    BadModel(Diag),
+    /// A constraint of the model file is refused: status 5.
+    BadConstraint(Diag),
     /// The model file could not be read: status 7.
     CannotRead,
-    /// The report could not be written whole: status 8.
+    /// The output could not be written whole: status 8.
     CannotWriteReport,
+    /// There are so many of something, above its limit: status 9.
+    TooMany(Quantity, u64),
+    /// The model file has too many bytes: status 9.
+    TooLong,
 }
 
-/// Writes pieces one behind another, up to the first fault. Takes no memory.
-fn put_pieces<E: Sink>(sink: &mut E, pieces: &[&str]) -> WriteAnswer
-    ensures puts { Puts result (E.written sink.old) (E.written sink.new) (flat_map (λ piece. piece.now) pieces.now) }
+/// Writes the line of a refusal of the model file.
+fn put_diag<E: Sink>(diag: &Diag, sink: &mut E) -> WriteAnswer
+    ensures puts { Puts result (E.written sink.old) (E.written sink.new) (model_line diag.now.line (diag_code diag.now.code) (diag_text diag.now.code)) }
     ensures counts { CountsFaults result (E.faults sink.old) (E.faults sink.new) }
 {
-    for piece in pieces {
-        match sink.put(piece.as_bytes()) {
-            WriteAnswer::Done => {}
-            WriteAnswer::Failed => return WriteAnswer::Failed,
-        }
+    let mut buffer = Buffer::new();
+    let line = buffer.format(diag.line);
+    let code = diag.code.code();
+    let text = diag.code.text();
+    put_pieces(
+        sink,
+        &["error: model line ", line, ": ", code, " ", text, "\n"],
+    )
+}
+
+/// Writes the line of a limit.
+fn put_limit<E: Sink>(quantity: Quantity, count: u64, sink: &mut E) -> WriteAnswer
+    ensures puts { Puts result (E.written sink.old) (E.written sink.new) (count_limit_line (counted quantity) count) }
+    ensures counts { CountsFaults result (E.faults sink.old) (E.faults sink.new) }
+{
+    let mut given = Buffer::new();
+    let mut most = Buffer::new();
+    let name = quantity.name();
+    let given = given.format(count);
+    let most = most.format(quantity.most());
+    put_pieces(
+        sink,
+        &["error: limit: ", name, " ", given, " above ", most, "\n"],
+    )
+}
+
+/// Writes the line of a model file that is too long.
+fn put_too_long<E: Sink>(sink: &mut E) -> WriteAnswer
+    ensures puts { Puts result (E.written sink.old) (E.written sink.new) (bytes_limit_line ModelFile) }
+    ensures counts { CountsFaults result (E.faults sink.old) (E.faults sink.new) }
+{
+    let mut buffer = Buffer::new();
+    let most = buffer.format(MOST_MODEL_BYTES);
+    put_pieces(sink, &["error: limit: model bytes above ", most, "\n"])
+}
+
+/// Writes how the line of a question whose plain cost is above the budget begins.
+fn put_opening<E: Sink>(budget: u64, sink: &mut E) -> WriteAnswer
+    ensures puts { Puts result (E.written sink.old) (E.written sink.new) (spent_opening budget) }
+    ensures counts { CountsFaults result (E.faults sink.old) (E.faults sink.new) }
+{
+    let mut buffer = Buffer::new();
+    let number = buffer.format(budget);
+    put_pieces(sink, &["error: search budget ", number, " spent on "])
+}
+
+/// Writes the line of a question whose plain cost is above the budget.
+fn put_spent<E: Sink>(budget: u64, question: &Question, sink: &mut E) -> WriteAnswer
+    ensures puts { Puts result (E.written sink.old) (E.written sink.new) (spent_line budget question.now.cells) }
+    ensures counts { CountsFaults result (E.faults sink.old) (E.faults sink.new) }
+{
+    match put_opening(budget, sink) {
+        WriteAnswer::Done => {}
+        WriteAnswer::Failed => return WriteAnswer::Failed,
     }
-    WriteAnswer::Done
+    match put_pairs(sink, question.cells.as_slice()) {
+        WriteAnswer::Done => put_pieces(sink, &["\n"]),
+        WriteAnswer::Failed => WriteAnswer::Failed,
+    }
+}
+
+/// Writes the line of a word that has no reading.
+fn put_word<E: Sink>(index: u32, sink: &mut E) -> WriteAnswer
+    ensures puts { Puts result (E.written sink.old) (E.written sink.new) (word_line index) }
+    ensures counts { CountsFaults result (E.faults sink.old) (E.faults sink.new) }
+{
+    let mut buffer = Buffer::new();
+    let number = buffer.format(index);
+    put_pieces(sink, &["error: word ", number, " is not understood\n"])
 }
 
 impl Stop {
     /// The exit status of a run that ended so.
-    fn status(self) -> u8
-        ensures { result ≡ status_of self }
+    pub(crate) fn status(&self) -> u8
+        ensures { result ≡ status_of self.now }
     {
         match self {
             Stop::OutOfMemory => 1,
+            Stop::Spent(..) => 2,
             Stop::BadWord(_) => 3,
-            Stop::NotBuilt => 4,
+            Stop::BadModel(_) => 4,
+            Stop::BadConstraint(_) => 5,
             Stop::CannotRead => 7,
             Stop::CannotWriteReport => 8,
+            Stop::TooMany(..) | Stop::TooLong => 9,
         }
     }
 
     /// Writes the line that says why, where the model file has this name. Takes no memory.
-    fn put_line<E: Sink>(self, name: &str, diag: &mut E) -> WriteAnswer
-        ensures puts { Puts result (E.written diag.old) (E.written diag.new) (line_of self name.now) }
+    pub(crate) fn put_line<E: Sink>(&self, name: &str, diag: &mut E) -> WriteAnswer
+        ensures puts { Puts result (E.written diag.old) (E.written diag.new) (line_of self.now name.now) }
         ensures counts { CountsFaults result (E.faults diag.old) (E.faults diag.new) }
     {
         match self {
             Stop::OutOfMemory => put_pieces(diag, &["error: out of memory\n"]),
-            Stop::BadWord(index) => {
-                let mut buffer = Buffer::new();
-                let number = buffer.format(index);
-                put_pieces(diag, &["error: word ", number, " is not understood\n"])
-            }
-            Stop::NotBuilt => put_pieces(diag, &["error: model line 1: M0 form not built yet\n"]),
+            Stop::Spent(budget, question) => put_spent(*budget, question, diag),
+            Stop::BadWord(index) => put_word(*index, diag),
+            Stop::BadModel(refusal) => put_diag(refusal, diag),
+            Stop::BadConstraint(refusal) => put_diag(refusal, diag),
             Stop::CannotRead => put_pieces(diag, &["error: cannot read ", name, "\n"]),
             Stop::CannotWriteReport => put_pieces(diag, &["error: cannot write the report\n"]),
+            Stop::TooMany(quantity, count) => put_limit(*quantity, *count, diag),
+            Stop::TooLong => put_too_long(diag),
         }
-    }
-
-    /// Ends a run on the model file of this name: tells `diag` why, and gives the status. A fault of
-    /// `diag` changes nothing. Takes no memory.
-    pub(crate) fn end_run<E: Sink>(self, name: &str, diag: &mut E) -> u8
-        ensures status { result ≡ status_of self }
-        ensures line { Tells (E.written diag.old) (E.written diag.new) (E.faults diag.old) (E.faults diag.new) (line_of self name.now) }
-    {
-        let _ = self.put_line(name, diag);
-        self.status()
     }
 }

@@ -1,26 +1,72 @@
-ghost use Rattle.std.specs.Prelude.{◌≡◌, None, Some, MatchResult};
-ghost use Rattle.pict_cli.specs.Words.{word_fault, texts, model_file};
+ghost use Rattle.std.specs.Prelude.{◌≡◌, ◌+◌, Ok, MatchResult, option_map, position};
+ghost use Rattle.std.specs.String.{string_bytes};
+ghost use Rattle.pict_cli.specs.Options.{setting_seen, settings_seen};
+ghost use Rattle.pict_cli.specs.Ranges.{AreFit};
+ghost use Rattle.pict_cli.specs.Words.{IsWordFault, asked_by, asks_unbuilt, first_unbuilt, is_unbuilt, model_file, texts};
 
-/// A command line that has no reading.
-#[derive(Debug, Drop, Clone, Copy, PartialEq, Eq)]
-pub(crate) struct WordFault {
-    /// The number of the first word without a reading, from 1.
-    pub index: u32,
+use crate::options::{Opts, WordFault, fault_at, read_words};
+use crate::setting::{Setting, setting_of};
+
+/// Whether what a word sets isn't built yet.
+fn is_unbuilt(setting: &Setting<'_>) -> bool
+    ensures { result ≡ is_unbuilt (setting_seen setting.now) }
+{
+    match setting {
+        Setting::SeedFile(_)
+        | Setting::Statistics
+        | Setting::ProofFile(_)
+        | Setting::MeasureFile(_)
+        | Setting::Make(_)
+        | Setting::SuspectFile(_) => true,
+        _ => false,
+    }
 }
 
-/// The name of the model file, the only word so far.
+/// Whether a word asks for what isn't built yet.
+fn asks_unbuilt(word: &str) -> bool
+    ensures { result ≡ asks_unbuilt word.now }
+{
+    match setting_of(word) {
+        Some(setting) => is_unbuilt(&setting),
+        None => false,
+    }
+}
+
+/// The place of the first of some options, from 0, that asks for what isn't built yet.
+fn unbuilt_place(options: &[String]) -> Option<usize>
+    ensures { result ≡ position (λ word. asks_unbuilt (string_bytes word)) options.now }
+{
+    options
+        .iter()
+        .position(|word| asks_unbuilt(word.as_str()))
+}
+
+/// The same of the options behind the model file.
+fn first_unbuilt(words: &[String]) -> Option<usize>
+    ensures { option_map (λ place. place + 2) result ≡ first_unbuilt (texts words.now) }
+{
+    if words.is_empty() {
+        return None;
+    }
+    unbuilt_place(&words[1..])
+}
+
+/// What the words of `pict` ask for, as far as it is built.
 ///
 /// # Errors
 ///
-/// The first word where it is missing or empty, else the second where there is one.
-pub(crate) fn read_words(words: &[String]) -> Result<&str, WordFault>
+/// The first word that has no reading, else the first that asks for what isn't built yet.
+pub(crate) fn read_command<'w>(words: &'w [String]) -> Result<Opts<'w>, WordFault>
     ensures { MatchResult result
-        (λ name. (word_fault (texts words.now) ≡ None) × (name.now ≡ model_file words.now))
-        (λ fault. word_fault (texts words.now) ≡ Some fault.index) }
+        (λ opts. (asked_by (texts words.now) ≡ Ok (settings_seen opts)) × AreFit (settings_seen opts) × (opts.model.now ≡ model_file words.now))
+        (λ fault. IsWordFault (texts words.now) fault.index) }
 {
-    match words {
-        [name] if !name.is_empty() => Ok(name.as_str()),
-        [name, ..] if !name.is_empty() => Err(WordFault { index: 2 }),
-        _ => Err(WordFault { index: 1 }),
+    let opts = match read_words(words) {
+        Ok(opts) => opts,
+        Err(fault) => return Err(fault),
+    };
+    match first_unbuilt(words) {
+        Some(place) => Err(fault_at(place)),
+        None => Ok(opts),
     }
 }

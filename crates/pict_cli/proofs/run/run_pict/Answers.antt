@@ -1,11 +1,38 @@
-use Rattle.std.proofs.Common.{subst}
-use Rattle.pict_cli.specs.Runs.{HasModel, PrintsCovering}
-use Rattle.pict_cli.proofs.Runs.{headline}
+use Rattle.std.proofs.Common.{◌≡◌, sym, ap, subst, ◌∙◌}
+use Rattle.std.specs.Prelude.{IfSome}
+use Rattle.outside_io.specs.Faults.{Rose}
+use Rattle.pict_cli.specs.Options.{settings_seen}
+use Rattle.pict_cli.specs.Runs.{Ends, used_seed}
+use Rattle.pict_cli.specs.Told.{Tells, told_text}
+use Rattle.pict_cli.proofs.RunEnds.{covers_whole, is_run, one_asked, seven_is_end}
 use Rattle.pict_cli.proofs.run.run_pict.Goals as goal
 
-pub returns-in-Ok-generate-clause-headline : goal.returns-in-Ok-generate-clause-headline
-returns-in-Ok-generate-clause-headline g c = λ _.
+pub returns-clause-headline : goal.returns-clause-headline
+returns-clause-headline g c = λ zero s asked.
+    let same = one_asked _ (settings_seen c.in-Ok.opts) s c.in-Ok.ensures.0 asked in
+    let file = g.F.Folder.file c.args.files.now in
+    let ends = subst (λ name. IfSome (file name) (λ held. Ends s c.args.seed_word held c.run-notes.result.0 (g.O.Sink.written c.args.out.now) (g.O.Sink.written c.run-notes.new.out) c.run-notes.result.1)) c.in-Ok.ensures.2
+    (subst (λ t. IfSome (file c.in-Ok.opts.model.now) (λ held. Ends t c.args.seed_word held c.run-notes.result.0 (g.O.Sink.written c.args.out.now) (g.O.Sink.written c.run-notes.new.out) c.run-notes.result.1)) same c.run-notes.ensures.ends) in
+    covers_whole s c.args.seed_word (file _) c.run-notes.result.0 (g.O.Sink.written c.args.out.now) (g.O.Sink.written c.run-notes.new.out) c.run-notes.result.1 (sym c.status_of.ensures ∙ zero) ends
+
+pub returns-clause-read : goal.returns-clause-read
+returns-clause-read g c = λ seven.
+    subst (λ name. Rose (g.F.Folder.read_faults c.args.files.now name) (g.F.Folder.read_faults c.run-notes.new.files name)) c.in-Ok.ensures.2
+    (c.run-notes.ensures.cannot_read (seven_is_end c.run-notes.result.1 (sym c.status_of.ensures ∙ seven)))
+
+pub returns-clause-run : goal.returns-clause-run
+returns-clause-run g c = λ s asked.
+    let same = one_asked _ (settings_seen c.in-Ok.opts) s c.in-Ok.ensures.0 asked in
+    let file = g.F.Folder.file c.args.files.now in
     let before = g.O.Sink.written c.args.out.now in
-    let after = g.O.Sink.written c.generate.new.out in
-    subst (λ name. HasModel (g.F.Folder.file c.args.files.now name) (λ m. PrintsCovering m before after)) c.in-Ok.ensures.1
-    (headline (g.F.Folder.file c.args.files.now c.in-Ok.name.now) before after c.in-Ok-generate.ensures.done)
+    let after = g.O.Sink.written c.run-notes.new.out in
+    let ends = subst (λ name. IfSome (file name) (λ held. Ends s c.args.seed_word held c.run-notes.result.0 before after c.run-notes.result.1)) c.in-Ok.ensures.2
+    (subst (λ t. IfSome (file c.in-Ok.opts.model.now) (λ held. Ends t c.args.seed_word held c.run-notes.result.0 before after c.run-notes.result.1)) same c.run-notes.ensures.ends) in
+    let text = ap (λ seed. told_text seed c.as_slice.result.now c.in-Ok.opts.model.now c.run-notes.result.1) c.told_seed-seed.ensures
+    ∙ ap (λ t. told_text (used_seed t.shuffle c.args.seed_word) c.as_slice.result.now c.in-Ok.opts.model.now c.run-notes.result.1) same
+    ∙ ap (λ notes. told_text (used_seed s.shuffle c.args.seed_word) notes c.in-Ok.opts.model.now c.run-notes.result.1) c.as_slice.ensures
+    ∙ ap (λ name. told_text (used_seed s.shuffle c.args.seed_word) c.run-notes.result.0 name c.run-notes.result.1) c.in-Ok.ensures.2 in
+    let told = subst (Tells (g.E.Sink.written c.args.diag.now) (g.E.Sink.written c.tell-2.new.sink) (g.E.Sink.faults c.args.diag.now) (g.E.Sink.faults c.tell-2.new.sink)) text
+    (c.tell-2.result, c.tell-2.ensures.puts, c.tell-2.ensures.counts) in
+    is_run s c.args.seed_word (file _) _ c.run-notes.result.0 before after (g.E.Sink.written c.args.diag.now) (g.E.Sink.written c.tell-2.new.sink)
+    (g.E.Sink.faults c.args.diag.now) (g.E.Sink.faults c.tell-2.new.sink) c.status_of.result c.run-notes.result.1 ends told c.status_of.ensures

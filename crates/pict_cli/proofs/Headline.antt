@@ -1,0 +1,41 @@
+-- What a report that was printed whole holds covers what can be covered.
+use Rattle.std.proofs.Common.{◌≡◌, ℕ, ◌<◌, true, List, [], length, Option, None, Some, sym, subst}
+use Rattle.std.specs.Prelude.{All, ◌&&◌, nat_le, slice_index_or}
+use Rattle.std.specs.List.{list_all}
+use Rattle.outside_io.specs.declared.answers.WriteAnswer.TheVariants.{Done}
+use Rattle.outside_io.specs.Puts.{Puts}
+use Rattle.cov_model.specs.Sound.{ModelView, IsSound}
+use Rattle.cov_model.specs.Preference.{preference, OrdersValues}
+use Rattle.cov_model.specs.Meaning.{body_holds}
+use Rattle.cov_model.specs.Valid.{is_row, is_valid, negatives}
+use Rattle.cov_model.proofs.PreferenceLemmas.{OrdersValues-preference}
+use Rattle.std.proofs.lemmas.Bool.{and_parts}
+use Rattle.definitions.specs.Covering.{Covers}
+use Rattle.definitions.specs.Growth.{growth}
+use Rattle.definitions.specs.Report.{report_text}
+use Rattle.definitions.specs.Laws.{ArePreferences}
+use Rattle.definitions.proofs.GrowthLaw.{suites_cover}
+use Rattle.definitions.proofs.ReadBack.{read_back}
+use Rattle.pict_cli.specs.Runs.{PrintsCovering}
+
+-- the orders of a run
+are_preferences : (m : ModelView) (shuffle : Option ℕ) → ArePreferences m (preference m shuffle)
+are_preferences m shuffle = let orders = OrdersValues-preference m shuffle in (orders.as_many, orders.each)
+
+-- valid rows are rows
+are_rows : (m : ModelView) (rows : List (List (Option ℕ))) → All (λ row. is_valid m row ≡ true) rows → All (λ row. is_row m row ≡ true) rows
+are_rows m rows valid k d within =
+    let row = slice_index_or rows k d in
+    (and_parts (is_row m row) (list_all (λ rule. body_holds m rule.body row) m.rules) (and_parts (is_row m row && list_all (λ rule. body_holds m rule.body row) m.rules) (nat_le (length (negatives m row)) 1) (valid k d within)).0).0
+
+pub prints_covering : (m : ModelView) (shuffle : Option ℕ) (before after : Option (List ℕ)) → IsSound m
+    → Puts Done before after (report_text m (growth m (preference m shuffle) []).rows) → PrintsCovering m before after
+prints_covering m shuffle None after sound put = tt
+prints_covering m shuffle (Some written) after sound put =
+    let rows = (growth m (preference m shuffle) []).rows in
+    let covers = suites_cover m (preference m shuffle) [] sound (are_preferences m shuffle) in
+    (report_text m rows, put, subst (Covers m) (sym (read_back m rows sound (are_rows m rows covers.valid))) covers)
+
+-- the rows of a suite are rows
+pub suite_rows : (m : ModelView) (shuffle : Option ℕ) → IsSound m → All (λ row. is_row m row ≡ true) (growth m (preference m shuffle) []).rows
+suite_rows m shuffle sound = are_rows m (growth m (preference m shuffle) []).rows (suites_cover m (preference m shuffle) [] sound (are_preferences m shuffle)).valid

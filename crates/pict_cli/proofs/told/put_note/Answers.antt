@@ -1,0 +1,16 @@
+use Rattle.std.proofs.Common.{◌++◌, ◌∙◌, ap, subst}
+use Rattle.std.specs.Prelude.{codes, decimal}
+use Rattle.outside_io.specs.Puts.{Puts}
+use Rattle.model_lex.specs.Codes.{note_code, note_text}
+use Rattle.pict_cli.proofs.PutPieces.{six_pieces}
+use Rattle.pict_cli.proofs.told.put_note.Goals as goal
+
+pub returns-clause-puts : goal.returns-clause-puts
+returns-clause-puts g c =
+    let note = c.args.note.now in
+    subst (Puts c.put_pieces.result (g.E.Sink.written c.args.sink.now) (g.E.Sink.written c.put_pieces.new.sink))
+    (ap (λ line. codes "warning: model line " ++ (line ++ (codes ": " ++ (c.code-code.result.now ++ (codes " " ++ (c.text-text.result.now ++ codes "\n")))))) c.format-line.ensures.text
+    ∙ ap (λ code. codes "warning: model line " ++ (decimal note.line ++ (codes ": " ++ (code ++ (codes " " ++ (c.text-text.result.now ++ codes "\n")))))) c.code-code.ensures
+    ∙ ap (λ text. codes "warning: model line " ++ (decimal note.line ++ (codes ": " ++ (note_code note.code ++ (codes " " ++ (text ++ codes "\n")))))) c.text-text.ensures
+    ∙ six_pieces (codes "warning: model line " ++ decimal note.line) (codes ": ") (note_code note.code) (codes " ") (note_text note.code) (codes "\n"))
+    c.put_pieces.ensures.puts

@@ -1,0 +1,11 @@
+use Rattle.std.proofs.Common.{◌≡◌, take}
+use Rattle.outside_io.specs.declared.answers.WriteAnswer.TheVariants.{Done}
+use Rattle.outside_io.specs.Puts.{Puts}
+use Rattle.pict_cli.specs.Told.{notes_text}
+use Rattle.pict_cli.proofs.told.put_notes.Given as goal
+
+abbrev pub invariant-loop-note : goal.invariant-loop-note
+invariant-loop-note g l = record {
+  puts : Puts Done (g.E.Sink.written l.fn.sink) (g.E.Sink.written l.sink) (notes_text (take l.note-index l.notes));
+  counts : g.E.Sink.faults l.sink ≡ g.E.Sink.faults l.fn.sink;
+}
