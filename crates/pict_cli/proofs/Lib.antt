@@ -1,3 +1,4 @@
+pub mod Causes
 pub mod Colons
 pub mod GrowthEnds
 pub mod Headline

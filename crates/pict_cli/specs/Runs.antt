@@ -15,7 +15,7 @@ use Rattle.model_lex.specs.declared.fault.LimitName.{LimitName}
 use Rattle.model_lex.specs.declared.fault.LimitName.TheVariants.{Params, Rules}
 use Rattle.model_lex.specs.declared.fault.LimitName.TheVariants as limits
 use Rattle.model_lex.specs.declared.fault.ModelFault.{ModelFault}
-use Rattle.model_lex.specs.declared.fault.ModelFault.TheVariants.{Bad, BadRule, Limit}
+use Rattle.model_lex.specs.declared.fault.ModelFault.TheVariants.{Bad, BadRule, Limit, NoMemory}
 use Rattle.definitions.specs.Covering.{Covers}
 use Rattle.definitions.specs.Growth.{Grown, growth}
 use Rattle.definitions.specs.Limits.{ModelFile, most_bytes}
@@ -172,3 +172,10 @@ pub record IsRun (s : Settings) (seed : ℕ) (held : Option (List ℕ)) (name : 
   pub ends : Ends s seed held notes before after end
   pub told : Tells told_before told_after faults faults_after (told_text (used_seed s.shuffle seed) notes name end)
   pub ended : status ≡ end_status end
+
+-- the status of a refusal
+abbrev pub fault_status : ModelFault → ℕ
+fault_status (Bad diag) = 4
+fault_status (BadRule diag) = 5
+fault_status (Limit limit n) = 9
+fault_status NoMemory = 1

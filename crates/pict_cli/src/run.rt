@@ -1,17 +1,18 @@
-ghost use Rattle.std.specs.Prelude.{◌≡◌, ◌≢◌, ◌⊎◌, ℕ, List, Some, None, Ok, Err, IfSome, IfErr};
+ghost use Rattle.std.specs.Prelude.{◌≡◌, ◌≢◌, ◌⊎◌, ◌≤◌, length, ℕ, List, Some, None, Ok, Err, IfSome, IfErr};
 ghost use Rattle.std.specs.List.{list_any};
 ghost use Rattle.outside_io.specs.Faults.{Rose, KeepsCounts};
 ghost use Rattle.outside_io.specs.Files.{KeepsFiles};
 ghost use Rattle.outside_io.specs.Puts.{CountsFaults};
 ghost use Rattle.cov_model.specs.Sound.{ModelView};
 ghost use Rattle.definitions.specs.Diagnostics.{word_line};
+ghost use Rattle.definitions.specs.Limits.{ModelFile, most_bytes};
 ghost use Rattle.definitions.specs.Settings.{Settings};
 ghost use Rattle.model_lex.specs.declared.fault.ModelFault.{ModelFault};
 ghost use Rattle.model_lex.specs.declared.note.Note.{Note};
 ghost use Rattle.type_check.specs.ModelOf.{IsModelOf, IsRefusalOf};
 ghost use Rattle.pict_cli.specs.Options.{settings_seen, shuffle_seen};
 ghost use Rattle.pict_cli.specs.Ranges.{AreFit};
-ghost use Rattle.pict_cli.specs.Runs.{CountsOut, Ends, IsRun, IsLoaded, PrintsCovering, opts_of, used_seed};
+ghost use Rattle.pict_cli.specs.Runs.{CountsOut, Ends, IsGrown, IsRun, IsLoaded, PrintsCovering, fault_status, opts_of, used_seed};
 ghost use Rattle.pict_cli.specs.Stops.{IsStatus};
 ghost use Rattle.pict_cli.specs.Told.{Tells, end_status};
 ghost use Rattle.pict_cli.specs.Words.{IsWordFault, asked_by, model_file, texts};
@@ -109,6 +110,19 @@ pub fn run_pict<R: Threads + Sync, F: Folder, O: Sink, E: Sink>(
     ensures words { (index : ℕ) → IsWordFault (texts words.now) index →
         (result ≡ 3) × Tells (E.written diag.old) (E.written diag.new) (E.faults diag.old) (E.faults diag.new) (word_line index) }
     ensures read_words { (s : Settings) → asked_by (texts words.now) ≡ Ok s → result ≢ 3 }
+
+    // Which status must come of a told file, where memory is found.
+    ensures complete { (s : Settings) (bytes : List ℕ) (m : ModelView) (notes : List Note) → asked_by (texts words.now) ≡ Ok s →
+        F.file files.old (model_file words.now) ≡ Some (Some bytes) → length bytes ≤ most_bytes ModelFile →
+        IsModelOf (opts_of s) bytes m notes → ((other : ModelView) (others : List Note) → IsModelOf (opts_of s) bytes other others → IsGrown s seed_word other) →
+        ¬ Rose (F.read_faults files.old (model_file words.now)) (F.read_faults files.new (model_file words.now)) →
+        ¬ Rose (O.faults out.old) (O.faults out.new) → (result ≡ 0) ⊎ (result ≡ 1) }
+    ensures refused { (s : Settings) (bytes : List ℕ) (fault : ModelFault) → asked_by (texts words.now) ≡ Ok s →
+        F.file files.old (model_file words.now) ≡ Some (Some bytes) → length bytes ≤ most_bytes ModelFile → IsRefusalOf (opts_of s) bytes fault →
+        ¬ Rose (F.read_faults files.old (model_file words.now)) (F.read_faults files.new (model_file words.now)) →
+        (result ≡ fault_status fault) ⊎ (result ≡ 1) }
+    ensures missing { (s : Settings) → asked_by (texts words.now) ≡ Ok s →
+        F.file files.old (model_file words.now) ≡ Some None → (result ≡ 7) ⊎ (result ≡ 1) }
 
     // What `out` gets with every other status.
     ensures nothing { result ≢ 0 → result ≢ 8 → (O.written out.new ≡ O.written out.old) × (O.faults out.new ≡ O.faults out.old) }

@@ -2,8 +2,9 @@ use Rattle.std.proofs.Common.{◌≡◌, sym, ap, subst, ◌∙◌}
 use Rattle.std.specs.Prelude.{IfSome}
 use Rattle.outside_io.specs.Faults.{Rose}
 use Rattle.pict_cli.specs.Options.{settings_seen}
-use Rattle.pict_cli.specs.Runs.{Ends, used_seed}
+use Rattle.pict_cli.specs.Runs.{CountsOut, Ends, used_seed}
 use Rattle.pict_cli.specs.Told.{Tells, told_text}
+use Rattle.pict_cli.proofs.Causes.{told_complete, told_missing, told_refused}
 use Rattle.pict_cli.proofs.RunEnds.{covers_whole, is_run, one_asked, seven_is_end}
 use Rattle.pict_cli.proofs.run.run_pict.Goals as goal
 
@@ -36,3 +37,39 @@ returns-clause-run g c = λ s asked.
     (c.tell-2.result, c.tell-2.ensures.puts, c.tell-2.ensures.counts) in
     is_run s c.args.seed_word (file _) _ c.run-notes.result.0 before after (g.E.Sink.written c.args.diag.now) (g.E.Sink.written c.tell-2.new.sink)
     (g.E.Sink.faults c.args.diag.now) (g.E.Sink.faults c.tell-2.new.sink) c.status_of.result c.run-notes.result.1 ends told c.status_of.ensures
+
+pub returns-clause-complete : goal.returns-clause-complete
+returns-clause-complete g c = λ s bytes m told asked at short is grown no_read no_write.
+    let same = one_asked _ (settings_seen c.in-Ok.opts) s c.in-Ok.ensures.0 asked in
+    let file = g.F.Folder.file c.args.files.now in
+    let before = g.O.Sink.written c.args.out.now in
+    let after = g.O.Sink.written c.run-notes.new.out in
+    let end = c.run-notes.result.1 in
+    let ends = subst (λ name. IfSome (file name) (λ held. Ends s c.args.seed_word held c.run-notes.result.0 before after end)) c.in-Ok.ensures.2
+    (subst (λ t. IfSome (file c.in-Ok.opts.model.now) (λ held. Ends t c.args.seed_word held c.run-notes.result.0 before after end)) same c.run-notes.ensures.ends) in
+    told_complete s c.args.seed_word (file _) bytes c.run-notes.result.0 before after end m told c.status_of.result ends c.status_of.ensures at short is grown
+    (λ e. no_read (subst (λ name. Rose (g.F.Folder.read_faults c.args.files.now name) (g.F.Folder.read_faults c.run-notes.new.files name)) c.in-Ok.ensures.2 (c.run-notes.ensures.cannot_read e)))
+    (λ e. no_write (subst (λ x. CountsOut x (g.O.Sink.faults c.args.out.now) (g.O.Sink.faults c.run-notes.new.out)) e c.run-notes.ensures.counts))
+
+pub returns-clause-refused : goal.returns-clause-refused
+returns-clause-refused g c = λ s bytes fault asked at short is no_read.
+    let same = one_asked _ (settings_seen c.in-Ok.opts) s c.in-Ok.ensures.0 asked in
+    let file = g.F.Folder.file c.args.files.now in
+    let before = g.O.Sink.written c.args.out.now in
+    let after = g.O.Sink.written c.run-notes.new.out in
+    let end = c.run-notes.result.1 in
+    let ends = subst (λ name. IfSome (file name) (λ held. Ends s c.args.seed_word held c.run-notes.result.0 before after end)) c.in-Ok.ensures.2
+    (subst (λ t. IfSome (file c.in-Ok.opts.model.now) (λ held. Ends t c.args.seed_word held c.run-notes.result.0 before after end)) same c.run-notes.ensures.ends) in
+    told_refused s c.args.seed_word (file _) bytes c.run-notes.result.0 before after end fault c.status_of.result ends c.status_of.ensures at short is
+    (λ e. no_read (subst (λ name. Rose (g.F.Folder.read_faults c.args.files.now name) (g.F.Folder.read_faults c.run-notes.new.files name)) c.in-Ok.ensures.2 (c.run-notes.ensures.cannot_read e)))
+
+pub returns-clause-missing : goal.returns-clause-missing
+returns-clause-missing g c = λ s asked at.
+    let same = one_asked _ (settings_seen c.in-Ok.opts) s c.in-Ok.ensures.0 asked in
+    let file = g.F.Folder.file c.args.files.now in
+    let before = g.O.Sink.written c.args.out.now in
+    let after = g.O.Sink.written c.run-notes.new.out in
+    let end = c.run-notes.result.1 in
+    let ends = subst (λ name. IfSome (file name) (λ held. Ends s c.args.seed_word held c.run-notes.result.0 before after end)) c.in-Ok.ensures.2
+    (subst (λ t. IfSome (file c.in-Ok.opts.model.now) (λ held. Ends t c.args.seed_word held c.run-notes.result.0 before after end)) same c.run-notes.ensures.ends) in
+    told_missing s c.args.seed_word (file _) c.run-notes.result.0 before after end c.status_of.result ends c.status_of.ensures at

@@ -11,4 +11,4 @@ returns-clause-stops g c =
     let s = settings_seen c.args.opts.now in
     c.stop_of_search.ensures.stops s c.args.seed_word m refl c.requires.within
     (ends_by m c.in-Ok.prefs (orders_of s c.args.seed_word m) c.args.opts.now.budget c.new-2.result c.in-Err.fault
-    (c.in-Ok.ensures.orders ∙ ap (preference m) c.shuffle_number-number.ensures) c.new-2.ensures c.in-Err.ensures.spent)
+    (c.in-Ok.ensures.orders ∙ ap (preference m) c.shuffle_number-number.ensures) c.new-2.ensures c.in-Err.ensures.asked)
