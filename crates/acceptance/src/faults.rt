@@ -13,10 +13,9 @@ const REPORT: &str = "A\tB\n1\tx\n1\ty\n2\tx\n2\ty\n";
 #[test]
 fn keeps_what_fits_of_the_report(rt: HostRuntime) -> Result<(), Fail> {
     for room in 0..20 {
-        let files = [("m", MODEL.as_bytes())];
         let given = Given {
             room: (room, 1 << 10),
-            ..on_model(&files)
+            ..on_model(MODEL.as_bytes())
         };
         let kept = REPORT.get(..room).ok_or("the report has 20 bytes")?;
         expect(&rt, &given, 8, kept, "error: cannot write the report\n")?;
@@ -26,30 +25,30 @@ fn keeps_what_fits_of_the_report(rt: HostRuntime) -> Result<(), Fail> {
 
 #[test]
 fn tells_the_file_that_cannot_be_read(rt: HostRuntime) -> Result<(), Fail> {
-    let files = [("m", MODEL.as_bytes())];
     let failing = Given {
         fail: &[1],
-        ..on_model(&files)
+        ..on_model(MODEL.as_bytes())
     };
     expect(&rt, &failing, 7, "", "error: cannot read m\n")?;
-    let others = [("n", MODEL.as_bytes())];
-    expect(&rt, &on_model(&others), 7, "", "error: cannot read m\n")
+    let missing = Given {
+        name: "n",
+        ..on_model(MODEL.as_bytes())
+    };
+    expect(&rt, &missing, 7, "", "error: cannot read m\n")
 }
 
 #[test]
 fn a_fault_of_standard_error_changes_nothing(rt: HostRuntime) -> Result<(), Fail> {
-    let files = [("m", MODEL.as_bytes())];
     let refused = Given {
         words: &["m", "/o:3"],
         room: (1 << 10, 0),
-        ..on_model(&files)
+        ..on_model(MODEL.as_bytes())
     };
     expect(&rt, &refused, 4, "", "")?;
-    let repeated = [("m", "A: a, A, b\n".as_bytes())];
     let cut = Given {
         words: &["m", "/o:1"],
         room: (1 << 10, 20),
-        ..on_model(&repeated)
+        ..on_model(b"A: a, A, b\n")
     };
     expect(&rt, &cut, 0, "A\na\nb\n", "warning: model line ")
 }

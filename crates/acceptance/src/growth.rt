@@ -9,16 +9,12 @@ const TWIN: &str = "A: 1, 2\nB: 1, 2\nC: 1, 2\n\
 const NONE_LIVE: &str = "A: 1, 2\nB: x, y\nC: p, q, r\nIF [A] = 1 THEN [C] <> \"p\";\n\
     IF [A] = 1 THEN [C] <> \"q\";\nIF [A] = 1 THEN [C] <> \"r\";\n";
 
-const NONE_LIVE_REPORT: &str =
-    "A\tB\tC\n2\tx\tp\n2\ty\tq\n2\tx\tr\n2\tx\tq\n2\ty\tp\n2\ty\tr\n";
+const NONE_LIVE_REPORT: &str = "A\tB\tC\n2\tx\tp\n2\ty\tq\n2\tx\tr\n2\tx\tq\n2\ty\tp\n2\ty\tr\n";
 
 #[test]
 fn covers_every_pair(rt: HostRuntime) -> Result<(), Fail> {
     let cases = [
-        (
-            "A: 1, 2\nB: x, y\n",
-            "A\tB\n1\tx\n1\ty\n2\tx\n2\ty\n",
-        ),
+        ("A: 1, 2\nB: x, y\n", "A\tB\n1\tx\n1\ty\n2\tx\n2\ty\n"),
         (
             "A: 1, 2\nB: x, y\nC: u, v\n",
             "A\tB\tC\n1\tx\tu\n1\ty\tv\n2\tx\tv\n2\ty\tu\n",
@@ -58,11 +54,7 @@ fn covers_by_the_order_that_is_given(rt: HostRuntime) -> Result<(), Fail> {
             "A\tB\n2\tx\n1\ty\n2\tFoo (bar)\n",
         ),
         ("/o:1", "A: 1, 2\n[A] > 5;\n", "A\n"),
-        (
-            "/o:1",
-            "A: 1, 2\nB: <A>, 3\n",
-            "A\tB\n1\t1\n2\t2\n1\t3\n",
-        ),
+        ("/o:1", "A: 1, 2\nB: <A>, 3\n", "A\tB\n1\t1\n2\t2\n1\t3\n"),
         ("/o:1", TWIN, "A\tB\tC\n2\t1\t1\n2\t2\t2\n"),
     ];
     for (order, model, report) in cases {
@@ -130,5 +122,12 @@ fn a_budget_may_be_spent(rt: HostRuntime) -> Result<(), Fail> {
 fn a_shuffle_tells_the_seed_that_no_word_gave(rt: HostRuntime) -> Result<(), Fail> {
     let model = b"A: 1\nB: x\n";
     expect_on(&rt, &["m", "/r:7"], model, 0, "A\tB\n1\tx\n", "")?;
-    expect_on(&rt, &["m", "/r"], model, 0, "A\tB\n1\tx\n", "Used seed: 5\n")
+    expect_on(
+        &rt,
+        &["m", "/r"],
+        model,
+        0,
+        "A\tB\n1\tx\n",
+        "Used seed: 5\n",
+    )
 }

@@ -17,7 +17,10 @@ fn reads_every_kind_of_line(rt: HostRuntime) -> Result<(), Fail> {
         ),
         // A name may stand as a parameter and as a value, and as a value of both.
         (b"a_1: a_1, b\nb: b\n", "a_1\tb\na_1\tb\nb\tb\n"),
-        (b"A: 1, 2\nB: x, y\n# c\nIF [A] = 3\n  THEN [B] = \"x\";\n", PAIRS),
+        (
+            b"A: 1, 2\nB: x, y\n# c\nIF [A] = 3\n  THEN [B] = \"x\";\n",
+            PAIRS,
+        ),
     ];
     for (model, report) in cases {
         expect_on(&rt, &["m"], model, 0, report, "")?;
@@ -29,7 +32,11 @@ fn reads_every_kind_of_line(rt: HostRuntime) -> Result<(), Fail> {
 fn marks_may_be_set(rt: HostRuntime) -> Result<(), Fail> {
     let cases: [(&[&str], &str, &str); 3] = [
         (&["m", "/o:1", "/d:;"], "A: 1; 2,5\n", "A\n1\n2,5\n"),
-        (&["m", "/o:1", "/a:/"], "A: a/b, c\nB: 1, 2, 3\n", "A\tB\na\t1\nc\t2\nb\t3\n"),
+        (
+            &["m", "/o:1", "/a:/"],
+            "A: a/b, c\nB: 1, 2, 3\n",
+            "A\tB\na\t1\nc\t2\nb\t3\n",
+        ),
         (&["m", "/o:1", "/N:!"], "A: !a, ~b\n", "A\n~b\n!a\n"),
     ];
     for (words, model, report) in cases {

@@ -1,6 +1,6 @@
 //! Models at their limits and above.
 
-use crate::runs::{Given, expect, expect_on, on_model};
+use crate::runs::{expect, expect_on, on_model};
 use std::alloc::{AllocError, Global};
 use std::test::Fail;
 
@@ -82,19 +82,13 @@ fn a_model_file_has_at_most_4194304_bytes(rt: HostRuntime) -> Result<(), Fail> {
     while model.len() <= 4_194_304 {
         model.push_str("# a comment of a few more bytes than are needed, many times over\n")?;
     }
-    let files = [("m", model.as_bytes())];
     expect(
         &rt,
-        &on_model(&files),
+        &on_model(model.as_bytes()),
         9,
         "",
         "error: limit: model bytes above 4194304\n",
     )?;
     let short = model.get(..4_194_304).ok_or("the model is that long")?;
-    let fitting = [("m", short.as_bytes())];
-    let given = Given {
-        words: &["m"],
-        ..on_model(&fitting)
-    };
-    expect(&rt, &given, 0, "A\tB\n1\tx\n", "")
+    expect(&rt, &on_model(short.as_bytes()), 0, "A\tB\n1\tx\n", "")
 }

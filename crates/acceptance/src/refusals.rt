@@ -22,12 +22,18 @@ fn refuses_parameter_lines(rt: HostRuntime) -> Result<(), Fail> {
         // The weight comes before the names.
         (b"A: ~~a (0)\nB: x\n", "1: M9 weight out of range"),
         (b"A: 1\nB: |a (0)\n", "2: M9 weight out of range"),
-        (b"A: <Z>\nB: x\n", "1: M10 unknown parameter in angle brackets"),
+        (
+            b"A: <Z>\nB: x\n",
+            "1: M10 unknown parameter in angle brackets",
+        ),
         (b"A: 1, 2\n", "1: M18 order above the number of parameters"),
         // The earlier pass comes first.
         (b"A: ,\nB 1\n", "2: M3 no colon"),
         // The earlier line comes first.
-        (b"A: <Z>\n: x\n", "1: M10 unknown parameter in angle brackets"),
+        (
+            b"A: <Z>\n: x\n",
+            "1: M10 unknown parameter in angle brackets",
+        ),
     ];
     for (model, told) in cases {
         let mut line = String::from_str(rt.alloc(), "error: model line ")?;
@@ -77,7 +83,10 @@ fn refuses_constraints(rt: HostRuntime) -> Result<(), Fail> {
         ("[A\n", "3: C2 name not closed"),
         ("[B] = \"x\n", "3: C3 text not closed"),
         ("[A] = 1e3;\n", "3: C4 not a number"),
-        ("[A] = 99999999999999999999999999999;\n", "3: C5 number too wide"),
+        (
+            "[A] = 99999999999999999999999999999;\n",
+            "3: C5 number too wide",
+        ),
         ("[A] = 1;\nwhat\n", "4: C6 unknown word"),
         ("IsNegative (x): 1\n", "3: C6 unknown word"),
         ("IF [A] = 1 THEN\n", "3: C7 predicate expected"),

@@ -13,19 +13,22 @@ use value_text::NoMemory;
 pub struct Given<'a> {
     /// The words behind the program's name.
     pub words: &'a [&'a str],
-    /// The files, by name.
-    pub files: &'a [(&'a str, &'a [u8])],
+    /// The name of the one file.
+    pub name: &'a str,
+    /// Its bytes.
+    pub model: &'a [u8],
     /// The numbers of the calls of the folder that fail, from 1.
     pub fail: &'a [u64],
     /// How many bytes fit into standard output, and into standard error.
     pub room: (usize, usize),
 }
 
-/// A run of `m` over these files, with room enough.
-pub fn on_model<'a>(files: &'a [(&'a str, &'a [u8])]) -> Given<'a> {
+/// A run of `m` over this model file, with room enough.
+pub fn on_model(model: &[u8]) -> Given<'_> {
     Given {
         words: &["m"],
-        files,
+        name: "m",
+        model,
         fail: &[],
         room: (1 << 16, 1 << 10),
     }
@@ -49,9 +52,7 @@ fn owned(alloc: Global, words: &[&str]) -> Result<Vec<String>, AllocError> {
 
 fn folder(alloc: Global, given: &Given) -> Result<MemFolder, NoMemory> {
     let mut folder = MemFolder::new(alloc, listed(alloc, given.fail)?);
-    for (name, text) in given.files {
-        folder.add(name, text)?;
-    }
+    folder.add(given.name, given.model)?;
     Ok(folder)
 }
 
@@ -92,10 +93,9 @@ pub fn expect_on<R: AllocGlobal + Abort + Threads + Sync>(
     out: &str,
     diag: &str,
 ) -> Result<(), Fail> {
-    let files = [("m", model)];
     let given = Given {
         words,
-        ..on_model(&files)
+        ..on_model(model)
     };
     expect(rt, &given, status, out, diag)
 }
