@@ -1,9 +1,8 @@
 -- A column: its horizontal growth, then its vertical growth.
-use Rattle.std.proofs.Common.{◌≡◌, ℕ, ◌<◌, true, List, [], ◌++◌, length, get_or, filter, Option, Some, None, All, IsPermutation, ◌∙◌, sym, ap, subst}
+use Rattle.std.proofs.Common.{◌≡◌, ℕ, ◌<◌, true, List, [], length, get_or, filter, Option, Some, None, All, ◌∙◌, sym, ap, subst}
 use Rattle.std.proofs.lemmas.List.FromFn.{length-range_with_len}
 use Rattle.std.proofs.lemmas.List.Sorted.{length_permutation}
-use Rattle.cov_model.specs.Sound.{ModelView, param_at}
-use Rattle.cov_model.specs.declared.slice.Slice.{Slice}
+use Rattle.cov_model.specs.Sound.{param_at}
 use Rattle.definitions.specs.Growth.{Grown, down, is_uncovered, tuples_in_play}
 use Rattle.uncovered_table.specs.Open.{OpenView}
 use Rattle.ipog_grow.specs.Growing.{IsInPlay, Keeps, open_tuples}

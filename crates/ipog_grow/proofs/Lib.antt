@@ -16,3 +16,4 @@ pub mod Loading
 pub mod Downing
 pub mod Starting
 pub mod Halves
+pub mod Ranking

@@ -9,6 +9,7 @@ mod down;
 mod fill;
 mod join;
 mod load;
+mod order;
 mod partial;
 mod settle;
 mod start;

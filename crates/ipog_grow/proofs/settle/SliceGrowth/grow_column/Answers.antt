@@ -1,4 +1,4 @@
-use Rattle.std.proofs.Common.{◌≡◌, ◌∙◌, ◌<◌, ◌++◌, [], ℕ, Err, List, Option, All, OnOk, take, drop, get_or, length, filter, ap, sym, subst, arith}
+use Rattle.std.proofs.Common.{◌≡◌, ◌∙◌, ◌++◌, [], Err, All, OnOk, take, drop, get_or, length, ap, sym, subst, arith}
 use Rattle.std.proofs.lemmas.Result.{err_from_is_err_and}
 use Rattle.cov_model.specs.Sound.{ModelView}
 use Rattle.cov_model.specs.declared.slice.Slice.{Slice}
