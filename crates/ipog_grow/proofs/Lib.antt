@@ -17,3 +17,4 @@ pub mod Downing
 pub mod Starting
 pub mod Halves
 pub mod Ranking
+pub mod Taking

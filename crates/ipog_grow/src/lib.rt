@@ -5,6 +5,7 @@
 mod across;
 mod asker;
 mod column;
+mod columns;
 mod down;
 mod fill;
 mod join;

@@ -1,4 +1,4 @@
-ghost use Rattle.std.specs.Prelude.{◌≡◌, ◌≤◌, length, map, slice_index, IfOk, OnOk};
+ghost use Rattle.std.specs.Prelude.{◌≡◌, ◌≤◌, IsPermutation, length, map, slice_index, IfOk, OnOk};
 ghost use Rattle.std.specs.List.{range_with_len};
 ghost use Rattle.cov_model.specs.Preference.{by_falling_weight};
 ghost use Rattle.cov_model.specs.Valid.{param_numbers};
@@ -45,7 +45,8 @@ fn count_of(counts: &[u64], p: ParamNo) -> u64
 
 // Sorts by falling number of values.
 fn sort_by_count(counts: &[u64], order: &mut Vec<ParamNo>) -> Result<(), NoMemory>
-    ensures { OnOk result (order.new.items ≡ by_falling_weight (λ p. slice_index counts.now p) order.old.items) }
+    ensures sorted { OnOk result (order.new.items ≡ by_falling_weight (λ p. slice_index counts.now p) order.old.items) }
+    ensures each { IsPermutation order.old.items order.new.items }
 {
     let key = |p: &ParamNo| -> Reverse<u64>
         ensures { result ≡ record { 0 = slice_index counts.entry.now p.now } }
@@ -77,7 +78,8 @@ pub(crate) fn column_order(
 ) -> Result<Vec<ParamNo>, NoMemory>
     requires plan { plan.now ≡ plan_of model.now }
     requires slice { IsSliceOf model.now slice }
-    ensures { IfOk result (λ order. order.items ≡ column_order model.now slice) }
+    ensures value { IfOk result (λ order. order.items ≡ column_order model.now slice) }
+    ensures each { IfOk result (λ order. IsPermutation (param_numbers model.now) order.items) }
 {
     let counts = value_counts(alloc, plan, slice, model.params().len())?;
     let mut order = declared(alloc, model)?;
