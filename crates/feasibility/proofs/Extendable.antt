@@ -142,13 +142,13 @@ length-preferred_values : (m : ModelView) (pref : List (List ℕ)) (slice : Slic
 length-preferred_values m pref slice =
     length-map-range_with_len (λ p. filter (is_among (get_or (slice_values m slice) p [])) (get_or pref p [])) 0 (length m.params)
 
-get_or-preferred_values : (m : ModelView) (pref : List (List ℕ)) (slice : Slice) (p : ℕ) → p < length m.params
+pub get_or-preferred_values : (m : ModelView) (pref : List (List ℕ)) (slice : Slice) (p : ℕ) → p < length m.params
     → get_or (preferred_values m pref slice) p [] ≡ filter (is_among (get_or (slice_values m slice) p [])) (get_or pref p [])
 get_or-preferred_values m pref slice p within =
     get_or-map-range_with_len (λ q. filter (is_among (get_or (slice_values m slice) q [])) (get_or pref q [])) 0 (length m.params) p p [] within (zero-add p)
 
 -- a value that is listed in preference order is one of the slice
-preferred_listed : (m : ModelView) (pref : List (List ℕ)) (slice : Slice) (p v : ℕ) → is_among (get_or (preferred_values m pref slice) p []) v ≡ true
+pub preferred_listed : (m : ModelView) (pref : List (List ℕ)) (slice : Slice) (p v : ℕ) → is_among (get_or (preferred_values m pref slice) p []) v ≡ true
     → is_among (get_or (slice_values m slice) p []) v ≡ true
 preferred_listed m pref slice p v listed =
     elim (cases_lt p (length m.params)) [

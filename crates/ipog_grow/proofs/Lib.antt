@@ -16,3 +16,14 @@ pub mod Tuples
 pub mod Table
 pub mod Asking
 pub mod Trying
+pub mod Uniting
+pub mod Joining
+pub mod Filling
+pub mod Crossing
+pub mod Closing
+pub mod Loading
+pub mod Downing
+pub mod Starting
+pub mod Halves
+pub mod Ranking
+pub mod Taking

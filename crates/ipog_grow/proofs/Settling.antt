@@ -87,3 +87,35 @@ down-uncovered extends tuples rows = down-open extends (is_uncovered rows) tuple
     at : (b : Bool) → not b ≡ false → b ≡ true
     at true h = refl
     at false h = absurd (false≢true (sym h))
+
+-- a tuple that a row takes
+pub settle-taken : (extends : List (Option ℕ) → Bool) (tuple : List (Option ℕ)) (rows : List (List (Option ℕ))) → true ≡ (join extends tuple rows).taken
+    → settle extends tuple rows ≡ record { rows = (join extends tuple rows).rows; omitted = []; asked = (join extends tuple rows).asked }
+settle-taken extends tuple rows taken =
+    ap (λ (b : Bool). settled (extends tuple) tuple rows (record { rows = (join extends tuple rows).rows; taken = b; asked = (join extends tuple rows).asked })) (sym taken)
+
+-- and one that no row takes
+abbrev pub alone_by : Bool → List (Option ℕ) → List (List (Option ℕ)) → List (List (Option ℕ)) → Grown
+alone_by able tuple rows asked =
+    if able then record { rows = rows ++ tuple ∷ []; omitted = []; asked = asked ++ tuple ∷ [] } else record { rows = rows; omitted = tuple ∷ []; asked = asked ++ tuple ∷ [] }
+
+pub settle-alone : (extends : List (Option ℕ) → Bool) (tuple : List (Option ℕ)) (rows : List (List (Option ℕ))) → false ≡ (join extends tuple rows).taken
+    → settle extends tuple rows ≡ alone_by (extends tuple) tuple rows (join extends tuple rows).asked
+settle-alone extends tuple rows alone =
+    ap (λ (b : Bool). settled (extends tuple) tuple rows (record { rows = (join extends tuple rows).rows; taken = b; asked = (join extends tuple rows).asked })) (sym alone)
+
+pub settle-alone_asked : (extends : List (Option ℕ) → Bool) (tuple : List (Option ℕ)) (rows : List (List (Option ℕ))) → false ≡ (join extends tuple rows).taken
+    → (settle extends tuple rows).asked ≡ (join extends tuple rows).asked ++ tuple ∷ []
+settle-alone_asked extends tuple rows alone = ap (λ (g : Grown). g.asked) (settle-alone extends tuple rows alone) ∙ at (extends tuple)
+  where
+    at : (b : Bool) → (alone_by b tuple rows (join extends tuple rows).asked).asked ≡ (join extends tuple rows).asked ++ tuple ∷ []
+    at true = refl
+    at false = refl
+
+pub settle-alone_rows : (extends : List (Option ℕ) → Bool) (tuple : List (Option ℕ)) (rows : List (List (Option ℕ))) → false ≡ (join extends tuple rows).taken
+    → (settle extends tuple rows).rows ≡ (if extends tuple then rows ++ tuple ∷ [] else rows)
+settle-alone_rows extends tuple rows alone = ap (λ (g : Grown). g.rows) (settle-alone extends tuple rows alone) ∙ at (extends tuple)
+  where
+    at : (b : Bool) → (alone_by b tuple rows (join extends tuple rows).asked).rows ≡ (if b then rows ++ tuple ∷ [] else rows)
+    at true = refl
+    at false = refl

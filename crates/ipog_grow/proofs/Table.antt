@@ -32,7 +32,7 @@ gain-counts table cells p v =
     ∙ ap length (sym (filter-map (contains (with_value cells p v)) (tuple_at table.model) (open_places table p)))
 
 -- a row closes those that it contains
-open_places-row_closed : (table : OpenView) (p : ℕ) (cells : List (Option ℕ))
+pub open_places-row_closed : (table : OpenView) (p : ℕ) (cells : List (Option ℕ))
     → open_places (row_closed table p cells) p ≡ filter (λ place. not (contains cells (tuple_at table.model place))) (open_places table p)
 open_places-row_closed table p cells =
     filter-filter (is_in_play table.model table.slice p) (λ place. not (is_held table p cells place)) table.places

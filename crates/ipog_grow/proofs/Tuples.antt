@@ -19,7 +19,7 @@ use Rattle.definitions.specs.Growth.{union, tuples_in_play}
 use Rattle.definitions.specs.SliceRows.{IsSliceOf, IsOfSlice}
 use Rattle.feasibility.proofs.Extendable.{slice_exist, length-slice_values, among_range_below, slice_positive, slice_other, slice_fixed}
 use Rattle.uncovered_table.specs.Places.{ends_with_column}
-use Rattle.ipog_grow.specs.Growing.{HasFixed, GrowsIn}
+use Rattle.ipog_grow.specs.Growing.{HasFixed, GrowsIn, IsInPlay}
 use Rattle.ipog_grow.proofs.Falling.{among_first, among_later, filter-none}
 use Rattle.ipog_grow.proofs.Holding.{contains-assigned, union-contains_row, with_value-contains}
 
@@ -106,11 +106,6 @@ of_slice m slice cells is long listed = record {
   listed = listed;
 }
 
--- a tuple that is in play for a column grows in its slice, and has a value in the column
-pub record IsInPlay (m : ModelView) (slice : Slice) (p : ℕ) (tuple : List (Option ℕ)) : Type 0 where
-  pub grows : GrowsIn m slice tuple
-  pub own : is_assigned tuple p ≡ true
-
 last_test : (test : ℕ → Bool) (start : Option ℕ) (xs : List ℕ) (p : ℕ) → ((q : ℕ) → start ≡ Some q → test q ≡ true) → last_or start (filter test xs) ≡ Some p → test p ≡ true
 last_test test start [] p first e = first p e
 last_test test start (x ∷ xs) p first e = by_test (test x) refl (λ next is. last_test test next xs p is) e
@@ -191,7 +186,7 @@ grows-with_value m slice cells p v is grows free value = record {
               ∙ grows.of.listed q (ap (λ (cell : Option ℕ). is_some cell) (sym there) ∙ has)
         ]
 
-get_or-union : (row cells : List (Option ℕ)) (q : ℕ) → get_or (union row cells) q None ≡ cond (is_some (get_or row q None)) (get_or row q None) (get_or cells q None)
+pub get_or-union : (row cells : List (Option ℕ)) (q : ℕ) → get_or (union row cells) q None ≡ cond (is_some (get_or row q None)) (get_or row q None) (get_or cells q None)
 get_or-union [] cells q = refl
 get_or-union (None ∷ row) [] zero = refl
 get_or-union (Some v ∷ row) [] zero = refl
@@ -205,7 +200,7 @@ get_or-union (Some v ∷ row) (cell ∷ cells) zero = refl
 get_or-union (None ∷ row) (cell ∷ cells) (suc q) = get_or-union row cells q
 get_or-union (Some v ∷ row) (cell ∷ cells) (suc q) = get_or-union row cells q
 
-length-union : (row cells : List (Option ℕ)) → length row ≡ length cells → length (union row cells) ≡ length row
+pub length-union : (row cells : List (Option ℕ)) → length row ≡ length cells → length (union row cells) ≡ length row
 length-union [] cells long = sym long
 length-union (given ∷ row) [] long = refl
 length-union (None ∷ row) (cell ∷ cells) long = ap suc (length-union row cells (omega (arith, long)))

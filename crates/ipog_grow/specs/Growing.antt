@@ -1,12 +1,12 @@
 -- What the growth of a slice looks at on its way. (This project's rules.)
-use Rattle.std.specs.Prelude.{◌≡◌, ℕ, true, List, [], ◌∷◌, map, Option, Some, None, All, nat_lt, if◌then◌else◌}
+use Rattle.std.specs.Prelude.{◌≡◌, ◌≢◌, ◌⊎◌, ℕ, true, List, [], ◌∷◌, map, Option, Some, None, All, nat_lt, if◌then◌else◌}
 use Rattle.std.specs.List.{filter}
 use Rattle.cov_model.specs.declared.slice.Slice.{Slice}
 use Rattle.cov_model.specs.declared.slice.Slice.TheVariants.{Positive, Negative}
 use Rattle.cov_model.specs.Sound.{ModelView}
 use Rattle.cov_model.specs.Rows.{is_assigned}
 use Rattle.definitions.specs.SliceRows.{IsOfSlice}
-use Rattle.uncovered_table.specs.Open.{OpenView}
+use Rattle.uncovered_table.specs.Open.{OpenView, row_closed}
 use Rattle.uncovered_table.specs.Places.{is_behind, is_in_play, tuple_at}
 
 -- of two values, where there are both, the first unless the second has the greater score
@@ -41,3 +41,19 @@ open_tuples table p = map (tuple_at table.model) (open_places table p)
 abbrev pub Rises : List (ℕ × ℕ) → Type 0
 Rises [] = Unit {0}
 Rises (place ∷ places) = All (λ other. is_behind place other ≡ true) places × Rises places
+
+-- a tuple that is in play for a column grows in its slice, and has a value in the column
+pub record IsInPlay (m : ModelView) (slice : Slice) (p : ℕ) (tuple : List (Option ℕ)) : Type 0 where
+  pub grows : GrowsIn m slice tuple
+  pub own : is_assigned tuple p ≡ true
+
+-- a partial row that becomes another closes what it then contains, unless it stays as it is
+abbrev pub IsClosedBy : OpenView → OpenView → ℕ → List (Option ℕ) → List (Option ℕ) → Type 0
+IsClosedBy table after p row grown = ((grown ≡ row) × (after ≡ table)) ⊎ (after ≡ row_closed table p grown)
+
+-- a table that keeps what it has of other columns, and its order
+pub record Keeps (table after : OpenView) (p : ℕ) : Type 0 where
+  pub model : after.model ≡ table.model
+  pub slice : after.slice ≡ table.slice
+  pub others : (q : ℕ) → q ≢ p → open_places after q ≡ open_places table q
+  pub rises : Rises table.places → Rises after.places

@@ -2,13 +2,24 @@
 //! that covers most, then the tuples that are left are put into rows.
 #![tactic(auto)]
 
+mod across;
 mod asker;
+mod column;
+mod columns;
 mod completing;
 mod distinct;
+mod down;
+mod fill;
 mod finish;
+mod join;
+mod load;
+mod order;
+mod partial;
 mod question;
 mod seeds;
+mod settle;
 mod slices;
+mod start;
 mod stop;
 mod suite;
 mod values;

@@ -1,4 +1,4 @@
-ghost use Rattle.std.specs.Prelude.{◌≡◌, ◌<◌, ◌≤◌, ℕ, true, false, Some, None, All, [], length, map, slice_index, slice_index_or, slice_set, if◌then◌else◌, nat_lt, IfSome, OnOk};
+ghost use Rattle.std.specs.Prelude.{◌≡◌, ◌<◌, ◌≤◌, ℕ, true, false, Some, None, All, [], length, map, slice_index, slice_index_or, slice_set, if◌then◌else◌, nat_lt, IfOk, IfSome, OnOk};
 ghost use Rattle.cov_model.specs.Rows.{contains, is_assigned};
 ghost use Rattle.cov_model.specs.Slices.{slice_values};
 ghost use Rattle.cov_model.specs.Sound.{param_at};
@@ -41,14 +41,14 @@ fn best_value(order: &[ValueNo], scores: &[u32]) -> Option<ValueNo>
 }
 
 // Gives a row, which has no value in the column, the first value by falling score that leaves it
-// extendable, if there is one. The scores are lost.
-fn try_values(
+// extendable, if there is one, and tells whether it did. The scores are lost.
+pub(crate) fn try_values(
     asker: &mut Asker,
     order: &[ValueNo],
     scores: &mut [u32],
     column: ParamNo,
     row: &mut Cells,
-) -> Result<(), Stop>
+) -> Result<bool, Stop>
     requires column { column < length asker.old.world.model.params }
     requires order { order.now ≡ slice_index_or asker.old.world.prefs column [] }
     requires scores { length scores.old ≡ length (param_at asker.old.world.model.params column).values }
@@ -57,6 +57,7 @@ fn try_values(
     requires free { is_assigned row.old column ≡ false }
     ensures asked { (n : ℕ) → All (λ score. score ≤ n) scores.old → Told result asker.new.question (first_spent asker.old.world (tried asker.old.world n scores.old order.now column row.old).asked) }
     ensures row { OnOk result ((n : ℕ) → All (λ score. score ≤ n) scores.old → row.new ≡ (tried asker.old.world n scores.old order.now column row.old).row) }
+    ensures kept { IfOk result (λ given. given ≡ false → row.new ≡ row.old) }
     ensures grows { OnOk result (Grows asker.old.world row.new) }
     ensures more { OnOk result (contains row.new row.old ≡ true) }
     ensures same { asker.new.world ≡ asker.old.world }
@@ -66,10 +67,10 @@ fn try_values(
     while let Some(v) = best_value(order, scores) {
         row.set_cell(column, v);
         if asker.ask(row)? {
-            return Ok(());
+            return Ok(true);
         }
         row.clear_cell(column);
         scores[v as usize] = 0;
     }
-    Ok(())
+    Ok(false)
 }

@@ -11,4 +11,5 @@ pub mod RowLemmas
 pub mod BaseLemmas
 pub mod OrderLemmas
 pub mod PlanLemmas
+pub mod SliceLemmas
 pub mod SampleSound

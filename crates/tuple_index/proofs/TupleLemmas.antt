@@ -67,7 +67,7 @@ flat_map_members f (suc n) p e (q ∷ set) end rises empty =
     ]
 
 -- the tuples in the positive slice
-positive_lists : (m : ModelView) (set : List ℕ) → RisesFrom 0 (length m.params) set
+pub positive_lists : (m : ModelView) (set : List ℕ) → RisesFrom 0 (length m.params) set
     → tuples_in m set Positive ≡ map (tuple_cells m set) (value_lists (values_in (plan_of m) Positive) set)
 positive_lists m set rises =
     let long : length (map (positive_values m) (param_numbers m)) ≡ length m.params = length-map-range_with_len (positive_values m) 0 (length m.params) in
@@ -75,8 +75,18 @@ positive_lists m set rises =
     (sym (zero-add _ ∙ long)) rises (λ i within. ap (values_in (plan_of m) Positive) (sym (zero-add i))) in
     choices ∙ ap (λ n. map (spread set 0 n) (value_lists (values_in (plan_of m) Positive) set)) long
 
+-- the values of a parameter in a negative slice
+pub own_values : (lists : List (List ℕ)) (q v i : ℕ) → q < length lists → get_or (slice_set lists q (v ∷ [])) i [] ≡ (if i == q then v ∷ [] else get_or lists i [])
+own_values lists q v i within =
+    elim (cases_eq i q) [
+      | inl here ↦ let test : (i == q) ≡ true = grind (arith, nat_tests) in
+          rw test (ap (λ k. get_or (slice_set lists q (v ∷ [])) k []) here ∙ get_or-set_same lists q (v ∷ []) [] within)
+      | inr apart ↦ let test : (i == q) ≡ false = grind (arith, nat_tests) in
+          rw test (get_or-set_other lists q i (v ∷ []) [] apart)
+    ]
+
 -- the tuples with a negative value of a member
-negative_lists_in : (m : ModelView) (set : List ℕ) (q v : ℕ) → RisesFrom 0 (length m.params) set → is_among set q ≡ true
+pub negative_lists_in : (m : ModelView) (set : List ℕ) (q v : ℕ) → RisesFrom 0 (length m.params) set → is_among set q ≡ true
     → tuples_in m set (Negative q v) ≡ map (tuple_cells m set) (value_lists (values_in (plan_of m) (Negative q v)) set)
 negative_lists_in m set q v rises among =
     let positives : List (List ℕ) = map (positive_values m) (param_numbers m) in
@@ -86,15 +96,6 @@ negative_lists_in m set q v rises among =
     let choices = value_choices_lists set 0 (length m.params) (slice_values m (Negative q v)) (values_in (plan_of m) (Negative q v))
     (sym (zero-add _ ∙ long)) rises (λ i below. own_values positives q v i within ∙ ap (values_in (plan_of m) (Negative q v)) (sym (zero-add i))) in
     rw among (choices ∙ ap (λ n. map (spread set 0 n) (value_lists (values_in (plan_of m) (Negative q v)) set)) long)
-  where
-    own_values : (lists : List (List ℕ)) (q v i : ℕ) → q < length lists → get_or (slice_set lists q (v ∷ [])) i [] ≡ (if i == q then v ∷ [] else get_or lists i [])
-    own_values lists q v i within =
-        elim (cases_eq i q) [
-          | inl here ↦ let test : (i == q) ≡ true = grind (arith, nat_tests) in
-              rw test (ap (λ k. get_or (slice_set lists q (v ∷ [])) k []) here ∙ get_or-set_same lists q (v ∷ []) [] within)
-          | inr apart ↦ let test : (i == q) ≡ false = grind (arith, nat_tests) in
-              rw test (get_or-set_other lists q i (v ∷ []) [] apart)
-        ]
 
 -- a parameter that is no member gives no tuple with a negative value
 none_of : (m : ModelView) (set : List ℕ) (q : ℕ) (vs : List ℕ) → is_among set q ≡ false → flat_map (tuples_in m set) (map (λ v. Negative q v) vs) ≡ []

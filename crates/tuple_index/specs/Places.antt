@@ -1,9 +1,10 @@
 -- The demanded tuples of a set as values of its members, and where each stands. (This project's rule on
 -- the order of tuples; places are numbers in mixed radix.)
-use Rattle.std.specs.Prelude.{ℕ, ◌+◌, ◌*◌, ◌<◌, ◌≤◌, List, [], ◌∷◌, ◌++◌, map, length, sum_by, ◌==◌, slice_index_or, if◌then◌else◌}
+use Rattle.std.specs.Prelude.{◌≡◌, ℕ, Bool, true, ◌+◌, ◌*◌, ◌<◌, ◌≤◌, List, [], ◌∷◌, ◌++◌, map, length, sum_by, ◌==◌, slice_index_or, if◌then◌else◌}
 use Rattle.std.specs.List.{flat_map}
 use Rattle.cov_model.specs.declared.slice.Slice.{Slice}
 use Rattle.cov_model.specs.declared.slice.Slice.TheVariants.{Positive, Negative}
+use Rattle.definitions.specs.Demand.{is_among}
 use Rattle.tuple_index.specs.Plan.{PlanView, is_negative}
 
 -- the numbers rise, and are from p on and below e
@@ -77,6 +78,20 @@ slice_given plan (p ∷ set) (v ∷ chosen) = if is_negative plan p v then Negat
 abbrev pub IsSliceOf : PlanView → Slice → Type 0
 IsSliceOf plan Positive = Unit {0}
 IsSliceOf plan (Negative q v) = q < length plan.positives
+
+-- so does its value, which is a negative one
+abbrev pub IsOwnSlice : PlanView → Slice → Type 0
+IsOwnSlice plan Positive = Unit {0}
+IsOwnSlice plan (Negative q v) = (q < length plan.positives) × (is_negative plan q v ≡ true)
+
+-- a set has tuples in a negative slice only if the slice's parameter is a member
+abbrev pub has_part : List ℕ → Slice → Bool
+has_part set Positive = true
+has_part set (Negative q v) = is_among set q
+
+-- how many tuples a set has in a slice
+abbrev pub ways_in : PlanView → List ℕ → Slice → ℕ
+ways_in plan set slice = if has_part set slice then ways (values_in plan slice) set else 0
 
 -- the rank of values
 abbrev pub rank_of : PlanView → List ℕ → List ℕ → ℕ

@@ -1,8 +1,8 @@
-ghost use Rattle.std.specs.Prelude.{◌≡◌, ◌^◌, ◌<◌, ◌≤◌, ℕ, List, [], All, Some, None, IfErr, IfOk, OnOk, length, map, take, sum, sum_by, slice_get, slice_index_or};
+ghost use Rattle.std.specs.Prelude.{◌≡◌, ◌+◌, true, ◌^◌, ◌<◌, ◌≤◌, ℕ, List, [], All, Some, None, IfErr, IfOk, OnOk, length, map, take, sum, sum_by, slice_get, slice_index_or};
 ghost use Rattle.cov_model.specs.Sound.{ModelView};
-ghost use Rattle.definitions.specs.Demand.{tuples_of};
+ghost use Rattle.definitions.specs.Demand.{is_among, tuples_of};
 ghost use Rattle.tuple_index.specs.Kept.{IsKept, of_values, with_sets};
-ghost use Rattle.tuple_index.specs.Places.{RisesFrom, negative_lists, negative_ways, IsSliceOf, negatives_of, place, place_of, rank_of, slice_given, start_of, tuple_count, tuple_lists, value_lists, values_in, ways, ways_before};
+ghost use Rattle.tuple_index.specs.Places.{RisesFrom, IsOwnSlice, has_part, ways_in, negative_lists, negative_ways, IsSliceOf, negatives_of, place, place_of, rank_of, slice_given, start_of, tuple_count, tuple_lists, value_lists, values_in, ways, ways_before};
 ghost use Rattle.tuple_index.specs.Plan.{IsChoice, is_negative, plan_of, set_at, tuple_cells};
 ghost use Rattle.tuple_index.specs.PlanFault.{IsFaultOf, limit_passed, told};
 
@@ -135,7 +135,8 @@ impl Plan {
 
     /// The number of demanded sets. Takes no memory.
     pub fn set_count(&self) -> u32
-        ensures { result ≡ length self.now.sets }
+        ensures value { result ≡ length self.now.sets }
+        ensures kept { IsKept self.now }
     {
         self.members_of.len() as u32
     }
@@ -186,6 +187,32 @@ impl Plan {
         let members = self.kept_members(set);
         let (slice, rest) = self.slice_holding(members, rank as u64);
         self.put_values(members, slice, rest, into);
+    }
+
+    /// The ranks of the demanded tuples of a set in a slice: the first one, and how many there are.
+    /// They stand one after another. Takes no memory.
+    pub fn slice_ranks(&self, set: u32, slice: Slice) -> (u32, u32)
+        requires set { set < length self.now.sets }
+        requires own { IsOwnSlice self.now slice }
+        ensures count { result.1 ≡ ways_in self.now (set_at self.now set) slice }
+        ensures start { has_part (set_at self.now set) slice ≡ true → result.0 ≡ start_of self.now (set_at self.now set) slice }
+        ensures within { result.0 + result.1 ≤ slice_index_or self.now.sizes set 0 }
+    {
+        let members = self.kept_members(set);
+        if !is_part(members, slice) {
+            return (0, 0);
+        }
+        let start = self.start(members, slice);
+        let count = self.ways(members, slice);
+        (start as u32, count as u32)
+    }
+
+    /// How many values a parameter has in a slice. Takes no memory.
+    pub fn value_count(&self, p: ParamNo, slice: Slice) -> u64
+        requires { p < length self.now.positives }
+        ensures { result ≡ length (values_in self.now slice p) }
+    {
+        self.radix(p, slice)
     }
 
     // What is kept of the parts.
@@ -428,6 +455,23 @@ impl Plan {
             rest %= each;
         }
     }
+}
+
+// Whether a set has tuples in a slice.
+fn is_part(members: &[ParamNo], slice: Slice) -> bool
+    ensures { result ≡ has_part members.now slice }
+{
+    match slice {
+        Slice::Positive => true,
+        Slice::Negative(q, _) => is_member(members, q),
+    }
+}
+
+// Whether a parameter is one of a set.
+fn is_member(members: &[ParamNo], q: ParamNo) -> bool
+    ensures { result ≡ is_among members.now q }
+{
+    members.iter().any(|p| *p == q)
 }
 
 // The place of a value in a list, or the list's length.

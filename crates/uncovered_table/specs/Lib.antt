@@ -1,2 +1,5 @@
 pub mod Open
 pub mod Places
+pub mod Kept
+pub mod Lasts
+pub mod Held

@@ -21,7 +21,7 @@ returns-in_err-ask-clause-asked c n all =
     c.keeps.ensures c.requires.column c.requires.order c.requires.listed c.requires.grows c.requires.free c.loop-v.invariant.trying
     (sym c.best_value.ensures.best ∙ c.in-Some.is) c.in-Some.ensures.within c.loop-v.invariant.row c.set_cell.ensures in
     let p = err_from_is_err_and c.from_residual.result c.from_residual.ensures.1 in
-    rw (p.1, p.2) (told-err Bool (Unit {0}) c.in_err-ask.field-0.0 c.ask.new.self.question (first_spent c.args.asker.now.world (with_value c.args.row.now c.args.column c.in-Some.v ∷ []))
+    rw (p.1, p.2) (told-err Bool Bool c.in_err-ask.field-0.0 c.ask.new.self.question (first_spent c.args.asker.now.world (with_value c.args.row.now c.args.column c.in-Some.v ∷ []))
     (first_spent c.args.asker.now.world (tried c.args.asker.now.world n c.args.scores.now c.args.order.now c.args.column c.args.row.now).asked)
     (λ over. trying-spent c.args.asker.now.world c.args.order.now c.args.column c.in-Some.v c.args.row.now c.ask.new.self.question c.args.scores.now c.loop-v.scores put.next over n all)
     (subst (λ (w : World). Told {A = Bool} (Err c.in_err-ask.field-0.0) c.ask.new.self.question (first_spent w (with_value c.args.row.now c.args.column c.in-Some.v ∷ []))) c.loop-v.invariant.world

@@ -1,0 +1,57 @@
+use Rattle.std.proofs.Common.{◌≡◌, ◌∙◌, ◌<◌, ℕ, Err, List, Option, [], length, get_or, sym, subst, All, arith}
+use Rattle.std.proofs.lemmas.Result.{err_from_is_err_and}
+use Rattle.std.proofs.lemmas.List.{get_or_default}
+use Rattle.cov_model.specs.Sound.{param_at}
+use Rattle.ipog_grow.specs.Growing.{IsInPlay, open_tuples}
+use Rattle.ipog_grow.specs.Asking.{World, Grows, IsTableOf, Told, first_spent, filled, crossed}
+use Rattle.ipog_grow.proofs.Asking.{told-err}
+use Rattle.ipog_grow.proofs.Crossing.{Step, crossing-more, crossing-spent}
+use Rattle.ipog_grow.proofs.across.grow_across.Goals as goal
+
+pub fill_cell-requires : goal.fill_cell-requires
+fill_cell-requires c =
+    let within : c.loop-i.i < length c.loop-i.rows = omega (arith, c.loop-i.invariant.crossing.long) in
+    let moved = sym c.loop-i.invariant.world in
+    record {
+      table = subst (λ (w : World). IsTableOf w c.loop-i.table) moved (c.loop-i.invariant.crossing.keeps.model ∙ c.requires.table.0, c.loop-i.invariant.crossing.keeps.slice ∙ c.requires.table.1);
+      column = subst (λ (w : World). c.args.column < length w.model.params) moved c.requires.column;
+      order = subst (λ (w : World). c.args.order.now ≡ get_or w.prefs c.args.column []) moved c.requires.order;
+      scores = subst (λ (w : World). length c.loop-i.scores ≡ length (param_at w.model.params c.args.column).values) moved (c.loop-i.invariant.scores ∙ c.requires.scores);
+      in_play = subst (λ (w : World). All (IsInPlay w.model w.slice c.args.column) (open_tuples c.loop-i.table c.args.column)) moved c.loop-i.invariant.crossing.in_play;
+      grows = subst (λ (w : World). Grows w (get_or c.loop-i.rows c.loop-i.i c.index-rows-i.result)) moved (c.loop-i.invariant.crossing.grows c.loop-i.i c.index-rows-i.result within);
+    }
+
+pub returns-in_err-fill_cell-clause-asked : goal.returns-in_err-fill_cell-clause-asked
+returns-in_err-fill_cell-clause-asked c tuples moment =
+    let within : c.loop-i.i < length c.loop-i.rows = omega (arith, c.loop-i.invariant.crossing.long) in
+    let read : get_or c.loop-i.rows c.loop-i.i c.index-rows-i.result ≡ get_or c.loop-i.rows c.loop-i.i [] = get_or_default c.loop-i.rows c.loop-i.i c.index-rows-i.result [] within in
+    let p = err_from_is_err_and c.from_residual.result c.from_residual.ensures.1 in
+    rw (p.1, p.2) (told-err (Unit {0}) (Unit {0}) c.in_err-fill_cell.field-0.0 c.fill_cell.new.asker.question
+    (first_spent c.args.asker.now.world (filled c.args.asker.now.world c.args.column c.loop-i.rows tuples (get_or c.loop-i.rows c.loop-i.i [])).asked)
+    (first_spent c.args.asker.now.world (crossed c.args.asker.now.world c.args.column tuples [] c.args.rows.now).asked)
+    (λ over. crossing-spent c.args.asker.now.world c.args.column c.args.table.now c.loop-i.table c.args.rows.now c.loop-i.rows c.loop-i.i c.fill_cell.new.asker.question tuples within c.loop-i.invariant.crossing moment over)
+    (subst (λ (w : World). Told {A = Unit {0}} (Err c.in_err-fill_cell.field-0.0) c.fill_cell.new.asker.question (first_spent w (filled w c.args.column c.loop-i.rows tuples (get_or c.loop-i.rows c.loop-i.i [])).asked)) c.loop-i.invariant.world
+    (subst (λ (row : List (Option ℕ)). Told {A = Unit {0}} (Err c.in_err-fill_cell.field-0.0) c.fill_cell.new.asker.question (first_spent c.loop-i.asker.world (filled c.loop-i.asker.world c.args.column c.loop-i.rows tuples row).asked)) read
+    (c.in_err-fill_cell.ensures.asked c.loop-i.rows tuples (c.loop-i.invariant.crossing.moment tuples moment)))))
+
+pub loop-i-preserved : goal.loop-i-preserved
+loop-i-preserved c =
+    let within : c.loop-i.i < length c.loop-i.rows = omega (arith, c.loop-i.invariant.crossing.long) in
+    let read : get_or c.loop-i.rows c.loop-i.i c.index-rows-i.result ≡ get_or c.loop-i.rows c.loop-i.i [] = get_or_default c.loop-i.rows c.loop-i.i c.index-rows-i.result [] within in
+    let told : Step c.loop-i.asker.world c.args.column c.loop-i.table c.fill_cell.new.table (get_or c.loop-i.rows c.loop-i.i c.index-rows-i.result) c.fill_cell.new.row =
+    record {
+      asked = c.in_ok-fill_cell.ensures.asked;
+      given = c.in_ok-fill_cell.ensures.row;
+      closes = c.in_ok-fill_cell.ensures.closes;
+      grows = c.in_ok-fill_cell.ensures.grows;
+      more = c.in_ok-fill_cell.ensures.more;
+    } in
+    record {
+      world = c.fill_cell.ensures.same ∙ c.loop-i.invariant.world;
+      scores = c.fill_cell.ensures.long ∙ c.loop-i.invariant.scores;
+      crossing =
+          crossing-more c.args.asker.now.world c.args.column c.args.table.now c.loop-i.table c.fill_cell.new.table c.args.rows.now c.loop-i.rows c.loop-i.i c.fill_cell.new.row within
+          c.loop-i.invariant.crossing
+          (subst (λ (row : List (Option ℕ)). Step c.args.asker.now.world c.args.column c.loop-i.table c.fill_cell.new.table row c.fill_cell.new.row) read
+          (subst (λ (w : World). Step w c.args.column c.loop-i.table c.fill_cell.new.table (get_or c.loop-i.rows c.loop-i.i c.index-rows-i.result) c.fill_cell.new.row) c.loop-i.invariant.world told));
+    }

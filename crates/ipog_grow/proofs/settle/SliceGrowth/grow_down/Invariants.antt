@@ -1,0 +1,18 @@
+use Rattle.std.proofs.Common.{◌≡◌, length, IfSome}
+use Rattle.uncovered_table.specs.Open.{IsPlaceOf}
+use Rattle.ipog_grow.specs.Growing.{open_tuples}
+use Rattle.ipog_grow.proofs.Downing.{Downing}
+use Rattle.ipog_grow.proofs.settle.SliceGrowth.grow_down.Given as goal
+
+-- the open tuples that are left decide
+abbrev pub invariant-loop-place : goal.invariant-loop-place
+invariant-loop-place l = record {
+  world : l.self.asker.world ≡ l.fn.self.asker.world;
+  tuple : length l.self.tuple ≡ length l.fn.self.tuple;
+  room : length l.self.room ≡ length l.fn.self.room;
+  from : IfSome l.from (IsPlaceOf l.self.table);
+  downing : Downing l.fn.self.asker.world l.column l.fn.self.table l.self.table l.fn.self.rows.items l.self.rows.items l.fn.self.omitted l.self.omitted l.from;
+}
+
+abbrev pub decreases-loop-place : goal.decreases-loop-place
+decreases-loop-place l = length (open_tuples l.self.table l.column)
