@@ -1,3 +1,5 @@
+pub mod Omitting
+pub mod Beginning
 pub mod Slicing
 pub mod OfSlice
 pub mod Sorting

@@ -1,10 +1,11 @@
 -- Slices one after another, and the suite that they make.
-use Rattle.std.proofs.Common.{◌≡◌, ℕ, suc, Bool, true, false, ◌&&◌, ◌||◌, nat_le, nat_lt, List, [], ◌∷◌, ◌++◌, length, flat_map, find, Option, Some, None, ◌∙◌, sym, ap, subst, refl, arith}
-use Rattle.std.specs.Prelude.{◌==◌}
+use Rattle.std.proofs.Common.{◌≡◌, ℕ, suc, Bool, true, false, cond, ◌&&◌, ◌||◌, nat_le, nat_lt, List, [], ◌∷◌, ◌++◌, length, filter, flat_map, find, All, Option, Some, None, ◌∙◌, sym, ap, subst, refl, arith}
+use Rattle.std.specs.Prelude.{◌==◌, Err}
 use Rattle.std.proofs.lemmas.Bool.{false≢true, and_parts}
 use Rattle.std.proofs.lemmas.Bool.Decides.{nat_tests, Decides-eqb}
 use Rattle.std.proofs.lemmas.List.{append-nil}
 use Rattle.std.proofs.lemmas.Grind.{flat_map-append}
+use Rattle.std.proofs.lemmas.List.Elements.{All-nil, All-cons, All-head, All-tail}
 use Rattle.cov_model.specs.declared.slice.Slice.{Slice}
 use Rattle.cov_model.specs.declared.slice.Slice.TheVariants.{Positive, Negative}
 use Rattle.cov_model.specs.Sound.{ModelView}
@@ -17,6 +18,10 @@ use Rattle.definitions.specs.Demand.{is_among}
 use Rattle.definitions.specs.Growth.{is_of_slice, slice_growth, slices_growth}
 use Rattle.definitions.specs.Search.{first_over, question_cost}
 use Rattle.definitions.proofs.Grown.{rows_of_slice, omitted_in_slice, rows_by_slice, omitted_by_slice}
+use Rattle.ipog_grow.specs.declared.stop.Stop.{Stop}
+use Rattle.ipog_grow.specs.declared.stop.Stop.TheVariants as stops
+use Rattle.ipog_grow.specs.Asking.{Told}
+use Rattle.ipog_grow.specs.Suites.{IsStopped}
 use Rattle.ipog_grow.specs.Growing.{GrowsIn}
 use Rattle.ipog_grow.proofs.Seeding.{slice_of-grows}
 use Rattle.ipog_grow.proofs.Spending.{find-later, find-earlier}
@@ -96,3 +101,23 @@ module _ (m : ModelView) (pref : List (List ℕ)) (budget : ℕ) (seeds : List (
       ap (find over) (asked_by_slice (parts ++ slice ∷ rest) ∙ flat_map-append asked_in_slice parts (slice ∷ rest))
       ∙ find-later over (flat_map asked_in_slice parts) (flat_map asked_in_slice (slice ∷ rest)) (ap (find over) (sym (asked_by_slice parts)) ∙ grown.unspent)
       ∙ find-earlier over (asked_in_slice slice) (flat_map asked_in_slice rest) q spent
+
+-- the seeds of a slice grow there
+pub seeds_grow : (m : ModelView) (slice : Slice) (rows : List (List (Option ℕ))) → All (FitsModel m) rows → All (λ row. has_slice m row ≡ true) rows
+    → All (GrowsIn m slice) (filter (is_of_slice m slice) rows)
+seeds_grow m slice [] fit few = All-nil (GrowsIn m slice)
+seeds_grow m slice (row ∷ rows) fit few =
+    at (is_of_slice m slice row) refl (seeds_grow m slice rows (All-tail (FitsModel m) row rows fit) (All-tail (λ r. has_slice m r ≡ true) row rows few))
+  where
+    at : (b : Bool) → is_of_slice m slice row ≡ b → All (GrowsIn m slice) (filter (is_of_slice m slice) rows)
+        → All (GrowsIn m slice) (cond b (row ∷ filter (is_of_slice m slice) rows) (filter (is_of_slice m slice) rows))
+    at true is later =
+        All-cons (GrowsIn m slice) row (filter (is_of_slice m slice) rows)
+        (of_slice-grows m slice row (All-head (FitsModel m) row rows fit) (All-head (λ r. has_slice m r ≡ true) row rows few) is) later
+    at false is later = later
+
+-- a run that stopped in a part stopped there in the whole
+pub stopped-in : (A : Type 0) (stop : Stop) (question : List (Option ℕ)) (part whole : Option (List (Option ℕ))) → (part ≡ Some question → whole ≡ Some question)
+    → Told {A = A} (Err stop) question part → IsStopped stop question whole
+stopped-in A stops.Spent question part whole more told = more told
+stopped-in A stops.NoMemory question part whole more told = tt
