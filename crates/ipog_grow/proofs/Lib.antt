@@ -1,3 +1,4 @@
+pub mod Omitting
 pub mod Beginning
 pub mod Slicing
 pub mod OfSlice
@@ -26,3 +27,5 @@ pub mod Loading
 pub mod Downing
 pub mod Starting
 pub mod Halves
+pub mod Ranking
+pub mod Taking

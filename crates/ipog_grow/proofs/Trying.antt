@@ -1,5 +1,5 @@
 -- Values tried in a column, the best one first.
-use Rattle.std.proofs.Common.{◌≡◌, ℕ, suc, ◌<◌, ◌≤◌, Bool, true, false, cond, List, [], ◌∷◌, map, length, find, Option, Some, None, get_or, set, nat_eq, nat_lt, All, sum, ◌∙◌, sym, ap, subst, refl, arith, inl, inr}
+use Rattle.std.proofs.Common.{◌≡◌, ℕ, suc, ◌<◌, ◌≤◌, Bool, true, false, cond, List, [], ◌∷◌, map, length, find, Option, Some, None, get_or, set, nat_eq, nat_lt, All, IsPermutation, sum, ◌∙◌, sym, ap, subst, refl, arith, inl, inr}
 use Rattle.std.specs.List.{range_with_len, IsDistinct}
 use Rattle.std.proofs.lemmas.Bool.{cases_eq}
 use Rattle.std.proofs.lemmas.Bool.Decides.{nat_tests}
@@ -11,7 +11,6 @@ use Rattle.std.proofs.lemmas.Map.Keys.{IsDistinct-IsPermutation, IsDistinct-tail
 use Rattle.cov_model.specs.Sound.{param_at}
 use Rattle.cov_model.specs.Rows.{contains, is_assigned}
 use Rattle.cov_model.specs.Slices.{slice_values}
-use Rattle.cov_model.specs.Preference.{declared_order}
 use Rattle.definitions.specs.Demand.{is_among}
 use Rattle.definitions.specs.Completion.{with_value}
 use Rattle.definitions.specs.Search.{question_cost}
@@ -23,7 +22,7 @@ use Rattle.ipog_grow.proofs.Holding.{with_value-contains}
 use Rattle.ipog_grow.proofs.Tuples.{grows-with_value}
 use Rattle.ipog_grow.proofs.Falling.{Distinct, IsBest, without, best_is, best_none, falling-best, falling-none, falling-same}
 
--- the preference order of a column lists no value twice
+-- a list with the numbers of another order lists none twice, so the preference order of a column does so
 distinct-from : (values : List ℕ) → IsDistinct nat_eq values → Distinct values
 distinct-from [] is = tt
 distinct-from (v ∷ values) is = (
@@ -31,21 +30,22 @@ distinct-from (v ∷ values) is = (
   distinct-from values (IsDistinct-tail nat_eq v values is),
 )
 
-pub distinct-order : (world : World) (p : ℕ) → IsWorld world → p < length world.model.params → Distinct (get_or world.prefs p [])
-distinct-order world p is within =
-    distinct-from (get_or world.prefs p [])
-    (IsDistinct-IsPermutation nat_eq flips (declared_order (param_at world.model.params p).values) (get_or world.prefs p []) (is.orders.each p within)
-    (IsDistinct-from_apart nat_eq (declared_order (param_at world.model.params p).values) (λ i j d before below. apart (length (param_at world.model.params p).values) i j d before below)))
+pub distinct-permuted : (n : ℕ) (values : List ℕ) → IsPermutation (range_with_len 0 n) values → Distinct values
+distinct-permuted n values moved =
+    distinct-from values (IsDistinct-IsPermutation nat_eq flips (range_with_len 0 n) values moved (IsDistinct-from_apart nat_eq (range_with_len 0 n) apart))
   where
     flips : (x y : ℕ) → nat_eq x y ≡ nat_eq y x
     flips x y = grind (arith, nat_tests)
 
-    apart : (n i j d : ℕ) → i < j → j < length (range_with_len 0 n) → nat_eq (get_or (range_with_len 0 n) i d) (get_or (range_with_len 0 n) j d) ≡ false
-    apart n i j d before below =
+    apart : (i j d : ℕ) → i < j → j < length (range_with_len 0 n) → nat_eq (get_or (range_with_len 0 n) i d) (get_or (range_with_len 0 n) j d) ≡ false
+    apart i j d before below =
         let inside : j < n = omega (arith, length-range_with_len 0 n) in
         let first = get_or-range_with_len 0 n i d (omega arith) in
         let second = get_or-range_with_len 0 n j d inside in
         grind (arith, nat_tests)
+
+pub distinct-order : (world : World) (p : ℕ) → IsWorld world → p < length world.model.params → Distinct (get_or world.prefs p [])
+distinct-order world p is within = distinct-permuted (length (param_at world.model.params p).values) (get_or world.prefs p []) (is.orders.each p within)
 
 -- the first of the questions that passes a test, after one that doesn't, and from one that does
 pub find-after : (over : List (Option ℕ) → Bool) (cells : List (Option ℕ)) (rest : List (List (Option ℕ))) → find over (cells ∷ []) ≡ None → find over (cells ∷ rest) ≡ find over rest

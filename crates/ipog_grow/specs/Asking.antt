@@ -5,12 +5,12 @@ use Rattle.cov_model.specs.declared.slice.Slice.{Slice}
 use Rattle.cov_model.specs.Sound.{ModelView, IsSound}
 use Rattle.cov_model.specs.Preference.{OrdersValues}
 use Rattle.definitions.specs.Completion.{is_extendable, preferred_values, falling, with_value}
-use Rattle.definitions.specs.Growth.{Filled, Grown, across, agrees, column, fill, union, first_extendable, is_uncovered, tuples_in_play}
+use Rattle.definitions.specs.Growth.{Filled, Grown, across, agrees, column, columns, fill, union, first_extendable, is_uncovered, tuples_in_play}
 use Rattle.definitions.specs.Search.{first_over}
 use Rattle.definitions.specs.SliceRows.{IsSliceOf}
 use Rattle.ipog_grow.specs.declared.stop.Stop.{Stop}
 use Rattle.ipog_grow.specs.declared.stop.Stop.TheVariants.{Spent, NoMemory}
-use Rattle.uncovered_table.specs.Open.{IsPlaceOf, OpenView}
+use Rattle.uncovered_table.specs.Open.{IsPlaceOf, OpenView, all_open}
 use Rattle.uncovered_table.specs.Places.{is_behind, tuple_at}
 use Rattle.ipog_grow.specs.Growing.{GrowsIn, IsInPlay, Keeps, Rises, open_places, open_tuples}
 
@@ -119,3 +119,13 @@ pub record IsReady (world : World) (table : OpenView) (p : ℕ) (rows : List (Li
 -- a column of the slice
 abbrev pub column_grown : World → ℕ → List (List (Option ℕ)) → Grown
 column_grown world p rows = column (extends world) p (slice_index_or (preferred_values world.model world.prefs world.slice) p []) (tuples_in_play world.model world.slice p) rows
+
+-- columns of the slice in this order
+abbrev pub columns_grown : World → List ℕ → List (List (Option ℕ)) → Grown
+columns_grown world params rows = columns world.model world.prefs world.slice params rows
+
+-- before the first column grows, every tuple of the slice is open, and there is room for a tuple and a partial row
+pub record IsNew (world : World) (table : OpenView) (tuple room : List (Option ℕ)) : Type 0 where
+  pub fresh : table ≡ all_open world.model world.slice
+  pub tuple_fits : length tuple ≡ length world.model.params
+  pub room_fits : length room ≡ length world.model.params

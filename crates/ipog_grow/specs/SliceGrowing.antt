@@ -1,14 +1,14 @@
 -- The growth of one slice from given rows. (This project's rules.)
 use Rattle.std.specs.Prelude.{ℕ, List, ◌++◌, filter_map, Option}
 use Rattle.definitions.specs.Completion.{column_order}
-use Rattle.definitions.specs.Growth.{Grown, columns}
+use Rattle.definitions.specs.Growth.{Grown}
 use Rattle.definitions.specs.Seeds.{distinct}
-use Rattle.ipog_grow.specs.Asking.{World}
+use Rattle.ipog_grow.specs.Asking.{World, columns_grown}
 use Rattle.ipog_grow.specs.Completing.{completed}
 
 -- the columns of the slice in order
 abbrev pub grown_columns : World → List (List (Option ℕ)) → Grown
-grown_columns world rows = columns world.model world.prefs world.slice (column_order world.model world.slice) rows
+grown_columns world rows = columns_grown world (column_order world.model world.slice) rows
 
 -- after the last column each partial row becomes its first completion, equal rows once
 abbrev pub grown_from : World → List (List (Option ℕ)) → Grown

@@ -5,7 +5,7 @@
 mod across;
 mod asker;
 mod column;
-mod columns_wanted;
+mod columns;
 mod completing;
 mod distinct;
 mod down;
@@ -14,6 +14,7 @@ mod finish;
 mod generating;
 mod join;
 mod load;
+mod order;
 mod partial;
 mod question;
 mod seeds;

@@ -10,11 +10,10 @@ ghost use Rattle.ipog_grow.specs.Asking.{first_spent};
 ghost use Rattle.ipog_grow.specs.SliceGrowing.{grown_from};
 ghost use Rattle.ipog_grow.specs.Suites.{Ends, HasNoTree, omitted_cells};
 
-use crate::asker::Asker;
-use crate::columns_wanted::grow_columns;
 use crate::finish::finish_slice;
 use crate::question::fault_of;
 use crate::seeds::seeds_of_slice;
+use crate::settle::SliceGrowth;
 use cov_model::{Prefs, Rows, Slice, TestModel};
 use feasibility::SearchFault;
 use refutation::Omissions;
@@ -23,11 +22,11 @@ use tuple_index::Plan;
 
 // Grows a slice from its kept seeds, and puts its rows and omitted tuples behind those of earlier
 // slices.
-pub(crate) fn grow_slice(
+pub(crate) fn grow_slice<'a>(
     alloc: Global,
-    model: &TestModel,
-    plan: &Plan,
-    prefs: &Prefs,
+    model: &'a TestModel,
+    plan: &'a Plan,
+    prefs: &'a Prefs,
     kept: &Rows,
     slice: Slice,
     budget: u64,
@@ -47,16 +46,21 @@ pub(crate) fn grow_slice(
     ensures asked { Ends result (first_spent (record { model = model.now; prefs = prefs.now; slice = slice; budget = budget }) (grown_from (record { model = model.now; prefs = prefs.now; slice = slice; budget = budget }) (filter (is_of_slice model.now slice) kept.now)).asked) }
 {
     let _ = model.params();
-    let Ok(mut grown) = seeds_of_slice(alloc, model, kept, slice) else {
+    let Ok(seeds) = seeds_of_slice(alloc, model, kept, slice) else {
         return Err(SearchFault::NoMemory);
     };
-    let Ok(mut asker) = Asker::new(alloc, model, prefs, slice, budget) else {
+    let Ok(mut growth) = SliceGrowth::new(alloc, model, prefs, plan, slice, budget, seeds) else {
         return Err(SearchFault::NoMemory);
     };
-    let mut omitted = Rows::new(alloc);
-    if let Err(stop) = grow_columns(alloc, model, plan, &mut asker, &mut grown, &mut omitted) {
-        return Err(fault_of(alloc, stop, asker.question()));
+    if let Err(stop) = growth.grow_columns(alloc, model, prefs, plan, slice) {
+        return Err(fault_of(alloc, stop, growth.asker.question()));
     }
+    let SliceGrowth {
+        mut asker,
+        rows: grown,
+        omitted,
+        ..
+    } = growth;
     finish_slice(
         alloc,
         model,

@@ -42,7 +42,7 @@ members_of f (suc n) p (q ∷ set) rises same =
     ]
 
 -- a number of values is within the number of all
-count_within : (lists : List (List ℕ)) (p : ℕ) → length (get_or lists p []) ≤ sum_by length lists
+pub count_within : (lists : List (List ℕ)) (p : ℕ) → length (get_or lists p []) ≤ sum_by length lists
 count_within [] p = omega arith
 count_within (values ∷ lists) zero = (let opened = sum_by-cons length values lists in omega (arith, opened))
 count_within (values ∷ lists) (suc p) = (let opened = sum_by-cons length values lists in let rest = count_within lists p in omega (arith, opened, rest))

@@ -1,9 +1,10 @@
-use Rattle.std.proofs.Common.{◌≡◌, ◌++◌, ℕ, Bool, List, Option, Err, All, nat_lt, filter, ◌∙◌, sym, ap, subst}
-use Rattle.definitions.specs.Growth.{is_of_slice}
+use Rattle.std.proofs.Common.{◌≡◌, ◌++◌, ℕ, Bool, List, Option, Err, All, length, nat_lt, filter, ◌∙◌, sym, ap, subst}
+use Rattle.definitions.specs.Completion.{column_order}
+use Rattle.definitions.specs.Growth.{Grown, is_of_slice}
 use Rattle.definitions.specs.Search.{question_cost}
-use Rattle.ipog_grow.specs.Asking.{World, Grows, Told, first_spent}
-use Rattle.ipog_grow.specs.SliceGrowing.{grown_columns}
+use Rattle.ipog_grow.specs.Asking.{World, Grows, Told, columns_grown, first_spent}
 use Rattle.ipog_grow.specs.Suites.{Ends}
+use Rattle.ipog_grow.proofs.Omitting.{omitted-long}
 use Rattle.ipog_grow.proofs.Slicing.{seeds_grow, stopped-in}
 use Rattle.ipog_grow.proofs.Spending.{find-later, find-earlier}
 use Rattle.ipog_grow.proofs.slice_growth.grow_slice.Goals as goal
@@ -13,39 +14,56 @@ over world cells = nat_lt world.budget (question_cost world.model world.prefs ce
 
 pub grow_columns-requires-clause-grows : goal.grow_columns-requires-clause-grows
 grow_columns-requires-clause-grows c =
-    subst (λ (w : World). All (Grows w) c.in-Ok.grown.items) (sym c.in-Ok-new.ensures)
-    (subst (λ (rows : List (List (Option ℕ))). All (Grows (record { model = c.args.model.now; prefs = c.args.prefs.now; slice = c.args.slice; budget = c.args.budget })) rows) (sym c.in-Ok.ensures)
-    (seeds_grow c.args.model.now c.args.slice c.args.kept.now c.requires.fit c.requires.few))
+    subst (λ (w : World). All (Grows w) c.in-Ok-new.growth.rows.items) (sym c.in-Ok-new.ensures.world)
+    (subst (λ (rows : List (List (Option ℕ))). All (Grows (record { model = c.args.model.now; prefs = c.args.prefs.now; slice = c.args.slice; budget = c.args.budget })) rows)
+    (sym (c.in-Ok-new.ensures.rows ∙ c.in-Ok.ensures)) (seeds_grow c.args.model.now c.args.slice c.args.kept.now c.requires.fit c.requires.few))
 
 -- what the columns ask, as they start
-same_asked : (now world : World) (grown start : List (List (Option ℕ))) → now ≡ world → grown ≡ start
-    → first_spent now (grown_columns now grown).asked ≡ first_spent world (grown_columns world start).asked
-same_asked now world grown start same starts =
-    ap (λ w. first_spent w (grown_columns w grown).asked) same ∙ ap (λ rows. first_spent world (grown_columns world rows).asked) starts
+same_asked : (now world : World) (order : List ℕ) (grown start : List (List (Option ℕ))) → now ≡ world → grown ≡ start
+    → first_spent now (columns_grown now order grown).asked ≡ first_spent world (columns_grown world order start).asked
+same_asked now world order grown start same starts =
+    ap (λ w. first_spent w (columns_grown w order grown).asked) same ∙ ap (λ rows. first_spent world (columns_grown world order rows).asked) starts
 
-same_rows : (now world : World) (grown start : List (List (Option ℕ))) → now ≡ world → grown ≡ start → (grown_columns now grown).rows ≡ (grown_columns world start).rows
-same_rows now world grown start same starts = ap (λ w. (grown_columns w grown).rows) same ∙ ap (λ rows. (grown_columns world rows).rows) starts
+same_grown : (now world : World) (order : List ℕ) (grown start : List (List (Option ℕ))) → now ≡ world → grown ≡ start → columns_grown now order grown ≡ columns_grown world order start
+same_grown now world order grown start same starts = ap (λ w. columns_grown w order grown) same ∙ ap (columns_grown world order) starts
 
 pub returns-in-Err-clause-asked : goal.returns-in-Err-clause-asked
 returns-in-Err-clause-asked c =
     let world : World = record { model = c.args.model.now; prefs = c.args.prefs.now; slice = c.args.slice; budget = c.args.budget } in
     let start : List (List (Option ℕ)) = filter (is_of_slice c.args.model.now c.args.slice) c.args.kept.now in
-    c.fault_of.ensures (first_spent world ((grown_columns world start).asked ++ (grown_columns world start).rows))
-    (stopped-in (Unit {0}) c.in-Err.stop c.question.result.now (first_spent world (grown_columns world start).asked) (first_spent world ((grown_columns world start).asked ++ (grown_columns world start).rows))
-    (λ spent. find-earlier (over world) (grown_columns world start).asked (grown_columns world start).rows c.question.result.now spent)
-    (subst (λ (question : List (Option ℕ)). Told {A = Unit {0}} (Err c.in-Err.stop) question (first_spent world (grown_columns world start).asked)) (sym c.question.ensures.value)
-    (subst (Told {A = Unit {0}} (Err c.in-Err.stop) c.grow_columns.new.asker.question) (same_asked c.in-Ok-new.asker.world world c.in-Ok.grown.items start c.in-Ok-new.ensures c.in-Ok.ensures)
-    c.in-Err.ensures.asked)))
+    let order : List ℕ = column_order c.args.model.now c.args.slice in
+    let grown : Grown = columns_grown world order start in
+    c.fault_of.ensures (first_spent world (grown.asked ++ grown.rows))
+    (stopped-in (Unit {0}) c.in-Err.stop c.question.result.now (first_spent world grown.asked) (first_spent world (grown.asked ++ grown.rows))
+    (λ spent. find-earlier (over world) grown.asked grown.rows c.question.result.now spent)
+    (subst (λ (question : List (Option ℕ)). Told {A = Unit {0}} (Err c.in-Err.stop) question (first_spent world grown.asked)) (sym c.question.ensures.value)
+    (subst (Told {A = Unit {0}} (Err c.in-Err.stop) c.grow_columns.new.self.asker.question)
+    (same_asked c.in-Ok-new.growth.asker.world world order c.in-Ok-new.growth.rows.items start c.in-Ok-new.ensures.world (c.in-Ok-new.ensures.rows ∙ c.in-Ok.ensures)) c.in-Err.ensures.asked)))
+
+pub finish_slice-requires-clause-long : goal.finish_slice-requires-clause-long
+finish_slice-requires-clause-long c =
+    let world : World = record { model = c.args.model.now; prefs = c.args.prefs.now; slice = c.args.slice; budget = c.args.budget } in
+    let order : List ℕ = column_order c.args.model.now c.args.slice in
+    let rows : List (List (Option ℕ)) = c.in-Ok-new.growth.rows.items in
+    subst (λ (tuples : List (List (Option ℕ))). All (λ tuple. length tuple ≡ length c.args.model.now.params) tuples)
+    (sym (c.as_slice-2.ensures ∙ c.in_default-grow_columns.ensures.omitted
+    ∙ ap (λ before. before ++ (columns_grown c.in-Ok-new.growth.asker.world order rows).omitted) c.in-Ok-new.ensures.omitted
+    ∙ ap (λ w. (columns_grown w order rows).omitted) c.in-Ok-new.ensures.world))
+    (omitted-long c.args.model.now c.args.prefs.now c.args.slice order rows c.requires.slice)
 
 pub returns-clause-asked : goal.returns-clause-asked
 returns-clause-asked c =
     let world : World = record { model = c.args.model.now; prefs = c.args.prefs.now; slice = c.args.slice; budget = c.args.budget } in
     let start : List (List (Option ℕ)) = filter (is_of_slice c.args.model.now c.args.slice) c.args.kept.now in
-    let rows : c.as_slice.result.now ≡ (grown_columns world start).rows =
-    c.as_slice.ensures.value ∙ c.in_default-grow_columns.ensures.rows ∙ same_rows c.in-Ok-new.asker.world world c.in-Ok.grown.items start c.in-Ok-new.ensures c.in-Ok.ensures in
+    let order : List ℕ = column_order c.args.model.now c.args.slice in
+    let grown : Grown = columns_grown world order start in
+    let same = c.in-Ok-new.ensures.rows ∙ c.in-Ok.ensures in
+    let rows : c.as_slice.result.now ≡ grown.rows =
+    c.as_slice.ensures.value ∙ c.in_default-grow_columns.ensures.rows
+    ∙ ap (λ (g : Grown). g.rows) (same_grown c.in-Ok-new.growth.asker.world world order c.in-Ok-new.growth.rows.items start c.in-Ok-new.ensures.world same) in
     subst (Ends c.finish_slice.result)
-    (sym (find-later (over world) (grown_columns world start).asked (grown_columns world start).rows
-    (sym (same_asked c.in-Ok-new.asker.world world c.in-Ok.grown.items start c.in-Ok-new.ensures c.in-Ok.ensures) ∙ c.in_default-grow_columns.ensures.asked)))
+    (sym (find-later (over world) grown.asked grown.rows
+    (sym (same_asked c.in-Ok-new.growth.asker.world world order c.in-Ok-new.growth.rows.items start c.in-Ok-new.ensures.world same) ∙ c.in_default-grow_columns.ensures.asked)))
     (subst (Ends c.finish_slice.result)
-    (ap (λ w. first_spent w c.as_slice.result.now) (c.in_default-grow_columns.ensures.same ∙ c.in-Ok-new.ensures) ∙ ap (first_spent world) rows)
+    (ap (λ w. first_spent w c.as_slice.result.now) (c.in_default-grow_columns.ensures.same ∙ c.in-Ok-new.ensures.world) ∙ ap (first_spent world) rows)
     c.finish_slice.ensures.asked)
