@@ -91,7 +91,9 @@ fn grow<R: Threads + Sync>(
         workers: opts.workers,
         proof: None,
     };
-    match generate(rt, alloc, model, plan, &prefs, &seeds, &grow_opts, &OpenGate) {
+    match generate(
+        rt, alloc, model, plan, &prefs, &seeds, &grow_opts, &OpenGate,
+    ) {
         Ok(suite) => Ok(suite),
         Err(fault) => Err(stop_of_search(fault, opts.budget)),
     }
@@ -102,12 +104,7 @@ fn grow<R: Threads + Sync>(
 /// # Errors
 ///
 /// `CannotWriteReport` where `out` failed, `OutOfMemory` where memory was refused.
-fn print<O: Sink>(
-    alloc: Global,
-    model: &TestModel,
-    rows: &Rows,
-    out: &mut O,
-) -> Result<(), Stop>
+fn print<O: Sink>(alloc: Global, model: &TestModel, rows: &Rows, out: &mut O) -> Result<(), Stop>
     requires { All (λ row. is_row model.now row ≡ true) rows.now }
     ensures prints { Prints (report_text model.now rows.now) (O.written out.old) (O.written out.new) result }
     ensures counts { CountsOut result (O.faults out.old) (O.faults out.new) }

@@ -36,9 +36,7 @@ fn asks_unbuilt(word: &str) -> bool
 fn unbuilt_place(options: &[String]) -> Option<usize>
     ensures { result ≡ position (λ word. asks_unbuilt (string_bytes word)) options.now }
 {
-    options
-        .iter()
-        .position(|word| asks_unbuilt(word.as_str()))
+    options.iter().position(|word| asks_unbuilt(word.as_str()))
 }
 
 /// The same of the options behind the model file.
