@@ -32,11 +32,11 @@ fn rows_of_values(alloc: Global, count: u32) -> Result<String, AllocError> {
 }
 
 #[test]
-fn a_parameter_may_have_many_values(rt: HostRuntime) -> Result<(), Fail> {
+fn a_parameter_may_have_4095_values(rt: HostRuntime) -> Result<(), Fail> {
     let alloc = rt.alloc();
     let mut model = String::new(alloc);
-    push_line(&mut model, 0, 200)?;
-    let report = rows_of_values(alloc, 200)?;
+    push_line(&mut model, 0, 4095)?;
+    let report = rows_of_values(alloc, 4095)?;
     let words = ["m", "/o:1"];
     expect_on(&rt, &words, model.as_bytes(), 0, report.as_str(), "")?;
     let mut wide = String::new(alloc);
