@@ -127,13 +127,10 @@ pub fn run_pict<R: Threads + Sync, F: Folder, O: Sink, E: Sink>(
     // What `out` gets with every other status.
     ensures nothing { result ≢ 0 → result ≢ 8 → (O.written out.new ≡ O.written out.old) × (O.faults out.new ≡ O.faults out.old) }
 
-    // When the folder and `out` are told of.
-    ensures read { result ≡ 7 →
-        Rose (F.read_faults files.old (model_file words.now)) (F.read_faults files.new (model_file words.now)) }
+    // When the folder and `out` are told of, and what the folder keeps.
+    ensures read { result ≡ 7 → Rose (F.read_faults files.old (model_file words.now)) (F.read_faults files.new (model_file words.now)) }
     ensures write { result ≡ 8 → Rose (O.faults out.old) (O.faults out.new) }
     ensures statuses { IsStatus result }
-
-    // The folder.
     ensures files { KeepsFiles (F.file files.old) (F.file files.new) }
     ensures write_faults { KeepsCounts (F.write_faults files.old) (F.write_faults files.new) }
 {
