@@ -255,3 +255,27 @@ empty_text = refl
 
 empty_read : reads (codes "[ ]=" ++ (34 ∷ 34 ∷ 59 ∷ [])) (rule (Plain (Leaf 1 (terms.ValueIs [] Eq (Words [])))))
 empty_read = refl
+
+-- ---- a tree at another line
+
+-- IF [A] = 1 THEN NOT [A] = 1 AND [B] LIKE "x*" ELSE [A] = 1 OR [B] LIKE "x*";, with all lines 1
+abbrev ones : RuleTree
+ones = rule (IfElse a1 (Each (two (Negated a1) b_like)) (Either (two a1 b_like)))
+
+-- the same with other lines
+abbrev on_lines : RuleTree
+on_lines = record {
+  line = 2;
+  body =
+      IfElse (Leaf 2 (terms.ValueIs (codes "A") Eq (whole 1))) (Each (two (Negated (Leaf 3 (terms.ValueIs (codes "A") Eq (whole 1)))) (Leaf 4 (terms.Like (codes "B") (codes "x*")))))
+      (Either (two (Leaf 5 (terms.ValueIs (codes "A") Eq (whole 1))) (Leaf 6 (terms.Like (codes "B") (codes "x*")))));
+}
+
+at_line_1 : rule_at 1 on_lines ≡ ones
+at_line_1 = refl
+
+at_line_1_plain : rule_at 1 (record { line = 3; body = Plain (Leaf 4 (terms.Negative [])) }) ≡ rule (Plain (Leaf 1 (terms.Negative [])))
+at_line_1_plain = refl
+
+at_line_1_if : rule_at 1 (record { line = 3; body = IfThen (Leaf 4 (terms.Negative [])) (Leaf 5 (terms.Positive [])) }) ≡ rule (IfThen (Leaf 1 (terms.Negative [])) (Leaf 1 (terms.Positive [])))
+at_line_1_if = refl

@@ -2,7 +2,7 @@
 use Rattle.std.proofs.Common.{◌≡◌, ℕ, ◌+◌, ◌≤◌, Bool, true, false, not, List, [], ◌∷◌, length, sum_by, Option, All, inl, inr, ◌∙◌, sym, ap, subst, refl, arith}
 use Rattle.std.specs.Prelude.{◌↔◌, ◌⊎◌, Contains, AllPairs}
 use Rattle.std.specs.List.{Any, flat_map, list_any}
-use Rattle.std.proofs.lemmas.Bool.{false≢true, false_from_ne_true, cases_Bool, not_from_false}
+use Rattle.std.proofs.lemmas.Bool.{false≢true, false_from_ne_true, cases_Bool, and_from, not-true, not_from_false}
 use Rattle.std.proofs.lemmas.List.Concat.{length-flat_map}
 use Rattle.cov_model.specs.declared.slice.Slice.{Slice}
 use Rattle.cov_model.specs.Sound.{ModelView, IsSound}
@@ -14,12 +14,14 @@ use Rattle.definitions.specs.Completion.{completions, meets_rules, is_extendable
 use Rattle.definitions.specs.Seeds.{is_same_row, kept_seeds}
 use Rattle.definitions.specs.Growth.{is_of_slice, growth}
 use Rattle.definitions.specs.Covering.{IsUnserved}
-use Rattle.definitions.specs.Laws.{ArePreferences, GrowthCovers, SuitesCover}
-use Rattle.definitions.proofs.Members.{Has, has_contained, contains_member, all_members, of_flat, has_filter, of_any}
+use Rattle.definitions.specs.Laws.{ArePreferences, GrowthCovers, SuitesCover, SuitesHaveFewRows}
+use Rattle.definitions.specs.Figures.{all_rows, is_served}
+use Rattle.definitions.proofs.Members.{Has, has_contained, contains_member, all_members, of_flat, has_filter, any_member, of_any}
 use Rattle.definitions.proofs.Distinct.{NoRepeats}
 use Rattle.definitions.proofs.Choices.{choice_length, completion_is}
 use Rattle.definitions.proofs.SliceLemmas.{IsSlice, is_slice, slice_length, slice_is, slice_of_is, row_in_slice, choice_is_valid}
-use Rattle.definitions.proofs.Serving.{choice_serves, served_extends}
+use Rattle.definitions.proofs.Joining.{contains_self}
+use Rattle.definitions.proofs.Serving.{choice_serves, served_extends, servable_are_extendable}
 use Rattle.definitions.proofs.Once.{AreApart, apart_append, apart_pairs}
 use Rattle.definitions.proofs.Finishing.{IsSliceRow, slice_grows, seeds_of, met_in, kept_is, of_slice_is, is_of_own_slice}
 use Rattle.definitions.proofs.Totals.{count, counted, count_flat, count_sum, count_less, sum_less, sum_same, sum_plus, sum_swap, sum_ones, sum_once}
@@ -199,3 +201,23 @@ suites_cover m pref seeds sound orders = record {
         | inr fails ↦ inr (unserved m tuple (record { demanded = is; fails = fails }))
       ]);
 }
+
+-- a demanded tuple that isn't among the omitted ones is served by some row of the model
+unlisted_served : (m : ModelView) (pref : List (List ℕ)) (seeds : List (ℕ × List (Option ℕ))) (tuple : List (Option ℕ)) → IsSound m → ArePreferences m pref → IsDemanded m tuple
+    → is_unlisted m pref seeds tuple ≡ true → is_served m (all_rows m) tuple ≡ true
+unlisted_served m pref seeds tuple sound orders is unlisted =
+    servable_are_extendable m tuple sound is.few
+    ∙ elim (cases_Bool (is_extendable m (slice_of m tuple) tuple)) [
+      | inl extends ↦ extends
+      | inr fails ↦
+          let omitted = (growth m pref seeds).omitted in
+          let listed = has_omitted m pref seeds tuple sound orders (record { demanded = is; fails = fails }) in
+          let same = and_from (contains tuple tuple) (contains tuple tuple) (contains_self tuple) (contains_self tuple) in
+          absurd (false≢true (sym (not-true (list_any (is_same_row tuple) omitted) unlisted) ∙ any_member (is_same_row tuple) omitted tuple listed same))
+    ]
+
+pub suites_have_few_rows : SuitesHaveFewRows
+suites_have_few_rows m pref seeds sound orders =
+    let served = count_less (is_unlisted m pref seeds) (is_served m (all_rows m)) (demanded_tuples m)
+    (λ tuple has. unlisted_served m pref seeds tuple sound orders (of_demanded m tuple has)) in
+    record { distinct = grown_distinct m pref seeds orders; few = omega (arith, served, grown_few m pref seeds orders) }

@@ -108,7 +108,7 @@ values_once m (Negative q v) p is within =
           (repeats_filter (λ v. not (value_at m p v).negative) (value_numbers m p) (repeats_range 0 (length (param_at m.params p).values)))
     ]
 
-tuples_once : (m : ModelView) (set : List ℕ) (slice : Slice) → IsSlice m slice → NoRepeats (tuples_in m set slice)
+pub tuples_once : (m : ModelView) (set : List ℕ) (slice : Slice) → IsSlice m slice → NoRepeats (tuples_in m set slice)
 tuples_once m set Positive is =
     choices_once set 0 (slice_values m Positive) (λ p within. values_once m Positive p is (omega (arith, within, slice_length m Positive)))
 tuples_once m set (Negative q v) is =

@@ -5,7 +5,7 @@ use Rattle.cov_model.specs.declared.constraint.Rel.TheVariants.{Eq, Lt}
 use Rattle.cov_model.specs.declared.slice.Slice.TheVariants.{Positive, Negative}
 use Rattle.cov_model.specs.Sound.{ModelView}
 use Rattle.cov_model.specs.Rows.{is_assigned}
-use Rattle.definitions.specs.Search.{plain_search, plain_cost, constrained_params, breaks_a_rule, try_values, Outcome}
+use Rattle.definitions.specs.Search.{plain_search, plain_cost, first_measured_over, constrained_params, breaks_a_rule, try_values, Outcome}
 use Rattle.definitions.specs.Completion.{preferred_values}
 use Rattle.definitions.proofs.Models.{twin, barred}
 use Rattle.definitions.proofs.Examples.{model, two, param, value, negative_value, with_rules, number, is, declared}
@@ -84,3 +84,13 @@ turned = with_rules (model (param (codes "A") (value (codes "0") ∷ value (code
 
 turned-cost : plain_cost turned (declared turned) Positive (None ∷ None ∷ []) ≡ 4
 turned-cost = refl
+
+-- the first demanded tuple that costs more than 4, 3 and 2 nodes
+twin-measured-four : first_measured_over twin 4 ≡ None
+twin-measured-four = refl
+
+twin-measured-three : first_measured_over twin 3 ≡ Some (None ∷ Some 0 ∷ None ∷ [])
+twin-measured-three = refl
+
+twin-measured-two : first_measured_over twin 2 ≡ Some (Some 0 ∷ None ∷ None ∷ [])
+twin-measured-two = refl

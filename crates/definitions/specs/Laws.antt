@@ -7,7 +7,7 @@ use Rattle.cov_model.specs.Rows.{contains, is_assigned, value_in}
 use Rattle.cov_model.specs.Tuples.{IsRising}
 use Rattle.cov_model.specs.Valid.{is_row, is_valid, serves}
 use Rattle.cov_model.specs.Slices.{slice_of, slice_values, value_numbers}
-use Rattle.definitions.specs.Covering.{Covers}
+use Rattle.definitions.specs.Covering.{Covers, HasFewRows}
 use Rattle.definitions.specs.Demand.{demanded_tuples}
 use Rattle.definitions.specs.Report.{report_text}
 use Rattle.definitions.specs.RowFile.{rows_of, suite_rows}
@@ -112,6 +112,11 @@ GrowthCovers = (m : ModelView) (pref : List (List ℕ)) (seeds : List (ℕ × Li
 -- so its suite covers what can be covered
 abbrev pub SuitesCover : Type 0
 SuitesCover = (m : ModelView) (pref : List (List ℕ)) (seeds : List (ℕ × List (Option ℕ))) → IsSound m → ArePreferences m pref → Covers m (growth m pref seeds).rows
+
+-- and its rows are few
+abbrev pub SuitesHaveFewRows : Type 0
+SuitesHaveFewRows = (m : ModelView) (pref : List (List ℕ)) (seeds : List (ℕ × List (Option ℕ))) → IsSound m → ArePreferences m pref
+    → HasFewRows m (length (kept_seeds m seeds)) (growth m pref seeds).rows
 
 -- if report and proof are accepted, every row is valid, and each demanded tuple is served by one of the
 -- rows, or is listed, and then no row serves it

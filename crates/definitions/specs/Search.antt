@@ -1,6 +1,6 @@
 -- Plain search for a completion of a partial row, and its cost: the number of nodes that it visits. It
 -- looks one value ahead, and looking at a value visits nothing. (This project's rule.)
-use Rattle.std.specs.Prelude.{ℕ, suc, ◌+◌, Bool, true, false, ◌||◌, ◌&&◌, not, List, [], ◌∷◌, ◌++◌, Option, slice_index_or, if◌then◌else◌, find, nat_lt}
+use Rattle.std.specs.Prelude.{ℕ, suc, ◌+◌, Bool, true, false, ◌||◌, ◌&&◌, not, List, [], ◌∷◌, ◌++◌, Option, None, slice_index_or, if◌then◌else◌, find, nat_lt}
 use Rattle.std.specs.List.{filter, list_any}
 use Rattle.cov_model.specs.declared.slice.Slice.{Slice}
 use Rattle.cov_model.specs.declared.truth.Truth.{Truth}
@@ -9,11 +9,12 @@ use Rattle.cov_model.specs.declared.constraint.Body.{Body}
 use Rattle.cov_model.specs.declared.constraint.Body.TheVariants.{Plain, IfThen, IfElse}
 use Rattle.cov_model.specs.declared.constraint.Pred.{Pred, Term, Not', All', Any', Row_of-Pred, end_of-Pred, more_of-Pred}
 use Rattle.cov_model.specs.Sound.{ModelView}
+use Rattle.cov_model.specs.Preference.{preference}
 use Rattle.cov_model.specs.Rows.{is_assigned}
 use Rattle.cov_model.specs.Kleene.{term_params, body_truth}
 use Rattle.cov_model.specs.Valid.{param_numbers}
 use Rattle.cov_model.specs.Slices.{slice_of}
-use Rattle.definitions.specs.Demand.{is_among}
+use Rattle.definitions.specs.Demand.{demanded_tuples, is_among}
 use Rattle.definitions.specs.Completion.{preferred_values, with_value}
 
 -- the parameters that a predicate names
@@ -96,3 +97,8 @@ question_cost m pref cells = plain_cost m pref (slice_of m cells) cells
 -- the first of the questions whose plain cost is above the budget
 abbrev pub first_over : ModelView → List (List ℕ) → ℕ → List (List (Option ℕ)) → Option (List (Option ℕ))
 first_over m pref budget questions = find (λ cells. nat_lt budget (question_cost m pref cells)) questions
+
+-- a run that measures a suite asks the demanded tuples in order, with the preferences without a shuffle;
+-- the first of them whose plain cost is above the budget
+abbrev pub first_measured_over : ModelView → ℕ → Option (List (Option ℕ))
+first_measured_over m budget = first_over m (preference m None) budget (demanded_tuples m)

@@ -1,7 +1,7 @@
 //! What is proved of the definitions together. A function here does nothing: its contract is a law
 //! that holds of every model, and is proved with the crate.
 
-ghost use Rattle.definitions.specs.Laws.{AcceptedAreCertified, CompletionsAreRows, ExtendableContains, GrowthCovers, ProofsHaveOneText, ProofsReadBack, RefutedAreUnserved, ReportsReadBack, ServableAreExtendable, SlicesServe, SuitesAreRead, SuitesCover};
+ghost use Rattle.definitions.specs.Laws.{AcceptedAreCertified, CompletionsAreRows, ExtendableContains, GrowthCovers, ProofsHaveOneText, ProofsReadBack, RefutedAreUnserved, ReportsReadBack, ServableAreExtendable, SlicesServe, SuitesAreRead, SuitesCover, SuitesHaveFewRows};
 
 /// Reading a report gives its rows: the text that is written of rows of a sound model, read as a
 /// row file, holds these rows in their order (this project's rule).
@@ -78,4 +78,10 @@ pub fn proofs_have_one_text()
 /// rows, or no row of the model serves it (Lei and others 2007).
 pub fn suites_cover()
     ensures { SuitesCover }
+{}
+
+/// The suite of growth is small: no two rows are the same, and there are no more of them than demanded
+/// tuples that some row of the model serves and kept seeds (this project's rule).
+pub fn suites_have_few_rows()
+    ensures { SuitesHaveFewRows }
 {}

@@ -1,5 +1,6 @@
 -- Models as they are read, computed from the definitions.
-use Rattle.std.proofs.Common.{◌≡◌, ℕ, Bool, true, false, List, [], ◌∷◌, ◌++◌, Result, Ok, refl, ap, arith, codes}
+use Rattle.std.proofs.Common.{◌≡◌, ℕ, Bool, true, false, List, [], ◌∷◌, ◌++◌, Result, Ok, Err, refl, ap, arith, codes}
+use Rattle.std.specs.Prelude.{replicate}
 use Rattle.std.proofs.lemmas.Fmt.{decimal_digit}
 use Rattle.std.specs.Str.{chars}
 use Rattle.cov_model.specs.declared.parameter.Param.{Param}
@@ -7,16 +8,21 @@ use Rattle.cov_model.specs.declared.parameter.Value.{Value}
 use Rattle.cov_model.specs.declared.demand.Demand.{Demand}
 use Rattle.model_lex.specs.declared.diag.DiagCode.{DiagCode}
 use Rattle.model_lex.specs.declared.diag.DiagCode.TheVariants.{EmptyParameterName, BadParameterName, RepeatedParameter, EmptyValueName, BadValueName, BadWeight, UnknownReference, GroupNotClosed, UnknownMember, RepeatedMember, BadGroupOrder, TextAfterGroup, RelationNoOrder, NoParameters, OrderTooLarge}
+use Rattle.model_lex.specs.declared.fault.LimitName.TheVariants.{Params, Names, Values}
 use Rattle.model_lex.specs.declared.fault.ModelFault.{ModelFault}
+use Rattle.model_lex.specs.declared.fault.ModelFault.TheVariants.{Limit}
 use Rattle.model_lex.specs.declared.note.Note.{Note}
 use Rattle.model_lex.specs.declared.note.NoteCode.TheVariants.{RepeatedValueName}
 use Rattle.model_lex.specs.declared.options.Marks.{Marks}
 use Rattle.model_lex.specs.declared.options.ModelOpts.{ModelOpts}
 use Rattle.model_lex.specs.declared.options.OrderWord.TheVariants.{Number, Max}
+use Rattle.model_parse.specs.ParamLines.{add_param, read_params}
 use Rattle.model_parse.specs.Steps.{refused}
+use Rattle.model_parse.specs.Values.{Kept, add_kept}
 use Rattle.model_parse.specs.RawModels.{raw_model_of}
 use Rattle.model_parse.specs.Written.{written_param}
 use Rattle.model_parse.specs.declared.raw_model.RawModel.{RawModel}
+use Rattle.model_parse.specs.declared.reading.ParamsRead.{ParamsRead}
 
 -- the default marks, order 1
 abbrev opts : Bool → ModelOpts
@@ -40,6 +46,13 @@ repeated_name : read true ((1, codes "A: a, A, b") ∷ []) [] ≡ model (param (
 unfolding chars
 repeated_name = refl
 
+-- a name is trimmed again behind its mark, and the list begins behind the first colon
+trimmed_twice :
+    read true ((1, codes "A: ~ x | ~ y, b:c") ∷ []) []
+    ≡ model (param (codes "A") 1 false (record { names = codes "x" ∷ codes "y" ∷ []; weight = 1; negative = true } ∷ plain (codes "b:c") ∷ []) ∷ []) []
+unfolding chars
+trimmed_twice = refl
+
 case_counts : read false ((1, codes "A: a, A, b") ∷ []) [] ≡ model (param (codes "A") 1 false (plain (codes "a") ∷ plain (codes "A") ∷ plain (codes "b") ∷ []) ∷ []) []
 unfolding chars
 case_counts = refl
@@ -47,6 +60,14 @@ case_counts = refl
 reference : read true ((1, codes "A: 1, 2") ∷ (2, codes "B: <A>, 3") ∷ []) [] ≡ model (param (codes "A") 1 true (plain (codes "1") ∷ plain (codes "2") ∷ []) ∷ param (codes "B") 2 true (plain (codes "1") ∷ plain (codes "2") ∷ plain (codes "3") ∷ []) ∷ []) []
 unfolding chars
 reference = refl
+
+-- a copy has all names, the weight and the sign of its value
+abbrev weighed : List Value
+weighed = record { names = codes "x" ∷ codes "y" ∷ []; weight = 3; negative = false } ∷ record { names = codes "z" ∷ []; weight = 1; negative = true } ∷ []
+
+copies : read true ((1, codes "A: x | y (3), ~z") ∷ (2, codes "B: < a >") ∷ []) [] ≡ model (param (codes "A") 1 false weighed ∷ param (codes "B") 2 false weighed ∷ []) []
+unfolding chars
+copies = refl
 
 weights :
     read true ((1, codes "B: x (007), Foo (bar), ~y | z") ∷ []) []
@@ -75,6 +96,14 @@ relation : groups (codes " @ 02 {A,B}") ≡ demanded (record { order = 1; subs =
 unfolding chars
 relation = refl
 
+-- the order of all parameters, to which two are a pair and one is lowered
+by_max :
+    raw_model_of (record { order = Max; marks = record { separator = 44; alias = 124; prefix = 126 }; fold = true })
+    (record { params = (1, codes "A: 1") ∷ (2, codes "B: 2") ∷ []; groups = (3, codes "{ B }") ∷ (4, codes "{ A, B }") ∷ []; rules = [] })
+    ≡ demanded (record { order = 2; subs = record { order = 1; members = 1 ∷ [] } ∷ record { order = 2; members = 0 ∷ 1 ∷ [] } ∷ []; relations = [] })
+unfolding chars
+by_max = refl
+
 abbrev at : ℕ → DiagCode → Result RawModel ModelFault
 at line code = refused line code
 
@@ -89,13 +118,52 @@ refusals = (refl, refl, refl, refl, refl, refl, refl, refl, refl)
 group_refusals :
     (groups (codes "@ { A") ≡ at 3 RelationNoOrder) × (groups (codes "@ 2 A }") ≡ at 3 GroupNotClosed) × (groups (codes "{ A, Z") ≡ at 3 GroupNotClosed) × (groups (codes "{ Z } x") ≡ at 3 TextAfterGroup)
     × (groups (codes "@ 9 { Z } @") ≡ at 3 TextAfterGroup) × (groups (codes "{ Z } @ 9") ≡ at 3 UnknownMember) × (groups (codes "{ A, a }") ≡ at 3 RepeatedMember) × (groups (codes "@ 3 { A, B }") ≡ at 3 BadGroupOrder)
-    × (groups (codes "{ A, B } @ 2 x") ≡ at 3 BadGroupOrder)
+    × (groups (codes "{ A, B } @ 2 x") ≡ at 3 BadGroupOrder) × (groups (codes "{ A, B } @ 0") ≡ at 3 BadGroupOrder) × (groups (codes "@ 0 { A, B }") ≡ at 3 BadGroupOrder)
+    × (groups (codes "@ 2 { A, B } x") ≡ at 3 TextAfterGroup) × (groups (codes "{ A, B } }") ≡ at 3 UnknownMember)
 unfolding chars
-group_refusals = (refl, refl, refl, refl, refl, refl, refl, refl, refl)
+group_refusals = (refl, refl, refl, refl, refl, refl, refl, refl, refl, refl, refl, refl, refl)
 
 order_too_large : raw_model_of (record { order = Number 2; marks = record { separator = 44; alias = 124; prefix = 126 }; fold = true }) (record { params = (4, codes "A: 1") ∷ []; groups = []; rules = [] }) ≡ at 4 OrderTooLarge
 unfolding chars
 order_too_large = refl
+
+-- it is told at the last parameter line
+order_told : raw_model_of (record { order = Number 3; marks = record { separator = 44; alias = 124; prefix = 126 }; fold = true }) (record { params = (4, codes "A: 1") ∷ (7, codes "B: 1") ∷ []; groups = []; rules = [] }) ≡ at 7 OrderTooLarge
+unfolding chars
+order_told = refl
+
+-- ---- limits
+
+-- 64 names of a value are kept, 65 are too many
+abbrev kept : ℕ → Kept
+kept count = record { names = replicate count (codes "a"); known = []; notes = [] }
+
+names_64 : add_kept [] (plain []) (kept 64) ≡ Ok (record { values = record { names = replicate 64 (codes "a"); weight = 1; negative = false } ∷ []; known = []; notes = [] })
+names_64 = refl
+
+names_65 : add_kept [] (plain []) (kept 65) ≡ Err (Limit Names 65)
+names_65 = refl
+
+-- 4,095 values of a parameter, 4,096 are too many
+abbrev with_values : ℕ → Result ParamsRead ModelFault
+with_values count = add_param true 1 (codes "A") [] [] (record { values = replicate count (plain (codes "a")); known = []; notes = [] })
+
+abbrev is_read : Result ParamsRead ModelFault → Bool
+is_read (Ok read) = true
+is_read (Err fault) = false
+
+values_4095 : is_read (with_values 4095) ≡ true
+values_4095 = refl
+
+values_4096 : with_values 4096 ≡ Err (Limit Values 4096)
+values_4096 = refl
+
+-- 256 parameters, of which the first is refused here, and 257, which are too many
+params_256 : read_params (opts true) (replicate 256 (1, [])) ≡ refused 1 EmptyParameterName
+params_256 = refl
+
+params_257 : read_params (opts true) (replicate 257 (1, [])) ≡ Err (Limit Params 257)
+params_257 = refl
 
 -- parameters as they are written
 abbrev marks : Marks

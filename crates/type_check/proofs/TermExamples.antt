@@ -1,22 +1,24 @@
 -- What terms and constraints mean over two parameters, A numeric and B not, computed.
-use Rattle.std.proofs.Common.{◌≡◌, true, false, [], ◌∷◌, Some, None, refl}
+use Rattle.std.proofs.Common.{◌≡◌, true, false, List, [], ◌∷◌, ◌++◌, Some, None, refl}
 use Rattle.std.specs.Prelude.{Result, Ok, Err, pos, codes}
 use Rattle.model_lex.specs.declared.diag.DiagCode.{DiagCode}
 use Rattle.model_lex.specs.declared.diag.DiagCode.TheVariants.{UnknownParameter, TypeMismatch, LikeNeedsText}
-use Rattle.cov_model.specs.Sample.{sample_params}
+use Rattle.cov_model.specs.Sample.{sample_params, sample_texts}
+use Rattle.cov_model.specs.declared.parameter.Param.{Param}
 use Rattle.cov_model.specs.declared.constraint.Body.TheVariants as bodies
 use Rattle.cov_model.specs.declared.constraint.Literal.TheVariants as literal
 use Rattle.cov_model.specs.declared.constraint.Pred as preds
 use Rattle.cov_model.specs.declared.constraint.Rel.TheVariants as rel
 use Rattle.cov_model.specs.declared.constraint.Term as terms
 use Rattle.cov_model.specs.declared.constraint.Term.TheVariants as term
-use Rattle.constraint_ast.specs.Trees.{Leaf, Negated, Either, End, More, IfThen, IfElse, RuleTree}
-use Rattle.constraint_ast.specs.declared.tree.RawRel.TheVariants.{Eq, Ne, Ge, Lt}
+use Rattle.constraint_ast.specs.Trees.{Leaf, Negated, Each, Either, End, More, Trees, Plain, IfThen, IfElse, RuleTree}
+use Rattle.constraint_ast.specs.declared.tree.RawRel.TheVariants.{Eq, Ne, Gt, Ge, Lt, Le}
 use Rattle.constraint_ast.specs.declared.tree.RawLiteral.TheVariants.{Number, Words}
 use Rattle.constraint_ast.specs.declared.tree.RawTerm.{RawTerm}
 use Rattle.constraint_ast.specs.declared.tree.RawTerm.TheVariants.{ValueIs, ParamIs, OneOf, Like, Negative, Positive}
 use Rattle.type_check.specs.Checking.{term_of, rules_terms, first_refusal}
 use Rattle.type_check.specs.Constraints.{AreRulesOf}
+use Rattle.type_check.proofs.Refusals.{each_of, either_of}
 
 -- a term, where letters of either case are one
 abbrev read : RawTerm → Result terms.Term DiagCode
@@ -30,12 +32,26 @@ terms_read :
     × (read (Like (codes "B") (codes "r*")) ≡ Ok (term.Like 1 (codes "r*"))) × (read (Negative (codes "A")) ≡ Ok (term.Negative 0)) × (read (Positive (codes "B")) ≡ Ok (term.Positive 1))
 terms_read = (refl, refl, refl, refl, refl, refl, refl)
 
+-- each relation is the one that is written
+relations :
+    (read (ValueIs (codes "A") Eq (Number (pos 5))) ≡ Ok (term.ValueIs 0 rel.Eq (literal.Number (pos 5)))) × (read (ValueIs (codes "A") Gt (Number (pos 5))) ≡ Ok (term.ValueIs 0 rel.Gt (literal.Number (pos 5))))
+    × (read (ValueIs (codes "A") Lt (Number (pos 5))) ≡ Ok (term.ValueIs 0 rel.Lt (literal.Number (pos 5)))) × (read (ValueIs (codes "A") Le (Number (pos 5))) ≡ Ok (term.ValueIs 0 rel.Le (literal.Number (pos 5))))
+relations = (refl, refl, refl, refl)
+
+-- a third parameter, C, that isn't numeric: the names of a comparison keep their places
+abbrev three : List Param
+three = sample_params ++ (record { name = codes "C"; line = 3; numeric = false; values = sample_texts } ∷ [])
+
+compared : (term_of true three (ParamIs (codes "C") Le (codes "B")) ≡ Ok (term.ParamIs 2 rel.Le 1)) × (term_of true three (ParamIs (codes "A") Gt (codes "A")) ≡ Ok (term.ParamIs 0 rel.Gt 0))
+compared = (refl, refl)
+
 -- the refusals: the first name, the second, LIKE, and types
 refusals :
     (read (ValueIs (codes "Z") Eq (Words [])) ≡ Err UnknownParameter) × (read (ParamIs (codes "A") Eq (codes "Z")) ≡ Err UnknownParameter) × (read (ParamIs (codes "A") Eq (codes "B")) ≡ Err TypeMismatch)
     × (read (Like (codes "A") []) ≡ Err LikeNeedsText) × (read (ValueIs (codes "A") Eq (Words (codes "1"))) ≡ Err TypeMismatch) × (read (ValueIs (codes "B") Eq (Number (pos 1))) ≡ Err TypeMismatch)
     × (read (OneOf (codes "B") (Words [] ∷ Number (pos 1) ∷ [])) ≡ Err TypeMismatch) × (read (Positive []) ≡ Err UnknownParameter)
-refusals = (refl, refl, refl, refl, refl, refl, refl, refl)
+    × (read (ParamIs (codes "B") Eq (codes "A")) ≡ Err TypeMismatch) × (read (Like (codes "Z") []) ≡ Err UnknownParameter) × (read (OneOf (codes "A") (Number (pos 1) ∷ Words [] ∷ [])) ≡ Err TypeMismatch)
+refusals = (refl, refl, refl, refl, refl, refl, refl, refl, refl, refl, refl)
 
 -- where case counts, a is no parameter
 case_counts : term_of false sample_params (Negative (codes "a")) ≡ Err UnknownParameter
@@ -55,6 +71,9 @@ refused = record {
 in_order : rules_terms (sound ∷ []) ≡ (3, Negative (codes "A")) ∷ (3, Like (codes "B") []) ∷ (4, Positive (codes "B")) ∷ []
 in_order = refl
 
+in_order_within : rules_terms (refused ∷ []) ≡ (4, Negative (codes "A")) ∷ (5, Like (codes "A") []) ∷ (6, Negative (codes "Z")) ∷ []
+in_order_within = refl
+
 no_refusal : first_refusal true sample_params (rules_terms (sound ∷ [])) ≡ None
 no_refusal = refl
 
@@ -67,3 +86,28 @@ numbered :
     → AreRulesOf true sample_params (sound ∷ [])
     (record { number = 1; line = 3; body = bodies.IfElse (preds.Term (term.Negative 0)) (preds.Not' pointer (preds.Term (term.Like 1 []))) (preds.Term (term.Positive 1)) } ∷ [])
 numbered pointer = (record { number = refl; line = refl; body = (refl, refl, refl) }, tt)
+
+-- two constraints on the lines 3 and 5: their numbers rise, and each predicate has the shape of its tree
+abbrev alone : RuleTree
+alone = record { line = 3; body = Plain (Leaf 3 (Negative (codes "B"))) }
+
+abbrev first_trees : Trees
+first_trees = More (Leaf 5 (Negative (codes "A"))) (More (Leaf 5 (Positive (codes "B"))) End)
+
+abbrev last_trees : Trees
+last_trees = More (Leaf 6 (Positive (codes "A"))) (More (Leaf 6 (Negative (codes "B"))) End)
+
+abbrev first_preds : List preds.Pred
+first_preds = preds.Term (term.Negative 0) ∷ preds.Term (term.Positive 1) ∷ []
+
+abbrev last_preds : List preds.Pred
+last_preds = preds.Term (term.Positive 0) ∷ preds.Term (term.Negative 1) ∷ []
+
+in_shape :
+    AreRulesOf true sample_params (alone ∷ record { line = 5; body = IfThen (Each first_trees) (Either last_trees) } ∷ [])
+    (record { number = 1; line = 3; body = bodies.Plain (preds.Term (term.Negative 1)) }
+    ∷ record { number = 2; line = 5; body = bodies.IfThen (preds.All first_preds) (preds.Any last_preds) } ∷ [])
+in_shape =
+    let premise = each_of true sample_params first_trees first_preds (refl, (refl, tt)) in
+    let pred = either_of true sample_params last_trees last_preds (refl, (refl, tt)) in
+    (record { number = refl; line = refl; body = refl }, (record { number = refl; line = refl; body = (premise, pred) }, tt))
