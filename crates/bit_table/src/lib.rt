@@ -1,0 +1,12 @@
+//! Marks on places numbered from 0.
+//!
+//! - `BitTable` begins with a mark on each place; a place can be asked for its mark and lose it, and
+//!   the next marked place be looked for. Contracts see the list of the marks.
+#![tactic(auto)]
+
+mod table;
+
+pub use table::BitTable;
+
+#[cfg(test)]
+mod tests;
