@@ -12,4 +12,6 @@ pub mod BaseLemmas
 pub mod OrderLemmas
 pub mod PlanLemmas
 pub mod SliceLemmas
-pub mod SampleSound
+pub mod InverseLemmas
+pub mod ChoiceAt
+pub mod RisingLemmas

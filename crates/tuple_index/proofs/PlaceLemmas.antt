@@ -40,7 +40,7 @@ slice_get-append_right [] ys n i at = ap (slice_get ys) (omega (arith, at))
 slice_get-append_right (x ∷ xs) ys zero i at = absurd (omega (arith, at))
 slice_get-append_right (x ∷ xs) ys (suc n) i at = slice_get-append_right xs ys n i (omega (arith, at))
 
-some_is : {X : Type 0} (x y : X) → Some x ≡ Some y → x ≡ y
+pub some_is : {X : Type 0} (x y : X) → Some x ≡ Some y → x ≡ y
 some_is x y same = ap (λ o. unwrap_or o x) same
 
 -- an item of pieces of one length

@@ -52,16 +52,15 @@ all_positive plan (p ∷ set) (v ∷ chosen) exist none = by_sign (is_negative p
         rw own (rest parts.1 (rest_count (is_negative plan p v) (negative_count plan set chosen) 0 none))
 
 -- members above q have their positive values in a negative slice of q
-all_among_apart : (plan : PlanView) (q v : ℕ) (set chosen : List ℕ) (e : ℕ) → RisesFrom (q + 1) e set
-    → all_among (values_in plan Positive) set chosen ≡ true → all_among (values_in plan (Negative q v)) set chosen ≡ true
-all_among_apart plan q v [] [] e rises among = refl
-all_among_apart plan q v [] (w ∷ chosen) e rises among = among
-all_among_apart plan q v (p ∷ set) [] e rises among = among
-all_among_apart plan q v (p ∷ set) (w ∷ chosen) e rises among =
-    let parts = both_true (is_among (values_in plan Positive p) w) (all_among (values_in plan Positive) set chosen) among in
+pub all_among_above : (plan : PlanView) (q v : ℕ) (set chosen : List ℕ) (e : ℕ) → RisesFrom (q + 1) e set
+    → all_among (values_in plan Positive) set chosen ≡ all_among (values_in plan (Negative q v)) set chosen
+all_among_above plan q v [] [] e rises = refl
+all_among_above plan q v [] (w ∷ chosen) e rises = refl
+all_among_above plan q v (p ∷ set) [] e rises = refl
+all_among_above plan q v (p ∷ set) (w ∷ chosen) e rises =
     let test = above_test p q (omega (arith, rises.0)) in
-    let later = all_among_apart plan q v set chosen e (rises_lower set (p + 1) (q + 1) e (omega (arith, rises.0)) rises.2) parts.1 in
-    rw (test, parts.0) later
+    let later = all_among_above plan q v set chosen e (rises_lower set (p + 1) (q + 1) e (omega (arith, rises.0)) rises.2) in
+    rw (test, later) refl
 
 -- one more member, with a positive value
 more_of_slice : (plan : PlanView) (set chosen : List ℕ) (r w p : ℕ) → p ≤ r → is_among (values_in plan Positive r) w ≡ true
@@ -87,7 +86,7 @@ are_of_slice plan (r ∷ set) (w ∷ chosen) p e rises exist few = by_sign (is_n
         let one : 1 + negative_count plan set chosen ≤ 1 = subst (λ b. (if b then 1 else 0) + negative_count plan set chosen ≤ 1) sign few in
         let none : negative_count plan set chosen ≤ 0 = omega (arith, one) in
         let here : (if is_negative plan r w then Negative r w else slice_given plan set chosen) ≡ Negative r w = rw sign refl in
-        let later = all_among_apart plan r w set chosen e rises.2 (all_positive plan set chosen parts.1 none) in
+        let later = sym (all_among_above plan r w set chosen e rises.2) ∙ all_positive plan set chosen parts.1 none in
         let first : all_among (values_in plan (Negative r w)) (r ∷ set) (w ∷ chosen) ≡ true = rw (same_test r, same_test w) later in
         subst (AreOfSlice plan (r ∷ set) (w ∷ chosen) p) (sym here) (rises.0, first, rw (same_test r) refl, sign)
     by_sign false sign rest =
@@ -187,11 +186,16 @@ count_within plan set kept exists =
     let part : get_or plan.sizes set 0 ≤ sum plan.sizes = get_or-le-sum_by (λ n. n) plan.sizes set 0 inside in
     omega (arith, part, kept.within, kept.counted set exists)
 
+pub rank_inside : (plan : PlanView) (set : ℕ) (chosen : List ℕ) (e : ℕ) → IsKept plan → set < length plan.sets → RisesFrom 0 e (set_at plan set)
+    → IsChoice plan (set_at plan set) chosen → rank_of plan (set_at plan set) chosen < get_or plan.sizes set 0
+rank_inside plan set chosen e kept exists rises choice =
+    let inside = slice_get_within (tuple_lists plan (set_at plan set)) (rank_of plan (set_at plan set) chosen) chosen (slice_get-rank_of plan (set_at plan set) chosen e rises choice) in
+    omega (arith, inside, length-tuple_lists plan (set_at plan set), kept.counted set exists)
+
 pub rank_within : (plan : PlanView) (set : ℕ) (chosen : List ℕ) (e : ℕ) → IsKept plan → set < length plan.sets → RisesFrom 0 e (set_at plan set)
     → IsChoice plan (set_at plan set) chosen → rank_of plan (set_at plan set) chosen < 2 ^ 26
 rank_within plan set chosen e kept exists rises choice =
-    let inside = slice_get_within (tuple_lists plan (set_at plan set)) (rank_of plan (set_at plan set) chosen) chosen (slice_get-rank_of plan (set_at plan set) chosen e rises choice) in
-    omega (arith, inside, length-tuple_lists plan (set_at plan set), count_within plan set kept exists)
+    omega (arith, rank_inside plan set chosen e kept exists rises choice, kept.counted set exists, count_within plan set kept exists)
 
 -- what stands where in the lists of values stands there in the demanded tuples
 pub slice_get-tuples_of : (m : ModelView) (plan : PlanView) (set : List ℕ) (rank : ℕ) (chosen : List ℕ) → plan ≡ plan_of m → RisesFrom 0 (length plan.positives) set

@@ -4,4 +4,4 @@ pub mod Places
 pub mod Kept
 pub mod Counts
 pub mod Signs
-pub mod Sample
+pub mod Laws

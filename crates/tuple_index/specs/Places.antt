@@ -1,6 +1,6 @@
 -- The demanded tuples of a set as values of its members, and where each stands. (This project's rule on
 -- the order of tuples; places are numbers in mixed radix.)
-use Rattle.std.specs.Prelude.{◌≡◌, ℕ, Bool, true, ◌+◌, ◌*◌, ◌<◌, ◌≤◌, List, [], ◌∷◌, ◌++◌, map, length, sum_by, ◌==◌, slice_index_or, if◌then◌else◌}
+use Rattle.std.specs.Prelude.{◌≡◌, ℕ, Bool, true, ◌&&◌, nat_le, nat_lt, ◌+◌, ◌*◌, ◌<◌, ◌≤◌, List, [], ◌∷◌, ◌++◌, map, length, sum_by, ◌==◌, slice_index_or, if◌then◌else◌}
 use Rattle.std.specs.List.{flat_map}
 use Rattle.cov_model.specs.declared.slice.Slice.{Slice}
 use Rattle.cov_model.specs.declared.slice.Slice.TheVariants.{Positive, Negative}
@@ -11,6 +11,11 @@ use Rattle.tuple_index.specs.Plan.{PlanView, is_negative}
 abbrev pub RisesFrom : ℕ → ℕ → List ℕ → Type 0
 RisesFrom p e [] = Unit {0}
 RisesFrom p e (q ∷ set) = (p ≤ q) × (q < e) × RisesFrom (q + 1) e set
+
+-- whether they do
+abbrev pub rises_from : ℕ → ℕ → List ℕ → Bool
+rises_from p e [] = true
+rises_from p e (q ∷ set) = nat_le p q && (nat_lt q e && rises_from (q + 1) e set)
 
 -- the values of a parameter in a slice
 abbrev pub values_in : PlanView → Slice → ℕ → List ℕ

@@ -171,18 +171,20 @@ impl Plan {
     pub fn rank(&self, set: u32, values: &[ValueNo]) -> u32
         requires set { set < length self.now.sets }
         requires choice { IsChoice self.now (set_at self.now set) values.now }
-        ensures { (m : ModelView) → self.now ≡ plan_of m → slice_get (tuples_of m (set_at self.now set)) result ≡ Some (tuple_cells m (set_at self.now set) values.now) }
+        ensures tuple { (m : ModelView) → self.now ≡ plan_of m → slice_get (tuples_of m (set_at self.now set)) result ≡ Some (tuple_cells m (set_at self.now set) values.now) }
+        ensures within { result < slice_index_or self.now.sizes set 0 }
     {
         self.place_of_values(self.kept_members(set), values) as u32
     }
 
-    /// Puts the values of the demanded tuple of this rank, those of the members in their order.
-    /// Takes no memory.
+    /// Puts the values of the demanded tuple of this rank, those of the members in their order. They
+    /// are a choice, as `rank` asks. Takes no memory.
     pub fn unrank(&self, set: u32, rank: u32, into: &mut [ValueNo])
         requires set { set < length self.now.sets }
         requires rank { rank < slice_index_or self.now.sizes set 0 }
         requires room { length into.old ≡ length (set_at self.now set) }
-        ensures { (m : ModelView) → self.now ≡ plan_of m → slice_get (tuples_of m (set_at self.now set)) rank ≡ Some (tuple_cells m (set_at self.now set) into.new) }
+        ensures tuple { (m : ModelView) → self.now ≡ plan_of m → slice_get (tuples_of m (set_at self.now set)) rank ≡ Some (tuple_cells m (set_at self.now set) into.new) }
+        ensures choice { (m : ModelView) → self.now ≡ plan_of m → IsChoice self.now (set_at self.now set) into.new }
     {
         let members = self.kept_members(set);
         let (slice, rest) = self.slice_holding(members, rank as u64);

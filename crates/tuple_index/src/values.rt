@@ -1,5 +1,6 @@
 ghost use Rattle.std.specs.Prelude.{◌≡◌, ◌<◌, ◌≤◌, length, map, IfOk};
 ghost use Rattle.definitions.specs.Demand.{rising};
+ghost use Rattle.tuple_index.specs.Places.{rises_from};
 ghost use Rattle.tuple_index.specs.Signs.{has_sign, values_of_sign};
 
 use crate::demand::is_listed;
@@ -7,12 +8,22 @@ use cov_model::{NoList, ParamNo, TestModel, Value, ValueNo};
 use std::alloc::Global;
 use value_text::NoMemory;
 
-/// The parameters of a choice, rising and each once.
-///
-/// # Errors
-///
-/// `NoMemory` where there is no room for them.
-pub fn rising_of(
+// Whether the numbers rise and are below the count.
+fn is_rising(numbers: &[u16], count: u16) -> bool
+    ensures { result ≡ rises_from 0 count numbers.now }
+{
+    let mut least: u16 = 0;
+    for n in numbers {
+        if *n < least || *n >= count {
+            return false;
+        }
+        least = *n + 1;
+    }
+    true
+}
+
+// The parameters that are in the list, in declared order.
+fn listed_params(
     alloc: Global,
     model: &TestModel,
     choice: &NoList,
@@ -29,6 +40,27 @@ pub fn rising_of(
         }
     }
     Ok(set)
+}
+
+/// The parameters of a choice, rising and each once. Most choices are so already.
+///
+/// # Errors
+///
+/// `NoMemory` where there is no room for them.
+pub fn rising_of(
+    alloc: Global,
+    model: &TestModel,
+    choice: &NoList,
+) -> Result<Vec<ParamNo>, NoMemory>
+    ensures { IfOk result (λ set. set.items ≡ rising model.now choice.now) }
+{
+    if !is_rising(choice.as_slice(), model.params().len() as u16) {
+        return listed_params(alloc, model, choice);
+    }
+    match choice.as_slice().to_vec(alloc) {
+        Ok(set) => Ok(set),
+        Err(_) => Err(NoMemory),
+    }
 }
 
 // Whether a value is negative, or is not.

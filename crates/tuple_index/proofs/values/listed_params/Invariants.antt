@@ -1,7 +1,7 @@
 use Rattle.std.proofs.Common.{◌≡◌, ◌++◌, ◌-◌, map, length}
 use Rattle.std.specs.List.{filter, range_with_len}
 use Rattle.definitions.specs.Demand.{is_among, rising}
-use Rattle.tuple_index.proofs.values.rising_of.Given as goal
+use Rattle.tuple_index.proofs.values.listed_params.Given as goal
 
 abbrev pub invariant-loop-p : goal.invariant-loop-p
 invariant-loop-p l =
