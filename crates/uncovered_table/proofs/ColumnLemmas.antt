@@ -22,9 +22,18 @@ pub split : (b : Bool) → (b ≡ true) ⊎ (b ≡ false)
 split true = inl refl
 split false = inr refl
 
-or_true : (b : Bool) → (b || true) ≡ true
+-- tests joined with one that passes or fails
+pub or_true : (b : Bool) → (b || true) ≡ true
 or_true true = refl
 or_true false = refl
+
+pub and_true : (b : Bool) → (b && true) ≡ b
+and_true true = refl
+and_true false = refl
+
+pub and_false : (b : Bool) → (b && false) ≡ false
+and_false true = refl
+and_false false = refl
 
 -- where one is as low as another that is below n, one is below n
 low_below : (count : ℕ → ℕ) (k n : ℕ) (set : List ℕ) → nat_lt k n ≡ true → list_any (λ q. nat_le (count q) k) set ≡ true → any_below count n set ≡ true

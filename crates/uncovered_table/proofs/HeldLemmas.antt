@@ -8,8 +8,7 @@ use Rattle.cov_model.specs.Rows.{contains}
 use Rattle.tuple_index.specs.Plan.{tuple_cells, value_given}
 use Rattle.tuple_index.specs.Places.{RisesFrom}
 use Rattle.tuple_index.proofs.ListingLemmas.{same_test, apart_test, above_test, rises_lower}
-use Rattle.uncovered_table.specs.Held.{given_cells, gives_values, is_value}
-use Rattle.std.proofs.lemmas.List.{length-set}
+use Rattle.uncovered_table.specs.Held.{gives_values, is_value}
 
 -- a parameter below the members has no value
 none_given : (set values : List ℕ) (p e : ℕ) → RisesFrom (p + 1) e set → value_given set values p ≡ None
@@ -70,8 +69,3 @@ pub contains-tuple : (m : ModelView) (cells : List (Option ℕ)) (set values : L
 contains-tuple m cells set values long rises as_many =
     held_from cells set values (length m.params) 0 set values (long ∙ sym (zero-add (length m.params)))
     (subst (λ k. RisesFrom 0 k set) (sym (zero-add (length m.params))) rises) as_many (λ q least. refl)
-
--- cells with one value more are as long
-pub given_long : (cells : List (Option ℕ)) (given : Option (ℕ × ℕ)) → length (given_cells cells given) ≡ length cells
-given_long cells None = refl
-given_long cells (Some pair) = length-set cells pair.0 (Some pair.1)

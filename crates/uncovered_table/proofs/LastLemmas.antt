@@ -1,21 +1,19 @@
 -- The last column of each set.
-use Rattle.std.proofs.Common.{inl, inr, ◌≡◌, ℕ, zero, suc, ◌+◌, ◌≤◌, Bool, true, false, ◌||◌, List, [], ◌∷◌, Option, Some, map, length, get_or, sum_by, ◌∙◌, refl, sym, subst, ap, arith, zero-add}
+use Rattle.std.proofs.Common.{inl, inr, ◌≡◌, ℕ, zero, suc, ◌+◌, ◌≤◌, Bool, true, false, ◌||◌, List, [], ◌∷◌, Some, length, get_or, sum_by, ◌∙◌, refl, sym, subst, ap, arith, zero-add}
 use Rattle.std.specs.Prelude.{◌==◌, nat_le, if◌then◌else◌}
-use Rattle.std.specs.List.{AllByRecursion, filter, list_any, range_with_len}
+use Rattle.std.specs.List.{filter, list_any, range_with_len}
 use Rattle.std.proofs.lemmas.Bool.{cases_eq}
 use Rattle.std.proofs.lemmas.List.Sums.{sum_by-cons}
 use Rattle.cov_model.specs.declared.slice.Slice.{Slice}
 use Rattle.cov_model.specs.Sound.{ModelView}
 use Rattle.cov_model.specs.Slices.{slice_values}
 use Rattle.cov_model.specs.Valid.{param_numbers}
-use Rattle.definitions.specs.Demand.{is_among, demanded_sets}
+use Rattle.definitions.specs.Demand.{is_among}
 use Rattle.definitions.specs.Completion.{count_in}
 use Rattle.definitions.specs.SliceRows.{IsSliceOf}
-use Rattle.tuple_index.specs.Kept.{IsKept}
-use Rattle.tuple_index.specs.Plan.{PlanView, plan_of}
+use Rattle.tuple_index.specs.Plan.{plan_of}
 use Rattle.tuple_index.specs.Places.{RisesFrom, values_in}
 use Rattle.tuple_index.proofs.ListingLemmas.{same_test, apart_test, not_among_before}
-use Rattle.tuple_index.proofs.OrderLemmas.{each_rises}
 use Rattle.uncovered_table.specs.Kept.{last_column}
 use Rattle.uncovered_table.specs.Lasts.{lowest}
 use Rattle.uncovered_table.proofs.ColumnLemmas.{filter_yes, filter_no, last_passing}
@@ -59,21 +57,9 @@ same_lowest f g (p ∷ set) same =
     ap (λ b. if b then lowest f set else Some p) (same_low f g p set same)
     ∙ ap (λ o. if list_any (λ q. nat_le (g q) (g p)) set then o else Some p) (same_lowest f g set same)
 
-last_is : (m : ModelView) (slice : Slice) (set : List ℕ) → IsSliceOf m slice → RisesFrom 0 (length m.params) set
+pub last_is : (m : ModelView) (slice : Slice) (set : List ℕ) → IsSliceOf m slice → RisesFrom 0 (length m.params) set
     → last_column m slice set ≡ lowest (λ r. length (values_in (plan_of m) slice r)) set
 last_is m slice set own rises =
     let members = members_of (is_among set) (length m.params) 0 set (subst (λ k. RisesFrom 0 k set) (sym (zero-add (length m.params))) rises) (λ q least. refl) in
     last_passing (is_among set) (sum_by length (slice_values m slice)) (count_in m slice) (param_numbers m) set (count_within (slice_values m slice)) members
     ∙ same_lowest (count_in m slice) (λ r. length (values_in (plan_of m) slice r)) set (λ p. ap length (slice_values_at m slice p own))
-
-each_last : (m : ModelView) (slice : Slice) (sets : List (List ℕ)) → IsSliceOf m slice → AllByRecursion (RisesFrom 0 (length m.params)) sets
-    → map (last_column m slice) sets ≡ map (lowest (λ r. length (values_in (plan_of m) slice r))) sets
-each_last m slice [] own rise = refl
-each_last m slice (set ∷ sets) own rise =
-    ap (λ o. o ∷ map (last_column m slice) sets) (last_is m slice set own rise.0)
-    ∙ ap (λ os. lowest (λ r. length (values_in (plan_of m) slice r)) set ∷ os) (each_last m slice sets own rise.1)
-
-pub ends_are : (m : ModelView) (plan : PlanView) (slice : Slice) (ends : List (Option ℕ)) → plan ≡ plan_of m → IsKept plan → IsSliceOf m slice
-    → ends ≡ map (lowest (λ r. length (values_in plan slice r))) plan.sets → ends ≡ map (last_column m slice) (demanded_sets m)
-ends_are m plan slice ends planned kept own made =
-    made ∙ ap (λ p. map (lowest (λ r. length (values_in p slice r))) p.sets) planned ∙ sym (each_last m slice (demanded_sets m) own (each_rises m))

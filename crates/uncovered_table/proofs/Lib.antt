@@ -4,6 +4,15 @@ pub mod HeldLemmas
 pub mod PlaceLemmas
 pub mod LoopLemmas
 pub mod LastLemmas
-pub mod TableLemmas
 pub mod ScoreLemmas
-pub mod SampleSound
+pub mod DigitLemmas
+pub mod ChoiceLemmas
+pub mod BitLemmas
+pub mod OpenLemmas
+pub mod GainLemmas
+pub mod NextLemmas
+pub mod PartLemmas
+pub mod TableLemmas
+pub mod LineLemmas
+pub mod ValueLemmas
+pub mod Crossing

@@ -21,12 +21,8 @@ use Rattle.tuple_index.specs.Places.{RisesFrom, has_part, start_of, values_in, w
 use Rattle.tuple_index.proofs.ListingLemmas.{same_test}
 use Rattle.tuple_index.proofs.SliceLemmas.{ways_within, within_count}
 use Rattle.uncovered_table.specs.Places.{is_place, places_in, set_at, slice_places, slice_start, tuple_at}
-use Rattle.uncovered_table.proofs.ColumnLemmas.{split}
+use Rattle.uncovered_table.proofs.ColumnLemmas.{or_true, split}
 use Rattle.uncovered_table.proofs.SliceLemmas.{length-tuples_in, own_slice, start_is}
-
-or_true : (b : Bool) → (b || true) ≡ true
-or_true true = refl
-or_true false = refl
 
 -- a place is the same as itself
 pub same_place : (place : ℕ × ℕ) → is_place place place ≡ true
@@ -46,32 +42,6 @@ pub set_rises : (m : ModelView) (set : ℕ) → IsKept (plan_of m) → set < len
 set_rises m set kept exists =
     let long : length (map (positive_values m) (range_with_len 0 (length m.params))) ≡ length m.params = length-map-range_with_len (positive_values m) 0 (length m.params) in
     subst (λ n. RisesFrom 0 n (set_at m set)) long (All-get_or (RisesFrom 0 (length (plan_of m).positives)) (demanded_sets m) set [] exists kept.rising)
-
--- the places of a set are the ranks of its tuples in the slice
-pub places_in-ranks : (m : ModelView) (slice : Slice) (set start count : ℕ) → IsKept (plan_of m) → IsSliceOf m slice → set < length (demanded_sets m)
-    → count ≡ ways_in (plan_of m) (set_at m set) slice
-    → (has_part (set_at m set) slice ≡ true → start ≡ start_of (plan_of m) (set_at m set) slice)
-    → places_in m slice set ≡ map (λ rank. (set, rank)) (range_with_len start count)
-places_in-ranks m slice set start count kept own exists counted starts =
-    let rises = set_rises m set kept exists in
-    let long : length (tuples_in m (set_at m set) slice) ≡ count = length-tuples_in m (set_at m set) slice rises ∙ sym counted in
-    ap (λ n. map (λ rank. (set, rank)) (range_with_len (slice_start m (set_at m set) slice) n)) long
-    ∙ elim (split (has_part (set_at m set) slice)) [
-      | inl part ↦ ap (λ n. map (λ rank. (set, rank)) (range_with_len n count)) (start_is m (set_at m set) slice rises own part ∙ sym (starts part))
-      | inr none ↦
-          let empty : count ≡ 0 = counted ∙ rw none refl in
-          ap (λ n. map (λ rank. (set, rank)) (range_with_len (slice_start m (set_at m set) slice) n)) empty
-          ∙ sym (ap (λ n. map (λ rank. (set, rank)) (range_with_len start n)) empty)
-    ]
-
-pub places_in-plan : (m : ModelView) (slice : Slice) (plan : PlanView) (set start count : ℕ) → plan ≡ plan_of m → IsKept plan → IsSliceOf m slice → set < length plan.sets
-    → count ≡ ways_in plan (get_or plan.sets set []) slice
-    → (has_part (get_or plan.sets set []) slice ≡ true → start ≡ start_of plan (get_or plan.sets set []) slice)
-    → places_in m slice set ≡ map (λ rank. (set, rank)) (range_with_len start count)
-places_in-plan m slice plan set start count planned kept own exists counted starts =
-    places_in-ranks m slice set start count (subst IsKept planned kept) own (subst (λ p. set < length p.sets) planned exists)
-    (subst (λ p. count ≡ ways_in p (get_or p.sets set []) slice) planned counted)
-    (subst (λ p. has_part (get_or p.sets set []) slice ≡ true → start ≡ start_of p (get_or p.sets set []) slice) planned starts)
 
 -- there are few
 each_few : (m : ModelView) (slice : Slice) (n i : ℕ) → IsKept (plan_of m) → IsSliceOf m slice → i + n ≡ length (demanded_sets m)

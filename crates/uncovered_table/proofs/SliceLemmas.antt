@@ -22,7 +22,7 @@ use Rattle.tuple_index.proofs.PlaceLemmas.{length-value_lists}
 use Rattle.tuple_index.proofs.RankLemmas.{ways_negative}
 use Rattle.tuple_index.proofs.TupleLemmas.{among_below, negative_lists_in, own_values, positive_lists}
 use Rattle.uncovered_table.specs.Places.{is_slice, slice_start}
-use Rattle.uncovered_table.proofs.ColumnLemmas.{split, filter_yes, filter_no}
+use Rattle.uncovered_table.proofs.ColumnLemmas.{filter_no, filter_yes, or_true, split}
 
 -- a number that passes a test is among those of a range that do
 among_passing : (f : ℕ → Bool) (a n v : ℕ) → a ≤ v → v < a + n → f v ≡ true → is_among (filter f (range_with_len a n)) v ≡ true
@@ -41,13 +41,9 @@ among_passing f a (suc n) v least most passes =
             | inr fails ↦ ap (λ vs. is_among vs v) (filter_no f a (range_with_len (a + 1) n) fails) ∙ rest
           ]
     ]
-  where
-    or_true : (b : Bool) → (b || true) ≡ true
-    or_true true = refl
-    or_true false = refl
 
 -- the negative values of a plan's parameter are the model's
-own_negatives : (m : ModelView) (q : ℕ) → q < length m.params → negatives_of (plan_of m) q ≡ negative_values m q
+pub own_negatives : (m : ModelView) (q : ℕ) → q < length m.params → negatives_of (plan_of m) q ≡ negative_values m q
 own_negatives m q within = get_or-map-range_with_len (negative_values m) 0 (length m.params) q q [] within (zero-add q)
 
 -- a slice of the model is one of its plan

@@ -1,105 +1,240 @@
--- Tables of open tuples: what is kept of their places.
-use Rattle.std.proofs.Common.{◌≡◌, ℕ, suc, ◌+◌, ◌<◌, ◌≤◌, Bool, true, false, not, List, Some, None, All, length, get_or, drop, take, ◌∙◌, sym, subst, ap, arith, refl, drop-cons}
-use Rattle.std.specs.Prelude.{find, slice_set, if◌then◌else◌}
-use Rattle.std.specs.List.{filter, list_any}
-use Rattle.std.proofs.lemmas.List.{at_drop_all, take_all}
-use Rattle.std.proofs.lemmas.List.Elements.{All-filter, All-get_or}
-use Rattle.std.proofs.lemmas.List.Filters.{FiltersInPlace, FiltersInPlace-more_no, FiltersInPlace-more_set, length-filter_both, length-filter_more}
+-- The tables of a slice, as they grow set by set and value by value.
+use Rattle.std.proofs.Common.{inl, inr, ◌≡◌, ℕ, zero, suc, ◌+◌, ◌-◌, ◌^◌, ◌<◌, ◌≤◌, Bool, true, false, List, [], ◌∷◌, ◌++◌, Option, Some, None, map, length, get_or, replicate, nat_lt, ◌∙◌, refl, sym, subst, ap, arith, zero-add, length-append}
+use Rattle.std.specs.Prelude.{◌==◌, slice_set, if◌then◌else◌}
+use Rattle.std.specs.Option.{option_map_or}
+use Rattle.std.specs.List.{filter, list_any, range_with_len}
+use Rattle.std.proofs.lemmas.Bool.{cases_eq, cases_lt}
+use Rattle.std.proofs.lemmas.Bool.Decides.{nat_tests}
+use Rattle.std.proofs.lemmas.List.{append-nil, ext_get_or, get_or-map, length-map, get_or_append_left, get_or_push, get_or-set_same, get_or-set_other, length-set}
+use Rattle.std.proofs.lemmas.List.Elements.{filter-append}
+use Rattle.std.proofs.lemmas.List.FromFn.{get_or-map-range_with_len, length-map-range_with_len, length-range_with_len, map-range_with_len_more}
+use Rattle.std.proofs.lemmas.List.Sums.{count_by-le-length, length-filter}
 use Rattle.cov_model.specs.declared.slice.Slice.{Slice}
 use Rattle.cov_model.specs.Sound.{ModelView}
-use Rattle.cov_model.proofs.FaultLemmas.{find-drop_more}
+use Rattle.cov_model.specs.Valid.{param_numbers}
+use Rattle.definitions.specs.Demand.{demanded_sets}
 use Rattle.definitions.specs.SliceRows.{IsSliceOf}
 use Rattle.tuple_index.specs.Kept.{IsKept}
-use Rattle.tuple_index.specs.Plan.{PlanView, plan_of}
-use Rattle.uncovered_table.specs.Kept.{HoldsPlaces, SliceView}
-use Rattle.uncovered_table.specs.Open.{IsPlaceOf, OpenView}
-use Rattle.uncovered_table.specs.Places.{is_place, slice_places}
-use Rattle.uncovered_table.proofs.PlaceLemmas.{each_listed, places_few}
+use Rattle.tuple_index.specs.Plan.{plan_of}
+use Rattle.tuple_index.specs.Places.{place_of}
+use Rattle.tuple_index.proofs.ListingLemmas.{map_same}
+use Rattle.uncovered_table.specs.declared.block.Block.{Block}
+use Rattle.uncovered_table.specs.Bits.{bit_of, first_bit, sets_in_play, tuple_count}
+use Rattle.uncovered_table.specs.Digits.{digit_of}
+use Rattle.uncovered_table.specs.Kept.{AreBlocks, IsBlock, play_column, with_set}
+use Rattle.uncovered_table.specs.Places.{ends_with_column, is_place, set_at, slice_places}
+use Rattle.uncovered_table.proofs.BitLemmas.{bit_known, bits_before, first_bit_more, range_next}
+use Rattle.uncovered_table.proofs.ColumnLemmas.{and_false, and_true, filter_no, filter_yes, split}
+use Rattle.uncovered_table.proofs.GainLemmas.{in_play_with}
+use Rattle.uncovered_table.proofs.PlaceLemmas.{places_few}
 
-abbrev pub view_of : SliceView → List (ℕ × ℕ) → OpenView
-view_of v places = record { model = v.model; slice = v.slice; places = places }
+-- the bits of a set are few
+pub bits_few : (m : ModelView) (slice : Slice) (set : ℕ) → IsKept (plan_of m) → IsSliceOf m slice → set < length (demanded_sets m)
+    → first_bit m slice set + tuple_count m slice set ≤ 2 ^ 26
+bits_few m slice set kept own exists = omega (arith, bits_before m slice set (length (demanded_sets m)) exists, places_few m slice kept own)
 
--- all places of a slice
-pub holds_all : (m : ModelView) (slice : Slice) (plan : PlanView) (v : SliceView) (places : List (ℕ × ℕ)) → plan ≡ plan_of m → IsKept plan → IsSliceOf m slice
-    → v ≡ record { model = m; slice = slice } → places ≡ slice_places v.model v.slice → HoldsPlaces (view_of v places)
-holds_all m slice plan v places planned kept own same listed =
-    subst (λ ps. HoldsPlaces (view_of v ps)) (sym listed)
-    (subst (λ w. HoldsPlaces (view_of w (slice_places w.model w.slice))) (sym same)
-    (record { few = places_few m slice (subst IsKept planned kept) own; placed = each_listed (slice_places m slice) }))
+-- the blocks of one set more
+pub blocks_more : (m : ModelView) (slice : Slice) (set : ℕ) (blocks : List Block) (block : Block) → AreBlocks m slice set blocks → IsBlock m slice set block
+    → AreBlocks m slice (set + 1) (blocks ++ block ∷ [])
+blocks_more m slice set blocks block so_far this = record {
+  many = length-append blocks (block ∷ []) ∙ ap (λ n. n + 1) so_far.many;
+  each = λ s other within. elim (cases_lt s set) [
+    | inl before ↦ subst (IsBlock m slice s) (sym (get_or_append_left blocks (block ∷ []) other s (omega (arith, before, so_far.many)))) (so_far.each s other before)
+    | inr least ↦
+        let here : set ≡ s = omega (arith, least, within) in
+        subst (IsBlock m slice s) (sym (get_or_push blocks block other s (so_far.many ∙ here))) (subst (λ k. IsBlock m slice k block) here this)
+  ];
+}
 
--- and some of them
-pub holds_fewer : (v : SliceView) (places fewer : List (ℕ × ℕ)) (f : ℕ × ℕ → Bool) → HoldsPlaces (view_of v places) → fewer ≡ filter f places → HoldsPlaces (view_of v fewer)
-holds_fewer v places fewer f holds same =
-    let both = length-filter_both f (λ place. not (f place)) (λ place. refl) places in
-    subst (λ ps. HoldsPlaces (view_of v ps)) (sym same) (record {
-      few = omega (arith, both, holds.few);
-      placed = All-filter f (IsPlaceOf (view_of v places)) places holds.placed;
-    })
+-- the sets in play for a column among the first ones
+abbrev pub first_in_play : ModelView → Slice → ℕ → ℕ → List ℕ
+first_in_play m slice n column = filter (in_play_with m slice column) (range_with_len 0 n)
 
--- a place that is read is one of the slice's
-pub read_placed : (v : SliceView) (places : List (ℕ × ℕ)) (i : ℕ) (place : ℕ × ℕ) → HoldsPlaces (view_of v places) → i < length places → place ≡ get_or places i place
-    → list_any (is_place place) (slice_places v.model v.slice) ≡ true
-read_placed v places i place holds within read =
-    let known = All-get_or (IsPlaceOf (view_of v places)) places i place within holds.placed in
-    subst (IsPlaceOf (view_of v places)) (sym read) known
+pub no_sets : (m : ModelView) (slice : Slice) (a n : ℕ) → replicate n [] ≡ map (first_in_play m slice 0) (range_with_len a n)
+no_sets m slice a zero = refl
+no_sets m slice a (suc n) = ap (λ lists. [] ∷ lists) (no_sets m slice (a + 1) n)
 
--- a place is moved forward, or passed over
-pub moved : (g : ℕ × ℕ → Bool) (places changed : List (ℕ × ℕ)) (k i : ℕ) (place : ℕ × ℕ) → FiltersInPlace (λ p. not (g p)) places changed k i → i < length changed
-    → g place ≡ false → place ≡ get_or changed i place → FiltersInPlace (λ p. not (g p)) places (slice_set changed k place) (k + 1) (i + 1)
-moved g places changed k i place filters within test read = FiltersInPlace-more_set filters within (ap not test) read
+-- a set is in play for the column that it has, and for no other
+abbrev is_column : Option ℕ → ℕ → Bool
+is_column o column = option_map_or (λ q. q == column) o false
 
-pub passed : (g : ℕ × ℕ → Bool) (places changed : List (ℕ × ℕ)) (k i : ℕ) (place : ℕ × ℕ) → FiltersInPlace (λ p. not (g p)) places changed k i → i < length changed
-    → g place ≡ true → place ≡ get_or changed i place → FiltersInPlace (λ p. not (g p)) places changed k (i + 1)
-passed g places changed k i place filters within test read = FiltersInPlace-more_no filters within (ap not test) read
+by_column : (m : ModelView) (slice : Slice) (set column : ℕ) → in_play_with m slice column set ≡ is_column (play_column m slice set) column
+by_column m slice set column =
+    elim (split (nat_lt 0 (tuple_count m slice set))) [
+      | inl filled ↦ rw filled (and_true (ends_with_column m slice column (set_at m set)))
+      | inr empty ↦ rw empty (and_false (ends_with_column m slice column (set_at m set)))
+    ]
 
-pub listed_read : (m : ModelView) (slice : Slice) (places : List (ℕ × ℕ)) (i : ℕ) (place : ℕ × ℕ) → All (λ place. list_any (is_place place) (slice_places m slice) ≡ true) places
-    → i < length places → place ≡ get_or places i place → list_any (is_place place) (slice_places m slice) ≡ true
-listed_read m slice places i place placed within read =
-    subst (λ p. list_any (is_place p) (slice_places m slice) ≡ true) (sym read)
-    (All-get_or (λ place. list_any (is_place place) (slice_places m slice) ≡ true) places i place within placed)
+one_more : (m : ModelView) (slice : Slice) (set column : ℕ) → first_in_play m slice (set + 1) column
+    ≡ first_in_play m slice set column ++ (if is_column (play_column m slice set) column then set ∷ [] else [])
+one_more m slice set column =
+    let f = in_play_with m slice column in
+    ap (filter f) (range_next 0 set ∙ ap (λ k. range_with_len 0 set ++ k ∷ []) (zero-add set)) ∙ filter-append f (range_with_len 0 set) (set ∷ [])
+    ∙ ap (λ b. filter f (range_with_len 0 set) ++ (if b then set ∷ [] else [])) (by_column m slice set column)
 
--- the first place that passes a test
-pub found_here : (f : ℕ × ℕ → Bool) (places : List (ℕ × ℕ)) (i : ℕ) (place : ℕ × ℕ) → i < length places → place ≡ get_or places i place → f place ≡ true
-    → find f (drop i places) ≡ find f places → Some place ≡ find f places
-found_here f places i place within read passes so_far =
-    let test : f (get_or places i place) ≡ true = ap f (sym read) ∙ passes in
-    let first : find f (drop i places) ≡ Some (get_or places i place) =
-    ap (find f) (drop-cons places i place within) ∙ ap (λ b. if b then Some (get_or places i place) else find f (drop (suc i) places)) test in
-    ap Some read ∙ sym first ∙ so_far
+pub sets_more : (m : ModelView) (slice : Slice) (set : ℕ) → with_set (play_column m slice set) set (map (first_in_play m slice set) (param_numbers m))
+    ≡ map (first_in_play m slice (set + 1)) (param_numbers m)
+sets_more m slice set = by_option (play_column m slice set) (one_more m slice set)
+  where
+    count : ℕ
+    count = length m.params
 
-pub found_later : (f : ℕ × ℕ → Bool) (places : List (ℕ × ℕ)) (i : ℕ) (place : ℕ × ℕ) → i < length places → place ≡ get_or places i place → f place ≡ false
-    → find f (drop i places) ≡ find f places → find f (drop (i + 1) places) ≡ find f places
-found_later f places i place within read fails so_far = sym (find-drop_more f places i place within (ap f (sym read) ∙ fails)) ∙ so_far
+    by_option : (o : Option ℕ) → ((column : ℕ) → first_in_play m slice (set + 1) column ≡ first_in_play m slice set column ++ (if is_column o column then set ∷ [] else []))
+        → with_set o set (map (first_in_play m slice set) (param_numbers m)) ≡ map (first_in_play m slice (set + 1)) (param_numbers m)
+    by_option None more = map_same (first_in_play m slice set) (first_in_play m slice (set + 1)) (param_numbers m)
+        (λ column. sym (more column ∙ append-nil (first_in_play m slice set column)))
+    by_option (Some p) more =
+        let before = map (first_in_play m slice set) (param_numbers m) in
+        let after = map (first_in_play m slice (set + 1)) (param_numbers m) in
+        let changed = slice_set before p (get_or before p [] ++ set ∷ []) in
+        let long : length before ≡ length m.params = length-map-range_with_len (first_in_play m slice set) 0 (length m.params) in
+        let also : length after ≡ length m.params = length-map-range_with_len (first_in_play m slice (set + 1)) 0 (length m.params) in
+        let same_long : length changed ≡ length before = length-set before p (get_or before p [] ++ set ∷ []) in
+        ext_get_or [] changed after (same_long ∙ long ∙ sym also)
+        (λ i within.
+        let inside : i < length m.params = omega (arith, within, same_long, long) in
+        let was : get_or before i [] ≡ first_in_play m slice set i = get_or-map-range_with_len (first_in_play m slice set) 0 (length m.params) i i [] inside (zero-add i) in
+        let is : get_or after i [] ≡ first_in_play m slice (set + 1) i =
+        get_or-map-range_with_len (first_in_play m slice (set + 1)) 0 (length m.params) i i [] inside (zero-add i) in
+        elim (cases_eq i p) [
+          | inl here ↦
+              let test : (p == i) ≡ true = grind (arith, nat_tests) in
+              let own : p < length before = omega (arith, here, inside, long) in
+              ap (λ k. get_or changed k []) here ∙ get_or-set_same before p (get_or before p [] ++ set ∷ []) [] own
+              ∙ ap (λ k. get_or before k [] ++ set ∷ []) (sym here) ∙ ap (λ list. list ++ set ∷ []) was
+              ∙ ap (λ b. first_in_play m slice set i ++ (if b then set ∷ [] else [])) (sym test) ∙ sym (more i) ∙ sym is
+          | inr apart ↦
+              let test : (p == i) ≡ false = grind (arith, nat_tests) in
+              get_or-set_other before p i (get_or before p [] ++ set ∷ []) [] apart ∙ was ∙ sym (append-nil (first_in_play m slice set i))
+              ∙ ap (λ b. first_in_play m slice set i ++ (if b then set ∷ [] else [])) (sym test) ∙ sym (more i) ∙ sym is
+        ])
 
--- a place that stands where it stood
-pub place_stands : (f : ℕ × ℕ → Bool) (places changed : List (ℕ × ℕ)) (kept i : ℕ) (place : ℕ × ℕ) → FiltersInPlace f places changed kept i → i < length changed
-    → place ≡ get_or changed i place → place ≡ get_or places i place
-place_stands f places changed kept i place filters within read =
-    let first = λ (ps : List (ℕ × ℕ)). get_or ps 0 place in
-    let before : i < length places = omega (arith, filters.long, within) in
-    read ∙ ap first (sym (drop-cons changed i place within)) ∙ ap first filters.rest ∙ ap first (drop-cons places i place before)
+-- the digit of a value is the number of the values before it that are the slice's too
+pub digit_passing : (f : ℕ → Bool) (n v : ℕ) → v < n → digit_of (filter f (range_with_len 0 n)) v ≡ (if f v then Some (length (filter f (range_with_len 0 v))) else None)
+digit_passing f n v below =
+    let values = filter f (range_with_len 0 n) in
+    elim (split (f v)) [
+      | inl passing ↦
+          let at = place_passing f 0 v n v (zero-add v) passing below in
+          let least = at.1 in
+          let inside : nat_lt (place_of values v) (length values) ≡ true = grind (arith, nat_tests) in
+          ap (λ b. if b then Some (place_of values v) else None) inside ∙ ap Some at.0
+          ∙ ap (λ b. if b then Some (length (filter f (range_with_len 0 v))) else None) (sym passing)
+      | inr fails ↦
+          let past = place_failing f 0 n v fails in
+          let outside : nat_lt (place_of values v) (length values) ≡ false = grind (arith, nat_tests) in
+          ap (λ b. if b then Some (place_of values v) else None) outside ∙ ap (λ b. if b then Some (length (filter f (range_with_len 0 v))) else None) (sym fails)
+    ]
+  where
+    place_failing : (f : ℕ → Bool) (a n v : ℕ) → f v ≡ false → place_of (filter f (range_with_len a n)) v ≡ length (filter f (range_with_len a n))
+    place_failing f a zero v fails = refl
+    place_failing f a (suc n) v fails =
+        let rest = place_failing f (a + 1) n v fails in
+        elim (split (f a)) [
+          | inl passing ↦
+              let differs : (a == v) ≡ false = elim (cases_eq a v) [ inl same ↦ absurd (true_false (sym passing ∙ ap f same ∙ fails)) | inr apart ↦ grind (arith, nat_tests) ] in
+              let more : length (filter f (range_with_len (a + 1) n)) + 1 ≡ suc (length (filter f (range_with_len (a + 1) n))) = omega arith in
+              let opened = filter_yes f a (range_with_len (a + 1) n) passing in
+              ap (λ vs. place_of vs v) opened ∙ ap (λ b. if b then 0 else place_of (filter f (range_with_len (a + 1) n)) v + 1) differs ∙ ap (λ k. k + 1) rest ∙ more
+              ∙ ap length (sym opened)
+          | inr other ↦ let opened = filter_no f a (range_with_len (a + 1) n) other in ap (λ vs. place_of vs v) opened ∙ rest ∙ ap length (sym opened)
+        ]
+      where
+        true_false : true ≡ false → ⊥
+        true_false same = cc
 
--- one place more is counted, or passed over
-counted_more : (f : ℕ × ℕ → Bool) (places : List (ℕ × ℕ)) (i count more : ℕ) (place : ℕ × ℕ) (b : Bool) → i < length places → place ≡ get_or places i place → f place ≡ b
-    → more ≡ (if b then 1 else 0) → count ≡ length (filter f (take i places)) → count + more ≡ length (filter f (take (i + 1) places))
-counted_more f places i count more place b within read test is so_far =
-    let all = length-filter_more f places i place within in
-    let one : Bool → ℕ = λ b. if b then 1 else 0 in
-    let same : one (f (get_or places i place)) ≡ one b = ap one (ap f (sym read) ∙ test) in
-    omega (arith, all, same, is, so_far)
+    place_passing : (f : ℕ → Bool) (a k n v : ℕ) → a + k ≡ v → f v ≡ true → k < n
+        → (place_of (filter f (range_with_len a n)) v ≡ length (filter f (range_with_len a k))) × (place_of (filter f (range_with_len a n)) v < length (filter f (range_with_len a n)))
+    place_passing f a k zero v at passing below = absurd (omega (arith, below))
+    place_passing f a zero (suc n) v at passing below =
+        let here : a ≡ v = omega (arith, at) in
+        let test : (a == v) ≡ true = grind (arith, nat_tests) in
+        let opened = filter_yes f a (range_with_len (a + 1) n) (ap f here ∙ passing) in
+        let place : place_of (filter f (range_with_len a (suc n))) v ≡ 0 =
+        ap (λ vs. place_of vs v) opened ∙ ap (λ b. if b then 0 else place_of (filter f (range_with_len (a + 1) n)) v + 1) test in
+        (place, omega (arith, place, ap length opened))
+    place_passing f a (suc k) (suc n) v at passing below =
+        let rest = place_passing f (a + 1) k n v (omega (arith, at)) passing (omega (arith, below)) in
+        let differs : (a == v) ≡ false = grind (arith, nat_tests) in
+        elim (split (f a)) [
+          | inl also ↦
+              let opened = filter_yes f a (range_with_len (a + 1) n) also in
+              let front = filter_yes f a (range_with_len (a + 1) k) also in
+              let place : place_of (filter f (range_with_len a (suc n))) v ≡ place_of (filter f (range_with_len (a + 1) n)) v + 1 =
+              ap (λ vs. place_of vs v) opened ∙ ap (λ b. if b then 0 else place_of (filter f (range_with_len (a + 1) n)) v + 1) differs in
+              (omega (arith, place, rest.0, ap length front), omega (arith, place, rest.1, ap length opened))
+          | inr other ↦
+              let opened = filter_no f a (range_with_len (a + 1) n) other in
+              let front = filter_no f a (range_with_len (a + 1) k) other in
+              let place = ap (λ vs. place_of vs v) opened in
+              (place ∙ rest.0 ∙ sym (ap length front), omega (arith, place, rest.1, ap length opened))
+        ]
 
-pub counted_yes : (f : ℕ × ℕ → Bool) (places : List (ℕ × ℕ)) (i count : ℕ) (place : ℕ × ℕ) → i < length places → place ≡ get_or places i place → f place ≡ true
-    → count ≡ length (filter f (take i places)) → count + 1 ≡ length (filter f (take (i + 1) places))
-counted_yes f places i count place within read test so_far = counted_more f places i count 1 place true within read test refl so_far
+-- one value more
+pub digits_more : (f : ℕ → Bool) (n v next : ℕ) (own : Bool) (digits longer : List (Option ℕ)) → v < n → own ≡ f v → next ≡ length (filter f (range_with_len 0 v))
+    → longer ≡ digits ++ (if own then Some next else None) ∷ [] → digits ≡ map (digit_of (filter f (range_with_len 0 n))) (range_with_len 0 v)
+    → longer ≡ map (digit_of (filter f (range_with_len 0 n))) (range_with_len 0 (v + 1))
+digits_more f n v next own digits longer below is so_far pushed same =
+    let values = filter f (range_with_len 0 n) in
+    pushed ∙ ap (λ b. digits ++ (if b then Some next else None) ∷ []) is ∙ ap (λ k. digits ++ (if f v then Some k else None) ∷ []) so_far
+    ∙ ap (λ o. digits ++ o ∷ []) (sym (digit_passing f n v below)) ∙ ap (λ ds. ds ++ digit_of values v ∷ []) same
+    ∙ sym (map-range_with_len_more (digit_of values) 0 v v (zero-add v))
 
-pub counted_no : (f : ℕ × ℕ → Bool) (places : List (ℕ × ℕ)) (i count : ℕ) (place : ℕ × ℕ) → i < length places → place ≡ get_or places i place → f place ≡ false
-    → count ≡ length (filter f (take i places)) → count ≡ length (filter f (take (i + 1) places))
-counted_no f places i count place within read test so_far =
-    let none : count + 0 ≡ count = omega arith in
-    sym none ∙ counted_more f places i count 0 place false within read test refl so_far
+pub next_more : (f : ℕ → Bool) (v next : ℕ) (own : Bool) → own ≡ f v → next ≡ length (filter f (range_with_len 0 v))
+    → next + (if own then 1 else 0) ≡ length (filter f (range_with_len 0 (v + 1)))
+next_more f v next own is so_far =
+    let one : length (if f v then v ∷ [] else []) ≡ (if f v then 1 else 0) = by_test (f v) in
+    ap (λ b. next + (if b then 1 else 0)) is ∙ ap (λ k. next + k) (sym one) ∙ ap (λ k. k + length (if f v then v ∷ [] else [])) so_far
+    ∙ sym (length-append (filter f (range_with_len 0 v)) (if f v then v ∷ [] else []))
+    ∙ ap length (sym (filter-append f (range_with_len 0 v) (v ∷ [])) ∙ ap (filter f) (sym (range_next 0 v ∙ ap (λ k. range_with_len 0 v ++ k ∷ []) (zero-add v))))
+  where
+    by_test : (b : Bool) → length (if b then v ∷ [] else []) ≡ (if b then 1 else 0)
+    by_test true = refl
+    by_test false = refl
 
-pub counted_all : (f : ℕ × ℕ → Bool) (places : List (ℕ × ℕ)) (i count : ℕ) → length places ≤ i → count ≡ length (filter f (take i places)) → count ≡ length (filter f places)
-counted_all f places i count past so_far = so_far ∙ ap (λ ps. length (filter f ps)) (take_all i places past)
+-- lists that are those of a table
+pub lists_long : {V X : Type 0} (items : V → List X) (f : ℕ → List X) (n : ℕ) (lists : List V) → map items lists ≡ map f (range_with_len 0 n) → length lists ≡ n
+lists_long items f n lists same = sym (length-map lists items) ∙ ap length same ∙ length-map-range_with_len f 0 n
 
-pub found_none : (f : ℕ × ℕ → Bool) (places : List (ℕ × ℕ)) (i : ℕ) → length places ≤ i → find f (drop i places) ≡ find f places → None ≡ find f places
-found_none f places i past so_far = sym (at_drop_all (find f) places i past) ∙ so_far
+-- a list that is read from a table of lists
+pub read_list : {V X : Type 0} (items : V → List X) (f : ℕ → List X) (n p : ℕ) (lists : List V) (list : V) → map items lists ≡ map f (range_with_len 0 n) → p < n
+    → list ≡ get_or lists p list → items list ≡ f p
+read_list items f n p lists list same within read =
+    ap items read ∙ sym (get_or-map items lists p list [] (omega (arith, within, lists_long items f n lists same)))
+    ∙ ap (λ ls. get_or ls p []) same ∙ get_or-map-range_with_len f 0 n p p [] within (zero-add p)
+
+-- the bit of a place by the block of its set
+pub record BlockBit (m : ModelView) (slice : Slice) (set rank : ℕ) (block : Block) : Type 0 where
+  pub least : block.start ≤ rank
+  pub value : block.first + (rank - block.start) ≡ bit_of m slice (set, rank)
+  pub within : block.first + (rank - block.start) < length (slice_places m slice)
+  pub few : length (slice_places m slice) ≤ 2 ^ 26
+
+pub block_bit : (m : ModelView) (slice : Slice) (set rank : ℕ) (block : Block) → IsKept (plan_of m) → IsSliceOf m slice → IsBlock m slice set block
+    → list_any (is_place (set, rank)) (slice_places m slice) ≡ true → BlockBit m slice set rank block
+block_bit m slice set rank block kept own is listed =
+    let known = bit_known m slice (set, rank) listed in
+    let some : 0 < block.count = omega (arith, is.count, known.first, known.below) in
+    let start = is.start some in
+    let value : block.first + (rank - block.start) ≡ bit_of m slice (set, rank) = ap (λ f. f + (rank - block.start)) is.first ∙ ap (λ s. first_bit m slice set + (rank - s)) start in
+    record {
+      least = omega (arith, start, known.least);
+      value = value;
+      within = omega (arith, value, known.within);
+      few = places_few m slice kept own;
+    }
+
+-- the sets in play are few
+pub play_few : (m : ModelView) (slice : Slice) (column : ℕ) → IsKept (plan_of m) → length (sets_in_play m slice column) ≤ 2 ^ 20
+play_few m slice column kept =
+    let sets = range_with_len 0 (length (demanded_sets m)) in
+    omega (arith, length-filter (in_play_with m slice column) sets, count_by-le-length (in_play_with m slice column) sets, length-range_with_len 0 (length (demanded_sets m)), kept.few)
+
+-- the last block ends where the bits do
+pub last_block : (m : ModelView) (slice : Slice) (sets : ℕ) (block : Block) → sets ≡ length (demanded_sets m) → 0 < sets → IsBlock m slice (sets - 1) block
+    → block.first + block.count ≡ length (slice_places m slice)
+last_block m slice sets block all some is =
+    let more = first_bit_more m slice (sets - 1) in
+    let plain : sets - 1 + 1 ≡ length (demanded_sets m) = omega (arith, all, some) in
+    let end = ap (first_bit m slice) plain in
+    omega (arith, is.first, is.count, more, end)

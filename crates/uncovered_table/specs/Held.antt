@@ -1,11 +1,5 @@
 -- Cells that give the members of a set these values.
 use Rattle.std.specs.Prelude.{ℕ, Bool, true, false, ◌&&◌, List, [], ◌∷◌, Option, Some, None, ◌==◌, slice_index_or}
-use Rattle.definitions.specs.Completion.{with_value}
-
--- the cells, with this value of a parameter where one is given
-abbrev pub given_cells : List (Option ℕ) → Option (ℕ × ℕ) → List (Option ℕ)
-given_cells cells None = cells
-given_cells cells (Some given) = with_value cells given.0 given.1
 
 -- the cell has this value
 abbrev pub is_value : Option ℕ → ℕ → Bool

@@ -1,30 +1,59 @@
 -- What a table keeps of its parts.
-use Rattle.std.specs.Prelude.{◌≡◌, ℕ, ◌^◌, ◌≤◌, List, map, length, Option, None, All}
+use Rattle.std.specs.Prelude.{◌≡◌, ℕ, ◌<◌, List, [], ◌∷◌, ◌++◌, map, length, Option, Some, None, slice_index_or, slice_set, nat_lt, if◌then◌else◌}
 use Rattle.std.specs.List.{filter, last_or}
 use Rattle.cov_model.specs.declared.slice.Slice.{Slice}
 use Rattle.cov_model.specs.Sound.{ModelView}
+use Rattle.cov_model.specs.Slices.{value_numbers}
+use Rattle.cov_model.specs.Valid.{param_numbers}
 use Rattle.definitions.specs.Demand.{is_among, demanded_sets}
 use Rattle.definitions.specs.Completion.{column_order}
 use Rattle.definitions.specs.SliceRows.{IsSliceOf}
 use Rattle.tuple_index.specs.Plan.{PlanView, plan_of}
-use Rattle.uncovered_table.specs.Open.{OpenView, IsPlaceOf}
+use Rattle.uncovered_table.specs.declared.block.Block.{Block}
+use Rattle.uncovered_table.specs.Bits.{first_bit, sets_in_play, tuple_count}
+use Rattle.uncovered_table.specs.Digits.{digit_of, own_values}
+use Rattle.uncovered_table.specs.Places.{set_at, slice_start}
 
 -- the model and the slice of a table
 pub record SliceView : Type 0 where
   pub model : ModelView
   pub slice : Slice
 
+-- the plan is the model's, and the slice is one of the model's
+pub record IsPartOf (m : ModelView) (slice : Slice) (plan : PlanView) : Type 0 where
+  pub planned : plan ≡ plan_of m
+  pub own : IsSliceOf m slice
+
 -- the last parameter of a set in the column order of a slice
 abbrev pub last_column : ModelView → Slice → List ℕ → Option ℕ
 last_column m slice set = last_or None (filter (is_among set) (column_order m slice))
 
--- the plan is the model's, the slice is one of the model's, and for each set its last column is kept
-pub record AreSetsOf (m : ModelView) (slice : Slice) (plan : PlanView) (ends : List (Option ℕ)) : Type 0 where
-  pub planned : plan ≡ plan_of m
-  pub own : IsSliceOf m slice
-  pub ended : ends ≡ map (last_column m slice) (demanded_sets m)
+-- the column for which a set is in play, if it has a tuple in the slice
+abbrev pub play_column : ModelView → Slice → ℕ → Option ℕ
+play_column m slice set = if nat_lt 0 (tuple_count m slice set) then last_column m slice (set_at m set) else None
 
--- the open places are few, and each is one of the slice's
-pub record HoldsPlaces (table : OpenView) : Type 0 where
-  pub few : length table.places ≤ 2 ^ 26
-  pub placed : All (IsPlaceOf table) table.places
+-- the bits and the ranks of a set
+pub record IsBlock (m : ModelView) (slice : Slice) (set : ℕ) (block : Block) : Type 0 where
+  pub first : block.first ≡ first_bit m slice set
+  pub start : 0 < block.count → block.start ≡ slice_start m (set_at m set) slice
+  pub count : block.count ≡ tuple_count m slice set
+
+-- those of the first sets
+pub record AreBlocks (m : ModelView) (slice : Slice) (sets : ℕ) (blocks : List Block) : Type 0 where
+  pub many : length blocks ≡ sets
+  pub each : (set : ℕ) (other : Block) → set < sets → IsBlock m slice set (slice_index_or blocks set other)
+
+-- the digits of the values of a parameter
+abbrev pub digits_of : ModelView → Slice → ℕ → List (Option ℕ)
+digits_of m slice p = map (digit_of (own_values m slice p)) (value_numbers m p)
+
+-- the bits of each set, the sets in play for each column, and the digits of each parameter's values
+pub record AreTablesOf (v : SliceView) (blocks : List Block) (plays : List (List ℕ)) (digits : List (List (Option ℕ))) : Type 0 where
+  pub blocks_are : AreBlocks v.model v.slice (length (demanded_sets v.model)) blocks
+  pub plays_are : plays ≡ map (sets_in_play v.model v.slice) (param_numbers v.model)
+  pub digits_are : digits ≡ map (digits_of v.model v.slice) (param_numbers v.model)
+
+-- the lists with a set added to that of a column, if there is one
+abbrev pub with_set : Option ℕ → ℕ → List (List ℕ) → List (List ℕ)
+with_set None set lists = lists
+with_set (Some p) set lists = slice_set lists p (slice_index_or lists p [] ++ set ∷ [])

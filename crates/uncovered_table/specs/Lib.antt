@@ -3,4 +3,5 @@ pub mod Places
 pub mod Kept
 pub mod Lasts
 pub mod Held
-pub mod Sample
+pub mod Digits
+pub mod Bits

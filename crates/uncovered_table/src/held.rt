@@ -1,44 +1,179 @@
-ghost use Rattle.std.specs.Prelude.{◌≡◌, ◌<◌, All, None, length, slice_index_or};
-ghost use Rattle.uncovered_table.specs.Held.{given_cells, gives_values, is_value};
+ghost use Rattle.std.specs.Prelude.{◌≡◌, ◌+◌, ◌*◌, ◌<◌, ◌≤◌, ◌^◌, ℕ, All, IfSome, None, drop, length, slice_index_or, sum_by};
+ghost use Rattle.definitions.specs.SliceRows.{IsOfSlice};
+ghost use Rattle.uncovered_table.specs.Bits.{InPlay, all_cleared, bit_count, cleared, held_bit, held_count, line_bit, sets_in_play, value_held};
+ghost use Rattle.uncovered_table.specs.Digits.{cell_digit, own_values, with_digit};
+ghost use Rattle.uncovered_table.specs.Places.{slice_places};
+ghost use Rattle.cov_model.specs.Sound.{param_at};
 
+use crate::block::Line;
+use crate::sets::SliceSets;
+use bit_table::BitTable;
 use cov_model::{Cells, ParamNo, ValueNo};
 
-// The value of a parameter in the cells, with this value of a parameter where one is given.
-fn cell_given(cells: &Cells, given: Option<(ParamNo, ValueNo)>, p: ParamNo) -> Option<ValueNo>
-    requires { p < length cells.now }
-    ensures { result ≡ slice_index_or (given_cells cells.now given) p None }
+// The bit of a line for a digit, where there is one.
+#[inline]
+fn bit_at(line: Line, digit: Option<u16>) -> Option<u32>
+    requires { IfSome digit (λ d. line.first + d * line.step < 2 ^ 32) }
+    ensures { result ≡ line_bit line digit }
 {
-    match given {
-        Some((q, v)) if q == p => Some(v),
-        _ => cells.get(p),
+    match digit {
+        Some(d) => Some(line.first + u32::from(d) * line.step),
+        None => None,
     }
 }
 
-// Whether a cell has this value.
-fn is_value(cell: Option<ValueNo>, v: ValueNo) -> bool
-    ensures { result ≡ is_value cell v }
+// How many bits are set, of one or none.
+#[inline]
+fn count_at(bits: &BitTable, bit: Option<u32>) -> u32
+    requires { IfSome bit (λ b. b < length bits.now) }
+    ensures { result ≡ bit_count bits.now bit }
 {
-    match cell {
-        Some(w) => w == v,
-        None => false,
+    match bit {
+        Some(b) => u32::from(bits.is_set(b)),
+        None => 0,
     }
 }
 
-// Whether the cells, with this value of a parameter where one is given, give the members their values.
-pub(crate) fn gives_values(
+// Clears a bit, if there is one.
+fn clear_at(bits: &mut BitTable, bit: Option<u32>)
+    requires { IfSome bit (λ b. b < length bits.old) }
+    ensures { bits.new ≡ cleared bit bits.old }
+{
+    if let Some(b) = bit {
+        bits.clear(b);
+    }
+}
+
+// The bit of the tuple of a set that cells contain, with this digit in the column.
+fn held_bit(
+    sets: &SliceSets<'_>,
+    set: u32,
     cells: &Cells,
-    given: Option<(ParamNo, ValueNo)>,
-    members: &[ParamNo],
-    values: &[ValueNo],
-) -> bool
-    requires exist { All (λ p. p < length cells.now) members.now }
-    requires as_long { length values.now ≡ length members.now }
-    ensures { result ≡ gives_values (given_cells cells.now given) members.now values.now }
+    column: ParamNo,
+    digit: u16,
+) -> Option<u32>
+    requires set { InPlay sets.now.model sets.now.slice column set }
+    requires cells { IsOfSlice sets.now.model sets.now.slice cells.now }
+    requires digit { digit < length (own_values sets.now.model sets.now.slice column) }
+    ensures value { result ≡ held_bit sets.now.model sets.now.slice (with_digit (cell_digit (own_values sets.now.model sets.now.slice) cells.now) column digit) set }
+    ensures within { IfSome result (λ b. b < length (slice_places sets.now.model sets.now.slice)) }
 {
-    for (i, p) in members.iter().enumerate() {
-        if !is_value(cell_given(cells, given, *p), values[i]) {
-            return false;
-        }
+    sets.keeps();
+    let line = sets.line(set, column, cells)?;
+    Some(line.first + u32::from(digit) * line.step)
+}
+
+// How many open tuples of the sets in play cells contain, with this digit in the column.
+pub(crate) fn count_held(
+    sets: &SliceSets<'_>,
+    bits: &BitTable,
+    cells: &Cells,
+    column: ParamNo,
+    digit: u16,
+) -> u32
+    requires cells { IsOfSlice sets.now.model sets.now.slice cells.now }
+    requires column { column < length sets.now.model.params }
+    requires digit { digit < length (own_values sets.now.model sets.now.slice column) }
+    requires bits { length bits.now ≡ length (slice_places sets.now.model sets.now.slice) }
+    ensures { result ≡ sum_by (held_count sets.now.model sets.now.slice bits.now (with_digit (cell_digit (own_values sets.now.model sets.now.slice) cells.now) column digit)) (sets_in_play sets.now.model sets.now.slice column) }
+{
+    let in_play = sets.in_play(column);
+    let mut count: u32 = 0;
+    for set in in_play {
+        count += count_at(bits, held_bit(sets, *set, cells, column, digit));
     }
-    true
+    count
+}
+
+// Clears the bits of the tuples of the sets in play that cells contain, with this digit in the column.
+pub(crate) fn clear_held(
+    sets: &SliceSets<'_>,
+    bits: &mut BitTable,
+    cells: &Cells,
+    column: ParamNo,
+    digit: u16,
+)
+    requires cells { IsOfSlice sets.now.model sets.now.slice cells.now }
+    requires column { column < length sets.now.model.params }
+    requires digit { digit < length (own_values sets.now.model sets.now.slice column) }
+    requires bits { length bits.old ≡ length (slice_places sets.now.model sets.now.slice) }
+    ensures { bits.new ≡ all_cleared sets.now.model sets.now.slice (with_digit (cell_digit (own_values sets.now.model sets.now.slice) cells.now) column digit) bits.old (sets_in_play sets.now.model sets.now.slice column) }
+{
+    let in_play = sets.in_play(column);
+    for set in in_play {
+        clear_at(bits, held_bit(sets, *set, cells, column, digit));
+    }
+}
+
+// Adds to each score the set bits of a line, for its digit.
+fn add_line(bits: &BitTable, line: Line, digits: &[Option<u16>], scores: &mut [u32])
+    requires room { length scores.old ≤ length digits.now }
+    requires low { All (λ score. score < 2 ^ 31) scores.old }
+    requires few { length bits.now ≤ 2 ^ 26 }
+    requires within { All (λ digit. IfSome digit (λ d. line.first + d * line.step < length bits.now)) digits.now }
+    ensures long { length scores.new ≡ length scores.old }
+    ensures each { (i : ℕ) → i < length scores.old → slice_index_or scores.new i 0 ≡ slice_index_or scores.old i 0 + bit_count bits.now (line_bit line (slice_index_or digits.now i None)) }
+{
+    for i in 0..scores.len() {
+        scores[i] += count_at(bits, bit_at(line, digits[i]));
+    }
+}
+
+// The digits of the values from one on.
+fn from_value(digits: &[Option<u16>], from: ValueNo) -> &[Option<u16>]
+    requires { from ≤ length digits.now }
+    ensures { result.now ≡ drop from digits.now }
+{
+    &digits[from as usize..]
+}
+
+// Adds to each score whether a tuple of a set is open that cells contain, with its value in the column.
+// The values stand in order, from one on.
+fn add_set(
+    sets: &SliceSets<'_>,
+    bits: &BitTable,
+    set: u32,
+    cells: &Cells,
+    column: ParamNo,
+    from: ValueNo,
+    scores: &mut [u32],
+)
+    requires set { InPlay sets.now.model sets.now.slice column set }
+    requires cells { IsOfSlice sets.now.model sets.now.slice cells.now }
+    requires column { column < length sets.now.model.params }
+    requires values { from + length scores.old ≤ length (param_at sets.now.model.params column).values }
+    requires bits { length bits.now ≡ length (slice_places sets.now.model sets.now.slice) }
+    requires low { All (λ score. score < 2 ^ 31) scores.old }
+    ensures long { length scores.new ≡ length scores.old }
+    ensures each { (i : ℕ) → i < length scores.old → slice_index_or scores.new i 0 ≡ slice_index_or scores.old i 0 + value_held sets.now.model sets.now.slice bits.now cells.now column (from + i) set }
+{
+    sets.keeps();
+    if let Some(line) = sets.line(set, column, cells) {
+        let digits = from_value(sets.digits(column), from);
+        add_line(bits, line, digits, scores);
+    }
+}
+
+// Adds to each score how many open tuples of the sets in play cells contain, with its value in the
+// column.
+pub(crate) fn add_held(
+    sets: &SliceSets<'_>,
+    bits: &BitTable,
+    cells: &Cells,
+    column: ParamNo,
+    from: ValueNo,
+    scores: &mut [u32],
+)
+    requires cells { IsOfSlice sets.now.model sets.now.slice cells.now }
+    requires column { column < length sets.now.model.params }
+    requires values { from + length scores.old ≤ length (param_at sets.now.model.params column).values }
+    requires bits { length bits.now ≡ length (slice_places sets.now.model sets.now.slice) }
+    requires zero { All (λ score. score ≡ 0) scores.old }
+    ensures long { length scores.new ≡ length scores.old }
+    ensures each { (i : ℕ) → i < length scores.old → slice_index_or scores.new i 0 ≡ sum_by (value_held sets.now.model sets.now.slice bits.now cells.now column (from + i)) (sets_in_play sets.now.model sets.now.slice column) }
+{
+    let in_play = sets.in_play(column);
+    for set in in_play {
+        add_set(sets, bits, *set, cells, column, from, scores);
+    }
 }

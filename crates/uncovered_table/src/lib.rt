@@ -1,14 +1,16 @@
-//! The demanded tuples of a slice that no partial row contains yet, as the list of their places.
+//! The demanded tuples of a slice that no partial row contains yet.
 //!
-//! - `Uncovered` tells which tuples are open, closes them, and tells the gain of a value. Contracts see
-//!   the list of the places of the open tuples, and each call is an operation on this list.
+//! - `Uncovered` tells which tuples are open, closes them, and tells the gain of a value. It keeps a bit
+//!   for each tuple; contracts see the list of the places of the open tuples, and each call is an
+//!   operation on this list.
 #![tactic(auto)]
 
+mod block;
 mod held;
+mod next;
+mod part;
 mod sets;
 mod table;
+mod tables;
 
 pub use table::Uncovered;
-
-#[cfg(test)]
-mod tests;

@@ -1,245 +1,213 @@
-ghost use Rattle.std.specs.Prelude.{◌≡◌, ◌<◌, ◌≤◌, ◌+◌, ◌^◌, ◌&&◌, ◌++◌, All, IfOk, IfSome, OnOk, None, length, map};
-ghost use Rattle.std.specs.List.{range_with_len};
-ghost use Rattle.cov_model.specs.Rows.{contains};
-ghost use Rattle.cov_model.specs.Sound.{IsSound};
-ghost use Rattle.definitions.specs.Demand.{demanded_sets};
-ghost use Rattle.definitions.specs.SliceRows.{IsSliceOf};
-ghost use Rattle.tuple_index.specs.Kept.{IsKept};
-ghost use Rattle.tuple_index.specs.Places.{RisesFrom, values_in};
-ghost use Rattle.tuple_index.specs.Plan.{plan_of, tuple_cells};
-ghost use Rattle.uncovered_table.specs.Held.{given_cells};
-ghost use Rattle.uncovered_table.specs.Lasts.{lower, lowest};
-ghost use Rattle.uncovered_table.specs.Open.{is_after};
-ghost use Rattle.uncovered_table.specs.Places.{is_in_play, is_place, set_at, slice_places, tuple_at};
+ghost use Rattle.std.specs.Prelude.{◌≡◌, ◌+◌, ◌*◌, ◌<◌, ◌≤◌, ◌^◌, ℕ, All, IfOk, IfSome, length, option_map};
 ghost use Rattle.std.specs.List.{list_any};
-ghost use Rattle.std.specs.Prelude.{true};
+ghost use Rattle.std.specs.Prelude.{◌==◌, if◌then◌else◌, true};
+ghost use Rattle.cov_model.specs.Sound.{IsSound, param_at};
+ghost use Rattle.definitions.specs.Demand.{demanded_sets};
+ghost use Rattle.definitions.specs.SliceRows.{IsOfSlice, IsSliceOf};
+ghost use Rattle.tuple_index.specs.Kept.{IsKept};
+ghost use Rattle.tuple_index.specs.Places.{ways};
+ghost use Rattle.tuple_index.specs.Plan.{plan_of};
+ghost use Rattle.uncovered_table.specs.Bits.{InPlay, bit_of, held_bit, sets_in_play};
+ghost use Rattle.uncovered_table.specs.Digits.{cell_digit, digit_of, number_of, own_values, step_of, with_digit};
+ghost use Rattle.uncovered_table.specs.Kept.{IsBlock, digits_of};
+ghost use Rattle.uncovered_table.specs.Places.{is_place, set_at, slice_places};
 
-use crate::held::gives_values;
-use cov_model::{Cells, ParamNo, Slice, TestModel, ValueNo};
+use crate::block::{Block, Line};
+use crate::part::SlicePart;
+use crate::tables::SliceTables;
+use cov_model::{Cells, ParamNo, TestModel, ValueNo};
 use std::alloc::Global;
 use std::marker::Model;
-use tuple_index::Plan;
 use value_text::NoMemory;
 
-/// The demanded sets of a model in a slice, with the last column of each. Contracts see the model and
-/// the slice.
+/// The demanded sets of a model in a slice: where their tuples have bits, and which are in play for each
+/// column. Contracts see the model and the slice.
 #[derive(Drop)]
 pub(crate) struct SliceSets<'a> {
-    of: &'a TestModel,
-    by: &'a Plan,
-    part: Slice,
-    ends: Vec<Option<ParamNo>>,
+    part: SlicePart<'a>,
+    tables: SliceTables,
 }
 
 impl<'a> Model for SliceSets<'a> {
     ghost use Rattle.std.specs.Coded.{codes};
+    ghost use Rattle.std.specs.Prelude.{map};
     ghost use Rattle.cov_model.specs.contracts.constraint.Pred as predicate;
-    ghost use Rattle.uncovered_table.specs.Kept.{AreSetsOf, SliceView};
+    ghost use Rattle.uncovered_table.specs.Kept.{AreTablesOf, SliceView};
 
     ghost Value = { SliceView };
 
     ghost coded = { Prim.hlevel (codes, predicate.the_row.coded) };
 
-    ghost view = { λ a. record { model = a.of.now; slice = a.part } };
+    ghost view = { λ a. a.part };
 
-    ghost invariant = { λ a. AreSetsOf a.of.now a.part a.by.now a.ends.items };
+    ghost invariant = { λ a. AreTablesOf a.part a.tables.blocks.items (map (λ list. list.items) a.tables.plays.items) (map (λ list. list.items) a.tables.digits.items) };
 }
 
-// Of the last member so far and the next one, the one that comes later in column order.
-fn later(plan: &Plan, slice: Slice, last: Option<ParamNo>, p: ParamNo) -> ParamNo
-    requires own { p < length plan.now.positives }
-    requires last { IfSome last (λ q. q < length plan.now.positives) }
-    ensures value { result ≡ lower (λ r. length (values_in plan.now slice r)) last p }
-    ensures own { result < length plan.now.positives }
+// The step of a column: the weight of its digit, at the column itself.
+fn step_at(p: ParamNo, column: ParamNo, weight: u32, step: u32) -> u32
+    ensures { result ≡ (if p == column then weight else step) }
 {
-    match last {
-        Some(q) => {
-            if plan.value_count(p, slice) <= plan.value_count(q, slice) {
-                p
-            } else {
-                q
-            }
-        }
-        None => p,
-    }
-}
-
-// The last member of a set in column order: of those with the fewest values in the slice the last.
-fn last_member(plan: &Plan, slice: Slice, members: &[ParamNo]) -> Option<ParamNo>
-    requires { All (λ p. p < length plan.now.positives) members.now }
-    ensures { result ≡ lowest (λ r. length (values_in plan.now slice r)) members.now }
-{
-    let mut last = None;
-    for p in members {
-        last = Some(later(plan, slice, last, *p));
-    }
-    last
-}
-
-// The last member of each set.
-fn last_members(alloc: Global, plan: &Plan, slice: Slice) -> Result<Vec<Option<ParamNo>>, NoMemory>
-    ensures { IfOk result (λ ends. ends.items ≡ map (lowest (λ r. length (values_in plan.now slice r))) plan.now.sets) }
-{
-    let mut ends = Vec::new(alloc);
-    for set in 0..plan.set_count() {
-        let last = last_member(plan, slice, plan.members(set));
-        if ends.push(last).is_err() {
-            return Err(NoMemory);
-        }
-    }
-    Ok(ends)
-}
-
-// Adds the places of a set with these ranks, from the first one on.
-fn push_ranks(
-    places: &mut Vec<(u32, u32)>,
-    set: u32,
-    start: u32,
-    count: u32,
-) -> Result<(), NoMemory>
-    requires { start + count ≤ 2 ^ 26 }
-    ensures { OnOk result (places.new.items ≡ places.old.items ++ map (λ rank. (set, rank)) (range_with_len start count)) }
-{
-    for k in 0..count {
-        if places.push((set, start + k)).is_err() {
-            return Err(NoMemory);
-        }
-    }
-    Ok(())
-}
-
-// Whether a place stands behind another one, where there is one.
-fn is_after(from: Option<(u32, u32)>, place: (u32, u32)) -> bool
-    ensures { result ≡ is_after from place }
-{
-    match from {
-        Some(start) => start.0 < place.0 || (start.0 == place.0 && start.1 < place.1),
-        None => true,
-    }
+    if p == column { weight } else { step }
 }
 
 impl<'a> SliceSets<'a> {
-    // The sets of this model in this slice.
-    pub(crate) fn new(
-        alloc: Global,
-        model: &'a TestModel,
-        plan: &'a Plan,
-        slice: Slice,
-    ) -> Result<SliceSets<'a>, NoMemory>
-        requires plan { plan.now ≡ plan_of model.now }
-        requires slice { IsSliceOf model.now slice }
-        ensures { IfOk result (λ sets. sets ≡ record { model = model.now; slice = slice }) }
+    // The sets of this slice.
+    pub(crate) fn new(alloc: Global, part: SlicePart<'a>) -> Result<SliceSets<'a>, NoMemory>
+        ensures { IfOk result (λ sets. sets ≡ part.entry) }
     {
-        let _ = model.params();
-        let _ = plan.set_count();
-        let ends = last_members(alloc, plan, slice)?;
-        Ok(SliceSets {
-            of: model,
-            by: plan,
-            part: slice,
-            ends,
-        })
+        let tables = part.tables(alloc)?;
+        Ok(SliceSets { part, tables })
     }
 
     // The model of the sets.
     pub(crate) fn model(&self) -> &TestModel
         ensures { result.now ≡ self.now.model }
     {
-        self.of
+        self.part.model()
     }
 
-    // The model is sound.
-    pub(crate) fn keeps_sound(&self)
-        ensures { IsSound self.now.model }
+    // What is kept of the model, its plan and the slice.
+    pub(crate) fn keeps(&self)
+        ensures sound { IsSound self.now.model }
+        ensures kept { IsKept (plan_of self.now.model) }
+        ensures own { IsSliceOf self.now.model self.now.slice }
+        ensures few { length (slice_places self.now.model self.now.slice) ≤ 2 ^ 26 }
     {
-        let _ = self.of.params();
+        self.part.keeps();
     }
 
-    // The places of all tuples of the slice.
-    pub(crate) fn all_places(&self, alloc: Global) -> Result<Vec<(u32, u32)>, NoMemory>
-        ensures { IfOk result (λ places. places.items ≡ slice_places self.now.model self.now.slice) }
+    // The number of tuples of the slice.
+    pub(crate) fn size(&self) -> u32
+        ensures { result ≡ length (slice_places self.now.model self.now.slice) }
     {
-        let mut places = Vec::new(alloc);
-        for set in 0..self.by.set_count() {
-            let (start, count) = self.by.slice_ranks(set, self.part);
-            push_ranks(&mut places, set, start, count)?;
+        self.keeps();
+        let sets = self.part.set_count();
+        if sets == 0 {
+            return 0;
         }
-        Ok(places)
+        let block = self.block(sets - 1);
+        block.first + block.count
     }
 
-    // Whether a set is in play for a column.
-    pub(crate) fn is_in_play(&self, place: (u32, u32), column: ParamNo) -> bool
-        requires { place.0 < length (demanded_sets self.now.model) }
-        ensures { result ≡ is_in_play self.now.model self.now.slice column place }
-    {
-        match self.ends[place.0 as usize] {
-            Some(last) => last == column,
-            None => false,
-        }
-    }
-
-    // The parameters of a set.
-    fn members(&self, set: u32) -> &[ParamNo]
+    // Where a set has its bits.
+    pub(crate) fn block(&self, set: u32) -> Block
         requires { set < length (demanded_sets self.now.model) }
-        ensures value { result.now ≡ set_at self.now.model set }
-        ensures rising { RisesFrom 0 (length self.now.model.params) result.now }
-        ensures exist { All (λ p. p < length self.now.model.params) result.now }
-        ensures few { length result.now ≤ 256 }
+        ensures { IsBlock self.now.model self.now.slice set result }
     {
-        let _ = self.of.params();
-        let _ = self.by.set_count();
-        self.by.members(set)
+        self.tables.blocks[set as usize]
     }
 
-    // Puts the values of the tuple of a place.
-    fn put_values(&self, place: (u32, u32), values: &mut [ValueNo])
-        requires place { list_any (is_place place) (slice_places self.now.model self.now.slice) ≡ true }
-        requires room { length values.old ≡ length (set_at self.now.model place.0) }
-        ensures long { length values.new ≡ length (set_at self.now.model place.0) }
-        ensures tuple { tuple_at self.now.model place ≡ tuple_cells self.now.model (set_at self.now.model place.0) values.new }
+    // The bit of a place.
+    pub(crate) fn bit(&self, set: u32, rank: u32) -> u32
+        requires { list_any (is_place (set, rank)) (slice_places self.now.model self.now.slice) ≡ true }
+        ensures value { result ≡ bit_of self.now.model self.now.slice (set, rank) }
+        ensures within { result < length (slice_places self.now.model self.now.slice) }
     {
-        let _ = self.by.set_count();
-        self.by.unrank(place.0, place.1, values);
+        self.keeps();
+        let block = self.block(set);
+        block.first + (rank - block.start)
     }
 
-    // Whether the cells, with this value of a parameter where one is given, contain the tuple of a place.
-    fn contains(&self, place: (u32, u32), cells: &Cells, given: Option<(ParamNo, ValueNo)>) -> bool
-        requires place { list_any (is_place place) (slice_places self.now.model self.now.slice) ≡ true }
-        requires cells { length cells.now ≡ length self.now.model.params }
-        ensures { result ≡ contains (given_cells cells.now given) (tuple_at self.now.model place) }
+    // The sets in play for a column that have tuples in the slice.
+    pub(crate) fn in_play(&self, column: ParamNo) -> &[u32]
+        requires { column < length self.now.model.params }
+        ensures value { result.now ≡ sets_in_play self.now.model self.now.slice column }
+        ensures few { length result.now ≤ 2 ^ 20 }
+        ensures each { All (InPlay self.now.model self.now.slice column) result.now }
     {
-        let members = self.members(place.0);
-        let mut room = [0; 256];
-        let values = &mut room[..members.len()];
-        self.put_values(place, values);
-        gives_values(cells, given, members, values)
+        self.keeps();
+        self.tables.plays[column as usize].as_slice()
     }
 
-    // Whether a set is in play for a column, and the cells contain the tuple of the place.
-    pub(crate) fn is_held(
-        &self,
-        place: (u32, u32),
-        column: ParamNo,
-        cells: &Cells,
-        given: Option<(ParamNo, ValueNo)>,
-    ) -> bool
-        requires place { list_any (is_place place) (slice_places self.now.model self.now.slice) ≡ true }
-        requires cells { length cells.now ≡ length self.now.model.params }
-        ensures { result ≡ (is_in_play self.now.model self.now.slice column place && contains (given_cells cells.now given) (tuple_at self.now.model place)) }
+    // The digits of the values of a parameter.
+    pub(crate) fn digits(&self, p: ParamNo) -> &[Option<u16>]
+        requires { p < length self.now.model.params }
+        ensures { result.now ≡ digits_of self.now.model self.now.slice p }
     {
-        self.is_in_play(place, column) && self.contains(place, cells, given)
+        self.tables.digits[p as usize].as_slice()
     }
 
-    // Whether a set is in play for a column, and the place stands behind another one, where there is one.
-    pub(crate) fn is_next(
-        &self,
-        place: (u32, u32),
-        column: ParamNo,
-        from: Option<(u32, u32)>,
-    ) -> bool
-        requires { list_any (is_place place) (slice_places self.now.model self.now.slice) ≡ true }
-        ensures { result ≡ (is_in_play self.now.model self.now.slice column place && is_after from place) }
+    // The digit of a value, where it is one of the slice.
+    pub(crate) fn value_digit(&self, p: ParamNo, v: ValueNo) -> Option<u16>
+        requires param { p < length self.now.model.params }
+        requires value { v < length (param_at self.now.model.params p).values }
+        ensures { result ≡ digit_of (own_values self.now.model self.now.slice p) v }
     {
-        self.is_in_play(place, column) && is_after(from, place)
+        self.digits(p)[v as usize]
+    }
+
+    // The digit of the value that cells give a parameter.
+    pub(crate) fn cell_digit(&self, cells: &Cells, p: ParamNo) -> Option<u16>
+        requires cells { IsOfSlice self.now.model self.now.slice cells.now }
+        requires param { p < length self.now.model.params }
+        ensures { result ≡ cell_digit (own_values self.now.model self.now.slice) cells.now p }
+    {
+        match cells.get(p) {
+            Some(v) => self.value_digit(p, v),
+            None => None,
+        }
+    }
+
+    // The digit of a member's value, or 0 in the column.
+    fn line_digit(&self, cells: &Cells, column: ParamNo, p: ParamNo) -> Option<u16>
+        requires cells { IsOfSlice self.now.model self.now.slice cells.now }
+        requires param { p < length self.now.model.params }
+        ensures { result ≡ with_digit (cell_digit (own_values self.now.model self.now.slice) cells.now) column 0 p }
+    {
+        if p == column {
+            Some(0)
+        } else {
+            self.cell_digit(cells, p)
+        }
+    }
+
+    // The number of the digits that cells give members, with 0 in the column, and how far it grows from
+    // one digit of the column to the next; none where a member has no digit.
+    fn numbers(&self, members: &[ParamNo], column: ParamNo, cells: &Cells) -> Option<Line>
+        requires cells { IsOfSlice self.now.model self.now.slice cells.now }
+        requires exist { All (λ p. p < length self.now.model.params) members.now }
+        requires own { 0 < length (own_values self.now.model self.now.slice column) }
+        requires some { 0 < ways (own_values self.now.model self.now.slice) members.now }
+        requires few { ways (own_values self.now.model self.now.slice) members.now ≤ 2 ^ 26 }
+        ensures number { option_map (λ line. line.first) result ≡ number_of (own_values self.now.model self.now.slice) (with_digit (cell_digit (own_values self.now.model self.now.slice) cells.now) column 0) members.now }
+        ensures step { IfSome result (λ line. line.step ≡ step_of (own_values self.now.model self.now.slice) column members.now) }
+    {
+        let mut number: u32 = 0;
+        let mut weight: u32 = 1;
+        let mut step: u32 = 0;
+        let mut left = members.len();
+        while left > 0 {
+            left -= 1;
+            let p = members[left];
+            let Some(digit) = self.line_digit(cells, column, p) else {
+                return None;
+            };
+            number += u32::from(digit) * weight;
+            step = step_at(p, column, weight, step);
+            weight *= self.part.value_count(p);
+        }
+        Some(Line {
+            first: number,
+            step,
+        })
+    }
+
+    // The bits of the tuples of a set that cells contain, for the digits of the column.
+    pub(crate) fn line(&self, set: u32, column: ParamNo, cells: &Cells) -> Option<Line>
+        requires set { InPlay self.now.model self.now.slice column set }
+        requires cells { IsOfSlice self.now.model self.now.slice cells.now }
+        ensures value { (d : ℕ) → held_bit self.now.model self.now.slice (with_digit (cell_digit (own_values self.now.model self.now.slice) cells.now) column d) set ≡ option_map (λ line. line.first + d * line.step) result }
+        ensures within { IfSome result (λ line. (d : ℕ) → d < length (own_values self.now.model self.now.slice column) → line.first + d * line.step < length (slice_places self.now.model self.now.slice)) }
+    {
+        self.keeps();
+        let members = self.part.members(set);
+        let first = self.block(set).first;
+        match self.numbers(members, column, cells) {
+            Some(line) => Some(Line {
+                first: first + line.first,
+                step: line.step,
+            }),
+            None => None,
+        }
     }
 }

@@ -1,13 +1,18 @@
-ghost use Rattle.std.specs.Prelude.{◌≡◌, ◌+◌, ◌≤◌, map, ◌<◌, ◌&&◌, All, IfOk, IfSome, length, not, true};
+ghost use Rattle.std.specs.Prelude.{◌≡◌, ◌+◌, ◌^◌, ◌≤◌, map, ◌<◌, ◌&&◌, All, IfOk, IfSome, length, not, true};
 ghost use Rattle.std.specs.List.{filter, list_any, range_with_len};
 ghost use Rattle.cov_model.specs.Rows.{contains};
 ghost use Rattle.cov_model.specs.Sound.{param_at};
 ghost use Rattle.definitions.specs.SliceRows.{IsOfSlice, IsSliceOf};
 ghost use Rattle.tuple_index.specs.Plan.{plan_of};
+ghost use Rattle.uncovered_table.specs.Bits.{sets_in_play};
 ghost use Rattle.uncovered_table.specs.Open.{IsPlaceOf, all_open, closed, gain, is_open, next_open, row_closed};
 ghost use Rattle.uncovered_table.specs.Places.{is_in_play, is_place, slice_places, tuple_at};
 
+use crate::held::{add_held, clear_held, count_held};
+use crate::next::next_of;
+use crate::part::SlicePart;
 use crate::sets::SliceSets;
+use bit_table::BitTable;
 use cov_model::{Cells, ParamNo, Slice, TestModel, ValueNo};
 use std::alloc::Global;
 use std::marker::Model;
@@ -19,46 +24,24 @@ use value_text::NoMemory;
 #[derive(Drop)]
 pub struct Uncovered<'a> {
     sets: SliceSets<'a>,
-    places: Vec<(u32, u32)>,
+    bits: BitTable,
 }
 
 impl<'a> Model for Uncovered<'a> {
     ghost use Rattle.std.specs.Coded.{codes};
     ghost use Rattle.cov_model.specs.contracts.constraint.Pred as predicate;
-    ghost use Rattle.uncovered_table.specs.Kept.{HoldsPlaces};
+    ghost use Rattle.std.specs.Prelude.{◌≡◌, length};
+    ghost use Rattle.uncovered_table.specs.Bits.{marked};
     ghost use Rattle.uncovered_table.specs.Open.{OpenView};
+    ghost use Rattle.uncovered_table.specs.Places.{slice_places};
 
     ghost Value = { OpenView };
 
     ghost coded = { Prim.hlevel (codes, predicate.the_row.coded) };
 
-    ghost view = { λ a. record { model = a.sets.model; slice = a.sets.slice; places = a.places.items } };
+    ghost view = { λ a. marked a.sets.model a.sets.slice a.bits };
 
-    ghost invariant = { λ a. HoldsPlaces (record { model = a.sets.model; slice = a.sets.slice; places = a.places.items }) };
-}
-
-// Whether two places are the same.
-fn is_place(a: (u32, u32), b: (u32, u32)) -> bool
-    ensures { result ≡ is_place a b }
-{
-    a.0 == b.0 && a.1 == b.1
-}
-
-// Takes out the places of the sets in play whose tuples the cells contain.
-fn drop_held(sets: &SliceSets<'_>, places: &mut Vec<(u32, u32)>, column: ParamNo, cells: &Cells)
-    requires placed { All (λ place. list_any (is_place place) (slice_places sets.now.model sets.now.slice) ≡ true) places.old.items }
-    requires cells { length cells.now ≡ length sets.now.model.params }
-    ensures { places.new.items ≡ filter (λ place. not (is_in_play sets.now.model sets.now.slice column place && contains cells.now (tuple_at sets.now.model place))) places.old.items }
-{
-    let mut kept = 0;
-    for i in 0..places.len() {
-        let place = places[i];
-        if !sets.is_held(place, column, cells, None) {
-            places[kept] = place;
-            kept += 1;
-        }
-    }
-    places.truncate(kept);
+    ghost invariant = { λ a. length a.bits ≡ length (slice_places a.sets.model a.sets.slice) };
 }
 
 impl<'a> Uncovered<'a> {
@@ -78,10 +61,9 @@ impl<'a> Uncovered<'a> {
         requires slice { IsSliceOf model.now slice }
         ensures { IfOk result (λ table. table ≡ all_open model.now slice) }
     {
-        let _ = plan.set_count();
-        let sets = SliceSets::new(alloc, model, plan, slice)?;
-        let places = sets.all_places(alloc)?;
-        Ok(Uncovered { sets, places })
+        let sets = SliceSets::new(alloc, SlicePart::new(model, plan, slice))?;
+        let bits = BitTable::all_set(alloc, sets.size())?;
+        Ok(Uncovered { sets, bits })
     }
 
     /// The model that the table was made from. Takes no memory.
@@ -96,9 +78,7 @@ impl<'a> Uncovered<'a> {
         requires { IsPlaceOf self.now (set, rank) }
         ensures { result ≡ is_open self.now (set, rank) }
     {
-        self.places
-            .iter()
-            .any(|other| is_place((set, rank), *other))
+        self.bits.is_set(self.sets.bit(set, rank))
     }
 
     /// Closes the tuple of this place and no other. Takes no memory.
@@ -106,7 +86,7 @@ impl<'a> Uncovered<'a> {
         requires { IsPlaceOf self.old (set, rank) }
         ensures { self.new ≡ closed self.old (set, rank) }
     {
-        self.places.retain(|other| !is_place((set, rank), *other));
+        self.bits.clear(self.sets.bit(set, rank));
     }
 
     /// Closes the tuples of the sets in play for this column that the cells contain. The cells have to
@@ -116,14 +96,27 @@ impl<'a> Uncovered<'a> {
         requires column { column < length self.old.model.params }
         ensures { self.new ≡ row_closed self.old column cells.now }
     {
-        drop_held(&self.sets, &mut self.places, column, cells);
+        self.sets.keeps();
+        match self.sets.cell_digit(cells, column) {
+            Some(digit) => clear_held(&self.sets, &mut self.bits, cells, column, digit),
+            None => {}
+        }
     }
 
     /// The number of open tuples. Takes no memory.
     pub fn open_count(&self) -> u32
         ensures { result ≡ length self.now.places }
     {
-        self.places.len() as u32
+        self.bits.count()
+    }
+
+    /// The number of sets in play for this column that have tuples in the slice. Takes no memory.
+    pub fn in_play_count(&self, column: ParamNo) -> usize
+        requires { column < length self.now.model.params }
+        ensures value { result ≡ length (sets_in_play self.now.model self.now.slice column) }
+        ensures few { result ≤ 2 ^ 20 }
+    {
+        self.sets.in_play(column).len()
     }
 
     /// The place of the first open tuple of the sets in play for this column behind a place, or of the
@@ -134,13 +127,7 @@ impl<'a> Uncovered<'a> {
         ensures value { result ≡ next_open self.now column from }
         ensures own { IfSome result (IsPlaceOf self.now) }
     {
-        for i in 0..self.places.len() {
-            let place = self.places[i];
-            if self.sets.is_next(place, column, from) {
-                return Some(place);
-            }
-        }
-        None
+        next_of(&self.sets, &self.bits, column, from)
     }
 
     /// The gain of a value of this column: the number of open tuples of the sets in play that the cells
@@ -151,16 +138,11 @@ impl<'a> Uncovered<'a> {
         requires value { value < length (param_at self.now.model.params column).values }
         ensures { result ≡ gain self.now cells.now column value }
     {
-        let mut count: u32 = 0;
-        for i in 0..self.places.len() {
-            if self
-                .sets
-                .is_held(self.places[i], column, cells, Some((column, value)))
-            {
-                count += 1;
-            }
+        self.sets.keeps();
+        match self.sets.value_digit(column, value) {
+            Some(digit) => count_held(&self.sets, &self.bits, cells, column, digit),
+            None => 0,
         }
-        count
     }
 
     /// Puts the gains of as many values of this column as there are scores, from one value on. Takes no
@@ -171,9 +153,8 @@ impl<'a> Uncovered<'a> {
         requires values { from + length scores.old ≤ length (param_at self.now.model.params column).values }
         ensures { scores.new ≡ map (gain self.now cells.now column) (range_with_len from (length scores.old)) }
     {
-        self.sets.keeps_sound();
-        for i in 0..scores.len() {
-            scores[i] = self.gain(cells, column, from + i as ValueNo);
-        }
+        self.sets.keeps();
+        scores.fill(0);
+        add_held(&self.sets, &self.bits, cells, column, from, scores);
     }
 }

@@ -1,12 +1,36 @@
-use Rattle.std.proofs.Common.{◌∙◌, ap, not}
-use Rattle.uncovered_table.specs.Open.{is_held, row_closed}
-use Rattle.uncovered_table.proofs.TableLemmas.{holds_fewer, view_of}
+use Rattle.std.proofs.Common.{◌≡◌, ◌∙◌, ap, length, subst, sym}
+use Rattle.uncovered_table.specs.Bits.{marked, sets_in_play}
+use Rattle.uncovered_table.specs.Digits.{cell_digit, own_values, with_digit}
+use Rattle.uncovered_table.specs.Open.{row_closed}
+use Rattle.uncovered_table.proofs.GainLemmas.{length-all_cleared, row_closed_bits}
+use Rattle.uncovered_table.proofs.ValueLemmas.{cleared_none, cleared_own}
 use Rattle.uncovered_table.proofs.table.Uncovered.close_row.Goals as goal
 
 pub invariant_of-self : goal.invariant_of-self
 invariant_of-self c =
-    holds_fewer c.self.inside.sets c.self.inside.places.items c.drop_held.new.places.items
-    (λ place. not (is_held (view_of c.self.inside.sets c.self.inside.places.items) c.args.column c.args.cells.now place)) c.self.invariant c.drop_held.ensures
+    let v = c.self.inside.sets in
+    ap length c.clear_held.ensures
+    ∙ length-all_cleared v.model v.slice (with_digit (cell_digit (own_values v.model v.slice) c.args.cells.now) c.args.column c.in-Some.digit) c.self.inside.bits
+    (sets_in_play v.model v.slice c.args.column)
+    ∙ c.self.invariant
 
-pub returns : goal.returns
-returns c = ap (view_of c.self.inside.sets) c.drop_held.ensures ∙ ap (λ table. row_closed table c.args.column c.args.cells.now) c.self.view_is
+pub returns-in-Some : goal.returns-in-Some
+returns-in-Some c =
+    let v = c.self.inside.sets in
+    let bits = c.self.inside.bits in
+    let cells = c.args.cells.now in
+    ap (marked v.model v.slice) (c.clear_held.ensures
+    ∙ cleared_own v.model v.slice cells bits c.args.column c.in-Some.digit (sets_in_play v.model v.slice c.args.column) (sym c.cell_digit.ensures ∙ c.in-Some.is))
+    ∙ row_closed_bits v.model v.slice bits cells c.args.column c.keeps.ensures.kept c.keeps.ensures.own
+    (subst (λ table. length cells ≡ length table.model.params) (sym c.self.view_is) c.requires.cells.fits.as_long) c.self.invariant
+    ∙ ap (λ table. row_closed table c.args.column cells) c.self.view_is
+
+pub returns-in-None : goal.returns-in-None
+returns-in-None c =
+    let v = c.self.inside.sets in
+    let bits = c.self.inside.bits in
+    let cells = c.args.cells.now in
+    sym c.self.view_is ∙ ap (marked v.model v.slice) (cleared_none v.model v.slice (cell_digit (own_values v.model v.slice) cells) bits c.args.column (sym c.cell_digit.ensures ∙ c.in-None.is))
+    ∙ row_closed_bits v.model v.slice bits cells c.args.column c.keeps.ensures.kept c.keeps.ensures.own
+    (subst (λ table. length cells ≡ length table.model.params) (sym c.self.view_is) c.requires.cells.fits.as_long) c.self.invariant
+    ∙ ap (λ table. row_closed table c.args.column cells) c.self.view_is

@@ -1,34 +1,26 @@
-use Rattle.std.proofs.Common.{◌<◌, ◌∙◌, ap, arith, length, sym}
-use Rattle.definitions.specs.Completion.{with_value}
-use Rattle.uncovered_table.specs.Open.{gain, is_held}
-use Rattle.uncovered_table.proofs.TableLemmas.{counted_all, counted_no, counted_yes, read_placed, view_of}
-use Rattle.uncovered_table.proofs.table.Uncovered.gain.Goals.{then-is_held, else-is_held}
+use Rattle.std.proofs.Common.{◌≡◌, ◌<◌, ◌∙◌, ap, length, subst, sym}
+use Rattle.uncovered_table.specs.Bits.{sets_in_play}
+use Rattle.uncovered_table.specs.Open.{gain}
+use Rattle.uncovered_table.proofs.ValueLemmas.{digit_gain, gain_is, no_gain}
 use Rattle.uncovered_table.proofs.table.Uncovered.gain.Goals as goal
 
-pub is_held-requires-clause-place : goal.is_held-requires-clause-place
-is_held-requires-clause-place c =
-    read_placed c.self.inside.sets c.self.inside.places.items c.loop-i.i c.index.result.now c.self.invariant
-    (omega (arith, c.loop-i-test.true, c.len-i-end.ensures)) c.index.ensures
+pub returns-in-Some : goal.returns-in-Some
+returns-in-Some c =
+    let v = c.self.inside.sets in
+    let bits = c.self.inside.bits in
+    c.count_held.ensures
+    ∙ digit_gain v.model v.slice bits c.args.cells.now c.args.column c.args.value c.in-Some.digit (sets_in_play v.model v.slice c.args.column) (sym c.value_digit.ensures ∙ c.in-Some.is)
+    ∙ gain_is v.model v.slice bits c.args.cells.now c.args.column c.args.value c.keeps.ensures.kept c.keeps.ensures.own
+    (subst (λ table. length c.args.cells.now ≡ length table.model.params) (sym c.self.view_is) c.requires.cells.fits.as_long)
+    (subst (λ table. c.args.column < length table.model.params) (sym c.self.view_is) c.requires.column)
+    ∙ ap (λ table. gain table c.args.cells.now c.args.column c.args.value) c.self.view_is
 
-pub loop-i-preserved : goal.loop-i-preserved
-loop-i-preserved c =
-    let places = c.self.inside.places.items in
-    let f = is_held (view_of c.self.inside.sets places) c.args.column (with_value c.args.cells.now c.args.column c.args.value) in
-    let within : c.loop-i.i < length places = omega (arith, c.loop-i-test.true, c.len-i-end.ensures) in
-    elim c.if-is_held.branch [
-      | then-is_held w ↦ record {
-        counted = w.count-is ∙ counted_yes f places c.loop-i.i c.loop-i.count c.index.result.now within c.index.ensures (sym c.is_held.ensures ∙ w.if-is_held.true) c.loop-i.invariant.counted;
-        few = omega (arith, w.count-is, c.loop-i.invariant.few);
-      }
-      | else-is_held w ↦ record {
-        counted = w.count-is ∙ counted_no f places c.loop-i.i c.loop-i.count c.index.result.now within c.index.ensures (sym c.is_held.ensures ∙ w.if-is_held.false) c.loop-i.invariant.counted;
-        few = omega (arith, w.count-is, c.loop-i.invariant.few);
-      }
-    ]
-
-pub returns : goal.returns
-returns c =
-    let places = c.self.inside.places.items in
-    let cells = with_value c.args.cells.now c.args.column c.args.value in
-    counted_all (is_held (view_of c.self.inside.sets places) c.args.column cells) places c.loop-i.i c.loop-i.count (omega (arith, c.loop-i-test.false, c.len-i-end.ensures)) c.loop-i.invariant.counted
+pub returns-in-None : goal.returns-in-None
+returns-in-None c =
+    let v = c.self.inside.sets in
+    let bits = c.self.inside.bits in
+    no_gain v.model v.slice bits c.args.cells.now c.args.column c.args.value (sets_in_play v.model v.slice c.args.column) (sym c.value_digit.ensures ∙ c.in-None.is)
+    ∙ gain_is v.model v.slice bits c.args.cells.now c.args.column c.args.value c.keeps.ensures.kept c.keeps.ensures.own
+    (subst (λ table. length c.args.cells.now ≡ length table.model.params) (sym c.self.view_is) c.requires.cells.fits.as_long)
+    (subst (λ table. c.args.column < length table.model.params) (sym c.self.view_is) c.requires.column)
     ∙ ap (λ table. gain table c.args.cells.now c.args.column c.args.value) c.self.view_is

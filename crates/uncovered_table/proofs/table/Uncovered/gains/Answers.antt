@@ -1,23 +1,18 @@
-use Rattle.std.proofs.Common.{◌∙◌, arith, subst}
-use Rattle.std.proofs.lemmas.List.{length-set}
-use Rattle.cov_model.specs.Sound.{IsSound}
+use Rattle.std.proofs.Common.{◌≡◌, ◌+◌, ◌<◌, ◌∙◌, ap, arith, length, subst, sym}
 use Rattle.uncovered_table.specs.Open.{gain}
-use Rattle.uncovered_table.proofs.ScoreLemmas.{put_more, values_few}
+use Rattle.uncovered_table.proofs.ScoreLemmas.{scores_are}
+use Rattle.uncovered_table.proofs.ValueLemmas.{gain_is}
 use Rattle.uncovered_table.proofs.table.Uncovered.gains.Goals as goal
 
-pub overflow_cast-i : goal.overflow_cast-i
-overflow_cast-i c =
-    let most = values_few c.args.self.now.model c.args.column (subst (λ table. IsSound table.model) c.self.view_is c.keeps_sound.ensures) c.requires.column in
-    omega (arith, most, c.requires.values, c.loop-i-test.true, c.loop-i.invariant.long)
-
-pub overflow_add-from : goal.overflow_add-from
-overflow_add-from c =
-    let most = values_few c.args.self.now.model c.args.column (subst (λ table. IsSound table.model) c.self.view_is c.keeps_sound.ensures) c.requires.column in
-    omega (arith, most, c.requires.values, c.loop-i-test.true, c.loop-i.invariant.long)
-
-pub loop-i-preserved : goal.loop-i-preserved
-loop-i-preserved c = record {
-  put = put_more (gain c.args.self.now c.args.cells.now c.args.column) c.args.from c.loop-i.i c.gain.result c.loop-i.scores
-      (omega (arith, c.loop-i-test.true, c.loop-i.invariant.long)) c.gain.ensures c.loop-i.invariant.put;
-  long = length-set c.loop-i.scores c.loop-i.i c.gain.result ∙ c.loop-i.invariant.long;
-}
+pub returns : goal.returns
+returns c =
+    let v = c.self.inside.sets in
+    let bits = c.self.inside.bits in
+    let cells = c.args.cells.now in
+    let long : length c.add_held.new.scores ≡ length c.args.scores.now = c.add_held.ensures.long ∙ c.fill.ensures.len in
+    scores_are (gain c.args.self.now cells c.args.column) c.args.from (length c.args.scores.now) c.add_held.new.scores long
+    (λ i within. c.add_held.ensures.each i (omega (arith, within, c.fill.ensures.len))
+    ∙ gain_is v.model v.slice bits cells c.args.column (c.args.from + i) c.keeps.ensures.kept c.keeps.ensures.own
+    (subst (λ table. length cells ≡ length table.model.params) (sym c.self.view_is) c.requires.cells.fits.as_long)
+    (subst (λ table. c.args.column < length table.model.params) (sym c.self.view_is) c.requires.column)
+    ∙ ap (λ table. gain table cells c.args.column (c.args.from + i)) c.self.view_is)

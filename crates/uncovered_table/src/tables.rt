@@ -1,0 +1,151 @@
+ghost use Rattle.std.specs.Prelude.{◌≡◌, ◌<◌, [], IfOk, IfSome, None, OnOk, Some, if◌then◌else◌, length, map, replicate};
+ghost use Rattle.cov_model.specs.Valid.{param_numbers};
+ghost use Rattle.definitions.specs.Demand.{demanded_sets};
+ghost use Rattle.uncovered_table.specs.Bits.{sets_in_play};
+ghost use Rattle.uncovered_table.specs.Kept.{AreBlocks, AreTablesOf, digits_of, play_column, with_set};
+
+use crate::block::Block;
+use crate::part::SlicePart;
+use cov_model::ParamNo;
+use std::alloc::Global;
+use value_text::NoMemory;
+
+// What is kept of the demanded sets of a slice and of its values.
+#[derive(Drop)]
+pub(crate) struct SliceTables {
+    // Where each set has its bits.
+    pub(crate) blocks: Vec<Block>,
+    // For each column the sets in play that have tuples in the slice.
+    pub(crate) plays: Vec<Vec<u32>>,
+    // For each parameter the digits of its values.
+    pub(crate) digits: Vec<Vec<Option<u16>>>,
+}
+
+// As many empty lists.
+fn empty_lists(alloc: Global, count: usize) -> Result<Vec<Vec<u32>>, NoMemory>
+    ensures { IfOk result (λ lists. map (λ list. list.items) lists.items ≡ replicate count []) }
+{
+    let mut lists = Vec::new(alloc);
+    for _ in 0..count {
+        if lists.push(Vec::new(alloc)).is_err() {
+            return Err(NoMemory);
+        }
+    }
+    Ok(lists)
+}
+
+// Adds a set to the list of its column, if it has one.
+fn push_set(lists: &mut Vec<Vec<u32>>, column: Option<ParamNo>, set: u32) -> Result<(), NoMemory>
+    requires { IfSome column (λ p. p < length lists.old.items) }
+    ensures { OnOk result (map (λ list. list.items) lists.new.items ≡ with_set column set (map (λ list. list.items) lists.old.items)) }
+{
+    if let Some(p) = column {
+        if lists[p as usize].push(set).is_err() {
+            return Err(NoMemory);
+        }
+    }
+    Ok(())
+}
+
+// The next digit, for a value of the slice.
+fn digit_if(own: bool, next: u16) -> Option<u16>
+    ensures { result ≡ (if own then Some next else None) }
+{
+    if own { Some(next) } else { None }
+}
+
+impl<'a> SlicePart<'a> {
+    // Where each set has its bits.
+    fn blocks(&self, alloc: Global) -> Result<Vec<Block>, NoMemory>
+        ensures { IfOk result (λ blocks. AreBlocks self.now.model self.now.slice (length (demanded_sets self.now.model)) blocks.items) }
+    {
+        self.keeps();
+        let mut blocks = Vec::new(alloc);
+        let mut first: u32 = 0;
+        for set in 0..self.set_count() {
+            let (start, count) = self.ranks(set);
+            let block = Block {
+                first,
+                start,
+                count,
+            };
+            if blocks.push(block).is_err() {
+                return Err(NoMemory);
+            }
+            first += count;
+        }
+        Ok(blocks)
+    }
+
+    // The column for which a set is in play, if it has a tuple in the slice.
+    fn play_column(&self, set: u32) -> Option<ParamNo>
+        requires { set < length (demanded_sets self.now.model) }
+        ensures value { result ≡ play_column self.now.model self.now.slice set }
+        ensures own { IfSome result (λ p. p < length self.now.model.params) }
+    {
+        if self.ranks(set).1 > 0 {
+            self.last_column(set)
+        } else {
+            None
+        }
+    }
+
+    // For each column the sets in play that have tuples in the slice.
+    fn plays(&self, alloc: Global) -> Result<Vec<Vec<u32>>, NoMemory>
+        ensures { IfOk result (λ lists. map (λ list. list.items) lists.items ≡ map (sets_in_play self.now.model self.now.slice) (param_numbers self.now.model)) }
+    {
+        let mut lists = empty_lists(alloc, self.param_count())?;
+        for set in 0..self.set_count() {
+            let column = self.play_column(set);
+            push_set(&mut lists, column, set)?;
+        }
+        Ok(lists)
+    }
+
+    // The digits of the values of a parameter.
+    fn digits_of(&self, alloc: Global, p: ParamNo) -> Result<Vec<Option<u16>>, NoMemory>
+        requires { p < length self.now.model.params }
+        ensures { IfOk result (λ digits. digits.items ≡ digits_of self.now.model self.now.slice p) }
+    {
+        self.keeps();
+        let mut digits = Vec::new(alloc);
+        let mut next: u16 = 0;
+        for v in 0..self.all_values(p) {
+            let own = self.has_value(p, v);
+            if digits.push(digit_if(own, next)).is_err() {
+                return Err(NoMemory);
+            }
+            next += u16::from(own);
+        }
+        Ok(digits)
+    }
+
+    // The digits of the values of each parameter.
+    fn digits(&self, alloc: Global) -> Result<Vec<Vec<Option<u16>>>, NoMemory>
+        ensures { IfOk result (λ lists. map (λ list. list.items) lists.items ≡ map (digits_of self.now.model self.now.slice) (param_numbers self.now.model)) }
+    {
+        self.keeps();
+        let mut lists = Vec::new(alloc);
+        for p in 0..self.param_count() {
+            let digits = self.digits_of(alloc, p as ParamNo)?;
+            if lists.push(digits).is_err() {
+                return Err(NoMemory);
+            }
+        }
+        Ok(lists)
+    }
+
+    // The tables of the slice.
+    pub(crate) fn tables(&self, alloc: Global) -> Result<SliceTables, NoMemory>
+        ensures { IfOk result (λ tables. AreTablesOf self.now tables.blocks.items (map (λ list. list.items) tables.plays.items) (map (λ list. list.items) tables.digits.items)) }
+    {
+        let blocks = self.blocks(alloc)?;
+        let plays = self.plays(alloc)?;
+        let digits = self.digits(alloc)?;
+        Ok(SliceTables {
+            blocks,
+            plays,
+            digits,
+        })
+    }
+}
