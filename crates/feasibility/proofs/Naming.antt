@@ -41,21 +41,22 @@ pub is_among-Any : (parts : List Pred) (p : ℕ) → is_among (pred_params (pred
 is_among-Any parts p =
     rows_name (row_of (preds.Any parts)).1 p ∙ ap (λ list. list_any (λ part. is_among (pred_params part) p) list) (items_hidden-the_row-Pred-0 parts)
 
--- the constraints that name a parameter, in a list of them for each parameter
-pub record NamedAt (n : ModelView) (named : List (List ℕ)) (p : ℕ) : Type 0 where
-  pub within : p < length named
-  pub is : get_or named p [] ≡ naming n p
+-- what is kept of a parameter, in a list with a place for each
+pub record KeptAt (lists : List (List ℕ)) (p : ℕ) (list : List ℕ) : Type 0 where
+  pub within : p < length lists
+  pub is : get_or lists p [] ≡ list
 
-pub named_at : (m n : ModelView) (named : List (List ℕ)) (p : ℕ) → m ≡ n → named ≡ map (naming m) (param_numbers m) → p < length n.params → NamedAt n named p
-named_at m n named p same is within =
-    let whole : named ≡ map (naming n) (param_numbers n) = is ∙ ap (λ (k : ModelView). map (naming k) (param_numbers k)) same in
+pub kept_at : (f : ModelView → ℕ → List ℕ) (m n : ModelView) (lists : List (List ℕ)) (p : ℕ) → m ≡ n → lists ≡ map (f m) (param_numbers m) → p < length n.params
+    → KeptAt lists p (f n p)
+kept_at f m n lists p same is within =
+    let whole : lists ≡ map (f n) (param_numbers n) = is ∙ ap (λ (k : ModelView). map (f k) (param_numbers k)) same in
     record {
-      within = omega (arith, ap length whole, length-map-range_with_len (naming n) 0 (length n.params));
-      is = ap (λ (lists : List (List ℕ)). get_or lists p []) whole ∙ get_or-map-range_with_len (naming n) 0 (length n.params) p p [] within (zero-add p);
+      within = omega (arith, ap length whole, length-map-range_with_len (f n) 0 (length n.params));
+      is = ap (λ (kept : List (List ℕ)). get_or kept p []) whole ∙ get_or-map-range_with_len (f n) 0 (length n.params) p p [] within (zero-add p);
     }
 
 -- a constraint is found by its number
-numbers_find : (m : ModelView) → IsSound m → All (λ rule. rule_at m rule.number ≡ rule) m.rules
+pub numbers_find : (m : ModelView) → IsSound m → All (λ rule. rule_at m rule.number ≡ rule) m.rules
 numbers_find m sound i d within =
     let here = sound.numbered i d within in
     let place : (get_or m.rules i d).number - 1 ≡ i = omega (arith, here) in
@@ -85,14 +86,14 @@ named_some m p = of_rules m.rules
         by_case true rest = (λ h. refl, λ h. absurd (omega arith))
         by_case false rest = rest
 
-agree_set : (params : List ℕ) (cells : List (Option ℕ)) (p : ℕ) (a : Option ℕ) → is_among params p ≡ false → AgreeOn params (set cells p a) cells
+pub agree_set : (params : List ℕ) (cells : List (Option ℕ)) (p : ℕ) (a : Option ℕ) → is_among params p ≡ false → AgreeOn params (set cells p a) cells
 agree_set [] cells p a away = tt
 agree_set (q ∷ params) cells p a away =
     let parts = neither (q == p) (is_among params p) away in
     (get_or-set_other cells p q a None (λ same. false≢true (sym parts.0 ∙ eq-eqb q p same)), agree_set params cells p a parts.1)
 
 -- where no constraint is No, a value can only make one No that names its parameter
-rules_same : (m : ModelView) (cells : List (Option ℕ)) (p : ℕ) (a : Option ℕ) (rules : List Rule) → All (λ rule. rule_at m rule.number ≡ rule) rules
+pub rules_same : (m : ModelView) (cells : List (Option ℕ)) (p : ℕ) (a : Option ℕ) (rules : List Rule) → All (λ rule. rule_at m rule.number ≡ rule) rules
     → list_any (λ rule. is_no (body_truth m rule.body cells)) rules ≡ false
     → list_any (λ k. is_no (body_truth m (rule_at m k).body (set cells p a))) (map (λ rule. rule.number) (filter (λ rule. is_among (body_params rule.body) p) rules))
     ≡ list_any (λ rule. is_no (body_truth m rule.body (set cells p a))) rules

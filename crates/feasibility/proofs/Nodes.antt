@@ -1,8 +1,8 @@
 -- Nodes of a search: what setting, clearing and filling cells gives.
-use Rattle.std.proofs.Common.{◌≡◌, ℕ, zero, suc, ◌+◌, ◌<◌, ◌≤◌, Bool, true, false, not, ◌&&◌, ◌||◌, ◌==◌, List, [], ◌∷◌, ◌++◌, map, take, length, Option, Some, None, is_some, unwrap_or, get_or, set, ◌∙◌, sym, ap, subst, refl, arith, inl, inr, eq-eqb, zero-add}
+use Rattle.std.proofs.Common.{◌≡◌, ℕ, zero, suc, ◌+◌, ◌<◌, ◌≤◌, Bool, true, false, not, ◌&&◌, ◌||◌, ◌==◌, List, [], ◌∷◌, ◌++◌, take, length, Option, Some, None, is_some, unwrap_or, get_or, set, ◌∙◌, sym, ap, subst, refl, arith, inl, inr, eq-eqb, zero-add}
 use Rattle.std.specs.List.{list_any, range_with_len}
 use Rattle.std.proofs.lemmas.Bool.{false≢true, cases_eq}
-use Rattle.std.proofs.lemmas.List.{get_or-set_other, get_or-set_same, get_or_default, length-set, same_lists, set-set}
+use Rattle.std.proofs.lemmas.List.{map-id, get_or-set_other, get_or-set_same, get_or_default, length-set, same_lists, set-set}
 use Rattle.std.proofs.lemmas.List.Folds.{list_any_at, list_any_more, list_any-append}
 use Rattle.std.proofs.lemmas.List.FromFn.{length-range_with_len, get_or-range_with_len, map-range_with_len_more}
 use Rattle.cov_model.specs.Sound.{ModelView, IsSound, param_at, rule_at}
@@ -137,6 +137,11 @@ dead_more m cells p i values within none dead =
     list_any_more (λ v. not (breaks_a_rule m (with_value cells p v))) values i 0 within
     ∙ ap (λ (b : Bool). b || not (breaks_a_rule m (with_value cells p (get_or values i 0)))) none ∙ ap not dead
 
+-- one number more
+pub range_more : (a n : ℕ) → range_with_len a (n + 1) ≡ range_with_len a n ++ (a + n) ∷ []
+range_more a n =
+    sym (map-id (range_with_len a (n + 1))) ∙ map-range_with_len_more (λ k. k) a n (a + n) refl ∙ ap (λ list. list ++ (a + n) ∷ []) (map-id (range_with_len a n))
+
 -- one parameter more that isn't stuck, and one that is
 pub stuck_more : (m : ModelView) (lists : List (List ℕ)) (cells : List (Option ℕ)) (p : ℕ) (b : Bool) → list_any (is_stuck m lists cells) (range_with_len 0 p) ≡ false
     → is_stuck m lists cells p ≡ b → list_any (is_stuck m lists cells) (range_with_len 0 (p + 1)) ≡ b
@@ -150,13 +155,6 @@ stuck_more m lists cells p b none is =
     or_false : (b : Bool) → (b || false) ≡ b
     or_false true = refl
     or_false false = refl
-
-    range_more : (a n : ℕ) → range_with_len a (n + 1) ≡ range_with_len a n ++ (a + n) ∷ []
-    range_more a n = sym (map_same (range_with_len a (n + 1))) ∙ map-range_with_len_more (λ k. k) a n (a + n) refl ∙ ap (λ list. list ++ (a + n) ∷ []) (map_same (range_with_len a n))
-      where
-        map_same : (xs : List ℕ) → map (λ k. k) xs ≡ xs
-        map_same [] = refl
-        map_same (x ∷ xs) = ap (λ rest. x ∷ rest) (map_same xs)
 
 -- one stuck parameter makes the node fail
 pub stuck_fails_node : (m : ModelView) (lists : List (List ℕ)) (cells : List (Option ℕ)) (p : ℕ) → p < length m.params → is_stuck m lists cells p ≡ true

@@ -1,13 +1,14 @@
-ghost use Rattle.std.specs.Prelude.{◌≡◌, ◌<◌, [], length, map, slice_index_or, not, IfOk};
-ghost use Rattle.std.specs.List.{filter};
+ghost use Rattle.std.specs.Prelude.{◌≡◌, ◌<◌, ◌≤◌, [], length, map, slice_index_or, not, All, IfOk};
+ghost use Rattle.std.specs.List.{filter, list_any};
 ghost use Rattle.cov_model.specs.Preference.{OrdersValues};
 ghost use Rattle.cov_model.specs.Slices.{slice_values};
-ghost use Rattle.cov_model.specs.Sound.{param_at};
+ghost use Rattle.cov_model.specs.Sound.{param_at, rule_at};
 ghost use Rattle.cov_model.specs.Meaning.{value_at};
 ghost use Rattle.definitions.specs.Completion.{preferred_values};
 ghost use Rattle.definitions.specs.Demand.{is_among};
+ghost use Rattle.definitions.specs.Search.{body_params};
 ghost use Rattle.definitions.specs.SliceRows.{IsSliceOf};
-ghost use Rattle.feasibility.specs.Tree.{all_naming, naming, preferred_at};
+ghost use Rattle.feasibility.specs.Tree.{all_naming, all_neighbours, naming, neighbours, preferred_at};
 
 use crate::named::body_names;
 use cov_model::{ParamNo, Prefs, Slice, TestModel, ValueNo};
@@ -111,6 +112,63 @@ pub(crate) fn naming_lists(alloc: Global, model: &TestModel) -> Result<Vec<Vec<u
     let mut lists = Vec::new(alloc);
     for p in 0..count {
         let list = naming(alloc, model, p as ParamNo)?;
+        if lists.push(list).is_err() {
+            return Err(NoMemory);
+        }
+    }
+    Ok(lists)
+}
+
+// Whether one of these constraints names the parameter.
+fn is_named_by(model: &TestModel, numbers: &[u32], q: ParamNo) -> bool
+    requires { All (λ k. (0 < k) × (k ≤ length model.now.rules)) numbers.now }
+    ensures { result ≡ list_any (λ k. is_among (body_params (rule_at model.now k).body) q) numbers.now }
+{
+    let rules = model.rules().as_slice();
+    for number in numbers {
+        if body_names(&rules[*number as usize - 1].body, q) {
+            return true;
+        }
+    }
+    false
+}
+
+// The parameters of the constraints that name the parameter; these have the numbers given.
+fn neighbours(
+    alloc: Global,
+    model: &TestModel,
+    p: ParamNo,
+    numbers: &[u32],
+) -> Result<Vec<ParamNo>, NoMemory>
+    requires { numbers.now ≡ naming model.now p }
+    ensures { IfOk result (λ list. list.items ≡ neighbours model.now p) }
+{
+    let mut list = Vec::new(alloc);
+    let count = model.params().len();
+    for q in 0..count {
+        if is_named_by(model, numbers, q as ParamNo) {
+            if list.push(q as ParamNo).is_err() {
+                return Err(NoMemory);
+            }
+        }
+    }
+    Ok(list)
+}
+
+// For each parameter the parameters of the constraints that name it; the lists give the numbers of
+// these constraints.
+pub(crate) fn neighbour_lists(
+    alloc: Global,
+    model: &TestModel,
+    named: &[Vec<u32>],
+) -> Result<Vec<Vec<ParamNo>>, NoMemory>
+    requires { map (λ list. list.items) named.now ≡ all_naming model.now }
+    ensures { IfOk result (λ lists. map (λ list. list.items) lists.items ≡ all_neighbours model.now) }
+{
+    let count = model.params().len();
+    let mut lists = Vec::new(alloc);
+    for p in 0..count {
+        let list = neighbours(alloc, model, p as ParamNo, named[p].as_slice())?;
         if lists.push(list).is_err() {
             return Err(NoMemory);
         }

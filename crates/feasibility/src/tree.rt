@@ -10,22 +10,23 @@ ghost use Rattle.definitions.specs.Search.{breaks_a_rule, constrained_params, is
 ghost use Rattle.feasibility.specs.Answers.{answer_of};
 ghost use Rattle.feasibility.specs.Path.{filled, filled_cell, reached};
 ghost use Rattle.definitions.specs.SliceRows.{IsSliceOf};
-ghost use Rattle.feasibility.specs.Tree.{ListsValues, TreeView, constrained_from, is_named, naming};
+ghost use Rattle.feasibility.specs.Tree.{FailsOnlyByLast, ListsValues, TreeView, constrained_from, is_named, naming, neighbours};
 
 use crate::answer::Answer;
-use crate::build::{naming_lists, preferred_lists};
+use crate::build::{naming_lists, neighbour_lists, preferred_lists};
 use cov_model::{Cells, ParamNo, Prefs, Slice, TestModel, Truth, ValueNo};
 use std::alloc::Global;
 use std::marker::Model;
 use value_text::NoMemory;
 
 /// What a plain search looks at in each node: the values of each parameter in the order in which
-/// they are tried, and the numbers of the constraints that name it.
+/// they are tried, the numbers of the constraints that name it, and the parameters that these name.
 #[derive(Drop)]
 pub struct SearchTree<'a> {
     model: &'a TestModel,
     values: Vec<Vec<ValueNo>>,
     naming: Vec<Vec<u32>>,
+    neighbours: Vec<Vec<ParamNo>>,
 }
 
 impl<'a> Model for SearchTree<'a> {
@@ -40,7 +41,7 @@ impl<'a> Model for SearchTree<'a> {
 
     ghost view = { λ a. record { model = a.model.now; values = map (λ list. list.items) a.values.items } };
 
-    ghost invariant = { λ a. IsTree a.model.now (map (λ list. list.items) a.values.items) (map (λ list. list.items) a.naming.items) };
+    ghost invariant = { λ a. IsTree a.model.now (map (λ list. list.items) a.values.items) (map (λ list. list.items) a.naming.items) (map (λ list. list.items) a.neighbours.items) };
 }
 
 impl<'a> SearchTree<'a> {
@@ -57,10 +58,12 @@ impl<'a> SearchTree<'a> {
     {
         let values = preferred_lists(alloc, model, prefs, slice)?;
         let naming = naming_lists(alloc, model)?;
+        let neighbours = neighbour_lists(alloc, model, &naming)?;
         Ok(SearchTree {
             model,
             values,
             naming,
+            neighbours,
         })
     }
 
@@ -96,6 +99,14 @@ impl<'a> SearchTree<'a> {
         ensures { result.now ≡ naming self.now.model p }
     {
         self.naming[p as usize].as_slice()
+    }
+
+    // The parameters of the constraints that name a parameter.
+    fn neighbours_of(&self, p: ParamNo) -> &[ParamNo]
+        requires { p < length self.now.model.params }
+        ensures { result.now ≡ neighbours self.now.model p }
+    {
+        self.neighbours[p as usize].as_slice()
     }
 
     // Whether constraints name the parameter.
@@ -162,6 +173,23 @@ impl<'a> SearchTree<'a> {
         true
     }
 
+    // Whether a neighbour of the parameter is stuck.
+    fn has_stuck_neighbour(&self, p: ParamNo, cells: &mut Cells) -> bool
+        requires parameter { p < length self.now.model.params }
+        requires fits { FitsModel self.now.model cells.old }
+        requires unbroken { breaks_a_rule self.now.model cells.old ≡ false }
+        ensures stuck { result ≡ list_any (is_stuck self.now.model self.now.values cells.old) (neighbours self.now.model p) }
+        ensures same { cells.new ≡ cells.old }
+    {
+        let near = self.neighbours_of(p);
+        for q in near {
+            if self.is_stuck(*q, cells) {
+                return true;
+            }
+        }
+        false
+    }
+
     // Whether a node fails.
     fn is_failing(&self, cells: &mut Cells) -> bool
         requires { FitsModel self.now.model cells.old }
@@ -178,6 +206,26 @@ impl<'a> SearchTree<'a> {
             }
         }
         false
+    }
+
+    // Whether a node fails, given the parameter that was set last, if one was: the node before didn't
+    // fail, so that only the constraints and the neighbours of this parameter need looking at.
+    fn fails_by_last(&self, last: Option<ParamNo>, cells: &mut Cells) -> bool
+        requires fits { FitsModel self.now.model cells.old }
+        requires last { FailsOnlyByLast self.now.model self.now.values last cells.old }
+        ensures fails { result ≡ is_failing self.now.model self.now.values cells.old }
+        ensures same { cells.new ≡ cells.old }
+    {
+        let _ = self.model();
+        match last {
+            None => self.is_failing(cells),
+            Some(p) => {
+                if self.breaks_naming(p, cells) {
+                    return true;
+                }
+                self.has_stuck_neighbour(p, cells)
+            }
+        }
     }
 
     // Gives the parameter the first value of its list, if it has none.
@@ -206,8 +254,9 @@ impl<'a> SearchTree<'a> {
     }
 
     // Visits a node in which each constrained parameter has a value.
-    fn visit_leaf(&self, cells: &mut Cells, left: &mut u64) -> Answer
-        requires { FitsModel self.now.model cells.old }
+    fn visit_leaf(&self, last: Option<ParamNo>, cells: &mut Cells, left: &mut u64) -> Answer
+        requires fits { FitsModel self.now.model cells.old }
+        requires last { FailsOnlyByLast self.now.model self.now.values last cells.old }
         ensures answer { result ≡ answer_of (not (is_failing self.now.model self.now.values cells.old)) 1 left.old }
         ensures left { left.new ≡ left.old - 1 }
         ensures yes { result ≡ Answer.Yes → cells.new ≡ filled self.now.values cells.old }
@@ -218,18 +267,20 @@ impl<'a> SearchTree<'a> {
             return Answer::Spent;
         }
         *left -= 1;
-        if self.is_failing(cells) {
+        if self.fails_by_last(last, cells) {
             return Answer::No;
         }
         self.fill(cells);
         Answer::Yes
     }
 
-    // Visits a node, given that the constrained parameters before p have values. After Yes the
-    // cells are the row that the search leads to, and after No as they were.
-    fn visit(&self, p: usize, cells: &mut Cells, left: &mut u64) -> Answer
+    // Visits a node, given that the constrained parameters before p have values, and the parameter
+    // that was set last, if one was. After Yes the cells are the row that the search leads to, and
+    // after No as they were.
+    fn visit(&self, p: usize, last: Option<ParamNo>, cells: &mut Cells, left: &mut u64) -> Answer
         requires parameter { p ≤ length self.now.model.params }
         requires fits { FitsModel self.now.model cells.old }
+        requires last { FailsOnlyByLast self.now.model self.now.values last cells.old }
         ensures answer { result ≡ answer_of (visit self.now.model self.now.values (constrained_from self.now.model p) cells.old).found (visit self.now.model self.now.values (constrained_from self.now.model p) cells.old).cost left.old }
         ensures left { left.new ≡ left.old - (visit self.now.model self.now.values (constrained_from self.now.model p) cells.old).cost }
         ensures yes { result ≡ Answer.Yes → cells.new ≡ reached self.now.model self.now.values (constrained_from self.now.model p) cells.old }
@@ -238,23 +289,23 @@ impl<'a> SearchTree<'a> {
     {
         let count = self.model().params().len();
         if p == count {
-            return self.visit_leaf(cells, left);
+            return self.visit_leaf(last, cells, left);
         }
         let param = p as ParamNo;
         if !self.is_constrained(param) || cells.get(param).is_some() {
-            return self.visit(p + 1, cells, left);
+            return self.visit(p + 1, last, cells, left);
         }
         if *left == 0 {
             return Answer::Spent;
         }
         *left -= 1;
-        if self.is_failing(cells) {
+        if self.fails_by_last(last, cells) {
             return Answer::No;
         }
         let values = self.values_of(param);
         for v in values {
             cells.set_cell(param, *v);
-            match self.visit(p + 1, cells, left) {
+            match self.visit(p + 1, Some(param), cells, left) {
                 Answer::Yes => return Answer::Yes,
                 Answer::Spent => return Answer::Spent,
                 Answer::No => cells.clear_cell(param),
@@ -275,6 +326,6 @@ impl<'a> SearchTree<'a> {
         let _ = self.model();
         room.copy_from(cells);
         let mut left = budget;
-        self.visit(0, room, &mut left)
+        self.visit(0, None, room, &mut left)
     }
 }
