@@ -29,3 +29,4 @@ pub mod Starting
 pub mod Halves
 pub mod Ranking
 pub mod Taking
+pub mod Giving

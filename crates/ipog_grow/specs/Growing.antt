@@ -1,6 +1,6 @@
 -- What the growth of a slice looks at on its way. (This project's rules.)
-use Rattle.std.specs.Prelude.{◌≡◌, ◌≢◌, ◌⊎◌, ℕ, true, List, [], ◌∷◌, map, Option, Some, None, All, nat_lt, if◌then◌else◌}
-use Rattle.std.specs.List.{filter}
+use Rattle.std.specs.Prelude.{◌≡◌, ◌≢◌, ◌⊎◌, ℕ, true, List, [], ◌∷◌, map, length, Option, Some, None, All, nat_lt, if◌then◌else◌}
+use Rattle.std.specs.List.{filter, range_with_len}
 use Rattle.cov_model.specs.declared.slice.Slice.{Slice}
 use Rattle.cov_model.specs.declared.slice.Slice.TheVariants.{Positive, Negative}
 use Rattle.cov_model.specs.Sound.{ModelView}
@@ -29,6 +29,10 @@ HasFixed (Negative q v) cells = is_assigned cells q ≡ true
 pub record GrowsIn (m : ModelView) (slice : Slice) (cells : List (Option ℕ)) : Type 0 where
   pub of : IsOfSlice m slice cells
   pub fixed : HasFixed slice cells
+
+-- the parameters that have a value in a tuple, rising
+abbrev pub given_params : List (Option ℕ) → List ℕ
+given_params tuple = filter (is_assigned tuple) (range_with_len 0 (length tuple))
 
 -- the places of the open tuples that are in play for a column, and these tuples
 abbrev pub open_places : OpenView → ℕ → List (ℕ × ℕ)

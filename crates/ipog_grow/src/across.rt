@@ -8,12 +8,16 @@ ghost use Rattle.ipog_grow.specs.Growing.{IsInPlay, Keeps, open_tuples};
 use crate::asker::Asker;
 use crate::fill::fill_cell;
 use crate::stop::Stop;
+use crate::workers::Workers;
 use cov_model::{Cells, ParamNo, ValueNo};
+use outside_io::Gate;
+use std::thread::Threads;
 use uncovered_table::Uncovered;
 
 // Horizontal growth of a column: each partial row in order gets its best value there. The open tuples
 // in play are those that no row contains, before and after.
-pub(crate) fn grow_across(
+pub(crate) fn grow_across<R: Threads + Sync, G: Gate + Sync>(
+    workers: &Workers<'_, R, G>,
     table: &mut Uncovered,
     asker: &mut Asker,
     order: &[ValueNo],
@@ -37,7 +41,7 @@ pub(crate) fn grow_across(
     ensures long { length scores.new ≡ length scores.old }
 {
     for i in 0..rows.len() {
-        fill_cell(table, asker, order, column, scores, &mut rows[i])?;
+        fill_cell(workers, table, asker, order, column, scores, &mut rows[i])?;
     }
     Ok(())
 }

@@ -7,14 +7,18 @@ use crate::across::grow_across;
 use crate::settle::SliceGrowth;
 use crate::start::close_given;
 use crate::stop::Stop;
+use crate::workers::Workers;
 use cov_model::{ParamNo, Prefs};
+use outside_io::Gate;
 use std::alloc::Global;
+use std::thread::Threads;
 use tuple_index::Plan;
 
 impl<'a> SliceGrowth<'a> {
     // A column: horizontal, then vertical growth. The preferences are those of the slice's questions.
-    pub(crate) fn grow_column(
+    pub(crate) fn grow_column<R: Threads + Sync, G: Gate + Sync>(
         &mut self,
+        workers: &Workers<'_, R, G>,
         alloc: Global,
         prefs: &Prefs,
         plan: &Plan,
@@ -42,6 +46,7 @@ impl<'a> SliceGrowth<'a> {
         };
         close_given(&mut self.table, &self.rows, column);
         grow_across(
+            workers,
             &mut self.table,
             &mut self.asker,
             order,

@@ -9,8 +9,11 @@ use crate::asker::Asker;
 use crate::order::column_order;
 use crate::settle::SliceGrowth;
 use crate::stop::Stop;
+use crate::workers::Workers;
 use cov_model::{Cells, Prefs, Rows, Slice, TestModel};
+use outside_io::Gate;
 use std::alloc::Global;
+use std::thread::Threads;
 use tuple_index::Plan;
 use uncovered_table::Uncovered;
 use value_text::NoMemory;
@@ -47,8 +50,9 @@ impl<'a> SliceGrowth<'a> {
     }
 
     // The columns in order. The model, the slice and the preferences are those of the slice's questions.
-    pub(crate) fn grow_columns(
+    pub(crate) fn grow_columns<R: Threads + Sync, G: Gate + Sync>(
         &mut self,
+        workers: &Workers<'_, R, G>,
         alloc: Global,
         model: &TestModel,
         prefs: &Prefs,
@@ -72,7 +76,7 @@ impl<'a> SliceGrowth<'a> {
             return Err(Stop::NoMemory);
         };
         for column in &order {
-            self.grow_column(alloc, prefs, plan, *column)?;
+            self.grow_column(workers, alloc, prefs, plan, *column)?;
         }
         Ok(())
     }

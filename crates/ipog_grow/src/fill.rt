@@ -1,36 +1,25 @@
-ghost use Rattle.std.specs.Prelude.{◌≡◌, ◌<◌, ◌≤◌, ℕ, List, Option, true, All, [], length, map, slice_index_or, OnOk};
-ghost use Rattle.std.specs.List.{filter, range_with_len};
+ghost use Rattle.std.specs.Prelude.{◌≡◌, ◌<◌, ℕ, List, Option, true, All, [], length, slice_index_or, OnOk};
+ghost use Rattle.std.specs.List.{filter};
 ghost use Rattle.cov_model.specs.Sound.{param_at};
 ghost use Rattle.cov_model.specs.Rows.{contains};
 ghost use Rattle.definitions.specs.Growth.{is_uncovered};
-ghost use Rattle.definitions.specs.SliceRows.{IsOfSlice};
 ghost use Rattle.ipog_grow.specs.Asking.{Grows, IsTableOf, Told, filled, first_spent};
 ghost use Rattle.ipog_grow.specs.Growing.{IsClosedBy, IsInPlay, open_tuples};
-ghost use Rattle.uncovered_table.specs.Open.{gain};
 
 use crate::asker::Asker;
 use crate::stop::Stop;
 use crate::values::try_values;
+use crate::workers::Workers;
 use cov_model::{Cells, ParamNo, ValueNo};
+use outside_io::Gate;
+use std::thread::Threads;
 use uncovered_table::Uncovered;
-
-// Puts the gain of each value of a column.
-fn put_gains(table: &Uncovered, row: &Cells, column: ParamNo, scores: &mut [u32])
-    requires row { IsOfSlice table.now.model table.now.slice row.now }
-    requires column { column < length table.now.model.params }
-    requires scores { length scores.old ≡ length (param_at table.now.model.params column).values }
-    requires few { length scores.old ≤ 4095 }
-    ensures { scores.new ≡ map (gain table.now row.now column) (range_with_len 0 (length scores.old)) }
-{
-    for v in 0..scores.len() {
-        scores[v] = table.gain(row, column, v as ValueNo);
-    }
-}
 
 // Fills the cell of a partial row in a column, if it has no value there: of the values that leave it
 // extendable, it gets the one of the greatest gain, and among these the first in preference order.
 // What it then contains is closed. The scores are lost.
-pub(crate) fn fill_cell(
+pub(crate) fn fill_cell<R: Threads + Sync, G: Gate + Sync>(
+    workers: &Workers<'_, R, G>,
     table: &mut Uncovered,
     asker: &mut Asker,
     order: &[ValueNo],
@@ -56,7 +45,7 @@ pub(crate) fn fill_cell(
     if row.get(column).is_some() {
         return Ok(());
     }
-    put_gains(table, row, column, scores);
+    workers.put_gains(table, row, column, scores);
     if try_values(asker, order, scores, column, row)? {
         table.close_row(row, column);
     }

@@ -14,6 +14,7 @@ use crate::seeds::sort_seeds;
 use crate::slice_growth::grow_slice;
 use crate::slices::slices_of;
 use crate::suite::{GrowOpts, Suite};
+use crate::workers::Workers;
 use cov_model::{Prefs, Rows, Slice, TestModel};
 use feasibility::SearchFault;
 use outside_io::Gate;
@@ -24,7 +25,8 @@ use std::thread::Threads;
 use tuple_index::Plan;
 
 // Grows slices in order from the kept seeds.
-fn grow_slices(
+fn grow_slices<R: Threads + Sync, G: Gate + Sync>(
+    workers: &Workers<'_, R, G>,
     alloc: Global,
     model: &TestModel,
     plan: &Plan,
@@ -50,7 +52,7 @@ fn grow_slices(
 {
     for slice in slices {
         grow_slice(
-            alloc, model, plan, prefs, kept, *slice, budget, rows, omissions,
+            workers, alloc, model, plan, prefs, kept, *slice, budget, rows, omissions,
         )?;
     }
     Ok(())
@@ -81,8 +83,11 @@ pub fn generate<R: Threads + Sync, G: Gate + Sync>(
     ensures suite { IfOk result (IsSuiteOf model.now prefs.now (seeds_seen seeds.now) opts.now.proof) }
     ensures asked { Ends result (first_over model.now prefs.now opts.now.budget (growth model.now prefs.now (seeds_seen seeds.now)).asked) }
 {
-    let _ = rt;
-    let _ = gate;
+    let workers = Workers {
+        rt,
+        count: opts.workers,
+        gate,
+    };
     let sorted = sort_seeds(alloc, model, prefs, seeds, opts.budget)?;
     let Ok(slices) = slices_of(alloc, model) else {
         return Err(SearchFault::NoMemory);
@@ -94,6 +99,7 @@ pub fn generate<R: Threads + Sync, G: Gate + Sync>(
     let mut rows = Rows::new(alloc);
     let mut omitted = Omissions::empty(alloc, form);
     grow_slices(
+        &workers,
         alloc,
         model,
         plan,

@@ -3,7 +3,7 @@ ghost use Rattle.definitions.specs.Growth.{agrees, join, union};
 ghost use Rattle.ipog_grow.specs.Asking.{Grows, Told, IsUnionAt, extends, first_spent};
 
 use crate::asker::Asker;
-use crate::partial::{agree, unite};
+use crate::partial::{agree, put_given_params, unite};
 use crate::stop::Stop;
 use cov_model::Cells;
 
@@ -28,8 +28,11 @@ pub(crate) fn join_first(
     ensures long { length room.new ≡ length room.old }
 {
     asker.keeps();
+    let mut params = [0; 256];
+    let count = put_given_params(tuple, &mut params);
+    let given = &params[..count];
     for i in 0..rows.len() {
-        if agree(&rows[i], tuple) {
+        if agree(&rows[i], tuple, given) {
             unite(&rows[i], tuple, room);
             if asker.ask(room)? {
                 rows[i].copy_from(room);

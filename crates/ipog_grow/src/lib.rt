@@ -25,6 +25,7 @@ mod start;
 mod stop;
 mod suite;
 mod values;
+mod workers;
 
 pub use generating::generate;
 pub use suite::{GrowOpts, LineList, Suite};

@@ -1,17 +1,37 @@
-ghost use Rattle.std.specs.Prelude.{◌≡◌, ◌≤◌, length};
+ghost use Rattle.std.specs.Prelude.{◌≡◌, ◌<◌, ◌≤◌, All, length, take};
 ghost use Rattle.definitions.specs.Growth.{agrees, union};
+ghost use Rattle.ipog_grow.specs.Growing.{given_params};
 
 use cov_model::{Cells, ParamNo};
 
-// Whether no parameter has one value in the one partial row and another in the other.
-pub(crate) fn agree(row: &Cells, tuple: &Cells) -> bool
+// Puts the parameters that have a value in a tuple to the front, rising, and tells how many there are.
+pub(crate) fn put_given_params(tuple: &Cells, into: &mut [ParamNo]) -> usize
+    requires room { length tuple.now ≤ length into.old }
+    requires few { length tuple.now ≤ 256 }
+    ensures within { result ≤ length into.new }
+    ensures given { take result into.new ≡ given_params tuple.now }
+{
+    let mut count = 0;
+    let end = tuple.len() as ParamNo;
+    for p in 0..end {
+        if tuple.get(p).is_some() {
+            into[count] = p;
+            count += 1;
+        }
+    }
+    count
+}
+
+// Whether no parameter has one value in a partial row and another in a tuple, which gives values to
+// these parameters.
+pub(crate) fn agree(row: &Cells, tuple: &Cells, given: &[ParamNo]) -> bool
     requires long { length tuple.now ≡ length row.now }
-    requires few { length row.now ≤ 256 }
+    requires given { given.now ≡ given_params tuple.now }
+    requires exist { All (λ p. p < length row.now) given.now }
     ensures { result ≡ agrees row.now tuple.now }
 {
-    let count = row.len() as ParamNo;
-    for p in 0..count {
-        if let (Some(v), Some(w)) = (row.get(p), tuple.get(p)) {
+    for p in given {
+        if let (Some(v), Some(w)) = (row.get(*p), tuple.get(*p)) {
             if v != w {
                 return false;
             }

@@ -14,15 +14,19 @@ use crate::finish::finish_slice;
 use crate::question::fault_of;
 use crate::seeds::seeds_of_slice;
 use crate::settle::SliceGrowth;
+use crate::workers::Workers;
 use cov_model::{Prefs, Rows, Slice, TestModel};
 use feasibility::SearchFault;
+use outside_io::Gate;
 use refutation::Omissions;
 use std::alloc::Global;
+use std::thread::Threads;
 use tuple_index::Plan;
 
 // Grows a slice from its kept seeds, and puts its rows and omitted tuples behind those of earlier
 // slices.
-pub(crate) fn grow_slice<'a>(
+pub(crate) fn grow_slice<'a, R: Threads + Sync, G: Gate + Sync>(
+    workers: &Workers<'_, R, G>,
     alloc: Global,
     model: &'a TestModel,
     plan: &'a Plan,
@@ -52,7 +56,7 @@ pub(crate) fn grow_slice<'a>(
     let Ok(mut growth) = SliceGrowth::new(alloc, model, prefs, plan, slice, budget, seeds) else {
         return Err(SearchFault::NoMemory);
     };
-    if let Err(stop) = growth.grow_columns(alloc, model, prefs, plan, slice) {
+    if let Err(stop) = growth.grow_columns(workers, alloc, model, prefs, plan, slice) {
         return Err(fault_of(alloc, stop, growth.asker.question()));
     }
     let SliceGrowth {

@@ -8,21 +8,37 @@ use Rattle.ipog_grow.proofs.Asking.{told-err}
 use Rattle.ipog_grow.proofs.Crossing.{Step, crossing-more, crossing-spent}
 use Rattle.ipog_grow.proofs.across.grow_across.Goals as goal
 
-pub fill_cell-requires : goal.fill_cell-requires
-fill_cell-requires c =
+pub fill_cell-requires-clause-table : goal.fill_cell-requires-clause-table
+fill_cell-requires-clause-table g c _ _ =
+    subst (λ (w : World). IsTableOf w c.loop-i.table) (sym c.loop-i.invariant.world)
+    (c.loop-i.invariant.crossing.keeps.model ∙ c.requires.table.0, c.loop-i.invariant.crossing.keeps.slice ∙ c.requires.table.1)
+
+pub fill_cell-requires-clause-column : goal.fill_cell-requires-clause-column
+fill_cell-requires-clause-column g c _ _ =
+    subst (λ (w : World). c.args.column < length w.model.params) (sym c.loop-i.invariant.world) c.requires.column
+
+pub fill_cell-requires-clause-order : goal.fill_cell-requires-clause-order
+fill_cell-requires-clause-order g c _ _ =
+    subst (λ (w : World). c.args.order.now ≡ get_or w.prefs c.args.column []) (sym c.loop-i.invariant.world) c.requires.order
+
+pub fill_cell-requires-clause-scores : goal.fill_cell-requires-clause-scores
+fill_cell-requires-clause-scores g c _ _ =
+    subst (λ (w : World). length c.loop-i.scores ≡ length (param_at w.model.params c.args.column).values) (sym c.loop-i.invariant.world)
+    (c.loop-i.invariant.scores ∙ c.requires.scores)
+
+pub fill_cell-requires-clause-in_play : goal.fill_cell-requires-clause-in_play
+fill_cell-requires-clause-in_play g c _ _ =
+    subst (λ (w : World). All (IsInPlay w.model w.slice c.args.column) (open_tuples c.loop-i.table c.args.column)) (sym c.loop-i.invariant.world)
+    c.loop-i.invariant.crossing.in_play
+
+pub fill_cell-requires-clause-grows : goal.fill_cell-requires-clause-grows
+fill_cell-requires-clause-grows g c _ _ =
     let within : c.loop-i.i < length c.loop-i.rows = omega (arith, c.loop-i.invariant.crossing.long) in
-    let moved = sym c.loop-i.invariant.world in
-    record {
-      table = subst (λ (w : World). IsTableOf w c.loop-i.table) moved (c.loop-i.invariant.crossing.keeps.model ∙ c.requires.table.0, c.loop-i.invariant.crossing.keeps.slice ∙ c.requires.table.1);
-      column = subst (λ (w : World). c.args.column < length w.model.params) moved c.requires.column;
-      order = subst (λ (w : World). c.args.order.now ≡ get_or w.prefs c.args.column []) moved c.requires.order;
-      scores = subst (λ (w : World). length c.loop-i.scores ≡ length (param_at w.model.params c.args.column).values) moved (c.loop-i.invariant.scores ∙ c.requires.scores);
-      in_play = subst (λ (w : World). All (IsInPlay w.model w.slice c.args.column) (open_tuples c.loop-i.table c.args.column)) moved c.loop-i.invariant.crossing.in_play;
-      grows = subst (λ (w : World). Grows w (get_or c.loop-i.rows c.loop-i.i c.index-rows-i.result)) moved (c.loop-i.invariant.crossing.grows c.loop-i.i c.index-rows-i.result within);
-    }
+    subst (λ (w : World). Grows w (get_or c.loop-i.rows c.loop-i.i c.index-rows-i.result)) (sym c.loop-i.invariant.world)
+    (c.loop-i.invariant.crossing.grows c.loop-i.i c.index-rows-i.result within)
 
 pub returns-in_err-fill_cell-clause-asked : goal.returns-in_err-fill_cell-clause-asked
-returns-in_err-fill_cell-clause-asked c tuples moment =
+returns-in_err-fill_cell-clause-asked g c tuples moment =
     let within : c.loop-i.i < length c.loop-i.rows = omega (arith, c.loop-i.invariant.crossing.long) in
     let read : get_or c.loop-i.rows c.loop-i.i c.index-rows-i.result ≡ get_or c.loop-i.rows c.loop-i.i [] = get_or_default c.loop-i.rows c.loop-i.i c.index-rows-i.result [] within in
     let p = err_from_is_err_and c.from_residual.result c.from_residual.ensures.1 in
@@ -35,7 +51,7 @@ returns-in_err-fill_cell-clause-asked c tuples moment =
     (c.in_err-fill_cell.ensures.asked c.loop-i.rows tuples (c.loop-i.invariant.crossing.moment tuples moment)))))
 
 pub loop-i-preserved : goal.loop-i-preserved
-loop-i-preserved c =
+loop-i-preserved g c =
     let within : c.loop-i.i < length c.loop-i.rows = omega (arith, c.loop-i.invariant.crossing.long) in
     let read : get_or c.loop-i.rows c.loop-i.i c.index-rows-i.result ≡ get_or c.loop-i.rows c.loop-i.i [] = get_or_default c.loop-i.rows c.loop-i.i c.index-rows-i.result [] within in
     let told : Step c.loop-i.asker.world c.args.column c.loop-i.table c.fill_cell.new.table (get_or c.loop-i.rows c.loop-i.i c.index-rows-i.result) c.fill_cell.new.row =

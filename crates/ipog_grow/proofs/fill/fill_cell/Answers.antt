@@ -11,16 +11,16 @@ use Rattle.ipog_grow.proofs.Holding.{contains-refl}
 use Rattle.ipog_grow.proofs.fill.fill_cell.Goals as goal
 
 pub returns-then-is_some-clause-more : goal.returns-then-is_some-clause-more
-returns-then-is_some-clause-more c = contains-refl c.args.row.now
+returns-then-is_some-clause-more g c = contains-refl c.args.row.now
 
 pub try_values-requires-clause-listed : goal.try_values-requires-clause-listed
-try_values-requires-clause-listed c =
+try_values-requires-clause-listed g c =
     let s = scored c.args.asker.now.world c.args.table.now c.args.column c.args.row.now (length c.args.scores.now) c.put_gains.new.scores (omega (arith, c.requires.column, c.requires.grows.of.fits.as_long))
     c.requires.in_play c.put_gains.ensures in
     s.listed
 
 pub returns-in_err-try_values-clause-asked : goal.returns-in_err-try_values-clause-asked
-returns-in_err-try_values-clause-asked c rows tuples moment =
+returns-in_err-try_values-clause-asked g c rows tuples moment =
     let s = scored c.args.asker.now.world c.args.table.now c.args.column c.args.row.now (length c.args.scores.now) c.put_gains.new.scores (omega (arith, c.requires.column, c.requires.grows.of.fits.as_long))
     c.requires.in_play c.put_gains.ensures in
     let free : is_assigned c.args.row.now c.args.column ≡ false = ap (λ cell. is_some cell) (sym c.get.ensures) ∙ sym c.is_some.ensures ∙ c.if-is_some.false in
@@ -35,7 +35,7 @@ returns-in_err-try_values-clause-asked c rows tuples moment =
     (c.in_err-try_values.ensures.asked (length tuples) most))
 
 pub returns-then-branch-clause-asked : goal.returns-then-branch-clause-asked
-returns-then-branch-clause-asked c rows tuples moment =
+returns-then-branch-clause-asked g c rows tuples moment =
     let s = scored c.args.asker.now.world c.args.table.now c.args.column c.args.row.now (length c.args.scores.now) c.put_gains.new.scores (omega (arith, c.requires.column, c.requires.grows.of.fits.as_long))
     c.requires.in_play c.put_gains.ensures in
     let free : is_assigned c.args.row.now c.args.column ≡ false = ap (λ cell. is_some cell) (sym c.get.ensures) ∙ sym c.is_some.ensures ∙ c.if-is_some.false in
@@ -45,7 +45,7 @@ returns-then-branch-clause-asked c rows tuples moment =
     ap (λ (f : Filled). first_spent c.args.asker.now.world f.asked) same ∙ c.in_ok-try_values.ensures.asked (length tuples) most
 
 pub returns-then-branch-clause-row : goal.returns-then-branch-clause-row
-returns-then-branch-clause-row c rows tuples moment =
+returns-then-branch-clause-row g c rows tuples moment =
     let s = scored c.args.asker.now.world c.args.table.now c.args.column c.args.row.now (length c.args.scores.now) c.put_gains.new.scores (omega (arith, c.requires.column, c.requires.grows.of.fits.as_long))
     c.requires.in_play c.put_gains.ensures in
     let free : is_assigned c.args.row.now c.args.column ≡ false = ap (λ cell. is_some cell) (sym c.get.ensures) ∙ sym c.is_some.ensures ∙ c.if-is_some.false in
@@ -55,7 +55,7 @@ returns-then-branch-clause-row c rows tuples moment =
     c.in_ok-try_values.ensures.row (length tuples) most ∙ sym (ap (λ (f : Filled). f.row) same)
 
 pub returns-else-branch-clause-asked : goal.returns-else-branch-clause-asked
-returns-else-branch-clause-asked c rows tuples moment =
+returns-else-branch-clause-asked g c rows tuples moment =
     let s = scored c.args.asker.now.world c.args.table.now c.args.column c.args.row.now (length c.args.scores.now) c.put_gains.new.scores (omega (arith, c.requires.column, c.requires.grows.of.fits.as_long))
     c.requires.in_play c.put_gains.ensures in
     let free : is_assigned c.args.row.now c.args.column ≡ false = ap (λ cell. is_some cell) (sym c.get.ensures) ∙ sym c.is_some.ensures ∙ c.if-is_some.false in
@@ -65,7 +65,7 @@ returns-else-branch-clause-asked c rows tuples moment =
     ap (λ (f : Filled). first_spent c.args.asker.now.world f.asked) same ∙ c.in_ok-try_values.ensures.asked (length tuples) most
 
 pub returns-else-branch-clause-row : goal.returns-else-branch-clause-row
-returns-else-branch-clause-row c rows tuples moment =
+returns-else-branch-clause-row g c rows tuples moment =
     let s = scored c.args.asker.now.world c.args.table.now c.args.column c.args.row.now (length c.args.scores.now) c.put_gains.new.scores (omega (arith, c.requires.column, c.requires.grows.of.fits.as_long))
     c.requires.in_play c.put_gains.ensures in
     let free : is_assigned c.args.row.now c.args.column ≡ false = ap (λ cell. is_some cell) (sym c.get.ensures) ∙ sym c.is_some.ensures ∙ c.if-is_some.false in

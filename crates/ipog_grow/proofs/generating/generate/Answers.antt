@@ -25,16 +25,16 @@ returns-in_err-sorted-clause-asked g c =
     rw (p.1, p.2) (ends-by c.in_err-sorted.field-0.0 (find over first) (find over (first ++ later)) (λ q spent. find-earlier over first later q spent) c.in_err-sorted.ensures.asked)
 
 pub grow_slices-requires-clause-slices : goal.grow_slices-requires-clause-slices
-grow_slices-requires-clause-slices g c =
+grow_slices-requires-clause-slices g c _ _ =
     subst (λ (parts : List Slice). All (IsSliceOf c.args.model.now) parts) (sym (c.as_slice.ensures.value ∙ c.in-Ok.ensures)) (slices_exist c.args.model.now)
 
 pub grow_slices-requires-clause-fit : goal.grow_slices-requires-clause-fit
-grow_slices-requires-clause-fit g c =
+grow_slices-requires-clause-fit g c _ _ =
     subst (λ (rows : List (List (Option ℕ))). All (FitsModel c.args.model.now) rows) (sym c.in_ok-sorted.ensures.kept)
     (kept-fit c.args.model.now (seeds_seen c.args.seeds.now) (All-map (λ seed. FitsModel c.args.model.now seed.1) row_seen c.args.seeds.now.rows c.requires.seeds))
 
 pub grow_slices-requires-clause-few : goal.grow_slices-requires-clause-few
-grow_slices-requires-clause-few g c =
+grow_slices-requires-clause-few g c _ _ =
     subst (λ (rows : List (List (Option ℕ))). All (λ seed. has_slice c.args.model.now seed ≡ true) rows) (sym c.in_ok-sorted.ensures.kept)
     (kept-few c.args.model.now (seeds_seen c.args.seeds.now))
 

@@ -12,7 +12,7 @@ use Rattle.ipog_grow.proofs.Sorting.{split_at, ends-by}
 use Rattle.ipog_grow.proofs.generating.grow_slices.Goals as goal
 
 pub returns-in_err-grow_slice-clause-asked : goal.returns-in_err-grow_slice-clause-asked
-returns-in_err-grow_slice-clause-asked c =
+returns-in_err-grow_slice-clause-asked g c =
     λ seeds kept.
     let p = err_from_is_err_and c.from_residual.result c.from_residual.ensures.1 in
     let world : World = record { model = c.args.model.now; prefs = c.args.prefs.now; slice = get_or c.args.slices.now c.loop-slice.slice-index Positive; budget = c.args.budget } in
@@ -28,7 +28,7 @@ returns-in_err-grow_slice-clause-asked c =
     c.in_err-grow_slice.ensures.asked)
 
 pub loop-slice-preserved : goal.loop-slice-preserved
-loop-slice-preserved c =
+loop-slice-preserved g c =
     let world : World = record { model = c.args.model.now; prefs = c.args.prefs.now; slice = get_or c.args.slices.now c.loop-slice.slice-index Positive; budget = c.args.budget } in
     let before : List Slice = take c.loop-slice.slice-index c.args.slices.now in
     let tuples : List (List (Option ℕ)) = map (omitted_cells (length c.args.model.now.params)) c.loop-slice.omissions.omissions in

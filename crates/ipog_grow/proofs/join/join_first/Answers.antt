@@ -3,10 +3,22 @@ use Rattle.std.specs.Prelude.{slice_set}
 use Rattle.std.proofs.lemmas.Result.{err_from_is_err_and}
 use Rattle.definitions.specs.Growth.{agrees, join, union}
 use Rattle.ipog_grow.specs.Asking.{AskerView, World, Grows, Told, extends, first_spent}
+use Rattle.ipog_grow.specs.Growing.{given_params}
 use Rattle.ipog_grow.proofs.Asking.{told-err}
+use Rattle.ipog_grow.proofs.Giving.{given_within}
 use Rattle.ipog_grow.proofs.Joining.{read_row, unites, joining-yes, joining-unable, joining-other, joining-spent, All-put}
 use Rattle.ipog_grow.proofs.join.join_first.Goals as goal
 use Rattle.ipog_grow.proofs.join.join_first.Goals.{then-agree+in_ok-ask+else-branch, else-agree}
+
+-- the parameters that the tuple gives exist in each row
+pub agree-requires-clause-exist : goal.agree-requires-clause-exist
+agree-requires-clause-exist c =
+    let within : c.loop-i.i < length c.args.rows.now = omega arith in
+    let read = read_row c.args.rows.now c.loop-i.rows c.loop-i.i c.index-rows-i.result c.loop-i.invariant.rows within in
+    let long : length c.args.tuple.now ≡ length (get_or c.loop-i.rows c.loop-i.i c.index-rows-i.result) =
+    c.requires.tuple.of.fits.as_long ∙ sym (c.requires.rows c.loop-i.i [] within).of.fits.as_long ∙ sym (ap length read) in
+    subst (All (λ p. p < length (get_or c.loop-i.rows c.loop-i.i c.index-rows-i.result))) (sym c.put_given_params-count.ensures.given)
+    (subst (λ (n : ℕ). All (λ p. p < n) (given_params c.args.tuple.now)) long (given_within c.args.tuple.now))
 
 pub ask-requires : goal.ask-requires
 ask-requires c =

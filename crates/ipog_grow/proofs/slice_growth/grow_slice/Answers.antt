@@ -13,7 +13,7 @@ abbrev over : World → List (Option ℕ) → Bool
 over world cells = nat_lt world.budget (question_cost world.model world.prefs cells)
 
 pub grow_columns-requires-clause-grows : goal.grow_columns-requires-clause-grows
-grow_columns-requires-clause-grows c =
+grow_columns-requires-clause-grows g c _ _ =
     subst (λ (w : World). All (Grows w) c.in-Ok-new.growth.rows.items) (sym c.in-Ok-new.ensures.world)
     (subst (λ (rows : List (List (Option ℕ))). All (Grows (record { model = c.args.model.now; prefs = c.args.prefs.now; slice = c.args.slice; budget = c.args.budget })) rows)
     (sym (c.in-Ok-new.ensures.rows ∙ c.in-Ok.ensures)) (seeds_grow c.args.model.now c.args.slice c.args.kept.now c.requires.fit c.requires.few))
@@ -28,7 +28,7 @@ same_grown : (now world : World) (order : List ℕ) (grown start : List (List (O
 same_grown now world order grown start same starts = ap (λ w. columns_grown w order grown) same ∙ ap (columns_grown world order) starts
 
 pub returns-in-Err-clause-asked : goal.returns-in-Err-clause-asked
-returns-in-Err-clause-asked c =
+returns-in-Err-clause-asked g c =
     let world : World = record { model = c.args.model.now; prefs = c.args.prefs.now; slice = c.args.slice; budget = c.args.budget } in
     let start : List (List (Option ℕ)) = filter (is_of_slice c.args.model.now c.args.slice) c.args.kept.now in
     let order : List ℕ = column_order c.args.model.now c.args.slice in
@@ -41,7 +41,7 @@ returns-in-Err-clause-asked c =
     (same_asked c.in-Ok-new.growth.asker.world world order c.in-Ok-new.growth.rows.items start c.in-Ok-new.ensures.world (c.in-Ok-new.ensures.rows ∙ c.in-Ok.ensures)) c.in-Err.ensures.asked)))
 
 pub finish_slice-requires-clause-long : goal.finish_slice-requires-clause-long
-finish_slice-requires-clause-long c =
+finish_slice-requires-clause-long g c =
     let world : World = record { model = c.args.model.now; prefs = c.args.prefs.now; slice = c.args.slice; budget = c.args.budget } in
     let order : List ℕ = column_order c.args.model.now c.args.slice in
     let rows : List (List (Option ℕ)) = c.in-Ok-new.growth.rows.items in
@@ -52,7 +52,7 @@ finish_slice-requires-clause-long c =
     (omitted-long c.args.model.now c.args.prefs.now c.args.slice order rows c.requires.slice)
 
 pub returns-clause-asked : goal.returns-clause-asked
-returns-clause-asked c =
+returns-clause-asked g c =
     let world : World = record { model = c.args.model.now; prefs = c.args.prefs.now; slice = c.args.slice; budget = c.args.budget } in
     let start : List (List (Option ℕ)) = filter (is_of_slice c.args.model.now c.args.slice) c.args.kept.now in
     let order : List ℕ = column_order c.args.model.now c.args.slice in

@@ -5,7 +5,7 @@ use Rattle.ipog_grow.proofs.settle.SliceGrowth.grow_columns.Given as goal
 
 -- the columns that are left decide
 abbrev pub invariant-loop-column : goal.invariant-loop-column
-invariant-loop-column l = record {
+invariant-loop-column g l = record {
   world : l.self.asker.world ≡ l.fn.self.asker.world;
   tuple : length l.self.tuple ≡ length l.fn.self.tuple;
   room : length l.self.room ≡ length l.fn.self.room;
