@@ -10,13 +10,14 @@ use Rattle.cov_model.specs.Meaning.{body_holds}
 use Rattle.cov_model.specs.Valid.{is_row, is_valid, negatives}
 use Rattle.cov_model.proofs.PreferenceLemmas.{OrdersValues-preference}
 use Rattle.std.proofs.lemmas.Bool.{and_parts}
-use Rattle.definitions.specs.Covering.{Covers}
+use Rattle.definitions.specs.Covering.{Covers, HasFewRows}
 use Rattle.definitions.specs.Growth.{growth}
 use Rattle.definitions.specs.Report.{report_text}
+use Rattle.definitions.specs.RowFile.{rows_of}
 use Rattle.definitions.specs.Laws.{ArePreferences}
-use Rattle.definitions.proofs.GrowthLaw.{suites_cover}
+use Rattle.definitions.proofs.GrowthLaw.{suites_cover, suites_have_few_rows}
 use Rattle.definitions.proofs.ReadBack.{read_back}
-use Rattle.pict_cli.specs.Runs.{PrintsCovering}
+use Rattle.pict_cli.specs.Runs.{PrintsCovering, PrintsFewRows}
 
 -- the orders of a run
 are_preferences : (m : ModelView) (shuffle : Option ℕ) → ArePreferences m (preference m shuffle)
@@ -28,13 +29,25 @@ are_rows m rows valid k d within =
     let row = slice_index_or rows k d in
     (and_parts (is_row m row) (list_all (λ rule. body_holds m rule.body row) m.rules) (and_parts (is_row m row && list_all (λ rule. body_holds m rule.body row) m.rules) (nat_le (length (negatives m row)) 1) (valid k d within)).0).0
 
+-- what was printed whole holds the rows of the suite
+read_suite : (m : ModelView) (shuffle : Option ℕ) → IsSound m → rows_of m (report_text m (growth m (preference m shuffle) []).rows) ≡ (growth m (preference m shuffle) []).rows
+read_suite m shuffle sound =
+    let rows = (growth m (preference m shuffle) []).rows in
+    read_back m rows sound (are_rows m rows (suites_cover m (preference m shuffle) [] sound (are_preferences m shuffle)).valid)
+
 pub prints_covering : (m : ModelView) (shuffle : Option ℕ) (before after : Option (List ℕ)) → IsSound m
     → Puts Done before after (report_text m (growth m (preference m shuffle) []).rows) → PrintsCovering m before after
 prints_covering m shuffle None after sound put = tt
 prints_covering m shuffle (Some written) after sound put =
-    let rows = (growth m (preference m shuffle) []).rows in
     let covers = suites_cover m (preference m shuffle) [] sound (are_preferences m shuffle) in
-    (report_text m rows, put, subst (Covers m) (sym (read_back m rows sound (are_rows m rows covers.valid))) covers)
+    (report_text m (growth m (preference m shuffle) []).rows, put, subst (Covers m) (sym (read_suite m shuffle sound)) covers)
+
+pub prints_few_rows : (m : ModelView) (shuffle : Option ℕ) (before after : Option (List ℕ)) → IsSound m
+    → Puts Done before after (report_text m (growth m (preference m shuffle) []).rows) → PrintsFewRows m before after
+prints_few_rows m shuffle None after sound put = tt
+prints_few_rows m shuffle (Some written) after sound put =
+    let few = suites_have_few_rows m (preference m shuffle) [] sound (are_preferences m shuffle) in
+    (report_text m (growth m (preference m shuffle) []).rows, put, subst (HasFewRows m 0) (sym (read_suite m shuffle sound)) few)
 
 -- the rows of a suite are rows
 pub suite_rows : (m : ModelView) (shuffle : Option ℕ) → IsSound m → All (λ row. is_row m row ≡ true) (growth m (preference m shuffle) []).rows

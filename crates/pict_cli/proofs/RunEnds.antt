@@ -2,6 +2,8 @@
 use Rattle.std.proofs.Common.{◌≡◌, ◌∙◌, ℕ, Bool, true, false, ◌||◌, List, [], Option, None, Some, Ok, Err, Result, inl, inr, refl, sym, ap, subst, arith}
 use Rattle.std.specs.Prelude.{◌==◌, IfSome}
 use Rattle.std.proofs.lemmas.Bool.{eq-eqb, false≢true}
+use Rattle.outside_io.specs.declared.answers.WriteAnswer.TheVariants.{Done}
+use Rattle.outside_io.specs.Puts.{Puts}
 use Rattle.cov_model.specs.Sound.{ModelView, IsSound}
 use Rattle.definitions.specs.Settings.{OrderWord, OrderOf, OrderMax, Settings}
 use Rattle.model_lex.specs.declared.note.Note.{Note}
@@ -13,10 +15,10 @@ use Rattle.pict_cli.specs.declared.options.Opts.{Opts}
 use Rattle.pict_cli.specs.declared.stop.Stop.{Stop}
 use Rattle.pict_cli.specs.declared.stop.Stop.TheVariants.{OutOfMemory, Spent, BadWord, BadModel, BadConstraint, CannotRead, CannotWriteReport, TooMany, TooLong}
 use Rattle.pict_cli.specs.Told.{Tells, end_status, told_text}
-use Rattle.pict_cli.proofs.Headline.{prints_covering}
+use Rattle.pict_cli.proofs.Headline.{prints_covering, prints_few_rows}
 use Rattle.pict_cli.specs.Options.{order_seen, settings_seen}
 use Rattle.pict_cli.specs.Ranges.{IsLeast, AreFit}
-use Rattle.pict_cli.specs.Runs.{Ends, EndsBehind, IsLoaded, IsRun, Prints, PrintsCovering, StopsReading, opts_of, order_of, printed, shuffled_by, used_seed}
+use Rattle.pict_cli.specs.Runs.{Ends, EndsBehind, IsLoaded, IsRun, Prints, PrintsCovering, PrintsFewRows, StopsReading, opts_of, order_of, printed, shuffled_by, used_seed}
 
 same_order : (order : words.OrderWord) → order ≡ order_of (order_seen order)
 same_order (Number n) = refl
@@ -95,17 +97,29 @@ settings_in s (Err index) = s
 pub one_asked : (asked : Result Settings ℕ) (s other : Settings) → asked ≡ Ok s → asked ≡ Ok other → s ≡ other
 one_asked asked s other e f = ap (settings_in s) (sym e ∙ f)
 
--- a run whose report was written whole
-covers : (s : Settings) (seed : ℕ) (held : Option (List ℕ)) (notes : List Note) (before after : Option (List ℕ)) → Ends s seed held notes before after (Ok tt)
-    → (m : ModelView) × (told : List Note) × IsLoaded (opts_of s) held m told × PrintsCovering m before after
-covers s seed held notes before after (inl reading) = absurd reading.0
-covers s seed held notes before after (inr (m, loaded, sound, (grown, prints))) = (m, notes, loaded, prints_covering m (shuffled_by s.shuffle seed) before after sound prints)
+-- a run whose report was written whole: P says what was printed of a model
+whole : (P : ModelView → Option (List ℕ) → Option (List ℕ) → Type 0) (s : Settings) (seed : ℕ) (held : Option (List ℕ)) (notes : List Note) (before after : Option (List ℕ))
+    → ((m : ModelView) → IsSound m → Puts Done before after (printed s seed m) → P m before after)
+    → Ends s seed held notes before after (Ok tt) → (m : ModelView) × (told : List Note) × IsLoaded (opts_of s) held m told × P m before after
+whole P s seed held notes before after says (inl reading) = absurd reading.0
+whole P s seed held notes before after says (inr (m, loaded, sound, (grown, prints))) = (m, notes, loaded, says m sound prints)
+
+printed_whole : (P : ModelView → Option (List ℕ) → Option (List ℕ) → Type 0) (s : Settings) (seed : ℕ) (file : Option (Option (List ℕ))) (notes : List Note) (before after : Option (List ℕ))
+    (end : Result (Unit {0}) Stop) → ((m : ModelView) → IsSound m → Puts Done before after (printed s seed m) → P m before after) → end_status end ≡ 0
+    → IfSome file (λ held. Ends s seed held notes before after end) → IfSome file (λ held. (m : ModelView) × (told : List Note) × IsLoaded (opts_of s) held m told × P m before after)
+printed_whole P s seed None notes before after end says zero ends = tt
+printed_whole P s seed (Some held) notes before after end says zero ends =
+    whole P s seed held notes before after says (subst (λ e. Ends s seed held notes before after e) (zero_is_end end zero) ends)
 
 pub covers_whole : (s : Settings) (seed : ℕ) (file : Option (Option (List ℕ))) (notes : List Note) (before after : Option (List ℕ)) (end : Result (Unit {0}) Stop) → end_status end ≡ 0
     → IfSome file (λ held. Ends s seed held notes before after end) → IfSome file (λ held. (m : ModelView) × (told : List Note) × IsLoaded (opts_of s) held m told × PrintsCovering m before after)
-covers_whole s seed None notes before after end zero ends = tt
-covers_whole s seed (Some held) notes before after end zero ends =
-    covers s seed held notes before after (subst (λ e. Ends s seed held notes before after e) (zero_is_end end zero) ends)
+covers_whole s seed file notes before after end =
+    printed_whole PrintsCovering s seed file notes before after end (λ m. prints_covering m (shuffled_by s.shuffle seed) before after)
+
+pub few_whole : (s : Settings) (seed : ℕ) (file : Option (Option (List ℕ))) (notes : List Note) (before after : Option (List ℕ)) (end : Result (Unit {0}) Stop) → end_status end ≡ 0
+    → IfSome file (λ held. Ends s seed held notes before after end) → IfSome file (λ held. (m : ModelView) × (told : List Note) × IsLoaded (opts_of s) held m told × PrintsFewRows m before after)
+few_whole s seed file notes before after end =
+    printed_whole PrintsFewRows s seed file notes before after end (λ m. prints_few_rows m (shuffled_by s.shuffle seed) before after)
 
 pub is_run : (s : Settings) (seed : ℕ) (file : Option (Option (List ℕ))) (name : List ℕ) (notes : List Note) (before after told told_after : Option (List ℕ)) (faults faults_after status : ℕ) (end : Result (Unit {0}) Stop)
     → IfSome file (λ held. Ends s seed held notes before after end) → Tells told told_after faults faults_after (told_text (used_seed s.shuffle seed) notes name end) → status ≡ end_status end

@@ -16,7 +16,7 @@ use Rattle.model_lex.specs.declared.fault.LimitName.TheVariants.{Params, Rules}
 use Rattle.model_lex.specs.declared.fault.LimitName.TheVariants as limits
 use Rattle.model_lex.specs.declared.fault.ModelFault.{ModelFault}
 use Rattle.model_lex.specs.declared.fault.ModelFault.TheVariants.{Bad, BadRule, Limit, NoMemory}
-use Rattle.definitions.specs.Covering.{Covers}
+use Rattle.definitions.specs.Covering.{Covers, HasFewRows}
 use Rattle.definitions.specs.Growth.{Grown, growth}
 use Rattle.definitions.specs.Limits.{ModelFile, most_bytes}
 use Rattle.definitions.specs.Pairs.{pairs_of}
@@ -155,6 +155,11 @@ Ends s seed held notes before after end =
 abbrev pub PrintsCovering : ModelView → Option (List ℕ) → Option (List ℕ) → Type 0
 PrintsCovering m before after =
     IfSome before (λ written. (added : List ℕ) × (after ≡ Some (written ++ added)) × Covers m (rows_of m added))
+
+-- what was printed is a report of few rows, each of them once; no seed rows are kept
+abbrev pub PrintsFewRows : ModelView → Option (List ℕ) → Option (List ℕ) → Type 0
+PrintsFewRows m before after =
+    IfSome before (λ written. (added : List ℕ) × (after ≡ Some (written ++ added)) × HasFewRows m 0 (rows_of m added))
 
 -- a stop of the reading of a model file is neither one of the words nor one of the output
 abbrev pub IsOfReading : Stop → Type 0

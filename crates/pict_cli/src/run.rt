@@ -12,7 +12,7 @@ ghost use Rattle.model_lex.specs.declared.note.Note.{Note};
 ghost use Rattle.type_check.specs.ModelOf.{IsModelOf, IsRefusalOf};
 ghost use Rattle.pict_cli.specs.Options.{settings_seen, shuffle_seen};
 ghost use Rattle.pict_cli.specs.Ranges.{AreFit};
-ghost use Rattle.pict_cli.specs.Runs.{CountsOut, Ends, IsGrown, IsRun, IsLoaded, PrintsCovering, fault_status, opts_of, used_seed};
+ghost use Rattle.pict_cli.specs.Runs.{CountsOut, Ends, IsGrown, IsRun, IsLoaded, PrintsCovering, PrintsFewRows, fault_status, opts_of, used_seed};
 ghost use Rattle.pict_cli.specs.Stops.{IsStatus};
 ghost use Rattle.pict_cli.specs.Told.{Tells, end_status};
 ghost use Rattle.pict_cli.specs.Words.{IsWordFault, asked_by, model_file, texts};
@@ -100,6 +100,11 @@ pub fn run_pict<R: Threads + Sync, F: Folder, O: Sink, E: Sink>(
     ensures headline { result ≡ 0 → (s : Settings) → asked_by (texts words.now) ≡ Ok s →
         IfSome (F.file files.old (model_file words.now)) (λ held. (m : ModelView) × (notes : List Note) × IsLoaded (opts_of s) held m notes
         × PrintsCovering m (O.written out.old) (O.written out.new)) }
+
+    // No row is printed twice, and no more rows than there are tuples to serve.
+    ensures few { result ≡ 0 → (s : Settings) → asked_by (texts words.now) ≡ Ok s →
+        IfSome (F.file files.old (model_file words.now)) (λ held. (m : ModelView) × (notes : List Note) × IsLoaded (opts_of s) held m notes
+        × PrintsFewRows m (O.written out.old) (O.written out.new)) }
 
     // What a run does, where the words have a reading.
     ensures run { (s : Settings) → asked_by (texts words.now) ≡ Ok s →

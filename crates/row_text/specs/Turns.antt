@@ -4,6 +4,7 @@ use Rattle.std.specs.Prelude.{◌≡◌, ℕ, ◌+◌, ◌%◌, ◌<◌, List, [
 use Rattle.cov_model.specs.Sound.{ModelView, param_at}
 use Rattle.cov_model.specs.Meaning.{value_at}
 use Rattle.definitions.specs.Report.{times_given}
+use Rattle.row_text.specs.declared.turns.Turns.{Turns}
 
 -- before the first row each value of the model shows its first name
 abbrev pub first_turns : ModelView → List (List ℕ)
@@ -16,6 +17,9 @@ cleared turns = map (λ next. replicate (length next) 0) turns
 -- there is a number for each value of the model
 abbrev pub IsFor : ModelView → List (List ℕ) → Type 0
 IsFor m turns = cleared turns ≡ first_turns m
+
+abbrev pub AreMadeFor : ModelView → Turns → Type 0
+AreMadeFor m turns = IsFor m turns.next
 
 -- the numbers of a parameter's values, and that of one of them
 abbrev pub turns_at : List (List ℕ) → ℕ → List ℕ

@@ -7,7 +7,7 @@ ghost use Rattle.cov_model.specs.Sound.{IsSoundValue, param_at};
 ghost use Rattle.cov_model.specs.Valid.{is_row};
 ghost use Rattle.definitions.specs.Report.{cell_text, header_line, row_line, row_lines, report_text};
 ghost use Rattle.row_text.specs.Buffering.{state_of, Adds, separator};
-ghost use Rattle.row_text.specs.Turns.{IsFor, AreTurns, turns_at};
+ghost use Rattle.row_text.specs.Turns.{AreMadeFor, IsFor, AreTurns, turns_at};
 
 use crate::out_buffer::OutBuffer;
 use crate::turns::Turns;
@@ -144,12 +144,12 @@ pub fn put_report<O: Sink>(
     out: &mut O,
 ) -> WriteAnswer
     requires rows { All (λ row. is_row model.now row ≡ true) rows.now }
-    requires turns { IsFor model.now turns.old.next }
+    requires turns { AreMadeFor model.now turns.old }
     ensures puts { Puts result (O.written out.old) (O.written out.new) (report_text model.now rows.now) }
     ensures leaves { Leaves result (O.room out.old) (O.room out.new) (report_text model.now rows.now) }
     ensures balances { Balances (O.written out.old) (O.written out.new) (O.room out.old) (O.room out.new) }
     ensures counts { CountsFaults result (O.faults out.old) (O.faults out.new) }
-    ensures turns { IsFor model.now turns.new.next }
+    ensures turns { AreMadeFor model.now turns.new }
 {
     turns.clear();
     put_header(model, &mut turns.buffer, out);

@@ -1,6 +1,6 @@
 ghost use Rattle.std.specs.Prelude.{◌≡◌, IfOk};
 ghost use Rattle.row_text.specs.Buffering.{empty_buffer};
-ghost use Rattle.row_text.specs.Turns.{IsFor, first_turns, cleared};
+ghost use Rattle.row_text.specs.Turns.{AreMadeFor, cleared};
 
 use crate::next_names::NextNames;
 use crate::out_buffer::OutBuffer;
@@ -22,7 +22,7 @@ impl Turns {
     ///
     /// `NoMemory` where a counter for each value, or the buffer, could not be had.
     pub fn new(alloc: Global, model: &TestModel) -> Result<Turns, NoMemory>
-        ensures { IfOk result (λ turns. IsFor model.now turns.next) }
+        ensures { IfOk result (λ turns. AreMadeFor model.now turns) }
     {
         Ok(Turns {
             next: NextNames::new(alloc, model)?,

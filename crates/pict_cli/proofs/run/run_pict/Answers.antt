@@ -5,7 +5,7 @@ use Rattle.pict_cli.specs.Options.{settings_seen}
 use Rattle.pict_cli.specs.Runs.{CountsOut, Ends, used_seed}
 use Rattle.pict_cli.specs.Told.{Tells, told_text}
 use Rattle.pict_cli.proofs.Causes.{told_complete, told_missing, told_refused}
-use Rattle.pict_cli.proofs.RunEnds.{covers_whole, is_run, one_asked, seven_is_end}
+use Rattle.pict_cli.proofs.RunEnds.{covers_whole, few_whole, is_run, one_asked, seven_is_end}
 use Rattle.pict_cli.proofs.run.run_pict.Goals as goal
 
 pub returns-clause-headline : goal.returns-clause-headline
@@ -15,6 +15,14 @@ returns-clause-headline g c = λ zero s asked.
     let ends = subst (λ name. IfSome (file name) (λ held. Ends s c.args.seed_word held c.run-notes.result.0 (g.O.Sink.written c.args.out.now) (g.O.Sink.written c.run-notes.new.out) c.run-notes.result.1)) c.in-Ok.ensures.2
     (subst (λ t. IfSome (file c.in-Ok.opts.model.now) (λ held. Ends t c.args.seed_word held c.run-notes.result.0 (g.O.Sink.written c.args.out.now) (g.O.Sink.written c.run-notes.new.out) c.run-notes.result.1)) same c.run-notes.ensures.ends) in
     covers_whole s c.args.seed_word (file _) c.run-notes.result.0 (g.O.Sink.written c.args.out.now) (g.O.Sink.written c.run-notes.new.out) c.run-notes.result.1 (sym c.status_of.ensures ∙ zero) ends
+
+pub returns-clause-few : goal.returns-clause-few
+returns-clause-few g c = λ zero s asked.
+    let same = one_asked _ (settings_seen c.in-Ok.opts) s c.in-Ok.ensures.0 asked in
+    let file = g.F.Folder.file c.args.files.now in
+    let ends = subst (λ name. IfSome (file name) (λ held. Ends s c.args.seed_word held c.run-notes.result.0 (g.O.Sink.written c.args.out.now) (g.O.Sink.written c.run-notes.new.out) c.run-notes.result.1)) c.in-Ok.ensures.2
+    (subst (λ t. IfSome (file c.in-Ok.opts.model.now) (λ held. Ends t c.args.seed_word held c.run-notes.result.0 (g.O.Sink.written c.args.out.now) (g.O.Sink.written c.run-notes.new.out) c.run-notes.result.1)) same c.run-notes.ensures.ends) in
+    few_whole s c.args.seed_word (file _) c.run-notes.result.0 (g.O.Sink.written c.args.out.now) (g.O.Sink.written c.run-notes.new.out) c.run-notes.result.1 (sym c.status_of.ensures ∙ zero) ends
 
 pub returns-clause-read : goal.returns-clause-read
 returns-clause-read g c = λ seven.
