@@ -63,6 +63,30 @@ fn covers_by_the_order_that_is_given(rt: HostRuntime) -> Result<(), Fail> {
     Ok(())
 }
 
+// With two workers their shares differ, with seven there are more workers than values.
+#[test]
+fn rows_are_the_same_for_any_number_of_workers(rt: HostRuntime) -> Result<(), Fail> {
+    for workers in ["/workers:1", "/workers:2", "/workers:7", "/workers:64"] {
+        expect_on(
+            &rt,
+            &["m", workers],
+            b"A: 1, 2\nB: x, y\nC: u, v\n",
+            0,
+            "A\tB\tC\n1\tx\tu\n1\ty\tv\n2\tx\tv\n2\ty\tu\n",
+            "",
+        )?;
+        expect_on(
+            &rt,
+            &["m", workers],
+            NONE_LIVE.as_bytes(),
+            0,
+            NONE_LIVE_REPORT,
+            "",
+        )?;
+    }
+    Ok(())
+}
+
 #[test]
 fn names_take_turns(rt: HostRuntime) -> Result<(), Fail> {
     expect_on(

@@ -56,20 +56,25 @@ fn folder(alloc: Global, given: &Given) -> Result<MemFolder, NoMemory> {
     Ok(folder)
 }
 
-/// Runs `pict`, and asserts the status and what the two streams got.
-pub fn expect<R: AllocGlobal + Abort + Threads + Sync>(
-    rt: &R,
-    given: &Given,
-    status: u8,
-    out: &str,
-    diag: &str,
-) -> Result<(), Fail> {
+/// What a run left.
+#[derive(Drop)]
+pub struct Ended {
+    /// Its status.
+    pub status: u8,
+    /// Standard output.
+    pub written: MemSink,
+    /// Standard error.
+    pub told: MemSink,
+}
+
+/// Runs `pict`.
+pub fn run<R: AllocGlobal + Threads + Sync>(rt: &R, given: &Given) -> Result<Ended, Fail> {
     let alloc = rt.alloc();
     let words = owned(alloc, given.words)?;
     let mut files = folder(alloc, given)?;
     let mut written = MemSink::up_to(alloc, given.room.0)?;
     let mut told = MemSink::up_to(alloc, given.room.1)?;
-    let got = run_pict(
+    let status = run_pict(
         rt,
         alloc,
         words.as_slice(),
@@ -78,9 +83,25 @@ pub fn expect<R: AllocGlobal + Abort + Threads + Sync>(
         &mut told,
         5,
     );
-    assert_eq!(rt; got, status, "status");
-    assert_eq!(rt; written.bytes(), out.as_bytes(), "standard output");
-    assert_eq!(rt; told.bytes(), diag.as_bytes(), "standard error");
+    Ok(Ended {
+        status,
+        written,
+        told,
+    })
+}
+
+/// Runs `pict`, and asserts the status and what the two streams got.
+pub fn expect<R: AllocGlobal + Abort + Threads + Sync>(
+    rt: &R,
+    given: &Given,
+    status: u8,
+    out: &str,
+    diag: &str,
+) -> Result<(), Fail> {
+    let ended = run(rt, given)?;
+    assert_eq!(rt; ended.status, status, "status");
+    assert_eq!(rt; ended.written.bytes(), out.as_bytes(), "standard output");
+    assert_eq!(rt; ended.told.bytes(), diag.as_bytes(), "standard error");
     Ok(())
 }
 
