@@ -136,8 +136,8 @@ kept_with plan f sets kept rise few_sets few_tuples =
 abbrev pub with_sizes : PlanView → List (List ℕ) → List ℕ → PlanView
 with_sizes plan sets sizes = record { sets = sets; sizes = sizes; positives = plan.positives; negatives = plan.negatives }
 
-pub sized_is : {X : Type 0} (own plan : PlanView) (f : X → List ℕ) (sets : List X) (sizes : List ℕ) → own ≡ plan
-    → sizes ≡ map (λ set. tuple_count plan (f set)) sets → with_sizes own (map f sets) sizes ≡ with_sets plan (map f sets)
-sized_is own plan f sets sizes same each =
-    same_plan (with_sizes own (map f sets) sizes) (with_sets plan (map f sets)) refl (each ∙ sym (map_map (tuple_count plan) f sets))
+pub sized_is : {X : Type 0} (own plan : PlanView) (f : X → List ℕ) (sets : List X) (lists : List (List ℕ)) (sizes : List ℕ) → own ≡ plan
+    → lists ≡ map f sets → sizes ≡ map (λ set. tuple_count plan (f set)) sets → with_sizes own lists sizes ≡ with_sets plan (map f sets)
+sized_is own plan f sets lists sizes same listed each =
+    same_plan (with_sizes own lists sizes) (with_sets plan (map f sets)) listed (each ∙ sym (map_map (tuple_count plan) f sets))
     (ap (λ p. p.positives) same) (ap (λ p. p.negatives) same)

@@ -9,9 +9,10 @@ ghost use Rattle.tuple_index.specs.PlanFault.{IsFaultOf, limit_passed, told};
 use crate::bases::bases_of;
 use crate::count::count_choices;
 use crate::fault::PlanFault;
-use crate::sets::sets_of;
+use crate::sets::{packed, sets_of};
 use crate::values::values_by_sign;
 use cov_model::{ParamNo, Slice, TestModel, ValueNo};
+use packed_lists::PackedLists;
 use std::alloc::Global;
 use std::marker::Model;
 use value_text::NoMemory;
@@ -19,7 +20,7 @@ use value_text::NoMemory;
 /// The plan of a model: its demanded sets, and the ranks of their demanded tuples.
 #[derive(Drop)]
 pub struct Plan {
-    members_of: Vec<Vec<ParamNo>>,
+    members_of: PackedLists,
     counts: Vec<u32>,
     bases: Vec<u32>,
     positive: Vec<Vec<u16>>,
@@ -33,9 +34,9 @@ impl Model for Plan {
 
     ghost Value = { PlanView };
 
-    ghost view = { λ a. record { sets = map (λ s. s.items) a.members_of.items; sizes = a.counts.items; positives = map (λ s. s.items) a.positive.items; negatives = map (λ s. s.items) a.negative.items } };
+    ghost view = { λ a. record { sets = a.members_of; sizes = a.counts.items; positives = map (λ s. s.items) a.positive.items; negatives = map (λ s. s.items) a.negative.items } };
 
-    ghost invariant = { λ a. AreBases a.counts.items a.bases.items × IsKept (record { sets = map (λ s. s.items) a.members_of.items; sizes = a.counts.items; positives = map (λ s. s.items) a.positive.items; negatives = map (λ s. s.items) a.negative.items }) };
+    ghost invariant = { λ a. AreBases a.counts.items a.bases.items × IsKept (record { sets = a.members_of; sizes = a.counts.items; positives = map (λ s. s.items) a.positive.items; negatives = map (λ s. s.items) a.negative.items }) };
 }
 
 impl Plan {
@@ -79,7 +80,7 @@ impl Plan {
         let positive = values_by_sign(alloc, model, false)?;
         let negative = values_by_sign(alloc, model, true)?;
         Ok(Plan {
-            members_of: Vec::new(alloc),
+            members_of: PackedLists::new(alloc),
             counts: Vec::new(alloc),
             bases: Vec::new(alloc),
             positive,
@@ -96,8 +97,9 @@ impl Plan {
     {
         let counts = self.sizes_of(alloc, &sets)?;
         let bases = bases_of(alloc, &counts)?;
+        let members_of = packed(alloc, &sets)?;
         Ok(Plan {
-            members_of: sets,
+            members_of,
             counts,
             bases,
             positive: self.positive,
@@ -146,7 +148,7 @@ impl Plan {
         requires { set < length self.now.sets }
         ensures { result.now ≡ set_at self.now set }
     {
-        self.members_of[set as usize].as_slice()
+        self.members_of.list(set as usize)
     }
 
     /// The number of demanded tuples of a set. Takes no memory.

@@ -4,6 +4,7 @@ ghost use Rattle.definitions.specs.Demand.{demanded_sets, in_order, rising};
 use crate::demand::choices_of;
 use crate::values::rising_of;
 use cov_model::{NoList, ParamNo, TestModel};
+use packed_lists::PackedLists;
 use std::alloc::Global;
 use value_text::NoMemory;
 
@@ -45,4 +46,19 @@ pub fn sets_of(alloc: Global, model: &TestModel) -> Result<Vec<Vec<ParamNo>>, No
 {
     let choices = choices_of(alloc, model)?;
     Ok(ordered(rising_sets(alloc, model, choices.as_slice())?))
+}
+
+/// The same sets in one piece of memory.
+///
+/// # Errors
+///
+/// `NoMemory` where there is no room for them.
+pub fn packed(alloc: Global, sets: &[Vec<ParamNo>]) -> Result<PackedLists, NoMemory>
+    ensures { IfOk result (λ lists. lists ≡ map (λ set. set.items) sets.now) }
+{
+    let mut lists = PackedLists::new(alloc);
+    for set in sets {
+        lists.push(set.as_slice())?;
+    }
+    Ok(lists)
 }
