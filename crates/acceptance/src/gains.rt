@@ -1,7 +1,6 @@
 //! The table of open tuples beside a plain list of them.
 
-ghost use Rattle.std.specs.Prelude.{◌≡◌, ◌<◌, IsTrue, length};
-ghost use Rattle.cov_model.specs.Sound.{param_at};
+ghost use Rattle.std.specs.Prelude.{◌≡◌, ◌<◌, length};
 ghost use Rattle.definitions.specs.SliceRows.{IsOfSlice};
 
 use crate::models::{DISK, model_of};

@@ -1,6 +1,5 @@
 //! Models that tests read from their text.
 
-ghost use Rattle.std.specs.Prelude.{◌≤◌};
 ghost use Rattle.model_parse.specs.RawModels.{AreOpts};
 
 use cov_model::TestModel;

@@ -1,7 +1,5 @@
 //! Workers who score the values of a column at the same time.
 
-ghost use Rattle.std.specs.Prelude.{◌≡◌};
-
 use crate::models::model_of;
 use crate::rows::is_positive_row;
 use cov_model::{Cells, Slice};
