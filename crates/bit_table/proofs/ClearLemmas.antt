@@ -8,7 +8,7 @@ use Rattle.std.proofs.lemmas.List.{get_or-set_other, length-set, same_lists}
 use Rattle.std.proofs.lemmas.List.Sums.{sum_by-set}
 use Rattle.std.proofs.lemmas.Nat.Bits.{bit_at-lt, bit_at_clear_other, bit_at_clear_same, shr_and_one}
 use Rattle.bit_table.specs.Words.{mark_at, marks_of}
-use Rattle.bit_table.proofs.MarkLemmas.{mark_is, marks_long}
+use Rattle.bit_table.proofs.MarkLemmas.{mark_is, marks_long, bit_counted}
 
 -- a word without the bit of a place, and words with this one in place of the former
 abbrev pub without : ℕ → ℕ → ℕ
@@ -54,13 +54,6 @@ seen_cleared words size place word below inside read =
           stays words place word other inside read apart ∙ sym (mark_is words size other default listed)
           ∙ sym (get_or-set_other marks place other false default apart)
     ])
-
--- a bit is 1 exactly where its mark is counted
-bit_counted : (bit : ℕ) → bit < 2 → cond (eqb bit 1) 1 0 ≡ bit
-bit_counted bit small = elim (cases_eq bit 0) [
-  | inl zero ↦ rw zero refl
-  | inr some ↦ let one : bit ≡ 1 = omega (arith, some) in rw one refl
-]
 
 -- what a mark that is taken away leaves
 pub record Clears (words : List ℕ) (size count place word : ℕ) : Type 0 where

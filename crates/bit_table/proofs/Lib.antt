@@ -1,3 +1,4 @@
 pub mod MarkLemmas
 pub mod ClearLemmas
 pub mod NextLemmas
+pub mod SetLemmas

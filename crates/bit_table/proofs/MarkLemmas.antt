@@ -1,8 +1,8 @@
 -- Marks by words: a mark that is read, and marks on all places.
-use Rattle.std.proofs.Common.{inl, inr, ◌≡◌, ℕ, ◌*◌, ◌^◌, ◌-◌, ◌/◌, ◌%◌, ◌<◌, ◌≤◌, Bool, true, false, List, length, get_or, cond, eqb, replicate, ◌∙◌, sym, ap, arith, zero-add}
+use Rattle.std.proofs.Common.{inl, inr, ◌≡◌, ℕ, ◌*◌, ◌^◌, ◌-◌, ◌/◌, ◌%◌, ◌<◌, ◌≤◌, Bool, true, false, List, length, get_or, cond, eqb, replicate, ◌∙◌, refl, sym, ap, arith, zero-add}
 use Rattle.std.specs.Int.{bit_at}
 use Rattle.std.specs.List.{count_by}
-use Rattle.std.proofs.lemmas.Bool.{cases_lt}
+use Rattle.std.proofs.lemmas.Bool.{cases_eq, cases_lt}
 use Rattle.std.proofs.lemmas.List.{get_or-replicate, get_or_past, length-replicate, same_lists}
 use Rattle.std.proofs.lemmas.List.Folds.{sum_by-replicate}
 use Rattle.std.proofs.lemmas.List.FromFn.{get_or-map-range_with_len, length-map-range_with_len}
@@ -51,3 +51,10 @@ all_counted count size enough =
     let each = sum_by-replicate (λ mark. cond mark 1 0) size true in
     let same = ap (count_by (λ mark. mark)) (all_marked count size enough) in
     omega (arith, each, same)
+
+-- a bit is 1 exactly where its mark is counted
+pub bit_counted : (bit : ℕ) → bit < 2 → cond (eqb bit 1) 1 0 ≡ bit
+bit_counted bit small = elim (cases_eq bit 0) [
+  | inl zero ↦ rw zero refl
+  | inr some ↦ let one : bit ≡ 1 = omega (arith, some) in rw one refl
+]

@@ -7,6 +7,3 @@
 mod table;
 
 pub use table::BitTable;
-
-#[cfg(test)]
-mod tests;

@@ -39,14 +39,12 @@ impl BitTable {
     pub fn all_set(alloc: Global, size: u32) -> Result<BitTable, NoMemory>
         ensures { IfOk result (λ table. table ≡ replicate size true) }
     {
-        match vec![in alloc; u64::MAX; size as usize / WORD_BITS + 1] {
-            Ok(words) => Ok(BitTable {
-                words,
-                size,
-                set_count: size,
-            }),
-            Err(_) => Err(NoMemory),
-        }
+        let words = vec![in alloc; u64::MAX; size as usize / WORD_BITS + 1]?;
+        Ok(BitTable {
+            words,
+            size,
+            set_count: size,
+        })
     }
 
     /// The number of places.
@@ -78,6 +76,19 @@ impl BitTable {
         let word = self.words[at];
         self.words[at] = word & !(1 << bit);
         self.set_count -= ((word >> bit) & 1) as u32;
+    }
+
+    /// Marks a place, where it has no mark.
+    #[inline]
+    pub fn set(&mut self, place: u32)
+        requires { place < length self.old }
+        ensures { self.new ≡ slice_set self.old place true }
+    {
+        let at = place as usize / WORD_BITS;
+        let bit = place as usize % WORD_BITS;
+        let word = self.words[at];
+        self.words[at] = word | (1 << bit);
+        self.set_count += 1 - ((word >> bit) & 1) as u32;
     }
 
     /// The number of marked places.

@@ -16,10 +16,6 @@ quoted_here : (text : List ℕ) → 0 < length text → is_quotable (get_or text
 quoted_here [] some quotes = absurd (omega arith)
 quoted_here (b ∷ rest) some quotes = rw quotes refl
 
-first_byte : (text : List ℕ) → 0 < length text → take 1 text ≡ get_or text 0 0 ∷ []
-first_byte [] some = absurd (omega arith)
-first_byte (b ∷ rest) some = refl
-
 ascii_quotable : (b : ℕ) → is_quotable b ≡ true → b < 128
 ascii_quotable b quotes = grind (arith, nat_tests)
 
@@ -78,7 +74,8 @@ module _ (text old now : List ℕ) (start at : ℕ) (here : Quoting text old now
         let rest : quoted (drop at text) ≡ 92 ∷ get_or text at 0 ∷ quoted (drop (at + 1) text) =
         quoted_here (drop at text) left (ap is_quotable first ∙ quotes) ∙ (ap (λ byte. 92 ∷ byte ∷ quoted (drop 1 (drop at text))) first ∙ ap (λ behind. 92 ∷ get_or text at 0 ∷ quoted behind) (drop-drop 1 at text)) in
         let one : at + 1 - at ≡ 1 = omega arith in
-        let byte : take (at + 1 - at) (drop at text) ≡ get_or text at 0 ∷ [] = ap (λ n. take n (drop at text)) one ∙ (first_byte (drop at text) left ∙ ap (λ byte. byte ∷ []) first) in
+        let byte : take (at + 1 - at) (drop at text) ≡ get_or text at 0 ∷ [] = ap (λ n. take n (drop at text)) one
+        ∙ (take_more (drop at text) 0 0 left ∙ ap (λ byte. byte ∷ []) first) in
         let before : List ℕ = take (at - start) (drop start text) in
         let behind : List ℕ = get_or text at 0 ∷ quoted (drop (at + 1) text) in
         record {

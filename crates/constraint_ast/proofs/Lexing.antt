@@ -1,7 +1,8 @@
 -- The tokens of a line, from place to place.
 use Rattle.std.proofs.Common.{◌≡◌, ℕ, zero, suc, ◌+◌, ◌-◌, ◌<◌, ◌≤◌, Bool, true, false, List, [], ◌∷◌, ◌++◌, length, take, drop, get_or, refl, ap, sym, subst, arith, ◌∙◌, append_assoc, append-nil, get_or-drop, length-drop, one-add}
 use Rattle.std.specs.List.{prefix_len}
-use Rattle.std.specs.Prelude.{Result, Ok, Err, nat_eq}
+use Rattle.std.specs.Prelude.{Result, Ok, Err, MatchResult, nat_eq}
+use Rattle.std.specs.Result.{IsErrAnd}
 use Rattle.std.proofs.lemmas.Str.{IsCharBoundary-start}
 use Rattle.std.specs.Str.{IsCharBoundary, IsUtf8}
 use Rattle.std.proofs.lemmas.Bool.{eqb-true}
@@ -185,3 +186,9 @@ no_meaning_fault number text old tokens at here token e longer (BadRule diag) to
 no_meaning_fault number text old tokens at here token e longer (faults.Bad diag) told = told
 no_meaning_fault number text old tokens at here token e longer (faults.Limit limit count) told = told
 no_meaning_fault number text old tokens at here token e longer faults.NoMemory told = told
+
+-- what holds of a fault that is handed on
+pub handed_on : {A E : Type 0} (P : A → Type 0) (Q : E → Type 0) (result : Result A E) (fault : E) → IsErrAnd result (λ told. told ≡ fault)
+    → Q fault → MatchResult result P Q
+handed_on P Q (Ok a) fault same holds = absurd same
+handed_on P Q (Err told) fault same holds = subst Q (sym same) holds

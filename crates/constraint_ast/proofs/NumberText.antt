@@ -7,7 +7,7 @@ use Rattle.std.specs.Str.Parse.{digits_value}
 use Rattle.std.proofs.Math.Bool.{or-true}
 use Rattle.std.proofs.Math.Nat.{mul-le-mul_right, pow-le-pow_right}
 use Rattle.std.proofs.Math.Seq.{drop-append-add, take-append_seam}
-use Rattle.std.proofs.lemmas.Bool.{and_parts, ne_eqb}
+use Rattle.std.proofs.lemmas.Bool.{and_parts, le-ltb, ne_eqb}
 use Rattle.std.proofs.lemmas.Bool.Decides.{nat_tests}
 use Rattle.std.proofs.lemmas.Fmt.{decimal_is_IsNumeral_wide, length-decimal-le_wide}
 use Rattle.std.proofs.lemmas.List.Folds.{list_all-append, list_any-append}
@@ -73,9 +73,6 @@ signed minus size = if minus then neg_ℤ (pos size) else pos size
 some_digits : (text : List ℕ) → 0 < length text → list_all is_ascii_digit text ≡ true → is_digits text ≡ true
 some_digits text some digits = grind (arith, nat_tests)
 
-short_enough : (most n : ℕ) → n ≤ most → nat_lt most n ≡ false
-short_enough most n few = grind (arith, nat_tests)
-
 reads_as : (text whole decs : List ℕ) → Parts (without_sign text) whole decs → 0 < length whole → list_all is_ascii_digit whole ≡ true → length whole ≤ 28
     → list_all is_ascii_digit decs ≡ true → length decs ≤ 9 → number_of text ≡ Number (signed (is_minus text) (digits_value 10 (whole ++ decs) * 10 ^ (9 - length decs)))
 reads_as text whole decs parts some digits few decs_digits decs_few =
@@ -83,7 +80,7 @@ reads_as text whole decs parts some digits few decs_digits decs_few =
     let form : is_decimal text ≡ true = rw (parts.before, parts.point, parts.behind, some_digits whole some digits, fits) refl in
     let size : scaled_size text ≡ digits_value 10 (whole ++ decs) * 10 ^ (9 - length decs) = rw (parts.before, parts.behind) refl in
     let narrow : (nat_lt 28 (length (whole_digits text)) || nat_lt 9 (length (decimal_digits text))) ≡ false =
-    rw (parts.before, parts.behind, short_enough 28 (length whole) few, short_enough 9 (length decs) decs_few) refl in
+    rw (parts.before, parts.behind, le-ltb 28 (length whole) few, le-ltb 9 (length decs) decs_few) refl in
     rw (form, narrow) (ap (λ n. Number (signed (is_minus text) n)) size)
   where
     by : (decs : List ℕ) → list_all is_ascii_digit decs ≡ true → (not (nat_lt 0 (length decs)) || is_digits decs) ≡ true

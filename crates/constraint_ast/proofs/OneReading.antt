@@ -2,11 +2,12 @@
 -- reading has one code.
 use Rattle.std.proofs.Common.{◌≡◌, ◌⊎◌, inl, inr, ℕ, zero, suc, List, [], ◌∷◌, ◌++◌, refl, ap, sym, subst, ◌∙◌, append_assoc, append-nil}
 use Rattle.std.specs.Prelude.{Option, Some, None, Result, Ok, Err}
+use Rattle.value_text.proofs.ListLemmas.{ok-err}
 use Rattle.model_lex.specs.declared.diag.Diag.{Diag}
 use Rattle.model_lex.specs.declared.diag.DiagCode.{DiagCode}
 use Rattle.model_lex.specs.declared.diag.DiagCode.TheVariants.{PredicateExpected, RelationExpected, OperandExpected, MarkExpected, TooDeep}
 use Rattle.constraint_ast.specs.Trees.{Tree, RuleTree}
-use Rattle.constraint_ast.specs.Grammar.{at, AreRules, CanBegin, CannotGoOn, CouldDeeper, Could, Expects, Explains, Refused, last_line, refusal_line}
+use Rattle.constraint_ast.specs.Grammar.{at, AreRules, CanBegin, CannotGoOn, CouldDeeper, Could, Expects, Explains, Refused, last_line, refusal_line, most_open}
 use Rattle.constraint_ast.specs.Laws.{GrammarHasOneReading, LinesHaveOneReading, OneRefusal, SomeReading}
 use Rattle.constraint_ast.specs.Lexing.{AreRefused, Spell, tokens_of}
 use Rattle.constraint_ast.specs.Machine.{After, Around, Bad, Between, Done, InElse, InIf, InPlain, InThen, Itemed, Liked, Listed, Named, NamedNot, Need, Next, Opened, Outer, Paren, Related, SignNamed, SignOpened, Signed, Spot, State, Step, Top, begin, ended, finished, go_on, missing, need, run, step, with_rule}
@@ -280,37 +281,35 @@ module _ (lines : List (ℕ × List ℕ)) where
   same_tokens : (tokens others : List LineToken) → tokens_of lines ≡ Ok tokens → tokens_of lines ≡ Ok others → others ≡ tokens
   same_tokens tokens others e other = cc
 
-  no_tokens : (tokens : List LineToken) (diag : Diag) → tokens_of lines ≡ Ok tokens → tokens_of lines ≡ Err diag → ⊥
-  no_tokens tokens diag e other = cc
-
   same_fault : (diag other : Diag) → tokens_of lines ≡ Err diag → tokens_of lines ≡ Err other → diag ≡ other
   same_fault diag other e also = cc
 
   lines_one_reading : (rules others : List RuleTree) → Spell lines rules → Spell lines others → rules ≡ others
   lines_one_reading rules others (tokens, e, are) (more, also, is) =
-      one_reading 64 tokens rules others are (subst (λ tokens. AreRules 64 tokens others) (same_tokens tokens more e also) is)
+      one_reading most_open tokens rules others are (subst (λ tokens. AreRules most_open tokens others) (same_tokens tokens more e also) is)
 
   lines_read_or_refused : (rules : List RuleTree) (diag : Diag) → Spell lines rules → ¬ (AreRefused lines diag)
-  lines_read_or_refused rules diag (tokens, e, are) (inl fault) = no_tokens tokens diag e fault
+  lines_read_or_refused rules diag (tokens, e, are) (inl fault) = ok-err tokens diag e fault
   lines_read_or_refused rules diag (tokens, e, are) (inr (more, also, refusal)) =
-      read_or_refused 64 tokens rules diag are (subst (λ tokens. Refused 64 tokens diag) (same_tokens tokens more e also) refusal)
+      read_or_refused most_open tokens rules diag are (subst (λ tokens. Refused most_open tokens diag) (same_tokens tokens more e also) refusal)
 
   lines_one_refusal : (diag other : Diag) → AreRefused lines diag → AreRefused lines other → diag ≡ other
   lines_one_refusal diag other (inl e) (inl also) = same_fault diag other e also
-  lines_one_refusal diag other (inl e) (inr (tokens, is, refusal)) = absurd (no_tokens tokens diag is e)
-  lines_one_refusal diag other (inr (tokens, is, refusal)) (inl e) = absurd (no_tokens tokens other is e)
+  lines_one_refusal diag other (inl e) (inr (tokens, is, refusal)) = absurd (ok-err tokens diag is e)
+  lines_one_refusal diag other (inr (tokens, is, refusal)) (inl e) = absurd (ok-err tokens other is e)
   lines_one_refusal diag other (inr (tokens, is, one)) (inr (more, so, two)) =
-      (one_refusal 64 tokens diag other one (subst (λ tokens. Refused 64 tokens other) (same_tokens tokens more is so) two)).1
+      (one_refusal most_open tokens diag other one (subst (λ tokens. Refused most_open tokens other) (same_tokens tokens more is so) two)).1
 
   lines_some_reading : ((rules : List RuleTree) × Spell lines rules) ⊎ ((diag : Diag) × AreRefused lines diag)
   lines_some_reading = by (tokens_of lines) refl
     where
-      told : (tokens : List LineToken) → tokens_of lines ≡ Ok tokens → SomeReading 64 tokens → ((rules : List RuleTree) × Spell lines rules) ⊎ ((diag : Diag) × AreRefused lines diag)
+      told : (tokens : List LineToken) → tokens_of lines ≡ Ok tokens → SomeReading most_open tokens
+          → ((rules : List RuleTree) × Spell lines rules) ⊎ ((diag : Diag) × AreRefused lines diag)
       told tokens e (inl (rules, are)) = inl (rules, (tokens, e, are))
       told tokens e (inr (diag, refusal)) = inr (diag, inr (tokens, e, refusal))
 
       by : (read : Result (List LineToken) Diag) → tokens_of lines ≡ read → ((rules : List RuleTree) × Spell lines rules) ⊎ ((diag : Diag) × AreRefused lines diag)
-      by (Ok tokens) e = told tokens e (some_reading 64 tokens)
+      by (Ok tokens) e = told tokens e (some_reading most_open tokens)
       by (Err diag) e = inr (diag, inl e)
 
 pub lines_have_one_reading : LinesHaveOneReading

@@ -1,6 +1,7 @@
 -- A refusal comes at the first token that can't go on, and its code says what could stand there.
 use Rattle.std.proofs.Common.{◌≡◌, ◌⊎◌, inl, inr, ℕ, zero, suc, List, [], ◌∷◌, ◌++◌, refl, ap, sym, subst, ◌∙◌, append_assoc, append-nil}
 use Rattle.std.specs.Prelude.{Result, Ok, Err}
+use Rattle.value_text.proofs.ListLemmas.{ok-err}
 use Rattle.model_lex.specs.declared.diag.Diag.{Diag}
 use Rattle.model_lex.specs.declared.diag.DiagCode.{DiagCode}
 use Rattle.model_lex.specs.declared.diag.DiagCode.TheVariants.{PredicateExpected, OperandExpected, MarkExpected, TooDeep}
@@ -131,9 +132,6 @@ step_finishes room (Next state) good = finishes room state
 step_finishes room (Done rule) good = let rest = finishes room Between in (rest.0, rule ∷ rest.1, (rest.1, refl, rest.2))
 step_finishes room (Bad code) good = absurd good
 
-no_answer : {read : Result (List RuleTree) Diag} {rules : List RuleTree} {diag : Diag} → read ≡ Ok rules → read ≡ Err diag → ⊥
-no_answer ok err = cc
-
 module _ (room : ℕ) (front : List LineToken) (done : List RuleTree) (state : State) (leads : Leads room front done Between state) where
   can_begin : CanBegin room front
   can_begin = let rest = finishes room state in (rest.0, done ++ rest.1, leads.ends rest.0 rest.1 rest.2)
@@ -149,7 +147,7 @@ module _ (room : ℕ) (front : List LineToken) (done : List RuleTree) (state : S
 
   pub could_not : (token : LineToken) (code : DiagCode) → step room state token.line token.token ≡ Bad code → ¬ (CanBegin room (front ++ token ∷ []))
   could_not token code e (more, rules, spelled) =
-      no_answer (rules_read (subst (λ tokens. AreRules room tokens rules) (append_assoc front (token ∷ []) more) spelled) 0)
+      ok-err _ _ (rules_read (subst (λ tokens. AreRules room tokens rules) (append_assoc front (token ∷ []) more) spelled) 0)
       (
       leads.runs 0 (token ∷ more)
       ∙ (ap (λ to. with_rules done (go_on (run room 0 more) token.line to)) e ∙ rules_refused done (record { line = token.line; code = code }))
@@ -157,7 +155,7 @@ module _ (room : ℕ) (front : List LineToken) (done : List RuleTree) (state : S
 
   could_not_end : (diag : Diag) → at_end 0 state ≡ Err diag → (rules : List RuleTree) → ¬ (AreRules room front rules)
   could_not_end diag e rules spelled =
-      no_answer (rules_read (subst (λ tokens. AreRules room tokens rules) (sym (append-nil front)) spelled) 0)
+      ok-err _ _ (rules_read (subst (λ tokens. AreRules room tokens rules) (sym (append-nil front)) spelled) 0)
       (leads.runs 0 [] ∙ (ap (λ read. with_rules done read) e ∙ rules_refused done diag))
 
 -- what a state waits for could stand there

@@ -12,7 +12,7 @@ use Rattle.model_lex.specs.declared.token.TokenKind.TheVariants as kinds
 use Rattle.value_text.specs.Numbers.{number_of}
 use Rattle.value_text.specs.declared.fixed.FixedAnswer.{FixedAnswer}
 use Rattle.value_text.specs.declared.fixed.FixedAnswer.TheVariants.{Number as IsNumber, NotNumber, TooWide}
-use Rattle.constraint_ast.specs.Grammar.{at, AreRules}
+use Rattle.constraint_ast.specs.Grammar.{at, AreRules, most_open}
 use Rattle.constraint_ast.specs.Laws.{RuleTextReadsBack}
 use Rattle.constraint_ast.specs.Lexing.{both_tokens, inside, keyword_of, mark_of, meant, number_meant, or_code, relation_meant, relation_of, token_before, token_meant, tokens_in, tokens_of, Spell}
 use Rattle.constraint_ast.specs.RuleText.{body_tokens, rule_at, rule_text}
@@ -147,7 +147,8 @@ lines_are (line ∷ lines) tokens e = joined_are (tokens_in line.0 0 line.1) (to
 one_line : (line : ℕ) (text : List ℕ) (tokens : List LineToken) → tokens_in line 0 text ≡ Ok tokens → tokens_of ((line, text) ∷ []) ≡ Ok tokens
 one_line line text tokens e = ap (λ read. both_tokens read (Ok [])) e ∙ ap Ok (append-nil tokens)
 
-one_rule : (line : ℕ) (rule : RuleTree) → WrittenAre NameReads LiteralReads (body_tokens rule.body) → AreRules 64 (map (at line) (body_tokens rule.body)) (rule_at line rule ∷ [])
+one_rule : (line : ℕ) (rule : RuleTree) → WrittenAre NameReads LiteralReads (body_tokens rule.body)
+    → AreRules most_open (map (at line) (body_tokens rule.body)) (rule_at line rule ∷ [])
     → Spell ((line, rule_text rule) ∷ []) (rule_at line rule ∷ [])
 one_rule line rule written back =
     let tokens : List LineToken = map (at line) (body_tokens rule.body) in

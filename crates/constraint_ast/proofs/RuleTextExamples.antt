@@ -3,6 +3,7 @@ use Rattle.std.proofs.Common.{◌≡◌, ◌≢◌, ℕ, ◌*◌, ◌^◌, pos, 
 use Rattle.std.specs.Fmt.{digits}
 use Rattle.std.specs.Prelude.{Bool, true, false, Result, Ok, Err}
 use Rattle.model_lex.specs.declared.diag.Diag.{Diag}
+use Rattle.constraint_ast.specs.Grammar.{most_open}
 use Rattle.constraint_ast.specs.Trees.{Tree, Trees, Leaf, Negated, Each, Either, End, More, RuleTree, BodyTree, Plain, IfThen, IfElse}
 use Rattle.constraint_ast.specs.Lexing.{Spell, tokens_of}
 use Rattle.constraint_ast.specs.Machine.{Between, run}
@@ -16,7 +17,7 @@ use Rattle.constraint_ast.proofs.Refusal.{spelled}
 
 -- what the reading by tokens gives of a line by itself
 abbrev read : Result (List LineToken) Diag → Result (List RuleTree) Diag
-read (Ok tokens) = run 64 0 tokens Between
+read (Ok tokens) = run most_open 0 tokens Between
 read (Err diag) = Err diag
 
 abbrev reads : List ℕ → RuleTree → Type 0
@@ -27,7 +28,7 @@ read_is_spelled : (text : List ℕ) (rule : RuleTree) → reads text rule → Sp
 read_is_spelled text rule e = at (tokens_of ((1, text) ∷ [])) refl e
   where
     at : (tokens : Result (List LineToken) Diag) → tokens_of ((1, text) ∷ []) ≡ tokens → read tokens ≡ Ok (rule ∷ []) → Spell ((1, text) ∷ []) (rule ∷ [])
-    at (Ok tokens) is e = (tokens, is, spelled 64 0 tokens (rule ∷ []) e)
+    at (Ok tokens) is e = (tokens, is, spelled most_open 0 tokens (rule ∷ []) e)
     at (Err diag) is e = absurd (cc)
 
 -- ---- small trees

@@ -1,12 +1,13 @@
 -- The constraints of a list of tokens, one after another.
 use Rattle.std.proofs.Common.{◌≡◌, ℕ, ◌-◌, ◌<◌, suc, List, [], ◌∷◌, ◌++◌, length, map, get_or, refl, ap, sym, arith, false, ◌∙◌}
+use Rattle.std.proofs.lemmas.List.{map-append}
 use Rattle.std.specs.Prelude.{Result, Ok, Err, IfErr}
 use Rattle.model_lex.specs.declared.fault.ModelFault.{ModelFault}
 use Rattle.model_lex.specs.declared.fault.ModelFault.TheVariants.{Bad, BadRule, Limit, NoMemory}
-use Rattle.constraint_ast.specs.Trees.{body_tree, rule_tree, End}
-use Rattle.constraint_ast.specs.Grammar.{last_line}
-use Rattle.constraint_ast.specs.Machine.{Between, InPlain, Need, Part, Top, run, with_rule, with_rules}
-use Rattle.constraint_ast.specs.Reading.{ReadsRule, RefusesBody, RefusesRules, begins_if, first_line}
+use Rattle.constraint_ast.specs.Trees.{body_tree, rule_tree}
+use Rattle.constraint_ast.specs.Grammar.{last_line, most_open}
+use Rattle.constraint_ast.specs.Machine.{Between, InPlain, run, with_rule, with_rules}
+use Rattle.constraint_ast.specs.Reading.{ReadsRule, RefusesBody, RefusesRules, begins_if, first_line, before_pred}
 use Rattle.constraint_ast.specs.declared.token.LineToken.{LineToken}
 use Rattle.constraint_ast.specs.declared.tree.RawBody.{RawBody}
 use Rattle.constraint_ast.specs.declared.tree.RawRule.{RawRule}
@@ -15,21 +16,21 @@ use Rattle.constraint_ast.proofs.Complete.{no_rules_more, one_rule_more, plain_f
 -- the refusal of a constraint that is a predicate
 fault_of_plain :
     (last : ℕ) (tokens : List LineToken) → 0 < length tokens → begins_if tokens ≡ false → (fault : ModelFault)
-    → RefusesBody last tokens (λ line. Need 64 (Part 64 End End (Top (InPlain line)))) fault → RefusesRules last tokens fault
-fault_of_plain last tokens some no_if (BadRule diag) refused = plain_first 64 last tokens some no_if ∙ refused (first_line tokens)
+    → RefusesBody last tokens (λ line. before_pred (InPlain line)) fault → RefusesRules last tokens fault
+fault_of_plain last tokens some no_if (BadRule diag) refused = plain_first most_open last tokens some no_if ∙ refused (first_line tokens)
 fault_of_plain last tokens some no_if (Bad diag) refused = refused
 fault_of_plain last tokens some no_if (Limit limit count) refused = refused
 fault_of_plain last tokens some no_if NoMemory refused = refused
 
 pub plain_refused :
     {A : Type 0} (result : Result A ModelFault) (last : ℕ) (tokens : List LineToken) → 0 < length tokens → begins_if tokens ≡ false
-    → IfErr result (RefusesBody last tokens (λ line. Need 64 (Part 64 End End (Top (InPlain line))))) → IfErr result (RefusesRules last tokens)
+    → IfErr result (RefusesBody last tokens (λ line. before_pred (InPlain line))) → IfErr result (RefusesRules last tokens)
 plain_refused (Ok read) last tokens some no_if refused = tt
 plain_refused (Err fault) last tokens some no_if refused = fault_of_plain last tokens some no_if fault refused
 
 -- some constraints are read before others
 abbrev pub ReadsFirst : ℕ → List LineToken → List RawRule → List LineToken → Type 0
-ReadsFirst last from rules ahead = run 64 last from Between ≡ with_rules (map rule_tree rules) (run 64 last ahead Between)
+ReadsFirst last from rules ahead = run most_open last from Between ≡ with_rules (map rule_tree rules) (run most_open last ahead Between)
 
 pub refused_later : (last : ℕ) (from : List LineToken) (rules : List RawRule) (ahead : List LineToken) (fault : ModelFault) → ReadsFirst last from rules ahead → RefusesRules last ahead fault → RefusesRules last from fault
 refused_later last from rules ahead (BadRule diag) reads refused = reads ∙ (ap (λ read. with_rules (map rule_tree rules) read) refused ∙ rules_refused (map rule_tree rules) diag)
@@ -37,22 +38,19 @@ refused_later last from rules ahead (Bad diag) reads refused = refused
 refused_later last from rules ahead (Limit limit count) reads refused = refused
 refused_later last from rules ahead NoMemory reads refused = refused
 
-map_one : (rules : List RawRule) (rule : RawRule) → map rule_tree (rules ++ rule ∷ []) ≡ map rule_tree rules ++ rule_tree rule ∷ []
-map_one [] rule = refl
-map_one (first ∷ rules) rule = ap (λ behind. rule_tree first ∷ behind) (map_one rules rule)
-
 pub one_more :
     (last : ℕ) (from : List LineToken) (rules : List RawRule) (ahead rest : List LineToken) (line : ℕ) (body : RawBody) (list : List RawRule) → ReadsFirst last from rules ahead
     → line ≡ first_line ahead → ReadsRule last ahead (body_tree body) rest → list ≡ rules ++ record { line = line; body = body } ∷ [] → ReadsFirst last from list rest
 one_more last from rules ahead rest line body list reads at_line read e =
     let rule : RawRule = record { line = line; body = body } in
-    let seen : run 64 last ahead Between ≡ with_rule (rule_tree rule) (run 64 last rest Between) =
-    read ∙ ap (λ line. with_rule (record { line = line; body = body_tree body }) (run 64 last rest Between)) (sym at_line) in
+    let seen : run most_open last ahead Between ≡ with_rule (rule_tree rule) (run most_open last rest Between) =
+    read ∙ ap (λ line. with_rule (record { line = line; body = body_tree body }) (run most_open last rest Between)) (sym at_line) in
     reads ∙ (ap (λ read. with_rules (map rule_tree rules) read) seen
-    ∙ (sym (one_rule_more (map rule_tree rules) (rule_tree rule) (run 64 last rest Between))
-    ∙ ap (λ list. with_rules list (run 64 last rest Between)) (sym (ap (λ list. map rule_tree list) e ∙ map_one rules rule))))
+    ∙ (sym (one_rule_more (map rule_tree rules) (rule_tree rule) (run most_open last rest Between))
+    ∙ ap (λ list. with_rules list (run most_open last rest Between)) (sym (ap (λ list. map rule_tree list) e ∙ map-append rule_tree rules (rule ∷ [])))))
 
-pub all_read : (last : ℕ) (from : List LineToken) (rules : List RawRule) (ahead : List LineToken) → ReadsFirst last from rules ahead → length ahead ≡ 0 → run 64 last from Between ≡ Ok (map rule_tree rules)
+pub all_read : (last : ℕ) (from : List LineToken) (rules : List RawRule) (ahead : List LineToken) → ReadsFirst last from rules ahead
+    → length ahead ≡ 0 → run most_open last from Between ≡ Ok (map rule_tree rules)
 all_read last from rules [] reads none = reads ∙ no_rules_more (map rule_tree rules)
 all_read last from rules (token ∷ ahead) reads none = absurd (omega arith)
 

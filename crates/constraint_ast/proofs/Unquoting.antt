@@ -5,6 +5,7 @@ use Rattle.std.proofs.lemmas.List.{drop-drop, take_more}
 use Rattle.std.proofs.lemmas.Str.{IsCharBoundary-after_ascii, IsCharBoundary-start}
 use Rattle.std.specs.Str.{IsUtf8, IsCharBoundary}
 use Rattle.model_lex.specs.Tokens.{quotes_next, unquoted}
+use Rattle.model_lex.proofs.Quoting.{two_bytes}
 
 -- at a byte that no backslash quotes, and at one that a backslash quotes
 plain_here : (text : List ℕ) → 0 < length text → quotes_next text ≡ false → unquoted text ≡ get_or text 0 0 ∷ unquoted (drop 1 text)
@@ -17,18 +18,9 @@ quoted_here [] quotes = absurd (grind (arith, nat_tests))
 quoted_here (b ∷ []) quotes = absurd (grind (arith, nat_tests))
 quoted_here (b ∷ next ∷ rest) quotes = rw quotes refl
 
-pub two_bytes : (text : List ℕ) → quotes_next text ≡ true → 2 ≤ length text
-two_bytes [] quotes = absurd (grind (arith, nat_tests))
-two_bytes (b ∷ []) quotes = absurd (grind (arith, nat_tests))
-two_bytes (b ∷ next ∷ rest) quotes = omega arith
-
 backslash : (text : List ℕ) → quotes_next text ≡ true → get_or text 0 0 < 128
 backslash [] quotes = omega arith
 backslash (b ∷ rest) quotes = grind (arith, nat_tests)
-
-first_byte : (text : List ℕ) → 0 < length text → take 1 text ≡ get_or text 0 0 ∷ []
-first_byte [] some = absurd (omega arith)
-first_byte (b ∷ rest) some = refl
 
 -- the text is copied up to a place, and read up to another
 pub record Unquoting (text plain : List ℕ) (start at : ℕ) : Type 0 where
@@ -82,7 +74,7 @@ module _ (text plain : List ℕ) (start at : ℕ) (here : Unquoting text plain s
       let some : 0 < length (drop (at + 1) text) = omega (arith, length-drop (at + 1) text) in
       let first : get_or (drop (at + 1) text) 0 0 ≡ get_or text (at + 1) 0 = get_or-drop (at + 1) text 0 0 ∙ ap (λ k. get_or text k 0) (omega arith) in
       let piece : take (at + 2 - (at + 1)) (drop (at + 1) text) ≡ get_or text (at + 1) 0 ∷ [] =
-      ap (λ n. take n (drop (at + 1) text)) one ∙ (first_byte (drop (at + 1) text) some ∙ ap (λ byte. byte ∷ []) first) in
+      ap (λ n. take n (drop (at + 1) text)) one ∙ (take_more (drop (at + 1) text) 0 0 some ∙ ap (λ byte. byte ∷ []) first) in
       record {
         order = omega arith;
         within = omega (arith, fits);

@@ -31,7 +31,11 @@ pub data AreLiterals : List LineToken → List RawLiteral → List LineToken →
   last_literal : {l k : ℕ} {x : RawLiteral} {to : List LineToken} → AreLiterals (at l (Literal x) ∷ at k CloseBrace ∷ to) (x ∷ []) to
   next_literal : {l k : ℕ} {x : RawLiteral} {from to : List LineToken} {xs : List RawLiteral} → AreLiterals from xs to → AreLiterals (at l (Literal x) ∷ at k Comma ∷ from) (x ∷ xs) to
 
--- the room is how many `(` and NOTs may yet be open inside one another
+-- how many `(` and NOTs may be open inside one another in the constraints of a file
+abbrev pub most_open : ℕ
+most_open = 64
+
+-- the room is how many of them may yet be opened
 mutual
   -- NOT unit | ( pred ) | term
   pub data IsUnit : ℕ → List LineToken → Tree → List LineToken → Type 0 where

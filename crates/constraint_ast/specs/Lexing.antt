@@ -12,7 +12,7 @@ use Rattle.model_lex.specs.declared.diag.DiagCode.TheVariants.{StrayCharacter, B
 use Rattle.model_lex.specs.declared.token.TokenKind.{TokenKind}
 use Rattle.model_lex.specs.declared.token.TokenKind.TheVariants as kinds
 use Rattle.constraint_ast.specs.Trees.{RuleTree}
-use Rattle.constraint_ast.specs.Grammar.{AreRules, Refused, at}
+use Rattle.constraint_ast.specs.Grammar.{AreRules, Refused, at, most_open}
 use Rattle.constraint_ast.specs.declared.token.LineToken.{LineToken}
 use Rattle.constraint_ast.specs.declared.token.RuleToken.{RuleToken}
 use Rattle.constraint_ast.specs.declared.token.RuleToken.TheVariants.{Name, Literal, Relation, If, Then, Else, And, Or, Not, In, Like, Sign, OpenParen, CloseParen, OpenBrace, CloseBrace, Comma, Semicolon}
@@ -120,8 +120,8 @@ tokens_of (line ∷ lines) = both_tokens (tokens_in line.0 0 line.1) (tokens_of 
 
 -- constraint lines spell these trees
 abbrev pub Spell : List (ℕ × List ℕ) → List RuleTree → Type 0
-Spell lines rules = (tokens : List LineToken) × (tokens_of lines ≡ Ok tokens) × AreRules 64 tokens rules
+Spell lines rules = (tokens : List LineToken) × (tokens_of lines ≡ Ok tokens) × AreRules most_open tokens rules
 
 -- constraint lines are refused: at the first token that is none, or else where the tokens can't go on
 abbrev pub AreRefused : List (ℕ × List ℕ) → Diag → Type 0
-AreRefused lines diag = (tokens_of lines ≡ Err diag) ⊎ ((tokens : List LineToken) × (tokens_of lines ≡ Ok tokens) × Refused 64 tokens diag)
+AreRefused lines diag = (tokens_of lines ≡ Err diag) ⊎ ((tokens : List LineToken) × (tokens_of lines ≡ Ok tokens) × Refused most_open tokens diag)

@@ -4,7 +4,8 @@ use Rattle.model_lex.specs.declared.diag.Diag.{Diag}
 use Rattle.model_lex.specs.declared.fault.ModelFault.{ModelFault}
 use Rattle.model_lex.specs.declared.fault.ModelFault.TheVariants.{Bad, BadRule, Limit, NoMemory}
 use Rattle.constraint_ast.specs.Trees.{Tree, Trees, BodyTree, Leaf, End, added, all_of, any_of}
-use Rattle.constraint_ast.specs.Machine.{After, Around, Between, InIf, Itemed, Need, Opened, Outer, Part, State, Top, close, run, with_rule}
+use Rattle.constraint_ast.specs.Grammar.{most_open}
+use Rattle.constraint_ast.specs.Machine.{After, Around, Between, InIf, Itemed, Need, Opened, Outer, Part, Spot, State, Top, close, run, with_rule}
 use Rattle.constraint_ast.specs.declared.token.LineToken.{LineToken}
 use Rattle.constraint_ast.specs.declared.token.RuleToken.{RuleToken}
 use Rattle.constraint_ast.specs.declared.token.RuleToken.TheVariants.{If, And, Or}
@@ -20,10 +21,10 @@ IfRefused NoMemory P = Unit {0}
 
 -- from a state inside a unit its rest is read as a tree, or refused
 abbrev pub ReadsUnit : ℕ → List LineToken → (Around → State) → Tree → List LineToken → Type 0
-ReadsUnit last from start tree to = (around : Around) → run 64 last from (start around) ≡ run 64 last to (close around tree)
+ReadsUnit last from start tree to = (around : Around) → run most_open last from (start around) ≡ run most_open last to (close around tree)
 
 abbrev pub RefusesUnit : ℕ → List LineToken → (Around → State) → ModelFault → Type 0
-RefusesUnit last from start fault = IfRefused fault (λ diag. (around : Around) → run 64 last from (start around) ≡ Err diag)
+RefusesUnit last from start fault = IfRefused fault (λ diag. (around : Around) → run most_open last from (start around) ≡ Err diag)
 
 -- whether AND, or OR, stands first
 abbrev is_and : RuleToken → Bool
@@ -45,57 +46,68 @@ begins_or (token ∷ tokens) = is_or token.token
 -- AND, or OR, leads behind a unit to the next
 abbrev pub GoesOnAnd : List LineToken → List LineToken → Type 0
 GoesOnAnd from to =
-    (last room : ℕ) (anys alls : Trees) (outer : Outer) → run 64 last from (After room anys alls outer) ≡ run 64 last to (Need room (Part room anys alls outer))
+    (last room : ℕ) (anys alls : Trees) (outer : Outer) → run most_open last from (After room anys alls outer)
+    ≡ run most_open last to (Need room (Part room anys alls outer))
 
 abbrev pub GoesOnOr : List LineToken → List LineToken → Type 0
 GoesOnOr from to =
     (last room : ℕ) (anys alls : Trees) (outer : Outer)
-    → run 64 last from (After room anys alls outer) ≡ run 64 last to (Need room (Part room (added anys (all_of alls)) End outer))
+    → run most_open last from (After room anys alls outer) ≡ run most_open last to (Need room (Part room (added anys (all_of alls)) End outer))
 
 -- units joined by AND are read as a tree
 pub record ReadsUnits (last room : ℕ) (from : List LineToken) (tree : Tree) (to : List LineToken) : Type 0 where
   pub units : Trees
   pub same : all_of units ≡ tree
-  pub runs : (anys : Trees) (outer : Outer) → run 64 last from (Need room (Part room anys End outer)) ≡ run 64 last to (After room anys units outer)
+  pub runs : (anys : Trees) (outer : Outer) → run most_open last from (Need room (Part room anys End outer)) ≡ run most_open last to (After room anys units outer)
   pub no_and : begins_and to ≡ false
 
 abbrev pub RefusesUnits : ℕ → ℕ → List LineToken → ModelFault → Type 0
-RefusesUnits last room from fault = IfRefused fault (λ diag. (anys : Trees) (outer : Outer) → run 64 last from (Need room (Part room anys End outer)) ≡ Err diag)
+RefusesUnits last room from fault = IfRefused fault (λ diag. (anys : Trees) (outer : Outer)
+    → run most_open last from (Need room (Part room anys End outer)) ≡ Err diag)
 
 -- a predicate is read as a tree
 pub record ReadsPred (last room : ℕ) (from : List LineToken) (tree : Tree) (to : List LineToken) : Type 0 where
   pub front : Trees
   pub units : Trees
   pub same : any_of (added front (all_of units)) ≡ tree
-  pub runs : (outer : Outer) → run 64 last from (Need room (Part room End End outer)) ≡ run 64 last to (After room front units outer)
+  pub runs : (outer : Outer) → run most_open last from (Need room (Part room End End outer)) ≡ run most_open last to (After room front units outer)
   pub no_and : begins_and to ≡ false
   pub no_or : begins_or to ≡ false
 
 abbrev pub RefusesPred : ℕ → ℕ → List LineToken → ModelFault → Type 0
-RefusesPred last room from fault = IfRefused fault (λ diag. (outer : Outer) → run 64 last from (Need room (Part room End End outer)) ≡ Err diag)
+RefusesPred last room from fault = IfRefused fault (λ diag. (outer : Outer) → run most_open last from (Need room (Part room End End outer)) ≡ Err diag)
+
+-- up to a predicate of a constraint
+abbrev pub before_pred : Spot → State
+before_pred spot = Need most_open (Part most_open End End (Top spot))
 
 -- the rest of a constraint is read as a body
 abbrev pub ReadsBody : ℕ → List LineToken → (ℕ → State) → BodyTree → List LineToken → Type 0
-ReadsBody last from start body to = (line : ℕ) → run 64 last from (start line) ≡ with_rule (record { line = line; body = body }) (run 64 last to Between)
+ReadsBody last from start body to =
+    (line : ℕ) → run most_open last from (start line) ≡ with_rule (record { line = line; body = body }) (run most_open last to Between)
 
 abbrev pub RefusesBody : ℕ → List LineToken → (ℕ → State) → ModelFault → Type 0
-RefusesBody last from start fault = IfRefused fault (λ diag. (line : ℕ) → run 64 last from (start line) ≡ Err diag)
+RefusesBody last from start fault = IfRefused fault (λ diag. (line : ℕ) → run most_open last from (start line) ≡ Err diag)
 
 -- the next literal of a list is read, and the rest of a list
 abbrev pub ReadsLiteral : ℕ → List LineToken → RawLiteral → List LineToken → Type 0
 ReadsLiteral last from x to =
-    (around : Around) (line : ℕ) (name : List ℕ) (xs : List RawLiteral) → run 64 last from (Opened around line name xs) ≡ run 64 last to (Itemed around line name (xs ++ x ∷ []))
+    (around : Around) (line : ℕ) (name : List ℕ) (xs : List RawLiteral) → run most_open last from (Opened around line name xs)
+    ≡ run most_open last to (Itemed around line name (xs ++ x ∷ []))
 
 abbrev pub ReadsLiterals : ℕ → List LineToken → List RawLiteral → List LineToken → Type 0
 ReadsLiterals last from xs to =
-    (around : Around) (line : ℕ) (name : List ℕ) → run 64 last from (Opened around line name []) ≡ run 64 last to (close around (Leaf line (OneOf name xs)))
+    (around : Around) (line : ℕ) (name : List ℕ) → run most_open last from (Opened around line name [])
+    ≡ run most_open last to (close around (Leaf line (OneOf name xs)))
 
 abbrev pub RefusesLiteral : ℕ → List LineToken → ModelFault → Type 0
 RefusesLiteral last from fault =
-    IfRefused fault (λ diag. (around : Around) (line : ℕ) (name : List ℕ) (xs : List RawLiteral) → run 64 last from (Opened around line name xs) ≡ Err diag)
+    IfRefused fault (λ diag. (around : Around) (line : ℕ) (name : List ℕ) (xs : List RawLiteral)
+    → run most_open last from (Opened around line name xs) ≡ Err diag)
 
 abbrev pub RefusesLiterals : ℕ → List LineToken → ModelFault → Type 0
-RefusesLiterals last from fault = IfRefused fault (λ diag. (around : Around) (line : ℕ) (name : List ℕ) → run 64 last from (Opened around line name []) ≡ Err diag)
+RefusesLiterals last from fault = IfRefused fault (λ diag. (around : Around) (line : ℕ) (name : List ℕ)
+    → run most_open last from (Opened around line name []) ≡ Err diag)
 
 -- whether IF stands first
 abbrev pub is_if : RuleToken → Bool
@@ -113,11 +125,11 @@ first_line (token ∷ tokens) = token.line
 
 -- IF leads into its predicate
 abbrev pub GoesOnIf : List LineToken → List LineToken → Type 0
-GoesOnIf from to = (last : ℕ) → run 64 last from Between ≡ run 64 last to (Need 64 (Part 64 End End (Top (InIf (first_line from)))))
+GoesOnIf from to = (last : ℕ) → run most_open last from Between ≡ run most_open last to (before_pred (InIf (first_line from)))
 
 -- a constraint is read with a body
 abbrev pub ReadsRule : ℕ → List LineToken → BodyTree → List LineToken → Type 0
-ReadsRule last from body to = run 64 last from Between ≡ with_rule (record { line = first_line from; body = body }) (run 64 last to Between)
+ReadsRule last from body to = run most_open last from Between ≡ with_rule (record { line = first_line from; body = body }) (run most_open last to Between)
 
 abbrev pub RefusesRules : ℕ → List LineToken → ModelFault → Type 0
-RefusesRules last from fault = IfRefused fault (λ diag. run 64 last from Between ≡ Err diag)
+RefusesRules last from fault = IfRefused fault (λ diag. run most_open last from Between ≡ Err diag)

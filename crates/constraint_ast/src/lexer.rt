@@ -10,7 +10,7 @@ use crate::token::{LineToken, LineTokenList, RuleToken, Sign};
 use crate::tree::{RawLiteral, RawRel};
 use model_lex::{Diag, DiagCode, Lexed, ModelFault, NumLine, TokenKind, next_token, trimmed};
 use std::alloc::Global;
-use value_text::{FixedAnswer, NoMemory, OwnedList, read_fixed};
+use value_text::{FixedAnswer, OwnedList, read_fixed};
 
 // The refusal of a token at a line.
 fn bad(line: u32, code: DiagCode) -> ModelFault
@@ -100,14 +100,11 @@ fn rule_token(
     ensures err { IfErr result (λ fault. IfRefused fault (λ diag. (diag.line ≡ line) × (meant kind text.now ≡ Err diag.code))) }
 {
     match kind {
-        TokenKind::Name => match unquoted(alloc, trimmed(inside(text))) {
-            Ok(name) => Ok(RuleToken::Name(name)),
-            Err(NoMemory) => Err(ModelFault::NoMemory),
-        },
-        TokenKind::Words => match unquoted(alloc, inside(text)) {
-            Ok(words) => Ok(RuleToken::Literal(RawLiteral::Words(words))),
-            Err(NoMemory) => Err(ModelFault::NoMemory),
-        },
+        TokenKind::Name => Ok(RuleToken::Name(unquoted(alloc, trimmed(inside(text)))?)),
+        TokenKind::Words => {
+            let words = unquoted(alloc, inside(text))?;
+            Ok(RuleToken::Literal(RawLiteral::Words(words)))
+        }
         TokenKind::Number => match read_fixed(text) {
             FixedAnswer::Number(number) => Ok(RuleToken::Literal(RawLiteral::Number(number))),
             FixedAnswer::NotNumber => Err(bad(line, DiagCode::BadNumber)),
@@ -138,16 +135,12 @@ fn read_line(
             Lexed::End => return Ok(()),
             Lexed::Bad(code) => return Err(bad(number, code)),
             Lexed::Token(found) => {
-                match rule_token(alloc, number, found.kind, &text[found.start..found.end]) {
-                    Ok(token) => match tokens.push(LineToken {
-                        line: number,
-                        token,
-                    }) {
-                        Ok(()) => at = found.end,
-                        Err(NoMemory) => return Err(ModelFault::NoMemory),
-                    },
-                    Err(fault) => return Err(fault),
-                }
+                let token = rule_token(alloc, number, found.kind, &text[found.start..found.end])?;
+                tokens.push(LineToken {
+                    line: number,
+                    token,
+                })?;
+                at = found.end;
             }
         }
     }
@@ -164,10 +157,7 @@ pub fn read_tokens(alloc: Global, lines: &[NumLine<'_>]) -> Result<LineTokenList
 {
     let mut tokens = OwnedList::new(alloc);
     for line in lines {
-        match read_line(alloc, line.line, line.text, &mut tokens) {
-            Ok(()) => {}
-            Err(fault) => return Err(fault),
-        }
+        read_line(alloc, line.line, line.text, &mut tokens)?;
     }
     Ok(tokens)
 }

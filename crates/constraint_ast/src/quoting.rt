@@ -32,18 +32,13 @@ pub fn unquoted(alloc: Global, text: &str) -> Result<Text, NoMemory>
     let mut at = 0;
     while at < text.len() {
         if quotes(text.as_bytes(), at) {
-            match plain.push_str(&text[start..at]) {
-                Ok(()) => {}
-                Err(_) => return Err(NoMemory),
-            }
+            plain.push_str(&text[start..at])?;
             start = at + 1;
             at += 2;
         } else {
             at += 1;
         }
     }
-    match plain.push_str(&text[start..]) {
-        Ok(()) => Text::copy(alloc, plain.as_str()),
-        Err(_) => Err(NoMemory),
-    }
+    plain.push_str(&text[start..])?;
+    Text::copy(alloc, plain.as_str())
 }

@@ -36,10 +36,8 @@ pub struct Line {
 fn push(out: &mut String, text: &str) -> Result<(), NoMemory>
     ensures { OnOk result (string_bytes out.new ≡ string_bytes out.old ++ text.now) }
 {
-    match out.push_str(text) {
-        Ok(()) => Ok(()),
-        Err(_) => Err(NoMemory),
-    }
+    out.push_str(text)?;
+    Ok(())
 }
 
 // Adds a text with a backslash before each `"`, `]` and backslash.
@@ -66,10 +64,8 @@ fn push_digit(out: &mut String, digit: u8) -> Result<(), NoMemory>
     requires { digit < 10 }
     ensures { OnOk result (string_bytes out.new ≡ string_bytes out.old ++ (48 + digit) ∷ []) }
 {
-    match out.push(char::from(b'0' + digit)) {
-        Ok(()) => Ok(()),
-        Err(_) => Err(NoMemory),
-    }
+    out.push(char::from(b'0' + digit))?;
+    Ok(())
 }
 
 // Adds nine decimals, up to the last that isn't 0.

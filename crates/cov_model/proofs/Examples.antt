@@ -5,19 +5,15 @@ use Rattle.cov_model.specs.declared.parameter.Param.{Param}
 use Rattle.cov_model.specs.declared.parameter.Value.{Value}
 use Rattle.cov_model.specs.declared.truth.Truth.{Truth}
 use Rattle.cov_model.specs.declared.truth.Truth.TheVariants.{Yes, No, Unknown}
-use Rattle.cov_model.specs.declared.constraint.Body.{Body}
-use Rattle.cov_model.specs.declared.constraint.Body.TheVariants.{Plain, IfThen, IfElse}
 use Rattle.cov_model.specs.declared.constraint.Rel.TheVariants.{Eq, Ne, Gt, Ge, Lt, Le}
 use Rattle.cov_model.specs.declared.constraint.Literal.{Literal}
 use Rattle.cov_model.specs.declared.constraint.Literal.TheVariants.{Number, Words}
 use Rattle.cov_model.specs.declared.constraint.Term as terms
 use Rattle.cov_model.specs.declared.constraint.Term.TheVariants.{ValueIs, ParamIs, OneOf, Like, Negative, Positive}
-use Rattle.cov_model.specs.declared.constraint.Pred as preds
-use Rattle.cov_model.specs.declared.constraint.Pred.{Not'}
-use Rattle.cov_model.specs.declared.constraint.Rule.{Rule}
+use Rattle.cov_model.specs.Views.{PredView, Leaf, Negated, End, More, BodyView, Plain, IfThen, IfElse, RuleView}
 use Rattle.cov_model.specs.declared.row_fault.RowWhy.TheVariants as faults
 use Rattle.cov_model.specs.Sound.{ModelView}
-use Rattle.cov_model.specs.Kleene.{body_truth, all_truths, any_truths}
+use Rattle.cov_model.specs.Kleene.{body_truth, all_truth, any_truth}
 use Rattle.cov_model.specs.Valid.{is_valid}
 use Rattle.cov_model.specs.RowFault.{row_fault}
 use Rattle.cov_model.specs.Preference.{preference}
@@ -53,7 +49,7 @@ param_c = record { name = codes "C"; line = 3; numeric = true; values = value (c
 abbrev param_d : Param
 param_d = record { name = codes "D"; line = 4; numeric = false; values = value (codes "RED") 1 false ∷ value (codes "green") 1 false ∷ [] }
 
-abbrev model_of : List Param → List Body → Bool → ModelView
+abbrev model_of : List Param → List BodyView → Bool → ModelView
 model_of params bodies fold = record {
   params = params;
   rules = numbered 1 bodies;
@@ -62,11 +58,11 @@ model_of params bodies fold = record {
   fold = fold;
 }
   where
-    numbered : ℕ → List Body → List Rule
+    numbered : ℕ → List BodyView → List RuleView
     numbered n [] = []
     numbered n (body ∷ rest) = record { number = n; line = n; body = body } ∷ numbered (suc n) rest
 
-abbrev model : List Body → Bool → ModelView
+abbrev model : List BodyView → Bool → ModelView
 model bodies fold = model_of (param_a ∷ param_b ∷ param_c ∷ param_d ∷ []) bodies fold
 
 -- a partial row by its four places
@@ -82,8 +78,8 @@ b_is v = cells None (Some v) None None
 abbrev nothing : List (Option ℕ)
 nothing = cells None None None None
 
-abbrev one : terms.Term → Body
-one term = Plain (preds.Term term)
+abbrev one : terms.Term → BodyView
+one term = Plain (Leaf term)
 
 -- 2.5 and 9 scaled by 10^9
 abbrev two_and_a_half : Literal
@@ -93,8 +89,8 @@ abbrev nine : Literal
 nine = Number (pos 9000000000)
 
 -- what is known of each constraint on its cells
-abbrev truths : Bool → List (Body × List (Option ℕ)) → List Truth
-truths fold cases = map (λ (c : Body × List (Option ℕ)). body_truth (model [] fold) c.0 c.1) cases
+abbrev truths : Bool → List (BodyView × List (Option ℕ)) → List Truth
+truths fold cases = map (λ (c : BodyView × List (Option ℕ)). body_truth (model [] fold) c.0 c.1) cases
 
 -- numbers are compared as numbers: 1, 2.50, 10 and -3 with 2.5, and 10 with 9
 pub numbers : truths true (
@@ -150,29 +146,29 @@ pub signs : truths true (
 signs = refl
 
 -- with A at its negative value and nothing else assigned these are known to hold, known not to, and unknown
-abbrev holds : preds.Pred
-holds = preds.Term (Negative 0)
+abbrev holds : PredView
+holds = Leaf (Negative 0)
 
-abbrev fails : preds.Pred
-fails = preds.Term (Positive 0)
+abbrev fails : PredView
+fails = Leaf (Positive 0)
 
-abbrev open_term : preds.Pred
-open_term = preds.Term (Negative 1)
+abbrev open_term : PredView
+open_term = Leaf (Negative 1)
 
-abbrev predicates : List Body → List Truth
+abbrev predicates : List BodyView → List Truth
 predicates bodies = map (λ body. body_truth (model [] true) body (a_is 3)) bodies
 
-pub nots : (pointer : _) → predicates (Plain (Not' pointer holds) ∷ Plain (Not' pointer fails) ∷ Plain (Not' pointer open_term) ∷ []) ≡ No ∷ Yes ∷ Unknown ∷ []
-nots pointer = refl
+pub nots : predicates (Plain (Negated holds) ∷ Plain (Negated fails) ∷ Plain (Negated open_term) ∷ []) ≡ No ∷ Yes ∷ Unknown ∷ []
+nots = refl
 
 -- parts with the values of each kind; what is known of them, as parts of All and of Any
-pub alls : map (λ parts. all_truths (model [] true) parts (a_is 3)) (
-    [] ∷ (holds ∷ holds ∷ []) ∷ (holds ∷ open_term ∷ []) ∷ (open_term ∷ fails ∷ []) ∷ (fails ∷ open_term ∷ []) ∷ [])
+pub alls : map (λ parts. all_truth (model [] true) parts (a_is 3)) (
+    End ∷ More holds (More holds End) ∷ More holds (More open_term End) ∷ More open_term (More fails End) ∷ More fails (More open_term End) ∷ [])
     ≡ Yes ∷ Yes ∷ Unknown ∷ No ∷ No ∷ []
 alls = refl
 
-pub anys : map (λ parts. any_truths (model [] true) parts (a_is 3)) (
-    [] ∷ (fails ∷ fails ∷ []) ∷ (fails ∷ open_term ∷ []) ∷ (open_term ∷ holds ∷ []) ∷ (holds ∷ open_term ∷ []) ∷ [])
+pub anys : map (λ parts. any_truth (model [] true) parts (a_is 3)) (
+    End ∷ More fails (More fails End) ∷ More fails (More open_term End) ∷ More open_term (More holds End) ∷ More holds (More open_term End) ∷ [])
     ≡ No ∷ No ∷ Unknown ∷ Yes ∷ Yes ∷ []
 anys = refl
 

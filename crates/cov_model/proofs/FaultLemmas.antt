@@ -4,7 +4,8 @@ use Rattle.std.specs.Option.{option_to_list}
 use Rattle.std.specs.List.{filter, list_all, range_with_len}
 use Rattle.std.proofs.Math.Seq.{drop-cons}
 use Rattle.std.proofs.lemmas.Grind.{common_steps}
-use Rattle.cov_model.specs.declared.constraint.Rule.{Rule}
+use Rattle.cov_model.specs.Views.{RuleView}
+use Rattle.cov_model.specs.declared.row_fault.RowWhy.TheVariants.{Rule}
 use Rattle.cov_model.specs.Sound.{ModelView}
 use Rattle.cov_model.specs.Meaning.{body_holds}
 use Rattle.cov_model.specs.Valid.{is_row, is_valid, negatives}
@@ -51,7 +52,7 @@ is_none-find : {X : Type 0} (test : X → Bool) (xs : List X) → is_none (find 
 is_none-find test [] = refl
 is_none-find test (x ∷ xs) = none_or (test x) x (find (λ y. not (test y)) xs) (list_all test xs) (is_none-find test xs)
 
-is_none-fault_of : (o : Option Rule) (params : List ℕ) → is_none (fault_of o params) ≡ (is_none o && nat_le (length params) 1)
+is_none-fault_of : (o : Option RuleView) (params : List ℕ) → is_none (fault_of o params) ≡ (is_none o && nat_le (length params) 1)
 is_none-fault_of (Some rule) params = refl
 is_none-fault_of None [] = refl
 is_none-fault_of None (p ∷ []) = refl
@@ -68,3 +69,11 @@ is_none-row_fault m row complete =
 pub unless_passed : (b : Bool) (v : ℕ) → cond b (Some v) None ≡ None → b ≡ false
 unless_passed true v none = absurd cc
 unless_passed false v none = refl
+
+-- a false constraint before which none is false is the fault
+pub false_rule : (m : ModelView) (row : List (Option ℕ)) (i : ℕ) (d : RuleView) → i < length m.rules → body_holds m (get_or m.rules i d).body row ≡ false
+    → find (λ rule. not (body_holds m rule.body row)) m.rules ≡ find (λ rule. not (body_holds m rule.body row)) (drop i m.rules)
+    → row_fault m row ≡ Some (Rule (get_or m.rules i d).number)
+false_rule m row i d within fails before =
+    ap (λ o. fault_of o (negatives m row)) (before ∙ ap (find (λ rule. not (body_holds m rule.body row))) (drop-cons m.rules i d within)
+    ∙ ap (λ b. cond (not b) (Some (get_or m.rules i d)) (find (λ rule. not (body_holds m rule.body row)) (drop (suc i) m.rules))) fails)

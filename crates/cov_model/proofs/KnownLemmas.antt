@@ -1,16 +1,14 @@
 -- What is known on a partial row is so on every row that contains it.
-use Rattle.std.proofs.Common.{◌≡◌, ℕ, Bool, true, false, ◌&&◌, ◌||◌, not, if◌then◌else◌, List, [], ◌∷◌, Option, unwrap_or, ◌∙◌, sym, ap, subst, refl}
+use Rattle.std.proofs.Common.{◌≡◌, ℕ, Bool, true, false, ◌&&◌, ◌||◌, not, if◌then◌else◌, List, [], ◌∷◌, Option, ◌∙◌, sym, ap, subst, refl}
 use Rattle.std.specs.List.{list_all, list_any}
 use Rattle.std.specs.Ordering.{is_eq}
-use Rattle.std.proofs.lemmas.Bool.{false≢true}
+use Rattle.std.proofs.lemmas.Bool.{and_parts}
 use Rattle.cov_model.specs.declared.truth.Truth.{Truth}
 use Rattle.cov_model.specs.declared.truth.Truth.TheVariants.{Yes, No, Unknown}
-use Rattle.cov_model.specs.declared.constraint.Body.{Body}
-use Rattle.cov_model.specs.declared.constraint.Body.TheVariants.{Plain, IfThen, IfElse}
 use Rattle.cov_model.specs.declared.parameter.Value.{Value}
 use Rattle.cov_model.specs.declared.constraint.Term as terms
 use Rattle.cov_model.specs.declared.constraint.Term.TheVariants.{ValueIs, ParamIs, OneOf, Like, Negative, Positive}
-use Rattle.cov_model.specs.declared.constraint.Pred.{Pred, Term, Not', All', Any', Row_of-Pred, end_of-Pred, more_of-Pred}
+use Rattle.cov_model.specs.Views.{PredView, PredViews, Leaf, Negated, Each, Either, End, More, BodyView, Plain, IfThen, IfElse}
 use Rattle.value_text.specs.Like.{is_like}
 use Rattle.cov_model.specs.Sound.{ModelView, IsSoundTerm, IsSoundPred, AreSoundPreds, param_at, first_name}
 use Rattle.cov_model.specs.Rows.{contains, is_assigned}
@@ -18,7 +16,8 @@ use Rattle.cov_model.specs.Meaning.{given_value, value_at, operand, operand_of, 
 use Rattle.cov_model.specs.Kleene.{known, not_of, and_of, or_of, term_params, term_truth, pred_truth, all_truth, any_truth, body_truth}
 use Rattle.cov_model.specs.Valid.{is_row}
 use Rattle.cov_model.specs.Laws.{NoStays, YesStays, RowsAreKnown}
-use Rattle.cov_model.proofs.RowLemmas.{contains-get_or, row_is_assigned}
+use Rattle.cov_model.proofs.CellLemmas.{contains-value_in}
+use Rattle.cov_model.proofs.RowLemmas.{row_is_assigned}
 
 -- what is known of a fact is so
 abbrev Agrees : Truth → Bool → Type 0
@@ -55,32 +54,28 @@ agree_or Unknown Unknown x y h k = tt
 given_value-contains : (m : ModelView) (cells row : List (Option ℕ)) (p : ℕ) → contains row cells ≡ true → is_assigned cells p ≡ true
     → given_value m cells p ≡ given_value m row p
 given_value-contains m cells row p contained assigned =
-    ap (λ (cell : Option ℕ). value_at m p (unwrap_or cell 0)) (sym (contains-get_or row cells p contained assigned))
-
-both : (a b : Bool) → (a && b) ≡ true → (a ≡ true) × (b ≡ true)
-both true b h = (refl, h)
-both false b h = absurd (false≢true h)
+    ap (value_at m p) (sym (contains-value_in row cells p contained assigned))
 
 -- a term whose parameters are assigned holds on a row that contains the partial row where it holds there
 term_holds-contains : (m : ModelView) (term : terms.Term) (cells row : List (Option ℕ)) → contains row cells ≡ true
     → list_all (λ p. is_assigned cells p) (term_params term) ≡ true → term_holds m term cells ≡ term_holds m term row
 term_holds-contains m (ValueIs p rel literal) cells row contained assigned =
     ap (λ (value : Value). stands_in rel (literal_order m.fold (operand_of (param_at m.params p).numeric (first_name value)) literal))
-    (given_value-contains m cells row p contained (both _ _ assigned).0)
+    (given_value-contains m cells row p contained (and_parts _ _ assigned).0)
 term_holds-contains m (ParamIs p rel q) cells row contained assigned =
     ap (λ (value : Value). stands_in rel (literal_order m.fold (operand_of (param_at m.params p).numeric (first_name value)) (operand m cells q)))
-    (given_value-contains m cells row p contained (both _ _ assigned).0)
+    (given_value-contains m cells row p contained (and_parts _ _ assigned).0)
     ∙ ap (λ (value : Value). stands_in rel (literal_order m.fold (operand m row p) (operand_of (param_at m.params q).numeric (first_name value))))
-    (given_value-contains m cells row q contained (both _ _ (both _ _ assigned).1).0)
+    (given_value-contains m cells row q contained (and_parts _ _ (and_parts _ _ assigned).1).0)
 term_holds-contains m (OneOf p literals) cells row contained assigned =
     ap (λ (value : Value). list_any (λ literal. is_eq (literal_order m.fold (operand_of (param_at m.params p).numeric (first_name value)) literal)) literals)
-    (given_value-contains m cells row p contained (both _ _ assigned).0)
+    (given_value-contains m cells row p contained (and_parts _ _ assigned).0)
 term_holds-contains m (Like p pattern) cells row contained assigned =
-    ap (λ (value : Value). is_like m.fold pattern (first_name value)) (given_value-contains m cells row p contained (both _ _ assigned).0)
+    ap (λ (value : Value). is_like m.fold pattern (first_name value)) (given_value-contains m cells row p contained (and_parts _ _ assigned).0)
 term_holds-contains m (Negative p) cells row contained assigned =
-    ap (λ (value : Value). value.negative) (given_value-contains m cells row p contained (both _ _ assigned).0)
+    ap (λ (value : Value). value.negative) (given_value-contains m cells row p contained (and_parts _ _ assigned).0)
 term_holds-contains m (Positive p) cells row contained assigned =
-    ap (λ (value : Value). not value.negative) (given_value-contains m cells row p contained (both _ _ assigned).0)
+    ap (λ (value : Value). not value.negative) (given_value-contains m cells row p contained (and_parts _ _ assigned).0)
 
 agree_term : (m : ModelView) (term : terms.Term) (cells row : List (Option ℕ)) → contains row cells ≡ true
     → Agrees (term_truth m term cells) (term_holds m term row)
@@ -89,29 +84,29 @@ agree_term m term cells row contained =
     (term_holds-contains m term cells row contained)
 
 mutual
-  agree_pred : (m : ModelView) (pred : Pred) (cells row : List (Option ℕ)) → contains row cells ≡ true
+  agree_pred : (m : ModelView) (pred : PredView) (cells row : List (Option ℕ)) → contains row cells ≡ true
       → Agrees (pred_truth m pred cells) (pred_holds m pred row)
-  agree_pred m (Term term) cells row contained = agree_term m term cells row contained
-  agree_pred m (Not' pointer inner) cells row contained =
+  agree_pred m (Leaf term) cells row contained = agree_term m term cells row contained
+  agree_pred m (Negated inner) cells row contained =
       agree_not (pred_truth m inner cells) (pred_holds m inner row) (agree_pred m inner cells row contained)
-  agree_pred m (All' n parts) cells row contained = agree_all m parts cells row contained
-  agree_pred m (Any' n parts) cells row contained = agree_any m parts cells row contained
+  agree_pred m (Each parts) cells row contained = agree_all m parts cells row contained
+  agree_pred m (Either parts) cells row contained = agree_any m parts cells row contained
 
-  agree_all : {n : _} (m : ModelView) (parts : Row_of-Pred n) (cells row : List (Option ℕ)) → contains row cells ≡ true
+  agree_all : (m : ModelView) (parts : PredViews) (cells row : List (Option ℕ)) → contains row cells ≡ true
       → Agrees (all_truth m parts cells) (all_hold m parts row)
-  agree_all m end_of-Pred cells row contained = refl
-  agree_all m (more_of-Pred part rest) cells row contained =
+  agree_all m End cells row contained = refl
+  agree_all m (More part rest) cells row contained =
       agree_and (pred_truth m part cells) (all_truth m rest cells) (pred_holds m part row) (all_hold m rest row)
       (agree_pred m part cells row contained) (agree_all m rest cells row contained)
 
-  agree_any : {n : _} (m : ModelView) (parts : Row_of-Pred n) (cells row : List (Option ℕ)) → contains row cells ≡ true
+  agree_any : (m : ModelView) (parts : PredViews) (cells row : List (Option ℕ)) → contains row cells ≡ true
       → Agrees (any_truth m parts cells) (any_holds m parts row)
-  agree_any m end_of-Pred cells row contained = refl
-  agree_any m (more_of-Pred part rest) cells row contained =
+  agree_any m End cells row contained = refl
+  agree_any m (More part rest) cells row contained =
       agree_or (pred_truth m part cells) (any_truth m rest cells) (pred_holds m part row) (any_holds m rest row)
       (agree_pred m part cells row contained) (agree_any m rest cells row contained)
 
-agree_body : (m : ModelView) (body : Body) (cells row : List (Option ℕ)) → contains row cells ≡ true
+agree_body : (m : ModelView) (body : BodyView) (cells row : List (Option ℕ)) → contains row cells ≡ true
     → Agrees (body_truth m body cells) (body_holds m body row)
 agree_body m (Plain pred) cells row contained = agree_pred m pred cells row contained
 agree_body m (IfThen premise pred) cells row contained =
@@ -174,25 +169,25 @@ known_term m term row sound complete =
     ap (λ (b : Bool). if b then known (term_holds m term row) else Unknown) (term_assigned m term row sound complete)
 
 mutual
-  known_pred : (m : ModelView) (pred : Pred) (row : List (Option ℕ)) → IsSoundPred m.params pred → is_row m row ≡ true
+  known_pred : (m : ModelView) (pred : PredView) (row : List (Option ℕ)) → IsSoundPred m.params pred → is_row m row ≡ true
       → pred_truth m pred row ≡ known (pred_holds m pred row)
-  known_pred m (Term term) row sound complete = known_term m term row sound complete
-  known_pred m (Not' pointer inner) row sound complete =
+  known_pred m (Leaf term) row sound complete = known_term m term row sound complete
+  known_pred m (Negated inner) row sound complete =
       not_known (pred_truth m inner row) (pred_holds m inner row) (known_pred m inner row sound complete)
-  known_pred m (All' n parts) row sound complete = known_all m parts row sound complete
-  known_pred m (Any' n parts) row sound complete = known_any m parts row sound complete
+  known_pred m (Each parts) row sound complete = known_all m parts row sound complete
+  known_pred m (Either parts) row sound complete = known_any m parts row sound complete
 
-  known_all : {n : _} (m : ModelView) (parts : Row_of-Pred n) (row : List (Option ℕ)) → AreSoundPreds m.params parts → is_row m row ≡ true
+  known_all : (m : ModelView) (parts : PredViews) (row : List (Option ℕ)) → AreSoundPreds m.params parts → is_row m row ≡ true
       → all_truth m parts row ≡ known (all_hold m parts row)
-  known_all m end_of-Pred row sound complete = refl
-  known_all m (more_of-Pred part rest) row sound complete =
+  known_all m End row sound complete = refl
+  known_all m (More part rest) row sound complete =
       and_known (pred_truth m part row) (all_truth m rest row) (pred_holds m part row) (all_hold m rest row)
       (known_pred m part row sound.0 complete) (known_all m rest row sound.1 complete)
 
-  known_any : {n : _} (m : ModelView) (parts : Row_of-Pred n) (row : List (Option ℕ)) → AreSoundPreds m.params parts → is_row m row ≡ true
+  known_any : (m : ModelView) (parts : PredViews) (row : List (Option ℕ)) → AreSoundPreds m.params parts → is_row m row ≡ true
       → any_truth m parts row ≡ known (any_holds m parts row)
-  known_any m end_of-Pred row sound complete = refl
-  known_any m (more_of-Pred part rest) row sound complete =
+  known_any m End row sound complete = refl
+  known_any m (More part rest) row sound complete =
       or_known (pred_truth m part row) (any_truth m rest row) (pred_holds m part row) (any_holds m rest row)
       (known_pred m part row sound.0 complete) (known_any m rest row sound.1 complete)
 

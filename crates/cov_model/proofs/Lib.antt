@@ -1,5 +1,6 @@
 pub mod SoundLemmas
 pub mod TruthLemmas
+pub mod CellLemmas
 pub mod RowLemmas
 pub mod KnownLemmas
 pub mod FaultLemmas

@@ -25,7 +25,8 @@ IsPermutation-shuffled_to (suc i) values generator within =
 
 IsPermutation-insert_by_weight : (weight : ℕ → ℕ) (v : ℕ) (ys : List ℕ) → IsPermutation (v ∷ ys) (insert_by_weight weight v ys)
 IsPermutation-insert_by_weight weight v [] = IsPermutation-refl (v ∷ [])
-IsPermutation-insert_by_weight weight v (w ∷ rest) = either (nat_le (weight w) (weight v)) (insert_by_weight weight v rest) (IsPermutation-insert_by_weight weight v rest)
+IsPermutation-insert_by_weight weight v (w ∷ rest) =
+    either (nat_le (weight w) (weight v)) (insert_by_weight weight v rest) (IsPermutation-insert_by_weight weight v rest)
   where
     either : (b : Bool) (inserted : List ℕ) → IsPermutation (v ∷ rest) inserted → IsPermutation (v ∷ w ∷ rest) (if b then v ∷ w ∷ rest else w ∷ inserted)
     either true inserted later = IsPermutation-refl (v ∷ w ∷ rest)

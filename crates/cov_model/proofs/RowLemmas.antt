@@ -1,30 +1,16 @@
--- Rows and the partial rows that they contain.
-use Rattle.std.proofs.Common.{◌≡◌, ℕ, zero, suc, ◌<◌, true, List, [], ◌∷◌, length, Option, Some, None, get_or, ◌∙◌, sym, ap, arith, zero-add}
-use Rattle.std.proofs.lemmas.Bool.{false≢true}
+-- Rows give each parameter a value that exists.
+use Rattle.std.proofs.Common.{◌≡◌, ℕ, ◌<◌, true, List, length, Option, ◌∙◌, sym, ap, arith, zero-add}
 use Rattle.std.specs.List.{list_all}
 use Rattle.std.proofs.lemmas.List.Elements.{All-get_or}
 use Rattle.std.proofs.lemmas.List.Sums.{AllPass-from_list_all}
 use Rattle.std.proofs.lemmas.List.FromFn.{length-range_with_len, get_or-range_with_len}
 use Rattle.std.proofs.lemmas.Grind.{common_steps}
 use Rattle.cov_model.specs.Sound.{ModelView}
-use Rattle.cov_model.specs.Rows.{contains, is_assigned}
+use Rattle.cov_model.specs.Rows.{is_assigned}
 use Rattle.cov_model.specs.Fits.{FitsModel}
 use Rattle.cov_model.specs.Valid.{is_row, has_value, param_numbers}
-
--- a row gives what a partial row gives that it contains
-pub contains-get_or : (row cells : List (Option ℕ)) (p : ℕ) → contains row cells ≡ true → is_assigned cells p ≡ true
-    → get_or row p None ≡ get_or cells p None
-contains-get_or row [] p contained assigned = absurd (false≢true assigned)
-contains-get_or [] (None ∷ cells) zero contained assigned = absurd (false≢true assigned)
-contains-get_or [] (Some v ∷ cells) zero contained assigned = absurd (false≢true contained)
-contains-get_or [] (None ∷ cells) (suc p) contained assigned = contains-get_or [] cells p contained assigned
-contains-get_or [] (Some v ∷ cells) (suc p) contained assigned = absurd (false≢true contained)
-contains-get_or (given ∷ row) (None ∷ cells) zero contained assigned = absurd (false≢true assigned)
-contains-get_or (given ∷ row) (None ∷ cells) (suc p) contained assigned = contains-get_or row cells p contained assigned
-contains-get_or (None ∷ row) (Some v ∷ cells) p contained assigned = absurd (false≢true contained)
-contains-get_or (Some w ∷ row) (Some v ∷ cells) zero contained assigned = grind (arith, common_steps)
-contains-get_or (Some w ∷ row) (Some v ∷ cells) (suc p) contained assigned =
-    contains-get_or row cells p (grind (arith, common_steps)) assigned
+use Rattle.cov_model.proofs.CellLemmas.{assigned_within}
+pub use Rattle.cov_model.proofs.CellLemmas.{contains-get_or}
 
 pub row_has_value : (m : ModelView) (row : List (Option ℕ)) (p : ℕ) → is_row m row ≡ true → p < length m.params → has_value m row p ≡ true
 row_has_value m row p complete within =
@@ -35,11 +21,6 @@ row_has_value m row p complete within =
 
 pub row_is_assigned : (m : ModelView) (row : List (Option ℕ)) (p : ℕ) → is_row m row ≡ true → p < length m.params → is_assigned row p ≡ true
 row_is_assigned m row p complete within = let has = row_has_value m row p complete within in grind (arith, common_steps)
-
-assigned_within : (cells : List (Option ℕ)) (p : ℕ) → is_assigned cells p ≡ true → p < length cells
-assigned_within [] p assigned = absurd (false≢true assigned)
-assigned_within (cell ∷ cells) zero assigned = omega arith
-assigned_within (cell ∷ cells) (suc p) assigned = let rest = assigned_within cells p assigned in omega arith
 
 -- a row fits
 pub FitsModel-is_row : (m : ModelView) (row : List (Option ℕ)) → is_row m row ≡ true → FitsModel m row

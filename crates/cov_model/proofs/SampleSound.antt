@@ -5,7 +5,7 @@ use Rattle.std.specs.List.{AllByRecursion}
 use Rattle.std.proofs.lemmas.Bool.{false≢true}
 use Rattle.std.proofs.lemmas.List.Elements.{All-from_recursion, All-push}
 use Rattle.std.proofs.lemmas.Grind.{common_steps}
-use Rattle.cov_model.specs.declared.constraint.Rule.{Rule}
+use Rattle.cov_model.specs.Views.{RuleView}
 use Rattle.cov_model.specs.declared.parameter.Param.{Param}
 use Rattle.value_text.specs.Texts.{is_same_text}
 use Rattle.cov_model.specs.Sound.{ModelView, IsSound, IsSoundParam, IsSoundValue, IsSoundGroup, IsSoundBody, param_at}
@@ -71,7 +71,7 @@ texts_sound = record {
   numeric = refl;
 }
 
-pub sample_sound : (rules : List Rule) → length rules ≤ 4096 → AreSampleRules rules → IsSound (sample_model rules)
+pub sample_sound : (rules : List RuleView) → length rules ≤ 4096 → AreSampleRules rules → IsSound (sample_model rules)
 sample_sound rules few are = record {
   some = omega arith;
   few = omega arith;
@@ -111,7 +111,7 @@ sample_row m a b same first second =
     (ap (λ k. k && (nat_lt b 2 && true)) first ∙ ap (λ k. k && true) second)
 
 -- one more constraint with the next number
-pub sample_rules-push : (rules : List Rule) (rule : Rule) → AreSampleRules rules → rule.number ≡ length rules + 1 → IsSoundBody sample_params rule.body
+pub sample_rules-push : (rules : List RuleView) (rule : RuleView) → AreSampleRules rules → rule.number ≡ length rules + 1 → IsSoundBody sample_params rule.body
     → AreSampleRules (rules ++ rule ∷ [])
 sample_rules-push rules rule are next sound = record {
   numbered = λ i d within. grind (arith, common_steps, are.numbered i d);

@@ -2,9 +2,10 @@
 use Rattle.std.proofs.Common.{◌≡◌, ℕ, suc, ◌<◌, ◌≤◌, Bool, true, false, not, ◌&&◌, cond, if◌then◌else◌, List, [], ◌∷◌, length, get_or, nat_eq, nat_le, filter, ◌∙◌, sym, ap, refl, arith, add-one}
 use Rattle.std.specs.Ordering.{is_lt, nat_cmp}
 use Rattle.std.specs.List.Sorted.{IsSortedBy, IsStableBy, ties}
-use Rattle.std.proofs.lemmas.Bool.{false≢true}
+use Rattle.std.proofs.lemmas.Bool.{false≢true, eqb-true}
 use Rattle.std.proofs.lemmas.Bool.Decides.{nat_tests}
 use Rattle.std.proofs.lemmas.List.Elements.{filter_agree}
+use Rattle.std.proofs.lemmas.Map.Keys.{ge_from_not_lt}
 use Rattle.cov_model.specs.Preference.{insert_by_weight, by_falling_weight}
 
 abbrev tied : (ℕ → ℕ) → ℕ → ℕ → Bool
@@ -12,9 +13,6 @@ tied weight x y = nat_eq (weight x) (weight y)
 
 itself : (weight : ℕ → ℕ) (x : ℕ) → tied weight x x ≡ true
 itself weight x = grind (arith, nat_tests)
-
-equal_weights : (m n : ℕ) → nat_eq m n ≡ true → m ≡ n
-equal_weights m n h = grind (arith, nat_tests)
 
 -- a choice between two lists
 choose : (P : List ℕ → Type 0) (b : Bool) (xs ys : List ℕ) → (b ≡ true → P xs) → (b ≡ false → P ys) → P (if b then xs else ys)
@@ -36,7 +34,8 @@ filter-insert_by_weight : (weight : ℕ → ℕ) (x v : ℕ) (ys : List ℕ)
     → filter (tied weight x) (insert_by_weight weight v ys) ≡ filter (tied weight x) (v ∷ ys)
 filter-insert_by_weight weight x v [] = refl
 filter-insert_by_weight weight x v (w ∷ rest) =
-    choose (λ l. filter (tied weight x) l ≡ filter (tied weight x) (v ∷ w ∷ rest)) (nat_le (weight w) (weight v)) (v ∷ w ∷ rest) (w ∷ insert_by_weight weight v rest)
+    choose (λ l. filter (tied weight x) l ≡ filter (tied weight x) (v ∷ w ∷ rest)) (nat_le (weight w) (weight v)) (v ∷ w ∷ rest)
+    (w ∷ insert_by_weight weight v rest)
     (λ lighter. refl)
     (λ heavier.
     passed_by (tied weight x v) (tied weight x w) v w (filter (tied weight x) (insert_by_weight weight v rest)) (filter (tied weight x) rest)
@@ -82,7 +81,8 @@ IsFalling-by_falling_weight : (weight : ℕ → ℕ) (xs : List ℕ) → IsFalli
 IsFalling-by_falling_weight weight [] = tt
 IsFalling-by_falling_weight weight (v ∷ rest) = IsFalling-insert weight v (by_falling_weight weight rest) (IsFalling-by_falling_weight weight rest)
 
-IsFalling-from_places : (weight : ℕ → ℕ) (ys : List ℕ) → ((k : ℕ) → suc k < length ys → weight (get_or ys (suc k) 0) ≤ weight (get_or ys k 0)) → IsFalling weight ys
+IsFalling-from_places : (weight : ℕ → ℕ) (ys : List ℕ) → ((k : ℕ) → suc k < length ys → weight (get_or ys (suc k) 0) ≤ weight (get_or ys k 0))
+    → IsFalling weight ys
 IsFalling-from_places weight [] steps = tt
 IsFalling-from_places weight (y ∷ []) steps = (tt, tt)
 IsFalling-from_places weight (y ∷ z ∷ rest) steps =
@@ -97,7 +97,7 @@ kept p z zs h = ap (λ (b : Bool). cond b (z ∷ filter p zs) (filter p zs)) h
 at_most_from_filter : (weight : ℕ → ℕ) (n x u : ℕ) (us ys : List ℕ) → AreAtMost weight n ys → filter (tied weight x) ys ≡ u ∷ us → weight x ≤ n
 at_most_from_filter weight n x u us [] h found = cc
 at_most_from_filter weight n x u us (y ∷ ys) h found =
-    at_first (tied weight x y) (λ same. omega (arith, equal_weights (weight x) (weight y) same, h.0))
+    at_first (tied weight x y) (λ same. omega (arith, eqb-true (weight x) (weight y) same, h.0))
     (λ there. at_most_from_filter weight n x u us ys h.1 there) found
   where
     at_first : (b : Bool) → (b ≡ true → weight x ≤ n) → (filter (tied weight x) ys ≡ u ∷ us → weight x ≤ n)
@@ -119,9 +119,11 @@ one_falling weight [] (z ∷ zs) falling also same = let h = same z ∙ kept (ti
 one_falling weight (y ∷ ys) [] falling also same = let h = sym (same y) ∙ kept (tied weight y) y ys (itself weight y) in cc
 one_falling weight (y ∷ ys) (z ∷ zs) falling also same =
     let below : weight z ≤ weight y =
-    at_most_from_filter weight (weight y) z z (filter (tied weight z) zs) (y ∷ ys) (omega arith, falling.0) (same z ∙ kept (tied weight z) z zs (itself weight z)) in
+    at_most_from_filter weight (weight y) z z (filter (tied weight z) zs) (y ∷ ys) (omega arith, falling.0)
+    (same z ∙ kept (tied weight z) z zs (itself weight z)) in
     let above : weight y ≤ weight z =
-    at_most_from_filter weight (weight z) y y (filter (tied weight y) ys) (z ∷ zs) (omega arith, also.0) (sym (same y) ∙ kept (tied weight y) y ys (itself weight y)) in
+    at_most_from_filter weight (weight z) y y (filter (tied weight y) ys) (z ∷ zs) (omega arith, also.0)
+    (sym (same y) ∙ kept (tied weight y) y ys (itself weight y)) in
     let equal : weight y ≡ weight z = omega arith in
     let firsts = sym (kept (tied weight y) y ys (itself weight y)) ∙ same y
     ∙ kept (tied weight y) z zs (sym (ap (λ (n : ℕ). nat_eq (weight y) n) equal) ∙ itself weight y) in
@@ -137,16 +139,13 @@ is_heavier weight x y = is_lt (nat_cmp (weight y) (weight x))
 ties_by_number : (m n : ℕ) → (not (is_lt (nat_cmp n m)) && not (is_lt (nat_cmp m n))) ≡ nat_eq m n
 ties_by_number m n = grind (arith, nat_tests)
 
-no_higher : (m n : ℕ) → is_lt (nat_cmp m n) ≡ false → n ≤ m
-no_higher m n h = grind (arith, nat_tests)
-
 -- what std's stable sort gives
 pub by_falling_weight-sort : (weight : ℕ → ℕ) (xs ys : List ℕ) → IsSortedBy (is_heavier weight) ys → IsStableBy (is_heavier weight) xs ys
     → ys ≡ by_falling_weight weight xs
 by_falling_weight-sort weight xs ys sorted stable =
     one_falling weight ys (by_falling_weight weight xs)
     (IsFalling-from_places weight ys (λ k within.
-    no_higher (weight (get_or ys k 0)) (weight (get_or ys (suc k) 0))
+    ge_from_not_lt (weight (get_or ys k 0)) (weight (get_or ys (suc k) 0))
     (ap (λ (j : ℕ). is_lt (nat_cmp (weight (get_or ys k 0)) (weight (get_or ys j 0)))) (sym (add-one k)) ∙ sorted k 0 (omega arith) (omega arith))))
     (IsFalling-by_falling_weight weight xs)
     (λ x.

@@ -1,59 +1,19 @@
--- Predicates over rows of parts and over lists of parts.
-use mathlib.Core.Former.{Count}
-use Rattle.std.proofs.Common.{◌≡◌, ℕ, Bool, true, false, ◌&&◌, if◌then◌else◌, ◌∙◌, sym, ap, subst, refl, List, Option, All}
+-- What is known of IN lists, and the views of predicates and of constraints.
+use Rattle.std.proofs.Common.{◌≡◌, ℕ, Bool, true, false, ◌&&◌, if◌then◌else◌, ◌∙◌, sym, ap, subst, List, [], ◌∷◌, Option, All}
+use Rattle.std.proofs.lemmas.List.Elements.{All-nil, All-cons, All-head, All-tail}
 use Rattle.std.specs.List.{list_any}
 use Rattle.std.specs.Ordering.{is_eq}
-use Rattle.std.proofs.lemmas.List.Elements.{All-nil, All-cons, All-head, All-tail}
-use Rattle.cov_model.specs.declared.constraint.Pred as preds
-use Rattle.cov_model.specs.declared.constraint.Pred.{Pred, Term, Not', All', Any', Row_of-Pred, end_of-Pred, more_of-Pred, items-the_row-Pred, items_hidden-the_row-Pred-0}
 use Rattle.cov_model.specs.declared.truth.Truth.TheVariants.{No, Unknown}
 use Rattle.cov_model.specs.declared.constraint.Literal.{Literal}
 use Rattle.cov_model.specs.declared.constraint.Term.TheVariants.{OneOf}
+use Rattle.cov_model.specs.declared.constraint.Pred.{Pred}
+use Rattle.cov_model.specs.declared.constraint.Pred as preds
 use Rattle.cov_model.specs.declared.parameter.Param.{Param}
+use Rattle.cov_model.specs.Views.{pred_view, preds_in, each_is, either_is}
 use Rattle.cov_model.specs.Sound.{ModelView, IsSoundPred, AreSoundPreds, param_at, first_name}
 use Rattle.cov_model.specs.Rows.{is_assigned}
 use Rattle.cov_model.specs.Meaning.{given_value, operand, operand_of, literal_order, term_holds}
-use Rattle.cov_model.specs.Kleene.{known, term_truth, pred_truth, all_truth, any_truth, all_truths, any_truths, and_of, or_of}
-
--- the parts of a predicate as the row that holds them
-abbrev row_of : Pred → (n : Count) × Row_of-Pred n
-row_of (All' _ row) = (_, row)
-row_of (Any' _ row) = (_, row)
-row_of _ = (_, end_of-Pred)
-
-all_rows : {n : _} (m : ModelView) (parts : Row_of-Pred n) (cells : List (Option ℕ))
-    → all_truth m parts cells ≡ all_truths m (items-the_row-Pred n parts) cells
-all_rows m end_of-Pred cells = refl
-all_rows m (more_of-Pred part rest) cells = ap (λ truth. and_of (pred_truth m part cells) truth) (all_rows m rest cells)
-
-any_rows : {n : _} (m : ModelView) (parts : Row_of-Pred n) (cells : List (Option ℕ))
-    → any_truth m parts cells ≡ any_truths m (items-the_row-Pred n parts) cells
-any_rows m end_of-Pred cells = refl
-any_rows m (more_of-Pred part rest) cells = ap (λ truth. or_of (pred_truth m part cells) truth) (any_rows m rest cells)
-
-pub pred_truth-All : (m : ModelView) (parts : List Pred) (cells : List (Option ℕ))
-    → pred_truth m (preds.All parts) cells ≡ all_truths m parts cells
-pred_truth-All m parts cells =
-    all_rows m (row_of (preds.All parts)).1 cells ∙ ap (λ list. all_truths m list cells) (items_hidden-the_row-Pred-0 parts)
-
-pub pred_truth-Any : (m : ModelView) (parts : List Pred) (cells : List (Option ℕ))
-    → pred_truth m (preds.Any parts) cells ≡ any_truths m parts cells
-pred_truth-Any m parts cells =
-    any_rows m (row_of (preds.Any parts)).1 cells ∙ ap (λ list. any_truths m list cells) (items_hidden-the_row-Pred-0 parts)
-
-sound_rows : {n : _} (params : List Param) (parts : Row_of-Pred n)
-    → AreSoundPreds params parts → All (IsSoundPred params) (items-the_row-Pred n parts)
-sound_rows params end_of-Pred sound = All-nil (IsSoundPred params)
-sound_rows params (more_of-Pred part rest) sound =
-    All-cons (IsSoundPred params) part (items-the_row-Pred _ rest) sound.0 (sound_rows params rest sound.1)
-
-pub IsSoundPred-All : (params : List Param) (parts : List Pred) → IsSoundPred params (preds.All parts) → All (IsSoundPred params) parts
-IsSoundPred-All params parts sound =
-    subst (λ list. All (IsSoundPred params) list) (items_hidden-the_row-Pred-0 parts) (sound_rows params (row_of (preds.All parts)).1 sound)
-
-pub IsSoundPred-Any : (params : List Param) (parts : List Pred) → IsSoundPred params (preds.Any parts) → All (IsSoundPred params) parts
-IsSoundPred-Any params parts sound =
-    subst (λ list. All (IsSoundPred params) list) (items_hidden-the_row-Pred-0 parts) (sound_rows params (row_of (preds.Any parts)).1 sound)
+use Rattle.cov_model.specs.Kleene.{known, term_truth, pred_truth, all_truth, any_truth}
 
 -- no literal of an IN list equals the value
 pub term_truth-OneOf_none : (m : ModelView) (p : ℕ) (literals : List Literal) (cells : List (Option ℕ)) (numeric : Bool) (name : List ℕ)
@@ -66,17 +26,36 @@ term_truth-OneOf_none m p literals cells numeric name assigned same_kind same_na
     (subst (λ (k : Bool). list_any (λ literal. is_eq (literal_order m.fold (operand_of k name) literal)) literals ≡ false) same_kind none) in
     sym (ap (λ (b : Bool). if b && true then known (term_holds m (OneOf p literals) cells) else Unknown) assigned ∙ ap known found)
 
-rows_sound : {n : _} (params : List Param) (parts : Row_of-Pred n)
-    → All (IsSoundPred params) (items-the_row-Pred n parts) → AreSoundPreds params parts
-rows_sound params end_of-Pred sound = tt
-rows_sound params (more_of-Pred part rest) sound =
-    (All-head (IsSoundPred params) part (items-the_row-Pred _ rest) sound, rows_sound params rest (All-tail (IsSoundPred params) part (items-the_row-Pred _ rest) sound))
+parts_sound : (params : List Param) (parts : List Pred) → AreSoundPreds params (preds_in parts) → All (λ part. IsSoundPred params (pred_view part)) parts
+parts_sound params [] sound = All-nil (λ part. IsSoundPred params (pred_view part))
+parts_sound params (part ∷ parts) sound = All-cons (λ part. IsSoundPred params (pred_view part)) part parts sound.0 (parts_sound params parts sound.1)
+
+pub each_sound : (params : List Param) (pred : Pred) (parts : List Pred) → pred ≡ preds.All parts → IsSoundPred params (pred_view pred)
+    → All (λ part. IsSoundPred params (pred_view part)) parts
+each_sound params pred parts is sound = parts_sound params parts (subst (IsSoundPred params) (ap pred_view is ∙ each_is parts) sound)
+
+pub either_sound : (params : List Param) (pred : Pred) (parts : List Pred) → pred ≡ preds.Any parts → IsSoundPred params (pred_view pred)
+    → All (λ part. IsSoundPred params (pred_view part)) parts
+either_sound params pred parts is sound = parts_sound params parts (subst (IsSoundPred params) (ap pred_view is ∙ either_is parts) sound)
+
+pub each_truth : (m : ModelView) (pred : Pred) (parts : List Pred) (cells : List (Option ℕ)) → pred ≡ preds.All parts
+    → pred_truth m (pred_view pred) cells ≡ all_truth m (preds_in parts) cells
+each_truth m pred parts cells is = ap (λ view. pred_truth m view cells) (ap pred_view is ∙ each_is parts)
+
+pub either_truth : (m : ModelView) (pred : Pred) (parts : List Pred) (cells : List (Option ℕ)) → pred ≡ preds.Any parts
+    → pred_truth m (pred_view pred) cells ≡ any_truth m (preds_in parts) cells
+either_truth m pred parts cells is = ap (λ view. pred_truth m view cells) (ap pred_view is ∙ either_is parts)
+
+sound_parts : (params : List Param) (parts : List Pred) → All (λ part. IsSoundPred params (pred_view part)) parts → AreSoundPreds params (preds_in parts)
+sound_parts params [] sound = tt
+sound_parts params (part ∷ parts) sound =
+    (All-head (λ pred. IsSoundPred params (pred_view pred)) part parts sound, sound_parts params parts (All-tail (λ pred. IsSoundPred params (pred_view pred)) part parts sound))
 
 -- and the other way
-pub IsSoundPred-from_All : (params : List Param) (parts : List Pred) → All (IsSoundPred params) parts → IsSoundPred params (preds.All parts)
-IsSoundPred-from_All params parts sound =
-    rows_sound params (row_of (preds.All parts)).1 (subst (λ list. All (IsSoundPred params) list) (sym (items_hidden-the_row-Pred-0 parts)) sound)
+pub sound_each : (params : List Param) (parts : List Pred) → All (λ part. IsSoundPred params (pred_view part)) parts
+    → IsSoundPred params (pred_view (preds.All parts))
+sound_each params parts sound = subst (IsSoundPred params) (sym (each_is parts)) (sound_parts params parts sound)
 
-pub IsSoundPred-from_Any : (params : List Param) (parts : List Pred) → All (IsSoundPred params) parts → IsSoundPred params (preds.Any parts)
-IsSoundPred-from_Any params parts sound =
-    rows_sound params (row_of (preds.Any parts)).1 (subst (λ list. All (IsSoundPred params) list) (sym (items_hidden-the_row-Pred-0 parts)) sound)
+pub sound_either : (params : List Param) (parts : List Pred) → All (λ part. IsSoundPred params (pred_view part)) parts
+    → IsSoundPred params (pred_view (preds.Any parts))
+sound_either params parts sound = subst (IsSoundPred params) (sym (either_is parts)) (sound_parts params parts sound)

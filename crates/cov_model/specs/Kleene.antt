@@ -4,11 +4,9 @@ use Rattle.std.specs.Prelude.{ℕ, Bool, true, false, List, [], ◌∷◌, Optio
 use Rattle.std.specs.List.{list_all}
 use Rattle.cov_model.specs.declared.truth.Truth.{Truth}
 use Rattle.cov_model.specs.declared.truth.Truth.TheVariants.{Yes, No, Unknown}
-use Rattle.cov_model.specs.declared.constraint.Body.{Body}
-use Rattle.cov_model.specs.declared.constraint.Body.TheVariants.{Plain, IfThen, IfElse}
 use Rattle.cov_model.specs.declared.constraint.Term as terms
 use Rattle.cov_model.specs.declared.constraint.Term.TheVariants.{ValueIs, ParamIs, OneOf, Like, Negative, Positive}
-use Rattle.cov_model.specs.declared.constraint.Pred.{Pred, Term, Not', All', Any', Row_of-Pred, end_of-Pred, more_of-Pred}
+use Rattle.cov_model.specs.Views.{PredView, PredViews, Leaf, Negated, Each, Either, End, More, BodyView, Plain, IfThen, IfElse}
 use Rattle.cov_model.specs.Sound.{ModelView}
 use Rattle.cov_model.specs.Rows.{is_assigned}
 use Rattle.cov_model.specs.Meaning.{term_holds}
@@ -53,31 +51,22 @@ term_truth m term cells =
 
 -- what is known of a predicate
 abbrev mutual
-  pub pred_truth : ModelView → Pred → List (Option ℕ) → Truth
-  pred_truth m (Term term) cells = term_truth m term cells
-  pred_truth m (Not' pointer inner) cells = not_of (pred_truth m inner cells)
-  pred_truth m (All' n parts) cells = all_truth m parts cells
-  pred_truth m (Any' n parts) cells = any_truth m parts cells
+  pub pred_truth : ModelView → PredView → List (Option ℕ) → Truth
+  pred_truth m (Leaf term) cells = term_truth m term cells
+  pred_truth m (Negated inner) cells = not_of (pred_truth m inner cells)
+  pred_truth m (Each parts) cells = all_truth m parts cells
+  pred_truth m (Either parts) cells = any_truth m parts cells
 
-  pub all_truth : {n : _} → ModelView → Row_of-Pred n → List (Option ℕ) → Truth
-  all_truth m end_of-Pred cells = Yes
-  all_truth m (more_of-Pred part rest) cells = and_of (pred_truth m part cells) (all_truth m rest cells)
+  pub all_truth : ModelView → PredViews → List (Option ℕ) → Truth
+  all_truth m End cells = Yes
+  all_truth m (More part rest) cells = and_of (pred_truth m part cells) (all_truth m rest cells)
 
-  pub any_truth : {n : _} → ModelView → Row_of-Pred n → List (Option ℕ) → Truth
-  any_truth m end_of-Pred cells = No
-  any_truth m (more_of-Pred part rest) cells = or_of (pred_truth m part cells) (any_truth m rest cells)
-
--- the same of a list of predicates: that each holds, and that some predicate holds
-abbrev pub all_truths : ModelView → List Pred → List (Option ℕ) → Truth
-all_truths m [] cells = Yes
-all_truths m (part ∷ parts) cells = and_of (pred_truth m part cells) (all_truths m parts cells)
-
-abbrev pub any_truths : ModelView → List Pred → List (Option ℕ) → Truth
-any_truths m [] cells = No
-any_truths m (part ∷ parts) cells = or_of (pred_truth m part cells) (any_truths m parts cells)
+  pub any_truth : ModelView → PredViews → List (Option ℕ) → Truth
+  any_truth m End cells = No
+  any_truth m (More part rest) cells = or_of (pred_truth m part cells) (any_truth m rest cells)
 
 -- what is known of a constraint
-abbrev pub body_truth : ModelView → Body → List (Option ℕ) → Truth
+abbrev pub body_truth : ModelView → BodyView → List (Option ℕ) → Truth
 body_truth m (Plain pred) cells = pred_truth m pred cells
 body_truth m (IfThen premise pred) cells = or_of (not_of (pred_truth m premise cells)) (pred_truth m pred cells)
 body_truth m (IfElse premise pred other) cells =

@@ -1,5 +1,7 @@
 pub mod Tuples
 pub mod Names
+pub mod Views
+pub mod Stored
 pub mod Sound
 pub mod Rows
 pub mod Fits

@@ -1,5 +1,4 @@
--- What constraints mean: on a row they hold or don't; on a partial row the three values of Kleene say
--- what is known. (PICT's guide.) Only the first name of a value counts.
+-- What constraints mean on a row: they hold or don't. (PICT's guide.) Only the first name of a value counts.
 use Rattle.std.specs.Prelude.{ℕ, ℤ, pos, Bool, true, false, ◌&&◌, ◌||◌, not, List, [], Option, slice_index_or, if◌then◌else◌}
 use Rattle.std.specs.Ordering.{int_cmp, is_eq, is_lt, is_gt, is_le, is_ge, is_ne}
 use Rattle.std.specs.declared.cmp.Ordering.{Ordering}
@@ -15,11 +14,9 @@ use Rattle.cov_model.specs.declared.constraint.Rel.{Rel}
 use Rattle.cov_model.specs.declared.constraint.Rel.TheVariants.{Eq, Ne, Gt, Ge, Lt, Le}
 use Rattle.cov_model.specs.declared.constraint.Literal.{Literal}
 use Rattle.cov_model.specs.declared.constraint.Literal.TheVariants.{Number, Words}
-use Rattle.cov_model.specs.declared.constraint.Body.{Body}
-use Rattle.cov_model.specs.declared.constraint.Body.TheVariants.{Plain, IfThen, IfElse}
 use Rattle.cov_model.specs.declared.constraint.Term as terms
 use Rattle.cov_model.specs.declared.constraint.Term.TheVariants.{ValueIs, ParamIs, OneOf, Like, Negative, Positive}
-use Rattle.cov_model.specs.declared.constraint.Pred.{Pred, Term, Not', All', Any', Row_of-Pred, end_of-Pred, more_of-Pred}
+use Rattle.cov_model.specs.Views.{PredView, PredViews, Leaf, Negated, Each, Either, End, More, BodyView, Plain, IfThen, IfElse}
 use Rattle.cov_model.specs.Sound.{ModelView, first_name, param_at}
 use Rattle.cov_model.specs.Rows.{value_in}
 
@@ -76,22 +73,22 @@ term_holds m (Positive p) row = not (given_value m row p).negative
 
 -- whether a predicate holds on a row
 abbrev mutual
-  pub pred_holds : ModelView → Pred → List (Option ℕ) → Bool
-  pred_holds m (Term term) row = term_holds m term row
-  pred_holds m (Not' pointer inner) row = not (pred_holds m inner row)
-  pred_holds m (All' n parts) row = all_hold m parts row
-  pred_holds m (Any' n parts) row = any_holds m parts row
+  pub pred_holds : ModelView → PredView → List (Option ℕ) → Bool
+  pred_holds m (Leaf term) row = term_holds m term row
+  pred_holds m (Negated inner) row = not (pred_holds m inner row)
+  pred_holds m (Each parts) row = all_hold m parts row
+  pred_holds m (Either parts) row = any_holds m parts row
 
-  pub all_hold : {n : _} → ModelView → Row_of-Pred n → List (Option ℕ) → Bool
-  all_hold m end_of-Pred row = true
-  all_hold m (more_of-Pred part rest) row = pred_holds m part row && all_hold m rest row
+  pub all_hold : ModelView → PredViews → List (Option ℕ) → Bool
+  all_hold m End row = true
+  all_hold m (More part rest) row = pred_holds m part row && all_hold m rest row
 
-  pub any_holds : {n : _} → ModelView → Row_of-Pred n → List (Option ℕ) → Bool
-  any_holds m end_of-Pred row = false
-  any_holds m (more_of-Pred part rest) row = pred_holds m part row || any_holds m rest row
+  pub any_holds : ModelView → PredViews → List (Option ℕ) → Bool
+  any_holds m End row = false
+  any_holds m (More part rest) row = pred_holds m part row || any_holds m rest row
 
 -- whether a constraint holds on a row
-abbrev pub body_holds : ModelView → Body → List (Option ℕ) → Bool
+abbrev pub body_holds : ModelView → BodyView → List (Option ℕ) → Bool
 body_holds m (Plain pred) row = pred_holds m pred row
 body_holds m (IfThen premise pred) row = not (pred_holds m premise row) || pred_holds m pred row
 body_holds m (IfElse premise pred other) row =

@@ -1,6 +1,6 @@
 -- What is wrong with a row. (The rule on negative values is PICT's guide's.)
 use Rattle.std.specs.Prelude.{ℕ, not, List, ◌∷◌, Option, Some, None, find}
-use Rattle.cov_model.specs.declared.constraint.Rule.{Rule}
+use Rattle.cov_model.specs.Views.{RuleView}
 use Rattle.cov_model.specs.declared.row_fault.RowWhy as faults
 use Rattle.cov_model.specs.declared.row_fault.RowWhy.{RowWhy}
 use Rattle.cov_model.specs.declared.row_fault.RowWhy.TheVariants.{Negatives}
@@ -14,7 +14,7 @@ first_two (p ∷ q ∷ rest) = Some (Negatives p q)
 first_two _ = None
 
 -- a constraint that is false, else two parameters with negative values
-abbrev pub fault_of : Option Rule → List ℕ → Option RowWhy
+abbrev pub fault_of : Option RuleView → List ℕ → Option RowWhy
 fault_of (Some rule) params = Some (faults.TheVariants.Rule rule.number)
 fault_of None params = first_two params
 

@@ -2,7 +2,7 @@
 use Rattle.std.specs.Prelude.{◌≡◌, ℕ, ◌+◌, ◌<◌, true, false, List, [], ◌∷◌, length, slice_index_or, codes, All}
 use Rattle.cov_model.specs.declared.parameter.Param.{Param}
 use Rattle.cov_model.specs.declared.parameter.Value.{Value}
-use Rattle.cov_model.specs.declared.constraint.Rule.{Rule}
+use Rattle.cov_model.specs.Views.{RuleView}
 use Rattle.cov_model.specs.Sound.{ModelView, IsSoundBody}
 
 abbrev pub sample_numbers : List Value
@@ -22,12 +22,12 @@ sample_params =
     ∷ record { name = codes "B"; line = 2; numeric = false; values = sample_texts } ∷ []
 
 -- constraints over these parameters, numbered from 1
-pub record AreSampleRules (rules : List Rule) : Type 0 where
-  pub numbered : (i : ℕ) (d : Rule) → i < length rules → (slice_index_or rules i d).number ≡ i + 1
+pub record AreSampleRules (rules : List RuleView) : Type 0 where
+  pub numbered : (i : ℕ) (d : RuleView) → i < length rules → (slice_index_or rules i d).number ≡ i + 1
   pub sound : All (λ rule. IsSoundBody sample_params rule.body) rules
 
 -- the model with these constraints
-abbrev pub sample_model : List Rule → ModelView
+abbrev pub sample_model : List RuleView → ModelView
 sample_model rules = record {
   params = sample_params;
   rules = rules;

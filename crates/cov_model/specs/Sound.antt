@@ -5,23 +5,20 @@ use Rattle.value_text.specs.Texts.{is_same_text}
 use Rattle.value_text.specs.Numbers.{is_number}
 use Rattle.cov_model.specs.declared.parameter.Param.{Param}
 use Rattle.cov_model.specs.declared.parameter.Value.{Value}
-use Rattle.cov_model.specs.declared.constraint.Rule.{Rule}
-use Rattle.cov_model.specs.declared.constraint.Body.{Body}
-use Rattle.cov_model.specs.declared.constraint.Body.TheVariants.{Plain, IfThen, IfElse}
 use Rattle.cov_model.specs.declared.constraint.Literal.{Literal}
 use Rattle.cov_model.specs.declared.constraint.Literal.TheVariants.{Number, Words}
 use Rattle.cov_model.specs.declared.constraint.Term as terms
 use Rattle.cov_model.specs.declared.constraint.Term.TheVariants.{ValueIs, ParamIs, OneOf, Like, Negative, Positive}
-use Rattle.cov_model.specs.declared.constraint.Pred.{Pred, Term, Not', All', Any', Row_of-Pred, end_of-Pred, more_of-Pred}
 use Rattle.cov_model.specs.declared.demand.Demand.{Demand}
 use Rattle.cov_model.specs.declared.demand.Group.{Group}
+use Rattle.cov_model.specs.Views.{PredView, PredViews, Leaf, Negated, Each, Either, End, More, BodyView, Plain, IfThen, IfElse, RuleView}
 use Rattle.cov_model.specs.Names.{is_name, is_mark}
 
 -- a test model: its parameters, its constraints, what is demanded, the mark before negative values,
 -- and whether texts are folded
 pub record ModelView : Type 0 where
   pub params : List Param
-  pub rules : List Rule
+  pub rules : List RuleView
   pub demand : Demand
   pub prefix : ℕ
   pub fold : Bool
@@ -74,18 +71,18 @@ IsSoundTerm params (Positive p) = p < length params
 
 -- so does each term of a predicate
 abbrev mutual
-  pub IsSoundPred : List Param → Pred → Type 0
-  IsSoundPred params (Term term) = IsSoundTerm params term
-  IsSoundPred params (Not' pointer inner) = IsSoundPred params inner
-  IsSoundPred params (All' n parts) = AreSoundPreds params parts
-  IsSoundPred params (Any' n parts) = AreSoundPreds params parts
+  pub IsSoundPred : List Param → PredView → Type 0
+  IsSoundPred params (Leaf term) = IsSoundTerm params term
+  IsSoundPred params (Negated inner) = IsSoundPred params inner
+  IsSoundPred params (Each parts) = AreSoundPreds params parts
+  IsSoundPred params (Either parts) = AreSoundPreds params parts
 
-  pub AreSoundPreds : {n : _} → List Param → Row_of-Pred n → Type 0
-  AreSoundPreds params end_of-Pred = Unit {0}
-  AreSoundPreds params (more_of-Pred part rest) = IsSoundPred params part × AreSoundPreds params rest
+  pub AreSoundPreds : List Param → PredViews → Type 0
+  AreSoundPreds params End = Unit {0}
+  AreSoundPreds params (More part rest) = IsSoundPred params part × AreSoundPreds params rest
 
 -- and each of a constraint
-abbrev pub IsSoundBody : List Param → Body → Type 0
+abbrev pub IsSoundBody : List Param → BodyView → Type 0
 IsSoundBody params (Plain pred) = IsSoundPred params pred
 IsSoundBody params (IfThen premise pred) = IsSoundPred params premise × IsSoundPred params pred
 IsSoundBody params (IfElse premise pred other) = IsSoundPred params premise × IsSoundPred params pred × IsSoundPred params other
@@ -113,13 +110,13 @@ pub record IsSound (m : ModelView) : Type 0 where
   pub distinct : AllPairs (λ a b. is_same_text m.fold a.name b.name ≡ false) m.params
   pub prefix : is_mark m.prefix ≡ true
   pub few_rules : length m.rules ≤ 4096
-  pub numbered : (i : ℕ) (d : Rule) → i < length m.rules → (slice_index_or m.rules i d).number ≡ i + 1
+  pub numbered : (i : ℕ) (d : RuleView) → i < length m.rules → (slice_index_or m.rules i d).number ≡ i + 1
   pub rules : All (λ rule. IsSoundBody m.params rule.body) m.rules
   pub demand : IsSoundDemand (length m.params) m.demand
 
-abbrev pub no_rule : Rule
-no_rule = record { number = 0; line = 0; body = Plain (Term (Negative 0)) }
+abbrev pub no_rule : RuleView
+no_rule = record { number = 0; line = 0; body = Plain (Leaf (Negative 0)) }
 
 -- the constraint of a number
-abbrev pub rule_at : ModelView → ℕ → Rule
+abbrev pub rule_at : ModelView → ℕ → RuleView
 rule_at m n = slice_index_or m.rules (n - 1) no_rule

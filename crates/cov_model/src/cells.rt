@@ -31,10 +31,8 @@ impl Cells {
     pub fn empty(alloc: Global, n: usize) -> Result<Cells, NoMemory>
         ensures { IfOk result (λ cells. cells ≡ replicate n None) }
     {
-        match vec![in alloc; None; n] {
-            Ok(places) => Ok(Cells { places }),
-            Err(_) => Err(NoMemory),
-        }
+        let places = vec![in alloc; None; n]?;
+        Ok(Cells { places })
     }
 
     /// The number of parameters.

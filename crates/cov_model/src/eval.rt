@@ -1,10 +1,11 @@
 ghost use Rattle.std.specs.Prelude.{◌≡◌, ◌<◌, ◌≤◌, true, All, IfSome, is_some, length, if◌then◌else◌};
 ghost use Rattle.value_text.specs.Numbers.{is_number, number_of};
+ghost use Rattle.cov_model.specs.Views.{body_view, pred_view, preds_in};
 ghost use Rattle.cov_model.specs.Sound.{IsLiteralOf, IsSoundBody, IsSoundPred, IsSoundTerm, param_at, rule_at, first_name};
 ghost use Rattle.cov_model.specs.Rows.{is_assigned};
 ghost use Rattle.cov_model.specs.Fits.{FitsModel};
 ghost use Rattle.cov_model.specs.Meaning.{given_value, literal_order, number_in, operand_of, value_at};
-ghost use Rattle.cov_model.specs.Kleene.{term_truth, pred_truth, all_truths, any_truths, body_truth};
+ghost use Rattle.cov_model.specs.Kleene.{term_truth, pred_truth, all_truth, any_truth, body_truth};
 
 use crate::cells::Cells;
 use crate::constraint::{Body, Literal, Pred, Rel, Term};
@@ -160,8 +161,8 @@ impl TestModel {
         Truth::No
     }
 
-    // What is known of a term.
-    fn term_truth(&self, term: &Term, cells: &Cells) -> Truth
+    /// What is known of a term. Takes no memory.
+    pub fn term_truth(&self, term: &Term, cells: &Cells) -> Truth
         requires sound { IsSoundTerm self.now.params term.now }
         requires fits { FitsModel self.now cells.now }
         ensures { result ≡ term_truth self.now term.now cells.now }
@@ -179,9 +180,9 @@ impl TestModel {
     // What is known of a predicate.
     #[cycle(eval)]
     fn pred_truth(&self, pred: &Pred, cells: &Cells) -> Truth
-        requires sound { IsSoundPred self.now.params pred.now }
+        requires sound { IsSoundPred self.now.params (pred_view pred.now) }
         requires fits { FitsModel self.now cells.now }
-        ensures { result ≡ pred_truth self.now pred.now cells.now }
+        ensures { result ≡ pred_truth self.now (pred_view pred.now) cells.now }
     {
         match pred {
             Pred::Term(term) => self.term_truth(term, cells),
@@ -194,9 +195,9 @@ impl TestModel {
     // What is known of a list of predicates: that each holds.
     #[cycle(eval)]
     fn all_truth(&self, parts: &[Pred], cells: &Cells) -> Truth
-        requires sound { All (IsSoundPred self.now.params) parts.now }
+        requires sound { All (λ part. IsSoundPred self.now.params (pred_view part)) parts.now }
         requires fits { FitsModel self.now cells.now }
-        ensures { result ≡ all_truths self.now parts.now cells.now }
+        ensures { result ≡ all_truth self.now (preds_in parts.now) cells.now }
     {
         let mut so_far = Truth::Yes;
         for part in parts {
@@ -211,9 +212,9 @@ impl TestModel {
     // What is known of a list of predicates: that some of them holds.
     #[cycle(eval)]
     fn any_truth(&self, parts: &[Pred], cells: &Cells) -> Truth
-        requires sound { All (IsSoundPred self.now.params) parts.now }
+        requires sound { All (λ part. IsSoundPred self.now.params (pred_view part)) parts.now }
         requires fits { FitsModel self.now cells.now }
-        ensures { result ≡ any_truths self.now parts.now cells.now }
+        ensures { result ≡ any_truth self.now (preds_in parts.now) cells.now }
     {
         let mut so_far = Truth::No;
         for part in parts {
@@ -227,9 +228,9 @@ impl TestModel {
 
     // What is known of a constraint.
     pub(crate) fn body_truth(&self, body: &Body, cells: &Cells) -> Truth
-        requires sound { IsSoundBody self.now.params body.now }
+        requires sound { IsSoundBody self.now.params (body_view body.now) }
         requires fits { FitsModel self.now cells.now }
-        ensures { result ≡ body_truth self.now body.now cells.now }
+        ensures { result ≡ body_truth self.now (body_view body.now) cells.now }
     {
         match body {
             Body::Plain(pred) => self.pred_truth(pred, cells),

@@ -31,6 +31,3 @@ pub use row_fault::{RowWhy, partial_rows_tell};
 pub use slice::Slice;
 pub use truth::Truth;
 pub use tuple::{Tuple, TupleList};
-
-#[cfg(test)]
-mod tests;

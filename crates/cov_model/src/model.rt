@@ -1,4 +1,5 @@
-ghost use Rattle.std.specs.Prelude.{◌≡◌};
+ghost use Rattle.std.specs.Prelude.{◌≡◌, map};
+ghost use Rattle.cov_model.specs.Views.{rule_view};
 ghost use Rattle.cov_model.specs.Sound.{IsSound};
 
 use crate::constraint::RuleList;
@@ -20,16 +21,19 @@ pub struct TestModel {
 
 impl Model for TestModel {
     ghost use Rattle.std.specs.Coded.{codes};
+    ghost use Rattle.std.specs.Prelude.{map};
     ghost use Rattle.cov_model.specs.Sound.{ModelView, IsSound};
+    ghost use Rattle.cov_model.specs.Views.{rule_view};
+    ghost use Rattle.cov_model.specs.Stored.{pred_code};
     ghost use Rattle.cov_model.specs.contracts.constraint.Pred as predicate;
 
     ghost Value = { ModelView };
 
-    ghost coded = { Prim.hlevel (codes, predicate.the_row.coded) };
+    ghost coded = { Prim.hlevel (codes, pred_code predicate.the_row.coded) };
 
-    ghost view = { λ a. record { params = a.all_params; rules = a.all_rules; demand = a.wanted; prefix = a.mark; fold = a.folds } };
+    ghost view = { λ a. record { params = a.all_params; rules = map rule_view a.all_rules; demand = a.wanted; prefix = a.mark; fold = a.folds } };
 
-    ghost invariant = { λ a. IsSound (record { params = a.all_params; rules = a.all_rules; demand = a.wanted; prefix = a.mark; fold = a.folds }) };
+    ghost invariant = { λ a. IsSound (record { params = a.all_params; rules = map rule_view a.all_rules; demand = a.wanted; prefix = a.mark; fold = a.folds }) };
 }
 
 impl TestModel {
@@ -41,8 +45,8 @@ impl TestModel {
         prefix: u8,
         fold: bool,
     ) -> TestModel
-        requires { IsSound (record { params = params; rules = rules; demand = demand; prefix = prefix; fold = fold }) }
-        ensures { result ≡ record { params = params; rules = rules; demand = demand; prefix = prefix; fold = fold } }
+        requires { IsSound (record { params = params; rules = map rule_view rules; demand = demand; prefix = prefix; fold = fold }) }
+        ensures { result ≡ record { params = params; rules = map rule_view rules; demand = demand; prefix = prefix; fold = fold } }
     {
         TestModel {
             all_params: params,
@@ -51,6 +55,14 @@ impl TestModel {
             mark: prefix,
             folds: fold,
         }
+    }
+
+    /// Says again what every model keeps: it is sound. Does nothing when it runs.
+    pub fn assert_invariant(&self)
+        ensures { IsSound self.now }
+    {
+        // a use of a field brings into a proof what the type keeps
+        let _ = &self.all_params;
     }
 
     /// The parameters, in order of declaration.
@@ -63,7 +75,7 @@ impl TestModel {
 
     /// The constraints, in order; the one at place i has the number i + 1.
     pub fn rules(&self) -> &RuleList
-        ensures value { result.now ≡ self.now.rules }
+        ensures value { map rule_view result.now ≡ self.now.rules }
         ensures sound { IsSound self.now }
     {
         &self.all_rules

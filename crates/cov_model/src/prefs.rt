@@ -52,10 +52,8 @@ fn declared(alloc: Global, values: &ValueList) -> Result<Vec<ValueNo>, NoMemory>
     ensures { IfOk result (λ order. order.items ≡ declared_order values.now) }
 {
     let count = values.len() as ValueNo;
-    match (0..count).collect::<Vec<ValueNo>>(alloc) {
-        Ok(order) => Ok(order),
-        Err(_) => Err(NoMemory),
-    }
+    let order = (0..count).collect::<Vec<ValueNo>>(alloc)?;
+    Ok(order)
 }
 
 // Sorts by falling weight.
@@ -65,10 +63,8 @@ fn sort_by_weight(values: &ValueList, order: &mut Vec<ValueNo>) -> Result<(), No
     let key = |v: &ValueNo| -> Reverse<u32>
         ensures { result ≡ record { 0 = weight_in values.entry.now v.now } }
     { Reverse(weight_of(values, *v)) };
-    match order.sort_by_key(key) {
-        Ok(()) => Ok(()),
-        Err(_) => Err(NoMemory),
-    }
+    order.sort_by_key(key)?;
+    Ok(())
 }
 
 // The preference order of one parameter's values.
@@ -109,9 +105,7 @@ impl Prefs {
         let mut orders = Vec::new(alloc);
         for param in model.params().as_slice() {
             let order = preferred_order(alloc, &param.values, &mut generator)?;
-            if orders.push(order).is_err() {
-                return Err(NoMemory);
-            }
+            orders.push(order)?;
         }
         Ok(Prefs { orders })
     }

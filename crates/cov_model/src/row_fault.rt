@@ -1,4 +1,5 @@
 ghost use Rattle.std.specs.Prelude.{◌≡◌, ◌&&◌, ◌<◌, true, is_none, length};
+ghost use Rattle.cov_model.specs.Views.{body_view};
 ghost use Rattle.cov_model.specs.Sound.{IsSoundBody};
 ghost use Rattle.cov_model.specs.Rows.{is_assigned};
 ghost use Rattle.cov_model.specs.Fits.{FitsModel};
@@ -33,10 +34,10 @@ pub fn partial_rows_tell()
 impl TestModel {
     // Whether a constraint is true on a row.
     fn holds_on(&self, body: &Body, row: &Cells) -> bool
-        requires sound { IsSoundBody self.now.params body.now }
+        requires sound { IsSoundBody self.now.params (body_view body.now) }
         requires row { is_row self.now row.now ≡ true }
         requires fits { FitsModel self.now row.now }
-        ensures { result ≡ body_holds self.now body.now row.now }
+        ensures { result ≡ body_holds self.now (body_view body.now) row.now }
     {
         self.body_truth(body, row) == Truth::Yes
     }

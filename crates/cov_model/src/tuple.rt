@@ -37,10 +37,8 @@ impl Tuple {
         requires { IsRising pairs.now }
         ensures { IfOk result (λ tuple. tuple ≡ pairs.now) }
     {
-        match SmallVec::from_slice(alloc, pairs) {
-            Ok(pairs) => Ok(Tuple { pairs }),
-            Err(_) => Err(NoMemory),
-        }
+        let pairs = SmallVec::from_slice(alloc, pairs)?;
+        Ok(Tuple { pairs })
     }
 
     /// The pairs of parameter and value, parameters rising.

@@ -39,18 +39,22 @@ split_joined_by c [] some are = absurd (omega arith)
 split_joined_by c (piece ∷ []) some are =
     slice_split_none (λ byte. byte == c) piece (All-head (λ piece. All (λ byte. (byte == c) ≡ false) piece) piece [] are)
 split_joined_by c (piece ∷ next ∷ pieces) some are =
-    slice_split_at (λ byte. byte == c) piece c (join_with_byte c (next ∷ pieces)) (All-head (λ piece. All (λ byte. (byte == c) ≡ false) piece) piece (next ∷ pieces) are) (eq-eqb c c refl)
-    ∙ ap (λ rest. piece ∷ rest) (split_joined_by c (next ∷ pieces) (omega arith) (All-tail (λ piece. All (λ byte. (byte == c) ≡ false) piece) piece (next ∷ pieces) are))
+    slice_split_at (λ byte. byte == c) piece c (join_with_byte c (next ∷ pieces))
+    (All-head (λ piece. All (λ byte. (byte == c) ≡ false) piece) piece (next ∷ pieces) are) (eq-eqb c c refl)
+    ∙ ap (λ rest. piece ∷ rest)
+    (split_joined_by c (next ∷ pieces) (omega arith) (All-tail (λ piece. All (λ byte. (byte == c) ≡ false) piece) piece (next ∷ pieces) are))
 
 -- cells parted by tabs
 pub split_joined : (cells : List (List ℕ)) → 0 < length cells → All IsCell cells → slice_split (λ byte. byte == 9) (join_with_byte 9 cells) ≡ cells
 split_joined cells some are =
-    split_joined_by 9 cells some (All-weaker IsCell (λ cell. All (λ byte. (byte == 9) ≡ false) cell) (λ cell is. without_byte 9 cell (omega arith) is.plain) cells are)
+    split_joined_by 9 cells some
+    (All-weaker IsCell (λ cell. All (λ byte. (byte == 9) ≡ false) cell) (λ cell is. without_byte 9 cell (omega arith) is.plain) cells are)
 
 -- the cells of a line are read back
 pub cells_of_line-joined : (cells : List (List ℕ)) → 0 < length cells → All IsCell cells → cells_of_line (join_with_byte 9 cells) ≡ cells
 cells_of_line-joined cells some are =
-    ap (map without_spaces) (split_joined cells some are) ∙ map_fixed without_spaces cells (All-weaker IsCell (λ cell. without_spaces cell ≡ cell) without_spaces-cell cells are)
+    ap (map without_spaces) (split_joined cells some are) ∙ map_fixed without_spaces cells
+    (All-weaker IsCell (λ cell. without_spaces cell ≡ cell) without_spaces-cell cells are)
 
 -- a line as it is read, without the line feed at its end
 abbrev pub joined : List (List ℕ) → List ℕ
@@ -84,7 +88,8 @@ without_return-joined cells is =
     let some : 0 < length (joined cells) = joined_some cells is in
     let last : (get_or (joined cells) (length (joined cells) - 1) 0 == 13) ≡ false =
     joined_plain 13 cells (omega arith) (λ e. omega arith) is.cells (length (joined cells) - 1) 0 (omega arith) in
-    cond-false (nat_lt 0 (length (joined cells)) && (get_or (joined cells) (length (joined cells) - 1) 0 == 13)) _ _ (and_right (nat_lt 0 (length (joined cells))) _ last)
+    cond-false (nat_lt 0 (length (joined cells)) && (get_or (joined cells) (length (joined cells) - 1) 0 == 13)) _ _
+    (and_right (nat_lt 0 (length (joined cells))) _ last)
 
 -- the text of a table of cells
 abbrev pub text_of : List (List (List ℕ)) → List ℕ
@@ -108,7 +113,8 @@ pub file_lines-text_of : (rows : List (List (List ℕ))) → All IsRow rows → 
 file_lines-text_of rows are =
     ap (λ pieces. map without_return (ended_lines pieces)) (split_text rows are)
     ∙ ap (map without_return) (ended_lines-ended (map joined rows))
-    ∙ map_fixed without_return (map joined rows) (All-map (λ line. without_return line ≡ line) joined rows (All-weaker IsRow (λ cells. without_return (joined cells) ≡ joined cells) without_return-joined rows are))
+    ∙ map_fixed without_return (map joined rows)
+    (All-map (λ line. without_return line ≡ line) joined rows (All-weaker IsRow (λ cells. without_return (joined cells) ≡ joined cells) without_return-joined rows are))
 
 -- a list without empty lines keeps all its lines
 pub numbered_all : (n : ℕ) (lines : List (List ℕ)) → All (λ line. 0 < length line) lines

@@ -1,25 +1,27 @@
 -- A report and a proof that are accepted certify the covering: the verdict taken apart.
-use Rattle.std.proofs.Common.{◌≡◌, ℕ, ◌+◌, Bool, true, false, ◌&&◌, ◌||◌, not, cond, List, [], ◌∷◌, ◌++◌, map, length, Option, Some, None, is_some, Result, Ok, Err, find, All, ◌⊎◌, inl, inr, ◌∙◌, sym, ap, refl}
+use Rattle.std.proofs.Common.{◌≡◌, ℕ, Bool, true, false, ◌&&◌, ◌||◌, not, List, [], ◌∷◌, map, length, Option, Some, None, Result, Ok, Err, find, All, ◌⊎◌, inl, inr, ◌∙◌, sym, ap, refl}
 use Rattle.std.specs.List.{list_all, list_any, Any}
-use Rattle.std.proofs.lemmas.Bool.{false≢true}
+use Rattle.std.proofs.lemmas.Bool.{false≢true, false_from_ne_true, and_from}
 use Rattle.std.proofs.lemmas.List.Elements.{All-weaker, All-head, All-tail}
 use Rattle.std.proofs.lemmas.List.Sums.{AllPass-from_list_all}
 use Rattle.std.proofs.lemmas.List.Folds.{Any-from_list_any}
 use Rattle.cov_model.specs.Sound.{ModelView}
 use Rattle.cov_model.specs.Rows.{contains, is_assigned}
 use Rattle.cov_model.specs.Valid.{is_valid, serves, negatives}
-use Rattle.cov_model.proofs.RowLemmas.{contains-get_or}
+use Rattle.value_text.proofs.ListLemmas.{list_any-map}
+use Rattle.cov_model.proofs.CellLemmas.{contains-assigned, contains-trans}
 use Rattle.definitions.specs.Demand.{demanded_tuples}
 use Rattle.definitions.specs.Seeds.{is_same_row}
-use Rattle.definitions.specs.Refutation.{Token, refutes, refutes_each}
+use Rattle.definitions.specs.Refutation.{first_unrefuted}
 use Rattle.definitions.specs.Pairs.{cells_of}
 use Rattle.definitions.specs.ProofText.{Omission, omissions_of}
 use Rattle.definitions.specs.Figures.{is_served}
-use Rattle.definitions.specs.Verdict.{Verdict, Accepted, BadRow, BadProof, BadOmission, Uncovered, IsListed, by_row, by_proof, by_omission, by_tuple, first_unrefuted, first_uncovered, listed}
+use Rattle.definitions.specs.Verdict.{Verdict, Accepted, BadRow, BadProof, BadOmission, Uncovered, IsListed, by_row, by_proof, by_omission, by_tuple, as_cells, first_uncovered, listed}
+use Rattle.definitions.specs.Covering.{IsUnserved}
 use Rattle.definitions.specs.Laws.{AcceptedAreCertified}
-use Rattle.definitions.proofs.Contained.{left, right, contains-trans}
-use Rattle.definitions.proofs.Nothing.{is_nothing, none_found}
-use Rattle.definitions.proofs.Refuted.{both, is_false, refuted}
+use Rattle.definitions.proofs.Contained.{left, right}
+use Rattle.definitions.proofs.Nothing.{none_found}
+use Rattle.definitions.proofs.Refuted.{each_unserved}
 
 abbrev is_accepted : Verdict → Bool
 is_accepted (Accepted rows omissions) = true
@@ -36,7 +38,7 @@ rows_good m rows bytes None r k h = (refl, h)
 
 proof_read : (m : ModelView) (rows : List (List (Option ℕ))) (reading : Result (ℕ × List Omission) ℕ) (r k : ℕ)
     → by_proof m rows reading ≡ Accepted r k
-    → (proof : ℕ × List Omission) × (reading ≡ Ok proof) × (by_omission m rows proof.1 (first_unrefuted m proof.0 [] 2 proof.1) ≡ Accepted r k)
+    → (proof : ℕ × List Omission) × (reading ≡ Ok proof) × (by_omission m rows proof.1 (first_unrefuted m proof.0 [] 2 (as_cells m proof.1)) ≡ Accepted r k)
 proof_read m rows (Ok proof) r k h = (proof, refl, h)
 proof_read m rows (Err line) r k h = absurd (false≢true (ap is_accepted h))
 
@@ -50,43 +52,25 @@ tuples_good : (a b : ℕ) (bad : Option (List (Option ℕ))) (r k : ℕ) → by_
 tuples_good a b (Some tuple) r k h = absurd (false≢true (ap is_accepted h))
 tuples_good a b None r k h = refl
 
--- an omission as its partial row and its tokens
-abbrev cells_and_tree : ModelView → Omission → List (Option ℕ) × List Token
-cells_and_tree m omission = (cells_of (length m.params) omission.tuple, omission.tree)
-
-each_refutes : (m : ModelView) (format : ℕ) (earlier : List (List (Option ℕ))) (n : ℕ) (omissions : List Omission)
-    → first_unrefuted m format earlier n omissions ≡ None → refutes_each m format earlier (map (cells_and_tree m) omissions) ≡ true
-each_refutes m format earlier n [] h = refl
-each_refutes m format earlier n (omission ∷ omissions) h =
-    at (refutes m format earlier (cells_of (length m.params) omission.tuple) omission.tree)
-    (each_refutes m format (earlier ++ cells_of (length m.params) omission.tuple ∷ []) (n + 1) omissions) h
-  where
-    at : (b : Bool)
-        → (first_unrefuted m format (earlier ++ cells_of (length m.params) omission.tuple ∷ []) (n + 1) omissions ≡ None
-        → refutes_each m format (earlier ++ cells_of (length m.params) omission.tuple ∷ []) (map (cells_and_tree m) omissions) ≡ true)
-        → cond b (first_unrefuted m format (earlier ++ cells_of (length m.params) omission.tuple ∷ []) (n + 1) omissions) (Some n) ≡ None
-        → (b && refutes_each m format (earlier ++ cells_of (length m.params) omission.tuple ∷ []) (map (cells_and_tree m) omissions)) ≡ true
-    at true later h = later h
-    at false later h = absurd (false≢true (ap is_nothing h))
-
-all_assigned : (tuple other : List (Option ℕ)) (ps : List ℕ) → contains other tuple ≡ true → list_all (is_assigned tuple) ps ≡ true → list_all (is_assigned other) ps ≡ true
+all_assigned : (tuple other : List (Option ℕ)) (ps : List ℕ) → contains other tuple ≡ true → list_all (is_assigned tuple) ps ≡ true
+    → list_all (is_assigned other) ps ≡ true
 all_assigned tuple other [] h every = refl
 all_assigned tuple other (p ∷ ps) h every =
     let here = left (is_assigned tuple p) _ every in
-    both _ _ (ap is_some (contains-get_or other tuple p h here) ∙ here) (all_assigned tuple other ps h (right (is_assigned tuple p) _ every))
+    and_from _ _ (contains-assigned other tuple p h here) (all_assigned tuple other ps h (right (is_assigned tuple p) _ every))
 
 -- a row that doesn't serve a tuple doesn't serve the same tuple
 same_unserved : (m : ModelView) (row tuple other : List (Option ℕ)) → is_same_row tuple other ≡ true → serves m row other ≡ false → serves m row tuple ≡ false
 same_unserved m row tuple other same unserved =
-    is_false (serves m row tuple)
+    false_from_ne_true (serves m row tuple)
     (λ s. false≢true
     (sym unserved
-    ∙ both (is_valid m row && contains row other) _
-    (both (is_valid m row) _ (left _ _ (left _ _ s)) (contains-trans row tuple other (right _ _ (left _ _ s)) (left _ _ same)))
+    ∙ and_from (is_valid m row && contains row other) _
+    (and_from (is_valid m row) _ (left _ _ (left _ _ s)) (contains-trans row tuple other (right _ _ (left _ _ s)) (left _ _ same)))
     (all_assigned tuple other (negatives m row) (right _ _ same) (right _ _ s))))
 
 listed_unserved : (m : ModelView) (row tuple : List (Option ℕ)) (omissions : List Omission) → list_any (is_same_row tuple) (listed m omissions) ≡ true
-    → All (λ pair. serves m row pair.0 ≡ false) (map (cells_and_tree m) omissions) → serves m row tuple ≡ false
+    → All (λ pair. serves m row pair.0 ≡ false) (as_cells m omissions) → serves m row tuple ≡ false
 listed_unserved m row tuple [] some every = absurd (false≢true some)
 listed_unserved m row tuple (omission ∷ omissions) some every =
     at (is_same_row tuple (cells_of (length m.params) omission.tuple)) refl some
@@ -96,13 +80,6 @@ listed_unserved m row tuple (omission ∷ omissions) some every =
         → (list_any (is_same_row tuple) (listed m omissions) ≡ true → serves m row tuple ≡ false) → serves m row tuple ≡ false
     at true is some later = same_unserved m row tuple (cells_of (length m.params) omission.tuple) is (All-head (λ pair. serves m row pair.0 ≡ false) _ _ every)
     at false is some later = later some
-
-any_map : {X Y : Type 0} (f : Y → Bool) (g : X → Y) (xs : List X) → list_any f (map g xs) ≡ true → list_any (λ x. f (g x)) xs ≡ true
-any_map f g xs h = sym (same f g xs) ∙ h
-  where
-    same : {X Y : Type 0} (f : Y → Bool) (g : X → Y) (xs : List X) → list_any f (map g xs) ≡ list_any (λ x. f (g x)) xs
-    same f g [] = refl
-    same f g (x ∷ xs) = ap (λ b. f (g x) || b) (same f g xs)
 
 not_not : (b : Bool) → not (not b) ≡ true → b ≡ true
 not_not true h = refl
@@ -117,18 +94,18 @@ certified m lines bytes accepted =
     let rows = map (λ line. line.1) lines in
     let first = rows_good m rows bytes (find (λ line. not (is_valid m line.1)) lines) accepted.0 accepted.1 accepted.2 in
     let read = proof_read m rows (omissions_of m bytes) accepted.0 accepted.1 first.1 in
-    let trees = trees_good m rows read.0.1 (first_unrefuted m read.0.0 [] 2 read.0.1) accepted.0 accepted.1 read.2 in
+    let trees = trees_good m rows read.0.1 (first_unrefuted m read.0.0 [] 2 (as_cells m read.0.1)) accepted.0 accepted.1 read.2 in
     let tuples = tuples_good (length rows) (length read.0.1) (first_uncovered m rows read.0.1) accepted.0 accepted.1 trees.1 in
     record {
       valid = All-weaker (λ line. not (not (is_valid m line.1)) ≡ true) (λ line. is_valid m line.1 ≡ true) (λ line. not_not (is_valid m line.1)) lines
           (AllPass-from_list_all (λ line. not (not (is_valid m line.1))) lines (none_found (λ line. not (is_valid m line.1)) lines first.0));
       covered = All-weaker (λ tuple. not (not (is_served m rows tuple) && not (list_any (is_same_row tuple) (listed m read.0.1))) ≡ true)
-          (λ tuple. Any (λ line. serves m line.1 tuple ≡ true) lines ⊎ (IsListed m bytes tuple × ((row : List (Option ℕ)) → serves m row tuple ≡ false)))
+          (λ tuple. Any (λ line. serves m line.1 tuple ≡ true) lines ⊎ (IsListed m bytes tuple × IsUnserved m tuple))
           (λ tuple h. elim (one_of (is_served m rows tuple) (list_any (is_same_row tuple) (listed m read.0.1)) h) [
-            | inl s ↦ inl (Any-from_list_any (λ line. serves m line.1 tuple) lines (any_map (λ row. serves m row tuple) (λ line. line.1) lines s))
+            | inl s ↦ inl (Any-from_list_any (λ line. serves m line.1 tuple) lines (sym (list_any-map (λ row. serves m row tuple) (λ line. line.1) lines) ∙ s))
             | inr s ↦ inr (
               (read.0, read.1, s),
-              λ row. listed_unserved m row tuple read.0.1 s (refuted m read.0.0 (map (cells_and_tree m) read.0.1) (each_refutes m read.0.0 [] 2 read.0.1 trees.0) row),
+              λ row. listed_unserved m row tuple read.0.1 s (each_unserved m read.0.0 row [] 2 (as_cells m read.0.1) refl trees.0),
             )
           ])
           (demanded_tuples m)

@@ -16,7 +16,8 @@ IsChoice (values ∷ lists) (None ∷ row) = ⊥
 IsChoice (values ∷ lists) (Some v ∷ row) = Has values v × IsChoice lists row
 
 -- the values that a cell can have
-has_cell : (values : List ℕ) (cell : Option ℕ) (v : ℕ) (row cells : List (Option ℕ)) → Has values v → contains (Some v ∷ row) (cell ∷ cells) ≡ true → Has (cell_values values cell) v
+has_cell : (values : List ℕ) (cell : Option ℕ) (v : ℕ) (row cells : List (Option ℕ)) → Has values v → contains (Some v ∷ row) (cell ∷ cells) ≡ true
+    → Has (cell_values values cell) v
 has_cell values None v row cells has contained = has
 has_cell values (Some w) v row cells has contained =
     let same : v ≡ w = eqb-true v w (and_parts (v == w) (contains row cells) contained).0 in
@@ -29,12 +30,14 @@ of_cell values (Some w) v row cells has contained =
     let kept = of_filter (λ u. u == w) values v has in
     (kept.0, and_from (v == w) (contains row cells) kept.1 contained)
 
-contained_rest : (v : ℕ) (row : List (Option ℕ)) (cell : Option ℕ) (cells : List (Option ℕ)) → contains (Some v ∷ row) (cell ∷ cells) ≡ true → contains row cells ≡ true
+contained_rest : (v : ℕ) (row : List (Option ℕ)) (cell : Option ℕ) (cells : List (Option ℕ)) → contains (Some v ∷ row) (cell ∷ cells) ≡ true
+    → contains row cells ≡ true
 contained_rest v row None cells contained = contained
 contained_rest v row (Some w) cells contained = (and_parts (v == w) (contains row cells) contained).1
 
 -- such a row that contains the partial row is one of its completions
-pub choice_completes : (lists : List (List ℕ)) (cells row : List (Option ℕ)) → IsChoice lists row → contains row cells ≡ true → Has (completions lists cells) row
+pub choice_completes : (lists : List (List ℕ)) (cells row : List (Option ℕ)) → IsChoice lists row → contains row cells ≡ true
+    → Has (completions lists cells) row
 choice_completes [] cells [] is contained = rw contained (inl refl)
 choice_completes [] cells (given ∷ row) is contained = absurd is
 choice_completes (values ∷ lists) cells [] is contained = absurd is
@@ -43,7 +46,8 @@ choice_completes (values ∷ lists) [] (Some v ∷ row) is contained =
     has_flat (λ w. map (λ row. Some w ∷ row) (completions lists [])) values v (Some v ∷ row) is.0
     (has_map (λ row. Some v ∷ row) (completions lists []) row (choice_completes lists [] row is.1 refl))
 choice_completes (values ∷ lists) (cell ∷ cells) (Some v ∷ row) is contained =
-    has_flat (λ w. map (λ row. Some w ∷ row) (completions lists cells)) (cell_values values cell) v (Some v ∷ row) (has_cell values cell v row cells is.0 contained)
+    has_flat (λ w. map (λ row. Some w ∷ row) (completions lists cells)) (cell_values values cell) v (Some v ∷ row)
+    (has_cell values cell v row cells is.0 contained)
     (has_map (λ row. Some v ∷ row) (completions lists cells) row (choice_completes lists cells row is.1 (contained_rest v row cell cells contained)))
 
 -- and each completion is such a row
@@ -75,7 +79,8 @@ pub record IsListed (values : List ℕ) (cell : Option ℕ) : Type 0 where
   pub assigned : is_some cell ≡ true
   pub listed : Has values (unwrap_or cell 0)
 
-pub choice_at : (lists : List (List ℕ)) (row : List (Option ℕ)) (p : ℕ) → IsChoice lists row → p < length lists → IsListed (get_or lists p []) (get_or row p None)
+pub choice_at : (lists : List (List ℕ)) (row : List (Option ℕ)) (p : ℕ) → IsChoice lists row → p < length lists
+    → IsListed (get_or lists p []) (get_or row p None)
 choice_at [] [] p is within = absurd (omega arith)
 choice_at [] (given ∷ row) p is within = absurd is
 choice_at (values ∷ lists) [] p is within = absurd is

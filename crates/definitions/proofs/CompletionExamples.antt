@@ -1,6 +1,6 @@
 -- Column orders, completions and extendability, computed on small models.
 use Rattle.std.specs.Prelude.{◌≡◌, true, false, [], ◌∷◌, Some, None, codes, refl}
-use Rattle.cov_model.specs.declared.constraint.Body.TheVariants.{Plain, IfThen}
+use Rattle.cov_model.specs.Views.{Plain, IfThen}
 use Rattle.cov_model.specs.declared.constraint.Rel.TheVariants.{Eq, Ne, Lt}
 use Rattle.cov_model.specs.declared.slice.Slice.TheVariants.{Positive, Negative}
 use Rattle.cov_model.specs.Sound.{ModelView}

@@ -1,7 +1,6 @@
 -- Demand, slices, validity and serving, computed on small models.
 use Rattle.std.specs.Prelude.{◌≡◌, ℕ, true, false, List, [], ◌∷◌, length, map, Option, Some, None, codes, pos, refl}
-use Rattle.cov_model.specs.declared.constraint.Pred as preds
-use Rattle.cov_model.specs.declared.constraint.Body.TheVariants.{Plain}
+use Rattle.cov_model.specs.Views.{Leaf, Plain}
 use Rattle.cov_model.specs.declared.constraint.Rel.TheVariants.{Lt}
 use Rattle.cov_model.specs.declared.constraint.Literal.TheVariants.{Number}
 use Rattle.cov_model.specs.declared.constraint.Term.TheVariants.{ValueIs}
@@ -57,7 +56,7 @@ abbrev signed : ModelView
 signed = record
     (model (param (codes "A") (negative_value (codes "-1") ∷ value (codes "0") ∷ value (codes "1") ∷ [])
     ∷ param (codes "B") (value (codes "0") ∷ value (codes "1") ∷ []) ∷ []) 2 [] [])
-    { rules = record { number = 1; line = 3; body = Plain (preds.Term (ValueIs 0 Lt (Number (pos 2000000000)))) } ∷ [] }
+    { rules = record { number = 1; line = 3; body = Plain (Leaf (ValueIs 0 Lt (Number (pos 2000000000)))) } ∷ [] }
 
 signed-slices : slices signed ≡ Positive ∷ Negative 0 0 ∷ []
 signed-slices = refl

@@ -49,7 +49,8 @@ union_within (first ∷ taken) choice ways has listed =
     let rest = of_map (λ others. own.0 ++ others) (unions taken) choice own.2 in
     at own.0 own.1 rest.0 rest.2 listed (union_within taken rest.0 ways rest.1)
   where
-    at : (way : List ℕ) → Has first way → (others : List ℕ) → way ++ others ≡ choice → Has (first ∷ taken) ways → (Has taken ways → Within ways others) → Within ways choice
+    at : (way : List ℕ) → Has first way → (others : List ℕ) → way ++ others ≡ choice → Has (first ∷ taken) ways → (Has taken ways → Within ways others)
+        → Within ways choice
     at way in_first others joined (inl same) later = record {
       way = way;
       listed = subst (λ ws. Has ws way) same in_first;
@@ -65,7 +66,8 @@ record HasParam (m : ModelView) (set : List ℕ) : Type 0 where
   pub within : param < length m.params
   pub listed : Has set param
 
-of_group : (m : ModelView) (group : Group) (pick : List ℕ) → IsSoundGroup (length m.params) group → Has (choose group.order group.members) pick → HasParam m pick
+of_group : (m : ModelView) (group : Group) (pick : List ℕ) → IsSoundGroup (length m.params) group → Has (choose group.order group.members) pick
+    → HasParam m pick
 of_group m group pick sound has =
     let first = first_taken group.order group.members pick (omega (arith, sound.least)) has in
     record { param = first.item; within = member_of_all (λ p. p < length m.params) group.members first.item sound.exist first.listed; listed = first.picked }
@@ -120,7 +122,8 @@ choice_has m choice sound has =
           record { param = own.param; within = own.within; listed = inside.inside own.param own.listed }
       | inr of_relation ↦
           let relation = of_flat (λ relation. choose relation.order relation.members) m.demand.relations choice of_relation in
-          of_group m relation.0 choice (member_of_all (IsSoundGroup (length m.params)) m.demand.relations relation.0 sound.demand.relations relation.1) relation.2
+          of_group m relation.0 choice
+          (member_of_all (IsSoundGroup (length m.params)) m.demand.relations relation.0 sound.demand.relations relation.1) relation.2
     ]
 
 pub demanded_has : (m : ModelView) (set : List ℕ) → IsSound m → Has (demanded_sets m) set → (q : ℕ) × (q < length m.params) × (is_among set q ≡ true)

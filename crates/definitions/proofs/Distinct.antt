@@ -45,11 +45,13 @@ repeats_map f (x ∷ xs) apart once =
     (λ has. let found = of_map f xs (f x) has in once.0 (subst (Has xs) (apart found.0 x found.2) found.1), repeats_map f xs apart once.1)
 
 -- lists that share nothing, joined
-pub repeats_flat : {X Y : Type 0} (f : X → List Y) (xs : List X) → ((x : X) → Has xs x → NoRepeats (f x)) → ((x y : X) (z : Y) → Has xs x → Has xs y → Has (f x) z → Has (f y) z → x ≡ y)
+pub repeats_flat : {X Y : Type 0} (f : X → List Y) (xs : List X) → ((x : X) → Has xs x → NoRepeats (f x))
+    → ((x y : X) (z : Y) → Has xs x → Has xs y → Has (f x) z → Has (f y) z → x ≡ y)
     → NoRepeats xs → NoRepeats (flat_map f xs)
 repeats_flat f [] each apart once = tt
 repeats_flat f (x ∷ xs) each apart once =
-    repeats_append (f x) (flat_map f xs) (each x (inl refl)) (repeats_flat f xs (λ y has. each y (inr has)) (λ y z w first second. apart y z w (inr first) (inr second)) once.1)
+    repeats_append (f x) (flat_map f xs) (each x (inl refl))
+    (repeats_flat f xs (λ y has. each y (inr has)) (λ y z w first second. apart y z w (inr first) (inr second)) once.1)
     (λ z here there.
     let found = of_flat f xs z there in
     once.0 (subst (Has xs) (apart found.0 x z (inr found.1) (inl refl) found.2 here) found.1))

@@ -1,10 +1,8 @@
 -- Small models, written as contracts see them, on which the definitions are computed.
 use Rattle.std.specs.Prelude.{ℕ, ◌*◌, ◌^◌, pos, true, false, List, [], ◌∷◌, map, length, codes}
 use Rattle.std.specs.List.{enumerate_from, range_with_len}
-use Rattle.cov_model.specs.declared.constraint.Body.{Body}
+use Rattle.cov_model.specs.Views.{PredView, Leaf, BodyView}
 use Rattle.cov_model.specs.declared.constraint.Rel.{Rel}
-use Rattle.cov_model.specs.declared.constraint.Pred.{Pred}
-use Rattle.cov_model.specs.declared.constraint.Pred as preds
 use Rattle.cov_model.specs.declared.constraint.Literal.{Literal}
 use Rattle.cov_model.specs.declared.constraint.Literal.TheVariants.{Number, Words}
 use Rattle.cov_model.specs.declared.constraint.Term.TheVariants.{ValueIs, ParamIs}
@@ -36,7 +34,7 @@ abbrev pub two : List ℕ → Param
 two name = param name (value (codes "0") ∷ value (codes "1") ∷ [])
 
 -- the model with these constraints
-abbrev pub with_rules : ModelView → List Body → ModelView
+abbrev pub with_rules : ModelView → List BodyView → ModelView
 with_rules m bodies = record m { rules = map (λ rule. record { number = rule.0; line = rule.0; body = rule.1 }) (enumerate_from 1 bodies) }
 
 -- the whole number, as a literal, and a text
@@ -47,12 +45,12 @@ abbrev pub words : List ℕ → Literal
 words text = Words text
 
 -- the parameter's value stands in the relation to the literal
-abbrev pub is : ℕ → Rel → Literal → Pred
-is p rel literal = preds.Term (ValueIs p rel literal)
+abbrev pub is : ℕ → Rel → Literal → PredView
+is p rel literal = Leaf (ValueIs p rel literal)
 
 -- the first parameter's value stands in the relation to the second's
-abbrev pub are : ℕ → Rel → ℕ → Pred
-are p rel q = preds.Term (ParamIs p rel q)
+abbrev pub are : ℕ → Rel → ℕ → PredView
+are p rel q = Leaf (ParamIs p rel q)
 
 -- the values of each parameter in declared order
 abbrev pub declared : ModelView → List (List ℕ)

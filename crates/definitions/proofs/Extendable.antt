@@ -4,11 +4,13 @@ use Rattle.std.specs.List.{list_any}
 use Rattle.std.proofs.lemmas.Bool.{false≢true}
 use Rattle.std.proofs.lemmas.Grind.{common_steps}
 use Rattle.std.proofs.lemmas.List.Folds.{list_any-append}
+use Rattle.value_text.proofs.ListLemmas.{list_any-map}
 use Rattle.cov_model.specs.Rows.{contains}
+use Rattle.cov_model.proofs.CellLemmas.{contains-trans}
 use Rattle.cov_model.specs.Slices.{slice_values}
 use Rattle.definitions.specs.Completion.{completions, cell_values, meets_rules}
 use Rattle.definitions.specs.Laws.{ExtendableContains}
-use Rattle.definitions.proofs.Contained.{left, right, contains-trans}
+use Rattle.definitions.proofs.Contained.{left, right}
 
 either : (a b c d : Bool) → (a ≡ true → c ≡ true) → (b ≡ true → d ≡ true) → (a || b) ≡ true → (c || d) ≡ true
 either true b c d f g h = ap (λ x. x || d) (f refl)
@@ -35,7 +37,9 @@ any_fewer test rows keep (v ∷ values) h =
     at : (b : Bool) → (list_any test (flat_map rows (filter keep values)) ≡ true → list_any test (flat_map rows values) ≡ true)
         → list_any test (flat_map rows (cond b (v ∷ filter keep values) (filter keep values))) ≡ true
         → (list_any test (rows v) || list_any test (flat_map rows values)) ≡ true
-    at true later h = either (list_any test (rows v)) (list_any test (flat_map rows (filter keep values))) _ _ (λ here. here) later (sym (list_any-append test (rows v) (flat_map rows (filter keep values))) ∙ h)
+    at true later h =
+        either (list_any test (rows v)) (list_any test (flat_map rows (filter keep values))) _ _ (λ here. here) later
+        (sym (list_any-append test (rows v) (flat_map rows (filter keep values))) ∙ h)
     at false later h = either false true (list_any test (rows v)) _ (λ here. absurd (false≢true here)) (λ here. later h) refl
 
 any_cell : (test : List (Option ℕ) → Bool) (rows : ℕ → List (List (Option ℕ))) (values : List ℕ) (cell : Option ℕ)
@@ -46,11 +50,8 @@ any_cell test rows values (Some v) h = any_fewer test rows (λ w. nat_eq w v) va
 any_map : (test : List (Option ℕ) → Bool) (v : ℕ) (first then : List (List (Option ℕ)))
     → (list_any (λ row. test (Some v ∷ row)) first ≡ true → list_any (λ row. test (Some v ∷ row)) then ≡ true)
     → list_any test (map (λ row. Some v ∷ row) first) ≡ true → list_any test (map (λ row. Some v ∷ row) then) ≡ true
-any_map test v first then each h = same then ∙ each (sym (same first) ∙ h)
-  where
-    same : (rows : List (List (Option ℕ))) → list_any test (map (λ row. Some v ∷ row) rows) ≡ list_any (λ row. test (Some v ∷ row)) rows
-    same [] = refl
-    same (row ∷ rows) = ap (λ b. test (Some v ∷ row) || b) (same rows)
+any_map test v first then each h =
+    list_any-map test (λ row. Some v ∷ row) then ∙ each (sym (list_any-map test (λ row. Some v ∷ row) first) ∙ h)
 
 -- the rows that begin with a value
 abbrev with_first : List (List (Option ℕ)) → ℕ → List (List (Option ℕ))

@@ -1,41 +1,24 @@
 -- What the growth of a suite gives.
-use Rattle.std.proofs.Common.{◌≡◌, ℕ, true, false, not, List, [], ◌∷◌, ◌++◌, map, length, Option, Some, None, ◌∙◌, sym, ap, subst, refl, arith}
-use Rattle.std.specs.Prelude.{◌==◌}
+use Rattle.std.proofs.Common.{◌≡◌, ℕ, true, false, not, List, [], ◌∷◌, ◌++◌, map, length, Option, ◌∙◌, sym, ap, subst, refl}
 use Rattle.std.specs.List.{flat_map}
-use Rattle.std.proofs.lemmas.Bool.{false≢true, and_parts, eqb-true, not-true, not_from_false}
+use Rattle.std.proofs.lemmas.Bool.{not-true, not_from_false}
 use Rattle.cov_model.specs.declared.slice.Slice.{Slice}
 use Rattle.cov_model.specs.declared.slice.Slice.TheVariants.{Positive, Negative}
 use Rattle.cov_model.specs.Sound.{ModelView, IsSound, param_at}
-use Rattle.cov_model.specs.Rows.{contains}
 use Rattle.cov_model.specs.Valid.{param_numbers}
 use Rattle.cov_model.specs.Slices.{slices, slice_of, negative_values, value_numbers}
 use Rattle.cov_model.specs.Meaning.{value_at}
+use Rattle.cov_model.proofs.CellLemmas.{length-slice_values}
 use Rattle.definitions.specs.Demand.{demanded_sets, demanded_tuples, tuples_in, tuples_of}
 use Rattle.definitions.specs.Completion.{has_slice, is_extendable}
-use Rattle.definitions.specs.Seeds.{is_same_row}
 use Rattle.definitions.specs.Growth.{slice_growth, slices_growth, growth}
 use Rattle.definitions.specs.Laws.{ArePreferences}
 use Rattle.definitions.proofs.Members.{Has, of_map, has_flat, of_flat, has_filter, of_filter}
 use Rattle.definitions.proofs.Distinct.{NoRepeats, repeats_filter, repeats_range, repeats_map, repeats_flat}
-use Rattle.definitions.proofs.SliceLemmas.{IsSlice, is_slice, has_slices, slice_length, slice_is, slice_of_is}
+use Rattle.definitions.proofs.SliceLemmas.{IsSlice, is_slice, has_slices, slice_is, slice_of_is}
+pub use Rattle.definitions.proofs.PartialRowLemmas.{same_row_is}
 use Rattle.definitions.proofs.Finishing.{IsSliceRow, slice_grows, met_in}
 use Rattle.definitions.proofs.InPlay.{tuple_is, has_met, of_met}
-
--- partial rows that contain each other are one
-pub same_cells : (a b : List (Option ℕ)) → length a ≡ length b → contains a b ≡ true → contains b a ≡ true → a ≡ b
-same_cells [] [] long first second = refl
-same_cells [] (cell ∷ b) long first second = absurd (omega arith)
-same_cells (cell ∷ a) [] long first second = absurd (omega arith)
-same_cells (None ∷ a) (None ∷ b) long first second = ap (λ cells. None ∷ cells) (same_cells a b (omega arith) first second)
-same_cells (None ∷ a) (Some w ∷ b) long first second = absurd (false≢true first)
-same_cells (Some v ∷ a) (None ∷ b) long first second = absurd (false≢true second)
-same_cells (Some v ∷ a) (Some w ∷ b) long first second =
-    let left = and_parts (v == w) (contains a b) first in
-    let right = and_parts (w == v) (contains b a) second in
-    ap (λ u. Some u ∷ a) (eqb-true v w left.0) ∙ ap (λ cells. Some w ∷ cells) (same_cells a b (omega arith) left.1 right.1)
-
-pub same_row_is : (a b : List (Option ℕ)) → length a ≡ length b → is_same_row a b ≡ true → a ≡ b
-same_row_is a b long same = let parts = and_parts (contains a b) (contains b a) same in same_cells a b long parts.0 parts.1
 
 -- the slices are distinct
 pub slices_once : (m : ModelView) → NoRepeats (slices m)
@@ -86,7 +69,8 @@ pub record IsGrownRow (m : ModelView) (pref : List (List ℕ)) (seeds : List (�
   pub is : IsSlice m slice
   pub row_of : IsSliceRow m slice row
 
-pub of_rows : (m : ModelView) (pref : List (List ℕ)) (seeds : List (ℕ × List (Option ℕ))) (row : List (Option ℕ)) → ArePreferences m pref → Has (growth m pref seeds).rows row
+pub of_rows : (m : ModelView) (pref : List (List ℕ)) (seeds : List (ℕ × List (Option ℕ))) (row : List (Option ℕ)) → ArePreferences m pref
+    → Has (growth m pref seeds).rows row
     → IsGrownRow m pref seeds row
 of_rows m pref seeds row orders has =
     let found = of_flat (rows_of_slice m pref seeds) (slices m) row (subst (λ rows. Has rows row) (rows_by_slice m pref seeds (slices m)) has) in
@@ -96,7 +80,8 @@ of_rows m pref seeds row orders has =
 pub has_rows : (m : ModelView) (pref : List (List ℕ)) (seeds : List (ℕ × List (Option ℕ))) (slice : Slice) (row : List (Option ℕ)) → IsSlice m slice
     → Has (rows_of_slice m pref seeds slice) row → Has (growth m pref seeds).rows row
 has_rows m pref seeds slice row is has =
-    subst (λ rows. Has rows row) (sym (rows_by_slice m pref seeds (slices m))) (has_flat (rows_of_slice m pref seeds) (slices m) slice row (has_slices m slice is) has)
+    subst (λ rows. Has rows row) (sym (rows_by_slice m pref seeds (slices m)))
+    (has_flat (rows_of_slice m pref seeds) (slices m) slice row (has_slices m slice is) has)
 
 -- a demanded tuple, its set and its slice
 pub record IsDemanded (m : ModelView) (tuple : List (Option ℕ)) : Type 0 where
@@ -106,7 +91,8 @@ pub record IsDemanded (m : ModelView) (tuple : List (Option ℕ)) : Type 0 where
   pub few : has_slice m tuple ≡ true
   pub long : length tuple ≡ length m.params
 
-pub demanded_in : (m : ModelView) (set : List ℕ) (slice : Slice) (tuple : List (Option ℕ)) → IsSlice m slice → Has (demanded_sets m) set → Has (tuples_in m set slice) tuple → IsDemanded m tuple
+pub demanded_in : (m : ModelView) (set : List ℕ) (slice : Slice) (tuple : List (Option ℕ)) → IsSlice m slice → Has (demanded_sets m) set
+    → Has (tuples_in m set slice) tuple → IsDemanded m tuple
 demanded_in m set slice tuple is demanded has =
     let own = tuple_is m set slice tuple is has in
     let of = slice_is m slice tuple is own.belongs in
@@ -115,7 +101,7 @@ demanded_in m set slice tuple is demanded has =
       demanded = demanded;
       has = subst (λ s. Has (tuples_in m set s) tuple) (sym of.is) has;
       few = of.few;
-      long = own.choice.long ∙ slice_length m slice;
+      long = own.choice.long ∙ length-slice_values m slice;
     }
 
 pub of_demanded : (m : ModelView) (tuple : List (Option ℕ)) → Has (demanded_tuples m) tuple → IsDemanded m tuple
@@ -134,7 +120,8 @@ pub record IsOmitted (m : ModelView) (tuple : List (Option ℕ)) : Type 0 where
   pub demanded : IsDemanded m tuple
   pub fails : is_extendable m (slice_of m tuple) tuple ≡ false
 
-pub of_omitted : (m : ModelView) (pref : List (List ℕ)) (seeds : List (ℕ × List (Option ℕ))) (tuple : List (Option ℕ)) → ArePreferences m pref → Has (growth m pref seeds).omitted tuple
+pub of_omitted : (m : ModelView) (pref : List (List ℕ)) (seeds : List (ℕ × List (Option ℕ))) (tuple : List (Option ℕ)) → ArePreferences m pref
+    → Has (growth m pref seeds).omitted tuple
     → IsOmitted m tuple
 of_omitted m pref seeds tuple orders has =
     let found = of_flat (omitted_in_slice m pref seeds) (slices m) tuple (subst (λ tuples. Has tuples tuple) (omitted_by_slice m pref seeds (slices m)) has) in
@@ -149,7 +136,8 @@ of_omitted m pref seeds tuple orders has =
       fails = ap (λ s. is_extendable m s tuple) of.is ∙ not-true (is_extendable m slice tuple) kept.1;
     }
 
-pub has_omitted : (m : ModelView) (pref : List (List ℕ)) (seeds : List (ℕ × List (Option ℕ))) (tuple : List (Option ℕ)) → IsSound m → ArePreferences m pref → IsOmitted m tuple
+pub has_omitted : (m : ModelView) (pref : List (List ℕ)) (seeds : List (ℕ × List (Option ℕ))) (tuple : List (Option ℕ)) → IsSound m → ArePreferences m pref
+    → IsOmitted m tuple
     → Has (growth m pref seeds).omitted tuple
 has_omitted m pref seeds tuple sound orders is =
     let slice = slice_of m tuple in

@@ -5,7 +5,7 @@ use Rattle.cov_model.specs.Sound.{ModelView}
 use Rattle.definitions.specs.Search.{question_cost, first_over}
 use Rattle.definitions.specs.Seeds.{kept_seeds, dropped_lines, asked_seeds}
 use Rattle.definitions.specs.Growth.{growth, Grown, gain, values_by_gain, tuples_in_play}
-use Rattle.cov_model.specs.declared.constraint.Body.TheVariants.{IfThen}
+use Rattle.cov_model.specs.Views.{IfThen}
 use Rattle.cov_model.specs.declared.constraint.Rel.TheVariants.{Eq, Ne}
 use Rattle.definitions.proofs.Examples.{model, param, value, two, is, number, with_rules, declared}
 use Rattle.definitions.proofs.Models.{row, table, pair, triple, bound, signed, negative, barred, mixed, impossible, twin, twin_and_one}

@@ -9,6 +9,7 @@ use Rattle.cov_model.specs.Sound.{ModelView, IsSound}
 use Rattle.cov_model.specs.Rows.{contains}
 use Rattle.cov_model.specs.Valid.{is_valid, serves}
 use Rattle.cov_model.specs.Slices.{slices, slice_of, slice_values}
+use Rattle.cov_model.proofs.CellLemmas.{contains-refl, length-slice_values}
 use Rattle.definitions.specs.Demand.{demanded_sets, demanded_tuples, tuples_in, tuples_of}
 use Rattle.definitions.specs.Completion.{completions, meets_rules, is_extendable}
 use Rattle.definitions.specs.Seeds.{is_same_row, kept_seeds}
@@ -19,20 +20,21 @@ use Rattle.definitions.specs.Figures.{all_rows, is_served}
 use Rattle.definitions.proofs.Members.{Has, has_contained, contains_member, all_members, of_flat, has_filter, any_member, of_any}
 use Rattle.definitions.proofs.Distinct.{NoRepeats}
 use Rattle.definitions.proofs.Choices.{choice_length, completion_is}
-use Rattle.definitions.proofs.SliceLemmas.{IsSlice, is_slice, slice_length, slice_is, slice_of_is, row_in_slice, choice_is_valid}
-use Rattle.definitions.proofs.Joining.{contains_self}
+use Rattle.definitions.proofs.SliceLemmas.{IsSlice, is_slice, slice_is, slice_of_is, row_in_slice, choice_is_valid}
 use Rattle.definitions.proofs.Serving.{choice_serves, served_extends, servable_are_extendable}
 use Rattle.definitions.proofs.Once.{AreApart, apart_append, apart_pairs}
-use Rattle.definitions.proofs.Finishing.{IsSliceRow, slice_grows, seeds_of, met_in, kept_is, of_slice_is, is_of_own_slice}
+use Rattle.definitions.proofs.PartialRowLemmas.{same_row_is, of_slice-is}
+use Rattle.definitions.proofs.Finishing.{IsSliceRow, slice_grows, seeds_of, met_in, kept_is, is_of_own_slice}
 use Rattle.definitions.proofs.Totals.{count, counted, count_flat, count_sum, count_less, sum_less, sum_same, sum_plus, sum_swap, sum_ones, sum_once}
 use Rattle.definitions.proofs.InPlay.{tuple_is, has_met, few_met}
 use Rattle.definitions.proofs.MetOnce.{omitted_once}
-use Rattle.definitions.proofs.Grown.{same_row_is, slices_once, rows_of_slice, rows_by_slice, of_rows, has_rows, IsDemanded, demanded_in, of_demanded, has_demanded, IsOmitted, of_omitted, has_omitted}
+use Rattle.definitions.proofs.Grown.{slices_once, rows_of_slice, rows_by_slice, of_rows, has_rows, IsDemanded, demanded_in, of_demanded, has_demanded, IsOmitted, of_omitted, has_omitted}
 
 any_of_member : {X : Type 0} (P : X → Type 0) (xs : List X) (x : X) → Has xs x → P x → Any P xs
 any_of_member P xs x has holds = let at = contains_member xs x has in (at.0, x, at.1, at.2, holds)
 
-grown_valid : (m : ModelView) (pref : List (List ℕ)) (seeds : List (ℕ × List (Option ℕ))) → ArePreferences m pref → All (λ row. is_valid m row ≡ true) (growth m pref seeds).rows
+grown_valid : (m : ModelView) (pref : List (List ℕ)) (seeds : List (ℕ × List (Option ℕ))) → ArePreferences m pref
+    → All (λ row. is_valid m row ≡ true) (growth m pref seeds).rows
 grown_valid m pref seeds orders =
     all_members (λ row. is_valid m row ≡ true) (growth m pref seeds).rows (λ row has.
     let own = of_rows m pref seeds row orders has in
@@ -53,18 +55,21 @@ unservable m tuple is none = record {
 }
 
 -- an extendable tuple is served by a row of the suite
-extendable_served : (m : ModelView) (pref : List (List ℕ)) (seeds : List (ℕ × List (Option ℕ))) (tuple : List (Option ℕ)) → IsSound m → ArePreferences m pref → IsDemanded m tuple
+extendable_served : (m : ModelView) (pref : List (List ℕ)) (seeds : List (ℕ × List (Option ℕ))) (tuple : List (Option ℕ)) → IsSound m → ArePreferences m pref
+    → IsDemanded m tuple
     → is_extendable m (slice_of m tuple) tuple ≡ true → Any (λ row. serves m row tuple ≡ true) (growth m pref seeds).rows
 extendable_served m pref seeds tuple sound orders is extends =
     let slice = slice_of m tuple in
     let of = slice_of_is m tuple in
     let grown = slice_grows m pref seeds slice orders of in
-    let holder = of_any (λ row. contains row tuple) (rows_of_slice m pref seeds slice) (grown.served tuple (has_met m slice is.set tuple sound is.demanded is.has) extends) in
+    let holder = of_any (λ row. contains row tuple) (rows_of_slice m pref seeds slice)
+    (grown.served tuple (has_met m slice is.set tuple sound is.demanded is.has) extends) in
     let row_of = grown.rows holder.0 holder.1 in
     any_of_member (λ row. serves m row tuple ≡ true) (growth m pref seeds).rows holder.0 (has_rows m pref seeds slice holder.0 of holder.1)
     (choice_serves m holder.0 tuple row_of.choice holder.2 row_of.meets)
 
-grown_served : (m : ModelView) (pref : List (List ℕ)) (seeds : List (ℕ × List (Option ℕ))) (tuple : List (Option ℕ)) → IsSound m → ArePreferences m pref → IsDemanded m tuple
+grown_served : (m : ModelView) (pref : List (List ℕ)) (seeds : List (ℕ × List (Option ℕ))) (tuple : List (Option ℕ)) → IsSound m → ArePreferences m pref
+    → IsDemanded m tuple
     → Any (λ row. serves m row tuple ≡ true) (growth m pref seeds).rows ↔ (Contains (growth m pref seeds).omitted tuple → ⊥)
 grown_served m pref seeds tuple sound orders is = (
   λ some listed.
@@ -79,7 +84,8 @@ grown_served m pref seeds tuple sound orders is = (
 )
 
 -- each kept seed is in a row
-seed_kept : (m : ModelView) (pref : List (List ℕ)) (seeds : List (ℕ × List (Option ℕ))) (seed : List (Option ℕ)) → ArePreferences m pref → Has (kept_seeds m seeds) seed
+seed_kept : (m : ModelView) (pref : List (List ℕ)) (seeds : List (ℕ × List (Option ℕ))) (seed : List (Option ℕ)) → ArePreferences m pref
+    → Has (kept_seeds m seeds) seed
     → Any (λ row. contains row seed ≡ true) (growth m pref seeds).rows
 seed_kept m pref seeds seed orders has =
     let slice = slice_of m seed in
@@ -100,14 +106,15 @@ few_seeds m seeds =
     (λ seed has. sum_once (λ slice. is_of_slice m slice seed) 1 (slices m) (slices_once m)
     (λ a b first second.
     let few = (kept_is m seeds seed has).few in
-    sym (of_slice_is m a seed few first) ∙ of_slice_is m b seed few second)) in
+    sym (of_slice-is m a seed few first) ∙ of_slice-is m b seed few second)) in
     omega (arith, by_seed, swapped, least, sum_ones kept)
 
 -- a tuple that no omitted one is the same as
 abbrev is_unlisted : ModelView → List (List ℕ) → List (ℕ × List (Option ℕ)) → List (Option ℕ) → Bool
 is_unlisted m pref seeds tuple = not (list_any (is_same_row tuple) (growth m pref seeds).omitted)
 
-extendable_unlisted : (m : ModelView) (pref : List (List ℕ)) (seeds : List (ℕ × List (Option ℕ))) (tuple : List (Option ℕ)) → ArePreferences m pref → IsDemanded m tuple
+extendable_unlisted : (m : ModelView) (pref : List (List ℕ)) (seeds : List (ℕ × List (Option ℕ))) (tuple : List (Option ℕ)) → ArePreferences m pref
+    → IsDemanded m tuple
     → is_extendable m (slice_of m tuple) tuple ≡ true → is_unlisted m pref seeds tuple ≡ true
 extendable_unlisted m pref seeds tuple orders is extends =
     not_from_false (list_any (is_same_row tuple) (growth m pref seeds).omitted)
@@ -122,7 +129,8 @@ few_tuples : (m : ModelView) (pref : List (List ℕ)) (seeds : List (ℕ × List
     → sum_by (λ slice. count (is_extendable m slice) (met_in m slice)) (slices m) ≤ count (is_unlisted m pref seeds) (demanded_tuples m)
 few_tuples m pref seeds orders =
     let left = is_unlisted m pref seeds in
-    let in_slice = sum_less (λ slice. count (is_extendable m slice) (met_in m slice)) (λ slice. sum_by (λ set. count left (tuples_in m set slice)) (demanded_sets m)) (slices m)
+    let in_slice = sum_less (λ slice. count (is_extendable m slice) (met_in m slice))
+    (λ slice. sum_by (λ set. count left (tuples_in m set slice)) (demanded_sets m)) (slices m)
     (λ slice in_slices.
     let is = is_slice m slice in_slices in
     let by_set = sum_less (λ set. count (is_extendable m slice) (tuples_in m set slice)) (λ set. count left (tuples_in m set slice)) (demanded_sets m)
@@ -132,7 +140,8 @@ few_tuples m pref seeds orders =
     omega (arith, few_met m slice (is_extendable m slice), by_set)) in
     let swapped = sum_swap (λ slice set. count left (tuples_in m set slice)) (slices m) (demanded_sets m) in
     let whole = count_flat left (tuples_of m) (demanded_sets m)
-    ∙ sum_same (λ set. count left (tuples_of m set)) (λ set. sum_by (λ slice. count left (tuples_in m set slice)) (slices m)) (demanded_sets m) (λ set. count_flat left (tuples_in m set) (slices m)) in
+    ∙ sum_same (λ set. count left (tuples_of m set)) (λ set. sum_by (λ slice. count left (tuples_in m set slice)) (slices m)) (demanded_sets m)
+    (λ set. count_flat left (tuples_in m set) (slices m)) in
     omega (arith, in_slice, swapped, whole)
 
 grown_few : (m : ModelView) (pref : List (List ℕ)) (seeds : List (ℕ × List (Option ℕ))) → ArePreferences m pref
@@ -140,7 +149,8 @@ grown_few : (m : ModelView) (pref : List (List ℕ)) (seeds : List (ℕ × List 
 grown_few m pref seeds orders =
     let whole = ap length (rows_by_slice m pref seeds (slices m)) in
     let by_slice = length-flat_map (rows_of_slice m pref seeds) (slices m) in
-    let each = sum_less (λ slice. length (rows_of_slice m pref seeds slice)) (λ slice. length (seeds_of m seeds slice) + count (is_extendable m slice) (met_in m slice)) (slices m)
+    let each = sum_less (λ slice. length (rows_of_slice m pref seeds slice))
+    (λ slice. length (seeds_of m seeds slice) + count (is_extendable m slice) (met_in m slice)) (slices m)
     (λ slice has. (slice_grows m pref seeds slice orders (is_slice m slice has)).few) in
     let parts = sum_plus (λ slice. length (seeds_of m seeds slice)) (λ slice. count (is_extendable m slice) (met_in m slice)) (slices m) in
     omega (arith, whole, by_slice, each, parts, few_seeds m seeds, few_tuples m pref seeds orders)
@@ -150,7 +160,8 @@ between_slices : (m : ModelView) (first second : Slice) (row other : List (Optio
     → IsSliceRow m first row → IsSliceRow m second other → is_same_row row other ≡ false
 between_slices m first second row other is_first is_second apart one two =
     false_from_ne_true (is_same_row row other) (λ same.
-    let long = choice_length (slice_values m first) row one.choice ∙ slice_length m first ∙ sym (choice_length (slice_values m second) other two.choice ∙ slice_length m second) in
+    let long = choice_length (slice_values m first) row one.choice ∙ length-slice_values m first ∙ sym
+    (choice_length (slice_values m second) other two.choice ∙ length-slice_values m second) in
     let equal = same_row_is row other long same in
     let of_first = slice_is m first row is_first (row_in_slice m first row is_first one.choice) in
     let of_second = slice_is m second other is_second (row_in_slice m second other is_second two.choice) in
@@ -169,7 +180,8 @@ rows_apart m pref seeds (slice ∷ parts) orders once is =
     between_slices m slice found.0 row other (is slice (inl refl)) is_found (λ same. once.0 (subst (Has parts) (sym same) found.1)) (own.rows row here)
     ((slice_grows m pref seeds found.0 orders is_found).rows other found.2))
 
-grown_distinct : (m : ModelView) (pref : List (List ℕ)) (seeds : List (ℕ × List (Option ℕ))) → ArePreferences m pref → AllPairs (λ a b. is_same_row a b ≡ false) (growth m pref seeds).rows
+grown_distinct : (m : ModelView) (pref : List (List ℕ)) (seeds : List (ℕ × List (Option ℕ))) → ArePreferences m pref
+    → AllPairs (λ a b. is_same_row a b ≡ false) (growth m pref seeds).rows
 grown_distinct m pref seeds orders =
     apart_pairs (growth m pref seeds).rows
     (subst AreApart (sym (rows_by_slice m pref seeds (slices m))) (rows_apart m pref seeds (slices m) orders (slices_once m) (is_slice m)))
@@ -181,11 +193,16 @@ growth_covers m pref seeds sound orders = record {
   demanded = all_members (Contains (demanded_tuples m)) (growth m pref seeds).omitted
       (λ tuple has. contains_member (demanded_tuples m) tuple (has_demanded m tuple (of_omitted m pref seeds tuple orders has).demanded));
   once = omitted_once m pref seeds orders;
-  omitted = all_members (λ tuple. Contains (growth m pref seeds).omitted tuple ↔ ((row : List (Option ℕ)) → serves m row tuple ≡ false)) (demanded_tuples m) (λ tuple has. (
-    λ listed. unserved m tuple (of_omitted m pref seeds tuple orders (has_contained (growth m pref seeds).omitted tuple listed)),
-    λ none. contains_member (growth m pref seeds).omitted tuple (has_omitted m pref seeds tuple sound orders (unservable m tuple (of_demanded m tuple has) none)),
-  ));
-  served = all_members (λ tuple. Any (λ row. serves m row tuple ≡ true) (growth m pref seeds).rows ↔ (Contains (growth m pref seeds).omitted tuple → ⊥)) (demanded_tuples m)
+  omitted =
+      all_members (λ tuple. Contains (growth m pref seeds).omitted tuple ↔ ((row : List (Option ℕ)) → serves m row tuple ≡ false)) (demanded_tuples m)
+      (λ tuple has. (
+        λ listed. unserved m tuple (of_omitted m pref seeds tuple orders (has_contained (growth m pref seeds).omitted tuple listed)),
+        λ none. contains_member (growth m pref seeds).omitted tuple
+            (has_omitted m pref seeds tuple sound orders (unservable m tuple (of_demanded m tuple has) none)),
+      ));
+  served =
+      all_members (λ tuple. Any (λ row. serves m row tuple ≡ true) (growth m pref seeds).rows ↔ (Contains (growth m pref seeds).omitted tuple → ⊥))
+      (demanded_tuples m)
       (λ tuple has. grown_served m pref seeds tuple sound orders (of_demanded m tuple has));
   kept = all_members (λ seed. Any (λ row. contains row seed ≡ true) (growth m pref seeds).rows) (kept_seeds m seeds) (λ seed has. seed_kept m pref seeds seed orders has);
   few = grown_few m pref seeds orders;
@@ -203,7 +220,8 @@ suites_cover m pref seeds sound orders = record {
 }
 
 -- a demanded tuple that isn't among the omitted ones is served by some row of the model
-unlisted_served : (m : ModelView) (pref : List (List ℕ)) (seeds : List (ℕ × List (Option ℕ))) (tuple : List (Option ℕ)) → IsSound m → ArePreferences m pref → IsDemanded m tuple
+unlisted_served : (m : ModelView) (pref : List (List ℕ)) (seeds : List (ℕ × List (Option ℕ))) (tuple : List (Option ℕ)) → IsSound m → ArePreferences m pref
+    → IsDemanded m tuple
     → is_unlisted m pref seeds tuple ≡ true → is_served m (all_rows m) tuple ≡ true
 unlisted_served m pref seeds tuple sound orders is unlisted =
     servable_are_extendable m tuple sound is.few
@@ -212,7 +230,7 @@ unlisted_served m pref seeds tuple sound orders is unlisted =
       | inr fails ↦
           let omitted = (growth m pref seeds).omitted in
           let listed = has_omitted m pref seeds tuple sound orders (record { demanded = is; fails = fails }) in
-          let same = and_from (contains tuple tuple) (contains tuple tuple) (contains_self tuple) (contains_self tuple) in
+          let same = and_from (contains tuple tuple) (contains tuple tuple) (contains-refl tuple) (contains-refl tuple) in
           absurd (false≢true (sym (not-true (list_any (is_same_row tuple) omitted) unlisted) ∙ any_member (is_same_row tuple) omitted tuple listed same))
     ]
 

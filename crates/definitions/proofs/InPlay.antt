@@ -11,12 +11,13 @@ use Rattle.cov_model.specs.Sound.{ModelView, IsSound}
 use Rattle.cov_model.specs.Rows.{is_assigned, value_in}
 use Rattle.cov_model.specs.Valid.{param_numbers}
 use Rattle.cov_model.specs.Slices.{slice_values}
+use Rattle.cov_model.proofs.CellLemmas.{length-slice_values}
 use Rattle.definitions.specs.Demand.{is_among, value_choices, tuples_in, demanded_sets}
 use Rattle.definitions.specs.Completion.{falling, count_in, column_order}
 use Rattle.definitions.specs.Growth.{sets_in_play, tuples_in_play}
 use Rattle.definitions.proofs.Members.{Has, has_left, has_right, of_append, of_map, has_flat, of_flat, has_filter, of_filter}
 use Rattle.definitions.proofs.Distinct.{NoRepeats, repeats_filter, repeats_range, repeats_append}
-use Rattle.definitions.proofs.SliceLemmas.{slice_length, IsSlice, InSlice, has_params}
+use Rattle.definitions.proofs.SliceLemmas.{IsSlice, InSlice, has_params}
 use Rattle.definitions.proofs.Finishing.{met_in}
 use Rattle.definitions.proofs.Totals.{count, counted, count_flat, sum_filter, sum_swap, sum_same, sum_less, sum_once}
 use Rattle.definitions.proofs.Demanded.{demanded_has}
@@ -27,13 +28,15 @@ pub record IsTuple (set : List ℕ) (p : ℕ) (lists : List (List ℕ)) (cells :
   pub given : (i : ℕ) → i < length lists → is_assigned cells i ≡ is_among set (p + i)
   pub listed : (i : ℕ) → i < length lists → is_assigned cells i ≡ true → Has (get_or lists i []) (value_in cells i)
 
-pub choice_is_tuple : (set : List ℕ) (p : ℕ) (lists : List (List ℕ)) (cells : List (Option ℕ)) → Has (value_choices set p lists) cells → IsTuple set p lists cells
+pub choice_is_tuple : (set : List ℕ) (p : ℕ) (lists : List (List ℕ)) (cells : List (Option ℕ)) → Has (value_choices set p lists) cells
+    → IsTuple set p lists cells
 choice_is_tuple set p [] cells (inl same) =
     subst (IsTuple set p []) same (record { long = refl; given = λ i within. absurd (omega arith); listed = λ i within assigned. absurd (omega arith) })
 choice_is_tuple set p [] cells (inr none) = absurd none
 choice_is_tuple set p (values ∷ lists) cells has = at (is_among set p) refl has (choice_is_tuple set (p + 1) lists)
   where
-    more : (cell : Option ℕ) (rest : List (Option ℕ)) → is_some cell ≡ is_among set p → (is_some cell ≡ true → Has values (unwrap_or cell 0)) → IsTuple set (p + 1) lists rest
+    more : (cell : Option ℕ) (rest : List (Option ℕ)) → is_some cell ≡ is_among set p → (is_some cell ≡ true → Has values (unwrap_or cell 0))
+        → IsTuple set (p + 1) lists rest
         → IsTuple set p (values ∷ lists) (cell ∷ rest)
     more cell rest first own later = record { long = ap suc later.long; given = given; listed = listed }
       where
@@ -61,16 +64,17 @@ pub record IsTupleOf (m : ModelView) (set : List ℕ) (slice : Slice) (tuple : L
   pub choice : IsTuple set 0 (slice_values m slice) tuple
   pub belongs : InSlice m slice tuple
 
-pub tuple_is : (m : ModelView) (set : List ℕ) (slice : Slice) (tuple : List (Option ℕ)) → IsSlice m slice → Has (tuples_in m set slice) tuple → IsTupleOf m set slice tuple
+pub tuple_is : (m : ModelView) (set : List ℕ) (slice : Slice) (tuple : List (Option ℕ)) → IsSlice m slice → Has (tuples_in m set slice) tuple
+    → IsTupleOf m set slice tuple
 tuple_is m set Positive tuple is has =
     let choice = choice_is_tuple set 0 (slice_values m Positive) tuple has in
-    record { choice = choice; belongs = record { values = λ p within assigned. choice.listed p (omega (arith, within, slice_length m Positive)) assigned; fixed = tt } }
+    record { choice = choice; belongs = record { values = λ p within assigned. choice.listed p (omega (arith, within, length-slice_values m Positive)) assigned; fixed = tt } }
 tuple_is m set (Negative q v) tuple is has = at (is_among set q) refl has
   where
     at : (b : Bool) → is_among set q ≡ b → Has (cond b (value_choices set 0 (slice_values m (Negative q v))) []) tuple → IsTupleOf m set (Negative q v) tuple
     at true among has =
         let choice = choice_is_tuple set 0 (slice_values m (Negative q v)) tuple has in
-        let long = slice_length m (Negative q v) in
+        let long = length-slice_values m (Negative q v) in
         record {
           choice = choice;
           belongs = record {
@@ -105,7 +109,8 @@ has_falling (suc n) number items x has some most =
 pub falling_once : {X : Type 0} (n : ℕ) (number : X → ℕ) (items : List X) → NoRepeats items → NoRepeats (falling n number items)
 falling_once zero number items once = tt
 falling_once (suc n) number items once =
-    repeats_append (filter (λ item. number item == suc n) items) (falling n number items) (repeats_filter (λ item. number item == suc n) items once) (falling_once n number items once)
+    repeats_append (filter (λ item. number item == suc n) items) (falling n number items) (repeats_filter (λ item. number item == suc n) items once)
+    (falling_once n number items once)
     (λ x here there.
     let first = eqb-true (number x) (suc n) (of_filter (λ item. number item == suc n) items x here).1 in
     let later = of_falling n number items x there in
@@ -120,10 +125,11 @@ order_has m slice p within =
     elim (cases_lt 0 (count_in m slice p)) [
       | inl has ↦ has_left some none p
           (has_falling many (count_in m slice) (param_numbers m) p (has_params m p within) has
-          (get_or-le-sum_by length (slice_values m slice) p [] (omega (arith, within, slice_length m slice))))
+          (get_or-le-sum_by length (slice_values m slice) p [] (omega (arith, within, length-slice_values m slice))))
       | inr few ↦
           let zero_values : count_in m slice p ≡ 0 = omega (arith, few) in
-          has_right some none p (has_filter (λ p. count_in m slice p == 0) (param_numbers m) p (has_params m p within) (eq-eqb (count_in m slice p) 0 zero_values))
+          has_right some none p
+          (has_filter (λ p. count_in m slice p == 0) (param_numbers m) p (has_params m p within) (eq-eqb (count_in m slice p) 0 zero_values))
     ]
 
 pub order_once : (m : ModelView) (slice : Slice) → NoRepeats (column_order m slice)
@@ -154,10 +160,12 @@ one_last m slice set p q first second = at (last_or None (filter (is_among set) 
     at (Some r) first second = sym (eqb-true r p first) ∙ eqb-true r q second
 
 -- growth meets each tuple of a demanded set in the slice
-pub has_met : (m : ModelView) (slice : Slice) (set : List ℕ) (tuple : List (Option ℕ)) → IsSound m → Has (demanded_sets m) set → Has (tuples_in m set slice) tuple → Has (met_in m slice) tuple
+pub has_met : (m : ModelView) (slice : Slice) (set : List ℕ) (tuple : List (Option ℕ)) → IsSound m → Has (demanded_sets m) set
+    → Has (tuples_in m set slice) tuple → Has (met_in m slice) tuple
 has_met m slice set tuple sound demanded has =
     let own = demanded_has m set sound demanded in
-    let last = last_some None (filter (is_among set) (column_order m slice)) own.0 (has_filter (is_among set) (column_order m slice) own.0 (order_has m slice own.0 own.1) own.2) in
+    let last = last_some None (filter (is_among set) (column_order m slice)) own.0
+    (has_filter (is_among set) (column_order m slice) own.0 (order_has m slice own.0 own.1) own.2) in
     let column = of_filter (is_among set) (column_order m slice) last.0 last.1 in
     let is : is_last m slice set last.0 ≡ true = ap (λ o. option_map_or (λ q. q == last.0) o false) last.2 ∙ eq-eqb last.0 last.0 refl in
     has_flat (tuples_in_play m slice) (column_order m slice) last.0 tuple column.0
@@ -177,7 +185,8 @@ of_met m slice tuple has =
     record { set = set.0; demanded = (of_filter (λ set. is_last m slice set column.0) (demanded_sets m) set.0 set.1).0; has = set.2 }
 
 -- it meets no tuple for two columns
-pub few_met : (m : ModelView) (slice : Slice) (test : List (Option ℕ) → Bool) → count test (met_in m slice) ≤ sum_by (λ set. count test (tuples_in m set slice)) (demanded_sets m)
+pub few_met : (m : ModelView) (slice : Slice) (test : List (Option ℕ) → Bool)
+    → count test (met_in m slice) ≤ sum_by (λ set. count test (tuples_in m set slice)) (demanded_sets m)
 few_met m slice test =
     let order = column_order m slice in
     let sets = demanded_sets m in

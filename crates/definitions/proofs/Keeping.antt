@@ -4,11 +4,11 @@ use Rattle.std.specs.List.{list_any, list_all}
 use Rattle.std.proofs.lemmas.Bool.{false≢true, cases_Bool, and_parts, and_from, or_cases, or_left, or_right}
 use Rattle.std.proofs.lemmas.List.Folds.{list_all-append, list_any-append}
 use Rattle.cov_model.specs.Rows.{contains, is_assigned}
+use Rattle.cov_model.proofs.CellLemmas.{contains-refl, contains-trans}
 use Rattle.definitions.specs.Completion.{with_value}
 use Rattle.definitions.specs.Growth.{agrees, union, first_extendable, values_by_gain, fill, across, Joined, join}
-use Rattle.definitions.proofs.Contained.{contains-trans}
 use Rattle.definitions.proofs.Members.{Has, of_map}
-use Rattle.definitions.proofs.Joining.{contains_self, contains_unvalued, union_first, union_second}
+use Rattle.definitions.proofs.PartialRowLemmas.{with_value-contains, union-contains_row, union-contains_tuple}
 
 -- one of the rows contains the tuple
 abbrev pub is_held : List (List (Option ℕ)) → List (Option ℕ) → Bool
@@ -26,11 +26,13 @@ pub record Keeps (extends : List (Option ℕ) → Bool) (rows after : List (List
 pub keeps_self : (extends : List (Option ℕ) → Bool) (rows : List (List (Option ℕ))) → Keeps extends rows rows
 keeps_self extends rows = record { all = λ all. all; held = λ tuple held. held }
 
-pub keeps_then : (extends : List (Option ℕ) → Bool) (rows then after : List (List (Option ℕ))) → Keeps extends rows then → Keeps extends then after → Keeps extends rows after
+pub keeps_then : (extends : List (Option ℕ) → Bool) (rows then after : List (List (Option ℕ))) → Keeps extends rows then → Keeps extends then after
+    → Keeps extends rows after
 keeps_then extends rows then after first second = record { all = λ all. second.all (first.all all); held = λ tuple held. second.held tuple (first.held tuple held) }
 
 -- where one row takes more values
-keeps_first : (extends : List (Option ℕ) → Bool) (row more : List (Option ℕ)) (rows : List (List (Option ℕ))) → contains more row ≡ true → (extends row ≡ true → extends more ≡ true)
+keeps_first : (extends : List (Option ℕ) → Bool) (row more : List (Option ℕ)) (rows : List (List (Option ℕ))) → contains more row ≡ true
+    → (extends row ≡ true → extends more ≡ true)
     → Keeps extends (row ∷ rows) (more ∷ rows)
 keeps_first extends row more rows contained stays = record {
   all = λ all. let parts = and_parts (extends row) (list_all extends rows) all in and_from (extends more) (list_all extends rows) (stays parts.0) parts.1;
@@ -41,7 +43,8 @@ keeps_first extends row more rows contained stays = record {
       ];
 }
 
-keeps_rest : (extends : List (Option ℕ) → Bool) (row : List (Option ℕ)) (rows after : List (List (Option ℕ))) → Keeps extends rows after → Keeps extends (row ∷ rows) (row ∷ after)
+keeps_rest : (extends : List (Option ℕ) → Bool) (row : List (Option ℕ)) (rows after : List (List (Option ℕ))) → Keeps extends rows after
+    → Keeps extends (row ∷ rows) (row ∷ after)
 keeps_rest extends row rows after keeps = record {
   all = λ all. let parts = and_parts (extends row) (list_all extends rows) all in and_from (extends row) (list_all extends after) parts.0 (keeps.all parts.1);
   held = λ tuple held.
@@ -51,12 +54,14 @@ keeps_rest extends row rows after keeps = record {
       ];
 }
 
-keeps_before : (extends : List (Option ℕ) → Bool) (done rows after : List (List (Option ℕ))) → Keeps extends rows after → Keeps extends (done ++ rows) (done ++ after)
+keeps_before : (extends : List (Option ℕ) → Bool) (done rows after : List (List (Option ℕ))) → Keeps extends rows after
+    → Keeps extends (done ++ rows) (done ++ after)
 keeps_before extends [] rows after keeps = keeps
 keeps_before extends (row ∷ done) rows after keeps = keeps_rest extends row (done ++ rows) (done ++ after) (keeps_before extends done rows after keeps)
 
 -- a row more
-pub keeps_more : (extends : List (Option ℕ) → Bool) (rows : List (List (Option ℕ))) (tuple : List (Option ℕ)) → extends tuple ≡ true → Keeps extends rows (rows ++ tuple ∷ [])
+pub keeps_more : (extends : List (Option ℕ) → Bool) (rows : List (List (Option ℕ))) (tuple : List (Option ℕ)) → extends tuple ≡ true
+    → Keeps extends rows (rows ++ tuple ∷ [])
 keeps_more extends rows tuple extendable = record {
   all = λ all. list_all-append extends rows (tuple ∷ []) ∙ and_from (list_all extends rows) (extends tuple && true) all (and_from (extends tuple) true extendable refl);
   held = λ part held. list_any-append (λ row. contains row part) rows (tuple ∷ []) ∙ or_left (is_held rows part) (contains tuple part || false) held;
@@ -67,9 +72,10 @@ record Fills (extends : List (Option ℕ) → Bool) (row filled : List (Option �
   pub contained : contains filled row ≡ true
   pub stays : extends row ≡ true → extends filled ≡ true
 
-first_fills : (extends : List (Option ℕ) → Bool) (row : List (Option ℕ)) (candidates : List (List (Option ℕ))) → ((more : List (Option ℕ)) → Has candidates more → contains more row ≡ true)
+first_fills : (extends : List (Option ℕ) → Bool) (row : List (Option ℕ)) (candidates : List (List (Option ℕ)))
+    → ((more : List (Option ℕ)) → Has candidates more → contains more row ≡ true)
     → Fills extends row (first_extendable extends row candidates).row
-first_fills extends row [] each = record { contained = contains_self row; stays = λ extendable. extendable }
+first_fills extends row [] each = record { contained = contains-refl row; stays = λ extendable. extendable }
 first_fills extends row (candidate ∷ candidates) each =
     let later = first_fills extends row candidates (λ more has. each more (inr has)) in
     elim (cases_Bool (extends candidate)) [
@@ -77,13 +83,14 @@ first_fills extends row (candidate ∷ candidates) each =
       | inr is ↦ rw is later
     ]
 
-fill_fills : (extends : List (Option ℕ) → Bool) (p : ℕ) (values : List ℕ) (tuples rows : List (List (Option ℕ))) (row : List (Option ℕ)) → Fills extends row (fill extends p values tuples rows row).row
+fill_fills : (extends : List (Option ℕ) → Bool) (p : ℕ) (values : List ℕ) (tuples rows : List (List (Option ℕ))) (row : List (Option ℕ))
+    → Fills extends row (fill extends p values tuples rows row).row
 fill_fills extends p values tuples rows row =
     elim (cases_Bool (is_assigned row p)) [
-      | inl is ↦ rw is (record { contained = contains_self row; stays = λ extendable. extendable })
+      | inl is ↦ rw is (record { contained = contains-refl row; stays = λ extendable. extendable })
       | inr is ↦ rw is (first_fills extends row (map (with_value row p) (values_by_gain tuples rows row p values)) (λ more has.
           let found = of_map (with_value row p) (values_by_gain tuples rows row p values) more has in
-          subst (λ r. contains r row ≡ true) found.2 (contains_unvalued row p found.0 is)))
+          subst (λ r. contains r row ≡ true) found.2 (with_value-contains row p found.0 is)))
     ]
 
 -- as many rows as before, which keep what they had
@@ -91,7 +98,8 @@ pub record Widens (extends : List (Option ℕ) → Bool) (rows after : List (Lis
   pub keeps : Keeps extends rows after
   pub long : length after ≡ length rows
 
-pub across_widens : (extends : List (Option ℕ) → Bool) (p : ℕ) (values : List ℕ) (tuples done rows : List (List (Option ℕ))) → Widens extends (done ++ rows) (across extends p values tuples done rows).rows
+pub across_widens : (extends : List (Option ℕ) → Bool) (p : ℕ) (values : List ℕ) (tuples done rows : List (List (Option ℕ)))
+    → Widens extends (done ++ rows) (across extends p values tuples done rows).rows
 across_widens extends p values tuples done [] = record { keeps = at_end done; long = at_end_long done }
   where
     at_end : (done : List (List (Option ℕ))) → Keeps extends (done ++ []) done
@@ -119,17 +127,18 @@ pub record Takes (extends : List (Option ℕ) → Bool) (tuple : List (Option �
   pub held : joined.taken ≡ true → is_held joined.rows tuple ≡ true
   pub extendable : joined.taken ≡ true → extends tuple ≡ true
 
-pub join_takes : (extends : List (Option ℕ) → Bool) → IsClosed extends → (tuple : List (Option ℕ)) (rows : List (List (Option ℕ))) → Takes extends tuple rows (join extends tuple rows)
+pub join_takes : (extends : List (Option ℕ) → Bool) → IsClosed extends → (tuple : List (Option ℕ)) (rows : List (List (Option ℕ)))
+    → Takes extends tuple rows (join extends tuple rows)
 join_takes extends closed tuple [] = record { keeps = keeps_self extends []; long = refl; held = λ taken. absurd (false≢true taken); extendable = λ taken. absurd (false≢true taken) }
 join_takes extends closed tuple (row ∷ rows) =
     elim (cases_Bool (agrees row tuple)) [
       | inl agree ↦
           elim (cases_Bool (extends (union row tuple))) [
             | inl extendable ↦ rw (agree, extendable) (record {
-              keeps = keeps_first extends row (union row tuple) rows (union_first row tuple) (λ before. extendable);
+              keeps = keeps_first extends row (union row tuple) rows (union-contains_row row tuple) (λ before. extendable);
               long = refl;
-              held = λ taken. or_left (contains (union row tuple) tuple) (is_held rows tuple) (union_second row tuple agree);
-              extendable = λ taken. closed (union row tuple) tuple (union_second row tuple agree) extendable;
+              held = λ taken. or_left (contains (union row tuple) tuple) (is_held rows tuple) (union-contains_tuple row tuple agree);
+              extendable = λ taken. closed (union row tuple) tuple (union-contains_tuple row tuple agree) extendable;
             })
             | inr failing ↦ rw (agree, failing) (passed (union row tuple ∷ (join extends tuple rows).asked) (join_takes extends closed tuple rows))
           ]

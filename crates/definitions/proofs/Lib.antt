@@ -16,6 +16,7 @@ pub mod Cells
 pub mod Names
 pub mod ReadRow
 pub mod ReadBack
+mod ReportRead
 pub mod Nothing
 pub mod Readings
 pub mod Contained
@@ -23,6 +24,7 @@ pub mod Extendable
 pub mod Refuted
 pub mod Certified
 pub mod Members
+pub mod PartialRowLemmas
 pub mod Choices
 pub mod Distinct
 pub mod SliceLemmas

@@ -3,6 +3,7 @@ use Rattle.std.proofs.Common.{◌≡◌, ℕ, zero, suc, ◌+◌, ◌<◌, ◌�
 use Rattle.std.specs.Prelude.{Contains, ◌==◌, find, filter_map}
 use Rattle.std.specs.List.{cons_option, filter, flat_map, list_any, list_all, range_with_len}
 use Rattle.std.proofs.lemmas.Bool.{false≢true, cases_eq, eq-eqb, eqb-true, and_parts, and_from, or_cases, or_left, or_right}
+use Rattle.std.proofs.lemmas.Option.{none-some, same_Some}
 use Rattle.definitions.specs.Demand.{is_among}
 
 -- x is one of the list
@@ -87,7 +88,8 @@ pub of_filter : {X : Type 0} (test : X → Bool) (xs : List X) (x : X) → Has (
 of_filter test [] x has = absurd has
 of_filter test (y ∷ xs) x has = at (test y) refl has (of_filter test xs x)
   where
-    at : (b : Bool) → test y ≡ b → Has (cond b (y ∷ filter test xs) (filter test xs)) x → (Has (filter test xs) x → Has xs x × (test x ≡ true)) → Has (y ∷ xs) x × (test x ≡ true)
+    at : (b : Bool) → test y ≡ b → Has (cond b (y ∷ filter test xs) (filter test xs)) x → (Has (filter test xs) x → Has xs x × (test x ≡ true))
+        → Has (y ∷ xs) x × (test x ≡ true)
     at true is (inl same) later = (inl same, ap test (sym same) ∙ is)
     at true is (inr has) later = (inr (later has).0, (later has).1)
     at false is has later = (inr (later has).0, (later has).1)
@@ -107,7 +109,8 @@ pub of_given : {X Y : Type 0} (h : X → Option Y) (xs : List X) (y : Y) → Has
 of_given h [] y has = absurd has
 of_given {X} {Y} h (z ∷ xs) y has = at (h z) refl has (of_given h xs y)
   where
-    at : (o : Option Y) → h z ≡ o → Has (cons_option o (filter_map h xs)) y → (Has (filter_map h xs) y → (x : X) × Has xs x × (h x ≡ Some y)) → (x : X) × Has (z ∷ xs) x × (h x ≡ Some y)
+    at : (o : Option Y) → h z ≡ o → Has (cons_option o (filter_map h xs)) y → (Has (filter_map h xs) y → (x : X) × Has xs x × (h x ≡ Some y))
+        → (x : X) × Has (z ∷ xs) x × (h x ≡ Some y)
     at None is has later = let found = later has in (found.0, inr found.1, found.2)
     at (Some w) is (inl same) later = (z, inl refl, is ∙ ap Some same)
     at (Some w) is (inr has) later = let found = later has in (found.0, inr found.1, found.2)
@@ -143,17 +146,12 @@ same_answer false false f g = refl
 
 -- what is found
 pub of_find : {X : Type 0} (test : X → Bool) (xs : List X) (x : X) → find test xs ≡ Some x → Has xs x × (test x ≡ true)
-of_find {X} test [] x found = absurd (none_some x found)
-  where
-    none_some : {X : Type 0} (x : X) → None ≡ Some x → ⊥
-    none_some x e = cc
+of_find {X} test [] x found = absurd (none-some x found)
 of_find test (y ∷ xs) x found = at (test y) refl found (of_find test xs x)
   where
-    same : {X : Type 0} (y x : X) → Some y ≡ Some x → y ≡ x
-    same y x e = cc
-
-    at : (b : Bool) → test y ≡ b → cond b (Some y) (find test xs) ≡ Some x → (find test xs ≡ Some x → Has xs x × (test x ≡ true)) → Has (y ∷ xs) x × (test x ≡ true)
-    at true is found later = let here = same y x found in (inl here, ap test (sym here) ∙ is)
+    at : (b : Bool) → test y ≡ b → cond b (Some y) (find test xs) ≡ Some x → (find test xs ≡ Some x → Has xs x × (test x ≡ true))
+        → Has (y ∷ xs) x × (test x ≡ true)
+    at true is found later = let here = same_Some y x found in (inl here, ap test (sym here) ∙ is)
     at false is found later = (inr (later found).0, (later found).1)
 
 pub find_some : {X : Type 0} (test : X → Bool) (xs : List X) (x : X) → Has xs x → test x ≡ true → (y : X) × (find test xs ≡ Some y)

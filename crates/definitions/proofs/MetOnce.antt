@@ -11,6 +11,7 @@ use Rattle.cov_model.specs.Meaning.{value_at}
 use Rattle.cov_model.specs.Sound.{ModelView, param_at}
 use Rattle.cov_model.specs.Valid.{param_numbers}
 use Rattle.cov_model.specs.Slices.{slices, slice_of, slice_values, value_numbers}
+use Rattle.cov_model.proofs.CellLemmas.{length-slice_values, slice_values-positive, slice_values-own, slice_values-other}
 use Rattle.definitions.specs.Demand.{is_among, choices, rising, demanded_sets, value_choices, tuples_in}
 use Rattle.definitions.specs.Completion.{column_order, is_extendable}
 use Rattle.definitions.specs.Seeds.{is_same_row}
@@ -19,12 +20,13 @@ use Rattle.definitions.specs.Laws.{ArePreferences}
 use Rattle.definitions.proofs.SetOrder.{lex, sorted_in_order}
 use Rattle.definitions.proofs.Members.{Has, of_map, of_flat, has_filter, of_filter, among_has, of_among, same_answer}
 use Rattle.definitions.proofs.Distinct.{NoRepeats, repeats_filter, repeats_range, repeats_map, repeats_flat}
-use Rattle.definitions.proofs.SliceLemmas.{IsSlice, is_slice, slice_is, slice_length, values_at, values_positive, values_own, values_other, of_params}
+use Rattle.definitions.proofs.SliceLemmas.{IsSlice, is_slice, slice_is, values_at, of_params}
 use Rattle.definitions.proofs.Once.{AreApart, apart_pairs}
+use Rattle.definitions.proofs.PartialRowLemmas.{same_row_is}
 use Rattle.definitions.proofs.Finishing.{met_in, slice_grows}
 use Rattle.definitions.proofs.Demanded.{of_in_order}
 use Rattle.definitions.proofs.InPlay.{tuple_is, is_last, one_last, order_once, of_met}
-use Rattle.definitions.proofs.Grown.{same_row_is, slices_once, omitted_in_slice, omitted_by_slice, of_omitted}
+use Rattle.definitions.proofs.Grown.{slices_once, omitted_in_slice, omitted_by_slice, of_omitted}
 
 -- the demanded sets are distinct
 sorted_once : (sets : List (List ℕ)) → IsStrictlySortedBy lex sets → NoRepeats sets
@@ -62,7 +64,8 @@ members_are m set has =
         (λ among. (of_filter (is_among choice) (param_numbers m) p (of_among (rising m choice) p among)).1)
 
 -- a tuple is of one set
-one_set : (m : ModelView) (slice : Slice) (first second : List ℕ) (tuple : List (Option ℕ)) → IsSlice m slice → Has (demanded_sets m) first → Has (demanded_sets m) second
+one_set : (m : ModelView) (slice : Slice) (first second : List ℕ) (tuple : List (Option ℕ)) → IsSlice m slice → Has (demanded_sets m) first
+    → Has (demanded_sets m) second
     → Has (tuples_in m first slice) tuple → Has (tuples_in m second slice) tuple → first ≡ second
 one_set m slice first second tuple is has_first has_second here there =
     let one = (tuple_is m first slice tuple is here).choice in
@@ -70,12 +73,13 @@ one_set m slice first second tuple is has_first has_second here there =
     members_are m first has_first
     ∙ same_filter (is_among first) (is_among second) (param_numbers m) (λ p has.
     let within = of_params m p has in
-    let inside : p < length (slice_values m slice) = omega (arith, within, slice_length m slice) in
+    let inside : p < length (slice_values m slice) = omega (arith, within, length-slice_values m slice) in
     ap (is_among first) (sym (zero-add p)) ∙ sym (one.given p inside) ∙ two.given p inside ∙ ap (is_among second) (zero-add p))
     ∙ sym (members_are m second has_second)
 
 -- the value choices of a set are distinct
-choices_once : (set : List ℕ) (p : ℕ) (lists : List (List ℕ)) → ((i : ℕ) → i < length lists → NoRepeats (get_or lists i [])) → NoRepeats (value_choices set p lists)
+choices_once : (set : List ℕ) (p : ℕ) (lists : List (List ℕ)) → ((i : ℕ) → i < length lists → NoRepeats (get_or lists i []))
+    → NoRepeats (value_choices set p lists)
 choices_once set p [] each = (λ has. has, tt)
 choices_once set p (values ∷ lists) each =
     let later = choices_once set (p + 1) lists (λ i within. each (suc i) (omega arith)) in
@@ -100,19 +104,21 @@ choices_once set p (values ∷ lists) each =
 
 values_once : (m : ModelView) (slice : Slice) (p : ℕ) → IsSlice m slice → p < length m.params → NoRepeats (values_at m slice p)
 values_once m Positive p is within =
-    subst NoRepeats (sym (values_positive m p within)) (repeats_filter (λ v. not (value_at m p v).negative) (value_numbers m p) (repeats_range 0 (length (param_at m.params p).values)))
+    subst NoRepeats (sym (slice_values-positive m p within))
+    (repeats_filter (λ v. not (value_at m p v).negative) (value_numbers m p) (repeats_range 0 (length (param_at m.params p).values)))
 values_once m (Negative q v) p is within =
     elim (cases_eq p q) [
-      | inl same ↦ subst NoRepeats (sym (ap (values_at m (Negative q v)) same ∙ values_own m q v is.0)) (λ has. has, tt)
-      | inr apart ↦ subst NoRepeats (sym (values_other m q v p within apart))
+      | inl same ↦ subst NoRepeats (sym (ap (values_at m (Negative q v)) same ∙ slice_values-own m q v is.0)) (λ has. has, tt)
+      | inr apart ↦ subst NoRepeats (sym (slice_values-other m q v p within apart))
           (repeats_filter (λ v. not (value_at m p v).negative) (value_numbers m p) (repeats_range 0 (length (param_at m.params p).values)))
     ]
 
 pub tuples_once : (m : ModelView) (set : List ℕ) (slice : Slice) → IsSlice m slice → NoRepeats (tuples_in m set slice)
 tuples_once m set Positive is =
-    choices_once set 0 (slice_values m Positive) (λ p within. values_once m Positive p is (omega (arith, within, slice_length m Positive)))
+    choices_once set 0 (slice_values m Positive) (λ p within. values_once m Positive p is (omega (arith, within, length-slice_values m Positive)))
 tuples_once m set (Negative q v) is =
-    let once = choices_once set 0 (slice_values m (Negative q v)) (λ p within. values_once m (Negative q v) p is (omega (arith, within, slice_length m (Negative q v)))) in
+    let once = choices_once set 0 (slice_values m (Negative q v))
+    (λ p within. values_once m (Negative q v) p is (omega (arith, within, length-slice_values m (Negative q v)))) in
     elim (cases_Bool (is_among set q)) [ inl among ↦ rw among once | inr away ↦ rw away tt ]
 
 -- so growth meets no tuple twice
@@ -124,7 +130,8 @@ set_once m slice p is =
     (of_filter (λ set. is_last m slice set p) (demanded_sets m) second has_second).0 here there)
     (repeats_filter (λ set. is_last m slice set p) (demanded_sets m) (sets_once m))
 
-one_column : (m : ModelView) (slice : Slice) (p q : ℕ) (tuple : List (Option ℕ)) → IsSlice m slice → Has (tuples_in_play m slice p) tuple → Has (tuples_in_play m slice q) tuple → p ≡ q
+one_column : (m : ModelView) (slice : Slice) (p q : ℕ) (tuple : List (Option ℕ)) → IsSlice m slice → Has (tuples_in_play m slice p) tuple
+    → Has (tuples_in_play m slice q) tuple → p ≡ q
 one_column m slice p q tuple is here there =
     let one = of_flat (λ set. tuples_in m set slice) (sets_in_play m (column_order m slice) p) tuple here in
     let two = of_flat (λ set. tuples_in m set slice) (sets_in_play m (column_order m slice) q) tuple there in
@@ -139,7 +146,8 @@ met_once m slice is =
     (λ p q tuple first second here there. one_column m slice p q tuple is here there) (order_once m slice)
 
 -- and omits none twice
-of_omitted_in : (m : ModelView) (pref : List (List ℕ)) (seeds : List (ℕ × List (Option ℕ))) (slice : Slice) (tuple : List (Option ℕ)) → ArePreferences m pref → IsSlice m slice
+of_omitted_in : (m : ModelView) (pref : List (List ℕ)) (seeds : List (ℕ × List (Option ℕ))) (slice : Slice) (tuple : List (Option ℕ)) → ArePreferences m pref
+    → IsSlice m slice
     → Has (omitted_in_slice m pref seeds slice) tuple → slice_of m tuple ≡ slice
 of_omitted_in m pref seeds slice tuple orders is has =
     let left = subst (λ tuples. Has tuples tuple) (slice_grows m pref seeds slice orders is).omitted has in
@@ -152,7 +160,8 @@ omitted_repeats m pref seeds orders =
     (repeats_flat (omitted_in_slice m pref seeds) (slices m)
     (λ slice has.
     let is = is_slice m slice has in
-    subst NoRepeats (sym (slice_grows m pref seeds slice orders is).omitted) (repeats_filter (λ tuple. not (is_extendable m slice tuple)) (met_in m slice) (met_once m slice is)))
+    subst NoRepeats (sym (slice_grows m pref seeds slice orders is).omitted)
+    (repeats_filter (λ tuple. not (is_extendable m slice tuple)) (met_in m slice) (met_once m slice is)))
     (λ first second tuple has_first has_second here there.
     sym (of_omitted_in m pref seeds first tuple orders (is_slice m first has_first) here)
     ∙ of_omitted_in m pref seeds second tuple orders (is_slice m second has_second) there)
@@ -166,7 +175,8 @@ apart_of_once n (row ∷ rows) once long = (
   apart_of_once n rows once.1 (λ other has. long other (inr has)),
 )
 
-pub omitted_once : (m : ModelView) (pref : List (List ℕ)) (seeds : List (ℕ × List (Option ℕ))) → ArePreferences m pref → AllPairs (λ a b. is_same_row a b ≡ false) (growth m pref seeds).omitted
+pub omitted_once : (m : ModelView) (pref : List (List ℕ)) (seeds : List (ℕ × List (Option ℕ))) → ArePreferences m pref
+    → AllPairs (λ a b. is_same_row a b ≡ false) (growth m pref seeds).omitted
 omitted_once m pref seeds orders =
     apart_pairs (growth m pref seeds).omitted
     (apart_of_once (length m.params) (growth m pref seeds).omitted (omitted_repeats m pref seeds orders) (λ tuple has. (of_omitted m pref seeds tuple orders has).demanded.long))

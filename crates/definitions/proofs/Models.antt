@@ -1,7 +1,7 @@
 -- The small models on which growth, search and proofs are computed.
 use Rattle.std.specs.Prelude.{ℕ, ◌-◌, List, [], ◌∷◌, map, Option, Some, None, ◌==◌, codes, if◌then◌else◌}
 use Rattle.std.specs.List.{slice_split}
-use Rattle.cov_model.specs.declared.constraint.Body.TheVariants.{Plain, IfThen}
+use Rattle.cov_model.specs.Views.{Plain, IfThen}
 use Rattle.cov_model.specs.declared.constraint.Rel.TheVariants.{Eq, Ne, Gt, Lt}
 use Rattle.cov_model.specs.declared.parameter.Param.{Param}
 use Rattle.cov_model.specs.Sound.{ModelView}

@@ -58,7 +58,8 @@ marked_apart fold false false mark a b is un_a un_b differ = differ
 
 -- elements of two pieces of a joined list, of which all elements are apart
 pub apart : {X A : Type 0} (R : A → A → Type 0) (f : X → List A) (xs : List X) (u v j k : ℕ) (e : X) (d : A) → AllPairs R (flat_map f xs)
-    → u < v → v < length xs → j < length (f (get_or xs u e)) → k < length (f (get_or xs v e)) → R (get_or (f (get_or xs u e)) j d) (get_or (f (get_or xs v e)) k d)
+    → u < v → v < length xs → j < length (f (get_or xs u e)) → k < length (f (get_or xs v e))
+    → R (get_or (f (get_or xs u e)) j d) (get_or (f (get_or xs v e)) k d)
 apart R f xs u v j k e d pairs before within in_u in_v =
     let first = get_or-flat_map f xs u j e d (omega arith) in_u in
     let second = get_or-flat_map f xs v k e d within in_v in
@@ -119,7 +120,8 @@ mark_spelled [] = refl
 mark_spelled (byte ∷ text) = refl
 
 -- a name doesn't begin with a byte-order mark, whatever follows it
-begins : (c : ℕ) (rest text : List ℕ) → c < 32 → list_any (λ d. d == 0xfeff) (chars text) ≡ false → starts_with nat_eq (text ++ c ∷ rest) byte_order_mark ≡ false
+begins : (c : ℕ) (rest text : List ℕ) → c < 32 → list_any (λ d. d == 0xfeff) (chars text) ≡ false
+    → starts_with nat_eq (text ++ c ∷ rest) byte_order_mark ≡ false
 begins c rest [] low none = and_left _ _ (ne_eqb 0xef c (λ e. omega arith))
 begins c rest (x ∷ []) low none = and_right _ _ (and_left _ _ (ne_eqb 0xbb c (λ e. omega arith)))
 begins c rest (x ∷ y ∷ []) low none = and_right _ _ (and_right _ _ (and_left _ _ (ne_eqb 0xbf c (λ e. omega arith))))

@@ -2,12 +2,11 @@
 use Rattle.std.proofs.Common.{◌≡◌, ℕ, zero, suc, ◌<◌, ◌≤◌, Bool, true, false, not, cond, List, [], ◌∷◌, ◌++◌, length, get_or, Option, Some, None, inl, inr, subst, refl, arith}
 use Rattle.std.specs.Prelude.{AllPairs, filter_map}
 use Rattle.std.specs.List.{cons_option, filter}
-use Rattle.std.proofs.lemmas.Bool.{cases_Bool, not-true, not_from_false, and_parts, and_from}
-use Rattle.cov_model.specs.Rows.{contains}
+use Rattle.std.proofs.lemmas.Bool.{cases_Bool, not-true, not_from_false}
+use Rattle.value_text.proofs.ListLemmas.{length-filter-le}
 use Rattle.definitions.specs.Seeds.{is_same_row, distinct}
-use Rattle.definitions.proofs.Contained.{contains-trans}
 use Rattle.definitions.proofs.Members.{Has, has_filter, of_append, of_filter}
-use Rattle.definitions.proofs.Joining.{contains_self}
+use Rattle.definitions.proofs.PartialRowLemmas.{same-refl, same-trans}
 
 -- no row is the same as a later one
 abbrev pub AreApart : List (List (Option ℕ)) → Type 0
@@ -56,38 +55,22 @@ of_distinct [] row has = absurd has
 of_distinct (first ∷ rows) row (inl same) = inl same
 of_distinct (first ∷ rows) row (inr has) = inr (of_distinct rows row (of_filter (λ other. not (is_same_row first other)) (distinct rows) row has).0)
 
-same_self : (row : List (Option ℕ)) → is_same_row row row ≡ true
-same_self row = and_from (contains row row) (contains row row) (contains_self row) (contains_self row)
-
-same_then : (a b c : List (Option ℕ)) → is_same_row a b ≡ true → is_same_row b c ≡ true → is_same_row a c ≡ true
-same_then a b c first second =
-    let ab = and_parts (contains a b) (contains b a) first in
-    let bc = and_parts (contains b c) (contains c b) second in
-    and_from (contains a c) (contains c a) (contains-trans a b c ab.0 bc.0) (contains-trans c b a bc.1 ab.1)
-
 -- a row among the distinct ones is the same as each row
-pub has_distinct : (rows : List (List (Option ℕ))) (row : List (Option ℕ)) → Has rows row → (kept : List (Option ℕ)) × Has (distinct rows) kept × (is_same_row kept row ≡ true)
+pub has_distinct : (rows : List (List (Option ℕ))) (row : List (Option ℕ)) → Has rows row
+    → (kept : List (Option ℕ)) × Has (distinct rows) kept × (is_same_row kept row ≡ true)
 has_distinct [] row has = absurd has
-has_distinct (first ∷ rows) row (inl same) = (first, inl refl, subst (λ r. is_same_row first r ≡ true) same (same_self first))
+has_distinct (first ∷ rows) row (inl same) = (first, inl refl, subst (λ r. is_same_row first r ≡ true) same (same-refl first))
 has_distinct (first ∷ rows) row (inr has) =
     let later = has_distinct rows row has in
     elim (cases_Bool (is_same_row first later.0)) [
-      | inl equal ↦ (first, inl refl, same_then first later.0 row equal later.2)
+      | inl equal ↦ (first, inl refl, same-trans first later.0 row equal later.2)
       | inr differs ↦
           (later.0, inr (has_filter (λ other. not (is_same_row first other)) (distinct rows) later.0 later.1 (not_from_false (is_same_row first later.0) differs)), later.2)
     ]
 
-pub few_filter : {X : Type 0} (test : X → Bool) (xs : List X) → length (filter test xs) ≤ length xs
-few_filter test [] = omega arith
-few_filter test (x ∷ xs) = at (test x) (few_filter test xs)
-  where
-    at : (b : Bool) → length (filter test xs) ≤ length xs → length (cond b (x ∷ filter test xs) (filter test xs)) ≤ suc (length xs)
-    at true later = omega arith
-    at false later = omega arith
-
 pub few_distinct : (rows : List (List (Option ℕ))) → length (distinct rows) ≤ length rows
 few_distinct [] = omega arith
-few_distinct (row ∷ rows) = omega (arith, few_filter (λ other. not (is_same_row row other)) (distinct rows), few_distinct rows)
+few_distinct (row ∷ rows) = omega (arith, length-filter-le (λ other. not (is_same_row row other)) (distinct rows), few_distinct rows)
 
 pub few_given : {X Y : Type 0} (h : X → Option Y) (xs : List X) → length (filter_map h xs) ≤ length xs
 few_given h [] = omega arith

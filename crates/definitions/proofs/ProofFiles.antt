@@ -27,7 +27,8 @@ omission_words m format (word ∷ words) omission sound given =
     elim (cases_Bool (bytes_eq word (codes "omit"))) [
       | inl first ↦
           let same : word ≡ codes "omit" = (bytes_eq-Decides word (codes "omit")).0 first in
-          let rest = by_parts (read_each (read_pair m) (before_first is_colon words)) (read_each (read_token m format) (after_first is_colon words)) refl refl (rw first at given) in
+          let rest = by_parts (read_each (read_pair m) (before_first is_colon words))
+          (read_each (read_token m format) (after_first is_colon words)) refl refl (rw first at given) in
           (ap (λ w. w ∷ words) same ∙ rest.0, rest.1)
       | inr other ↦ nothing (rw other at given)
     ]
@@ -42,7 +43,8 @@ omission_words m format (word ∷ words) omission sound given =
     by_parts (Some pairs) None first second given = cc
     by_parts (Some pairs) (Some tokens) first second given = words_spell m format words pairs tokens omission sound first second given
 
-omission_spells : (m : ModelView) (format : ℕ) (line : List ℕ) (omission : Omission) → IsSound m → read_omission m format line ≡ Some omission → IsOmissionLine m format line omission
+omission_spells : (m : ModelView) (format : ℕ) (line : List ℕ) (omission : Omission) → IsSound m → read_omission m format line ≡ Some omission
+    → IsOmissionLine m format line omission
 omission_spells m format line omission sound given =
     let spelled = omission_words m format (slice_split (λ b. b == 32) line) omission sound given in
     record { line_is = sym (join_with_byte-slice_split 32 line) ∙ ap (join_with_byte 32) spelled.0; is = spelled.1 }
@@ -52,7 +54,8 @@ abbrev pieces_of : List Omission → List (List ℕ)
 pieces_of [] = [] ∷ []
 pieces_of (omission ∷ omissions) = line_of omission ∷ pieces_of omissions
 
-split_lines : (m : ModelView) (format : ℕ) (omissions : List Omission) → IsSound m → ((omission : Omission) → Has omissions omission → IsOmissionOf m format omission)
+split_lines : (m : ModelView) (format : ℕ) (omissions : List Omission) → IsSound m
+    → ((omission : Omission) → Has omissions omission → IsOmissionOf m format omission)
     → slice_split (λ b. b == 10) (flat_map omission_line omissions) ≡ pieces_of omissions
 split_lines m format [] sound are = refl
 split_lines m format (omission ∷ omissions) sound are =
@@ -60,7 +63,8 @@ split_lines m format (omission ∷ omissions) sound are =
     ∙ slice_split_at (λ b. b == 10) (line_of omission) 10 (flat_map omission_line omissions) (line_lacks m format omission sound (are omission (inl refl))) refl
     ∙ ap (λ rest. line_of omission ∷ rest) (split_lines m format omissions sound (λ other has. are other (inr has)))
 
-lines_read : (m : ModelView) (format n : ℕ) (omissions : List Omission) → IsSound m → ((omission : Omission) → Has omissions omission → IsOmissionOf m format omission)
+lines_read : (m : ModelView) (format n : ℕ) (omissions : List Omission) → IsSound m
+    → ((omission : Omission) → Has omissions omission → IsOmissionOf m format omission)
     → read_lines m format n (pieces_of omissions) ≡ Ok omissions
 lines_read m format n [] sound are = refl
 lines_read m format n (omission ∷ []) sound are = ap (λ o. before_lines n o (Ok [])) (omission_reads m format omission sound (are omission (inl refl)))
@@ -94,7 +98,8 @@ pieces_read m format (omission ∷ omissions) (inr two) =
 
 pub proofs_read_back : ProofsReadBack
 proofs_read_back m format omissions sound known are =
-    let each : (omission : Omission) → Has omissions omission → IsOmissionOf m format omission = λ omission has. member_of_all (IsOmissionOf m format) omissions omission are has in
+    let each : (omission : Omission) → Has omissions omission → IsOmissionOf m format omission = λ omission has. member_of_all
+    (IsOmissionOf m format) omissions omission are has in
     let head = codes "pict-proof " ++ (48 + format) ∷ [] in
     ap (λ line. omissions_of m (line ++ flat_map omission_line omissions)) (format_line_is format known)
     ∙ ap (omissions_of m) (append_assoc head (10 ∷ []) (flat_map omission_line omissions))
@@ -108,7 +113,8 @@ record AreLines (m : ModelView) (format : ℕ) (pieces : List (List ℕ)) (omiss
   pub text_is : join_with_byte 10 pieces ≡ flat_map omission_line omissions
   pub are : (omission : Omission) → Has omissions omission → IsOmissionOf m format omission
 
-lines_spell : (m : ModelView) (format n : ℕ) (pieces : List (List ℕ)) (omissions : List Omission) → IsSound m → 0 < length pieces → read_lines m format n pieces ≡ Ok omissions
+lines_spell : (m : ModelView) (format n : ℕ) (pieces : List (List ℕ)) (omissions : List Omission) → IsSound m → 0 < length pieces
+    → read_lines m format n pieces ≡ Ok omissions
     → AreLines m format pieces omissions
 lines_spell m format n [] omissions sound some given = absurd (omega arith)
 lines_spell m format n (rest ∷ []) omissions sound some given =
@@ -123,10 +129,13 @@ lines_spell m format n (rest ∷ []) omissions sound some given =
     broken : ◌≡◌ {A = Result (List Omission) ℕ} (Err n) (Ok omissions) → AreLines m format (rest ∷ []) omissions
     broken given = cc
 lines_spell m format n (line ∷ next ∷ lines) omissions sound some given =
-    by_line (read_omission m format line) (read_lines m format (n + 1) (next ∷ lines)) refl refl given (λ later read. lines_spell m format (n + 1) (next ∷ lines) later sound (omega arith) read)
+    by_line (read_omission m format line) (read_lines m format (n + 1) (next ∷ lines)) refl refl given
+    (λ later read. lines_spell m format (n + 1) (next ∷ lines) later sound (omega arith) read)
   where
-    by_line : (o : Option Omission) (rest : Result (List Omission) ℕ) → read_omission m format line ≡ o → read_lines m format (n + 1) (next ∷ lines) ≡ rest → before_lines n o rest ≡ Ok omissions
-        → ((later : List Omission) → read_lines m format (n + 1) (next ∷ lines) ≡ Ok later → AreLines m format (next ∷ lines) later) → AreLines m format (line ∷ next ∷ lines) omissions
+    by_line : (o : Option Omission) (rest : Result (List Omission) ℕ) → read_omission m format line ≡ o → read_lines m format (n + 1) (next ∷ lines) ≡ rest
+        → before_lines n o rest ≡ Ok omissions
+        → ((later : List Omission) → read_lines m format (n + 1) (next ∷ lines) ≡ Ok later → AreLines m format (next ∷ lines) later)
+        → AreLines m format (line ∷ next ∷ lines) omissions
     by_line None rest here there given spells = cc
     by_line (Some omission) (Err bad) here there given spells = cc
     by_line (Some omission) (Ok later) here there given spells =
@@ -147,11 +156,13 @@ same_ok : (a b : ℕ × List Omission) → ◌≡◌ {A = Result (ℕ × List Om
 same_ok a b same = cc
 
 -- behind a first line of the format
-behind_first : (m : ModelView) (found : ℕ) (line next : List ℕ) (lines : List (List ℕ)) (format : ℕ) (omissions : List Omission) → IsSound m → line ++ 10 ∷ [] ≡ format_line found
+behind_first : (m : ModelView) (found : ℕ) (line next : List ℕ) (lines : List (List ℕ)) (format : ℕ) (omissions : List Omission) → IsSound m
+    → line ++ 10 ∷ [] ≡ format_line found
     → with_format found (read_lines m found 2 (next ∷ lines)) ≡ Ok (format, omissions) → IsText m (line ∷ next ∷ lines) format omissions
 behind_first m found line next lines format omissions sound first given = by_lines (read_lines m found 2 (next ∷ lines)) refl given
   where
-    by_lines : (rest : Result (List Omission) ℕ) → read_lines m found 2 (next ∷ lines) ≡ rest → with_format found rest ≡ Ok (format, omissions) → IsText m (line ∷ next ∷ lines) format omissions
+    by_lines : (rest : Result (List Omission) ℕ) → read_lines m found 2 (next ∷ lines) ≡ rest → with_format found rest ≡ Ok (format, omissions)
+        → IsText m (line ∷ next ∷ lines) format omissions
     by_lines (Err bad) is given = cc
     by_lines (Ok later) is given =
         let both = same_ok (found, later) (format, omissions) given in
@@ -164,7 +175,8 @@ behind_first m found line next lines format omissions sound first given = by_lin
           are = behind.are;
         }))
 
-pieces_spell : (m : ModelView) (pieces : List (List ℕ)) (format : ℕ) (omissions : List Omission) → IsSound m → read_pieces m pieces ≡ Ok (format, omissions) → IsText m pieces format omissions
+pieces_spell : (m : ModelView) (pieces : List (List ℕ)) (format : ℕ) (omissions : List Omission) → IsSound m → read_pieces m pieces ≡ Ok (format, omissions)
+    → IsText m pieces format omissions
 pieces_spell m [] format omissions sound given = cc
 pieces_spell m (rest ∷ []) format omissions sound given = cc
 pieces_spell m (line ∷ next ∷ lines) format omissions sound given =

@@ -19,7 +19,8 @@ use Rattle.definitions.proofs.Spelling.{Lacks, parts_at, comes_from}
 use Rattle.definitions.proofs.ProofWords.{IsPair, pair_reads, pair_spells, pair_lacks, token_reads, token_spells, token_lacks}
 
 -- what is read of each item
-pub each_reads : {X Y : Type 0} (read : X → Option Y) (text : Y → X) (ys : List Y) → ((y : Y) → Has ys y → read (text y) ≡ Some y) → read_each read (map text ys) ≡ Some ys
+pub each_reads : {X Y : Type 0} (read : X → Option Y) (text : Y → X) (ys : List Y) → ((y : Y) → Has ys y → read (text y) ≡ Some y)
+    → read_each read (map text ys) ≡ Some ys
 each_reads read text [] reads = refl
 each_reads read text (y ∷ ys) reads =
     ap (λ o. option_map (λ both. both.0 ∷ both.1) (option_zip o (read_each read (map text ys)))) (reads y (inl refl))
@@ -34,7 +35,8 @@ pub each_spells : {X Y : Type 0} (read : X → Option Y) (text : Y → X) (P : Y
 each_spells read text P [] ys spells given =
     let none : [] ≡ ys = cc in
     subst (AreTexts text P []) none (record { items_are = refl; are = λ y has. absurd has })
-each_spells {X} {Y} read text P (x ∷ items) ys spells given = first (read x) (read_each read items) refl refl given (λ zs. each_spells read text P items zs spells)
+each_spells {X} {Y} read text P (x ∷ items) ys spells given =
+    first (read x) (read_each read items) refl refl given (λ zs. each_spells read text P items zs spells)
   where
     both_are : (y : Y) (zs : List Y) → read x ≡ Some y → AreTexts text P items zs → AreTexts text P (x ∷ items) (y ∷ zs)
     both_are y zs here later = record { items_are = ap (λ i. i ∷ items) (spells x y here).0 ∙ ap (λ rest. text y ∷ rest) later.items_are; are = each }
@@ -43,11 +45,13 @@ each_spells {X} {Y} read text P (x ∷ items) ys spells given = first (read x) (
         each w (inl same) = subst P same (spells x y here).1
         each w (inr has) = later.are w has
 
-    first : (o : Option Y) (rest : Option (List Y)) → read x ≡ o → read_each read items ≡ rest → option_map (λ both. both.0 ∷ both.1) (option_zip o rest) ≡ Some ys
+    first : (o : Option Y) (rest : Option (List Y)) → read x ≡ o → read_each read items ≡ rest
+        → option_map (λ both. both.0 ∷ both.1) (option_zip o rest) ≡ Some ys
         → ((zs : List Y) → read_each read items ≡ Some zs → AreTexts text P items zs) → AreTexts text P (x ∷ items) ys
     first None rest here there given later = cc
     first (Some y) None here there given later = cc
-    first (Some y) (Some zs) here there given later = let same : y ∷ zs ≡ ys = cc in subst (AreTexts text P (x ∷ items)) same (both_are y zs here (later zs there))
+    first (Some y) (Some zs) here there given later =
+        let same : y ∷ zs ≡ ys = cc in subst (AreTexts text P (x ∷ items)) same (both_are y zs here (later zs there))
 
 -- rising pairs, as a test
 rising_passes : (pairs : List (ℕ × ℕ)) → IsRising pairs → is_rising pairs ≡ true
@@ -76,7 +80,8 @@ word_lacks m format c omission sound is low =
     (All-append (Lacks c) (map pair_text omission.tuple) (codes ":" ∷ map token_text omission.tree)
     (all_members (Lacks c) (map pair_text omission.tuple) (λ word has.
     let pair = of_map pair_text omission.tuple word has in
-    subst (Lacks c) pair.2 (pair_lacks m c pair.0 sound (member_of_all (IsPair m) omission.tuple pair.0 is.exist pair.1) (λ r. absurd (omega (arith, r.0, low))) (high 61 (omega arith)))))
+    subst (Lacks c) pair.2
+    (pair_lacks m c pair.0 sound (member_of_all (IsPair m) omission.tuple pair.0 is.exist pair.1) (λ r. absurd (omega (arith, r.0, low))) (high 61 (omega arith)))))
     (All-cons (Lacks c) (codes ":") (map token_text omission.tree)
     (All-from_recursion (λ b. (b == c) ≡ false) (codes ":") (high 58 (omega arith), tt))
     (all_members (Lacks c) (map token_text omission.tree) (λ word has.
@@ -111,11 +116,14 @@ pair_no_colon pair =
 -- an omission is read back
 proper_gives : (m : ModelView) (format : ℕ) (omission : Omission) → IsOmissionOf m format omission → proper (omission.tuple, omission.tree) ≡ Some omission
 proper_gives m format omission is =
-    let front = and_from (nat_lt 0 (length omission.tuple)) (is_rising omission.tuple) (lt-ltb 0 (length omission.tuple) is.some_tuple) (rising_passes omission.tuple is.rising) in
-    let whole = and_from (nat_lt 0 (length omission.tuple) && is_rising omission.tuple) (nat_lt 0 (length omission.tree)) front (lt-ltb 0 (length omission.tree) is.some_tree) in
+    let front = and_from (nat_lt 0 (length omission.tuple)) (is_rising omission.tuple) (lt-ltb 0 (length omission.tuple) is.some_tuple)
+    (rising_passes omission.tuple is.rising) in
+    let whole = and_from (nat_lt 0 (length omission.tuple) && is_rising omission.tuple) (nat_lt 0 (length omission.tree)) front
+    (lt-ltb 0 (length omission.tree) is.some_tree) in
     ap (λ b. cond b (Some omission) None) whole
 
-pub omission_reads : (m : ModelView) (format : ℕ) (omission : Omission) → IsSound m → IsOmissionOf m format omission → read_omission m format (line_of omission) ≡ Some omission
+pub omission_reads : (m : ModelView) (format : ℕ) (omission : Omission) → IsSound m → IsOmissionOf m format omission
+    → read_omission m format (line_of omission) ≡ Some omission
 omission_reads m format omission sound is =
     let words = map pair_text omission.tuple ++ codes ":" ∷ map token_text omission.tree in
     let parts = parts_at is_colon (map pair_text omission.tuple) (codes ":") (map token_text omission.tree)
@@ -127,7 +135,8 @@ omission_reads m format omission sound is =
     ∙ each_reads (read_pair m) pair_text omission.tuple (λ pair has. pair_reads m pair sound (member_of_all (IsPair m) omission.tuple pair is.exist has)) in
     let tokens : read_each (read_token m format) (after_first is_colon words) ≡ Some omission.tree =
     ap (read_each (read_token m format)) parts.after_is
-    ∙ each_reads (read_token m format) token_text omission.tree (λ token has. token_reads m format token sound (member_of_all (IsTokenOf m format) omission.tree token is.tokens has)) in
+    ∙ each_reads (read_token m format) token_text omission.tree
+    (λ token has. token_reads m format token sound (member_of_all (IsTokenOf m format) omission.tree token is.tokens has)) in
     ap (read_omission_words m format) (split_joined_by 32 (words_of omission) (omega arith) (word_lacks m format 32 omission sound is (omega arith)))
     ∙ ap (λ o. option_and_then proper (option_zip o (read_each (read_token m format) (after_first is_colon words)))) pairs
     ∙ ap (λ o. option_and_then proper (option_zip (Some omission.tuple) o)) tokens
@@ -158,7 +167,8 @@ words_spell m format words pairs tokens omission sound first second given =
         ap (λ ws. codes "omit" ∷ ws) (whole.whole_is ∙ ap (λ ws. ws ++ whole.parting ∷ after_first is_colon words) pairs_are.items_are
         ∙ ap (λ w. map pair_text pairs ++ w ∷ after_first is_colon words) colon ∙ ap (λ ws. map pair_text pairs ++ codes ":" ∷ ws) tokens_are.items_are)
 
-    by_test : (b : Bool) → (nat_lt 0 (length pairs) && is_rising pairs && nat_lt 0 (length tokens)) ≡ b → cond b (Some (omission_from pairs tokens)) None ≡ Some omission
+    by_test : (b : Bool) → (nat_lt 0 (length pairs) && is_rising pairs && nat_lt 0 (length tokens)) ≡ b
+        → cond b (Some (omission_from pairs tokens)) None ≡ Some omission
         → (codes "omit" ∷ words ≡ words_of omission) × IsOmissionOf m format omission
     by_test false is given = cc
     by_test true is given =

@@ -55,7 +55,8 @@ pair_spells m text pair sound read =
     pieces p v first second =
         let left = number_spells (λ p. nat_lt p (length m.params)) (before_first (λ b. b == 61) text) p (param_small m sound) first in
         let p_within = ltb-true p (length m.params) left.passes in
-        let right = number_spells (λ v. nat_lt v (length (param_at m.params p).values)) (after_first (λ b. b == 61) text) v (value_small m sound p p_within) second in
+        let right = number_spells (λ v. nat_lt v (length (param_at m.params p).values)) (after_first (λ b. b == 61) text) v
+        (value_small m sound p p_within) second in
         let v_within = ltb-true v (length (param_at m.params p).values) right.passes in
         let some = decimal_nonempty v (value_small m sound p p_within v right.passes) in
         let whole = comes_from (λ b. b == 61) text 0 (omega (arith, ap length right.text_is, some)) in
@@ -67,7 +68,8 @@ pair_spells m text pair sound read =
         }
 
     by_value : (p : ℕ) (o : Option ℕ) → number_where (λ p. nat_lt p (length m.params)) (before_first (λ b. b == 61) text) ≡ Some p
-        → number_where (λ v. nat_lt v (length (param_at m.params p).values)) (after_first (λ b. b == 61) text) ≡ o → option_map (λ v. (p, v)) o ≡ Some pair → IsPairText m text pair
+        → number_where (λ v. nat_lt v (length (param_at m.params p).values)) (after_first (λ b. b == 61) text) ≡ o → option_map (λ v. (p, v)) o ≡ Some pair
+        → IsPairText m text pair
     by_value p None first second given = cc
     by_value p (Some v) first second given = let same : (p, v) ≡ pair = cc in subst (IsPairText m text) same (pieces p v first second)
 
@@ -75,7 +77,8 @@ pair_spells m text pair sound read =
         → option_and_then (λ p. option_map (λ v. (p, v)) (number_where (λ v. nat_lt v (length (param_at m.params p).values)) (after_first (λ b. b == 61) text))) o ≡ Some pair
         → IsPairText m text pair
     by_param None first given = cc
-    by_param (Some p) first given = by_value p (number_where (λ v. nat_lt v (length (param_at m.params p).values)) (after_first (λ b. b == 61) text)) first refl given
+    by_param (Some p) first given =
+        by_value p (number_where (λ v. nat_lt v (length (param_at m.params p).values)) (after_first (λ b. b == 61) text)) first refl given
 
 -- bytes that a pair's text lacks
 pub pair_lacks : (m : ModelView) (c : ℕ) (pair : ℕ × ℕ) → IsSound m → IsPair m pair → (IsInRange 48 57 c → ⊥) → (61 == c) ≡ false → Lacks c (pair_text pair)
@@ -92,7 +95,8 @@ rule_numbers m sound i d within = let here = sound.numbered i d within in (omega
 has_rule : (m : ModelView) (k : ℕ) → IsSound m → 1 ≤ k → k ≤ length m.rules → list_any (λ rule. rule.number == k) m.rules ≡ true
 has_rule m k sound least most =
     let here = sound.numbered (k - 1) no_rule (omega (arith, least, most)) in
-    list_any_at (λ rule. rule.number == k) m.rules (k - 1) no_rule (omega (arith, least, most)) (eq-eqb (get_or m.rules (k - 1) no_rule).number k (omega (arith, here, least)))
+    list_any_at (λ rule. rule.number == k) m.rules (k - 1) no_rule (omega (arith, least, most))
+    (eq-eqb (get_or m.rules (k - 1) no_rule).number k (omega (arith, here, least)))
 
 of_rule : (m : ModelView) (k : ℕ) → IsSound m → list_any (λ rule. rule.number == k) m.rules ≡ true → (1 ≤ k) × (k ≤ length m.rules)
 of_rule m k sound some =
@@ -135,7 +139,8 @@ pub record IsTokenText (m : ModelView) (format : ℕ) (text : List ℕ) (token :
 
 -- a token with a number
 numbered : (m : ModelView) (format first letter : ℕ) (text : List ℕ) (token : Token) (make : ℕ → Token) (test : ℕ → Bool)
-    → letter ≡ first → ((n : ℕ) → token_text (make n) ≡ first ∷ decimal n) → ((n : ℕ) → test n ≡ true → n < 2 ^ 64) → ((n : ℕ) → test n ≡ true → IsTokenOf m format (make n))
+    → letter ≡ first → ((n : ℕ) → token_text (make n) ≡ first ∷ decimal n) → ((n : ℕ) → test n ≡ true → n < 2 ^ 64)
+    → ((n : ℕ) → test n ≡ true → IsTokenOf m format (make n))
     → option_map make (number_where test text) ≡ Some token → IsTokenText m format (letter ∷ text) token
 numbered m format first letter text token make test same spelled small of given = by_number (number_where test text) refl given
   where
@@ -147,7 +152,8 @@ numbered m format first letter text token make test same spelled small of given 
         subst (IsTokenText m format (letter ∷ text)) made
         (record { text_is = ap (λ b. b ∷ text) same ∙ ap (λ t. first ∷ t) number.text_is ∙ sym (spelled n); is = of n number.passes })
 
-pub token_spells : (m : ModelView) (format : ℕ) (text : List ℕ) (token : Token) → IsSound m → read_token m format text ≡ Some token → IsTokenText m format text token
+pub token_spells : (m : ModelView) (format : ℕ) (text : List ℕ) (token : Token) → IsSound m → read_token m format text ≡ Some token
+    → IsTokenText m format text token
 token_spells m format [] token sound given = cc
 token_spells m format (letter ∷ text) token sound given =
     elim (cases_Bool (letter == 66)) [
@@ -186,10 +192,12 @@ token_spells m format (letter ∷ text) token sound given =
 -- bytes that a token's text lacks
 lettered : (c letter n : ℕ) → n < 2 ^ 64 → c ≤ 47 → 48 ≤ letter → Lacks c (letter ∷ decimal n)
 lettered c letter n small low high =
-    All-cons (λ b. (b == c) ≡ false) letter (decimal n) (ne_eqb letter c (λ e. omega (arith, low, high, e))) (number_lacks c n small (λ r. absurd (omega (arith, r.0, low))))
+    All-cons (λ b. (b == c) ≡ false) letter (decimal n) (ne_eqb letter c (λ e. omega (arith, low, high, e)))
+    (number_lacks c n small (λ r. absurd (omega (arith, r.0, low))))
 
 pub token_lacks : (m : ModelView) (format c : ℕ) (token : Token) → IsSound m → IsTokenOf m format token → c ≤ 47 → Lacks c (token_text token)
 token_lacks m format c (Branch p) sound is low = lettered c 66 p (param_small m sound p (lt-ltb p (length m.params) is)) low (omega arith)
 token_lacks m format c (ByRule k) sound is low = lettered c 76 k (rule_small m sound k (has_rule m k sound is.0 is.1)) low (omega arith)
-token_lacks m format c ByNegative sound is low = All-cons (λ b. (b == c) ≡ false) 78 [] (ne_eqb 78 c (λ e. omega (arith, low, e))) (All-nil (λ b. (b == c) ≡ false))
+token_lacks m format c ByNegative sound is low =
+    All-cons (λ b. (b == c) ≡ false) 78 [] (ne_eqb 78 c (λ e. omega (arith, low, e))) (All-nil (λ b. (b == c) ≡ false))
 token_lacks m format c (ByOmission n) sound is low = lettered c 79 n (omega (arith, is.2)) low (omega arith)

@@ -29,7 +29,8 @@ abbrev no_value : Value
 no_value = record { names = []; weight = 0; negative = false }
 
 -- the first place that passes
-position_is : {X : Type 0} (p : X → Bool) (xs : List X) (i : ℕ) (d : X) → i < length xs → ((k : ℕ) → k < i → p (get_or xs k d) ≡ false) → p (get_or xs i d) ≡ true → position p xs ≡ Some i
+position_is : {X : Type 0} (p : X → Bool) (xs : List X) (i : ℕ) (d : X) → i < length xs → ((k : ℕ) → k < i → p (get_or xs k d) ≡ false)
+    → p (get_or xs i d) ≡ true → position p xs ≡ Some i
 position_is p xs i d within before here =
     let place : position_or_len p xs ≡ i = position_or_len_is p xs i d (omega arith) before (λ _. here) in
     cond-true (nat_lt (position_or_len p xs) (length xs)) _ _ (lt-ltb _ _ (omega arith)) ∙ ap Some place
@@ -59,7 +60,7 @@ abbrev pub header : ModelView → List (List ℕ)
 header m = map (λ param. param.name) m.params
 
 -- a cell of it names its own parameter
-named_param-header : (m : ModelView) → IsSound m → (p : ℕ) → p < length m.params → named_param m (get_or (header m) p []) ≡ Some p
+pub named_param-header : (m : ModelView) → IsSound m → (p : ℕ) → p < length m.params → named_param m (get_or (header m) p []) ≡ Some p
 named_param-header m sound p within =
     let own : get_or (header m) p [] ≡ (param_at m.params p).name = get_or-map (λ param. param.name) m.params p no_param [] within in
     rw own (position_is (λ param. is_same_text m.fold param.name (param_at m.params p).name) m.params p no_param within
@@ -112,15 +113,15 @@ named_value-printed m mark values sound distinct v k within in_v =
     cell = printed m (get_or values v no_value) (get_or (get_or values v no_value).names k [])
 
 -- what a row gives a parameter is the number of one of its values
-record IsGiven (m : ModelView) (row : List (Option ℕ)) (p : ℕ) : Type 0 where
-  cell : Some (value_in row p) ≡ get_or row p None
-  within : value_in row p < length (param_at m.params p).values
+pub record IsGiven (m : ModelView) (row : List (Option ℕ)) (p : ℕ) : Type 0 where
+  pub cell : Some (value_in row p) ≡ get_or row p None
+  pub within : value_in row p < length (param_at m.params p).values
 
 some_value : (cell : Option ℕ) → is_some cell ≡ true → Some (unwrap_or cell 0) ≡ cell
 some_value None is = absurd (true≢false (sym is))
 some_value (Some v) is = refl
 
-row_given : (m : ModelView) (row : List (Option ℕ)) → is_row m row ≡ true → (p : ℕ) → p < length m.params → IsGiven m row p
+pub row_given : (m : ModelView) (row : List (Option ℕ)) → is_row m row ≡ true → (p : ℕ) → p < length m.params → IsGiven m row p
 row_given m row is p within =
     let few : p < length (param_numbers m) = omega (arith, length-range_with_len 0 (length m.params)) in
     let all : All (λ q. has_value m row q ≡ true) (param_numbers m) = AllPass-from_list_all (has_value m row) (param_numbers m) (and_parts _ _ is).1 in
@@ -133,11 +134,12 @@ row_given m row is p within =
     }
 
 -- a cell of a row's line is a cell, and names the value that the row gives
-record IsCellOf (m : ModelView) (earlier : List (List (Option ℕ))) (row : List (Option ℕ)) (p : ℕ) : Type 0 where
-  cell : IsCell (cell_text m earlier row p)
-  value : named_value m p (cell_text m earlier row p) ≡ get_or row p None
+pub record IsCellOf (m : ModelView) (earlier : List (List (Option ℕ))) (row : List (Option ℕ)) (p : ℕ) : Type 0 where
+  pub cell : IsCell (cell_text m earlier row p)
+  pub value : named_value m p (cell_text m earlier row p) ≡ get_or row p None
 
-cell_text_cell : (m : ModelView) → IsSound m → (earlier : List (List (Option ℕ))) (row : List (Option ℕ)) → is_row m row ≡ true → (p : ℕ) → p < length m.params → IsCellOf m earlier row p
+pub cell_text_cell : (m : ModelView) → IsSound m → (earlier : List (List (Option ℕ))) (row : List (Option ℕ)) → is_row m row ≡ true → (p : ℕ)
+    → p < length m.params → IsCellOf m earlier row p
 cell_text_cell m sound earlier row is p within =
     let given = row_given m row is p within in
     let param = sound.params p no_param within in
@@ -160,7 +162,8 @@ header_row m sound = record {
   cells = All-map IsCell (λ param. param.name) m.params (λ k d within. name_cell _ (sound.params k d within).named);
 }
 
-pub row_cells_row : (m : ModelView) → IsSound m → (earlier : List (List (Option ℕ))) (row : List (Option ℕ)) → is_row m row ≡ true → IsRow (row_cells m earlier row)
+pub row_cells_row : (m : ModelView) → IsSound m → (earlier : List (List (Option ℕ))) (row : List (Option ℕ)) → is_row m row ≡ true
+    → IsRow (row_cells m earlier row)
 row_cells_row m sound earlier row is = record {
   some = omega (arith, sound.some, length-map-range_with_len (cell_text m earlier row) 0 (length m.params));
   cells = All-map IsCell (cell_text m earlier row) (param_numbers m) (each_param m (λ p. IsCell (cell_text m earlier row p)) (λ p within. (cell_text_cell m sound earlier row is p within).cell));
@@ -173,11 +176,13 @@ row_of_line-joined m sound earlier row is =
     let cells = row_cells_row m sound earlier row is in
     let size : length row ≡ length m.params = eqb-true _ _ (and_parts _ _ is).0 in
     let line = joined (row_cells m earlier row) in
-    let long : length (row_of_line m (header m) line) ≡ length m.params = length-map-range_with_len (λ p. named_value m p (cell_at (cells_of_line line) (columns_of m (header m) p))) 0 (length m.params) in
+    let long : length (row_of_line m (header m) line) ≡ length m.params = length-map-range_with_len
+    (λ p. named_value m p (cell_at (cells_of_line line) (columns_of m (header m) p))) 0 (length m.params) in
     same_lists (row_of_line m (header m) line) row (long ∙ sym size) (λ p d within.
     let few : p < length m.params = omega arith in
     get_or-map-range_with_len (λ p. named_value m p (cell_at (cells_of_line line) (columns_of m (header m) p))) 0 (length m.params) p p d few (zero-add p)
-    ∙ ap₂ (λ cells columns. named_value m p (cell_at cells columns)) (cells_of_line-joined (row_cells m earlier row) cells.some cells.cells) (columns_of-header m sound p few)
+    ∙ ap₂ (λ cells columns. named_value m p (cell_at cells columns)) (cells_of_line-joined (row_cells m earlier row) cells.some cells.cells)
+    (columns_of-header m sound p few)
     ∙ ap (named_value m p) (get_or-map-range_with_len (cell_text m earlier row) 0 (length m.params) p p [] few (zero-add p))
     ∙ (cell_text_cell m sound earlier row is p few).value
     ∙ get_or_default row p None d (omega arith))

@@ -102,24 +102,24 @@ trees =
 abbrev citing : ℕ → List (List (Option ℕ) × List Token)
 citing n = trees ++ (row (codes "0__1"), Branch 1 ∷ ByOmission n ∷ ByOmission 2 ∷ []) ∷ []
 
-twin_and_one-proof : refutes_each twin_and_one 2 [] (citing 1) ≡ true
+twin_and_one-proof : refutes_each twin_and_one 2 (citing 1) ≡ true
 twin_and_one-proof = refl
 
-twin_and_one-other : refutes_each twin_and_one 2 [] (citing 5) ≡ false
+twin_and_one-other : refutes_each twin_and_one 2 (citing 5) ≡ false
 twin_and_one-other = refl
 
 -- a line that cites itself, a later one, or none
-twin_and_one-itself : refutes_each twin_and_one 2 [] (citing 6) ≡ false
+twin_and_one-itself : refutes_each twin_and_one 2 (citing 6) ≡ false
 twin_and_one-itself = refl
 
-twin_and_one-later : refutes_each twin_and_one 2 [] (citing 7) ≡ false
+twin_and_one-later : refutes_each twin_and_one 2 (citing 7) ≡ false
 twin_and_one-later = refl
 
-twin_and_one-none : refutes_each twin_and_one 2 [] (citing 0) ≡ false
+twin_and_one-none : refutes_each twin_and_one 2 (citing 0) ≡ false
 twin_and_one-none = refl
 
 -- format 1 cites nothing
-twin_and_one-plain : refutes_each twin_and_one 1 [] (citing 1) ≡ false
+twin_and_one-plain : refutes_each twin_and_one 1 (citing 1) ≡ false
 twin_and_one-plain = refl
 
 -- the least number is cited, and a constraint before an omission

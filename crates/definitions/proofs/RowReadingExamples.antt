@@ -1,6 +1,6 @@
 -- Row files and their readings, computed on small models.
 use Rattle.std.specs.Prelude.{◌≡◌, ℕ, ◌+◌, ◌^◌, List, [], ◌∷◌, Some, None, Ok, Err, codes, refl}
-use Rattle.definitions.specs.RowReading.{Seed, Suite, UnknownColumn, UnknownValue, NoHeader, Twice, Missing, TooManyRows, Width, read_rows, count_fault}
+use Rattle.definitions.specs.RowReading.{Seed, Suite, UnknownColumn, UnknownValue, NoHeader, Twice, Missing, TooManyRows, Width, notes_of, read_rows, count_fault}
 use Rattle.definitions.proofs.Models.{row, pair, bound, mixed}
 
 -- seed rows with an unknown column, a repeated row, an empty line and an unknown value
@@ -57,6 +57,13 @@ pair-wide_first = refl
 
 pair-missing_first : read_rows pair Suite (codes "B\n1\tx\n") ≡ Err (Missing 0)
 pair-missing_first = refl
+
+-- the notes alone, also where the file is refused
+pair-notes : notes_of pair (codes "A\tA\tZ\n1\tw\n") ≡ (1, UnknownColumn) ∷ (2, UnknownValue) ∷ []
+pair-notes = refl
+
+none-notes : notes_of pair [] ≡ []
+none-notes = refl
 
 -- 2^20 rows are allowed, one more aren't
 most : count_fault (2 ^ 20) ≡ None

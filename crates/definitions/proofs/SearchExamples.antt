@@ -1,6 +1,6 @@
 -- Plain search and its cost, computed on small models.
 use Rattle.std.specs.Prelude.{◌≡◌, ℕ, suc, true, false, not, List, [], ◌∷◌, Option, Some, None, codes, refl, slice_index_or, if◌then◌else◌}
-use Rattle.cov_model.specs.declared.constraint.Body.TheVariants.{Plain, IfThen}
+use Rattle.cov_model.specs.Views.{Plain, IfThen}
 use Rattle.cov_model.specs.declared.constraint.Rel.TheVariants.{Eq, Lt}
 use Rattle.cov_model.specs.declared.slice.Slice.TheVariants.{Positive, Negative}
 use Rattle.cov_model.specs.Sound.{ModelView}

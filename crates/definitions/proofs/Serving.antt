@@ -1,33 +1,22 @@
 -- Which rows serve a tuple with at most one negative value.
-use Rattle.std.proofs.Common.{◌≡◌, ℕ, zero, suc, ◌<◌, ◌≤◌, true, false, ◌&&◌, not, List, [], ◌∷◌, map, length, get_or, Option, Some, None, inl, inr, unwrap_or, zero-add, ◌∙◌, sym, ap, subst, refl, arith}
+use Rattle.std.proofs.Common.{◌≡◌, ℕ, ◌<◌, ◌≤◌, true, false, ◌&&◌, not, List, [], ◌∷◌, map, length, Option, inl, inr, zero-add, ◌∙◌, sym, ap, subst, refl, arith}
 use Rattle.std.specs.Prelude.{◌==◌, nat_lt, nat_le}
 use Rattle.std.specs.List.{list_all}
 use Rattle.std.proofs.lemmas.List.FromFn.{length-map-range_with_len, get_or-map-range_with_len}
-use Rattle.std.proofs.lemmas.Bool.{false≢true, false_from_ne_true, cases_eq, and_parts, and_from, not_from_false, eqb-true, ltb-true, leb-true}
+use Rattle.std.proofs.lemmas.Bool.{false_from_ne_true, cases_eq, and_parts, and_from, not_from_false, eqb-true, ltb-true, leb-true}
 use Rattle.cov_model.specs.declared.slice.Slice.TheVariants.{Negative}
 use Rattle.cov_model.specs.Sound.{ModelView, param_at}
 use Rattle.cov_model.specs.Rows.{contains, is_assigned, value_in}
 use Rattle.cov_model.specs.Meaning.{value_at}
 use Rattle.cov_model.specs.Valid.{is_row, is_valid, has_value, negatives, param_numbers, serves}
 use Rattle.cov_model.specs.Slices.{value_numbers, slice_values, slice_by, slice_of}
+use Rattle.cov_model.proofs.CellLemmas.{contains-value_in, length-slice_values, slice_values-positive, slice_values-own, slice_values-other}
 use Rattle.definitions.specs.Completion.{completions, meets_rules, has_slice, is_extendable}
 use Rattle.definitions.specs.Figures.{all_rows, is_served}
 use Rattle.definitions.specs.Laws.{SlicesServe, ServableAreExtendable}
 use Rattle.definitions.proofs.Members.{Has, has_contained, contains_member, has_filter, all_pass, passes_all, any_member, of_any, same_answer}
 use Rattle.definitions.proofs.Choices.{IsChoice, choice_from, choice_completes, completion_is}
-use Rattle.definitions.proofs.SliceLemmas.{values_at, slice_length, values_positive, values_own, values_other, is_negative, has_numbers, has_params, IsNegativeAt, of_negatives, has_negatives, IsFixedBy, negative_of, slice_of_is, row_in_slice, choice_is_valid}
-
--- a row gives what a partial row that it contains gives
-pub contained_at : (row cells : List (Option ℕ)) (p : ℕ) → contains row cells ≡ true → is_assigned cells p ≡ true → get_or row p None ≡ get_or cells p None
-contained_at row [] p contained assigned = absurd (false≢true assigned)
-contained_at [] (None ∷ cells) zero contained assigned = refl
-contained_at [] (None ∷ cells) (suc p) contained assigned = contained_at [] cells p contained assigned
-contained_at [] (Some v ∷ cells) p contained assigned = absurd (false≢true contained)
-contained_at (given ∷ row) (None ∷ cells) zero contained assigned = absurd (false≢true assigned)
-contained_at (given ∷ row) (None ∷ cells) (suc p) contained assigned = contained_at row cells p contained assigned
-contained_at (None ∷ row) (Some v ∷ cells) p contained assigned = absurd (false≢true contained)
-contained_at (Some w ∷ row) (Some v ∷ cells) zero contained assigned = ap Some (eqb-true w v (and_parts (w == v) (contains row cells) contained).0)
-contained_at (Some w ∷ row) (Some v ∷ cells) (suc p) contained assigned = contained_at row cells p (and_parts (w == v) (contains row cells) contained).1 assigned
+use Rattle.definitions.proofs.SliceLemmas.{values_at, is_negative, has_numbers, has_params, IsNegativeAt, of_negatives, has_negatives, IsFixedBy, negative_of, slice_of_is, row_in_slice, choice_is_valid}
 
 -- what a row is that serves a tuple
 pub record Serves (m : ModelView) (row tuple : List (Option ℕ)) : Type 0 where
@@ -66,18 +55,20 @@ shared_negative : (m : ModelView) (row tuple : List (Option ℕ)) (p : ℕ) → 
     → Has (negatives m tuple) p
 shared_negative m row tuple p is within negative =
     let own = value_of m row p (is.has p within) in
-    let assigned : is_assigned tuple p ≡ true = is.negatives_in p (has_negatives m row p (record { within = within; assigned = own.assigned; negative = negative })) in
-    let same : value_in row p ≡ value_in tuple p = ap (λ (cell : Option ℕ). unwrap_or cell 0) (contained_at row tuple p is.contained assigned) in
+    let assigned : is_assigned tuple p ≡ true = is.negatives_in p
+    (has_negatives m row p (record { within = within; assigned = own.assigned; negative = negative })) in
+    let same : value_in row p ≡ value_in tuple p = contains-value_in row tuple p is.contained assigned in
     has_negatives m tuple p (record { within = within; assigned = assigned; negative = ap (is_negative m p) (sym same) ∙ negative })
 
 -- so each of its values is one of the tuple's slice
-served_value : (m : ModelView) (row tuple : List (Option ℕ)) (p : ℕ) (ps : List ℕ) → negatives m tuple ≡ ps → length ps ≤ 1 → Serves m row tuple → p < length m.params
+served_value : (m : ModelView) (row tuple : List (Option ℕ)) (p : ℕ) (ps : List ℕ) → negatives m tuple ≡ ps → length ps ≤ 1 → Serves m row tuple
+    → p < length m.params
     → Has (values_at m (slice_by tuple ps) p) (value_in row p)
 served_value m row tuple p [] are few is within =
     let own = value_of m row p (is.has p within) in
     let plain : is_negative m p (value_in row p) ≡ false =
     false_from_ne_true (is_negative m p (value_in row p)) (λ negative. subst (λ ps. Has ps p) are (shared_negative m row tuple p is within negative)) in
-    subst (λ vs. Has vs (value_in row p)) (sym (values_positive m p within))
+    subst (λ vs. Has vs (value_in row p)) (sym (slice_values-positive m p within))
     (has_filter (λ v. not (value_at m p v).negative) (value_numbers m p) (value_in row p) (has_numbers m p (value_in row p) own.exists) (not_from_false (is_negative m p (value_in row p)) plain))
 served_value m row tuple p (q ∷ []) are few is within = elim (cases_eq p q) [ inl same ↦ here same | inr apart ↦ there apart ]
   where
@@ -86,16 +77,17 @@ served_value m row tuple p (q ∷ []) are few is within = elim (cases_eq p q) [ 
 
     here : p ≡ q → Has (values_at m (Negative q (value_in tuple q)) p) (value_in row p)
     here same =
-        let value : value_in row q ≡ value_in tuple q = ap (λ (cell : Option ℕ). unwrap_or cell 0) (contained_at row tuple q is.contained fixed.assigned) in
+        let value : value_in row q ≡ value_in tuple q = contains-value_in row tuple q is.contained fixed.assigned in
         subst (λ r. Has (values_at m (Negative q (value_in tuple q)) r) (value_in row r)) (sym same)
-        (subst (λ vs. Has vs (value_in row q)) (sym (values_own m q (value_in tuple q) fixed.within)) (inl (sym value)))
+        (subst (λ vs. Has vs (value_in row q)) (sym (slice_values-own m q (value_in tuple q) fixed.within)) (inl (sym value)))
 
     there : (p ≡ q → ⊥) → Has (values_at m (Negative q (value_in tuple q)) p) (value_in row p)
     there apart =
         let own = value_of m row p (is.has p within) in
         let plain : is_negative m p (value_in row p) ≡ false =
-        false_from_ne_true (is_negative m p (value_in row p)) (λ negative. only (subst (λ ps. Has ps p) are (shared_negative m row tuple p is within negative)) apart) in
-        subst (λ vs. Has vs (value_in row p)) (sym (values_other m q (value_in tuple q) p within apart))
+        false_from_ne_true (is_negative m p (value_in row p))
+        (λ negative. only (subst (λ ps. Has ps p) are (shared_negative m row tuple p is within negative)) apart) in
+        subst (λ vs. Has vs (value_in row p)) (sym (slice_values-other m q (value_in tuple q) p within apart))
         (has_filter (λ v. not (value_at m p v).negative) (value_numbers m p) (value_in row p) (has_numbers m p (value_in row p) own.exists) (not_from_false (is_negative m p (value_in row p)) plain))
       where
         only : Has (q ∷ []) p → (p ≡ q → ⊥) → ⊥
@@ -103,10 +95,11 @@ served_value m row tuple p (q ∷ []) are few is within = elim (cases_eq p q) [ 
         only (inr none) apart = none
 served_value m row tuple p (q ∷ r ∷ ps) are few is within = absurd (omega arith)
 
-pub served_is_choice : (m : ModelView) (row tuple : List (Option ℕ)) → has_slice m tuple ≡ true → Serves m row tuple → IsChoice (slice_values m (slice_of m tuple)) row
+pub served_is_choice : (m : ModelView) (row tuple : List (Option ℕ)) → has_slice m tuple ≡ true → Serves m row tuple
+    → IsChoice (slice_values m (slice_of m tuple)) row
 served_is_choice m row tuple few is =
-    choice_from (slice_values m (slice_of m tuple)) row (omega (arith, is.long, slice_length m (slice_of m tuple))) (λ p within.
-    let inside : p < length m.params = omega (arith, within, slice_length m (slice_of m tuple)) in
+    choice_from (slice_values m (slice_of m tuple)) row (omega (arith, is.long, length-slice_values m (slice_of m tuple))) (λ p within.
+    let inside : p < length m.params = omega (arith, within, length-slice_values m (slice_of m tuple)) in
     let own = value_of m row p (is.has p inside) in
     record {
       assigned = own.assigned;
@@ -114,7 +107,8 @@ served_is_choice m row tuple few is =
     })
 
 -- and a row of the slice that contains the tuple serves it
-pub choice_serves : (m : ModelView) (row tuple : List (Option ℕ)) → IsChoice (slice_values m (slice_of m tuple)) row → contains row tuple ≡ true → meets_rules m row ≡ true
+pub choice_serves : (m : ModelView) (row tuple : List (Option ℕ)) → IsChoice (slice_values m (slice_of m tuple)) row → contains row tuple ≡ true
+    → meets_rules m row ≡ true
     → serves m row tuple ≡ true
 choice_serves m row tuple choice contained meets =
     let slice = slice_of m tuple in
@@ -154,7 +148,8 @@ serving_is_row m row tuple is =
     })) refl
 
 -- a row that serves a tuple shows it extendable
-pub served_extends : (m : ModelView) (row tuple : List (Option ℕ)) → has_slice m tuple ≡ true → serves m row tuple ≡ true → is_extendable m (slice_of m tuple) tuple ≡ true
+pub served_extends : (m : ModelView) (row tuple : List (Option ℕ)) → has_slice m tuple ≡ true → serves m row tuple ≡ true
+    → is_extendable m (slice_of m tuple) tuple ≡ true
 served_extends m row tuple few holds =
     let is = of_serves m row tuple holds in
     any_member (meets_rules m) (completions (slice_values m (slice_of m tuple)) tuple) row

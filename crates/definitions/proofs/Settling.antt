@@ -8,11 +8,11 @@ use Rattle.cov_model.specs.declared.slice.Slice.{Slice}
 use Rattle.cov_model.specs.Sound.{ModelView}
 use Rattle.cov_model.specs.Rows.{contains}
 use Rattle.std.specs.Prelude.{slice_index_or}
+use Rattle.cov_model.proofs.CellLemmas.{contains-refl}
 use Rattle.definitions.specs.Completion.{is_extendable, preferred_values}
 use Rattle.definitions.specs.Growth.{is_uncovered, Grown, across, join, settle, down, column, columns, tuples_in_play}
 use Rattle.definitions.proofs.Extendable.{extendable_contains}
 use Rattle.definitions.proofs.Members.{Has, of_append, of_any, passes_all}
-use Rattle.definitions.proofs.Joining.{contains_self}
 use Rattle.definitions.proofs.Keeping.{is_held, IsClosed, Keeps, keeps_self, keeps_then, keeps_more, across_widens, join_takes}
 
 -- the tuples, met from the rows, gave what has grown
@@ -23,7 +23,8 @@ pub record Settled (extends : List (Option ℕ) → Bool) (tuples rows : List (L
   pub few : length grown.rows ≤ length rows + length (filter extends tuples)
 
 -- no tuples
-settled_none : (extends : List (Option ℕ) → Bool) (rows : List (List (Option ℕ))) (grown : Grown) → grown.rows ≡ rows → grown.omitted ≡ [] → Settled extends [] rows grown
+settled_none : (extends : List (Option ℕ) → Bool) (rows : List (List (Option ℕ))) (grown : Grown) → grown.rows ≡ rows → grown.omitted ≡ []
+    → Settled extends [] rows grown
 settled_none extends rows grown same none = record {
   keeps = subst (Keeps extends rows) (sym same) (keeps_self extends rows);
   omitted = none;
@@ -32,7 +33,8 @@ settled_none extends rows grown same none = record {
 }
 
 -- tuples after tuples
-settled_then : (extends : List (Option ℕ) → Bool) (first second rows : List (List (Option ℕ))) (then after grown : Grown) → Settled extends first rows then → Settled extends second then.rows after
+settled_then : (extends : List (Option ℕ) → Bool) (first second rows : List (List (Option ℕ))) (then after grown : Grown) → Settled extends first rows then
+    → Settled extends second then.rows after
     → grown.rows ≡ after.rows → grown.omitted ≡ then.omitted ++ after.omitted → Settled extends (first ++ second) rows grown
 settled_then extends first second rows then after grown one two same joined = record {
   keeps = subst (Keeps extends rows) (sym same) (keeps_then extends rows then.rows after.rows one.keeps two.keeps);
@@ -46,7 +48,8 @@ settled_then extends first second rows then after grown one two same joined = re
 }
 
 -- one tuple that a row holds
-settled_held : (extends : List (Option ℕ) → Bool) (tuple : List (Option ℕ)) (rows : List (List (Option ℕ))) (grown : Grown) → extends tuple ≡ true → Keeps extends rows grown.rows
+settled_held : (extends : List (Option ℕ) → Bool) (tuple : List (Option ℕ)) (rows : List (List (Option ℕ))) (grown : Grown) → extends tuple ≡ true
+    → Keeps extends rows grown.rows
     → is_held grown.rows tuple ≡ true → grown.omitted ≡ [] → length grown.rows ≤ length rows + 1 → Settled extends (tuple ∷ []) rows grown
 settled_held extends tuple rows grown extendable keeps held none few = record {
   keeps = keeps;
@@ -60,7 +63,8 @@ settled_held extends tuple rows grown extendable keeps held none few = record {
     one other (inr none) = absurd none
 
 -- one tuple that isn't extendable
-settled_omitted : (extends : List (Option ℕ) → Bool) (tuple : List (Option ℕ)) (rows : List (List (Option ℕ))) (grown : Grown) → extends tuple ≡ false → grown.rows ≡ rows
+settled_omitted : (extends : List (Option ℕ) → Bool) (tuple : List (Option ℕ)) (rows : List (List (Option ℕ))) (grown : Grown) → extends tuple ≡ false
+    → grown.rows ≡ rows
     → grown.omitted ≡ tuple ∷ [] → Settled extends (tuple ∷ []) rows grown
 settled_omitted extends tuple rows grown failing same omitted = record {
   keeps = subst (Keeps extends rows) (sym same) (keeps_self extends rows);
@@ -73,7 +77,8 @@ settled_omitted extends tuple rows grown failing same omitted = record {
     failed other (inl same) passes = false≢true (sym failing ∙ ap extends same ∙ passes)
     failed other (inr none) passes = none
 
-settle_settles : (extends : List (Option ℕ) → Bool) → IsClosed extends → (tuple : List (Option ℕ)) (rows : List (List (Option ℕ))) → Settled extends (tuple ∷ []) rows (settle extends tuple rows)
+settle_settles : (extends : List (Option ℕ) → Bool) → IsClosed extends → (tuple : List (Option ℕ)) (rows : List (List (Option ℕ)))
+    → Settled extends (tuple ∷ []) rows (settle extends tuple rows)
 settle_settles extends closed tuple rows =
     let takes = join_takes extends closed tuple rows in
     elim (cases_Bool (join extends tuple rows).taken) [
@@ -82,7 +87,7 @@ settle_settles extends closed tuple rows =
       | inr left ↦ elim (cases_Bool (extends tuple)) [
         | inl extendable ↦ rw (left, extendable) (settled_held extends tuple rows (record { rows = rows ++ tuple ∷ []; omitted = []; asked = (join extends tuple rows).asked ++ tuple ∷ [] })
             extendable (keeps_more extends rows tuple extendable)
-            (list_any-append (λ row. contains row tuple) rows (tuple ∷ []) ∙ or_right (is_held rows tuple) (contains tuple tuple || false) (or_left (contains tuple tuple) false (contains_self tuple)))
+            (list_any-append (λ row. contains row tuple) rows (tuple ∷ []) ∙ or_right (is_held rows tuple) (contains tuple tuple || false) (or_left (contains tuple tuple) false (contains-refl tuple)))
             refl (omega (arith, length-append rows (tuple ∷ []))))
         | inr failing ↦ rw (left, failing) (settled_omitted extends tuple rows (record { rows = rows; omitted = tuple ∷ []; asked = (join extends tuple rows).asked ++ tuple ∷ [] }) failing refl refl)
       ]
@@ -109,10 +114,12 @@ down_settles extends closed [] rows all = settled_none extends rows (down extend
 down_settles extends closed (tuple ∷ tuples) rows all =
     let first = met_settles extends closed tuple rows all in
     let later = down_settles extends closed tuples (met extends tuple rows).rows (first.keeps.all all) in
-    settled_then extends (tuple ∷ []) tuples rows (met extends tuple rows) (down extends tuples (met extends tuple rows).rows) (down extends (tuple ∷ tuples) rows) first later refl refl
+    settled_then extends (tuple ∷ []) tuples rows (met extends tuple rows) (down extends tuples (met extends tuple rows).rows)
+    (down extends (tuple ∷ tuples) rows) first later refl refl
 
 -- a column
-pub column_settles : (extends : List (Option ℕ) → Bool) → IsClosed extends → (p : ℕ) (values : List ℕ) (tuples rows : List (List (Option ℕ))) → list_all extends rows ≡ true
+pub column_settles : (extends : List (Option ℕ) → Bool) → IsClosed extends → (p : ℕ) (values : List ℕ) (tuples rows : List (List (Option ℕ)))
+    → list_all extends rows ≡ true
     → Settled extends tuples rows (column extends p values tuples rows)
 column_settles extends closed p values tuples rows all =
     let widens = across_widens extends p values tuples [] rows in
@@ -125,7 +132,8 @@ column_settles extends closed p values tuples rows all =
     }
 
 -- the columns of a slice
-pub columns_settle : (m : ModelView) (pref : List (List ℕ)) (slice : Slice) (params : List ℕ) (rows : List (List (Option ℕ))) → list_all (is_extendable m slice) rows ≡ true
+pub columns_settle : (m : ModelView) (pref : List (List ℕ)) (slice : Slice) (params : List ℕ) (rows : List (List (Option ℕ)))
+    → list_all (is_extendable m slice) rows ≡ true
     → Settled (is_extendable m slice) (flat_map (tuples_in_play m slice) params) rows (columns m pref slice params rows)
 columns_settle m pref slice [] rows all = settled_none (is_extendable m slice) rows (columns m pref slice [] rows) refl refl
 columns_settle m pref slice (p ∷ params) rows all =
@@ -133,5 +141,6 @@ columns_settle m pref slice (p ∷ params) rows all =
     let first = column_settles (is_extendable m slice) (extendable_contains m slice) p values (tuples_in_play m slice p) rows all in
     let grown = column (is_extendable m slice) p values (tuples_in_play m slice p) rows in
     let later = columns_settle m pref slice params grown.rows (first.keeps.all all) in
-    settled_then (is_extendable m slice) (tuples_in_play m slice p) (flat_map (tuples_in_play m slice) params) rows grown (columns m pref slice params grown.rows)
+    settled_then (is_extendable m slice) (tuples_in_play m slice p) (flat_map (tuples_in_play m slice) params) rows grown
+    (columns m pref slice params grown.rows)
     (columns m pref slice (p ∷ params) rows) first later refl refl

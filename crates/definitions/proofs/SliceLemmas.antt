@@ -1,42 +1,26 @@
 -- The values of a slice, and the partial rows that belong to it.
-use Rattle.std.proofs.Common.{◌≡◌, ℕ, ◌<◌, Bool, true, ◌&&◌, not, List, [], ◌∷◌, map, length, get_or, Option, inl, inr, ◌∙◌, sym, ap, subst, refl, arith, zero-add, lt-ltb}
+use Rattle.std.proofs.Common.{◌≡◌, ℕ, ◌<◌, Bool, true, ◌&&◌, not, List, [], ◌∷◌, map, length, get_or, Option, inl, inr, ◌∙◌, sym, ap, subst, refl, arith, lt-ltb}
 use Rattle.std.specs.Prelude.{◌==◌, nat_lt, nat_le}
 use Rattle.std.specs.List.{list_all}
 use Rattle.std.proofs.lemmas.Bool.{false≢true, cases_eq, cases_lt, and_parts, and_from, not-true, eq-eqb}
-use Rattle.std.proofs.lemmas.List.{length-set, get_or-set_same, get_or-set_other, get_or_past}
-use Rattle.std.proofs.lemmas.List.FromFn.{length-map-range_with_len, get_or-map-range_with_len}
+use Rattle.std.proofs.lemmas.List.{get_or_past}
 use Rattle.cov_model.specs.declared.slice.Slice.{Slice}
 use Rattle.cov_model.specs.declared.slice.Slice.TheVariants.{Positive, Negative}
 use Rattle.cov_model.specs.Sound.{ModelView, param_at}
 use Rattle.cov_model.specs.Rows.{is_assigned, value_in}
 use Rattle.cov_model.specs.Meaning.{value_at, given_value, no_value}
 use Rattle.cov_model.specs.Valid.{is_row, is_valid, has_value, negatives, param_numbers}
-use Rattle.cov_model.specs.Slices.{value_numbers, positive_values, negative_values, slices, slice_values, slice_by, slice_of}
+use Rattle.cov_model.specs.Slices.{value_numbers, negative_values, slices, slice_values, slice_by, slice_of}
+use Rattle.cov_model.proofs.CellLemmas.{length-slice_values, slice_values-positive, slice_values-own, slice_values-other}
 use Rattle.definitions.specs.Completion.{meets_rules, has_slice}
 use Rattle.definitions.proofs.Members.{Has, has_map, of_map, has_flat, of_flat, has_filter, of_filter, all_pass, has_range, of_range}
 use Rattle.definitions.proofs.Distinct.{NoRepeats, no_members, one_member, repeats_filter, repeats_range}
 use Rattle.definitions.proofs.Choices.{IsChoice, choice_at, choice_length}
+pub use Rattle.cov_model.proofs.CellLemmas.{length-slice_values as slice_length, slice_values-positive as values_positive}
 
 -- the values of a parameter in a slice
 abbrev pub values_at : ModelView → Slice → ℕ → List ℕ
 values_at m slice p = get_or (slice_values m slice) p []
-
-pub slice_length : (m : ModelView) (slice : Slice) → length (slice_values m slice) ≡ length m.params
-slice_length m Positive = length-map-range_with_len (positive_values m) 0 (length m.params)
-slice_length m (Negative q v) =
-    length-set (map (positive_values m) (param_numbers m)) q (v ∷ []) ∙ length-map-range_with_len (positive_values m) 0 (length m.params)
-
-pub values_positive : (m : ModelView) (p : ℕ) → p < length m.params → values_at m Positive p ≡ positive_values m p
-values_positive m p within = get_or-map-range_with_len (positive_values m) 0 (length m.params) p p [] within (zero-add p)
-
-pub values_own : (m : ModelView) (q v : ℕ) → q < length m.params → values_at m (Negative q v) q ≡ v ∷ []
-values_own m q v within =
-    let long = length-map-range_with_len (positive_values m) 0 (length m.params) in
-    get_or-set_same (map (positive_values m) (param_numbers m)) q (v ∷ []) [] (omega (arith, long))
-
-pub values_other : (m : ModelView) (q v p : ℕ) → p < length m.params → (p ≡ q → ⊥) → values_at m (Negative q v) p ≡ positive_values m p
-values_other m q v p within apart =
-    get_or-set_other (map (positive_values m) (param_numbers m)) q p (v ∷ []) [] apart ∙ values_positive m p within
 
 -- the value of a number is negative, or isn't
 abbrev pub is_negative : ModelView → ℕ → ℕ → Bool
@@ -87,34 +71,39 @@ IsFixedBy Positive p = ⊥
 IsFixedBy (Negative q v) p = p ≡ q
 
 -- a negative value in the slice is that of the fixed parameter
-pub negative_is_fixed : (m : ModelView) (slice : Slice) (p v : ℕ) → p < length m.params → Has (values_at m slice p) v → is_negative m p v ≡ true → IsFixedBy slice p
+pub negative_is_fixed : (m : ModelView) (slice : Slice) (p v : ℕ) → p < length m.params → Has (values_at m slice p) v → is_negative m p v ≡ true
+    → IsFixedBy slice p
 negative_is_fixed m Positive p v within has negative =
-    let kept = of_filter (λ v. not (value_at m p v).negative) (value_numbers m p) v (subst (λ vs. Has vs v) (values_positive m p within) has) in
+    let kept = of_filter (λ v. not (value_at m p v).negative) (value_numbers m p) v (subst (λ vs. Has vs v) (slice_values-positive m p within) has) in
     false≢true (sym (not-true (is_negative m p v) kept.1) ∙ negative)
 negative_is_fixed m (Negative q w) p v within has negative =
     elim (cases_eq p q) [
       | inl same ↦ same
       | inr apart ↦
-          let kept = of_filter (λ v. not (value_at m p v).negative) (value_numbers m p) v (subst (λ vs. Has vs v) (values_other m q w p within apart) has) in
+          let kept = of_filter (λ v. not (value_at m p v).negative) (value_numbers m p) v
+          (subst (λ vs. Has vs v) (slice_values-other m q w p within apart) has) in
           absurd (false≢true (sym (not-true (is_negative m p v) kept.1) ∙ negative))
     ]
 
 -- each value of the slice exists
-pub value_exists : (m : ModelView) (slice : Slice) (p v : ℕ) → IsSlice m slice → p < length m.params → Has (values_at m slice p) v → v < length (param_at m.params p).values
+pub value_exists : (m : ModelView) (slice : Slice) (p v : ℕ) → IsSlice m slice → p < length m.params → Has (values_at m slice p) v
+    → v < length (param_at m.params p).values
 value_exists m Positive p v is within has =
-    let kept = of_filter (λ v. not (value_at m p v).negative) (value_numbers m p) v (subst (λ vs. Has vs v) (values_positive m p within) has) in
+    let kept = of_filter (λ v. not (value_at m p v).negative) (value_numbers m p) v (subst (λ vs. Has vs v) (slice_values-positive m p within) has) in
     of_numbers m p v kept.0
 value_exists m (Negative q w) p v is within has =
     elim (cases_eq p q) [
-      | inl same ↦ own (subst (λ vs. Has vs v) (ap (λ r. values_at m (Negative q w) r) same ∙ values_own m q w is.0) has) same
+      | inl same ↦ own (subst (λ vs. Has vs v) (ap (λ r. values_at m (Negative q w) r) same ∙ slice_values-own m q w is.0) has) same
       | inr apart ↦
-          let kept = of_filter (λ v. not (value_at m p v).negative) (value_numbers m p) v (subst (λ vs. Has vs v) (values_other m q w p within apart) has) in
+          let kept = of_filter (λ v. not (value_at m p v).negative) (value_numbers m p) v
+          (subst (λ vs. Has vs v) (slice_values-other m q w p within apart) has) in
           of_numbers m p v kept.0
     ]
   where
     own : Has (w ∷ []) v → p ≡ q → v < length (param_at m.params p).values
     own (inl is_value) same =
-        subst (λ r. v < length (param_at m.params r).values) (sym same) (subst (λ u. u < length (param_at m.params q).values) is_value (negative_exists m q w is.1))
+        subst (λ r. v < length (param_at m.params r).values) (sym same)
+        (subst (λ u. u < length (param_at m.params q).values) is_value (negative_exists m q w is.1))
     own (inr none) same = absurd none
 
 -- the partial row belongs to the slice: its values are of the slice, and the fixed parameter has one
@@ -161,7 +150,7 @@ slice_is m Positive cells is belongs =
     let none : negatives m cells ≡ [] = no_members (negatives m cells) (λ p has. negative_of m Positive cells p belongs has) in
     record { is = ap (slice_by cells) none; few = ap (λ ps. nat_le (length ps) 1) none }
 slice_is m (Negative q v) cells is belongs =
-    let value : value_in cells q ≡ v = own (subst (λ vs. Has vs (value_in cells q)) (values_own m q v is.0) (belongs.values q is.0 belongs.fixed)) in
+    let value : value_in cells q ≡ v = own (subst (λ vs. Has vs (value_in cells q)) (slice_values-own m q v is.0) (belongs.values q is.0 belongs.fixed)) in
     let here : IsNegativeAt m cells q = record { within = is.0; assigned = belongs.fixed; negative = ap (is_negative m q) value ∙ is.1 } in
     let one : negatives m cells ≡ q ∷ [] =
     one_member q (negatives m cells) (negatives_once m cells) (has_negatives m cells q here) (λ p has. negative_of m (Negative q v) cells p belongs has) in
@@ -182,26 +171,28 @@ slice_of_is m cells = at (negatives m cells) (of_negatives m cells)
 -- a choice of the slice's values is a row of the model that belongs to the slice
 pub row_in_slice : (m : ModelView) (slice : Slice) (row : List (Option ℕ)) → IsSlice m slice → IsChoice (slice_values m slice) row → InSlice m slice row
 row_in_slice m slice row is choice = record {
-  values = λ p within assigned. (choice_at (slice_values m slice) row p choice (omega (arith, within, slice_length m slice))).listed;
+  values = λ p within assigned. (choice_at (slice_values m slice) row p choice (omega (arith, within, length-slice_values m slice))).listed;
   fixed = fixed slice is choice;
 }
   where
     fixed : (slice : Slice) → IsSlice m slice → IsChoice (slice_values m slice) row → HasFixed slice row
     fixed Positive is choice = tt
-    fixed (Negative q v) is choice = (choice_at (slice_values m (Negative q v)) row q choice (omega (arith, is.0, slice_length m (Negative q v)))).assigned
+    fixed (Negative q v) is choice =
+        (choice_at (slice_values m (Negative q v)) row q choice (omega (arith, is.0, length-slice_values m (Negative q v)))).assigned
 
 pub choice_is_row : (m : ModelView) (slice : Slice) (row : List (Option ℕ)) → IsSlice m slice → IsChoice (slice_values m slice) row → is_row m row ≡ true
 choice_is_row m slice row is choice =
-    let long : length row ≡ length m.params = choice_length (slice_values m slice) row choice ∙ slice_length m slice in
+    let long : length row ≡ length m.params = choice_length (slice_values m slice) row choice ∙ length-slice_values m slice in
     and_from (length row == length m.params) (list_all (has_value m row) (param_numbers m)) (eq-eqb (length row) (length m.params) long)
     (all_pass (has_value m row) (param_numbers m) (λ p has.
     let within = of_params m p has in
-    let own = choice_at (slice_values m slice) row p choice (omega (arith, within, slice_length m slice)) in
+    let own = choice_at (slice_values m slice) row p choice (omega (arith, within, length-slice_values m slice)) in
     and_from (is_assigned row p) (nat_lt (value_in row p) (length (param_at m.params p).values)) own.assigned
     (lt-ltb (value_in row p) (length (param_at m.params p).values) (value_exists m slice p (value_in row p) is within own.listed))))
 
 -- and valid where it meets every constraint
-pub choice_is_valid : (m : ModelView) (slice : Slice) (row : List (Option ℕ)) → IsSlice m slice → IsChoice (slice_values m slice) row → meets_rules m row ≡ true → is_valid m row ≡ true
+pub choice_is_valid : (m : ModelView) (slice : Slice) (row : List (Option ℕ)) → IsSlice m slice → IsChoice (slice_values m slice) row
+    → meets_rules m row ≡ true → is_valid m row ≡ true
 choice_is_valid m slice row is choice meets =
     let of = slice_is m slice row is (row_in_slice m slice row is choice) in
     and_from (is_row m row && meets_rules m row) (nat_le (length (negatives m row)) 1)

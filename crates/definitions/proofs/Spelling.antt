@@ -40,9 +40,11 @@ pub number_reads : (test : ℕ → Bool) (n : ℕ) → n < 2 ^ 64 → test n ≡
 number_reads test n small passes =
     let value : digits_value 10 (decimal n) ≡ n = digits_value-decimal numerals n small in
     let digits : is_digits (decimal n) ≡ true =
-    and_from (nat_lt 0 (length (decimal n))) (list_all is_ascii_digit (decimal n)) (lt-ltb 0 (length (decimal n)) (decimal_nonempty n small)) (digits_decimal numerals n small) in
+    and_from (nat_lt 0 (length (decimal n))) (list_all is_ascii_digit (decimal n)) (lt-ltb 0 (length (decimal n)) (decimal_nonempty n small))
+    (digits_decimal numerals n small) in
     let front = and_from (is_digits (decimal n)) ((length (decimal n) == 1) || not (slice_index (decimal n) 0 == 48)) digits (unled n small) in
-    let whole = and_from (is_digits (decimal n) && ((length (decimal n) == 1) || not (slice_index (decimal n) 0 == 48))) (test (digits_value 10 (decimal n))) front (ap test value ∙ passes) in
+    let whole = and_from (is_digits (decimal n) && ((length (decimal n) == 1) || not (slice_index (decimal n) 0 == 48)))
+    (test (digits_value 10 (decimal n))) front (ap test value ∙ passes) in
     ap (λ b. cond b (Some (digits_value 10 (decimal n))) None) whole ∙ ap Some value
 
 -- and what is read is the number's text
@@ -53,7 +55,8 @@ pub record Spells (test : ℕ → Bool) (text : List ℕ) (n : ℕ) : Type 0 whe
 pub number_spells : (test : ℕ → Bool) (text : List ℕ) (n : ℕ) → ((n : ℕ) → test n ≡ true → n < 2 ^ 64) → number_where test text ≡ Some n → Spells test text n
 number_spells test text n small read = at (is_digits text && ((length text == 1) || not (slice_index text 0 == 48)) && test (digits_value 10 text)) refl read
   where
-    at : (b : Bool) → (is_digits text && ((length text == 1) || not (slice_index text 0 == 48)) && test (digits_value 10 text)) ≡ b → cond b (Some (digits_value 10 text)) None ≡ Some n → Spells test text n
+    at : (b : Bool) → (is_digits text && ((length text == 1) || not (slice_index text 0 == 48)) && test (digits_value 10 text)) ≡ b
+        → cond b (Some (digits_value 10 text)) None ≡ Some n → Spells test text n
     at false is given = cc
     at true is given =
         let value : digits_value 10 text ≡ n = cc in
@@ -61,7 +64,8 @@ number_spells test text n small read = at (is_digits text && ((length text == 1)
         let front = and_parts (is_digits text) ((length text == 1) || not (slice_index text 0 == 48)) whole.0 in
         let digits = and_parts (nat_lt 0 (length text)) (list_all is_ascii_digit text) front.0 in
         let some = ltb-true 0 (length text) digits.0 in
-        let spelled : decimal (digits_value 10 text) ≡ text = decimal-digits_value numerals text digits.1 some (alone front.1) (small (digits_value 10 text) whole.1) in
+        let spelled : decimal (digits_value 10 text) ≡ text = decimal-digits_value numerals text digits.1 some (alone front.1)
+        (small (digits_value 10 text) whole.1) in
         record { text_is = sym spelled ∙ ap decimal value; passes = ap test (sym value) ∙ whole.1 }
       where
         alone : ((length text == 1) || not (slice_index text 0 == 48)) ≡ true → get_or text 0 0 ≡ 48 → length text ≡ 1
@@ -85,7 +89,8 @@ pub record PartsInto {X : Type 0} (test : X → Bool) (whole before after : List
   pub before_is : before_first test whole ≡ before
   pub after_is : after_first test whole ≡ after
 
-pub parts_at : {X : Type 0} (test : X → Bool) (before : List X) (x : X) (after : List X) → All (λ y. test y ≡ false) before → test x ≡ true → PartsInto test (before ++ x ∷ after) before after
+pub parts_at : {X : Type 0} (test : X → Bool) (before : List X) (x : X) (after : List X) → All (λ y. test y ≡ false) before → test x ≡ true
+    → PartsInto test (before ++ x ∷ after) before after
 parts_at {X} test before x after fail passes =
     let first : position_or_len test (before ++ x ∷ after) ≡ length before = place before fail in
     record {

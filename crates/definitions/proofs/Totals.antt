@@ -62,7 +62,8 @@ sum_filter test f (x ∷ xs) =
     elim (cases_Bool (test x)) [
       | inl passes ↦
           let first : counted (test x) (f x) ≡ f x = ap (λ b. counted b (f x)) passes in
-          let kept : sum_by f (filter test (x ∷ xs)) ≡ sum_by f (x ∷ filter test xs) = ap (λ b. sum_by f (cond b (x ∷ filter test xs) (filter test xs))) passes in
+          let kept : sum_by f (filter test (x ∷ xs)) ≡ sum_by f (x ∷ filter test xs) = ap
+          (λ b. sum_by f (cond b (x ∷ filter test xs) (filter test xs))) passes in
           omega (arith, later, whole, first, kept, sum_by-cons f x (filter test xs))
       | inr fails ↦
           let first : counted (test x) (f x) ≡ 0 = ap (λ b. counted b (f x)) fails in
@@ -91,7 +92,8 @@ sum_failing test n (x ∷ xs) fails =
     let first : counted (test x) n ≡ 0 = ap (λ b. counted b n) (fails x (inl refl)) in
     omega (arith, first, sum_failing test n xs (λ y has. fails y (inr has)), sum_by-cons (λ x. counted (test x) n) x xs)
 
-pub sum_once : {X : Type 0} (test : X → Bool) (n : ℕ) (xs : List X) → NoRepeats xs → ((x y : X) → test x ≡ true → test y ≡ true → x ≡ y) → sum_by (λ x. counted (test x) n) xs ≤ n
+pub sum_once : {X : Type 0} (test : X → Bool) (n : ℕ) (xs : List X) → NoRepeats xs → ((x y : X) → test x ≡ true → test y ≡ true → x ≡ y)
+    → sum_by (λ x. counted (test x) n) xs ≤ n
 sum_once test n [] once one = omega arith
 sum_once test n (x ∷ xs) once one =
     let whole = sum_by-cons (λ x. counted (test x) n) x xs in

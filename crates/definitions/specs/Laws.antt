@@ -1,17 +1,18 @@
 -- What holds of the definitions together. (This project's rules.)
 use Rattle.std.specs.Prelude.{◌≡◌, ℕ, ◌+◌, ◌^◌, ◌<◌, ◌≤◌, ◌↔◌, ◌⊎◌, slice_index_or, true, false, not, List, [], map, filter, length, Option, Ok, All, AllPairs, Contains, IsPermutation}
-use Rattle.std.specs.List.{Any, list_any}
+use Rattle.std.specs.List.{Any, list_any, enumerate_from}
 use Rattle.cov_model.specs.declared.slice.Slice.{Slice}
 use Rattle.cov_model.specs.Sound.{ModelView, IsSound, param_at}
 use Rattle.cov_model.specs.Rows.{contains, is_assigned, value_in}
 use Rattle.cov_model.specs.Tuples.{IsRising}
 use Rattle.cov_model.specs.Valid.{is_row, is_valid, serves}
 use Rattle.cov_model.specs.Slices.{slice_of, slice_values, value_numbers}
-use Rattle.definitions.specs.Covering.{Covers, HasFewRows}
+use Rattle.definitions.specs.Covering.{Covers, HasFewRows, IsUnserved}
 use Rattle.definitions.specs.Demand.{demanded_tuples}
 use Rattle.definitions.specs.Report.{report_text}
 use Rattle.definitions.specs.RowFile.{rows_of, suite_rows}
-use Rattle.definitions.specs.RowReading.{RowReading, Suite, read_rows}
+use Rattle.definitions.specs.Limits.{Rows, most_counted}
+use Rattle.definitions.specs.RowReading.{RowReading, Suite, notes_of, read_rows}
 use Rattle.definitions.specs.Completion.{completions, meets_rules, has_slice, is_extendable}
 use Rattle.definitions.specs.Seeds.{is_same_row, kept_seeds}
 use Rattle.definitions.specs.Growth.{growth}
@@ -20,18 +21,27 @@ use Rattle.definitions.specs.ProofText.{Omission, proof_text, omissions_of}
 use Rattle.definitions.specs.Figures.{all_rows, is_served}
 use Rattle.definitions.specs.Verdict.{IsAccepted, IsListed}
 
--- reading a report gives its rows
+-- a report of any number of rows holds these rows, and there is no note on it
 abbrev pub ReportsReadBack : Type 0
-ReportsReadBack = (m : ModelView) (rows : List (List (Option ℕ))) → IsSound m → All (λ row. is_row m row ≡ true) rows → rows_of m (report_text m rows) ≡ rows
+ReportsReadBack = (m : ModelView) (rows : List (List (Option ℕ))) → IsSound m → All (λ row. is_row m row ≡ true) rows
+    → (rows_of m (report_text m rows) ≡ rows) × (notes_of m (report_text m rows) ≡ [])
+
+-- a report of no more rows than a row file may have is read as a suite: as these rows in their order, of which
+-- the first stands on line 2 and each further one on the next, without a note
+abbrev pub ReportsAreRead : Type 0
+ReportsAreRead = (m : ModelView) (rows : List (List (Option ℕ))) → IsSound m → All (λ row. is_row m row ≡ true) rows
+    → length rows ≤ most_counted Rows
+    → read_rows m Suite (report_text m rows) ≡ Ok (record { rows = enumerate_from 2 rows; notes = [] })
 
 -- a suite that is read without a fault has the rows that its bytes hold as a suite
 abbrev pub SuitesAreRead : Type 0
-SuitesAreRead = (m : ModelView) (bytes : List ℕ) (reading : RowReading) → read_rows m Suite bytes ≡ Ok reading → map (λ row. row.1) reading.rows ≡ suite_rows m bytes
+SuitesAreRead = (m : ModelView) (bytes : List ℕ) (reading : RowReading)
+    → read_rows m Suite bytes ≡ Ok reading → map (λ row. row.1) reading.rows ≡ suite_rows m bytes
 
 -- if each token list of a proof refutes its tuple after the tuples before it, no row serves any of them
 abbrev pub RefutedAreUnserved : Type 0
 RefutedAreUnserved = (m : ModelView) (format : ℕ) (omissions : List (List (Option ℕ) × List Token))
-    → refutes_each m format [] omissions ≡ true → (row : List (Option ℕ)) → All (λ omission. serves m row omission.0 ≡ false) omissions
+    → refutes_each m format omissions ≡ true → All (λ omission. IsUnserved m omission.0) omissions
 
 -- a token is of a model and a format: its parameter or constraint exists, and a citation is of format 2 and
 -- has a number from 1 to 2^32 - 1
@@ -99,7 +109,7 @@ pub record IsGrownSuite (m : ModelView) (pref : List (List ℕ)) (seeds : List (
   pub distinct : AllPairs (λ a b. is_same_row a b ≡ false) (growth m pref seeds).rows
   pub demanded : All (Contains (demanded_tuples m)) (growth m pref seeds).omitted
   pub once : AllPairs (λ a b. is_same_row a b ≡ false) (growth m pref seeds).omitted
-  pub omitted : All (λ tuple. Contains (growth m pref seeds).omitted tuple ↔ ((row : List (Option ℕ)) → serves m row tuple ≡ false)) (demanded_tuples m)
+  pub omitted : All (λ tuple. Contains (growth m pref seeds).omitted tuple ↔ IsUnserved m tuple) (demanded_tuples m)
   pub served : All (λ tuple. Any (λ row. serves m row tuple ≡ true) (growth m pref seeds).rows ↔ (Contains (growth m pref seeds).omitted tuple → ⊥)) (demanded_tuples m)
   pub kept : All (λ seed. Any (λ row. contains row seed ≡ true) (growth m pref seeds).rows) (kept_seeds m seeds)
   pub few : length (growth m pref seeds).rows
@@ -111,7 +121,8 @@ GrowthCovers = (m : ModelView) (pref : List (List ℕ)) (seeds : List (ℕ × Li
 
 -- so its suite covers what can be covered
 abbrev pub SuitesCover : Type 0
-SuitesCover = (m : ModelView) (pref : List (List ℕ)) (seeds : List (ℕ × List (Option ℕ))) → IsSound m → ArePreferences m pref → Covers m (growth m pref seeds).rows
+SuitesCover = (m : ModelView) (pref : List (List ℕ)) (seeds : List (ℕ × List (Option ℕ))) → IsSound m → ArePreferences m pref
+    → Covers m (growth m pref seeds).rows
 
 -- and its rows are few
 abbrev pub SuitesHaveFewRows : Type 0
@@ -122,7 +133,7 @@ SuitesHaveFewRows = (m : ModelView) (pref : List (List ℕ)) (seeds : List (ℕ 
 -- rows, or is listed, and then no row serves it
 pub record IsCertified (m : ModelView) (lines : List (ℕ × List (Option ℕ))) (bytes : List ℕ) : Type 0 where
   pub valid : All (λ line. is_valid m line.1 ≡ true) lines
-  pub covered : All (λ tuple. Any (λ line. serves m line.1 tuple ≡ true) lines ⊎ (IsListed m bytes tuple × ((row : List (Option ℕ)) → serves m row tuple ≡ false))) (demanded_tuples m)
+  pub covered : All (λ tuple. Any (λ line. serves m line.1 tuple ≡ true) lines ⊎ (IsListed m bytes tuple × IsUnserved m tuple)) (demanded_tuples m)
 
 abbrev pub AcceptedAreCertified : Type 0
 AcceptedAreCertified = (m : ModelView) (lines : List (ℕ × List (Option ℕ))) (bytes : List ℕ) → IsAccepted m lines bytes → IsCertified m lines bytes

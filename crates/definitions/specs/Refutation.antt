@@ -2,7 +2,7 @@
 -- its path serves the tuple. (This project's rule; the trees are those of a search, after the proofs of
 -- unsatisfiability that solvers write.)
 -- The crate of trees has an enum of its own for its code; a token of it is meant by the one here.
-use Rattle.std.specs.Prelude.{ℕ, zero, suc, Bool, true, false, ◌&&◌, not, List, [], ◌∷◌, ◌++◌, map, length, filter, Option, None, ◌==◌, nat_lt}
+use Rattle.std.specs.Prelude.{ℕ, zero, suc, ◌+◌, Bool, true, false, ◌&&◌, not, List, [], ◌∷◌, ◌++◌, map, length, filter, Option, Some, None, is_none, ◌==◌, nat_lt, if◌then◌else◌}
 use Rattle.std.specs.List.{list_all, list_any, range_with_len, slice_get}
 use Rattle.std.specs.Option.{option_map_or}
 use Rattle.cov_model.specs.Sound.{ModelView}
@@ -112,8 +112,14 @@ are_eager m format earlier tuple (path ∷ paths) (ByOmission n ∷ tokens) =
 abbrev pub is_eager : ModelView → ℕ → List (List (Option ℕ)) → List (Option ℕ) → List Token → Bool
 is_eager m format earlier tuple tokens = refutes m format earlier tuple tokens && are_eager m format earlier tuple (tuple ∷ []) tokens
 
+-- the number of the first omission whose tokens don't refute its tuple after the tuples before it, the
+-- omissions being numbered from n on; none where those of each do
+abbrev pub first_unrefuted : ModelView → ℕ → List (List (Option ℕ)) → ℕ → List (List (Option ℕ) × List Token) → Option ℕ
+first_unrefuted m format earlier n [] = None
+first_unrefuted m format earlier n (omission ∷ omissions) =
+    if refutes m format earlier omission.0 omission.1 then first_unrefuted m format (earlier ++ omission.0 ∷ []) (n + 1) omissions
+    else Some n
+
 -- each token list of a proof refutes its tuple after the tuples before it
-abbrev pub refutes_each : ModelView → ℕ → List (List (Option ℕ)) → List (List (Option ℕ) × List Token) → Bool
-refutes_each m format earlier [] = true
-refutes_each m format earlier (omission ∷ omissions) =
-    refutes m format earlier omission.0 omission.1 && refutes_each m format (earlier ++ omission.0 ∷ []) omissions
+abbrev pub refutes_each : ModelView → ℕ → List (List (Option ℕ) × List Token) → Bool
+refutes_each m format omissions = is_none (first_unrefuted m format [] 1 omissions)

@@ -73,11 +73,15 @@ value_notes m header line =
     let cells = cells_of_line line.1 in
     map (λ column. (line.0, UnknownValue)) (filter (is_unknown m header cells) (range_with_len 0 (length cells)))
 
+-- the notes on a header and on the lines under it
+abbrev pub notes_under : ModelView → ℕ → List (List ℕ) → List (ℕ × List ℕ) → List (ℕ × RowNote)
+notes_under m line header lines = column_notes m line header ++ flat_map (value_notes m header) lines
+
 -- the rows and the notes of lines under a header
 abbrev pub read_under : ModelView → ℕ → List (List ℕ) → List (ℕ × List ℕ) → RowReading
 read_under m line header lines = record {
   rows = map (λ line. (line.0, row_of_line m header line.1)) lines;
-  notes = column_notes m line header ++ flat_map (value_notes m header) lines;
+  notes = notes_under m line header lines;
 }
 
 -- the reading, if there is no fault
@@ -95,3 +99,11 @@ read_numbered m mode (first ∷ lines) =
 -- the reading of a row file's bytes
 abbrev pub read_rows : ModelView → RowMode → List ℕ → Result RowReading RowsFault
 read_rows m mode bytes = read_numbered m mode (filled_lines bytes)
+
+-- the notes on a row file's bytes, however many rows they hold
+abbrev pub notes_of_lines : ModelView → List (ℕ × List ℕ) → List (ℕ × RowNote)
+notes_of_lines m [] = []
+notes_of_lines m (first ∷ lines) = notes_under m first.0 (cells_of_line first.1) lines
+
+abbrev pub notes_of : ModelView → List ℕ → List (ℕ × RowNote)
+notes_of m bytes = notes_of_lines m (filled_lines bytes)

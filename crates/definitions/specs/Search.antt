@@ -5,9 +5,7 @@ use Rattle.std.specs.List.{filter, list_any}
 use Rattle.cov_model.specs.declared.slice.Slice.{Slice}
 use Rattle.cov_model.specs.declared.truth.Truth.{Truth}
 use Rattle.cov_model.specs.declared.truth.Truth.TheVariants.{Yes, No, Unknown}
-use Rattle.cov_model.specs.declared.constraint.Body.{Body}
-use Rattle.cov_model.specs.declared.constraint.Body.TheVariants.{Plain, IfThen, IfElse}
-use Rattle.cov_model.specs.declared.constraint.Pred.{Pred, Term, Not', All', Any', Row_of-Pred, end_of-Pred, more_of-Pred}
+use Rattle.cov_model.specs.Views.{PredView, PredViews, Leaf, Negated, Each, Either, End, More, BodyView, Plain, IfThen, IfElse}
 use Rattle.cov_model.specs.Sound.{ModelView}
 use Rattle.cov_model.specs.Preference.{preference}
 use Rattle.cov_model.specs.Rows.{is_assigned}
@@ -19,18 +17,18 @@ use Rattle.definitions.specs.Completion.{preferred_values, with_value}
 
 -- the parameters that a predicate names
 abbrev mutual
-  pub pred_params : Pred → List ℕ
-  pred_params (Term term) = term_params term
-  pred_params (Not' pointer inner) = pred_params inner
-  pred_params (All' n parts) = parts_params parts
-  pred_params (Any' n parts) = parts_params parts
+  pub pred_params : PredView → List ℕ
+  pred_params (Leaf term) = term_params term
+  pred_params (Negated inner) = pred_params inner
+  pred_params (Each parts) = parts_params parts
+  pred_params (Either parts) = parts_params parts
 
-  pub parts_params : {n : _} → Row_of-Pred n → List ℕ
-  parts_params end_of-Pred = []
-  parts_params (more_of-Pred part rest) = pred_params part ++ parts_params rest
+  pub parts_params : PredViews → List ℕ
+  parts_params End = []
+  parts_params (More part rest) = pred_params part ++ parts_params rest
 
 -- the parameters that a constraint names
-abbrev pub body_params : Body → List ℕ
+abbrev pub body_params : BodyView → List ℕ
 body_params (Plain pred) = pred_params pred
 body_params (IfThen premise pred) = pred_params premise ++ pred_params pred
 body_params (IfElse premise pred other) = pred_params premise ++ pred_params pred ++ pred_params other

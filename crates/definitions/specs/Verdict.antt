@@ -1,11 +1,11 @@
 -- What the checker says of a report and a proof. (This project's rule.)
-use Rattle.std.specs.Prelude.{◌≡◌, ℕ, ◌+◌, ◌&&◌, true, not, List, [], ◌∷◌, ◌++◌, map, length, find, Option, Some, None, Result, Ok, Err, codes, decimal, if◌then◌else◌}
+use Rattle.std.specs.Prelude.{◌≡◌, ℕ, ◌&&◌, true, not, List, [], ◌++◌, map, length, find, Option, Some, None, Result, Ok, Err, codes, decimal}
 use Rattle.std.specs.List.{list_any}
 use Rattle.cov_model.specs.Sound.{ModelView}
 use Rattle.cov_model.specs.Valid.{is_valid}
 use Rattle.definitions.specs.Demand.{demanded_tuples}
 use Rattle.definitions.specs.Seeds.{is_same_row}
-use Rattle.definitions.specs.Refutation.{refutes}
+use Rattle.definitions.specs.Refutation.{Token, first_unrefuted}
 use Rattle.definitions.specs.Pairs.{cells_of, cells_text}
 use Rattle.definitions.specs.ProofText.{Omission, omissions_of}
 use Rattle.definitions.specs.Figures.{is_served}
@@ -24,13 +24,9 @@ pub data Verdict : Type 0 where
 abbrev pub listed : ModelView → List Omission → List (List (Option ℕ))
 listed m omissions = map (λ omission. cells_of (length m.params) omission.tuple) omissions
 
--- the line of the first omission whose tree doesn't refute its tuple after the earlier ones, the lines
--- being numbered from n on
-abbrev pub first_unrefuted : ModelView → ℕ → List (List (Option ℕ)) → ℕ → List Omission → Option ℕ
-first_unrefuted m format earlier n [] = None
-first_unrefuted m format earlier n (omission ∷ omissions) =
-    let tuple = cells_of (length m.params) omission.tuple in
-    if refutes m format earlier tuple omission.tree then first_unrefuted m format (earlier ++ tuple ∷ []) (n + 1) omissions else Some n
+-- omissions as partial rows with their tokens
+abbrev pub as_cells : ModelView → List Omission → List (List (Option ℕ) × List Token)
+as_cells m omissions = map (λ omission. (cells_of (length m.params) omission.tuple, omission.tree)) omissions
 
 -- the first demanded tuple that no row serves and no omission lists
 abbrev pub first_uncovered : ModelView → List (List (Option ℕ)) → List Omission → Option (List (Option ℕ))
@@ -50,7 +46,7 @@ by_omission m rows omissions None = by_tuple (length rows) (length omissions) (f
 -- where the rows are good, by the reading of the proof, whose first omission stands on line 2
 abbrev pub by_proof : ModelView → List (List (Option ℕ)) → Result (ℕ × List Omission) ℕ → Verdict
 by_proof m rows (Err line) = BadProof line
-by_proof m rows (Ok proof) = by_omission m rows proof.1 (first_unrefuted m proof.0 [] 2 proof.1)
+by_proof m rows (Ok proof) = by_omission m rows proof.1 (first_unrefuted m proof.0 [] 2 (as_cells m proof.1))
 
 -- by the first bad row
 abbrev pub by_row : ModelView → List (List (Option ℕ)) → List ℕ → Option (ℕ × List (Option ℕ)) → Verdict

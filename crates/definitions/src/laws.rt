@@ -1,12 +1,19 @@
 //! What is proved of the definitions together. A function here does nothing: its contract is a law
 //! that holds of every model, and is proved with the crate.
 
-ghost use Rattle.definitions.specs.Laws.{AcceptedAreCertified, CompletionsAreRows, ExtendableContains, GrowthCovers, ProofsHaveOneText, ProofsReadBack, RefutedAreUnserved, ReportsReadBack, ServableAreExtendable, SlicesServe, SuitesAreRead, SuitesCover, SuitesHaveFewRows};
+ghost use Rattle.definitions.specs.Laws.{AcceptedAreCertified, CompletionsAreRows, ExtendableContains, GrowthCovers, ProofsHaveOneText, ProofsReadBack, RefutedAreUnserved, ReportsAreRead, ReportsReadBack, ServableAreExtendable, SlicesServe, SuitesAreRead, SuitesCover, SuitesHaveFewRows};
 
-/// Reading a report gives its rows: the text that is written of rows of a sound model, read as a
-/// row file, holds these rows in their order (this project's rule).
+/// A report holds its rows: the text that is written of any number of rows of a sound model has
+/// these rows in their order, and no note (this project's rule).
 pub fn reports_read_back()
     ensures { ReportsReadBack }
+{}
+
+/// A report is read as a suite: where its rows are at most 2^20, the reading of its text as a row file
+/// in the mode of suites isn't refused, and gives these rows in their order, numbered by line from 2,
+/// without a note (this project's rule).
+pub fn reports_are_read()
+    ensures { ReportsAreRead }
 {}
 
 /// Reading a suite gives the rows that its bytes hold: where the reading of a row file as a suite

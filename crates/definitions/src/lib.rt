@@ -10,6 +10,7 @@ mod laws;
 
 pub use laws::{
     accepted_are_certified, completions_are_rows, extendable_contains, growth_covers,
-    proofs_have_one_text, proofs_read_back, refuted_are_unserved, reports_read_back,
-    servable_are_extendable, slices_serve, suites_are_read, suites_cover, suites_have_few_rows,
+    proofs_have_one_text, proofs_read_back, refuted_are_unserved, reports_are_read,
+    reports_read_back, servable_are_extendable, slices_serve, suites_are_read, suites_cover,
+    suites_have_few_rows,
 };

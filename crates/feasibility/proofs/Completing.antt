@@ -2,7 +2,7 @@
 use Rattle.std.proofs.Common.{◌≡◌, ℕ, zero, suc, ◌<◌, Bool, true, false, ◌&&◌, ◌||◌, ◌==◌, cond, if◌then◌else◌, List, [], ◌∷◌, map, length, Option, Some, None, is_some, unwrap_or, find, get_or, set, ◌⊎◌, ◌∙◌, sym, ap, subst, refl, arith, inl, inr}
 use Rattle.std.specs.Option.{option_or, option_map}
 use Rattle.std.specs.List.{filter, flat_map}
-use Rattle.std.proofs.lemmas.Bool.{false≢true}
+use Rattle.std.proofs.lemmas.Bool.{false≢true, eqb-true, eq-eqb, or_left, or_right}
 use Rattle.std.proofs.lemmas.List.Folds.{find-append}
 use Rattle.std.proofs.lemmas.Grind.{common_steps}
 use Rattle.cov_model.specs.Rows.{contains, is_assigned}
@@ -15,18 +15,8 @@ abbrev pub tried : {X : Type 0} → (ℕ → Option X) → List ℕ → Option X
 tried f [] = None
 tried f (v ∷ values) = option_or (f v) (tried f values)
 
-pub same_number : (a b : ℕ) → (a == b) ≡ true → a ≡ b
-same_number a b same = grind (arith, common_steps)
-
-equal_number : (a : ℕ) → (a == a) ≡ true
-equal_number a = grind (arith, common_steps)
-
 pub among_head : (v : ℕ) (values : List ℕ) → is_among (v ∷ values) v ≡ true
-among_head v values = ap (λ (b : Bool). b || is_among values v) (equal_number v)
-
-pub or_right : (a b : Bool) → b ≡ true → (a || b) ≡ true
-or_right true b h = refl
-or_right false b h = h
+among_head v values = or_left (v == v) (is_among values v) (eq-eqb v v refl)
 
 pub among_tail : (v w : ℕ) (values : List ℕ) → is_among values w ≡ true → is_among (v ∷ values) w ≡ true
 among_tail v w values listed = or_right (v == w) (is_among values w) listed
@@ -63,9 +53,10 @@ or_none (Some x) = refl
 or_none None = refl
 
 -- of the values that equal one
-pub tried_equal : {X : Type 0} (f : ℕ → Option X) (w : ℕ) (values : List ℕ) → tried f (filter (λ v. v == w) values) ≡ (if is_among values w then f w else None)
+pub tried_equal : {X : Type 0} (f : ℕ → Option X) (w : ℕ) (values : List ℕ)
+    → tried f (filter (λ v. v == w) values) ≡ (if is_among values w then f w else None)
 tried_equal f w [] = refl
-tried_equal f w (v ∷ values) = by_case (v == w) (is_among values w) (same_number v w) (tried_equal f w values)
+tried_equal f w (v ∷ values) = by_case (v == w) (is_among values w) (eqb-true v w) (tried_equal f w values)
   where
     inner : {X : Type 0} (f : ℕ → Option X) (w : ℕ) (listed : Bool) (rest : Option X) → rest ≡ (if listed then f w else None) → option_or (f w) rest ≡ f w
     inner f w true rest is = ap (option_or (f w)) is ∙ or_same (f w)
@@ -182,20 +173,24 @@ first_of-branch (values ∷ rest) (Some w ∷ cells) test (suc p) long within un
 first_of-branch (values ∷ rest) (None ∷ cells) test (suc p) long within unassigned decided =
     elim (decided 0 (omega arith)) [
       | inl assigned ↦ absurd (false≢true assigned)
-      | inr free ↦ by_values values free (λ u. first_of-branch rest cells (λ row. test (Some u ∷ row)) p (omega arith) (omega arith) unassigned (behind test None cells p u decided))
+      | inr free ↦ by_values values free (λ u. first_of-branch rest cells (λ row. test (Some u ∷ row)) p (omega arith) (omega arith) unassigned
+          (behind test None cells p u decided))
     ]
   where
     by_values : (values : List ℕ) → IsFree test 0
-        → ((u : ℕ) → first_of rest cells (λ row. test (Some u ∷ row)) ≡ tried (λ v. first_of rest (set cells p (Some v)) (λ row. test (Some u ∷ row))) (get_or rest p []))
+        → ((u : ℕ) → first_of rest cells (λ row. test (Some u ∷ row)) ≡ tried (λ v. first_of rest (set cells p (Some v)) (λ row. test (Some u ∷ row)))
+        (get_or rest p []))
         → first_of (values ∷ rest) (None ∷ cells) test ≡ tried (λ v. first_of (values ∷ rest) (None ∷ set cells p (Some v)) test) (get_or rest p [])
     by_values [] free inner =
         first_of-cons [] rest None cells test
-        ∙ sym (tried_none (λ v. first_of ([] ∷ rest) (None ∷ set cells p (Some v)) test) (get_or rest p []) (λ v listed. first_of-cons [] rest None (set cells p (Some v)) test))
+        ∙ sym (tried_none (λ v. first_of ([] ∷ rest) (None ∷ set cells p (Some v)) test) (get_or rest p [])
+        (λ v listed. first_of-cons [] rest None (set cells p (Some v)) test))
     by_values (u ∷ values) free inner =
         first_of-free u values rest cells test free
         ∙ ap (option_map (λ row. Some u ∷ row)) (inner u)
         ∙ tried_mapped (λ row. Some u ∷ row) (λ v. first_of rest (set cells p (Some v)) (λ row. test (Some u ∷ row))) (get_or rest p [])
-        ∙ sym (tried_same (λ v. first_of ((u ∷ values) ∷ rest) (None ∷ set cells p (Some v)) test) (λ v. first_with rest (set cells p (Some v)) test u) (get_or rest p [])
+        ∙ sym (tried_same (λ v. first_of ((u ∷ values) ∷ rest) (None ∷ set cells p (Some v)) test) (λ v. first_with rest (set cells p (Some v)) test u)
+        (get_or rest p [])
         (λ v listed. first_of-free u values rest (set cells p (Some v)) test free))
 
 -- the row is a completion of the partial row
@@ -213,7 +208,8 @@ first_of-none (values ∷ rest) [] test long none = absurd (omega arith)
 first_of-none (values ∷ rest) (cell ∷ cells) test long none =
     first_of-cons values rest cell cells test
     ∙ tried_none (first_with rest cells test) (cell_values values cell)
-    (λ v listed. ap (option_map (λ row. Some v ∷ row)) (first_of-none rest cells (λ row. test (Some v ∷ row)) (omega arith) (λ row is. none (Some v ∷ row) (listed, is))))
+    (λ v listed. ap (option_map (λ row. Some v ∷ row)) (first_of-none rest cells (λ row. test (Some v ∷ row)) (omega arith)
+    (λ row is. none (Some v ∷ row) (listed, is))))
 
 some_or : {X : Type 0} (o rest : Option X) → is_some o ≡ true → is_some (option_or o rest) ≡ true
 some_or (Some x) rest h = refl
@@ -225,7 +221,7 @@ or_some None rest h = h
 
 tried_some : {X : Type 0} (f : ℕ → Option X) (v : ℕ) (values : List ℕ) → is_among values v ≡ true → is_some (f v) ≡ true → is_some (tried f values) ≡ true
 tried_some f v [] listed some = absurd (false≢true listed)
-tried_some f v (w ∷ values) listed some = by_case (w == v) (same_number w v) listed (λ h. tried_some f v values h some)
+tried_some f v (w ∷ values) listed some = by_case (w == v) (eqb-true w v) listed (λ h. tried_some f v values h some)
   where
     by_case : (equal : Bool) → (equal ≡ true → w ≡ v) → (equal || is_among values v) ≡ true → (is_among values v ≡ true → is_some (tried f values) ≡ true)
         → is_some (option_or (f w) (tried f values)) ≡ true
@@ -239,7 +235,8 @@ first_of-some [] [] [] test is meets = ap (λ (b : Bool). is_some {T = List (Opt
 first_of-some (values ∷ rest) (cell ∷ cells) (Some v ∷ row) test is meets =
     ap is_some (first_of-cons values rest cell cells test)
     ∙ tried_some (first_with rest cells test) v (cell_values values cell) is.0
-    (is_some-mapped (λ row. Some v ∷ row) (first_of rest cells (λ row. test (Some v ∷ row))) ∙ first_of-some rest cells row (λ row. test (Some v ∷ row)) is.1 meets)
+    (is_some-mapped (λ row. Some v ∷ row) (first_of rest cells (λ row. test (Some v ∷ row)))
+    ∙ first_of-some rest cells row (λ row. test (Some v ∷ row)) is.1 meets)
 first_of-some [] [] (x ∷ row) test is meets = absurd is
 first_of-some [] (cell ∷ cells) row test is meets = absurd is
 first_of-some (values ∷ rest) [] row test is meets = absurd is
@@ -255,7 +252,8 @@ is_among-equal : (v : ℕ) (values : List ℕ) → is_among values v ≡ true �
 is_among-equal v [] listed = listed
 is_among-equal v (w ∷ values) listed = by_case (w == v) refl listed (is_among-equal v values)
   where
-    by_case : (equal : Bool) → (w == v) ≡ equal → (equal || is_among values v) ≡ true → (is_among values v ≡ true → is_among (filter (λ u. u == v) values) v ≡ true)
+    by_case : (equal : Bool) → (w == v) ≡ equal → (equal || is_among values v) ≡ true
+        → (is_among values v ≡ true → is_among (filter (λ u. u == v) values) v ≡ true)
         → is_among (cond equal (w ∷ filter (λ u. u == v) values) (filter (λ u. u == v) values)) v ≡ true
     by_case true is h later = ap (λ (b : Bool). b || is_among (filter (λ u. u == v) values) v) is
     by_case false is h later = later h
@@ -286,15 +284,17 @@ first_of-filled ([] ∷ rest) (None ∷ cells) test long can meets = absurd (ome
 first_of-filled ((v ∷ values) ∷ rest) (None ∷ cells) test long can meets =
     first_of-cons (v ∷ values) rest None cells test
     ∙ some_or_first (Some v ∷ filled rest cells) (first_with rest cells test v) (tried (first_with rest cells test) values)
-    (ap (option_map (λ row. Some v ∷ row)) (first_of-filled rest cells (λ row. test (Some v ∷ row)) (omega arith) (λ p within. can (suc p) (omega arith)) meets))
+    (ap (option_map (λ row. Some v ∷ row)) (first_of-filled rest cells (λ row. test (Some v ∷ row)) (omega arith) (λ p within. can (suc p) (omega arith))
+    meets))
 first_of-filled (values ∷ rest) (Some w ∷ cells) test long can meets =
     first_of-given values rest w cells test
     ∙ ap (λ (b : Bool). if b then first_with rest cells test w else None) (can 0 (omega arith))
-    ∙ ap (option_map (λ row. Some w ∷ row)) (first_of-filled rest cells (λ row. test (Some w ∷ row)) (omega arith) (λ p within. can (suc p) (omega arith)) meets)
+    ∙ ap (option_map (λ row. Some w ∷ row)) (first_of-filled rest cells (λ row. test (Some w ∷ row)) (omega arith) (λ p within. can (suc p) (omega arith))
+    meets)
 
 among_equal : (v w : ℕ) (values : List ℕ) → is_among (filter (λ u. u == v) values) w ≡ true → v ≡ w
 among_equal v w [] listed = absurd (false≢true listed)
-among_equal v w (u ∷ values) listed = by_case (u == v) (same_number u v) (among_equal v w values) listed
+among_equal v w (u ∷ values) listed = by_case (u == v) (eqb-true u v) (among_equal v w values) listed
   where
     here : (equal : Bool) → (equal ≡ true → u ≡ w) → u ≡ v → (is_among (filter (λ u. u == v) values) w ≡ true → v ≡ w)
         → (equal || is_among (filter (λ u. u == v) values) w) ≡ true → v ≡ w
@@ -303,7 +303,7 @@ among_equal v w (u ∷ values) listed = by_case (u == v) (same_number u v) (amon
 
     by_case : (equal : Bool) → (equal ≡ true → u ≡ v) → (is_among (filter (λ u. u == v) values) w ≡ true → v ≡ w)
         → is_among (cond equal (u ∷ filter (λ u. u == v) values) (filter (λ u. u == v) values)) w ≡ true → v ≡ w
-    by_case true same later h = here (u == w) (same_number u w) (same refl) later h
+    by_case true same later h = here (u == w) (eqb-true u w) (same refl) later h
     by_case false same later h = later h
 
 -- a completion contains the partial row, and gives each parameter one of its values
@@ -312,7 +312,7 @@ completion_contains [] [] [] is = refl
 completion_contains (values ∷ rest) (None ∷ cells) (Some v ∷ row) is = completion_contains rest cells row is.1
 completion_contains (values ∷ rest) (Some w ∷ cells) (Some v ∷ row) is =
     ap (λ (u : ℕ). (u == w) && contains row cells) (sym (among_equal w v values is.0))
-    ∙ ap (λ (b : Bool). b && contains row cells) (equal_number w) ∙ completion_contains rest cells row is.1
+    ∙ ap (λ (b : Bool). b && contains row cells) (eq-eqb w w refl) ∙ completion_contains rest cells row is.1
 completion_contains [] [] (x ∷ row) is = absurd is
 completion_contains [] (cell ∷ cells) row is = absurd is
 completion_contains (values ∷ rest) [] row is = absurd is
@@ -364,7 +364,8 @@ completion_gives (values ∷ rest) (cell ∷ cells) (None ∷ row) p is within =
 
 -- so a completion by lists with the same values in another order is one
 pub completion_moves : (lists others : List (List ℕ)) (cells row : List (Option ℕ)) → length lists ≡ length others
-    → ((p v : ℕ) → is_among (get_or lists p []) v ≡ true → is_among (get_or others p []) v ≡ true) → IsCompletion lists cells row → IsCompletion others cells row
+    → ((p v : ℕ) → is_among (get_or lists p []) v ≡ true → is_among (get_or others p []) v ≡ true) → IsCompletion lists cells row
+    → IsCompletion others cells row
 completion_moves [] [] [] [] same moves is = tt
 completion_moves (values ∷ rest) [] cells row same moves is = absurd (omega arith)
 completion_moves [] (values ∷ rest) cells row same moves is = absurd (omega arith)
@@ -372,7 +373,8 @@ completion_moves (values ∷ rest) (other ∷ others) (None ∷ cells) (Some v �
     (moves 0 v is.0, completion_moves rest others cells row (omega arith) (λ p. moves (suc p)) is.1)
 completion_moves (values ∷ rest) (other ∷ others) (Some w ∷ cells) (Some v ∷ row) same moves is = (
   subst (λ (u : ℕ). is_among (filter (λ k. k == w) other) u ≡ true) (among_equal w v values is.0)
-      (is_among-equal w other (moves 0 w (subst (λ (u : ℕ). is_among values u ≡ true) (sym (among_equal w v values is.0)) (among_filter (λ k. k == w) v values is.0)))),
+      (is_among-equal w other (moves 0 w (subst (λ (u : ℕ). is_among values u ≡ true) (sym (among_equal w v values is.0))
+      (among_filter (λ k. k == w) v values is.0)))),
   completion_moves rest others cells row (omega arith) (λ p. moves (suc p)) is.1,
 )
 completion_moves [] [] [] (x ∷ row) same moves is = absurd is

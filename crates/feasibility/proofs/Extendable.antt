@@ -1,11 +1,12 @@
 -- Plain search in a slice of a model.
 use Rattle.std.proofs.Common.{◌≡◌, ℕ, zero, suc, ◌+◌, ◌<◌, ◌≤◌, Bool, true, false, not, ◌||◌, ◌==◌, cond, List, [], ◌∷◌, map, length, Option, Some, None, is_some, find, get_or, ◌∙◌, sym, ap, subst, refl, arith, inl, inr, eq-eqb, zero-add}
 use Rattle.std.specs.List.{filter, list_any, range_with_len}
-use Rattle.std.proofs.lemmas.Bool.{false≢true, cases_lt, cases_eq}
+use Rattle.std.proofs.lemmas.Bool.{false≢true, cases_lt, cases_eq, eqb-true, false_from_ne_true}
 use Rattle.std.proofs.lemmas.List.{get_or-set_other, get_or-set_same, get_or_past, length-set}
 use Rattle.std.proofs.lemmas.List.Folds.{list_any_at}
 use Rattle.std.proofs.lemmas.List.Sorted.{list_any-IsPermutation}
 use Rattle.std.proofs.lemmas.List.FromFn.{length-range_with_len, get_or-range_with_len, length-map-range_with_len, get_or-map-range_with_len}
+use Rattle.std.proofs.Math.Bool.{or-false}
 use Rattle.cov_model.specs.declared.slice.Slice.{Slice}
 use Rattle.cov_model.specs.declared.slice.Slice.TheVariants.{Positive, Negative}
 use Rattle.cov_model.specs.Sound.{ModelView, IsSound, param_at}
@@ -16,18 +17,22 @@ use Rattle.cov_model.specs.Slices.{slice_values, positive_values, value_numbers}
 use Rattle.definitions.specs.Demand.{is_among}
 use Rattle.definitions.specs.Completion.{completions, meets_rules, is_extendable, preferred_values, first_completion}
 use Rattle.definitions.specs.Search.{constrained_params, plain_search, plain_cost, visit}
+pub use Rattle.cov_model.proofs.CellLemmas.{length-slice_values}
 use Rattle.definitions.specs.Laws.{ArePreferences}
+use Rattle.definitions.proofs.Members.{same_answer}
+use Rattle.definitions.proofs.PartialRowLemmas.{length-preferred_values}
 use Rattle.feasibility.specs.Answers.{answer_of}
 use Rattle.feasibility.specs.declared.answer.Answer.{Answer}
 use Rattle.feasibility.specs.declared.answer.Answer.TheVariants.{Yes}
+use Rattle.live_sets.specs.Trail.{LiveView}
 use Rattle.feasibility.specs.Solving.{SolverView, IsSolver}
-use Rattle.feasibility.specs.Tree.{ListsValues}
-use Rattle.feasibility.proofs.Visiting.{told_yes}
-use Rattle.feasibility.specs.Path.{reached}
+use Rattle.feasibility.specs.Tree.{ListsValues, IsListed}
+use Rattle.feasibility.proofs.Visits.{told_yes}
+use Rattle.feasibility.specs.Path.{filled, reached}
 use Rattle.definitions.specs.SliceRows.{IsSliceOf, IsOfSlice}
 use Rattle.feasibility.specs.Laws.{PlainSearchIsExact}
-use Rattle.feasibility.proofs.Completing.{same_number, first_of, first_of-none, first_of-some, completion_moves, among_filter, among_tail}
-use Rattle.feasibility.proofs.Searching.{IsListed, given_by, visit_gives, not_true_false}
+use Rattle.feasibility.proofs.Completing.{first_of, first_of-none, first_of-some, completion_moves, among_filter, among_tail}
+use Rattle.feasibility.proofs.Searching.{given_by, visit_gives}
 
 list_any-find : {X : Type 0} (test : X → Bool) (xs : List X) → list_any test xs ≡ is_some (find test xs)
 list_any-find test [] = refl
@@ -41,7 +46,8 @@ is_none : {X : Type 0} (o : Option X) → o ≡ None → is_some o ≡ false
 is_none o is = ap (λ o. is_some o) is
 
 -- what one list of values finds, another with the same values does
-found_moves : (lists others : List (List ℕ)) (cells : List (Option ℕ)) (test : List (Option ℕ) → Bool) → length cells ≡ length lists → length lists ≡ length others
+found_moves : (lists others : List (List ℕ)) (cells : List (Option ℕ)) (test : List (Option ℕ) → Bool) → length cells ≡ length lists
+    → length lists ≡ length others
     → ((p v : ℕ) → is_among (get_or lists p []) v ≡ true → is_among (get_or others p []) v ≡ true)
     → is_some (first_of lists cells test) ≡ true → is_some (first_of others cells test) ≡ true
 found_moves lists others cells test long same moves found = by_case (is_some (first_of others cells test)) refl
@@ -50,21 +56,18 @@ found_moves lists others cells test long same moves found = by_case (is_some (fi
     by_case true is = refl
     by_case false is =
         absurd (false≢true (sym (is_none (first_of lists cells test) (first_of-none lists cells test long (λ row completes.
-        not_true_false (test row) (λ meets. false≢true (sym is ∙ first_of-some others cells row test (completion_moves lists others cells row same moves completes) meets)))))
+        false_from_ne_true (test row) (λ meets. false≢true (sym is
+        ∙ first_of-some others cells row test (completion_moves lists others cells row same moves completes) meets)))))
         ∙ found))
-
-both_ways : (a b : Bool) → (a ≡ true → b ≡ true) → (b ≡ true → a ≡ true) → a ≡ b
-both_ways true b h k = sym (h refl)
-both_ways false true h k = k refl
-both_ways false false h k = refl
 
 among_range : (n v : ℕ) → v < n → is_among (range_with_len 0 n) v ≡ true
 among_range n v within =
-    list_any_at (λ k. k == v) (range_with_len 0 n) v 0 (omega (arith, length-range_with_len 0 n)) (eq-eqb _ v (get_or-range_with_len 0 n v 0 within ∙ zero-add v))
+    list_any_at (λ k. k == v) (range_with_len 0 n) v 0 (omega (arith, length-range_with_len 0 n))
+    (eq-eqb _ v (get_or-range_with_len 0 n v 0 within ∙ zero-add v))
 
 pub among_range_below : (a n v : ℕ) → is_among (range_with_len a n) v ≡ true → v < a + n
 among_range_below a zero v listed = absurd (false≢true listed)
-among_range_below a (suc n) v listed = by_case (a == v) (same_number a v) listed (among_range_below (a + 1) n v)
+among_range_below a (suc n) v listed = by_case (a == v) (eqb-true a v) listed (among_range_below (a + 1) n v)
   where
     by_case : (equal : Bool) → (equal ≡ true → a ≡ v) → (equal || is_among (range_with_len (a + 1) n) v) ≡ true
         → (is_among (range_with_len (a + 1) n) v ≡ true → v < a + 1 + n) → v < a + suc n
@@ -77,7 +80,7 @@ among_filter_test test v (w ∷ values) listed = by_case (test w) refl listed (a
   where
     here : (equal : Bool) → (w == v) ≡ equal → test w ≡ true → (equal || is_among (filter test values) v) ≡ true
         → (is_among (filter test values) v ≡ true → test v ≡ true) → test v ≡ true
-    here true is passes h later = subst (λ (u : ℕ). test u ≡ true) (same_number w v is) passes
+    here true is passes h later = subst (λ (u : ℕ). test u ≡ true) (eqb-true w v is) passes
     here false is passes h later = later h
 
     by_case : (b : Bool) → test w ≡ b → is_among (cond b (w ∷ filter test values) (filter test values)) v ≡ true
@@ -96,20 +99,16 @@ among_filter_in test v (w ∷ values) passes listed = by_equal (w == v) refl lis
     by_equal : (equal : Bool) → (w == v) ≡ equal → (equal || is_among values v) ≡ true → (is_among values v ≡ true → is_among (filter test values) v ≡ true)
         → is_among (cond (test w) (w ∷ filter test values) (filter test values)) v ≡ true
     by_equal true is h later =
-        let same = same_number w v is in
+        let same = eqb-true w v is in
         ap (λ (b : Bool). is_among (cond b (w ∷ filter test values) (filter test values)) v) (ap test same ∙ passes)
         ∙ ap (λ (b : Bool). b || is_among (filter test values) v) is
     by_equal false is h later = by_test (test w) (later h)
 
-pub length-slice_values : (m : ModelView) (slice : Slice) → length (slice_values m slice) ≡ length m.params
-length-slice_values m Positive = length-map-range_with_len (positive_values m) 0 (length m.params)
-length-slice_values m (Negative p v) =
-    length-set (map (positive_values m) (param_numbers m)) p (v ∷ []) ∙ length-map-range_with_len (positive_values m) 0 (length m.params)
-
 positive_exist : (m : ModelView) (p v : ℕ) → p < length m.params → is_among (get_or (map (positive_values m) (param_numbers m)) p []) v ≡ true
     → v < length (param_at m.params p).values
 positive_exist m p v within listed =
-    let here : get_or (map (positive_values m) (param_numbers m)) p [] ≡ positive_values m p = get_or-map-range_with_len (positive_values m) 0 (length m.params) p p [] within (zero-add p) in
+    let here : get_or (map (positive_values m) (param_numbers m)) p [] ≡ positive_values m p =
+    get_or-map-range_with_len (positive_values m) 0 (length m.params) p p [] within (zero-add p) in
     let low = among_range_below 0 (length (param_at m.params p).values) v
     (among_filter (λ w. not (value_at m p w).negative) v (value_numbers m p) (subst (λ (values : List ℕ). is_among values v ≡ true) here listed)) in
     omega (arith, low)
@@ -123,24 +122,22 @@ slice_exist m (Negative q w) p v is within listed =
       | inl same ↦
           let here : get_or (slice_values m (Negative q w)) p [] ≡ w ∷ [] =
           ap (λ (k : ℕ). get_or (slice_values m (Negative q w)) k []) same
-          ∙ get_or-set_same (map (positive_values m) (param_numbers m)) q (w ∷ []) [] (omega (arith, length-map-range_with_len (positive_values m) 0 (length m.params), is.0)) in
+          ∙ get_or-set_same (map (positive_values m) (param_numbers m)) q (w ∷ []) []
+          (omega (arith, length-map-range_with_len (positive_values m) 0 (length m.params), is.0)) in
           let equal : w ≡ v = one w v (subst (λ (values : List ℕ). is_among values v ≡ true) here listed) in
           subst (λ (u : ℕ). u < length (param_at m.params p).values) equal (subst (λ (k : ℕ). w < length (param_at m.params k).values) (sym same) is.1)
       | inr differs ↦
           positive_exist m p v within
-          (subst (λ (values : List ℕ). is_among values v ≡ true) (get_or-set_other (map (positive_values m) (param_numbers m)) q p (w ∷ []) [] differs) listed)
+          (subst (λ (values : List ℕ). is_among values v ≡ true) (get_or-set_other (map (positive_values m) (param_numbers m)) q p (w ∷ []) [] differs)
+          listed)
     ]
   where
     one : (w v : ℕ) → ((w == v) || false) ≡ true → w ≡ v
-    one w v h = by_case (w == v) (same_number w v) h
+    one w v h = by_case (w == v) (eqb-true w v) h
       where
         by_case : (b : Bool) → (b ≡ true → w ≡ v) → (b || false) ≡ true → w ≡ v
         by_case true same h = same refl
         by_case false same h = absurd (false≢true h)
-
-length-preferred_values : (m : ModelView) (pref : List (List ℕ)) (slice : Slice) → length (preferred_values m pref slice) ≡ length m.params
-length-preferred_values m pref slice =
-    length-map-range_with_len (λ p. filter (is_among (get_or (slice_values m slice) p [])) (get_or pref p [])) 0 (length m.params)
 
 pub get_or-preferred_values : (m : ModelView) (pref : List (List ℕ)) (slice : Slice) (p : ℕ) → p < length m.params
     → get_or (preferred_values m pref slice) p [] ≡ filter (is_among (get_or (slice_values m slice) p [])) (get_or pref p [])
@@ -156,7 +153,8 @@ preferred_listed m pref slice p v listed =
           among_filter_test (is_among (get_or (slice_values m slice) p [])) v (get_or pref p [])
           (subst (λ (values : List ℕ). is_among values v ≡ true) (get_or-preferred_values m pref slice p within) listed)
       | inr past ↦
-          absurd (false≢true (ap (λ (values : List ℕ). is_among values v) (sym (get_or_past (preferred_values m pref slice) p [] (omega (arith, length-preferred_values m pref slice)))) ∙ listed))
+          absurd (false≢true (ap (λ (values : List ℕ). is_among values v)
+          (sym (get_or_past (preferred_values m pref slice) p [] (omega (arith, length-preferred_values m pref slice)))) ∙ listed))
     ]
 
 -- and each value of the slice is listed
@@ -170,12 +168,15 @@ slice_listed m pref slice p v are is listed =
           (sym (list_any-IsPermutation (λ k. k == v) (value_numbers m p) (get_or pref p []) (are.1 p within))
           ∙ among_range (length (param_at m.params p).values) v (slice_exist m slice p v is within listed)))
       | inr past ↦
-          absurd (false≢true (ap (λ (values : List ℕ). is_among values v) (sym (get_or_past (slice_values m slice) p [] (omega (arith, length-slice_values m slice)))) ∙ listed))
+          absurd (false≢true (ap (λ (values : List ℕ). is_among values v)
+          (sym (get_or_past (slice_values m slice) p [] (omega (arith, length-slice_values m slice)))) ∙ listed))
     ]
 
-past_exist : (m : ModelView) (pref : List (List ℕ)) (slice : Slice) (p v : ℕ) → length m.params ≤ p → is_among (get_or (slice_values m slice) p []) v ≡ true → ⊥
+past_exist : (m : ModelView) (pref : List (List ℕ)) (slice : Slice) (p v : ℕ) → length m.params ≤ p → is_among (get_or (slice_values m slice) p []) v ≡ true
+    → ⊥
 past_exist m pref slice p v past listed =
-    false≢true (ap (λ (values : List ℕ). is_among values v) (sym (get_or_past (slice_values m slice) p [] (omega (arith, length-slice_values m slice)))) ∙ listed)
+    false≢true (ap (λ (values : List ℕ). is_among values v) (sym (get_or_past (slice_values m slice) p [] (omega (arith, length-slice_values m slice))))
+    ∙ listed)
 
 pub preferred_are_values : (m : ModelView) (pref : List (List ℕ)) (slice : Slice) → IsSliceOf m slice → ListsValues m (preferred_values m pref slice)
 preferred_are_values m pref slice is = record {
@@ -187,7 +188,8 @@ preferred_are_values m pref slice is = record {
       ];
 }
 
-pub is_listed : (m : ModelView) (pref : List (List ℕ)) (slice : Slice) (cells : List (Option ℕ)) → ArePreferences m pref → IsSliceOf m slice → IsOfSlice m slice cells
+pub is_listed : (m : ModelView) (pref : List (List ℕ)) (slice : Slice) (cells : List (Option ℕ)) → ArePreferences m pref → IsSliceOf m slice
+    → IsOfSlice m slice cells
     → IsListed (preferred_values m pref slice) cells
 is_listed m pref slice cells are is of = record {
   long = of.fits.as_long ∙ sym (length-preferred_values m pref slice);
@@ -197,9 +199,11 @@ is_listed m pref slice cells are is of = record {
 -- plain search gives the first completion
 pub plain_search_gives : (m : ModelView) (pref : List (List ℕ)) (slice : Slice) (cells : List (Option ℕ)) → IsSound m → ArePreferences m pref
     → IsSliceOf m slice → IsOfSlice m slice cells
-    → first_completion m pref slice cells ≡ given_by (plain_search m pref slice cells) (reached m (preferred_values m pref slice) (constrained_params m) cells)
+    → first_completion m pref slice cells ≡ given_by (plain_search m pref slice cells)
+    (filled (preferred_values m pref slice) (reached m (preferred_values m pref slice) (constrained_params m) cells))
 plain_search_gives m pref slice cells sound are is of =
-    visit_gives m (preferred_values m pref slice) 0 (length m.params) cells sound (preferred_are_values m pref slice is) (is_listed m pref slice cells are is of)
+    visit_gives m (preferred_values m pref slice) 0 (length m.params) cells sound (preferred_are_values m pref slice is)
+    (is_listed m pref slice cells are is of)
     (zero-add (length m.params)) (λ q before named. absurd (omega arith))
 
 found_given : (found : Bool) (row : List (Option ℕ)) → is_some (cond found (Some row) None) ≡ found
@@ -211,15 +215,18 @@ pub completed_is_extendable : (m : ModelView) (pref : List (List ℕ)) (slice : 
 completed_is_extendable m pref slice cells are is of =
     let some = length-preferred_values m pref slice in
     let all = length-slice_values m slice in
-    both_ways (is_some (first_of (preferred_values m pref slice) cells (meets_rules m))) (is_some (first_of (slice_values m slice) cells (meets_rules m)))
-    (found_moves (preferred_values m pref slice) (slice_values m slice) cells (meets_rules m) (of.fits.as_long ∙ sym some) (some ∙ sym all) (preferred_listed m pref slice))
-    (found_moves (slice_values m slice) (preferred_values m pref slice) cells (meets_rules m) (of.fits.as_long ∙ sym all) (all ∙ sym some) (λ p v. slice_listed m pref slice p v are is))
+    same_answer (is_some (first_of (preferred_values m pref slice) cells (meets_rules m))) (is_some (first_of (slice_values m slice) cells (meets_rules m)))
+    (found_moves (preferred_values m pref slice) (slice_values m slice) cells (meets_rules m) (of.fits.as_long ∙ sym some) (some ∙ sym all)
+    (preferred_listed m pref slice))
+    (found_moves (slice_values m slice) (preferred_values m pref slice) cells (meets_rules m) (of.fits.as_long ∙ sym all) (all ∙ sym some)
+    (λ p v. slice_listed m pref slice p v are is))
     ∙ sym (list_any-find (meets_rules m) (completions (slice_values m slice) cells))
 
 pub plain_search_is_exact : PlainSearchIsExact
 plain_search_is_exact m pref slice cells sound are is of =
     let whole = completed_is_extendable m pref slice cells are is of in (
-      sym (found_given (plain_search m pref slice cells).found (reached m (preferred_values m pref slice) (constrained_params m) cells))
+      sym (found_given (plain_search m pref slice cells).found (filled (preferred_values m pref slice)
+          (reached m (preferred_values m pref slice) (constrained_params m) cells)))
           ∙ sym (ap (λ (o : Option (List (Option ℕ))). is_some o) (plain_search_gives m pref slice cells sound are is of)) ∙ whole,
       whole,
     )
@@ -229,9 +236,10 @@ listed_positive : (m : ModelView) (p v : ℕ) → p < length m.params → v < le
     → is_among (get_or (map (positive_values m) (param_numbers m)) p []) v ≡ not (value_at m p v).negative
 listed_positive m p v within exists =
     ap (λ (values : List ℕ). is_among values v) (get_or-map-range_with_len (positive_values m) 0 (length m.params) p p [] within (zero-add p))
-    ∙ both_ways (is_among (positive_values m p) v) (not (value_at m p v).negative)
+    ∙ same_answer (is_among (positive_values m p) v) (not (value_at m p v).negative)
     (λ listed. among_filter_test (λ w. not (value_at m p w).negative) v (value_numbers m p) listed)
-    (λ positive. among_filter_in (λ w. not (value_at m p w).negative) v (value_numbers m p) positive (among_range (length (param_at m.params p).values) v exists))
+    (λ positive. among_filter_in (λ w. not (value_at m p w).negative) v (value_numbers m p) positive
+    (among_range (length (param_at m.params p).values) v exists))
 
 pub slice_positive : (m : ModelView) (p v : ℕ) → p < length m.params → v < length (param_at m.params p).values
     → not (value_at m p v).negative ≡ is_among (get_or (slice_values m Positive) p []) v
@@ -240,43 +248,59 @@ slice_positive m p v within exists = sym (listed_positive m p v within exists)
 pub slice_other : (m : ModelView) (q w p v : ℕ) → (q ≡ p → ⊥) → p < length m.params → v < length (param_at m.params p).values
     → not (value_at m p v).negative ≡ is_among (get_or (slice_values m (Negative q w)) p []) v
 slice_other m q w p v differs within exists =
-    sym (ap (λ (values : List ℕ). is_among values v) (get_or-set_other (map (positive_values m) (param_numbers m)) q p (w ∷ []) [] (λ e. differs (sym e))) ∙ listed_positive m p v within exists)
+    sym (ap (λ (values : List ℕ). is_among values v) (get_or-set_other (map (positive_values m) (param_numbers m)) q p (w ∷ []) [] (λ e. differs (sym e)))
+    ∙ listed_positive m p v within exists)
 
 pub slice_fixed : (m : ModelView) (q w p v : ℕ) → q ≡ p → p < length m.params → (w == v) ≡ is_among (get_or (slice_values m (Negative q w)) p []) v
 slice_fixed m q w p v same within =
     let here : get_or (slice_values m (Negative q w)) p [] ≡ w ∷ [] =
     ap (λ (k : ℕ). get_or (slice_values m (Negative k w)) p []) same
-    ∙ get_or-set_same (map (positive_values m) (param_numbers m)) p (w ∷ []) [] (omega (arith, length-map-range_with_len (positive_values m) 0 (length m.params))) in
-    sym (ap (λ (values : List ℕ). is_among values v) here ∙ or_false (w == v))
-  where
-    or_false : (b : Bool) → (b || false) ≡ b
-    or_false true = refl
-    or_false false = refl
+    ∙ get_or-set_same (map (positive_values m) (param_numbers m)) p (w ∷ []) []
+    (omega (arith, length-map-range_with_len (positive_values m) 0 (length m.params))) in
+    sym (ap (λ (values : List ℕ). is_among values v) here ∙ or-false (w == v))
 
 -- what a search over a solver's values answers is what is asked of the solver
-pub solver_asks : (solver : SolverView) (lists : List (List ℕ)) (room cells : List (Option ℕ)) (budget : ℕ) (answer : Answer) → IsSolver solver lists room
+pub solver_asks : (solver : SolverView) (lists : List (List ℕ)) (room : List (Option ℕ)) (fails : Bool) (sets : LiveView) (cells : List (Option ℕ))
+    (budget : ℕ) (answer : Answer) → IsSolver solver lists room fails sets
     → IsSound solver.model → IsOfSlice solver.model solver.slice cells
-    → answer ≡ answer_of (visit solver.model lists (constrained_params solver.model) cells).found (visit solver.model lists (constrained_params solver.model) cells).cost budget
+    → answer ≡ answer_of (visit solver.model lists (constrained_params solver.model) cells).found
+    (visit solver.model lists (constrained_params solver.model) cells).cost budget
     → answer ≡ answer_of (is_extendable solver.model solver.slice cells) (plain_cost solver.model solver.prefs solver.slice cells) budget
-solver_asks solver lists room cells budget answer is sound of told =
+solver_asks solver lists room fails sets cells budget answer is sound of told =
     told
-    ∙ ap (λ (values : List (List ℕ)). answer_of (visit solver.model values (constrained_params solver.model) cells).found (visit solver.model values (constrained_params solver.model) cells).cost budget) is.tried
+    ∙ ap (λ (values : List (List ℕ)). answer_of (visit solver.model values (constrained_params solver.model) cells).found
+    (visit solver.model values (constrained_params solver.model) cells).cost budget) is.tried
     ∙ ap (λ (found : Bool). answer_of found (plain_cost solver.model solver.prefs solver.slice cells) budget)
     (plain_search_is_exact solver.model solver.prefs solver.slice cells sound (is.orders.as_many, is.orders.each) is.slice of).0
 
 -- and the row that it reaches is the first completion
-pub solver_completes : (solver : SolverView) (lists : List (List ℕ)) (room cells row : List (Option ℕ)) (budget : ℕ) (answer : Answer) → IsSolver solver lists room
+pub solver_completes : (solver : SolverView) (lists : List (List ℕ)) (room : List (Option ℕ)) (fails : Bool) (sets : LiveView) (cells row : List (Option ℕ))
+    (budget : ℕ) (answer : Answer) → IsSolver solver lists room fails sets
     → IsSound solver.model → IsOfSlice solver.model solver.slice cells
-    → answer ≡ answer_of (visit solver.model lists (constrained_params solver.model) cells).found (visit solver.model lists (constrained_params solver.model) cells).cost budget
-    → answer ≡ Yes → row ≡ reached solver.model lists (constrained_params solver.model) cells
+    → answer ≡ answer_of (visit solver.model lists (constrained_params solver.model) cells).found
+    (visit solver.model lists (constrained_params solver.model) cells).cost budget
+    → answer ≡ Yes → row ≡ filled lists (reached solver.model lists (constrained_params solver.model) cells)
     → Some row ≡ first_completion solver.model solver.prefs solver.slice cells
-solver_completes solver lists room cells row budget answer is sound of told answers reaches =
-    let whole : Yes ≡ answer_of (plain_search solver.model solver.prefs solver.slice cells).found (plain_cost solver.model solver.prefs solver.slice cells) budget =
+solver_completes solver lists room fails sets cells row budget answer is sound of told answers reaches =
+    let whole : Yes ≡ answer_of (plain_search solver.model solver.prefs solver.slice cells).found (plain_cost solver.model solver.prefs solver.slice cells)
+    budget =
     sym answers ∙ told
-    ∙ ap (λ (values : List (List ℕ)). answer_of (visit solver.model values (constrained_params solver.model) cells).found (visit solver.model values (constrained_params solver.model) cells).cost budget) is.tried in
-    let found = (told_yes (plain_search solver.model solver.prefs solver.slice cells).found (plain_cost solver.model solver.prefs solver.slice cells) budget whole).is in
-    let last : row ≡ reached solver.model (preferred_values solver.model solver.prefs solver.slice) (constrained_params solver.model) cells =
-    reaches ∙ ap (λ (values : List (List ℕ)). reached solver.model values (constrained_params solver.model) cells) is.tried in
+    ∙ ap (λ (values : List (List ℕ)). answer_of (visit solver.model values (constrained_params solver.model) cells).found
+    (visit solver.model values (constrained_params solver.model) cells).cost budget) is.tried in
+    let found = (told_yes (plain_search solver.model solver.prefs solver.slice cells).found (plain_cost solver.model solver.prefs solver.slice cells) budget
+    whole).is in
+    let last : row ≡ filled (preferred_values solver.model solver.prefs solver.slice)
+    (reached solver.model (preferred_values solver.model solver.prefs solver.slice) (constrained_params solver.model) cells) =
+    reaches ∙ ap (λ (values : List (List ℕ)). filled values (reached solver.model values (constrained_params solver.model) cells)) is.tried in
     sym (plain_search_gives solver.model solver.prefs solver.slice cells sound (is.orders.as_many, is.orders.each) is.slice of
-    ∙ ap (λ (b : Bool). cond b (Some (reached solver.model (preferred_values solver.model solver.prefs solver.slice) (constrained_params solver.model) cells)) None) found
+    ∙ ap (λ (b : Bool). cond b (Some (filled (preferred_values solver.model solver.prefs solver.slice)
+    (reached solver.model (preferred_values solver.model solver.prefs solver.slice) (constrained_params solver.model) cells))) None) found
     ∙ ap (λ (r : List (Option ℕ)). Some r) (sym last))
+
+-- the values of a partial row of its slice are listed
+pub solver_lists : (solver : SolverView) (lists : List (List ℕ)) (room : List (Option ℕ)) (fails : Bool) (sets : LiveView) (cells : List (Option ℕ))
+    → IsSolver solver lists room fails sets
+    → IsOfSlice solver.model solver.slice cells → IsListed lists cells
+solver_lists solver lists room fails sets cells is of =
+    subst (λ (values : List (List ℕ)). IsListed values cells) (sym is.tried)
+    (is_listed solver.model solver.prefs solver.slice cells (is.orders.as_many, is.orders.each) is.slice of)

@@ -1,8 +1,13 @@
 pub mod Completing
 pub mod Extendable
 pub mod Local
+pub mod Growing
 pub mod Naming
-pub mod Neighbours
 pub mod Nodes
 pub mod Searching
-pub mod Visiting
+pub mod Visits
+pub mod NarrowedSets
+pub mod Broken
+pub mod Looking
+pub mod Deciding
+pub mod ListedSets

@@ -1,25 +1,38 @@
 -- What is known of a constraint, and whether it holds, depends on the parameters that it names.
-use Rattle.std.proofs.Common.{◌≡◌, ℕ, Bool, true, not, ◌&&◌, ◌||◌, if◌then◌else◌, List, [], ◌∷◌, ◌++◌, Option, None, is_some, unwrap_or, get_or, ap, ◌∙◌, refl}
+use Rattle.std.proofs.Common.{◌≡◌, ℕ, Bool, true, false, not, ◌&&◌, ◌||◌, if◌then◌else◌, ◌==◌, List, [], ◌∷◌, ◌++◌, Option, Some, None, is_some, unwrap_or, get_or, set, ap, sym, ◌∙◌, refl, eq-eqb}
 use Rattle.std.specs.List.{list_any}
 use Rattle.std.specs.Ordering.{is_eq}
+use Rattle.std.proofs.lemmas.Bool.{false≢true, or_parts}
+use Rattle.std.proofs.lemmas.List.{get_or-set_other}
 use Rattle.value_text.specs.Like.{is_like}
 use Rattle.cov_model.specs.declared.truth.Truth.TheVariants.{Unknown}
 use Rattle.cov_model.specs.declared.constraint.Literal.{Literal}
 use Rattle.cov_model.specs.declared.truth.Truth.{Truth}
-use Rattle.cov_model.specs.declared.constraint.Body.{Body}
-use Rattle.cov_model.specs.declared.constraint.Body.TheVariants.{Plain, IfThen, IfElse}
 use Rattle.cov_model.specs.declared.constraint.Term as terms
 use Rattle.cov_model.specs.declared.constraint.Term.TheVariants.{ValueIs, ParamIs, OneOf, Like, Negative, Positive}
-use Rattle.cov_model.specs.declared.constraint.Pred.{Pred, Term, Not', All', Any', Row_of-Pred, end_of-Pred, more_of-Pred}
+use Rattle.cov_model.specs.Views.{PredView, PredViews, Leaf, Negated, Each, Either, End, More, BodyView, Plain, IfThen, IfElse}
 use Rattle.cov_model.specs.Sound.{ModelView, param_at, first_name}
 use Rattle.cov_model.specs.Meaning.{value_at, operand_of, literal_order, stands_in, term_holds, pred_holds, all_hold, any_holds, body_holds}
 use Rattle.cov_model.specs.Kleene.{known, not_of, and_of, or_of, term_params, term_truth, pred_truth, all_truth, any_truth, body_truth}
+use Rattle.definitions.specs.Demand.{is_among}
 use Rattle.definitions.specs.Search.{pred_params, parts_params, body_params}
+use Rattle.feasibility.proofs.Completing.{among_head, among_tail}
 
 -- the two partial rows give the same at these parameters
 abbrev pub AgreeOn : List ℕ → List (Option ℕ) → List (Option ℕ) → Type 0
 AgreeOn [] a b = Unit {0}
 AgreeOn (p ∷ params) a b = (get_or a p None ≡ get_or b p None) × AgreeOn params a b
+
+-- where they give the same at each, or one cell is set that none of them names
+pub agree_each : (params : List ℕ) (a b : List (Option ℕ)) → ((q : ℕ) → is_among params q ≡ true → get_or a q None ≡ get_or b q None) → AgreeOn params a b
+agree_each [] a b same = tt
+agree_each (p ∷ params) a b same = (same p (among_head p params), agree_each params a b (λ q listed. same q (among_tail p q params listed)))
+
+pub agree_set : (params : List ℕ) (cells : List (Option ℕ)) (p : ℕ) (a : Option ℕ) → is_among params p ≡ false → AgreeOn params (set cells p a) cells
+agree_set [] cells p a away = tt
+agree_set (q ∷ params) cells p a away =
+    let parts = or_parts (q == p) (is_among params p) away in
+    (get_or-set_other cells p q a None (λ same. false≢true (sym parts.0 ∙ eq-eqb q p same)), agree_set params cells p a parts.1)
 
 agree_left : (some others : List ℕ) (a b : List (Option ℕ)) → AgreeOn (some ++ others) a b → AgreeOn some a b
 agree_left [] others a b agree = tt
@@ -40,7 +53,8 @@ local_one holds x y same = (ap (λ (cell : Option ℕ). if is_some cell && true 
 
 -- a test of two cells
 local_two : (holds : Option ℕ → Option ℕ → Bool) (x y u v : Option ℕ) → x ≡ y → u ≡ v
-    → SameOf (if is_some x && (is_some u && true) then known (holds x u) else Unknown) (if is_some y && (is_some v && true) then known (holds y v) else Unknown) (holds x u) (holds y v)
+    → SameOf (if is_some x && (is_some u && true) then known (holds x u) else Unknown)
+    (if is_some y && (is_some v && true) then known (holds y v) else Unknown) (holds x u) (holds y v)
 local_two holds x y u v first second = (
   ap (λ (cell : Option ℕ). if is_some cell && (is_some u && true) then known (holds cell u) else Unknown) first
       ∙ ap (λ (cell : Option ℕ). if is_some y && (is_some cell && true) then known (holds y cell) else Unknown) second,
@@ -77,27 +91,27 @@ local_not : (s t : Truth) (w x : Bool) → SameOf s t w x → SameOf (not_of s) 
 local_not s t w x same = (ap not_of same.0, ap not same.1)
 
 mutual
-  local_pred : (m : ModelView) (pred : Pred) (a b : List (Option ℕ)) → AgreeOn (pred_params pred) a b
+  local_pred : (m : ModelView) (pred : PredView) (a b : List (Option ℕ)) → AgreeOn (pred_params pred) a b
       → SameOf (pred_truth m pred a) (pred_truth m pred b) (pred_holds m pred a) (pred_holds m pred b)
-  local_pred m (Term term) a b agree = local_term m term a b agree
-  local_pred m (Not' pointer inner) a b agree =
+  local_pred m (Leaf term) a b agree = local_term m term a b agree
+  local_pred m (Negated inner) a b agree =
       local_not (pred_truth m inner a) (pred_truth m inner b) (pred_holds m inner a) (pred_holds m inner b) (local_pred m inner a b agree)
-  local_pred m (All' n parts) a b agree = local_all m parts a b agree
-  local_pred m (Any' n parts) a b agree = local_any m parts a b agree
+  local_pred m (Each parts) a b agree = local_all m parts a b agree
+  local_pred m (Either parts) a b agree = local_any m parts a b agree
 
-  local_all : {n : _} (m : ModelView) (parts : Row_of-Pred n) (a b : List (Option ℕ)) → AgreeOn (parts_params parts) a b
+  local_all : (m : ModelView) (parts : PredViews) (a b : List (Option ℕ)) → AgreeOn (parts_params parts) a b
       → SameOf (all_truth m parts a) (all_truth m parts b) (all_hold m parts a) (all_hold m parts b)
-  local_all m end_of-Pred a b agree = (refl, refl)
-  local_all m (more_of-Pred part rest) a b agree =
+  local_all m End a b agree = (refl, refl)
+  local_all m (More part rest) a b agree =
       local_and (pred_truth m part a) (pred_truth m part b) (all_truth m rest a) (all_truth m rest b)
       (pred_holds m part a) (pred_holds m part b) (all_hold m rest a) (all_hold m rest b)
       (local_pred m part a b (agree_left (pred_params part) (parts_params rest) a b agree))
       (local_all m rest a b (agree_right (pred_params part) (parts_params rest) a b agree))
 
-  local_any : {n : _} (m : ModelView) (parts : Row_of-Pred n) (a b : List (Option ℕ)) → AgreeOn (parts_params parts) a b
+  local_any : (m : ModelView) (parts : PredViews) (a b : List (Option ℕ)) → AgreeOn (parts_params parts) a b
       → SameOf (any_truth m parts a) (any_truth m parts b) (any_holds m parts a) (any_holds m parts b)
-  local_any m end_of-Pred a b agree = (refl, refl)
-  local_any m (more_of-Pred part rest) a b agree =
+  local_any m End a b agree = (refl, refl)
+  local_any m (More part rest) a b agree =
       local_or (pred_truth m part a) (pred_truth m part b) (any_truth m rest a) (any_truth m rest b)
       (pred_holds m part a) (pred_holds m part b) (any_holds m rest a) (any_holds m rest b)
       (local_pred m part a b (agree_left (pred_params part) (parts_params rest) a b agree))
@@ -107,7 +121,7 @@ mutual
 local_if : (s t u v : Truth) (w x y z : Bool) → SameOf s t w x → SameOf u v y z → SameOf (or_of (not_of s) u) (or_of (not_of t) v) (not w || y) (not x || z)
 local_if s t u v w x y z premise then_part = local_or (not_of s) (not_of t) u v (not w) (not x) y z (local_not s t w x premise) then_part
 
-pub local_body : (m : ModelView) (body : Body) (a b : List (Option ℕ)) → AgreeOn (body_params body) a b
+pub local_body : (m : ModelView) (body : BodyView) (a b : List (Option ℕ)) → AgreeOn (body_params body) a b
     → SameOf (body_truth m body a) (body_truth m body b) (body_holds m body a) (body_holds m body b)
 local_body m (Plain pred) a b agree = local_pred m pred a b agree
 local_body m (IfThen premise pred) a b agree =
@@ -128,3 +142,8 @@ local_body m (IfElse premise pred other) a b agree =
     (pred_holds m premise a) (pred_holds m premise b) (pred_holds m pred a) (pred_holds m pred b) p q)
     (local_or (pred_truth m premise a) (pred_truth m premise b) (pred_truth m other a) (pred_truth m other b)
     (pred_holds m premise a) (pred_holds m premise b) (pred_holds m other a) (pred_holds m other b) p r)
+
+-- a cell without a value
+pub none_of : (o : Option ℕ) → is_some o ≡ false → o ≡ None
+none_of None h = refl
+none_of (Some v) h = absurd (false≢true (sym h))

@@ -1,122 +1,198 @@
 -- Which constraints name a parameter.
-use mathlib.Core.Former.{Count}
-use Rattle.std.proofs.Common.{◌≡◌, ℕ, ◌-◌, ◌<◌, ◌≤◌, Bool, true, false, ◌||◌, ◌==◌, cond, List, [], ◌∷◌, map, length, Option, Some, None, get_or, set, All, ◌∙◌, sym, ap, refl, arith, eq-eqb, zero-add}
-use Rattle.std.specs.List.{filter, list_any}
-use Rattle.std.proofs.lemmas.Bool.{false≢true}
-use Rattle.std.proofs.lemmas.List.{get_or-set_other, get_or_default}
-use Rattle.std.proofs.lemmas.List.Elements.{All-map, All-filter, All-head, All-tail}
+use Rattle.std.proofs.Common.{◌≡◌, ℕ, ◌+◌, ◌-◌, ◌<◌, ◌≤◌, Bool, true, false, not, ◌||◌, ◌==◌, cond, if◌then◌else◌, ◌++◌, List, [], ◌∷◌, map, take, length, append-nil, Option, is_some, unwrap_or, Some, None, get_or, set, All, ◌∙◌, sym, ap, subst, refl, arith, eq-eqb, zero-add}
+use Rattle.std.specs.List.{filter, list_any, range_with_len}
+use Rattle.std.proofs.lemmas.Bool.{false≢true, or_parts}
+use Rattle.std.proofs.lemmas.List.{take_more}
+use Rattle.std.proofs.lemmas.Grind.{flat_map-append}
+use Rattle.std.proofs.lemmas.List.Elements.{All-append, All-filter, All-map, All-nil, filter-append}
 use Rattle.std.proofs.lemmas.List.Folds.{list_any-append}
 use Rattle.std.proofs.lemmas.List.FromFn.{length-map-range_with_len, get_or-map-range_with_len}
+use Rattle.value_text.proofs.ListLemmas.{range_with_len_more}
 use Rattle.cov_model.specs.declared.constraint.Rule.{Rule}
-use Rattle.cov_model.specs.Sound.{ModelView, IsSound, rule_at, no_rule}
+use Rattle.cov_model.specs.Views.{BodyView, RuleView, body_view, each_is, either_is, pred_view, preds_in, rule_view}
+use Rattle.cov_model.specs.Sound.{ModelView, IsSound, param_at, rule_at}
 use Rattle.cov_model.specs.Kleene.{body_truth}
+use Rattle.cov_model.specs.Fits.{FitsModel}
+use Rattle.cov_model.specs.Rows.{is_assigned, value_in}
+use Rattle.compiled_rules.specs.Codes.{is_yes}
 use Rattle.cov_model.specs.Valid.{param_numbers}
 use Rattle.cov_model.specs.declared.constraint.Pred as preds
-use Rattle.cov_model.specs.declared.constraint.Pred.{Pred, Term, Not', All', Any', Row_of-Pred, end_of-Pred, more_of-Pred, items-the_row-Pred, items_hidden-the_row-Pred-0}
+use Rattle.cov_model.specs.declared.constraint.Pred.{Pred}
 use Rattle.definitions.specs.Demand.{is_among}
 use Rattle.definitions.specs.Completion.{with_value}
-use Rattle.definitions.specs.Search.{pred_params, parts_params, body_params, is_no, breaks_a_rule}
+use Rattle.definitions.specs.Search.{pred_params, parts_params, body_params, constrained_params}
+use Rattle.definitions.proofs.Members.{all_members as members_are, of_range}
 use Rattle.definitions.proofs.ProofWords.{rule_numbers}
-use Rattle.feasibility.specs.Tree.{is_named, naming}
-use Rattle.feasibility.proofs.Local.{AgreeOn, local_body}
-use Rattle.feasibility.proofs.Searching.{neither}
+use Rattle.definitions.proofs.SliceLemmas.{of_params}
+use Rattle.feasibility.specs.Live.{AreRules, undecided_of}
+use Rattle.feasibility.specs.declared.constrained.Constrained.{Constrained}
+use Rattle.feasibility.specs.Tree.{all_members, is_named, members, naming, no_values, undecided, undecided_by}
 
--- the parts of a predicate as the row that holds them
-abbrev row_of : Pred → (n : Count) × Row_of-Pred n
-row_of (All' _ row) = (_, row)
-row_of (Any' _ row) = (_, row)
-row_of _ = (_, end_of-Pred)
+parts_name : (parts : List Pred) (p : ℕ) → is_among (parts_params (preds_in parts)) p ≡ list_any (λ part. is_among (pred_params (pred_view part)) p) parts
+parts_name [] p = refl
+parts_name (part ∷ parts) p =
+    list_any-append (λ k. k == p) (pred_params (pred_view part)) (parts_params (preds_in parts))
+    ∙ ap (λ (b : Bool). is_among (pred_params (pred_view part)) p || b) (parts_name parts p)
 
-rows_name : {n : _} (parts : Row_of-Pred n) (p : ℕ)
-    → is_among (parts_params parts) p ≡ list_any (λ part. is_among (pred_params part) p) (items-the_row-Pred n parts)
-rows_name end_of-Pred p = refl
-rows_name (more_of-Pred part rest) p =
-    list_any-append (λ k. k == p) (pred_params part) (parts_params rest) ∙ ap (λ (b : Bool). is_among (pred_params part) p || b) (rows_name rest p)
+pub is_among-All : (parts : List Pred) (p : ℕ) → is_among (pred_params (pred_view (preds.All parts))) p ≡ list_any
+    (λ part. is_among (pred_params (pred_view part)) p) parts
+is_among-All parts p = ap (λ view. is_among (pred_params view) p) (each_is parts) ∙ parts_name parts p
 
-pub is_among-All : (parts : List Pred) (p : ℕ) → is_among (pred_params (preds.All parts)) p ≡ list_any (λ part. is_among (pred_params part) p) parts
-is_among-All parts p =
-    rows_name (row_of (preds.All parts)).1 p ∙ ap (λ list. list_any (λ part. is_among (pred_params part) p) list) (items_hidden-the_row-Pred-0 parts)
+pub is_among-Any : (parts : List Pred) (p : ℕ) → is_among (pred_params (pred_view (preds.Any parts))) p ≡ list_any
+    (λ part. is_among (pred_params (pred_view part)) p) parts
+is_among-Any parts p = ap (λ view. is_among (pred_params view) p) (either_is parts) ∙ parts_name parts p
 
-pub is_among-Any : (parts : List Pred) (p : ℕ) → is_among (pred_params (preds.Any parts)) p ≡ list_any (λ part. is_among (pred_params part) p) parts
-is_among-Any parts p =
-    rows_name (row_of (preds.Any parts)).1 p ∙ ap (λ list. list_any (λ part. is_among (pred_params part) p) list) (items_hidden-the_row-Pred-0 parts)
+-- the numbers of the constraints of the code that name a parameter are the model's
+naming_seen : (rules : List Rule) (p : ℕ)
+    → map (λ rule. rule.number) (filter (λ rule. is_among (body_params rule.body) p) (map rule_view rules))
+    ≡ map (λ rule. rule.number) (filter (λ rule. is_among (body_params (body_view rule.body)) p) rules)
+naming_seen [] p = refl
+naming_seen (rule ∷ rules) p = by_case (is_among (body_params (body_view rule.body)) p) (naming_seen rules p)
+  where
+    by_case : (b : Bool)
+        → map (λ rule. rule.number) (filter (λ rule. is_among (body_params rule.body) p) (map rule_view rules))
+        ≡ map (λ rule. rule.number) (filter (λ rule. is_among (body_params (body_view rule.body)) p) rules)
+        → map (λ rule. rule.number) (cond b (rule_view rule ∷ filter (λ rule. is_among (body_params rule.body) p) (map rule_view rules))
+        (filter (λ rule. is_among (body_params rule.body) p) (map rule_view rules)))
+        ≡ map (λ rule. rule.number) (cond b (rule ∷ filter (λ rule. is_among (body_params (body_view rule.body)) p) rules)
+        (filter (λ rule. is_among (body_params (body_view rule.body)) p) rules))
+    by_case true rest = ap (λ numbers. rule.number ∷ numbers) rest
+    by_case false rest = rest
 
--- what is kept of a parameter, in a list with a place for each
-pub record KeptAt (lists : List (List ℕ)) (p : ℕ) (list : List ℕ) : Type 0 where
-  pub within : p < length lists
-  pub is : get_or lists p [] ≡ list
+pub naming_is : (m : ModelView) (rules list : List Rule) (p : ℕ) → map rule_view rules ≡ m.rules → list ≡ rules
+    → map (λ rule. rule.number) (filter (λ rule. is_among (body_params (body_view rule.body)) p) list) ≡ naming m p
+naming_is m rules list p same whole =
+    ap (λ (l : List Rule). map (λ rule. rule.number) (filter (λ rule. is_among (body_params (body_view rule.body)) p) l)) whole
+    ∙ sym (naming_seen rules p) ∙ ap (λ (views : List RuleView). map (λ rule. rule.number) (filter (λ rule. is_among (body_params rule.body) p) views)) same
 
-pub kept_at : (f : ModelView → ℕ → List ℕ) (m n : ModelView) (lists : List (List ℕ)) (p : ℕ) → m ≡ n → lists ≡ map (f m) (param_numbers m) → p < length n.params
-    → KeptAt lists p (f n p)
-kept_at f m n lists p same is within =
-    let whole : lists ≡ map (f n) (param_numbers n) = is ∙ ap (λ (k : ModelView). map (f k) (param_numbers k)) same in
-    record {
-      within = omega (arith, ap length whole, length-map-range_with_len (f n) 0 (length n.params));
-      is = ap (λ (kept : List (List ℕ)). get_or kept p []) whole ∙ get_or-map-range_with_len (f n) 0 (length n.params) p p [] within (zero-add p);
-    }
-
--- a constraint is found by its number
-pub numbers_find : (m : ModelView) → IsSound m → All (λ rule. rule_at m rule.number ≡ rule) m.rules
-numbers_find m sound i d within =
-    let here = sound.numbered i d within in
-    let place : (get_or m.rules i d).number - 1 ≡ i = omega (arith, here) in
-    ap (λ (k : ℕ). get_or m.rules k no_rule) place ∙ get_or_default m.rules i no_rule d within
-
-pub naming_exist : (m : ModelView) (p : ℕ) → IsSound m → All (λ k. (0 < k) × (k ≤ length m.rules)) (naming m p)
+-- the numbers are those of constraints
+pub naming_exist : (m : ModelView) (p : ℕ) → IsSound m → AreRules m (naming m p)
 naming_exist m p sound =
     All-map (λ k. (0 < k) × (k ≤ length m.rules)) (λ rule. rule.number) (filter (λ rule. is_among (body_params rule.body) p) m.rules)
     (All-filter (λ rule. is_among (body_params rule.body) p) (λ rule. (0 < rule.number) × (rule.number ≤ length m.rules)) m.rules (rule_numbers m sound))
+
+pub undecided_exist : (m : ModelView) (p v : ℕ) → IsSound m → AreRules m (undecided m p v)
+undecided_exist m p v sound =
+    All-filter (λ k. not (is_yes (body_truth m (rule_at m k).body (with_value (no_values m) p v)))) (λ k. (0 < k) × (k ≤ length m.rules)) (naming m p)
+    (naming_exist m p sound)
+
+pub undecided_of_exist : (m : ModelView) (cells : List (Option ℕ)) (params : List ℕ) → IsSound m → AreRules m (undecided_of m cells params)
+undecided_of_exist m cells [] sound = All-nil (λ k. (0 < k) × (k ≤ length m.rules))
+undecided_of_exist m cells (p ∷ params) sound =
+    All-append (λ k. (0 < k) × (k ≤ length m.rules)) (if is_assigned cells p then undecided m p (value_in cells p) else []) (undecided_of m cells params)
+    (of_one (is_assigned cells p)) (undecided_of_exist m cells params sound)
+  where
+    of_one : (b : Bool) → AreRules m (if b then undecided m p (value_in cells p) else [])
+    of_one true = undecided_exist m p (value_in cells p) sound
+    of_one false = All-nil (λ k. (0 < k) × (k ≤ length m.rules))
 
 -- a parameter is constrained exactly if the list of the constraints that name it isn't empty
 pub named_some : (m : ModelView) (p : ℕ) → (0 < length (naming m p) → is_named m p ≡ true) × (length (naming m p) ≡ 0 → is_named m p ≡ false)
 named_some m p = of_rules m.rules
   where
-    of_rules : (rules : List Rule) → (0 < length (map (λ rule. rule.number) (filter (λ rule. is_among (body_params rule.body) p) rules)) → list_any (λ rule. is_among (body_params rule.body) p) rules ≡ true)
-        × (length (map (λ rule. rule.number) (filter (λ rule. is_among (body_params rule.body) p) rules)) ≡ 0 → list_any (λ rule. is_among (body_params rule.body) p) rules ≡ false)
+    of_rules : (rules : List RuleView) → (0 < length (map (λ rule. rule.number) (filter (λ rule. is_among (body_params rule.body) p) rules))
+        → list_any (λ rule. is_among (body_params rule.body) p) rules ≡ true)
+        × (length (map (λ rule. rule.number) (filter (λ rule. is_among (body_params rule.body) p) rules)) ≡ 0
+        → list_any (λ rule. is_among (body_params rule.body) p) rules ≡ false)
     of_rules [] = (λ h. absurd (omega arith), λ h. refl)
     of_rules (rule ∷ rules) = by_case (is_among (body_params rule.body) p) (of_rules rules)
       where
         by_case : (b : Bool)
-            → (0 < length (map (λ rule. rule.number) (filter (λ rule. is_among (body_params rule.body) p) rules)) → list_any (λ rule. is_among (body_params rule.body) p) rules ≡ true)
-            × (length (map (λ rule. rule.number) (filter (λ rule. is_among (body_params rule.body) p) rules)) ≡ 0 → list_any (λ rule. is_among (body_params rule.body) p) rules ≡ false)
-            → (0 < length (map (λ rule. rule.number) (cond b (rule ∷ filter (λ rule. is_among (body_params rule.body) p) rules) (filter (λ rule. is_among (body_params rule.body) p) rules)))
+            → (0 < length (map (λ rule. rule.number) (filter (λ rule. is_among (body_params rule.body) p) rules))
+            → list_any (λ rule. is_among (body_params rule.body) p) rules ≡ true)
+            × (length (map (λ rule. rule.number) (filter (λ rule. is_among (body_params rule.body) p) rules)) ≡ 0
+            → list_any (λ rule. is_among (body_params rule.body) p) rules ≡ false)
+            → (0 < length (map (λ rule. rule.number) (cond b (rule ∷ filter (λ rule. is_among (body_params rule.body) p) rules)
+            (filter (λ rule. is_among (body_params rule.body) p) rules)))
             → (b || list_any (λ rule. is_among (body_params rule.body) p) rules) ≡ true)
-            × (length (map (λ rule. rule.number) (cond b (rule ∷ filter (λ rule. is_among (body_params rule.body) p) rules) (filter (λ rule. is_among (body_params rule.body) p) rules))) ≡ 0
+            × (length (map (λ rule. rule.number) (cond b (rule ∷ filter (λ rule. is_among (body_params rule.body) p) rules)
+            (filter (λ rule. is_among (body_params rule.body) p) rules))) ≡ 0
             → (b || list_any (λ rule. is_among (body_params rule.body) p) rules) ≡ false)
         by_case true rest = (λ h. refl, λ h. absurd (omega arith))
         by_case false rest = rest
 
-pub agree_set : (params : List ℕ) (cells : List (Option ℕ)) (p : ℕ) (a : Option ℕ) → is_among params p ≡ false → AgreeOn params (set cells p a) cells
-agree_set [] cells p a away = tt
-agree_set (q ∷ params) cells p a away =
-    let parts = neither (q == p) (is_among params p) away in
-    (get_or-set_other cells p q a None (λ same. false≢true (sym parts.0 ∙ eq-eqb q p same)), agree_set params cells p a parts.1)
+-- the parameters that a constraint names exist, and those that constraints name do
+pub member_exists : (n : ℕ) (body : BodyView) (list : List ℕ) (i : ℕ) → list ≡ members n body → i < length list → get_or list i 0 < n
+member_exists n body list i is within =
+    subst (All (λ q. q < n)) (sym is)
+    (All-filter (is_among (body_params body)) (λ q. q < n) (range_with_len 0 n)
+    (members_are (λ q. q < n) (range_with_len 0 n) (λ q has. omega (arith, (of_range 0 n q has).1)))) i 0 within
 
--- where no constraint is No, a value can only make one No that names its parameter
-pub rules_same : (m : ModelView) (cells : List (Option ℕ)) (p : ℕ) (a : Option ℕ) (rules : List Rule) → All (λ rule. rule_at m rule.number ≡ rule) rules
-    → list_any (λ rule. is_no (body_truth m rule.body cells)) rules ≡ false
-    → list_any (λ k. is_no (body_truth m (rule_at m k).body (set cells p a))) (map (λ rule. rule.number) (filter (λ rule. is_among (body_params rule.body) p) rules))
-    ≡ list_any (λ rule. is_no (body_truth m rule.body (set cells p a))) rules
-rules_same m cells p a [] find none = refl
-rules_same m cells p a (rule ∷ rules) find none =
-    let parts = neither (is_no (body_truth m rule.body cells)) (list_any (λ rule. is_no (body_truth m rule.body cells)) rules) none in
-    by_case (is_among (body_params rule.body) p) refl parts.0
-    (rules_same m cells p a rules (All-tail (λ rule. rule_at m rule.number ≡ rule) rule rules find) parts.1)
+pub constrained_exists : (m : ModelView) (i : ℕ) → i < length (constrained_params m) → get_or (constrained_params m) i 0 < length m.params
+constrained_exists m i within =
+    All-filter (is_named m) (λ q. q < length m.params) (param_numbers m)
+    (members_are (λ q. q < length m.params) (param_numbers m) (λ q has. of_params m q has)) i 0 within
+
+-- what is kept of a constrained parameter
+pub record HasUndecided (m : ModelView) (p v : ℕ) (entry : Constrained) : Type 0 where
+  pub param : entry.param ≡ p
+  pub within : v < length entry.undecided
+  pub list : get_or entry.undecided v [] ≡ undecided m p v
+  pub exist : AreRules m (get_or entry.undecided v [])
+
+pub has_undecided : (m : ModelView) (p v : ℕ) (entry : Constrained) → IsSound m → entry ≡ undecided_by m p → v < length (param_at m.params p).values
+    → HasUndecided m p v entry
+has_undecided m p v entry sound is exists =
+    let count = length (param_at m.params p).values in
+    let list : get_or entry.undecided v [] ≡ undecided m p v =
+    ap (λ (e : Constrained). get_or e.undecided v []) is ∙ get_or-map-range_with_len (undecided m p) 0 count v v [] exists (zero-add v) in
+    record {
+      param = ap (λ (e : Constrained). e.param) is;
+      within = omega (arith, exists, ap (λ (e : Constrained). length e.undecided) is, length-map-range_with_len (undecided m p) 0 count);
+      list = list;
+      exist = subst (AreRules m) (sym list) (undecided_exist m p v sound);
+    }
+
+-- the first numbers are those of constraints
+pub first_rules : (m : ModelView) (i : ℕ) → i ≤ length m.rules → AreRules m (range_with_len 1 i)
+first_rules m i most =
+    members_are (λ k. (0 < k) × (k ≤ length m.rules)) (range_with_len 1 i)
+    (λ k has. let range = of_range 1 i k has in (omega (arith, range.0), omega (arith, range.1, most)))
+
+-- one number more, which passes or not
+pub filter_range_more : (f : ℕ → Bool) (q : ℕ) (b : Bool) → f q ≡ b
+    → filter f (range_with_len 0 (q + 1)) ≡ filter f (range_with_len 0 q) ++ cond b (q ∷ []) []
+filter_range_more f q b test =
+    ap (filter f) (range_with_len_more 0 q) ∙ filter-append f (range_with_len 0 q) ((0 + q) ∷ [])
+    ∙ ap (λ (k : ℕ). filter f (range_with_len 0 q) ++ cond (f k) (k ∷ []) []) (zero-add q)
+    ∙ ap (λ (c : Bool). filter f (range_with_len 0 q) ++ cond c (q ∷ []) []) test
+
+-- the parameters that each constraint of the code names are the model's
+pub members_seen : (m : ModelView) (rules : List Rule) → map rule_view rules ≡ m.rules
+    → map (λ rule. members (length m.params) (body_view rule.body)) rules ≡ all_members m
+members_seen m rules same = seen rules ∙ ap (λ (views : List RuleView). map (λ rule. members (length m.params) rule.body) views) same
   where
-    by_case : (b : Bool) → is_among (body_params rule.body) p ≡ b → is_no (body_truth m rule.body cells) ≡ false
-        → list_any (λ k. is_no (body_truth m (rule_at m k).body (set cells p a))) (map (λ rule. rule.number) (filter (λ rule. is_among (body_params rule.body) p) rules))
-        ≡ list_any (λ rule. is_no (body_truth m rule.body (set cells p a))) rules
-        → list_any (λ k. is_no (body_truth m (rule_at m k).body (set cells p a)))
-        (map (λ rule. rule.number) (cond b (rule ∷ filter (λ rule. is_among (body_params rule.body) p) rules) (filter (λ rule. is_among (body_params rule.body) p) rules)))
-        ≡ (is_no (body_truth m rule.body (set cells p a)) || list_any (λ rule. is_no (body_truth m rule.body (set cells p a))) rules)
-    by_case true named unbroken rest =
-        ap (λ (r : Rule). is_no (body_truth m r.body (set cells p a)) || list_any (λ k. is_no (body_truth m (rule_at m k).body (set cells p a))) (map (λ rule. rule.number) (filter (λ rule. is_among (body_params rule.body) p) rules)))
-        (All-head (λ rule. rule_at m rule.number ≡ rule) rule rules find)
-        ∙ ap (λ (k : Bool). is_no (body_truth m rule.body (set cells p a)) || k) rest
-    by_case false named unbroken rest =
-        rest ∙ sym (ap (λ (k : Bool). k || list_any (λ rule. is_no (body_truth m rule.body (set cells p a))) rules)
-        (ap is_no (local_body m rule.body (set cells p a) cells (agree_set (body_params rule.body) cells p a named)).0 ∙ unbroken))
+    seen : (rules : List Rule) → map (λ rule. members (length m.params) (body_view rule.body)) rules ≡ map (λ rule. members (length m.params) rule.body)
+        (map rule_view rules)
+    seen [] = refl
+    seen (rule ∷ rules) = ap (λ lists. members (length m.params) (body_view rule.body) ∷ lists) (seen rules)
 
-pub naming_breaks : (m : ModelView) (cells : List (Option ℕ)) (p v : ℕ) → IsSound m → breaks_a_rule m cells ≡ false
-    → list_any (λ k. is_no (body_truth m (rule_at m k).body (with_value cells p v))) (naming m p) ≡ breaks_a_rule m (with_value cells p v)
-naming_breaks m cells p v sound unbroken = rules_same m cells p (Some v) m.rules (numbers_find m sound) unbroken
+-- of one parameter more
+pub undecided_of_more : (m : ModelView) (cells : List (Option ℕ)) (params : List ℕ) (i : ℕ) → i < length params
+    → undecided_of m cells (take (i + 1) params) ≡ undecided_of m cells
+    (take i params) ++ (if is_assigned cells (get_or params i 0) then undecided m (get_or params i 0) (value_in cells (get_or params i 0)) else [])
+undecided_of_more m cells params i within =
+    let f = λ (p : ℕ). if is_assigned cells p then undecided m p (value_in cells p) else [] in
+    ap (undecided_of m cells) (take_more params i 0 within) ∙ flat_map-append f (take i params) (get_or params i 0 ∷ [])
+    ∙ ap (λ (numbers : List ℕ). undecided_of m cells (take i params) ++ numbers) (append-nil (f (get_or params i 0)))
+
+-- what is kept of a constrained parameter with a value
+pub record HasGiven (m : ModelView) (cells : List (Option ℕ)) (p v : ℕ) (entry : Constrained) : Type 0 where
+  pub within : v < length entry.undecided
+  pub list : get_or entry.undecided v [] ≡ undecided m p v
+  pub exist : AreRules m (get_or entry.undecided v [])
+  pub given : (if is_assigned cells p then undecided m p (value_in cells p) else []) ≡ undecided m p v
+
+pub has_given : (m : ModelView) (cells : List (Option ℕ)) (p v : ℕ) (entry : Constrained) → IsSound m → FitsModel m cells → entry ≡ undecided_by m p
+    → get_or cells entry.param None ≡ Some v → HasGiven m cells p v entry
+has_given m cells p v entry sound fits is read =
+    let cell : get_or cells p None ≡ Some v = ap (λ (e : Constrained). get_or cells e.param None) (sym is) ∙ read in
+    let exists = fits.exist p (ap is_some cell) in
+    let has = has_undecided m p v entry sound is (subst (λ (w : ℕ). w < length (param_at m.params p).values) (ap (λ (c : Option ℕ). unwrap_or c 0) cell)
+    exists) in
+    record {
+      within = has.within;
+      list = has.list;
+      exist = has.exist;
+      given = ap (λ (c : Option ℕ). if is_some c then undecided m p (unwrap_or c 0) else []) cell;
+    }

@@ -3,3 +3,4 @@ pub mod Laws
 pub mod Path
 pub mod Solving
 pub mod Tree
+pub mod Live

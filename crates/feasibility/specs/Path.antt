@@ -17,15 +17,15 @@ filled [] (cell ∷ cells) = cell ∷ cells
 filled (values ∷ rest) (cell ∷ cells) = filled_cell values cell ∷ filled rest cells
 
 -- the row that the first value with a successful visit leads to
-abbrev pub reached_by : (List (Option ℕ) → Outcome) → (List (Option ℕ) → List (Option ℕ)) → List (Option ℕ) → ℕ → List ℕ → List (Option ℕ)
+abbrev pub reached_by
+    : (List (Option ℕ) → Outcome) → (List (Option ℕ) → List (Option ℕ)) → List (Option ℕ) → ℕ → List ℕ → List (Option ℕ)
 reached_by visit reached cells p [] = cells
 reached_by visit reached cells p (v ∷ values) =
     if (visit (with_value cells p v)).found then reached (with_value cells p v) else reached_by visit reached cells p values
 
--- the row that a successful visit leads to: where all constrained parameters have values, the others get
--- the first of their lists
+-- the partial row that a successful visit leads to: all constrained parameters have values there
 abbrev pub reached : ModelView → List (List ℕ) → List ℕ → List (Option ℕ) → List (Option ℕ)
-reached m values [] cells = filled values cells
+reached m values [] cells = cells
 reached m values (p ∷ params) cells =
     if is_assigned cells p then reached m values params cells
     else reached_by (visit m values params) (reached m values params) cells p (slice_index_or values p [])

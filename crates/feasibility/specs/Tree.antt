@@ -1,38 +1,66 @@
--- What a search looks at in each node: each parameter's values, the constraints that name it, and the
--- parameters that share one with it. (This project's rule.)
-use Rattle.std.specs.Prelude.{◌≡◌, ℕ, ◌-◌, ◌<◌, Bool, true, false, ◌&&◌, List, [], length, map, Option, None, slice_index_or, slice_set, IfSome}
+-- What a search looks at in each node: each parameter's values, the parameters that a constraint names, and
+-- the constraints that a value leaves undecided. (This project's rule.)
+use Rattle.std.specs.Prelude.{◌≡◌, ℕ, ◌<◌, Bool, true, not, List, [], length, map, drop, replicate, Option, None, slice_index_or}
 use Rattle.std.specs.List.{filter, list_any, range_with_len}
-use Rattle.cov_model.specs.Sound.{ModelView, param_at}
+use Rattle.cov_model.specs.Views.{BodyView}
+use Rattle.cov_model.specs.Sound.{ModelView, param_at, rule_at}
+use Rattle.cov_model.specs.Rows.{is_assigned, value_in}
+use Rattle.cov_model.specs.Kleene.{body_truth}
 use Rattle.cov_model.specs.declared.slice.Slice.{Slice}
-use Rattle.cov_model.specs.Slices.{slice_values}
-use Rattle.cov_model.specs.Valid.{param_numbers}
+use Rattle.cov_model.specs.Slices.{slice_values, value_numbers}
+use Rattle.definitions.specs.Completion.{with_value}
 use Rattle.definitions.specs.Demand.{is_among}
-use Rattle.definitions.specs.Search.{body_params, is_failing}
+use Rattle.definitions.specs.Search.{body_params, constrained_params}
+use Rattle.compiled_rules.specs.Codes.{is_yes}
+use Rattle.feasibility.specs.declared.constrained.Constrained.{Constrained}
 
 -- a model and each parameter's values in the order in which they are tried
 pub record TreeView : Type 0 where
   pub model : ModelView
   pub values : List (List ℕ)
 
+-- the row on which no parameter has a value
+abbrev pub no_values : ModelView → List (Option ℕ)
+no_values m = replicate (length m.params) None
+
+-- those of so many parameters that a constraint names
+abbrev pub members : ℕ → BodyView → List ℕ
+members count body = filter (is_among (body_params body)) (range_with_len 0 count)
+
+-- the parameters that each constraint names
+abbrev pub all_members : ModelView → List (List ℕ)
+all_members m = map (λ rule. members (length m.params) rule.body) m.rules
+
+-- some constraint names the parameter
+abbrev pub is_named : ModelView → ℕ → Bool
+is_named m p = list_any (λ rule. is_among (body_params rule.body) p) m.rules
+
 -- the numbers of the constraints that name a parameter
 abbrev pub naming : ModelView → ℕ → List ℕ
 naming m p = map (λ rule. rule.number) (filter (λ rule. is_among (body_params rule.body) p) m.rules)
 
--- the same of each parameter
-abbrev pub all_naming : ModelView → List (List ℕ)
-all_naming m = map (naming m) (param_numbers m)
+-- those of some constraints that aren't known to hold on a partial row
+abbrev pub undecided_on : ModelView → List ℕ → List (Option ℕ) → List ℕ
+undecided_on m numbers cells = filter (λ k. not (is_yes (body_truth m (rule_at m k).body cells))) numbers
 
--- some constraint names both parameters
-abbrev pub share_rule : ModelView → ℕ → ℕ → Bool
-share_rule m p q = list_any (λ rule. is_among (body_params rule.body) p && is_among (body_params rule.body) q) m.rules
+-- the constraints that name a parameter and aren't known to hold where it alone has a value, this one
+abbrev pub undecided : ModelView → ℕ → ℕ → List ℕ
+undecided m p v = undecided_on m (naming m p) (with_value (no_values m) p v)
 
--- the neighbours of a parameter: the parameters of the constraints that name it
-abbrev pub neighbours : ModelView → ℕ → List ℕ
-neighbours m p = filter (share_rule m p) (param_numbers m)
+-- these by each of its values
+abbrev pub undecided_by : ModelView → ℕ → Constrained
+undecided_by m p = record { param = p; undecided = map (undecided m p) (value_numbers m p) }
 
--- the same of each parameter
-abbrev pub all_neighbours : ModelView → List (List ℕ)
-all_neighbours m = map (neighbours m) (param_numbers m)
+-- the same of each parameter that constraints name
+abbrev pub all_constrained : ModelView → List Constrained
+all_constrained m = map (undecided_by m) (constrained_params m)
+
+-- the constrained parameter at a place, and those from a place on
+abbrev pub constrained_at : ModelView → ℕ → ℕ
+constrained_at m i = slice_index_or (constrained_params m) i 0
+
+abbrev pub constrained_from : ModelView → ℕ → List ℕ
+constrained_from m i = drop i (constrained_params m)
 
 -- a parameter's values in a slice, in preference order
 abbrev pub preferred_at : ModelView → List (List ℕ) → Slice → ℕ → List ℕ
@@ -43,20 +71,13 @@ pub record ListsValues (m : ModelView) (lists : List (List ℕ)) : Type 0 where
   pub as_many : length lists ≡ length m.params
   pub exist : (p v : ℕ) → is_among (slice_index_or lists p []) v ≡ true → v < length (param_at m.params p).values
 
--- the lists are of the model
-pub record IsTree (m : ModelView) (lists named near : List (List ℕ)) : Type 0 where
+-- the values of the partial row are listed
+pub record IsListed (lists : List (List ℕ)) (cells : List (Option ℕ)) : Type 0 where
+  pub long : length cells ≡ length lists
+  pub listed : (p : ℕ) → is_assigned cells p ≡ true → is_among (slice_index_or lists p []) (value_in cells p) ≡ true
+
+-- what a search has is of the model
+pub record IsTree (m : ModelView) (lists named : List (List ℕ)) (entries : List Constrained) : Type 0 where
   pub values : ListsValues m lists
-  pub naming : named ≡ all_naming m
-  pub neighbours : near ≡ all_neighbours m
-
--- the node can fail only by the value that was set last, if one was: without it, it doesn't
-abbrev pub FailsOnlyByLast : ModelView → List (List ℕ) → Option ℕ → List (Option ℕ) → Type 0
-FailsOnlyByLast m values last cells = IfSome last (λ p. (p < length m.params) × (is_failing m values (slice_set cells p None) ≡ false))
-
--- some constraint names the parameter
-abbrev pub is_named : ModelView → ℕ → Bool
-is_named m p = list_any (λ rule. is_among (body_params rule.body) p) m.rules
-
--- the parameters from a number on that constraints name
-abbrev pub constrained_from : ModelView → ℕ → List ℕ
-constrained_from m p = filter (is_named m) (range_with_len p (length m.params - p))
+  pub members : named ≡ all_members m
+  pub constrained : entries ≡ all_constrained m

@@ -1,4 +1,5 @@
 use cov_model::Tuple;
+use value_text::NoMemory;
 
 /// Whether a partial row is extendable in a slice, as far as a budget goes.
 #[derive(Debug, Drop, Clone, Copy, PartialEq, Eq)]
@@ -25,4 +26,15 @@ pub enum SearchFault {
     Spent(Question),
     /// There was no room.
     NoMemory,
+}
+
+impl From<NoMemory> for SearchFault {
+    ghost use Rattle.std.specs.Prelude.{◌≡◌};
+    ghost use Rattle.feasibility.specs.declared.answer.SearchFault.TheVariants.{NoMemory};
+
+    ghost from_gives = { λ _ fault. fault ≡ NoMemory };
+
+    fn from(_refused: NoMemory) -> SearchFault {
+        SearchFault::NoMemory
+    }
 }

@@ -7,11 +7,15 @@
 #![tactic(auto)]
 
 mod answer;
-mod build;
+mod constrained;
 mod laws;
+mod members;
 mod named;
+mod narrowing;
 mod solver;
 mod tree;
+mod values;
+mod visiting;
 
 pub use answer::{Answer, Question, SearchFault};
 pub use laws::plain_search_is_exact;

@@ -1,5 +1,6 @@
 ghost use Rattle.std.specs.Prelude.{◌≡◌};
 ghost use Rattle.std.specs.List.{list_any};
+ghost use Rattle.cov_model.specs.Views.{body_view, pred_view};
 ghost use Rattle.cov_model.specs.Kleene.{term_params};
 ghost use Rattle.definitions.specs.Demand.{is_among};
 ghost use Rattle.definitions.specs.Search.{body_params, pred_params};
@@ -23,7 +24,7 @@ fn term_names(term: &Term, p: ParamNo) -> bool
 // Whether a predicate names the parameter.
 #[cycle(names)]
 fn pred_names(pred: &Pred, p: ParamNo) -> bool
-    ensures { result ≡ is_among (pred_params pred.now) p }
+    ensures { result ≡ is_among (pred_params (pred_view pred.now)) p }
 {
     match pred {
         Pred::Term(term) => term_names(term, p),
@@ -36,7 +37,7 @@ fn pred_names(pred: &Pred, p: ParamNo) -> bool
 // Whether one of the predicates names the parameter.
 #[cycle(names)]
 fn some_names(parts: &[Pred], p: ParamNo) -> bool
-    ensures { result ≡ list_any (λ part. is_among (pred_params part) p) parts.now }
+    ensures { result ≡ list_any (λ part. is_among (pred_params (pred_view part)) p) parts.now }
 {
     for part in parts {
         if pred_names(part, p) {
@@ -48,7 +49,7 @@ fn some_names(parts: &[Pred], p: ParamNo) -> bool
 
 // Whether a constraint names the parameter.
 pub(crate) fn body_names(body: &Body, p: ParamNo) -> bool
-    ensures { result ≡ is_among (body_params body.now) p }
+    ensures { result ≡ is_among (body_params (body_view body.now)) p }
 {
     match body {
         Body::Plain(pred) => pred_names(pred, p),

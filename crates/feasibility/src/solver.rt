@@ -8,6 +8,7 @@ ghost use Rattle.definitions.specs.SliceRows.{IsOfSlice, IsSliceOf};
 use crate::answer::Answer;
 use crate::tree::SearchTree;
 use cov_model::{Cells, Prefs, Slice, TestModel};
+use live_sets::LiveSets;
 use std::alloc::Global;
 use std::marker::Model;
 use value_text::NoMemory;
@@ -21,20 +22,22 @@ pub struct Solver<'a> {
     prefs: &'a Prefs,
     slice: Slice,
     room: Cells,
+    sets: LiveSets,
+    fails: bool,
 }
 
 impl<'a> Model for Solver<'a> {
     ghost use Rattle.std.specs.Coded.{codes};
-    ghost use Rattle.cov_model.specs.contracts.constraint.Pred as predicate;
+    ghost use Rattle.cov_model.specs.contracts.model.TestModel as tested;
     ghost use Rattle.feasibility.specs.Solving.{IsSolver, SolverView};
 
     ghost Value = { SolverView };
 
-    ghost coded = { Prim.hlevel (codes, predicate.the_row.coded) };
+    ghost coded = { Prim.hlevel (codes, tested.the_row.coded) };
 
     ghost view = { λ a. record { model = a.tree.model; prefs = a.prefs.now; slice = a.slice } };
 
-    ghost invariant = { λ a. IsSolver (record { model = a.tree.model; prefs = a.prefs.now; slice = a.slice }) a.tree.values a.room };
+    ghost invariant = { λ a. IsSolver (record { model = a.tree.model; prefs = a.prefs.now; slice = a.slice }) a.tree.values a.room a.fails a.sets };
 }
 
 impl<'a> Solver<'a> {
@@ -55,12 +58,16 @@ impl<'a> Solver<'a> {
         ensures { IfOk result (λ solver. solver ≡ record { model = model.now; prefs = prefs.now; slice = slice }) }
     {
         let tree = SearchTree::new(alloc, model, prefs, slice)?;
-        let room = Cells::empty(alloc, tree.count())?;
+        let mut room = Cells::empty(alloc, model.params().len())?;
+        let mut sets = tree.listed_sets(alloc)?;
+        let fails = tree.begin(&mut room, &mut sets);
         Ok(Solver {
             tree,
             prefs,
             slice,
             room,
+            sets,
+            fails,
         })
     }
 
@@ -72,7 +79,8 @@ impl<'a> Solver<'a> {
         ensures answer { result ≡ answer_of (is_extendable self.old.model self.old.slice cells.now) (plain_cost self.old.model self.old.prefs self.old.slice cells.now) budget }
         ensures same { self.new ≡ self.old }
     {
-        self.tree.search(cells, &mut self.room, budget)
+        self.tree
+            .search(self.fails, cells, &mut self.room, &mut self.sets, budget)
     }
 
     /// Completes a partial row of the slice. After `Yes` the other cells are the first of its
@@ -88,9 +96,13 @@ impl<'a> Solver<'a> {
         ensures long { length into.new ≡ length into.old }
         ensures same { self.new ≡ self.old }
     {
-        match self.tree.search(cells, &mut self.room, budget) {
+        match self
+            .tree
+            .search(self.fails, cells, &mut self.room, &mut self.sets, budget)
+        {
             Answer::Yes => {
                 into.copy_from(&self.room);
+                self.tree.fill(into);
                 Answer::Yes
             }
             Answer::No => Answer::No,

@@ -1,5 +1,5 @@
 -- What the answer to a question tells of the budget.
-use Rattle.std.proofs.Common.{◌≡◌, ℕ, Bool, true, false, cond, nat_lt, List, [], ◌∷◌, Option, Some, None, ◌∙◌, sym, subst, refl}
+use Rattle.std.proofs.Common.{◌≡◌, ℕ, Bool, true, false, cond, nat_lt, List, [], ◌∷◌, Option, Some, None, ◌∙◌, sym, subst, refl, ap}
 use Rattle.cov_model.specs.declared.slice.Slice.{Slice}
 use Rattle.definitions.specs.Search.{plain_cost}
 use Rattle.std.specs.Prelude.{Err}
@@ -8,14 +8,14 @@ use Rattle.ipog_grow.specs.declared.stop.Stop.TheVariants as stops
 use Rattle.feasibility.specs.declared.answer.Answer.{Answer}
 use Rattle.feasibility.specs.declared.answer.Answer.TheVariants.{Yes, No, Spent}
 use Rattle.feasibility.specs.Answers.{answer_of}
-use Rattle.ipog_grow.specs.Asking.{World, IsWorld, Grows, Told, extends, first_spent}
+use Rattle.ipog_grow.specs.Asking.{SearchContext, IsSoundContext, Grows, Told, extends, first_spent}
 use Rattle.ipog_grow.proofs.Tuples.{grows-slice}
 
 -- what an answer tells of one question
-pub record Asked (world : World) (cells : List (Option ℕ)) (answer : Answer) : Type 0 where
-  pub yes : answer ≡ Yes → first_spent world (cells ∷ []) ≡ None
-  pub no : answer ≡ No → first_spent world (cells ∷ []) ≡ None
-  pub spent : answer ≡ Spent → first_spent world (cells ∷ []) ≡ Some cells
+pub record Asked (context : SearchContext) (cells : List (Option ℕ)) (answer : Answer) : Type 0 where
+  pub yes : answer ≡ Yes → first_spent context (cells ∷ []) ≡ None
+  pub no : answer ≡ No → first_spent context (cells ∷ []) ≡ None
+  pub spent : answer ≡ Spent → first_spent context (cells ∷ []) ≡ Some cells
 
 -- the same, where it is known whether the cost exceeds the budget
 record Parts (cells : List (Option ℕ)) (answer : Answer) (over : Bool) : Type 0 where
@@ -37,15 +37,38 @@ by_cost cells answer false found told = record { yes = λ e. refl; no = λ e. re
     other true e = cc
     other false e = cc
 
-pub asked : (world : World) (cells : List (Option ℕ)) (answer : Answer) → IsWorld world → Grows world cells
-    → answer ≡ answer_of (extends world cells) (plain_cost world.model world.prefs world.slice cells) world.budget → Asked world cells answer
-asked world cells answer is grows told =
-    let parts = subst (λ (slice : Slice). Parts cells answer (nat_lt world.budget (plain_cost world.model world.prefs slice cells)))
-    (sym (grows-slice world.model world.slice cells is.slice grows)) (by_cost cells answer (nat_lt world.budget (plain_cost world.model world.prefs world.slice cells)) (extends world cells) told) in
+pub asked : (context : SearchContext) (cells : List (Option ℕ)) (answer : Answer) → IsSoundContext context → Grows context cells
+    → answer ≡ answer_of (extends context cells) (plain_cost context.model context.prefs context.slice cells) context.budget → Asked context cells answer
+asked context cells answer is grows told =
+    let parts = subst (λ (slice : Slice). Parts cells answer (nat_lt context.budget (plain_cost context.model context.prefs slice cells)))
+    (sym (grows-slice context.model context.slice cells is.slice grows))
+    (by_cost cells answer (nat_lt context.budget (plain_cost context.model context.prefs context.slice cells)) (extends context cells) told) in
     record { yes = parts.yes; no = parts.no; spent = parts.spent }
 
 -- a fault of a part is one of the whole, where its question is
-pub told-err : (A B : Type 0) (stop : Stop) (question : List (Option ℕ)) (part whole : Option (List (Option ℕ))) → (part ≡ Some question → whole ≡ Some question)
+pub told-err : (A B : Type 0) (stop : Stop) (question : List (Option ℕ)) (part whole : Option (List (Option ℕ)))
+    → (part ≡ Some question → whole ≡ Some question)
     → Told {A = A} (Err stop) question part → Told {A = B} (Err stop) question whole
 told-err A B stops.Spent question part whole more told = more told
 told-err A B stops.NoMemory question part whole more told = tt
+
+-- what the answer about a partial row tells, where it was put in other words
+pub record IsAnswered (context : SearchContext) (cells : List (Option ℕ)) (found : Bool) : Type 0 where
+  pub value : found ≡ extends context cells
+  pub unspent : first_spent context (cells ∷ []) ≡ None
+
+pub answered : {context now : SearchContext} {cells put : List (Option ℕ)} {found : Bool} → now ≡ context → put ≡ cells
+    → found ≡ extends now put → first_spent now (put ∷ []) ≡ None → IsAnswered context cells found
+answered {context} {now} {cells} {put} {found} same is value unspent = record {
+  value = value ∙ ap (λ (w : SearchContext). extends w put) same ∙ ap (extends context) is;
+  unspent = ap (λ (c : List (Option ℕ)). first_spent context (c ∷ [])) (sym is) ∙ ap (λ (w : SearchContext). first_spent w (put ∷ [])) (sym same) ∙ unspent;
+}
+
+-- a question about it that exceeds the budget is one of the whole
+pub told-answer : (A B : Type 0) (stop : Stop) (question : List (Option ℕ)) {context now : SearchContext} {cells put : List (Option ℕ)}
+    {whole : Option (List (Option ℕ))} → now ≡ context → put ≡ cells → (first_spent context (cells ∷ []) ≡ Some question → whole ≡ Some question)
+    → Told {A = A} (Err stop) question (first_spent now (put ∷ [])) → Told {A = B} (Err stop) question whole
+told-answer A B stop question {context} {now} {cells} {put} {whole} same is more told =
+    told-err A B stop question (first_spent context (cells ∷ [])) whole more
+    (subst (λ (w : SearchContext). Told {A = A} (Err stop) question (first_spent w (cells ∷ []))) same
+    (subst (λ (c : List (Option ℕ)). Told {A = A} (Err stop) question (first_spent now (c ∷ []))) is told))

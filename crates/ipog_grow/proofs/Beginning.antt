@@ -1,11 +1,11 @@
 -- The kept seeds and the slices that growth begins with.
-use Rattle.std.proofs.Common.{◌≡◌, ℕ, ◌≤◌, Bool, true, not, List, [], ◌∷◌, map, length, filter, Option, All, inl, inr, subst, refl, arith}
+use Rattle.std.proofs.Common.{◌≡◌, ℕ, ◌≤◌, true, not, List, [], ◌∷◌, map, length, Option, All, inl, inr, subst, arith}
 use Rattle.std.specs.Prelude.{is_some}
 use Rattle.std.specs.List.{list_any}
 use Rattle.std.proofs.lemmas.Bool.{and_parts}
 use Rattle.std.proofs.lemmas.List.{length-map}
-use Rattle.std.proofs.lemmas.List.Elements.{All-map}
-use Rattle.std.proofs.lemmas.List.Filters.{length-filter_both}
+use Rattle.std.proofs.lemmas.List.Elements.{All-map, All-filter}
+use Rattle.value_text.proofs.ListLemmas.{length-filter-le}
 use Rattle.cov_model.specs.declared.slice.Slice.{Slice}
 use Rattle.cov_model.specs.declared.slice.Slice.TheVariants.{Negative}
 use Rattle.cov_model.specs.Sound.{ModelView}
@@ -18,7 +18,6 @@ use Rattle.definitions.specs.Seeds.{is_same_row, distinct_by, kept_seeds, seed_r
 use Rattle.definitions.specs.SliceRows.{IsSliceOf}
 use Rattle.definitions.proofs.Members.{Has, all_members, of_flat, of_map, of_filter}
 use Rattle.definitions.proofs.SliceLemmas.{of_params, of_numbers}
-use Rattle.ipog_grow.proofs.Lists.{All-filter}
 use Rattle.ipog_grow.proofs.Seeding.{seed_rows-fit}
 
 -- each slice is one of the model's
@@ -36,7 +35,7 @@ slices_exist m = all_members (IsSliceOf m) (slices m) each
 -- the kept seeds fit the model
 pub kept-fit : (m : ModelView) (seeds : List (ℕ × List (Option ℕ))) → All (λ seed. FitsModel m seed.1) seeds → All (FitsModel m) (kept_seeds m seeds)
 kept-fit m seeds fit =
-    All-filter (FitsModel m) (can_be_served m) (map (λ seed. seed.1) (seed_rows seeds))
+    All-filter (can_be_served m) (FitsModel m) (map (λ seed. seed.1) (seed_rows seeds))
     (All-map (FitsModel m) (λ seed. seed.1) (seed_rows seeds) (seed_rows-fit (λ seed. FitsModel m seed.1) seeds fit))
 
 -- they have at most one negative value
@@ -46,20 +45,17 @@ kept-few m seeds =
     (λ seed has. (and_parts (has_slice m seed) (is_extendable m (slice_of m seed) seed)
     (of_filter (can_be_served m) (map (λ s. s.1) (seed_rows seeds)) seed has).1).0)
 
-filter-short : {X : Type 0} (p : X → Bool) (xs : List X) → length (filter p xs) ≤ length xs
-filter-short p xs = omega (arith, length-filter_both p (λ x. not (p x)) (λ x. refl) xs)
-
 distinct-short : {X : Type 0} (row : X → List (Option ℕ)) (xs : List X) → length (distinct_by row xs) ≤ length xs
 distinct-short row [] = omega arith
-distinct-short row (x ∷ xs) = omega (arith, filter-short (λ y. not (is_same_row (row x) (row y))) (distinct_by row xs), distinct-short row xs)
+distinct-short row (x ∷ xs) = omega (arith, length-filter-le (λ y. not (is_same_row (row x) (row y))) (distinct_by row xs), distinct-short row xs)
 
 -- there are at most as many as seed rows
 pub kept-short : (m : ModelView) (seeds : List (ℕ × List (Option ℕ))) → length (kept_seeds m seeds) ≤ length seeds
 kept-short m seeds =
     omega (
       arith,
-      filter-short (can_be_served m) (map (λ seed. seed.1) (seed_rows seeds)),
+      length-filter-le (can_be_served m) (map (λ seed. seed.1) (seed_rows seeds)),
       length-map (seed_rows seeds) (λ seed. seed.1),
-      filter-short (λ seed. list_any is_some seed.1) (distinct_by (λ seed. seed.1) seeds),
+      length-filter-le (λ seed. list_any is_some seed.1) (distinct_by (λ seed. seed.1) seeds),
       distinct-short (λ seed. seed.1) seeds,
     )

@@ -2,10 +2,12 @@
 use Rattle.std.proofs.Common.{◌≡◌, ◌≢◌, ◌⊎◌, ℕ, zero, suc, ◌<◌, ◌≤◌, Bool, true, false, cond, ◌&&◌, ◌||◌, not, List, [], ◌∷◌, ◌++◌, filter, Option, Some, None, nat_eq, nat_lt, ◌∙◌, sym, ap, subst, refl, arith, inl, inr}
 use Rattle.std.proofs.lemmas.Bool.{false≢true, cases_lt, cases_eq}
 use Rattle.std.proofs.lemmas.Bool.Decides.{nat_tests}
+use Rattle.std.proofs.lemmas.Option.{none-some, same_Some}
+use Rattle.definitions.proofs.PartialRowLemmas.{among_head, among_tail}
+use Rattle.value_text.proofs.ListLemmas.{filter_same, filter-filter}
 use Rattle.definitions.specs.Demand.{is_among}
 use Rattle.definitions.specs.Completion.{falling}
 use Rattle.ipog_grow.specs.Growing.{better, best}
-use Rattle.ipog_grow.proofs.Lists.{filter-same, filter-filter}
 
 -- no value stands twice
 abbrev pub Distinct : List ℕ → Type 0
@@ -23,23 +25,13 @@ pub record IsBest (score : ℕ → ℕ) (values : List ℕ) (v : ℕ) : Type 0 w
   pub most : (w : ℕ) → is_among values w ≡ true → score w ≤ score v
   pub first : filter (λ w. nat_eq (score w) (score v)) values ≡ v ∷ filter (λ w. nat_eq (score w) (score v)) (filter (λ w. not (nat_eq w v)) values)
 
-pub among_first : (v : ℕ) (values : List ℕ) → is_among (v ∷ values) v ≡ true
-among_first v values = let equal : nat_eq v v ≡ true = grind (arith, nat_tests) in ap (λ (b : Bool). b || is_among values v) equal
-
-pub among_later : (v w : ℕ) (values : List ℕ) → is_among values w ≡ true → is_among (v ∷ values) w ≡ true
-among_later v w values among = at (nat_eq v w)
-  where
-    at : (b : Bool) → (b || is_among values w) ≡ true
-    at true = refl
-    at false = among
-
 -- tests that agree on the values of a list
 pub filter-same_among : (p q : ℕ → Bool) (values : List ℕ) → ((w : ℕ) → is_among values w ≡ true → p w ≡ q w) → filter p values ≡ filter q values
 filter-same_among p q [] same = refl
 filter-same_among p q (v ∷ values) same =
-    let here : p v ≡ q v = same v (among_first v values) in
+    let here : p v ≡ q v = same v (among_head v values) in
     ap (λ (b : Bool). cond b (v ∷ filter p values) (filter p values)) here
-    ∙ ap (λ (rest : List ℕ). cond (q v) (v ∷ rest) rest) (filter-same_among p q values (λ w among. same w (among_later v w values among)))
+    ∙ ap (λ (rest : List ℕ). cond (q v) (v ∷ rest) rest) (filter-same_among p q values (λ w among. same w (among_tail v w values among)))
 
 pub among_cases : (v w : ℕ) (values : List ℕ) → is_among (v ∷ values) w ≡ true → (v ≡ w) ⊎ (is_among values w ≡ true)
 among_cases v w values among = at (cases_eq v w)
@@ -72,13 +64,15 @@ best_later score u v values less is =
     let other : nat_eq u v ≡ false = grind (arith, nat_tests) in
     record {
       some = is.some;
-      listed = among_later u v values is.listed;
+      listed = among_tail u v values is.listed;
       most = λ w among. elim (among_cases u w values among) [ inl same ↦ omega (arith, ap score same) | inr later ↦ is.most w later ];
       first =
           ap (λ (b : Bool). cond b (u ∷ filter (λ w. nat_eq (score w) (score v)) values) (filter (λ w. nat_eq (score w) (score v)) values)) test
           ∙ is.first
-          ∙ sym (ap (λ (b : Bool). v ∷ filter (λ w. nat_eq (score w) (score v)) (cond (not b) (u ∷ filter (λ w. not (nat_eq w v)) values) (filter (λ w. not (nat_eq w v)) values))) other
-          ∙ ap (λ (b : Bool). v ∷ cond b (u ∷ filter (λ w. nat_eq (score w) (score v)) (filter (λ w. not (nat_eq w v)) values)) (filter (λ w. nat_eq (score w) (score v)) (filter (λ w. not (nat_eq w v)) values))) test);
+          ∙ sym (ap (λ (b : Bool). v ∷ filter (λ w. nat_eq (score w) (score v))
+          (cond (not b) (u ∷ filter (λ w. not (nat_eq w v)) values) (filter (λ w. not (nat_eq w v)) values))) other
+          ∙ ap (λ (b : Bool). v ∷ cond b (u ∷ filter (λ w. nat_eq (score w) (score v)) (filter (λ w. not (nat_eq w v)) values))
+          (filter (λ w. nat_eq (score w) (score v)) (filter (λ w. not (nat_eq w v)) values))) test);
     }
 
 best_first : (score : ℕ → ℕ) (u : ℕ) (values : List ℕ) → is_among values u ≡ false → 0 < score u
@@ -89,11 +83,12 @@ best_first score u values new some most =
     let rest : filter (λ w. not (nat_eq w u)) values ≡ values = filter-all (λ w. not (nat_eq w u)) values (λ w among. ap not (apart w among)) in
     record {
       some = some;
-      listed = among_first u values;
+      listed = among_head u values;
       most = λ w among. elim (among_cases u w values among) [ inl e ↦ omega (arith, ap score e) | inr later ↦ most w later ];
       first =
           ap (λ (b : Bool). cond b (u ∷ filter (λ w. nat_eq (score w) (score u)) values) (filter (λ w. nat_eq (score w) (score u)) values)) test
-          ∙ sym (ap (λ (b : Bool). u ∷ filter (λ w. nat_eq (score w) (score u)) (cond (not b) (u ∷ filter (λ w. not (nat_eq w u)) values) (filter (λ w. not (nat_eq w u)) values))) same
+          ∙ sym (ap (λ (b : Bool). u ∷ filter (λ w. nat_eq (score w) (score u))
+          (cond (not b) (u ∷ filter (λ w. not (nat_eq w u)) values) (filter (λ w. not (nat_eq w u)) values))) same
           ∙ ap (λ (list : List ℕ). u ∷ filter (λ w. nat_eq (score w) (score u)) list) rest);
     }
   where
@@ -104,20 +99,14 @@ best_first score u values new some most =
           | inr differs ↦ grind (arith, nat_tests)
         ]
 
-none_some : (v : ℕ) → None ≡ Some v → ⊥
-none_some v e = cc
-
-some_same : (u v : ℕ) → Some u ≡ Some v → u ≡ v
-some_same u v e = cc
-
 better_none : (score : ℕ → ℕ) (first second : Option ℕ) → better score first second ≡ None → (first ≡ None) × (second ≡ None)
 better_none score None second e = (refl, e)
-better_none score (Some v) None e = absurd (none_some v (sym e))
+better_none score (Some v) None e = absurd (none-some v (sym e))
 better_none score (Some v) (Some w) e = absurd (at (nat_lt (score v) (score w)) e)
   where
     at : (b : Bool) → cond b (Some w) (Some v) ≡ None → ⊥
-    at true e = none_some w (sym e)
-    at false e = none_some v (sym e)
+    at true e = none-some w (sym e)
+    at false e = none-some v (sym e)
 
 -- where there is no best value, no value has a score
 pub best_none : (score : ℕ → ℕ) (values : List ℕ) → best score values ≡ None → (w : ℕ) → is_among values w ≡ true → score w ≡ 0
@@ -132,12 +121,12 @@ best_none score (u ∷ values) e w among =
     zero_of : (0 < score u) ⊎ (score u ≤ 0) → cond (nat_lt 0 (score u)) (Some u) None ≡ None → score u ≡ 0
     zero_of (inl some) e =
         let test : nat_lt 0 (score u) ≡ true = grind (arith, nat_tests) in
-        absurd (none_some u (sym e ∙ ap (λ (b : Bool). cond b (Some u) None) test))
+        absurd (none-some u (sym e ∙ ap (λ (b : Bool). cond b (Some u) None) test))
     zero_of (inr none) e = omega arith
 
 -- what is found is the best value
 pub best_is : (score : ℕ → ℕ) (values : List ℕ) (v : ℕ) → Distinct values → best score values ≡ Some v → IsBest score values v
-best_is score [] v distinct e = absurd (none_some v e)
+best_is score [] v distinct e = absurd (none-some v e)
 best_is score (u ∷ values) v distinct e =
     by_first (λ w is. best_is score values w distinct.1 is) (cases_lt 0 (score u)) (best score values) refl
   where
@@ -145,17 +134,19 @@ best_is score (u ∷ values) v distinct e =
         → cond (nat_lt (score u) (score w)) (Some w) (Some u) ≡ Some v → IsBest score (u ∷ values) v
     by_second w some own (inl less) e =
         let test : nat_lt (score u) (score w) ≡ true = grind (arith, nat_tests) in
-        let same : w ≡ v = some_same w v (sym (ap (λ (b : Bool). cond b (Some w) (Some u)) test) ∙ e) in
+        let same : w ≡ v = same_Some w v (sym (ap (λ (b : Bool). cond b (Some w) (Some u)) test) ∙ e) in
         subst (IsBest score (u ∷ values)) same (best_later score u w values less own)
     by_second w some own (inr most) e =
         let test : nat_lt (score u) (score w) ≡ false = grind (arith, nat_tests) in
-        let same : u ≡ v = some_same u v (sym (ap (λ (b : Bool). cond b (Some w) (Some u)) test) ∙ e) in
+        let same : u ≡ v = same_Some u v (sym (ap (λ (b : Bool). cond b (Some w) (Some u)) test) ∙ e) in
         subst (IsBest score (u ∷ values)) same (best_first score u values distinct.0 some (λ x among. omega (arith, own.most x among)))
 
-    by_best : ((w : ℕ) → best score values ≡ Some w → IsBest score values w) → (o : Option ℕ) → 0 < score u → best score values ≡ o → better score (Some u) o ≡ Some v
+    by_best : ((w : ℕ) → best score values ≡ Some w → IsBest score values w) → (o : Option ℕ) → 0 < score u → best score values ≡ o
+        → better score (Some u) o ≡ Some v
         → IsBest score (u ∷ values) v
     by_best own None some is e =
-        subst (IsBest score (u ∷ values)) (some_same u v e) (best_first score u values distinct.0 some (λ x among. omega (arith, best_none score values is x among)))
+        subst (IsBest score (u ∷ values)) (same_Some u v e)
+        (best_first score u values distinct.0 some (λ x among. omega (arith, best_none score values is x among)))
     by_best own (Some w) some is e = by_second w some (own w is) (cases_lt (score u) (score w)) e
 
     by_first : ((w : ℕ) → best score values ≡ Some w → IsBest score values w) → (0 < score u) ⊎ (score u ≤ 0) → (o : Option ℕ) → best score values ≡ o
@@ -172,15 +163,18 @@ best_is score (u ∷ values) v distinct e =
 pub falling-same : (n : ℕ) (f g : ℕ → ℕ) (values : List ℕ) → ((w : ℕ) → is_among values w ≡ true → f w ≡ g w) → falling n f values ≡ falling n g values
 falling-same zero f g values same = refl
 falling-same (suc n) f g values same =
-    ap (λ (list : List ℕ). list ++ falling n f values) (filter-same_among (λ w. nat_eq (f w) (suc n)) (λ w. nat_eq (g w) (suc n)) values (λ w among. ap (λ (k : ℕ). nat_eq k (suc n)) (same w among)))
+    ap (λ (list : List ℕ). list ++ falling n f values)
+    (filter-same_among (λ w. nat_eq (f w) (suc n)) (λ w. nat_eq (g w) (suc n)) values (λ w among. ap (λ (k : ℕ). nat_eq k (suc n)) (same w among)))
     ∙ ap (λ (list : List ℕ). filter (λ w. nat_eq (g w) (suc n)) values ++ list) (falling-same n f g values same)
 
 -- values without a score don't count
-pub falling-filter : (n : ℕ) (f : ℕ → ℕ) (keep : ℕ → Bool) (values : List ℕ) → ((w : ℕ) → keep w ≡ false → f w ≡ 0) → falling n f (filter keep values) ≡ falling n f values
+pub falling-filter : (n : ℕ) (f : ℕ → ℕ) (keep : ℕ → Bool) (values : List ℕ) → ((w : ℕ) → keep w ≡ false → f w ≡ 0) → falling n f (filter keep values)
+    ≡ falling n f values
 falling-filter zero f keep values zero_at = refl
 falling-filter (suc n) f keep values zero_at =
     ap (λ (list : List ℕ). list ++ falling n f (filter keep values))
-    (filter-filter (λ w. nat_eq (f w) (suc n)) keep values ∙ filter-same (λ w. keep w && nat_eq (f w) (suc n)) (λ w. nat_eq (f w) (suc n)) values (λ w. at w (keep w) (zero_at w)))
+    (filter-filter (λ w. nat_eq (f w) (suc n)) keep values ∙ filter_same (λ w. keep w && nat_eq (f w) (suc n)) (λ w. nat_eq (f w) (suc n)) values
+    (λ w. at w (keep w) (zero_at w)))
     ∙ ap (λ (list : List ℕ). filter (λ w. nat_eq (f w) (suc n)) values ++ list) (falling-filter n f keep values zero_at)
   where
     at : (w : ℕ) (b : Bool) → (b ≡ false → f w ≡ 0) → (b && nat_eq (f w) (suc n)) ≡ nat_eq (f w) (suc n)
@@ -190,14 +184,16 @@ falling-filter (suc n) f keep values zero_at =
 pub falling-none : (n : ℕ) (score : ℕ → ℕ) (values : List ℕ) → ((w : ℕ) → is_among values w ≡ true → score w ≡ 0) → falling n score values ≡ []
 falling-none zero score values none = refl
 falling-none (suc n) score values none =
-    ap (λ (list : List ℕ). list ++ falling n score values) (filter-none (λ w. nat_eq (score w) (suc n)) values (λ w among. let e : score w ≡ 0 = none w among in grind (arith, nat_tests)))
+    ap (λ (list : List ℕ). list ++ falling n score values)
+    (filter-none (λ w. nat_eq (score w) (suc n)) values (λ w among. let e : score w ≡ 0 = none w among in grind (arith, nat_tests)))
     ∙ falling-none n score values none
 
 -- a score at or above all that are looked for doesn't count
 falling-without : (n : ℕ) (score : ℕ → ℕ) (v : ℕ) (values : List ℕ) → n < score v → falling n score values ≡ falling n (without score v) values
 falling-without zero score v values above = refl
 falling-without (suc n) score v values above =
-    ap (λ (list : List ℕ). list ++ falling n score values) (filter-same (λ w. nat_eq (score w) (suc n)) (λ w. nat_eq (without score v w) (suc n)) values (λ w. at w (cases_eq w v)))
+    ap (λ (list : List ℕ). list ++ falling n score values) (filter_same (λ w. nat_eq (score w) (suc n)) (λ w. nat_eq (without score v w) (suc n)) values
+    (λ w. at w (cases_eq w v)))
     ∙ ap (λ (list : List ℕ). filter (λ w. nat_eq (without score v w) (suc n)) values ++ list) (falling-without n score v values (omega arith))
   where
     at : (w : ℕ) → (w ≡ v) ⊎ (w ≢ v) → nat_eq (score w) (suc n) ≡ nat_eq (without score v w) (suc n)
@@ -246,9 +242,11 @@ falling-best (suc n) score v values is within = by_case (λ low. falling-best n 
         let whole : score v ≡ suc n = omega arith in
         ap (λ (k : ℕ). filter (λ w. nat_eq (score w) k) values ++ falling n score values) (sym whole)
         ∙ ap (λ (list : List ℕ). list ++ falling n score values) (is.first ∙ ap (λ (list : List ℕ). v ∷ list)
-        (filter-filter (λ w. nat_eq (score w) (score v)) (λ w. not (nat_eq w v)) values ∙ filter-same (λ w. not (nat_eq w v) && nat_eq (score w) (score v)) (λ w. nat_eq (without score v w) (suc n)) values (λ w. kept w top)))
+        (filter-filter (λ w. nat_eq (score w) (score v)) (λ w. not (nat_eq w v)) values ∙ filter_same (λ w. not (nat_eq w v) && nat_eq (score w) (score v))
+        (λ w. nat_eq (without score v w) (suc n)) values (λ w. kept w top)))
         ∙ ap (λ (list : List ℕ). v ∷ (filter (λ w. nat_eq (without score v w) (suc n)) values ++ list)) (falling-without n score v values top)
     by_case later (inr low) =
         ap (λ (list : List ℕ). list ++ falling n score values) (filter-none (λ w. nat_eq (score w) (suc n)) values (λ w among. below w low among))
         ∙ later low
-        ∙ ap (λ (list : List ℕ). v ∷ (list ++ falling n (without score v) values)) (sym (filter-none (λ w. nat_eq (without score v w) (suc n)) values (λ w among. below_without w low among)))
+        ∙ ap (λ (list : List ℕ). v ∷ (list ++ falling n (without score v) values))
+        (sym (filter-none (λ w. nat_eq (without score v w) (suc n)) values (λ w among. below_without w low among)))

@@ -33,14 +33,16 @@ given-at row tuple params p (Some w) rest e later =
 agrees-from : (row tuple : List (Option ℕ)) (n p : ℕ) → p + n ≡ length row → length tuple ≡ length row
     → list_all (agree_at row tuple) (filter (is_assigned tuple) (range_with_len p n)) ≡ agrees (drop p row) (drop p tuple)
 agrees-from row tuple zero p whole long =
-    sym (ap (λ (list : List (Option ℕ)). agrees list (drop p tuple)) (drop_all p row (omega (arith, whole))) ∙ ap (agrees []) (drop_all p tuple (omega (arith, whole, long))))
+    sym (ap (λ (list : List (Option ℕ)). agrees list (drop p tuple)) (drop_all p row (omega (arith, whole)))
+    ∙ ap (agrees []) (drop_all p tuple (omega (arith, whole, long))))
 agrees-from row tuple (suc n) p whole long =
     let later = agrees-from row tuple n (p + 1) (omega (arith, whole)) long in
     given-at row tuple (range_with_len (p + 1) n) p (get_or tuple p None) (agrees (drop (p + 1) row) (drop (p + 1) tuple)) refl later
     ∙ sym (agrees-at row tuple p (omega (arith, whole)) long)
 
 pub agrees-given : (row tuple : List (Option ℕ)) → length tuple ≡ length row → list_all (agree_at row tuple) (given_params tuple) ≡ agrees row tuple
-agrees-given row tuple long = ap (λ (n : ℕ). list_all (agree_at row tuple) (filter (is_assigned tuple) (range_with_len 0 n))) long ∙ agrees-from row tuple (length row) 0 (omega arith) long
+agrees-given row tuple long = ap (λ (n : ℕ). list_all (agree_at row tuple) (filter (is_assigned tuple) (range_with_len 0 n))) long
+    ∙ agrees-from row tuple (length row) 0 (omega arith) long
 
 pub given_within : (tuple : List (Option ℕ)) → All (λ p. p < length tuple) (given_params tuple)
 given_within tuple =
@@ -49,7 +51,8 @@ given_within tuple =
     subst (λ (p : ℕ). p < length tuple) (sym (get_or-range_with_len 0 (length tuple) i d inside)) (omega (arith, inside)))
 
 -- one parameter more
-filter-more : (tuple : List (Option ℕ)) (p : ℕ) → filter (is_assigned tuple) (range_with_len 0 (p + 1)) ≡ filter (is_assigned tuple) (range_with_len 0 p) ++ filter (is_assigned tuple) (p ∷ [])
+filter-more : (tuple : List (Option ℕ)) (p : ℕ) → filter (is_assigned tuple) (range_with_len 0 (p + 1)) ≡ filter (is_assigned tuple) (range_with_len 0 p)
+    ++ filter (is_assigned tuple) (p ∷ [])
 filter-more tuple p = ap (filter (is_assigned tuple)) (range-more p) ∙ filter-append (is_assigned tuple) (range_with_len 0 p) (p ∷ [])
 
 -- the parameters before p that have a value in the tuple stand in front
@@ -60,7 +63,8 @@ pub record GivenBefore (tuple : List (Option ℕ)) (params : List ℕ) (count p 
 pub given-start : (tuple : List (Option ℕ)) (params : List ℕ) → GivenBefore tuple params 0 0
 given-start tuple params = record { few = omega arith; front = refl }
 
-pub given-yes : (tuple : List (Option ℕ)) (params : List ℕ) (count p : ℕ) → count < length params → GivenBefore tuple params count p → is_assigned tuple p ≡ true
+pub given-yes : (tuple : List (Option ℕ)) (params : List ℕ) (count p : ℕ) → count < length params → GivenBefore tuple params count p
+    → is_assigned tuple p ≡ true
     → GivenBefore tuple (set params count p) (count + 1) (p + 1)
 given-yes tuple params count p within before given = record {
   few = omega (arith, before.few);
@@ -70,9 +74,11 @@ given-yes tuple params count p within before given = record {
       ∙ sym (filter-more tuple p ∙ ap (λ (list : List ℕ). filter (is_assigned tuple) (range_with_len 0 p) ++ list) (filter_yes (is_assigned tuple) p [] given));
 }
 
-pub given-no : (tuple : List (Option ℕ)) (params : List ℕ) (count p : ℕ) → GivenBefore tuple params count p → is_assigned tuple p ≡ false → GivenBefore tuple params count (p + 1)
+pub given-no : (tuple : List (Option ℕ)) (params : List ℕ) (count p : ℕ) → GivenBefore tuple params count p → is_assigned tuple p ≡ false
+    → GivenBefore tuple params count (p + 1)
 given-no tuple params count p before none = record {
   few = omega (arith, before.few);
-  front = before.front ∙ sym (filter-more tuple p ∙ ap (λ (list : List ℕ). filter (is_assigned tuple) (range_with_len 0 p) ++ list) (filter_no (is_assigned tuple) p [] none)
+  front = before.front ∙ sym (filter-more tuple p ∙ ap (λ (list : List ℕ). filter (is_assigned tuple) (range_with_len 0 p) ++ list)
+      (filter_no (is_assigned tuple) p [] none)
       ∙ append-nil (filter (is_assigned tuple) (range_with_len 0 p)));
 }

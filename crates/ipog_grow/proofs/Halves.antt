@@ -1,97 +1,113 @@
 -- A column: its horizontal growth, then its vertical growth.
-use Rattle.std.proofs.Common.{◌≡◌, ℕ, ◌<◌, true, List, [], length, get_or, filter, Option, Some, None, All, ◌∙◌, sym, ap, subst}
+use Rattle.std.proofs.Common.{◌≡◌, ℕ, ◌<◌, true, List, [], length, get_or, filter, Option, Some, None, All, ◌∙◌, sym, ap, subst, take, drop, ◌++◌}
 use Rattle.std.proofs.lemmas.List.FromFn.{length-range_with_len}
 use Rattle.std.proofs.lemmas.List.Sorted.{length_permutation}
+use Rattle.std.proofs.lemmas.List.Elements.{filter_passes}
+use Rattle.ipog_grow.proofs.Closing.{whole_slice}
+use Rattle.ipog_grow.proofs.Spending.{find-later, find-earlier}
 use Rattle.cov_model.specs.Sound.{param_at}
 use Rattle.definitions.specs.Growth.{Grown, down, is_uncovered, tuples_in_play}
 use Rattle.uncovered_table.specs.Open.{OpenView}
 use Rattle.ipog_grow.specs.Growing.{IsInPlay, Keeps, open_tuples}
-use Rattle.ipog_grow.specs.Asking.{World, IsWorld, IsOpen, IsReady, Grows, extends, first_spent, crossed, column_grown}
-use Rattle.ipog_grow.proofs.Crossing.{keeps-both, find-past, find-stops}
-use Rattle.ipog_grow.proofs.Downing.{All-passes}
+use Rattle.ipog_grow.specs.Asking.{SearchContext, IsSoundContext, IsOpen, IsReady, Grows, extends, first_spent, crossed, column_grown}
+use Rattle.ipog_grow.proofs.HorizontalLemmas.{keeps-both}
 use Rattle.ipog_grow.proofs.Settling.{down-uncovered}
 use Rattle.ipog_grow.proofs.Trying.{is_over}
 use Rattle.ipog_grow.proofs.Tuples.{tuples_in_play-are}
 
 -- a column has as many values as its order
-pub order-long : (world : World) (p : ℕ) → IsWorld world → p < length world.model.params → length (get_or world.prefs p []) ≡ length (param_at world.model.params p).values
-order-long world p is within =
-    length_permutation _ (get_or world.prefs p []) (is.orders.each p within) ∙ length-range_with_len 0 (length (param_at world.model.params p).values)
+pub order-long : (context : SearchContext) (p : ℕ) → IsSoundContext context → p < length context.model.params → length (get_or context.prefs p [])
+    ≡ length (param_at context.model.params p).values
+order-long context p is within =
+    length_permutation _ (get_or context.prefs p []) (is.orders.each p within) ∙ length-range_with_len 0 (length (param_at context.model.params p).values)
 
 -- the tuples that are open before it grows are in play there
-pub ready-in_play : (world : World) (p : ℕ) (table : OpenView) (rows : List (List (Option ℕ))) → IsWorld world → p < length world.model.params → IsReady world table p rows
-    → All (IsInPlay world.model world.slice p) (open_tuples table p)
-ready-in_play world p table rows is within ready =
-    subst (All (IsInPlay world.model world.slice p)) (sym ready.all_open) (tuples_in_play-are world.model world.slice p is.slice within)
+pub ready-in_play : (context : SearchContext) (p : ℕ) (table : OpenView) (rows : List (List (Option ℕ))) → IsSoundContext context
+    → p < length context.model.params → IsReady context table p rows
+    → All (IsInPlay context.model context.slice p) (open_tuples table p)
+ready-in_play context p table rows is within ready =
+    subst (All (IsInPlay context.model context.slice p)) (sym ready.all_open) (tuples_in_play-are context.model context.slice p is.slice within)
 
 -- the tuples of the column
-abbrev in_play : World → ℕ → List (List (Option ℕ))
-in_play world p = tuples_in_play world.model world.slice p
+abbrev in_play : SearchContext → ℕ → List (List (Option ℕ))
+in_play context p = tuples_in_play context.model context.slice p
 
 -- horizontal growth is done
-pub record Half (world : World) (start after : OpenView) (p : ℕ) (initial rows : List (List (Option ℕ))) : Type 0 where
-  pub asked : first_spent world (crossed world p (tuples_in_play world.model world.slice p) [] initial).asked ≡ None
-  pub given : rows ≡ (crossed world p (tuples_in_play world.model world.slice p) [] initial).rows
-  pub moment : open_tuples after p ≡ filter (is_uncovered rows) (tuples_in_play world.model world.slice p)
+pub record Half (context : SearchContext) (start after : OpenView) (p : ℕ) (initial rows : List (List (Option ℕ))) : Type 0 where
+  pub asked : first_spent context (crossed context p (tuples_in_play context.model context.slice p) [] initial).asked ≡ None
+  pub given : rows ≡ (crossed context p (tuples_in_play context.model context.slice p) [] initial).rows
+  pub moment : open_tuples after p ≡ filter (is_uncovered rows) (tuples_in_play context.model context.slice p)
   pub keeps : Keeps start after p
-  pub in_play : All (IsInPlay world.model world.slice p) (open_tuples after p)
-  pub grows : All (Grows world) rows
+  pub in_play : All (IsInPlay context.model context.slice p) (open_tuples after p)
+  pub grows : All (Grows context) rows
 
 -- the open tuples are in play and contained in no row
-pub half-open : (world : World) (start after : OpenView) (p : ℕ) (initial rows : List (List (Option ℕ))) → IsReady world start p initial → Half world start after p initial rows → IsOpen world after p rows
-half-open world start after p initial rows ready half = record {
+pub half-open : {context : SearchContext} {start after : OpenView} {p : ℕ} {initial rows : List (List (Option ℕ))} → IsReady context start p initial
+    → Half context start after p initial rows → IsOpen context after p rows
+half-open {context} {start} {after} {p} {initial} {rows} ready half = record {
   of = (half.keeps.model ∙ ready.of.0, half.keeps.slice ∙ ready.of.1);
   rises = half.keeps.rises ready.rises;
-  uncovered = subst (All (λ t. is_uncovered rows t ≡ true)) (sym half.moment) (All-passes (is_uncovered rows) (in_play world p));
+  uncovered = subst (All (λ t. is_uncovered rows t ≡ true)) (sym half.moment) (filter_passes (is_uncovered rows) (in_play context p));
   in_play = half.in_play;
   grows = half.grows;
 }
 
 -- vertical growth of the open tuples is that of all
-half_down : (world : World) (start after : OpenView) (p : ℕ) (initial rows : List (List (Option ℕ))) → Half world start after p initial rows
-    → down (extends world) (open_tuples after p) rows ≡ down (extends world) (in_play world p) (crossed world p (in_play world p) [] initial).rows
-half_down world start after p initial rows half =
-    ap (λ list. down (extends world) list rows) half.moment ∙ down-uncovered (extends world) (in_play world p) rows ∙ ap (down (extends world) (in_play world p)) half.given
+half_down : (context : SearchContext) (start after : OpenView) (p : ℕ) (initial rows : List (List (Option ℕ))) → Half context start after p initial rows
+    → down (extends context) (open_tuples after p) rows ≡ down (extends context) (in_play context p) (crossed context p (in_play context p) [] initial).rows
+half_down context start after p initial rows half =
+    ap (λ list. down (extends context) list rows) half.moment ∙ down-uncovered (extends context) (in_play context p) rows
+    ∙ ap (down (extends context) (in_play context p)) half.given
 
-pub half-rows : (world : World) (start after : OpenView) (p : ℕ) (initial rows : List (List (Option ℕ))) → Half world start after p initial rows
-    → (down (extends world) (open_tuples after p) rows).rows ≡ (column_grown world p initial).rows
-half-rows world start after p initial rows half = ap (λ (g : Grown). g.rows) (half_down world start after p initial rows half)
+pub half-rows : {context : SearchContext} {start after : OpenView} {p : ℕ} {initial rows : List (List (Option ℕ))} → Half context start after p initial rows
+    → (down (extends context) (open_tuples after p) rows).rows ≡ (column_grown context p initial).rows
+half-rows {context} {start} {after} {p} {initial} {rows} half = ap (λ (g : Grown). g.rows) (half_down context start after p initial rows half)
 
-pub half-omitted : (world : World) (start after : OpenView) (p : ℕ) (initial rows : List (List (Option ℕ))) → Half world start after p initial rows
-    → (down (extends world) (open_tuples after p) rows).omitted ≡ (column_grown world p initial).omitted
-half-omitted world start after p initial rows half = ap (λ (g : Grown). g.omitted) (half_down world start after p initial rows half)
+pub half-omitted : {context : SearchContext} {start after : OpenView} {p : ℕ} {initial rows : List (List (Option ℕ))} → Half context start after p initial rows
+    → (down (extends context) (open_tuples after p) rows).omitted ≡ (column_grown context p initial).omitted
+half-omitted {context} {start} {after} {p} {initial} {rows} half = ap (λ (g : Grown). g.omitted) (half_down context start after p initial rows half)
 
-pub half-asked : (world : World) (start after : OpenView) (p : ℕ) (initial rows : List (List (Option ℕ))) → Half world start after p initial rows
-    → first_spent world (down (extends world) (open_tuples after p) rows).asked ≡ first_spent world (column_grown world p initial).asked
-half-asked world start after p initial rows half =
-    ap (λ (g : Grown). first_spent world g.asked) (half_down world start after p initial rows half)
-    ∙ sym (find-past (is_over world) (crossed world p (in_play world p) [] initial).asked
-    (down (extends world) (in_play world p) (crossed world p (in_play world p) [] initial).rows).asked half.asked)
+pub half-asked : {context : SearchContext} {start after : OpenView} {p : ℕ} {initial rows : List (List (Option ℕ))} → Half context start after p initial rows
+    → first_spent context (down (extends context) (open_tuples after p) rows).asked ≡ first_spent context (column_grown context p initial).asked
+half-asked {context} {start} {after} {p} {initial} {rows} half =
+    ap (λ (g : Grown). first_spent context g.asked) (half_down context start after p initial rows half)
+    ∙ sym (find-later (is_over context) (crossed context p (in_play context p) [] initial).asked
+    (down (extends context) (in_play context p) (crossed context p (in_play context p) [] initial).rows).asked half.asked)
 
 -- a question of horizontal growth that exceeds the budget is the column's first
-pub half-stops : (world : World) (p : ℕ) (initial : List (List (Option ℕ))) (question : List (Option ℕ))
-    → first_spent world (crossed world p (tuples_in_play world.model world.slice p) [] initial).asked ≡ Some question → first_spent world (column_grown world p initial).asked ≡ Some question
-half-stops world p initial question over =
-    find-stops (is_over world) question (crossed world p (in_play world p) [] initial).asked
-    (down (extends world) (in_play world p) (crossed world p (in_play world p) [] initial).rows).asked over
+pub half-stops : (context : SearchContext) (p : ℕ) (initial : List (List (Option ℕ))) (question : List (Option ℕ))
+    → first_spent context (crossed context p (tuples_in_play context.model context.slice p) [] initial).asked ≡ Some question
+    → first_spent context (column_grown context p initial).asked ≡ Some question
+half-stops context p initial question over =
+    find-earlier (is_over context) question (crossed context p (in_play context p) [] initial).asked
+    (down (extends context) (in_play context p) (crossed context p (in_play context p) [] initial).rows).asked over
 
 -- the tuples that are open once what the rows contain is closed
-pub closed-moment : (world : World) (p : ℕ) (start table : OpenView) (initial shown seen : List (List (Option ℕ))) → IsReady world start p initial → shown ≡ initial → seen ≡ initial
-    → open_tuples table p ≡ filter (is_uncovered shown) (open_tuples start p) → open_tuples table p ≡ filter (is_uncovered seen) (tuples_in_play world.model world.slice p)
-closed-moment world p start table initial shown seen ready before same moment =
-    moment ∙ ap (filter (is_uncovered shown)) ready.all_open ∙ ap (λ list. filter (is_uncovered list) (in_play world p)) (before ∙ sym same)
+pub closed-moment : (context : SearchContext) (p : ℕ) (start table : OpenView) (initial shown seen : List (List (Option ℕ)))
+    → IsReady context start p initial → shown ≡ initial → seen ≡ initial
+    → open_tuples table p ≡ filter (is_uncovered shown) (open_tuples start p)
+    → open_tuples table p ≡ filter (is_uncovered seen) (tuples_in_play context.model context.slice p)
+closed-moment context p start table initial shown seen ready before same moment =
+    moment ∙ ap (filter (is_uncovered shown)) ready.all_open ∙ ap (λ list. filter (is_uncovered list) (in_play context p)) (before ∙ sym same)
 
--- what horizontal growth told
-pub half : (world : World) (start table after : OpenView) (p : ℕ) (initial seen rows : List (List (Option ℕ))) → seen ≡ initial → Keeps start table p
-    → first_spent world (crossed world p (tuples_in_play world.model world.slice p) [] seen).asked ≡ None
-    → rows ≡ (crossed world p (tuples_in_play world.model world.slice p) [] seen).rows
-    → open_tuples after p ≡ filter (is_uncovered rows) (tuples_in_play world.model world.slice p)
-    → Keeps table after p → All (IsInPlay world.model world.slice p) (open_tuples after p) → All (Grows world) rows → Half world start after p initial rows
-half world start table after p initial seen rows same before none given moment keeps own grows = record {
-  asked = ap (λ list. first_spent world (crossed world p (in_play world p) [] list).asked) (sym same) ∙ none;
-  given = given ∙ ap (λ list. (crossed world p (in_play world p) [] list).rows) same;
-  moment = moment;
-  keeps = keeps-both start table after p before keeps;
-  in_play = own;
-  grows = grows;
-}
+-- what horizontal growth told, of rows that are then put back in place
+pub half : {context : SearchContext} {p len : ℕ} {start table after : OpenView} {initial shown seen rows : List (List (Option ℕ))}
+    → IsReady context start p initial → shown ≡ initial → seen ≡ initial
+    → open_tuples table p ≡ filter (is_uncovered shown) (open_tuples start p) → Keeps start table p → len ≡ length initial → length rows ≡ length seen
+    → ((tuples : List (List (Option ℕ))) → open_tuples table p ≡ filter (is_uncovered seen) tuples
+    → first_spent context (crossed context p tuples [] seen).asked ≡ None)
+    → ((tuples : List (List (Option ℕ))) → open_tuples table p ≡ filter (is_uncovered seen) tuples → rows ≡ (crossed context p tuples [] seen).rows)
+    → ((tuples : List (List (Option ℕ))) → open_tuples table p ≡ filter (is_uncovered seen) tuples → open_tuples after p ≡ filter (is_uncovered rows) tuples)
+    → Keeps table after p → All (IsInPlay context.model context.slice p) (open_tuples after p) → All (Grows context) rows
+    → Half context start after p initial (take len (rows ++ drop (length rows) initial))
+half {context} {p} {len} {start} {table} {after} {initial} {shown} {seen} {rows} ready before same closes kept size long none given leaves keeps own grows =
+    let moment = closed-moment context p start table initial shown seen ready before same closes in
+    let whole = whole_slice initial rows len size (long ∙ ap length same) in
+    subst (Half context start after p initial) (sym whole) (record {
+      asked = ap (λ list. first_spent context (crossed context p (in_play context p) [] list).asked) (sym same) ∙ none (in_play context p) moment;
+      given = given (in_play context p) moment ∙ ap (λ list. (crossed context p (in_play context p) [] list).rows) same;
+      moment = leaves (in_play context p) moment;
+      keeps = keeps-both start table after p kept keeps;
+      in_play = own;
+      grows = grows;
+    })

@@ -1,9 +1,10 @@
 -- Which slice a partial row with at most one negative value is of.
-use Rattle.std.proofs.Common.{◌≡◌, ℕ, suc, ◌+◌, ◌<◌, ◌++◌, Bool, true, false, ◌&&◌, ◌||◌, List, [], ◌∷◌, length, take, get_or, filter, Option, nat_le, ◌∙◌, ap, refl, arith}
+use Rattle.std.proofs.Common.{◌≡◌, ℕ, ◌+◌, ◌<◌, ◌++◌, Bool, true, false, ◌&&◌, ◌||◌, List, [], ◌∷◌, length, take, get_or, filter, Option, nat_le, ◌∙◌, ap, refl, arith}
 use Rattle.std.specs.Prelude.{◌==◌}
-use Rattle.std.proofs.lemmas.Bool.Decides.{nat_tests, Decides-eqb}
+use Rattle.std.proofs.lemmas.Bool.Decides.{Decides-eqb}
 use Rattle.std.proofs.lemmas.List.{take_more}
 use Rattle.std.proofs.lemmas.List.Elements.{filter-append}
+use Rattle.std.proofs.lemmas.Bool.{leb-true}
 use Rattle.cov_model.specs.contracts.slice.SlicePartialEq as equal
 use Rattle.cov_model.specs.declared.slice.Slice.{Slice}
 use Rattle.cov_model.specs.declared.slice.Slice.TheVariants.{Positive, Negative}
@@ -15,17 +16,15 @@ use Rattle.definitions.specs.Demand.{is_among}
 use Rattle.definitions.specs.Completion.{has_slice}
 use Rattle.definitions.specs.Growth.{is_of_slice}
 
-too_many : (n : ℕ) → nat_le (suc (suc n)) 1 ≡ true → ⊥
-too_many n test = grind (arith, nat_tests)
-
 -- the slice is this one exactly if the partial row is of it
-pub slice_of-test : (m : ModelView) (slice : Slice) (cells : List (Option ℕ)) → has_slice m cells ≡ true → equal.TheImpl.eq-value.it (slice_of m cells) slice ≡ is_of_slice m slice cells
+pub slice_of-test : (m : ModelView) (slice : Slice) (cells : List (Option ℕ)) → has_slice m cells ≡ true → equal.TheImpl.eq-value.it (slice_of m cells) slice
+    ≡ is_of_slice m slice cells
 slice_of-test m Positive cells few = at (negatives m cells) few
   where
     at : (ps : List ℕ) → nat_le (length ps) 1 ≡ true → equal.TheImpl.eq-value.it (slice_by cells ps) Positive ≡ (length ps == 0)
     at [] few = refl
     at (p ∷ []) few = refl
-    at (p ∷ r ∷ ps) few = absurd (too_many (length ps) few)
+    at (p ∷ r ∷ ps) few = absurd (omega (arith, leb-true (length (p ∷ r ∷ ps)) 1 few))
 slice_of-test m (Negative q v) cells few = at (negatives m cells) few
   where
     one : (b x y : Bool) → (b ≡ true → x ≡ y) → (b && x) ≡ ((b || false) && y)
@@ -35,8 +34,9 @@ slice_of-test m (Negative q v) cells few = at (negatives m cells) few
     at : (ps : List ℕ) → nat_le (length ps) 1 ≡ true → equal.TheImpl.eq-value.it (slice_by cells ps) (Negative q v) ≡ (is_among ps q && (value_in cells q == v))
     at [] few = refl
     at (p ∷ []) few = one (p == q) (value_in cells p == v) (value_in cells q == v) (λ e. ap (λ r. value_in cells r == v) ((Decides-eqb p q).0 e))
-    at (p ∷ r ∷ ps) few = absurd (too_many (length ps) few)
+    at (p ∷ r ∷ ps) few = absurd (omega (arith, leb-true (length (p ∷ r ∷ ps)) 1 few))
 
 -- one more item, where it passes
-pub filter-more : {X : Type 0} (p : X → Bool) (xs : List X) (i : ℕ) (d : X) → i < length xs → filter p (take (i + 1) xs) ≡ filter p (take i xs) ++ filter p (get_or xs i d ∷ [])
+pub filter-more : {X : Type 0} (p : X → Bool) (xs : List X) (i : ℕ) (d : X) → i < length xs → filter p (take (i + 1) xs) ≡ filter p (take i xs)
+    ++ filter p (get_or xs i d ∷ [])
 filter-more p xs i d within = ap (filter p) (take_more xs i d within) ∙ filter-append p (take i xs) (get_or xs i d ∷ [])

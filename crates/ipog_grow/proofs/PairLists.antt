@@ -9,13 +9,15 @@ abbrev pub pair_at : ℕ → Option ℕ → List (ℕ × ℕ)
 pair_at p None = []
 pair_at p (Some v) = (p, v) ∷ []
 
-pairs_from-push : (p q : ℕ) (cells : List (Option ℕ)) (cell : Option ℕ) → p + length cells ≡ q → pairs_from p (cells ++ cell ∷ []) ≡ pairs_from p cells ++ pair_at q cell
+pairs_from-push : (p q : ℕ) (cells : List (Option ℕ)) (cell : Option ℕ) → p + length cells ≡ q → pairs_from p (cells ++ cell ∷ []) ≡ pairs_from p cells
+    ++ pair_at q cell
 pairs_from-push p q [] None at = refl
 pairs_from-push p q [] (Some v) at = let same : p ≡ q = omega (arith, at) in ap (λ k. (k, v) ∷ []) same
 pairs_from-push p q (None ∷ cells) cell at = pairs_from-push (p + 1) q cells cell (omega (arith, at))
 pairs_from-push p q (Some v ∷ cells) cell at = ap (λ pairs. (p, v) ∷ pairs) (pairs_from-push (p + 1) q cells cell (omega (arith, at)))
 
-pub pairs_of-more : (cells : List (Option ℕ)) (p : ℕ) → p < length cells → pairs_of (take (p + 1) cells) ≡ pairs_of (take p cells) ++ pair_at p (get_or cells p None)
+pub pairs_of-more : (cells : List (Option ℕ)) (p : ℕ) → p < length cells → pairs_of (take (p + 1) cells) ≡ pairs_of (take p cells)
+    ++ pair_at p (get_or cells p None)
 pairs_of-more cells p within =
     ap pairs_of (take_more cells p None within)
     ∙ pairs_from-push 0 p (take p cells) (get_or cells p None) (omega (arith, length-take-le p cells (omega (arith, within))))

@@ -1,27 +1,24 @@
 -- The places of a slice in play for a column, and the tuples there.
-use Rattle.std.proofs.Common.{◌≡◌, ℕ, zero, suc, ◌+◌, ◌<◌, Bool, true, false, cond, ◌&&◌, ◌||◌, not, List, [], ◌∷◌, ◌++◌, map, length, filter, flat_map, Option, get_or, nat_eq, ◌∙◌, sym, ap, refl, arith, append_assoc}
+use Rattle.std.proofs.Common.{◌≡◌, ℕ, ◌+◌, Bool, true, false, cond, ◌||◌, not, List, [], ◌∷◌, ◌++◌, map, length, filter, flat_map, Option, get_or, ◌∙◌, sym, ap, refl, append_assoc}
 use Rattle.std.specs.Prelude.{take_while}
 use Rattle.std.specs.List.{list_any, range_with_len}
 use Rattle.std.proofs.lemmas.Bool.{false≢true}
-use Rattle.std.proofs.lemmas.Bool.Decides.{nat_tests}
-use Rattle.std.proofs.lemmas.List.{append-nil, length_push}
+use Rattle.std.proofs.lemmas.List.{length_push}
 use Rattle.std.proofs.lemmas.List.Elements.{filter-append}
 use Rattle.std.proofs.lemmas.List.Sums.{take_while-cons}
-use Rattle.std.proofs.lemmas.List.Folds.{list_any-append, flat_map-map}
+use Rattle.std.proofs.lemmas.List.Folds.{flat_map-map}
 use Rattle.std.proofs.lemmas.List.Concat.{length-flat_map}
+use Rattle.value_text.proofs.ListLemmas.{map-get_or-range_with_len}
+use Rattle.uncovered_table.proofs.ChoiceLemmas.{same_slice, slice_listed}
 use Rattle.cov_model.specs.declared.slice.Slice.{Slice}
-use Rattle.cov_model.specs.declared.slice.Slice.TheVariants.{Positive, Negative}
-use Rattle.cov_model.specs.Sound.{ModelView, param_at}
-use Rattle.cov_model.specs.Meaning.{value_at}
-use Rattle.cov_model.specs.Valid.{param_numbers}
-use Rattle.cov_model.specs.Slices.{slices, value_numbers, negative_values}
-use Rattle.definitions.specs.Demand.{is_among, demanded_sets, tuples_in}
+use Rattle.cov_model.specs.Sound.{ModelView}
+use Rattle.cov_model.specs.Slices.{slices}
+use Rattle.definitions.specs.Demand.{demanded_sets, tuples_in}
 use Rattle.definitions.specs.Growth.{tuples_in_play}
 use Rattle.definitions.specs.SliceRows.{IsSliceOf}
 use Rattle.tuple_index.proofs.ListingLemmas.{flat_map_same, map_map, map_flat_map}
 use Rattle.uncovered_table.specs.Places.{set_at, tuple_at, is_slice, slice_start, places_in, slice_places, ends_with_column, is_in_play}
 use Rattle.ipog_grow.proofs.Lists.{filter-map}
-use Rattle.ipog_grow.proofs.Falling.{among_first, among_later}
 
 -- a part of a list, read place by place
 read_at : {X : Type 0} (a : List X) (x : X) (c : List X) (d : X) → get_or (a ++ x ∷ c) (length a) d ≡ x
@@ -36,9 +33,6 @@ read_part a (x ∷ b) c d =
     (ap (λ xs. map (λ k. get_or xs k d) (range_with_len (length a + 1) (length b))) (sym (append_assoc a (x ∷ []) (b ++ c)))
     ∙ ap (λ n. map (λ k. get_or ((a ++ x ∷ []) ++ (b ++ c)) k d) (range_with_len n (length b))) (sym (length_push a x))
     ∙ read_part (a ++ x ∷ []) b c d)
-
-pub read_all : {X : Type 0} (xs : List X) (d : X) → map (λ k. get_or xs k d) (range_with_len 0 (length xs)) ≡ xs
-read_all xs d = ap (λ ys. map (λ k. get_or ys k d) (range_with_len 0 (length xs))) (sym (append-nil xs)) ∙ read_part [] xs [] d
 
 -- the pieces before the first item that passes, that piece, and the others
 record Pieces {X Y : Type 0} (f : X → List Y) (is : X → Bool) (xs : List X) (x : X) : Type 0 where
@@ -66,86 +60,17 @@ pieces f is (y ∷ xs) x one some = by_test (is y) refl some (λ later. pieces f
           ∙ ap (λ zs. flat_map f zs ++ (f x ++ (later some).rest)) (sym (take_while-cons (λ z. not (is z)) y xs));
     }
 
-same_numbers : (a b : ℕ) → nat_eq a b ≡ true → a ≡ b
-same_numbers a b test = grind (arith, nat_tests)
-
-same_slice : (a b : Slice) → is_slice a b ≡ true → a ≡ b
-same_slice Positive Positive test = refl
-same_slice Positive (Negative q w) test = absurd (false≢true test)
-same_slice (Negative p v) Positive test = absurd (false≢true test)
-same_slice (Negative p v) (Negative q w) test = by_case (nat_eq p q) (nat_eq v w) (same_numbers p q) (same_numbers v w) test
-  where
-    by_case : (a b : Bool) → (a ≡ true → p ≡ q) → (b ≡ true → v ≡ w) → (a && b) ≡ true → Negative p v ≡ Negative q w
-    by_case true true first second test = ap (λ (r : ℕ). Negative r v) (first refl) ∙ ap (Negative q) (second refl)
-    by_case true false first second test = absurd (false≢true test)
-    by_case false b first second test = absurd (false≢true test)
-
-any_first : (a b : Bool) → a ≡ true → (a || b) ≡ true
-any_first a b h = ap (λ (x : Bool). x || b) h
-
-any_second : (a b : Bool) → b ≡ true → (a || b) ≡ true
-any_second true b h = refl
-any_second false b h = h
-
-any_map : {X : Type 0} (test : X → Bool) (f : ℕ → X) (xs : List ℕ) (v : ℕ) → is_among xs v ≡ true → test (f v) ≡ true → list_any test (map f xs) ≡ true
-any_map test f [] v among h = absurd (false≢true among)
-any_map test f (x ∷ xs) v among h = by_test (nat_eq x v) (same_numbers x v) among (λ later. any_map test f xs v later h)
-  where
-    by_test : (b : Bool) → (b ≡ true → x ≡ v) → (b || is_among xs v) ≡ true → (is_among xs v ≡ true → list_any test (map f xs) ≡ true) → (test (f x) || list_any test (map f xs)) ≡ true
-    by_test true same among later = any_first (test (f x)) _ (ap (λ (k : ℕ). test (f k)) (same refl) ∙ h)
-    by_test false same among later = any_second (test (f x)) _ (later among)
-
-any_flat_map : {X : Type 0} (test : X → Bool) (f : ℕ → List X) (xs : List ℕ) (v : ℕ) → is_among xs v ≡ true → list_any test (f v) ≡ true → list_any test (flat_map f xs) ≡ true
-any_flat_map test f [] v among h = absurd (false≢true among)
-any_flat_map test f (x ∷ xs) v among h = list_any-append test (f x) (flat_map f xs) ∙ by_test (nat_eq x v) (same_numbers x v) among (λ later. any_flat_map test f xs v later h)
-  where
-    by_test : (b : Bool) → (b ≡ true → x ≡ v) → (b || is_among xs v) ≡ true → (is_among xs v ≡ true → list_any test (flat_map f xs) ≡ true)
-        → (list_any test (f x) || list_any test (flat_map f xs)) ≡ true
-    by_test true same among later = any_first (list_any test (f x)) _ (ap (λ (k : ℕ). list_any test (f k)) (same refl) ∙ h)
-    by_test false same among later = any_second (list_any test (f x)) _ (later among)
-
-pub among_filter : (keep : ℕ → Bool) (xs : List ℕ) (v : ℕ) → is_among xs v ≡ true → keep v ≡ true → is_among (filter keep xs) v ≡ true
-among_filter keep [] v among h = among
-among_filter keep (x ∷ xs) v among h = by_test (nat_eq x v) (same_numbers x v) among (λ later. among_filter keep xs v later h)
-  where
-    by_test : (b : Bool) → (b ≡ true → x ≡ v) → (b || is_among xs v) ≡ true → (is_among xs v ≡ true → is_among (filter keep xs) v ≡ true)
-        → is_among (cond (keep x) (x ∷ filter keep xs) (filter keep xs)) v ≡ true
-    by_test true same among later =
-        let here : keep x ≡ true = ap keep (same refl) ∙ h in
-        ap (λ (b : Bool). is_among (cond b (x ∷ filter keep xs) (filter keep xs)) v) here
-        ∙ ap (λ (k : ℕ). is_among (k ∷ filter keep xs) v) (same refl) ∙ among_first v (filter keep xs)
-    by_test false same among later = by_keep (keep x)
-      where
-        by_keep : (b : Bool) → is_among (cond b (x ∷ filter keep xs) (filter keep xs)) v ≡ true
-        by_keep true = among_later x v (filter keep xs) (later among)
-        by_keep false = later among
-
-pub among_range : (a n v : ℕ) → v < n → is_among (range_with_len a n) (a + v) ≡ true
-among_range a zero v within = absurd (omega arith)
-among_range a (suc n) zero within = ap (is_among (range_with_len a (suc n))) (omega arith) ∙ among_first a (range_with_len (a + 1) n)
-among_range a (suc n) (suc v) within =
-    among_later a (a + suc v) (range_with_len (a + 1) n) (ap (is_among (range_with_len (a + 1) n)) (omega arith) ∙ among_range (a + 1) n v (omega arith))
-
--- a slice of a model is one of its slices
-is_listed : (m : ModelView) (slice : Slice) → IsSliceOf m slice → list_any (λ other. is_slice other slice) (slices m) ≡ true
-is_listed m Positive is = refl
-is_listed m (Negative p v) is =
-    let first : nat_eq p p ≡ true = grind (arith, nat_tests) in
-    let second : nat_eq v v ≡ true = grind (arith, nat_tests) in
-    let values : is_among (value_numbers m p) v ≡ true = ap (is_among (value_numbers m p)) (omega arith) ∙ among_range 0 (length (param_at m.params p).values) v is.1 in
-    let params : is_among (param_numbers m) p ≡ true = ap (is_among (param_numbers m)) (omega arith) ∙ among_range 0 (length m.params) p is.0 in
-    any_flat_map (λ other. is_slice other (Negative p v)) (λ q. map (λ w. Negative q w) (negative_values m q)) (param_numbers m) p params
-    (any_map (λ other. is_slice other (Negative p v)) (λ w. Negative p w) (negative_values m p) v
-    (among_filter (λ w. (value_at m p w).negative) (value_numbers m p) v values is.2) (ap (λ (b : Bool). b && nat_eq v v) first ∙ second))
-
 -- the tuples at the places of a set
 pub tuples_at : (m : ModelView) (slice : Slice) (set : ℕ) → IsSliceOf m slice → map (tuple_at m) (places_in m slice set) ≡ tuples_in m (set_at m set) slice
 tuples_at m slice set is =
-    let parts = pieces (tuples_in m (set_at m set)) (λ other. is_slice other slice) (slices m) slice (λ other test. same_slice other slice test) (is_listed m slice is) in
+    let parts = pieces (tuples_in m (set_at m set)) (λ other. is_slice other slice) (slices m) slice (λ other test. same_slice other slice test)
+    (slice_listed m slice is) in
     let before : List (List (Option ℕ)) = flat_map (tuples_in m (set_at m set)) (take_while (λ other. not (is_slice other slice)) (slices m)) in
     map_map (tuple_at m) (λ rank. (set, rank)) (range_with_len (slice_start m (set_at m set) slice) (length (tuples_in m (set_at m set) slice)))
-    ∙ ap (λ (tuples : List (List (Option ℕ))). map (λ rank. get_or tuples rank []) (range_with_len (slice_start m (set_at m set) slice) (length (tuples_in m (set_at m set) slice)))) parts.whole
-    ∙ ap (λ (n : ℕ). map (λ rank. get_or (before ++ (tuples_in m (set_at m set) slice ++ parts.rest)) rank []) (range_with_len n (length (tuples_in m (set_at m set) slice))))
+    ∙ ap (λ (tuples : List (List (Option ℕ))). map (λ rank. get_or tuples rank [])
+    (range_with_len (slice_start m (set_at m set) slice) (length (tuples_in m (set_at m set) slice)))) parts.whole
+    ∙ ap (λ (n : ℕ). map (λ rank. get_or (before ++ (tuples_in m (set_at m set) slice ++ parts.rest)) rank [])
+    (range_with_len n (length (tuples_in m (set_at m set) slice))))
     (sym (length-flat_map (tuples_in m (set_at m set)) (take_while (λ other. not (is_slice other slice)) (slices m))))
     ∙ read_part before (tuples_in m (set_at m set) slice) parts.rest []
 
@@ -192,8 +117,9 @@ pub places_in_play : (m : ModelView) (slice : Slice) (p : ℕ) → IsSliceOf m s
 places_in_play m slice p is =
     ap (map (tuple_at m)) (filter-flat_map (is_in_play m slice p) (places_in m slice) (range_with_len 0 (length (demanded_sets m))))
     ∙ map_flat_map (tuple_at m) (λ set. filter (is_in_play m slice p) (places_in m slice set)) (range_with_len 0 (length (demanded_sets m)))
-    ∙ flat_map_same (λ set. map (tuple_at m) (filter (is_in_play m slice p) (places_in m slice set))) (λ set. given m slice p (set_at m set)) (range_with_len 0 (length (demanded_sets m)))
+    ∙ flat_map_same (λ set. map (tuple_at m) (filter (is_in_play m slice p) (places_in m slice set))) (λ set. given m slice p (set_at m set))
+    (range_with_len 0 (length (demanded_sets m)))
     (λ set. given_at m slice p set is)
     ∙ sym (flat_map-map (given m slice p) (λ k. get_or (demanded_sets m) k []) (range_with_len 0 (length (demanded_sets m))))
-    ∙ ap (flat_map (given m slice p)) (read_all (demanded_sets m) [])
+    ∙ ap (flat_map (given m slice p)) (map-get_or-range_with_len (demanded_sets m) [])
     ∙ sym (flat_map-filter (λ set. tuples_in m set slice) (ends_with_column m slice p) (demanded_sets m))

@@ -5,12 +5,13 @@ use Rattle.std.specs.List.{range_with_len}
 use Rattle.std.proofs.lemmas.Bool.{cases_lt}
 use Rattle.std.proofs.lemmas.Bool.Decides.{nat_tests}
 use Rattle.std.proofs.lemmas.List.Elements.{All-nil, All-cons, All-append, All-head, All-tail, All-weaker}
-use Rattle.std.proofs.lemmas.List.{get_or_past, length-set}
+use Rattle.std.proofs.lemmas.List.{get_or_past}
 use Rattle.std.proofs.lemmas.List.FromFn.{get_or-map-range_with_len, length-map-range_with_len}
+use Rattle.cov_model.proofs.CellLemmas.{length-slice_values}
+use Rattle.value_text.proofs.ListLemmas.{filter_same}
 use Rattle.cov_model.specs.declared.slice.Slice.{Slice}
-use Rattle.cov_model.specs.declared.slice.Slice.TheVariants.{Positive, Negative}
 use Rattle.cov_model.specs.Preference.{insert_by_weight, by_falling_weight}
-use Rattle.cov_model.specs.Slices.{positive_values, slice_values}
+use Rattle.cov_model.specs.Slices.{slice_values}
 use Rattle.cov_model.specs.Sound.{ModelView}
 use Rattle.cov_model.specs.Valid.{param_numbers}
 use Rattle.definitions.specs.Completion.{column_order, count_in, falling}
@@ -20,7 +21,6 @@ use Rattle.tuple_index.specs.Plan.{plan_of}
 use Rattle.uncovered_table.proofs.LastLemmas.{count_within}
 use Rattle.uncovered_table.proofs.SliceLemmas.{slice_values_at}
 use Rattle.ipog_grow.proofs.Falling.{falling-same}
-use Rattle.ipog_grow.proofs.Lists.{filter-same}
 
 -- the items by falling number, those without a number last
 abbrev pub ranked : ℕ → (ℕ → ℕ) → List ℕ → List ℕ
@@ -84,10 +84,12 @@ insert_ranked zero f v xs most =
     ∙ sym (ap (λ (b : Bool). cond b (v ∷ filter (λ x. nat_eq (f x) 0) xs) (filter (λ x. nat_eq (f x) 0) xs)) test)
 insert_ranked (suc n) f v xs most = by_case (cases_lt n (f v)) (λ low. insert_ranked n f v xs low)
   where
-    by_case : (n < f v) ⊎ (f v ≤ n) → (f v ≤ n → insert_by_weight f v (ranked n f xs) ≡ ranked n f (v ∷ xs)) → insert_by_weight f v (ranked (suc n) f xs) ≡ ranked (suc n) f (v ∷ xs)
+    by_case : (n < f v) ⊎ (f v ≤ n) → (f v ≤ n → insert_by_weight f v (ranked n f xs) ≡ ranked n f (v ∷ xs)) → insert_by_weight f v (ranked (suc n) f xs)
+        ≡ ranked (suc n) f (v ∷ xs)
     by_case (inl top) later =
         let test : nat_eq (f v) (suc n) ≡ true = grind (arith, nat_tests) in
-        insert_front f v (ranked (suc n) f xs) (All-weaker (λ x. f x ≤ suc n) (λ x. f x ≤ f v) (λ x e. omega (arith, e, top)) (ranked (suc n) f xs) (ranked_most (suc n) f xs))
+        insert_front f v (ranked (suc n) f xs) (All-weaker (λ x. f x ≤ suc n) (λ x. f x ≤ f v) (λ x e. omega (arith, e, top)) (ranked (suc n) f xs)
+        (ranked_most (suc n) f xs))
         ∙ ap (λ (rest : List ℕ). v ∷ rest) (ranked_suc n f xs)
         ∙ ap (λ (rest : List ℕ). v ∷ (filter (λ x. nat_eq (f x) (suc n)) xs ++ rest)) (sym (falling_above n f v xs top))
         ∙ sym (ap (λ (b : Bool). cond b (v ∷ filter (λ x. nat_eq (f x) (suc n)) xs) (filter (λ x. nat_eq (f x) (suc n)) xs) ++ ranked n f (v ∷ xs)) test)
@@ -95,7 +97,8 @@ insert_ranked (suc n) f v xs most = by_case (cases_lt n (f v)) (λ low. insert_r
     by_case (inr low) later =
         let test : nat_eq (f v) (suc n) ≡ false = grind (arith, nat_tests) in
         ap (insert_by_weight f v) (ranked_suc n f xs)
-        ∙ insert_past f v (filter (λ x. nat_eq (f x) (suc n)) xs) (ranked n f xs) (All-weaker (λ x. f x ≡ suc n) (λ x. f v < f x) (λ x e. omega (arith, e, low)) _ (level (suc n) f xs))
+        ∙ insert_past f v (filter (λ x. nat_eq (f x) (suc n)) xs) (ranked n f xs)
+        (All-weaker (λ x. f x ≡ suc n) (λ x. f v < f x) (λ x e. omega (arith, e, low)) _ (level (suc n) f xs))
         ∙ ap (λ (rest : List ℕ). filter (λ x. nat_eq (f x) (suc n)) xs ++ rest) (later low)
         ∙ sym (ap (λ (b : Bool). cond b (v ∷ filter (λ x. nat_eq (f x) (suc n)) xs) (filter (λ x. nat_eq (f x) (suc n)) xs) ++ ranked n f (v ∷ xs)) test)
         ∙ sym (ranked_suc n f (v ∷ xs))
@@ -109,12 +112,9 @@ pub by_falling_weight-ranked : (n : ℕ) (f : ℕ → ℕ) (xs : List ℕ) → (
 by_falling_weight-ranked n f [] most = ranked_nil n f
 by_falling_weight-ranked n f (x ∷ xs) most = ap (insert_by_weight f x) (by_falling_weight-ranked n f xs most) ∙ insert_ranked n f x xs (most x)
 
--- each parameter has its values in the slice
-values_long : (m : ModelView) (slice : Slice) → length (slice_values m slice) ≡ length m.params
-values_long m Positive = length-map-range_with_len (positive_values m) 0 (length m.params)
-values_long m (Negative q v) = length-set (map (positive_values m) (param_numbers m)) q (v ∷ []) ∙ length-map-range_with_len (positive_values m) 0 (length m.params)
-
-counted : (m : ModelView) (slice : Slice) (counts : List ℕ) → IsSliceOf m slice → counts ≡ map (λ p. length (values_in (plan_of m) slice p)) (range_with_len 0 (length m.params))
+-- the counts are those of the column order
+counted : (m : ModelView) (slice : Slice) (counts : List ℕ) → IsSliceOf m slice → counts ≡ map (λ p. length (values_in (plan_of m) slice p))
+    (range_with_len 0 (length m.params))
     → (p : ℕ) → slice_index counts p ≡ count_in m slice p
 counted m slice counts is given p =
     ap (λ list. get_or list p 0) given ∙ by_case (cases_lt p (length m.params))
@@ -127,10 +127,11 @@ counted m slice counts is given p =
     by_case (inr past) =
         let long = length-map-range_with_len numbers 0 (length m.params) in
         get_or_past (map numbers (range_with_len 0 (length m.params))) p 0 (omega (arith, past, long))
-        ∙ ap length (sym (get_or_past (slice_values m slice) p [] (omega (arith, past, values_long m slice))))
+        ∙ ap length (sym (get_or_past (slice_values m slice) p [] (omega (arith, past, length-slice_values m slice))))
 
 -- so sorting by these numbers gives the column order
-pub ordered : (m : ModelView) (slice : Slice) (counts order : List ℕ) → IsSliceOf m slice → counts ≡ map (λ p. length (values_in (plan_of m) slice p)) (range_with_len 0 (length m.params))
+pub ordered : (m : ModelView) (slice : Slice) (counts order : List ℕ) → IsSliceOf m slice → counts ≡ map (λ p. length (values_in (plan_of m) slice p))
+    (range_with_len 0 (length m.params))
     → order ≡ by_falling_weight (λ p. slice_index counts p) (param_numbers m) → order ≡ column_order m slice
 ordered m slice counts order is given sorted =
     let n = sum_by length (slice_values m slice) in
@@ -138,6 +139,7 @@ ordered m slice counts order is given sorted =
     let same = counted m slice counts is given in
     let most : (p : ℕ) → numbers p ≤ n = λ p. subst (λ k. k ≤ n) (sym (same p)) (count_within (slice_values m slice) p) in
     sorted ∙ by_falling_weight-ranked n numbers (param_numbers m) most
-    ∙ ap (λ list. list ++ filter (λ p. nat_eq (numbers p) 0) (param_numbers m)) (falling-same n numbers (count_in m slice) (param_numbers m) (λ p among. same p))
+    ∙ ap (λ list. list ++ filter (λ p. nat_eq (numbers p) 0) (param_numbers m))
+    (falling-same n numbers (count_in m slice) (param_numbers m) (λ p among. same p))
     ∙ ap (λ list. falling n (count_in m slice) (param_numbers m) ++ list)
-    (filter-same (λ p. nat_eq (numbers p) 0) (λ p. nat_eq (count_in m slice p) 0) (param_numbers m) (λ p. ap (λ k. nat_eq k 0) (same p)))
+    (filter_same (λ p. nat_eq (numbers p) 0) (λ p. nat_eq (count_in m slice p) 0) (param_numbers m) (λ p. ap (λ k. nat_eq k 0) (same p)))

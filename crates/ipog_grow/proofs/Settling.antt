@@ -1,10 +1,11 @@
 -- Vertical growth looks at open tuples alone: what a row contains is passed.
 use Rattle.std.proofs.Common.{◌≡◌, ℕ, Bool, true, false, cond, if◌then◌else◌, ◌||◌, not, List, [], ◌∷◌, ◌++◌, filter, Option, ◌∙◌, sym, ap, refl}
-use Rattle.std.proofs.lemmas.Bool.{false≢true}
+use Rattle.std.proofs.lemmas.Bool.{not-false}
+use Rattle.cov_model.proofs.CellLemmas.{contains-trans}
+use Rattle.definitions.proofs.PartialRowLemmas.{union-contains_row}
 use Rattle.cov_model.specs.Rows.{contains}
 use Rattle.definitions.specs.Growth.{Grown, Joined, agrees, union, is_uncovered, join, settle, down}
-use Rattle.definitions.proofs.Contained.{contains-trans}
-use Rattle.ipog_grow.proofs.Holding.{holds, holds-push, union-contains_row}
+use Rattle.ipog_grow.proofs.Holding.{holds, holds-push}
 
 -- the first row and the union of a tuple with it, before the other rows, of which it is told what joining gives
 abbrev pub joined : (agree able : Bool) (row both : List (Option ℕ)) (rows : List (List (Option ℕ))) → Joined → Joined
@@ -46,7 +47,8 @@ join-holds extends tuple (row ∷ rows) held h =
     by_case : (agree able : Bool) → (holds rows held ≡ true → holds (join extends tuple rows).rows held ≡ true) → holds (row ∷ rows) held ≡ true
         → holds (joined agree able row (union row tuple) rows (join extends tuple rows)).rows held ≡ true
     by_case false able later h = under (contains row held) (holds rows held) _ later h
-    by_case true true later h = over (contains row held) (contains (union row tuple) held) (holds rows held) (λ had. contains-trans (union row tuple) row held (union-contains_row row tuple) had) h
+    by_case true true later h = over (contains row held) (contains (union row tuple) held) (holds rows held)
+        (λ had. contains-trans (union row tuple) row held (union-contains_row row tuple) had) h
     by_case true false later h = under (contains row held) (holds rows held) _ later h
 
 pub settle-holds : (extends : List (Option ℕ) → Bool) (tuple : List (Option ℕ)) (rows : List (List (Option ℕ))) (held : List (Option ℕ))
@@ -54,7 +56,8 @@ pub settle-holds : (extends : List (Option ℕ) → Bool) (tuple : List (Option 
 settle-holds extends tuple rows held h = by_case (join extends tuple rows).taken (extends tuple) (join-holds extends tuple rows held h)
   where
     by_case : (taken able : Bool) → holds (join extends tuple rows).rows held ≡ true
-        → holds (settled able tuple rows (record { rows = (join extends tuple rows).rows; taken = taken; asked = (join extends tuple rows).asked })).rows held ≡ true
+        → holds (settled able tuple rows (record { rows = (join extends tuple rows).rows; taken = taken; asked = (join extends tuple rows).asked })).rows
+        held ≡ true
     by_case true able kept = kept
     by_case false true kept = holds-push rows tuple held ∙ ap (λ (b : Bool). b || contains tuple held) h
     by_case false false kept = h
@@ -66,43 +69,50 @@ down-open extends keep [] rows past = refl
 down-open extends keep (tuple ∷ tuples) rows past =
     by_keep (keep tuple) refl (λ after more. down-open extends keep tuples after more)
   where
-    by_open : (free : Bool) → ((after : List (List (Option ℕ))) → ((t : List (Option ℕ)) → keep t ≡ false → holds after t ≡ true) → down extends (filter keep tuples) after ≡ down extends tuples after)
+    by_open : (free : Bool) → ((after : List (List (Option ℕ))) → ((t : List (Option ℕ)) → keep t ≡ false → holds after t ≡ true)
+        → down extends (filter keep tuples) after ≡ down extends tuples after)
         → followed (passed free rows (settle extends tuple rows)) (down extends (filter keep tuples) (passed free rows (settle extends tuple rows)).rows)
         ≡ followed (passed free rows (settle extends tuple rows)) (down extends tuples (passed free rows (settle extends tuple rows)).rows)
-    by_open true later = ap (followed (settle extends tuple rows)) (later (settle extends tuple rows).rows (λ t none. settle-holds extends tuple rows t (past t none)))
+    by_open true later = ap (followed (settle extends tuple rows))
+        (later (settle extends tuple rows).rows (λ t none. settle-holds extends tuple rows t (past t none)))
     by_open false later = ap (followed (record { rows = rows; omitted = []; asked = [] })) (later rows past)
 
     by_keep : (b : Bool) → keep tuple ≡ b
-        → ((after : List (List (Option ℕ))) → ((t : List (Option ℕ)) → keep t ≡ false → holds after t ≡ true) → down extends (filter keep tuples) after ≡ down extends tuples after)
+        → ((after : List (List (Option ℕ))) → ((t : List (Option ℕ)) → keep t ≡ false → holds after t ≡ true) → down extends (filter keep tuples) after
+        ≡ down extends tuples after)
         → down extends (cond b (tuple ∷ filter keep tuples) (filter keep tuples)) rows ≡ down extends (tuple ∷ tuples) rows
     by_keep true is later = by_open (is_uncovered rows tuple) later
     by_keep false is later =
         later rows past
-        ∙ sym (ap (λ (b : Bool). followed (passed (not b) rows (settle extends tuple rows)) (down extends tuples (passed (not b) rows (settle extends tuple rows)).rows)) (past tuple is))
+        ∙ sym (ap (λ (b : Bool). followed (passed (not b) rows (settle extends tuple rows))
+        (down extends tuples (passed (not b) rows (settle extends tuple rows)).rows)) (past tuple is))
 
 pub down-uncovered : (extends : List (Option ℕ) → Bool) (tuples rows : List (List (Option ℕ)))
     → down extends (filter (is_uncovered rows) tuples) rows ≡ down extends tuples rows
-down-uncovered extends tuples rows = down-open extends (is_uncovered rows) tuples rows (λ tuple covered. at (holds rows tuple) covered)
-  where
-    at : (b : Bool) → not b ≡ false → b ≡ true
-    at true h = refl
-    at false h = absurd (false≢true (sym h))
+down-uncovered extends tuples rows = down-open extends (is_uncovered rows) tuples rows (λ tuple covered. not-false (holds rows tuple) covered)
 
 -- a tuple that a row takes
 pub settle-taken : (extends : List (Option ℕ) → Bool) (tuple : List (Option ℕ)) (rows : List (List (Option ℕ))) → true ≡ (join extends tuple rows).taken
     → settle extends tuple rows ≡ record { rows = (join extends tuple rows).rows; omitted = []; asked = (join extends tuple rows).asked }
 settle-taken extends tuple rows taken =
-    ap (λ (b : Bool). settled (extends tuple) tuple rows (record { rows = (join extends tuple rows).rows; taken = b; asked = (join extends tuple rows).asked })) (sym taken)
+    ap (λ (b : Bool). settled (extends tuple) tuple rows
+    (record { rows = (join extends tuple rows).rows; taken = b; asked = (join extends tuple rows).asked })) (sym taken)
 
 -- and one that no row takes
 abbrev pub alone_by : Bool → List (Option ℕ) → List (List (Option ℕ)) → List (List (Option ℕ)) → Grown
 alone_by able tuple rows asked =
-    if able then record { rows = rows ++ tuple ∷ []; omitted = []; asked = asked ++ tuple ∷ [] } else record { rows = rows; omitted = tuple ∷ []; asked = asked ++ tuple ∷ [] }
+    if able then record { rows = rows ++ tuple ∷ []; omitted = []; asked = asked ++ tuple ∷ [] } else record {
+      rows = rows;
+      omitted = tuple ∷ [];
+      asked =
+          asked ++ tuple ∷ [];
+    }
 
 pub settle-alone : (extends : List (Option ℕ) → Bool) (tuple : List (Option ℕ)) (rows : List (List (Option ℕ))) → false ≡ (join extends tuple rows).taken
     → settle extends tuple rows ≡ alone_by (extends tuple) tuple rows (join extends tuple rows).asked
 settle-alone extends tuple rows alone =
-    ap (λ (b : Bool). settled (extends tuple) tuple rows (record { rows = (join extends tuple rows).rows; taken = b; asked = (join extends tuple rows).asked })) (sym alone)
+    ap (λ (b : Bool). settled (extends tuple) tuple rows
+    (record { rows = (join extends tuple rows).rows; taken = b; asked = (join extends tuple rows).asked })) (sym alone)
 
 pub settle-alone_asked : (extends : List (Option ℕ) → Bool) (tuple : List (Option ℕ)) (rows : List (List (Option ℕ))) → false ≡ (join extends tuple rows).taken
     → (settle extends tuple rows).asked ≡ (join extends tuple rows).asked ++ tuple ∷ []

@@ -1,20 +1,14 @@
 -- Slices one after another, and the suite that they make.
-use Rattle.std.proofs.Common.{◌≡◌, ℕ, suc, Bool, true, false, cond, ◌&&◌, ◌||◌, nat_le, nat_lt, List, [], ◌∷◌, ◌++◌, length, filter, flat_map, find, All, Option, Some, None, ◌∙◌, sym, ap, subst, refl, arith}
-use Rattle.std.specs.Prelude.{◌==◌, Err}
-use Rattle.std.proofs.lemmas.Bool.{false≢true, and_parts}
-use Rattle.std.proofs.lemmas.Bool.Decides.{nat_tests, Decides-eqb}
+use Rattle.std.proofs.Common.{◌≡◌, ℕ, Bool, true, false, cond, nat_lt, List, [], ◌∷◌, ◌++◌, filter, flat_map, find, All, Option, Some, None, ◌∙◌, sym, ap, subst, refl}
+use Rattle.std.specs.Prelude.{Err}
 use Rattle.std.proofs.lemmas.List.{append-nil}
 use Rattle.std.proofs.lemmas.Grind.{flat_map-append}
 use Rattle.std.proofs.lemmas.List.Elements.{All-nil, All-cons, All-head, All-tail}
+use Rattle.definitions.proofs.PartialRowLemmas.{of_slice-is}
 use Rattle.cov_model.specs.declared.slice.Slice.{Slice}
-use Rattle.cov_model.specs.declared.slice.Slice.TheVariants.{Positive, Negative}
 use Rattle.cov_model.specs.Sound.{ModelView}
-use Rattle.cov_model.specs.Rows.{value_in}
 use Rattle.cov_model.specs.Fits.{FitsModel}
-use Rattle.cov_model.specs.Valid.{negatives}
-use Rattle.cov_model.specs.Slices.{slice_of, slice_by}
 use Rattle.definitions.specs.Completion.{has_slice}
-use Rattle.definitions.specs.Demand.{is_among}
 use Rattle.definitions.specs.Growth.{is_of_slice, slice_growth, slices_growth}
 use Rattle.definitions.specs.Search.{first_over, question_cost}
 use Rattle.definitions.proofs.Grown.{rows_of_slice, omitted_in_slice, rows_by_slice, omitted_by_slice}
@@ -26,35 +20,9 @@ use Rattle.ipog_grow.specs.Growing.{GrowsIn}
 use Rattle.ipog_grow.proofs.Seeding.{slice_of-grows}
 use Rattle.ipog_grow.proofs.Spending.{find-later, find-earlier}
 
-too_many : (n : ℕ) → nat_le (suc (suc n)) 1 ≡ true → ⊥
-too_many n test = grind (arith, nat_tests)
-
--- a partial row with at most one negative value that is of a slice has it as its slice
-pub of_slice-is : (m : ModelView) (slice : Slice) (cells : List (Option ℕ)) → has_slice m cells ≡ true → is_of_slice m slice cells ≡ true → slice_of m cells ≡ slice
-of_slice-is m Positive cells few of = at (negatives m cells) of
-  where
-    none : (n : ℕ) → (suc n == 0) ≡ true → ⊥
-    none n test = grind (arith, nat_tests)
-
-    at : (ps : List ℕ) → (length ps == 0) ≡ true → slice_by cells ps ≡ Positive
-    at [] of = refl
-    at (p ∷ ps) of = absurd (none (length ps) of)
-of_slice-is m (Negative q v) cells few of = at (negatives m cells) few of
-  where
-    or_none : (b : Bool) → (b || false) ≡ true → b ≡ true
-    or_none true e = refl
-    or_none false e = e
-
-    at : (ps : List ℕ) → nat_le (length ps) 1 ≡ true → (is_among ps q && (value_in cells q == v)) ≡ true → slice_by cells ps ≡ Negative q v
-    at [] few of = absurd (false≢true of)
-    at (p ∷ []) few of =
-        let parts = and_parts (is_among (p ∷ []) q) (value_in cells q == v) of in
-        let same : p ≡ q = (Decides-eqb p q).0 (or_none (p == q) parts.0) in
-        ap (λ r. Negative r (value_in cells r)) same ∙ ap (λ w. Negative q w) ((Decides-eqb (value_in cells q) v).0 parts.1)
-    at (p ∷ r ∷ ps) few of = absurd (too_many (length ps) few)
-
--- so it grows there
-pub of_slice-grows : (m : ModelView) (slice : Slice) (cells : List (Option ℕ)) → FitsModel m cells → has_slice m cells ≡ true → is_of_slice m slice cells ≡ true → GrowsIn m slice cells
+-- a partial row with at most one negative value that is of a slice grows there
+pub of_slice-grows : (m : ModelView) (slice : Slice) (cells : List (Option ℕ)) → FitsModel m cells → has_slice m cells ≡ true
+    → is_of_slice m slice cells ≡ true → GrowsIn m slice cells
 of_slice-grows m slice cells fits few of = subst (λ (s : Slice). GrowsIn m s cells) (of_slice-is m slice cells few of) (slice_of-grows m cells fits few)
 
 module _ (m : ModelView) (pref : List (List ℕ)) (budget : ℕ) (seeds : List (ℕ × List (Option ℕ))) where
@@ -100,7 +68,7 @@ module _ (m : ModelView) (pref : List (List ℕ)) (budget : ℕ) (seeds : List (
   slices_grown-spent parts slice rest rows omitted grown q spent =
       ap (find over) (asked_by_slice (parts ++ slice ∷ rest) ∙ flat_map-append asked_in_slice parts (slice ∷ rest))
       ∙ find-later over (flat_map asked_in_slice parts) (flat_map asked_in_slice (slice ∷ rest)) (ap (find over) (sym (asked_by_slice parts)) ∙ grown.unspent)
-      ∙ find-earlier over (asked_in_slice slice) (flat_map asked_in_slice rest) q spent
+      ∙ find-earlier over q (asked_in_slice slice) (flat_map asked_in_slice rest) spent
 
 -- the seeds of a slice grow there
 pub seeds_grow : (m : ModelView) (slice : Slice) (rows : List (List (Option ℕ))) → All (FitsModel m) rows → All (λ row. has_slice m row ≡ true) rows
@@ -117,7 +85,8 @@ seeds_grow m slice (row ∷ rows) fit few =
     at false is later = later
 
 -- a run that stopped in a part stopped there in the whole
-pub stopped-in : (A : Type 0) (stop : Stop) (question : List (Option ℕ)) (part whole : Option (List (Option ℕ))) → (part ≡ Some question → whole ≡ Some question)
+pub stopped-in : (A : Type 0) (stop : Stop) (question : List (Option ℕ)) (part whole : Option (List (Option ℕ)))
+    → (part ≡ Some question → whole ≡ Some question)
     → Told {A = A} (Err stop) question part → IsStopped stop question whole
 stopped-in A stops.Spent question part whole more told = more told
 stopped-in A stops.NoMemory question part whole more told = tt

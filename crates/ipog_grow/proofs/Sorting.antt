@@ -2,6 +2,7 @@
 use Rattle.std.proofs.Common.{◌≡◌, ℕ, ◌+◌, ◌<◌, Bool, true, false, cond, not, nat_lt, List, [], ◌∷◌, ◌++◌, map, length, filter, find, take, drop, get_or, Option, Some, None, option_map, ◌∙◌, sym, ap, refl}
 use Rattle.std.proofs.lemmas.List.{map-append, append_assoc, take_more, take-append-drop}
 use Rattle.std.proofs.lemmas.List.Elements.{filter-append}
+use Rattle.std.proofs.lemmas.Option.{none-some}
 use Rattle.cov_model.specs.Sound.{ModelView}
 use Rattle.definitions.specs.Completion.{has_slice, can_be_served}
 use Rattle.definitions.specs.Pairs.{pairs_of}
@@ -12,12 +13,10 @@ use Rattle.ipog_grow.specs.Suites.{EndsBy}
 use Rattle.ipog_grow.proofs.Spending.{find-later, find-earlier}
 
 -- a run ends as its part does, where the part's first question above the budget is the run's
-pub ends-by : (fault : SearchFault) (part whole : Option (List (Option ℕ))) → ((q : List (Option ℕ)) → part ≡ Some q → whole ≡ Some q) → EndsBy part fault → EndsBy whole fault
+pub ends-by : (fault : SearchFault) (part whole : Option (List (Option ℕ))) → ((q : List (Option ℕ)) → part ≡ Some q → whole ≡ Some q) → EndsBy part fault
+    → EndsBy whole fault
 ends-by NoMemory part whole more ends = tt
-ends-by (Spent question) None whole more ends = absurd (none_some ends)
-  where
-    none_some : {X : Type 0} {x : X} → None ≡ Some x → ⊥
-    none_some e = cc
+ends-by (Spent question) None whole more ends = absurd (none-some question.cells ends)
 ends-by (Spent question) (Some q) whole more ends = ap (option_map pairs_of) (more q refl) ∙ ends
 
 -- a list at one of its places
@@ -44,12 +43,14 @@ module _ (m : ModelView) (pref : List (List ℕ)) (budget : ℕ) where
   asks-append seeds more =
       ap (filter (has_slice m)) (map-append (λ seed. seed.1) seeds more) ∙ filter-append (has_slice m) (map (λ seed. seed.1) seeds) (map (λ seed. seed.1) more)
 
-  pub sorted-next : (seeds : List (ℕ × List (Option ℕ))) (x : ℕ × List (Option ℕ)) (kept kept' : List (List (Option ℕ))) (dropped dropped' : List ℕ) → Sorted seeds kept dropped
+  pub sorted-next : (seeds : List (ℕ × List (Option ℕ))) (x : ℕ × List (Option ℕ)) (kept kept' : List (List (Option ℕ))) (dropped dropped' : List ℕ)
+      → Sorted seeds kept dropped
       → kept' ≡ kept ++ filter (can_be_served m) (x.1 ∷ []) → dropped' ≡ dropped ++ cond (can_be_served m x.1) [] (x.0 ∷ [])
       → first_over m pref budget (filter (has_slice m) (x.1 ∷ [])) ≡ None → Sorted (seeds ++ x ∷ []) kept' dropped'
   sorted-next seeds x kept kept' dropped dropped' sorted keeps drops unspent = record {
     kept_are = keeps ∙ ap (λ ks. ks ++ filter (can_be_served m) (x.1 ∷ [])) sorted.kept_are
-        ∙ sym (filter-append (can_be_served m) (map (λ seed. seed.1) seeds) (x.1 ∷ [])) ∙ ap (filter (can_be_served m)) (sym (map-append (λ seed. seed.1) seeds (x ∷ [])));
+        ∙ sym (filter-append (can_be_served m) (map (λ seed. seed.1) seeds) (x.1 ∷ []))
+        ∙ ap (filter (can_be_served m)) (sym (map-append (λ seed. seed.1) seeds (x ∷ [])));
     dropped_are = drops ∙ ap (λ ks. ks ++ cond (can_be_served m x.1) [] (x.0 ∷ [])) sorted.dropped_are
         ∙ ap (λ ks. map line (filter drop_it seeds) ++ ks) (at (can_be_served m x.1)) ∙ sym (map-append line (filter drop_it seeds) (filter drop_it (x ∷ [])))
         ∙ ap (map line) (sym (filter-append drop_it seeds (x ∷ [])));
@@ -66,9 +67,10 @@ module _ (m : ModelView) (pref : List (List ℕ)) (budget : ℕ) where
       at true = refl
       at false = refl
 
-  pub sorted-spent : (seeds : List (ℕ × List (Option ℕ))) (x : ℕ × List (Option ℕ)) (rest : List (ℕ × List (Option ℕ))) (kept : List (List (Option ℕ))) (dropped : List ℕ) → Sorted seeds kept dropped
+  pub sorted-spent : (seeds : List (ℕ × List (Option ℕ))) (x : ℕ × List (Option ℕ)) (rest : List (ℕ × List (Option ℕ))) (kept : List (List (Option ℕ)))
+      (dropped : List ℕ) → Sorted seeds kept dropped
       → (q : List (Option ℕ)) → first_over m pref budget (filter (has_slice m) (x.1 ∷ [])) ≡ Some q
       → first_over m pref budget (filter (has_slice m) (map (λ seed. seed.1) (seeds ++ x ∷ rest))) ≡ Some q
   sorted-spent seeds x rest kept dropped sorted q spent =
       ap (find over) (asks-append seeds (x ∷ rest)) ∙ find-later over (asks seeds) (asks (x ∷ rest)) sorted.unspent
-      ∙ ap (find over) (asks-append (x ∷ []) rest) ∙ find-earlier over (asks (x ∷ [])) (asks rest) q spent
+      ∙ ap (find over) (asks-append (x ∷ []) rest) ∙ find-earlier over q (asks (x ∷ [])) (asks rest) spent

@@ -10,12 +10,12 @@ module _ {X : Type 0} (over : X → Bool) where
   find-later xs ys none = find-append over xs ys ∙ ap (λ found. option_or found (find over ys)) none
 
   -- an earlier one is the first
-  pub find-earlier : (xs ys : List X) (x : X) → find over xs ≡ Some x → find over (xs ++ ys) ≡ Some x
-  find-earlier xs ys x some = find-append over xs ys ∙ ap (λ found. option_or found (find over ys)) some
+  pub find-earlier : (x : X) (xs ys : List X) → find over xs ≡ Some x → find over (xs ++ ys) ≡ Some x
+  find-earlier x xs ys some = find-append over xs ys ∙ ap (λ found. option_or found (find over ys)) some
 
   pub find-more : (xs : List X) (i : ℕ) (d : X) → i < length xs → find over (take i xs) ≡ None → find over (take (i + 1) xs) ≡ find over (get_or xs i d ∷ [])
   find-more xs i d within none = ap (find over) (take_more xs i d within) ∙ find-later (take i xs) (get_or xs i d ∷ []) none
 
   pub find-at : (xs : List X) (i : ℕ) (d x : X) → i < length xs → find over (take i xs) ≡ None → find over (get_or xs i d ∷ []) ≡ Some x → find over xs ≡ Some x
   find-at xs i d x within none some =
-      ap (find over) (sym (take-append-drop (i + 1) xs)) ∙ find-earlier (take (i + 1) xs) (drop (i + 1) xs) x (find-more xs i d within none ∙ some)
+      ap (find over) (sym (take-append-drop (i + 1) xs)) ∙ find-earlier x (take (i + 1) xs) (drop (i + 1) xs) (find-more xs i d within none ∙ some)

@@ -1,13 +1,15 @@
 -- Values tried in a column, the best one first.
-use Rattle.std.proofs.Common.{◌≡◌, ℕ, suc, ◌<◌, ◌≤◌, Bool, true, false, cond, List, [], ◌∷◌, map, length, find, Option, Some, None, get_or, set, nat_eq, nat_lt, All, IsPermutation, sum, ◌∙◌, sym, ap, subst, refl, arith, inl, inr}
+use Rattle.std.proofs.Common.{◌≡◌, ℕ, suc, ◌<◌, ◌≤◌, Bool, true, false, cond, List, [], ◌∷◌, map, length, Option, Some, None, get_or, set, nat_eq, nat_lt, All, IsPermutation, sum, ◌∙◌, sym, ap, subst, refl, arith, inl, inr, is_some}
 use Rattle.std.specs.List.{range_with_len, IsDistinct}
-use Rattle.std.proofs.lemmas.Bool.{cases_eq}
+use Rattle.std.proofs.lemmas.Bool.{cases_eq, false≢true}
 use Rattle.std.proofs.lemmas.Bool.Decides.{nat_tests}
-use Rattle.std.proofs.lemmas.List.{length-set, get_or-set_same, get_or-set_other}
+use Rattle.std.proofs.lemmas.List.{length-set, get_or-set_same, get_or-set_other, set-set, set-get_or}
 use Rattle.std.proofs.lemmas.List.Folds.{list_any_none}
 use Rattle.std.proofs.lemmas.List.FromFn.{length-range_with_len, get_or-range_with_len}
 use Rattle.std.proofs.lemmas.List.Sums.{sum_by-set}
 use Rattle.std.proofs.lemmas.Map.Keys.{IsDistinct-IsPermutation, IsDistinct-tail, IsDistinct-from_apart, apart_from_distinct}
+use Rattle.ipog_grow.proofs.Spending.{find-later, find-earlier}
+use Rattle.definitions.proofs.PartialRowLemmas.{with_value-contains}
 use Rattle.cov_model.specs.Sound.{param_at}
 use Rattle.cov_model.specs.Rows.{contains, is_assigned}
 use Rattle.cov_model.specs.Slices.{slice_values}
@@ -15,10 +17,8 @@ use Rattle.definitions.specs.Demand.{is_among}
 use Rattle.definitions.specs.Completion.{with_value}
 use Rattle.definitions.specs.Search.{question_cost}
 use Rattle.definitions.specs.Growth.{Filled, first_extendable}
-use Rattle.feasibility.proofs.Nodes.{set_clear, none_of}
 use Rattle.ipog_grow.specs.Growing.{best}
-use Rattle.ipog_grow.specs.Asking.{World, IsWorld, Grows, extends, first_spent, tried}
-use Rattle.ipog_grow.proofs.Holding.{with_value-contains}
+use Rattle.ipog_grow.specs.Asking.{SearchContext, IsSoundContext, Grows, extends, first_spent, tried}
 use Rattle.ipog_grow.proofs.Tuples.{grows-with_value}
 use Rattle.ipog_grow.proofs.Falling.{Distinct, IsBest, without, best_is, best_none, falling-best, falling-none, falling-same}
 
@@ -26,7 +26,8 @@ use Rattle.ipog_grow.proofs.Falling.{Distinct, IsBest, without, best_is, best_no
 distinct-from : (values : List ℕ) → IsDistinct nat_eq values → Distinct values
 distinct-from [] is = tt
 distinct-from (v ∷ values) is = (
-  list_any_none (λ k. nat_eq k v) values (λ i d within. let apart : nat_eq v (get_or values i d) ≡ false = apart_from_distinct nat_eq (v ∷ values) 0 (suc i) d is (omega arith) (omega arith) in grind (arith, nat_tests)),
+  list_any_none (λ k. nat_eq k v) values (λ i d within. let apart : nat_eq v (get_or values i d) ≡ false = apart_from_distinct nat_eq (v ∷ values) 0
+      (suc i) d is (omega arith) (omega arith) in grind (arith, nat_tests)),
   distinct-from values (IsDistinct-tail nat_eq v values is),
 )
 
@@ -44,33 +45,12 @@ distinct-permuted n values moved =
         let second = get_or-range_with_len 0 n j d inside in
         grind (arith, nat_tests)
 
-pub distinct-order : (world : World) (p : ℕ) → IsWorld world → p < length world.model.params → Distinct (get_or world.prefs p [])
-distinct-order world p is within = distinct-permuted (length (param_at world.model.params p).values) (get_or world.prefs p []) (is.orders.each p within)
-
--- the first of the questions that passes a test, after one that doesn't, and from one that does
-pub find-after : (over : List (Option ℕ) → Bool) (cells : List (Option ℕ)) (rest : List (List (Option ℕ))) → find over (cells ∷ []) ≡ None → find over (cells ∷ rest) ≡ find over rest
-find-after over cells rest e = at (over cells) e
-  where
-    some_none : Some cells ≡ None → ⊥
-    some_none h = cc
-
-    at : (b : Bool) → cond b (Some cells) None ≡ None → cond b (Some cells) (find over rest) ≡ find over rest
-    at true h = absurd (some_none h)
-    at false h = refl
-
-pub find-from : (over : List (Option ℕ) → Bool) (cells question : List (Option ℕ)) (rest : List (List (Option ℕ))) → find over (cells ∷ []) ≡ Some question → find over (cells ∷ rest) ≡ Some question
-find-from over cells question rest e = at (over cells) e
-  where
-    none_some : None ≡ Some question → ⊥
-    none_some h = cc
-
-    at : (b : Bool) → cond b (Some cells) None ≡ Some question → cond b (Some cells) (find over rest) ≡ Some question
-    at true h = h
-    at false h = absurd (none_some h)
+pub distinct-order : (context : SearchContext) (p : ℕ) → IsSoundContext context → p < length context.model.params → Distinct (get_or context.prefs p [])
+distinct-order context p is within = distinct-permuted (length (param_at context.model.params p).values) (get_or context.prefs p []) (is.orders.each p within)
 
 -- the plain cost of a question exceeds the budget
-abbrev pub is_over : World → List (Option ℕ) → Bool
-is_over world cells = nat_lt world.budget (question_cost world.model world.prefs cells)
+abbrev pub is_over : SearchContext → List (Option ℕ) → Bool
+is_over context cells = nat_lt context.budget (question_cost context.model context.prefs cells)
 
 -- what trying gives by its first candidate
 abbrev pub by_first : Bool → List (Option ℕ) → Filled → Filled
@@ -88,88 +68,101 @@ score_set scores v w within =
     ]
 
 -- the best value is tried first, then the others as if it had no score
-tried-next : (world : World) (n : ℕ) (scores order : List ℕ) (p v : ℕ) (row : List (Option ℕ)) → IsBest (λ u. get_or scores u 0) order v → get_or scores v 0 ≤ n → v < length scores
-    → tried world n scores order p row ≡ by_first (extends world (with_value row p v)) (with_value row p v) (tried world n (set scores v 0) order p row)
-tried-next world n scores order p v row is most within =
-    ap (λ (values : List ℕ). first_extendable (extends world) row (map (with_value row p) values))
-    (falling-best n (λ u. get_or scores u 0) v order is most ∙ ap (λ (rest : List ℕ). v ∷ rest) (falling-same n (without (λ u. get_or scores u 0) v) (λ u. get_or (set scores v 0) u 0) order (λ w among. score_set scores v w within)))
+tried-next : (context : SearchContext) (n : ℕ) (scores order : List ℕ) (p v : ℕ) (row : List (Option ℕ)) → IsBest (λ u. get_or scores u 0) order v
+    → get_or scores v 0 ≤ n → v < length scores
+    → tried context n scores order p row ≡ by_first (extends context (with_value row p v)) (with_value row p v) (tried context n (set scores v 0) order p row)
+tried-next context n scores order p v row is most within =
+    ap (λ (values : List ℕ). first_extendable (extends context) row (map (with_value row p) values))
+    (falling-best n (λ u. get_or scores u 0) v order is most
+    ∙ ap (λ (rest : List ℕ). v ∷ rest) (falling-same n (without (λ u. get_or scores u 0) v) (λ u. get_or (set scores v 0) u 0) order
+    (λ w among. score_set scores v w within)))
 
 -- the scores that are left decide what trying the values gives
-pub record Trying (world : World) (order : List ℕ) (p : ℕ) (row : List (Option ℕ)) (start scores : List ℕ) : Type 0 where
+pub record Trying (context : SearchContext) (order : List ℕ) (p : ℕ) (row : List (Option ℕ)) (start scores : List ℕ) : Type 0 where
   pub long : length scores ≡ length start
   pub fewer : (v : ℕ) → 0 < get_or scores v 0 → 0 < get_or start v 0
   pub bounded : (n : ℕ) → All (λ score. score ≤ n) start → All (λ score. score ≤ n) scores
-  pub given : (n : ℕ) → All (λ score. score ≤ n) start → (tried world n start order p row).row ≡ (tried world n scores order p row).row
-  pub asked : (n : ℕ) → All (λ score. score ≤ n) start → first_spent world (tried world n start order p row).asked ≡ first_spent world (tried world n scores order p row).asked
+  pub given : (n : ℕ) → All (λ score. score ≤ n) start → (tried context n start order p row).row ≡ (tried context n scores order p row).row
+  pub asked : (n : ℕ) → All (λ score. score ≤ n) start → first_spent context (tried context n start order p row).asked
+      ≡ first_spent context (tried context n scores order p row).asked
 
-pub trying-start : (world : World) (order : List ℕ) (p : ℕ) (row : List (Option ℕ)) (start : List ℕ) → Trying world order p row start start
-trying-start world order p row start = record { long = refl; fewer = λ v some. some; bounded = λ n all. all; given = λ n all. refl; asked = λ n all. refl }
+pub trying-start : (context : SearchContext) (order : List ℕ) (p : ℕ) (row : List (Option ℕ)) (start : List ℕ) → Trying context order p row start start
+trying-start context order p row start = record { long = refl; fewer = λ v some. some; bounded = λ n all. all; given = λ n all. refl; asked = λ n all. refl }
 
 -- an end of the trying
-pub record Tried (world : World) (order : List ℕ) (p : ℕ) (row after : List (Option ℕ)) (start : List ℕ) : Type 0 where
-  pub given : (n : ℕ) → All (λ score. score ≤ n) start → after ≡ (tried world n start order p row).row
-  pub asked : (n : ℕ) → All (λ score. score ≤ n) start → first_spent world (tried world n start order p row).asked ≡ None
+pub record Tried (context : SearchContext) (order : List ℕ) (p : ℕ) (row after : List (Option ℕ)) (start : List ℕ) : Type 0 where
+  pub given : (n : ℕ) → All (λ score. score ≤ n) start → after ≡ (tried context n start order p row).row
+  pub asked : (n : ℕ) → All (λ score. score ≤ n) start → first_spent context (tried context n start order p row).asked ≡ None
 
 -- no value is left
-pub trying-end : (world : World) (order : List ℕ) (p : ℕ) (row : List (Option ℕ)) (start scores : List ℕ) → Trying world order p row start scores
-    → best (λ v. get_or scores v 0) order ≡ None → Tried world order p row row start
-trying-end world order p row start scores trying none = record {
+pub trying-end : {context : SearchContext} {order : List ℕ} {p : ℕ} {row : List (Option ℕ)} {start scores : List ℕ} → Trying context order p row start scores
+    → best (λ v. get_or scores v 0) order ≡ None → Tried context order p row row start
+trying-end {context} {order} {p} {row} {start} {scores} trying none = record {
   given = λ n all. sym (trying.given n all ∙ ap (λ (filled : Filled). filled.row) (nothing n));
-  asked = λ n all. trying.asked n all ∙ ap (λ (filled : Filled). first_spent world filled.asked) (nothing n);
+  asked = λ n all. trying.asked n all ∙ ap (λ (filled : Filled). first_spent context filled.asked) (nothing n);
 }
   where
-    nothing : (n : ℕ) → tried world n scores order p row ≡ record { row = row; asked = [] }
+    nothing : (n : ℕ) → tried context n scores order p row ≡ record { row = row; asked = [] }
     nothing n =
-        ap (λ (values : List ℕ). first_extendable (extends world) row (map (with_value row p) values))
+        ap (λ (values : List ℕ). first_extendable (extends context) row (map (with_value row p) values))
         (falling-none n (λ v. get_or scores v 0) order (λ w among. best_none (λ v. get_or scores v 0) order none w among))
 
 -- the best value, given that it is the next to be tried
-pub record Next (world : World) (order : List ℕ) (p v : ℕ) (row : List (Option ℕ)) (start scores : List ℕ) : Type 0 where
+pub record Next (context : SearchContext) (order : List ℕ) (p v : ℕ) (row : List (Option ℕ)) (start scores : List ℕ) : Type 0 where
   pub given : (n : ℕ) → All (λ score. score ≤ n) start
-      → (tried world n start order p row).row ≡ (by_first (extends world (with_value row p v)) (with_value row p v) (tried world n (set scores v 0) order p row)).row
+      → (tried context n start order p row).row ≡ (by_first (extends context (with_value row p v)) (with_value row p v)
+      (tried context n (set scores v 0) order p row)).row
   pub asked : (n : ℕ) → All (λ score. score ≤ n) start
-      → first_spent world (tried world n start order p row).asked ≡ first_spent world (by_first (extends world (with_value row p v)) (with_value row p v) (tried world n (set scores v 0) order p row)).asked
+      → first_spent context (tried context n start order p row).asked
+      ≡ first_spent context (by_first (extends context (with_value row p v)) (with_value row p v) (tried context n (set scores v 0) order p row)).asked
   pub some : 0 < get_or scores v 0
 
-pub trying-next : (world : World) (order : List ℕ) (p v : ℕ) (row : List (Option ℕ)) (start scores : List ℕ) → Distinct order → Trying world order p row start scores
-    → best (λ u. get_or scores u 0) order ≡ Some v → v < length scores → Next world order p v row start scores
-trying-next world order p v row start scores distinct trying found within =
+pub trying-next : (context : SearchContext) (order : List ℕ) (p v : ℕ) (row : List (Option ℕ)) (start scores : List ℕ) → Distinct order
+    → Trying context order p row start scores
+    → best (λ u. get_or scores u 0) order ≡ Some v → v < length scores → Next context order p v row start scores
+trying-next context order p v row start scores distinct trying found within =
     let is = best_is (λ u. get_or scores u 0) order v distinct found in
     record {
-      given = λ n all. trying.given n all ∙ ap (λ (filled : Filled). filled.row) (tried-next world n scores order p v row is (trying.bounded n all v 0 within) within);
-      asked = λ n all. trying.asked n all ∙ ap (λ (filled : Filled). first_spent world filled.asked) (tried-next world n scores order p v row is (trying.bounded n all v 0 within) within);
+      given = λ n all. trying.given n all ∙ ap (λ (filled : Filled). filled.row)
+          (tried-next context n scores order p v row is (trying.bounded n all v 0 within) within);
+      asked = λ n all. trying.asked n all ∙ ap (λ (filled : Filled). first_spent context filled.asked)
+          (tried-next context n scores order p v row is (trying.bounded n all v 0 within) within);
       some = is.some;
     }
 
 -- it leaves the row extendable
-pub trying-yes : (world : World) (order : List ℕ) (p v : ℕ) (row : List (Option ℕ)) (start scores : List ℕ) → Next world order p v row start scores
-    → extends world (with_value row p v) ≡ true → first_spent world (with_value row p v ∷ []) ≡ None → Tried world order p row (with_value row p v) start
-trying-yes world order p v row start scores next able within = record {
-  given = λ n all. sym (next.given n all ∙ ap (λ (b : Bool). (by_first b (with_value row p v) (tried world n (set scores v 0) order p row)).row) able);
-  asked = λ n all. next.asked n all ∙ ap (λ (b : Bool). first_spent world (by_first b (with_value row p v) (tried world n (set scores v 0) order p row)).asked) able ∙ within;
+pub trying-yes : {context : SearchContext} {order : List ℕ} {p v : ℕ} {row : List (Option ℕ)} {start scores : List ℕ} → Next context order p v row start scores
+    → extends context (with_value row p v) ≡ true → first_spent context (with_value row p v ∷ []) ≡ None → Tried context order p row (with_value row p v) start
+trying-yes {context} {order} {p} {v} {row} {start} {scores} next able within = record {
+  given = λ n all. sym (next.given n all ∙ ap (λ (b : Bool). (by_first b (with_value row p v) (tried context n (set scores v 0) order p row)).row) able);
+  asked = λ n all. next.asked n all ∙ ap (λ (b : Bool). first_spent context
+      (by_first b (with_value row p v) (tried context n (set scores v 0) order p row)).asked) able ∙ within;
 }
 
 -- its question exceeds the budget
-pub trying-spent : (world : World) (order : List ℕ) (p v : ℕ) (row question : List (Option ℕ)) (start scores : List ℕ) → Next world order p v row start scores
-    → first_spent world (with_value row p v ∷ []) ≡ Some question
-    → (n : ℕ) → All (λ score. score ≤ n) start → first_spent world (tried world n start order p row).asked ≡ Some question
-trying-spent world order p v row question start scores next over n all = next.asked n all ∙ at (extends world (with_value row p v))
+pub trying-spent : {context : SearchContext} {order : List ℕ} {p v : ℕ} {row question : List (Option ℕ)} {start scores : List ℕ}
+    → Next context order p v row start scores
+    → first_spent context (with_value row p v ∷ []) ≡ Some question
+    → (n : ℕ) → All (λ score. score ≤ n) start → first_spent context (tried context n start order p row).asked ≡ Some question
+trying-spent {context} {order} {p} {v} {row} {question} {start} {scores} next over n all = next.asked n all ∙ at (extends context (with_value row p v))
   where
-    at : (b : Bool) → first_spent world (by_first b (with_value row p v) (tried world n (set scores v 0) order p row)).asked ≡ Some question
+    at : (b : Bool) → first_spent context (by_first b (with_value row p v) (tried context n (set scores v 0) order p row)).asked ≡ Some question
     at true = over
-    at false = find-from (is_over world) (with_value row p v) question (tried world n (set scores v 0) order p row).asked over
+    at false = find-earlier (is_over context) question ((with_value row p v) ∷ []) (tried context n (set scores v 0) order p row).asked over
 
 -- it doesn't leave the row extendable, so the others are tried
-pub trying-more : (world : World) (order : List ℕ) (p v : ℕ) (row : List (Option ℕ)) (start scores : List ℕ) → Trying world order p row start scores → Next world order p v row start scores
-    → v < length scores → extends world (with_value row p v) ≡ false → first_spent world (with_value row p v ∷ []) ≡ None → Trying world order p row start (set scores v 0)
-trying-more world order p v row start scores trying next within unable spent = record {
+pub trying-more : {context : SearchContext} {order : List ℕ} {p v : ℕ} {row : List (Option ℕ)} {start scores : List ℕ}
+    → Trying context order p row start scores → Next context order p v row start scores
+    → v < length scores → extends context (with_value row p v) ≡ false → first_spent context (with_value row p v ∷ []) ≡ None
+    → Trying context order p row start (set scores v 0)
+trying-more {context} {order} {p} {v} {row} {start} {scores} trying next within unable spent = record {
   long = length-set scores v 0 ∙ trying.long;
   fewer = λ w some. trying.fewer w (less w some);
   bounded = λ n all i d below. bound n (trying.bounded n all) i d (omega (arith, below, length-set scores v 0));
-  given = λ n all. next.given n all ∙ ap (λ (b : Bool). (by_first b (with_value row p v) (tried world n (set scores v 0) order p row)).row) unable;
+  given = λ n all. next.given n all ∙ ap (λ (b : Bool). (by_first b (with_value row p v) (tried context n (set scores v 0) order p row)).row) unable;
   asked = λ n all.
-      next.asked n all ∙ ap (λ (b : Bool). first_spent world (by_first b (with_value row p v) (tried world n (set scores v 0) order p row)).asked) unable
-      ∙ find-after (is_over world) (with_value row p v) (tried world n (set scores v 0) order p row).asked spent;
+      next.asked n all ∙ ap (λ (b : Bool). first_spent context (by_first b (with_value row p v) (tried context n (set scores v 0) order p row)).asked) unable
+      ∙ find-later (is_over context) ((with_value row p v) ∷ []) (tried context n (set scores v 0) order p row).asked spent;
 }
   where
     less : (w : ℕ) → 0 < get_or (set scores v 0) w 0 → 0 < get_or scores w 0
@@ -190,25 +183,35 @@ trying-more world order p v row start scores trying next within unable spent = r
 pub trying-falls : (scores : List ℕ) (v : ℕ) → v < length scores → 0 < get_or scores v 0 → sum (set scores v 0) < sum scores
 trying-falls scores v within some = omega (arith, sum_by-set (λ x. x) scores v 0 0 within)
 
+-- a value that is taken away again
+cleared : (row : List (Option ℕ)) (p v : ℕ) → is_assigned row p ≡ false → set (with_value row p v) p None ≡ row
+cleared row p v free = set-set row p (Some v) None ∙ by_cell (get_or row p None) free (set-get_or row p None)
+  where
+    by_cell : (cell : Option ℕ) → is_some cell ≡ false → set row p cell ≡ row → set row p None ≡ row
+    by_cell None none same = same
+    by_cell (Some w) given same = absurd (false≢true (sym given))
+
 -- a value that is tried
-pub record Put (world : World) (order : List ℕ) (p v : ℕ) (row held put : List (Option ℕ)) (start scores : List ℕ) : Type 0 where
+pub record Put (context : SearchContext) (order : List ℕ) (p v : ℕ) (row held put : List (Option ℕ)) (start scores : List ℕ) : Type 0 where
   pub is : put ≡ with_value row p v
-  pub grows : Grows world put
+  pub grows : Grows context put
   pub more : contains put row ≡ true
   pub cleared : set put p None ≡ row
-  pub next : Next world order p v row start scores
+  pub next : Next context order p v row start scores
 
-pub trying-put : (world : World) (order : List ℕ) (p v : ℕ) (row held put : List (Option ℕ)) (start scores : List ℕ) → IsWorld world → p < length world.model.params
-    → order ≡ get_or world.prefs p [] → ((w : ℕ) → 0 < get_or start w 0 → is_among (get_or (slice_values world.model world.slice) p []) w ≡ true)
-    → Grows world row → is_assigned row p ≡ false → Trying world order p row start scores → best (λ u. get_or scores u 0) order ≡ Some v → v < length scores
-    → held ≡ row → put ≡ set held p (Some v) → Put world order p v row held put start scores
-trying-put world order p v row held put start scores is inside own listed grows free trying found within same done =
-    let next = trying-next world order p v row start scores (subst Distinct (sym own) (distinct-order world p is inside)) trying found within in
+pub trying-put : {context : SearchContext} {order : List ℕ} {p v : ℕ} {row held put : List (Option ℕ)} {start scores : List ℕ}
+    → IsSoundContext context → p < length context.model.params
+    → order ≡ get_or context.prefs p [] → ((w : ℕ) → 0 < get_or start w 0 → is_among (get_or (slice_values context.model context.slice) p []) w ≡ true)
+    → Grows context row → is_assigned row p ≡ false → Trying context order p row start scores → best (λ u. get_or scores u 0) order ≡ Some v → v < length scores
+    → held ≡ row → put ≡ set held p (Some v) → Put context order p v row held put start scores
+trying-put {context} {order} {p} {v} {row} {held} {put} {start} {scores} is inside own listed grows free trying found within same done =
+    let next = trying-next context order p v row start scores (subst Distinct (sym own) (distinct-order context p is inside)) trying found within in
     let whole : put ≡ with_value row p v = done ∙ ap (λ (cells : List (Option ℕ)). set cells p (Some v)) same in
     record {
       is = whole;
-      grows = subst (Grows world) (sym whole) (grows-with_value world.model world.slice row p v is.slice grows free (listed v (trying.fewer v next.some)));
+      grows = subst (Grows context) (sym whole) (grows-with_value context.model context.slice row p v is.slice grows free
+          (listed v (trying.fewer v next.some)));
       more = ap (λ (cells : List (Option ℕ)). contains cells row) whole ∙ with_value-contains row p v free;
-      cleared = ap (λ (cells : List (Option ℕ)). set cells p None) whole ∙ set_clear row p v (none_of (get_or row p None) free);
+      cleared = ap (λ (cells : List (Option ℕ)). set cells p None) whole ∙ cleared row p v free;
       next = next;
     }

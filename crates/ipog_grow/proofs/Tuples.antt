@@ -1,11 +1,17 @@
 -- The tuples of a slice, and the partial rows that grow from them: they have values of the slice.
-use Rattle.std.proofs.Common.{◌≡◌, ◌≢◌, ℕ, zero, suc, ◌+◌, ◌<◌, ◌≤◌, Bool, true, false, cond, ◌&&◌, ◌||◌, not, List, [], ◌∷◌, map, length, filter, flat_map, Option, Some, None, is_some, unwrap_or, get_or, set, nat_eq, All, ◌∙◌, sym, ap, refl, arith, inl, inr, zero-add}
-use Rattle.std.specs.Option.{option_map_or}
+use Rattle.std.proofs.Common.{◌≡◌, ◌≢◌, ℕ, zero, suc, ◌+◌, ◌<◌, ◌≤◌, Bool, true, false, cond, ◌&&◌, ◌||◌, List, [], ◌∷◌, length, filter, Option, Some, None, is_some, unwrap_or, get_or, set, nat_eq, All, ◌∙◌, sym, ap, refl, arith, inl, inr, zero-add}
 use Rattle.std.specs.List.{last_or, range_with_len}
-use Rattle.std.proofs.lemmas.Bool.{false≢true, cases_eq, cases_lt}
+use Rattle.std.proofs.lemmas.Bool.{false≢true, cases_eq, not-true}
 use Rattle.std.proofs.lemmas.Bool.Decides.{nat_tests}
-use Rattle.std.proofs.lemmas.List.{get_or_past, get_or-set_same, get_or-set_other, length-set}
-use Rattle.std.proofs.lemmas.List.Elements.{All-nil, All-cons, All-append, All-weaker}
+use Rattle.std.proofs.lemmas.List.{get_or-set_same, get_or-set_other, length-set}
+use Rattle.std.proofs.lemmas.Option.{none-some, same_Some}
+use Rattle.definitions.proofs.SliceLemmas.{IsSlice}
+use Rattle.definitions.proofs.SliceLemmas as slices
+use Rattle.definitions.proofs.Members.{all_members, among_has, of_filter, of_flat}
+use Rattle.definitions.proofs.InPlay.{IsTupleOf, tuple_is}
+use Rattle.value_text.proofs.ListLemmas.{Some-from_equal}
+use Rattle.cov_model.proofs.CellLemmas.{contains-assigned, assigned_within, length-slice_values}
+use Rattle.definitions.proofs.PartialRowLemmas.{union-contains_row, with_value-contains}
 use Rattle.cov_model.specs.declared.slice.Slice.{Slice}
 use Rattle.cov_model.specs.declared.slice.Slice.TheVariants.{Positive, Negative}
 use Rattle.cov_model.specs.Sound.{ModelView}
@@ -13,87 +19,15 @@ use Rattle.cov_model.specs.Meaning.{value_at, given_value}
 use Rattle.cov_model.specs.Rows.{contains, is_assigned, value_in}
 use Rattle.cov_model.specs.Valid.{param_numbers}
 use Rattle.cov_model.specs.Slices.{slice_values, slice_by, slice_of}
-use Rattle.definitions.specs.Demand.{is_among, demanded_sets, tuples_in, value_choices}
+use Rattle.definitions.specs.Demand.{is_among, demanded_sets, tuples_in}
 use Rattle.definitions.specs.Completion.{with_value, column_order}
 use Rattle.definitions.specs.Growth.{union, tuples_in_play}
 use Rattle.definitions.specs.SliceRows.{IsSliceOf, IsOfSlice}
-use Rattle.feasibility.proofs.Extendable.{slice_exist, length-slice_values, among_range_below, slice_positive, slice_other, slice_fixed}
+use Rattle.feasibility.proofs.Extendable.{slice_exist, among_range_below, slice_positive, slice_other, slice_fixed}
 use Rattle.uncovered_table.specs.Places.{ends_with_column}
 use Rattle.ipog_grow.specs.Growing.{HasFixed, GrowsIn, IsInPlay}
-use Rattle.ipog_grow.proofs.Falling.{among_first, among_later, filter-none}
-use Rattle.ipog_grow.proofs.Holding.{contains-assigned, union-contains_row, with_value-contains}
-
--- cells that give the members of a set a listed value and no other parameter any
-record IsChoiceOf (set : List ℕ) (p : ℕ) (lists : List (List ℕ)) (cells : List (Option ℕ)) : Type 0 where
-  long : length cells ≡ length lists
-  given : (q : ℕ) → q < length lists → is_assigned cells q ≡ is_among set (p + q)
-  listed : (q : ℕ) → is_assigned cells q ≡ true → is_among (get_or lists q []) (value_in cells q) ≡ true
-
-choice_some : (set : List ℕ) (p : ℕ) (values : List ℕ) (lists : List (List ℕ)) (v : ℕ) (cells : List (Option ℕ)) → is_among set p ≡ true → is_among values v ≡ true
-    → IsChoiceOf set (p + 1) lists cells → IsChoiceOf set p (values ∷ lists) (Some v ∷ cells)
-choice_some set p values lists v cells member value is = record { long = ap suc is.long; given = given; listed = listed }
-  where
-    given : (q : ℕ) → q < length (values ∷ lists) → is_assigned (Some v ∷ cells) q ≡ is_among set (p + q)
-    given zero within = sym member ∙ ap (is_among set) (omega arith)
-    given (suc q) within = is.given q (omega arith) ∙ ap (is_among set) (omega arith)
-
-    listed : (q : ℕ) → is_assigned (Some v ∷ cells) q ≡ true → is_among (get_or (values ∷ lists) q []) (value_in (Some v ∷ cells) q) ≡ true
-    listed zero has = value
-    listed (suc q) has = is.listed q has
-
-choice_none : (set : List ℕ) (p : ℕ) (values : List ℕ) (lists : List (List ℕ)) (cells : List (Option ℕ)) → is_among set p ≡ false
-    → IsChoiceOf set (p + 1) lists cells → IsChoiceOf set p (values ∷ lists) (None ∷ cells)
-choice_none set p values lists cells other is = record { long = ap suc is.long; given = given; listed = listed }
-  where
-    given : (q : ℕ) → q < length (values ∷ lists) → is_assigned (None ∷ cells) q ≡ is_among set (p + q)
-    given zero within = sym other ∙ ap (is_among set) (omega arith)
-    given (suc q) within = is.given q (omega arith) ∙ ap (is_among set) (omega arith)
-
-    listed : (q : ℕ) → is_assigned (None ∷ cells) q ≡ true → is_among (get_or (values ∷ lists) q []) (value_in (None ∷ cells) q) ≡ true
-    listed zero has = absurd (false≢true has)
-    listed (suc q) has = is.listed q has
-
--- what holds of each piece holds of all
-All-flat_map : (P : List (Option ℕ) → Type 0) (f : ℕ → List (List (Option ℕ))) (values : List ℕ) → ((v : ℕ) → is_among values v ≡ true → All P (f v)) → All P (flat_map f values)
-All-flat_map P f [] each = All-nil P
-All-flat_map P f (v ∷ values) each =
-    All-append P (f v) (flat_map f values) (each v (among_first v values)) (All-flat_map P f values (λ w among. each w (among_later v w values among)))
-
-All-flat_map_filter : {X : Type 0} (P : List (Option ℕ) → Type 0) (f : X → List (List (Option ℕ))) (test : X → Bool) (xs : List X) → ((x : X) → test x ≡ true → All P (f x))
-    → All P (flat_map f (filter test xs))
-All-flat_map_filter P f test [] each = All-nil P
-All-flat_map_filter P f test (x ∷ xs) each = by_test (test x) refl (All-flat_map_filter P f test xs each)
-  where
-    by_test : (b : Bool) → test x ≡ b → All P (flat_map f (filter test xs)) → All P (flat_map f (cond b (x ∷ filter test xs) (filter test xs)))
-    by_test true is later = All-append P (f x) (flat_map f (filter test xs)) (each x is) later
-    by_test false is later = later
-
-All-cells : (P Q : List (Option ℕ) → Type 0) (cell : Option ℕ) (rows : List (List (Option ℕ))) → ((row : List (Option ℕ)) → Q row → P (cell ∷ row)) → All Q rows
-    → All P (map (λ row. cell ∷ row) rows)
-All-cells P Q cell [] each all = All-nil P
-All-cells P Q cell (row ∷ rows) each all =
-    All-cons P (cell ∷ row) (map (λ r. cell ∷ r) rows) (each row (all 0 row (omega arith))) (All-cells P Q cell rows each (λ i d within. all (suc i) d (omega arith)))
-
-choices_are : (set : List ℕ) (p : ℕ) (lists : List (List ℕ)) → All (IsChoiceOf set p lists) (value_choices set p lists)
-choices_are set p [] = All-cons (IsChoiceOf set p []) [] [] (record { long = refl; given = λ q within. absurd (omega arith); listed = λ q has. absurd (false≢true has) }) (All-nil (IsChoiceOf set p []))
-choices_are set p (values ∷ lists) = by_member (is_among set p) refl (choices_are set (p + 1) lists)
-  where
-    by_member : (b : Bool) → is_among set p ≡ b → All (IsChoiceOf set (p + 1) lists) (value_choices set (p + 1) lists)
-        → All (IsChoiceOf set p (values ∷ lists))
-        (cond b (flat_map (λ v. map (λ cells. Some v ∷ cells) (value_choices set (p + 1) lists)) values) (map (λ cells. None ∷ cells) (value_choices set (p + 1) lists)))
-    by_member true member rest =
-        All-flat_map (IsChoiceOf set p (values ∷ lists)) (λ v. map (λ cells. Some v ∷ cells) (value_choices set (p + 1) lists)) values
-        (λ v value. All-cells (IsChoiceOf set p (values ∷ lists)) (IsChoiceOf set (p + 1) lists) (Some v) (value_choices set (p + 1) lists) (λ cells is. choice_some set p values lists v cells member value is) rest)
-    by_member false other rest =
-        All-cells (IsChoiceOf set p (values ∷ lists)) (IsChoiceOf set (p + 1) lists) None (value_choices set (p + 1) lists) (λ cells is. choice_none set p values lists cells other is) rest
-
--- a value is given within the cells
-pub assigned-within : (cells : List (Option ℕ)) (p : ℕ) → is_assigned cells p ≡ true → p < length cells
-assigned-within cells p has =
-    elim (cases_lt p (length cells)) [
-      | inl within ↦ within
-      | inr past ↦ absurd (false≢true (ap (λ (cell : Option ℕ). is_some cell) (sym (get_or_past cells p None past)) ∙ has))
-    ]
+use Rattle.ipog_grow.proofs.ColumnLemmas.{ends-columns_to}
+use Rattle.ipog_grow.proofs.Falling.{filter-none}
 
 -- cells of a model's length whose values are of the slice are of it
 pub of_slice : (m : ModelView) (slice : Slice) (cells : List (Option ℕ)) → IsSliceOf m slice → length cells ≡ length m.params
@@ -101,60 +35,63 @@ pub of_slice : (m : ModelView) (slice : Slice) (cells : List (Option ℕ)) → I
 of_slice m slice cells is long listed = record {
   fits = record {
     as_long = long;
-    exist = λ p has. slice_exist m slice p (value_in cells p) is (omega (arith, assigned-within cells p has, long)) (listed p has);
+    exist = λ p has. slice_exist m slice p (value_in cells p) is (omega (arith, assigned_within cells p has, long)) (listed p has);
   };
   listed = listed;
 }
 
-last_test : (test : ℕ → Bool) (start : Option ℕ) (xs : List ℕ) (p : ℕ) → ((q : ℕ) → start ≡ Some q → test q ≡ true) → last_or start (filter test xs) ≡ Some p → test p ≡ true
+last_test : (test : ℕ → Bool) (start : Option ℕ) (xs : List ℕ) (p : ℕ) → ((q : ℕ) → start ≡ Some q → test q ≡ true) → last_or start (filter test xs) ≡ Some p
+    → test p ≡ true
 last_test test start [] p first e = first p e
 last_test test start (x ∷ xs) p first e = by_test (test x) refl (λ next is. last_test test next xs p is) e
   where
-    some_same : (a b : ℕ) → Some a ≡ Some b → a ≡ b
-    some_same a b e = cc
-
     by_test : (b : Bool) → test x ≡ b → ((next : Option ℕ) → ((q : ℕ) → next ≡ Some q → test q ≡ true) → last_or next (filter test xs) ≡ Some p → test p ≡ true)
         → last_or start (cond b (x ∷ filter test xs) (filter test xs)) ≡ Some p → test p ≡ true
-    by_test true is later e = later (Some x) (λ q same. ap test (sym (some_same x q same)) ∙ is) e
+    by_test true is later e = later (Some x) (λ q same. ap test (sym (same_Some x q same)) ∙ is) e
     by_test false is later e = later start first e
 
 -- a set that ends with a column has it as a member
 pub ends-among : (m : ModelView) (slice : Slice) (p : ℕ) (set : List ℕ) → ends_with_column m slice p set ≡ true → is_among set p ≡ true
 ends-among m slice p set ends =
-    last_test (is_among set) None (column_order m slice) p (λ q e. absurd (none_some q e)) (by_last (last_or None (filter (is_among set) (column_order m slice))) ends)
-  where
-    none_some : (q : ℕ) → None ≡ Some q → ⊥
-    none_some q e = cc
+    last_test (is_among set) None (column_order m slice) p (λ q e. absurd (none-some q e))
+    (Some-from_equal (last_or None (filter (is_among set) (column_order m slice))) p ends)
 
-    by_last : (o : Option ℕ) → option_map_or (λ q. nat_eq q p) o false ≡ true → o ≡ Some p
-    by_last None e = absurd (false≢true e)
-    by_last (Some q) e = let same : q ≡ p = grind (arith, nat_tests) in ap (λ (k : ℕ). Some k) same
+-- a slice of the model, and a value that it fixes, as the definitions' lemmas put them
+pub is_slice-of : (m : ModelView) (slice : Slice) → IsSliceOf m slice → IsSlice m slice
+is_slice-of m Positive is = tt
+is_slice-of m (Negative q v) is = (is.0, is.2)
 
-choice_in_play : (m : ModelView) (slice : Slice) (p : ℕ) (set : List ℕ) (cells : List (Option ℕ)) → IsSliceOf m slice → p < length m.params → is_among set p ≡ true
-    → HasFixed slice cells → IsChoiceOf set 0 (slice_values m slice) cells → IsInPlay m slice p cells
-choice_in_play m slice p set cells is within member fixed choice = record {
-  grows = record { of = of_slice m slice cells is (choice.long ∙ length-slice_values m slice) choice.listed; fixed = fixed };
-  own = choice.given p (omega (arith, length-slice_values m slice)) ∙ ap (is_among set) (zero-add p) ∙ member;
+fixed_is : (slice : Slice) (cells : List (Option ℕ)) → slices.HasFixed slice cells → HasFixed slice cells
+fixed_is Positive cells fixed = tt
+fixed_is (Negative q v) cells fixed = fixed
+
+-- a tuple of a set that ends with a column is in play there
+in_play-of : (m : ModelView) (slice : Slice) (p : ℕ) (set : List ℕ) (tuple : List (Option ℕ)) → IsSliceOf m slice → p < length m.params
+    → ends_with_column m slice p set ≡ true → IsTupleOf m set slice tuple → IsInPlay m slice p tuple
+in_play-of m slice p set tuple is within ends of = record {
+  grows = record {
+    of = of_slice m slice tuple is (of.choice.long ∙ long)
+        (λ q has. among_has (get_or (slice_values m slice) q []) (value_in tuple q)
+        (of.choice.listed q (omega (arith, assigned_within tuple q has, of.choice.long)) has));
+    fixed = fixed_is slice tuple of.belongs.fixed;
+  };
+  own = of.choice.given p (omega (arith, within, long)) ∙ ap (is_among set) (zero-add p) ∙ ends-among m slice p set ends;
+  columns = λ q has.
+      let inside : q < length (slice_values m slice) = omega (arith, assigned_within tuple q has, of.choice.long) in
+      ends-columns_to m slice p set q ends (ap (is_among set) (sym (zero-add q)) ∙ sym (of.choice.given q inside) ∙ has) (omega (arith, inside, long));
 }
-
-tuples_in-are : (m : ModelView) (slice : Slice) (p : ℕ) (set : List ℕ) → IsSliceOf m slice → p < length m.params → is_among set p ≡ true → All (IsInPlay m slice p) (tuples_in m set slice)
-tuples_in-are m Positive p set is within member =
-    All-weaker (IsChoiceOf set 0 (slice_values m Positive)) (IsInPlay m Positive p) (λ cells choice. choice_in_play m Positive p set cells is within member tt choice)
-    (value_choices set 0 (slice_values m Positive)) (choices_are set 0 (slice_values m Positive))
-tuples_in-are m (Negative q v) p set is within member = by_member (is_among set q) refl
   where
-    by_member : (b : Bool) → is_among set q ≡ b → All (IsInPlay m (Negative q v) p) (cond b (value_choices set 0 (slice_values m (Negative q v))) [])
-    by_member true own =
-        All-weaker (IsChoiceOf set 0 (slice_values m (Negative q v))) (IsInPlay m (Negative q v) p)
-        (λ cells choice. choice_in_play m (Negative q v) p set cells is within member (choice.given q (omega (arith, length-slice_values m (Negative q v), is.0)) ∙ ap (is_among set) (zero-add q) ∙ own) choice)
-        (value_choices set 0 (slice_values m (Negative q v))) (choices_are set 0 (slice_values m (Negative q v)))
-    by_member false other = All-nil (IsInPlay m (Negative q v) p)
+    long : length (slice_values m slice) ≡ length m.params
+    long = length-slice_values m slice
 
 -- so is each of the tuples in play
 pub tuples_in_play-are : (m : ModelView) (slice : Slice) (p : ℕ) → IsSliceOf m slice → p < length m.params → All (IsInPlay m slice p) (tuples_in_play m slice p)
 tuples_in_play-are m slice p is within =
-    All-flat_map_filter (IsInPlay m slice p) (λ set. tuples_in m set slice) (ends_with_column m slice p) (demanded_sets m)
-    (λ set ends. tuples_in-are m slice p set is within (ends-among m slice p set ends))
+    all_members (IsInPlay m slice p) (tuples_in_play m slice p)
+    (λ tuple has.
+    let at = of_flat (λ set. tuples_in m set slice) (filter (ends_with_column m slice p) (demanded_sets m)) tuple has in
+    let kept = of_filter (ends_with_column m slice p) (demanded_sets m) at.0 at.1 in
+    in_play-of m slice p at.0 tuple is within kept.1 (tuple_is m at.0 slice tuple (is_slice-of m slice is) at.2))
 
 -- the number in a cell
 abbrev value_of : Option ℕ → ℕ
@@ -165,7 +102,8 @@ fixed_more Positive row cells more fixed = tt
 fixed_more (Negative q v) row cells more fixed = contains-assigned row cells q more fixed
 
 -- a partial row that grows stays so with a value of the slice
-pub grows-with_value : (m : ModelView) (slice : Slice) (cells : List (Option ℕ)) (p v : ℕ) → IsSliceOf m slice → GrowsIn m slice cells → is_assigned cells p ≡ false
+pub grows-with_value : (m : ModelView) (slice : Slice) (cells : List (Option ℕ)) (p v : ℕ) → IsSliceOf m slice → GrowsIn m slice cells
+    → is_assigned cells p ≡ false
     → is_among (get_or (slice_values m slice) p []) v ≡ true → GrowsIn m slice (with_value cells p v)
 grows-with_value m slice cells p v is grows free value = record {
   of = of_slice m slice (with_value cells p v) is (length-set cells p (Some v) ∙ grows.of.fits.as_long) listed;
@@ -176,9 +114,10 @@ grows-with_value m slice cells p v is grows free value = record {
     listed q has =
         elim (cases_eq q p) [
           | inl same ↦
-              let inside : q < length cells = omega (arith, assigned-within (with_value cells p v) q has, length-set cells p (Some v)) in
+              let inside : q < length cells = omega (arith, assigned_within (with_value cells p v) q has, length-set cells p (Some v)) in
               let here : value_in (with_value cells p v) q ≡ v =
-              ap (λ (k : ℕ). value_in (with_value cells p v) k) same ∙ ap (λ (cell : Option ℕ). value_of cell) (get_or-set_same cells p (Some v) None (omega (arith, same, inside))) in
+              ap (λ (k : ℕ). value_in (with_value cells p v) k) same
+              ∙ ap (λ (cell : Option ℕ). value_of cell) (get_or-set_same cells p (Some v) None (omega (arith, same, inside))) in
               ap (is_among (get_or (slice_values m slice) q [])) here ∙ ap (λ (k : ℕ). is_among (get_or (slice_values m slice) k []) v) same ∙ value
           | inr differs ↦
               let there : get_or (with_value cells p v) q None ≡ get_or cells q None = get_or-set_other cells p q (Some v) None differs in
@@ -186,7 +125,8 @@ grows-with_value m slice cells p v is grows free value = record {
               ∙ grows.of.listed q (ap (λ (cell : Option ℕ). is_some cell) (sym there) ∙ has)
         ]
 
-pub get_or-union : (row cells : List (Option ℕ)) (q : ℕ) → get_or (union row cells) q None ≡ cond (is_some (get_or row q None)) (get_or row q None) (get_or cells q None)
+pub get_or-union : (row cells : List (Option ℕ)) (q : ℕ) → get_or (union row cells) q None ≡ cond (is_some (get_or row q None)) (get_or row q None)
+    (get_or cells q None)
 get_or-union [] cells q = refl
 get_or-union (None ∷ row) [] zero = refl
 get_or-union (Some v ∷ row) [] zero = refl
@@ -207,7 +147,8 @@ length-union (None ∷ row) (cell ∷ cells) long = ap suc (length-union row cel
 length-union (Some v ∷ row) (cell ∷ cells) long = ap suc (length-union row cells (omega (arith, long)))
 
 -- so does the union of two
-pub grows-union : (m : ModelView) (slice : Slice) (row cells : List (Option ℕ)) → IsSliceOf m slice → GrowsIn m slice row → GrowsIn m slice cells → GrowsIn m slice (union row cells)
+pub grows-union : (m : ModelView) (slice : Slice) (row cells : List (Option ℕ)) → IsSliceOf m slice → GrowsIn m slice row → GrowsIn m slice cells
+    → GrowsIn m slice (union row cells)
 grows-union m slice row cells is grows more = record {
   of = of_slice m slice (union row cells) is (length-union row cells (grows.of.fits.as_long ∙ sym more.of.fits.as_long) ∙ grows.of.fits.as_long) listed;
   fixed = fixed_more slice (union row cells) row (union-contains_row row cells) grows.fixed;
@@ -223,14 +164,16 @@ grows-union m slice row cells is grows more = record {
         ap (λ (cell : Option ℕ). is_among (get_or (slice_values m slice) q []) (value_of cell)) (get_or-union row cells q)
         ∙ by_row q (is_assigned row q) refl (ap (λ (cell : Option ℕ). is_some cell) (sym (get_or-union row cells q)) ∙ has)
 
-only-one : (test : ℕ → Bool) (q a n : ℕ) → a ≤ q → q < a + n → test q ≡ true → ((w : ℕ) → w < a + n → w ≢ q → test w ≡ false) → filter test (range_with_len a n) ≡ q ∷ []
+only-one : (test : ℕ → Bool) (q a n : ℕ) → a ≤ q → q < a + n → test q ≡ true → ((w : ℕ) → w < a + n → w ≢ q → test w ≡ false)
+    → filter test (range_with_len a n) ≡ q ∷ []
 only-one test q a zero low high own other = absurd (omega arith)
 only-one test q a (suc n) low high own other =
     elim (cases_eq a q) [
       | inl same ↦
           ap (λ (b : Bool). cond b (a ∷ filter test (range_with_len (a + 1) n)) (filter test (range_with_len (a + 1) n))) (ap test same ∙ own)
           ∙ ap (λ (rest : List ℕ). a ∷ rest)
-          (filter-none test (range_with_len (a + 1) n) (λ w among. other w (omega (arith, among_range_below (a + 1) n w among)) (λ e. apart_of a w n (omega (arith, same, e)) among)))
+          (filter-none test (range_with_len (a + 1) n)
+          (λ w among. other w (omega (arith, among_range_below (a + 1) n w among)) (λ e. apart_of a w n (omega (arith, same, e)) among)))
           ∙ ap (λ (k : ℕ). k ∷ []) same
       | inr differs ↦
           ap (λ (b : Bool). cond b (a ∷ filter test (range_with_len (a + 1) n)) (filter test (range_with_len (a + 1) n))) (other a (omega arith) differs)
@@ -250,17 +193,14 @@ both-false : (a b : Bool) → (a ≡ true → b ≡ false) → (a && b) ≡ fals
 both-false true b f = f refl
 both-false false b f = refl
 
-not-true : (b : Bool) → not b ≡ true → b ≡ false
-not-true true h = absurd (false≢true h)
-not-true false h = refl
-
 -- the slice of a partial row that grows in a slice
 pub grows-slice : (m : ModelView) (slice : Slice) (cells : List (Option ℕ)) → IsSliceOf m slice → GrowsIn m slice cells → slice_of m cells ≡ slice
 grows-slice m Positive cells is grows =
     ap (slice_by cells) (filter-none (λ p. is_assigned cells p && (given_value m cells p).negative) (param_numbers m)
     (λ p among. both-false (is_assigned cells p) (given_value m cells p).negative (λ has.
     not-true (given_value m cells p).negative
-    (slice_positive m p (value_in cells p) (omega (arith, among_range_below 0 (length m.params) p among)) (grows.of.fits.exist p has) ∙ grows.of.listed p has))))
+    (slice_positive m p (value_in cells p) (omega (arith, among_range_below 0 (length m.params) p among)) (grows.of.fits.exist p has)
+    ∙ grows.of.listed p has))))
 grows-slice m (Negative q v) cells is grows =
     let fixed : v ≡ value_in cells q = same_numbers v (value_in cells q) (slice_fixed m q v q (value_in cells q) refl is.0 ∙ grows.of.listed q grows.fixed) in
     let negative : (given_value m cells q).negative ≡ true = ap (λ (w : ℕ). (value_at m q w).negative) (sym fixed) ∙ is.2 in

@@ -20,7 +20,8 @@ pub agrees-at : (row tuple : List (Option ℕ)) (p : ℕ) → p < length row →
     → agrees (drop p row) (drop p tuple) ≡ (cells_agree (get_or row p None) (get_or tuple p None) && agrees (drop (p + 1) row) (drop (p + 1) tuple))
 agrees-at row tuple p within long =
     ap (λ (list : List (Option ℕ)). agrees list (drop p tuple)) (drop-cons row p None within ∙ ap (λ (k : ℕ). get_or row p None ∷ drop k row) (sym (add-one p)))
-    ∙ ap (agrees (get_or row p None ∷ drop (p + 1) row)) (drop-cons tuple p None (omega (arith, long)) ∙ ap (λ (k : ℕ). get_or tuple p None ∷ drop k tuple) (sym (add-one p)))
+    ∙ ap (agrees (get_or row p None ∷ drop (p + 1) row)) (drop-cons tuple p None (omega (arith, long))
+    ∙ ap (λ (k : ℕ). get_or tuple p None ∷ drop k tuple) (sym (add-one p)))
     ∙ agrees-cons (get_or row p None) (get_or tuple p None) (drop (p + 1) row) (drop (p + 1) tuple)
 
 -- the places before one are those of the union, and the others those of the tuple
@@ -39,7 +40,8 @@ united-none row tuple cells p to none = record {
       elim (cases_eq q p) [
         | inl same ↦
             to.rest q (omega arith)
-            ∙ sym (get_or-union row tuple q ∙ ap (λ (cell : Option ℕ). cond (is_some cell) cell (get_or tuple q None)) (ap (λ (k : ℕ). get_or row k None) same ∙ none))
+            ∙ sym (get_or-union row tuple q ∙ ap (λ (cell : Option ℕ). cond (is_some cell) cell (get_or tuple q None))
+            (ap (λ (k : ℕ). get_or row k None) same ∙ none))
         | inr differs ↦ to.done q (omega (arith, differs))
       ];
   rest = λ q after. to.rest q (omega arith);
@@ -53,7 +55,8 @@ united-some row tuple cells p v within to some = record {
       elim (cases_eq q p) [
         | inl same ↦
             ap (λ (k : ℕ). get_or (set cells p (Some v)) k None) same ∙ get_or-set_same cells p (Some v) None (omega (arith, to.long))
-            ∙ sym (get_or-union row tuple q ∙ ap (λ (cell : Option ℕ). cond (is_some cell) cell (get_or tuple q None)) (ap (λ (k : ℕ). get_or row k None) same ∙ some))
+            ∙ sym (get_or-union row tuple q ∙ ap (λ (cell : Option ℕ). cond (is_some cell) cell (get_or tuple q None))
+            (ap (λ (k : ℕ). get_or row k None) same ∙ some))
         | inr differs ↦ get_or-set_other cells p q (Some v) None differs ∙ to.done q (omega (arith, differs))
       ];
   rest = λ q after. get_or-set_other cells p q (Some v) None (λ same. omega (arith, same)) ∙ to.rest q (omega arith);

@@ -1,6 +1,8 @@
 -- What the growth of a slice looks at on its way. (This project's rules.)
 use Rattle.std.specs.Prelude.{◌≡◌, ◌≢◌, ◌⊎◌, ℕ, true, List, [], ◌∷◌, map, length, Option, Some, None, All, nat_lt, if◌then◌else◌}
 use Rattle.std.specs.List.{filter, range_with_len}
+use Rattle.definitions.specs.Demand.{is_among}
+use Rattle.definitions.specs.Completion.{column_order}
 use Rattle.cov_model.specs.declared.slice.Slice.{Slice}
 use Rattle.cov_model.specs.declared.slice.Slice.TheVariants.{Positive, Negative}
 use Rattle.cov_model.specs.Sound.{ModelView}
@@ -46,10 +48,21 @@ abbrev pub Rises : List (ℕ × ℕ) → Type 0
 Rises [] = Unit {0}
 Rises (place ∷ places) = All (λ other. is_behind place other ≡ true) places × Rises places
 
--- a tuple that is in play for a column grows in its slice, and has a value in the column
+-- the numbers up to the last place of one of them
+abbrev pub up_to : ℕ → List ℕ → List ℕ
+up_to p [] = []
+up_to p (q ∷ order) = if is_among (q ∷ order) p then q ∷ up_to p order else []
+
+-- the columns of a slice up to one of them
+abbrev pub columns_to : ModelView → Slice → ℕ → List ℕ
+columns_to m slice p = up_to p (column_order m slice)
+
+-- a tuple that is in play for a column grows in its slice, and has a value in the column and no other than in those
+-- up to it
 pub record IsInPlay (m : ModelView) (slice : Slice) (p : ℕ) (tuple : List (Option ℕ)) : Type 0 where
   pub grows : GrowsIn m slice tuple
   pub own : is_assigned tuple p ≡ true
+  pub columns : (q : ℕ) → is_assigned tuple q ≡ true → is_among (columns_to m slice p) q ≡ true
 
 -- a partial row that becomes another closes what it then contains, unless it stays as it is
 abbrev pub IsClosedBy : OpenView → OpenView → ℕ → List (Option ℕ) → List (Option ℕ) → Type 0

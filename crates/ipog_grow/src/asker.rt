@@ -1,7 +1,7 @@
 ghost use Rattle.std.specs.Prelude.{◌≡◌, ◌∷◌, [], Some, None, length, replicate, if◌then◌else◌, IfOk};
 ghost use Rattle.cov_model.specs.Preference.{OrdersValues};
 ghost use Rattle.definitions.specs.SliceRows.{IsSliceOf};
-ghost use Rattle.ipog_grow.specs.Asking.{Grows, IsWorld, Told, extends, first_spent};
+ghost use Rattle.ipog_grow.specs.Asking.{Grows, IsAsker, Told, extends, first_spent};
 ghost use Rattle.ipog_grow.specs.Completing.{completed};
 
 use crate::stop::Stop;
@@ -23,16 +23,16 @@ pub(crate) struct Asker<'a> {
 impl<'a> Model for Asker<'a> {
     ghost use Rattle.std.specs.Prelude.{◌≡◌, length};
     ghost use Rattle.std.specs.Coded.{codes};
-    ghost use Rattle.cov_model.specs.contracts.constraint.Pred as predicate;
+    ghost use Rattle.cov_model.specs.contracts.model.TestModel as tested;
     ghost use Rattle.ipog_grow.specs.Asking.{AskerView, IsAsker};
 
     ghost Value = { AskerView };
 
-    ghost coded = { Prim.hlevel (codes, predicate.the_row.coded) };
+    ghost coded = { Prim.hlevel (codes, tested.the_row.coded) };
 
-    ghost view = { λ a. record { world = record { model = a.solver.model; prefs = a.solver.prefs; slice = a.solver.slice; budget = a.budget }; question = a.question } };
+    ghost view = { λ a. record { context = record { model = a.solver.model; prefs = a.solver.prefs; slice = a.solver.slice; budget = a.budget }; question = a.question } };
 
-    ghost invariant = { λ a. IsAsker (record { world = record { model = a.solver.model; prefs = a.solver.prefs; slice = a.solver.slice; budget = a.budget }; question = a.question }) };
+    ghost invariant = { λ a. IsAsker (record { context = record { model = a.solver.model; prefs = a.solver.prefs; slice = a.solver.slice; budget = a.budget }; question = a.question }) };
 }
 
 impl<'a> Asker<'a> {
@@ -47,7 +47,7 @@ impl<'a> Asker<'a> {
     ) -> Result<Asker<'a>, NoMemory>
         requires slice { IsSliceOf model.now slice }
         requires orders { OrdersValues model.now prefs.now }
-        ensures { IfOk result (λ asker. asker.world ≡ record { model = model.now; prefs = prefs.now; slice = slice; budget = budget }) }
+        ensures { IfOk result (λ asker. asker.context ≡ record { model = model.now; prefs = prefs.now; slice = slice; budget = budget }) }
     {
         let count = model.params().len();
         let solver = Solver::new(alloc, model, prefs, slice)?;
@@ -59,19 +59,20 @@ impl<'a> Asker<'a> {
         })
     }
 
-    // What decides the answers is of one model.
-    pub(crate) fn keeps(&self)
-        ensures { IsWorld self.now.world }
+    // Says again what is kept of the slice and of the question. Does nothing when it runs.
+    pub(crate) fn assert_invariant(&self)
+        ensures { IsAsker self.now }
     {
+        // a use of a field brings into a proof what the type keeps
         let _ = &self.solver;
     }
 
     // Whether a partial row of the slice is extendable.
     pub(crate) fn ask(&mut self, cells: &Cells) -> Result<bool, Stop>
-        requires { Grows self.old.world cells.now }
-        ensures asked { Told result self.new.question (first_spent self.old.world (cells.now ∷ [])) }
-        ensures value { IfOk result (λ yes. yes ≡ extends self.old.world cells.now) }
-        ensures same { self.new.world ≡ self.old.world }
+        requires { Grows self.old.context cells.now }
+        ensures asked { Told result self.new.question (first_spent self.old.context (cells.now ∷ [])) }
+        ensures value { IfOk result (λ yes. yes ≡ extends self.old.context cells.now) }
+        ensures same { self.new.context ≡ self.old.context }
     {
         match self.solver.ask(cells, self.budget) {
             Answer::Yes => Ok(true),
@@ -86,12 +87,12 @@ impl<'a> Asker<'a> {
     // Whether a partial row of the slice is extendable; where it is, the other cells become its
     // first completion.
     pub(crate) fn complete(&mut self, cells: &Cells, into: &mut Cells) -> Result<bool, Stop>
-        requires grows { Grows self.old.world cells.now }
-        requires room { length into.old ≡ length self.old.world.model.params }
-        ensures asked { Told result self.new.question (first_spent self.old.world (cells.now ∷ [])) }
-        ensures completed { IfOk result (λ found. completed self.old.world cells.now ≡ (if found then Some into.new else None)) }
+        requires grows { Grows self.old.context cells.now }
+        requires room { length into.old ≡ length self.old.context.model.params }
+        ensures asked { Told result self.new.question (first_spent self.old.context (cells.now ∷ [])) }
+        ensures completed { IfOk result (λ found. completed self.old.context cells.now ≡ (if found then Some into.new else None)) }
         ensures room { length into.new ≡ length into.old }
-        ensures same { self.new.world ≡ self.old.world }
+        ensures same { self.new.context ≡ self.old.context }
     {
         match self.solver.complete(cells, self.budget, into) {
             Answer::Yes => Ok(true),
@@ -106,7 +107,7 @@ impl<'a> Asker<'a> {
     // The last question whose cost exceeded the budget.
     pub(crate) fn question(&self) -> &Cells
         ensures value { result.now ≡ self.now.question }
-        ensures long { length result.now ≡ length self.now.world.model.params }
+        ensures long { length result.now ≡ length self.now.context.model.params }
     {
         &self.question
     }

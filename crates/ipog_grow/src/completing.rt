@@ -19,24 +19,22 @@ fn complete_row(
     known: &mut RowSet,
     rows: &mut Rows,
 ) -> Result<(), Stop>
-    requires grows { Grows asker.old.world cells.now }
-    requires few { length asker.old.world.model.params ≤ 256 }
-    requires room { length row.old ≡ length asker.old.world.model.params }
-    requires long { All (λ other. length other ≡ length asker.old.world.model.params) known.old }
-    ensures asked { Told result asker.new.question (first_spent asker.old.world (cells.now ∷ [])) }
-    ensures known { OnOk result (known.new ≡ with_given known.old (completed asker.old.world cells.now)) }
+    requires grows { Grows asker.old.context cells.now }
+    requires few { length asker.old.context.model.params ≤ 256 }
+    requires room { length row.old ≡ length asker.old.context.model.params }
+    requires long { All (λ other. length other ≡ length asker.old.context.model.params) known.old }
+    ensures asked { Told result asker.new.question (first_spent asker.old.context (cells.now ∷ [])) }
+    ensures known { OnOk result (known.new ≡ with_given known.old (completed asker.old.context cells.now)) }
     ensures rows { OnOk result ((start : List (List (Option ℕ))) → rows.old ≡ start ++ known.old → rows.new ≡ start ++ known.new) }
-    ensures long { OnOk result (All (λ other. length other ≡ length asker.old.world.model.params) known.new) }
+    ensures long { OnOk result (All (λ other. length other ≡ length asker.old.context.model.params) known.new) }
     ensures room { length row.new ≡ length row.old }
-    ensures same { asker.new.world ≡ asker.old.world }
+    ensures same { asker.new.context ≡ asker.old.context }
 {
     if !asker.complete(cells, row)? {
         return Ok(());
     }
-    match add_row(alloc, row, known, rows) {
-        Ok(()) => Ok(()),
-        Err(_) => Err(Stop::NoMemory),
-    }
+    add_row(alloc, row, known, rows)?;
+    Ok(())
 }
 
 // Completes the grown rows of a slice in order, and puts their first completions behind other rows,
@@ -47,16 +45,14 @@ pub(crate) fn complete_rows(
     grown: &[Cells],
     rows: &mut Rows,
 ) -> Result<(), Stop>
-    requires grows { All (Grows asker.old.world) grown.now }
-    requires few { length asker.old.world.model.params ≤ 256 }
-    ensures asked { Told result asker.new.question (first_spent asker.old.world grown.now) }
-    ensures rows { OnOk result (rows.new ≡ rows.old ++ distinct (filter_map (completed asker.old.world) grown.now)) }
-    ensures same { asker.new.world ≡ asker.old.world }
+    requires grows { All (Grows asker.old.context) grown.now }
+    requires few { length asker.old.context.model.params ≤ 256 }
+    ensures asked { Told result asker.new.question (first_spent asker.old.context grown.now) }
+    ensures rows { OnOk result (rows.new ≡ rows.old ++ distinct (filter_map (completed asker.old.context) grown.now)) }
+    ensures same { asker.new.context ≡ asker.old.context }
 {
     let mut known = RowSet::new(alloc);
-    let Ok(mut row) = copy_of(alloc, asker.question()) else {
-        return Err(Stop::NoMemory);
-    };
+    let mut row = copy_of(alloc, asker.question())?;
     for cells in grown {
         complete_row(alloc, asker, cells, &mut row, &mut known, rows)?;
     }

@@ -1,4 +1,4 @@
-ghost use Rattle.std.specs.Prelude.{◌≡◌, ◌<◌, ◌^◌, ◌++◌, [], ℕ, List, Option, All, length, not, IfOk, OnOk};
+ghost use Rattle.std.specs.Prelude.{◌≡◌, ◌<◌, ◌^◌, ◌++◌, ◌∷◌, [], ℕ, List, Option, All, length, not, IfOk, OnOk};
 ghost use Rattle.ipog_grow.specs.Rows.{is_known_row, with_row};
 
 use cov_model::{Cells, ParamNo, Rows, ValueNo};
@@ -45,10 +45,8 @@ impl RowSet {
         ensures rows { IfOk result (λ _. self.new ≡ with_row self.old row.now) }
     {
         let places = places_of(alloc, row)?;
-        match self.keys.insert(RowKey { places }) {
-            Ok(added) => Ok(added),
-            Err(_) => Err(NoMemory),
-        }
+        let added = self.keys.insert(RowKey { places })?;
+        Ok(added)
     }
 }
 
@@ -60,9 +58,7 @@ fn places_of(alloc: Global, row: &Cells) -> Result<Vec<Option<ValueNo>>, NoMemor
     let mut places = Vec::new(alloc);
     let count = row.len() as ParamNo;
     for p in 0..count {
-        if places.push(row.get(p)).is_err() {
-            return Err(NoMemory);
-        }
+        places.push(row.get(p))?;
     }
     Ok(places)
 }
@@ -74,6 +70,15 @@ pub(crate) fn copy_of(alloc: Global, row: &Cells) -> Result<Cells, NoMemory>
     let mut copy = Cells::empty(alloc, row.len())?;
     copy.copy_from(row);
     Ok(copy)
+}
+
+// Adds a copy of a row to others.
+pub(crate) fn push_copy(alloc: Global, row: &Cells, rows: &mut Vec<Cells>) -> Result<(), NoMemory>
+    ensures { OnOk result (rows.new.items ≡ rows.old.items ++ row.now ∷ []) }
+{
+    let copy = copy_of(alloc, row)?;
+    rows.push(copy)?;
+    Ok(())
 }
 
 // Adds a row to those that are known, and behind others, unless it is known.

@@ -27,21 +27,23 @@ pub(crate) fn fill_cell<R: Threads + Sync, G: Gate + Sync>(
     scores: &mut [u32],
     row: &mut Cells,
 ) -> Result<(), Stop>
-    requires table { IsTableOf asker.old.world table.old }
-    requires column { column < length asker.old.world.model.params }
-    requires order { order.now ≡ slice_index_or asker.old.world.prefs column [] }
-    requires scores { length scores.old ≡ length (param_at asker.old.world.model.params column).values }
-    requires in_play { All (IsInPlay asker.old.world.model asker.old.world.slice column) (open_tuples table.old column) }
-    requires grows { Grows asker.old.world row.old }
-    ensures asked { (rows tuples : List (List (Option ℕ))) → open_tuples table.old column ≡ filter (is_uncovered rows) tuples → Told result asker.new.question (first_spent asker.old.world (filled asker.old.world column rows tuples row.old).asked) }
-    ensures row { OnOk result ((rows tuples : List (List (Option ℕ))) → open_tuples table.old column ≡ filter (is_uncovered rows) tuples → row.new ≡ (filled asker.old.world column rows tuples row.old).row) }
+    requires table { IsTableOf asker.old.context table.old }
+    requires column { column < length asker.old.context.model.params }
+    requires order { order.now ≡ slice_index_or asker.old.context.prefs column [] }
+    requires scores { length scores.old ≡ length (param_at asker.old.context.model.params column).values }
+    requires in_play { All (IsInPlay asker.old.context.model asker.old.context.slice column) (open_tuples table.old column) }
+    requires grows { Grows asker.old.context row.old }
+    ensures asked { (rows tuples : List (List (Option ℕ))) → open_tuples table.old column ≡ filter (is_uncovered rows) tuples
+        → Told result asker.new.question (first_spent asker.old.context (filled asker.old.context column rows tuples row.old).asked) }
+    ensures row { OnOk result ((rows tuples : List (List (Option ℕ))) → open_tuples table.old column ≡ filter (is_uncovered rows) tuples
+        → row.new ≡ (filled asker.old.context column rows tuples row.old).row) }
     ensures closes { OnOk result (IsClosedBy table.old table.new column row.old row.new) }
-    ensures grows { OnOk result (Grows asker.old.world row.new) }
+    ensures grows { OnOk result (Grows asker.old.context row.new) }
     ensures more { OnOk result (contains row.new row.old ≡ true) }
-    ensures same { asker.new.world ≡ asker.old.world }
+    ensures same { asker.new.context ≡ asker.old.context }
     ensures long { length scores.new ≡ length scores.old }
 {
-    asker.keeps();
+    asker.assert_invariant();
     if row.get(column).is_some() {
         return Ok(());
     }

@@ -22,11 +22,12 @@ fn push_omitted(
 ) -> Result<(), NoMemory>
     requires long { All (λ tuple. length tuple ≡ length model.now.params) omitted.now }
     requires trees { All HasNoTree into.old.omissions }
-    ensures tuples { OnOk result (map (omitted_cells (length model.now.params)) into.new.omissions ≡ map (omitted_cells (length model.now.params)) into.old.omissions ++ omitted.now) }
+    ensures tuples { OnOk result (map (omitted_cells (length model.now.params)) into.new.omissions
+        ≡ map (omitted_cells (length model.now.params)) into.old.omissions ++ omitted.now) }
     ensures trees { OnOk result (All HasNoTree into.new.omissions) }
     ensures form { OnOk result (into.new.form ≡ into.old.form) }
 {
-    let _ = model.params();
+    model.assert_invariant();
     for cells in omitted {
         let tuple = tuple_of(alloc, cells)?;
         let tree = TreeBuf::new(alloc);
@@ -46,17 +47,18 @@ pub(crate) fn finish_slice(
     rows: &mut Rows,
     omissions: &mut Omissions,
 ) -> Result<(), SearchFault>
-    requires model { asker.old.world.model ≡ model.now }
-    requires grows { All (Grows asker.old.world) grown.now }
+    requires model { asker.old.context.model ≡ model.now }
+    requires grows { All (Grows asker.old.context) grown.now }
     requires long { All (λ tuple. length tuple ≡ length model.now.params) omitted.now }
     requires trees { All HasNoTree omissions.old.omissions }
-    ensures rows { OnOk result (rows.new ≡ rows.old ++ distinct (filter_map (completed asker.old.world) grown.now)) }
-    ensures tuples { OnOk result (map (omitted_cells (length model.now.params)) omissions.new.omissions ≡ map (omitted_cells (length model.now.params)) omissions.old.omissions ++ omitted.now) }
+    ensures rows { OnOk result (rows.new ≡ rows.old ++ distinct (filter_map (completed asker.old.context) grown.now)) }
+    ensures tuples { OnOk result (map (omitted_cells (length model.now.params)) omissions.new.omissions
+        ≡ map (omitted_cells (length model.now.params)) omissions.old.omissions ++ omitted.now) }
     ensures trees { OnOk result (All HasNoTree omissions.new.omissions) }
     ensures form { OnOk result (omissions.new.form ≡ omissions.old.form) }
-    ensures asked { Ends result (first_spent asker.old.world grown.now) }
+    ensures asked { Ends result (first_spent asker.old.context grown.now) }
 {
-    let _ = model.params();
+    model.assert_invariant();
     if let Err(stop) = complete_rows(alloc, asker, grown, rows) {
         return Err(fault_of(alloc, stop, asker.question()));
     }

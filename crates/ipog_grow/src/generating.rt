@@ -11,7 +11,7 @@ ghost use Rattle.tuple_index.specs.Plan.{plan_of};
 ghost use Rattle.ipog_grow.specs.Suites.{Ends, HasNoTree, IsSuiteOf, omitted_cells};
 
 use crate::seeds::sort_seeds;
-use crate::slice_growth::grow_slice;
+use crate::slice_suite::grow_slice;
 use crate::slices::slices_of;
 use crate::suite::{GrowOpts, Suite};
 use crate::workers::Workers;
@@ -44,11 +44,14 @@ fn grow_slices<R: Threads + Sync, G: Gate + Sync>(
     requires few { All (λ seed. has_slice model.now seed ≡ true) kept.now }
     requires none { rows.old ≡ [] }
     requires none_omitted { omissions.old.omissions ≡ [] }
-    ensures rows { OnOk result ((seeds : List (ℕ × List (Option ℕ))) → kept.now ≡ kept_seeds model.now seeds → rows.new ≡ (slices_growth model.now prefs.now seeds slices.now).rows) }
-    ensures tuples { OnOk result ((seeds : List (ℕ × List (Option ℕ))) → kept.now ≡ kept_seeds model.now seeds → map (omitted_cells (length model.now.params)) omissions.new.omissions ≡ (slices_growth model.now prefs.now seeds slices.now).omitted) }
+    ensures rows { OnOk result ((seeds : List (ℕ × List (Option ℕ))) → kept.now ≡ kept_seeds model.now seeds
+        → rows.new ≡ (slices_growth model.now prefs.now seeds slices.now).rows) }
+    ensures tuples { OnOk result ((seeds : List (ℕ × List (Option ℕ))) → kept.now ≡ kept_seeds model.now seeds
+        → map (omitted_cells (length model.now.params)) omissions.new.omissions ≡ (slices_growth model.now prefs.now seeds slices.now).omitted) }
     ensures trees { OnOk result (All HasNoTree omissions.new.omissions) }
     ensures form { OnOk result (omissions.new.form ≡ omissions.old.form) }
-    ensures asked { (seeds : List (ℕ × List (Option ℕ))) → kept.now ≡ kept_seeds model.now seeds → Ends result (first_over model.now prefs.now budget (slices_growth model.now prefs.now seeds slices.now).asked) }
+    ensures asked { (seeds : List (ℕ × List (Option ℕ))) → kept.now ≡ kept_seeds model.now seeds
+        → Ends result (first_over model.now prefs.now budget (slices_growth model.now prefs.now seeds slices.now).asked) }
 {
     for slice in slices {
         grow_slice(

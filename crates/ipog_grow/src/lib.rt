@@ -2,28 +2,26 @@
 //! that covers most, then the tuples that are left are put into rows.
 #![tactic(auto)]
 
-mod across;
 mod asker;
-mod column;
-mod columns;
 mod completing;
+mod contained;
 mod distinct;
-mod down;
 mod fill;
 mod finish;
 mod generating;
+mod horizontal;
 mod join;
-mod load;
 mod order;
-mod partial;
+mod place_tuple;
 mod question;
 mod seeds;
-mod settle;
 mod slice_growth;
+mod slice_suite;
 mod slices;
-mod start;
 mod stop;
 mod suite;
+mod unfilled;
+mod unions;
 mod values;
 mod workers;
 

@@ -26,9 +26,7 @@ fn value_counts(
 {
     let mut counts = Vec::new(alloc);
     for p in 0..count {
-        if counts.push(plan.value_count(p as ParamNo, slice)).is_err() {
-            return Err(NoMemory);
-        }
+        counts.push(plan.value_count(p as ParamNo, slice))?;
     }
     Ok(counts)
 }
@@ -51,10 +49,8 @@ fn sort_by_count(counts: &[u64], order: &mut Vec<ParamNo>) -> Result<(), NoMemor
     let key = |p: &ParamNo| -> Reverse<u64>
         ensures { result ≡ record { 0 = slice_index counts.entry.now p.now } }
     { Reverse(count_of(counts, *p)) };
-    match order.sort_by_key(key) {
-        Ok(()) => Ok(()),
-        Err(_) => Err(NoMemory),
-    }
+    order.sort_by_key(key)?;
+    Ok(())
 }
 
 // The parameters in declared order.
@@ -62,10 +58,8 @@ fn declared(alloc: Global, model: &TestModel) -> Result<Vec<ParamNo>, NoMemory>
     ensures { IfOk result (λ order. order.items ≡ param_numbers model.now) }
 {
     let count = model.params().len() as ParamNo;
-    match (0..count).collect::<Vec<ParamNo>>(alloc) {
-        Ok(order) => Ok(order),
-        Err(_) => Err(NoMemory),
-    }
+    let order = (0..count).collect::<Vec<ParamNo>>(alloc)?;
+    Ok(order)
 }
 
 // The column order of a slice: the parameters by falling number of their values there, those of one

@@ -17,9 +17,7 @@ pub(crate) fn tuple_of(alloc: Global, cells: &Cells) -> Result<Tuple, NoMemory>
     let count = cells.len() as ParamNo;
     for p in 0..count {
         if let Some(v) = cells.get(p) {
-            if pairs.push((p, v)).is_err() {
-                return Err(NoMemory);
-            }
+            pairs.push((p, v))?;
         }
     }
     Tuple::of(alloc, pairs.as_slice())

@@ -13,7 +13,7 @@ ghost use Rattle.row_text.specs.RowFiles.{row_seen, seeds_seen};
 ghost use Rattle.ipog_grow.specs.Rows.{with_row, with_seed};
 ghost use Rattle.ipog_grow.specs.Suites.{Ends};
 
-use crate::distinct::{RowSet, copy_of};
+use crate::distinct::{RowSet, copy_of, push_copy};
 use crate::question::over_budget;
 use crate::suite::LineList;
 use cov_model::{Cells, ParamNo, Prefs, Rows, Slice, TestModel};
@@ -109,7 +109,7 @@ fn distinct_seeds(
     ensures seeds { IfOk result (λ list. map row_seen list ≡ seed_rows (map row_seen seeds.now)) }
     ensures fit { IfOk result (λ list. All (λ seed. FitsModel model.now seed.cells) list) }
 {
-    let _ = model.params();
+    model.assert_invariant();
     let mut known = RowSet::new(alloc);
     let mut list = FileRowList::new(alloc);
     for seed in seeds {
@@ -131,7 +131,7 @@ fn is_kept(
     ensures kept { IfOk result (λ kept. kept ≡ can_be_served model.now cells.now) }
     ensures asked { Ends result (first_over model.now prefs.now budget (filter (has_slice model.now) (cells.now ∷ []))) }
 {
-    let _ = model.params();
+    model.assert_invariant();
     if !is_of_some_slice(model, cells) {
         return Ok(false);
     }
@@ -217,10 +217,7 @@ pub(crate) fn seeds_of_slice(
     let mut rows = Vec::new(alloc);
     for seed in kept.as_slice() {
         if model.slice_of(seed) == slice {
-            let copy = copy_of(alloc, seed)?;
-            if rows.push(copy).is_err() {
-                return Err(NoMemory);
-            }
+            push_copy(alloc, seed, &mut rows)?;
         }
     }
     Ok(rows)

@@ -1,77 +1,269 @@
-ghost use Rattle.std.specs.Prelude.{◌≡◌, ◌++◌, true, All, map, length, OnOk};
-ghost use Rattle.std.specs.List.{filter};
-ghost use Rattle.cov_model.specs.Fits.{FitsModel};
+ghost use Rattle.std.specs.Prelude.{◌≡◌, ◌++◌, ◌∷◌, ◌<◌, [], All, IfOk, OnOk, length};
 ghost use Rattle.cov_model.specs.Preference.{OrdersValues};
-ghost use Rattle.definitions.specs.Completion.{has_slice};
-ghost use Rattle.definitions.specs.Growth.{is_of_slice};
+ghost use Rattle.definitions.specs.Completion.{column_order};
+ghost use Rattle.definitions.specs.Growth.{down, settle};
 ghost use Rattle.definitions.specs.SliceRows.{IsSliceOf};
 ghost use Rattle.tuple_index.specs.Plan.{plan_of};
-ghost use Rattle.ipog_grow.specs.Asking.{first_spent};
-ghost use Rattle.ipog_grow.specs.SliceGrowing.{grown_from};
-ghost use Rattle.ipog_grow.specs.Suites.{Ends, HasNoTree, omitted_cells};
+ghost use Rattle.ipog_grow.specs.Asking.{Grows, IsNew, IsNext, IsOpen, IsPassed, IsReady, Told, column_grown, columns_grown, extends, first_spent, omitted_alone, rows_alone};
+ghost use Rattle.ipog_grow.specs.Growing.{Keeps, columns_to, open_tuples};
+ghost use Rattle.ipog_grow.specs.UnfilledRows.{HasUnfilled};
 
-use crate::finish::finish_slice;
-use crate::question::fault_of;
-use crate::seeds::seeds_of_slice;
-use crate::settle::SliceGrowth;
+use crate::asker::Asker;
+use crate::contained::close_contained;
+use crate::distinct::{copy_of, push_copy};
+use crate::horizontal::grow_horizontally;
+use crate::join::join_first;
+use crate::order::column_order;
+use crate::place_tuple::put_tuple;
+use crate::stop::Stop;
+use crate::unfilled::{push_unfilled, unfilled_rows};
+use crate::values::no_scores;
 use crate::workers::Workers;
-use cov_model::{Prefs, Rows, Slice, TestModel};
-use feasibility::SearchFault;
+use cov_model::{Cells, ParamNo, Prefs, Rows, Slice, TestModel};
 use outside_io::Gate;
-use refutation::Omissions;
 use std::alloc::Global;
 use std::thread::Threads;
 use tuple_index::Plan;
+use uncovered_table::Uncovered;
+use value_text::NoMemory;
 
-// Grows a slice from its kept seeds, and puts its rows and omitted tuples behind those of earlier
-// slices.
-pub(crate) fn grow_slice<'a, R: Threads + Sync, G: Gate + Sync>(
-    workers: &Workers<'_, R, G>,
-    alloc: Global,
-    model: &'a TestModel,
-    plan: &'a Plan,
-    prefs: &'a Prefs,
-    kept: &Rows,
-    slice: Slice,
-    budget: u64,
-    rows: &mut Rows,
-    omissions: &mut Omissions,
-) -> Result<(), SearchFault>
-    requires plan { plan.now ≡ plan_of model.now }
-    requires orders { OrdersValues model.now prefs.now }
-    requires slice { IsSliceOf model.now slice }
-    requires fit { All (FitsModel model.now) kept.now }
-    requires few { All (λ seed. has_slice model.now seed ≡ true) kept.now }
-    requires trees { All HasNoTree omissions.old.omissions }
-    ensures rows { OnOk result (rows.new ≡ rows.old ++ (grown_from (record { model = model.now; prefs = prefs.now; slice = slice; budget = budget }) (filter (is_of_slice model.now slice) kept.now)).rows) }
-    ensures tuples { OnOk result (map (omitted_cells (length model.now.params)) omissions.new.omissions ≡ map (omitted_cells (length model.now.params)) omissions.old.omissions ++ (grown_from (record { model = model.now; prefs = prefs.now; slice = slice; budget = budget }) (filter (is_of_slice model.now slice) kept.now)).omitted) }
-    ensures trees { OnOk result (All HasNoTree omissions.new.omissions) }
-    ensures form { OnOk result (omissions.new.form ≡ omissions.old.form) }
-    ensures asked { Ends result (first_spent (record { model = model.now; prefs = prefs.now; slice = slice; budget = budget }) (grown_from (record { model = model.now; prefs = prefs.now; slice = slice; budget = budget }) (filter (is_of_slice model.now slice) kept.now)).asked) }
-{
-    let _ = model.params();
-    let Ok(seeds) = seeds_of_slice(alloc, model, kept, slice) else {
-        return Err(SearchFault::NoMemory);
-    };
-    let Ok(mut growth) = SliceGrowth::new(alloc, model, prefs, plan, slice, budget, seeds) else {
-        return Err(SearchFault::NoMemory);
-    };
-    if let Err(stop) = growth.grow_columns(workers, alloc, model, prefs, plan, slice) {
-        return Err(fault_of(alloc, stop, growth.asker.question()));
+// What grows in a slice: the partial rows, the table of the open tuples and the tuples that were
+// omitted; with room for a tuple and for a partial row.
+#[derive(Drop)]
+pub(crate) struct SliceGrowth<'a> {
+    pub(crate) table: Uncovered<'a>,
+    pub(crate) asker: Asker<'a>,
+    pub(crate) tuple: Cells,
+    pub(crate) room: Cells,
+    pub(crate) rows: Vec<Cells>,
+    pub(crate) omitted: Rows,
+}
+
+impl<'a> SliceGrowth<'a> {
+    // The growth of a slice of the model from these partial rows, with a budget for each question,
+    // before its first column. The plan and the preferences have to be the model's.
+    pub(crate) fn new(
+        alloc: Global,
+        model: &'a TestModel,
+        prefs: &'a Prefs,
+        plan: &'a Plan,
+        slice: Slice,
+        budget: u64,
+        rows: Vec<Cells>,
+    ) -> Result<SliceGrowth<'a>, NoMemory>
+        requires plan { plan.now ≡ plan_of model.now }
+        requires slice { IsSliceOf model.now slice }
+        requires orders { OrdersValues model.now prefs.now }
+        ensures context { IfOk result (λ growth. growth.asker.context ≡ record { model = model.now; prefs = prefs.now; slice = slice; budget = budget }) }
+        ensures is_new { IfOk result (λ growth. IsNew growth.asker.context growth.table growth.tuple growth.room) }
+        ensures rows { IfOk result (λ growth. growth.rows.items ≡ rows.items) }
+        ensures omitted { IfOk result (λ growth. growth.omitted ≡ []) }
+    {
+        let count = model.params().len();
+        Ok(SliceGrowth {
+            table: Uncovered::new(alloc, model, plan, slice)?,
+            asker: Asker::new(alloc, model, prefs, slice, budget)?,
+            tuple: Cells::empty(alloc, count)?,
+            room: Cells::empty(alloc, count)?,
+            rows,
+            omitted: Rows::new(alloc),
+        })
     }
-    let SliceGrowth {
-        mut asker,
-        rows: grown,
-        omitted,
-        ..
-    } = growth;
-    finish_slice(
-        alloc,
-        model,
-        &mut asker,
-        grown.as_slice(),
-        omitted.as_slice(),
-        rows,
-        omissions,
-    )
+
+    // Puts the tuple of a place that no row takes: as a new row, where it is extendable, else among
+    // the omitted ones. It is closed then. The new row's number is put behind those of the rows that
+    // may have an empty cell in one of the columns, if it has one.
+    fn settle_alone(
+        &mut self,
+        alloc: Global,
+        column: ParamNo,
+        place: (u32, u32),
+        columns: &[ParamNo],
+        unfilled: &mut Vec<usize>,
+    ) -> Result<(), Stop>
+        requires column { column < length self.old.asker.context.model.params }
+        requires next { IsNext self.old.asker.context self.old.table column place self.old.tuple self.old.rows.items }
+        requires exist { All (λ p. p < length self.old.asker.context.model.params) columns.now }
+        requires unfilled { HasUnfilled columns.now self.old.rows.items unfilled.old.items }
+        ensures asked { Told result self.new.asker.question (first_spent self.old.asker.context (self.old.tuple ∷ [])) }
+        ensures rows { OnOk result (self.new.rows.items ≡ rows_alone self.old.asker.context self.old.tuple self.old.rows.items) }
+        ensures omitted { OnOk result (self.new.omitted ≡ self.old.omitted ++ omitted_alone self.old.asker.context self.old.tuple) }
+        ensures passed { OnOk result (IsPassed self.old.asker.context self.old.table self.new.table column place self.new.rows.items) }
+        ensures unfilled { OnOk result (HasUnfilled columns.now self.new.rows.items unfilled.new.items) }
+        ensures same { self.new.asker.context ≡ self.old.asker.context }
+        ensures tuple { self.new.tuple ≡ self.old.tuple }
+        ensures room { self.new.room ≡ self.old.room }
+    {
+        self.asker.assert_invariant();
+        if self.asker.ask(&self.tuple)? {
+            let number = self.rows.len();
+            push_copy(alloc, &self.tuple, &mut self.rows)?;
+            push_unfilled(unfilled, &self.tuple, columns, number)?;
+            self.table.close_row(&self.tuple, column);
+        } else {
+            let row = copy_of(alloc, &self.tuple)?;
+            self.omitted.push(row)?;
+            self.table.close(place.0, place.1);
+        }
+        Ok(())
+    }
+
+    // Puts the tuple of a place, which no row contains: the first row that takes it becomes the union
+    // with it, or it becomes a new row, or it is omitted. It is closed then. The columns are those up to
+    // this one, and only the rows of these numbers may have an empty cell there.
+    fn settle(
+        &mut self,
+        alloc: Global,
+        column: ParamNo,
+        place: (u32, u32),
+        columns: &[ParamNo],
+        unfilled: &mut Vec<usize>,
+    ) -> Result<(), Stop>
+        requires column { column < length self.old.asker.context.model.params }
+        requires next { IsNext self.old.asker.context self.old.table column place self.old.tuple self.old.rows.items }
+        requires columns { columns.now ≡ columns_to self.old.asker.context.model self.old.asker.context.slice column }
+        requires exist { All (λ p. p < length self.old.asker.context.model.params) columns.now }
+        requires unfilled { HasUnfilled columns.now self.old.rows.items unfilled.old.items }
+        requires room { length self.old.room ≡ length self.old.asker.context.model.params }
+        ensures asked { Told result self.new.asker.question
+            (first_spent self.old.asker.context (settle (extends self.old.asker.context) self.old.tuple self.old.rows.items).asked) }
+        ensures rows { OnOk result (self.new.rows.items ≡ (settle (extends self.old.asker.context) self.old.tuple self.old.rows.items).rows) }
+        ensures omitted { OnOk result (self.new.omitted ≡ self.old.omitted
+            ++ (settle (extends self.old.asker.context) self.old.tuple self.old.rows.items).omitted) }
+        ensures passed { OnOk result (IsPassed self.old.asker.context self.old.table self.new.table column place self.new.rows.items) }
+        ensures unfilled { OnOk result (HasUnfilled columns.now self.new.rows.items unfilled.new.items) }
+        ensures same { self.new.asker.context ≡ self.old.asker.context }
+        ensures tuple { self.new.tuple ≡ self.old.tuple }
+        ensures room { length self.new.room ≡ length self.old.room }
+    {
+        self.asker.assert_invariant();
+        match join_first(
+            &mut self.asker,
+            &self.tuple,
+            &mut self.room,
+            self.rows.as_mut_slice(),
+            unfilled.as_slice(),
+        )? {
+            Some(i) => self.table.close_row(&self.rows[i], column),
+            None => self.settle_alone(alloc, column, place, columns, unfilled)?,
+        }
+        Ok(())
+    }
+
+    // Vertical growth of a column: the open tuples in play there, in order. The columns are those up to
+    // this one.
+    fn grow_vertically(
+        &mut self,
+        alloc: Global,
+        plan: &Plan,
+        column: ParamNo,
+        columns: &[ParamNo],
+    ) -> Result<(), Stop>
+        requires plan { plan.now ≡ plan_of self.old.asker.context.model }
+        requires column { column < length self.old.asker.context.model.params }
+        requires is_open { IsOpen self.old.asker.context self.old.table column self.old.rows.items }
+        requires columns { columns.now ≡ columns_to self.old.asker.context.model self.old.asker.context.slice column }
+        requires exist { All (λ p. p < length self.old.asker.context.model.params) columns.now }
+        requires tuple { length self.old.tuple ≡ length self.old.asker.context.model.params }
+        requires room { length self.old.room ≡ length self.old.asker.context.model.params }
+        ensures asked { Told result self.new.asker.question
+            (first_spent self.old.asker.context (down (extends self.old.asker.context) (open_tuples self.old.table column) self.old.rows.items).asked) }
+        ensures rows { OnOk result (self.new.rows.items
+            ≡ (down (extends self.old.asker.context) (open_tuples self.old.table column) self.old.rows.items).rows) }
+        ensures omitted { OnOk result (self.new.omitted ≡ self.old.omitted
+            ++ (down (extends self.old.asker.context) (open_tuples self.old.table column) self.old.rows.items).omitted) }
+        ensures keeps { OnOk result (Keeps self.old.table self.new.table column) }
+        ensures grows { OnOk result (All (Grows self.old.asker.context) self.new.rows.items) }
+        ensures same { self.new.asker.context ≡ self.old.asker.context }
+        ensures tuple { length self.new.tuple ≡ length self.old.tuple }
+        ensures room { length self.new.room ≡ length self.old.room }
+    {
+        self.asker.assert_invariant();
+        plan.assert_invariant();
+        let mut unfilled = unfilled_rows(alloc, self.rows.as_slice(), columns)?;
+        let mut from = None;
+        while let Some(place) = self.table.next_open(column, from) {
+            put_tuple(plan, place, &mut self.tuple);
+            self.settle(alloc, column, place, columns, &mut unfilled)?;
+            from = Some(place);
+        }
+        Ok(())
+    }
+
+    // A column: horizontal, then vertical growth. The preferences are those of the slice's questions,
+    // and the columns those up to this one.
+    fn grow_column<R: Threads + Sync, G: Gate + Sync>(
+        &mut self,
+        workers: &Workers<'_, R, G>,
+        alloc: Global,
+        prefs: &Prefs,
+        plan: &Plan,
+        column: ParamNo,
+        columns: &[ParamNo],
+    ) -> Result<(), Stop>
+        requires prefs { prefs.now ≡ self.old.asker.context.prefs }
+        requires plan { plan.now ≡ plan_of self.old.asker.context.model }
+        requires column { column < length self.old.asker.context.model.params }
+        requires ready { IsReady self.old.asker.context self.old.table column self.old.rows.items }
+        requires columns { columns.now ≡ columns_to self.old.asker.context.model self.old.asker.context.slice column }
+        requires exist { All (λ p. p < length self.old.asker.context.model.params) columns.now }
+        requires tuple { length self.old.tuple ≡ length self.old.asker.context.model.params }
+        requires room { length self.old.room ≡ length self.old.asker.context.model.params }
+        ensures asked { Told result self.new.asker.question
+            (first_spent self.old.asker.context (column_grown self.old.asker.context column self.old.rows.items).asked) }
+        ensures rows { OnOk result (self.new.rows.items ≡ (column_grown self.old.asker.context column self.old.rows.items).rows) }
+        ensures omitted { OnOk result (self.new.omitted ≡ self.old.omitted ++ (column_grown self.old.asker.context column self.old.rows.items).omitted) }
+        ensures keeps { OnOk result (Keeps self.old.table self.new.table column) }
+        ensures grows { OnOk result (All (Grows self.old.asker.context) self.new.rows.items) }
+        ensures same { self.new.asker.context ≡ self.old.asker.context }
+        ensures tuple { length self.new.tuple ≡ length self.old.tuple }
+        ensures room { length self.new.room ≡ length self.old.room }
+    {
+        self.asker.assert_invariant();
+        let order = prefs.of(column);
+        let mut scores = no_scores(alloc, order.len())?;
+        close_contained(&mut self.table, &self.rows, column);
+        grow_horizontally(
+            workers,
+            &mut self.table,
+            &mut self.asker,
+            order,
+            column,
+            &mut scores,
+            self.rows.as_mut_slice(),
+        )?;
+        self.grow_vertically(alloc, plan, column, columns)
+    }
+
+    // The columns in order. The model, the slice and the preferences are those of the slice's questions.
+    pub(crate) fn grow_columns<R: Threads + Sync, G: Gate + Sync>(
+        &mut self,
+        workers: &Workers<'_, R, G>,
+        alloc: Global,
+        model: &TestModel,
+        prefs: &Prefs,
+        plan: &Plan,
+        slice: Slice,
+    ) -> Result<(), Stop>
+        requires model { self.old.asker.context.model ≡ model.now }
+        requires slice { self.old.asker.context.slice ≡ slice }
+        requires prefs { self.old.asker.context.prefs ≡ prefs.now }
+        requires plan { plan.now ≡ plan_of model.now }
+        requires is_new { IsNew self.old.asker.context self.old.table self.old.tuple self.old.room }
+        requires grows { All (Grows self.old.asker.context) self.old.rows.items }
+        ensures asked { Told result self.new.asker.question
+            (first_spent self.old.asker.context (columns_grown self.old.asker.context (column_order model.now slice) self.old.rows.items).asked) }
+        ensures rows { OnOk result (self.new.rows.items ≡ (columns_grown self.old.asker.context (column_order model.now slice) self.old.rows.items).rows) }
+        ensures omitted { OnOk result (self.new.omitted ≡ self.old.omitted
+            ++ (columns_grown self.old.asker.context (column_order model.now slice) self.old.rows.items).omitted) }
+        ensures grows { OnOk result (All (Grows self.old.asker.context) self.new.rows.items) }
+        ensures same { self.new.asker.context ≡ self.old.asker.context }
+    {
+        self.asker.assert_invariant();
+        let order = column_order(alloc, model, plan, slice)?;
+        for k in 0..order.len() {
+            self.grow_column(workers, alloc, prefs, plan, order[k], &order[..k + 1])?;
+        }
+        Ok(())
+    }
 }

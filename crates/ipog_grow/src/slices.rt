@@ -16,9 +16,7 @@ fn push_negatives(model: &TestModel, p: ParamNo, list: &mut Vec<Slice>) -> Resul
     let count = values.len() as ValueNo;
     for v in 0..count {
         if values[v as usize].negative {
-            if list.push(Slice::Negative(p, v)).is_err() {
-                return Err(NoMemory);
-            }
+            list.push(Slice::Negative(p, v))?;
         }
     }
     Ok(())
@@ -29,9 +27,7 @@ pub(crate) fn slices_of(alloc: Global, model: &TestModel) -> Result<Vec<Slice>, 
     ensures { IfOk result (λ list. list.items ≡ slices model.now) }
 {
     let mut list = Vec::new(alloc);
-    if list.push(Slice::Positive).is_err() {
-        return Err(NoMemory);
-    }
+    list.push(Slice::Positive)?;
     let count = model.params().len() as ParamNo;
     for p in 0..count {
         push_negatives(model, p, &mut list)?;

@@ -9,6 +9,16 @@ ghost use Rattle.ipog_grow.specs.Growing.{best, better};
 use crate::asker::Asker;
 use crate::stop::Stop;
 use cov_model::{Cells, ParamNo, ValueNo};
+use std::alloc::Global;
+use value_text::NoMemory;
+
+// A score of 0 for each of these many values.
+pub(crate) fn no_scores(alloc: Global, count: usize) -> Result<Vec<u32>, NoMemory>
+    ensures { IfOk result (λ scores. length scores.items ≡ count) }
+{
+    let scores = vec![in alloc; 0; count]?;
+    Ok(scores)
+}
 
 // Of a value found before and another one, the first, unless the other has the greater score. A
 // value without a score doesn't count.
@@ -49,21 +59,23 @@ pub(crate) fn try_values(
     column: ParamNo,
     row: &mut Cells,
 ) -> Result<bool, Stop>
-    requires column { column < length asker.old.world.model.params }
-    requires order { order.now ≡ slice_index_or asker.old.world.prefs column [] }
-    requires scores { length scores.old ≡ length (param_at asker.old.world.model.params column).values }
-    requires listed { (v : ℕ) → 0 < slice_index scores.old v → is_among (slice_index_or (slice_values asker.old.world.model asker.old.world.slice) column []) v ≡ true }
-    requires grows { Grows asker.old.world row.old }
+    requires column { column < length asker.old.context.model.params }
+    requires order { order.now ≡ slice_index_or asker.old.context.prefs column [] }
+    requires scores { length scores.old ≡ length (param_at asker.old.context.model.params column).values }
+    requires listed { (v : ℕ) → 0 < slice_index scores.old v
+        → is_among (slice_index_or (slice_values asker.old.context.model asker.old.context.slice) column []) v ≡ true }
+    requires grows { Grows asker.old.context row.old }
     requires free { is_assigned row.old column ≡ false }
-    ensures asked { (n : ℕ) → All (λ score. score ≤ n) scores.old → Told result asker.new.question (first_spent asker.old.world (tried asker.old.world n scores.old order.now column row.old).asked) }
-    ensures row { OnOk result ((n : ℕ) → All (λ score. score ≤ n) scores.old → row.new ≡ (tried asker.old.world n scores.old order.now column row.old).row) }
+    ensures asked { (n : ℕ) → All (λ score. score ≤ n) scores.old
+        → Told result asker.new.question (first_spent asker.old.context (tried asker.old.context n scores.old order.now column row.old).asked) }
+    ensures row { OnOk result ((n : ℕ) → All (λ score. score ≤ n) scores.old → row.new ≡ (tried asker.old.context n scores.old order.now column row.old).row) }
     ensures kept { IfOk result (λ given. given ≡ false → row.new ≡ row.old) }
-    ensures grows { OnOk result (Grows asker.old.world row.new) }
+    ensures grows { OnOk result (Grows asker.old.context row.new) }
     ensures more { OnOk result (contains row.new row.old ≡ true) }
-    ensures same { asker.new.world ≡ asker.old.world }
+    ensures same { asker.new.context ≡ asker.old.context }
     ensures long { length scores.new ≡ length scores.old }
 {
-    asker.keeps();
+    asker.assert_invariant();
     while let Some(v) = best_value(order, scores) {
         row.set_cell(column, v);
         if asker.ask(row)? {

@@ -25,12 +25,14 @@ pub(crate) struct Workers<'a, R, G> {
 }
 
 impl<'a, R: Threads + Sync, G: Gate + Sync> Workers<'a, R, G> {
-    // How many workers score this many values in this many sets, so that none costs more than it saves.
+    // How many of the workers score this many values in this many sets, so that none costs more than it
+    // saves.
     fn count_for(&self, sets: usize, values: usize) -> u32
         requires sets { sets ≤ 2 ^ 20 }
         requires values { values ≤ 4095 }
         ensures least { 1 ≤ result }
         ensures most { result ≤ 64 }
+        ensures given { result ≤ self.now.count }
     {
         let worthwhile = sets * values / PAIRS_OF_A_WORKER + 1;
         worthwhile.min(self.count as usize) as u32
@@ -49,7 +51,7 @@ impl<'a, R: Threads + Sync, G: Gate + Sync> Workers<'a, R, G> {
         requires scores { length scores.old ≡ length (param_at table.now.model.params column).values }
         ensures { scores.new ≡ map (gain table.now row.now column) (range_with_len 0 (length scores.old)) }
     {
-        let _ = table.model().params();
+        table.assert_invariant();
         let count = self.count_for(table.in_play_count(column), scores.len());
         score_all(self.rt, table, row, column, scores, count, self.gate);
     }

@@ -39,7 +39,7 @@ passed_here close [] open_yet quotes = refl
 passed_here close (b ∷ []) open_yet quotes = rw (ne_eqb b close open_yet) refl
 passed_here close (b ∷ next ∷ rest) open_yet quotes = rw (ne_eqb b close open_yet, quotes) refl
 
-two_bytes : (text : List ℕ) → quotes_next text ≡ true → 2 ≤ length text
+pub two_bytes : (text : List ℕ) → quotes_next text ≡ true → 2 ≤ length text
 two_bytes [] quotes = absurd (grind (arith, nat_tests))
 two_bytes (b ∷ []) quotes = absurd (grind (arith, nat_tests))
 two_bytes (b ∷ next ∷ rest) quotes = omega arith

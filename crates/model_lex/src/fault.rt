@@ -2,6 +2,7 @@ ghost use Rattle.std.specs.Prelude.{◌≡◌};
 ghost use Rattle.model_lex.specs.Codes.{most_of};
 
 use crate::diag::Diag;
+use value_text::NoMemory;
 
 /// What a model may have only so many of.
 #[derive(Debug, Drop, Clone, Copy, PartialEq, Eq)]
@@ -41,4 +42,14 @@ pub enum ModelFault {
     Limit(LimitName, u64),
     /// Memory was refused.
     NoMemory,
+}
+
+impl From<NoMemory> for ModelFault {
+    ghost use Rattle.model_lex.specs.declared.fault.ModelFault.TheVariants as faults;
+
+    ghost from_gives = { λ _ fault. fault ≡ faults.NoMemory };
+
+    fn from(_refused: NoMemory) -> ModelFault {
+        ModelFault::NoMemory
+    }
 }

@@ -20,8 +20,6 @@ mod note;
 mod options;
 mod scan;
 mod sections;
-#[cfg(test)]
-mod tests;
 mod token;
 mod trim;
 

@@ -99,10 +99,7 @@ pub fn split_model<'a>(alloc: Global, bytes: &'a [u8]) -> Result<Sections<'a>, M
         match read_line(before, bytes) {
             Ok((kind, text)) => {
                 before = kind;
-                match sections.push(kind, NumLine { line, text }) {
-                    Ok(()) => {}
-                    Err(NoMemory) => return Err(ModelFault::NoMemory),
-                }
+                sections.push(kind, NumLine { line, text })?;
             }
             Err(code) => return Err(ModelFault::Bad(Diag { line, code })),
         }

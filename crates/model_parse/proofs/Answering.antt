@@ -1,10 +1,10 @@
 -- What an answer says, passed on from step to step.
-use Rattle.std.proofs.Common.{◌≡◌, ℕ, ◌<◌, true, cond, List, [], ◌∷◌, ◌-◌, map, length, get_or, arith, Option, Some, None, Result, Ok, Err, MatchResult, IfOk, sym, ◌∙◌, ap, subst}
+use Rattle.std.proofs.Common.{◌≡◌, ℕ, ◌<◌, true, cond, List, [], ◌∷◌, ◌-◌, map, length, get_or, arith, Option, Some, None, Result, Ok, Err, sym, ◌∙◌, ap, subst}
 use Rattle.std.proofs.lemmas.List.{get_or_default, get_or-map, length-map}
-use Rattle.std.specs.Prelude.{slice_index_or}
+use Rattle.std.specs.Prelude.{◌≢◌, slice_index_or}
+use Rattle.std.specs.Result.{IsErrAnd}
 use Rattle.model_lex.specs.Sections.{Split, line_seen}
 use Rattle.model_lex.specs.declared.sections.NumLine.{NumLine}
-use Rattle.value_text.specs.declared.no_memory.NoMemory.{NoMemory as Refused}
 use Rattle.cov_model.specs.declared.parameter.Param.{Param}
 use Rattle.cov_model.specs.Sound.{param_at}
 use Rattle.model_lex.specs.declared.diag.DiagCode.{DiagCode}
@@ -23,11 +23,11 @@ use Rattle.model_parse.specs.Values.{is_reference, referred, place_of, add_value
 pub gives_same : {A B : Type 0} (seen : B → A) (result : Result B ModelFault) (wanted wanted' : Result A ModelFault) → wanted ≡ wanted' → Gives wanted seen result → Gives wanted' seen result
 gives_same seen result wanted wanted' e h = subst (λ w. Gives w seen result) e h
 
--- what a call gave, behind its want of memory
-pub kept_ok : {T : Type 0} (P : T → Type 0) (answer : Result T Refused) (result : Result T ModelFault) (value : T)
-    → MatchResult answer (λ v. result ≡ Ok v) (λ _. result ≡ Err NoMemory) → result ≡ Ok value → IfOk answer P → P value
-kept_ok P (Ok v) result value told was h = let same : v ≡ value = cc in subst P same h
-kept_ok P (Err e) result value told was h = cc
+-- a fault that is handed on
+pub gives_fault : {A B : Type 0} (seen : B → A) (wanted : Result A ModelFault) (result : Result B ModelFault) (fault : ModelFault)
+    → IsErrAnd result (λ told. told ≡ fault) → (fault ≢ NoMemory → wanted ≡ Err fault) → Gives wanted seen result
+gives_fault seen wanted (Ok b) fault same h = absurd same
+gives_fault seen wanted (Err told) fault same h = subst (λ f. f ≢ NoMemory → wanted ≡ Err f) (sym same) h
 
 pub accepted_is : {A B : Type 0} (line : ℕ) (code : Option DiagCode) (a b : A) (next : A → Result B ModelFault) → code ≡ None → a ≡ b → next b ≡ and_then (refused_or line code (Ok a)) next
 accepted_is line code a b next none same = sym (ap (λ o. and_then (refused_or line o (Ok a)) next) none ∙ ap next same)

@@ -5,6 +5,7 @@ pub mod Joining
 pub mod Keeping
 pub mod Names
 pub mod Readings
+pub mod Refusing
 pub mod SoundGroups
 pub mod SoundNames
 pub mod SoundParams

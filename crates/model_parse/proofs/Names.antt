@@ -1,5 +1,5 @@
 -- Names in the keys of a set.
-use Rattle.std.proofs.Common.{◌≡◌, ℕ, ◌+◌, Bool, true, false, not, ◌||◌, cond, List, [], ◌∷◌, ◌++◌, map, length, Option, Some, None, Result, Ok, Err, IfOk, is_ok, refl, sym, ◌∙◌, ap, position, nat_lt}
+use Rattle.std.proofs.Common.{◌≡◌, ℕ, ◌+◌, Bool, false, not, ◌||◌, cond, List, [], ◌∷◌, ◌++◌, map, length, Option, Some, None, refl, sym, ◌∙◌, ap, position, nat_lt}
 use Rattle.std.proofs.lemmas.List.{length-map, map-append}
 use Rattle.std.specs.List.{list_any, prefix_len, position_or_len}
 use Rattle.std.specs.Str.{bytes_eq}
@@ -34,7 +34,3 @@ pub added_is : {K : Type 0} (text : K → List ℕ) (fold : Bool) (name : List �
 added_is text fold name key keys new names e folds views absent =
     ap (map text) (e ∙ ap (λ b. cond b keys (keys ++ key ∷ [])) (known_is text fold name (text key) keys names _ refl folds views ∙ absent))
     ∙ map-append text keys (key ∷ []) ∙ ap (λ ns. ns ++ text key ∷ []) views ∙ ap (λ t. names ++ t ∷ []) folds
-
-pub on_ok : {T E : Type 0} (r : Result T E) (P : Type 0) → IfOk r (λ _. P) → is_ok r ≡ true → P
-on_ok (Ok x) P h e = h
-on_ok (Err x) P h e = cc

@@ -1,6 +1,7 @@
 -- The demand that the group lines give is sound, and so is the raw model.
-use Rattle.std.proofs.Common.{◌≡◌, ◌≢◌, ℕ, ◌<◌, ◌≤◌, Bool, true, false, ◌&&◌, cond, List, [], ◌∷◌, min, length, All, AllPairs, Option, Some, None, IfOk, position, refl, sym, ◌∙◌, arith, ltb, leb, eqb}
+use Rattle.std.proofs.Common.{◌≡◌, ◌≢◌, ℕ, ◌<◌, ◌≤◌, Bool, true, false, ◌&&◌, List, [], ◌∷◌, min, length, All, AllPairs, Option, Some, None, IfOk, position, refl, sym, ◌∙◌, arith, ltb, leb, eqb}
 use Rattle.std.proofs.lemmas.Bool.{and_parts, true≢false, ltb-false, leb-true, eq-eqb, cond_both}
+use Rattle.std.proofs.lemmas.Option.{cond_some}
 use Rattle.std.proofs.lemmas.List.{length-append}
 use Rattle.std.proofs.lemmas.List.Elements.{All-nil, All-push}
 use Rattle.std.proofs.lemmas.List.Folds.{list_any_at}
@@ -49,10 +50,6 @@ member_ok count line members known test numbered are (Some p) is =
     })
 
 -- an order is from 1 to the number of members
-cond_some : {A : Type 0} (b : Bool) (v n : A) → cond b (Some v) None ≡ Some n → (b ≡ true) × (v ≡ n)
-cond_some true v n e = (refl, cc)
-cond_some false v n e = cc
-
 order_within : (whole : ℕ) (text : Option (List ℕ)) (count n : ℕ) → 1 ≤ whole → 0 < count → group_order whole text count ≡ Some n → (1 ≤ n) × (n ≤ count)
 order_within whole (Some text) count n least some is =
     let value = digits_value 10 text in

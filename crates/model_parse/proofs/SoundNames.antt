@@ -1,5 +1,5 @@
 -- The names that a line gives.
-use Rattle.std.proofs.Common.{◌≡◌, ◌≢◌, ℕ, ◌-◌, ◌<◌, ◌≤◌, Bool, true, false, ◌||◌, cond, List, [], ◌∷◌, map, length, drop, reverse, get_or, All, Option, Some, None, refl, sym, ◌∙◌, ap, subst, arith, eqb, ltb}
+use Rattle.std.proofs.Common.{◌≡◌, ◌≢◌, ℕ, ◌-◌, ◌<◌, ◌≤◌, Bool, true, false, ◌||◌, cond, List, [], ◌∷◌, map, length, drop, reverse, get_or, All, Some, None, refl, sym, ◌∙◌, ap, subst, arith, eqb, ltb}
 use Rattle.std.proofs.lemmas.Bool.{and_from, or_parts, not-false, true≢false, lt-ltb, eq-eqb, eqb-false, not_from_false}
 use Rattle.std.proofs.lemmas.List.{length-map, get_or-take, get_or-drop, length-take, length-take-le, length-drop, length-reverse, get_or-reverse}
 use Rattle.std.proofs.lemmas.List.Elements.{All-nil, All-cons, All-head, All-tail, All-map, All-take, All-drop}
@@ -7,8 +7,8 @@ use Rattle.std.proofs.lemmas.List.Splits.{length-slice_split}
 use Rattle.std.proofs.lemmas.List.Sums.{prefix_len_stops, suffix_len-le-length, fails_before_first}
 use Rattle.std.proofs.lemmas.List.Folds.{list_any_none}
 use Rattle.std.specs.List.{prefix_len, suffix_len, before_first, list_any, slice_split, position_or_len}
-use Rattle.std.specs.Option.{option_or}
 use Rattle.std.specs.Prelude.{slice_index}
+use Rattle.value_text.proofs.ListLemmas.{option_or_parts}
 use Rattle.cov_model.specs.Names.{is_name, is_trimmed}
 use Rattle.model_lex.specs.Blanks.{is_blank, trimmed, without_first_blanks}
 use Rattle.model_parse.specs.Pieces.{is_byte, pieces, begins_with, is_unfit}
@@ -75,14 +75,10 @@ coded_name prefix name cut code =
       unmarked = λ e. true≢false (sym (and_from (ltb 0 (length name)) (eqb (get_or name 0 0) prefix) (lt-ltb 0 (length name) some) (eq-eqb _ _ e)) ∙ parts.0);
     }
 
-neither : {C : Type 0} (a b : Option C) → option_or a b ≡ None → (a ≡ None) × (b ≡ None)
-neither None b e = (refl, e)
-neither (Some c) b e = cc
-
 coded_names : (prefix : ℕ) (names : List (List ℕ)) → All IsCut names → names_code prefix names ≡ None → All (IsSoundName prefix) names
 coded_names prefix [] cut code = All-nil (IsSoundName prefix)
 coded_names prefix (name ∷ names) cut code =
-    let codes = neither _ _ code in
+    let codes = option_or_parts _ _ code in
     All-cons (IsSoundName prefix) name names (coded_name prefix name (All-head IsCut name names cut) codes.0) (coded_names prefix names (All-tail IsCut name names cut) codes.1)
 
 -- so are the parts of a piece's names, where none is refused

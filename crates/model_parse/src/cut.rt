@@ -17,11 +17,8 @@ pub(crate) fn pieces(alloc: Global, text: &str, mark: u8) -> Result<Vec<&str>, N
     let parts = text
         .split(char::from(mark))
         .map(|part| trimmed(part))
-        .collect(alloc);
-    match parts {
-        Ok(parts) => Ok(parts),
-        Err(_) => Err(NoMemory),
-    }
+        .collect(alloc)?;
+    Ok(parts)
 }
 
 /// What stands before the first colon of a text, and what stands behind it.

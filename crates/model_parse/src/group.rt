@@ -11,7 +11,7 @@ ghost use Rattle.model_parse.specs.Steps.{Gives, and_each};
 ghost use Rattle.model_parse.specs.GroupLines.{add_group, add_member, behind_strength, braces_code, group_code, group_list, group_order, has_braces, inside_braces, behind_braces, is_relation, order_text, read_group, read_groups, relation_code, strength_text, sub_order};
 
 use crate::cut::{begins_with, behind_mark, cut_last, pieces};
-use crate::fault::{bad, kept};
+use crate::fault::bad;
 use crate::name_set::NameSet;
 use cov_model::{Demand, Group, NoList};
 use model_lex::{DiagCode, ModelFault, ModelOpts, NumLine, trimmed, without_first_blanks};
@@ -121,14 +121,14 @@ fn add_member(
     requires { length known.now ≤ 256 }
     ensures { Gives (add_member fold known.now line members piece.now) (λ next. next) result }
 {
-    let Some(p) = kept(known.place(alloc, piece, fold))? else {
+    let Some(p) = known.place(alloc, piece, fold)? else {
         return Err(bad(line, DiagCode::UnknownMember));
     };
     let p = p as u16;
     if is_member(members.as_slice(), p) {
         return Err(bad(line, DiagCode::RepeatedMember));
     }
-    kept(members.push(p))?;
+    members.push(p)?;
     Ok(members)
 }
 
@@ -169,7 +169,7 @@ fn read_members(
     requires few { length known.now ≤ 256 }
     ensures { Gives (and_each (add_member opts.now.fold known.now line) [] (pieces opts.now.marks.separator list.now)) (λ next. next) result }
 {
-    let pieces = kept(pieces(alloc, list, opts.marks.separator))?;
+    let pieces = pieces(alloc, list, opts.marks.separator)?;
     add_members(alloc, opts.fold, known, line, pieces.as_slice())
 }
 
@@ -198,10 +198,10 @@ fn add_group(
     };
     let group = Group { order, members };
     if relation {
-        kept(demand.relations.push(group))?;
+        demand.relations.push(group)?;
         return Ok(demand);
     }
-    kept(demand.subs.push(group))?;
+    demand.subs.push(group)?;
     Ok(demand)
 }
 
@@ -243,10 +243,7 @@ fn add_groups(
     ensures { Gives (and_each (read_group opts.now known.now) demand (map line_seen lines.now)) (λ next. next) result }
 {
     for line in lines {
-        demand = match read_group(alloc, opts, known, demand, *line) {
-            Ok(next) => next,
-            Err(fault) => return Err(fault),
-        };
+        demand = read_group(alloc, opts, known, demand, *line)?;
     }
     Ok(demand)
 }

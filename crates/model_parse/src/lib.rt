@@ -15,7 +15,5 @@ mod param;
 mod piece;
 mod raw_model;
 mod reading;
-#[cfg(test)]
-mod tests;
 
 pub use raw_model::{RawModel, params_read_back, parse_params};

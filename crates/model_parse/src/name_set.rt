@@ -28,14 +28,10 @@ fn folded(alloc: Global, name: &str, fold: bool) -> Result<Vec<u8>, NoMemory>
     ensures { IfOk result (λ key. key.items ≡ folded fold name.now) }
 {
     let bytes = name.as_bytes();
-    let key = if fold {
-        bytes.to_ascii_lowercase(alloc)
+    if fold {
+        Ok(bytes.to_ascii_lowercase(alloc)?)
     } else {
-        Vec::from_slice(alloc, bytes)
-    };
-    match key {
-        Ok(key) => Ok(key),
-        Err(_) => Err(NoMemory),
+        Ok(Vec::from_slice(alloc, bytes)?)
     }
 }
 
@@ -72,7 +68,7 @@ impl NameSet {
         ensures { OnOk result (self.new ≡ self.old ++ folded fold name.now ∷ []) }
     {
         let key = folded(alloc, name, fold)?;
-        let inserted = self.keys.insert(key).is_ok();
-        if inserted { Ok(()) } else { Err(NoMemory) }
+        self.keys.insert(key)?;
+        Ok(())
     }
 }

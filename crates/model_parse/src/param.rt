@@ -9,7 +9,7 @@ ghost use Rattle.model_parse.specs.Values.{is_known, add_piece};
 ghost use Rattle.model_parse.specs.ParamLines.{Counts, IsOneMore, param_code, read_values, add_param, read_param, read_params, no_params};
 
 use crate::cut::{cut_colon, is_unfit, pieces};
-use crate::fault::{bad, kept};
+use crate::fault::bad;
 use crate::name_set::NameSet;
 use crate::piece::add_piece;
 use crate::reading::{ParamsRead, Reading};
@@ -77,7 +77,7 @@ fn read_values(
     requires numbered { length known.now ≤ length params.now }
     ensures { Gives (read_values opts.now line params.now known.now notes list.now) (λ next. next) result }
 {
-    let pieces = kept(pieces(alloc, list, opts.marks.separator))?;
+    let pieces = pieces(alloc, list, opts.marks.separator)?;
     let start = Reading {
         values: OwnedList::new(alloc),
         known: NameSet::new(alloc),
@@ -126,13 +126,13 @@ fn add_param(
     if count > LimitName::Values.most() {
         return Err(ModelFault::Limit(LimitName::Values, count));
     }
-    kept(known.add(alloc, name, fold))?;
-    kept(params.push(Param {
-        name: kept(Text::copy(alloc, name))?,
+    known.add(alloc, name, fold)?;
+    params.push(Param {
+        name: Text::copy(alloc, name)?,
         line,
         numeric: is_numeric(values.as_slice()),
         values,
-    }))?;
+    })?;
     Ok(ParamsRead {
         params,
         known,
@@ -161,10 +161,10 @@ fn read_param(
         known,
         notes,
     } = read;
-    if let Some(code) = kept(param_code(alloc, &known, name, opts.fold))? {
+    if let Some(code) = param_code(alloc, &known, name, opts.fold)? {
         return Err(bad(line.line, code));
     }
-    match read_values(
+    let values = read_values(
         alloc,
         opts,
         line.line,
@@ -172,10 +172,8 @@ fn read_param(
         &known,
         notes,
         list,
-    ) {
-        Ok(values) => add_param(alloc, opts.fold, line.line, name, params, known, values),
-        Err(fault) => Err(fault),
-    }
+    )?;
+    add_param(alloc, opts.fold, line.line, name, params, known, values)
 }
 
 // The parameters of these lines, one after another.

@@ -10,7 +10,7 @@ ghost use Rattle.model_parse.specs.Steps.{Gives, and_each, and_then, refused_or}
 ghost use Rattle.model_parse.specs.Values.{has_weight, weight_of, weight_text, names_text, without_prefix, names_of, value_of, name_code, names_code, piece_code, is_reference, referred, is_known, place_of, piece_values, keep_name, keep_names, add_value, add_piece};
 
 use crate::cut::{before_mark, begins_with, behind_mark, cut_last, is_unfit, pieces};
-use crate::fault::{bad, kept};
+use crate::fault::bad;
 use crate::name_set::NameSet;
 use crate::reading::Reading;
 use cov_model::{Param, Value};
@@ -179,7 +179,7 @@ fn add_value(
 ) -> Result<Reading, ModelFault>
     ensures { Gives (add_value fold line read (record { names = map (λ name. name.now) names.now; weight = weight; negative = negative })) (λ next. next) result }
 {
-    let names = kept(keep_names(alloc, fold, line, names, &mut read.known, &mut read.notes))?;
+    let names = keep_names(alloc, fold, line, names, &mut read.known, &mut read.notes)?;
     let count = names.len() as u64;
     if count > LimitName::Names.most() {
         return Err(ModelFault::Limit(LimitName::Names, count));
@@ -187,13 +187,11 @@ fn add_value(
     if count == 0 {
         return Ok(read);
     }
-    kept(
-        read.values.push(Value {
-            names,
-            weight,
-            negative,
-        }),
-    )?;
+    read.values.push(Value {
+        names,
+        weight,
+        negative,
+    })?;
     Ok(read)
 }
 
@@ -207,7 +205,7 @@ fn add_copy(
 ) -> Result<Reading, ModelFault>
     ensures { Gives (add_value fold line read value.now) (λ next. next) result }
 {
-    let names = kept(borrowed(alloc, value.names.as_slice()))?;
+    let names = borrowed(alloc, value.names.as_slice())?;
     add_value(
         alloc,
         fold,
@@ -263,8 +261,8 @@ fn add_spelled(
     if weight == 0 || weight >= WEIGHT_END {
         return Err(bad(line, DiagCode::BadWeight));
     }
-    let parts = kept(pieces(alloc, text, opts.marks.alias))?;
-    let names = kept(without_prefixes(alloc, parts.as_slice(), prefix))?;
+    let parts = pieces(alloc, text, opts.marks.alias)?;
+    let names = without_prefixes(alloc, parts.as_slice(), prefix)?;
     if let Some(code) = names_code(names.as_slice(), prefix) {
         return Err(bad(line, code));
     }
@@ -319,7 +317,7 @@ pub(crate) fn add_piece(
     let Some(name) = referred(piece) else {
         return add_spelled(alloc, opts, line, read, piece);
     };
-    match kept(known.place(alloc, name, opts.fold))? {
+    match known.place(alloc, name, opts.fold)? {
         Some(p) => add_copies(alloc, opts.fold, line, read, params[p].values.as_slice()),
         None => Err(bad(line, DiagCode::UnknownReference)),
     }

@@ -100,10 +100,8 @@ pub fn parse_params(
 {
     let lines = sections.params.as_slice();
     let read = read_params(alloc, opts, lines)?;
-    match read_demand(alloc, opts, &read, sections.groups.as_slice()) {
-        Ok(demand) => with_demand(lines, read, demand),
-        Err(fault) => Err(fault),
-    }
+    let demand = read_demand(alloc, opts, &read, sections.groups.as_slice())?;
+    with_demand(lines, read, demand)
 }
 
 /// The parameters of a model read back: where a line is written for each, as `NAME: a | b (3), ~c, d`,

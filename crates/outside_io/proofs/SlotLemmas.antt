@@ -1,5 +1,5 @@
 -- Slots found by their name, and what a write of one slot does to the others.
-use Rattle.std.proofs.Common.{◌≡◌, ℕ, ◌<◌, ◌≤◌, Bool, true, false, cond, max, Option, Some, None, List, [], ◌∷◌, ◌++◌, length, get_or, set, position, nat_lt, nat_le, unwrap_or, Result, Ok, Err, OnOk, refl, ap, sym, ◌∙◌, subst, inl, inr, arith}
+use Rattle.std.proofs.Common.{◌≡◌, ℕ, ◌<◌, Bool, true, false, cond, max, Option, Some, None, List, [], ◌∷◌, ◌++◌, length, get_or, set, position, nat_lt, nat_le, unwrap_or, refl, ap, sym, ◌∙◌, subst, inl, inr, arith}
 use Rattle.std.specs.List.{position_or_len, slice_get}
 use Rattle.std.specs.Option.{option_map, option_and_then, option_or}
 use Rattle.std.specs.Str.{bytes_eq}
@@ -21,11 +21,6 @@ pub record Found (slots : List Slot) (name : List ℕ) (at : ℕ) (held : Slot) 
   pub first : at ≡ position_or_len (is_named name) slots
   pub found : slot_of slots name ≡ Some held
 
--- a fact about an Ok from another
-pub on_ok : {T E P Q : Type 0} (r : Result T E) → (P → Q) → OnOk r P → OnOk r Q
-on_ok (Ok x) step fact = step fact
-on_ok (Err e) step fact = tt
-
 -- a place past the end
 none_past : (t : Bool) (i : ℕ) (xs : List Slot)
     → t ≡ nat_lt i (length xs) → None ≡ cond {A = Option ℕ} t (Some i) None → slice_get xs i ≡ None
@@ -36,12 +31,6 @@ none_past false i xs test none =
 or-none : (o : Option Slot) → option_or o None ≡ o
 or-none None = refl
 or-none (Some slot) = refl
-
-pub over : (size room : ℕ) → room < size → false ≡ nat_le size room
-over size room more = grind (arith, nat_tests)
-
-pub under : (size room : ℕ) → size ≤ room → true ≡ nat_le size room
-under size room enough = grind (arith, nat_tests)
 
 module _ (slots : List Slot) (name : List ℕ) where
   -- the look-up by place finds the slot; `items` are the slots, as the code reads them

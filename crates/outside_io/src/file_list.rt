@@ -88,10 +88,8 @@ impl FileList {
         ensures ok { OnOk result (self.new ≡ self.old ++ file ∷ []) }
         ensures err { OnErr result (self.new ≡ self.old) }
     {
-        match self.files.push(file) {
-            Ok(()) => Ok(()),
-            Err(_) => Err(NoMemory),
-        }
+        self.files.push(file)?;
+        Ok(())
     }
 
     /// The bytes of the file of a name, where one is listed.

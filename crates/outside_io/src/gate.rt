@@ -10,7 +10,5 @@ pub trait Gate {
 pub struct OpenGate;
 
 impl Gate for OpenGate {
-    fn come(&self, worker: u32) {
-        let _ = worker;
-    }
+    fn come(&self, _worker: u32) {}
 }

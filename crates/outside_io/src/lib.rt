@@ -38,6 +38,3 @@ pub use sink::Sink;
 pub use sure_folder::SureFolder;
 pub use sure_sink::SureSink;
 pub use words::command_words;
-
-#[cfg(test)]
-mod tests;

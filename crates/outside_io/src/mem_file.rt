@@ -39,15 +39,13 @@ impl MemFile {
         ensures { IfOk result (λ file. file ≡ record { name = name.now; file = None; room = room }) }
     {
         let name = Text::copy(alloc, name)?;
-        match Vec::with_capacity(alloc, room) {
-            Ok(bytes) => Ok(MemFile {
-                name,
-                bytes,
-                is_there: false,
-                room,
-            }),
-            Err(_) => Err(NoMemory),
-        }
+        let bytes = Vec::with_capacity(alloc, room)?;
+        Ok(MemFile {
+            name,
+            bytes,
+            is_there: false,
+            room,
+        })
     }
 
     /// Whether this is the slot of a name.
@@ -84,9 +82,7 @@ impl MemFile {
             return Ok(());
         }
         let held = self.bytes.len();
-        if self.bytes.reserve(most - held).is_err() {
-            return Err(NoMemory);
-        }
+        self.bytes.reserve(most - held)?;
         self.room = most;
         Ok(())
     }

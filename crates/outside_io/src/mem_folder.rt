@@ -141,10 +141,8 @@ impl MemFolder {
         ensures ok { OnOk result (self.new ≡ record self.old { slots = self.old.slots ++ file ∷ [] }) }
         ensures err { OnErr result (self.new ≡ self.old) }
     {
-        match self.files.push(file) {
-            Ok(()) => Ok(()),
-            Err(_) => Err(NoMemory),
-        }
+        self.files.push(file)?;
+        Ok(())
     }
 
     /// Makes bytes the file of a name; whether they fit the room that the name was given.

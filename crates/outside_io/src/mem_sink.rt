@@ -42,14 +42,12 @@ impl MemSink {
     pub fn up_to(alloc: Global, most: usize) -> Result<MemSink, NoMemory>
         ensures { IfOk result (λ sink. sink ≡ record { bytes = []; room = most; faults = 0 }) }
     {
-        match Vec::with_capacity(alloc, most) {
-            Ok(taken) => Ok(MemSink {
-                taken,
-                limit: most,
-                errors: 0,
-            }),
-            Err(_) => Err(NoMemory),
-        }
+        let taken = Vec::with_capacity(alloc, most)?;
+        Ok(MemSink {
+            taken,
+            limit: most,
+            errors: 0,
+        })
     }
 
     /// The bytes written. Takes no memory.

@@ -64,14 +64,13 @@ impl Folder for SureFolder {
     }
 
     /// Takes the file of the name out of the list.
-    fn write_file(&mut self, name: &str, bytes: &[u8]) -> WriteAnswer
+    fn write_file(&mut self, name: &str, _bytes: &[u8]) -> WriteAnswer
         ensures done { result ≡ WriteAnswer.Done }
         ensures untold { bytes_of self.new name.now ≡ None }
         ensures others { (other : List ℕ) → other ≢ name.now →
             bytes_of self.new other ≡ bytes_of self.old other }
         ensures taken_out { self.new ≡ without self.old name.now }
     {
-        let _ = bytes;
         self.files.take_out(name);
         WriteAnswer::Done
     }

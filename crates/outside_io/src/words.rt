@@ -1,16 +1,17 @@
 ghost use Rattle.std.specs.Prelude.{◌≤◌, vec_len, IfOk, IfSome};
 
-use std::alloc::{AllocError, Global};
+use std::alloc::Global;
 use std::env::FillError;
 use std::rt::Env;
 use std::str;
+use value_text::NoMemory;
 
 /// The bytes of the word of this number, which `buffer` begins with; `None` behind the last word.
 fn word_bytes<R: Env>(
     rt: &R,
     number: usize,
     buffer: &mut Vec<u8>,
-) -> Result<Option<usize>, AllocError>
+) -> Result<Option<usize>, NoMemory>
     ensures { IfOk result (λ found. IfSome found (λ len. len ≤ vec_len buffer.new)) }
 {
     for _ in 0..usize::BITS {
@@ -23,7 +24,7 @@ fn word_bytes<R: Env>(
             }
         }
     }
-    Err(AllocError)
+    Err(NoMemory)
 }
 
 /// The words of the command line behind the program's name.
@@ -33,8 +34,8 @@ fn word_bytes<R: Env>(
 ///
 /// # Errors
 ///
-/// `AllocError` where memory was refused.
-pub fn command_words<R: Env>(rt: &R, alloc: Global) -> Result<Vec<String>, AllocError> {
+/// `NoMemory` where memory was refused.
+pub fn command_words<R: Env>(rt: &R, alloc: Global) -> Result<Vec<String>, NoMemory> {
     let mut buffer = vec![in alloc; 0u8; 256]?;
     let mut words = Vec::new(alloc);
     for number in 1..usize::MAX {

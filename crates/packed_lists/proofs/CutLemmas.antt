@@ -1,8 +1,7 @@
 -- The lists that are cut out of one.
-use Rattle.std.proofs.Common.{◌≡◌, ℕ, zero, suc, ◌+◌, ◌<◌, ◌≤◌, Bool, true, false, List, [], ◌∷◌, ◌++◌, length, get_or, take, drop, ◌-◌, ◌∙◌, refl, sym, ap, arith, subst, length-append, length-drop}
+use Rattle.std.proofs.Common.{◌≡◌, ℕ, zero, suc, ◌+◌, ◌<◌, ◌≤◌, List, [], ◌∷◌, ◌++◌, length, get_or, take, drop, ◌-◌, ◌∙◌, refl, sym, ap, arith, subst, length-append, length-drop}
 use Rattle.std.proofs.Math.Seq.{drop-append_seam, take-length}
-use Rattle.std.specs.Prelude.{slice_range, if◌then◌else◌}
-use Rattle.std.proofs.lemmas.Bool.{false≢true}
+use Rattle.std.specs.Prelude.{slice_range}
 use Rattle.std.proofs.lemmas.List.{drop-append-le, take-append-le}
 use Rattle.packed_lists.specs.Packed.{AreEnds, begin_of, cut}
 
@@ -71,11 +70,6 @@ ends_push begin (end ∷ ends) whole more are = (are.0, ends_push end ends whole
 -- a number of a list is one of an end
 pub number_within : (ends numbers : List ℕ) (lists : List (List ℕ)) (i : ℕ) → cut 0 ends numbers ≡ lists → i < length lists → i < length ends
 number_within ends numbers lists i is within = omega (arith, within, ap length is, cut_length 0 ends numbers)
-
--- what a call did that succeeded
-pub when : {X : Type 0} (ok : Bool) (after on_success on_failure : X) → ok ≡ true → after ≡ (if ok then on_success else on_failure) → after ≡ on_success
-when true after on_success on_failure is gives = gives
-when false after on_success on_failure is gives = absurd (false≢true is)
 
 -- the lists after a push
 pub record Pushes (ends numbers list new_ends new_numbers : List ℕ) : Type 0 where

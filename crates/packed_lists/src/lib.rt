@@ -7,6 +7,3 @@
 mod packed;
 
 pub use packed::PackedLists;
-
-#[cfg(test)]
-mod tests;

@@ -90,13 +90,10 @@ impl PackedLists {
         let Ok(end) = u32::try_from(self.numbers.len() + list.len()) else {
             return Err(NoMemory);
         };
-        if self.ends.push(end).is_err() {
-            return Err(NoMemory);
-        }
-        if self.numbers.extend_from_slice(list).is_err() {
-            let _ = self.ends.pop();
-            return Err(NoMemory);
-        }
+        self.numbers.reserve(list.len())?;
+        self.ends.push(end)?;
+        let copied = self.numbers.extend_from_slice(list);
+        prove!(copied.is_ok());
         Ok(())
     }
 }

@@ -1,135 +1,97 @@
 -- Which status a run must end with, from what its model file holds.
 use Rattle.std.proofs.Common.{◌≡◌, ℕ, ◌<◌, ◌≤◌, List, Option, None, Some, Ok, Err, Result, inl, inr, refl, sym, ap, subst, ◌∙◌, length, arith}
-use Rattle.std.specs.Prelude.{◌⊎◌, ◌≢◌, IfSome, option_map}
+use Rattle.std.specs.Prelude.{◌⊎◌, ◌≢◌, option_map, IsSomeAnd, IsErrAnd}
+use Rattle.std.proofs.lemmas.Option.{none-some}
+use Rattle.outside_io.specs.Faults.{Rose}
+use Rattle.outside_io.specs.Files.{Files}
 use Rattle.cov_model.specs.Sound.{ModelView}
 use Rattle.definitions.specs.Limits.{ModelFile, most_bytes}
 use Rattle.definitions.specs.Pairs.{pairs_of}
 use Rattle.definitions.specs.Settings.{Settings}
 use Rattle.model_lex.specs.declared.note.Note.{Note}
-use Rattle.model_lex.specs.declared.fault.LimitName.TheVariants as named
+use Rattle.model_lex.specs.declared.options.ModelOpts.{ModelOpts}
 use Rattle.model_lex.specs.declared.fault.ModelFault.{ModelFault}
-use Rattle.model_lex.specs.declared.fault.ModelFault.TheVariants.{Bad, BadRule, Limit}
-use Rattle.tuple_index.specs.PlanFault.{limit_passed}
-use Rattle.tuple_index.specs.declared.fault.PlanFault.TheVariants.{TooManySets, TooManyTuples}
 use Rattle.type_check.specs.ModelOf.{IsModelOf, IsRefusalOf}
-use Rattle.type_check.proofs.OneModel.{models_are_not_refused}
-use Rattle.type_check.proofs.OneRefusal.{refusals_are_one}
-use Rattle.std.proofs.lemmas.Option.{none-some}
-use Rattle.pict_cli.specs.Runs.{Ends, IsGrown, StopsBehind, StopsReading, fault_status, opts_of}
+use Rattle.type_check.proofs.OneAnswer.{models_are_not_refused, refusals_are_one}
+use Rattle.pict_cli.specs.Runs.{EndsBehind, IsGrown, IsRefused, StopsReading, cannot_read, cannot_write, fault_status, is_refused, is_spent, no_memory, opts_of, out_of_memory, too_long, too_many}
+use Rattle.pict_cli.specs.Steps.{CountsOut, Ran}
 use Rattle.pict_cli.specs.Stops.{status_of}
 use Rattle.pict_cli.specs.Told.{end_status}
 use Rattle.pict_cli.specs.declared.stop.Stop.{Stop}
-use Rattle.pict_cli.specs.declared.stop.Stop.TheVariants.{OutOfMemory, Spent, BadWord, BadModel, BadConstraint, CannotRead, CannotWriteReport, TooMany, TooLong}
-use Rattle.pict_cli.specs.declared.stop.Quantity.TheVariants.{Parameters, Values, Names, Constraints, DemandedSets, DemandedTuples}
+use Rattle.pict_cli.specs.declared.stop.Stop.TheVariants.{CannotRead, CannotWriteReport}
+use Rattle.pict_cli.proofs.RunEnds.{ends_told}
 
--- a refused file: the refusal's status, unless memory was wanting
-pub refused_end : (s : Settings) (seed : ℕ) (bytes : List ℕ) (notes : List Note) (before after : Option (List ℕ)) (end : Result (Unit {0}) Stop) (fault : ModelFault)
-    → IsRefusalOf (opts_of s) bytes fault → length bytes ≤ most_bytes ModelFile → end ≢ Err CannotRead → Ends s seed (Some bytes) notes before after end
-    → (end_status end ≡ fault_status fault) ⊎ (end_status end ≡ 1)
-refused_end s seed bytes notes before after end fault refusal short read (inr (m, loaded, sound, rest)) = absurd (models_are_not_refused (opts_of s) bytes m notes fault loaded refusal)
-refused_end s seed bytes notes before after (Ok done) fault refusal short read (inl (none, same)) = absurd none
-refused_end s seed bytes notes before after (Err OutOfMemory) fault refusal short read (inl stops) = inr refl
-refused_end s seed bytes notes before after (Err CannotRead) fault refusal short read (inl stops) = absurd (read refl)
-refused_end s seed bytes notes before after (Err (BadModel diag)) fault refusal short read (inl ((is, none), same)) = inl (ap fault_status (refusals_are_one (opts_of s) bytes (Bad diag) fault is refusal))
-refused_end s seed bytes notes before after (Err (BadConstraint diag)) fault refusal short read (inl ((is, none), same)) = inl (ap fault_status (refusals_are_one (opts_of s) bytes (BadRule diag) fault is refusal))
-refused_end s seed bytes notes before after (Err (TooMany Parameters n)) fault refusal short read (inl ((is, none), same)) = inl (ap fault_status (refusals_are_one (opts_of s) bytes (Limit named.Params n) fault is refusal))
-refused_end s seed bytes notes before after (Err (TooMany Values n)) fault refusal short read (inl ((is, none), same)) = inl (ap fault_status (refusals_are_one (opts_of s) bytes (Limit named.Values n) fault is refusal))
-refused_end s seed bytes notes before after (Err (TooMany Names n)) fault refusal short read (inl ((is, none), same)) = inl (ap fault_status (refusals_are_one (opts_of s) bytes (Limit named.Names n) fault is refusal))
-refused_end s seed bytes notes before after (Err (TooMany Constraints n)) fault refusal short read (inl ((is, none), same)) = inl (ap fault_status (refusals_are_one (opts_of s) bytes (Limit named.Rules n) fault is refusal))
-refused_end s seed bytes notes before after (Err (TooMany DemandedSets n)) fault refusal short read (inl ((is, none), same)) = absurd is
-refused_end s seed bytes notes before after (Err (TooMany DemandedTuples n)) fault refusal short read (inl ((is, none), same)) = absurd is
-refused_end s seed bytes notes before after (Err TooLong) fault refusal short read (inl ((long, none), same)) = absurd (omega (arith, long, short))
-refused_end s seed bytes notes before after (Err (Spent budget question)) fault refusal short read (inl ((is, none), same)) = absurd is
-refused_end s seed bytes notes before after (Err (BadWord index)) fault refusal short read (inl ((is, none), same)) = absurd is
-refused_end s seed bytes notes before after (Err CannotWriteReport) fault refusal short read (inl ((is, none), same)) = absurd is
+-- why a run on a model ends whose suite is grown
+grown_end : (s : Settings) (seed : ℕ) (m : ModelView) (end : Result (Unit {0}) Stop) → IsGrown s seed m → end ≢ Err CannotWriteReport
+    → EndsBehind s seed m end → (end_status end ≡ 0) ⊎ (end_status end ≡ 1)
+grown_end s seed m (Ok done) grown write printed = inl refl
+grown_end s seed m (Err stop) grown write (no_memory e) = inr (ap status_of e)
+grown_end s seed m (Err stop) grown write (too_many fault e passed) = absurd (none-some fault (sym grown.within ∙ passed))
+grown_end s seed m (Err stop) grown write (is_spent question e within over) =
+    absurd (none-some question.cells (sym (ap (option_map pairs_of) grown.answered) ∙ over))
+grown_end s seed m (Err stop) grown write (cannot_write e printed) = absurd (write (ap Err e))
 
--- a file that isn't there
-pub missing_end : (s : Settings) (seed : ℕ) (notes : List Note) (before after : Option (List ℕ)) (end : Result (Unit {0}) Stop) → Ends s seed None notes before after end
-    → (end_status end ≡ 7) ⊎ (end_status end ≡ 1)
-missing_end s seed notes before after end (inr (m, loaded, sound, rest)) = absurd loaded
-missing_end s seed notes before after (Ok done) (inl (none, same)) = absurd none
-missing_end s seed notes before after (Err OutOfMemory) (inl stops) = inr refl
-missing_end s seed notes before after (Err CannotRead) (inl stops) = inl refl
-missing_end s seed notes before after (Err (BadModel diag)) (inl ((is, none), same)) = absurd is
-missing_end s seed notes before after (Err (BadConstraint diag)) (inl ((is, none), same)) = absurd is
-missing_end s seed notes before after (Err (TooMany Parameters n)) (inl ((is, none), same)) = absurd is
-missing_end s seed notes before after (Err (TooMany Values n)) (inl ((is, none), same)) = absurd is
-missing_end s seed notes before after (Err (TooMany Names n)) (inl ((is, none), same)) = absurd is
-missing_end s seed notes before after (Err (TooMany Constraints n)) (inl ((is, none), same)) = absurd is
-missing_end s seed notes before after (Err (TooMany DemandedSets n)) (inl ((is, none), same)) = absurd is
-missing_end s seed notes before after (Err (TooMany DemandedTuples n)) (inl ((is, none), same)) = absurd is
-missing_end s seed notes before after (Err TooLong) (inl ((long, none), same)) = absurd long
-missing_end s seed notes before after (Err (Spent budget question)) (inl ((is, none), same)) = absurd is
-missing_end s seed notes before after (Err (BadWord index)) (inl ((is, none), same)) = absurd is
-missing_end s seed notes before after (Err CannotWriteReport) (inl ((is, none), same)) = absurd is
+-- why a run ends whose reading stopped: Q is the status of a refusal, and R that of a file with too many bytes
+reading_end :
+    (opts : ModelOpts) (held : Option (List ℕ)) (end : Result (Unit {0}) Stop) (Q : Type 0) → end ≢ Err CannotRead
+    → (IsSomeAnd held (λ bytes. most_bytes ModelFile < length bytes) → end_status end ≡ 9 → Q)
+    → ((fault : ModelFault) → IsSomeAnd held (IsRefused opts fault) → end_status end ≡ fault_status fault → Q)
+    → IsErrAnd end (StopsReading opts held) → Q ⊎ (end_status end ≡ 1)
+reading_end opts held (Ok done) Q read long refused none = absurd none
+reading_end opts held (Err stop) Q read long refused (out_of_memory e) = inr (ap status_of e)
+reading_end opts held (Err stop) Q read long refused (cannot_read e) = absurd (read (ap Err e))
+reading_end opts held (Err stop) Q read long refused (too_long e above) = inl (long above (ap status_of e))
+reading_end opts held (Err stop) Q read long refused (is_refused fault e cause) = inl (refused fault cause (ap status_of e))
 
--- why a grown suite may stop a run, and why the reading of a file that spells a model may
-stops_grown : (s : Settings) (seed : ℕ) (m : ModelView) (stop : Stop) → IsGrown s seed m → StopsBehind s seed m stop → (stop ≡ OutOfMemory) ⊎ (stop ≡ CannotWriteReport)
-stops_grown s seed m OutOfMemory grown h = inl refl
-stops_grown s seed m CannotWriteReport grown h = inr refl
-stops_grown s seed m (TooMany Parameters n) grown h = absurd h
-stops_grown s seed m (TooMany Values n) grown h = absurd h
-stops_grown s seed m (TooMany Names n) grown h = absurd h
-stops_grown s seed m (TooMany Constraints n) grown h = absurd h
-stops_grown s seed m (TooMany DemandedSets n) grown h = absurd (none-some (TooManySets n) (sym grown.within ∙ h))
-stops_grown s seed m (TooMany DemandedTuples n) grown h = absurd (none-some (TooManyTuples n) (sym grown.within ∙ h))
-stops_grown s seed m (Spent budget question) grown h = absurd (none-some question.cells (sym (ap (option_map pairs_of) grown.answered) ∙ h.2))
-stops_grown s seed m (BadModel diag) grown h = absurd h
-stops_grown s seed m (BadConstraint diag) grown h = absurd h
-stops_grown s seed m (BadWord index) grown h = absurd h
-stops_grown s seed m CannotRead grown h = absurd h
-stops_grown s seed m TooLong grown h = absurd h
+-- a run whose end has this status, where its count of faults of reading didn't rise
+module _ {s : Settings} {seed : ℕ} {files : Files} {reads reads_after : List ℕ → ℕ} {name : List ℕ} {before after : Option (List ℕ)} {faults faults_after : ℕ}
+    {notes : List Note} {end : Result (Unit {0}) Stop}
+    (ran : Ran s seed files reads reads_after name before after faults faults_after notes end) (status : ℕ) (is : status ≡ end_status end) where
+  calm : ¬ (Rose (reads name) (reads_after name)) → end ≢ Err CannotRead
+  calm stays e = stays (ran.read e)
 
-stops_read : (s : Settings) (bytes : List ℕ) (m : ModelView) (notes : List Note) (stop : Stop) → IsModelOf (opts_of s) bytes m notes → length bytes ≤ most_bytes ModelFile
-    → StopsReading (opts_of s) (Some bytes) stop → (stop ≡ OutOfMemory) ⊎ (stop ≡ CannotRead)
-stops_read s bytes m notes OutOfMemory is short h = inl refl
-stops_read s bytes m notes CannotRead is short h = inr refl
-stops_read s bytes m notes (BadModel diag) is short h = absurd (models_are_not_refused (opts_of s) bytes m notes (Bad diag) is h)
-stops_read s bytes m notes (BadConstraint diag) is short h = absurd (models_are_not_refused (opts_of s) bytes m notes (BadRule diag) is h)
-stops_read s bytes m notes (TooMany Parameters n) is short h = absurd (models_are_not_refused (opts_of s) bytes m notes (Limit named.Params n) is h)
-stops_read s bytes m notes (TooMany Values n) is short h = absurd (models_are_not_refused (opts_of s) bytes m notes (Limit named.Values n) is h)
-stops_read s bytes m notes (TooMany Names n) is short h = absurd (models_are_not_refused (opts_of s) bytes m notes (Limit named.Names n) is h)
-stops_read s bytes m notes (TooMany Constraints n) is short h = absurd (models_are_not_refused (opts_of s) bytes m notes (Limit named.Rules n) is h)
-stops_read s bytes m notes (TooMany DemandedSets n) is short h = absurd h
-stops_read s bytes m notes (TooMany DemandedTuples n) is short h = absurd h
-stops_read s bytes m notes TooLong is short h = absurd (omega (arith, h, short))
-stops_read s bytes m notes (Spent budget question) is short h = absurd h
-stops_read s bytes m notes (BadWord index) is short h = absurd h
-stops_read s bytes m notes CannotWriteReport is short h = absurd h
+  ended : (Q : ℕ → Type 0) → Q (end_status end) ⊎ (end_status end ≡ 1) → Q status ⊎ (status ≡ 1)
+  ended Q at = subst (λ n. Q n ⊎ (n ≡ 1)) (sym is) at
 
--- a file that spells a model which is grown: it is printed, unless memory was wanting
-pub complete_end : (s : Settings) (seed : ℕ) (bytes : List ℕ) (notes : List Note) (before after : Option (List ℕ)) (end : Result (Unit {0}) Stop) (m : ModelView) (told : List Note)
-    → IsModelOf (opts_of s) bytes m told → ((other : ModelView) (others : List Note) → IsModelOf (opts_of s) bytes other others → IsGrown s seed other)
-    → length bytes ≤ most_bytes ModelFile → end ≢ Err CannotRead → end ≢ Err CannotWriteReport → Ends s seed (Some bytes) notes before after end
-    → (end_status end ≡ 0) ⊎ (end_status end ≡ 1)
-complete_end s seed bytes notes before after (Ok done) m told is grown short read write ends = inl refl
-complete_end s seed bytes notes before after (Err stop) m told is grown short read write (inl ((stops, none), same)) =
-    elim (stops_read s bytes m told stop is short stops) [
-      | inl e ↦ inr (ap status_of e)
-      | inr e ↦ absurd (read (ap Err e))
-    ]
-complete_end s seed bytes notes before after (Err stop) m told is grown short read write (inr (other, loaded, sound, (stops, prints))) =
-    elim (stops_grown s seed other stop (grown other notes loaded) stops) [
-      | inl e ↦ inr (ap status_of e)
-      | inr e ↦ absurd (write (ap Err e))
-    ]
+  -- a refused file: the refusal's status, unless memory was wanting
+  pub refused_end : (bytes : List ℕ) (fault : ModelFault) → files name ≡ Some (Some bytes) → length bytes ≤ most_bytes ModelFile
+      → IsRefusalOf (opts_of s) bytes fault
+      → ¬ (Rose (reads name) (reads_after name)) → (status ≡ fault_status fault) ⊎ (status ≡ 1)
+  refused_end bytes fault at short refusal stays = ended (λ n. n ≡ fault_status fault) (elim (ends_told ran (Some bytes) at) [
+    | inl reading ↦ reading_end (opts_of s) (Some bytes) end _ (calm stays) (λ above nine. absurd (omega (arith, above, short)))
+        (λ other cause same. same ∙ ap fault_status (refusals_are_one (opts_of s) bytes other fault cause.1 refusal)) reading.0
+    | inr model ↦ absurd (models_are_not_refused (opts_of s) bytes model.model model.notes fault model.spelled refusal)
+  ])
 
--- the same of a told file and a status
-pub told_complete : (s : Settings) (seed : ℕ) (file : Option (Option (List ℕ))) (bytes : List ℕ) (notes : List Note) (before after : Option (List ℕ)) (end : Result (Unit {0}) Stop) (m : ModelView) (told : List Note) (status : ℕ)
-    → IfSome file (λ held. Ends s seed held notes before after end) → status ≡ end_status end → file ≡ Some (Some bytes) → length bytes ≤ most_bytes ModelFile → IsModelOf (opts_of s) bytes m told
-    → ((other : ModelView) (others : List Note) → IsModelOf (opts_of s) bytes other others → IsGrown s seed other) → end ≢ Err CannotRead → end ≢ Err CannotWriteReport → (status ≡ 0) ⊎ (status ≡ 1)
-told_complete s seed file bytes notes before after end m told status ends is at short model grown read write =
-    subst (λ n. (n ≡ 0) ⊎ (n ≡ 1)) (sym is)
-    (complete_end s seed bytes notes before after end m told model grown short read write (subst (λ f. IfSome f (λ held. Ends s seed held notes before after end)) at ends))
+  -- a file with too many bytes
+  pub long_end : (bytes : List ℕ) → files name ≡ Some (Some bytes) → most_bytes ModelFile < length bytes → ¬ (Rose (reads name) (reads_after name))
+      → (status ≡ 9) ⊎ (status ≡ 1)
+  long_end bytes at long stays = ended (λ n. n ≡ 9) (elim (ends_told ran (Some bytes) at) [
+    | inl reading ↦
+        reading_end (opts_of s) (Some bytes) end _ (calm stays) (λ above nine. nine) (λ other cause same. absurd (omega (arith, long, cause.0))) reading.0
+    | inr model ↦ absurd (omega (arith, long, model.within))
+  ])
 
-pub told_refused : (s : Settings) (seed : ℕ) (file : Option (Option (List ℕ))) (bytes : List ℕ) (notes : List Note) (before after : Option (List ℕ)) (end : Result (Unit {0}) Stop) (fault : ModelFault) (status : ℕ)
-    → IfSome file (λ held. Ends s seed held notes before after end) → status ≡ end_status end → file ≡ Some (Some bytes) → length bytes ≤ most_bytes ModelFile → IsRefusalOf (opts_of s) bytes fault
-    → end ≢ Err CannotRead → (status ≡ fault_status fault) ⊎ (status ≡ 1)
-told_refused s seed file bytes notes before after end fault status ends is at short refusal read =
-    subst (λ n. (n ≡ fault_status fault) ⊎ (n ≡ 1)) (sym is)
-    (refused_end s seed bytes notes before after end fault refusal short read (subst (λ f. IfSome f (λ held. Ends s seed held notes before after end)) at ends))
+  -- no file
+  pub missing_end : files name ≡ Some None → (status ≡ 7) ⊎ (status ≡ 1)
+  missing_end at = ended (λ n. n ≡ 7) (elim (ends_told ran None at) [
+    | inl reading ↦ missing end reading.0
+    | inr none ↦ absurd none
+  ])
+    where
+      missing : (end : Result (Unit {0}) Stop) → IsErrAnd end (StopsReading (opts_of s) None) → (end_status end ≡ 7) ⊎ (end_status end ≡ 1)
+      missing (Ok done) none = absurd none
+      missing (Err stop) (out_of_memory e) = inr (ap status_of e)
+      missing (Err stop) (cannot_read e) = inl (ap status_of e)
+      missing (Err stop) (too_long e none) = absurd none
+      missing (Err stop) (is_refused other e none) = absurd none
 
-pub told_missing : (s : Settings) (seed : ℕ) (file : Option (Option (List ℕ))) (notes : List Note) (before after : Option (List ℕ)) (end : Result (Unit {0}) Stop) (status : ℕ)
-    → IfSome file (λ held. Ends s seed held notes before after end) → status ≡ end_status end → file ≡ Some None → (status ≡ 7) ⊎ (status ≡ 1)
-told_missing s seed file notes before after end status ends is at =
-    subst (λ n. (n ≡ 7) ⊎ (n ≡ 1)) (sym is) (missing_end s seed notes before after end (subst (λ f. IfSome f (λ held. Ends s seed held notes before after end)) at ends))
+  -- a file that spells a model whose suite is grown: it is printed, unless memory was wanting
+  pub complete_end : (bytes : List ℕ) (m : ModelView) (told : List Note) → files name ≡ Some (Some bytes) → length bytes ≤ most_bytes ModelFile
+      → IsModelOf (opts_of s) bytes m told → IsGrown s seed m
+      → ¬ (Rose (reads name) (reads_after name)) → ¬ (Rose faults faults_after) → (status ≡ 0) ⊎ (status ≡ 1)
+  complete_end bytes m told at short spelled grown stays unbroken = ended (λ n. n ≡ 0) (elim (ends_told ran (Some bytes) at) [
+    | inl reading ↦ reading_end (opts_of s) (Some bytes) end _ (calm stays) (λ above nine. absurd (omega (arith, above, short)))
+        (λ fault cause same. absurd (models_are_not_refused (opts_of s) bytes m told fault spelled cause.1)) reading.0
+    | inr model ↦ grown_end s seed m end grown (λ e. unbroken (subst (λ x. CountsOut x faults faults_after) e ran.counts)) (model.each m told spelled).2
+  ])

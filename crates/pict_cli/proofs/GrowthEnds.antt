@@ -1,5 +1,5 @@
 -- How growth from no seed rows ended.
-use Rattle.std.proofs.Common.{◌≡◌, ℕ, List, [], map, Option, subst, sym, ap, ◌∙◌}
+use Rattle.std.proofs.Common.{◌≡◌, ℕ, List, [], map, subst, ap, ◌∙◌}
 use Rattle.cov_model.specs.Sound.{ModelView}
 use Rattle.definitions.specs.Growth.{growth}
 use Rattle.definitions.specs.Search.{first_over}
@@ -12,4 +12,5 @@ pub ends_by : (m : ModelView) (pref orders : List (List ℕ)) (budget : ℕ) (ro
     → EndsBy (first_over m pref budget (growth m pref (map row_seen rows)).asked) fault → EndsBy (first_over m orders budget (growth m orders []).asked) fault
 ends_by m pref orders budget rows fault same none ends =
     subst (λ over. EndsBy over fault)
-    (ap (λ p. first_over m p budget (growth m p (map row_seen rows)).asked) same ∙ ap (λ r. first_over m orders budget (growth m orders (map row_seen r)).asked) none) ends
+    (ap (λ p. first_over m p budget (growth m p (map row_seen rows)).asked) same
+    ∙ ap (λ r. first_over m orders budget (growth m orders (map row_seen r)).asked) none) ends

@@ -1,9 +1,7 @@
 pub mod Causes
-pub mod Colons
 pub mod GrowthEnds
 pub mod Headline
 pub mod KindLemmas
-pub mod Pieces
 pub mod PutLines
 pub mod PutPairs
 pub mod PutPieces
@@ -11,5 +9,6 @@ pub mod PutTold
 pub mod RangeLemmas
 pub mod RunEnds
 pub mod Stopping
+pub mod Stops
 pub mod Unbuilt
 pub mod WordLemmas

@@ -13,12 +13,15 @@ parts : (budget : ℕ) (pairs : List (ℕ × ℕ)) → spent_opening budget ++ (
 parts budget pairs = sym (append_assoc (spent_opening budget) (pairs_text pairs) (codes "\n"))
 
 pub Puts-spent : (r : WriteAnswer) (budget : ℕ) (pairs : List (ℕ × ℕ)) (before middle last after : Option (List ℕ))
-    → Puts Done before middle (spent_opening budget) → Puts Done middle last (pairs_text pairs) → Puts r last after (codes "\n") → Puts r before after (spent_line budget pairs)
+    → Puts Done before middle (spent_opening budget) → Puts Done middle last (pairs_text pairs) → Puts r last after (codes "\n")
+    → Puts r before after (spent_line budget pairs)
 Puts-spent r budget pairs before middle last after first second third =
     subst (Puts r before after) (parts budget pairs)
-    (Puts-then r before middle after (spent_opening budget) (pairs_text pairs ++ codes "\n") first (Puts-then r middle last after (pairs_text pairs) (codes "\n") second third))
+    (Puts-then r before middle after (spent_opening budget) (pairs_text pairs ++ codes "\n") first
+    (Puts-then r middle last after (pairs_text pairs) (codes "\n") second third))
 
-pub Puts-spent_opening : (budget : ℕ) (pairs : List (ℕ × ℕ)) (before after : Option (List ℕ)) → Puts Failed before after (spent_opening budget) → Puts Failed before after (spent_line budget pairs)
+pub Puts-spent_opening : (budget : ℕ) (pairs : List (ℕ × ℕ)) (before after : Option (List ℕ)) → Puts Failed before after (spent_opening budget)
+    → Puts Failed before after (spent_line budget pairs)
 Puts-spent_opening budget pairs before after first =
     subst (Puts Failed before after) (parts budget pairs) (Puts-stopped before after (spent_opening budget) (pairs_text pairs ++ codes "\n") first)
 
@@ -26,4 +29,5 @@ pub Puts-spent_pairs : (budget : ℕ) (pairs : List (ℕ × ℕ)) (before middle
     → Puts Done before middle (spent_opening budget) → Puts Failed middle after (pairs_text pairs) → Puts Failed before after (spent_line budget pairs)
 Puts-spent_pairs budget pairs before middle after first second =
     subst (Puts Failed before after) (parts budget pairs)
-    (Puts-then Failed before middle after (spent_opening budget) (pairs_text pairs ++ codes "\n") first (Puts-stopped middle after (pairs_text pairs) (codes "\n") second))
+    (Puts-then Failed before middle after (spent_opening budget) (pairs_text pairs ++ codes "\n") first
+    (Puts-stopped middle after (pairs_text pairs) (codes "\n") second))

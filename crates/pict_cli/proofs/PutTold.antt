@@ -10,5 +10,6 @@ pub Puts-three : (r : WriteAnswer) (before middle last after : Option (List ℕ)
 Puts-three r before middle last after x y z first second third =
     Puts-then r before middle after x (y ++ z) first (Puts-then r middle last after y z second third)
 
-pub Puts-second : (before middle after : Option (List ℕ)) (x y z : List ℕ) → Puts Done before middle x → Puts Failed middle after y → Puts Failed before after (x ++ (y ++ z))
+pub Puts-second : (before middle after : Option (List ℕ)) (x y z : List ℕ) → Puts Done before middle x → Puts Failed middle after y
+    → Puts Failed before after (x ++ (y ++ z))
 Puts-second before middle after x y z first second = Puts-then Failed before middle after x (y ++ z) first (Puts-stopped middle after y z second)

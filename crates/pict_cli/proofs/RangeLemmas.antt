@@ -1,23 +1,21 @@
 -- Settings that words give are in their ranges, and the marks differ.
-use Rattle.std.proofs.Common.{◌≡◌, ℕ, ◌+◌, ◌≤◌, ◌^◌, ◌-◌, inl, inr, arith, Bool, true, false, not, ◌&&◌, ◌||◌, cond, if◌then◌else◌, List, [], ◌∷◌, ◌++◌, length, Option, Some, None, refl, sym, ap, subst, ◌∙◌, leb, append_assoc}
-use Rattle.std.specs.Prelude.{option_map, unwrap_or, codes, filter_map, drop, take, slice_index_or, Ok, Err, Result, nat_le, ◌==◌}
+use Rattle.std.proofs.Common.{◌≡◌, ℕ, ◌+◌, ◌≤◌, ◌^◌, ◌-◌, inl, inr, arith, Bool, true, false, not, ◌&&◌, ◌||◌, cond, if◌then◌else◌, List, [], ◌∷◌, ◌++◌, length, Option, Some, None, refl, sym, ap, subst, ◌∙◌, append_assoc}
+use Rattle.std.specs.Prelude.{option_map, codes, drop, take, slice_index_or, Ok, Err, Result, nat_le}
 use Rattle.std.specs.List.{list_any, after_first}
-use Rattle.std.specs.Option.{option_or, option_map_or}
-use Rattle.std.proofs.lemmas.Bool.{and_parts, leb-true, false≢true, cases_Bool}
+use Rattle.std.specs.Option.{option_or}
+use Rattle.std.proofs.lemmas.Bool.{and_parts, leb-true, false≢true, cases_Bool, or_left, or_parts, or_right}
 use Rattle.std.proofs.lemmas.List.{append-nil}
-use Rattle.std.proofs.lemmas.Option.{none-some}
+use Rattle.std.proofs.lemmas.Option.{none-some, same_Some}
 use Rattle.std.specs.Str.Parse.{digits_value}
+use Rattle.value_text.proofs.ListLemmas.{option_or_parts}
 use Rattle.value_text.specs.Numbers.{count_of, is_digits}
 use Rattle.value_text.specs.Texts.{is_same_text}
 use Rattle.cov_model.specs.Names.{is_mark}
-use Rattle.definitions.specs.Settings.{OrderWord, OrderOf, OrderMax, Setting, Order, Separator, Alias, Prefix, SeedFile, ShuffleValues, ShuffleBy, AnyShuffle, CaseCounts, Statistics, Workers, Budget, ProofFile, ProofFormat, MeasureFile, Make, SuspectFile, Settings, defaults, set, setting_of, settings_of, is_named, has_colon, is_colon, valued_setting, bare_setting, mark_of, order_of, file_of}
+use Rattle.definitions.specs.Settings.{OrderWord, OrderOf, OrderMax, Setting, Order, Separator, Alias, Prefix, SeedFile, ShuffleValues, ShuffleBy, AnyShuffle, CaseCounts, Statistics, Workers, Budget, ProofFile, ProofFormat, MeasureFile, Make, SuspectFile, Settings, defaults, set, setting_of, is_named, has_colon, is_colon, valued_setting, bare_setting, mark_of, order_of, file_of}
 use Rattle.definitions.specs.Words.{Command, has_equal_marks, is_mark_word, set_by, is_faulty, first_faulty, missing_name, read_command, read_words}
-use Rattle.pict_cli.specs.Ranges.{IsLeast, AreWorkers, AreRanged, AreFit, IsInRange}
+use Rattle.pict_cli.specs.Ranges.{IsLeast, AreRanged, AreFit, IsInRange}
 use Rattle.pict_cli.specs.Words.{model_name}
 use Rattle.pict_cli.proofs.WordLemmas.{set_by-push, faulty-alone}
-
-some_is : {X : Type 0} (x y : X) → Some x ≡ Some y → x ≡ y
-some_is x y h = ap (λ o. unwrap_or o x) h
 
 -- a test that was met, and one that wasn't
 either : {X : Type 0} (P : Type 0) (b : Bool) (x y : Option X) (s : X) → (x ≡ Some s → P) → (y ≡ Some s → P) → cond b x y ≡ Some s → P
@@ -27,7 +25,7 @@ either P false x y s f g h = g h
 -- a value read by one word
 read : {X : Type 0} (f : X → Setting) (o : Option X) (s : Setting) → ((x : X) → o ≡ Some x → IsInRange (f x)) → option_map f o ≡ Some s → IsInRange s
 read f None s k h = absurd (none-some s h)
-read f (Some x) s k h = subst IsInRange (some_is (f x) s h) (k x refl)
+read f (Some x) s k h = subst IsInRange (same_Some (f x) s h) (k x refl)
 
 within : (text : List ℕ) (least most n : ℕ) → count_of text least most ≡ Some n → (least ≤ n) × (n ≤ most)
 within text least most n h = decide (is_digits text && nat_le (length text) 20 && nat_le least value && nat_le value most) refl
@@ -39,7 +37,7 @@ within text least most n h = decide (is_digits text && nat_le (length text) 20 &
     decide true t =
         let last = and_parts (is_digits text && nat_le (length text) 20 && nat_le least value) (nat_le value most) t in
         let first = and_parts (is_digits text && nat_le (length text) 20) (nat_le least value) last.0 in
-        let same : value ≡ n = some_is value n (sym (ap (λ b. if b then Some value else None) t) ∙ h) in
+        let same : value ≡ n = same_Some value n (sym (ap (λ b. if b then Some value else None) t) ∙ h) in
         (subst (λ k. least ≤ k) same (leb-true least value first.1), subst (λ k. k ≤ most) same (leb-true value most last.1))
     decide false t = absurd (none-some n (sym (ap (λ b. if b then Some value else None) t) ∙ h))
 
@@ -48,18 +46,18 @@ is_mark_of [] c h = absurd (none-some c h)
 is_mark_of (d ∷ []) c h = decide (is_mark d) refl
   where
     decide : (b : Bool) → is_mark d ≡ b → is_mark c ≡ true
-    decide true t = subst (λ k. is_mark k ≡ true) (some_is d c (sym (ap (λ b. if b then Some d else None) t) ∙ h)) t
+    decide true t = subst (λ k. is_mark k ≡ true) (same_Some d c (sym (ap (λ b. if b then Some d else None) t) ∙ h)) t
     decide false t = absurd (none-some c (sym (ap (λ b. if b then Some d else None) t) ∙ h))
 is_mark_of (d ∷ e ∷ rest) c h = absurd (none-some c h)
 
 is_least : (value : List ℕ) (order : OrderWord) → order_of value ≡ Some order → IsLeast order
 is_least value order h =
     either (IsLeast order) (is_same_text true value (codes "max")) (Some OrderMax) (option_map OrderOf (count_of value 1 256)) order
-    (λ e. subst IsLeast (some_is OrderMax order e) tt) (number (count_of value 1 256) refl) h
+    (λ e. subst IsLeast (same_Some OrderMax order e) tt) (number (count_of value 1 256) refl) h
   where
     number : (o : Option ℕ) → count_of value 1 256 ≡ o → option_map OrderOf o ≡ Some order → IsLeast order
     number None e k = absurd (none-some order k)
-    number (Some n) e k = subst IsLeast (some_is (OrderOf n) order k) (within value 1 256 n e).0
+    number (Some n) e k = subst IsLeast (same_Some (OrderOf n) order k) (within value 1 256 n e).0
 
 valued : (word value : List ℕ) (s : Setting) → valued_setting word value ≡ Some s → IsInRange s
 valued word value s h =
@@ -81,12 +79,14 @@ valued word value s h =
 bare : (word : List ℕ) (s : Setting) → bare_setting word ≡ Some s → IsInRange s
 bare word s h =
     let P = IsInRange s in
-    either P (is_same_text true word (codes "/r")) _ _ s (λ e. subst IsInRange (some_is (ShuffleValues AnyShuffle) s e) tt)
-    (either P (is_same_text true word (codes "/c")) _ _ s (λ e. subst IsInRange (some_is CaseCounts s e) tt)
-    (either P (is_same_text true word (codes "/s")) _ _ s (λ e. subst IsInRange (some_is Statistics s e) tt) (λ e. absurd (none-some s e)))) h
+    either P (is_same_text true word (codes "/r")) _ _ s (λ e. subst IsInRange (same_Some (ShuffleValues AnyShuffle) s e) tt)
+    (either P (is_same_text true word (codes "/c")) _ _ s (λ e. subst IsInRange (same_Some CaseCounts s e) tt)
+    (either P (is_same_text true word (codes "/s")) _ _ s (λ e. subst IsInRange (same_Some Statistics s e) tt) (λ e. absurd (none-some s e)))) h
 
 in_range : (word : List ℕ) (s : Setting) → setting_of word ≡ Some s → IsInRange s
-in_range word s h = either (IsInRange s) (has_colon word) (valued_setting word (after_first is_colon word)) (bare_setting word) s (valued word (after_first is_colon word) s) (bare word s) h
+in_range word s h =
+    either (IsInRange s) (has_colon word) (valued_setting word (after_first is_colon word)) (bare_setting word) s (valued word (after_first is_colon word) s)
+    (bare word s) h
 
 -- one setting more
 set_ranged : (s : Settings) (x : Setting) → AreRanged s → IsInRange x → AreRanged (set s x)
@@ -114,20 +114,14 @@ is_of_marks (Prefix c) = true
 is_of_marks setting = false
 
 -- a word that is none for marks sets none
-or_left : (a b : Bool) → a ≡ true → (a || b) ≡ true
-or_left a b h = ap (λ c. c || b) h
-
-or_right : (a b : Bool) → b ≡ true → (a || b) ≡ true
-or_right true b h = refl
-or_right false b h = h
-
 either_named : {X : Type 0} (P : Type 0) (b : Bool) (x y : Option X) (s : X) → (b ≡ true → P) → (y ≡ Some s → P) → cond b x y ≡ Some s → P
 either_named P true x y s f g h = f refl
 either_named P false x y s f g h = g h
 
-of_kind : {X : Type 0} (f : X → Setting) (o : Option X) (s : Setting) → ((x : X) → is_of_marks (f x) ≡ false) → option_map f o ≡ Some s → is_of_marks s ≡ false
+of_kind : {X : Type 0} (f : X → Setting) (o : Option X) (s : Setting) → ((x : X) → is_of_marks (f x) ≡ false) → option_map f o ≡ Some s
+    → is_of_marks s ≡ false
 of_kind f None s k h = absurd (none-some s h)
-of_kind f (Some x) s k h = ap is_of_marks (sym (some_is (f x) s h)) ∙ k x
+of_kind f (Some x) s k h = ap is_of_marks (sym (same_Some (f x) s h)) ∙ k x
 
 valued_apart : (word value : List ℕ) (s : Setting) → is_mark_word word ≡ false → valued_setting word value ≡ Some s → is_of_marks s ≡ false
 valued_apart word value s none h =
@@ -152,13 +146,14 @@ valued_apart word value s none h =
 bare_apart : (word : List ℕ) (s : Setting) → bare_setting word ≡ Some s → is_of_marks s ≡ false
 bare_apart word s h =
     let P = is_of_marks s ≡ false in
-    either P (is_same_text true word (codes "/r")) _ _ s (λ e. ap is_of_marks (sym (some_is (ShuffleValues AnyShuffle) s e)))
-    (either P (is_same_text true word (codes "/c")) _ _ s (λ e. ap is_of_marks (sym (some_is CaseCounts s e)))
-    (either P (is_same_text true word (codes "/s")) _ _ s (λ e. ap is_of_marks (sym (some_is Statistics s e))) (λ e. absurd (none-some s e)))) h
+    either P (is_same_text true word (codes "/r")) _ _ s (λ e. ap is_of_marks (sym (same_Some (ShuffleValues AnyShuffle) s e)))
+    (either P (is_same_text true word (codes "/c")) _ _ s (λ e. ap is_of_marks (sym (same_Some CaseCounts s e)))
+    (either P (is_same_text true word (codes "/s")) _ _ s (λ e. ap is_of_marks (sym (same_Some Statistics s e))) (λ e. absurd (none-some s e)))) h
 
 sets_no_mark : (word : List ℕ) (s : Setting) → is_mark_word word ≡ false → setting_of word ≡ Some s → is_of_marks s ≡ false
 sets_no_mark word s none h =
-    either (is_of_marks s ≡ false) (has_colon word) (valued_setting word (after_first is_colon word)) (bare_setting word) s (valued_apart word (after_first is_colon word) s none) (bare_apart word s) h
+    either (is_of_marks s ≡ false) (has_colon word) (valued_setting word (after_first is_colon word)) (bare_setting word) s
+    (valued_apart word (after_first is_colon word) s none) (bare_apart word s) h
 
 same_marks : (s : Settings) (x : Setting) → is_of_marks x ≡ false → has_equal_marks s ≡ false → has_equal_marks (set s x) ≡ false
 same_marks s (Order order) h apart = apart
@@ -190,22 +185,22 @@ setting_read before after word h = found (setting_of word) refl
     found None e = absurd (false≢true (sym h ∙ faulty-alone before after word e))
     found (Some x) e = (x, e)
 
-or_false : (a b : Bool) → (a || b) ≡ false → (a ≡ false) × (b ≡ false)
-or_false true b h = absurd (false≢true (sym h))
-or_false false b h = (refl, h)
-
 -- one word more
-read_more : (before after : List (List ℕ)) (word : List ℕ) → is_faulty before word after ≡ false → AreRead before (word ∷ after) → AreRead (before ++ word ∷ []) after
+read_more : (before after : List (List ℕ)) (word : List ℕ) → is_faulty before word after ≡ false → AreRead before (word ∷ after)
+    → AreRead (before ++ word ∷ []) after
 read_more before after word good read =
     let found = setting_read before after word good in
     let more = set_by-push before word found.0 found.1 in
-    let last = (or_false _ (is_mark_word word && not (list_any is_mark_word after) && has_equal_marks (set_by (before ++ word ∷ []))) good).1 in
+    let last = (or_parts _ (is_mark_word word && not (list_any is_mark_word after) && has_equal_marks (set_by (before ++ word ∷ []))) good).1 in
     record {
       ranged = subst AreRanged (sym more) (set_ranged (set_by before) found.0 read.ranged (in_range word found.0 found.1));
       apart = λ none. elim (cases_Bool (is_mark_word word)) [
-        | inl marks ↦ sym (ap (λ b. b && not (list_any is_mark_word after) && has_equal_marks (set_by (before ++ word ∷ []))) marks ∙ ap (λ b. not b && has_equal_marks (set_by (before ++ word ∷ []))) none) ∙ last
+        | inl marks ↦
+            let equal = has_equal_marks (set_by (before ++ word ∷ [])) in
+            sym (ap (λ b. b && not (list_any is_mark_word after) && equal) marks ∙ ap (λ b. not b && equal) none) ∙ last
         | inr other ↦ ap has_equal_marks more
-            ∙ same_marks (set_by before) found.0 (sets_no_mark word found.0 other found.1) (read.apart (ap (λ b. b || list_any is_mark_word after) other ∙ none))
+            ∙ same_marks (set_by before) found.0 (sets_no_mark word found.0 other found.1)
+            (read.apart (ap (λ b. b || list_any is_mark_word after) other ∙ none))
       ];
     }
 
@@ -217,11 +212,16 @@ all_read : (n : ℕ) (before after : List (List ℕ)) → first_faulty n before 
 all_read n before [] good read = subst (λ words. AreFit (set_by words)) (sym (append-nil before)) (record { ranged = read.ranged; apart = read.apart refl })
 all_read n before (word ∷ after) good read =
     let fine = unfaulty n (is_faulty before word after) (first_faulty (n + 1) (before ++ word ∷ []) after) good in
-    subst (λ words. AreFit (set_by words)) (append_assoc before (word ∷ []) after) (all_read (n + 1) (before ++ word ∷ []) after fine.1 (read_more before after word fine.0 read))
+    subst (λ words. AreFit (set_by words)) (append_assoc before (word ∷ []) after)
+    (all_read (n + 1) (before ++ word ∷ []) after fine.1 (read_more before after word fine.0 read))
 
 -- what no words set
 no_words : (after : List (List ℕ)) → AreRead [] after
-no_words after = record { ranged = record { order = omega arith; separator = refl; alias = refl; prefix = refl; workers = (omega arith, omega arith) }; apart = λ none. refl }
+no_words after =
+    record {
+      ranged = record { order = omega arith; separator = refl; alias = refl; prefix = refl; workers = (omega arith, omega arith) };
+      apart = λ none. refl;
+    }
 
 pub options_fit : (words : List (List ℕ)) → first_faulty 2 [] words ≡ None → AreFit (set_by words)
 options_fit words good = all_read 2 [] words good (no_words words)
@@ -235,18 +235,15 @@ abbrev is_read : Result Command ℕ → Bool
 is_read (Ok command) = true
 is_read (Err index) = false
 
-no_fault : (fault : Option ℕ) (words : List (List ℕ)) (command : Command) → read_command 1 fault words ≡ Ok command → (fault ≡ None) × (command.settings ≡ set_by (drop 1 words))
+no_fault : (fault : Option ℕ) (words : List (List ℕ)) (command : Command) → read_command 1 fault words ≡ Ok command
+    → (fault ≡ None) × (command.settings ≡ set_by (drop 1 words))
 no_fault None words command h = (refl, ap settings_in (sym h))
 no_fault (Some index) words command h = absurd (false≢true (ap is_read h))
-
-second_fault : (first second : Option ℕ) → option_or first second ≡ None → second ≡ None
-second_fault None second h = h
-second_fault (Some index) second h = absurd (none-some index (sym h))
 
 pub command_fits : (words : List (List ℕ)) (command : Command) → read_words words ≡ Ok command → AreFit command.settings
 command_fits words command h =
     let fine = no_fault (option_or (missing_name 1 words) (first_faulty 2 [] (drop 1 words))) words command h in
-    subst AreFit (sym fine.1) (options_fit (drop 1 words) (second_fault (missing_name 1 words) (first_faulty 2 [] (drop 1 words)) fine.0))
+    subst AreFit (sym fine.1) (options_fit (drop 1 words) (option_or_parts (missing_name 1 words) (first_faulty 2 [] (drop 1 words)) fine.0).1)
 
 -- the first word is the model file
 abbrev names_in : Result Command ℕ → List (List ℕ)
@@ -263,4 +260,5 @@ first_taken (word ∷ words) = refl
 
 pub model_named : (words : List (List ℕ)) (command : Command) → read_words words ≡ Ok command → slice_index_or command.names 0 [] ≡ model_name words
 model_named words command h =
-    ap (λ names. slice_index_or names 0 []) (names_read (option_or (missing_name 1 words) (first_faulty 2 [] (drop 1 words))) words command h) ∙ first_taken words
+    ap (λ names. slice_index_or names 0 []) (names_read (option_or (missing_name 1 words) (first_faulty 2 [] (drop 1 words))) words command h)
+    ∙ first_taken words

@@ -1,9 +1,10 @@
 -- Runs that stop before anything is printed.
-use Rattle.std.proofs.Common.{◌≡◌, ℕ, List, Option, Err, refl}
+use Rattle.std.proofs.Common.{ℕ, List, Option, Err, refl}
 use Rattle.std.specs.Prelude.{◌≢◌}
 use Rattle.pict_cli.specs.declared.stop.Stop.{Stop}
 use Rattle.pict_cli.specs.declared.stop.Stop.TheVariants.{OutOfMemory, Spent, BadWord, BadModel, BadConstraint, CannotRead, CannotWriteReport, TooMany, TooLong}
-use Rattle.pict_cli.specs.Runs.{CountsOut, Prints}
+use Rattle.pict_cli.specs.Runs.{Prints}
+use Rattle.pict_cli.specs.Steps.{CountsOut}
 
 -- nothing is printed, and the count of the output's faults stays
 pub prints_nothing : (text : List ℕ) (out : Option (List ℕ)) (stop : Stop) → stop ≢ CannotWriteReport → Prints text out out (Err stop)

@@ -1,5 +1,5 @@
 -- Words that ask for what isn't built yet.
-use Rattle.std.proofs.Common.{◌≡◌, ℕ, ◌+◌, ◌-◌, Bool, true, false, cond, List, [], ◌∷◌, map, take, drop, length, Option, Some, None, refl, sym, ap, ◌∙◌}
+use Rattle.std.proofs.Common.{◌≡◌, ℕ, ◌+◌, ◌-◌, Bool, cond, List, [], ◌∷◌, map, take, drop, length, Option, Some, None, refl, sym, ap, ◌∙◌}
 use Rattle.std.specs.Prelude.{option_map, position, nat_lt, not, Ok}
 use Rattle.std.specs.String.{string_bytes}
 use Rattle.std.specs.declared.string.String.{String}
@@ -22,10 +22,12 @@ behind : (words : List (String Global)) → position asks_unbuilt (drop 1 (texts
 behind [] = refl
 behind (word ∷ words) = position-map asks_unbuilt string_bytes words
 
-pub unbuilt_behind : (words : List (String Global)) (found : Option ℕ) → found ≡ position (λ word. asks_unbuilt (string_bytes word)) (take (length words - 1) (drop 1 words))
+pub unbuilt_behind : (words : List (String Global)) (found : Option ℕ)
+    → found ≡ position (λ word. asks_unbuilt (string_bytes word)) (take (length words - 1) (drop 1 words))
     → option_map (λ place. place + 2) found ≡ first_unbuilt (texts words)
 unbuilt_behind words found e =
     ap (option_map (λ place. place + 2)) (e ∙ ap (position (λ word. asks_unbuilt (string_bytes word))) (take_rest words 1) ∙ sym (behind words))
 
-pub asked : (words : List (List ℕ)) (command : Command) (place : Option ℕ) → read_words words ≡ Ok command → option_map (λ place. place + 2) place ≡ first_unbuilt words → asked_by words ≡ if_built (option_map (λ place. place + 2) place) command.settings
+pub asked : (words : List (List ℕ)) (command : Command) (place : Option ℕ) → read_words words ≡ Ok command
+    → option_map (λ place. place + 2) place ≡ first_unbuilt words → asked_by words ≡ if_built (option_map (λ place. place + 2) place) command.settings
 asked words command place e f = ap (built_from words) e ∙ ap (λ o. if_built o command.settings) (sym f)

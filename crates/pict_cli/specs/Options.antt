@@ -1,5 +1,5 @@
 -- The settings of a command as the program has them, and as definitions name them.
-use Rattle.std.specs.Prelude.{◌≡◌, ℕ, ◌+◌, ◌-◌, ◌^◌, min, Bool, true, false, ◌&&◌, ◌||◌, List, [], ◌∷◌, filter_map, take, drop, slice_index_or, Option, Some, Result, Err}
+use Rattle.std.specs.Prelude.{◌≡◌, ℕ, ◌+◌, ◌-◌, ◌^◌, min, Bool, true, false, ◌&&◌, ◌||◌, List, [], ◌∷◌, filter_map, take, drop, slice_index_or, Option, Some}
 use Rattle.std.specs.List.{list_any}
 use Rattle.std.specs.Option.{option_map}
 use Rattle.definitions.specs.Settings as defined
@@ -75,7 +75,8 @@ is_making (defined.Make n) = true
 is_making setting = false
 
 abbrev pub kind_of : defined.Setting → Kinds
-kind_of s = record { generating = is_generating s; measuring = is_measuring s; suspecting = is_suspecting s; making = is_making s; of_a_file = is_of_a_file s }
+kind_of s =
+    record { generating = is_generating s; measuring = is_measuring s; suspecting = is_suspecting s; making = is_making s; of_a_file = is_of_a_file s }
 
 abbrev pub kinds_of : List defined.Setting → Kinds
 kinds_of settings = record {
@@ -111,7 +112,3 @@ is_faulty_at words place = is_faulty (take place words) (slice_index_or words pl
 -- there is a fault, and it is told by its number, or by 2^32 - 1 where it is greater
 abbrev pub HasFault : Option ℕ → ℕ → Type 0
 HasFault fault index = (n : ℕ) × (fault ≡ Some n) × (index ≡ min n (2 ^ 32 - 1))
-
--- the words have no reading, and the number of the fault is told so
-abbrev pub IsRefused : Result Command ℕ → ℕ → Type 0
-IsRefused reading index = (n : ℕ) × (reading ≡ Err n) × (index ≡ min n (2 ^ 32 - 1))

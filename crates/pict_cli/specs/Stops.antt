@@ -3,22 +3,45 @@
 use Rattle.std.specs.Prelude.{◌≡◌, ℕ, true, List, [], ◌∷◌, ◌==◌}
 use Rattle.std.specs.List.{list_any}
 use Rattle.model_lex.specs.Codes.{diag_code, diag_text}
-use Rattle.model_lex.specs.declared.diag.Diag.{Diag}
+use Rattle.model_lex.specs.declared.fault.LimitName.{LimitName}
+use Rattle.model_lex.specs.declared.fault.LimitName.TheVariants.{Params, Values, Names, Rules}
+use Rattle.model_lex.specs.declared.fault.ModelFault.{ModelFault}
+use Rattle.model_lex.specs.declared.fault.ModelFault.TheVariants.{Bad, BadRule, Limit}
+use Rattle.model_lex.specs.declared.fault.ModelFault.TheVariants as model_faults
+use Rattle.tuple_index.specs.declared.fault.PlanFault.{PlanFault}
+use Rattle.tuple_index.specs.declared.fault.PlanFault.TheVariants.{TooManySets, TooManyTuples}
+use Rattle.tuple_index.specs.declared.fault.PlanFault.TheVariants as plan_faults
 use Rattle.definitions.specs.Limits as limits
 use Rattle.definitions.specs.Diagnostics.{bytes_limit_line, cannot_read_line, cannot_write_report_line, count_limit_line, memory_line, model_line, spent_line, word_line}
 use Rattle.pict_cli.specs.declared.stop.Stop.{Stop}
 use Rattle.pict_cli.specs.declared.stop.Stop.TheVariants.{OutOfMemory, Spent, BadWord, BadModel, BadConstraint, CannotRead, CannotWriteReport, TooMany, TooLong}
 use Rattle.pict_cli.specs.declared.stop.Quantity.{Quantity}
-use Rattle.pict_cli.specs.declared.stop.Quantity.TheVariants.{Parameters, Values, Names, Constraints, DemandedSets, DemandedTuples}
+use Rattle.pict_cli.specs.declared.stop.Quantity.TheVariants.{Part, DemandedSets, DemandedTuples}
 
 -- what is counted
+abbrev pub counted_part : LimitName → limits.Counted
+counted_part Params = limits.Parameters
+counted_part Values = limits.Values
+counted_part Names = limits.Names
+counted_part Rules = limits.Constraints
+
 abbrev pub counted : Quantity → limits.Counted
-counted Parameters = limits.Parameters
-counted Values = limits.Values
-counted Names = limits.Names
-counted Constraints = limits.Constraints
+counted (Part limit) = counted_part limit
 counted DemandedSets = limits.DemandedSets
 counted DemandedTuples = limits.DemandedTuples
+
+-- the stop of a refusal of the model file
+abbrev pub stop_of_model : ModelFault → Stop
+stop_of_model (Bad diag) = BadModel diag
+stop_of_model (BadRule diag) = BadConstraint diag
+stop_of_model (Limit limit count) = TooMany (Part limit) count
+stop_of_model (model_faults.NoMemory) = OutOfMemory
+
+-- the stop of a demand that passes a limit
+abbrev pub stop_of_plan : PlanFault → Stop
+stop_of_plan (TooManySets count) = TooMany DemandedSets count
+stop_of_plan (TooManyTuples count) = TooMany DemandedTuples count
+stop_of_plan (plan_faults.NoMemory) = OutOfMemory
 
 abbrev pub status_of : Stop → ℕ
 status_of OutOfMemory = 1

@@ -47,9 +47,12 @@ built_from words (Err index) = Err index
 abbrev pub asked_by : List (List ℕ) → Result Settings ℕ
 asked_by words = built_from words (read_words words)
 
--- the number of a word that has no reading is told, or 2^32 - 1 where it is greater
+-- words have no reading, and the number of the first that has none is told, or 2^32 - 1 where it is greater
+abbrev pub TellsFault : {A : Type 0} → Result A ℕ → ℕ → Type 0
+TellsFault reading index = (n : ℕ) × (reading ≡ Err n) × (index ≡ min n (2 ^ 32 - 1))
+
 abbrev pub IsWordFault : List (List ℕ) → ℕ → Type 0
-IsWordFault words index = (n : ℕ) × (asked_by words ≡ Err n) × (index ≡ min n (2 ^ 32 - 1))
+IsWordFault words index = TellsFault (asked_by words) index
 
 -- the name of the model file, and the words as they are passed, as texts
 abbrev pub model_name : List (List ℕ) → List ℕ

@@ -1,6 +1,16 @@
-//! The command line of `pict`.
+//! The command line of `pict`: its words, the steps of a run, and what a run prints and tells.
+//!
+//! - `run_pict` is the call that `main` makes, over any folder and sinks. Its clause `headline` is
+//!   what this project is for: after status 0 every printed row is valid, and every demanded tuple
+//!   is served by a printed row, or no row serves it.
+//! - `run_pict_in_memory` is the same on a folder and sinks in memory, where the headline has no
+//!   premise but the status.
+//! - `read_words` is the definition's reading of words.
+//!
+//! All memory is taken before the first byte is written.
 #![tactic(auto)]
 
+mod in_memory;
 mod kinds;
 mod load;
 mod options;
@@ -12,6 +22,7 @@ mod suite;
 mod told;
 mod words;
 
+pub use in_memory::run_pict_in_memory;
 pub use options::{Opts, WordFault, read_words};
 pub use run::run_pict;
 pub use setting::Shuffle;

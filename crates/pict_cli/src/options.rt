@@ -3,8 +3,8 @@ ghost use Rattle.std.specs.List.{list_any};
 ghost use Rattle.std.specs.String.{string_bytes};
 ghost use Rattle.definitions.specs.Settings as defined;
 ghost use Rattle.definitions.specs.Words as reading;
-ghost use Rattle.pict_cli.specs.Options.{setting_seen, settings_seen, command_seen, IsReading, is_faulty_at, HasFault, IsRefused};
-ghost use Rattle.pict_cli.specs.Words.{texts};
+ghost use Rattle.pict_cli.specs.Options.{setting_seen, settings_seen, command_seen, IsReading, is_faulty_at, HasFault};
+ghost use Rattle.pict_cli.specs.Words.{TellsFault, texts};
 
 use crate::kinds::Kinds;
 use crate::setting::{Setting, Shuffle, is_named, setting_of};
@@ -129,7 +129,8 @@ fn has_mark_word(words: &[String]) -> bool
 /// Whether a word sets a mark, and none behind it does.
 fn is_last_mark(words: &[String], place: usize) -> bool
     requires { place < length words.now }
-    ensures { result ≡ (reading.is_mark_word (slice_index_or (texts words.now) place []) && not (list_any reading.is_mark_word (drop (place + 1) (texts words.now)))) }
+    ensures { result ≡ (reading.is_mark_word (slice_index_or (texts words.now) place [])
+        && not (list_any reading.is_mark_word (drop (place + 1) (texts words.now)))) }
 {
     is_mark_word(words[place].as_str()) && !has_mark_word(&words[place + 1..])
 }
@@ -183,7 +184,8 @@ impl<'w> Reading<'w> {
 /// What options ask for, of this model file.
 fn read_options<'w>(model: &'w str, options: &'w [String]) -> Result<Opts<'w>, WordFault>
     ensures { MatchResult result
-        (λ opts. (reading.first_faulty 2 [] (texts options.now) ≡ None) × (opts.model.now ≡ model.now) × (settings_seen opts ≡ reading.set_by (texts options.now)))
+        (λ opts. (reading.first_faulty 2 [] (texts options.now) ≡ None) × (opts.model.now ≡ model.now)
+        × (settings_seen opts ≡ reading.set_by (texts options.now)))
         (λ fault. HasFault (reading.first_faulty 2 [] (texts options.now)) fault.index) }
 {
     let mut reading = Reading {
@@ -207,7 +209,7 @@ fn read_options<'w>(model: &'w str, options: &'w [String]) -> Result<Opts<'w>, W
 pub fn read_words<'w>(words: &'w [String]) -> Result<Opts<'w>, WordFault>
     ensures { MatchResult result
         (λ opts. reading.read_words (texts words.now) ≡ Ok (command_seen opts))
-        (λ fault. IsRefused (reading.read_words (texts words.now)) fault.index) }
+        (λ fault. TellsFault (reading.read_words (texts words.now)) fault.index) }
 {
     match words {
         [name, options @ ..] if !name.is_empty() => read_options(name.as_str(), options),

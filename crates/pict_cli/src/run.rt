@@ -1,4 +1,4 @@
-ghost use Rattle.std.specs.Prelude.{◌≡◌, ◌≢◌, ◌⊎◌, ◌≤◌, length, ℕ, List, Some, None, Ok, Err, IfSome, IfErr};
+ghost use Rattle.std.specs.Prelude.{◌≡◌, ◌≢◌, ◌⊎◌, ◌≤◌, ◌<◌, length, ℕ, List, Option, Some, None, Ok, Err, IfSome, IfErr, IsSomeAnd};
 ghost use Rattle.std.specs.List.{list_any};
 ghost use Rattle.outside_io.specs.Faults.{Rose, KeepsCounts};
 ghost use Rattle.outside_io.specs.Files.{KeepsFiles};
@@ -12,7 +12,8 @@ ghost use Rattle.model_lex.specs.declared.note.Note.{Note};
 ghost use Rattle.type_check.specs.ModelOf.{IsModelOf, IsRefusalOf};
 ghost use Rattle.pict_cli.specs.Options.{settings_seen, shuffle_seen};
 ghost use Rattle.pict_cli.specs.Ranges.{AreFit};
-ghost use Rattle.pict_cli.specs.Runs.{CountsOut, Ends, IsGrown, IsRun, IsLoaded, PrintsCovering, PrintsFewRows, fault_status, opts_of, used_seed};
+ghost use Rattle.pict_cli.specs.Runs.{HasModel, IsGrown, IsRun, PrintsCovering, PrintsFewRows, fault_status, opts_of, used_seed};
+ghost use Rattle.pict_cli.specs.Steps.{Ran};
 ghost use Rattle.pict_cli.specs.Stops.{IsStatus};
 ghost use Rattle.pict_cli.specs.Told.{Tells, end_status};
 ghost use Rattle.pict_cli.specs.Words.{IsWordFault, asked_by, model_file, texts};
@@ -60,13 +61,11 @@ fn run<R: Threads + Sync, F: Folder, O: Sink>(
     seed_word: u64,
 ) -> (NoteList, Result<(), Stop>)
     requires { AreFit (settings_seen opts.now) }
-    ensures ends { IfSome (F.file files.old opts.now.model.now) (λ held. Ends (settings_seen opts.now) seed_word held result.0 (O.written out.old) (O.written out.new) result.1) }
-    ensures counts { CountsOut result.1 (O.faults out.old) (O.faults out.new) }
+    ensures ran { Ran (settings_seen opts.now) seed_word (F.file files.old) (F.read_faults files.old) (F.read_faults files.new) opts.now.model.now
+        (O.written out.old) (O.written out.new) (O.faults out.old) (O.faults out.new) result.0 result.1 }
     ensures nothing { result.1 ≢ Ok tt → result.1 ≢ Err Stop.CannotWriteReport → O.written out.new ≡ O.written out.old }
     ensures words { IfErr result.1 (λ stop. (index : ℕ) → stop ≢ Stop.BadWord index) }
-    ensures cannot_read { result.1 ≡ Err Stop.CannotRead → Rose (F.read_faults files.old opts.now.model.now) (F.read_faults files.new opts.now.model.now) }
     ensures no_fault { result.1 ≢ Err Stop.CannotRead → KeepsCounts (F.read_faults files.old) (F.read_faults files.new) }
-    ensures missing { IfSome (F.file files.old opts.now.model.now) (λ held. held ≡ None → (result.1 ≡ Err Stop.CannotRead) ⊎ (result.1 ≡ Err Stop.OutOfMemory)) }
     ensures files { KeepsFiles (F.file files.old) (F.file files.new) }
     ensures write_faults { KeepsCounts (F.write_faults files.old) (F.write_faults files.new) }
 {
@@ -87,6 +86,10 @@ fn run<R: Threads + Sync, F: Folder, O: Sink>(
 /// a question of the search costs more than the budget, 3 where the words have no reading, 4 and 5 where
 /// the model or a constraint of it is refused, 7 where the folder failed, 8 where `out` did, 9 where
 /// something is above its limit. What is told goes to `diag`, whose faults change nothing.
+///
+/// A folder tells what a name holds, the bytes of a file or that there is none, and a sink what was
+/// written to it, as those in memory do (`run_pict_in_memory`). Real ones tell nothing, and of them only
+/// the clauses speak that have no such premise.
 pub fn run_pict<R: Threads + Sync, F: Folder, O: Sink, E: Sink>(
     rt: &R,
     alloc: Global,
@@ -96,46 +99,64 @@ pub fn run_pict<R: Threads + Sync, F: Folder, O: Sink, E: Sink>(
     diag: &mut E,
     seed_word: u64,
 ) -> u8
-    // The headline: what is printed with status 0 covers what can be covered.
-    ensures headline { result ≡ 0 → (s : Settings) → asked_by (texts words.now) ≡ Ok s →
-        IfSome (F.file files.old (model_file words.now)) (λ held. (m : ModelView) × (notes : List Note) × IsLoaded (opts_of s) held m notes
-        × PrintsCovering m (O.written out.old) (O.written out.new)) }
+    // The headline: after status 0 the model file spells a model, every printed row is valid, and every demanded
+    // tuple is served by a printed row, or no row serves it. Premises: the words ask for s; the folder tells what
+    // the model file's name held; and, for what was printed, `out` tells what it held before.
+    ensures headline { result ≡ 0 → (s : Settings) (held : Option (List ℕ)) → asked_by (texts words.now) ≡ Ok s →
+        F.file files.old (model_file words.now) ≡ Some held → HasModel (opts_of s) held (λ m notes. (before : List ℕ) →
+        O.written out.old ≡ Some before → IsSomeAnd (O.written out.new) (PrintsCovering m before)) }
 
-    // No row is printed twice, and no more rows than there are tuples to serve.
-    ensures few { result ≡ 0 → (s : Settings) → asked_by (texts words.now) ≡ Ok s →
-        IfSome (F.file files.old (model_file words.now)) (λ held. (m : ModelView) × (notes : List Note) × IsLoaded (opts_of s) held m notes
-        × PrintsFewRows m (O.written out.old) (O.written out.new)) }
+    // No row is printed twice, and no more rows than there are demanded tuples that some row serves. Premises: as
+    // of the headline.
+    ensures few { result ≡ 0 → (s : Settings) (held : Option (List ℕ)) → asked_by (texts words.now) ≡ Ok s →
+        F.file files.old (model_file words.now) ≡ Some held → HasModel (opts_of s) held (λ m notes. (before : List ℕ) →
+        O.written out.old ≡ Some before → IsSomeAnd (O.written out.new) (PrintsFewRows m before)) }
 
-    // What a run does, where the words have a reading.
-    ensures run { (s : Settings) → asked_by (texts words.now) ≡ Ok s →
-        IfSome (F.file files.old (model_file words.now)) (λ held. IsRun s seed_word held (model_file words.now)
-        (O.written out.old) (O.written out.new) (E.written diag.old) (E.written diag.new) (E.faults diag.old) (E.faults diag.new) result) }
+    // What a run does. Premises: the words ask for s; the folder tells what the model file's name held. And what
+    // `out` and `diag` got is said of each that tells what it held before.
+    ensures run { (s : Settings) (held : Option (List ℕ)) → asked_by (texts words.now) ≡ Ok s →
+        F.file files.old (model_file words.now) ≡ Some held → IsRun s seed_word held (model_file words.now)
+        (O.written out.old) (O.written out.new) (E.written diag.old) (E.written diag.new) (E.faults diag.old) (E.faults diag.new) result }
 
-    // Where they have none, the first such word is told.
+    // Words that have no reading. Premise: the first that has none is told by this index. And what `diag` got is
+    // said where it tells what it held before. With words that have a reading the status is another.
     ensures words { (index : ℕ) → IsWordFault (texts words.now) index →
         (result ≡ 3) × Tells (E.written diag.old) (E.written diag.new) (E.faults diag.old) (E.faults diag.new) (word_line index) }
     ensures read_words { (s : Settings) → asked_by (texts words.now) ≡ Ok s → result ≢ 3 }
 
-    // Which status must come of a told file, where memory is found.
+    // Which status comes where memory is found. Premises of all four: the words ask for s; the folder tells what
+    // the model file's name held. Of the first three: the count of faults of reading that name didn't rise.
+    // A file within its bytes that spells a model: no limit is passed, no question of the model is above the
+    // budget, and the count of faults of `out` didn't rise.
     ensures complete { (s : Settings) (bytes : List ℕ) (m : ModelView) (notes : List Note) → asked_by (texts words.now) ≡ Ok s →
         F.file files.old (model_file words.now) ≡ Some (Some bytes) → length bytes ≤ most_bytes ModelFile →
-        IsModelOf (opts_of s) bytes m notes → ((other : ModelView) (others : List Note) → IsModelOf (opts_of s) bytes other others → IsGrown s seed_word other) →
+        IsModelOf (opts_of s) bytes m notes → IsGrown s seed_word m →
         ¬ Rose (F.read_faults files.old (model_file words.now)) (F.read_faults files.new (model_file words.now)) →
         ¬ Rose (O.faults out.old) (O.faults out.new) → (result ≡ 0) ⊎ (result ≡ 1) }
+    // A file within its bytes that is refused.
     ensures refused { (s : Settings) (bytes : List ℕ) (fault : ModelFault) → asked_by (texts words.now) ≡ Ok s →
         F.file files.old (model_file words.now) ≡ Some (Some bytes) → length bytes ≤ most_bytes ModelFile → IsRefusalOf (opts_of s) bytes fault →
         ¬ Rose (F.read_faults files.old (model_file words.now)) (F.read_faults files.new (model_file words.now)) →
         (result ≡ fault_status fault) ⊎ (result ≡ 1) }
+    // A file with more bytes than it may have.
+    ensures too_long { (s : Settings) (bytes : List ℕ) → asked_by (texts words.now) ≡ Ok s →
+        F.file files.old (model_file words.now) ≡ Some (Some bytes) → most_bytes ModelFile < length bytes →
+        ¬ Rose (F.read_faults files.old (model_file words.now)) (F.read_faults files.new (model_file words.now)) →
+        (result ≡ 9) ⊎ (result ≡ 1) }
+    // No file.
     ensures missing { (s : Settings) → asked_by (texts words.now) ≡ Ok s →
         F.file files.old (model_file words.now) ≡ Some None → (result ≡ 7) ⊎ (result ≡ 1) }
 
-    // What `out` gets with every other status.
+    // Without such premises: with a status but 0 and 8 `out` gets nothing.
     ensures nothing { result ≢ 0 → result ≢ 8 → (O.written out.new ≡ O.written out.old) × (O.faults out.new ≡ O.faults out.old) }
 
-    // When the folder and `out` are told of, and what the folder keeps.
+    // 7 comes only where the folder's count of faults of reading the model file's name rose, 8 only where that of
+    // `out` did, and no status comes but those named above.
     ensures read { result ≡ 7 → Rose (F.read_faults files.old (model_file words.now)) (F.read_faults files.new (model_file words.now)) }
     ensures write { result ≡ 8 → Rose (O.faults out.old) (O.faults out.new) }
     ensures statuses { IsStatus result }
+
+    // No told name changes, none becomes told or untold, and no count of faults of writing changes.
     ensures files { KeepsFiles (F.file files.old) (F.file files.new) }
     ensures write_faults { KeepsCounts (F.write_faults files.old) (F.write_faults files.new) }
 {

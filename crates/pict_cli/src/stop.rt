@@ -9,23 +9,19 @@ ghost use Rattle.pict_cli.specs.Stops.{counted, line_of, status_of};
 use crate::put::{put_pairs, put_pieces};
 use feasibility::Question;
 use itoa::Buffer;
-use model_lex::Diag;
+use model_lex::{Diag, LimitName, ModelFault};
 use outside_io::{Sink, WriteAnswer};
+use tuple_index::PlanFault;
+use value_text::NoMemory;
 
 /// The most bytes that a model file may have.
 pub(crate) const MOST_MODEL_BYTES: usize = 4_194_304;
 
-/// What a model may have only so many of.
+/// What there may be only so many of.
 #[derive(Debug, Drop, Clone, Copy, PartialEq, Eq)]
 pub(crate) enum Quantity {
-    /// Parameters.
-    Parameters,
-    /// Values of one parameter.
-    Values,
-    /// Names of one value.
-    Names,
-    /// Constraints.
-    Constraints,
+    /// A part of a model.
+    Part(LimitName),
     /// Choices of demanded sets.
     DemandedSets,
     /// Demanded tuples.
@@ -38,10 +34,10 @@ impl Quantity {
         ensures { result.now ≡ counted_name (counted self) }
     {
         match self {
-            Quantity::Parameters => "parameters",
-            Quantity::Values => "values",
-            Quantity::Names => "names",
-            Quantity::Constraints => "constraints",
+            Quantity::Part(LimitName::Params) => "parameters",
+            Quantity::Part(LimitName::Values) => "values",
+            Quantity::Part(LimitName::Names) => "names",
+            Quantity::Part(LimitName::Rules) => "constraints",
             Quantity::DemandedSets => "demanded sets",
             Quantity::DemandedTuples => "demanded tuples",
         }
@@ -52,10 +48,7 @@ impl Quantity {
         ensures { result ≡ most_counted (counted self) }
     {
         match self {
-            Quantity::Parameters => 256,
-            Quantity::Values => 4095,
-            Quantity::Names => 64,
-            Quantity::Constraints => 4096,
+            Quantity::Part(limit) => limit.most(),
             Quantity::DemandedSets => 1 << 20,
             Quantity::DemandedTuples => 1 << 26,
         }
@@ -83,6 +76,45 @@ pub(crate) enum Stop {
     TooMany(Quantity, u64),
     /// The model file has too many bytes: status 9.
     TooLong,
+}
+
+impl From<NoMemory> for Stop {
+    ghost use Rattle.pict_cli.specs.declared.stop.Stop.TheVariants as stops;
+
+    ghost from_gives = { λ _ stop. stop ≡ stops.OutOfMemory };
+
+    fn from(_refused: NoMemory) -> Stop {
+        Stop::OutOfMemory
+    }
+}
+
+impl From<ModelFault> for Stop {
+    ghost use Rattle.pict_cli.specs.Stops.{stop_of_model};
+
+    ghost from_gives = { λ fault stop. stop ≡ stop_of_model fault };
+
+    fn from(fault: ModelFault) -> Stop {
+        match fault {
+            ModelFault::Bad(diag) => Stop::BadModel(diag),
+            ModelFault::BadRule(diag) => Stop::BadConstraint(diag),
+            ModelFault::Limit(limit, count) => Stop::TooMany(Quantity::Part(limit), count),
+            ModelFault::NoMemory => Stop::OutOfMemory,
+        }
+    }
+}
+
+impl From<PlanFault> for Stop {
+    ghost use Rattle.pict_cli.specs.Stops.{stop_of_plan};
+
+    ghost from_gives = { λ fault stop. stop ≡ stop_of_plan fault };
+
+    fn from(fault: PlanFault) -> Stop {
+        match fault {
+            PlanFault::TooManySets(count) => Stop::TooMany(Quantity::DemandedSets, count),
+            PlanFault::TooManyTuples(count) => Stop::TooMany(Quantity::DemandedTuples, count),
+            PlanFault::NoMemory => Stop::OutOfMemory,
+        }
+    }
 }
 
 /// Writes the line of a refusal of the model file.

@@ -5,14 +5,15 @@ ghost use Rattle.definitions.specs.Report.{report_text};
 ghost use Rattle.definitions.specs.Settings.{Settings};
 ghost use Rattle.ipog_grow.specs.Suites.{EndsBy};
 ghost use Rattle.tuple_index.specs.Plan.{plan_of};
-ghost use Rattle.tuple_index.specs.PlanFault.{IsFaultOf, limit_passed};
+ghost use Rattle.tuple_index.specs.PlanFault.{limit_passed};
 ghost use Rattle.pict_cli.specs.Options.{settings_seen, shuffle_seen};
 ghost use Rattle.pict_cli.specs.Ranges.{AreFit};
-ghost use Rattle.pict_cli.specs.Runs.{CountsOut, EndsBehind, IsGrown, Prints, StopsBehind, growth_of, printed, question_over, shuffled_by};
+ghost use Rattle.pict_cli.specs.Runs.{EndsBehind, IsGrown, Prints, StopsBehind, growth_of, out_text, question_over, shuffled_by};
+ghost use Rattle.pict_cli.specs.Steps.{CountsOut};
 
 use crate::options::Opts;
 use crate::setting::Shuffle;
-use crate::stop::{Quantity, Stop};
+use crate::stop::Stop;
 use cov_model::{Prefs, Rows, TestModel};
 use feasibility::SearchFault;
 use ipog_grow::{GrowOpts, Suite, generate};
@@ -20,7 +21,7 @@ use outside_io::{OpenGate, Sink, WriteAnswer};
 use row_text::{RowFile, Turns, put_report};
 use std::alloc::Global;
 use std::thread::Threads;
-use tuple_index::{Plan, PlanFault};
+use tuple_index::Plan;
 use value_text::OwnedList;
 
 /// The number that values are shuffled by, where they are; `seed_word` where no word gives one.
@@ -34,22 +35,11 @@ fn shuffle_number(shuffle: Shuffle, seed_word: u64) -> Option<u64>
     }
 }
 
-/// Why a run stops whose model demands too much.
-fn stop_of_plan(fault: PlanFault) -> Stop
-    ensures other { result ≢ Stop.CannotWriteReport }
-    ensures stops { (s : Settings) (seed : ℕ) (m : ModelView) → IsFaultOf m fault → StopsBehind s seed m result }
-{
-    match fault {
-        PlanFault::TooManySets(count) => Stop::TooMany(Quantity::DemandedSets, count),
-        PlanFault::TooManyTuples(count) => Stop::TooMany(Quantity::DemandedTuples, count),
-        PlanFault::NoMemory => Stop::OutOfMemory,
-    }
-}
-
 /// Why a run stops whose growth ended early.
 fn stop_of_search(fault: SearchFault, budget: u64) -> Stop
     ensures other { result ≢ Stop.CannotWriteReport }
-    ensures stops { (s : Settings) (seed : ℕ) (m : ModelView) → budget ≡ s.budget → limit_passed m ≡ None → EndsBy (question_over s seed m) fault → StopsBehind s seed m result }
+    ensures stops { (s : Settings) (seed : ℕ) (m : ModelView) → budget ≡ s.budget → limit_passed m ≡ None →
+        EndsBy (question_over s seed m) fault → StopsBehind s seed m result }
 {
     match fault {
         SearchFault::Spent(question) => Stop::Spent(budget, question),
@@ -79,9 +69,7 @@ fn grow<R: Threads + Sync>(
     ensures other { IfErr result (λ stop. stop ≢ Stop.CannotWriteReport) }
 {
     let number = shuffle_number(opts.shuffle, seed_word);
-    let Ok(prefs) = Prefs::new(alloc, model, number) else {
-        return Err(Stop::OutOfMemory);
-    };
+    let prefs = Prefs::new(alloc, model, number)?;
     let seeds = RowFile {
         rows: OwnedList::new(alloc),
         notes: OwnedList::new(alloc),
@@ -110,9 +98,7 @@ fn print<O: Sink>(alloc: Global, model: &TestModel, rows: &Rows, out: &mut O) ->
     ensures counts { CountsOut result (O.faults out.old) (O.faults out.new) }
     ensures stops { IfErr result (λ stop. (stop ≡ Stop.OutOfMemory) ⊎ (stop ≡ Stop.CannotWriteReport)) }
 {
-    let Ok(mut turns) = Turns::new(alloc, model) else {
-        return Err(Stop::OutOfMemory);
-    };
+    let mut turns = Turns::new(alloc, model)?;
     match put_report(model, rows, &mut turns, out) {
         WriteAnswer::Done => Ok(()),
         WriteAnswer::Failed => Err(Stop::CannotWriteReport),
@@ -135,17 +121,11 @@ pub(crate) fn run_model<R: Threads + Sync, O: Sink>(
 ) -> Result<(), Stop>
     requires { AreFit (settings_seen opts.now) }
     ensures ends { EndsBehind (settings_seen opts.now) seed_word model.now result }
-    ensures prints { Prints (printed (settings_seen opts.now) seed_word model.now) (O.written out.old) (O.written out.new) result }
+    ensures prints { Prints (out_text (settings_seen opts.now) seed_word model.now) (O.written out.old) (O.written out.new) result }
     ensures counts { CountsOut result (O.faults out.old) (O.faults out.new) }
 {
-    let _ = model.params();
-    let plan = match Plan::new(alloc, model) {
-        Ok(plan) => plan,
-        Err(fault) => return Err(stop_of_plan(fault)),
-    };
-    let suite = match grow(rt, alloc, model, &plan, opts, seed_word) {
-        Ok(suite) => suite,
-        Err(stop) => return Err(stop),
-    };
+    model.assert_invariant();
+    let plan = Plan::new(alloc, model)?;
+    let suite = grow(rt, alloc, model, &plan, opts, seed_word)?;
     print(alloc, model, &suite.rows, out)
 }

@@ -59,10 +59,7 @@ pub(crate) fn read_command<'w>(words: &'w [String]) -> Result<Opts<'w>, WordFaul
         (λ opts. (asked_by (texts words.now) ≡ Ok (settings_seen opts)) × AreFit (settings_seen opts) × (opts.model.now ≡ model_file words.now))
         (λ fault. IsWordFault (texts words.now) fault.index) }
 {
-    let opts = match read_words(words) {
-        Ok(opts) => opts,
-        Err(fault) => return Err(fault),
-    };
+    let opts = read_words(words)?;
     match first_unbuilt(words) {
         Some(place) => Err(fault_at(place)),
         None => Ok(opts),

@@ -1,5 +1,3 @@
 pub mod Sending
 pub mod Turning
-pub mod Given
 pub mod Lines
-pub mod SampleSound

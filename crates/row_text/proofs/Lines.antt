@@ -8,7 +8,8 @@ use Rattle.definitions.specs.Report.{printed, row_line, row_lines}
 use Rattle.row_text.specs.Buffering.{separator}
 
 -- a cell at the end of the others
-join_with_byte-push : (cells : List (List ℕ)) (cell : List ℕ) → join_with_byte 9 (cells ++ cell ∷ []) ≡ join_with_byte 9 cells ++ (separator (length cells) ++ cell)
+join_with_byte-push : (cells : List (List ℕ)) (cell : List ℕ)
+    → join_with_byte 9 (cells ++ cell ∷ []) ≡ join_with_byte 9 cells ++ (separator (length cells) ++ cell)
 join_with_byte-push [] cell = refl
 join_with_byte-push (a ∷ []) cell = refl
 join_with_byte-push (a ∷ b ∷ cells) cell =
@@ -24,10 +25,12 @@ line_more f xs i d cell inside is =
     let place : length (take i cells) ≡ i = length-take-le i cells (omega arith) in
     append_assoc (join_with_byte 9 (take i cells)) (separator i) cell
     ∙ sym (ap (join_with_byte 9) (take_more cells i [] inside_map) ∙ join_with_byte-push (take i cells) (get_or cells i [])
-    ∙ ap (λ n. join_with_byte 9 (take i cells) ++ (separator n ++ get_or cells i [])) place ∙ ap (λ x. join_with_byte 9 (take i cells) ++ (separator i ++ x)) (sym same))
+    ∙ ap (λ n. join_with_byte 9 (take i cells) ++ (separator n ++ get_or cells i [])) place ∙ ap (λ x. join_with_byte 9 (take i cells) ++ (separator i ++ x))
+    (sym same))
 
 -- a row behind the others
-row_lines-push : (m : ModelView) (earlier rows : List (List (Option ℕ))) (row : List (Option ℕ)) → row_lines m earlier (rows ++ row ∷ []) ≡ row_lines m earlier rows ++ row_line m (earlier ++ rows) row
+row_lines-push : (m : ModelView) (earlier rows : List (List (Option ℕ))) (row : List (Option ℕ))
+    → row_lines m earlier (rows ++ row ∷ []) ≡ row_lines m earlier rows ++ row_line m (earlier ++ rows) row
 row_lines-push m earlier [] row = append-nil (row_line m earlier row) ∙ ap (λ before. row_line m before row) (sym (append-nil earlier))
 row_lines-push m earlier (first ∷ rows) row =
     ap (λ rest. row_line m earlier first ++ rest) (row_lines-push m (earlier ++ first ∷ []) rows row
@@ -35,7 +38,8 @@ row_lines-push m earlier (first ∷ rows) row =
     ∙ sym (append_assoc (row_line m earlier first) (row_lines m (earlier ++ first ∷ []) rows) (row_line m (earlier ++ first ∷ rows) row))
 
 -- the rows so far, and the next
-pub row_lines-more : (m : ModelView) (rows : List (List (Option ℕ))) (i : ℕ) → i < length rows → row_lines m [] (take i rows) ++ row_line m (take i rows) (get_or rows i []) ≡ row_lines m [] (take (i + 1) rows)
+pub row_lines-more : (m : ModelView) (rows : List (List (Option ℕ))) (i : ℕ) → i < length rows
+    → row_lines m [] (take i rows) ++ row_line m (take i rows) (get_or rows i []) ≡ row_lines m [] (take (i + 1) rows)
 row_lines-more m rows i inside = sym (ap (row_lines m []) (take_more rows i [] inside) ∙ row_lines-push m [] (take i rows) (get_or rows i []))
 
 -- the mark, if the value is negative, and its name

@@ -9,7 +9,8 @@ use Rattle.outside_io.proofs.PutsLaws.{Puts-then, Puts-stopped, Puts-nothing, Pu
 use Rattle.row_text.specs.Buffering.{SinkState, PutsText, Buffered, HoldsRest, Holds, Adds, empty_buffer}
 
 -- bytes and room stay in balance over two steps, of which the first came without a fault
-Balances-after : (b c d : Option (List ℕ)) (q r s : Option ℕ) (x : List ℕ) → Puts Done b c x → Leaves Done q r x → Balances b c q r → Balances c d r s → Balances b d q s
+Balances-after : (b c d : Option (List ℕ)) (q r s : Option ℕ) (x : List ℕ) → Puts Done b c x → Leaves Done q r x → Balances b c q r → Balances c d r s
+    → Balances b d q s
 Balances-after None c d q r s x put left first second = tt
 Balances-after (Some w) c None q r s x put left first second = tt
 Balances-after (Some w) c (Some v) None r s x put left first second = tt
@@ -66,10 +67,12 @@ Adds-failed b s x e = record {
 }
 
 -- what was held is put, and more bytes with it
-pub Adds-put : (r : WriteAnswer) (b a : Buffered) (s t : SinkState) (x : List ℕ) → b.failed ≡ false → a.failed ≡ is_failed_write r → a.held ≡ [] → PutsText r s t (b.held ++ x) → Adds b s a t x
+pub Adds-put : (r : WriteAnswer) (b a : Buffered) (s t : SinkState) (x : List ℕ) → b.failed ≡ false → a.failed ≡ is_failed_write r → a.held ≡ []
+    → PutsText r s t (b.held ++ x) → Adds b s a t x
 Adds-put r b a s t x whole answer empty put = record { goes_on = λ start before h. gives r start before answer put (subst (λ failed. HoldsRest failed b.held start s before) whole h) }
   where
-    gives : (r : WriteAnswer) (start : SinkState) (before : List ℕ) → a.failed ≡ is_failed_write r → PutsText r s t (b.held ++ x) → HoldsRest false b.held start s before → Holds start a t (before ++ x)
+    gives : (r : WriteAnswer) (start : SinkState) (before : List ℕ) → a.failed ≡ is_failed_write r → PutsText r s t (b.held ++ x)
+        → HoldsRest false b.held start s before → Holds start a t (before ++ x)
     gives Done start before answer put h =
         let joined : before ++ x ≡ h.0 ++ (b.held ++ x) = ap (λ text. text ++ x) h.1 ∙ append_assoc h.0 b.held x in
         let all : before ++ x ≡ (before ++ x) ++ a.held = sym (append-nil (before ++ x)) ∙ ap (λ held. (before ++ x) ++ held) (sym empty) in
@@ -81,7 +84,8 @@ Adds-put r b a s t x whole answer empty put = record { goes_on = λ start before
         (subst (PutsText Failed start t) (sym joined) (PutsText-then Failed start s t h.0 (b.held ++ x) h.2 put))
 
 -- the last bytes that are held are put
-pub Holds-finished : (r : WriteAnswer) (b : Buffered) (start s t : SinkState) (text : List ℕ) → b.failed ≡ false → PutsText r s t b.held → Holds start b s text → PutsText r start t text
+pub Holds-finished : (r : WriteAnswer) (b : Buffered) (start s t : SinkState) (text : List ℕ) → b.failed ≡ false → PutsText r s t b.held
+    → Holds start b s text → PutsText r start t text
 Holds-finished r b start s t text whole put h =
     let held = subst (λ failed. HoldsRest failed b.held start s text) whole h in
     subst (PutsText r start t) (sym held.1) (PutsText-then r start s t held.0 b.held held.2 put)

@@ -2,4 +2,3 @@ pub mod RowFiles
 pub mod Told
 pub mod Buffering
 pub mod Turns
-pub mod Samples

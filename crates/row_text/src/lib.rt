@@ -15,8 +15,6 @@ mod numbers;
 mod out_buffer;
 mod report;
 mod row_file;
-#[cfg(test)]
-mod tests;
 mod turns;
 
 pub use figures::{Figures, Stats};

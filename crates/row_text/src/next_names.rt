@@ -24,10 +24,8 @@ impl Model for NextNames {
 fn zeros(alloc: Global, count: usize) -> Result<Vec<u8>, NoMemory>
     ensures { IfOk result (λ next. next.items ≡ replicate count 0) }
 {
-    match vec![in alloc; 0u8; count] {
-        Ok(next) => Ok(next),
-        Err(_) => Err(NoMemory),
-    }
+    let next = vec![in alloc; 0u8; count]?;
+    Ok(next)
 }
 
 /// Sets all numbers to 0.
@@ -51,10 +49,7 @@ impl NextNames {
         let mut places = Vec::new(alloc);
         for param in model.params().as_slice() {
             let next = zeros(alloc, param.values.len())?;
-            match places.push(next) {
-                Ok(()) => {}
-                Err(_) => return Err(NoMemory),
-            }
+            places.push(next)?;
         }
         Ok(NextNames { places })
     }

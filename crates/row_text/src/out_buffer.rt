@@ -48,13 +48,11 @@ impl OutBuffer {
     pub(crate) fn new(alloc: Global) -> Result<OutBuffer, NoMemory>
         ensures { IfOk result (λ buffer. buffer ≡ empty_buffer) }
     {
-        match Vec::with_capacity(alloc, ROOM) {
-            Ok(bytes) => Ok(OutBuffer {
-                bytes,
-                faulty: false,
-            }),
-            Err(_) => Err(NoMemory),
-        }
+        let bytes = Vec::with_capacity(alloc, ROOM)?;
+        Ok(OutBuffer {
+            bytes,
+            faulty: false,
+        })
     }
 
     /// Becomes empty, and forgets a fault.

@@ -43,7 +43,7 @@ fn number_given(model: &TestModel, row: &Cells, place: usize) -> usize
     ensures value { result ≡ value_in row.now place }
     ensures exists { result < length (param_at model.now.params place).values }
 {
-    let _ = model.params();
+    model.assert_invariant();
     let Some(value) = row.get(place as ParamNo) else {
         unreachable!()
     };

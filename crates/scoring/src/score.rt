@@ -31,7 +31,7 @@ pub fn score_all<R: Threads + Sync, G: Gate + Sync>(
     requires most { workers ≤ 64 }
     ensures { scores.new ≡ map (gain table.now cells.now column) (range_with_len 0 (length scores.old)) }
 {
-    let _ = table.model().params();
+    table.assert_invariant();
     score_values(rt, table, cells, column, 0, scores, 1, workers, gate);
 }
 
@@ -78,11 +78,15 @@ fn score_values<R: Threads + Sync, G: Gate + Sync>(
     join_mut(
         rt,
         &mut ||
-            requires { IsSync R.row × IsSync G.row × IsOfSlice table.now.model table.now.slice cells.now × (column < length table.now.model.params) × (from + length left.now ≤ length (param_at table.now.model.params column).values) × (length (param_at table.now.model.params column).values ≤ 4095) × (0 < half) × (worker + half ≤ 65) }
+            requires { IsSync R.row × IsSync G.row × IsOfSlice table.now.model table.now.slice cells.now × (column < length table.now.model.params)
+                × (from + length left.now ≤ length (param_at table.now.model.params column).values)
+                × (length (param_at table.now.model.params column).values ≤ 4095) × (0 < half) × (worker + half ≤ 65) }
             ensures { AreGains table.entry.now cells.entry.now column from left.exit.now }
         { score_values(rt, table, cells, column, from, left, worker, half, gate) },
         &mut ||
-            requires { IsSync R.row × IsSync G.row × IsOfSlice table.now.model table.now.slice cells.now × (column < length table.now.model.params) × (next + length right.now ≤ length (param_at table.now.model.params column).values) × (length (param_at table.now.model.params column).values ≤ 4095) × (half < workers) × (worker + workers ≤ 65) }
+            requires { IsSync R.row × IsSync G.row × IsOfSlice table.now.model table.now.slice cells.now × (column < length table.now.model.params)
+                × (next + length right.now ≤ length (param_at table.now.model.params column).values)
+                × (length (param_at table.now.model.params column).values ≤ 4095) × (half < workers) × (worker + workers ≤ 65) }
             ensures { AreGains table.entry.now cells.entry.now column next right.exit.now }
         {
             score_values(

@@ -27,8 +27,10 @@ bases_step sizes bases next total i so_far within pushed = record {
   long = ap length pushed ∙ length_push bases total ∙ ap (λ n. n + 1) so_far.long;
   sums = λ k below.
       elim (cases_eq k i) [
-        | inl here ↦ ap (λ bs. get_or bs k 0) pushed ∙ get_or_push bases total 0 k (so_far.long ∙ sym here) ∙ so_far.summed ∙ ap (λ n. sum (take n sizes)) (sym here)
-        | inr apart ↦ ap (λ bs. get_or bs k 0) pushed ∙ get_or_append_left bases (total ∷ []) 0 k (omega (arith, so_far.long, below, apart)) ∙ so_far.sums k (omega (arith, below, apart))
+        | inl here ↦ ap (λ bs. get_or bs k 0) pushed ∙ get_or_push bases total 0 k (so_far.long ∙ sym here) ∙ so_far.summed
+            ∙ ap (λ n. sum (take n sizes)) (sym here)
+        | inr apart ↦ ap (λ bs. get_or bs k 0) pushed ∙ get_or_append_left bases (total ∷ []) 0 k (omega (arith, so_far.long, below, apart))
+            ∙ so_far.sums k (omega (arith, below, apart))
       ];
 }
 

@@ -1,12 +1,12 @@
 -- The steps and the ends of the loops that list choices.
 use Rattle.std.proofs.Common.{Some, Bool, true, false, ◌||◌, ◌≡◌, ℕ, zero, suc, ◌+◌, ◌-◌, ◌<◌, ◌≤◌, List, [], ◌∷◌, ◌++◌, map, drop, length, get_or, ◌∙◌, refl, sym, ap, arith, append_assoc}
 use Rattle.std.specs.List.{flat_map, filter, list_any, range_with_len}
-use Rattle.std.proofs.lemmas.List.FromFn.{length-map-range_with_len, get_or-map-range_with_len}
 use Rattle.tuple_index.proofs.ListingLemmas.{map_map}
-use Rattle.tuple_index.proofs.TupleLemmas.{flat_map_map}
-use Rattle.std.proofs.lemmas.List.{at_drop_more, at_drop_all, append-nil, length-drop, map-append, same_lists, get_or_default}
+use Rattle.std.proofs.lemmas.List.Folds.{flat_map-map}
+use Rattle.std.proofs.lemmas.List.{at_drop_more, at_drop_all, append-nil, length-drop, map-append}
 use Rattle.std.specs.Prelude.{slice_get}
 use Rattle.std.proofs.lemmas.Option.{get_or_from_slice_get}
+use Rattle.value_text.proofs.ListLemmas.{map-get_or-range_with_len}
 use Rattle.definitions.specs.Demand.{choose, unions}
 
 -- one item more of a list whose pieces are put one after another
@@ -71,7 +71,8 @@ single_found f g p count before after whole within passes longer so_far =
 pub single_passed : {Y : Type 0} (f : ℕ → Bool) (g : ℕ → Y) (p count : ℕ) (before after whole : List Y) → p < count → f p ≡ false → after ≡ before
     → before ++ map g (filter f (range_with_len p (count - p))) ≡ whole → after ++ map g (filter f (range_with_len (p + 1) (count - (p + 1)))) ≡ whole
 single_passed f g p count before after whole within fails same so_far =
-    let opened : map g (filter f (range_with_len p (count - p))) ≡ map g (filter f (range_with_len (p + 1) (count - (p + 1)))) = rw (range_more p count within, fails) refl in
+    let opened : map g (filter f (range_with_len p (count - p))) ≡ map g (filter f (range_with_len (p + 1) (count - (p + 1)))) =
+    rw (range_more p count within, fails) refl in
     ap (λ ys. ys ++ map g (filter f (range_with_len (p + 1) (count - (p + 1))))) same ∙ ap (λ ys. before ++ ys) (sym opened) ∙ so_far
 
 -- choices of places are choices of the items there
@@ -87,21 +88,13 @@ choose-map f (suc k) (x ∷ xs) =
     ∙ ap (λ ys. map (map f) (map (λ rest. x ∷ rest) (choose k xs)) ++ ys) without
     ∙ sym (map-append (map f) (map (λ rest. x ∷ rest) (choose k xs)) (choose (suc k) xs))
 
--- the items at all places
-pub items_at : {X : Type 0} (xs : List X) (d : X) → map (λ i. get_or xs i d) (range_with_len 0 (length xs)) ≡ xs
-items_at xs d =
-    same_lists (map (λ i. get_or xs i d) (range_with_len 0 (length xs))) xs (length-map-range_with_len (λ i. get_or xs i d) 0 (length xs))
-    (λ k e within.
-    let inside : k < length xs = omega (arith, within, length-map-range_with_len (λ i. get_or xs i d) 0 (length xs)) in
-    get_or-map-range_with_len (λ i. get_or xs i d) 0 (length xs) k k e inside (omega arith) ∙ get_or_default xs k d e inside)
-
 pub choices_at : {X Y : Type 0} (f : List X → List Y) (k : ℕ) (xs : List X) (d : X) (picks : List (List ℕ)) → picks ≡ choose k (range_with_len 0 (length xs))
     → flat_map (λ pick. f (map (λ i. get_or xs i d) pick)) picks ≡ flat_map f (choose k xs)
 choices_at f k xs d picks all =
     ap (flat_map (λ pick. f (map (λ i. get_or xs i d) pick))) all
-    ∙ sym (flat_map_map f (map (λ i. get_or xs i d)) (choose k (range_with_len 0 (length xs))))
+    ∙ sym (flat_map-map f (map (λ i. get_or xs i d)) (choose k (range_with_len 0 (length xs))))
     ∙ ap (flat_map f) (sym (choose-map (λ i. get_or xs i d) k (range_with_len 0 (length xs))))
-    ∙ ap (λ ys. flat_map f (choose k ys)) (items_at xs d)
+    ∙ ap (λ ys. flat_map f (choose k ys)) (map-get_or-range_with_len xs d)
 
 -- one item more that fails a test
 pub any_step : {X : Type 0} (f : X → Bool) (xs : List X) (i : ℕ) (x : X) (whole : Bool) → i < length xs → x ≡ get_or xs i x → f x ≡ false
@@ -112,7 +105,8 @@ any_step f xs i x whole within read fails so_far =
     sym opened ∙ so_far
 
 -- the unions of the units taken are those of the first with those of the others
-pub unions_first : (units : List (List (List ℕ))) (taken : List ℕ) (ways first others : List (List ℕ)) → 0 < length taken → slice_get units (get_or taken 0 0) ≡ Some ways
+pub unions_first : (units : List (List (List ℕ))) (taken : List ℕ) (ways first others : List (List ℕ)) → 0 < length taken
+    → slice_get units (get_or taken 0 0) ≡ Some ways
     → first ≡ ways → others ≡ unions (map (λ u. get_or units u []) (drop 1 taken))
     → flat_map (λ way. map (λ other. way ++ other) others) first ≡ unions (map (λ u. get_or units u []) taken)
 unions_first units [] ways first others some found same rest = absurd (omega (arith, some))

@@ -9,7 +9,7 @@ use Rattle.cov_model.specs.Sound.{ModelView}
 use Rattle.definitions.specs.Demand.{choose, unions, units, singles, choices}
 use Rattle.tuple_index.specs.Counts.{products, group_ways, unit_counts, choice_count}
 use Rattle.tuple_index.proofs.PlaceLemmas.{length-flat_map_same}
-use Rattle.tuple_index.proofs.TupleLemmas.{flat_map_map}
+use Rattle.std.proofs.lemmas.List.Folds.{flat_map-map}
 
 pub length-choose : {X : Type 0} (k : ℕ) (xs : List X) → length (choose k xs) ≡ products k (replicate (length xs) 1)
 length-choose zero xs = refl
@@ -23,17 +23,20 @@ length-choose (suc k) (x ∷ xs) =
 
 length-unions : (ways : List (List ℕ)) (taken : List (List (List ℕ))) → length (unions (ways ∷ taken)) ≡ length ways * length (unions taken)
 length-unions ways taken =
-    length-flat_map_same (λ way. map (λ others. way ++ others) (unions taken)) (length (unions taken)) ways (λ way. length-map (unions taken) (λ others. way ++ others))
+    length-flat_map_same (λ way. map (λ others. way ++ others) (unions taken)) (length (unions taken)) ways
+    (λ way. length-map (unions taken) (λ others. way ++ others))
 
 -- a unit before each of these choices of units
-length-with_unit : (ways : List (List ℕ)) (picks : List (List (List (List ℕ)))) → length (flat_map (λ taken. unions (ways ∷ taken)) picks) ≡ length ways * length (flat_map unions picks)
+length-with_unit : (ways : List (List ℕ)) (picks : List (List (List (List ℕ)))) → length (flat_map (λ taken. unions (ways ∷ taken)) picks)
+    ≡ length ways * length (flat_map unions picks)
 length-with_unit ways [] = grind arith
 length-with_unit ways (taken ∷ picks) =
     let rest = length-with_unit ways picks in
     let own = length-unions ways taken in
     let left = length-append (unions (ways ∷ taken)) (flat_map (λ taken. unions (ways ∷ taken)) picks) in
     let right = length-append (unions taken) (flat_map unions picks) in
-    let spread : length ways * (length (unions taken) + length (flat_map unions picks)) ≡ length ways * length (unions taken) + length ways * length (flat_map unions picks) = grind arith in
+    let spread : length ways * (length (unions taken) + length (flat_map unions picks)) ≡ length ways * length (unions taken) + length ways * length
+    (flat_map unions picks) = grind arith in
     left ∙ ap (λ n. n + length (flat_map (λ taken. unions (ways ∷ taken)) picks)) own ∙ ap (λ n. length ways * length (unions taken) + n) rest
     ∙ sym spread ∙ ap (λ n. length ways * n) (sym right)
 
@@ -42,7 +45,7 @@ length-unit_unions zero all = refl
 length-unit_unions (suc k) [] = refl
 length-unit_unions (suc k) (ways ∷ all) =
     let split = flat_map-append unions (map (λ rest. ways ∷ rest) (choose k all)) (choose (suc k) all) in
-    let front = flat_map_map unions (λ rest. ways ∷ rest) (choose k all) in
+    let front = flat_map-map unions (λ rest. ways ∷ rest) (choose k all) in
     ap length split
     ∙ length-append (flat_map unions (map (λ rest. ways ∷ rest) (choose k all))) (flat_map unions (choose (suc k) all))
     ∙ ap (λ ys. length ys + length (flat_map unions (choose (suc k) all))) front
@@ -80,5 +83,6 @@ length-choices m =
     let relations = flat_map (λ relation. choose relation.order relation.members) m.demand.relations in
     let as_many : length (units m) ≡ length (unit_counts m) = sym (length-map (units m) length) ∙ ap length (lengths-units m) in
     length-append (flat_map unions (choose k (units m))) relations
-    ∙ ap (λ n. n + length relations) (length-unit_unions k (units m) ∙ ap (products k) (lengths-units m) ∙ ap (λ n. products (min m.demand.order n) (unit_counts m)) as_many)
+    ∙ ap (λ n. n + length relations) (length-unit_unions k (units m) ∙ ap (products k) (lengths-units m)
+    ∙ ap (λ n. products (min m.demand.order n) (unit_counts m)) as_many)
     ∙ ap (λ n. products (min m.demand.order (length (unit_counts m))) (unit_counts m) + n) (length-subsets m.demand.relations)

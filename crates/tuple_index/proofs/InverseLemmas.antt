@@ -15,23 +15,24 @@ use Rattle.definitions.proofs.MetOnce.{tuples_once}
 use Rattle.tuple_index.specs.Laws.{HasRank, RanksAreInverse}
 use Rattle.tuple_index.specs.Plan.{PlanView, IsChoice, plan_of, set_at, tuple_cells, value_given}
 use Rattle.tuple_index.specs.Places.{RisesFrom}
-use Rattle.tuple_index.proofs.ListingLemmas.{same_test, apart_test}
+use Rattle.tuple_index.proofs.ListingLemmas.{apart_test}
 use Rattle.tuple_index.proofs.OrderLemmas.{demanded_rise}
-use Rattle.tuple_index.proofs.PlaceLemmas.{some_is}
+use Rattle.std.proofs.lemmas.Option.{same_Some}
+use Rattle.std.proofs.lemmas.Bool.{eq-eqb}
 use Rattle.tuple_index.proofs.RankLemmas.{choice_long}
 
 -- what stands at a place is a member
 pub has_place : {X : Type 0} (xs : List X) (i : ℕ) (x : X) → slice_get xs i ≡ Some x → Has xs x
 has_place [] i x here = absurd (omega (arith, slice_get_within [] i x here))
-has_place (y ∷ xs) zero x here = inl (some_is y x here)
+has_place (y ∷ xs) zero x here = inl (same_Some y x here)
 has_place (y ∷ xs) (suc i) x here = inr (has_place xs i x here)
 
 -- and stands nowhere else, where no member comes again
 one_place : {X : Type 0} (xs : List X) (i j : ℕ) (x : X) → NoRepeats xs → slice_get xs i ≡ Some x → slice_get xs j ≡ Some x → i ≡ j
 one_place [] i j x once here there = absurd (omega (arith, slice_get_within [] i x here))
 one_place (y ∷ xs) zero zero x once here there = refl
-one_place (y ∷ xs) zero (suc j) x once here there = absurd (once.0 (subst (Has xs) (sym (some_is y x here)) (has_place xs j x there)))
-one_place (y ∷ xs) (suc i) zero x once here there = absurd (once.0 (subst (Has xs) (sym (some_is y x there)) (has_place xs i x here)))
+one_place (y ∷ xs) zero (suc j) x once here there = absurd (once.0 (subst (Has xs) (sym (same_Some y x here)) (has_place xs j x there)))
+one_place (y ∷ xs) (suc i) zero x once here there = absurd (once.0 (subst (Has xs) (sym (same_Some y x there)) (has_place xs i x here)))
 one_place (y ∷ xs) (suc i) (suc j) x once here there = ap suc (one_place xs i j x once.1 here there)
 
 -- the demanded tuples of a set are distinct
@@ -41,7 +42,8 @@ tuples_differ m set =
     (λ first second tuple has_first has_second here there.
     let one = is_slice m first has_first in
     let two = is_slice m second has_second in
-    sym (slice_is m first tuple one (tuple_is m set first tuple one here).belongs).is ∙ (slice_is m second tuple two (tuple_is m set second tuple two there).belongs).is)
+    sym (slice_is m first tuple one (tuple_is m set first tuple one here).belongs).is
+    ∙ (slice_is m second tuple two (tuple_is m set second tuple two there).belongs).is)
     (slices_once m)
 
 -- a tuple of a rising set tells the values of its members
@@ -53,13 +55,13 @@ values_told [] [] (w ∷ second) p e rises one two same = absurd (omega (arith, 
 values_told (r ∷ set) [] second p e rises one two same = absurd (omega (arith, one))
 values_told (r ∷ set) (v ∷ first) [] p e rises one two same = absurd (omega (arith, two))
 values_told (r ∷ set) (v ∷ first) (w ∷ second) p e rises one two same =
-    let here : v ≡ w = some_is v w (sym (own v first) ∙ same r rises.0 rises.1 ∙ own w second) in
+    let here : v ≡ w = same_Some v w (sym (own v first) ∙ same r rises.0 rises.1 ∙ own w second) in
     let later : first ≡ second = values_told set first second (r + 1) e rises.2 (omega (arith, one)) (omega (arith, two))
     (λ q least most. sym (past v first q least) ∙ same q (omega (arith, rises.0, least)) most ∙ past w second q least) in
     ap (λ u. u ∷ first) here ∙ ap (λ us. w ∷ us) later
   where
     own : (u : ℕ) (others : List ℕ) → value_given (r ∷ set) (u ∷ others) r ≡ Some u
-    own u others = let test = same_test r in rw test refl
+    own u others = let test = eq-eqb r r refl in rw test refl
 
     past : (u : ℕ) (others : List ℕ) (q : ℕ) → r + 1 ≤ q → value_given (r ∷ set) (u ∷ others) q ≡ value_given set others q
     past u others q least = let test = apart_test r q (omega (arith, least)) in rw test refl
@@ -77,9 +79,11 @@ pub ranks_are_inverse : RanksAreInverse
 ranks_are_inverse m i d within values others rank other choice another here there =
     let set = get_or (demanded_sets m) i d in (
       λ same.
-          cells_tell m set values others (demanded_rise m i d within) (choice_long (plan_of m) set values choice.exist) (choice_long (plan_of m) set others another.exist)
-          (some_is (tuple_cells m set values) (tuple_cells m set others) (sym here ∙ ap (slice_get (tuples_of m set)) same ∙ there)),
-      λ same. one_place (tuples_of m set) rank other (tuple_cells m set values) (tuples_differ m set) here (there ∙ ap (λ vs. Some (tuple_cells m set vs)) (sym same)),
+          cells_tell m set values others (demanded_rise m i d within) (choice_long (plan_of m) set values choice.exist)
+          (choice_long (plan_of m) set others another.exist)
+          (same_Some (tuple_cells m set values) (tuple_cells m set others) (sym here ∙ ap (slice_get (tuples_of m set)) same ∙ there)),
+      λ same. one_place (tuples_of m set) rank other (tuple_cells m set values) (tuples_differ m set) here
+          (there ∙ ap (λ vs. Some (tuple_cells m set vs)) (sym same)),
     )
 
 -- what a caller knows of a plan's set, of the plan of the model

@@ -1,8 +1,8 @@
 -- The tuples of a set are the choices of values of its members.
-use Rattle.std.proofs.Common.{inl, inr, ◌≡◌, ℕ, zero, suc, ◌+◌, ◌<◌, ◌≤◌, true, false, List, [], ◌∷◌, ◌++◌, map, length, get_or, Option, Some, None, ◌∙◌, refl, sym, subst, ap, arith}
+use Rattle.std.proofs.Common.{inl, inr, ◌≡◌, ℕ, zero, suc, ◌+◌, ◌<◌, ◌≤◌, false, List, [], ◌∷◌, ◌++◌, map, length, get_or, Option, Some, None, ◌∙◌, refl, sym, subst, ap, arith}
 use Rattle.std.specs.Prelude.{◌==◌}
 use Rattle.std.specs.List.{flat_map, range_with_len}
-use Rattle.std.proofs.lemmas.Bool.{cases_eq}
+use Rattle.std.proofs.lemmas.Bool.{cases_eq, eq-eqb}
 use Rattle.std.proofs.lemmas.Bool.Decides.{nat_tests}
 use Rattle.std.proofs.lemmas.List.{map-append}
 use Rattle.definitions.specs.Demand.{is_among, value_choices}
@@ -10,9 +10,6 @@ use Rattle.tuple_index.specs.Plan.{value_given}
 use Rattle.tuple_index.specs.Places.{RisesFrom, value_lists}
 
 -- two numbers as a test
-pub same_test : (p : ℕ) → (p == p) ≡ true
-same_test p = grind (arith, nat_tests)
-
 pub apart_test : (p q : ℕ) → p < q → (p == q) ≡ false
 apart_test p q below = grind (arith, nat_tests)
 
@@ -57,7 +54,7 @@ rises_lower [] q p e le rises = tt
 rises_lower (r ∷ set) q p e le rises = (omega (arith, rises.0), rises.1, rises.2)
 
 -- nothing is given before a rising set
-value_given_before : (set chosen : List ℕ) (p e : ℕ) → RisesFrom (p + 1) e set → value_given set chosen p ≡ None
+pub value_given_before : (set chosen : List ℕ) (p e : ℕ) → RisesFrom (p + 1) e set → value_given set chosen p ≡ None
 value_given_before [] chosen p e rises = refl
 value_given_before (q ∷ set) [] p e rises = refl
 value_given_before (q ∷ set) (v ∷ chosen) p e rises =
@@ -79,7 +76,7 @@ spread_none set p n e chosen rises = ap (λ c. c ∷ spread set (p + 1) n chosen
 
 spread_some : (set : List ℕ) (p n v : ℕ) (chosen : List ℕ) → spread (p ∷ set) p (suc n) (v ∷ chosen) ≡ Some v ∷ spread set (p + 1) n chosen
 spread_some set p n v chosen =
-    let test = same_test p in
+    let test = eq-eqb p p refl in
     let past = value_given_past p set v chosen (p + 1) n (omega arith) in
     rw (test, past) refl
 
@@ -96,7 +93,7 @@ choices_member : (set : List ℕ) (p : ℕ) (own : List ℕ) (lists : List (List
     → value_choices set (p + 1) lists ≡ map (spread set (p + 1) (length lists)) (value_lists values set)
     → value_choices (p ∷ set) p (own ∷ lists) ≡ map (spread (p ∷ set) p (suc (length lists))) (value_lists values (p ∷ set))
 choices_member set p own lists values same rest =
-    let test = same_test p in
+    let test = eq-eqb p p refl in
     let left : value_choices (p ∷ set) p (own ∷ lists) ≡ flat_map (λ v. map (λ cells. Some v ∷ cells) (value_choices set (p + 1) lists)) own =
     rw (test, value_choices_past p set (p + 1) lists (omega arith)) refl in
     left
@@ -139,7 +136,8 @@ value_choices_lists (q ∷ set) p e (own ∷ lists) values end rises same =
     elim (cases_eq q p) [
       | inl here ↦
           let member = choices_member set p own lists values (same 0 (omega arith) ∙ ap values (omega arith))
-          (value_choices_lists set (p + 1) e lists values (omega (arith, end)) (subst (λ r. RisesFrom (r + 1) e set) here rises.2) (tail_same p own lists values same)) in
+          (value_choices_lists set (p + 1) e lists values (omega (arith, end)) (subst (λ r. RisesFrom (r + 1) e set) here rises.2)
+          (tail_same p own lists values same)) in
           subst (λ r. value_choices (r ∷ set) p (own ∷ lists) ≡ map (spread (r ∷ set) p (suc (length lists))) (value_lists values (r ∷ set))) (sym here) member
       | inr apart ↦
           let above : RisesFrom (p + 1) e (q ∷ set) = (omega (arith, rises.0, apart), rises.1, rises.2) in

@@ -1,18 +1,19 @@
 -- The steps and the ends of the loops over the members of a set.
-use Rattle.std.proofs.Common.{sum_by, ◌≡◌, ℕ, ◌+◌, ◌*◌, ◌-◌, ◌^◌, ◌<◌, ◌≤◌, true, false, List, [], ◌∷◌, ◌++◌, All, map, subst, take, drop, length, get_or, ◌∙◌, sym, ap, arith}
+use Rattle.std.proofs.Common.{sum_by, ◌≡◌, ℕ, ◌+◌, ◌*◌, ◌-◌, ◌^◌, ◌<◌, ◌≤◌, true, false, List, [], ◌∷◌, All, map, subst, drop, length, get_or, ◌∙◌, sym, ap, arith}
 use Rattle.std.specs.Prelude.{◌==◌, if◌then◌else◌}
 use Rattle.std.specs.List.{AllByRecursion}
 use Rattle.std.proofs.lemmas.List.Elements.{All-from_recursion, All-get_or}
 use Rattle.std.proofs.lemmas.Bool.Decides.{nat_tests}
 use Rattle.std.proofs.lemmas.List.Sums.{get_or-le-sum_by, sum_by-cons}
-use Rattle.std.proofs.lemmas.List.{at_drop_more, at_drop_all, drop_more, get_or-map, length-map, map-append, take_more}
+use Rattle.std.proofs.lemmas.List.{at_drop_more, at_drop_all, drop_more, get_or-map, length-map}
 use Rattle.tuple_index.specs.Plan.{PlanView}
 use Rattle.tuple_index.specs.Places.{RisesFrom, ways, place, place_of, negative_ways, ways_before}
 use Rattle.tuple_index.specs.PlanFault.{told}
 use Rattle.tuple_index.proofs.ToldLemmas.{told-factor, told-digit}
 
 -- the ways of the members so far, times those of the rest
-pub ways_step : (values : ℕ → List ℕ) (members : List ℕ) (i n r next t : ℕ) → i < length members → r ≡ length (values (get_or members i 0)) → next ≡ told (n * r)
+pub ways_step : (values : ℕ → List ℕ) (members : List ℕ) (i n r next t : ℕ) → i < length members → r ≡ length (values (get_or members i 0))
+    → next ≡ told (n * r)
     → told (n * ways values (drop i members)) ≡ t → told (next * ways values (drop (i + 1) members)) ≡ t
 ways_step values members i n r next t within radix product before =
     ap (λ k. told (k * ways values (drop (i + 1) members))) product
@@ -39,7 +40,8 @@ place_step values members chosen i n r d product next t within in_chosen radix d
     let opened : told (n * ways values (drop i members) + place values (drop i members) (drop i chosen))
     ≡ told (n * (length (values (get_or members i 0)) * w) + (place_of (values (get_or members i 0)) (get_or chosen i 0) * w + p))
     = ap (λ ms. told (n * ways values ms + place values ms (drop i chosen))) (drop_more members i 0 within)
-    ∙ ap (λ cs. told (n * ways values (get_or members i 0 ∷ drop (i + 1) members) + place values (get_or members i 0 ∷ drop (i + 1) members) cs)) (drop_more chosen i 0 in_chosen) in
+    ∙ ap (λ cs. told (n * ways values (get_or members i 0 ∷ drop (i + 1) members) + place values (get_or members i 0 ∷ drop (i + 1) members) cs))
+    (drop_more chosen i 0 in_chosen) in
     ap (λ k. told (k * w + p)) now
     ∙ told-digit n r d w p
     ∙ ap (λ k. told (n * (k * w) + (d * w + p))) radix
@@ -97,30 +99,30 @@ rises_within set p e rises = All-from_recursion (λ q. q < e) set (each set p e 
     each (q ∷ set) p e rises = (rises.1, each set (q + 1) e rises.2)
 
 -- one term more of a sum, and the end
-pub sum_step : {X : Type 0} (f : X → ℕ) (xs : List X) (d : X) (i count term next whole : ℕ) → i < length xs → term ≡ told (f (get_or xs i d)) → next ≡ told (count + term)
+pub sum_step : {X : Type 0} (f : X → ℕ) (xs : List X) (d : X) (i count term next whole : ℕ) → i < length xs → term ≡ told (f (get_or xs i d))
+    → next ≡ told (count + term)
     → told (count + sum_by f (drop i xs)) ≡ whole → told (next + sum_by f (drop (i + 1) xs)) ≡ whole
 sum_step f xs d i count term next whole within counted added so_far =
     let opened : sum_by f (drop i xs) ≡ f (get_or xs i d) + sum_by f (drop (i + 1) xs) =
     at_drop_more (sum_by f) xs i d within ∙ sum_by-cons f (get_or xs i d) (drop (i + 1) xs) in
     omega (arith, opened, counted, added, so_far)
 
-pub sum_end : {X : Type 0} (f : X → ℕ) (xs : List X) (i count whole : ℕ) → length xs ≤ i → count ≤ 2 ^ 64 - 1 → told (count + sum_by f (drop i xs)) ≡ whole → count ≡ whole
+pub sum_end : {X : Type 0} (f : X → ℕ) (xs : List X) (i count whole : ℕ) → length xs ≤ i → count ≤ 2 ^ 64 - 1 → told (count + sum_by f (drop i xs)) ≡ whole
+    → count ≡ whole
 sum_end f xs i count whole past fits so_far =
     let none : sum_by f (drop i xs) ≡ 0 = at_drop_all (sum_by f) xs i past in
     omega (arith, none, fits, so_far)
 
 -- a set of those that rise
-pub rising_at : {X : Type 0} (f : X → List ℕ) (e : ℕ) (xs : List X) (i : ℕ) (d : X) → i < length xs → All (RisesFrom 0 e) (map f xs) → RisesFrom 0 e (f (get_or xs i d))
+pub rising_at : {X : Type 0} (f : X → List ℕ) (e : ℕ) (xs : List X) (i : ℕ) (d : X) → i < length xs → All (RisesFrom 0 e) (map f xs)
+    → RisesFrom 0 e (f (get_or xs i d))
 rising_at f e xs i d within all =
     let inside : i < length (map f xs) = omega (arith, within, length-map xs f) in
     subst (RisesFrom 0 e) (get_or-map f xs i d [] within) (All-get_or (RisesFrom 0 e) (map f xs) i [] inside all)
 
 -- a size within the limit of the sum is told exactly
-pub told_size : {X : Type 0} (f : X → ℕ) (xs : List X) (i : ℕ) (d : X) (n : ℕ) → i < length xs → sum_by f xs ≤ 2 ^ 26 → n ≡ told (f (get_or xs i d)) → (n ≡ f (get_or xs i d)) × (n ≤ 2 ^ 26)
+pub told_size : {X : Type 0} (f : X → ℕ) (xs : List X) (i : ℕ) (d : X) (n : ℕ) → i < length xs → sum_by f xs ≤ 2 ^ 26 → n ≡ told (f (get_or xs i d))
+    → (n ≡ f (get_or xs i d)) × (n ≤ 2 ^ 26)
 told_size f xs i d n within limit told_is =
     let own = get_or-le-sum_by f xs i d within in
     (omega (arith, own, limit, told_is), omega (arith, own, limit, told_is))
-
--- one item more
-pub map_more : {X Y : Type 0} (f : X → Y) (xs : List X) (i : ℕ) (d : X) → i < length xs → map f (take (i + 1) xs) ≡ map f (take i xs) ++ f (get_or xs i d) ∷ []
-map_more f xs i d within = ap (map f) (take_more xs i d within) ∙ map-append f (take i xs) (get_or xs i d ∷ [])

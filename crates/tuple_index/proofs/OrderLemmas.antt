@@ -13,6 +13,8 @@ use Rattle.std.proofs.lemmas.Slice.Eq.{bytes_eq-Decides}
 use Rattle.std.proofs.lemmas.List.Kept.{IsStrictlySortedBy-dedup}
 use Rattle.std.proofs.lemmas.List.Sorted.{list_any-IsPermutation}
 use Rattle.std.proofs.lemmas.List.Elements.{All-from_recursion}
+use Rattle.std.proofs.Math.Bool.{and-false, and-true}
+use Rattle.value_text.proofs.ListLemmas.{list_any-map, or_twice}
 use Rattle.cov_model.specs.Sound.{ModelView}
 use Rattle.definitions.specs.Demand.{choices, demanded_sets, in_order, is_among, rising, with_set}
 use Rattle.definitions.proofs.SetOrder.{lex, flipped, above_more, sorted_in_order, each_in_order}
@@ -24,18 +26,6 @@ or_swap true true c = refl
 or_swap true false c = refl
 or_swap false true c = refl
 or_swap false false c = refl
-
-or_twice : (b c : Bool) → (b || c) ≡ (b || (b || c))
-or_twice true c = refl
-or_twice false c = refl
-
-and_none : (b : Bool) → (b && false) ≡ false
-and_none true = refl
-and_none false = refl
-
-and_all : (b : Bool) → (b && true) ≡ b
-and_all true = refl
-and_all false = refl
 
 -- what one set and others pass, and what the others pass with it among them
 any_with_set : (p : List ℕ → Bool) (set : List ℕ) (sets : List (List ℕ)) → list_any p (with_set set sets) ≡ (p set || list_any p sets)
@@ -59,7 +49,8 @@ few_with_set : (set : List ℕ) (sets : List (List ℕ)) → length (with_set se
 few_with_set set [] = omega arith
 few_with_set set (other ∷ sets) = by_order (lex set other) refl (few_with_set set sets)
   where
-    by_order : (o : Ordering) → lex set other ≡ o → length (with_set set sets) ≤ length sets + 1 → length (with_set set (other ∷ sets)) ≤ length (other ∷ sets) + 1
+    by_order : (o : Ordering) → lex set other ≡ o → length (with_set set sets) ≤ length sets + 1 → length (with_set set (other ∷ sets))
+        ≤ length (other ∷ sets) + 1
     by_order Less e rest = rw e (omega arith)
     by_order Equal e rest = rw e (omega arith)
     by_order Greater e rest = rw e (omega (arith, rest))
@@ -104,11 +95,12 @@ absent x y xs ys below sorted same =
     false≢true (sym there ∙ sym (same (λ z. is_eq (lex x z))) ∙ here)
 
 -- above a set a test and its being above are passed alike
-any_above : (p : List ℕ → Bool) (x : List ℕ) (zs : List (List ℕ)) → AllByRecursion (λ z. lex x z ≡ Less) zs → list_any (λ z. p z && is_lt (lex x z)) zs ≡ list_any p zs
+any_above : (p : List ℕ → Bool) (x : List ℕ) (zs : List (List ℕ)) → AllByRecursion (λ z. lex x z ≡ Less) zs → list_any (λ z. p z && is_lt (lex x z)) zs
+    ≡ list_any p zs
 any_above p x [] above = refl
 any_above p x (z ∷ zs) above =
     let rest = any_above p x zs above.1 in
-    let own : (p z && is_lt (lex x z)) ≡ p z = ap (λ o. p z && is_lt o) above.0 ∙ and_all (p z) in
+    let own : (p z && is_lt (lex x z)) ≡ p z = ap (λ o. p z && is_lt o) above.0 ∙ and-true (p z) in
     rw (own, rest) refl
 
 above_same : (x y : List ℕ) (zs : List (List ℕ)) → lex x y ≡ Equal → AllByRecursion (λ z. lex y z ≡ Less) zs → AllByRecursion (λ z. lex x z ≡ Less) zs
@@ -126,8 +118,8 @@ same_sets (x ∷ xs) (y ∷ ys) sorted other same = by_order (lex x y) refl (sam
   where
     tails : lex x y ≡ Equal → (p : List ℕ → Bool) → list_any p xs ≡ list_any p ys
     tails e p =
-        let first : (p x && is_lt (lex x x)) ≡ false = ap (λ o. p x && is_lt o) (tied_itself nat_list_cmp_total x) ∙ and_none (p x) in
-        let second : (p y && is_lt (lex x y)) ≡ false = ap (λ o. p y && is_lt o) e ∙ and_none (p y) in
+        let first : (p x && is_lt (lex x x)) ≡ false = ap (λ o. p x && is_lt o) (tied_itself nat_list_cmp_total x) ∙ and-false (p x) in
+        let second : (p y && is_lt (lex x y)) ≡ false = ap (λ o. p y && is_lt o) e ∙ and-false (p y) in
         sym (any_above p x xs sorted.0)
         ∙ ap (λ b. b || list_any (λ z. p z && is_lt (lex x z)) xs) (sym first)
         ∙ same (λ z. p z && is_lt (lex x z))
@@ -157,16 +149,13 @@ any_dedup E p [] same = refl
 any_dedup E p (x ∷ xs) same = any_dedup_from E p x xs same
 
 -- sorted by a part, the parts are sorted
-pub any_map : {X Y : Type 0} (p : Y → Bool) (f : X → Y) (xs : List X) → list_any p (map f xs) ≡ list_any (λ x. p (f x)) xs
-any_map p f [] = refl
-any_map p f (x ∷ xs) = ap (λ b. p (f x) || b) (any_map p f xs)
-
 pub sorted_parts : {X : Type 0} (f : X → List ℕ) (xs : List X) → IsStrictlySortedBy (λ x y. lex (f x) (f y)) xs → IsStrictlySortedBy lex (map f xs)
 unfolding IsStrictlySortedBy
 sorted_parts f [] sorted = tt
 sorted_parts f (x ∷ xs) sorted = (each f x xs sorted.0, sorted_parts f xs sorted.1)
   where
-    each : {X : Type 0} (f : X → List ℕ) (x : X) (ys : List X) → AllByRecursion (λ y. lex (f x) (f y) ≡ Less) ys → AllByRecursion (λ z. lex (f x) z ≡ Less) (map f ys)
+    each : {X : Type 0} (f : X → List ℕ) (x : X) (ys : List X) → AllByRecursion (λ y. lex (f x) (f y) ≡ Less) ys
+        → AllByRecursion (λ z. lex (f x) z ≡ Less) (map f ys)
     each f x [] above = tt
     each f x (y ∷ ys) above = (above.0, each f x ys above.1)
 
@@ -176,10 +165,10 @@ pub ordered_parts : {X : Type 0} (f : X → List ℕ) (before sorted after : Lis
 ordered_parts f before sorted after moved rises left =
     let strictly = IsStrictlySortedBy-dedup (on_texts f) (λ x y. sym (is_eq-slice_cmp (f x) (f y))) sorted rises in
     let alike : (p : List ℕ → Bool) → list_any p (map f after) ≡ list_any p (in_order (map f before)) = λ p.
-    any_map p f after ∙ ap (list_any (λ x. p (f x))) left
+    list_any-map p f after ∙ ap (list_any (λ x. p (f x))) left
     ∙ any_dedup (λ x y. bytes_eq (f x) (f y)) (λ x. p (f x)) sorted (λ x y same. ap p ((bytes_eq-Decides (f x) (f y)).0 same))
     ∙ sym (list_any-IsPermutation (λ x. p (f x)) before sorted moved)
-    ∙ sym (any_map p f before) ∙ sym (any_in_order p (map f before)) in
+    ∙ sym (list_any-map p f before) ∙ sym (any_in_order p (map f before)) in
     same_sets (map f after) (in_order (map f before))
     (sorted_parts f after (subst (IsStrictlySortedBy (λ x y. lex (f x) (f y))) (sym left) strictly))
     (sorted_in_order (map f before)) alike

@@ -1,19 +1,14 @@
 -- Where choices of values stand.
 use Rattle.std.proofs.Common.{inl, inr, ◌≡◌, ℕ, zero, suc, ◌+◌, ◌*◌, Bool, true, false, ◌||◌, ◌&&◌, List, [], ◌∷◌, ◌++◌, map, length, Some, ◌∙◌, refl, sym, subst, ap, arith, length-append}
-use Rattle.std.specs.Prelude.{unwrap_or, ◌==◌, slice_get}
+use Rattle.std.specs.Prelude.{◌==◌, slice_get}
 use Rattle.std.specs.List.{flat_map}
-use Rattle.std.proofs.lemmas.Bool.{cases_eq, false≢true}
+use Rattle.std.proofs.lemmas.Bool.{cases_eq, false≢true, and_parts}
 use Rattle.std.proofs.lemmas.Bool.Decides.{nat_tests}
 use Rattle.std.proofs.lemmas.List.{length-map}
 use Rattle.std.specs.Option.{option_map}
-use Rattle.std.proofs.lemmas.Option.{slice_get_within, slice_get-map}
+use Rattle.std.proofs.lemmas.Option.{same_Some, slice_get_within, slice_get-map}
 use Rattle.definitions.specs.Demand.{is_among}
 use Rattle.tuple_index.specs.Places.{value_lists, ways, place_of, place}
-
-pub both_true : (a b : Bool) → (a && b) ≡ true → (a ≡ true) × (b ≡ true)
-both_true true true h = (refl, refl)
-both_true true false h = (refl, h)
-both_true false b h = (h, absurd (false≢true h))
 
 -- pieces of one length
 pub length-flat_map_same : {X Y : Type 0} (f : X → List Y) (n : ℕ) (xs : List X) → ((x : X) → length (f x) ≡ n) → length (flat_map f xs) ≡ length xs * n
@@ -40,9 +35,6 @@ slice_get-append_right [] ys n i at = ap (slice_get ys) (omega (arith, at))
 slice_get-append_right (x ∷ xs) ys zero i at = absurd (omega (arith, at))
 slice_get-append_right (x ∷ xs) ys (suc n) i at = slice_get-append_right xs ys n i (omega (arith, at))
 
-pub some_is : {X : Type 0} (x y : X) → Some x ≡ Some y → x ≡ y
-some_is x y same = ap (λ o. unwrap_or o x) same
-
 -- an item of pieces of one length
 pub slice_get-pieces : {X Y : Type 0} (f : X → List Y) (n : ℕ) (xs : List X) (d k i : ℕ) (x : X) (y : Y) → ((x : X) → length (f x) ≡ n)
     → i ≡ d * n + k → slice_get xs d ≡ Some x → slice_get (f x) k ≡ Some y → slice_get (flat_map f xs) i ≡ Some y
@@ -50,7 +42,7 @@ slice_get-pieces f n [] d k i x y same at here inner = absurd (omega (arith, sli
 slice_get-pieces f n (w ∷ xs) zero k i x y same at here inner =
     let first : i ≡ k = grind (arith, at) in
     ap (slice_get (f w ++ flat_map f xs)) first
-    ∙ slice_get-append_left (f w) (flat_map f xs) k y (ap (λ z. slice_get (f z) k) (some_is _ _ here) ∙ inner)
+    ∙ slice_get-append_left (f w) (flat_map f xs) k y (ap (λ z. slice_get (f z) k) (same_Some _ _ here) ∙ inner)
 slice_get-pieces f n (w ∷ xs) (suc d) k i x y same at here inner =
     let later : i ≡ n + (d * n + k) = grind (arith, at) in
     slice_get-append_right (f w) (flat_map f xs) i (d * n + k) (later ∙ ap (λ z. z + (d * n + k)) (sym (same w)))
@@ -83,7 +75,7 @@ slice_get-place values [] [] among = refl
 slice_get-place values [] (v ∷ chosen) among = absurd (false≢true among)
 slice_get-place values (p ∷ set) [] among = absurd (false≢true among)
 slice_get-place values (p ∷ set) (v ∷ chosen) among =
-    let parts = both_true (is_among (values p) v) (all_among values set chosen) among in
+    let parts = and_parts (is_among (values p) v) (all_among values set chosen) among in
     slice_get-pieces (λ v. map (λ rest. v ∷ rest) (value_lists values set)) (ways values set) (values p) (place_of (values p) v) (place values set chosen)
     (place_of (values p) v * ways values set + place values set chosen) v (v ∷ chosen)
     (λ v. length-map (value_lists values set) (λ rest. v ∷ rest) ∙ length-value_lists values set) refl

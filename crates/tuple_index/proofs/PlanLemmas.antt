@@ -17,7 +17,7 @@ use Rattle.tuple_index.specs.Places.{RisesFrom, tuple_count, tuple_lists}
 use Rattle.tuple_index.specs.Plan.{PlanView, plan_of, tuple_cells}
 use Rattle.tuple_index.specs.PlanFault.{limit_passed, told}
 use Rattle.tuple_index.specs.Signs.{values_of_sign}
-use Rattle.tuple_index.proofs.ChoiceLemmas.{items_at}
+use Rattle.value_text.proofs.ListLemmas.{map-get_or-range_with_len}
 use Rattle.tuple_index.proofs.ListingLemmas.{map_map}
 use Rattle.tuple_index.proofs.OrderLemmas.{demanded_rise, each_rises, few_in_order}
 use Rattle.tuple_index.proofs.RankLemmas.{length-tuple_lists}
@@ -36,7 +36,7 @@ by_sign : (negative : Bool) (m : ModelView)
     → map (λ p. values_of_sign negative (param_at m.params p).values) (param_numbers m) ≡ map (λ param. values_of_sign negative param.values) m.params
 by_sign negative m =
     sym (map_map (λ param. values_of_sign negative param.values) (param_at m.params) (param_numbers m))
-    ∙ ap (map (λ param. values_of_sign negative param.values)) (items_at m.params no_param)
+    ∙ ap (map (λ param. values_of_sign negative param.values)) (map-get_or-range_with_len m.params no_param)
 
 pub same_values : (m : ModelView) (plan : PlanView) → plan.sets ≡ [] → plan.sizes ≡ []
     → plan.positives ≡ map (λ param. values_of_sign false param.values) m.params
@@ -84,7 +84,8 @@ made_is m values plan sets same listed is =
 pub sets_rise : (m : ModelView) (values : PlanView) (sets : List (List ℕ)) → values ≡ of_values (plan_of m) → sets ≡ demanded_sets m
     → All (RisesFrom 0 (length values.positives)) sets
 sets_rise m values sets same listed =
-    let long : length values.positives ≡ length m.params = ap (λ v. length v.positives) same ∙ length-map-range_with_len (positive_values m) 0 (length m.params) in
+    let long : length values.positives ≡ length m.params = ap (λ v. length v.positives) same
+    ∙ length-map-range_with_len (positive_values m) 0 (length m.params) in
     subst (λ n. All (RisesFrom 0 n) sets) (sym long) (subst (All (RisesFrom 0 (length m.params))) (sym listed) (demanded_rise m))
 
 pub sets_few : {X : Type 0} (m : ModelView) (f : X → List ℕ) (sets : List X) (n : ℕ) → n ≡ told (length (choices m)) → n ≤ 2 ^ 20

@@ -2,18 +2,17 @@
 use Rattle.std.proofs.Common.{inl, inr, ◌≡◌, ℕ, zero, suc, ◌+◌, ◌<◌, true, List, [], ◌∷◌, ◌∙◌, refl, sym, subst, ap, arith}
 use Rattle.std.specs.Prelude.{◌&&◌, nat_le, nat_lt}
 use Rattle.std.specs.List.{filter, range_with_len}
-use Rattle.std.proofs.lemmas.Bool.{cases_eq}
+use Rattle.std.proofs.lemmas.Bool.{cases_eq, and_parts, eq-eqb}
 use Rattle.std.proofs.lemmas.Bool.Decides.{nat_tests}
 use Rattle.definitions.specs.Demand.{is_among}
 use Rattle.tuple_index.specs.Places.{RisesFrom, rises_from}
-use Rattle.tuple_index.proofs.ListingLemmas.{same_test, apart_test, not_among_before}
-use Rattle.tuple_index.proofs.PlaceLemmas.{both_true}
+use Rattle.tuple_index.proofs.ListingLemmas.{apart_test, not_among_before}
 
 rises_told : (set : List ℕ) (p e : ℕ) → rises_from p e set ≡ true → RisesFrom p e set
 rises_told [] p e rises = tt
 rises_told (q ∷ set) p e rises =
-    let parts = both_true (nat_le p q) (nat_lt q e && rises_from (q + 1) e set) rises in
-    let later = both_true (nat_lt q e) (rises_from (q + 1) e set) parts.1 in
+    let parts = and_parts (nat_le p q) (nat_lt q e && rises_from (q + 1) e set) rises in
+    let later = and_parts (nat_lt q e) (rises_from (q + 1) e set) parts.1 in
     (grind (arith, nat_tests, parts.0), grind (arith, nat_tests, later.0), rises_told set (q + 1) e later.1)
 
 -- a member before the place picks nothing from there on
@@ -31,7 +30,7 @@ picked_itself (q ∷ set) p zero e end rises = absurd (omega (arith, end, rises.
 picked_itself (q ∷ set) p (suc n) e end rises =
     elim (cases_eq q p) [
       | inl here ↦
-          let test = same_test p in
+          let test = eq-eqb p p refl in
           let later = picked_itself set (p + 1) n e (omega (arith, end)) (subst (λ r. RisesFrom (r + 1) e set) here rises.2) in
           let first : filter (is_among (p ∷ set)) (range_with_len p (suc n)) ≡ p ∷ filter (is_among (p ∷ set)) (range_with_len (p + 1) n) = rw test refl in
           subst (λ r. filter (is_among (r ∷ set)) (range_with_len p (suc n)) ≡ r ∷ set) (sym here)

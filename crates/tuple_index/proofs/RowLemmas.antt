@@ -15,7 +15,8 @@ use Rattle.tuple_index.proofs.ToldLemmas.{told-both, told-mul, told-product}
 use Rattle.tuple_index.proofs.CountLemmas.{length-choices}
 
 -- the row of one count more
-pub next_is_row : (k count : ℕ) (counts row next : List ℕ) → IsRow k counts row → next ≡ map (next_entry count row) (range_with_len 0 (length row)) → IsRow k (count ∷ counts) next
+pub next_is_row : (k count : ℕ) (counts row next : List ℕ) → IsRow k counts row → next ≡ map (next_entry count row) (range_with_len 0 (length row))
+    → IsRow k (count ∷ counts) next
 next_is_row k count counts row next is_row made = record {
   long = ap length made ∙ length-map-range_with_len (next_entry count row) 0 (length row) ∙ is_row.long;
   sums = λ j within.
@@ -43,7 +44,8 @@ pub row_step : (k left : ℕ) (counts row next : List ℕ) (count : ℕ) → 0 <
 row_step k left counts row next count some within is_row read made =
     let same : left - 1 + 1 ≡ left = omega (arith, some) in
     let opened : drop (left - 1) counts ≡ count ∷ drop left counts =
-    drop_more counts (left - 1) 0 (omega (arith, some, within)) ∙ ap (λ n. get_or counts (left - 1) 0 ∷ drop n counts) same ∙ ap (λ n. n ∷ drop left counts) (sym read) in
+    drop_more counts (left - 1) 0 (omega (arith, some, within)) ∙ ap (λ n. get_or counts (left - 1) 0 ∷ drop n counts) same
+    ∙ ap (λ n. n ∷ drop left counts) (sym read) in
     subst (λ cs. IsRow k cs next) (sym opened) (next_is_row k count (drop left counts) row next is_row made)
 
 -- counts may be told each before they are multiplied
@@ -65,13 +67,15 @@ products-told (suc k) (n ∷ counts) =
         ap told one ∙ told-mul n a 0 ∙ ap told back ∙ sym (told-product n a) ∙ ap (λ x. told (n * x)) same ∙ told-product n b
 
 -- the told counts of the units
-told_counts : (groups : List Group) (ps : List ℕ) → map (λ group. told (group_ways group)) groups ++ map (λ p. 1) ps ≡ map told (map group_ways groups ++ replicate (length ps) 1)
+told_counts : (groups : List Group) (ps : List ℕ) → map (λ group. told (group_ways group)) groups ++ map (λ p. 1) ps
+    ≡ map told (map group_ways groups ++ replicate (length ps) 1)
 told_counts [] [] = refl
 told_counts [] (p ∷ ps) = ap (λ ns. 1 ∷ ns) (told_counts [] ps)
 told_counts (group ∷ groups) ps = ap (λ ns. told (group_ways group) ∷ ns) (told_counts groups ps)
 
 -- the choices, counted
-pub count_is : (m : ModelView) (counts : List ℕ) (taken unions relations : ℕ) → counts ≡ map (λ group. told (group_ways group)) m.demand.subs ++ map (λ p. 1) (singles m)
+pub count_is : (m : ModelView) (counts : List ℕ) (taken unions relations : ℕ) → counts ≡ map (λ group. told (group_ways group)) m.demand.subs
+    ++ map (λ p. 1) (singles m)
     → taken ≡ min (length counts) m.demand.order → unions ≡ told (products taken counts) → relations ≡ told (sum_by group_ways m.demand.relations)
     → told (unions + relations) ≡ told (length (choices m))
 count_is m counts taken unions relations listed least multiplied subsets =
@@ -85,7 +89,8 @@ count_is m counts taken unions relations listed least multiplied subsets =
     ∙ told-both (products k (unit_counts m)) (sum_by group_ways m.demand.relations) ∙ ap told (sym (length-choices m))
 
 -- one relation more, and the end
-pub relation_step : (groups : List Group) (i : ℕ) (group : Group) (count ways next whole : ℕ) → i < length groups → group ≡ get_or groups i group → ways ≡ told (group_ways group)
+pub relation_step : (groups : List Group) (i : ℕ) (group : Group) (count ways next whole : ℕ) → i < length groups → group ≡ get_or groups i group
+    → ways ≡ told (group_ways group)
     → next ≡ told (count + ways) → told (count + sum_by group_ways (drop i groups)) ≡ whole → told (next + sum_by group_ways (drop (i + 1) groups)) ≡ whole
 relation_step groups i group count ways next whole within read counted added so_far =
     let opened : sum_by group_ways (drop i groups) ≡ group_ways group + sum_by group_ways (drop (i + 1) groups) =
@@ -93,7 +98,8 @@ relation_step groups i group count ways next whole within read counted added so_
     ∙ ap (λ g. group_ways g + sum_by group_ways (drop (i + 1) groups)) (sym read) in
     omega (arith, opened, counted, added, so_far)
 
-pub relation_end : (groups : List Group) (i count whole : ℕ) → length groups ≤ i → count ≤ 2 ^ 64 - 1 → told (count + sum_by group_ways (drop i groups)) ≡ whole → count ≡ whole
+pub relation_end : (groups : List Group) (i count whole : ℕ) → length groups ≤ i → count ≤ 2 ^ 64 - 1 → told (count + sum_by group_ways (drop i groups))
+    ≡ whole → count ≡ whole
 relation_end groups i count whole past fits so_far =
     let none : sum_by group_ways (drop i groups) ≡ 0 = at_drop_all (sum_by group_ways) groups i past in
     omega (arith, none, fits, so_far)

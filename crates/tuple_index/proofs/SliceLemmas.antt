@@ -1,7 +1,7 @@
 -- The tuples of a set in a slice are within those of the set.
-use Rattle.std.proofs.Common.{inl, inr, ◌⊎◌, Bool, refl, ◌≡◌, ℕ, ◌+◌, ◌*◌, ◌^◌, ◌<◌, ◌≤◌, true, false, ◌||◌, List, [], ◌∷◌, length, get_or, sum_by, ◌∙◌, sym, subst, ap, arith}
+use Rattle.std.proofs.Common.{inl, inr, ◌≡◌, ℕ, ◌+◌, ◌*◌, ◌^◌, ◌<◌, ◌≤◌, true, false, ◌||◌, List, [], ◌∷◌, length, get_or, sum_by, ◌∙◌, sym, subst, ap, arith}
 use Rattle.std.specs.Prelude.{◌==◌, if◌then◌else◌}
-use Rattle.std.proofs.lemmas.Bool.{cases_eq, false≢true}
+use Rattle.std.proofs.lemmas.Bool.{cases_Bool, cases_eq, false≢true}
 use Rattle.std.proofs.lemmas.Bool.Decides.{nat_tests}
 use Rattle.std.proofs.lemmas.List.Sums.{sum_by-cons}
 use Rattle.std.proofs.lemmas.Option.{slice_get_within}
@@ -32,8 +32,9 @@ before_within plan set q (p ∷ members) among =
           rw test (omega (arith, opened, rest))
     ]
 
-one_more : (k n w : ℕ) → k < n → k * w + w ≤ n * w
-one_more k n w less = grind arith
+-- one piece more
+pub mul-add-le : (k n w : ℕ) → k < n → k * w + w ≤ n * w
+mul-add-le k n w less = grind arith
 
 pub within_count : (plan : PlanView) (set : List ℕ) (slice : Slice) → IsOwnSlice plan slice → has_part set slice ≡ true
     → start_of plan set slice + ways (values_in plan slice) set ≤ tuple_count plan set
@@ -42,7 +43,7 @@ within_count plan set (Negative q v) own part =
     let place = place_of (negatives_of plan q) v in
     let each = ways (values_in plan (Negative q 0)) set in
     let below : place < length (negatives_of plan q) = slice_get_within (negatives_of plan q) place v (slice_get-place_of (negatives_of plan q) v own.1) in
-    let inside : place * each + each ≤ negative_ways plan set q = one_more place (length (negatives_of plan q)) each below in
+    let inside : place * each + each ≤ negative_ways plan set q = mul-add-le place (length (negatives_of plan q)) each below in
     omega (arith, ways_negative plan q v 0 set, before_within plan set q set part, inside)
 
 -- so they are few, and their numbers are told exactly
@@ -53,7 +54,8 @@ pub record SliceWithin (plan : PlanView) (set : ℕ) (slice : Slice) (start coun
   pub few : start + count ≤ 2 ^ 26
 
 pub slice_within : (plan : PlanView) (set : ℕ) (slice : Slice) (start count : ℕ) → IsKept plan → set < length plan.sets → IsOwnSlice plan slice
-    → has_part (set_at plan set) slice ≡ true → start ≡ told (start_of plan (set_at plan set) slice) → count ≡ told (ways (values_in plan slice) (set_at plan set))
+    → has_part (set_at plan set) slice ≡ true → start ≡ told (start_of plan (set_at plan set) slice)
+    → count ≡ told (ways (values_in plan slice) (set_at plan set))
     → SliceWithin plan set slice start count
 slice_within plan set slice start count kept exists own part told_start told_count =
     let members = set_at plan set in
@@ -72,7 +74,7 @@ slice_within plan set slice start count kept exists own part told_start told_cou
 pub ways_within : (plan : PlanView) (set : ℕ) (slice : Slice) → IsKept plan → set < length plan.sets → IsOwnSlice plan slice
     → ways_in plan (set_at plan set) slice ≤ get_or plan.sizes set 0
 ways_within plan set slice kept exists own =
-    elim (split (has_part (set_at plan set) slice)) [
+    elim (cases_Bool (has_part (set_at plan set) slice)) [
       | inl part ↦
           let inside = within_count plan (set_at plan set) slice own part in
           let many = ap (λ b. if b then ways (values_in plan slice) (set_at plan set) else 0) part in
@@ -81,7 +83,3 @@ ways_within plan set slice kept exists own =
           let many = ap (λ b. if b then ways (values_in plan slice) (set_at plan set) else 0) none in
           omega (arith, many)
     ]
-  where
-    split : (b : Bool) → (b ≡ true) ⊎ (b ≡ false)
-    split true = inl refl
-    split false = inr refl

@@ -1,13 +1,14 @@
 -- Numbers that are told up to the greatest of 64 bits: sums and products of what is told.
-use Rattle.std.proofs.Common.{inl, inr, ◌⊎◌, ◌≡◌, ℕ, zero, suc, ◌+◌, ◌*◌, ◌-◌, ◌^◌, ◌<◌, ◌≤◌, min, ◌∙◌, sym, ap, arith}
+use Rattle.std.proofs.Common.{inl, inr, ◌≡◌, ℕ, zero, suc, ◌+◌, ◌*◌, ◌-◌, ◌^◌, min, ◌∙◌, sym, ap, arith}
+use Rattle.std.proofs.lemmas.Bool.{cases_lt}
 use Rattle.tuple_index.specs.PlanFault.{told}
 
 capped : (m a b c : ℕ) → min (min a m * b + c) m ≡ min (a * b + c) m
 capped m a zero c = grind arith
 capped m a (suc b) c =
-    elim (split a m) [
-      | inl below ↦ let same : min a m ≡ a = omega (arith, below) in ap (λ n. min (n * suc b + c) m) same
-      | inr above ↦
+    elim (cases_lt m a) [
+      | inr below ↦ let same : min a m ≡ a = omega (arith, below) in ap (λ n. min (n * suc b + c) m) same
+      | inl above ↦
           let same : min a m ≡ m = omega (arith, above) in
           let least : m * suc b ≡ m + m * b = grind arith in
           let more : a * suc b ≡ a + a * b = grind arith in
@@ -15,9 +16,6 @@ capped m a (suc b) c =
           let right : min (a * suc b + c) m ≡ m = omega (arith, more, above) in
           ap (λ n. min (n * suc b + c) m) same ∙ left ∙ sym right
     ]
-  where
-    split : (a m : ℕ) → (a ≤ m) ⊎ (m < a)
-    split a m = grind arith
 
 pub told-mul : (a b c : ℕ) → told (told a * b + c) ≡ told (a * b + c)
 told-mul a b c = capped (2 ^ 64 - 1) a b c

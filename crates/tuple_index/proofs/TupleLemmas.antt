@@ -2,11 +2,12 @@
 use Rattle.std.proofs.Common.{inl, inr, ◌≡◌, ℕ, zero, suc, ◌+◌, ◌<◌, ◌≤◌, true, false, ◌||◌, List, [], ◌∷◌, ◌++◌, map, length, get_or, ◌∙◌, refl, sym, subst, ap, arith, zero-add}
 use Rattle.std.specs.Prelude.{◌==◌, slice_set, if◌then◌else◌}
 use Rattle.std.specs.List.{flat_map, range_with_len}
-use Rattle.std.proofs.lemmas.Bool.{cases_eq, false≢true}
+use Rattle.std.proofs.lemmas.Bool.{cases_eq, false≢true, eq-eqb}
 use Rattle.std.proofs.lemmas.Bool.Decides.{nat_tests}
 use Rattle.std.proofs.lemmas.List.{length-set, map-append, get_or-set_same, get_or-set_other}
 use Rattle.std.proofs.lemmas.List.Concat.{flat_map-append}
 use Rattle.std.proofs.lemmas.List.FromFn.{length-map-range_with_len, get_or-map-range_with_len}
+use Rattle.std.proofs.lemmas.List.Folds.{flat_map-map}
 use Rattle.cov_model.specs.declared.slice.Slice.TheVariants.{Positive, Negative}
 use Rattle.cov_model.specs.Sound.{ModelView}
 use Rattle.cov_model.specs.Valid.{param_numbers}
@@ -14,16 +15,12 @@ use Rattle.cov_model.specs.Slices.{slice_values, positive_values, negative_value
 use Rattle.definitions.specs.Demand.{is_among, tuples_in, tuples_of}
 use Rattle.tuple_index.specs.Plan.{plan_of, tuple_cells}
 use Rattle.tuple_index.specs.Places.{RisesFrom, value_lists, values_in, negative_lists, tuple_lists}
-use Rattle.tuple_index.proofs.ListingLemmas.{same_test, apart_test, map_flat_map, flat_map_same, value_choices_lists, spread, not_among_before}
+use Rattle.tuple_index.proofs.ListingLemmas.{apart_test, map_flat_map, flat_map_same, value_choices_lists, spread, not_among_before}
 
 -- a list of lists, flattened
 flat_map_flat : {X Y Z : Type 0} (f : Y → List Z) (g : X → List Y) (xs : List X) → flat_map f (flat_map g xs) ≡ flat_map (λ x. flat_map f (g x)) xs
 flat_map_flat f g [] = refl
 flat_map_flat f g (x ∷ xs) = flat_map-append f (g x) (flat_map g xs) ∙ ap (λ ys. flat_map f (g x) ++ ys) (flat_map_flat f g xs)
-
-pub flat_map_map : {X Y Z : Type 0} (f : Y → List Z) (g : X → Y) (xs : List X) → flat_map f (map g xs) ≡ flat_map (λ x. f (g x)) xs
-flat_map_map f g [] = refl
-flat_map_map f g (x ∷ xs) = ap (λ ys. f (g x) ++ ys) (flat_map_map f g xs)
 
 -- functions that agree on the members
 pub among_more : (p : ℕ) (set : List ℕ) (q : ℕ) → is_among set q ≡ true → is_among (p ∷ set) q ≡ true
@@ -32,7 +29,7 @@ among_more p set q among = elim (p == q) as (λ b. (b || is_among set q) ≡ tru
 flat_map_among : {Y : Type 0} (f g : ℕ → List Y) (xs : List ℕ) → ((q : ℕ) → is_among xs q ≡ true → f q ≡ g q) → flat_map f xs ≡ flat_map g xs
 flat_map_among f g [] same = refl
 flat_map_among f g (x ∷ xs) same =
-    let here : f x ≡ g x = same x (rw (same_test x) refl) in
+    let here : f x ≡ g x = same x (rw (eq-eqb x x refl) refl) in
     ap (λ y. y ++ flat_map f xs) here ∙ ap (λ ys. g x ++ ys) (flat_map_among f g xs (λ q among. same q (among_more x xs q among)))
 
 -- members are below the end
@@ -76,7 +73,8 @@ positive_lists m set rises =
     choices ∙ ap (λ n. map (spread set 0 n) (value_lists (values_in (plan_of m) Positive) set)) long
 
 -- the values of a parameter in a negative slice
-pub own_values : (lists : List (List ℕ)) (q v i : ℕ) → q < length lists → get_or (slice_set lists q (v ∷ [])) i [] ≡ (if i == q then v ∷ [] else get_or lists i [])
+pub own_values : (lists : List (List ℕ)) (q v i : ℕ) → q < length lists → get_or (slice_set lists q (v ∷ [])) i []
+    ≡ (if i == q then v ∷ [] else get_or lists i [])
 own_values lists q v i within =
     elim (cases_eq i q) [
       | inl here ↦ let test : (i == q) ≡ true = grind (arith, nat_tests) in
@@ -111,7 +109,7 @@ member_lists m set rises q among =
     let below : q < length m.params = among_below set 0 (length m.params) q rises among in
     let own : get_or (map (negative_values m) (param_numbers m)) q [] ≡ negative_values m q =
     get_or-map-range_with_len (negative_values m) 0 (length m.params) q q [] below (zero-add q) in
-    flat_map_map (tuples_in m set) (λ v. Negative q v) (negative_values m q)
+    flat_map-map (tuples_in m set) (λ v. Negative q v) (negative_values m q)
     ∙ flat_map_same (λ v. tuples_in m set (Negative q v)) (λ v. map (tuple_cells m set) (value_lists (values_in (plan_of m) (Negative q v)) set))
     (negative_values m q) (λ v. negative_lists_in m set q v rises among)
     ∙ sym (map_flat_map (tuple_cells m set) (λ v. value_lists (values_in (plan_of m) (Negative q v)) set) (negative_values m q))

@@ -1,5 +1,5 @@
 -- The values at a place.
-use Rattle.std.proofs.Common.{inl, inr, ◌⊎◌, ◌≡◌, ℕ, zero, suc, ◌+◌, ◌*◌, ◌-◌, ◌/◌, ◌%◌, ◌^◌, ◌<◌, ◌≤◌, List, [], ◌∷◌, ◌++◌, map, take, drop, length, get_or, Some, sum_by, ◌∙◌, sym, subst, ap, arith, append_assoc}
+use Rattle.std.proofs.Common.{inl, inr, ◌≡◌, ℕ, zero, suc, ◌+◌, ◌*◌, ◌-◌, ◌/◌, ◌%◌, ◌^◌, ◌<◌, ◌≤◌, List, [], ◌∷◌, ◌++◌, map, take, drop, length, get_or, Some, sum_by, ◌∙◌, sym, subst, ap, arith, append_assoc}
 use Rattle.std.specs.Prelude.{slice_get, slice_set}
 use Rattle.std.specs.Option.{option_map}
 use Rattle.std.specs.List.{flat_map}
@@ -7,6 +7,7 @@ use Rattle.std.proofs.lemmas.List.{at_drop_more, at_drop_all, take_more_set, tak
 use Rattle.std.proofs.lemmas.List.Sums.{sum_by-cons}
 use Rattle.std.proofs.lemmas.Option.{slice_get-map, slice_get-get_or}
 use Rattle.std.proofs.Math.Nat.{mod-lt, div-add-mod, div-lt_iff_lt-mul, div-eq_of_lt, mod-eq_of_lt}
+use Rattle.std.proofs.lemmas.Bool.{cases_lt}
 use Rattle.cov_model.specs.declared.slice.Slice.TheVariants.{Positive, Negative}
 use Rattle.tuple_index.specs.Plan.{PlanView}
 use Rattle.tuple_index.specs.Places.{values_in, negatives_of, value_lists, ways, negative_ways, negative_lists, tuple_lists, tuple_count}
@@ -36,10 +37,10 @@ exact_parts r len (suc w) within =
 
 pub parts : (r len w each : ℕ) → r < 2 ^ 26 → r < len * w → each ≡ told w → Parts r len w each
 parts r len w each small within told_ways =
-    elim (split w (2 ^ 64 - 1)) [
-      | inl below ↦ let same : each ≡ w = omega (arith, told_ways, below) in
+    elim (cases_lt (2 ^ 64 - 1) w) [
+      | inr below ↦ let same : each ≡ w = omega (arith, told_ways, below) in
           subst (Parts r len w) (sym same) (exact_parts r len w within)
-      | inr above ↦
+      | inl above ↦
           let less : r < each = omega (arith, told_ways, above, small) in
           let digit : r / each ≡ 0 = div-eq_of_lt less in
           let rest : r % each ≡ r = mod-eq_of_lt less in
@@ -52,9 +53,6 @@ parts r len w each small within told_ways =
           }
     ]
   where
-    split : (a m : ℕ) → (a ≤ m) ⊎ (m < a)
-    split a m = grind arith
-
     some_of : (len : ℕ) → r < len * w → 0 < len
     some_of zero h = let none : 0 * w ≡ 0 = grind arith in absurd (omega (arith, h, none))
     some_of (suc len) h = omega arith
@@ -64,7 +62,8 @@ pub record PutSoFar (values : ℕ → List ℕ) (members into : List ℕ) (i res
   pub small : rest < 2 ^ 26
   pub room : length into ≡ length members
   pub within : rest < ways values (drop i members)
-  pub holds : (tail : List ℕ) → slice_get (value_lists values (drop i members)) rest ≡ Some tail → slice_get (value_lists values members) place ≡ Some (take i into ++ tail)
+  pub holds : (tail : List ℕ) → slice_get (value_lists values (drop i members)) rest ≡ Some tail → slice_get (value_lists values members) place
+      ≡ Some (take i into ++ tail)
 
 pub left_within : (values : ℕ → List ℕ) (members into : List ℕ) (i rest place : ℕ) → PutSoFar values members into i rest place → i < length members
     → rest < length (values (get_or members i 0)) * ways values (drop (i + 1) members)
@@ -82,7 +81,8 @@ put_step values members into i rest place each v so_far more told_ways here =
       room = length-set into i v ∙ so_far.room;
       within = cut.rest;
       holds = λ tail there.
-          let piece = slice_get-pieces (λ v. map (λ rest. v ∷ rest) (value_lists values (drop (i + 1) members))) w own (rest / each) (rest % each) rest v (v ∷ tail)
+          let piece = slice_get-pieces (λ v. map (λ rest. v ∷ rest) (value_lists values (drop (i + 1) members))) w own (rest / each) (rest % each) rest v
+          (v ∷ tail)
           (λ v. length-map (value_lists values (drop (i + 1) members)) (λ rest. v ∷ rest) ∙ length-value_lists values (drop (i + 1) members)) cut.whole here
           (slice_get-map (λ rest. v ∷ rest) (value_lists values (drop (i + 1) members)) (rest % each) ∙ ap (option_map (λ rest. v ∷ rest)) there) in
           let before = so_far.holds (v ∷ tail) (ap (λ ls. slice_get ls rest) (at_drop_more (value_lists values) members i 0 more) ∙ piece) in
@@ -102,21 +102,26 @@ put_end values members into i rest place so_far past =
     so_far.holds [] there ∙ ap Some (append-nil (take i into) ∙ take_all i into (omega (arith, so_far.room, past)))
 
 -- the tuple at a place among those with a negative value of a member
-pub negative_at : (plan : PlanView) (set : List ℕ) (q place each v : ℕ) → place < 2 ^ 26 → place < negative_ways plan set q → each ≡ told (ways (values_in plan (Negative q 0)) set)
+pub negative_at : (plan : PlanView) (set : List ℕ) (q place each v : ℕ) → place < 2 ^ 26 → place < negative_ways plan set q
+    → each ≡ told (ways (values_in plan (Negative q 0)) set)
     → v ≡ get_or (negatives_of plan q) (place / each) 0
-    → (chosen : List ℕ) → slice_get (value_lists (values_in plan (Negative q v)) set) (place % each) ≡ Some chosen → slice_get (negative_lists plan set q) place ≡ Some chosen
+    → (chosen : List ℕ) → slice_get (value_lists (values_in plan (Negative q v)) set) (place % each) ≡ Some chosen
+    → slice_get (negative_lists plan set q) place ≡ Some chosen
 negative_at plan set q place each v small within told_ways read chosen inner =
     let cut = parts place (length (negatives_of plan q)) (ways (values_in plan (Negative q 0)) set) each small within told_ways in
-    slice_get-pieces (λ v. value_lists (values_in plan (Negative q v)) set) (ways (values_in plan (Negative q 0)) set) (negatives_of plan q) (place / each) (place % each) place v chosen
+    slice_get-pieces (λ v. value_lists (values_in plan (Negative q v)) set) (ways (values_in plan (Negative q 0)) set) (negatives_of plan q) (place / each)
+    (place % each) place v chosen
     (length_negative plan set q) cut.whole (slice_get-get_or (negatives_of plan q) (place / each) 0 cut.digit ∙ ap Some (sym read)) inner
 
 -- what is known of a tuple that isn't in the slices so far: it is one with a negative value of a member from i on
 pub record HeldFrom (plan : PlanView) (set : List ℕ) (i place rank : ℕ) : Type 0 where
   pub small : place < 2 ^ 26
   pub within : place < sum_by (negative_ways plan set) (drop i set)
-  pub holds : (chosen : List ℕ) → slice_get (flat_map (negative_lists plan set) (drop i set)) place ≡ Some chosen → slice_get (tuple_lists plan set) rank ≡ Some chosen
+  pub holds : (chosen : List ℕ) → slice_get (flat_map (negative_lists plan set) (drop i set)) place ≡ Some chosen → slice_get (tuple_lists plan set) rank
+      ≡ Some chosen
 
-pub held_first : (plan : PlanView) (set : List ℕ) (rank positive : ℕ) → rank < 2 ^ 26 → rank < tuple_count plan set → positive ≡ told (ways (values_in plan Positive) set)
+pub held_first : (plan : PlanView) (set : List ℕ) (rank positive : ℕ) → rank < 2 ^ 26 → rank < tuple_count plan set
+    → positive ≡ told (ways (values_in plan Positive) set)
     → positive ≤ rank → HeldFrom plan set 0 (rank - positive) rank
 held_first plan set rank positive small within told_ways past =
     let exact : positive ≡ ways (values_in plan Positive) set = omega (arith, told_ways, past, small) in
@@ -128,13 +133,16 @@ held_first plan set rank positive small within told_ways past =
           (omega (arith, length-value_lists (values_in plan Positive) set, exact, past)) ∙ there;
     }
 
-pub held_here : (plan : PlanView) (set : List ℕ) (i place rank count : ℕ) → HeldFrom plan set i place rank → i < length set → count ≡ told (negative_ways plan set (get_or set i 0))
-    → place < count → (chosen : List ℕ) → slice_get (negative_lists plan set (get_or set i 0)) place ≡ Some chosen → slice_get (tuple_lists plan set) rank ≡ Some chosen
+pub held_here : (plan : PlanView) (set : List ℕ) (i place rank count : ℕ) → HeldFrom plan set i place rank → i < length set
+    → count ≡ told (negative_ways plan set (get_or set i 0))
+    → place < count → (chosen : List ℕ) → slice_get (negative_lists plan set (get_or set i 0)) place ≡ Some chosen → slice_get (tuple_lists plan set) rank
+    ≡ Some chosen
 held_here plan set i place rank count held more told_ways below chosen there =
     held.holds chosen (ap (λ ts. slice_get ts place) (at_drop_more (flat_map (negative_lists plan set)) set i 0 more)
     ∙ slice_get-append_left (negative_lists plan set (get_or set i 0)) (flat_map (negative_lists plan set) (drop (i + 1) set)) place chosen there)
 
-pub held_step : (plan : PlanView) (set : List ℕ) (i place rank count : ℕ) → HeldFrom plan set i place rank → i < length set → count ≡ told (negative_ways plan set (get_or set i 0))
+pub held_step : (plan : PlanView) (set : List ℕ) (i place rank count : ℕ) → HeldFrom plan set i place rank → i < length set
+    → count ≡ told (negative_ways plan set (get_or set i 0))
     → count ≤ place → HeldFrom plan set (i + 1) (place - count) rank
 held_step plan set i place rank count held more told_ways past =
     let exact : count ≡ negative_ways plan set (get_or set i 0) = omega (arith, told_ways, past, held.small) in

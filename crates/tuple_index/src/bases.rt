@@ -16,9 +16,7 @@ pub fn bases_of(alloc: Global, sizes: &[u32]) -> Result<Vec<u32>, NoMemory>
     let mut bases = Vec::new(alloc);
     let mut total: u32 = 0;
     for size in sizes {
-        if bases.push(total).is_err() {
-            return Err(NoMemory);
-        }
+        bases.push(total)?;
         total += *size;
     }
     Ok(bases)

@@ -26,9 +26,7 @@ fn next_row(alloc: Global, row: &[u64], count: u64) -> Result<Vec<u64>, NoMemory
 {
     let mut next = Vec::new(alloc);
     for j in 0..row.len() {
-        if next.push(entry_at(row, count, j)).is_err() {
-            return Err(NoMemory);
-        }
+        next.push(entry_at(row, count, j))?;
     }
     Ok(next)
 }
@@ -37,13 +35,9 @@ fn next_row(alloc: Global, row: &[u64], count: u64) -> Result<Vec<u64>, NoMemory
 fn first_row(alloc: Global, k: u32) -> Result<Vec<u64>, NoMemory>
     ensures { IfOk result (λ row. IsRow k [] row.items) }
 {
-    match vec![in alloc; 0; k as usize + 1] {
-        Ok(mut row) => {
-            row[0] = 1;
-            Ok(row)
-        }
-        Err(_) => Err(NoMemory),
-    }
+    let mut row = vec![in alloc; 0; k as usize + 1]?;
+    row[0] = 1;
+    Ok(row)
 }
 
 /// The sum of the products of any k of the counts, or 2^64 - 1 where that is less.
@@ -72,10 +66,8 @@ pub fn sum_of_products(alloc: Global, k: u32, counts: &[u64]) -> Result<u64, NoM
 pub fn count_group(alloc: Global, group: &Group) -> Result<u64, NoMemory>
     ensures { IfOk result (λ count. count ≡ told (group_ways group.now)) }
 {
-    match vec![in alloc; 1; group.members.len()] {
-        Ok(ones) => sum_of_products(alloc, group.order, ones.as_slice()),
-        Err(_) => Err(NoMemory),
-    }
+    let ones = vec![in alloc; 1; group.members.len()]?;
+    sum_of_products(alloc, group.order, ones.as_slice())
 }
 
 // Adds the number of ways of each single parameter, which is 1.
@@ -85,9 +77,7 @@ fn push_single_counts(model: &TestModel, into: &mut Vec<u64>) -> Result<(), NoMe
     let count = model.params().len() as u16;
     for p in 0..count {
         if is_single(model, p) {
-            if into.push(1).is_err() {
-                return Err(NoMemory);
-            }
+            into.push(1)?;
         }
     }
     Ok(())
@@ -100,9 +90,7 @@ fn group_counts(alloc: Global, groups: &[Group]) -> Result<Vec<u64>, NoMemory>
     let mut counts = Vec::new(alloc);
     for group in groups {
         let ways = count_group(alloc, group)?;
-        if counts.push(ways).is_err() {
-            return Err(NoMemory);
-        }
+        counts.push(ways)?;
     }
     Ok(counts)
 }

@@ -91,10 +91,7 @@ fn unions_of(alloc: Global, units: &[Ways<u16>], taken: &[usize]) -> Result<Ways
 fn numbers_below(alloc: Global, count: usize) -> Result<Vec<usize>, NoMemory>
     ensures { IfOk result (λ numbers. numbers.items ≡ range_with_len 0 count) }
 {
-    match (0..count).collect::<Vec<usize>>(alloc) {
-        Ok(numbers) => Ok(numbers),
-        Err(_) => Err(NoMemory),
-    }
+    Ok((0..count).collect::<Vec<usize>>(alloc)?)
 }
 
 // The unions of one way of each of any k units.

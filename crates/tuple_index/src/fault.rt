@@ -1,3 +1,7 @@
+ghost use Rattle.std.specs.Prelude.{◌≡◌};
+
+use value_text::NoMemory;
+
 /// Why there is no plan of a model.
 #[derive(Debug, Drop, Clone, Copy, PartialEq, Eq)]
 pub enum PlanFault {
@@ -8,4 +12,14 @@ pub enum PlanFault {
     TooManyTuples(u64),
     /// Memory was refused.
     NoMemory,
+}
+
+impl From<NoMemory> for PlanFault {
+    ghost use Rattle.tuple_index.specs.declared.fault.PlanFault.TheVariants as faults;
+
+    ghost from_gives = { λ _ fault. fault ≡ faults.NoMemory };
+
+    fn from(_refused: NoMemory) -> PlanFault {
+        PlanFault::NoMemory
+    }
 }

@@ -53,24 +53,17 @@ impl Plan {
         ensures within { OnOk result (limit_passed model.now ≡ None) }
         ensures refused { IfErr result (IsFaultOf model.now) }
     {
-        let Ok(choices) = count_choices(alloc, model) else {
-            return Err(PlanFault::NoMemory);
-        };
+        let choices = count_choices(alloc, model)?;
         if choices > 1 << 20 {
             return Err(PlanFault::TooManySets(choices));
         }
-        let (Ok(sets), Ok(values)) = (sets_of(alloc, model), Plan::without_sets(alloc, model))
-        else {
-            return Err(PlanFault::NoMemory);
-        };
+        let sets = sets_of(alloc, model)?;
+        let values = Plan::without_sets(alloc, model)?;
         let tuples = values.count_all(&sets);
         if tuples > 1 << 26 {
             return Err(PlanFault::TooManyTuples(tuples));
         }
-        match values.with_sets(alloc, sets) {
-            Ok(plan) => Ok(plan),
-            Err(_) => Err(PlanFault::NoMemory),
-        }
+        Ok(values.with_sets(alloc, sets)?)
     }
 
     // The values of the parameters by their signs, and no set.
@@ -128,11 +121,18 @@ impl Plan {
         let mut sizes = Vec::new(alloc);
         for set in sets {
             let count = self.count_tuples(set.as_slice()) as u32;
-            if sizes.push(count).is_err() {
-                return Err(NoMemory);
-            }
+            sizes.push(count)?;
         }
         Ok(sizes)
+    }
+
+    /// Says again what every plan keeps: its sets rise, and its sizes are the numbers of their tuples.
+    /// Does nothing when it runs.
+    pub fn assert_invariant(&self)
+        ensures { IsKept self.now }
+    {
+        // a use of a field brings into a proof what the type keeps
+        let _ = &self.members_of;
     }
 
     /// The number of demanded sets. Takes no memory.
@@ -173,7 +173,8 @@ impl Plan {
     pub fn rank(&self, set: u32, values: &[ValueNo]) -> u32
         requires set { set < length self.now.sets }
         requires choice { IsChoice self.now (set_at self.now set) values.now }
-        ensures tuple { (m : ModelView) → self.now ≡ plan_of m → slice_get (tuples_of m (set_at self.now set)) result ≡ Some (tuple_cells m (set_at self.now set) values.now) }
+        ensures tuple { (m : ModelView) → self.now ≡ plan_of m → slice_get (tuples_of m (set_at self.now set)) result
+            ≡ Some (tuple_cells m (set_at self.now set) values.now) }
         ensures within { result < slice_index_or self.now.sizes set 0 }
     {
         self.place_of_values(self.kept_members(set), values) as u32
@@ -185,7 +186,8 @@ impl Plan {
         requires set { set < length self.now.sets }
         requires rank { rank < slice_index_or self.now.sizes set 0 }
         requires room { length into.old ≡ length (set_at self.now set) }
-        ensures tuple { (m : ModelView) → self.now ≡ plan_of m → slice_get (tuples_of m (set_at self.now set)) rank ≡ Some (tuple_cells m (set_at self.now set) into.new) }
+        ensures tuple { (m : ModelView) → self.now ≡ plan_of m → slice_get (tuples_of m (set_at self.now set)) rank
+            ≡ Some (tuple_cells m (set_at self.now set) into.new) }
         ensures choice { (m : ModelView) → self.now ≡ plan_of m → IsChoice self.now (set_at self.now set) into.new }
     {
         let members = self.kept_members(set);
@@ -219,13 +221,6 @@ impl Plan {
         self.radix(p, slice)
     }
 
-    // What is kept of the parts.
-    fn keeps(&self)
-        ensures { IsKept self.now }
-    {
-        let _ = &self.members_of;
-    }
-
     // The parameters of a set, with what is kept of them.
     fn kept_members(&self, set: u32) -> &[ParamNo]
         requires { set < length self.now.sets }
@@ -234,7 +229,7 @@ impl Plan {
         ensures exist { All (λ p. p < length self.now.positives) result.now }
         ensures kept { IsKept self.now }
     {
-        self.keeps();
+        self.assert_invariant();
         self.members(set)
     }
 
@@ -399,7 +394,8 @@ impl Plan {
         requires own { q < length self.now.positives }
         requires small { place < 2 ^ 26 }
         requires within { place < negative_ways self.now members.now q }
-        ensures holds { (chosen : List ℕ) → slice_get (value_lists (values_in self.now result.0) members.now) result.1 ≡ Some chosen → slice_get (negative_lists self.now members.now q) place ≡ Some chosen }
+        ensures holds { (chosen : List ℕ) → slice_get (value_lists (values_in self.now result.0) members.now) result.1 ≡ Some chosen
+            → slice_get (negative_lists self.now members.now q) place ≡ Some chosen }
         ensures within { result.1 < ways (values_in self.now result.0) members.now }
         ensures small { result.1 < 2 ^ 26 }
     {
@@ -413,7 +409,8 @@ impl Plan {
         requires exist { All (λ p. p < length self.now.positives) members.now }
         requires small { rank < 2 ^ 26 }
         requires within { rank < tuple_count self.now members.now }
-        ensures holds { (chosen : List ℕ) → slice_get (value_lists (values_in self.now result.0) members.now) result.1 ≡ Some chosen → slice_get (tuple_lists self.now members.now) rank ≡ Some chosen }
+        ensures holds { (chosen : List ℕ) → slice_get (value_lists (values_in self.now result.0) members.now) result.1 ≡ Some chosen
+            → slice_get (tuple_lists self.now members.now) rank ≡ Some chosen }
         ensures within { result.1 < ways (values_in self.now result.0) members.now }
         ensures small { result.1 < 2 ^ 26 }
     {

@@ -19,9 +19,7 @@ fn rising_sets(
     let mut sets = Vec::new(alloc);
     for choice in choices {
         let set = rising_of(alloc, model, choice)?;
-        if sets.push(set).is_err() {
-            return Err(NoMemory);
-        }
+        sets.push(set)?;
     }
     Ok(sets)
 }

@@ -34,9 +34,7 @@ fn listed_params(
     let mut set = Vec::new(alloc);
     for p in 0..count {
         if is_listed(choice, p) {
-            if set.push(p).is_err() {
-                return Err(NoMemory);
-            }
+            set.push(p)?;
         }
     }
     Ok(set)
@@ -57,10 +55,7 @@ pub fn rising_of(
     if !is_rising(choice.as_slice(), model.params().len() as u16) {
         return listed_params(alloc, model, choice);
     }
-    match choice.as_slice().to_vec(alloc) {
-        Ok(set) => Ok(set),
-        Err(_) => Err(NoMemory),
-    }
+    Ok(choice.as_slice().to_vec(alloc)?)
 }
 
 // Whether a value is negative, or is not.
@@ -88,9 +83,7 @@ pub fn values_of(alloc: Global, values: &[Value], negative: bool) -> Result<Vec<
     let mut numbers = Vec::new(alloc);
     for v in 0..count {
         if is_of_sign(values, v, negative) {
-            if numbers.push(v).is_err() {
-                return Err(NoMemory);
-            }
+            numbers.push(v)?;
         }
     }
     Ok(numbers)
@@ -111,9 +104,7 @@ pub fn values_by_sign(
     let mut lists = Vec::new(alloc);
     for param in model.params().as_slice() {
         let list = values_of(alloc, param.values.as_slice(), negative)?;
-        if lists.push(list).is_err() {
-            return Err(NoMemory);
-        }
+        lists.push(list)?;
     }
     Ok(lists)
 }

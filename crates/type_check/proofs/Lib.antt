@@ -5,6 +5,4 @@ pub mod Refusals
 pub mod RuleLists
 pub mod Soundness
 pub mod Models
-pub mod OneReading
-pub mod OneModel
-pub mod OneRefusal
+pub mod OneAnswer

@@ -1,83 +1,48 @@
--- What the passes answer in the words of the model of a file and of its refusals.
-use Rattle.std.proofs.Common.{◌≡◌, ◌≢◌, ◌≤◌, ℕ, List, length, map, refl, sym, subst}
-use Rattle.std.specs.Prelude.{Result, Ok, Err, IfErr}
-use Rattle.std.specs.Result.{IsErrAnd}
-use Rattle.cov_model.specs.declared.constraint.Rule.{Rule}
+-- What the passes answer in the words of the answer of a file.
+use Rattle.cov_model.specs.Sound.{ModelView}
+use Rattle.cov_model.specs.Views.{RuleView}
+use Rattle.std.proofs.Common.{◌≡◌, ◌≢◌, List, None, map, refl, sym, subst}
+use Rattle.std.specs.Prelude.{Ok, Err}
 use Rattle.cov_model.specs.declared.parameter.Param.{Param}
-use Rattle.model_lex.specs.Sections.{Split, Splits, sections_of}
-use Rattle.model_lex.specs.declared.fault.LimitName.TheVariants.{Params, Values, Names, Rules}
+use Rattle.model_lex.specs.Sections.{Split}
 use Rattle.model_lex.specs.declared.fault.ModelFault.{ModelFault}
 use Rattle.model_lex.specs.declared.fault.ModelFault.TheVariants.{Bad, BadRule, Limit, NoMemory}
 use Rattle.model_lex.specs.declared.options.ModelOpts.{ModelOpts}
 use Rattle.model_parse.specs.RawModels.{raw_model_of}
 use Rattle.model_parse.specs.declared.raw_model.RawModel.{RawModel}
-use Rattle.constraint_ast.specs.Lexing.{Spell, AreRefused}
+use Rattle.constraint_ast.specs.Lexing.{AreRefused, Spell}
 use Rattle.constraint_ast.specs.Reading.{IfRefused}
 use Rattle.constraint_ast.specs.Trees.{RuleTree, rule_tree}
 use Rattle.constraint_ast.specs.declared.tree.RawRule.{RawRule}
-use Rattle.type_check.specs.Constraints.{AreRulesOf}
-use Rattle.type_check.specs.ModelOf.{AreTrees, IsModelOf, IsRefusalOf, by_grammar, by_number, by_params, by_sections, by_terms}
-use Rattle.type_check.specs.Reading.{AreRulesRefused}
+use Rattle.type_check.specs.Constraints.{rules_fault}
+use Rattle.type_check.specs.ModelOf.{IsAnswerIn, by_grammar, by_model, model_of}
 
-module _ (opts : ModelOpts) (split : Split) where
-  -- what a fault says of every file with these sections
-  abbrev pub RefusesFiles : ModelFault → Type 0
-  RefusesFiles fault = (bytes : List ℕ) → sections_of bytes ≡ Ok split → fault ≢ NoMemory → IsRefusalOf opts bytes fault
+-- what a fault says of a file with these sections, unless memory was refused
+abbrev pub Refuses : ModelOpts → Split → ModelFault → Type 0
+Refuses opts split fault = fault ≢ NoMemory → IsAnswerIn opts split (Err fault)
 
-  pub params_refused : (fault : ModelFault) → (fault ≢ NoMemory → raw_model_of opts split ≡ Err fault) → RefusesFiles fault
-  params_refused fault told bytes sections some = by_params split sections (told some)
+-- the grammar of constraint lines refuses a file
+pub grammar_refused :
+    (opts : ModelOpts) (split : Split) (raw : RawModel) (fault : ModelFault) → raw_model_of opts split ≡ Ok raw → IfRefused fault (AreRefused split.rules)
+    → Refuses opts split fault
+grammar_refused opts split raw (BadRule diag) read told some = by_grammar raw read told
+grammar_refused opts split raw (Bad diag) read told some = absurd told
+grammar_refused opts split raw (Limit limit count) read told some = absurd told
+grammar_refused opts split raw NoMemory read told some = absurd (some refl)
 
-  module _ (raw : RawModel) (read : raw_model_of opts split ≡ Ok raw) where
-    pub grammar_refused : (fault : ModelFault) → IfRefused fault (AreRefused split.rules) → RefusesFiles fault
-    grammar_refused (BadRule diag) told bytes sections some = by_grammar split raw (record { sections = sections; model = read }) told
-    grammar_refused (Bad diag) told bytes sections some = absurd told
-    grammar_refused (Limit limit count) told bytes sections some = absurd told
-    grammar_refused NoMemory told bytes sections some = absurd (some refl)
+-- a model that is read
+pub model_read :
+    (opts : ModelOpts) (split : Split) (raw : RawModel) (trees : List RuleTree) (m : ModelView) → raw_model_of opts split ≡ Ok raw → Spell split.rules trees
+    → rules_fault opts.fold raw.params trees ≡ None → m ≡ model_of opts raw trees → IsAnswerIn opts split (Ok (m, raw.notes))
+model_read opts split raw trees m read spelled none is = subst (λ some. IsAnswerIn opts split (Ok (some, raw.notes))) (sym is)
+    (by_model raw trees read spelled none)
 
-    module _ (trees : List RuleTree) (spelled : Spell split.rules trees) where
-      trees_of_file : (bytes : List ℕ) → sections_of bytes ≡ Ok split → AreTrees opts bytes raw trees
-      trees_of_file bytes sections = record { split = split; read = record { sections = sections; model = read }; spelled = spelled }
+-- the model of these constraints
+abbrev pub with_rules : ModelOpts → RawModel → List RuleView → ModelView
+with_rules opts raw rules = record { params = raw.params; rules = rules; demand = raw.demand; prefix = opts.marks.prefix; fold = opts.fold }
 
-      pub rules_refused : (fault : ModelFault) → AreRulesRefused opts.fold raw.params trees fault → RefusesFiles fault
-      rules_refused (BadRule diag) told bytes sections some = by_terms raw trees (trees_of_file bytes sections) told
-      rules_refused (Limit Rules count) told bytes sections some =
-          subst (λ n. IsRefusalOf opts bytes (Limit Rules n)) (sym told.2) (by_number raw trees (trees_of_file bytes sections) told.0 told.1)
-      rules_refused (Limit Params count) told bytes sections some = absurd told
-      rules_refused (Limit Values count) told bytes sections some = absurd told
-      rules_refused (Limit Names count) told bytes sections some = absurd told
-      rules_refused (Bad diag) told bytes sections some = absurd told
-      rules_refused NoMemory told bytes sections some = absurd (some refl)
-
-      pub model_of_file :
-          (rules : List Rule) → AreRulesOf opts.fold raw.params trees rules → length trees ≤ 4096 → (bytes : List ℕ) → sections_of bytes ≡ Ok split
-          → IsModelOf opts bytes (record { params = raw.params; rules = rules; demand = raw.demand; prefix = opts.marks.prefix; fold = opts.fold }) raw.notes
-      model_of_file rules are few bytes sections = record {
-        raw = raw;
-        trees = trees;
-        read = trees_of_file bytes sections;
-        params = refl;
-        rules = are;
-        few = few;
-        demand = refl;
-        prefix = refl;
-        fold = refl;
-        noted = refl;
-      }
-
--- what was read through slices
-pub as_listed :
-    {params seen : List Param} {raws listed : List RawRule} (P : List Param → List RuleTree → Type 0)
-    → params ≡ seen → raws ≡ listed → P params (map rule_tree raws) → P seen (map rule_tree listed)
-as_listed {params} {seen} {raws} {listed} P e h are = subst (λ some. P some (map rule_tree listed)) e (subst (λ some. P params (map rule_tree some)) h are)
-
--- what holds of a fault that is handed on
-pub handed_on : {A : Type 0} (result : Result A ModelFault) (fault : ModelFault) (P : ModelFault → Type 0) → IsErrAnd result (λ told. told ≡ fault) → P fault → IfErr result P
-handed_on (Ok a) fault P same holds = tt
-handed_on (Err told) fault P same holds = subst P (sym same) holds
-
--- what a refusal of the sections of a file says of it
-pub sections_refused : (opts : ModelOpts) (bytes : List ℕ) (fault : ModelFault) → Splits (sections_of bytes) (Err fault) → fault ≢ NoMemory → IsRefusalOf opts bytes fault
-sections_refused opts bytes (Bad diag) told some = by_sections told
-sections_refused opts bytes (BadRule diag) told some = absurd told
-sections_refused opts bytes (Limit limit count) told some = absurd told
-sections_refused opts bytes NoMemory told some = absurd (some refl)
+-- a function of what was read through slices
+pub read_through :
+    {R : Type 0} {params seen : List Param} {raws listed : List RawRule} (f : List Param → List RuleTree → R)
+    → params ≡ seen → raws ≡ listed → f params (map rule_tree raws) ≡ f seen (map rule_tree listed)
+read_through f e h = λ i. f (e i) (map rule_tree (h i))

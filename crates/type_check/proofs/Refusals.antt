@@ -1,25 +1,24 @@
 -- The first refusal among the terms of trees: constraints are those of trees whose terms aren't refused.
-use mathlib.Core.Former.{Count}
-use Rattle.std.proofs.Common.{◌≡◌, ◌<◌, ◌+◌, ℕ, suc, Bool, List, [], ◌∷◌, ◌++◌, Option, Some, None, length, take, drop, get_or, refl, ap, sym, subst, ◌∙◌}
+use Rattle.std.proofs.Common.{◌≡◌, ◌<◌, ◌+◌, ℕ, suc, Bool, List, [], ◌∷◌, ◌++◌, Option, Some, None, length, take, drop, get_or, refl, ap, sym, ◌∙◌}
 use Rattle.std.proofs.Math.Seq.{drop-cons}
-use Rattle.std.proofs.lemmas.List.{take-append-drop, take_more}
+use Rattle.std.proofs.lemmas.List.{append_assoc, take-append-drop, take_more}
 use Rattle.std.specs.Prelude.{Result, Ok, Err}
 use Rattle.cov_model.specs.declared.parameter.Param.{Param}
-use Rattle.cov_model.specs.declared.constraint.Body.{Body}
-use Rattle.cov_model.specs.declared.constraint.Body.TheVariants as bodies
 use Rattle.cov_model.specs.declared.constraint.Pred as preds
-use Rattle.cov_model.specs.declared.constraint.Pred.{Pred, Term, Not', All', Any', Row_of-Pred, end_of-Pred, more_of-Pred, items-the_row-Pred, items_hidden-the_row-Pred-0}
+use Rattle.cov_model.specs.declared.constraint.Pred.{Pred}
+use Rattle.cov_model.specs.Views as views
+use Rattle.cov_model.specs.Views.{PredView, PredViews, pred_view, preds_in}
 use Rattle.cov_model.specs.declared.constraint.Term as terms
 use Rattle.model_lex.specs.declared.diag.Diag.{Diag}
 use Rattle.model_lex.specs.declared.diag.DiagCode.{DiagCode}
 use Rattle.model_lex.specs.declared.fault.ModelFault.{ModelFault}
 use Rattle.model_lex.specs.declared.fault.ModelFault.TheVariants.{Bad, BadRule, Limit, NoMemory}
 use Rattle.constraint_ast.specs.Reading.{IfRefused}
-use Rattle.constraint_ast.specs.Trees.{Tree, Trees, Leaf, Negated, Each, Either, End, More, BodyTree, Plain, IfThen, IfElse, tree_of, trees_in}
+use Rattle.constraint_ast.specs.Trees.{Tree, Trees, Each, Either, tree_of, trees_in}
 use Rattle.constraint_ast.specs.declared.tree.RawPred.{RawPred}
 use Rattle.constraint_ast.specs.declared.tree.RawTerm.{RawTerm}
-use Rattle.type_check.specs.Checking.{term_of, terms_of, terms_in, body_terms, first_refusal, refused_or}
-use Rattle.type_check.specs.Constraints.{IsPredOf, ArePredsOf, ArePredsIn, IsBodyOf}
+use Rattle.type_check.specs.Checking.{term_of, terms_of, terms_in, first_refusal, refused_or}
+use Rattle.type_check.specs.Constraints.{pred_of, preds_of}
 
 -- what follows of a refusal
 pub refused_also : {P Q : Diag → Type 0} (fault : ModelFault) → ((diag : Diag) → P diag → Q diag) → IfRefused fault P → IfRefused fault Q
@@ -28,7 +27,7 @@ refused_also (Bad diag) also is = is
 refused_also (Limit limit count) also is = is
 refused_also NoMemory also is = is
 
-no_diag : {A : Type 0} (diag : Diag) → Some diag ≡ None → A
+pub no_diag : {A : Type 0} (diag : Diag) → Some diag ≡ None → A
 no_diag diag e = absurd (differ e)
   where
     differ : Some diag ≡ None → ⊥
@@ -42,16 +41,14 @@ step_some : (line : ℕ) (read : Result terms.Term DiagCode) (front whole : Opti
 step_some line (Ok term) front whole diag stays some = stays some
 step_some line (Err code) front whole diag stays some = some
 
+left_none : (line : ℕ) (read : Result terms.Term DiagCode) (whole front : Option Diag) → (whole ≡ None → front ≡ None) → refused_or line read whole ≡ None → refused_or line read front ≡ None
+left_none line (Ok term) whole front left none = left none
+left_none line (Err code) whole front left none = no_diag (record { line = line; code = code }) none
+
 -- a list is cut at an item
 pub split_at : {X : Type 0} (xs : List X) (i : ℕ) (x : X) → i < length xs → x ≡ get_or xs i x → take i xs ++ x ∷ drop (suc i) xs ≡ xs
 split_at xs i x within at =
     ap (λ rest. take i xs ++ rest) (ap (λ y. y ∷ drop (suc i) xs) at ∙ sym (drop-cons xs i x within)) ∙ take-append-drop i xs
-
--- the parts of a predicate as the row that holds them
-abbrev row_of : Pred → (n : Count) × Row_of-Pred n
-row_of (All' _ row) = (_, row)
-row_of (Any' _ row) = (_, row)
-row_of _ = (_, end_of-Pred)
 
 module _ (fold : Bool) (params : List Param) where
   -- behind terms that aren't refused the first refusal is that of the rest
@@ -66,81 +63,71 @@ module _ (fold : Bool) (params : List Param) where
   stays (raw ∷ front) rest diag some =
       step_some raw.0 (term_of fold params raw.1) (first_refusal fold params front) (first_refusal fold params (front ++ rest)) diag (stays front rest diag) some
 
-  -- no term of a predicate's tree is refused
-  mutual
-    pub pred_unrefused : (tree : Tree) (pred : Pred) → IsPredOf fold params tree pred → first_refusal fold params (terms_of tree) ≡ None
-    pred_unrefused (Leaf line raw) (Term term) is = ap (λ read. refused_or line read None) is
-    pred_unrefused (Negated tree) (Not' pointer inner) is = pred_unrefused tree inner is
-    pred_unrefused (Each trees) (All' n parts) is = rows_unrefused trees parts is
-    pred_unrefused (Either trees) (Any' n parts) is = rows_unrefused trees parts is
-    pred_unrefused tree pred is = absurd is
+  -- terms of which the first refusal is none
+  none_left : (front rest : List (ℕ × RawTerm)) → first_refusal fold params (front ++ rest) ≡ None → first_refusal fold params front ≡ None
+  none_left [] rest none = refl
+  none_left (raw ∷ front) rest none = left_none raw.0 (term_of fold params raw.1) (first_refusal fold params (front ++ rest)) (first_refusal fold params front) (none_left front rest) none
 
-    rows_unrefused : {n : _} (trees : Trees) (parts : Row_of-Pred n) → ArePredsOf fold params trees parts → first_refusal fold params (terms_in trees) ≡ None
-    rows_unrefused End end_of-Pred is = refl
-    rows_unrefused (More tree trees) (more_of-Pred part rest) is =
-        behind_none (terms_of tree) (terms_in trees) (pred_unrefused tree part is.0) ∙ rows_unrefused trees rest is.1
-    rows_unrefused trees parts is = absurd is
+  pub none_parts : (front rest : List (ℕ × RawTerm)) → first_refusal fold params (front ++ rest) ≡ None → (first_refusal fold params front ≡ None) × (first_refusal fold params rest ≡ None)
+  none_parts front rest none = let left = none_left front rest none in (left, sym (behind_none front rest left) ∙ none)
 
-  -- nor of a constraint's
-  pub body_unrefused : (tree : BodyTree) (body : Body) → IsBodyOf fold params tree body → first_refusal fold params (body_terms tree) ≡ None
-  body_unrefused (Plain tree) (bodies.Plain pred) is = pred_unrefused tree pred is
-  body_unrefused (IfThen tree next) (bodies.IfThen premise pred) is =
-      behind_none (terms_of tree) (terms_of next) (pred_unrefused tree premise is.0) ∙ pred_unrefused next pred is.1
-  body_unrefused (IfElse tree next last) (bodies.IfElse premise pred other) is =
-      behind_none (terms_of tree) (terms_of next ++ terms_of last) (pred_unrefused tree premise is.0)
-      ∙ (behind_none (terms_of next) (terms_of last) (pred_unrefused next pred is.1) ∙ pred_unrefused last other is.2)
-  body_unrefused tree body is = absurd is
+  -- the parts of a conjunction or a disjunction
+  pub each_of : (trees : Trees) (parts : List Pred) → preds_in parts ≡ preds_of fold params trees → pred_view (preds.All parts) ≡ pred_of fold params (Each trees)
+  each_of trees parts are = views.each_is parts ∙ ap views.Each are
 
-  -- the same of a list of predicates, which are the parts of a conjunction or a disjunction
-  rows_of_list : {n : _} (trees : Trees) (parts : Row_of-Pred n) → ArePredsIn fold params trees (items-the_row-Pred n parts) → ArePredsOf fold params trees parts
-  rows_of_list End end_of-Pred are = are
-  rows_of_list (More tree trees) (more_of-Pred part rest) are = (are.0, rows_of_list trees rest are.1)
-  rows_of_list End (more_of-Pred part rest) are = absurd are
-  rows_of_list (More tree trees) end_of-Pred are = absurd are
-
-  pub each_of : (trees : Trees) (parts : List Pred) → ArePredsIn fold params trees parts → IsPredOf fold params (Each trees) (preds.All parts)
-  each_of trees parts are = rows_of_list trees (row_of (preds.All parts)).1 (subst (λ list. ArePredsIn fold params trees list) (sym (items_hidden-the_row-Pred-0 parts)) are)
-
-  pub either_of : (trees : Trees) (parts : List Pred) → ArePredsIn fold params trees parts → IsPredOf fold params (Either trees) (preds.Any parts)
-  either_of trees parts are = rows_of_list trees (row_of (preds.Any parts)).1 (subst (λ list. ArePredsIn fold params trees list) (sym (items_hidden-the_row-Pred-0 parts)) are)
+  pub either_of : (trees : Trees) (parts : List Pred) → preds_in parts ≡ preds_of fold params trees → pred_view (preds.Any parts) ≡ pred_of fold params (Either trees)
+  either_of trees parts are = views.either_is parts ∙ ap views.Either are
 
   -- one more predicate
-  pub one_more :
-      (front : List RawPred) (part : RawPred) (list : List Pred) (pred : Pred) → ArePredsIn fold params (trees_in front) list → IsPredOf fold params (tree_of part) pred
-      → ArePredsIn fold params (trees_in (front ++ part ∷ [])) (list ++ pred ∷ [])
-  one_more [] part [] pred are is = (is, tt)
-  one_more (first ∷ front) part (found ∷ list) pred are is = (are.0, one_more front part list pred are.1 is)
-  one_more [] part (found ∷ list) pred are is = absurd are
-  one_more (first ∷ front) part [] pred are is = absurd are
+  abbrev joined : PredViews → PredView → PredViews
+  joined views.End view = views.More view views.End
+  joined (views.More first rest) view = views.More first (joined rest view)
+
+  more_preds : (list : List Pred) (pred : Pred) → preds_in (list ++ pred ∷ []) ≡ joined (preds_in list) (pred_view pred)
+  more_preds [] pred = refl
+  more_preds (first ∷ list) pred = ap (λ rest. views.More (pred_view first) rest) (more_preds list pred)
+
+  more_trees : (front : List RawPred) (part : RawPred) → preds_of fold params (trees_in (front ++ part ∷ [])) ≡ joined (preds_of fold params (trees_in front)) (pred_of fold params (tree_of part))
+  more_trees [] part = refl
+  more_trees (first ∷ front) part = ap (λ rest. views.More (pred_of fold params (tree_of first)) rest) (more_trees front part)
+
+  terms_behind : (front : List RawPred) (part : RawPred) (rest : List RawPred)
+      → terms_in (trees_in (front ++ part ∷ rest)) ≡ terms_in (trees_in front) ++ (terms_of (tree_of part) ++ terms_in (trees_in rest))
+  terms_behind [] part rest = refl
+  terms_behind (first ∷ front) part rest =
+      ap (λ behind. terms_of (tree_of first) ++ behind) (terms_behind front part rest)
+      ∙ sym (append_assoc (terms_of (tree_of first)) (terms_in (trees_in front)) (terms_of (tree_of part) ++ terms_in (trees_in rest)))
+
+  -- what holds of the predicates of the first parts
+  pub record PartsSoFar (parts : List RawPred) (i : ℕ) (list : List Pred) : Type 0 where
+    pub are : preds_in list ≡ preds_of fold params (trees_in (take i parts))
+    pub unrefused : first_refusal fold params (terms_in (trees_in (take i parts))) ≡ None
 
   pub next_part :
       (parts : List RawPred) (i : ℕ) (part : RawPred) (list next : List Pred) (pred : Pred) → i < length parts → part ≡ get_or parts i part
-      → ArePredsIn fold params (trees_in (take i parts)) list → IsPredOf fold params (tree_of part) pred → next ≡ list ++ pred ∷ []
-      → ArePredsIn fold params (trees_in (take (i + 1) parts)) next
-  next_part parts i part list next pred within at are is longer =
+      → PartsSoFar parts i list → pred_view pred ≡ pred_of fold params (tree_of part) → first_refusal fold params (terms_of (tree_of part)) ≡ None
+      → next ≡ list ++ pred ∷ [] → PartsSoFar parts (i + 1) next
+  next_part parts i part list next pred within at so_far is none longer =
       let step : take (i + 1) parts ≡ take i parts ++ part ∷ [] = take_more parts i part within ∙ ap (λ x. take i parts ++ x ∷ []) (sym at) in
-      subst (λ some. ArePredsIn fold params (trees_in some) next) (sym step)
-      (subst (λ some. ArePredsIn fold params (trees_in (take i parts ++ part ∷ [])) some) (sym longer) (one_more (take i parts) part list pred are is))
-
-  -- the first refusal among parts, behind some that aren't refused
-  behind_parts :
-      (front : List RawPred) (part : RawPred) (rest : List RawPred) (list : List Pred) (diag : Diag)
-      → ArePredsIn fold params (trees_in front) list → first_refusal fold params (terms_of (tree_of part)) ≡ Some diag
-      → first_refusal fold params (terms_in (trees_in (front ++ part ∷ rest))) ≡ Some diag
-  behind_parts [] part rest [] diag are some = stays (terms_of (tree_of part)) (terms_in (trees_in rest)) diag some
-  behind_parts (first ∷ front) part rest (found ∷ list) diag are some =
-      behind_none (terms_of (tree_of first)) (terms_in (trees_in (front ++ part ∷ rest))) (pred_unrefused (tree_of first) found are.0)
-      ∙ behind_parts front part rest list diag are.1 some
-  behind_parts [] part rest (found ∷ list) diag are some = absurd are
-  behind_parts (first ∷ front) part rest [] diag are some = absurd are
+      record {
+        are = ap preds_in longer ∙ more_preds list pred ∙ ap (λ front. joined front (pred_view pred)) so_far.are
+            ∙ ap (λ view. joined (preds_of fold params (trees_in (take i parts))) view) is ∙ sym (more_trees (take i parts) part)
+            ∙ ap (λ some. preds_of fold params (trees_in some)) (sym step);
+        unrefused = ap (λ some. first_refusal fold params (terms_in (trees_in some))) step
+            ∙ ap (λ some. first_refusal fold params some) (terms_behind (take i parts) part [])
+            ∙ behind_none (terms_in (trees_in (take i parts))) (terms_of (tree_of part) ++ []) so_far.unrefused
+            ∙ behind_none (terms_of (tree_of part)) [] none;
+      }
 
   pub part_refused :
       (parts : List RawPred) (i : ℕ) (part : RawPred) (list : List Pred) (fault : ModelFault) → i < length parts → part ≡ get_or parts i part
-      → ArePredsIn fold params (trees_in (take i parts)) list → IfRefused fault (λ diag. first_refusal fold params (terms_of (tree_of part)) ≡ Some diag)
+      → PartsSoFar parts i list → IfRefused fault (λ diag. first_refusal fold params (terms_of (tree_of part)) ≡ Some diag)
       → IfRefused fault (λ diag. first_refusal fold params (terms_in (trees_in parts)) ≡ Some diag)
-  part_refused parts i part list fault within at are =
-      refused_also fault (λ diag some. subst (λ all. first_refusal fold params (terms_in (trees_in all)) ≡ Some diag) (split_at parts i part within at)
-      (behind_parts (take i parts) part (drop (suc i) parts) list diag are some))
+  part_refused parts i part list fault within at so_far =
+      refused_also fault (λ diag some. ap (λ all. first_refusal fold params (terms_in (trees_in all))) (sym (split_at parts i part within at))
+      ∙ ap (λ all. first_refusal fold params all) (terms_behind (take i parts) part (drop (suc i) parts))
+      ∙ behind_none (terms_in (trees_in (take i parts))) (terms_of (tree_of part) ++ terms_in (trees_in (drop (suc i) parts))) so_far.unrefused
+      ∙ stays (terms_of (tree_of part)) (terms_in (trees_in (drop (suc i) parts))) diag some)
 
   -- the first refusal in the front, and behind a predicate that isn't refused
   pub refused_front :
@@ -149,6 +136,6 @@ module _ (fold : Bool) (params : List Param) where
   refused_front front rest fault = refused_also fault (λ diag some. stays front rest diag some)
 
   pub refused_behind :
-      (tree : Tree) (pred : Pred) (rest : List (ℕ × RawTerm)) (fault : ModelFault) → IsPredOf fold params tree pred → IfRefused fault (λ diag. first_refusal fold params rest ≡ Some diag)
+      (tree : Tree) (rest : List (ℕ × RawTerm)) (fault : ModelFault) → first_refusal fold params (terms_of tree) ≡ None → IfRefused fault (λ diag. first_refusal fold params rest ≡ Some diag)
       → IfRefused fault (λ diag. first_refusal fold params (terms_of tree ++ rest) ≡ Some diag)
-  refused_behind tree pred rest fault is = refused_also fault (λ diag some. behind_none (terms_of tree) rest (pred_unrefused tree pred is) ∙ some)
+  refused_behind tree rest fault none = refused_also fault (λ diag some. behind_none (terms_of tree) rest none ∙ some)

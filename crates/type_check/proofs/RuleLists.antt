@@ -1,42 +1,36 @@
 -- Constraints as they are gathered from trees, one after another.
-use Rattle.std.proofs.Common.{◌≡◌, ◌<◌, ◌≤◌, ◌+◌, ℕ, suc, Bool, List, [], ◌∷◌, ◌++◌, Some, None, length, take, drop, map, get_or, if◌then◌else◌, nat_lt, refl, ap, sym, subst, ◌∙◌, arith}
-use Rattle.std.proofs.lemmas.List.{length-append, map-append, take_more}
+use Rattle.std.proofs.Common.{◌≡◌, ◌≢◌, ◌<◌, ◌≤◌, ◌+◌, ℕ, suc, Bool, true, false, List, [], ◌∷◌, ◌++◌, Option, Some, None, length, take, drop, map, get_or, if◌then◌else◌, nat_lt, refl, ap, sym, subst, ◌∙◌, arith}
+use Rattle.std.proofs.lemmas.Bool.{cond_both, ltb-false}
+use Rattle.std.proofs.lemmas.List.{length-append, length-map, length-take-le, map-append, take_more}
 use Rattle.std.proofs.lemmas.Grind.{flat_map-append, common_steps}
 use Rattle.cov_model.specs.declared.parameter.Param.{Param}
 use Rattle.cov_model.specs.declared.constraint.Body.{Body}
 use Rattle.cov_model.specs.declared.constraint.Rule.{Rule}
+use Rattle.cov_model.specs.Views.{body_view, rule_view}
 use Rattle.model_lex.specs.declared.diag.Diag.{Diag}
+use Rattle.model_lex.specs.declared.fault.LimitName.TheVariants.{Rules}
 use Rattle.model_lex.specs.declared.fault.ModelFault.{ModelFault}
+use Rattle.model_lex.specs.declared.fault.ModelFault.TheVariants.{Limit, NoMemory}
 use Rattle.constraint_ast.specs.Reading.{IfRefused}
 use Rattle.constraint_ast.specs.Trees.{RuleTree, body_tree, rule_tree}
 use Rattle.constraint_ast.specs.declared.tree.RawRule.{RawRule}
 use Rattle.type_check.specs.Checking.{body_terms, first_refusal, rules_terms}
-use Rattle.type_check.specs.Constraints.{AreRulesFrom, AreRulesOf, IsBodyOf, IsRuleOf}
-use Rattle.type_check.proofs.Refusals.{behind_none, body_unrefused, refused_also, split_at, stays}
+use Rattle.type_check.specs.Constraints.{body_of, fault_of, rule_of, rules_fault, rules_from}
+use Rattle.type_check.proofs.Refusals.{behind_none, refused_also, split_at, stays}
 
 module _ (fold : Bool) (params : List Param) where
-  -- no term of the trees of constraints is refused
-  pub rules_unrefused : (count : ℕ) (trees : List RuleTree) (rules : List Rule) → AreRulesFrom count fold params trees rules → first_refusal fold params (rules_terms trees) ≡ None
-  rules_unrefused count [] [] are = refl
-  rules_unrefused count (tree ∷ trees) (rule ∷ rules) are =
-      behind_none fold params (body_terms tree.body) (rules_terms trees) (body_unrefused fold params tree.body rule.body are.0.body) ∙ rules_unrefused (count + 1) trees rules are.1
-  rules_unrefused count [] (rule ∷ rules) are = absurd are
-  rules_unrefused count (tree ∷ trees) [] are = absurd are
-
   -- one constraint more
-  rule_behind :
-      (count : ℕ) (trees : List RuleTree) (rules : List Rule) (tree : RuleTree) (rule : Rule) → AreRulesFrom count fold params trees rules
-      → IsRuleOf fold params (count + length rules) tree rule → AreRulesFrom count fold params (trees ++ tree ∷ []) (rules ++ rule ∷ [])
-  rule_behind count [] [] tree rule are is = (subst (λ n. IsRuleOf fold params n tree rule) (omega arith) is, tt)
-  rule_behind count (first ∷ trees) (found ∷ rules) tree rule are is =
-      (are.0, rule_behind (count + 1) trees rules tree rule are.1 (subst (λ n. IsRuleOf fold params n tree rule) (omega arith) is))
-  rule_behind count [] (found ∷ rules) tree rule are is = absurd are
-  rule_behind count (first ∷ trees) [] tree rule are is = absurd are
+  rule_behind : (count : ℕ) (trees : List RuleTree) (tree : RuleTree)
+      → rules_from count fold params (trees ++ tree ∷ []) ≡ rules_from count fold params trees ++ rule_of fold params (count + length trees) tree ∷ []
+  rule_behind count [] tree = ap (λ n. rule_of fold params n tree ∷ []) (omega arith)
+  rule_behind count (first ∷ trees) tree =
+      ap (λ rest. rule_of fold params count first ∷ rest) (rule_behind (count + 1) trees tree
+      ∙ ap (λ n. rules_from (count + 1) fold params trees ++ rule_of fold params n tree ∷ []) (omega arith))
 
   -- what holds of the constraints of the first trees
   pub record SoFar (raw : List RawRule) (i : ℕ) (rules : List Rule) : Type 0 where
     pub as_many : i ≤ 4096 → length rules ≡ i
-    pub are : i ≤ 4096 → AreRulesOf fold params (map rule_tree (take i raw)) rules
+    pub are : i ≤ 4096 → map rule_view rules ≡ rules_from 1 fold params (map rule_tree (take i raw))
     pub unrefused : first_refusal fold params (rules_terms (map rule_tree (take i raw))) ≡ None
 
   front_trees : (raw : List RawRule) (i : ℕ) (rule : RawRule) → i < length raw → rule ≡ get_or raw i rule → map rule_tree (take (i + 1) raw) ≡ map rule_tree (take i raw) ++ rule_tree rule ∷ []
@@ -52,24 +46,28 @@ module _ (fold : Bool) (params : List Param) where
 
   pub rules_next :
       (raw : List RawRule) (i : ℕ) (rule : RawRule) (rules next : List Rule) (body : Body) → i < length raw → rule ≡ get_or raw i rule
-      → SoFar raw i rules → IsBodyOf fold params (body_tree rule.body) body
+      → SoFar raw i rules → body_view body ≡ body_of fold params (body_tree rule.body) → first_refusal fold params (body_terms (body_tree rule.body)) ≡ None
       → next ≡ (if nat_lt (length rules) 4096 then rules ++ numbered rules rule.line body ∷ [] else rules) → SoFar raw (i + 1) next
-  rules_next raw i rule rules next body within at so_far is e =
+  rules_next raw i rule rules next body within at so_far is none e =
       let trees = front_trees raw i rule within at in
       let fewer : i + 1 ≤ 4096 → i ≤ 4096 = λ few. omega (arith, few) in
       let longer : i + 1 ≤ 4096 → next ≡ rules ++ numbered rules rule.line body ∷ [] =
       λ few. is_added rules next (numbered rules rule.line body) e (omega (arith, few, so_far.as_many (fewer few))) in
+      let seen : next ≡ rules ++ numbered rules rule.line body ∷ [] → map rule_view next ≡ map rule_view rules ++ rule_view (numbered rules rule.line body) ∷ [] =
+      λ same. ap (map rule_view) same ∙ map-append rule_view rules (numbered rules rule.line body ∷ []) in
+      let same_rule : i + 1 ≤ 4096 → rule_view (numbered rules rule.line body) ≡ rule_of fold params (1 + length (map rule_tree (take i raw))) (rule_tree rule) =
+      λ few. ap (λ view. record { number = length rules + 1; line = rule.line; body = view }) is
+      ∙ ap (λ n. rule_of fold params n (rule_tree rule)) (omega (arith, so_far.as_many (fewer few), length-map (take i raw) rule_tree, length-take-le i raw (omega (arith, within)))) in
       record {
         as_many = λ few. ap (λ list. length list) (longer few) ∙ (length-append rules (numbered rules rule.line body ∷ []) ∙ ap (λ n. n + 1) (so_far.as_many (fewer few)));
-        are = λ few. subst (λ list. AreRulesOf fold params (map rule_tree (take (i + 1) raw)) list) (sym (longer few))
-            (subst (λ some. AreRulesOf fold params some (rules ++ numbered rules rule.line body ∷ [])) (sym trees)
-            (rule_behind 1 (map rule_tree (take i raw)) rules (rule_tree rule) (numbered rules rule.line body) (so_far.are (fewer few))
-            (record { number = omega arith; line = refl; body = is })));
+        are = λ few. seen (longer few) ∙ ap (λ views. views ++ rule_view (numbered rules rule.line body) ∷ []) (so_far.are (fewer few))
+            ∙ ap (λ view. rules_from 1 fold params (map rule_tree (take i raw)) ++ view ∷ []) (same_rule few)
+            ∙ sym (rule_behind 1 (map rule_tree (take i raw)) (rule_tree rule)) ∙ ap (λ some. rules_from 1 fold params some) (sym trees);
         unrefused =
             ap (λ some. first_refusal fold params (rules_terms some)) trees
             ∙ (ap (λ some. first_refusal fold params some) (flat_map-append (λ tree. body_terms tree.body) (map rule_tree (take i raw)) (rule_tree rule ∷ []))
             ∙ (behind_none fold params (rules_terms (map rule_tree (take i raw))) (rules_terms (rule_tree rule ∷ [])) so_far.unrefused
-            ∙ (behind_none fold params (body_terms (body_tree rule.body)) [] (body_unrefused fold params (body_tree rule.body) body is))));
+            ∙ (behind_none fold params (body_terms (body_tree rule.body)) [] none)));
       }
 
   -- the first refusal among constraints, behind some that aren't refused
@@ -89,3 +87,20 @@ module _ (fold : Bool) (params : List Param) where
       sym (map-append rule_tree (take i raw) (rule ∷ drop (suc i) raw)) ∙ ap (λ some. map rule_tree some) (split_at raw i rule within at) in
       refused_also fault (λ diag some. subst (λ trees. first_refusal fold params (rules_terms trees) ≡ Some diag) all
       (behind_rules (map rule_tree (take i raw)) (rule_tree rule) (map rule_tree (drop (suc i) raw)) diag so_far.unrefused some))
+
+-- constraints that aren't refused: no term of theirs is, and they are few enough
+pub told_parts : (found : Option Diag) (count : ℕ) → fault_of found count ≡ None → (found ≡ None) × (count ≤ 4096)
+told_parts (Some diag) count none = cc
+told_parts None count none = (refl, at (nat_lt 4096 count) refl none)
+  where
+    at : (many : Bool) → nat_lt 4096 count ≡ many → (if many then Some (Limit Rules count) else None) ≡ None → count ≤ 4096
+    at true is e = cc
+    at false is e = ltb-false 4096 count is
+
+-- it is never that memory is wanting
+pub rules_refusal : (fold : Bool) (params : List Param) (trees : List RuleTree) → rules_fault fold params trees ≢ Some NoMemory
+rules_refusal fold params trees = at (first_refusal fold params (rules_terms trees)) (length trees)
+  where
+    at : (found : Option Diag) (count : ℕ) → fault_of found count ≢ Some NoMemory
+    at (Some diag) count = λ e. cc
+    at None count = cond_both (nat_lt 4096 count) (Some (Limit Rules count)) None (λ told. told ≢ Some NoMemory) (λ many e. cc) (λ few e. cc)

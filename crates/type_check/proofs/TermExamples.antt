@@ -3,11 +3,12 @@ use Rattle.std.proofs.Common.{◌≡◌, true, false, List, [], ◌∷◌, ◌++
 use Rattle.std.specs.Prelude.{Result, Ok, Err, pos, codes}
 use Rattle.model_lex.specs.declared.diag.DiagCode.{DiagCode}
 use Rattle.model_lex.specs.declared.diag.DiagCode.TheVariants.{UnknownParameter, TypeMismatch, LikeNeedsText}
+use Rattle.model_lex.specs.declared.fault.LimitName.TheVariants.{Rules}
+use Rattle.model_lex.specs.declared.fault.ModelFault.TheVariants.{BadRule, Limit}
 use Rattle.cov_model.specs.Sample.{sample_params, sample_texts}
 use Rattle.cov_model.specs.declared.parameter.Param.{Param}
-use Rattle.cov_model.specs.declared.constraint.Body.TheVariants as bodies
+use Rattle.cov_model.specs.Views as views
 use Rattle.cov_model.specs.declared.constraint.Literal.TheVariants as literal
-use Rattle.cov_model.specs.declared.constraint.Pred as preds
 use Rattle.cov_model.specs.declared.constraint.Rel.TheVariants as rel
 use Rattle.cov_model.specs.declared.constraint.Term as terms
 use Rattle.cov_model.specs.declared.constraint.Term.TheVariants as term
@@ -17,8 +18,7 @@ use Rattle.constraint_ast.specs.declared.tree.RawLiteral.TheVariants.{Number, Wo
 use Rattle.constraint_ast.specs.declared.tree.RawTerm.{RawTerm}
 use Rattle.constraint_ast.specs.declared.tree.RawTerm.TheVariants.{ValueIs, ParamIs, OneOf, Like, Negative, Positive}
 use Rattle.type_check.specs.Checking.{term_of, rules_terms, first_refusal}
-use Rattle.type_check.specs.Constraints.{AreRulesOf}
-use Rattle.type_check.proofs.Refusals.{each_of, either_of}
+use Rattle.type_check.specs.Constraints.{fault_of, rules_fault, rules_from}
 
 -- a term, where letters of either case are one
 abbrev read : RawTerm → Result terms.Term DiagCode
@@ -82,10 +82,31 @@ first_refused = refl
 
 -- the constraint that a tree spells, with its number
 numbered :
-    (pointer : _)
-    → AreRulesOf true sample_params (sound ∷ [])
-    (record { number = 1; line = 3; body = bodies.IfElse (preds.Term (term.Negative 0)) (preds.Not' pointer (preds.Term (term.Like 1 []))) (preds.Term (term.Positive 1)) } ∷ [])
-numbered pointer = (record { number = refl; line = refl; body = (refl, refl, refl) }, tt)
+    rules_from 1 true sample_params (sound ∷ [])
+    ≡ record {
+      number = 1;
+      line = 3;
+      body = views.IfElse (views.Leaf (term.Negative 0)) (views.Negated (views.Leaf (term.Like 1 [])))
+          (views.Leaf (term.Positive 1));
+    } ∷ []
+numbered = refl
+
+-- a refused term is told, and constraints whose terms aren't refused are few enough
+no_fault : rules_fault true sample_params (sound ∷ []) ≡ None
+no_fault = refl
+
+term_fault : rules_fault true sample_params (sound ∷ refused ∷ sound ∷ []) ≡ Some (BadRule (record { line = 5; code = LikeNeedsText }))
+term_fault = refl
+
+-- one more than the most is too many, and a refused term comes before that
+number_fault : fault_of None 4097 ≡ Some (Limit Rules 4097)
+number_fault = refl
+
+term_first : fault_of (Some (record { line = 5; code = LikeNeedsText })) 4097 ≡ Some (BadRule (record { line = 5; code = LikeNeedsText }))
+term_first = refl
+
+most_rules : fault_of None 4096 ≡ None
+most_rules = refl
 
 -- two constraints on the lines 3 and 5: their numbers rise, and each predicate has the shape of its tree
 abbrev alone : RuleTree
@@ -97,17 +118,14 @@ first_trees = More (Leaf 5 (Negative (codes "A"))) (More (Leaf 5 (Positive (code
 abbrev last_trees : Trees
 last_trees = More (Leaf 6 (Positive (codes "A"))) (More (Leaf 6 (Negative (codes "B"))) End)
 
-abbrev first_preds : List preds.Pred
-first_preds = preds.Term (term.Negative 0) ∷ preds.Term (term.Positive 1) ∷ []
+abbrev first_preds : views.PredViews
+first_preds = views.More (views.Leaf (term.Negative 0)) (views.More (views.Leaf (term.Positive 1)) views.End)
 
-abbrev last_preds : List preds.Pred
-last_preds = preds.Term (term.Positive 0) ∷ preds.Term (term.Negative 1) ∷ []
+abbrev last_preds : views.PredViews
+last_preds = views.More (views.Leaf (term.Positive 0)) (views.More (views.Leaf (term.Negative 1)) views.End)
 
 in_shape :
-    AreRulesOf true sample_params (alone ∷ record { line = 5; body = IfThen (Each first_trees) (Either last_trees) } ∷ [])
-    (record { number = 1; line = 3; body = bodies.Plain (preds.Term (term.Negative 1)) }
-    ∷ record { number = 2; line = 5; body = bodies.IfThen (preds.All first_preds) (preds.Any last_preds) } ∷ [])
-in_shape =
-    let premise = each_of true sample_params first_trees first_preds (refl, (refl, tt)) in
-    let pred = either_of true sample_params last_trees last_preds (refl, (refl, tt)) in
-    (record { number = refl; line = refl; body = refl }, (record { number = refl; line = refl; body = (premise, pred) }, tt))
+    rules_from 1 true sample_params (alone ∷ record { line = 5; body = IfThen (Each first_trees) (Either last_trees) } ∷ [])
+    ≡ record { number = 1; line = 3; body = views.Plain (views.Leaf (term.Negative 1)) }
+    ∷ record { number = 2; line = 5; body = views.IfThen (views.Each first_preds) (views.Either last_preds) } ∷ []
+in_shape = refl

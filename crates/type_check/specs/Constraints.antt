@@ -1,54 +1,54 @@
--- Which constraints of a model the trees of a model file spell. (PICT's guide.)
-use Rattle.std.specs.Prelude.{◌≡◌, ℕ, ◌+◌, Bool, List, [], ◌∷◌, Ok}
+-- Which constraints of a model the trees of a model file spell, and why they are refused. (PICT's guide;
+-- the order of the refusals is this project's rule.)
+use Rattle.std.specs.Prelude.{ℕ, ◌+◌, Bool, List, [], ◌∷◌, length, Option, Some, None, Result, Ok, Err, nat_lt, if◌then◌else◌}
 use Rattle.cov_model.specs.declared.parameter.Param.{Param}
-use Rattle.cov_model.specs.declared.constraint.Body.{Body}
-use Rattle.cov_model.specs.declared.constraint.Body.TheVariants as bodies
-use Rattle.cov_model.specs.declared.constraint.Pred.{Pred, Term, Not', All', Any', Row_of-Pred, end_of-Pred, more_of-Pred}
-use Rattle.cov_model.specs.declared.constraint.Rule.{Rule}
+use Rattle.cov_model.specs.declared.constraint.Term as terms
+use Rattle.cov_model.specs.declared.constraint.Term.TheVariants as term
+use Rattle.cov_model.specs.Views as views
+use Rattle.cov_model.specs.Views.{PredView, PredViews, BodyView, RuleView}
+use Rattle.model_lex.specs.Codes.{most_of}
+use Rattle.model_lex.specs.declared.diag.Diag.{Diag}
+use Rattle.model_lex.specs.declared.diag.DiagCode.{DiagCode}
+use Rattle.model_lex.specs.declared.fault.LimitName.TheVariants.{Rules}
+use Rattle.model_lex.specs.declared.fault.ModelFault.{ModelFault}
+use Rattle.model_lex.specs.declared.fault.ModelFault.TheVariants.{BadRule, Limit}
 use Rattle.constraint_ast.specs.Trees.{Tree, Trees, Leaf, Negated, Each, Either, End, More, BodyTree, Plain, IfThen, IfElse, RuleTree}
-use Rattle.type_check.specs.Checking.{term_of}
+use Rattle.type_check.specs.Checking.{first_refusal, rules_terms, term_of}
 
--- a predicate is what a tree spells over these parameters: it has the tree's shape, and its terms are
--- those of the tree
+-- the term that a raw term is, and any term where it is refused
+abbrev pub found_term : Result terms.Term DiagCode → terms.Term
+found_term (Ok found) = found
+found_term (Err code) = term.Negative 0
+
+-- the predicate that a tree is over these parameters, where none of its terms is refused
 abbrev mutual
-  pub IsPredOf : Bool → List Param → Tree → Pred → Type 0
-  IsPredOf fold params (Leaf line raw) (Term term) = term_of fold params raw ≡ Ok term
-  IsPredOf fold params (Negated tree) (Not' pointer inner) = IsPredOf fold params tree inner
-  IsPredOf fold params (Each trees) (All' n parts) = ArePredsOf fold params trees parts
-  IsPredOf fold params (Either trees) (Any' n parts) = ArePredsOf fold params trees parts
-  IsPredOf fold params tree pred = ⊥
+  pub pred_of : Bool → List Param → Tree → PredView
+  pred_of fold params (Leaf line raw) = views.Leaf (found_term (term_of fold params raw))
+  pred_of fold params (Negated tree) = views.Negated (pred_of fold params tree)
+  pred_of fold params (Each trees) = views.Each (preds_of fold params trees)
+  pred_of fold params (Either trees) = views.Either (preds_of fold params trees)
 
-  pub ArePredsOf : {n : _} → Bool → List Param → Trees → Row_of-Pred n → Type 0
-  ArePredsOf fold params End end_of-Pred = Unit {0}
-  ArePredsOf fold params (More tree trees) (more_of-Pred part rest) = IsPredOf fold params tree part × ArePredsOf fold params trees rest
-  ArePredsOf fold params trees parts = ⊥
+  pub preds_of : Bool → List Param → Trees → PredViews
+  preds_of fold params End = views.End
+  preds_of fold params (More tree trees) = views.More (pred_of fold params tree) (preds_of fold params trees)
 
--- the same of a list of predicates
-abbrev pub ArePredsIn : Bool → List Param → Trees → List Pred → Type 0
-ArePredsIn fold params End [] = Unit {0}
-ArePredsIn fold params (More tree trees) (pred ∷ preds) = IsPredOf fold params tree pred × ArePredsIn fold params trees preds
-ArePredsIn fold params trees preds = ⊥
+abbrev pub body_of : Bool → List Param → BodyTree → BodyView
+body_of fold params (Plain tree) = views.Plain (pred_of fold params tree)
+body_of fold params (IfThen tree next) = views.IfThen (pred_of fold params tree) (pred_of fold params next)
+body_of fold params (IfElse tree next last) = views.IfElse (pred_of fold params tree) (pred_of fold params next) (pred_of fold params last)
 
--- so are the predicates of a constraint those of its tree
-abbrev pub IsBodyOf : Bool → List Param → BodyTree → Body → Type 0
-IsBodyOf fold params (Plain tree) (bodies.Plain pred) = IsPredOf fold params tree pred
-IsBodyOf fold params (IfThen tree next) (bodies.IfThen premise pred) = IsPredOf fold params tree premise × IsPredOf fold params next pred
-IsBodyOf fold params (IfElse tree next last) (bodies.IfElse premise pred other) =
-    IsPredOf fold params tree premise × IsPredOf fold params next pred × IsPredOf fold params last other
-IsBodyOf fold params tree body = ⊥
+abbrev pub rule_of : Bool → List Param → ℕ → RuleTree → RuleView
+rule_of fold params count tree = record { number = count; line = tree.line; body = body_of fold params tree.body }
 
--- a constraint has its number, and the line and the body of its tree
-pub record IsRuleOf (fold : Bool) (params : List Param) (count : ℕ) (tree : RuleTree) (rule : Rule) : Type 0 where
-  pub number : rule.number ≡ count
-  pub line : rule.line ≡ tree.line
-  pub body : IsBodyOf fold params tree.body rule.body
+-- the constraints of trees in order, numbered from here on
+abbrev pub rules_from : ℕ → Bool → List Param → List RuleTree → List RuleView
+rules_from count fold params [] = []
+rules_from count fold params (tree ∷ trees) = rule_of fold params count tree ∷ rules_from (count + 1) fold params trees
 
--- constraints are those of these trees in order, numbered from here on
-abbrev pub AreRulesFrom : ℕ → Bool → List Param → List RuleTree → List Rule → Type 0
-AreRulesFrom count fold params [] [] = Unit {0}
-AreRulesFrom count fold params (tree ∷ trees) (rule ∷ rules) = IsRuleOf fold params count tree rule × AreRulesFrom (count + 1) fold params trees rules
-AreRulesFrom count fold params trees rules = ⊥
+-- why constraints are refused, so many: a term of theirs is, else they are too many
+abbrev pub fault_of : Option Diag → ℕ → Option ModelFault
+fault_of (Some diag) count = Some (BadRule diag)
+fault_of None count = if nat_lt (most_of Rules) count then Some (Limit Rules count) else None
 
--- constraints are those of these trees, numbered from 1
-abbrev pub AreRulesOf : Bool → List Param → List RuleTree → List Rule → Type 0
-AreRulesOf fold params trees rules = AreRulesFrom 1 fold params trees rules
+abbrev pub rules_fault : Bool → List Param → List RuleTree → Option ModelFault
+rules_fault fold params trees = fault_of (first_refusal fold params (rules_terms trees)) (length trees)

@@ -1,5 +1,4 @@
 pub mod Checking
 pub mod Constraints
 pub mod ModelOf
-pub mod Reading
 pub mod Laws

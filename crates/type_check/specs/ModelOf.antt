@@ -1,60 +1,54 @@
--- Which model a model file spells, with its notes, and why a file spells none. (PICT's guide; the ACTS
--- guide for relations; the order of the refusals is this project's rule.)
-use Rattle.std.specs.Prelude.{◌≡◌, ℕ, ◌<◌, ◌≤◌, List, length, Some, None, Ok, Err}
+-- What a model file is read as: a model with its notes, or a refusal. (PICT's guide; the ACTS guide for
+-- relations; the order of the refusals is this project's rule.)
+use Rattle.std.specs.Prelude.{◌≡◌, ℕ, List, Some, None, Result, Ok, Err}
 use Rattle.cov_model.specs.Sound.{ModelView}
-use Rattle.model_lex.specs.Codes.{most_of}
 use Rattle.model_lex.specs.Sections.{Split, sections_of}
 use Rattle.model_lex.specs.declared.diag.Diag.{Diag}
-use Rattle.model_lex.specs.declared.fault.LimitName.TheVariants.{Rules}
 use Rattle.model_lex.specs.declared.fault.ModelFault.{ModelFault}
-use Rattle.model_lex.specs.declared.fault.ModelFault.TheVariants.{Bad, BadRule, Limit}
+use Rattle.model_lex.specs.declared.fault.ModelFault.TheVariants.{Bad, BadRule}
 use Rattle.model_lex.specs.declared.note.Note.{Note}
 use Rattle.model_lex.specs.declared.options.ModelOpts.{ModelOpts}
 use Rattle.model_parse.specs.RawModels.{raw_model_of}
 use Rattle.model_parse.specs.declared.raw_model.RawModel.{RawModel}
 use Rattle.constraint_ast.specs.Lexing.{Spell, AreRefused}
 use Rattle.constraint_ast.specs.Trees.{RuleTree}
-use Rattle.type_check.specs.Checking.{first_refusal, rules_terms}
-use Rattle.type_check.specs.Constraints.{AreRulesOf}
+use Rattle.type_check.specs.Constraints.{rules_fault, rules_from}
 
--- a file has these sections, these say this of parameters and groups, and their constraint lines
--- spell these trees
-pub record IsRead (opts : ModelOpts) (bytes : List ℕ) (split : Split) (raw : RawModel) : Type 0 where
-  pub sections : sections_of bytes ≡ Ok split
-  pub model : raw_model_of opts split ≡ Ok raw
+-- a model with its notes, or a refusal
+abbrev pub Answer : Type 0
+Answer = Result (ModelView × List Note) ModelFault
 
-pub record AreTrees (opts : ModelOpts) (bytes : List ℕ) (raw : RawModel) (trees : List RuleTree) : Type 0 where
-  pub split : Split
-  pub read : IsRead opts bytes split raw
-  pub spelled : Spell split.rules trees
+-- the model of parameters and groups with the constraints of trees
+abbrev pub model_of : ModelOpts → RawModel → List RuleTree → ModelView
+model_of opts raw trees = record {
+  params = raw.params;
+  rules = rules_from 1 opts.fold raw.params trees;
+  demand = raw.demand;
+  prefix = opts.marks.prefix;
+  fold = opts.fold;
+}
 
--- a file spells this model with these notes
-pub record IsModelOf (opts : ModelOpts) (bytes : List ℕ) (m : ModelView) (notes : List Note) : Type 0 where
-  pub raw : RawModel
-  pub trees : List RuleTree
-  pub read : AreTrees opts bytes raw trees
-  pub params : m.params ≡ raw.params
-  pub rules : AreRulesOf opts.fold raw.params trees m.rules
-  pub few : length trees ≤ most_of Rules
-  pub demand : m.demand ≡ raw.demand
-  pub prefix : m.prefix ≡ opts.marks.prefix
-  pub fold : m.fold ≡ opts.fold
-  pub noted : notes ≡ raw.notes
+-- the answer of the sections of a file: the refusal of the first that is refused of their parameters and
+-- groups, the grammar of their constraints, the terms and the number of those; else the model
+pub data IsAnswerIn (opts : ModelOpts) (split : Split) : Answer → Type 0 where
+  by_params : {fault : ModelFault} → raw_model_of opts split ≡ Err fault → IsAnswerIn opts split (Err fault)
+  by_grammar : {diag : Diag} (raw : RawModel) → raw_model_of opts split ≡ Ok raw → AreRefused split.rules diag → IsAnswerIn opts split (Err (BadRule diag))
+  by_rules :
+      {fault : ModelFault} (raw : RawModel) (trees : List RuleTree)
+      → raw_model_of opts split ≡ Ok raw → Spell split.rules trees → rules_fault opts.fold raw.params trees ≡ Some fault → IsAnswerIn opts split (Err fault)
+  by_model :
+      (raw : RawModel) (trees : List RuleTree)
+      → raw_model_of opts split ≡ Ok raw → Spell split.rules trees → rules_fault opts.fold raw.params trees ≡ None
+      → IsAnswerIn opts split (Ok (model_of opts raw trees, raw.notes))
 
--- a file is refused by the first pass that refuses it: in its sections, in its parameters and groups,
--- in the grammar of its constraints, in their terms, or for the number of its constraints
-pub data IsRefusalOf : ModelOpts → List ℕ → ModelFault → Type 0 where
-  by_sections : {opts : ModelOpts} {bytes : List ℕ} {diag : Diag} → sections_of bytes ≡ Err diag → IsRefusalOf opts bytes (Bad diag)
-  by_params :
-      {opts : ModelOpts} {bytes : List ℕ} {fault : ModelFault} (split : Split)
-      → sections_of bytes ≡ Ok split → raw_model_of opts split ≡ Err fault → IsRefusalOf opts bytes fault
-  by_grammar :
-      {opts : ModelOpts} {bytes : List ℕ} {diag : Diag} (split : Split) (raw : RawModel)
-      → IsRead opts bytes split raw → AreRefused split.rules diag → IsRefusalOf opts bytes (BadRule diag)
-  by_terms :
-      {opts : ModelOpts} {bytes : List ℕ} {diag : Diag} (raw : RawModel) (trees : List RuleTree)
-      → AreTrees opts bytes raw trees → first_refusal opts.fold raw.params (rules_terms trees) ≡ Some diag → IsRefusalOf opts bytes (BadRule diag)
-  by_number :
-      {opts : ModelOpts} {bytes : List ℕ} (raw : RawModel) (trees : List RuleTree)
-      → AreTrees opts bytes raw trees → first_refusal opts.fold raw.params (rules_terms trees) ≡ None → most_of Rules < length trees
-      → IsRefusalOf opts bytes (Limit Rules (length trees))
+-- the answer of a file: the refusal of its sections, or else their answer
+pub data IsAnswerOf (opts : ModelOpts) (bytes : List ℕ) : Answer → Type 0 where
+  by_sections : {diag : Diag} → sections_of bytes ≡ Err diag → IsAnswerOf opts bytes (Err (Bad diag))
+  in_sections : {answer : Answer} (split : Split) → sections_of bytes ≡ Ok split → IsAnswerIn opts split answer → IsAnswerOf opts bytes answer
+
+-- a file spells this model with these notes, or it is refused so
+abbrev pub IsModelOf : ModelOpts → List ℕ → ModelView → List Note → Type 0
+IsModelOf opts bytes m notes = IsAnswerOf opts bytes (Ok (m, notes))
+
+abbrev pub IsRefusalOf : ModelOpts → List ℕ → ModelFault → Type 0
+IsRefusalOf opts bytes fault = IsAnswerOf opts bytes (Err fault)

@@ -1,27 +1,22 @@
-ghost use Rattle.std.specs.Prelude.{◌≡◌, ◌≤◌, Bool, List, Some, Err, IfOk, IfErr, OnErr, length, map};
+ghost use Rattle.std.specs.Prelude.{◌≡◌, ◌≤◌, Some, None, IfOk, IfErr, length};
 ghost use Rattle.constraint_ast.specs.Reading.{IfRefused};
-ghost use Rattle.cov_model.specs.declared.parameter.Param.{Param};
-ghost use Rattle.constraint_ast.specs.Trees.{Tree, Negated, body_tree, tree_of, trees_in};
+ghost use Rattle.cov_model.specs.Views.{Negated, body_view, pred_view, preds_in};
+ghost use Rattle.constraint_ast.specs.Trees.{body_tree, tree_of, trees_in};
 ghost use Rattle.type_check.specs.Checking.{body_terms, first_refusal, terms_in, terms_of};
-ghost use Rattle.type_check.specs.Constraints.{ArePredsIn, IsBodyOf, IsPredOf};
+ghost use Rattle.type_check.specs.Constraints.{body_of, pred_of, preds_of};
 
-use crate::fault::pushed;
 use crate::scope::Scope;
 use constraint_ast::{RawBody, RawPred};
 use cov_model::{Body, Pred, PredList};
 use model_lex::ModelFault;
 use std::alloc::Global;
-use value_text::OwnedList;
+use value_text::{NoMemory, OwnedList};
 
 // The negation of a predicate.
-fn negated(alloc: Global, pred: Pred) -> Result<Pred, ModelFault>
-    ensures ok { IfOk result (λ inverse. (fold : Bool) (params : List Param) (tree : Tree) → IsPredOf fold params tree pred → IsPredOf fold params (Negated tree) inverse) }
-    ensures err { OnErr result (result ≡ Err ModelFault.NoMemory) }
+fn negated(alloc: Global, pred: Pred) -> Result<Pred, NoMemory>
+    ensures { IfOk result (λ inverse. pred_view inverse ≡ Negated (pred_view pred)) }
 {
-    match Box::new(alloc, pred) {
-        Ok(inner) => Ok(Pred::Not(inner)),
-        Err(_) => Err(ModelFault::NoMemory),
-    }
+    Ok(Pred::Not(Box::new(alloc, pred)?))
 }
 
 impl Scope<'_> {
@@ -29,14 +24,15 @@ impl Scope<'_> {
     #[cycle(check)]
     fn pred(&self, alloc: Global, raw: &RawPred) -> Result<Pred, ModelFault>
         requires { length self.now.params.now ≤ 256 }
-        ensures ok { IfOk result (λ pred. IsPredOf self.now.fold self.now.params.now (tree_of raw.now) pred) }
+        ensures ok { IfOk result (λ pred. pred_view pred ≡ pred_of self.now.fold self.now.params.now (tree_of raw.now)) }
+        ensures unrefused { IfOk result (λ _. first_refusal self.now.fold self.now.params.now (terms_of (tree_of raw.now)) ≡ None) }
         ensures err { IfErr result (λ fault. IfRefused fault (λ diag. first_refusal self.now.fold self.now.params.now (terms_of (tree_of raw.now)) ≡ Some diag)) }
     {
         match raw {
             RawPred::Term(line, term) => Ok(Pred::Term(self.term(alloc, *line, term)?)),
             RawPred::Not(inner) => {
                 let pred = self.pred(alloc, inner)?;
-                negated(alloc, pred)
+                Ok(negated(alloc, pred)?)
             }
             RawPred::All(parts) => Ok(Pred::All(self.preds(alloc, parts.as_slice())?)),
             RawPred::Any(parts) => Ok(Pred::Any(self.preds(alloc, parts.as_slice())?)),
@@ -47,13 +43,13 @@ impl Scope<'_> {
     #[cycle(check)]
     fn preds(&self, alloc: Global, parts: &[RawPred]) -> Result<PredList, ModelFault>
         requires { length self.now.params.now ≤ 256 }
-        ensures ok { IfOk result (λ preds. ArePredsIn self.now.fold self.now.params.now (trees_in parts.now) preds) }
+        ensures ok { IfOk result (λ preds. preds_in preds ≡ preds_of self.now.fold self.now.params.now (trees_in parts.now)) }
+        ensures unrefused { IfOk result (λ _. first_refusal self.now.fold self.now.params.now (terms_in (trees_in parts.now)) ≡ None) }
         ensures err { IfErr result (λ fault. IfRefused fault (λ diag. first_refusal self.now.fold self.now.params.now (terms_in (trees_in parts.now)) ≡ Some diag)) }
     {
         let mut preds = OwnedList::new(alloc);
         for part in parts {
-            let pred = self.pred(alloc, part)?;
-            pushed(&mut preds, pred)?;
+            preds.push(self.pred(alloc, part)?)?;
         }
         Ok(preds)
     }
@@ -61,7 +57,8 @@ impl Scope<'_> {
     // What a raw constraint demands.
     pub(crate) fn body(&self, alloc: Global, raw: &RawBody) -> Result<Body, ModelFault>
         requires { length self.now.params.now ≤ 256 }
-        ensures ok { IfOk result (λ body. IsBodyOf self.now.fold self.now.params.now (body_tree raw.now) body) }
+        ensures ok { IfOk result (λ body. body_view body ≡ body_of self.now.fold self.now.params.now (body_tree raw.now)) }
+        ensures unrefused { IfOk result (λ _. first_refusal self.now.fold self.now.params.now (body_terms (body_tree raw.now)) ≡ None) }
         ensures err { IfErr result (λ fault. IfRefused fault (λ diag. first_refusal self.now.fold self.now.params.now (body_terms (body_tree raw.now)) ≡ Some diag)) }
     {
         match raw {

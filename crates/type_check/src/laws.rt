@@ -1,16 +1,12 @@
-ghost use Rattle.type_check.specs.Laws.{FilesHaveOneModel, ModelsAreNotRefused, RefusalsAreOne};
+ghost use Rattle.type_check.specs.Laws.{FilesHaveOneAnswer, ModelsAreSound};
 
-/// A file spells at most one model, with one list of notes.
-pub fn files_have_one_model()
-    ensures { FilesHaveOneModel }
+/// Each file has exactly one answer, whatever its bytes and their number: it spells one model, with
+/// one list of notes, or it is refused in one way, and never for want of memory.
+pub fn files_have_one_answer()
+    ensures { FilesHaveOneAnswer }
 {}
 
-/// A file that spells a model isn't refused.
-pub fn models_are_not_refused()
-    ensures { ModelsAreNotRefused }
-{}
-
-/// A file is refused in at most one way.
-pub fn refusals_are_one()
-    ensures { RefusalsAreOne }
+/// The model that a file spells is sound.
+pub fn models_are_sound()
+    ensures { ModelsAreSound }
 {}

@@ -1,9 +1,7 @@
-ghost use Rattle.std.specs.Prelude.{◌≡◌, ◌≢◌, ◌≤◌, ◌^◌, ℕ, List, Ok, IfOk, IfErr, MatchResult, length};
-ghost use Rattle.cov_model.specs.Sound.{ModelView};
-ghost use Rattle.model_lex.specs.Sections.{AreSections, sections_of, split_seen};
-ghost use Rattle.model_lex.specs.declared.note.Note.{Note};
+ghost use Rattle.std.specs.Prelude.{◌≡◌, ◌≢◌, ◌≤◌, ◌^◌, ◌⊎◌, Ok, Err, IfOk, IfErr, length};
+ghost use Rattle.model_lex.specs.Sections.{AreSections, split_seen};
 ghost use Rattle.model_parse.specs.RawModels.{AreOpts};
-ghost use Rattle.type_check.specs.ModelOf.{IsModelOf, IsRefusalOf};
+ghost use Rattle.type_check.specs.ModelOf.{Answer, IsAnswerIn, IsAnswerOf, IsModelOf, IsRefusalOf};
 
 use crate::scope::Scope;
 use constraint_ast::parse_rules;
@@ -20,8 +18,8 @@ fn read_sections(
 ) -> Result<(TestModel, NoteList), ModelFault>
     requires sections { AreSections sections.now }
     requires opts { AreOpts opts.now }
-    ensures ok { IfOk result (λ read. (bytes : List ℕ) → sections_of bytes ≡ Ok (split_seen sections.now) → IsModelOf opts.now bytes read.0 read.1) }
-    ensures err { IfErr result (λ fault. (bytes : List ℕ) → sections_of bytes ≡ Ok (split_seen sections.now) → fault ≢ ModelFault.NoMemory → IsRefusalOf opts.now bytes fault) }
+    ensures ok { IfOk result (λ read. IsAnswerIn opts.now (split_seen sections.now) (Ok read)) }
+    ensures err { IfErr result (λ fault. fault ≢ ModelFault.NoMemory → IsAnswerIn opts.now (split_seen sections.now) (Err fault)) }
 {
     let raw = parse_params(alloc, sections, opts)?;
     let trees = parse_rules(alloc, sections)?;
@@ -55,8 +53,7 @@ pub fn read_model(
     requires opts { AreOpts opts.now }
     ensures ok { IfOk result (λ read. IsModelOf opts.now bytes.now read.0 read.1) }
     ensures err { IfErr result (λ fault. fault ≢ ModelFault.NoMemory → IsRefusalOf opts.now bytes.now fault) }
-    ensures only_models { (m : ModelView) (notes : List Note) → IsModelOf opts.now bytes.now m notes → IfErr result (λ fault. fault ≡ ModelFault.NoMemory) }
-    ensures only_refusals { (fault : ModelFault) → IsRefusalOf opts.now bytes.now fault → MatchResult result (λ _. ⊥) (λ told. told ≢ ModelFault.NoMemory → told ≡ fault) }
+    ensures only { (answer : Answer) → IsAnswerOf opts.now bytes.now answer → (result ≡ answer) ⊎ (result ≡ Err ModelFault.NoMemory) }
 {
     match split_model(alloc, bytes) {
         Ok(sections) => read_sections(alloc, &sections, opts),

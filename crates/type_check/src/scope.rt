@@ -1,14 +1,14 @@
-ghost use Rattle.std.specs.Prelude.{◌≡◌, ◌<◌, ◌≤◌, ◌^◌, Some, None, Ok, Err, IfOk, IfErr, IfSome, OnErr, length, map};
+ghost use Rattle.std.specs.Prelude.{◌≡◌, ◌<◌, ◌≤◌, Some, None, Ok, IfOk, IfErr, IfSome, OnErr, length, map};
 ghost use Rattle.std.specs.List.{list_all};
 ghost use Rattle.constraint_ast.specs.Reading.{IfRefused};
 ghost use Rattle.type_check.specs.Checking.{is_of_type, is_same_type, literal_of, numeric_at, param_named, refused_or, rel_of, term_of};
 
-use crate::fault::{copied, pushed, refused};
+use crate::fault::refused;
 use constraint_ast::{RawLiteral, RawRel, RawTerm};
 use cov_model::{Literal, LiteralList, Param, ParamNo, Rel, Term};
 use model_lex::{DiagCode, ModelFault};
 use std::alloc::Global;
-use value_text::{OwnedList, Text, same_text};
+use value_text::{NoMemory, OwnedList, Text, same_text};
 
 // The same relation, of a model.
 fn rel_of(rel: RawRel) -> Rel
@@ -25,25 +25,22 @@ fn rel_of(rel: RawRel) -> Rel
 }
 
 // The same literal, of a model.
-fn literal_of(alloc: Global, literal: &RawLiteral) -> Result<Literal, ModelFault>
-    ensures ok { IfOk result (λ copy. copy ≡ literal_of literal.now) }
-    ensures err { OnErr result (result ≡ Err ModelFault.NoMemory) }
+fn literal_of(alloc: Global, literal: &RawLiteral) -> Result<Literal, NoMemory>
+    ensures { IfOk result (λ copy. copy ≡ literal_of literal.now) }
 {
     match literal {
         RawLiteral::Number(number) => Ok(Literal::Number(*number)),
-        RawLiteral::Words(text) => Ok(Literal::Words(copied(alloc, text)?)),
+        RawLiteral::Words(text) => Ok(Literal::Words(Text::copy(alloc, text.as_str())?)),
     }
 }
 
 // The same literals, of a model.
-fn literals_of(alloc: Global, literals: &[RawLiteral]) -> Result<LiteralList, ModelFault>
-    ensures ok { IfOk result (λ copies. copies ≡ map literal_of literals.now) }
-    ensures err { OnErr result (result ≡ Err ModelFault.NoMemory) }
+fn literals_of(alloc: Global, literals: &[RawLiteral]) -> Result<LiteralList, NoMemory>
+    ensures { IfOk result (λ copies. copies ≡ map literal_of literals.now) }
 {
     let mut copies = OwnedList::new(alloc);
     for literal in literals {
-        let copy = literal_of(alloc, literal)?;
-        pushed(&mut copies, copy)?;
+        copies.push(literal_of(alloc, literal)?)?;
     }
     Ok(copies)
 }
@@ -182,7 +179,7 @@ impl Scope<'_> {
         if self.is_numeric(p) {
             return Err(refused(line, DiagCode::LikeNeedsText));
         }
-        Ok(Term::Like(p, copied(alloc, pattern)?))
+        Ok(Term::Like(p, Text::copy(alloc, pattern.as_str())?))
     }
 
     // The term that a raw term of a line is.

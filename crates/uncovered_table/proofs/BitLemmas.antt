@@ -1,5 +1,5 @@
 -- The bits of the places of a slice: each place has one of its own, in order.
-use Rattle.std.proofs.Common.{inl, inr, ◌≡◌, ℕ, zero, suc, ◌+◌, ◌-◌, ◌<◌, ◌≤◌, Bool, true, false, ◌&&◌, ◌||◌, List, [], ◌∷◌, ◌++◌, All, map, length, ◌∙◌, refl, sym, subst, ap, arith, zero-add, length-append}
+use Rattle.std.proofs.Common.{inl, inr, ◌≡◌, ℕ, zero, suc, ◌+◌, ◌-◌, ◌<◌, ◌≤◌, Bool, true, ◌||◌, List, [], ◌∷◌, ◌++◌, All, map, length, ◌∙◌, refl, subst, ap, arith, zero-add, length-append}
 use Rattle.std.specs.Prelude.{if◌then◌else◌}
 use Rattle.std.specs.List.{filter, flat_map, list_any, range_with_len}
 use Rattle.std.proofs.lemmas.Bool.{cases_lt}
@@ -8,27 +8,22 @@ use Rattle.std.proofs.lemmas.List.{append-nil}
 use Rattle.std.proofs.lemmas.List.Concat.{flat_map-append}
 use Rattle.std.proofs.lemmas.List.Elements.{All-head, All-tail}
 use Rattle.std.proofs.lemmas.List.FromFn.{length-map-range_with_len}
+use Rattle.std.proofs.Math.Bool.{or-true}
+use Rattle.value_text.proofs.ListLemmas.{range_with_len_more}
 use Rattle.cov_model.specs.declared.slice.Slice.{Slice}
 use Rattle.cov_model.specs.Sound.{ModelView}
 use Rattle.definitions.specs.Demand.{demanded_sets}
 use Rattle.uncovered_table.specs.Bits.{bit_of, first_bit, tuple_count}
 use Rattle.uncovered_table.specs.Places.{is_place, places_in, set_at, slice_places, slice_start}
 use Rattle.uncovered_table.proofs.ChoiceLemmas.{any_listed}
-use Rattle.uncovered_table.proofs.ColumnLemmas.{filter_no, filter_yes, or_true, split}
 use Rattle.uncovered_table.proofs.PlaceLemmas.{same_place, stands_at}
 
 -- the first bit of the next set
-pub range_next : (a k : ℕ) → range_with_len a (k + 1) ≡ range_with_len a k ++ (a + k) ∷ []
-range_next a zero = let plain : a ≡ a + 0 = omega arith in ap (λ n. n ∷ []) plain
-range_next a (suc k) =
-    let more : suc k + 1 ≡ suc (k + 1) = omega arith in
-    let plain : a + 1 + k ≡ a + suc k = omega arith in
-    ap (range_with_len a) more ∙ ap (λ ns. a ∷ ns) (range_next (a + 1) k) ∙ ap (λ n. a ∷ range_with_len (a + 1) k ++ n ∷ []) plain
-
 pub first_bit_more : (m : ModelView) (slice : Slice) (set : ℕ) → first_bit m slice (set + 1) ≡ first_bit m slice set + tuple_count m slice set
 first_bit_more m slice set =
-    ap (λ sets. length (flat_map (places_in m slice) sets)) (range_next 0 set ∙ ap (λ k. range_with_len 0 set ++ k ∷ []) (zero-add set))
-    ∙ ap length (flat_map-append (places_in m slice) (range_with_len 0 set) (set ∷ []) ∙ ap (λ ps. flat_map (places_in m slice) (range_with_len 0 set) ++ ps) (append-nil (places_in m slice set)))
+    ap (λ sets. length (flat_map (places_in m slice) sets)) (range_with_len_more 0 set ∙ ap (λ k. range_with_len 0 set ++ k ∷ []) (zero-add set))
+    ∙ ap length (flat_map-append (places_in m slice) (range_with_len 0 set) (set ∷ []) ∙ ap (λ ps. flat_map (places_in m slice) (range_with_len 0 set) ++ ps)
+    (append-nil (places_in m slice set)))
     ∙ length-append (flat_map (places_in m slice) (range_with_len 0 set)) (places_in m slice set)
     ∙ ap (λ n. first_bit m slice set + n) (length-map-range_with_len (λ rank. (set, rank)) (slice_start m (set_at m set) slice) (tuple_count m slice set))
 
@@ -60,12 +55,13 @@ one_rank set start (suc count) (suc j) below =
     let plain : start + 1 + j ≡ start + suc j = omega arith in
     let rest = subst (λ r. list_any (is_place (set, r)) (map (λ rank. (set, rank)) (range_with_len (start + 1) count)) ≡ true) plain
     (one_rank set (start + 1) count j (omega (arith, below))) in
-    ap (λ b. is_place (set, start + suc j) (set, start) || b) rest ∙ or_true (is_place (set, start + suc j) (set, start))
+    ap (λ b. is_place (set, start + suc j) (set, start) || b) rest ∙ or-true (is_place (set, start + suc j) (set, start))
 
 pub place_listed : (m : ModelView) (slice : Slice) (set j : ℕ) → set < length (demanded_sets m) → j < tuple_count m slice set
     → list_any (is_place (set, slice_start m (set_at m set) slice + j)) (slice_places m slice) ≡ true
 place_listed m slice set j exists below =
-    any_listed (is_place (set, slice_start m (set_at m set) slice + j)) (places_in m slice) 0 (length (demanded_sets m)) set (omega arith) (omega (arith, exists))
+    any_listed (is_place (set, slice_start m (set_at m set) slice + j)) (places_in m slice) 0 (length (demanded_sets m)) set (omega arith)
+    (omega (arith, exists))
     (one_rank set (slice_start m (set_at m set) slice) (tuple_count m slice set) j below)
 
 -- what is known of the bit of a place
@@ -118,17 +114,3 @@ filter_within f g (x ∷ xs) same =
     let here = All-head (λ x. f x ≡ g x) x xs same in
     ap (λ b. if b then x ∷ filter f xs else filter f xs) here
     ∙ ap (λ ys. if g x then x ∷ ys else ys) (filter_within f g xs (All-tail (λ x. f x ≡ g x) x xs same))
-
--- two filters in a row
-pub filter_twice : {X : Type 0} (f g : X → Bool) (xs : List X) → filter f (filter g xs) ≡ filter (λ x. g x && f x) xs
-filter_twice f g [] = refl
-filter_twice f g (x ∷ xs) =
-    elim (split (g x)) [
-      | inl passes ↦
-          let both : (g x && f x) ≡ f x = ap (λ b. b && f x) passes in
-          ap (filter f) (filter_yes g x xs passes) ∙ ap (λ ys. if f x then x ∷ ys else ys) (filter_twice f g xs)
-          ∙ sym (ap (λ b. if b then x ∷ filter (λ x. g x && f x) xs else filter (λ x. g x && f x) xs) both)
-      | inr fails ↦
-          let both : (g x && f x) ≡ false = ap (λ b. b && f x) fails in
-          ap (filter f) (filter_no g x xs fails) ∙ filter_twice f g xs ∙ sym (filter_no (λ x. g x && f x) x xs both)
-    ]

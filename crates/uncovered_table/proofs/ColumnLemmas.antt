@@ -1,10 +1,12 @@
 -- The last parameter of a set in column order is the lowest one.
-use Rattle.std.proofs.Common.{inl, inr, ◌⊎◌, ◌≡◌, ℕ, zero, suc, ◌<◌, ◌≤◌, Bool, true, false, ◌&&◌, ◌||◌, not, List, [], ◌∷◌, ◌++◌, Option, Some, None, nat_lt, ◌∙◌, refl, sym, subst, ap, arith, append_assoc}
+use Rattle.std.proofs.Common.{inl, inr, ◌≡◌, ℕ, zero, suc, ◌<◌, ◌≤◌, Bool, true, false, ◌&&◌, ◌||◌, not, List, [], ◌∷◌, ◌++◌, Option, Some, None, nat_lt, ◌∙◌, refl, sym, subst, ap, arith, append_assoc}
 use Rattle.std.specs.Prelude.{◌==◌, nat_le, if◌then◌else◌}
 use Rattle.std.specs.List.{filter, last_or, list_any}
-use Rattle.std.proofs.lemmas.Bool.{false≢true}
+use Rattle.std.proofs.lemmas.Bool.{false≢true, cases_Bool}
 use Rattle.std.proofs.lemmas.Bool.Decides.{nat_tests}
 use Rattle.std.proofs.lemmas.List.Elements.{filter-append}
+use Rattle.std.proofs.Math.Bool.{or-true}
+use Rattle.value_text.proofs.ListLemmas.{filter_swap}
 use Rattle.definitions.specs.Completion.{falling}
 use Rattle.uncovered_table.specs.Lasts.{lowest, lower, with_last}
 
@@ -17,43 +19,25 @@ lowest_below count n d (p ∷ set) =
 abbrev any_below : (ℕ → ℕ) → ℕ → List ℕ → Bool
 any_below count n set = list_any (λ q. nat_lt (count q) n) set
 
--- a test passes or fails
-pub split : (b : Bool) → (b ≡ true) ⊎ (b ≡ false)
-split true = inl refl
-split false = inr refl
-
--- tests joined with one that passes or fails
-pub or_true : (b : Bool) → (b || true) ≡ true
-or_true true = refl
-or_true false = refl
-
-pub and_true : (b : Bool) → (b && true) ≡ b
-and_true true = refl
-and_true false = refl
-
-pub and_false : (b : Bool) → (b && false) ≡ false
-and_false true = refl
-and_false false = refl
-
 -- where one is as low as another that is below n, one is below n
 low_below : (count : ℕ → ℕ) (k n : ℕ) (set : List ℕ) → nat_lt k n ≡ true → list_any (λ q. nat_le (count q) k) set ≡ true → any_below count n set ≡ true
 low_below count k n [] less low = absurd (false≢true low)
 low_below count k n (p ∷ set) less low =
-    elim (split (nat_le (count p) k)) [
+    elim (cases_Bool (nat_le (count p) k)) [
       | inl test ↦ let here : nat_lt (count p) n ≡ true = grind (arith, nat_tests) in rw here refl
       | inr test ↦
           let rest = low_below count k n set less (subst (λ b. (b || list_any (λ q. nat_le (count q) k) set) ≡ true) test low) in
-          subst (λ b. (nat_lt (count p) n || b) ≡ true) (sym rest) (or_true (nat_lt (count p) n))
+          subst (λ b. (nat_lt (count p) n || b) ≡ true) (sym rest) (or-true (nat_lt (count p) n))
     ]
 
 above_low : (count : ℕ → ℕ) (k j : ℕ) (set : List ℕ) → k ≤ j → list_any (λ q. nat_le (count q) k) set ≡ true → list_any (λ q. nat_le (count q) j) set ≡ true
 above_low count k j [] less low = low
 above_low count k j (p ∷ set) less low =
-    elim (split (nat_le (count p) k)) [
+    elim (cases_Bool (nat_le (count p) k)) [
       | inl test ↦ let here : nat_le (count p) j ≡ true = grind (arith, nat_tests) in rw here refl
       | inr test ↦
           let rest = above_low count k j set less (subst (λ b. (b || list_any (λ q. nat_le (count q) k) set) ≡ true) test low) in
-          subst (λ b. (nat_le (count p) j || b) ≡ true) (sym rest) (or_true (nat_le (count p) j))
+          subst (λ b. (nat_le (count p) j || b) ≡ true) (sym rest) (or-true (nat_le (count p) j))
     ]
 
 -- being as low as n is being below the next number
@@ -67,9 +51,9 @@ low_next count n (p ∷ set) =
 one_below : (count : ℕ → ℕ) (n : ℕ) (d e : Option ℕ) (set : List ℕ) → any_below count n set ≡ true → lowest_below count n d set ≡ lowest_below count n e set
 one_below count n d e [] one = absurd (false≢true one)
 one_below count n d e (p ∷ set) one =
-    elim (split (nat_lt (count p) n)) [
+    elim (cases_Bool (nat_lt (count p) n)) [
       | inl less ↦
-          elim (split (list_any (λ q. nat_le (count q) (count p)) set)) [
+          elim (cases_Bool (list_any (λ q. nat_le (count q) (count p)) set)) [
             | inl low ↦ rw (less, low) (one_below count n d e set (low_below count (count p) n set less low))
             | inr low ↦ rw (less, low) refl
           ]
@@ -80,7 +64,7 @@ one_below count n d e (p ∷ set) one =
 none_below : (count : ℕ → ℕ) (n : ℕ) (d : Option ℕ) (set : List ℕ) → any_below count n set ≡ false → lowest_below count n d set ≡ d
 none_below count n d [] none = refl
 none_below count n d (p ∷ set) none =
-    elim (split (nat_lt (count p) n)) [
+    elim (cases_Bool (nat_lt (count p) n)) [
       | inl test ↦ absurd (false≢true (sym (subst (λ b. (b || any_below count n set) ≡ false) test none)))
       | inr test ↦ rw test (none_below count n d set (subst (λ b. (b || any_below count n set) ≡ false) test none))
     ]
@@ -103,7 +87,7 @@ low_here : (count : ℕ → ℕ) (n p : ℕ) (d : Option ℕ) (set : List ℕ) �
     → (if not (list_any (λ q. nat_le (count q) (count p)) set) then Some p else lowest_below count (suc n) d set) ≡ lowest_below count (suc n) (Some p) set
 low_here count n p d set equal =
     let same = ap (λ k. list_any (λ q. nat_le (count q) k) set) equal ∙ low_next count n set in
-    elim (split (any_below count (suc n) set)) [
+    elim (cases_Bool (any_below count (suc n) set)) [
       | inl any ↦ let test = same ∙ any in rw test (one_below count (suc n) d (Some p) set any)
       | inr any ↦ let test = same ∙ any in rw test (sym (none_below count (suc n) (Some p) set any))
     ]
@@ -116,10 +100,10 @@ next_below : (count : ℕ → ℕ) (n : ℕ) (d : Option ℕ) (set : List ℕ)
     → lowest_below count (suc n) d set ≡ lowest_below count n (last_or d (filter (λ p. count p == n) set)) set
 next_below count n d [] = refl
 next_below count n d (p ∷ set) =
-    elim (split (nat_lt (count p) n)) [
+    elim (cases_Bool (nat_lt (count p) n)) [
       | inl less ↦
           let next : nat_lt (count p) (suc n) ≡ true = grind (arith, nat_tests) in
-          elim (split (count p == n)) [
+          elim (cases_Bool (count p == n)) [
             | inl same ↦ absurd (not_both (count p) n less same)
             | inr other ↦
                 let found = filter_no (λ q. count q == n) p set other in
@@ -127,7 +111,7 @@ next_below count n d (p ∷ set) =
                 (next_below count n d set ∙ ap (λ ps. lowest_below count n (last_or d ps) set) (sym found)))
           ]
       | inr over ↦
-          elim (split (count p == n)) [
+          elim (cases_Bool (count p == n)) [
             | inl same ↦
                 let next : nat_lt (count p) (suc n) ≡ true = grind (arith, nat_tests) in
                 let equal : count p ≡ n = grind (arith, nat_tests) in
@@ -170,34 +154,11 @@ all_below count n (p ∷ set) below =
     by_test true same = same
     by_test false same = refl
 
--- two tests, one after the other
-filter_both : {X : Type 0} (f g : X → Bool) (xs : List X) → filter f (filter g xs) ≡ filter g (filter f xs)
-filter_both f g [] = refl
-filter_both f g (x ∷ xs) =
-    elim (split (f x)) [
-      | inl passes ↦
-          elim (split (g x)) [
-            | inl also ↦
-                ap (filter f) (filter_yes g x xs also) ∙ filter_yes f x (filter g xs) passes ∙ ap (λ ys. x ∷ ys) (filter_both f g xs)
-                ∙ sym (ap (filter g) (filter_yes f x xs passes) ∙ filter_yes g x (filter f xs) also)
-            | inr fails ↦
-                ap (filter f) (filter_no g x xs fails) ∙ filter_both f g xs
-                ∙ sym (ap (filter g) (filter_yes f x xs passes) ∙ filter_no g x (filter f xs) fails)
-          ]
-      | inr fails ↦
-          elim (split (g x)) [
-            | inl passes ↦
-                ap (filter f) (filter_yes g x xs passes) ∙ filter_no f x (filter g xs) fails ∙ filter_both f g xs
-                ∙ sym (ap (filter g) (filter_no f x xs fails))
-            | inr also ↦ ap (filter f) (filter_no g x xs also) ∙ filter_both f g xs ∙ sym (ap (filter g) (filter_no f x xs fails))
-          ]
-    ]
-
 filter-falling : (f : ℕ → Bool) (n : ℕ) (count : ℕ → ℕ) (xs : List ℕ) → filter f (falling n count xs) ≡ falling n count (filter f xs)
 filter-falling f zero count xs = refl
 filter-falling f (suc n) count xs =
     filter-append f (filter (λ p. count p == suc n) xs) (falling n count xs)
-    ∙ ap (λ ys. ys ++ filter f (falling n count xs)) (filter_both f (λ p. count p == suc n) xs)
+    ∙ ap (λ ys. ys ++ filter f (falling n count xs)) (filter_swap f (λ p. count p == suc n) xs)
     ∙ ap (λ ys. filter (λ p. count p == suc n) (filter f xs) ++ ys) (filter-falling f n count xs)
 
 -- the last of the numbers of a list that pass a test, by falling count
@@ -206,7 +167,7 @@ pub last_passing : (f : ℕ → Bool) (n : ℕ) (count : ℕ → ℕ) (xs set : 
 last_passing f n count xs set most same =
     ap (last_or None) (filter-append f (falling n count xs) (filter (λ p. count p == 0) xs)
     ∙ ap (λ ys. ys ++ filter f (filter (λ p. count p == 0) xs)) (filter-falling f n count xs)
-    ∙ ap (λ ys. falling n count (filter f xs) ++ ys) (filter_both f (λ p. count p == 0) xs))
+    ∙ ap (λ ys. falling n count (filter f xs) ++ ys) (filter_swap f (λ p. count p == 0) xs))
     ∙ ap (λ ys. last_or None (falling n count ys ++ filter (λ p. count p == 0) ys)) same
     ∙ last_falling count n None set
     ∙ all_below count (suc n) set (λ p. let below = most p in omega (arith, below))
@@ -216,10 +177,10 @@ pub lowest_step : (count : ℕ → ℕ) (last : Option ℕ) (p : ℕ) (set : Lis
     → lowest count (with_last last (p ∷ set)) ≡ lowest count (lower count last p ∷ set)
 lowest_step count None p set = refl
 lowest_step count (Some q) p set =
-    elim (split (nat_le (count p) (count q))) [
+    elim (cases_Bool (nat_le (count p) (count q))) [
       | inl test ↦ rw test refl
       | inr high ↦
-          elim (split (list_any (λ r. nat_le (count r) (count q)) set)) [
+          elim (cases_Bool (list_any (λ r. nat_le (count r) (count q)) set)) [
             | inl low ↦
                 let later : list_any (λ r. nat_le (count r) (count p)) set ≡ true = above_low count (count q) (count p) set (grind (arith, nat_tests)) low in
                 rw (high, low) (rw later refl)

@@ -2,17 +2,18 @@
 use Rattle.std.proofs.Common.{inl, inr, ◌≡◌, ℕ, zero, suc, ◌+◌, ◌*◌, ◌<◌, ◌≤◌, Bool, true, false, ◌&&◌, List, [], ◌∷◌, Option, Some, None, map, length, get_or, drop, nat_lt, ◌∙◌, refl, sym, subst, ap, arith}
 use Rattle.std.specs.Prelude.{◌==◌, ◌/◌, ◌%◌, option_and_then, option_map, if◌then◌else◌}
 use Rattle.std.specs.Option.{option_map_or}
-use Rattle.std.proofs.lemmas.Bool.{and_right, cases_eq, cases_lt}
+use Rattle.std.proofs.lemmas.Bool.{and_right, cases_eq, cases_lt, cases_Bool, ne_eqb}
 use Rattle.std.proofs.Math.Nat.{mul-le-mul_right}
 use Rattle.std.proofs.lemmas.Bool.Decides.{nat_tests}
 use Rattle.std.proofs.lemmas.List.{drop_more, length-map}
 use Rattle.tuple_index.specs.Places.{RisesFrom, place_of, value_lists, ways}
 use Rattle.tuple_index.proofs.ListingLemmas.{above_test}
 use Rattle.std.proofs.lemmas.Option.{slice_get_within, slice_get-get_or, slice_get-map}
+use Rattle.value_text.proofs.ListLemmas.{eqb-add_left, pos_left_of_mul, pos_right_of_mul}
+use Rattle.tuple_index.proofs.SliceLemmas.{mul-add-le}
 use Rattle.tuple_index.proofs.PlaceLemmas.{length-value_lists, slice_get-pieces}
 use Rattle.uncovered_table.specs.Digits.{cell_digit, digit_of, joined, number_of, step_of, with_digit}
 use Rattle.uncovered_table.specs.Held.{gives_values, is_value}
-use Rattle.uncovered_table.proofs.ColumnLemmas.{split}
 
 -- the number is this one
 abbrev pub is_number : Option ℕ → ℕ → Bool
@@ -65,7 +66,7 @@ AreDigits values digits = (p d : ℕ) → digits p ≡ Some d → d < length (va
 
 pub digit_below : (values : List ℕ) (v d : ℕ) → digit_of values v ≡ Some d → d < length values
 digit_below values v d is =
-    elim (split (nat_lt (place_of values v) (length values))) [
+    elim (cases_Bool (nat_lt (place_of values v) (length values))) [
       | inl within ↦
           let here : Some (place_of values v) ≡ Some d = sym (rw within refl) ∙ is in
           let place : place_of values v ≡ d = cc in
@@ -112,7 +113,8 @@ one_digit_more : (d w n len : ℕ) → n < w → d < len → d * w + n < len * w
 one_digit_more d w n len less below = grind arith
 
 -- a number is below the number of choices
-pub number_below : (values : ℕ → List ℕ) (digits : ℕ → Option ℕ) (set : List ℕ) (n : ℕ) → AreDigits values digits → number_of values digits set ≡ Some n → n < ways values set
+pub number_below : (values : ℕ → List ℕ) (digits : ℕ → Option ℕ) (set : List ℕ) (n : ℕ) → AreDigits values digits → number_of values digits set ≡ Some n
+    → n < ways values set
 number_below values digits [] n below is = let none : 0 ≡ n = cc in omega (arith, none)
 number_below values digits (p ∷ set) n below is =
     let parts = joins (digits p) (ways values set) (number_of values digits set) n is in
@@ -120,29 +122,20 @@ number_below values digits (p ∷ set) n below is =
     let more = one_digit_more parts.digit (ways values set) parts.rest (length (values p)) rest (below p parts.digit parts.first) in
     omega (arith, more, parts.sum)
 
-digit_more : (a b w : ℕ) → a < b → a * w + w ≤ b * w
-digit_more a b w less = grind arith
-
 -- two numbers are equal exactly if their first digits and the rests are
 digit_test : (a b w n r : ℕ) → n < w → r < w → (a * w + n == b * w + r) ≡ ((a == b) && (n == r))
 digit_test a b w n r first second =
     elim (cases_eq a b) [
       | inl here ↦
           let test : (a == b) ≡ true = grind (arith, nat_tests) in
-          rw test (subst (λ c. (a * w + n == c * w + r) ≡ (n == r)) here (plus_test (a * w) n r))
+          rw test (subst (λ c. (a * w + n == c * w + r) ≡ (n == r)) here (eqb-add_left (a * w) n r))
       | inr apart ↦
           let test : (a == b) ≡ false = grind (arith, nat_tests) in
-          rw test (differ_test (a * w + n) (b * w + r) (differ a b w n r first second apart))
+          rw test (ne_eqb (a * w + n) (b * w + r) (differ a b w n r first second apart))
     ]
   where
-    plus_test : (k n r : ℕ) → (k + n == k + r) ≡ (n == r)
-    plus_test k n r = grind (arith, nat_tests)
-
-    differ_test : (k l : ℕ) → (k ≡ l → ⊥) → (k == l) ≡ false
-    differ_test k l apart = elim (cases_eq k l) [ inl same ↦ absurd (apart same) | inr other ↦ grind (arith, nat_tests) ]
-
     above : (a b w n r : ℕ) → n < w → a < b → a * w + n ≡ b * w + r → ⊥
-    above a b w n r first less same = let more = digit_more a b w less in omega (arith, first, more, same)
+    above a b w n r first less same = let more = mul-add-le a b w less in omega (arith, first, more, same)
 
     differ : (a b w n r : ℕ) → n < w → r < w → (a ≡ b → ⊥) → a * w + n ≡ b * w + r → ⊥
     differ a b w n r first second apart same =
@@ -162,9 +155,11 @@ choice_at values p set j r first second =
     let w = ways values set in
     let each : (v : ℕ) → length (map (λ rest. v ∷ rest) lists) ≡ w = λ v. length-map lists (λ rest. v ∷ rest) ∙ length-value_lists values set in
     let inside : r < length lists = omega (arith, second, length-value_lists values set) in
-    let place = slice_get-pieces (λ v. map (λ rest. v ∷ rest) lists) w (values p) j r (j * w + r) (get_or (values p) j 0) (get_or (values p) j 0 ∷ get_or lists r []) each refl
+    let place = slice_get-pieces (λ v. map (λ rest. v ∷ rest) lists) w (values p) j r (j * w + r) (get_or (values p) j 0)
+    (get_or (values p) j 0 ∷ get_or lists r []) each refl
     (slice_get-get_or (values p) j 0 first)
-    (slice_get-map (λ rest. get_or (values p) j 0 ∷ rest) lists r ∙ ap (option_map (λ rest. get_or (values p) j 0 ∷ rest)) (slice_get-get_or lists r [] inside)) in
+    (slice_get-map (λ rest. get_or (values p) j 0 ∷ rest) lists r ∙ ap (option_map (λ rest. get_or (values p) j 0 ∷ rest))
+    (slice_get-get_or lists r [] inside)) in
     let within = slice_get_within (value_lists values (p ∷ set)) (j * w + r) (get_or (values p) j 0 ∷ get_or lists r []) place in
     let read : Some (get_or (value_lists values (p ∷ set)) (j * w + r) []) ≡ Some (get_or (values p) j 0 ∷ get_or lists r []) =
     sym (slice_get-get_or (value_lists values (p ∷ set)) (j * w + r) [] within) ∙ place in
@@ -177,8 +172,9 @@ one_more : (values : List ℕ) (a e w j r : ℕ) (cell : Option ℕ) (number : O
 one_more values a e w j r None number others rises within below few same = refl
 one_more values a e w j r (Some v) number others rises within below few same =
     let own = value_at_place values a e v j rises within in
-    elim (split (nat_lt (place_of values v) (length values))) [
-      | inl one ↦ ap (λ b. b && others) own ∙ by_number number few same ∙ ap (λ b. is_number (joined (if b then Some (place_of values v) else None) w number) (j * w + r)) (sym one)
+    elim (cases_Bool (nat_lt (place_of values v) (length values))) [
+      | inl one ↦ ap (λ b. b && others) own ∙ by_number number few same
+          ∙ ap (λ b. is_number (joined (if b then Some (place_of values v) else None) w number) (j * w + r)) (sym one)
       | inr none ↦
           let differs : (place_of values v == j) ≡ false = grind (arith, nat_tests) in
           ap (λ b. b && others) (own ∙ differs) ∙ ap (λ b. is_number (joined (if b then Some (place_of values v) else None) w number) (j * w + r)) (sym none)
@@ -204,7 +200,8 @@ gives_at values cells (p ∷ set) k rises below =
     let rest = gives_at values cells set r rises second in
     ap (λ i. gives_values cells (p ∷ set) (get_or (value_lists values (p ∷ set)) i [])) at
     ∙ ap (gives_values cells (p ∷ set)) (choice_at values p set j r first second)
-    ∙ one_more (values p) 0 (rises p).0 w j r (get_or cells p None) (number_of values (cell_digit values cells) set) (gives_values cells set (get_or (value_lists values set) r []))
+    ∙ one_more (values p) 0 (rises p).0 w j r (get_or cells p None) (number_of values (cell_digit values cells) set)
+    (gives_values cells set (get_or (value_lists values set) r []))
     (rises p).1 first second (λ n is. number_below values (cell_digit values cells) set n (cell_digits values cells) is) rest
     ∙ ap (is_number (number_of values (cell_digit values cells) (p ∷ set))) (sym at)
   where
@@ -236,11 +233,13 @@ absent_number values digits column a e c d (p ∷ set) rises below =
     let test = above_test p column (omega (arith, rises.0, below)) in
     let own : with_digit digits column c p ≡ with_digit digits column d p = rw test refl in
     ap (λ o. joined o (ways values set) (number_of values (with_digit digits column c) set)) own
-    ∙ ap (joined (with_digit digits column d p) (ways values set)) (absent_number values digits column (p + 1) e c d set rises.2 (omega (arith, rises.0, below)))
+    ∙ ap (joined (with_digit digits column d p) (ways values set))
+    (absent_number values digits column (p + 1) e c d set rises.2 (omega (arith, rises.0, below)))
 
 -- from one digit of a column to another the number grows by steps
 pub stepped_number : (values : ℕ → List ℕ) (digits : ℕ → Option ℕ) (column a e d : ℕ) (set : List ℕ) → RisesFrom a e set
-    → number_of values (with_digit digits column d) set ≡ option_map (λ n. n + d * step_of values column set) (number_of values (with_digit digits column 0) set)
+    → number_of values (with_digit digits column d) set ≡ option_map (λ n. n + d * step_of values column set)
+    (number_of values (with_digit digits column 0) set)
 stepped_number values digits column a e d [] rises = let none : 0 ≡ 0 + d * 0 = grind arith in ap Some none
 stepped_number values digits column a e d (p ∷ set) rises =
     let w = ways values set in
@@ -259,40 +258,35 @@ stepped_number values digits column a e d (p ∷ set) rises =
     first None w = refl
     first (Some n) w = let sum : d * w + n ≡ 0 * w + n + d * w = grind arith in ap Some sum
 
-    later : (digit : Option ℕ) (w step : ℕ) (number : Option ℕ) → joined digit w (option_map (λ n. n + d * step) number) ≡ option_map (λ n. n + d * step) (joined digit w number)
+    later : (digit : Option ℕ) (w step : ℕ) (number : Option ℕ) → joined digit w (option_map (λ n. n + d * step) number) ≡ option_map (λ n. n + d * step)
+        (joined digit w number)
     later None w step number = refl
     later (Some c) w step None = refl
     later (Some c) w step (Some n) = let sum : c * w + (n + d * step) ≡ c * w + n + d * step = grind arith in ap Some sum
 
+-- a digit without a number after it is none
+pub joined-None : (digit : Option ℕ) (w : ℕ) → joined digit w None ≡ None
+joined-None None w = refl
+joined-None (Some d) w = refl
+
 -- a member without a digit leaves no number
-pub no_number : (values : ℕ → List ℕ) (digits : ℕ → Option ℕ) (i : ℕ) (set : List ℕ) → number_of values digits (drop i set) ≡ None → number_of values digits set ≡ None
+pub no_number : (values : ℕ → List ℕ) (digits : ℕ → Option ℕ) (i : ℕ) (set : List ℕ) → number_of values digits (drop i set) ≡ None
+    → number_of values digits set ≡ None
 no_number values digits zero set none = none
 no_number values digits (suc i) [] none = none
 no_number values digits (suc i) (p ∷ set) none =
-    ap (joined (digits p) (ways values set)) (no_number values digits i set none) ∙ without (digits p) (ways values set)
-  where
-    without : (digit : Option ℕ) (w : ℕ) → joined digit w None ≡ None
-    without None w = refl
-    without (Some d) w = refl
+    ap (joined (digits p) (ways values set)) (no_number values digits i set none) ∙ joined-None (digits p) (ways values set)
 
 -- the choices for the members from one on are no more than all
 pub fewer_ways : (values : ℕ → List ℕ) (i : ℕ) (set : List ℕ) → 0 < ways values set → ways values (drop i set) ≤ ways values set
 fewer_ways values zero set some = omega arith
 fewer_ways values (suc i) [] some = omega arith
 fewer_ways values (suc i) (p ∷ set) some =
-    let later : 0 < ways values set = factor (length (values p)) (ways values set) some in
+    let later : 0 < ways values set = pos_right_of_mul (length (values p)) (ways values set) some in
     let rest = fewer_ways values i set later in
-    let one : 0 < length (values p) = other (length (values p)) (ways values set) some in
+    let one : 0 < length (values p) = pos_left_of_mul (length (values p)) (ways values set) some in
     let most = mul-le-mul_right (ways values set) one in
     omega (arith, rest, most)
-  where
-    factor : (a b : ℕ) → 0 < a * b → 0 < b
-    factor a zero some = absurd (grind (arith, some))
-    factor a (suc b) some = omega arith
-
-    other : (a b : ℕ) → 0 < a * b → 0 < a
-    other zero b some = absurd (grind (arith, some))
-    other (suc a) b some = omega arith
 
 -- one member more, from the last one back
 pub record OneBack (values : ℕ → List ℕ) (digits : ℕ → Option ℕ) (column i : ℕ) (set : List ℕ) (p d n w s : ℕ) : Type 0 where
@@ -302,13 +296,15 @@ pub record OneBack (values : ℕ → List ℕ) (digits : ℕ → Option ℕ) (co
   pub below : n + d * w < ways values set
   pub most : w * length (values p) ≤ ways values set
 
-pub one_back : (values : ℕ → List ℕ) (digits : ℕ → Option ℕ) (column i : ℕ) (set : List ℕ) (p d n w s : ℕ) → AreDigits values digits → i < length set → p ≡ get_or set i p
+pub one_back : (values : ℕ → List ℕ) (digits : ℕ → Option ℕ) (column i : ℕ) (set : List ℕ) (p d n w s : ℕ) → AreDigits values digits → i < length set
+    → p ≡ get_or set i p
     → 0 < ways values set → digits p ≡ Some d → number_of values digits (drop (i + 1) set) ≡ Some n → w ≡ ways values (drop (i + 1) set)
     → s ≡ step_of values column (drop (i + 1) set) → OneBack values digits column i set p d n w s
 one_back values digits column i set p d n w s below within read some digit number weight step =
     let opened : drop i set ≡ p ∷ drop (i + 1) set = drop_more set i p within ∙ ap (λ q. q ∷ drop (i + 1) set) (sym read) in
     let least = fewer_ways values i set some in
-    let product : ways values (drop i set) ≡ w * length (values p) = ap (ways values) opened ∙ ap (λ v. length (values p) * v) (sym weight) ∙ turned (length (values p)) w in
+    let product : ways values (drop i set) ≡ w * length (values p) = ap (ways values) opened ∙ ap (λ v. length (values p) * v) (sym weight)
+    ∙ turned (length (values p)) w in
     let sum : number_of values digits (drop i set) ≡ Some (n + d * w) =
     ap (number_of values digits) opened ∙ ap (λ o. joined o (ways values (drop (i + 1) set)) (number_of values digits (drop (i + 1) set))) digit
     ∙ ap (joined (Some d) (ways values (drop (i + 1) set))) number ∙ ap (λ v. Some (d * v + n)) (sym weight) ∙ ap Some (around (d * w) n) in

@@ -2,21 +2,13 @@
 use Rattle.std.proofs.Common.{inl, inr, ◌≡◌, ℕ, zero, suc, ◌+◌, ◌<◌, ◌≤◌, ◌&&◌, List, [], ◌∷◌, Option, Some, None, map, length, get_or, drop, ◌∙◌, refl, sym, subst, ap, arith, zero-add, drop-cons, add-one}
 use Rattle.std.specs.Prelude.{◌==◌, if◌then◌else◌}
 use Rattle.std.specs.List.{range_with_len}
-use Rattle.std.proofs.lemmas.Bool.{cases_eq}
+use Rattle.std.proofs.lemmas.Bool.{cases_eq, eq-eqb}
 use Rattle.cov_model.specs.Sound.{ModelView}
 use Rattle.cov_model.specs.Rows.{contains}
 use Rattle.tuple_index.specs.Plan.{tuple_cells, value_given}
 use Rattle.tuple_index.specs.Places.{RisesFrom}
-use Rattle.tuple_index.proofs.ListingLemmas.{same_test, apart_test, above_test, rises_lower}
+use Rattle.tuple_index.proofs.ListingLemmas.{apart_test, value_given_before}
 use Rattle.uncovered_table.specs.Held.{gives_values, is_value}
-
--- a parameter below the members has no value
-none_given : (set values : List ℕ) (p e : ℕ) → RisesFrom (p + 1) e set → value_given set values p ≡ None
-none_given [] values p e rises = refl
-none_given (q ∷ set) [] p e rises = refl
-none_given (q ∷ set) (v ∷ values) p e rises =
-    let test = above_test q p (omega (arith, rises.0)) in
-    rw test (none_given set values p e (rises_lower set (q + 1) (p + 1) e (omega (arith, rises.0)) rises.2))
 
 -- one cell and the others
 past_none : (given : Option ℕ) (row cells : List (Option ℕ)) (cell : Option ℕ) → cell ≡ None → contains (given ∷ row) (cell ∷ cells) ≡ contains row cells
@@ -28,7 +20,8 @@ at_some None row cells cell v some = ap (λ c. contains (None ∷ row) (c ∷ ce
 at_some (Some w) row cells cell v some = ap (λ c. contains (Some w ∷ row) (c ∷ cells)) some
 
 -- the cells from p on, and the members among them
-held_from : (cells : List (Option ℕ)) (whole chosen : List ℕ) (n p : ℕ) (set values : List ℕ) → length cells ≡ p + n → RisesFrom p (p + n) set → length values ≡ length set
+held_from : (cells : List (Option ℕ)) (whole chosen : List ℕ) (n p : ℕ) (set values : List ℕ) → length cells ≡ p + n → RisesFrom p (p + n) set
+    → length values ≡ length set
     → ((q : ℕ) → p ≤ q → value_given whole chosen q ≡ value_given set values q)
     → contains (drop p cells) (map (value_given whole chosen) (range_with_len p n)) ≡ gives_values cells set values
 held_from cells whole chosen zero p [] values long rises as_many same = refl
@@ -37,7 +30,8 @@ held_from cells whole chosen (suc n) p [] values long rises as_many same =
     let within : p < length cells = omega (arith, long) in
     let rest = held_from cells whole chosen n (p + 1) [] values (omega (arith, long)) tt as_many (λ q least. same q (omega (arith, least))) in
     ap (λ row. contains row (map (value_given whole chosen) (range_with_len p (suc n)))) (drop-cons cells p None within)
-    ∙ past_none (get_or cells p None) (drop (suc p) cells) (map (value_given whole chosen) (range_with_len (p + 1) n)) (value_given whole chosen p) (same p (omega arith))
+    ∙ past_none (get_or cells p None) (drop (suc p) cells) (map (value_given whole chosen) (range_with_len (p + 1) n)) (value_given whole chosen p)
+    (same p (omega arith))
     ∙ ap (λ k. contains (drop k cells) (map (value_given whole chosen) (range_with_len (p + 1) n))) (sym (add-one p)) ∙ rest
 held_from cells whole chosen (suc n) p (q ∷ set) [] long rises as_many same = absurd (omega (arith, as_many))
 held_from cells whole chosen (suc n) p (q ∷ set) (v ∷ values) long rises as_many same =
@@ -48,18 +42,21 @@ held_from cells whole chosen (suc n) p (q ∷ set) (v ∷ values) long rises as_
     let next = ap (λ k. contains (drop k cells) later) (sym (add-one p)) in
     elim (cases_eq q p) [
       | inl here ↦
-          let first : value_given whole chosen p ≡ Some v = same p (omega arith) ∙ rw (ap (λ s. s == p) here ∙ same_test p) refl in
-          let rise_on : RisesFrom (p + 1) (p + 1 + n) set = subst (λ k. RisesFrom (p + 1) k set) end (subst (λ k. RisesFrom (k + 1) (p + suc n) set) here rises.2) in
+          let first : value_given whole chosen p ≡ Some v = same p (omega arith) ∙ rw (ap (λ s. s == p) here ∙ eq-eqb p p refl) refl in
+          let rise_on : RisesFrom (p + 1) (p + 1 + n) set = subst (λ k. RisesFrom (p + 1) k set) end
+          (subst (λ k. RisesFrom (k + 1) (p + suc n) set) here rises.2) in
           let rest = held_from cells whole chosen n (p + 1) set values (omega (arith, long)) rise_on (omega (arith, as_many))
           (λ r least. same r (omega (arith, least)) ∙ ap (λ b. if b then Some v else value_given set values r) (apart_test q r (omega (arith, here, least)))) in
           opened ∙ at_some (get_or cells p None) (drop (suc p) cells) later (value_given whole chosen p) v first
           ∙ ap (λ b. is_value (get_or cells p None) v && b) (next ∙ rest)
           ∙ ap (λ k. is_value (get_or cells k None) v && gives_values cells set values) (sym here)
       | inr apart ↦
-          let rise_on : RisesFrom (p + 1) (p + 1 + n) (q ∷ set) = subst (λ k. RisesFrom (p + 1) k (q ∷ set)) end (omega (arith, rises.0, apart), rises.1, rises.2) in
-          let rest = held_from cells whole chosen n (p + 1) (q ∷ set) (v ∷ values) (omega (arith, long)) rise_on as_many (λ r least. same r (omega (arith, least))) in
+          let rise_on : RisesFrom (p + 1) (p + 1 + n) (q ∷ set) = subst (λ k. RisesFrom (p + 1) k (q ∷ set)) end
+          (omega (arith, rises.0, apart), rises.1, rises.2) in
+          let rest = held_from cells whole chosen n (p + 1) (q ∷ set) (v ∷ values) (omega (arith, long)) rise_on as_many
+          (λ r least. same r (omega (arith, least))) in
           opened ∙ past_none (get_or cells p None) (drop (suc p) cells) later (value_given whole chosen p)
-          (same p (omega arith) ∙ none_given (q ∷ set) (v ∷ values) p (p + 1 + n) rise_on)
+          (same p (omega arith) ∙ value_given_before (q ∷ set) (v ∷ values) p (p + 1 + n) rise_on)
           ∙ next ∙ rest
     ]
 

@@ -2,7 +2,7 @@
 use Rattle.std.proofs.Common.{inl, inr, ◌≡◌, ℕ, zero, suc, ◌+◌, ◌≤◌, Bool, true, false, ◌||◌, List, [], ◌∷◌, Some, length, get_or, sum_by, ◌∙◌, refl, sym, subst, ap, arith, zero-add}
 use Rattle.std.specs.Prelude.{◌==◌, nat_le, if◌then◌else◌}
 use Rattle.std.specs.List.{filter, list_any, range_with_len}
-use Rattle.std.proofs.lemmas.Bool.{cases_eq}
+use Rattle.std.proofs.lemmas.Bool.{cases_eq, eq-eqb}
 use Rattle.std.proofs.lemmas.List.Sums.{sum_by-cons}
 use Rattle.cov_model.specs.declared.slice.Slice.{Slice}
 use Rattle.cov_model.specs.Sound.{ModelView}
@@ -13,7 +13,7 @@ use Rattle.definitions.specs.Completion.{count_in}
 use Rattle.definitions.specs.SliceRows.{IsSliceOf}
 use Rattle.tuple_index.specs.Plan.{plan_of}
 use Rattle.tuple_index.specs.Places.{RisesFrom, values_in}
-use Rattle.tuple_index.proofs.ListingLemmas.{same_test, apart_test, not_among_before}
+use Rattle.tuple_index.proofs.ListingLemmas.{apart_test, not_among_before}
 use Rattle.uncovered_table.specs.Kept.{last_column}
 use Rattle.uncovered_table.specs.Lasts.{lowest}
 use Rattle.uncovered_table.proofs.ColumnLemmas.{filter_yes, filter_no, last_passing}
@@ -29,12 +29,15 @@ members_of f (suc n) p (q ∷ set) rises same =
     let end : p + suc n ≡ p + 1 + n = omega arith in
     elim (cases_eq q p) [
       | inl here ↦
-          let first : f p ≡ true = same p (omega arith) ∙ ap (λ s. (s == p) || is_among set p) here ∙ ap (λ b. b || is_among set p) (same_test p) in
-          let rise_on : RisesFrom (p + 1) (p + 1 + n) set = subst (λ k. RisesFrom (p + 1) k set) end (subst (λ k. RisesFrom (k + 1) (p + suc n) set) here rises.2) in
-          let rest = members_of f n (p + 1) set rise_on (λ r least. same r (omega (arith, least)) ∙ ap (λ b. b || is_among set r) (apart_test q r (omega (arith, here, least)))) in
+          let first : f p ≡ true = same p (omega arith) ∙ ap (λ s. (s == p) || is_among set p) here ∙ ap (λ b. b || is_among set p) (eq-eqb p p refl) in
+          let rise_on : RisesFrom (p + 1) (p + 1 + n) set = subst (λ k. RisesFrom (p + 1) k set) end
+          (subst (λ k. RisesFrom (k + 1) (p + suc n) set) here rises.2) in
+          let rest = members_of f n (p + 1) set rise_on (λ r least. same r (omega (arith, least))
+          ∙ ap (λ b. b || is_among set r) (apart_test q r (omega (arith, here, least)))) in
           filter_yes f p (range_with_len (p + 1) n) first ∙ ap (λ ps. p ∷ ps) rest ∙ ap (λ s. s ∷ set) (sym here)
       | inr apart ↦
-          let rise_on : RisesFrom (p + 1) (p + 1 + n) (q ∷ set) = subst (λ k. RisesFrom (p + 1) k (q ∷ set)) end (omega (arith, rises.0, apart), rises.1, rises.2) in
+          let rise_on : RisesFrom (p + 1) (p + 1 + n) (q ∷ set) = subst (λ k. RisesFrom (p + 1) k (q ∷ set)) end
+          (omega (arith, rises.0, apart), rises.1, rises.2) in
           let first : f p ≡ false = same p (omega arith) ∙ not_among_before (q ∷ set) p (p + 1 + n) rise_on in
           filter_no f p (range_with_len (p + 1) n) first ∙ members_of f n (p + 1) (q ∷ set) rise_on (λ r least. same r (omega (arith, least)))
     ]
@@ -60,6 +63,7 @@ same_lowest f g (p ∷ set) same =
 pub last_is : (m : ModelView) (slice : Slice) (set : List ℕ) → IsSliceOf m slice → RisesFrom 0 (length m.params) set
     → last_column m slice set ≡ lowest (λ r. length (values_in (plan_of m) slice r)) set
 last_is m slice set own rises =
-    let members = members_of (is_among set) (length m.params) 0 set (subst (λ k. RisesFrom 0 k set) (sym (zero-add (length m.params))) rises) (λ q least. refl) in
+    let members = members_of (is_among set) (length m.params) 0 set (subst (λ k. RisesFrom 0 k set) (sym (zero-add (length m.params))) rises)
+    (λ q least. refl) in
     last_passing (is_among set) (sum_by length (slice_values m slice)) (count_in m slice) (param_numbers m) set (count_within (slice_values m slice)) members
     ∙ same_lowest (count_in m slice) (λ r. length (values_in (plan_of m) slice r)) set (λ p. ap length (slice_values_at m slice p own))

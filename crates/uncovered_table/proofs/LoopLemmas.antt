@@ -11,6 +11,7 @@ last_more count set i p next last whole more member made so_far =
     ap (λ q. lowest count (q ∷ drop (i + 1) set)) made ∙ sym (lowest_step count last p (drop (i + 1) set))
     ∙ sym (ap (λ ps. lowest count (with_last last ps)) (drop_more set i 0 more ∙ ap (λ q. q ∷ drop (i + 1) set) (sym member))) ∙ so_far
 
-pub last_end : (count : ℕ → ℕ) (set : List ℕ) (i : ℕ) (last whole : Option ℕ) → length set ≤ i → lowest count (with_last last (drop i set)) ≡ whole → last ≡ whole
+pub last_end : (count : ℕ → ℕ) (set : List ℕ) (i : ℕ) (last whole : Option ℕ) → length set ≤ i → lowest count (with_last last (drop i set)) ≡ whole
+    → last ≡ whole
 last_end count set i None whole past so_far = sym (at_drop_all (λ ps. lowest count (with_last None ps)) set i past) ∙ so_far
 last_end count set i (Some q) whole past so_far = sym (at_drop_all (λ ps. lowest count (with_last (Some q) ps)) set i past) ∙ so_far

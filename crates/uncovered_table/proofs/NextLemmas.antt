@@ -4,10 +4,11 @@ use Rattle.std.specs.Prelude.{◌==◌, IfSome, find, nat_le, if◌then◌else�
 use Rattle.std.specs.List.{filter, flat_map, list_any, range_with_len}
 use Rattle.std.specs.List.Sorted.{IsNonDecreasingBy}
 use Rattle.std.specs.Option.{option_or}
-use Rattle.std.proofs.lemmas.Bool.{cases_eq, cases_lt}
+use Rattle.std.proofs.lemmas.Bool.{cases_eq, cases_lt, cases_Bool}
 use Rattle.std.proofs.lemmas.Bool.Decides.{nat_tests}
 use Rattle.std.proofs.lemmas.List.Folds.{find-append}
 use Rattle.std.proofs.lemmas.List.Sums.{get_or-le-sum_by}
+use Rattle.std.proofs.Math.Bool.{and-false}
 use Rattle.bit_table.specs.Marks.{IsFirstSet, NoneSet}
 use Rattle.cov_model.specs.declared.slice.Slice.{Slice}
 use Rattle.cov_model.specs.Sound.{ModelView}
@@ -24,14 +25,14 @@ use Rattle.uncovered_table.specs.Places.{ends_with_column, is_in_play, is_place,
 use Rattle.uncovered_table.proofs.BitLemmas.{BitKnown, bit_known, bits_before, place_listed}
 use Rattle.uncovered_table.proofs.ChoiceLemmas.{rises_passing}
 use Rattle.uncovered_table.proofs.PlaceLemmas.{place_known}
-use Rattle.uncovered_table.proofs.ColumnLemmas.{and_false, filter_no, filter_yes, split}
+use Rattle.uncovered_table.proofs.ColumnLemmas.{filter_no, filter_yes}
 use Rattle.uncovered_table.proofs.GainLemmas.{in_play_with}
 
 -- an item is found among those that pass
 find_passing : {X : Type 0} (f g : X → Bool) (xs : List X) → find f (filter g xs) ≡ find (λ x. g x && f x) xs
 find_passing f g [] = refl
 find_passing f g (x ∷ xs) =
-    elim (split (g x)) [
+    elim (cases_Bool (g x)) [
       | inl passing ↦ ap (find f) (filter_yes g x xs passing) ∙ ap (λ o. if f x then Some x else o) (find_passing f g xs)
           ∙ ap (λ b. if b && f x then Some x else find (λ x. g x && f x) xs) (sym passing)
       | inr fails ↦ ap (find f) (filter_no g x xs fails) ∙ find_passing f g xs ∙ ap (λ b. if b && f x then Some x else find (λ x. g x && f x) xs) (sym fails)
@@ -57,11 +58,13 @@ one_found f set start i (suc c) k least below passing before =
       | inl here ↦ ap later (ap (λ j. f (set, start + j)) here ∙ passing) ∙ ap (λ j. Some (set, start + j)) here
       | inr apart ↦
           ap later (before i (omega arith) (omega (arith, least, apart))) ∙ ap (λ a. find f (map (λ rank. (set, rank)) (range_with_len a c))) next
-          ∙ one_found f set start (i + 1) c k (omega (arith, least, apart)) (omega (arith, below)) passing (λ j above less. before j (omega (arith, above)) less)
+          ∙ one_found f set start (i + 1) c k (omega (arith, least, apart)) (omega (arith, below)) passing
+          (λ j above less. before j (omega (arith, above)) less)
     ]
 
 -- a place of a set stands behind another exactly if its number is not skipped
-after_skipped : (from : Option (ℕ × ℕ)) (set start j : ℕ) → IfSome from (λ place. (place.0 ≤ set) × (place.0 ≡ set → start ≤ place.1)) → is_after from (set, start + j) ≡ nat_le (skipped start from set) j
+after_skipped : (from : Option (ℕ × ℕ)) (set start j : ℕ) → IfSome from (λ place. (place.0 ≤ set) × (place.0 ≡ set → start ≤ place.1))
+    → is_after from (set, start + j) ≡ nat_le (skipped start from set) j
 after_skipped None set start j known = let least : nat_le 0 j ≡ true = grind (arith, nat_tests) in sym least
 after_skipped (Some place) set start j known =
     elim (cases_eq place.0 set) [
@@ -76,7 +79,8 @@ after_skipped (Some place) set start j known =
           let below : place.0 < set = omega (arith, known.0, apart) in
           let less : nat_lt place.0 set ≡ true = grind (arith, nat_tests) in
           let least : nat_le 0 j ≡ true = grind (arith, nat_tests) in
-          ap (λ b. b || ((place.0 == set) && nat_lt place.1 (start + j))) less ∙ sym least ∙ ap (λ b. nat_le (if b then place.1 - start + 1 else 0) j) (sym test)
+          ap (λ b. b || ((place.0 == set) && nat_lt place.1 (start + j))) less ∙ sym least ∙ ap (λ b. nat_le (if b then place.1 - start + 1 else 0) j)
+          (sym test)
     ]
   where
     past : (r start j : ℕ) → start ≤ r → nat_lt r (start + j) ≡ nat_le (r - start + 1) j
@@ -127,13 +131,14 @@ next_none m slice bits from set known none =
     ap (λ a. find f (map (λ rank. (set, rank)) (range_with_len a count))) plain
     ∙ none_found f set start 0 count (λ j least below. passes_at m slice bits from set j known ∙ by_skip j (omega (arith, below)))
   where
-    by_skip : (j : ℕ) → j < tuple_count m slice set → (get_or bits (first_bit m slice set + j) false && nat_le (skipped (slice_start m (set_at m set) slice) from set) j) ≡ false
+    by_skip : (j : ℕ) → j < tuple_count m slice set
+        → (get_or bits (first_bit m slice set + j) false && nat_le (skipped (slice_start m (set_at m set) slice) from set) j) ≡ false
     by_skip j below =
         let skip = skipped (slice_start m (set_at m set) slice) from set in
         elim (cases_lt j skip) [
           | inl less ↦
               let test : nat_le skip j ≡ false = grind (arith, nat_tests) in
-              ap (λ b. get_or bits (first_bit m slice set + j) false && b) test ∙ and_false (get_or bits (first_bit m slice set + j) false)
+              ap (λ b. get_or bits (first_bit m slice set + j) false && b) test ∙ and-false (get_or bits (first_bit m slice set + j) false)
           | inr most ↦ ap (λ b. b && nat_le skip j) (none (first_bit m slice set + j) (omega (arith, most)) (omega (arith, below)))
         ]
 
@@ -164,13 +169,14 @@ next_some m slice bits from set bit known found =
         elim (cases_lt j skip) [
           | inl less ↦
               let test : nat_le skip j ≡ false = grind (arith, nat_tests) in
-              ap (λ b. get_or bits (first_bit m slice set + j) false && b) test ∙ and_false (get_or bits (first_bit m slice set + j) false)
+              ap (λ b. get_or bits (first_bit m slice set + j) false && b) test ∙ and-false (get_or bits (first_bit m slice set + j) false)
           | inr most ↦ ap (λ b. b && nat_le skip j) (found.none_before (first_bit m slice set + j) (omega (arith, most)) (omega (arith, below)))
         ]
 
 -- the next open tuple of the sets in play is found set by set
 sets_next : (m : ModelView) (slice : Slice) (bits : List Bool) (column : ℕ) (from : Option (ℕ × ℕ)) (i n : ℕ)
-    → find (λ place. is_marked m slice bits place && (is_in_play m slice column place && is_after from place)) (flat_map (places_in m slice) (range_with_len i n))
+    → find (λ place. is_marked m slice bits place && (is_in_play m slice column place && is_after from place))
+    (flat_map (places_in m slice) (range_with_len i n))
     ≡ next_of m slice bits from (filter (in_play_with m slice column) (range_with_len i n))
 sets_next m slice bits column from i zero = refl
 sets_next m slice bits column from i (suc n) =
@@ -181,23 +187,24 @@ sets_next m slice bits column from i (suc n) =
     let count = tuple_count m slice i in
     let plays = ends_with_column m slice column (set_at m i) in
     let out : in_play_with m slice column i ≡ false → find f (places_in m slice i) ≡ None
-    → option_or (find f (places_in m slice i)) (next_of m slice bits from later) ≡ next_of m slice bits from (filter (in_play_with m slice column) (range_with_len i (suc n)))
+    → option_or (find f (places_in m slice i)) (next_of m slice bits from later)
+    ≡ next_of m slice bits from (filter (in_play_with m slice column) (range_with_len i (suc n)))
     = λ fails none. ap (λ o. option_or o (next_of m slice bits from later)) none
     ∙ ap (next_of m slice bits from) (sym (filter_no (in_play_with m slice column) i (range_with_len (i + 1) n) fails)) in
     find-append f (places_in m slice i) (flat_map (places_in m slice) (range_with_len (i + 1) n))
     ∙ ap (λ o. option_or (find f (places_in m slice i)) o) rest
-    ∙ elim (split plays) [
+    ∙ elim (cases_Bool plays) [
       | inr fails ↦
           let plain : start ≡ start + 0 = omega arith in
           out (ap (λ b. b && nat_lt 0 count) fails)
           (ap (λ a. find f (map (λ rank. (i, rank)) (range_with_len a count))) plain
           ∙ none_found f i start 0 count (λ j least below. ap (λ b. is_marked m slice bits (i, start + j) && (b && is_after from (i, start + j))) fails
-          ∙ and_false (is_marked m slice bits (i, start + j))))
+          ∙ and-false (is_marked m slice bits (i, start + j))))
       | inl passing ↦
-          elim (split (nat_lt 0 count)) [
+          elim (cases_Bool (nat_lt 0 count)) [
             | inr empty ↦
                 let zero_count : count ≡ 0 = grind (arith, nat_tests) in
-                out (ap (λ b. plays && b) empty ∙ and_false plays) (ap (λ c. find f (map (λ rank. (i, rank)) (range_with_len start c))) zero_count)
+                out (ap (λ b. plays && b) empty ∙ and-false plays) (ap (λ c. find f (map (λ rank. (i, rank)) (range_with_len start c))) zero_count)
             | inl filled ↦
                 let both : in_play_with m slice column i ≡ true = ap (λ b. b && nat_lt 0 count) passing ∙ filled in
                 ap (λ o. option_or o (next_of m slice bits from later)) (same_found (range_with_len start count) passing)
@@ -229,14 +236,17 @@ before_from m slice bits place set less = none (range_with_len (slice_start m (s
     none (rank ∷ ranks) =
         let first : nat_lt place.0 set ≡ false = grind (arith, nat_tests) in
         let second : (place.0 == set) ≡ false = grind (arith, nat_tests) in
-        let before : is_after (Some place) (set, rank) ≡ false = ap (λ b. b || ((place.0 == set) && nat_lt place.1 rank)) first ∙ ap (λ b. b && nat_lt place.1 rank) second in
+        let before : is_after (Some place) (set, rank) ≡ false = ap (λ b. b || ((place.0 == set) && nat_lt place.1 rank)) first
+        ∙ ap (λ b. b && nat_lt place.1 rank) second in
         ap (λ b. if is_marked m slice bits (set, rank) && b then Some (set, rank)
         else find (λ other. is_marked m slice bits other && is_after (Some place) other) (map (λ rank. (set, rank)) ranks)) before
-        ∙ ap (λ b. if b then Some (set, rank) else find (λ other. is_marked m slice bits other && is_after (Some place) other) (map (λ rank. (set, rank)) ranks))
-        (and_false (is_marked m slice bits (set, rank)))
+        ∙ ap (λ b. if b then Some (set, rank) else find (λ other. is_marked m slice bits other && is_after (Some place) other)
+        (map (λ rank. (set, rank)) ranks))
+        (and-false (is_marked m slice bits (set, rank)))
         ∙ none ranks
 
-pub past_sets : (m : ModelView) (slice : Slice) (bits : List Bool) (place : ℕ × ℕ) (i : ℕ) (sets : List ℕ) → ((k : ℕ) → k < i → k < length sets → get_or sets k 0 < place.0)
+pub past_sets : (m : ModelView) (slice : Slice) (bits : List Bool) (place : ℕ × ℕ) (i : ℕ) (sets : List ℕ)
+    → ((k : ℕ) → k < i → k < length sets → get_or sets k 0 < place.0)
     → next_of m slice bits (Some place) (drop i sets) ≡ next_of m slice bits (Some place) sets
 past_sets m slice bits place zero sets before = refl
 past_sets m slice bits place (suc i) [] before = refl
@@ -245,7 +255,8 @@ past_sets m slice bits place (suc i) (set ∷ sets) before =
     ∙ ap (λ o. option_or o (next_of m slice bits (Some place) sets)) (sym (before_from m slice bits place set (before 0 (omega arith) (omega arith))))
 
 -- the ranks are few
-rank_few : (m : ModelView) (slice : Slice) (set rank : ℕ) → IsKept (plan_of m) → IsSliceOf m slice → list_any (is_place (set, rank)) (slice_places m slice) ≡ true → rank < 2 ^ 26
+rank_few : (m : ModelView) (slice : Slice) (set rank : ℕ) → IsKept (plan_of m) → IsSliceOf m slice → list_any (is_place (set, rank)) (slice_places m slice)
+    ≡ true → rank < 2 ^ 26
 rank_few m slice set rank kept own listed =
     let known = place_known m slice (plan_of m) set rank refl kept own listed in
     let within : set < length (plan_of m).sizes = omega (arith, kept.as_many, known.known) in
@@ -258,7 +269,8 @@ pub record NextKnown (m : ModelView) (slice : Slice) (set : ℕ) (from : Option 
   pub few : block.first + block.count ≤ length (slice_places m slice)
   pub known : IsFrom m slice set from
 
-pub next_known : (m : ModelView) (slice : Slice) (set column : ℕ) (from : Option (ℕ × ℕ)) (block : Block) → InPlay m slice column set → IsBlock m slice set block
+pub next_known : (m : ModelView) (slice : Slice) (set column : ℕ) (from : Option (ℕ × ℕ)) (block : Block) → InPlay m slice column set
+    → IsBlock m slice set block
     → IfSome from (λ place. list_any (is_place place) (slice_places m slice) ≡ true) → IfSome from (λ place. place.0 ≤ set) → NextKnown m slice set from block
 next_known m slice set column from block play is listed least =
     let start = is.start (omega (arith, is.count, play.some)) in
@@ -273,7 +285,8 @@ next_known m slice set column from block play is listed least =
     all_known None listed = tt
     all_known (Some place) listed = bit_known m slice place listed
 
-    by_place : (from : Option (ℕ × ℕ)) → IfSome from (λ place. list_any (is_place place) (slice_places m slice) ≡ true) → skipped (slice_start m (set_at m set) slice) from set ≤ block.count
+    by_place : (from : Option (ℕ × ℕ)) → IfSome from (λ place. list_any (is_place place) (slice_places m slice) ≡ true)
+        → skipped (slice_start m (set_at m set) slice) from set ≤ block.count
     by_place None listed = omega arith
     by_place (Some place) listed =
         let known = bit_known m slice place listed in
@@ -292,26 +305,37 @@ pub record FoundPlace (m : ModelView) (slice : Slice) (bits : List Bool) (set : 
   pub own : list_any (is_place (set, rank)) (slice_places m slice) ≡ true
   pub few : rank < 2 ^ 26
 
-pub found_place : (m : ModelView) (slice : Slice) (bits : List Bool) (set column bit : ℕ) (from : Option (ℕ × ℕ)) (block : Block) → IsKept (plan_of m) → IsSliceOf m slice
+pub found_place : (m : ModelView) (slice : Slice) (bits : List Bool) (set column bit : ℕ) (from : Option (ℕ × ℕ)) (block : Block) → IsKept (plan_of m)
+    → IsSliceOf m slice
     → InPlay m slice column set → IsBlock m slice set block → NextKnown m slice set from block
-    → IsFirstSet bits (block.first + skipped block.start from set) (block.first + block.count) bit → FoundPlace m slice bits set from (block.start + (bit - block.first))
+    → IsFirstSet bits (block.first + skipped block.start from set) (block.first + block.count) bit
+    → FoundPlace m slice bits set from (block.start + (bit - block.first))
 found_place m slice bits set column bit from block kept own play is known found =
     let j = bit - first_bit m slice set in
-    let rank : block.start + (bit - block.first) ≡ slice_start m (set_at m set) slice + j = ap (λ s. s + (bit - block.first)) known.start ∙ ap (λ f. slice_start m (set_at m set) slice + (bit - f)) is.first in
+    let rank : block.start + (bit - block.first) ≡ slice_start m (set_at m set) slice + j = ap (λ s. s + (bit - block.first)) known.start
+    ∙ ap (λ f. slice_start m (set_at m set) slice + (bit - f)) is.first in
     let there = subst (λ f. IsFirstSet bits (f + skipped block.start from set) (f + block.count) bit) is.first found in
     let also = subst (λ n. IsFirstSet bits (first_bit m slice set + skipped block.start from set) (first_bit m slice set + n) bit) is.count there in
-    let begun = subst (λ s. IsFirstSet bits (first_bit m slice set + skipped s from set) (first_bit m slice set + tuple_count m slice set) bit) known.start also in
+    let begun = subst (λ s. IsFirstSet bits (first_bit m slice set + skipped s from set) (first_bit m slice set + tuple_count m slice set) bit)
+    known.start also in
     let below : j < tuple_count m slice set = omega (arith, begun.lowest, begun.below) in
     let listed = place_listed m slice set j play.exists below in
     subst (FoundPlace m slice bits set from) (sym rank)
-    (record { value = sym (next_some m slice bits from set bit known.known begun); own = listed; few = rank_few m slice set (slice_start m (set_at m set) slice + j) kept own listed })
+    (record {
+      value = sym (next_some m slice bits from set bit known.known begun);
+      own = listed;
+      few =
+          rank_few m slice set (slice_start m (set_at m set) slice + j) kept own listed;
+    })
 
-pub no_place : (m : ModelView) (slice : Slice) (bits : List Bool) (set : ℕ) (from : Option (ℕ × ℕ)) (block : Block) → IsBlock m slice set block → NextKnown m slice set from block
+pub no_place : (m : ModelView) (slice : Slice) (bits : List Bool) (set : ℕ) (from : Option (ℕ × ℕ)) (block : Block) → IsBlock m slice set block
+    → NextKnown m slice set from block
     → NoneSet bits (block.first + skipped block.start from set) (block.first + block.count) → None ≡ next_in m slice bits from set
 no_place m slice bits set from block is known none =
     let there = subst (λ f. NoneSet bits (f + skipped block.start from set) (f + block.count)) is.first none in
     let also = subst (λ n. NoneSet bits (first_bit m slice set + skipped block.start from set) (first_bit m slice set + n)) is.count there in
-    sym (next_none m slice bits from set known.known (subst (λ s. NoneSet bits (first_bit m slice set + skipped s from set) (first_bit m slice set + tuple_count m slice set)) known.start also))
+    sym (next_none m slice bits from set known.known
+    (subst (λ s. NoneSet bits (first_bit m slice set + skipped s from set) (first_bit m slice set + tuple_count m slice set)) known.start also))
 
 -- the sets in play rise
 rises_on : (xs : List ℕ) (a e : ℕ) → RisesFrom a e xs → (i j d : ℕ) → i ≤ j → j < length xs → get_or xs i d ≤ get_or xs j d
@@ -331,7 +355,8 @@ play_rises m slice column =
     rises_on (sets_in_play m slice column) 0 (0 + length (demanded_sets m)) (rises_passing (in_play_with m slice column) 0 (length (demanded_sets m)))
 
 -- where one begins to look, nothing was passed over
-pub begins_at : (m : ModelView) (slice : Slice) (bits : List Bool) (from : Option (ℕ × ℕ)) (i : ℕ) (sets : List ℕ) → ((k : ℕ) → k < i → IfSome from (λ place. get_or sets k 0 < place.0))
+pub begins_at : (m : ModelView) (slice : Slice) (bits : List Bool) (from : Option (ℕ × ℕ)) (i : ℕ) (sets : List ℕ)
+    → ((k : ℕ) → k < i → IfSome from (λ place. get_or sets k 0 < place.0))
     → (from ≡ None → i ≡ 0) → next_of m slice bits from (drop i sets) ≡ next_of m slice bits from sets
 begins_at m slice bits None i sets before all = ap (λ k. next_of m slice bits None (drop k sets)) (all refl)
 begins_at m slice bits (Some place) i sets before all = past_sets m slice bits place i sets (λ k less within. before k less)

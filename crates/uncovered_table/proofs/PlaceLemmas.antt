@@ -1,15 +1,16 @@
 -- The places of a slice: which there are, and how many.
-use Rattle.std.proofs.Common.{inl, inr, ◌≡◌, ℕ, zero, suc, ◌+◌, ◌^◌, ◌<◌, ◌≤◌, Bool, true, false, ◌&&◌, ◌||◌, List, [], ◌∷◌, All, map, drop, length, get_or, ◌∙◌, refl, sym, subst, ap, arith, zero-add, length-append}
+use Rattle.std.proofs.Common.{inl, inr, ◌≡◌, ℕ, zero, suc, ◌+◌, ◌^◌, ◌<◌, ◌≤◌, true, ◌&&◌, ◌||◌, List, [], ◌∷◌, All, map, drop, length, get_or, ◌∙◌, refl, sym, subst, ap, arith, zero-add, length-append}
 use Rattle.std.specs.Prelude.{◌==◌, Some, sum, slice_get, unwrap_or, if◌then◌else◌}
 use Rattle.std.proofs.lemmas.Option.{slice_get_within, slice_get-get_or}
 use Rattle.std.specs.List.{flat_map, list_any, range_with_len}
-use Rattle.std.proofs.lemmas.Bool.{false≢true}
+use Rattle.std.proofs.lemmas.Bool.{false≢true, cases_Bool, eq-eqb}
 use Rattle.std.proofs.lemmas.Bool.Decides.{nat_tests}
 use Rattle.std.proofs.lemmas.List.{at_drop_more}
 use Rattle.std.proofs.lemmas.List.Elements.{All-cons, All-get_or, All-nil, All-weaker}
 use Rattle.std.proofs.lemmas.List.Folds.{list_any-append}
 use Rattle.std.proofs.lemmas.List.FromFn.{length-map-range_with_len}
 use Rattle.std.proofs.lemmas.List.Sums.{sum_by-cons}
+use Rattle.std.proofs.Math.Bool.{or-true}
 use Rattle.cov_model.specs.declared.slice.Slice.{Slice}
 use Rattle.cov_model.specs.Sound.{ModelView}
 use Rattle.cov_model.specs.Slices.{positive_values}
@@ -17,16 +18,14 @@ use Rattle.definitions.specs.Demand.{demanded_sets, tuples_in, tuples_of}
 use Rattle.definitions.specs.SliceRows.{IsSliceOf}
 use Rattle.tuple_index.specs.Kept.{IsKept}
 use Rattle.tuple_index.specs.Plan.{PlanView, plan_of, tuple_cells}
-use Rattle.tuple_index.specs.Places.{RisesFrom, has_part, start_of, values_in, ways, ways_in}
-use Rattle.tuple_index.proofs.ListingLemmas.{same_test}
+use Rattle.tuple_index.specs.Places.{RisesFrom, has_part, values_in, ways}
 use Rattle.tuple_index.proofs.SliceLemmas.{ways_within, within_count}
 use Rattle.uncovered_table.specs.Places.{is_place, places_in, set_at, slice_places, slice_start, tuple_at}
-use Rattle.uncovered_table.proofs.ColumnLemmas.{or_true, split}
 use Rattle.uncovered_table.proofs.SliceLemmas.{length-tuples_in, own_slice, start_is}
 
 -- a place is the same as itself
 pub same_place : (place : ℕ × ℕ) → is_place place place ≡ true
-same_place place = rw (same_test place.0, same_test place.1) refl
+same_place place = rw (eq-eqb place.0 place.0 refl, eq-eqb place.1 place.1 refl) refl
 
 -- each of a list is one of the list
 pub each_listed : (places : List (ℕ × ℕ)) → All (λ place. list_any (is_place place) places ≡ true) places
@@ -35,12 +34,13 @@ each_listed (first ∷ places) =
     All-cons (λ place. list_any (is_place place) (first ∷ places) ≡ true) first places
     (ap (λ b. b || list_any (is_place first) places) (same_place first))
     (All-weaker (λ place. list_any (is_place place) places ≡ true) (λ place. list_any (is_place place) (first ∷ places) ≡ true)
-    (λ place later. ap (λ b. is_place place first || b) later ∙ or_true (is_place place first)) places (each_listed places))
+    (λ place later. ap (λ b. is_place place first || b) later ∙ or-true (is_place place first)) places (each_listed places))
 
 -- a member's set rises
 pub set_rises : (m : ModelView) (set : ℕ) → IsKept (plan_of m) → set < length (demanded_sets m) → RisesFrom 0 (length m.params) (set_at m set)
 set_rises m set kept exists =
-    let long : length (map (positive_values m) (range_with_len 0 (length m.params))) ≡ length m.params = length-map-range_with_len (positive_values m) 0 (length m.params) in
+    let long : length (map (positive_values m) (range_with_len 0 (length m.params))) ≡ length m.params = length-map-range_with_len (positive_values m) 0
+    (length m.params) in
     subst (λ n. RisesFrom 0 n (set_at m set)) long (All-get_or (RisesFrom 0 (length (plan_of m).positives)) (demanded_sets m) set [] exists kept.rising)
 
 -- there are few
@@ -69,7 +69,7 @@ one_of_ranks : (set s r start count : ℕ) → list_any (is_place (s, r)) (map (
     → (s ≡ set) × (start ≤ r) × (r < start + count)
 one_of_ranks set s r start zero one = absurd (false≢true one)
 one_of_ranks set s r start (suc count) one =
-    elim (split (is_place (s, r) (set, start))) [
+    elim (cases_Bool (is_place (s, r) (set, start))) [
       | inl here ↦ this here
       | inr other ↦
           let later = one_of_ranks set s r (start + 1) count
@@ -95,7 +95,7 @@ one_of_sets m slice s r i zero one = absurd (false≢true one)
 one_of_sets m slice s r i (suc n) one =
     let later = flat_map (places_in m slice) (range_with_len (i + 1) n) in
     let either = sym (list_any-append (is_place (s, r)) (places_in m slice i) later) ∙ one in
-    elim (split (list_any (is_place (s, r)) (places_in m slice i))) [
+    elim (cases_Bool (list_any (is_place (s, r)) (places_in m slice i))) [
       | inl here ↦
           let own = one_of_ranks i s r (slice_start m (set_at m i) slice) (length (tuples_in m (set_at m i) slice)) here in
           (omega (arith, own.0), omega (arith, own.0), subst (λ k. list_any (is_place (s, r)) (places_in m slice k) ≡ true) (sym own.0) here)
@@ -139,11 +139,12 @@ set_known m plan set planned kept exists =
     }
 
 -- the rank of a place is one of its set's
-rank_below : (m : ModelView) (slice : Slice) (set rank : ℕ) → IsKept (plan_of m) → IsSliceOf m slice → StandsAt m slice set rank → rank < get_or (plan_of m).sizes set 0
+rank_below : (m : ModelView) (slice : Slice) (set rank : ℕ) → IsKept (plan_of m) → IsSliceOf m slice → StandsAt m slice set rank
+    → rank < get_or (plan_of m).sizes set 0
 rank_below m slice set rank kept own stands =
     let rises = set_rises m set kept stands.exists in
     let long = length-tuples_in m (set_at m set) slice rises in
-    elim (split (has_part (set_at m set) slice)) [
+    elim (cases_Bool (has_part (set_at m set) slice)) [
       | inl part ↦
           let start = start_is m (set_at m set) slice rises own part in
           let many = ap (λ b. if b then ways (values_in (plan_of m) slice) (set_at m set) else 0) part in
@@ -180,5 +181,6 @@ tuple_read m plan set rank values planned read =
     ap (λ o. unwrap_or o (tuple_cells m (set_at m set) values)) (sym (slice_get-get_or (tuples_of m (set_at m set)) rank [] within) ∙ here)
 
 -- the set of a place exists
-pub place_exists : (m : ModelView) (slice : Slice) (place : ℕ × ℕ) → list_any (is_place place) (slice_places m slice) ≡ true → place.0 < length (demanded_sets m)
+pub place_exists : (m : ModelView) (slice : Slice) (place : ℕ × ℕ) → list_any (is_place place) (slice_places m slice) ≡ true
+    → place.0 < length (demanded_sets m)
 place_exists m slice place listed = (stands_at m slice place.0 place.1 listed).exists

@@ -9,7 +9,8 @@ use Rattle.cov_model.specs.Sound.{IsSound, IsSoundParam, ModelView, no_param, pa
 pub values_few : (m : ModelView) (p : ℕ) → IsSound m → p < length m.params → length (param_at m.params p).values ≤ 4095
 values_few m p sound within = (All-get_or (IsSoundParam m.prefix m.fold) m.params p no_param within sound.params).few
 
-pub scores_are : (g : ℕ → ℕ) (from n : ℕ) (scores : List ℕ) → length scores ≡ n → ((i : ℕ) → i < n → get_or scores i 0 ≡ g (from + i)) → scores ≡ map g (range_with_len from n)
+pub scores_are : (g : ℕ → ℕ) (from n : ℕ) (scores : List ℕ) → length scores ≡ n → ((i : ℕ) → i < n → get_or scores i 0 ≡ g (from + i))
+    → scores ≡ map g (range_with_len from n)
 scores_are g from n scores long each =
     ext_get_or 0 scores (map g (range_with_len from n)) (long ∙ sym (length-map-range_with_len g from n))
     (λ i within.

@@ -2,11 +2,12 @@
 use Rattle.std.proofs.Common.{inl, inr, ◌≡◌, ℕ, zero, suc, ◌+◌, ◌*◌, ◌<◌, ◌≤◌, Bool, true, false, ◌||◌, not, List, [], ◌∷◌, ◌++◌, map, length, get_or, sum_by, ◌∙◌, refl, sym, subst, ap, arith, zero-add}
 use Rattle.std.specs.Prelude.{◌==◌, take_while, if◌then◌else◌}
 use Rattle.std.specs.List.{filter, flat_map, range_with_len}
-use Rattle.std.proofs.lemmas.Bool.{cases_eq, false≢true}
+use Rattle.std.proofs.lemmas.Bool.{cases_eq, false≢true, cases_Bool, eq-eqb}
 use Rattle.std.proofs.lemmas.Bool.Decides.{nat_tests}
 use Rattle.std.proofs.lemmas.List.{length-map}
 use Rattle.std.proofs.lemmas.List.FromFn.{length-map-range_with_len, get_or-map-range_with_len}
 use Rattle.std.proofs.lemmas.List.Sums.{sum_by-append, sum_by-cons, take_while-cons}
+use Rattle.std.proofs.Math.Bool.{or-true}
 use Rattle.cov_model.specs.declared.slice.Slice.{Slice}
 use Rattle.cov_model.specs.declared.slice.Slice.TheVariants.{Positive, Negative}
 use Rattle.cov_model.specs.Sound.{ModelView, param_at}
@@ -17,12 +18,12 @@ use Rattle.definitions.specs.Demand.{is_among, tuples_in}
 use Rattle.definitions.specs.SliceRows.{IsSliceOf}
 use Rattle.tuple_index.specs.Plan.{plan_of, tuple_cells}
 use Rattle.tuple_index.specs.Places.{IsOwnSlice, RisesFrom, has_part, negatives_of, negative_ways, place_of, start_of, value_lists, values_in, ways, ways_before, ways_in}
-use Rattle.tuple_index.proofs.ListingLemmas.{same_test, apart_test, not_among_before, rises_lower}
+use Rattle.tuple_index.proofs.ListingLemmas.{apart_test, not_among_before, rises_lower}
 use Rattle.tuple_index.proofs.PlaceLemmas.{length-value_lists}
 use Rattle.tuple_index.proofs.RankLemmas.{ways_negative}
 use Rattle.tuple_index.proofs.TupleLemmas.{among_below, negative_lists_in, own_values, positive_lists}
 use Rattle.uncovered_table.specs.Places.{is_slice, slice_start}
-use Rattle.uncovered_table.proofs.ColumnLemmas.{filter_no, filter_yes, or_true, split}
+use Rattle.uncovered_table.proofs.ColumnLemmas.{filter_no, filter_yes}
 
 -- a number that passes a test is among those of a range that do
 among_passing : (f : ℕ → Bool) (a n v : ℕ) → a ≤ v → v < a + n → f v ≡ true → is_among (filter f (range_with_len a n)) v ≡ true
@@ -31,13 +32,13 @@ among_passing f a (suc n) v least most passes =
     elim (cases_eq a v) [
       | inl here ↦
           let first = filter_yes f a (range_with_len (a + 1) n) (ap f here ∙ passes) in
-          ap (λ vs. is_among vs v) first ∙ ap (λ b. b || is_among (filter f (range_with_len (a + 1) n)) v) (ap (λ u. u == v) here ∙ same_test v)
+          ap (λ vs. is_among vs v) first ∙ ap (λ b. b || is_among (filter f (range_with_len (a + 1) n)) v) (ap (λ u. u == v) here ∙ eq-eqb v v refl)
       | inr apart ↦
           let rest = among_passing f (a + 1) n v (omega (arith, least, apart)) (omega (arith, most)) passes in
-          elim (split (f a)) [
+          elim (cases_Bool (f a)) [
             | inl also ↦
                 let first = filter_yes f a (range_with_len (a + 1) n) also in
-                ap (λ vs. is_among vs v) first ∙ ap (λ b. (a == v) || b) rest ∙ or_true (a == v)
+                ap (λ vs. is_among vs v) first ∙ ap (λ b. (a == v) || b) rest ∙ or-true (a == v)
             | inr fails ↦ ap (λ vs. is_among vs v) (filter_no f a (range_with_len (a + 1) n) fails) ∙ rest
           ]
     ]
@@ -67,9 +68,10 @@ pub tuples_in-lists : (m : ModelView) (set : List ℕ) (slice : Slice) → Rises
 tuples_in-lists m set Positive rises part = positive_lists m set rises
 tuples_in-lists m set (Negative q v) rises part = negative_lists_in m set q v rises part
 
-pub length-tuples_in : (m : ModelView) (set : List ℕ) (slice : Slice) → RisesFrom 0 (length m.params) set → length (tuples_in m set slice) ≡ ways_in (plan_of m) set slice
+pub length-tuples_in : (m : ModelView) (set : List ℕ) (slice : Slice) → RisesFrom 0 (length m.params) set → length (tuples_in m set slice)
+    ≡ ways_in (plan_of m) set slice
 length-tuples_in m set slice rises =
-    elim (split (has_part set slice)) [
+    elim (cases_Bool (has_part set slice)) [
       | inl part ↦
           let values = values_in (plan_of m) slice in
           ap length (tuples_in-lists m set slice rises part) ∙ length-map (value_lists values set) (tuple_cells m set) ∙ length-value_lists values set
@@ -103,12 +105,12 @@ start_inside count q v w (u ∷ vs) rest same among =
     elim (cases_eq u v) [
       | inl here ↦
           let test : (u == v) ≡ true = grind (arith, nat_tests) in
-          let stops : goes_on q v (Negative q u) ≡ false = rw (same_test q, test) refl in
+          let stops : goes_on q v (Negative q u) ≡ false = rw (eq-eqb q q refl, test) refl in
           let none : 0 ≡ 0 * w = grind arith in
           ap (sum_by count) (opened ∙ ap (λ b. if b then Negative q u ∷ take_while (goes_on q v) later else []) stops) ∙ rw test none
       | inr apart ↦
           let test : (u == v) ≡ false = grind (arith, nat_tests) in
-          let passes : goes_on q v (Negative q u) ≡ true = rw (same_test q, test) refl in
+          let passes : goes_on q v (Negative q u) ≡ true = rw (eq-eqb q q refl, test) refl in
           let inner = start_inside count q v w vs rest same (subst (λ b. (b || is_among vs v) ≡ true) test among) in
           let more : w + place_of vs v * w ≡ (place_of vs v + 1) * w = grind arith in
           ap (sum_by count) (opened ∙ ap (λ b. if b then Negative q u ∷ take_while (goes_on q v) later else []) passes)
@@ -159,7 +161,8 @@ other_sum m set q none =
 start_from : (m : ModelView) (set : List ℕ) (q v : ℕ) (n p : ℕ) (members : List ℕ) → RisesFrom 0 (length m.params) set → q < length m.params
     → is_among (negative_values m q) v ≡ true → is_among set q ≡ true → RisesFrom p (p + n) members → is_among members q ≡ true
     → ((r : ℕ) → p ≤ r → is_among set r ≡ is_among members r)
-    → sum_by (λ slice. length (tuples_in m set slice)) (take_while (goes_on q v) (flat_map (λ r. map (λ u. Negative r u) (negative_values m r)) (range_with_len p n)))
+    → sum_by (λ slice. length (tuples_in m set slice))
+    (take_while (goes_on q v) (flat_map (λ r. map (λ u. Negative r u) (negative_values m r)) (range_with_len p n)))
     ≡ ways_before (plan_of m) set q members + place_of (negative_values m q) v * ways (values_in (plan_of m) (Negative q 0)) set
 start_from m set q v zero p [] rises below negative part rise among same = absurd (false≢true among)
 start_from m set q v zero p (r ∷ members) rises below negative part rise among same = absurd (omega (arith, rise.0, rise.1))
@@ -177,24 +180,29 @@ start_from m set q v (suc n) p (r ∷ members) rises below negative part rise am
           let inside = start_inside count q v each (negative_values m q) later (λ u. each_negative m set q u rises part) negative in
           let plain : place_of (negative_values m q) v * each ≡ 0 + place_of (negative_values m q) v * each = omega arith in
           ap (λ s. sum_by count (take_while (goes_on q v) (block s ++ later))) here ∙ inside ∙ plain
-          ∙ ap (λ b. (if b then 0 else negative_ways (plan_of m) set r + ways_before (plan_of m) set q members) + place_of (negative_values m q) v * each) (sym test)
+          ∙ ap (λ b. (if b then 0 else negative_ways (plan_of m) set r + ways_before (plan_of m) set q members) + place_of (negative_values m q) v * each)
+          (sym test)
       | inr apart ↦
           let test : (p == q) ≡ false = grind (arith, nat_tests) in
           let past = ap (sum_by count) (start_past q v p (negative_values m p) later test) ∙ sum_by-append count (block p) (take_while (goes_on q v) later) in
           elim (cases_eq r p) [
             | inl own ↦
                 let other : (r == q) ≡ false = grind (arith, nat_tests) in
-                let held : is_among set p ≡ true = same p (omega arith) ∙ rw (ap (λ s. s == p) own ∙ same_test p) refl in
-                let rise_on : RisesFrom (p + 1) (p + 1 + n) members = subst (λ k. RisesFrom (p + 1) k members) end (subst (λ k. RisesFrom (k + 1) (p + suc n) members) own rise.2) in
+                let held : is_among set p ≡ true = same p (omega arith) ∙ rw (ap (λ s. s == p) own ∙ eq-eqb p p refl) refl in
+                let rise_on : RisesFrom (p + 1) (p + 1 + n) members = subst (λ k. RisesFrom (p + 1) k members) end
+                (subst (λ k. RisesFrom (k + 1) (p + suc n) members) own rise.2) in
                 let among_on : is_among members q ≡ true = subst (λ b. (b || is_among members q) ≡ true) other among in
                 let inner = start_from m set q v n (p + 1) members rises below negative part rise_on among_on
                 (λ s least. same s (omega (arith, least)) ∙ ap (λ b. b || is_among members s) (apart_test r s (omega (arith, own, least)))) in
                 let mine = member_sum m set p rises held ∙ ap (negative_ways (plan_of m) set) (sym own) in
-                past ∙ sum_up (sum_by count (block p)) (sum_by count (take_while (goes_on q v) later)) (negative_ways (plan_of m) set r) (ways_before (plan_of m) set q members)
+                past ∙ sum_up (sum_by count (block p)) (sum_by count (take_while (goes_on q v) later)) (negative_ways (plan_of m) set r)
+                (ways_before (plan_of m) set q members)
                 (place_of (negative_values m q) v * each) mine inner
-                ∙ ap (λ b. (if b then 0 else negative_ways (plan_of m) set r + ways_before (plan_of m) set q members) + place_of (negative_values m q) v * each) (sym other)
+                ∙ ap (λ b. (if b then 0 else negative_ways (plan_of m) set r + ways_before (plan_of m) set q members) + place_of
+                (negative_values m q) v * each) (sym other)
             | inr away ↦
-                let rise_on : RisesFrom (p + 1) (p + 1 + n) (r ∷ members) = subst (λ k. RisesFrom (p + 1) k (r ∷ members)) end (omega (arith, rise.0, away), rise.1, rise.2) in
+                let rise_on : RisesFrom (p + 1) (p + 1 + n) (r ∷ members) = subst (λ k. RisesFrom (p + 1) k (r ∷ members)) end
+                (omega (arith, rise.0, away), rise.1, rise.2) in
                 let held : is_among set p ≡ false = same p (omega arith) ∙ not_among_before (r ∷ members) p (p + 1 + n) rise_on in
                 let inner = start_from m set q v n (p + 1) (r ∷ members) rises below negative part rise_on among (λ s least. same s (omega (arith, least))) in
                 past ∙ sum_past (sum_by count (block p)) (sum_by count (take_while (goes_on q v) later)) _ (other_sum m set p held) inner
@@ -222,16 +230,19 @@ pub start_is : (m : ModelView) (set : List ℕ) (slice : Slice) → RisesFrom 0 
     → slice_start m set slice ≡ start_of (plan_of m) set slice
 start_is m set Positive rises own part =
     let count : Slice → ℕ = λ slice. length (tuples_in m set slice) in
-    ap (sum_by count) (take_while-cons (λ before. not (is_slice before Positive)) Positive (flat_map (λ p. map (λ v. Negative p v) (negative_values m p)) (param_numbers m)))
+    ap (sum_by count) (take_while-cons (λ before. not (is_slice before Positive)) Positive
+    (flat_map (λ p. map (λ v. Negative p v) (negative_values m p)) (param_numbers m)))
 start_is m set (Negative q v) rises own part =
     let plan = plan_of m in
     let count : Slice → ℕ = λ slice. length (tuples_in m set slice) in
     let later = flat_map (λ p. map (λ v. Negative p v) (negative_values m p)) (param_numbers m) in
     let among = (own_slice m (Negative q v) own).1 in
     let negative : is_among (negative_values m q) v ≡ true = ap (λ vs. is_among vs v) (sym (own_negatives m q own.0)) ∙ among in
-    let inner = start_from m set q v (length m.params) 0 set rises own.0 negative part (subst (λ k. RisesFrom 0 k set) (sym (zero-add (length m.params))) rises) part (λ r least. refl) in
+    let inner = start_from m set q v (length m.params) 0 set rises own.0 negative part
+    (subst (λ k. RisesFrom 0 k set) (sym (zero-add (length m.params))) rises) part (λ r least. refl) in
     ap (sum_by count) (take_while-cons (goes_on q v) Positive later)
     ∙ sum_by-cons count Positive (take_while (goes_on q v) later)
     ∙ ap (λ n. n + sum_by count (take_while (goes_on q v) later)) (length-tuples_in m set Positive rises)
     ∙ ap (λ n. ways (values_in plan Positive) set + n) inner
-    ∙ ap (λ vs. ways (values_in plan Positive) set + (ways_before plan set q set + place_of vs v * ways (values_in plan (Negative q 0)) set)) (sym (own_negatives m q own.0))
+    ∙ ap (λ vs. ways (values_in plan Positive) set + (ways_before plan set q set + place_of vs v * ways (values_in plan (Negative q 0)) set))
+    (sym (own_negatives m q own.0))

@@ -3,12 +3,14 @@ use Rattle.std.proofs.Common.{inl, inr, ◌≡◌, ℕ, zero, suc, ◌+◌, ◌-
 use Rattle.std.specs.Prelude.{◌==◌, slice_set, if◌then◌else◌}
 use Rattle.std.specs.Option.{option_map_or}
 use Rattle.std.specs.List.{filter, list_any, range_with_len}
-use Rattle.std.proofs.lemmas.Bool.{cases_eq, cases_lt}
+use Rattle.std.proofs.lemmas.Bool.{cases_eq, cases_lt, cases_Bool}
 use Rattle.std.proofs.lemmas.Bool.Decides.{nat_tests}
 use Rattle.std.proofs.lemmas.List.{append-nil, ext_get_or, get_or-map, length-map, get_or_append_left, get_or_push, get_or-set_same, get_or-set_other, length-set}
 use Rattle.std.proofs.lemmas.List.Elements.{filter-append}
 use Rattle.std.proofs.lemmas.List.FromFn.{get_or-map-range_with_len, length-map-range_with_len, length-range_with_len, map-range_with_len_more}
 use Rattle.std.proofs.lemmas.List.Sums.{count_by-le-length, length-filter}
+use Rattle.std.proofs.Math.Bool.{and-true, and-false}
+use Rattle.value_text.proofs.ListLemmas.{range_with_len_more}
 use Rattle.cov_model.specs.declared.slice.Slice.{Slice}
 use Rattle.cov_model.specs.Sound.{ModelView}
 use Rattle.cov_model.specs.Valid.{param_numbers}
@@ -23,8 +25,8 @@ use Rattle.uncovered_table.specs.Bits.{bit_of, first_bit, sets_in_play, tuple_co
 use Rattle.uncovered_table.specs.Digits.{digit_of}
 use Rattle.uncovered_table.specs.Kept.{AreBlocks, IsBlock, play_column, with_set}
 use Rattle.uncovered_table.specs.Places.{ends_with_column, is_place, set_at, slice_places}
-use Rattle.uncovered_table.proofs.BitLemmas.{bit_known, bits_before, first_bit_more, range_next}
-use Rattle.uncovered_table.proofs.ColumnLemmas.{and_false, and_true, filter_no, filter_yes, split}
+use Rattle.uncovered_table.proofs.BitLemmas.{bit_known, bits_before, first_bit_more}
+use Rattle.uncovered_table.proofs.ColumnLemmas.{filter_no, filter_yes}
 use Rattle.uncovered_table.proofs.GainLemmas.{in_play_with}
 use Rattle.uncovered_table.proofs.PlaceLemmas.{places_few}
 
@@ -39,7 +41,8 @@ pub blocks_more : (m : ModelView) (slice : Slice) (set : ℕ) (blocks : List Blo
 blocks_more m slice set blocks block so_far this = record {
   many = length-append blocks (block ∷ []) ∙ ap (λ n. n + 1) so_far.many;
   each = λ s other within. elim (cases_lt s set) [
-    | inl before ↦ subst (IsBlock m slice s) (sym (get_or_append_left blocks (block ∷ []) other s (omega (arith, before, so_far.many)))) (so_far.each s other before)
+    | inl before ↦ subst (IsBlock m slice s) (sym (get_or_append_left blocks (block ∷ []) other s (omega (arith, before, so_far.many))))
+        (so_far.each s other before)
     | inr least ↦
         let here : set ≡ s = omega (arith, least, within) in
         subst (IsBlock m slice s) (sym (get_or_push blocks block other s (so_far.many ∙ here))) (subst (λ k. IsBlock m slice k block) here this)
@@ -60,16 +63,16 @@ is_column o column = option_map_or (λ q. q == column) o false
 
 by_column : (m : ModelView) (slice : Slice) (set column : ℕ) → in_play_with m slice column set ≡ is_column (play_column m slice set) column
 by_column m slice set column =
-    elim (split (nat_lt 0 (tuple_count m slice set))) [
-      | inl filled ↦ rw filled (and_true (ends_with_column m slice column (set_at m set)))
-      | inr empty ↦ rw empty (and_false (ends_with_column m slice column (set_at m set)))
+    elim (cases_Bool (nat_lt 0 (tuple_count m slice set))) [
+      | inl filled ↦ rw filled (and-true (ends_with_column m slice column (set_at m set)))
+      | inr empty ↦ rw empty (and-false (ends_with_column m slice column (set_at m set)))
     ]
 
 one_more : (m : ModelView) (slice : Slice) (set column : ℕ) → first_in_play m slice (set + 1) column
     ≡ first_in_play m slice set column ++ (if is_column (play_column m slice set) column then set ∷ [] else [])
 one_more m slice set column =
     let f = in_play_with m slice column in
-    ap (filter f) (range_next 0 set ∙ ap (λ k. range_with_len 0 set ++ k ∷ []) (zero-add set)) ∙ filter-append f (range_with_len 0 set) (set ∷ [])
+    ap (filter f) (range_with_len_more 0 set ∙ ap (λ k. range_with_len 0 set ++ k ∷ []) (zero-add set)) ∙ filter-append f (range_with_len 0 set) (set ∷ [])
     ∙ ap (λ b. filter f (range_with_len 0 set) ++ (if b then set ∷ [] else [])) (by_column m slice set column)
 
 pub sets_more : (m : ModelView) (slice : Slice) (set : ℕ) → with_set (play_column m slice set) set (map (first_in_play m slice set) (param_numbers m))
@@ -79,7 +82,8 @@ sets_more m slice set = by_option (play_column m slice set) (one_more m slice se
     count : ℕ
     count = length m.params
 
-    by_option : (o : Option ℕ) → ((column : ℕ) → first_in_play m slice (set + 1) column ≡ first_in_play m slice set column ++ (if is_column o column then set ∷ [] else []))
+    by_option : (o : Option ℕ) → ((column : ℕ) → first_in_play m slice (set + 1) column ≡ first_in_play m slice set column
+        ++ (if is_column o column then set ∷ [] else []))
         → with_set o set (map (first_in_play m slice set) (param_numbers m)) ≡ map (first_in_play m slice (set + 1)) (param_numbers m)
     by_option None more = map_same (first_in_play m slice set) (first_in_play m slice (set + 1)) (param_numbers m)
         (λ column. sym (more column ∙ append-nil (first_in_play m slice set column)))
@@ -93,7 +97,8 @@ sets_more m slice set = by_option (play_column m slice set) (one_more m slice se
         ext_get_or [] changed after (same_long ∙ long ∙ sym also)
         (λ i within.
         let inside : i < length m.params = omega (arith, within, same_long, long) in
-        let was : get_or before i [] ≡ first_in_play m slice set i = get_or-map-range_with_len (first_in_play m slice set) 0 (length m.params) i i [] inside (zero-add i) in
+        let was : get_or before i [] ≡ first_in_play m slice set i = get_or-map-range_with_len (first_in_play m slice set) 0 (length m.params) i i [] inside
+        (zero-add i) in
         let is : get_or after i [] ≡ first_in_play m slice (set + 1) i =
         get_or-map-range_with_len (first_in_play m slice (set + 1)) 0 (length m.params) i i [] inside (zero-add i) in
         elim (cases_eq i p) [
@@ -110,10 +115,11 @@ sets_more m slice set = by_option (play_column m slice set) (one_more m slice se
         ])
 
 -- the digit of a value is the number of the values before it that are the slice's too
-pub digit_passing : (f : ℕ → Bool) (n v : ℕ) → v < n → digit_of (filter f (range_with_len 0 n)) v ≡ (if f v then Some (length (filter f (range_with_len 0 v))) else None)
+pub digit_passing : (f : ℕ → Bool) (n v : ℕ) → v < n → digit_of (filter f (range_with_len 0 n)) v
+    ≡ (if f v then Some (length (filter f (range_with_len 0 v))) else None)
 digit_passing f n v below =
     let values = filter f (range_with_len 0 n) in
-    elim (split (f v)) [
+    elim (cases_Bool (f v)) [
       | inl passing ↦
           let at = place_passing f 0 v n v (zero-add v) passing below in
           let least = at.1 in
@@ -123,19 +129,25 @@ digit_passing f n v below =
       | inr fails ↦
           let past = place_failing f 0 n v fails in
           let outside : nat_lt (place_of values v) (length values) ≡ false = grind (arith, nat_tests) in
-          ap (λ b. if b then Some (place_of values v) else None) outside ∙ ap (λ b. if b then Some (length (filter f (range_with_len 0 v))) else None) (sym fails)
+          ap (λ b. if b then Some (place_of values v) else None) outside ∙ ap (λ b. if b then Some (length (filter f (range_with_len 0 v))) else None)
+          (sym fails)
     ]
   where
     place_failing : (f : ℕ → Bool) (a n v : ℕ) → f v ≡ false → place_of (filter f (range_with_len a n)) v ≡ length (filter f (range_with_len a n))
     place_failing f a zero v fails = refl
     place_failing f a (suc n) v fails =
         let rest = place_failing f (a + 1) n v fails in
-        elim (split (f a)) [
+        elim (cases_Bool (f a)) [
           | inl passing ↦
-              let differs : (a == v) ≡ false = elim (cases_eq a v) [ inl same ↦ absurd (true_false (sym passing ∙ ap f same ∙ fails)) | inr apart ↦ grind (arith, nat_tests) ] in
+              let differs : (a == v) ≡ false = elim (cases_eq a v) [
+                | inl same ↦ absurd (true_false (sym passing ∙ ap f same ∙ fails))
+                | inr apart ↦ grind
+                    (arith, nat_tests)
+              ] in
               let more : length (filter f (range_with_len (a + 1) n)) + 1 ≡ suc (length (filter f (range_with_len (a + 1) n))) = omega arith in
               let opened = filter_yes f a (range_with_len (a + 1) n) passing in
-              ap (λ vs. place_of vs v) opened ∙ ap (λ b. if b then 0 else place_of (filter f (range_with_len (a + 1) n)) v + 1) differs ∙ ap (λ k. k + 1) rest ∙ more
+              ap (λ vs. place_of vs v) opened ∙ ap (λ b. if b then 0 else place_of (filter f (range_with_len (a + 1) n)) v + 1) differs
+              ∙ ap (λ k. k + 1) rest ∙ more
               ∙ ap length (sym opened)
           | inr other ↦ let opened = filter_no f a (range_with_len (a + 1) n) other in ap (λ vs. place_of vs v) opened ∙ rest ∙ ap length (sym opened)
         ]
@@ -144,7 +156,8 @@ digit_passing f n v below =
         true_false same = cc
 
     place_passing : (f : ℕ → Bool) (a k n v : ℕ) → a + k ≡ v → f v ≡ true → k < n
-        → (place_of (filter f (range_with_len a n)) v ≡ length (filter f (range_with_len a k))) × (place_of (filter f (range_with_len a n)) v < length (filter f (range_with_len a n)))
+        → (place_of (filter f (range_with_len a n)) v ≡ length (filter f (range_with_len a k)))
+        × (place_of (filter f (range_with_len a n)) v < length (filter f (range_with_len a n)))
     place_passing f a k zero v at passing below = absurd (omega (arith, below))
     place_passing f a zero (suc n) v at passing below =
         let here : a ≡ v = omega (arith, at) in
@@ -156,7 +169,7 @@ digit_passing f n v below =
     place_passing f a (suc k) (suc n) v at passing below =
         let rest = place_passing f (a + 1) k n v (omega (arith, at)) passing (omega (arith, below)) in
         let differs : (a == v) ≡ false = grind (arith, nat_tests) in
-        elim (split (f a)) [
+        elim (cases_Bool (f a)) [
           | inl also ↦
               let opened = filter_yes f a (range_with_len (a + 1) n) also in
               let front = filter_yes f a (range_with_len (a + 1) k) also in
@@ -171,7 +184,8 @@ digit_passing f n v below =
         ]
 
 -- one value more
-pub digits_more : (f : ℕ → Bool) (n v next : ℕ) (own : Bool) (digits longer : List (Option ℕ)) → v < n → own ≡ f v → next ≡ length (filter f (range_with_len 0 v))
+pub digits_more : (f : ℕ → Bool) (n v next : ℕ) (own : Bool) (digits longer : List (Option ℕ)) → v < n → own ≡ f v
+    → next ≡ length (filter f (range_with_len 0 v))
     → longer ≡ digits ++ (if own then Some next else None) ∷ [] → digits ≡ map (digit_of (filter f (range_with_len 0 n))) (range_with_len 0 v)
     → longer ≡ map (digit_of (filter f (range_with_len 0 n))) (range_with_len 0 (v + 1))
 digits_more f n v next own digits longer below is so_far pushed same =
@@ -186,7 +200,8 @@ next_more f v next own is so_far =
     let one : length (if f v then v ∷ [] else []) ≡ (if f v then 1 else 0) = by_test (f v) in
     ap (λ b. next + (if b then 1 else 0)) is ∙ ap (λ k. next + k) (sym one) ∙ ap (λ k. k + length (if f v then v ∷ [] else [])) so_far
     ∙ sym (length-append (filter f (range_with_len 0 v)) (if f v then v ∷ [] else []))
-    ∙ ap length (sym (filter-append f (range_with_len 0 v) (v ∷ [])) ∙ ap (filter f) (sym (range_next 0 v ∙ ap (λ k. range_with_len 0 v ++ k ∷ []) (zero-add v))))
+    ∙ ap length (sym (filter-append f (range_with_len 0 v) (v ∷ []))
+    ∙ ap (filter f) (sym (range_with_len_more 0 v ∙ ap (λ k. range_with_len 0 v ++ k ∷ []) (zero-add v))))
   where
     by_test : (b : Bool) → length (if b then v ∷ [] else []) ≡ (if b then 1 else 0)
     by_test true = refl
@@ -197,7 +212,8 @@ pub lists_long : {V X : Type 0} (items : V → List X) (f : ℕ → List X) (n :
 lists_long items f n lists same = sym (length-map lists items) ∙ ap length same ∙ length-map-range_with_len f 0 n
 
 -- a list that is read from a table of lists
-pub read_list : {V X : Type 0} (items : V → List X) (f : ℕ → List X) (n p : ℕ) (lists : List V) (list : V) → map items lists ≡ map f (range_with_len 0 n) → p < n
+pub read_list : {V X : Type 0} (items : V → List X) (f : ℕ → List X) (n p : ℕ) (lists : List V) (list : V) → map items lists ≡ map f (range_with_len 0 n)
+    → p < n
     → list ≡ get_or lists p list → items list ≡ f p
 read_list items f n p lists list same within read =
     ap items read ∙ sym (get_or-map items lists p list [] (omega (arith, within, lists_long items f n lists same)))
@@ -216,7 +232,8 @@ block_bit m slice set rank block kept own is listed =
     let known = bit_known m slice (set, rank) listed in
     let some : 0 < block.count = omega (arith, is.count, known.first, known.below) in
     let start = is.start some in
-    let value : block.first + (rank - block.start) ≡ bit_of m slice (set, rank) = ap (λ f. f + (rank - block.start)) is.first ∙ ap (λ s. first_bit m slice set + (rank - s)) start in
+    let value : block.first + (rank - block.start) ≡ bit_of m slice (set, rank) = ap (λ f. f + (rank - block.start)) is.first
+    ∙ ap (λ s. first_bit m slice set + (rank - s)) start in
     record {
       least = omega (arith, start, known.least);
       value = value;
@@ -228,7 +245,13 @@ block_bit m slice set rank block kept own is listed =
 pub play_few : (m : ModelView) (slice : Slice) (column : ℕ) → IsKept (plan_of m) → length (sets_in_play m slice column) ≤ 2 ^ 20
 play_few m slice column kept =
     let sets = range_with_len 0 (length (demanded_sets m)) in
-    omega (arith, length-filter (in_play_with m slice column) sets, count_by-le-length (in_play_with m slice column) sets, length-range_with_len 0 (length (demanded_sets m)), kept.few)
+    omega (
+      arith,
+      length-filter (in_play_with m slice column) sets,
+      count_by-le-length (in_play_with m slice column) sets,
+      length-range_with_len 0 (length (demanded_sets m)),
+      kept.few,
+    )
 
 -- the last block ends where the bits do
 pub last_block : (m : ModelView) (slice : Slice) (sets : ℕ) (block : Block) → sets ≡ length (demanded_sets m) → 0 < sets → IsBlock m slice (sets - 1) block

@@ -22,12 +22,13 @@ use Rattle.uncovered_table.specs.Digits.{cell_digit, digit_of, joined, number_of
 use Rattle.uncovered_table.specs.Kept.{digits_of}
 use Rattle.uncovered_table.specs.Open.{gain}
 use Rattle.uncovered_table.specs.Places.{set_at}
-use Rattle.uncovered_table.proofs.DigitLemmas.{digit_below, same_number}
+use Rattle.uncovered_table.proofs.DigitLemmas.{digit_below, same_number, joined-None}
 use Rattle.uncovered_table.proofs.GainLemmas.{all_in_play, held_sum}
 use Rattle.uncovered_table.proofs.LineLemmas.{column_among}
 
 -- a member without a digit leaves no number
-member_none : (values : ℕ → List ℕ) (digits : ℕ → Option ℕ) (set : List ℕ) (p : ℕ) → is_among set p ≡ true → digits p ≡ None → number_of values digits set ≡ None
+member_none : (values : ℕ → List ℕ) (digits : ℕ → Option ℕ) (set : List ℕ) (p : ℕ) → is_among set p ≡ true → digits p ≡ None → number_of values digits set
+    ≡ None
 member_none values digits [] p among none = absurd (false≢true among)
 member_none values digits (q ∷ set) p among none =
     elim (cases_eq q p) [
@@ -35,14 +36,11 @@ member_none values digits (q ∷ set) p among none =
       | inr apart ↦
           let test : (q == p) ≡ false = grind (arith, nat_tests) in
           ap (joined (digits q) (ways values set)) (member_none values digits set p (subst (λ b. (b || is_among set p) ≡ true) test among) none)
-          ∙ without (digits q) (ways values set)
+          ∙ joined-None (digits q) (ways values set)
     ]
-  where
-    without : (digit : Option ℕ) (w : ℕ) → joined digit w None ≡ None
-    without None w = refl
-    without (Some d) w = refl
 
-pub held_none : (m : ModelView) (slice : Slice) (digits : ℕ → Option ℕ) (column set : ℕ) → InPlay m slice column set → digits column ≡ None → held_bit m slice digits set ≡ None
+pub held_none : (m : ModelView) (slice : Slice) (digits : ℕ → Option ℕ) (column set : ℕ) → InPlay m slice column set → digits column ≡ None
+    → held_bit m slice digits set ≡ None
 held_none m slice digits column set play none =
     ap (option_map (λ n. first_bit m slice set + n)) (member_none (own_values m slice) digits (set_at m set) column (column_among m slice column set play) none)
 
@@ -56,7 +54,8 @@ given_digit values cells column v p within =
     elim (cases_eq p column) [
       | inl here ↦
           let test : (p == column) ≡ true = grind (arith, nat_tests) in
-          ap (cell_digit values (with_value cells column v)) here ∙ ap (λ o. option_and_then (digit_of (values column)) o) (get_or-set_same cells column (Some v) None within)
+          ap (cell_digit values (with_value cells column v)) here ∙ ap (λ o. option_and_then (digit_of (values column)) o)
+          (get_or-set_same cells column (Some v) None within)
           ∙ ap (λ b. if b then digit_of (values column) v else cell_digit values cells p) (sym test)
       | inr apart ↦
           let test : (p == column) ≡ false = grind (arith, nat_tests) in
@@ -85,7 +84,8 @@ sum_within f g (x ∷ xs) same =
     omega (arith, sum_by-cons f x xs, sum_by-cons g x xs, here, rest)
 
 -- the gain of a value, set by set
-pub gain_is : (m : ModelView) (slice : Slice) (bits : List Bool) (cells : List (Option ℕ)) (column v : ℕ) → IsKept (plan_of m) → IsSliceOf m slice → length cells ≡ length m.params
+pub gain_is : (m : ModelView) (slice : Slice) (bits : List Bool) (cells : List (Option ℕ)) (column v : ℕ) → IsKept (plan_of m) → IsSliceOf m slice
+    → length cells ≡ length m.params
     → column < length m.params → sum_by (value_held m slice bits cells column v) (sets_in_play m slice column) ≡ gain (marked m slice bits) cells column v
 gain_is m slice bits cells column v kept own long within =
     let values = own_values m slice in
@@ -120,31 +120,38 @@ sum_zero : (f : ℕ → ℕ) (xs : List ℕ) → ((x : ℕ) → f x ≡ 0) → s
 sum_zero f [] none = refl
 sum_zero f (x ∷ xs) none = (let rest = sum_zero f xs none in omega (arith, sum_by-cons f x xs, none x, rest))
 
-pub digit_gain : (m : ModelView) (slice : Slice) (bits : List Bool) (cells : List (Option ℕ)) (column v d : ℕ) (sets : List ℕ) → digit_of (own_values m slice column) v ≡ Some d
+pub digit_gain : (m : ModelView) (slice : Slice) (bits : List Bool) (cells : List (Option ℕ)) (column v d : ℕ) (sets : List ℕ)
+    → digit_of (own_values m slice column) v ≡ Some d
     → sum_by (held_count m slice bits (with_digit (cell_digit (own_values m slice) cells) column d)) sets ≡ sum_by (value_held m slice bits cells column v) sets
 digit_gain m slice bits cells column v d sets is =
     sum_same (held_count m slice bits (with_digit (cell_digit (own_values m slice) cells) column d)) (value_held m slice bits cells column v) sets
     (λ set. ap (λ o. bit_count bits (option_and_then (λ d. held_bit m slice (with_digit (cell_digit (own_values m slice) cells) column d) set) o)) (sym is))
 
-pub no_gain : (m : ModelView) (slice : Slice) (bits : List Bool) (cells : List (Option ℕ)) (column v : ℕ) (sets : List ℕ) → digit_of (own_values m slice column) v ≡ None
+pub no_gain : (m : ModelView) (slice : Slice) (bits : List Bool) (cells : List (Option ℕ)) (column v : ℕ) (sets : List ℕ)
+    → digit_of (own_values m slice column) v ≡ None
     → 0 ≡ sum_by (value_held m slice bits cells column v) sets
 no_gain m slice bits cells column v sets is =
     sym (sum_zero (value_held m slice bits cells column v) sets
     (λ set. ap (λ o. bit_count bits (option_and_then (λ d. held_bit m slice (with_digit (cell_digit (own_values m slice) cells) column d) set) o)) is))
 
 -- what closing a row clears
-pub cleared_same : (m : ModelView) (slice : Slice) (f g : ℕ → Option ℕ) (bits : List Bool) (sets : List ℕ) → ((p : ℕ) → f p ≡ g p) → all_cleared m slice f bits sets ≡ all_cleared m slice g bits sets
+pub cleared_same : (m : ModelView) (slice : Slice) (f g : ℕ → Option ℕ) (bits : List Bool) (sets : List ℕ) → ((p : ℕ) → f p ≡ g p)
+    → all_cleared m slice f bits sets ≡ all_cleared m slice g bits sets
 cleared_same m slice f g bits [] same = refl
 cleared_same m slice f g bits (set ∷ sets) same =
-    ap (λ o. all_cleared m slice f (cleared o bits) sets) (held_same m slice f g set same) ∙ cleared_same m slice f g (cleared (held_bit m slice g set) bits) sets same
+    ap (λ o. all_cleared m slice f (cleared o bits) sets) (held_same m slice f g set same)
+    ∙ cleared_same m slice f g (cleared (held_bit m slice g set) bits) sets same
 
-pub cleared_own : (m : ModelView) (slice : Slice) (cells : List (Option ℕ)) (bits : List Bool) (column d : ℕ) (sets : List ℕ) → cell_digit (own_values m slice) cells column ≡ Some d
-    → all_cleared m slice (with_digit (cell_digit (own_values m slice) cells) column d) bits sets ≡ all_cleared m slice (cell_digit (own_values m slice) cells) bits sets
+pub cleared_own : (m : ModelView) (slice : Slice) (cells : List (Option ℕ)) (bits : List Bool) (column d : ℕ) (sets : List ℕ)
+    → cell_digit (own_values m slice) cells column ≡ Some d
+    → all_cleared m slice (with_digit (cell_digit (own_values m slice) cells) column d) bits sets
+    ≡ all_cleared m slice (cell_digit (own_values m slice) cells) bits sets
 cleared_own m slice cells bits column d sets is =
     cleared_same m slice (with_digit (cell_digit (own_values m slice) cells) column d) (cell_digit (own_values m slice) cells) bits sets
     (λ p. own_digit (own_values m slice) cells column d p is)
 
-none_cleared : (m : ModelView) (slice : Slice) (digits : ℕ → Option ℕ) (bits : List Bool) (column : ℕ) (sets : List ℕ) → All (InPlay m slice column) sets → digits column ≡ None
+none_cleared : (m : ModelView) (slice : Slice) (digits : ℕ → Option ℕ) (bits : List Bool) (column : ℕ) (sets : List ℕ) → All (InPlay m slice column) sets
+    → digits column ≡ None
     → all_cleared m slice digits bits sets ≡ bits
 none_cleared m slice digits bits column [] play none = refl
 none_cleared m slice digits bits column (set ∷ sets) play none =
@@ -170,7 +177,8 @@ pub value_line : (m : ModelView) (slice : Slice) (bits : List Bool) (cells : Lis
     → bit_count bits (line_bit line (digit_of (own_values m slice column) v)) ≡ value_held m slice bits cells column v set
 value_line m slice bits cells column v set line value = by_digit (digit_of (own_values m slice column) v)
   where
-    by_digit : (o : Option ℕ) → bit_count bits (line_bit line o) ≡ bit_count bits (option_and_then (λ d. held_bit m slice (with_digit (cell_digit (own_values m slice) cells) column d) set) o)
+    by_digit : (o : Option ℕ) → bit_count bits (line_bit line o)
+        ≡ bit_count bits (option_and_then (λ d. held_bit m slice (with_digit (cell_digit (own_values m slice) cells) column d) set) o)
     by_digit None = refl
     by_digit (Some d) = ap (bit_count bits) (sym (value d))
 
@@ -179,13 +187,15 @@ pub digit_from : (m : ModelView) (slice : Slice) (column from i : ℕ) → from 
     → get_or (drop from (digits_of m slice column)) i None ≡ digit_of (own_values m slice column) (from + i)
 digit_from m slice column from i within =
     get_or-drop from (digits_of m slice column) i None
-    ∙ get_or-map-range_with_len (digit_of (own_values m slice column)) 0 (length (param_at m.params column).values) (from + i) (from + i) None within (zero-add (from + i))
+    ∙ get_or-map-range_with_len (digit_of (own_values m slice column)) 0 (length (param_at m.params column).values) (from + i) (from + i) None within
+    (zero-add (from + i))
 
 pub digits_long : (m : ModelView) (slice : Slice) (column : ℕ) → length (digits_of m slice column) ≡ length (param_at m.params column).values
 digits_long m slice column = length-map-range_with_len (digit_of (own_values m slice column)) 0 (length (param_at m.params column).values)
 
 -- each of these digits has a bit on the line
-pub bits_within : (m : ModelView) (slice : Slice) (column from size : ℕ) (line : Line) → ((d : ℕ) → d < length (own_values m slice column) → line.first + d * line.step < size)
+pub bits_within : (m : ModelView) (slice : Slice) (column from size : ℕ) (line : Line)
+    → ((d : ℕ) → d < length (own_values m slice column) → line.first + d * line.step < size)
     → All (λ digit. IfSome digit (λ d. line.first + d * line.step < size)) (drop from (digits_of m slice column))
 bits_within m slice column from size line within =
     let values = own_values m slice column in
@@ -198,6 +208,8 @@ bits_within m slice column from size line within =
     by_digit v None is = tt
     by_digit v (Some d) is = within d (digit_below (own_values m slice column) v d is)
 
-pub value_most : (m : ModelView) (slice : Slice) (bits : List Bool) (cells : List (Option ℕ)) (column v set : ℕ) → value_held m slice bits cells column v set ≤ 1
+pub value_most : (m : ModelView) (slice : Slice) (bits : List Bool) (cells : List (Option ℕ)) (column v set : ℕ) → value_held m slice bits cells column v set
+    ≤ 1
 value_most m slice bits cells column v set =
-    count_most bits (option_and_then (λ d. held_bit m slice (with_digit (cell_digit (own_values m slice) cells) column d) set) (digit_of (own_values m slice column) v))
+    count_most bits (option_and_then (λ d. held_bit m slice (with_digit (cell_digit (own_values m slice) cells) column d) set)
+    (digit_of (own_values m slice column) v))

@@ -84,4 +84,5 @@ line_bit line digit = option_map (λ d. line.first + d * line.step) digit
 -- how many open tuples of a set cells contain with this value in a column: one or none
 abbrev pub value_held : ModelView → Slice → List Bool → List (Option ℕ) → ℕ → ℕ → ℕ → ℕ
 value_held m slice bits cells column v set =
-    bit_count bits (option_and_then (λ d. held_bit m slice (with_digit (cell_digit (own_values m slice) cells) column d) set) (digit_of (own_values m slice column) v))
+    bit_count bits (option_and_then (λ d. held_bit m slice (with_digit (cell_digit (own_values m slice) cells) column d) set)
+    (digit_of (own_values m slice column) v))

@@ -55,10 +55,11 @@ fn held_bit(
     requires set { InPlay sets.now.model sets.now.slice column set }
     requires cells { IsOfSlice sets.now.model sets.now.slice cells.now }
     requires digit { digit < length (own_values sets.now.model sets.now.slice column) }
-    ensures value { result ≡ held_bit sets.now.model sets.now.slice (with_digit (cell_digit (own_values sets.now.model sets.now.slice) cells.now) column digit) set }
+    ensures value { result ≡ held_bit sets.now.model sets.now.slice
+        (with_digit (cell_digit (own_values sets.now.model sets.now.slice) cells.now) column digit) set }
     ensures within { IfSome result (λ b. b < length (slice_places sets.now.model sets.now.slice)) }
 {
-    sets.keeps();
+    sets.assert_invariant();
     let line = sets.line(set, column, cells)?;
     Some(line.first + u32::from(digit) * line.step)
 }
@@ -75,7 +76,8 @@ pub(crate) fn count_held(
     requires column { column < length sets.now.model.params }
     requires digit { digit < length (own_values sets.now.model sets.now.slice column) }
     requires bits { length bits.now ≡ length (slice_places sets.now.model sets.now.slice) }
-    ensures { result ≡ sum_by (held_count sets.now.model sets.now.slice bits.now (with_digit (cell_digit (own_values sets.now.model sets.now.slice) cells.now) column digit)) (sets_in_play sets.now.model sets.now.slice column) }
+    ensures { result ≡ sum_by (held_count sets.now.model sets.now.slice bits.now
+        (with_digit (cell_digit (own_values sets.now.model sets.now.slice) cells.now) column digit)) (sets_in_play sets.now.model sets.now.slice column) }
 {
     let in_play = sets.in_play(column);
     let mut count: u32 = 0;
@@ -97,7 +99,9 @@ pub(crate) fn clear_held(
     requires column { column < length sets.now.model.params }
     requires digit { digit < length (own_values sets.now.model sets.now.slice column) }
     requires bits { length bits.old ≡ length (slice_places sets.now.model sets.now.slice) }
-    ensures { bits.new ≡ all_cleared sets.now.model sets.now.slice (with_digit (cell_digit (own_values sets.now.model sets.now.slice) cells.now) column digit) bits.old (sets_in_play sets.now.model sets.now.slice column) }
+    ensures { bits.new ≡ all_cleared sets.now.model sets.now.slice
+        (with_digit (cell_digit (own_values sets.now.model sets.now.slice) cells.now) column digit) bits.old
+        (sets_in_play sets.now.model sets.now.slice column) }
 {
     let in_play = sets.in_play(column);
     for set in in_play {
@@ -112,7 +116,8 @@ fn add_line(bits: &BitTable, line: Line, digits: &[Option<u16>], scores: &mut [u
     requires few { length bits.now ≤ 2 ^ 26 }
     requires within { All (λ digit. IfSome digit (λ d. line.first + d * line.step < length bits.now)) digits.now }
     ensures long { length scores.new ≡ length scores.old }
-    ensures each { (i : ℕ) → i < length scores.old → slice_index_or scores.new i 0 ≡ slice_index_or scores.old i 0 + bit_count bits.now (line_bit line (slice_index_or digits.now i None)) }
+    ensures each { (i : ℕ) → i < length scores.old → slice_index_or scores.new i 0 ≡ slice_index_or scores.old i 0 + bit_count bits.now
+        (line_bit line (slice_index_or digits.now i None)) }
 {
     for i in 0..scores.len() {
         scores[i] += count_at(bits, bit_at(line, digits[i]));
@@ -145,9 +150,10 @@ fn add_set(
     requires bits { length bits.now ≡ length (slice_places sets.now.model sets.now.slice) }
     requires low { All (λ score. score < 2 ^ 31) scores.old }
     ensures long { length scores.new ≡ length scores.old }
-    ensures each { (i : ℕ) → i < length scores.old → slice_index_or scores.new i 0 ≡ slice_index_or scores.old i 0 + value_held sets.now.model sets.now.slice bits.now cells.now column (from + i) set }
+    ensures each { (i : ℕ) → i < length scores.old → slice_index_or scores.new i 0
+        ≡ slice_index_or scores.old i 0 + value_held sets.now.model sets.now.slice bits.now cells.now column (from + i) set }
 {
-    sets.keeps();
+    sets.assert_invariant();
     if let Some(line) = sets.line(set, column, cells) {
         let digits = from_value(sets.digits(column), from);
         add_line(bits, line, digits, scores);
@@ -170,7 +176,8 @@ pub(crate) fn add_held(
     requires bits { length bits.now ≡ length (slice_places sets.now.model sets.now.slice) }
     requires zero { All (λ score. score ≡ 0) scores.old }
     ensures long { length scores.new ≡ length scores.old }
-    ensures each { (i : ℕ) → i < length scores.old → slice_index_or scores.new i 0 ≡ sum_by (value_held sets.now.model sets.now.slice bits.now cells.now column (from + i)) (sets_in_play sets.now.model sets.now.slice column) }
+    ensures each { (i : ℕ) → i < length scores.old → slice_index_or scores.new i 0
+        ≡ sum_by (value_held sets.now.model sets.now.slice bits.now cells.now column (from + i)) (sets_in_play sets.now.model sets.now.slice column) }
 {
     let in_play = sets.in_play(column);
     for set in in_play {

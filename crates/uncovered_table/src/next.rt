@@ -45,7 +45,7 @@ fn next_in(
     ensures value { result ≡ next_in sets.now.model sets.now.slice bits.now from set }
     ensures own { IfSome result (λ place. list_any (is_place place) (slice_places sets.now.model sets.now.slice) ≡ true) }
 {
-    sets.keeps();
+    sets.assert_invariant();
     let block = sets.block(set);
     let low = block.first + skipped(block.start, from, set);
     match bits.next_set(low, block.first + block.count) {

@@ -25,12 +25,12 @@ pub(crate) struct SlicePart<'a> {
 
 impl<'a> Model for SlicePart<'a> {
     ghost use Rattle.std.specs.Coded.{codes};
-    ghost use Rattle.cov_model.specs.contracts.constraint.Pred as predicate;
+    ghost use Rattle.cov_model.specs.contracts.model.TestModel as tested;
     ghost use Rattle.uncovered_table.specs.Kept.{IsPartOf, SliceView};
 
     ghost Value = { SliceView };
 
-    ghost coded = { Prim.hlevel (codes, predicate.the_row.coded) };
+    ghost coded = { Prim.hlevel (codes, tested.the_row.coded) };
 
     ghost view = { λ a. record { model = a.of.now; slice = a.slice } };
 
@@ -90,14 +90,14 @@ impl<'a> SlicePart<'a> {
         self.of
     }
 
-    // What is kept of the model, its plan and the slice.
-    pub(crate) fn keeps(&self)
+    // Says again what is kept of the model, its plan and the slice. Does nothing when it runs.
+    pub(crate) fn assert_invariant(&self)
         ensures sound { IsSound self.now.model }
         ensures kept { IsKept (plan_of self.now.model) }
         ensures own { IsSliceOf self.now.model self.now.slice }
     {
-        let _ = self.of.params();
-        let _ = self.by.set_count();
+        self.of.assert_invariant();
+        self.by.assert_invariant();
     }
 
     // The number of parameters.
@@ -122,8 +122,8 @@ impl<'a> SlicePart<'a> {
         ensures exist { All (λ p. p < length self.now.model.params) result.now }
         ensures few { length result.now ≤ 256 }
     {
-        let _ = self.of.params();
-        let _ = self.by.set_count();
+        self.of.assert_invariant();
+        self.by.assert_invariant();
         self.by.members(set)
     }
 
@@ -133,7 +133,7 @@ impl<'a> SlicePart<'a> {
         ensures count { result.1 ≡ tuple_count self.now.model self.now.slice set }
         ensures start { 0 < result.1 → result.0 ≡ slice_start self.now.model (set_at self.now.model set) self.now.slice }
     {
-        let _ = self.by.set_count();
+        self.by.assert_invariant();
         self.by.slice_ranks(set, self.slice)
     }
 
@@ -143,7 +143,7 @@ impl<'a> SlicePart<'a> {
         ensures value { result ≡ last_column self.now.model self.now.slice (set_at self.now.model set) }
         ensures own { IfSome result (λ p. p < length self.now.model.params) }
     {
-        let _ = self.by.set_count();
+        self.by.assert_invariant();
         last_member(self.by, self.slice, self.members(set))
     }
 
@@ -152,7 +152,7 @@ impl<'a> SlicePart<'a> {
         requires { p < length self.now.model.params }
         ensures { result ≡ length (own_values self.now.model self.now.slice p) }
     {
-        self.keeps();
+        self.assert_invariant();
         self.by.value_count(p, self.slice) as u32
     }
 

@@ -31,12 +31,12 @@ pub(crate) struct SliceSets<'a> {
 impl<'a> Model for SliceSets<'a> {
     ghost use Rattle.std.specs.Coded.{codes};
     ghost use Rattle.std.specs.Prelude.{map};
-    ghost use Rattle.cov_model.specs.contracts.constraint.Pred as predicate;
+    ghost use Rattle.cov_model.specs.contracts.model.TestModel as tested;
     ghost use Rattle.uncovered_table.specs.Kept.{AreTablesOf, SliceView};
 
     ghost Value = { SliceView };
 
-    ghost coded = { Prim.hlevel (codes, predicate.the_row.coded) };
+    ghost coded = { Prim.hlevel (codes, tested.the_row.coded) };
 
     ghost view = { λ a. a.part };
 
@@ -66,21 +66,21 @@ impl<'a> SliceSets<'a> {
         self.part.model()
     }
 
-    // What is kept of the model, its plan and the slice.
-    pub(crate) fn keeps(&self)
+    // Says again what is kept of the model, its plan and the slice. Does nothing when it runs.
+    pub(crate) fn assert_invariant(&self)
         ensures sound { IsSound self.now.model }
         ensures kept { IsKept (plan_of self.now.model) }
         ensures own { IsSliceOf self.now.model self.now.slice }
         ensures few { length (slice_places self.now.model self.now.slice) ≤ 2 ^ 26 }
     {
-        self.part.keeps();
+        self.part.assert_invariant();
     }
 
     // The number of tuples of the slice.
     pub(crate) fn size(&self) -> u32
         ensures { result ≡ length (slice_places self.now.model self.now.slice) }
     {
-        self.keeps();
+        self.assert_invariant();
         let sets = self.part.set_count();
         if sets == 0 {
             return 0;
@@ -103,7 +103,7 @@ impl<'a> SliceSets<'a> {
         ensures value { result ≡ bit_of self.now.model self.now.slice (set, rank) }
         ensures within { result < length (slice_places self.now.model self.now.slice) }
     {
-        self.keeps();
+        self.assert_invariant();
         let block = self.block(set);
         block.first + (rank - block.start)
     }
@@ -115,7 +115,7 @@ impl<'a> SliceSets<'a> {
         ensures few { length result.now ≤ 2 ^ 20 }
         ensures each { All (InPlay self.now.model self.now.slice column) result.now }
     {
-        self.keeps();
+        self.assert_invariant();
         self.tables.plays[column as usize].as_slice()
     }
 
@@ -169,7 +169,8 @@ impl<'a> SliceSets<'a> {
         requires own { 0 < length (own_values self.now.model self.now.slice column) }
         requires some { 0 < ways (own_values self.now.model self.now.slice) members.now }
         requires few { ways (own_values self.now.model self.now.slice) members.now ≤ 2 ^ 26 }
-        ensures number { option_map (λ line. line.first) result ≡ number_of (own_values self.now.model self.now.slice) (with_digit (cell_digit (own_values self.now.model self.now.slice) cells.now) column 0) members.now }
+        ensures number { option_map (λ line. line.first) result ≡ number_of (own_values self.now.model self.now.slice)
+            (with_digit (cell_digit (own_values self.now.model self.now.slice) cells.now) column 0) members.now }
         ensures step { IfSome result (λ line. line.step ≡ step_of (own_values self.now.model self.now.slice) column members.now) }
     {
         let mut number: u32 = 0;
@@ -196,10 +197,13 @@ impl<'a> SliceSets<'a> {
     pub(crate) fn line(&self, set: u32, column: ParamNo, cells: &Cells) -> Option<Line>
         requires set { InPlay self.now.model self.now.slice column set }
         requires cells { IsOfSlice self.now.model self.now.slice cells.now }
-        ensures value { (d : ℕ) → held_bit self.now.model self.now.slice (with_digit (cell_digit (own_values self.now.model self.now.slice) cells.now) column d) set ≡ option_map (λ line. line.first + d * line.step) result }
-        ensures within { IfSome result (λ line. (d : ℕ) → d < length (own_values self.now.model self.now.slice column) → line.first + d * line.step < length (slice_places self.now.model self.now.slice)) }
+        ensures value { (d : ℕ) → held_bit self.now.model self.now.slice
+            (with_digit (cell_digit (own_values self.now.model self.now.slice) cells.now) column d) set
+            ≡ option_map (λ line. line.first + d * line.step) result }
+        ensures within { IfSome result (λ line. (d : ℕ) → d < length (own_values self.now.model self.now.slice column) → line.first + d * line.step
+            < length (slice_places self.now.model self.now.slice)) }
     {
-        self.keeps();
+        self.assert_invariant();
         let members = self.part.members(set);
         let first = self.block(set).first;
         match self.numbers(members, column, cells) {

@@ -1,7 +1,7 @@
 ghost use Rattle.std.specs.Prelude.{◌≡◌, ◌+◌, ◌^◌, ◌≤◌, map, ◌<◌, ◌&&◌, All, IfOk, IfSome, length, not, true};
 ghost use Rattle.std.specs.List.{filter, list_any, range_with_len};
 ghost use Rattle.cov_model.specs.Rows.{contains};
-ghost use Rattle.cov_model.specs.Sound.{param_at};
+ghost use Rattle.cov_model.specs.Sound.{IsSound, param_at};
 ghost use Rattle.definitions.specs.SliceRows.{IsOfSlice, IsSliceOf};
 ghost use Rattle.tuple_index.specs.Plan.{plan_of};
 ghost use Rattle.uncovered_table.specs.Bits.{sets_in_play};
@@ -29,7 +29,7 @@ pub struct Uncovered<'a> {
 
 impl<'a> Model for Uncovered<'a> {
     ghost use Rattle.std.specs.Coded.{codes};
-    ghost use Rattle.cov_model.specs.contracts.constraint.Pred as predicate;
+    ghost use Rattle.cov_model.specs.contracts.model.TestModel as tested;
     ghost use Rattle.std.specs.Prelude.{◌≡◌, length};
     ghost use Rattle.uncovered_table.specs.Bits.{marked};
     ghost use Rattle.uncovered_table.specs.Open.{OpenView};
@@ -37,7 +37,7 @@ impl<'a> Model for Uncovered<'a> {
 
     ghost Value = { OpenView };
 
-    ghost coded = { Prim.hlevel (codes, predicate.the_row.coded) };
+    ghost coded = { Prim.hlevel (codes, tested.the_row.coded) };
 
     ghost view = { λ a. marked a.sets.model a.sets.slice a.bits };
 
@@ -64,6 +64,16 @@ impl<'a> Uncovered<'a> {
         let sets = SliceSets::new(alloc, SlicePart::new(model, plan, slice))?;
         let bits = BitTable::all_set(alloc, sets.size())?;
         Ok(Uncovered { sets, bits })
+    }
+
+    /// Says again what every table keeps: its model is sound, its slice is one of the model's, and its
+    /// open tuples are some of the slice's. Does nothing when it runs.
+    pub fn assert_invariant(&self)
+        ensures sound { IsSound self.now.model }
+        ensures own { IsSliceOf self.now.model self.now.slice }
+        ensures some { All (IsPlaceOf self.now) self.now.places }
+    {
+        self.sets.assert_invariant();
     }
 
     /// The model that the table was made from. Takes no memory.
@@ -96,7 +106,7 @@ impl<'a> Uncovered<'a> {
         requires column { column < length self.old.model.params }
         ensures { self.new ≡ row_closed self.old column cells.now }
     {
-        self.sets.keeps();
+        self.sets.assert_invariant();
         match self.sets.cell_digit(cells, column) {
             Some(digit) => clear_held(&self.sets, &mut self.bits, cells, column, digit),
             None => {}
@@ -138,7 +148,7 @@ impl<'a> Uncovered<'a> {
         requires value { value < length (param_at self.now.model.params column).values }
         ensures { result ≡ gain self.now cells.now column value }
     {
-        self.sets.keeps();
+        self.sets.assert_invariant();
         match self.sets.value_digit(column, value) {
             Some(digit) => count_held(&self.sets, &self.bits, cells, column, digit),
             None => 0,
@@ -153,7 +163,7 @@ impl<'a> Uncovered<'a> {
         requires values { from + length scores.old ≤ length (param_at self.now.model.params column).values }
         ensures { scores.new ≡ map (gain self.now cells.now column) (range_with_len from (length scores.old)) }
     {
-        self.sets.keeps();
+        self.sets.assert_invariant();
         scores.fill(0);
         add_held(&self.sets, &self.bits, cells, column, from, scores);
     }

@@ -27,9 +27,7 @@ fn empty_lists(alloc: Global, count: usize) -> Result<Vec<Vec<u32>>, NoMemory>
 {
     let mut lists = Vec::new(alloc);
     for _ in 0..count {
-        if lists.push(Vec::new(alloc)).is_err() {
-            return Err(NoMemory);
-        }
+        lists.push(Vec::new(alloc))?;
     }
     Ok(lists)
 }
@@ -40,9 +38,7 @@ fn push_set(lists: &mut Vec<Vec<u32>>, column: Option<ParamNo>, set: u32) -> Res
     ensures { OnOk result (map (λ list. list.items) lists.new.items ≡ with_set column set (map (λ list. list.items) lists.old.items)) }
 {
     if let Some(p) = column {
-        if lists[p as usize].push(set).is_err() {
-            return Err(NoMemory);
-        }
+        lists[p as usize].push(set)?;
     }
     Ok(())
 }
@@ -59,7 +55,7 @@ impl<'a> SlicePart<'a> {
     fn blocks(&self, alloc: Global) -> Result<Vec<Block>, NoMemory>
         ensures { IfOk result (λ blocks. AreBlocks self.now.model self.now.slice (length (demanded_sets self.now.model)) blocks.items) }
     {
-        self.keeps();
+        self.assert_invariant();
         let mut blocks = Vec::new(alloc);
         let mut first: u32 = 0;
         for set in 0..self.set_count() {
@@ -69,9 +65,7 @@ impl<'a> SlicePart<'a> {
                 start,
                 count,
             };
-            if blocks.push(block).is_err() {
-                return Err(NoMemory);
-            }
+            blocks.push(block)?;
             first += count;
         }
         Ok(blocks)
@@ -92,7 +86,8 @@ impl<'a> SlicePart<'a> {
 
     // For each column the sets in play that have tuples in the slice.
     fn plays(&self, alloc: Global) -> Result<Vec<Vec<u32>>, NoMemory>
-        ensures { IfOk result (λ lists. map (λ list. list.items) lists.items ≡ map (sets_in_play self.now.model self.now.slice) (param_numbers self.now.model)) }
+        ensures { IfOk result (λ lists. map (λ list. list.items) lists.items ≡ map (sets_in_play self.now.model self.now.slice)
+            (param_numbers self.now.model)) }
     {
         let mut lists = empty_lists(alloc, self.param_count())?;
         for set in 0..self.set_count() {
@@ -107,14 +102,12 @@ impl<'a> SlicePart<'a> {
         requires { p < length self.now.model.params }
         ensures { IfOk result (λ digits. digits.items ≡ digits_of self.now.model self.now.slice p) }
     {
-        self.keeps();
+        self.assert_invariant();
         let mut digits = Vec::new(alloc);
         let mut next: u16 = 0;
         for v in 0..self.all_values(p) {
             let own = self.has_value(p, v);
-            if digits.push(digit_if(own, next)).is_err() {
-                return Err(NoMemory);
-            }
+            digits.push(digit_if(own, next))?;
             next += u16::from(own);
         }
         Ok(digits)
@@ -124,20 +117,19 @@ impl<'a> SlicePart<'a> {
     fn digits(&self, alloc: Global) -> Result<Vec<Vec<Option<u16>>>, NoMemory>
         ensures { IfOk result (λ lists. map (λ list. list.items) lists.items ≡ map (digits_of self.now.model self.now.slice) (param_numbers self.now.model)) }
     {
-        self.keeps();
+        self.assert_invariant();
         let mut lists = Vec::new(alloc);
         for p in 0..self.param_count() {
             let digits = self.digits_of(alloc, p as ParamNo)?;
-            if lists.push(digits).is_err() {
-                return Err(NoMemory);
-            }
+            lists.push(digits)?;
         }
         Ok(lists)
     }
 
     // The tables of the slice.
     pub(crate) fn tables(&self, alloc: Global) -> Result<SliceTables, NoMemory>
-        ensures { IfOk result (λ tables. AreTablesOf self.now tables.blocks.items (map (λ list. list.items) tables.plays.items) (map (λ list. list.items) tables.digits.items)) }
+        ensures { IfOk result (λ tables. AreTablesOf self.now tables.blocks.items (map (λ list. list.items) tables.plays.items)
+            (map (λ list. list.items) tables.digits.items)) }
     {
         let blocks = self.blocks(alloc)?;
         let plays = self.plays(alloc)?;

@@ -1,3 +1,4 @@
+pub mod ListLemmas
 pub mod DigitLemmas
 pub mod NumberLemmas
 pub mod CharLemmas

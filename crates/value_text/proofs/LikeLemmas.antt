@@ -1,6 +1,6 @@
 -- Why a later `*` makes going back to an earlier one needless, and the steps of a match.
 use Rattle.std.proofs.Common.{◌≡◌, ◌≢◌, ◌⊎◌, ℕ, zero, suc, Bool, true, false, ◌||◌, ◌==◌, if◌then◌else◌, List, [], ◌∷◌, drop, refl, sym, ◌∙◌, ap, inl, inr, true≢false, eq-eqb, ne_eqb}
-use Rattle.std.proofs.lemmas.Bool.{and_parts, or_left}
+use Rattle.std.proofs.lemmas.Bool.{and_parts, or_left, false_from_ne_true}
 use Rattle.std.proofs.Math.Bool.{or-true}
 use Rattle.std.specs.Cmp.{both_ways}
 use Rattle.value_text.specs.Like.{matches}
@@ -65,10 +65,6 @@ both_end pattern text pattern_rest text_rest so_far ends text_ends = so_far.same
 pub pattern_ends : (pattern text pattern_rest text_rest later : List ℕ) (c : ℕ) → Continues pattern text pattern_rest text_rest → pattern_rest ≡ [] → text_rest ≡ c ∷ later → matches pattern text ≡ false
 pattern_ends pattern text pattern_rest text_rest later c so_far ends letter = so_far.same ∙ rw (ends, letter)
 
-refuted : (b : Bool) → (b ≡ true → ⊥) → b ≡ false
-refuted true never = absurd (never refl)
-refuted false never = refl
-
 -- the search behind the last `*`: what a pattern and a text come to, where a `*` stands before the pattern or not
 abbrev pub matches_after : Bool → List ℕ → List ℕ → Bool
 matches_after after_star p t = if after_star then matches (42 ∷ p) t else matches p t
@@ -79,7 +75,7 @@ ends_whole true p t is = star_here p t is
 
 pub ends_short : (after_star : Bool) (p t : List ℕ) → ((k : ℕ) → matches p (drop k t) ≡ false) → matches_after after_star p t ≡ false
 ends_short false p t never = never 0
-ends_short true p t never = refuted (matches (42 ∷ p) t) (λ is. let found = star_found p t is in true≢false (sym found.1 ∙ never found.0))
+ends_short true p t never = false_from_ne_true (matches (42 ∷ p) t) (λ is. let found = star_found p t is in true≢false (sym found.1 ∙ never found.0))
 
 -- at the next `*`, an earlier one has nothing more to give
 pub next_star : (after_star : Bool) (p t behind rest : List ℕ) → Continues p t (42 ∷ behind) rest → matches_after after_star p t ≡ matches (42 ∷ behind) rest

@@ -1,23 +1,15 @@
 -- The parts of a decimal number, and the size that they write.
-use Rattle.std.proofs.Common.{◌≡◌, ℕ, ◌+◌, ◌-◌, ◌*◌, ◌^◌, ◌<◌, ◌≤◌, Bool, true, false, not, cond, ◌&&◌, ◌||◌, nat_lt, suc, Some, None, List, [], ◌∷◌, ◌++◌, length, length-drop, take, take_all, drop, refl, sym, ◌∙◌, ap, inl, inr, arith}
+use Rattle.std.proofs.Common.{◌≡◌, ℕ, ◌+◌, ◌-◌, ◌*◌, ◌^◌, ◌<◌, ◌≤◌, Bool, true, false, ◌&&◌, nat_lt, suc, Some, None, List, ◌++◌, length, length-drop, take, take_all, drop, sym, ◌∙◌, ap, inl, inr, arith}
 use Rattle.std.proofs.lemmas.Bool.Decides.{nat_tests, leb_tells}
 use Rattle.std.proofs.lemmas.Nat.{pow-add}
 use Rattle.std.proofs.Math.Nat.{pow-le-pow_right, mul-le-mul_right}
 use Rattle.std.proofs.Math.Bool.{and-true}
-use Rattle.std.specs.List.{list_any, list_all, position, position_or_len}
+use Rattle.std.specs.List.{list_all, position, position_or_len}
 use Rattle.std.specs.Char.{is_ascii_digit}
 use Rattle.std.specs.Str.Parse.{digits_value}
 use Rattle.value_text.specs.Numbers.{is_digits, is_point, without_sign, is_decimal}
 use Rattle.value_text.proofs.DigitLemmas.{value_small, digits_value-append}
-
-list_any-position : (p : ℕ → Bool) (xs : List ℕ) → list_any p xs ≡ nat_lt (position_or_len p xs) (length xs)
-list_any-position p [] = refl
-list_any-position p (x ∷ xs) =
-    let rest = list_any-position p xs in
-    elim (p x) as (λ b. b || list_any p xs ≡ nat_lt (cond (not b) (1 + position_or_len p xs) 0) (suc (length xs))) [
-      | true ↦ grind (arith, nat_tests)
-      | false ↦ rest ∙ grind (arith, nat_tests)
-    ]
+use Rattle.value_text.proofs.ListLemmas.{list_any-position}
 
 -- a place that `position` gives, and no place
 place : (p : ℕ → Bool) (xs : List ℕ) (at : ℕ) → Some at ≡ position p xs → (position_or_len p xs ≡ at) × (at < length xs)

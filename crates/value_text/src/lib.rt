@@ -21,8 +21,6 @@ mod fixed;
 mod no_memory;
 mod owned_list;
 mod pattern;
-#[cfg(test)]
-mod tests;
 mod text;
 
 pub use compare::{order_text, same_text};

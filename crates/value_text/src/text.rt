@@ -33,10 +33,8 @@ impl Text {
     pub fn copy(alloc: Global, text: &str) -> Result<Text, NoMemory>
         ensures { IfOk result (λ copied. copied ≡ text.now) }
     {
-        match String::from_str(alloc, text) {
-            Ok(inner) => Ok(Text { inner }),
-            Err(_) => Err(NoMemory),
-        }
+        let inner = String::from_str(alloc, text)?;
+        Ok(Text { inner })
     }
 
     /// The text, borrowed. Takes no memory.

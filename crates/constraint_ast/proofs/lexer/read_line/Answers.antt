@@ -2,7 +2,7 @@ use Rattle.std.proofs.Common.{◌≡◌, ap, sym, subst, ◌∙◌}
 use Rattle.std.specs.Prelude.{Err}
 use Rattle.constraint_ast.specs.Lexing.{meant, tokens_in}
 use Rattle.constraint_ast.specs.Reading.{IfRefused}
-use Rattle.constraint_ast.proofs.Lexing.{at_start, ends_line, next_token, no_meaning_fault, no_token, slice_marks}
+use Rattle.constraint_ast.proofs.Lexing.{at_start, ends_line, handed_on, next_token, no_meaning_fault, no_token, slice_marks}
 use Rattle.constraint_ast.proofs.lexer.read_line.Goals as goal
 
 pub loop-code-init : goal.loop-code-init
@@ -22,10 +22,15 @@ rule_token-requires c = slice_marks c.args.text.now c.in-Token.found c.range.res
 pub loop-code-preserved : goal.loop-code-preserved
 loop-code-preserved c =
     next_token c.args.number c.args.text.now c.args.tokens.now c.loop-code.tokens c.loop-code.at c.loop-code.invariant c.in-Token.found (sym c.in-Token.ensures.answer) c.in-Token.ensures.span.not_empty
-    c.in-Ok.token c.push.new.self (ap (λ text. meant c.in-Token.found.kind text) (sym c.range.ensures.value) ∙ c.in-Ok.ensures.ok) c.in-Ok-push.ensures.ok c.in-Token.ensures.span.cut_behind
+    c.in_ok-token-in-Token.token c.push.new.self (ap (λ text. meant c.in-Token.found.kind text) (sym c.range.ensures.value)
+    ∙ c.in_ok-token-in-Token.ensures.ok) c.in_ok-push-in-Token.ensures.ok
+    c.in-Token.ensures.span.cut_behind
 
-pub returns-in-Err-clause-err : goal.returns-in-Err-clause-err
-returns-in-Err-clause-err c =
-    no_meaning_fault c.args.number c.args.text.now c.args.tokens.now c.loop-code.tokens c.loop-code.at c.loop-code.invariant c.in-Token.found (sym c.in-Token.ensures.answer) c.in-Token.ensures.span.not_empty
-    c.in-Err.fault
-    (subst (λ text. IfRefused c.in-Err.fault (λ diag. (diag.line ≡ c.args.number) × (meant c.in-Token.found.kind text ≡ Err diag.code))) c.range.ensures.value c.in-Err.ensures.err)
+pub returns-in_err-token-in-Token-clause-err : goal.returns-in_err-token-in-Token-clause-err
+returns-in_err-token-in-Token-clause-err c =
+    let fault = c.in_err-token-in-Token.field-0.0 in
+    handed_on _ (λ told. IfRefused told (λ diag. tokens_in c.args.number 0 c.args.text.now ≡ Err diag)) c.from_residual.result fault c.from_residual.ensures.1
+    (no_meaning_fault c.args.number c.args.text.now c.args.tokens.now c.loop-code.tokens c.loop-code.at c.loop-code.invariant c.in-Token.found
+    (sym c.in-Token.ensures.answer) c.in-Token.ensures.span.not_empty
+    fault (subst (λ text. IfRefused fault
+    (λ diag. (diag.line ≡ c.args.number) × (meant c.in-Token.found.kind text ≡ Err diag.code))) c.range.ensures.value c.in_err-token-in-Token.ensures.err))

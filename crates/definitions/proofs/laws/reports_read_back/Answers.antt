@@ -1,6 +1,6 @@
--- Reading a report gives its rows.
-use Rattle.definitions.proofs.ReadBack.{read_back}
+-- A report holds its rows, without a note.
+use Rattle.definitions.proofs.ReportRead as lemmas
 use Rattle.definitions.proofs.laws.reports_read_back.Goals as goal
 
 pub returns : goal.returns
-returns c = read_back
+returns c = lemmas.reports_read_back

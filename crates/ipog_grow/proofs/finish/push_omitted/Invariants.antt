@@ -5,5 +5,6 @@ use Rattle.ipog_grow.proofs.finish.push_omitted.Given as goal
 -- the tuples before this place are added
 abbrev pub invariant-loop-cells : goal.invariant-loop-cells
 invariant-loop-cells l =
-    (map (omitted_cells (length l.model.params)) l.into.omissions ≡ map (omitted_cells (length l.model.params)) l.initial.into.omissions ++ take l.cells-index l.omitted)
+    (map (omitted_cells (length l.model.params)) l.into.omissions ≡ map (omitted_cells (length l.model.params)) l.initial.into.omissions
+    ++ take l.cells-index l.omitted)
     × All HasNoTree l.into.omissions × (l.into.form ≡ l.initial.into.form)

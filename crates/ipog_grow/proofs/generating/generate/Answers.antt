@@ -22,7 +22,8 @@ returns-in_err-sorted-clause-asked g c =
     let over : List (Option ℕ) → Bool = λ cells. nat_lt c.args.opts.now.budget (question_cost c.args.model.now c.args.prefs.now cells) in
     let first : List (List (Option ℕ)) = asked_seeds c.args.model.now (seeds_seen c.args.seeds.now) in
     let later : List (List (Option ℕ)) = (slices_growth c.args.model.now c.args.prefs.now (seeds_seen c.args.seeds.now) (slices c.args.model.now)).asked in
-    rw (p.1, p.2) (ends-by c.in_err-sorted.field-0.0 (find over first) (find over (first ++ later)) (λ q spent. find-earlier over first later q spent) c.in_err-sorted.ensures.asked)
+    rw (p.1, p.2) (ends-by c.in_err-sorted.field-0.0 (find over first) (find over (first ++ later)) (λ q spent. find-earlier over q first later spent)
+    c.in_err-sorted.ensures.asked)
 
 pub grow_slices-requires-clause-slices : goal.grow_slices-requires-clause-slices
 grow_slices-requires-clause-slices g c _ _ =
@@ -31,7 +32,8 @@ grow_slices-requires-clause-slices g c _ _ =
 pub grow_slices-requires-clause-fit : goal.grow_slices-requires-clause-fit
 grow_slices-requires-clause-fit g c _ _ =
     subst (λ (rows : List (List (Option ℕ))). All (FitsModel c.args.model.now) rows) (sym c.in_ok-sorted.ensures.kept)
-    (kept-fit c.args.model.now (seeds_seen c.args.seeds.now) (All-map (λ seed. FitsModel c.args.model.now seed.1) row_seen c.args.seeds.now.rows c.requires.seeds))
+    (kept-fit c.args.model.now (seeds_seen c.args.seeds.now)
+    (All-map (λ seed. FitsModel c.args.model.now seed.1) row_seen c.args.seeds.now.rows c.requires.seeds))
 
 pub grow_slices-requires-clause-few : goal.grow_slices-requires-clause-few
 grow_slices-requires-clause-few g c _ _ =
@@ -51,7 +53,14 @@ returns-in_err-grow_slices-clause-asked g c =
 
 pub overflow_cast-kept : goal.overflow_cast-kept
 overflow_cast-kept g c =
-    omega (arith, c.len-kept.ensures, ap length c.in_ok-sorted.ensures.kept, kept-short c.args.model.now (seeds_seen c.args.seeds.now), length-map c.args.seeds.now.rows row_seen, c.requires.few)
+    omega (
+      arith,
+      c.len-kept.ensures,
+      ap length c.in_ok-sorted.ensures.kept,
+      kept-short c.args.model.now (seeds_seen c.args.seeds.now),
+      length-map c.args.seeds.now.rows row_seen,
+      c.requires.few,
+    )
 
 pub returns-clause-asked : goal.returns-clause-asked
 returns-clause-asked g c =

@@ -4,7 +4,7 @@ use Rattle.std.proofs.lemmas.Result.{err_from_is_err_and}
 use Rattle.cov_model.specs.declared.slice.Slice.{Slice}
 use Rattle.cov_model.specs.declared.slice.Slice.TheVariants.{Positive}
 use Rattle.definitions.specs.Growth.{is_of_slice, slices_growth}
-use Rattle.ipog_grow.specs.Asking.{World, first_spent}
+use Rattle.ipog_grow.specs.Asking.{SearchContext, first_spent}
 use Rattle.ipog_grow.specs.SliceGrowing.{grown_from}
 use Rattle.ipog_grow.specs.Suites.{omitted_cells}
 use Rattle.ipog_grow.proofs.Slicing.{SlicesGrown, slices_grown-next, slices_grown-spent}
@@ -15,31 +15,48 @@ pub returns-in_err-grow_slice-clause-asked : goal.returns-in_err-grow_slice-clau
 returns-in_err-grow_slice-clause-asked g c =
     λ seeds kept.
     let p = err_from_is_err_and c.from_residual.result c.from_residual.ensures.1 in
-    let world : World = record { model = c.args.model.now; prefs = c.args.prefs.now; slice = get_or c.args.slices.now c.loop-slice.slice-index Positive; budget = c.args.budget } in
+    let context : SearchContext = record {
+      model = c.args.model.now;
+      prefs = c.args.prefs.now;
+      slice =
+          get_or c.args.slices.now c.loop-slice.slice-index Positive;
+      budget = c.args.budget;
+    } in
     let before : List Slice = take c.loop-slice.slice-index c.args.slices.now in
     rw (p.1, p.2) (ends-by c.in_err-grow_slice.field-0.0
-    (first_spent world (grown_from world (filter (is_of_slice c.args.model.now world.slice) c.args.kept.now)).asked)
-    (first_spent world (slices_growth c.args.model.now c.args.prefs.now seeds c.args.slices.now).asked)
+    (first_spent context (grown_from context (filter (is_of_slice c.args.model.now context.slice) c.args.kept.now)).asked)
+    (first_spent context (slices_growth c.args.model.now c.args.prefs.now seeds c.args.slices.now).asked)
     (λ q spent.
-    ap (λ slices. first_spent world (slices_growth c.args.model.now c.args.prefs.now seeds slices).asked) (split_at c.args.slices.now c.loop-slice.slice-index Positive c.loop-slice-test.true)
-    ∙ slices_grown-spent c.args.model.now c.args.prefs.now c.args.budget seeds before world.slice (drop (c.loop-slice.slice-index + 1) c.args.slices.now)
+    ap (λ slices. first_spent context (slices_growth c.args.model.now c.args.prefs.now seeds slices).asked)
+    (split_at c.args.slices.now c.loop-slice.slice-index Positive c.loop-slice-test.true)
+    ∙ slices_grown-spent c.args.model.now c.args.prefs.now c.args.budget seeds before context.slice (drop (c.loop-slice.slice-index + 1) c.args.slices.now)
     c.loop-slice.rows (map (omitted_cells (length c.args.model.now.params)) c.loop-slice.omissions.omissions) (c.loop-slice.invariant.0 seeds kept) q
-    (ap (λ rows. first_spent world (grown_from world (filter (is_of_slice c.args.model.now world.slice) rows)).asked) (sym kept) ∙ spent))
+    (ap (λ rows. first_spent context (grown_from context (filter (is_of_slice c.args.model.now context.slice) rows)).asked) (sym kept) ∙ spent))
     c.in_err-grow_slice.ensures.asked)
 
 pub loop-slice-preserved : goal.loop-slice-preserved
 loop-slice-preserved g c =
-    let world : World = record { model = c.args.model.now; prefs = c.args.prefs.now; slice = get_or c.args.slices.now c.loop-slice.slice-index Positive; budget = c.args.budget } in
+    let context : SearchContext = record {
+      model = c.args.model.now;
+      prefs = c.args.prefs.now;
+      slice =
+          get_or c.args.slices.now c.loop-slice.slice-index Positive;
+      budget = c.args.budget;
+    } in
     let before : List Slice = take c.loop-slice.slice-index c.args.slices.now in
     let tuples : List (List (Option ℕ)) = map (omitted_cells (length c.args.model.now.params)) c.loop-slice.omissions.omissions in
     let tuples' : List (List (Option ℕ)) = map (omitted_cells (length c.args.model.now.params)) c.grow_slice.new.omissions.omissions in (
       (λ seeds kept.
           subst (λ (parts : List Slice). SlicesGrown c.args.model.now c.args.prefs.now c.args.budget seeds parts c.grow_slice.new.rows tuples')
           (sym (take_more c.args.slices.now c.loop-slice.slice-index Positive c.loop-slice-test.true))
-          (slices_grown-next c.args.model.now c.args.prefs.now c.args.budget seeds before world.slice c.loop-slice.rows c.grow_slice.new.rows tuples tuples' (c.loop-slice.invariant.0 seeds kept)
-          (c.in_ok-grow_slice.ensures.rows ∙ ap (λ rows. c.loop-slice.rows ++ (grown_from world (filter (is_of_slice c.args.model.now world.slice) rows)).rows) kept)
-          (c.in_ok-grow_slice.ensures.tuples ∙ ap (λ rows. tuples ++ (grown_from world (filter (is_of_slice c.args.model.now world.slice) rows)).omitted) kept)
-          (ap (λ rows. first_spent world (grown_from world (filter (is_of_slice c.args.model.now world.slice) rows)).asked) (sym kept) ∙ c.in_ok-grow_slice.ensures.asked))),
+          (slices_grown-next c.args.model.now c.args.prefs.now c.args.budget seeds before context.slice c.loop-slice.rows c.grow_slice.new.rows tuples
+          tuples' (c.loop-slice.invariant.0 seeds kept)
+          (c.in_ok-grow_slice.ensures.rows ∙ ap (λ rows. c.loop-slice.rows
+          ++ (grown_from context (filter (is_of_slice c.args.model.now context.slice) rows)).rows) kept)
+          (c.in_ok-grow_slice.ensures.tuples ∙ ap (λ rows. tuples ++ (grown_from context (filter (is_of_slice c.args.model.now context.slice) rows)).omitted)
+          kept)
+          (ap (λ rows. first_spent context (grown_from context (filter (is_of_slice c.args.model.now context.slice) rows)).asked) (sym kept)
+          ∙ c.in_ok-grow_slice.ensures.asked))),
       c.in_ok-grow_slice.ensures.trees,
       c.in_ok-grow_slice.ensures.form ∙ c.loop-slice.invariant.2,
     )

@@ -18,7 +18,8 @@ value_counts-requires-clause-exist c =
 pub returns-clause-value : goal.returns-clause-value
 returns-clause-value c =
     let many = c.len.ensures ∙ ap length c.params.ensures.value in
-    let counts = c.in_ok-counts.ensures ∙ ap (λ (plan : PlanView). map (λ p. length (values_in plan c.args.slice p)) (range_with_len 0 c.len.result)) c.requires.plan
+    let counts = c.in_ok-counts.ensures ∙ ap (λ (plan : PlanView). map (λ p. length (values_in plan c.args.slice p)) (range_with_len 0 c.len.result))
+    c.requires.plan
     ∙ ap (λ n. map (λ p. length (values_in (plan_of c.args.model.now) c.args.slice p)) (range_with_len 0 n)) many in
     ordered c.args.model.now c.args.slice c.in_ok-counts.counts.items c.sort_by_count.new.order.items c.requires.slice counts
     (c.in_ok-sort_by_count.ensures.sorted ∙ ap (λ list. by_falling_weight (λ p. slice_index list p) c.in_ok-order.order.items) c.deref.ensures.value

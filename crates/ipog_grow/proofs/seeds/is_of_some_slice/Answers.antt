@@ -12,10 +12,16 @@ loop-p-preserved c =
     let more = passing-count test c.loop-p.p in
     let number : ℕ = length (filter test (range_with_len 0 c.loop-p.p)) in (
       c.loop-p.invariant.0,
-      elim c.if-is_negative.branch [ then-is_negative w ↦ omega (arith, w.found-is, c.loop-p.invariant.1) | else-is_negative w ↦ omega (arith, w.found-is, c.loop-p.invariant.1) ],
       elim c.if-is_negative.branch [
-        | then-is_negative w ↦ w.found-is ∙ ap (λ k. k + 1) c.loop-p.invariant.2 ∙ sym (more ∙ ap (λ (b : Bool). number + cond b 1 0) (sym c.is_negative.ensures ∙ w.if-is_negative.true))
-        | else-is_negative w ↦ w.found-is ∙ c.loop-p.invariant.2 ∙ sym (more ∙ ap (λ (b : Bool). number + cond b 1 0) (sym c.is_negative.ensures ∙ w.if-is_negative.false) ∙ plus_none number)
+        | then-is_negative w ↦ omega (arith, w.found-is, c.loop-p.invariant.1)
+        | else-is_negative w ↦ omega
+            (arith, w.found-is, c.loop-p.invariant.1)
+      ],
+      elim c.if-is_negative.branch [
+        | then-is_negative w ↦ w.found-is ∙ ap (λ k. k + 1) c.loop-p.invariant.2
+            ∙ sym (more ∙ ap (λ (b : Bool). number + cond b 1 0) (sym c.is_negative.ensures ∙ w.if-is_negative.true))
+        | else-is_negative w ↦ w.found-is ∙ c.loop-p.invariant.2
+            ∙ sym (more ∙ ap (λ (b : Bool). number + cond b 1 0) (sym c.is_negative.ensures ∙ w.if-is_negative.false) ∙ plus_none number)
       ],
     )
   where

@@ -1,13 +1,12 @@
 use Rattle.std.proofs.Common.{◌≡◌, ◌+◌, ◌++◌, ◌∷◌, [], ℕ, Bool, true, cond, List, Option, length, get_or, take, filter, ◌∙◌, sym, ap, arith}
 use Rattle.std.proofs.lemmas.List.{append-nil}
-use Rattle.std.proofs.lemmas.Grind.{common_steps}
 use Rattle.cov_model.specs.contracts.slice.SlicePartialEq as equal
 use Rattle.cov_model.specs.declared.slice.Slice.{Slice}
 use Rattle.definitions.specs.Completion.{has_slice}
 use Rattle.definitions.specs.Growth.{is_of_slice}
 use Rattle.ipog_grow.proofs.OfSlice.{slice_of-test, filter-more}
 use Rattle.ipog_grow.proofs.seeds.seeds_of_slice.Goals as goal
-use Rattle.ipog_grow.proofs.seeds.seeds_of_slice.Goals.{then-eq+in_ok-copy+else-is_err, else-eq}
+use Rattle.ipog_grow.proofs.seeds.seeds_of_slice.Goals.{then-eq+in_ok-push_copy, else-eq}
 
 pub loop-seed-preserved : goal.loop-seed-preserved
 loop-seed-preserved c =
@@ -15,7 +14,8 @@ loop-seed-preserved c =
     let i : ℕ = c.loop-seed.seed-index in
     let seed : List (Option ℕ) = c.seed-item.result in
     let of : List (Option ℕ) → Bool = is_of_slice c.args.model.now c.args.slice in
-    let kept : seed ≡ get_or c.args.kept.now i seed = c.seed-item.is ∙ ap (λ (rows : List (List (Option ℕ))). get_or rows i seed) c.as_slice-seed-items.ensures in
+    let kept : seed ≡ get_or c.args.kept.now i seed = c.seed-item.is
+    ∙ ap (λ (rows : List (List (Option ℕ))). get_or rows i seed) c.as_slice-seed-items.ensures in
     let few : has_slice c.args.model.now seed ≡ true =
     ap (has_slice c.args.model.now) kept ∙ c.requires.few i seed (omega (arith, c.loop-seed-test.true, ap length c.as_slice-seed-items.ensures)) in
     let test : c.eq.result ≡ of seed =
@@ -23,9 +23,8 @@ loop-seed-preserved c =
     let more : filter of (take (i + 1) items) ≡ filter of (take i items) ++ cond (of seed) (seed ∷ []) [] =
     filter-more of items i seed c.loop-seed-test.true ∙ ap (λ row. filter of (take i items) ++ filter of (row ∷ [])) (sym c.seed-item.is) in
     elim c.if-eq.branch [
-      | then-eq+in_ok-copy+else-is_err w ↦
-          let pushed : w.push.new.self.items ≡ c.loop-seed.rows.items ++ w.in_ok-copy.copy ∷ [] = grind (arith, common_steps) in
-          ap (λ rows. rows.items) w.rows-is ∙ pushed ∙ ap (λ row. c.loop-seed.rows.items ++ row ∷ []) w.in_ok-copy.ensures ∙ ap (λ rows. rows ++ seed ∷ []) c.loop-seed.invariant
+      | then-eq+in_ok-push_copy w ↦
+          ap (λ rows. rows.items) w.rows-is ∙ w.in_ok-push_copy.ensures ∙ ap (λ rows. rows ++ seed ∷ []) c.loop-seed.invariant
           ∙ sym (more ∙ ap (λ (b : Bool). filter of (take i items) ++ cond b (seed ∷ []) []) (sym test ∙ w.if-eq.true))
       | else-eq w ↦
           ap (λ rows. rows.items) w.rows-is ∙ c.loop-seed.invariant

@@ -10,14 +10,16 @@ use Rattle.ipog_grow.proofs.Sorting.{Sorted, sorted-next, sorted-spent, split_at
 use Rattle.ipog_grow.proofs.seeds.sort_seeds.Goals as goal
 
 -- the seeds that are asked are the distinct ones
-whole : (rows distinct items slice : List FileRow) → slice ≡ rows → map row_seen distinct ≡ seed_rows (map row_seen slice) → items ≡ distinct → map row_seen items ≡ seed_rows (map row_seen rows)
+whole : (rows distinct items slice : List FileRow) → slice ≡ rows → map row_seen distinct ≡ seed_rows (map row_seen slice) → items ≡ distinct
+    → map row_seen items ≡ seed_rows (map row_seen rows)
 whole rows distinct items slice are found same = ap (map row_seen) same ∙ found ∙ ap (λ seeds. seed_rows (map row_seen seeds)) are
 
 pub returns-in_err-place_seed-clause-asked : goal.returns-in_err-place_seed-clause-asked
 returns-in_err-place_seed-clause-asked c =
     let p = err_from_is_err_and c.from_residual.result c.from_residual.ensures.1 in
     let items : List FileRow = c.as_slice-seed-items.result.now in
-    let split : map row_seen items ≡ map row_seen (take c.loop-seed.seed-index items) ++ row_seen c.seed-item.result ∷ map row_seen (drop (c.loop-seed.seed-index + 1) items) =
+    let split : map row_seen items ≡ map row_seen (take c.loop-seed.seed-index items) ++ row_seen c.seed-item.result ∷ map row_seen
+    (drop (c.loop-seed.seed-index + 1) items) =
     ap (map row_seen) (split_at items c.loop-seed.seed-index c.seed-item.result c.loop-seed-test.true
     ∙ ap (λ x. take c.loop-seed.seed-index items ++ x ∷ drop (c.loop-seed.seed-index + 1) items) (sym c.seed-item.is))
     ∙ map-append row_seen (take c.loop-seed.seed-index items) (c.seed-item.result ∷ drop (c.loop-seed.seed-index + 1) items) in
@@ -26,7 +28,8 @@ returns-in_err-place_seed-clause-asked c =
     (first_over c.args.model.now c.args.prefs.now c.args.budget (filter (has_slice c.args.model.now) (c.seed-item.result.cells ∷ [])))
     (first_over c.args.model.now c.args.prefs.now c.args.budget (asked_seeds c.args.model.now (seeds_seen c.args.seeds.now)))
     (λ q spent.
-    ap (λ seeds. first_over c.args.model.now c.args.prefs.now c.args.budget (filter (has_slice c.args.model.now) (map (λ seed. seed.1) seeds))) (sym are ∙ split)
+    ap (λ seeds. first_over c.args.model.now c.args.prefs.now c.args.budget (filter (has_slice c.args.model.now) (map (λ seed. seed.1) seeds)))
+    (sym are ∙ split)
     ∙ sorted-spent c.args.model.now c.args.prefs.now c.args.budget (map row_seen (take c.loop-seed.seed-index items)) (row_seen c.seed-item.result)
     (map row_seen (drop (c.loop-seed.seed-index + 1) items)) c.loop-seed.sorted.kept c.loop-seed.sorted.dropped c.loop-seed.invariant q spent)
     c.in_err-place_seed.ensures.asked)
@@ -35,10 +38,13 @@ pub loop-seed-preserved : goal.loop-seed-preserved
 loop-seed-preserved c =
     let items : List FileRow = c.as_slice-seed-items.result.now in
     let more : map row_seen (take (c.loop-seed.seed-index + 1) items) ≡ map row_seen (take c.loop-seed.seed-index items) ++ row_seen c.seed-item.result ∷ [] =
-    ap (map row_seen) (take_more items c.loop-seed.seed-index c.seed-item.result c.loop-seed-test.true ∙ ap (λ x. take c.loop-seed.seed-index items ++ x ∷ []) (sym c.seed-item.is))
+    ap (map row_seen) (take_more items c.loop-seed.seed-index c.seed-item.result c.loop-seed-test.true
+    ∙ ap (λ x. take c.loop-seed.seed-index items ++ x ∷ []) (sym c.seed-item.is))
     ∙ map-append row_seen (take c.loop-seed.seed-index items) (c.seed-item.result ∷ []) in
-    subst (λ (seeds : List (ℕ × List (Option ℕ))). Sorted c.args.model.now c.args.prefs.now c.args.budget seeds c.place_seed.new.sorted.kept c.place_seed.new.sorted.dropped) (sym more)
-    (sorted-next c.args.model.now c.args.prefs.now c.args.budget (map row_seen (take c.loop-seed.seed-index items)) (row_seen c.seed-item.result) c.loop-seed.sorted.kept
+    subst (λ (seeds : List (ℕ × List (Option ℕ))). Sorted c.args.model.now c.args.prefs.now c.args.budget seeds c.place_seed.new.sorted.kept
+    c.place_seed.new.sorted.dropped) (sym more)
+    (sorted-next c.args.model.now c.args.prefs.now c.args.budget (map row_seen (take c.loop-seed.seed-index items)) (row_seen c.seed-item.result)
+    c.loop-seed.sorted.kept
     c.place_seed.new.sorted.kept c.loop-seed.sorted.dropped c.place_seed.new.sorted.dropped c.loop-seed.invariant c.in_ok-place_seed.ensures.kept
     c.in_ok-place_seed.ensures.dropped c.in_ok-place_seed.ensures.asked)
 
@@ -47,14 +53,16 @@ pub returns-clause-kept : goal.returns-clause-kept
 returns-clause-kept c =
     let items : List FileRow = c.as_slice-seed-items.result.now in
     c.loop-seed.invariant.kept_are
-    ∙ ap (λ seeds. filter (can_be_served c.args.model.now) (map (λ seed. seed.1) seeds)) (ap (map row_seen) (take_all c.loop-seed.seed-index items c.loop-seed-test.false)
+    ∙ ap (λ seeds. filter (can_be_served c.args.model.now) (map (λ seed. seed.1) seeds))
+    (ap (map row_seen) (take_all c.loop-seed.seed-index items c.loop-seed-test.false)
     ∙ whole c.args.seeds.now.rows c.in-Ok.distinct items c.as_slice.result.now c.as_slice.ensures c.in-Ok.ensures.seeds c.as_slice-seed-items.ensures)
 
 pub returns-clause-dropped : goal.returns-clause-dropped
 returns-clause-dropped c =
     let items : List FileRow = c.as_slice-seed-items.result.now in
     c.loop-seed.invariant.dropped_are
-    ∙ ap (λ seeds. map (λ seed. seed.0) (filter (λ seed. not (can_be_served c.args.model.now seed.1)) seeds)) (ap (map row_seen) (take_all c.loop-seed.seed-index items c.loop-seed-test.false)
+    ∙ ap (λ seeds. map (λ seed. seed.0) (filter (λ seed. not (can_be_served c.args.model.now seed.1)) seeds))
+    (ap (map row_seen) (take_all c.loop-seed.seed-index items c.loop-seed-test.false)
     ∙ whole c.args.seeds.now.rows c.in-Ok.distinct items c.as_slice.result.now c.as_slice.ensures c.in-Ok.ensures.seeds c.as_slice-seed-items.ensures)
 
 pub returns-clause-asked : goal.returns-clause-asked

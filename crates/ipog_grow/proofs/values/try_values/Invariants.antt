@@ -5,9 +5,9 @@ use Rattle.ipog_grow.proofs.values.try_values.Given as goal
 -- the scores that are left decide
 abbrev pub invariant-loop-v : goal.invariant-loop-v
 invariant-loop-v l = record {
-  world : l.asker.world ≡ l.fn.asker.world;
+  context : l.asker.context ≡ l.fn.asker.context;
   row : l.row ≡ l.fn.row;
-  trying : Trying l.fn.asker.world l.order l.column l.fn.row l.fn.scores l.scores;
+  trying : Trying l.fn.asker.context l.order l.column l.fn.row l.fn.scores l.scores;
 }
 
 abbrev pub decreases-loop-v : goal.decreases-loop-v

@@ -5,10 +5,10 @@ use Rattle.std.proofs.lemmas.Iterator.Splits.{YieldsList-from_str_split}
 use Rattle.model_lex.specs.Blanks.{trimmed}
 use Rattle.model_parse.proofs.cut.pieces.Goals as goal
 
-pub returns-in-Ok : goal.returns-in-Ok
-returns-in-Ok c =
+pub returns : goal.returns
+returns c =
     let parts =
-    map_from_collect c.collect-parts.result c.collect-parts.ensures.ran (YieldsList-from_map_by _ (λ (r : Bor (List ℕ)). r.now) trimmed
+    map_from_collect c.collect.result c.collect.ensures.ran (YieldsList-from_map_by _ (λ (r : Bor (List ℕ)). r.now) trimmed
     (YieldsList-at c.map.ensures.source (YieldsList-from_str_split c.args.mark c.args.text.now c.requires c.split.ensures.text c.split.ensures.has_more (c.split.ensures.pattern ∙ c.from.ensures)))
     c.map.ensures.closure (λ x r q k. search (rules, tests))) in
-    rw c.in-Ok.is at parts
+    rw c.in_ok-parts.was at parts

@@ -2,6 +2,7 @@ use Rattle.std.proofs.Common.{[]}
 use Rattle.model_lex.specs.Sections.{line_seen}
 use Rattle.model_lex.specs.declared.sections.NumLine.{NumLine}
 use Rattle.model_parse.specs.GroupLines.{read_group}
+use Rattle.model_parse.proofs.Answering.{gives_fault}
 use Rattle.model_parse.proofs.Readings.{each_stops}
 use Rattle.model_parse.proofs.group.add_groups.Goals as goal
 
@@ -9,7 +10,9 @@ use Rattle.model_parse.proofs.group.add_groups.Goals as goal
 no_line : NumLine
 no_line = record { line = 0; text = record { ref_ptr = (0, 0); now = [] } }
 
-pub returns-in-Err : goal.returns-in-Err
+pub returns-in_err-demand : goal.returns-in_err-demand
 unfolding no_line
-returns-in-Err c =
-    λ n. each_stops (read_group c.args.opts.now c.args.known.now) line_seen c.args.lines.now c.args.demand c.loop-line.line-index no_line c.loop-line.demand c.in-Err.fault c.loop-line-test.true c.loop-line.invariant (c.in-Err.ensures n)
+returns-in_err-demand c =
+    gives_fault (λ demand. demand) _ c.from_residual.result c.in_err-demand.field-0.0 c.from_residual.ensures.1
+    (λ n. each_stops (read_group c.args.opts.now c.args.known.now) line_seen c.args.lines.now c.args.demand c.loop-line.line-index no_line c.loop-line.demand c.in_err-demand.field-0.0
+    c.loop-line-test.true c.loop-line.invariant (c.in_err-demand.ensures n))

@@ -1,14 +1,13 @@
-use Rattle.std.proofs.Common.{◌≡◌, ◌<◌, ℕ, Option, length, sym, ◌∙◌, ap, IfSome, arith}
+use Rattle.std.proofs.Common.{◌<◌, length, sym, ◌∙◌, ap, arith}
 use Rattle.model_parse.specs.Values.{place_of, add_value}
 use Rattle.model_parse.specs.Steps.{and_each}
-use Rattle.model_parse.proofs.Answering.{gives_same, kept_ok, reference_is}
+use Rattle.model_parse.proofs.Answering.{gives_same, reference_is}
 use Rattle.model_parse.proofs.piece.add_piece.Goals as goal
 
 pub returns-in-Some-2 : goal.returns-in-Some-2
 returns-in-Some-2 c =
-    let place = kept_ok (λ (o : Option ℕ). o ≡ place_of c.args.opts.now.fold c.args.known.now c.in-Some.name.now) c.place.result c.kept.result c.in_ok-p.field-0 c.kept.ensures c.in_ok-p.was c.place.ensures.value in
-    let within = kept_ok (λ (o : Option ℕ). IfSome o (λ p. p < length c.args.known.now)) c.place.result c.kept.result c.in_ok-p.field-0 c.kept.ensures c.in_ok-p.was c.place.ensures.within in
-    let below : c.in-Some-2.p < length c.args.known.now = rw c.in-Some-2.is at within in
+    let below : c.in-Some-2.p < length c.args.known.now = rw c.in-Some-2.is at c.in_ok-p.ensures.within in
     gives_same (λ next. next) c.add_copies.result _ _ (ap (and_each (add_value c.args.opts.now.fold c.args.line) c.args.read) c.as_slice.ensures
     ∙ reference_is c.args.opts.now c.args.line c.args.params.now c.args.known.now c.args.read c.args.piece.now c.in-Some-2.p c.index-params-p.result c.in-Some.ensures.0
-    (ap (place_of c.args.opts.now.fold c.args.known.now) (sym c.in-Some.ensures.1) ∙ sym place ∙ c.in-Some-2.is) (omega (arith, below))) c.add_copies.ensures
+    (ap (place_of c.args.opts.now.fold c.args.known.now) (sym c.in-Some.ensures.1) ∙ sym c.in_ok-p.ensures.value
+    ∙ c.in-Some-2.is) (omega (arith, below))) c.add_copies.ensures

@@ -1,10 +1,9 @@
-use Rattle.std.proofs.Common.{◌≡◌, ℕ, List, [], None, Bor, Vec, map, sym, ◌∙◌, ap}
+use Rattle.std.proofs.Common.{◌≡◌, ℕ, List, [], None, Bor, map, sym, ◌∙◌, ap}
 use Rattle.std.specs.Prelude.{slice_index_or}
-use Rattle.std.specs.declared.alloc.Global.{Global}
 use Rattle.cov_model.specs.declared.parameter.Value.{Value}
-use Rattle.model_parse.specs.Pieces.{pieces, begins_with}
+use Rattle.model_parse.specs.Pieces.{begins_with}
 use Rattle.model_parse.specs.Values.{without_prefix, add_value, piece_code, value_of, names_code}
-use Rattle.model_parse.proofs.Answering.{gives_same, kept_ok, accepted_is}
+use Rattle.model_parse.proofs.Answering.{gives_same, accepted_is}
 use Rattle.model_parse.proofs.Weights.{Spells, spelled}
 use Rattle.model_parse.proofs.piece.add_spelled.Goals as goal
 
@@ -14,15 +13,13 @@ seen texts = map (λ text. text.now) texts
 pub returns : goal.returns
 returns c =
     let marks = c.args.opts.now.marks in
-    let parts = kept_ok (λ (ps : Vec (Bor (List ℕ)) Global). seen ps.items ≡ pieces marks.alias c.read_weight-weight.result.0.now) c.pieces.result c.kept.result c.in_ok-parts.parts c.kept.ensures c.in_ok-parts.was c.pieces.ensures in
-    let names = kept_ok (λ (ns : List (Bor (List ℕ))). seen ns ≡ map (without_prefix marks.prefix) (seen c.as_slice.result.now)) c.without_prefixes.result c.kept-2.result c.in_ok-names.names c.kept-2.ensures c.in_ok-names.was c.without_prefixes.ensures in
     let code : names_code marks.prefix (seen c.in_ok-names.names) ≡ None =
     ap (λ (ns : List (Bor (List ℕ))). names_code marks.prefix (seen ns)) (sym c.as_slice-2.ensures) ∙ sym c.names_code.ensures ∙ c.in_default.is in
     let value : Value = record { names = seen c.in_ok-names.names; weight = c.read_weight-weight.result.1; negative = c.is_negative-negative.result } in
     let spells : Spells marks c.args.piece.now value =
     spelled marks c.args.piece.now c.read_weight-weight.result.0.now c.read_weight-weight.result.1 (seen c.in_ok-parts.parts.items) (seen c.in_ok-names.names) c.is_negative-negative.result
-    c.read_weight-weight.ensures.names c.read_weight-weight.ensures.weight c.if-weight-eq0.false c.if-weight-ge-WEIGHT_END.false parts
-    (names ∙ ap (λ (ps : List (Bor (List ℕ))). map (without_prefix marks.prefix) (seen ps)) c.as_slice.ensures.value) code
+    c.read_weight-weight.ensures.names c.read_weight-weight.ensures.weight c.if-weight-eq0.false c.if-weight-ge-WEIGHT_END.false c.in_ok-parts.ensures
+    (c.in_ok-names.ensures ∙ ap (λ (ps : List (Bor (List ℕ))). map (without_prefix marks.prefix) (seen ps)) c.as_slice.ensures.value) code
     (c.is_negative-negative.ensures ∙ ap (λ (ps : List (Bor (List ℕ))). begins_with marks.prefix (slice_index_or (seen ps) 0 [])) c.as_slice-3.ensures.value) in
     let add = add_value c.args.opts.now.fold c.args.line c.args.read in
     gives_same (λ next. next) c.add_value.result _ _ (ap (λ (ns : List (Bor (List ℕ))). add (record { names = seen ns; weight = c.read_weight-weight.result.1; negative = c.is_negative-negative.result })) c.as_slice-4.ensures

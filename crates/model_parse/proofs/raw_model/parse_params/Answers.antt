@@ -5,7 +5,7 @@ use Rattle.model_lex.specs.declared.fault.ModelFault.{ModelFault}
 use Rattle.model_parse.specs.GroupLines.{read_groups}
 use Rattle.model_parse.specs.RawModels.{IsSoundRaw, order_in, raw_model_of, with_demand}
 use Rattle.model_parse.specs.Steps.{and_then}
-use Rattle.model_parse.proofs.Answering.{gives_same, raw_goes}
+use Rattle.model_parse.proofs.Answering.{gives_fault, gives_same, raw_goes}
 use Rattle.model_parse.proofs.Keeping.{given_ok}
 use Rattle.model_parse.proofs.SoundGroups.{raw_ok}
 use Rattle.model_parse.proofs.raw_model.parse_params.Goals as goal
@@ -18,13 +18,17 @@ goes c demand is =
     raw_goes c.args.opts.now (split_seen c.args.sections.now) (map line_seen c.as_slice-lines.result.now) (map line_seen c.as_slice.result.now) c.in_ok-read.read demand
     (ap (map line_seen) c.as_slice-lines.ensures) (ap (map line_seen) c.as_slice.ensures) c.in_ok-read.ensures.value is
 
-pub returns-in-Ok-clause-value : goal.returns-in-Ok-clause-value
-returns-in-Ok-clause-value c = gives_same (λ raw. raw) c.with_demand.result _ _ (sym (goes (goal.at.returns-in-Ok-clause-value c).After-read_demand (Ok c.in-Ok.demand) c.in-Ok.ensures)) c.with_demand.ensures
+pub returns-clause-value : goal.returns-clause-value
+returns-clause-value c = gives_same (λ raw. raw) c.with_demand.result _ _
+    (sym (goes (goal.at.returns-clause-value c).After-read_demand (Ok c.in_ok-demand.demand) c.in_ok-demand.ensures)) c.with_demand.ensures
 
-pub returns-in-Ok-clause-sound : goal.returns-in-Ok-clause-sound
-returns-in-Ok-clause-sound c =
+pub returns-clause-sound : goal.returns-clause-sound
+returns-clause-sound c =
     given_ok (IsSoundRaw c.args.opts.now) _ c.with_demand.result (raw_ok c.args.opts.now (split_seen c.args.sections.now) c.requires)
-    (gives_same (λ raw. raw) c.with_demand.result _ _ (sym (goes (goal.at.returns-in-Ok-clause-sound c).After-read_demand (Ok c.in-Ok.demand) c.in-Ok.ensures)) c.with_demand.ensures)
+    (gives_same (λ raw. raw) c.with_demand.result _ _ (sym (goes (goal.at.returns-clause-sound c).After-read_demand
+    (Ok c.in_ok-demand.demand) c.in_ok-demand.ensures)) c.with_demand.ensures)
 
-pub returns-in-Err-clause-value : goal.returns-in-Err-clause-value
-returns-in-Err-clause-value c = λ n. goes (goal.at.returns-in-Err-clause-value c).After-read_demand (Err c.in-Err.fault) (c.in-Err.ensures n)
+pub returns-in_err-demand-clause-value : goal.returns-in_err-demand-clause-value
+returns-in_err-demand-clause-value c =
+    gives_fault (λ raw. raw) _ c.from_residual-in_err-demand.result c.in_err-demand.field-0.0 c.from_residual-in_err-demand.ensures.1
+    (λ n. goes (goal.at.returns-in_err-demand-clause-value c).After-read_demand (Err c.in_err-demand.field-0.0) (c.in_err-demand.ensures n))

@@ -1,12 +1,15 @@
-use Rattle.std.proofs.Common.{◌≡◌, ◌&&◌, None, false, true, sym, ap, lit<}
+use Rattle.std.proofs.Common.{◌≡◌, ◌&&◌, None, true, false, length, sym, ap, lit<, ◌∙◌, arith}
+use Rattle.std.proofs.lemmas.Bool.{le-ltb}
 use Rattle.std.proofs.lemmas.Str.Pattern.{split_once_first}
+use Rattle.std.specs.List.{before_first, position_or_len}
+use Rattle.value_text.proofs.ListLemmas.{list_any-position}
 use Rattle.value_text.specs.Texts.{is_same_text}
-use Rattle.std.specs.List.{before_first}
 use Rattle.definitions.specs.Settings.{has_colon, is_colon}
-use Rattle.pict_cli.proofs.Colons.{none_passes}
 use Rattle.pict_cli.proofs.setting.is_named.Goals as goal
 
 pub returns-in-None : goal.returns-in-None
 returns-in-None c =
-    let none : has_colon c.args.word.now ≡ false = none_passes is_colon c.args.word.now (split_once_first 58 c.args.word.now None c.in-None.ensures.cases (lit< tt)) in
-    sym (ap (λ b. b && is_same_text true (before_first is_colon c.args.word.now) c.args.name.now) none)
+    let word = c.args.word.now in
+    let past : position_or_len is_colon word ≡ length word = split_once_first 58 word None c.in-None.ensures.cases (lit< tt) in
+    let none : has_colon word ≡ false = list_any-position is_colon word ∙ le-ltb (position_or_len is_colon word) (length word) (omega (arith, past)) in
+    sym (ap (λ b. b && is_same_text true (before_first is_colon word) c.args.name.now) none)

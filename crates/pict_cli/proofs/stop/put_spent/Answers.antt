@@ -7,13 +7,16 @@ use Rattle.pict_cli.proofs.stop.put_spent.Goals as goal
 
 pub returns-in-Failed-clause-puts : goal.returns-in-Failed-clause-puts
 returns-in-Failed-clause-puts g c =
-    Puts-spent_opening c.args.budget c.args.question.now.cells (g.E.Sink.written c.args.sink.now) (g.E.Sink.written c.put_opening.new.sink) c.in-Failed.ensures.puts
+    Puts-spent_opening c.args.budget c.args.question.now.cells (g.E.Sink.written c.args.sink.now)
+    (g.E.Sink.written c.put_opening.new.sink) c.in-Failed.ensures.puts
 
 pub returns-in-Done-put_pairs-clause-puts : goal.returns-in-Done-put_pairs-clause-puts
 returns-in-Done-put_pairs-clause-puts g c =
     Puts-spent c.put_pieces.result c.args.budget c.args.question.now.cells
-    (g.E.Sink.written c.args.sink.now) (g.E.Sink.written c.put_opening.new.sink) (g.E.Sink.written c.put_pairs.new.sink) (g.E.Sink.written c.put_pieces.new.sink)
-    c.in-Done.ensures.puts (subst (λ pairs. Puts Done (g.E.Sink.written c.put_opening.new.sink) (g.E.Sink.written c.put_pairs.new.sink) (pairs_text pairs)) c.as_slice.ensures.value c.in-Done-put_pairs.ensures.puts)
+    (g.E.Sink.written c.args.sink.now) (g.E.Sink.written c.put_opening.new.sink) (g.E.Sink.written c.put_pairs.new.sink)
+    (g.E.Sink.written c.put_pieces.new.sink)
+    c.in-Done.ensures.puts
+    (subst (λ pairs. Puts Done (g.E.Sink.written c.put_opening.new.sink) (g.E.Sink.written c.put_pairs.new.sink) (pairs_text pairs)) c.as_slice.ensures.value c.in-Done-put_pairs.ensures.puts)
     c.put_pieces.ensures.puts
 
 pub returns-in-Failed-put_pairs-clause-puts : goal.returns-in-Failed-put_pairs-clause-puts

@@ -1,4 +1,4 @@
-use Rattle.std.proofs.Common.{[], ap, refl, ◌∙◌}
+use Rattle.std.proofs.Common.{ap, refl, ◌∙◌}
 use Rattle.cov_model.specs.Preference.{preference}
 use Rattle.pict_cli.specs.Options.{settings_seen}
 use Rattle.pict_cli.specs.Runs.{orders_of}
@@ -10,5 +10,5 @@ returns-clause-stops g c =
     let m = c.args.model.now in
     let s = settings_seen c.args.opts.now in
     c.stop_of_search.ensures.stops s c.args.seed_word m refl c.requires.within
-    (ends_by m c.in-Ok.prefs (orders_of s c.args.seed_word m) c.args.opts.now.budget c.new-2.result c.in-Err.fault
-    (c.in-Ok.ensures.orders ∙ ap (preference m) c.shuffle_number-number.ensures) c.new-2.ensures c.in-Err.ensures.asked)
+    (ends_by m c.in_ok-prefs.prefs (orders_of s c.args.seed_word m) c.args.opts.now.budget c.new-2.result c.in-Err.fault
+    (c.in_ok-prefs.ensures.orders ∙ ap (preference m) c.shuffle_number-number.ensures) c.new-2.ensures c.in-Err.ensures.asked)

@@ -7,6 +7,8 @@ use Rattle.row_text.proofs.numbers.put_stats.Goals as goal
 pub returns : goal.returns
 returns g c =
     let state = state_of g.O.Sink.written g.O.Sink.room g.O.Sink.faults in
-    let lines = Adds-then (Adds-then (Adds-then (Adds-then c.put_number.ensures c.put_number-2.ensures) c.put_number-3.ensures) c.put_number-4.ensures) c.put_number-5.ensures in
-    let whole = c.answer.ensures (state c.args.out.now) (state c.put_number-5.new.out) (statistics_text (statistics_seen c.args.stats.now)) (Holds-all c.new-lines.ensures lines) in
+    let lines = Adds-then
+    (Adds-then (Adds-then (Adds-then c.put_number.ensures c.put_number-2.ensures) c.put_number-3.ensures) c.put_number-4.ensures) c.put_number-5.ensures in
+    let whole = c.answer.ensures (state c.args.out.now) (state c.put_number-5.new.out) (statistics_text (statistics_seen c.args.stats.now))
+    (Holds-all c.new-lines.ensures lines) in
     record { puts = whole.puts; leaves = whole.leaves; balances = whole.balances; counts = whole.counts }

@@ -12,5 +12,6 @@ put_rows-requires-clause-shape g c = subst (IsFor c.args.model.now) (sym (c.clea
 pub returns : goal.returns
 returns g c =
     let state = state_of g.O.Sink.written g.O.Sink.room g.O.Sink.faults in
-    let whole = c.finish.ensures (state c.args.out.now) (report_text c.args.model.now c.args.rows.now) (Holds-all c.clear.ensures.buffer (Adds-then c.put_header.ensures c.put_rows.ensures.text)) in
+    let whole = c.finish.ensures (state c.args.out.now) (report_text c.args.model.now c.args.rows.now)
+    (Holds-all c.clear.ensures.buffer (Adds-then c.put_header.ensures c.put_rows.ensures.text)) in
     record { puts = whole.puts; leaves = whole.leaves; balances = whole.balances; counts = whole.counts; turns = c.put_rows.ensures.shape }

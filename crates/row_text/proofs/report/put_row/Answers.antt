@@ -34,7 +34,8 @@ pub returns-clause-text : goal.returns-clause-text
 returns-clause-text g c =
     let text = cell_text c.args.model.now (take c.args.at c.args.rows.now) (get_or c.args.rows.now c.args.at []) in
     let cells = map text (param_numbers c.args.model.now) in
-    let past : length cells ≤ c.loop-place.place = omega (arith, length-map-range_with_len text 0 (length c.args.model.now.params), ap length c.params.ensures.value) in
+    let past : length cells ≤ c.loop-place.place = omega
+    (arith, length-map-range_with_len text 0 (length c.args.model.now.params), ap length c.params.ensures.value) in
     Adds-same (ap (λ parts. join_with_byte 9 parts ++ 10 ∷ []) (take_all c.loop-place.place cells past)) (Adds-then c.loop-place.invariant.text c.add.ensures)
 
 pub returns-clause-next : goal.returns-clause-next

@@ -12,7 +12,8 @@ returns-then-workers-eq1 g t c =
 
 pub returns : goal.returns
 returns g t c i within =
-    joined c.args.table.now c.args.cells.now c.args.column c.args.from (c.args.from + c.share-middle.result) c.left-1.given.0 c.right-1.given.0 i within (search rules) (search rules) (search rules)
+    joined c.args.table.now c.args.cells.now c.args.column c.args.from (c.args.from + c.share-middle.result) c.left-1.given.0 c.right-1.given.0 i within
+    (search rules) (search rules) (search rules)
 
 pub join_mut-requires-send-F : goal.join_mut-requires-send-F
 join_mut-requires-send-F g t c κs within =

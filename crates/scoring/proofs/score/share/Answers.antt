@@ -9,7 +9,8 @@ share_within : (count first workers : ℕ) → first < workers → (count * firs
 share_within count first workers below =
     let some : 0 < workers = omega (arith, below) in
     let opened : (count + 1) * workers ≡ count * workers + workers = grind arith in
-    let within : (count * first + workers - 1) / workers < count + 1 = (div-lt_iff_lt-mul some).1 (omega (arith, less count first workers below, opened, some)) in
+    let within : (count * first + workers - 1) / workers < count + 1 =
+    (div-lt_iff_lt-mul some).1 (omega (arith, less count first workers below, opened, some)) in
     omega (arith, within)
 
 pub returns : goal.returns

@@ -14,10 +14,12 @@ returns c =
     let of : List Group → List ℕ = λ groups. map (λ group. told (group_ways group)) groups in
     let ones : List ℕ = map (λ p. 1) (singles m) in
     let listed : counts ≡ of m.demand.subs ++ ones =
-    c.in_ok-push_single_counts.ensures ∙ ap (λ xs. xs ++ ones) (c.in_ok-units.ensures ∙ ap of (c.as_slice.ensures ∙ ap (λ d. d.subs) c.demand-demand.ensures.value)) in
+    c.in_ok-push_single_counts.ensures ∙ ap (λ xs. xs ++ ones)
+    (c.in_ok-units.ensures ∙ ap of (c.as_slice.ensures ∙ ap (λ d. d.subs) c.demand-demand.ensures.value)) in
     let least : c.min-taken.result ≡ min (length counts) m.demand.order = grind (arith, common_steps) in
     let multiplied : c.in_ok-unions.unions ≡ told (products c.min-taken.result counts) =
     c.in_ok-unions.ensures ∙ ap (λ xs. told (products c.min-taken.result xs)) c.deref.ensures.value in
     let subsets : c.in_ok-count_relations.field-0 ≡ told (sum_by group_ways m.demand.relations) =
-    c.in_ok-count_relations.ensures ∙ ap (λ groups. told (sum_by group_ways groups)) (c.as_slice-2.ensures ∙ ap (λ d. d.relations) c.demand-demand.ensures.value) in
+    c.in_ok-count_relations.ensures ∙ ap (λ groups. told (sum_by group_ways groups))
+    (c.as_slice-2.ensures ∙ ap (λ d. d.relations) c.demand-demand.ensures.value) in
     c.saturating_add.ensures ∙ count_is m counts c.min-taken.result c.in_ok-unions.unions c.in_ok-count_relations.field-0 listed least multiplied subsets

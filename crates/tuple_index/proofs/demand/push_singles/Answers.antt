@@ -13,10 +13,12 @@ loop-p-preserved c =
       c.loop-p.invariant.0,
       elim c.if-is_single.branch [
         | then-is_single+in_ok-single_way+in_ok-push w ↦
-            single_found test alone c.loop-p.p c.len-count.result c.loop-p.into c.if-is_single.into _ c.loop-p-test.true (sym c.is_single.ensures ∙ w.if-is_single.true)
+            single_found test alone c.loop-p.p c.len-count.result c.loop-p.into c.if-is_single.into _ c.loop-p-test.true
+            (sym c.is_single.ensures ∙ w.if-is_single.true)
             (grind (arith, common_steps)) c.loop-p.invariant.1
         | else-is_single w ↦
-            single_passed test alone c.loop-p.p c.len-count.result c.loop-p.into c.if-is_single.into _ c.loop-p-test.true (sym c.is_single.ensures ∙ w.if-is_single.false)
+            single_passed test alone c.loop-p.p c.len-count.result c.loop-p.into c.if-is_single.into _ c.loop-p-test.true
+            (sym c.is_single.ensures ∙ w.if-is_single.false)
             w.into-is c.loop-p.invariant.1
       ],
     )

@@ -5,4 +5,5 @@ use Rattle.tuple_index.proofs.values.listed_params.Given as goal
 
 abbrev pub invariant-loop-p : goal.invariant-loop-p
 invariant-loop-p l =
-    (l.count ≡ length l.model.params) × (l.set.items ++ map (λ p. p) (filter (is_among l.choice) (range_with_len l.p (l.count - l.p))) ≡ map (λ p. p) (rising l.model l.choice))
+    (l.count ≡ length l.model.params) × (l.set.items ++ map (λ p. p) (filter (is_among l.choice) (range_with_len l.p (l.count - l.p)))
+    ≡ map (λ p. p) (rising l.model l.choice))

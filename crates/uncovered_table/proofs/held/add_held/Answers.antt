@@ -20,9 +20,16 @@ loop-set-preserved c =
     let set = get_or sets c.loop-set.set-index 0 in
     record {
       long = c.add_set.ensures.long ∙ c.loop-set.invariant.long;
-      each = λ i within. c.add_set.ensures.each i (omega (arith, within, c.loop-set.invariant.long)) ∙ ap (λ k. k + f i set) (c.loop-set.invariant.each i within)
+      each = λ i within. c.add_set.ensures.each i (omega (arith, within, c.loop-set.invariant.long))
+          ∙ ap (λ k. k + f i set) (c.loop-set.invariant.each i within)
           ∙ sym (sum_by_more (f i) sets c.loop-set.set-index 0 c.loop-set-test.true);
       few = λ i within.
           let more = c.add_set.ensures.each i (omega (arith, within, c.loop-set.invariant.long)) in
-          omega (arith, more, c.loop-set.invariant.few i within, value_most v.model v.slice c.args.bits.now c.args.cells.now c.args.column (c.args.from + i) set);
+          omega (
+            arith,
+            more,
+            c.loop-set.invariant.few i within,
+            value_most v.model v.slice c.args.bits.now c.args.cells.now c.args.column
+                (c.args.from + i) set,
+          );
     }

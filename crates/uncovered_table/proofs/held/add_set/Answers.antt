@@ -14,7 +14,14 @@ from_value-digits-requires c =
 pub add_line-requires-clause-room : goal.add_line-requires-clause-room
 add_line-requires-clause-room c =
     let v = c.args.sets.now in
-    omega (arith, ap length c.from_value-digits.ensures, length-drop c.args.from c.digits.result.now, ap length c.digits.ensures, digits_long v.model v.slice c.args.column, c.requires.values)
+    omega (
+      arith,
+      ap length c.from_value-digits.ensures,
+      length-drop c.args.from c.digits.result.now,
+      ap length c.digits.ensures,
+      digits_long v.model v.slice c.args.column,
+      c.requires.values,
+    )
 
 pub add_line-requires-clause-within : goal.add_line-requires-clause-within
 add_line-requires-clause-within c =
@@ -32,6 +39,7 @@ returns-in-Some-clause-each c =
     let inside : c.args.from + i < length (param_at v.model.params c.args.column).values = omega (arith, within, c.requires.values) in
     c.add_line.ensures.each i within
     ∙ ap (λ ds. get_or c.args.scores.now i 0 + bit_count c.args.bits.now (line_bit c.in-Some.line (get_or ds i None))) same
-    ∙ ap (λ o. get_or c.args.scores.now i 0 + bit_count c.args.bits.now (line_bit c.in-Some.line o)) (digit_from v.model v.slice c.args.column c.args.from i inside)
+    ∙ ap (λ o. get_or c.args.scores.now i 0 + bit_count c.args.bits.now (line_bit c.in-Some.line o))
+    (digit_from v.model v.slice c.args.column c.args.from i inside)
     ∙ ap (λ k. get_or c.args.scores.now i 0 + k)
     (value_line v.model v.slice c.args.bits.now c.args.cells.now c.args.column (c.args.from + i) c.args.set c.in-Some.line c.in-Some.ensures.value)

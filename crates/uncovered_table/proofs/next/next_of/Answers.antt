@@ -9,4 +9,5 @@ first_set-i-requires c =
 
 pub loop-i-init : goal.loop-i-init
 loop-i-init c =
-    begins_at c.args.sets.now.model c.args.sets.now.slice c.args.bits.now c.args.from c.first_set-i.result c.in_play-in_play.result.now c.first_set-i.ensures.before c.first_set-i.ensures.all
+    begins_at c.args.sets.now.model c.args.sets.now.slice c.args.bits.now c.args.from c.first_set-i.result c.in_play-in_play.result.now
+    c.first_set-i.ensures.before c.first_set-i.ensures.all

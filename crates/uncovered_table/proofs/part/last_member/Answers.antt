@@ -12,7 +12,8 @@ loop-p-preserved c = record {
 
 pub returns-clause-value : goal.returns-clause-value
 returns-clause-value c =
-    last_end (λ r. length (values_in c.args.plan.now c.args.slice r)) c.args.members.now c.loop-p.p-index c.loop-p.last _ c.loop-p-test.false c.loop-p.invariant.so_far
+    last_end (λ r. length (values_in c.args.plan.now c.args.slice r)) c.args.members.now c.loop-p.p-index c.loop-p.last _ c.loop-p-test.false
+    c.loop-p.invariant.so_far
 
 pub returns-clause-own : goal.returns-clause-own
 returns-clause-own c = c.loop-p.invariant.own

@@ -8,11 +8,11 @@ pub invariant_of-result : goal.invariant_of-result
 invariant_of-result c =
     let count = c.args.size / 64 + 1 in
     let enough : c.args.size ≤ 64 * count = omega arith in
-    let full : c.in-Ok.words.items ≡ replicate count (2 ^ 64 - 1) = c.in-Ok.ensures.items_if_clones_equal (λ y same. same) in
+    let full : c.in_ok-words.words.items ≡ replicate count (2 ^ 64 - 1) = c.in_ok-words.ensures.items_if_clones_equal (λ y same. same) in
     rw full (rw (length-replicate count (2 ^ 64 - 1)) enough, all_counted count c.args.size enough)
 
-pub returns-in-Ok : goal.returns-in-Ok
-returns-in-Ok c =
+pub returns : goal.returns
+returns c =
     let count = c.args.size / 64 + 1 in
-    let full : c.in-Ok.words.items ≡ replicate count (2 ^ 64 - 1) = c.in-Ok.ensures.items_if_clones_equal (λ y same. same) in
+    let full : c.in_ok-words.words.items ≡ replicate count (2 ^ 64 - 1) = c.in_ok-words.ensures.items_if_clones_equal (λ y same. same) in
     ap (λ words. marks_of words c.args.size) full ∙ all_marked count c.args.size (omega arith)

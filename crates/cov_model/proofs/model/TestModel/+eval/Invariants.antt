@@ -1,9 +1,11 @@
 use Rattle.std.proofs.Common.{◌≡◌, drop}
-use Rattle.cov_model.specs.Kleene.{all_truths, any_truths, and_of, or_of}
+use Rattle.cov_model.specs.Views.{preds_in}
+use Rattle.cov_model.specs.Kleene.{all_truth, any_truth, and_of, or_of}
 use Rattle.cov_model.proofs.model.TestModel.+eval.Given as goal
 
 abbrev pub invariant-all_truth-loop-part : goal.invariant-all_truth-loop-part
-invariant-all_truth-loop-part l = and_of l.so_far (all_truths l.self (drop l.part-index l.parts) l.cells) ≡ all_truths l.self l.parts l.cells
+invariant-all_truth-loop-part l =
+    and_of l.so_far (all_truth l.self (preds_in (drop l.part-index l.parts)) l.cells) ≡ all_truth l.self (preds_in l.parts) l.cells
 
 abbrev pub invariant-any_truth-loop-part : goal.invariant-any_truth-loop-part
-invariant-any_truth-loop-part l = or_of l.so_far (any_truths l.self (drop l.part-index l.parts) l.cells) ≡ any_truths l.self l.parts l.cells
+invariant-any_truth-loop-part l = or_of l.so_far (any_truth l.self (preds_in (drop l.part-index l.parts)) l.cells) ≡ any_truth l.self (preds_in l.parts) l.cells

@@ -5,4 +5,5 @@ use Rattle.cov_model.proofs.model.TestModel.row_fault.Given as goal
 -- no constraint before this place is false
 abbrev pub invariant-loop-rule : goal.invariant-loop-rule
 invariant-loop-rule l =
-    find (λ rule. not (body_holds l.self rule.body l.row)) l.self.rules ≡ find (λ rule. not (body_holds l.self rule.body l.row)) (drop l.rule-index l.self.rules)
+    find (λ rule. not (body_holds l.self rule.body l.row)) l.self.rules ≡ find (λ rule. not (body_holds l.self rule.body l.row))
+    (drop l.rule-index l.self.rules)

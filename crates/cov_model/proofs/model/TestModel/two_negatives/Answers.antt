@@ -14,7 +14,8 @@ loop-p-preserved c =
       elim c.if-is_negative.branch [
         | then-is_negative+in-None w ↦
             found_more (λ p. is_assigned c.args.cells.now p && (given_value c.args.self.now c.args.cells.now p).negative) c.loop-p.p c.len-count.result
-            (negatives c.args.self.now c.args.cells.now) c.loop-p.first c.if-is_negative.first within (grind (arith, common_steps)) (cc) (cc) c.loop-p.invariant.1
+            (negatives c.args.self.now c.args.cells.now) c.loop-p.first c.if-is_negative.first within (grind (arith, common_steps)) (cc)
+            (cc) c.loop-p.invariant.1
         | else-is_negative w ↦
             passed_more (λ p. is_assigned c.args.cells.now p && (given_value c.args.self.now c.args.cells.now p).negative) c.loop-p.p c.len-count.result
             (negatives c.args.self.now c.args.cells.now) c.loop-p.first c.if-is_negative.first within (grind (arith, common_steps)) (cc) c.loop-p.invariant.1

@@ -4,11 +4,19 @@ use Rattle.definitions.specs.Search.{plain_cost}
 use Rattle.feasibility.specs.Answers.{answer_of}
 use Rattle.definitions.specs.SliceRows.{IsOfSlice}
 use Rattle.feasibility.specs.Solving.{SolverView}
-use Rattle.feasibility.proofs.Extendable.{solver_asks}
+use Rattle.feasibility.proofs.Extendable.{solver_lists, solver_asks}
 use Rattle.feasibility.proofs.solver.Solver.ask.Goals as goal
 
 pub returns-clause-answer : goal.returns-clause-answer
 returns-clause-answer c =
-    subst (λ (s : SolverView). c.search.result ≡ answer_of (is_extendable s.model s.slice c.args.cells.now) (plain_cost s.model s.prefs s.slice c.args.cells.now) c.args.budget) c.self.view_is
-    (solver_asks (record { model = c.self.inside.tree.model; prefs = c.self.inside.prefs.now; slice = c.self.inside.slice }) c.self.inside.tree.values c.self.inside.room c.args.cells.now c.args.budget c.search.result c.self.invariant c.search.ensures.sound
+    subst (λ (s : SolverView). c.search.result ≡ answer_of (is_extendable s.model s.slice c.args.cells.now)
+    (plain_cost s.model s.prefs s.slice c.args.cells.now) c.args.budget) c.self.view_is
+    (solver_asks (record { model = c.self.inside.tree.model; prefs = c.self.inside.prefs.now; slice = c.self.inside.slice }) c.self.inside.tree.values
+    c.self.inside.room c.self.inside.fails c.self.inside.sets c.args.cells.now c.args.budget c.search.result c.self.invariant c.search.ensures.sound
     (subst (λ (s : SolverView). IsOfSlice s.model s.slice c.args.cells.now) (sym c.self.view_is) c.requires) c.search.ensures.answer)
+
+pub search-requires-clause-listed : goal.search-requires-clause-listed
+search-requires-clause-listed c =
+    solver_lists (record { model = c.self.inside.tree.model; prefs = c.self.inside.prefs.now; slice = c.self.inside.slice }) c.self.inside.tree.values
+    c.self.inside.room c.self.inside.fails c.self.inside.sets
+    c.args.cells.now c.self.invariant (subst (λ (s : SolverView). IsOfSlice s.model s.slice c.args.cells.now) (sym c.self.view_is) c.requires)

@@ -6,7 +6,8 @@ pub loop-p-preserved : goal.loop-p-preserved
 loop-p-preserved c = (
   c.loop-p.invariant.0,
   subst (λ cells. FilledTo c.args.self.now.values c.args.cells.now cells (c.loop-p.p + 1)) (sym c.fill_cell.ensures)
-      (filled_more c.args.self.now.values c.args.cells.now c.loop-p.cells c.loop-p.p (omega arith) (omega (arith, c.model.ensures.values.as_many)) c.loop-p.invariant.1),
+      (filled_more c.args.self.now.values c.args.cells.now c.loop-p.cells c.loop-p.p (omega arith) (omega (arith, c.assert_invariant.ensures.values.as_many))
+      c.loop-p.invariant.1),
 )
 
 pub returns : goal.returns

@@ -5,7 +5,6 @@ use Rattle.ipog_grow.specs.Rows.{is_known_row}
 use Rattle.ipog_grow.specs.declared.distinct.RowKey.{RowKey}
 use Rattle.ipog_grow.proofs.SameRows.{equal_cells, known_by_places}
 use Rattle.ipog_grow.proofs.distinct.RowSet.add.Goals as goal
-use Rattle.ipog_grow.proofs.distinct.RowSet.add.Goals.{in-Ok, in-Err}
 
 abbrev cells : RowKey → List (Option ℕ)
 cells key = key.places.items
@@ -19,24 +18,18 @@ known key keys rows row views is long =
     ∙ ap (is_known_row (map cells keys)) is ∙ ap (λ rs. is_known_row rs row) views
 
 pub returns-clause-added : goal.returns-clause-added
-returns-clause-added c = elim c.match-insert.branch [
-  | in-Ok w ↦
-      rw w.result-is (w.in-Ok.ensures.added
-      ∙ ap not (known (record { places = c.in_ok-places.places }) c.self.inside.keys.keys c.args.self.now c.args.row.now c.self.view_is c.in_ok-places.ensures c.requires.same))
-  | in-Err w ↦ rw w.result-is tt
-]
+returns-clause-added c =
+    c.in_ok-added.ensures.added
+    ∙ ap not (known (record { places = c.in_ok-places.places }) c.self.inside.keys.keys c.args.self.now c.args.row.now c.self.view_is c.in_ok-places.ensures
+    c.requires.same)
 
 pub returns-clause-rows : goal.returns-clause-rows
-returns-clause-rows c = elim c.match-insert.branch [
-  | in-Ok w ↦
-      let keys : List RowKey = c.self.inside.keys.keys in
-      let key : RowKey = record { places = c.in_ok-places.places } in
-      rw w.result-is (
-      ap (map cells) (w.in-Ok.ensures.keys
-      ∙ ap (λ (b : Bool). cond b keys (keys ++ key ∷ [])) (known key keys c.args.self.now c.args.row.now c.self.view_is c.in_ok-places.ensures c.requires.same))
-      ∙ pushed (is_known_row c.args.self.now c.args.row.now) key keys c.args.self.now c.args.row.now c.self.view_is c.in_ok-places.ensures)
-  | in-Err w ↦ rw w.result-is tt
-]
+returns-clause-rows c =
+    let keys : List RowKey = c.self.inside.keys.keys in
+    let key : RowKey = record { places = c.in_ok-places.places } in
+    ap (map cells) (c.in_ok-added.ensures.keys
+    ∙ ap (λ (b : Bool). cond b keys (keys ++ key ∷ [])) (known key keys c.args.self.now c.args.row.now c.self.view_is c.in_ok-places.ensures c.requires.same))
+    ∙ pushed (is_known_row c.args.self.now c.args.row.now) key keys c.args.self.now c.args.row.now c.self.view_is c.in_ok-places.ensures
   where
     pushed : (b : Bool) (key : RowKey) (keys : List RowKey) (rows : List (List (Option ℕ))) (row : List (Option ℕ)) → map cells keys ≡ rows → cells key ≡ row
         → map cells (cond b keys (keys ++ key ∷ [])) ≡ cond b rows (rows ++ row ∷ [])

@@ -1,6 +1,7 @@
 use Rattle.std.proofs.Common.{Some, length, refl, ap, ◌∙◌}
 use Rattle.outside_io.specs.MemFolder.{Slot}
-use Rattle.outside_io.proofs.SlotLemmas.{raised, fresh, not_found, put_at, put_new, on_ok}
+use Rattle.std.proofs.lemmas.Result.{on_ok_weaker}
+use Rattle.outside_io.proofs.SlotLemmas.{raised, fresh, not_found, put_at, put_new}
 use Rattle.outside_io.proofs.mem_folder.MemFolder.add.Goals as goal
 
 pub returns-in_ok-raise_room-in-Some-clause-ok : goal.returns-in_ok-raise_room-in-Some-clause-ok
@@ -24,7 +25,7 @@ returns-in_ok-file-in-None-clause-ok c =
     let bytes = c.args.bytes.now in
     let absent = not_found slots name c.in-None.ensures in
     let empty = c.in_ok-file-in-None.ensures in
-    on_ok c.push.result
+    on_ok_weaker c.push.result
     (λ pushed. put_new slots _ c.push.new.self.slots name c.fill-in-None.new.self absent refl
     (c.fill-in-None.ensures ∙ ap (λ (s : Slot). record s { file = Some bytes }) empty
     ∙ fresh slots name (Some bytes) (length bytes) absent)

@@ -1,5 +1,6 @@
 use Rattle.std.proofs.Common.{Some, length, refl, ap, sym, ◌∙◌, arith}
-use Rattle.outside_io.proofs.SlotLemmas.{found_at, found-fits, absent-fits, refilled, over, under, not_found, put_at}
+use Rattle.std.proofs.lemmas.Bool.{le-leb, lt-leb}
+use Rattle.outside_io.proofs.SlotLemmas.{found_at, found-fits, absent-fits, refilled, not_found, put_at}
 use Rattle.outside_io.proofs.mem_folder.MemFolder.overwrite.Goals as goal
 
 pub returns-then-bytes-room-clause-fits : goal.returns-then-bytes-room-clause-fits
@@ -11,7 +12,7 @@ returns-then-bytes-room-clause-fits c =
     let size = length c.args.bytes.now in
     let same = ap (λ v. v.slots) c.self.view_is in
     let f = found_at slots name _ at held same c.in-Some.ensures c.index_mut-file.ensures.value in
-    over size held.room (omega arith) ∙ sym (found-fits slots name at held size f)
+    sym (lt-leb size held.room (omega arith)) ∙ sym (found-fits slots name at held size f)
 
 pub returns-else-bytes-room-clause-fits : goal.returns-else-bytes-room-clause-fits
 returns-else-bytes-room-clause-fits c =
@@ -22,7 +23,7 @@ returns-else-bytes-room-clause-fits c =
     let size = length c.args.bytes.now in
     let same = ap (λ v. v.slots) c.self.view_is in
     let f = found_at slots name _ at held same c.in-Some.ensures c.index_mut-file.ensures.value in
-    under size held.room (omega arith) ∙ sym (found-fits slots name at held size f)
+    sym (le-leb size held.room (omega arith)) ∙ sym (found-fits slots name at held size f)
 
 pub returns-else-bytes-room-clause-done : goal.returns-else-bytes-room-clause-done
 returns-else-bytes-room-clause-done c _ =

@@ -4,7 +4,9 @@ use Rattle.row_text.proofs.Sending.{Adds-put, Adds-failed}
 use Rattle.row_text.proofs.lines_out.LinesOut.add.Goals as goal
 
 pub returns-then-self : goal.returns-then-self
-returns-then-self g c = Adds-failed c.args.self.now (state_of g.O.Sink.written g.O.Sink.room g.O.Sink.faults c.args.out.now) c.args.bytes.now (sym (ap (λ b. b.failed) c.self.view_is) ∙ c.if-self.true)
+returns-then-self g c =
+    Adds-failed c.args.self.now (state_of g.O.Sink.written g.O.Sink.room g.O.Sink.faults c.args.out.now) c.args.bytes.now
+    (sym (ap (λ b. b.failed) c.self.view_is) ∙ c.if-self.true)
 
 pub returns : goal.returns
 returns g c =

@@ -12,7 +12,8 @@ loop-next-preserved c =
     let count = ap length c.deref_mut-next-items.ensures.value in
     let inside : at < length c.args.self.now = omega (arith, count, ap length c.self.view_is, length-map c.self.inside.places.items (λ next. next.items)) in
     let known : at < length items = omega arith in
-    let item : numbers ≡ get_or (map (λ next. next.items) items) at numbers = sym (get_or-map (λ next. next.items) items at c.next-item.result numbers known ∙ ap (λ next. next.items) (sym c.next-item.is)) in
+    let item : numbers ≡ get_or (map (λ next. next.items) items) at numbers = sym
+    (get_or-map (λ next. next.items) items at c.next-item.result numbers known ∙ ap (λ next. next.items) (sym c.next-item.is)) in
     map-set (λ next. next.items) items at c.clear_all.new.next
     ∙ ap (set (map (λ next. next.items) items) at) (c.clear_all.ensures ∙ ap (λ next. replicate (length next.items) 0) (sym c.next-item.is))
     ∙ map_over_more (λ next. replicate (length next) 0) c.args.self.now (map (λ next. next.items) items) at numbers inside c.loop-next.invariant item

@@ -10,6 +10,8 @@ loop-param-preserved c =
     let same = c.as_slice-param-items.ensures ∙ c.params.ensures.value in
     let at = c.loop-param.param-index in
     let item = c.param-item.is ∙ ap (λ (xs : List Param). get_or xs at c.param-item.result) same in
-    ap (map (λ next. next.items)) c.in-Ok.ensures.items
-    ∙ map_made_more (λ (param : Param). replicate (length param.values) 0) (λ next. next.items) params c.loop-param.places.items at c.param-item.result c.in_ok-next.next
-    (omega (arith, ap length same)) c.loop-param.invariant (c.in_ok-next.ensures ∙ ap (λ n. replicate n 0) c.len.ensures ∙ ap (λ (param : Param). replicate (length param.values) 0) item)
+    ap (map (λ next. next.items)) c.in_ok-push.ensures.items
+    ∙ map_made_more (λ (param : Param). replicate (length param.values) 0)
+    (λ next. next.items) params c.loop-param.places.items at c.param-item.result c.in_ok-next.next
+    (omega (arith, ap length same)) c.loop-param.invariant
+    (c.in_ok-next.ensures ∙ ap (λ n. replicate n 0) c.len.ensures ∙ ap (λ (param : Param). replicate (length param.values) 0) item)

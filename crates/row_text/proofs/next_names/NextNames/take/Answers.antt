@@ -11,4 +11,5 @@ returns-clause-next c =
     let there : c.args.value < length list.items =
     omega (arith, ap length (seen_at (λ next. next.items) places c.args.self.now c.args.place list c.self.view_is inside c.index_mut.ensures.value)) in
     turn_taken (λ next. next.items) places c.args.self.now c.args.place c.args.value c.index_mut-next.result.now c.args.count list _
-    c.self.view_is inside c.index_mut.ensures.value (c.index_mut-next.ensures.value ∙ get_or_default list.items c.args.value c.index_mut-next.result.now 0 there) refl
+    c.self.view_is inside c.index_mut.ensures.value
+    (c.index_mut-next.ensures.value ∙ get_or_default list.items c.args.value c.index_mut-next.result.now 0 there) refl

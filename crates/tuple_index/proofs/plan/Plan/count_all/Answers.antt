@@ -13,11 +13,14 @@ count_tuples-requires c =
 pub loop-set-preserved : goal.loop-set-preserved
 loop-set-preserved c = (
   omega (arith, c.saturating_add-count.ensures),
-  sum_step (λ set. tuple_count c.args.self.now set.items) c.args.sets.now c.set-item.result c.loop-set.set-index c.loop-set.count c.count_tuples.result c.saturating_add-count.result _
-      c.loop-set-test.true (c.count_tuples.ensures ∙ ap (λ set. told (tuple_count c.args.self.now set)) (c.as_slice.ensures.value ∙ ap (λ set. set.items) c.set-item.is))
+  sum_step (λ set. tuple_count c.args.self.now set.items) c.args.sets.now c.set-item.result c.loop-set.set-index c.loop-set.count c.count_tuples.result
+      c.saturating_add-count.result _
+      c.loop-set-test.true (c.count_tuples.ensures
+      ∙ ap (λ set. told (tuple_count c.args.self.now set)) (c.as_slice.ensures.value ∙ ap (λ set. set.items) c.set-item.is))
       c.saturating_add-count.ensures c.loop-set.invariant.1,
 )
 
 pub returns : goal.returns
 returns c =
-    sum_end (λ set. tuple_count c.args.self.now set.items) c.args.sets.now c.loop-set.set-index c.loop-set.count _ c.loop-set-test.false c.loop-set.invariant.0 c.loop-set.invariant.1
+    sum_end (λ set. tuple_count c.args.self.now set.items) c.args.sets.now c.loop-set.set-index c.loop-set.count _ c.loop-set-test.false
+    c.loop-set.invariant.0 c.loop-set.invariant.1

@@ -16,10 +16,12 @@ loop-p-init c = (
 pub loop-p-preserved : goal.loop-p-preserved
 loop-p-preserved c = (
   omega (arith, c.saturating_add-count.ensures),
-  sum_step (negative_ways c.args.self.now c.args.members.now) c.args.members.now 0 c.loop-p.p-index c.loop-p.count c.negative_ways.result c.saturating_add-count.result _
+  sum_step (negative_ways c.args.self.now c.args.members.now) c.args.members.now 0 c.loop-p.p-index c.loop-p.count c.negative_ways.result
+      c.saturating_add-count.result _
       c.loop-p-test.true c.negative_ways.ensures c.saturating_add-count.ensures c.loop-p.invariant.1,
 )
 
 pub returns : goal.returns
 returns c =
-    sum_end (negative_ways c.args.self.now c.args.members.now) c.args.members.now c.loop-p.p-index c.loop-p.count _ c.loop-p-test.false c.loop-p.invariant.0 c.loop-p.invariant.1
+    sum_end (negative_ways c.args.self.now c.args.members.now) c.args.members.now c.loop-p.p-index c.loop-p.count _ c.loop-p-test.false c.loop-p.invariant.0
+    c.loop-p.invariant.1

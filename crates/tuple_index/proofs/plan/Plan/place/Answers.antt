@@ -13,4 +13,5 @@ loop-i-preserved c = (
 
 pub returns : goal.returns
 returns c =
-    place_end (values_in c.args.self.now c.args.slice) c.args.members.now c.args.values.now c.loop-i.i c.loop-i.count _ c.loop-i-test.false c.loop-i.invariant.0 c.loop-i.invariant.1
+    place_end (values_in c.args.self.now c.args.slice) c.args.members.now c.args.values.now c.loop-i.i c.loop-i.count _ c.loop-i-test.false
+    c.loop-i.invariant.0 c.loop-i.invariant.1

@@ -24,4 +24,5 @@ loop-i-preserved c =
 
 pub returns : goal.returns
 returns c =
-    put_end (values_in c.args.self.now c.args.slice) c.args.members.now c.loop-i.into c.loop-i.i c.loop-i.rest c.args.place c.loop-i.invariant c.loop-i-test.false
+    put_end (values_in c.args.self.now c.args.slice) c.args.members.now c.loop-i.into c.loop-i.i c.loop-i.rest c.args.place c.loop-i.invariant
+    c.loop-i-test.false

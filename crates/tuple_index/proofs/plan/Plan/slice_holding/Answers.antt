@@ -3,7 +3,8 @@ use Rattle.tuple_index.proofs.plan.Plan.slice_holding.Goals as goal
 
 pub loop-q-init : goal.loop-q-init
 loop-q-init c =
-    held_first c.args.self.now c.args.members.now c.args.rank c.ways-positive.result c.requires.small c.requires.within c.ways-positive.ensures c.if-rank-positive.false
+    held_first c.args.self.now c.args.members.now c.args.rank c.ways-positive.result c.requires.small c.requires.within c.ways-positive.ensures
+    c.if-rank-positive.false
 
 pub returns-then-place-count-clause-holds : goal.returns-then-place-count-clause-holds
 returns-then-place-count-clause-holds c chosen there =

@@ -11,4 +11,5 @@ loop-p-preserved c = (
 )
 
 pub returns : goal.returns
-returns c = ways_end (values_in c.args.self.now c.args.slice) c.args.members.now c.loop-p.p-index c.loop-p.count _ c.loop-p-test.false c.loop-p.invariant.0 c.loop-p.invariant.1
+returns c = ways_end (values_in c.args.self.now c.args.slice) c.args.members.now c.loop-p.p-index c.loop-p.count _ c.loop-p-test.false c.loop-p.invariant.0
+    c.loop-p.invariant.1

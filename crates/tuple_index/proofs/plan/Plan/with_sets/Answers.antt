@@ -11,8 +11,10 @@ invariant_of-result c =
     let lists : c.in_ok-members_of.members_of ≡ map (λ set. set.items) c.args.sets.items =
     c.in_ok-members_of.ensures ∙ ap (map (λ set. set.items)) c.deref-3.ensures.value in (
       subst (λ ns. AreBases ns c.in_ok-bases.bases.items) c.deref-2.ensures.value c.in_ok-bases.ensures,
-      subst IsKept (sym (sized_is _ c.args.self (λ set. set.items) c.args.sets.items c.in_ok-members_of.members_of c.in_ok-counts.counts.items c.self.view_is lists sizes))
-          (kept_with c.args.self (λ set. set.items) c.args.sets.items (subst IsKept c.self.view_is c.self.invariant.1) c.requires.rising c.requires.few c.requires.within),
+      subst IsKept (sym (sized_is _ c.args.self (λ set. set.items) c.args.sets.items c.in_ok-members_of.members_of c.in_ok-counts.counts.items c.self.view_is
+          lists sizes))
+          (kept_with c.args.self (λ set. set.items) c.args.sets.items (subst IsKept c.self.view_is c.self.invariant.1) c.requires.rising c.requires.few
+          c.requires.within),
     )
 
 pub returns : goal.returns

@@ -1,7 +1,5 @@
-use Rattle.std.proofs.Common.{take}
-use Rattle.constraint_ast.specs.Trees.{trees_in}
-use Rattle.type_check.specs.Constraints.{ArePredsIn}
+use Rattle.type_check.proofs.Refusals.{PartsSoFar}
 use Rattle.type_check.proofs.scope.Scope.+check.Given as goal
 
 abbrev pub invariant-preds-loop-part : goal.invariant-preds-loop-part
-invariant-preds-loop-part l = ArePredsIn l.self.fold l.self.params.now (trees_in (take l.part-index l.parts)) l.preds
+invariant-preds-loop-part l = PartsSoFar l.self.fold l.self.params.now l.parts l.part-index l.preds

@@ -11,4 +11,4 @@ returns-in_err-body-clause-err c =
 pub loop-rule-preserved : goal.loop-rule-preserved
 loop-rule-preserved c =
     rules_next c.args.self.now.fold c.args.self.now.params.now c.args.raw.now c.loop-rule.rule-index c.rule-item.result c.loop-rule.rules c.add_rule.new.rules c.in_ok-body.body
-    (omega arith) c.rule-item.is c.loop-rule.invariant c.in_ok-body.ensures.ok c.in_ok-add_rule.ensures.ok
+    (omega arith) c.rule-item.is c.loop-rule.invariant c.in_ok-body.ensures.ok c.in_ok-body.ensures.unrefused c.in_ok-add_rule.ensures

@@ -11,7 +11,12 @@ pub overflow_add-first : goal.overflow_add-first
 overflow_add-first c =
     let v = c.args.self.now in
     let exists : c.loop-set.set < length (demanded_sets v.model) = omega (arith, c.loop-set-test.true, c.set_count-set-end.ensures) in
-    omega (arith, bits_few v.model v.slice c.loop-set.set c.keeps.ensures.kept c.keeps.ensures.own exists, c.loop-set.invariant.first, c.ranks-start.ensures.count)
+    omega (
+      arith,
+      bits_few v.model v.slice c.loop-set.set c.assert_invariant.ensures.kept c.assert_invariant.ensures.own exists,
+      c.loop-set.invariant.first,
+      c.ranks-start.ensures.count,
+    )
 
 pub loop-set-preserved : goal.loop-set-preserved
 loop-set-preserved c =
@@ -19,7 +24,8 @@ loop-set-preserved c =
     let block : Block = record { first = c.loop-set.first; start = c.ranks-start.result.0; count = c.ranks-start.result.1 } in
     let pushed : c.push.new.self.items ≡ c.loop-set.blocks.items ++ block ∷ [] = grind (arith, common_steps) in
     record {
-      blocks = subst (AreBlocks v.model v.slice (c.loop-set.set + 1)) (sym pushed) (blocks_more v.model v.slice c.loop-set.set c.loop-set.blocks.items block c.loop-set.invariant.blocks
+      blocks = subst (AreBlocks v.model v.slice (c.loop-set.set + 1)) (sym pushed)
+          (blocks_more v.model v.slice c.loop-set.set c.loop-set.blocks.items block c.loop-set.invariant.blocks
           (record { first = c.loop-set.invariant.first; start = c.ranks-start.ensures.start; count = c.ranks-start.ensures.count }));
       first = omega (arith, first_bit_more v.model v.slice c.loop-set.set, c.loop-set.invariant.first, c.ranks-start.ensures.count);
     }

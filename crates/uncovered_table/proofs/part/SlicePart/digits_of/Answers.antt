@@ -23,12 +23,13 @@ loop-v-preserved c =
     let f = is_own v.model v.slice c.args.p in
     let n = length (param_at v.model.params c.args.p).values in
     let below : c.loop-v.v < n = omega (arith, c.loop-v-test.true, c.all_values-v-end.ensures) in
-    let values = own_passing v.model v.slice c.args.p c.keeps.ensures.own c.requires in
+    let values = own_passing v.model v.slice c.args.p c.assert_invariant.ensures.own c.requires in
     let pushed : c.push.new.self.items ≡ c.loop-v.digits.items ++ c.digit_if.result ∷ [] = grind (arith, common_steps) in
     let longer = pushed ∙ ap (λ o. c.loop-v.digits.items ++ o ∷ []) c.digit_if.ensures in
     let one = c.from-next.ensures ∙ as_number c.has_value-own.result in
     record {
-      digits = digits_more f n c.loop-v.v c.loop-v.next c.has_value-own.result c.loop-v.digits.items c.push.new.self.items below c.has_value-own.ensures c.loop-v.invariant.next longer
+      digits = digits_more f n c.loop-v.v c.loop-v.next c.has_value-own.result c.loop-v.digits.items c.push.new.self.items below c.has_value-own.ensures
+          c.loop-v.invariant.next longer
           (c.loop-v.invariant.digits ∙ ap (λ vs. map (digit_of vs) (range_with_len 0 c.loop-v.v)) values)
           ∙ ap (λ vs. map (digit_of vs) (range_with_len 0 (c.loop-v.v + 1))) (sym values);
       next = ap (λ k. c.loop-v.next + k) one ∙ next_more f c.loop-v.v c.loop-v.next c.has_value-own.result c.has_value-own.ensures c.loop-v.invariant.next;

@@ -15,7 +15,7 @@ pub returns-clause-value : goal.returns-clause-value
 returns-clause-value c =
     subst (λ v. c.last_member.result ≡ last_column v.model v.slice (set_at v.model c.args.set)) c.self.view_is
     (last_known c.self.inside.of.now c.self.inside.slice c.self.inside.by.now c.args.set c.members.result.now c.last_member.result
-    c.self.invariant.planned c.set_count.ensures.kept c.self.invariant.own
+    c.self.invariant.planned c.assert_invariant.ensures c.self.invariant.own
     (subst (λ v. c.args.set < length (demanded_sets v.model)) (sym c.self.view_is) c.requires)
     (c.members.ensures.value ∙ ap (λ v. set_at v.model c.args.set) (sym c.self.view_is)) c.last_member.ensures.value)
 

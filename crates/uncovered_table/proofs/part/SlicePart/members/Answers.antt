@@ -8,7 +8,7 @@ use Rattle.uncovered_table.proofs.part.SlicePart.members.Goals as goal
 
 known : (c : goal.After-members) → SetKnown c.self.inside.of.now c.self.inside.by.now c.args.set
 known c =
-    set_known c.self.inside.of.now c.self.inside.by.now c.args.set c.self.invariant.planned c.set_count.ensures.kept
+    set_known c.self.inside.of.now c.self.inside.by.now c.args.set c.self.invariant.planned c.assert_invariant-2.ensures
     (subst (λ v. c.args.set < length (demanded_sets v.model)) (sym c.self.view_is) c.requires)
 
 same : (c : goal.After-members) → c.members.result.now ≡ set_at c.args.self.now.model c.args.set
@@ -31,4 +31,4 @@ returns-clause-exist c = rises_within c.members.result.now 0 (length c.args.self
 pub returns-clause-few : goal.returns-clause-few
 returns-clause-few c =
     let long = ap length (c.members.ensures ∙ (known c).same) in
-    omega (arith, long, (known c).few, c.params.ensures.sound.few)
+    omega (arith, long, (known c).few, c.assert_invariant.ensures.few)

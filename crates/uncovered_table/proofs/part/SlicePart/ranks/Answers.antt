@@ -13,7 +13,7 @@ known : (c : goal.After-slice_ranks) → RanksKnown c.args.self.now.model c.args
 known c =
     subst (λ v. RanksKnown v.model v.slice c.args.set c.slice_ranks.result.0 c.slice_ranks.result.1) c.self.view_is
     (ranks_known c.self.inside.of.now c.self.inside.slice c.self.inside.by.now c.args.set c.slice_ranks.result.0 c.slice_ranks.result.1
-    c.self.invariant.planned c.set_count.ensures.kept c.self.invariant.own
+    c.self.invariant.planned c.assert_invariant.ensures c.self.invariant.own
     (subst (λ v. c.args.set < length (demanded_sets v.model)) (sym c.self.view_is) c.requires) c.slice_ranks.ensures.count c.slice_ranks.ensures.start)
 
 pub returns-clause-count : goal.returns-clause-count

@@ -17,7 +17,7 @@ same c =
 
 pub overflow_cast-result : goal.overflow_cast-result
 overflow_cast-result c =
-    let few = own_few c.args.self.now.model c.args.self.now.slice c.args.p c.keeps.ensures.sound c.keeps.ensures.own c.requires in
+    let few = own_few c.args.self.now.model c.args.self.now.slice c.args.p c.assert_invariant.ensures.sound c.assert_invariant.ensures.own c.requires in
     let is = same c in
     omega (arith, few, is)
 

@@ -8,14 +8,16 @@ block-block-requires c = place_exists c.args.self.now.model c.args.self.now.slic
 
 known : (c : goal.After-struct_known-1) → BlockBit c.args.self.now.model c.args.self.now.slice c.args.set c.args.rank c.block-block.result
 known c =
-    block_bit c.args.self.now.model c.args.self.now.slice c.args.set c.args.rank c.block-block.result c.keeps.ensures.kept c.keeps.ensures.own c.block-block.ensures c.requires
+    block_bit c.args.self.now.model c.args.self.now.slice c.args.set c.args.rank c.block-block.result c.assert_invariant.ensures.kept
+    c.assert_invariant.ensures.own c.block-block.ensures c.requires
 
 pub overflow_sub-result : goal.overflow_sub-result
 overflow_sub-result c = (known c).least
 
 also : (c : goal.After-struct_known-2-1) → BlockBit c.args.self.now.model c.args.self.now.slice c.args.set c.args.rank c.block-block.result
 also c =
-    block_bit c.args.self.now.model c.args.self.now.slice c.args.set c.args.rank c.block-block.result c.keeps.ensures.kept c.keeps.ensures.own c.block-block.ensures c.requires
+    block_bit c.args.self.now.model c.args.self.now.slice c.args.set c.args.rank c.block-block.result c.assert_invariant.ensures.kept
+    c.assert_invariant.ensures.own c.block-block.ensures c.requires
 
 pub overflow_add-result : goal.overflow_add-result
 overflow_add-result c = let b = also c in omega (arith, b.within, b.few)

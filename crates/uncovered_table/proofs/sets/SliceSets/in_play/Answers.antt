@@ -8,7 +8,8 @@ use Rattle.uncovered_table.proofs.sets.SliceSets.in_play.Goals as goal
 pub index-requires : goal.index-requires
 index-requires c =
     let v = c.args.self.now in
-    let tables = subst (λ v. map (λ list. list.items) c.self.inside.tables.plays.items ≡ map (sets_in_play v.model v.slice) (param_numbers v.model)) c.self.view_is c.self.invariant.plays_are in
+    let tables = subst (λ v. map (λ list. list.items) c.self.inside.tables.plays.items ≡ map (sets_in_play v.model v.slice) (param_numbers v.model))
+    c.self.view_is c.self.invariant.plays_are in
     let long = lists_long (λ list. list.items) (sets_in_play v.model v.slice) (length v.model.params) c.self.inside.tables.plays.items tables in
     omega (arith, c.requires, long)
 
@@ -17,14 +18,15 @@ same c =
     let v = c.args.self.now in
     c.as_slice.ensures.value
     ∙ read_list (λ list. list.items) (sets_in_play v.model v.slice) (length v.model.params) c.args.column c.self.inside.tables.plays.items c.index.result.now
-    (subst (λ v. map (λ list. list.items) c.self.inside.tables.plays.items ≡ map (sets_in_play v.model v.slice) (param_numbers v.model)) c.self.view_is c.self.invariant.plays_are)
+    (subst (λ v. map (λ list. list.items) c.self.inside.tables.plays.items ≡ map (sets_in_play v.model v.slice) (param_numbers v.model))
+    c.self.view_is c.self.invariant.plays_are)
     c.requires c.index.ensures
 
 pub returns-clause-value : goal.returns-clause-value
 returns-clause-value c = same c
 
 pub returns-clause-few : goal.returns-clause-few
-returns-clause-few c = omega (arith, ap length (same c), play_few c.args.self.now.model c.args.self.now.slice c.args.column c.keeps.ensures.kept)
+returns-clause-few c = omega (arith, ap length (same c), play_few c.args.self.now.model c.args.self.now.slice c.args.column c.assert_invariant.ensures.kept)
 
 pub returns-clause-each : goal.returns-clause-each
 returns-clause-each c =

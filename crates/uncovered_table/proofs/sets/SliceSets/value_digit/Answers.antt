@@ -14,4 +14,5 @@ pub returns : goal.returns
 returns c =
     let v = c.args.self.now in
     ap (λ ds. get_or ds c.args.v None) c.digits.ensures
-    ∙ get_or-map-range_with_len (digit_of (own_values v.model v.slice c.args.p)) 0 (length (param_at v.model.params c.args.p).values) c.args.v c.args.v None c.requires.value (zero-add c.args.v)
+    ∙ get_or-map-range_with_len (digit_of (own_values v.model v.slice c.args.p)) 0 (length (param_at v.model.params c.args.p).values)
+    c.args.v c.args.v None c.requires.value (zero-add c.args.v)

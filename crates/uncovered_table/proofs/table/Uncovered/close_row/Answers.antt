@@ -10,7 +10,8 @@ pub invariant_of-self : goal.invariant_of-self
 invariant_of-self c =
     let v = c.self.inside.sets in
     ap length c.clear_held.ensures
-    ∙ length-all_cleared v.model v.slice (with_digit (cell_digit (own_values v.model v.slice) c.args.cells.now) c.args.column c.in-Some.digit) c.self.inside.bits
+    ∙ length-all_cleared v.model v.slice (with_digit (cell_digit (own_values v.model v.slice) c.args.cells.now) c.args.column c.in-Some.digit)
+    c.self.inside.bits
     (sets_in_play v.model v.slice c.args.column)
     ∙ c.self.invariant
 
@@ -20,8 +21,9 @@ returns-in-Some c =
     let bits = c.self.inside.bits in
     let cells = c.args.cells.now in
     ap (marked v.model v.slice) (c.clear_held.ensures
-    ∙ cleared_own v.model v.slice cells bits c.args.column c.in-Some.digit (sets_in_play v.model v.slice c.args.column) (sym c.cell_digit.ensures ∙ c.in-Some.is))
-    ∙ row_closed_bits v.model v.slice bits cells c.args.column c.keeps.ensures.kept c.keeps.ensures.own
+    ∙ cleared_own v.model v.slice cells bits c.args.column c.in-Some.digit (sets_in_play v.model v.slice c.args.column)
+    (sym c.cell_digit.ensures ∙ c.in-Some.is))
+    ∙ row_closed_bits v.model v.slice bits cells c.args.column c.assert_invariant.ensures.kept c.assert_invariant.ensures.own
     (subst (λ table. length cells ≡ length table.model.params) (sym c.self.view_is) c.requires.cells.fits.as_long) c.self.invariant
     ∙ ap (λ table. row_closed table c.args.column cells) c.self.view_is
 
@@ -30,7 +32,8 @@ returns-in-None c =
     let v = c.self.inside.sets in
     let bits = c.self.inside.bits in
     let cells = c.args.cells.now in
-    sym c.self.view_is ∙ ap (marked v.model v.slice) (cleared_none v.model v.slice (cell_digit (own_values v.model v.slice) cells) bits c.args.column (sym c.cell_digit.ensures ∙ c.in-None.is))
-    ∙ row_closed_bits v.model v.slice bits cells c.args.column c.keeps.ensures.kept c.keeps.ensures.own
+    sym c.self.view_is ∙ ap (marked v.model v.slice) (cleared_none v.model v.slice (cell_digit (own_values v.model v.slice) cells) bits c.args.column
+    (sym c.cell_digit.ensures ∙ c.in-None.is))
+    ∙ row_closed_bits v.model v.slice bits cells c.args.column c.assert_invariant.ensures.kept c.assert_invariant.ensures.own
     (subst (λ table. length cells ≡ length table.model.params) (sym c.self.view_is) c.requires.cells.fits.as_long) c.self.invariant
     ∙ ap (λ table. row_closed table c.args.column cells) c.self.view_is

@@ -1,6 +1,0 @@
-use Rattle.std.proofs.Common.{ℕ, ◌<◌, None, get_or}
-use Rattle.acceptance.specs.Rows.{IsPositiveCell}
-use Rattle.acceptance.proofs.rows.is_positive_row.Given as goal
-
-abbrev pub invariant-loop-p : goal.invariant-loop-p
-invariant-loop-p l = (q : ℕ) → q < l.p → IsPositiveCell l.model q (get_or l.row q None)

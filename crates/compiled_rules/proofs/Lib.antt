@@ -1,0 +1,5 @@
+pub mod CodeLemmas
+pub mod TermLemmas
+pub mod PairLemmas
+pub mod ListLemmas
+pub mod Ranks

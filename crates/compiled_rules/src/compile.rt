@@ -1,0 +1,221 @@
+ghost use Rattle.std.specs.Prelude.{◌≡◌, ◌<◌, ◌++◌, ◌∷◌, [], length, IfOk, OnOk, All};
+ghost use Rattle.cov_model.specs.Sound.{IsSoundBody, IsSoundPred, IsSoundTerm, param_at};
+ghost use Rattle.cov_model.specs.Views.{Leaf, body_view, pred_view};
+ghost use Rattle.cov_model.specs.Fits.{FitsModel};
+ghost use Rattle.cov_model.specs.Kleene.{term_params};
+ghost use Rattle.compiled_rules.specs.Codes.{AreCodesOf, Extends, IsBodyCodeOf, IsCodeOf, is_yes, truths_over, IsNegation};
+
+use crate::code::{BodyCode, Code, CodeList};
+use cov_model::{Body, Cells, ParamNo, Pred, Term, TestModel, Truth, ValueNo};
+use std::alloc::Global;
+use value_text::{NoMemory, OwnedList};
+
+// Whether something is known to hold.
+fn is_yes(truth: Truth) -> bool
+    ensures { result ≡ is_yes truth }
+{
+    match truth {
+        Truth::Yes => true,
+        Truth::No | Truth::Unknown => false,
+    }
+}
+
+// How many values a parameter has.
+fn count_of(model: &TestModel, p: ParamNo) -> ValueNo
+    requires { p < length model.now.params }
+    ensures { result ≡ length (param_at model.now.params p).values }
+{
+    model.params().as_slice()[p as usize].values.len() as ValueNo
+}
+
+// Puts what holds of a term on the cells with each value of the parameter behind the table.
+fn push_row(
+    model: &TestModel,
+    term: &Term,
+    q: ParamNo,
+    room: &mut Cells,
+    table: &mut Vec<bool>,
+) -> Result<(), NoMemory>
+    requires sound { IsSoundTerm model.now.params term.now }
+    requires within { q < length model.now.params }
+    requires fits { FitsModel model.now room.old }
+    ensures row { OnOk result (table.new.items ≡ table.old.items ++ truths_over model.now term.now room.old q) }
+    ensures fits { FitsModel model.now room.new }
+{
+    let count = count_of(model, q);
+    for w in 0..count {
+        room.set_cell(q, w);
+        let holds = is_yes(model.term_truth(term, room));
+        table.push(holds)?;
+    }
+    Ok(())
+}
+
+// Compiles a term of one parameter.
+fn compile_one(
+    model: &TestModel,
+    term: &Term,
+    p: ParamNo,
+    room: &mut Cells,
+    table: &mut Vec<bool>,
+) -> Result<Code, NoMemory>
+    requires sound { IsSoundTerm model.now.params term.now }
+    requires within { p < length model.now.params }
+    requires named { term_params term.now ≡ p ∷ [] }
+    requires fits { FitsModel model.now room.old }
+    ensures grows { IfOk result (λ _. Extends table.new.items table.old.items) }
+    ensures code { IfOk result (IsCodeOf model.now table.new.items (Leaf term.now)) }
+    ensures fits { FitsModel model.now room.new }
+{
+    let Ok(start) = u32::try_from(table.len()) else {
+        return Err(NoMemory);
+    };
+    push_row(model, term, p, room, table)?;
+    Ok(Code::At(p, start))
+}
+
+// Compiles a term of two parameters.
+fn compile_two(
+    model: &TestModel,
+    term: &Term,
+    p: ParamNo,
+    q: ParamNo,
+    room: &mut Cells,
+    table: &mut Vec<bool>,
+) -> Result<Code, NoMemory>
+    requires sound { IsSoundTerm model.now.params term.now }
+    requires first { p < length model.now.params }
+    requires second { q < length model.now.params }
+    requires named { term_params term.now ≡ p ∷ q ∷ [] }
+    requires fits { FitsModel model.now room.old }
+    ensures grows { IfOk result (λ _. Extends table.new.items table.old.items) }
+    ensures code { IfOk result (IsCodeOf model.now table.new.items (Leaf term.now)) }
+    ensures fits { FitsModel model.now room.new }
+{
+    let Ok(start) = u32::try_from(table.len()) else {
+        return Err(NoMemory);
+    };
+    let width = count_of(model, q);
+    let count = count_of(model, p);
+    for v in 0..count {
+        room.set_cell(p, v);
+        push_row(model, term, q, room, table)?;
+    }
+    Ok(Code::Both(p, q, start, width))
+}
+
+// Compiles a term.
+fn compile_term(
+    model: &TestModel,
+    term: &Term,
+    room: &mut Cells,
+    table: &mut Vec<bool>,
+) -> Result<Code, NoMemory>
+    requires sound { IsSoundTerm model.now.params term.now }
+    requires fits { FitsModel model.now room.old }
+    ensures grows { IfOk result (λ _. Extends table.new.items table.old.items) }
+    ensures code { IfOk result (IsCodeOf model.now table.new.items (Leaf term.now)) }
+    ensures fits { FitsModel model.now room.new }
+{
+    match term {
+        Term::ParamIs(p, _, q) => compile_two(model, term, *p, *q, room, table),
+        Term::ValueIs(p, _, _) => compile_one(model, term, *p, room, table),
+        Term::OneOf(p, _) => compile_one(model, term, *p, room, table),
+        Term::Like(p, _) => compile_one(model, term, *p, room, table),
+        Term::Negative(p) => compile_one(model, term, *p, room, table),
+        Term::Positive(p) => compile_one(model, term, *p, room, table),
+    }
+}
+
+// The negation of a compiled predicate.
+fn negated(alloc: Global, code: Code) -> Result<Code, NoMemory>
+    ensures { IfOk result (λ negation. IsNegation negation code) }
+{
+    let inner = Box::new(alloc, code)?;
+    Ok(Code::Not(inner))
+}
+
+// Compiles a predicate.
+#[cycle(compile)]
+fn compile_pred(
+    alloc: Global,
+    model: &TestModel,
+    pred: &Pred,
+    room: &mut Cells,
+    table: &mut Vec<bool>,
+) -> Result<Code, NoMemory>
+    requires sound { IsSoundPred model.now.params (pred_view pred.now) }
+    requires fits { FitsModel model.now room.old }
+    ensures grows { IfOk result (λ _. Extends table.new.items table.old.items) }
+    ensures code { IfOk result (IsCodeOf model.now table.new.items (pred_view pred.now)) }
+    ensures fits { FitsModel model.now room.new }
+{
+    match pred {
+        Pred::Term(term) => compile_term(model, term, room, table),
+        Pred::Not(inner) => {
+            let code = compile_pred(alloc, model, inner, room, table)?;
+            negated(alloc, code)
+        }
+        Pred::All(parts) => {
+            let codes = compile_parts(alloc, model, parts.as_slice(), room, table)?;
+            Ok(Code::All(codes))
+        }
+        Pred::Any(parts) => {
+            let codes = compile_parts(alloc, model, parts.as_slice(), room, table)?;
+            Ok(Code::Any(codes))
+        }
+    }
+}
+
+// Compiles a list of predicates.
+#[cycle(compile)]
+fn compile_parts(
+    alloc: Global,
+    model: &TestModel,
+    parts: &[Pred],
+    room: &mut Cells,
+    table: &mut Vec<bool>,
+) -> Result<CodeList, NoMemory>
+    requires sound { All (λ part. IsSoundPred model.now.params (pred_view part)) parts.now }
+    requires fits { FitsModel model.now room.old }
+    ensures grows { IfOk result (λ _. Extends table.new.items table.old.items) }
+    ensures codes { IfOk result (AreCodesOf model.now table.new.items parts.now) }
+    ensures fits { FitsModel model.now room.new }
+{
+    let mut codes = OwnedList::new(alloc);
+    for part in parts {
+        let code = compile_pred(alloc, model, part, room, table)?;
+        codes.push(code)?;
+    }
+    Ok(codes)
+}
+
+// Compiles a constraint.
+pub(crate) fn compile_body(
+    alloc: Global,
+    model: &TestModel,
+    body: &Body,
+    room: &mut Cells,
+    table: &mut Vec<bool>,
+) -> Result<BodyCode, NoMemory>
+    requires sound { IsSoundBody model.now.params (body_view body.now) }
+    requires fits { FitsModel model.now room.old }
+    ensures grows { IfOk result (λ _. Extends table.new.items table.old.items) }
+    ensures code { IfOk result (IsBodyCodeOf model.now table.new.items (body_view body.now)) }
+    ensures fits { FitsModel model.now room.new }
+{
+    match body {
+        Body::Plain(pred) => Ok(BodyCode::Plain(compile_pred(alloc, model, pred, room, table)?)),
+        Body::IfThen(premise, pred) => {
+            let first = compile_pred(alloc, model, premise, room, table)?;
+            let second = compile_pred(alloc, model, pred, room, table)?;
+            Ok(BodyCode::IfThen(first, second))
+        }
+        Body::IfElse(premise, pred, other) => {
+            let first = compile_pred(alloc, model, premise, room, table)?;
+            let second = compile_pred(alloc, model, pred, room, table)?;
+            let third = compile_pred(alloc, model, other, room, table)?;
+            Ok(BodyCode::IfElse(first, second, third))
+        }
+    }
+}

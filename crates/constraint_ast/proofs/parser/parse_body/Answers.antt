@@ -1,5 +1,0 @@
-use Rattle.constraint_ast.proofs.Rules.{plain_refused}
-use Rattle.constraint_ast.proofs.parser.parse_body.Goals as goal
-
-pub returns-in-None-clause-err : goal.returns-in-None-clause-err
-returns-in-None-clause-err c = plain_refused c.parse_plain.result c.args.last c.args.tokens.now c.requires c.in-None.ensures.none c.parse_plain.ensures.err

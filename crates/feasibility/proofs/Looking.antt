@@ -1,0 +1,214 @@
+-- What looking at constraints takes away, and when it stops.
+use Rattle.std.proofs.Common.{◌≡◌, ◌≢◌, ℕ, ◌+◌, ◌<◌, ◌≤◌, Bool, true, false, not, ◌&&◌, ◌||◌, ◌==◌, List, [], ◌∷◌, ◌++◌, length, Option, Some, None, is_some, get_or, set, All, ◌⊎◌, ◌∙◌, sym, ap, subst, refl, arith, inl, inr}
+use Rattle.std.specs.List.{count_by, filter, list_any, range_with_len}
+use Rattle.std.proofs.Math.Bool.{and-true}
+use Rattle.std.proofs.lemmas.Bool.{false≢true, cases_Bool, cases_eq, and_from, and_left, or_from, eq-eqb, false_from_ne_true, ne_eqb}
+use Rattle.std.proofs.lemmas.List.Elements.{All-nil, All-cons}
+use Rattle.std.proofs.lemmas.List.Folds.{list_any-append}
+use Rattle.cov_model.specs.Sound.{ModelView, param_at, rule_at}
+use Rattle.cov_model.specs.Kleene.{body_truth}
+use Rattle.cov_model.specs.Rows.{is_assigned}
+use Rattle.definitions.specs.Completion.{with_value}
+use Rattle.definitions.specs.Demand.{is_among}
+use Rattle.definitions.specs.Search.{body_params, breaks_a_rule, is_no}
+use Rattle.definitions.proofs.Members.{among_has, has_filter, has_range, of_among}
+use Rattle.compiled_rules.specs.Codes.{is_yes}
+use Rattle.live_sets.specs.Trail.{LiveView, mark_at, IsSince}
+use Rattle.live_sets.proofs.TrailLemmas.{since_self, since_more}
+use Rattle.feasibility.specs.Live.{AreRules, EachHasOne, HasShape, IsStopped, LookedAt, Narrowed, Stops, breaks_one, no_on}
+use Rattle.feasibility.specs.Tree.{members}
+use Rattle.feasibility.proofs.Broken.{breaks_by, breaks_of, longer_set}
+use Rattle.feasibility.proofs.Growing.{not_no, stays_body, yes_from_yes}
+use Rattle.feasibility.proofs.Local.{agree_set, local_body}
+use Rattle.feasibility.proofs.NarrowedSets.{count_none}
+
+-- no constraint
+pub looked_none : (m : ModelView) (cells : List (Option ℕ)) (sets : LiveView) → HasShape m sets.live → EachHasOne m cells sets.live
+    → LookedAt m [] cells sets sets
+looked_none m cells sets shape left = record {
+  unbroken = refl;
+  shape = shape;
+  marks = λ q w low inside free. sym (and-true (mark_at sets.live q w));
+  left = left;
+  since = since_self sets;
+}
+
+-- some constraints and then others
+pub looked_append : (m : ModelView) (some others : List ℕ) (cells : List (Option ℕ)) (old now new : LiveView) → LookedAt m some cells old now
+    → LookedAt m others cells now new
+    → LookedAt m (some ++ others) cells old new
+looked_append m some others cells old now new first second = record {
+  unbroken = list_any-append (no_on m cells) some others ∙ or_from (breaks_one m some cells) (breaks_one m others cells) first.unbroken second.unbroken;
+  shape = second.shape;
+  marks = λ q w low inside free.
+      second.marks q w low inside free
+      ∙ ap (λ (b : Bool). b && not (breaks_one m others (with_value cells q w))) (first.marks q w low inside free)
+      ∙ twice (mark_at old.live q w) (breaks_one m some (with_value cells q w)) (breaks_one m others (with_value cells q w))
+      ∙ sym (ap (λ (b : Bool). mark_at old.live q w && not b) (list_any-append (no_on m (with_value cells q w)) some others));
+  left = second.left;
+  since = since_more old now new first.since second.since;
+}
+  where
+    twice : (a b c : Bool) → ((a && not b) && not c) ≡ (a && not (b || c))
+    twice true true c = refl
+    twice true false c = refl
+    twice false b c = refl
+
+-- a constraint that holds
+pub looked_holds : (m : ModelView) (k : ℕ) (cells : List (Option ℕ)) (sets : LiveView) → HasShape m sets.live → EachHasOne m cells sets.live
+    → is_yes (body_truth m (rule_at m k).body cells) ≡ true → LookedAt m (k ∷ []) cells sets sets
+looked_holds m k cells sets shape left holds = record {
+  unbroken = ap (λ (b : Bool). b || false) (not_no (body_truth m (rule_at m k).body cells) holds);
+  shape = shape;
+  marks = λ q w low inside free.
+      stays (mark_at sets.live q w) (no_on m (with_value cells q w) k)
+      (not_no (body_truth m (rule_at m k).body (with_value cells q w)) (yes_from_yes _ _
+      (stays_body m (rule_at m k).body cells (with_value cells q w) (longer_set cells q w free)) holds));
+  left = left;
+  since = since_self sets;
+}
+  where
+    stays : (a b : Bool) → b ≡ false → a ≡ (a && not (b || false))
+    stays true b h = sym (ap (λ (c : Bool). not (c || false)) h)
+    stays false b h = refl
+
+-- a constraint of whose parameters some are looked at
+pub record AheadTo (m : ModelView) (k : ℕ) (cells : List (Option ℕ)) (done : List ℕ) (old new : LiveView) : Type 0 where
+  pub shape : HasShape m new.live
+  pub marks : (q w : ℕ) → q < length m.params → w < length (param_at m.params q).values → is_assigned cells q ≡ false
+      → mark_at new.live q w ≡ (mark_at old.live q w && not (is_among done q && no_on m (with_value cells q w) k))
+  pub left : EachHasOne m cells new.live
+  pub since : IsSince old new
+
+among_push : (done : List ℕ) (q s : ℕ) → is_among (done ++ q ∷ []) s ≡ (is_among done s || ((q == s) || false))
+among_push done q s = list_any-append (λ k. k == s) done (q ∷ [])
+
+among_other : (done : List ℕ) (q s : ℕ) → s ≢ q → is_among (done ++ q ∷ []) s ≡ is_among done s
+among_other done q s differs = among_push done q s ∙ ap (λ (b : Bool). is_among done s || (b || false)) (ne_eqb q s (λ same. differs (sym same)))
+    ∙ or_false (is_among done s)
+  where
+    or_false : (b : Bool) → (b || (false || false)) ≡ b
+    or_false true = refl
+    or_false false = refl
+
+among_this : (done : List ℕ) (q : ℕ) → is_among (done ++ q ∷ []) q ≡ true
+among_this done q = among_push done q q ∙ ap (λ (b : Bool). is_among done q || (b || false)) (eq-eqb q q refl) ∙ or_true (is_among done q)
+  where
+    or_true : (b : Bool) → (b || (true || false)) ≡ true
+    or_true true = refl
+    or_true false = refl
+
+-- one with a value
+pub ahead_skip : (m : ModelView) (k : ℕ) (cells : List (Option ℕ)) (done : List ℕ) (q : ℕ) (old new : LiveView) → AheadTo m k cells done old new
+    → is_assigned cells q ≡ true
+    → AheadTo m k cells (done ++ q ∷ []) old new
+ahead_skip m k cells done q old new to given = record {
+  shape = to.shape;
+  marks = λ s w low inside free.
+      to.marks s w low inside free
+      ∙ ap (λ (b : Bool). mark_at old.live s w && not (b && no_on m (with_value cells s w) k))
+      (sym (among_other done q s (λ same. false≢true (sym free ∙ ap (is_assigned cells) same ∙ given))));
+  left = to.left;
+  since = to.since;
+}
+
+-- one that is narrowed
+pub ahead_more : (m : ModelView) (k : ℕ) (cells : List (Option ℕ)) (done : List ℕ) (q : ℕ) (old now new : LiveView) → AheadTo m k cells done old now
+    → q < length m.params
+    → is_assigned cells q ≡ false → Narrowed m k q cells now new → 0 < count_by (λ mark. mark) (get_or new.live q [])
+    → AheadTo m k cells (done ++ q ∷ []) old new
+ahead_more m k cells done q old now new to within unset narrowed some = record {
+  shape = narrowed.shape;
+  marks = λ s w low inside free. elim (cases_eq s q) [
+    | inl same ↦
+        let here : w < length (param_at m.params q).values = subst (λ (p : ℕ). w < length (param_at m.params p).values) same inside in
+        ap (λ (p : ℕ). mark_at new.live p w) same ∙ narrowed.below w here
+        ∙ ap (λ (b : Bool). b && not (no_on m (with_value cells q w) k)) (to.marks q w within here unset)
+        ∙ again (mark_at old.live q w) (is_among done q) (no_on m (with_value cells q w) k)
+        ∙ sym (ap (λ (b : Bool). mark_at old.live q w && not (b && no_on m (with_value cells q w) k)) (among_this done q))
+        ∙ ap (λ (p : ℕ). mark_at old.live p w && not (is_among (done ++ q ∷ []) p && no_on m (with_value cells p w) k)) (sym same)
+    | inr differs ↦
+        ap (λ (list : List Bool). get_or list w false) (narrowed.others s differs) ∙ to.marks s w low inside free
+        ∙ ap (λ (b : Bool). mark_at old.live s w && not (b && no_on m (with_value cells s w) k)) (sym (among_other done q s differs))
+  ];
+  left = λ s low free. elim (cases_eq s q) [
+    | inl same ↦ subst (λ (p : ℕ). 0 < count_by (λ mark. mark) (get_or new.live p [])) (sym same) some
+    | inr differs ↦ subst (λ (list : List Bool). 0 < count_by (λ mark. mark) list) (sym (narrowed.others s differs)) (to.left s low free)
+  ];
+  since = since_more old now new to.since narrowed.since;
+}
+  where
+    again : (a b c : Bool) → ((a && not (b && c)) && not c) ≡ (a && not (true && c))
+    again true true true = refl
+    again true true false = refl
+    again true false c = refl
+    again false b c = refl
+
+-- one of which no value is left
+pub ahead_stops : (m : ModelView) (k : ℕ) (cells : List (Option ℕ)) (done : List ℕ) (q : ℕ) (old now new : LiveView) → 0 < k → k ≤ length m.rules
+    → AheadTo m k cells done old now
+    → q < length m.params → is_assigned cells q ≡ false → Narrowed m k q cells now new → count_by (λ mark. mark) (get_or new.live q []) ≡ 0
+    → Stops m cells old.live
+ahead_stops m k cells done q old now new least most to within unset narrowed none = inr (record {
+  param = q;
+  exists = within;
+  free = unset;
+  each = λ w inside marked.
+      breaks_by m (with_value cells q w) k least most
+      (was_no (mark_at old.live q w) (is_among done q) (no_on m (with_value cells q w) k) marked
+      (ap (λ (b : Bool). b && not (no_on m (with_value cells q w) k)) (sym (to.marks q w within inside unset)) ∙ sym (narrowed.below w inside)
+      ∙ count_none (get_or new.live q []) w none));
+})
+  where
+    was_no : (a b c : Bool) → a ≡ true → ((a && not (b && c)) && not c) ≡ false → c ≡ true
+    was_no a b true h gone = refl
+    was_no true true false h gone = absurd (false≢true (sym gone))
+    was_no true false false h gone = absurd (false≢true (sym gone))
+    was_no false b false h gone = absurd (false≢true h)
+
+-- all that it names
+pub ahead_all : (m : ModelView) (k : ℕ) (cells : List (Option ℕ)) (done : List ℕ) (old new : LiveView) → no_on m cells k ≡ false
+    → done ≡ members (length m.params) (rule_at m k).body → AheadTo m k cells done old new → LookedAt m (k ∷ []) cells old new
+ahead_all m k cells done old new unbroken whole to = record {
+  unbroken = ap (λ (b : Bool). b || false) unbroken;
+  shape = to.shape;
+  marks = λ q w low inside free.
+      to.marks q w low inside free
+      ∙ ap (λ (b : Bool). mark_at old.live q w && not b) (elim (cases_Bool (is_among done q)) [
+        | inl among ↦ ap (λ (b : Bool). b && no_on m (with_value cells q w) k) among ∙ or_none (no_on m (with_value cells q w) k)
+        | inr away ↦ and_left (is_among done q) (no_on m (with_value cells q w) k) away ∙ sym (ap (λ (b : Bool). b || false) (same q w low away))
+      ]);
+  left = to.left;
+  since = to.since;
+}
+  where
+    or_none : (b : Bool) → b ≡ (b || false)
+    or_none true = refl
+    or_none false = refl
+
+    same : (q w : ℕ) → q < length m.params → is_among done q ≡ false → no_on m (with_value cells q w) k ≡ false
+    same q w low away =
+        let unnamed : is_among (body_params (rule_at m k).body) q ≡ false =
+        false_from_ne_true (is_among (body_params (rule_at m k).body) q) (λ named.
+        false≢true (sym away ∙ ap (λ (list : List ℕ). is_among list q) whole
+        ∙ among_has (members (length m.params) (rule_at m k).body) q (has_filter (is_among (body_params (rule_at m k).body))
+        (range_with_len 0 (length m.params)) q (has_range 0 (length m.params) q (omega arith) (omega (arith, low))) named))) in
+        ap is_no (local_body m (rule_at m k).body (with_value cells q w) cells (agree_set (body_params (rule_at m k).body) cells q (Some w) unnamed)).0
+        ∙ unbroken
+
+-- what stops after some constraints were looked at stops from the start
+pub stops_before : (m : ModelView) (numbers : List ℕ) (cells : List (Option ℕ)) (old now : LiveView) → AreRules m numbers → LookedAt m numbers cells old now
+    → Stops m cells now.live → Stops m cells old.live
+stops_before m numbers cells old now exist to (inl broken) = inl broken
+stops_before m numbers cells old now exist to (inr stopped) = inr (record {
+  param = stopped.param;
+  exists = stopped.exists;
+  free = stopped.free;
+  each = λ w inside marked. elim (cases_Bool (breaks_one m numbers (with_value cells stopped.param w))) [
+    | inl broken ↦ breaks_of m numbers (with_value cells stopped.param w) exist broken
+    | inr unbroken ↦
+        stopped.each w inside
+        (to.marks stopped.param w stopped.exists inside stopped.free
+        ∙ and_from (mark_at old.live stopped.param w) (not (breaks_one m numbers (with_value cells stopped.param w))) marked (ap not unbroken))
+  ];
+})

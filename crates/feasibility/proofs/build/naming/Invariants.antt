@@ -1,9 +1,0 @@
-use Rattle.std.proofs.Common.{◌≡◌, map, take}
-use Rattle.std.specs.List.{filter}
-use Rattle.definitions.specs.Demand.{is_among}
-use Rattle.definitions.specs.Search.{body_params}
-use Rattle.feasibility.proofs.build.naming.Given as goal
-
--- the list has the numbers of those of the constraints before this place that name the parameter
-abbrev pub invariant-loop-rule : goal.invariant-loop-rule
-invariant-loop-rule l = l.list.items ≡ map (λ rule. rule.number) (filter (λ rule. is_among (body_params rule.body) l.p) (take l.rule-index l.rule-items))

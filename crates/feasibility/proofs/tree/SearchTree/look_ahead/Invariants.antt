@@ -1,0 +1,9 @@
+use Rattle.std.proofs.Common.{◌≡◌, take}
+use Rattle.feasibility.proofs.Looking.{AheadTo}
+use Rattle.feasibility.proofs.tree.SearchTree.look_ahead.Given as goal
+
+abbrev pub invariant-loop-q : goal.invariant-loop-q
+invariant-loop-q l = record {
+  cells : l.cells ≡ l.initial.cells;
+  to : AheadTo l.self.model l.rule l.initial.cells (take l.q-index l.members) l.initial.sets l.sets;
+}

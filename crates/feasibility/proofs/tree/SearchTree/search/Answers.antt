@@ -1,0 +1,23 @@
+use Rattle.std.proofs.Common.{◌≡◌, ◌∙◌, true, refl, sym, ap}
+use Rattle.std.proofs.lemmas.Bool.{not-false}
+use Rattle.definitions.specs.Search.{constrained_params, is_failing}
+use Rattle.feasibility.proofs.Deciding.{fails_stays}
+use Rattle.feasibility.proofs.Visits.{told_fails}
+use Rattle.feasibility.proofs.tree.SearchTree.search.Goals as goal
+
+pub returns-then-fails-clause-answer : goal.returns-then-fails-clause-answer
+returns-then-fails-clause-answer c =
+    let fails = fails_stays c.args.self.now.model c.args.self.now.values c.args.cells.now c.requires.fits.as_long c.requires.listed
+    (sym c.requires.ready.fails ∙ c.if-fails.true) in
+    (told_fails c.args.self.now.model c.args.self.now.values (constrained_params c.args.self.now.model) c.args.cells.now c.args.cells.now c.args.cells.now
+    c.args.cells.now c.args.budget c.visit_failing.new.left c.visit_failing.result
+    fails c.visit_failing.ensures.answer c.visit_failing.ensures.left refl).answer
+
+pub returns-then-not-start-clause-answer : goal.returns-then-not-start-clause-answer
+returns-then-not-start-clause-answer c =
+    let fails : is_failing c.args.self.now.model c.args.self.now.values c.args.cells.now ≡ true =
+    ap (is_failing c.args.self.now.model c.args.self.now.values) (sym c.copy_from.ensures)
+    ∙ not-false (is_failing c.args.self.now.model c.args.self.now.values c.copy_from.new.self) (sym c.start.ensures.fails ∙ c.if-not-start.true) in
+    (told_fails c.args.self.now.model c.args.self.now.values (constrained_params c.args.self.now.model) c.args.cells.now c.args.cells.now c.args.cells.now
+    c.args.cells.now c.args.budget c.visit_failing-then-not-start.new.left c.visit_failing-then-not-start.result
+    fails c.visit_failing-then-not-start.ensures.answer c.visit_failing-then-not-start.ensures.left refl).answer

@@ -1,0 +1,98 @@
+-- The values of the parameters that are live on a path, and what looking at constraints tells of them. (This
+-- project's rule.)
+use Rattle.std.specs.Prelude.{◌≡◌, ◌≢◌, ℕ, ◌<◌, ◌≤◌, Bool, true, false, ◌&&◌, not, List, [], ◌++◌, length, Option, slice_index_or, All, ◌⊎◌, if◌then◌else◌}
+use Rattle.std.specs.List.{count_by, flat_map, list_any}
+use Rattle.cov_model.specs.Sound.{ModelView, param_at, rule_at}
+use Rattle.cov_model.specs.Rows.{is_assigned, value_in}
+use Rattle.cov_model.specs.Kleene.{body_truth}
+use Rattle.definitions.specs.Completion.{with_value}
+use Rattle.definitions.specs.Demand.{is_among}
+use Rattle.definitions.specs.Search.{breaks_a_rule, is_no}
+use Rattle.live_sets.specs.Trail.{LiveView, mark_at, IsSince}
+use Rattle.feasibility.specs.Tree.{undecided}
+
+-- a value is live if it is listed and no constraint is No with it
+abbrev pub is_live : ModelView → List (List ℕ) → List (Option ℕ) → ℕ → ℕ → Bool
+is_live m lists cells q w = is_among (slice_index_or lists q []) w && not (breaks_a_rule m (with_value cells q w))
+
+-- the constraint of a number is No
+abbrev pub no_on : ModelView → List (Option ℕ) → ℕ → Bool
+no_on m cells k = is_no (body_truth m (rule_at m k).body cells)
+
+-- one of these constraints is No
+abbrev pub breaks_one : ModelView → List ℕ → List (Option ℕ) → Bool
+breaks_one m numbers cells = list_any (no_on m cells) numbers
+
+-- constraints have these numbers
+abbrev pub AreRules : ModelView → List ℕ → Type 0
+AreRules m numbers = All (λ k. (0 < k) × (k ≤ length m.rules)) numbers
+
+-- there is a mark for each value of each parameter
+pub record HasShape (m : ModelView) (live : List (List Bool)) : Type 0 where
+  pub as_many : length live ≡ length m.params
+  pub each : (q : ℕ) → length (slice_index_or live q []) ≡ length (param_at m.params q).values
+
+-- the marks of the parameters without a value are those of a test
+abbrev pub Marks : ModelView → List (Option ℕ) → List (List Bool) → (ℕ → ℕ → Bool) → Type 0
+Marks m cells live test =
+    (q w : ℕ) → q < length m.params → w < length (param_at m.params q).values → is_assigned cells q ≡ false → mark_at live q w ≡ test q w
+
+-- the marks of the parameters without a value are set exactly where a value is live
+pub record ShowsLive (m : ModelView) (lists : List (List ℕ)) (cells : List (Option ℕ)) (sets : LiveView) : Type 0 where
+  pub shape : HasShape m sets.live
+  pub marks : Marks m cells sets.live (is_live m lists cells)
+
+-- the marks are set exactly where a value is listed
+pub record ShowsListed (m : ModelView) (lists : List (List ℕ)) (sets : LiveView) : Type 0 where
+  pub shape : HasShape m sets.live
+  pub marks : (q w : ℕ) → q < length m.params → w < length (param_at m.params q).values → mark_at sets.live q w ≡ is_among (slice_index_or lists q []) w
+
+-- each parameter without a value has a mark
+abbrev pub EachHasOne : ModelView → List (Option ℕ) → List (List Bool) → Type 0
+EachHasOne m cells live = (q : ℕ) → q < length m.params → is_assigned cells q ≡ false → 0 < count_by (λ mark. mark) (slice_index_or live q [])
+
+-- the values of a parameter below a number were looked at, and those taken away with which the constraint is No
+pub record NarrowedTo (m : ModelView) (k q n : ℕ) (cells : List (Option ℕ)) (old new : LiveView) : Type 0 where
+  pub below : (w : ℕ) → w < n → mark_at new.live q w ≡ (mark_at old.live q w && not (no_on m (with_value cells q w) k))
+  pub above : (w : ℕ) → n ≤ w → mark_at new.live q w ≡ mark_at old.live q w
+  pub others : (s : ℕ) → s ≢ q → slice_index_or new.live s [] ≡ slice_index_or old.live s []
+  pub shape : HasShape m new.live
+  pub since : IsSince old new
+
+-- all of them
+abbrev pub Narrowed : ModelView → ℕ → ℕ → List (Option ℕ) → LiveView → LiveView → Type 0
+Narrowed m k q cells old new = NarrowedTo m k q (length (param_at m.params q).values) cells old new
+
+-- none of these constraints is No, the values are taken away with which one is, and each parameter without a
+-- value has one left
+pub record LookedAt (m : ModelView) (numbers : List ℕ) (cells : List (Option ℕ)) (old new : LiveView) : Type 0 where
+  pub unbroken : breaks_one m numbers cells ≡ false
+  pub shape : HasShape m new.live
+  pub marks : Marks m cells new.live (λ q w. mark_at old.live q w && not (breaks_one m numbers (with_value cells q w)))
+  pub left : EachHasOne m cells new.live
+  pub since : IsSince old new
+
+-- with each marked value of some parameter without a value a constraint is No
+pub record IsStopped (m : ModelView) (cells : List (Option ℕ)) (live : List (List Bool)) : Type 0 where
+  pub param : ℕ
+  pub exists : param < length m.params
+  pub free : is_assigned cells param ≡ false
+  pub each : (w : ℕ) → w < length (param_at m.params param).values → mark_at live param w ≡ true → breaks_a_rule m (with_value cells param w) ≡ true
+
+-- so the node fails, as it does where a constraint is No
+abbrev pub Stops : ModelView → List (Option ℕ) → List (List Bool) → Type 0
+Stops m cells live = (breaks_a_rule m cells ≡ true) ⊎ IsStopped m cells live
+
+-- the constraints that the values of some parameters leave undecided
+abbrev pub undecided_of : ModelView → List (Option ℕ) → List ℕ → List ℕ
+undecided_of m cells params = flat_map (λ p. if is_assigned cells p then undecided m p (value_in cells p) else []) params
+
+-- the marks of one list of values, among so many
+pub record ListMarks (list : List ℕ) (count : ℕ) (table : List Bool) : Type 0 where
+  pub long : length table ≡ count
+  pub are : (w : ℕ) → w < count → slice_index_or table w false ≡ is_among list w
+
+-- the marks of the lists of the parameters below a number
+pub record AreMarks (m : ModelView) (lists : List (List ℕ)) (n : ℕ) (live : List (List Bool)) : Type 0 where
+  pub as_many : length live ≡ n
+  pub each : (q : ℕ) → q < n → ListMarks (slice_index_or lists q []) (length (param_at m.params q).values) (slice_index_or live q [])

@@ -1,0 +1,233 @@
+ghost use Rattle.std.specs.Prelude.{◌≡◌, ℕ, ◌+◌, ◌<◌, ◌≤◌, ◌∷◌, true, false, Some, None, [], length, not, slice_index_or, All, IfOk};
+ghost use Rattle.cov_model.specs.Fits.{FitsModel};
+ghost use Rattle.cov_model.specs.Sound.{param_at};
+ghost use Rattle.cov_model.specs.Rows.{is_assigned};
+ghost use Rattle.definitions.specs.Completion.{with_value};
+ghost use Rattle.definitions.specs.Search.{constrained_params, is_failing};
+ghost use Rattle.live_sets.specs.Trail.{IsSince, mark_at};
+ghost use Rattle.feasibility.specs.Live.{AreRules, EachHasOne, HasShape, ListMarks, LookedAt, Narrowed, ShowsListed, ShowsLive, Stops, no_on};
+ghost use Rattle.feasibility.specs.Tree.{constrained_at, no_values};
+
+use crate::tree::SearchTree;
+use bit_table::BitTable;
+use cov_model::{Cells, ParamNo, Truth, ValueNo};
+use live_sets::LiveSets;
+use std::alloc::Global;
+use value_text::NoMemory;
+
+// Marks the values of a list.
+fn marks_of(alloc: Global, count: ValueNo, list: &[ValueNo]) -> Result<BitTable, NoMemory>
+    requires { All (λ v. v < count) list.now }
+    ensures { IfOk result (ListMarks list.now count) }
+{
+    let mut table = BitTable::all_set(alloc, count as u32)?;
+    for w in 0..count {
+        table.clear(w as u32);
+    }
+    for v in list {
+        table.set(*v as u32);
+    }
+    Ok(table)
+}
+
+impl<'a> SearchTree<'a> {
+    // Sets of all values that are listed. Takes all room that a search needs.
+    pub(crate) fn listed_sets(&self, alloc: Global) -> Result<LiveSets, NoMemory>
+        ensures { IfOk result (ShowsListed self.now.model self.now.values) }
+    {
+        self.assert_invariant();
+        let count = self.model().params().len() as ParamNo;
+        let mut sets = Vec::new(alloc);
+        for q in 0..count {
+            let table = marks_of(alloc, self.count_of(q), self.values_of(q))?;
+            sets.push(table)?;
+        }
+        let all = LiveSets::new(alloc, sets)?;
+        Ok(all)
+    }
+
+    // Whether the constraint is No with this value of a parameter.
+    fn is_no_with(&self, rule: u32, q: ParamNo, w: ValueNo, cells: &mut Cells) -> bool
+        requires first { 0 < rule }
+        requires last { rule ≤ length self.now.model.rules }
+        requires parameter { q < length self.now.model.params }
+        requires value { w < length (param_at self.now.model.params q).values }
+        requires fits { FitsModel self.now.model cells.old }
+        requires free { is_assigned cells.old q ≡ false }
+        ensures broken { result ≡ no_on self.now.model (with_value cells.old q w) rule }
+        ensures same { cells.new ≡ cells.old }
+    {
+        cells.set_cell(q, w);
+        let broken = self.truth(rule, cells) == Truth::No;
+        cells.clear_cell(q);
+        broken
+    }
+
+    // Takes the values of a parameter away with which the constraint is No.
+    fn narrow(&self, rule: u32, q: ParamNo, cells: &mut Cells, sets: &mut LiveSets)
+        requires first { 0 < rule }
+        requires last { rule ≤ length self.now.model.rules }
+        requires parameter { q < length self.now.model.params }
+        requires fits { FitsModel self.now.model cells.old }
+        requires free { is_assigned cells.old q ≡ false }
+        requires shape { HasShape self.now.model sets.old.live }
+        ensures narrowed { Narrowed self.now.model rule q cells.old sets.old sets.new }
+        ensures same { cells.new ≡ cells.old }
+    {
+        self.assert_invariant();
+        let mut from = 0;
+        while let Some(w) = sets.next_live(q, from) {
+            if self.is_no_with(rule, q, w, cells) {
+                sets.take_away(q, w);
+            }
+            from = w + 1;
+        }
+    }
+
+    // Narrows the values of each parameter without a value that the constraint names. Whether each
+    // has a value left.
+    fn look_ahead(&self, rule: u32, cells: &mut Cells, sets: &mut LiveSets) -> bool
+        requires first { 0 < rule }
+        requires last { rule ≤ length self.now.model.rules }
+        requires unbroken { no_on self.now.model cells.old rule ≡ false }
+        requires fits { FitsModel self.now.model cells.old }
+        requires shape { HasShape self.now.model sets.old.live }
+        requires left { EachHasOne self.now.model cells.old sets.old.live }
+        ensures looked { result ≡ true → LookedAt self.now.model (rule ∷ []) cells.old sets.old sets.new }
+        ensures stops { result ≡ false → Stops self.now.model cells.old sets.old.live }
+        ensures since { IsSince sets.old sets.new }
+        ensures same { cells.new ≡ cells.old }
+    {
+        let members = self.members_of(rule);
+        for q in members {
+            if cells.get(*q).is_none() {
+                self.narrow(rule, *q, cells, sets);
+                if sets.count(*q) == 0 {
+                    return false;
+                }
+            }
+        }
+        true
+    }
+
+    // Looks at a constraint: one that holds says nothing of a value. Whether it isn't No and each
+    // parameter that it names has a value left.
+    fn look_at(&self, rule: u32, cells: &mut Cells, sets: &mut LiveSets) -> bool
+        requires first { 0 < rule }
+        requires last { rule ≤ length self.now.model.rules }
+        requires fits { FitsModel self.now.model cells.old }
+        requires shape { HasShape self.now.model sets.old.live }
+        requires left { EachHasOne self.now.model cells.old sets.old.live }
+        ensures looked { result ≡ true → LookedAt self.now.model (rule ∷ []) cells.old sets.old sets.new }
+        ensures stops { result ≡ false → Stops self.now.model cells.old sets.old.live }
+        ensures since { IsSince sets.old sets.new }
+        ensures same { cells.new ≡ cells.old }
+    {
+        match self.truth(rule, cells) {
+            Truth::Yes => true,
+            Truth::No => false,
+            Truth::Unknown => self.look_ahead(rule, cells, sets),
+        }
+    }
+
+    // Looks at each of the constraints.
+    fn look_at_each(&self, rules: &[u16], cells: &mut Cells, sets: &mut LiveSets) -> bool
+        requires exist { AreRules self.now.model rules.now }
+        requires fits { FitsModel self.now.model cells.old }
+        requires shape { HasShape self.now.model sets.old.live }
+        requires left { EachHasOne self.now.model cells.old sets.old.live }
+        ensures looked { result ≡ true → LookedAt self.now.model rules.now cells.old sets.old sets.new }
+        ensures stops { result ≡ false → Stops self.now.model cells.old sets.old.live }
+        ensures since { IsSince sets.old sets.new }
+        ensures same { cells.new ≡ cells.old }
+    {
+        for rule in rules {
+            if !self.look_at(*rule as u32, cells, sets) {
+                return false;
+            }
+        }
+        true
+    }
+
+    // Whether each parameter has a value; none has one in the cells.
+    fn has_values(&self, cells: &Cells, sets: &LiveSets) -> bool
+        requires shape { HasShape self.now.model sets.now.live }
+        requires none { cells.now ≡ no_values self.now.model }
+        ensures left { result ≡ true → EachHasOne self.now.model cells.now sets.now.live }
+        ensures stops { result ≡ false → Stops self.now.model cells.now sets.now.live }
+    {
+        let count = self.model().params().len() as ParamNo;
+        for q in 0..count {
+            if sets.count(q) == 0 {
+                return false;
+            }
+        }
+        true
+    }
+
+    // Takes the values away that aren't live where no parameter has a value. Whether this node fails.
+    pub(crate) fn begin(&self, cells: &mut Cells, sets: &mut LiveSets) -> bool
+        requires none { cells.old ≡ no_values self.now.model }
+        requires listed { ShowsListed self.now.model self.now.values sets.old }
+        ensures fails { result ≡ is_failing self.now.model self.now.values cells.old }
+        ensures live { result ≡ false → ShowsLive self.now.model self.now.values cells.old sets.new }
+        ensures same { cells.new ≡ cells.old }
+    {
+        self.assert_invariant();
+        if !self.has_values(cells, sets) {
+            return true;
+        }
+        let count = self.model().rules().len() as u32;
+        for i in 0..count {
+            if !self.look_at(i + 1, cells, sets) {
+                return true;
+            }
+        }
+        false
+    }
+
+    // Takes the values away that aren't live on the cells, from those that are where no parameter has
+    // a value: looks at the constraints that the cells' values leave undecided. Whether the node
+    // doesn't fail.
+    pub(crate) fn start(&self, cells: &mut Cells, sets: &mut LiveSets) -> bool
+        requires fits { FitsModel self.now.model cells.old }
+        requires node { is_failing self.now.model self.now.values (no_values self.now.model) ≡ false }
+        requires live { ShowsLive self.now.model self.now.values (no_values self.now.model) sets.old }
+        ensures fails { result ≡ not (is_failing self.now.model self.now.values cells.old) }
+        ensures live { result ≡ true → ShowsLive self.now.model self.now.values cells.old sets.new }
+        ensures since { IsSince sets.old sets.new }
+        ensures same { cells.new ≡ cells.old }
+    {
+        self.assert_invariant();
+        let count = self.constrained_len();
+        for i in 0..count {
+            let named = self.constrained_at(i);
+            if let Some(v) = cells.get(named.param) {
+                if !self.look_at_each(named.undecided.list(v as usize), cells, sets) {
+                    return false;
+                }
+            }
+        }
+        true
+    }
+
+    // Gives the constrained parameter at a place a live value, and takes the values away that so stop
+    // being live. Whether the node doesn't fail.
+    pub(crate) fn enter(&self, i: usize, v: ValueNo, cells: &mut Cells, sets: &mut LiveSets) -> bool
+        requires place { i < length (constrained_params self.now.model) }
+        requires value { v < length (param_at self.now.model.params (constrained_at self.now.model i)).values }
+        requires fits { FitsModel self.now.model cells.old }
+        requires free { is_assigned cells.old (constrained_at self.now.model i) ≡ false }
+        requires node { is_failing self.now.model self.now.values cells.old ≡ false }
+        requires live { ShowsLive self.now.model self.now.values cells.old sets.old }
+        ensures fails { result ≡ not (is_failing self.now.model self.now.values (with_value cells.old (constrained_at self.now.model i) v)) }
+        ensures live { result ≡ true → ShowsLive self.now.model self.now.values (with_value cells.old (constrained_at self.now.model i) v) sets.new }
+        ensures since { IsSince sets.old sets.new }
+        ensures cells { cells.new ≡ with_value cells.old (constrained_at self.now.model i) v }
+    {
+        self.assert_invariant();
+        let named = self.constrained_at(i);
+        cells.set_cell(named.param, v);
+        self.look_at_each(named.undecided.list(v as usize), cells, sets)
+    }
+}

@@ -1,0 +1,84 @@
+ghost use Rattle.std.specs.Prelude.{◌≡◌, ◌<◌, [], length, slice_index_or, not, IfOk};
+ghost use Rattle.cov_model.specs.Preference.{OrdersValues};
+ghost use Rattle.cov_model.specs.Slices.{slice_values};
+ghost use Rattle.cov_model.specs.Sound.{param_at};
+ghost use Rattle.cov_model.specs.Meaning.{value_at};
+ghost use Rattle.definitions.specs.Completion.{preferred_values};
+ghost use Rattle.definitions.specs.Demand.{is_among};
+ghost use Rattle.definitions.specs.SliceRows.{IsSliceOf};
+ghost use Rattle.feasibility.specs.Tree.{preferred_at};
+
+use cov_model::{ParamNo, Prefs, Slice, TestModel, ValueNo};
+use packed_lists::PackedLists;
+use std::alloc::Global;
+use value_text::NoMemory;
+
+// Whether a value isn't negative.
+fn is_positive(model: &TestModel, p: ParamNo, v: ValueNo) -> bool
+    requires parameter { p < length model.now.params }
+    requires value { v < length (param_at model.now.params p).values }
+    ensures { result ≡ not (value_at model.now p v).negative }
+{
+    let param = &model.params().as_slice()[p as usize];
+    !param.values.as_slice()[v as usize].negative
+}
+
+// Whether a value of a parameter is one of the slice.
+fn is_in_slice(model: &TestModel, slice: Slice, p: ParamNo, v: ValueNo) -> bool
+    requires slice { IsSliceOf model.now slice }
+    requires parameter { p < length model.now.params }
+    requires value { v < length (param_at model.now.params p).values }
+    ensures { result ≡ is_among (slice_index_or (slice_values model.now slice) p []) v }
+{
+    match slice {
+        Slice::Positive => is_positive(model, p, v),
+        Slice::Negative(fixed, w) => {
+            if fixed == p {
+                return w == v;
+            }
+            is_positive(model, p, v)
+        }
+    }
+}
+
+// A parameter's values in the slice, in preference order.
+fn preferred(
+    alloc: Global,
+    model: &TestModel,
+    prefs: &Prefs,
+    slice: Slice,
+    p: ParamNo,
+) -> Result<Vec<ValueNo>, NoMemory>
+    requires slice { IsSliceOf model.now slice }
+    requires parameter { p < length model.now.params }
+    requires orders { OrdersValues model.now prefs.now }
+    ensures { IfOk result (λ list. list.items ≡ preferred_at model.now prefs.now slice p) }
+{
+    let mut list = Vec::new(alloc);
+    for v in prefs.of(p) {
+        if is_in_slice(model, slice, p, *v) {
+            list.push(*v)?;
+        }
+    }
+    Ok(list)
+}
+
+// Each parameter's values in the slice, in preference order.
+pub(crate) fn preferred_lists(
+    alloc: Global,
+    model: &TestModel,
+    prefs: &Prefs,
+    slice: Slice,
+) -> Result<PackedLists, NoMemory>
+    requires slice { IsSliceOf model.now slice }
+    requires orders { OrdersValues model.now prefs.now }
+    ensures { IfOk result (λ lists. lists ≡ preferred_values model.now prefs.now slice) }
+{
+    let count = model.params().len();
+    let mut lists = PackedLists::new(alloc);
+    for p in 0..count {
+        let list = preferred(alloc, model, prefs, slice, p as ParamNo)?;
+        lists.push(list.as_slice())?;
+    }
+    Ok(lists)
+}

@@ -1,0 +1,177 @@
+ghost use Rattle.std.specs.Prelude.{◌≡◌, ◌+◌, ◌-◌, ◌<◌, ◌≤◌, true, false, None, [], length, slice_index_or, slice_set};
+ghost use Rattle.cov_model.specs.Fits.{FitsModel};
+ghost use Rattle.cov_model.specs.Rows.{is_assigned};
+ghost use Rattle.cov_model.specs.Sound.{IsSound};
+ghost use Rattle.definitions.specs.Completion.{with_value};
+ghost use Rattle.definitions.specs.Demand.{is_among};
+ghost use Rattle.definitions.specs.Search.{constrained_params, is_failing};
+ghost use Rattle.feasibility.specs.Answers.{VisitTells, answer_of, searched};
+ghost use Rattle.feasibility.specs.Live.{ShowsLive};
+ghost use Rattle.feasibility.specs.Path.{filled, filled_cell, reached};
+ghost use Rattle.feasibility.specs.Solving.{IsReady};
+ghost use Rattle.feasibility.specs.Tree.{IsListed, constrained_at, constrained_from};
+
+use crate::answer::Answer;
+use crate::tree::SearchTree;
+use cov_model::{Cells, ParamNo, ValueNo};
+use live_sets::LiveSets;
+
+// Visits a node that fails.
+fn visit_failing(left: &mut u64) -> Answer
+    ensures answer { result ≡ answer_of false 1 left.old }
+    ensures left { left.new ≡ left.old - 1 }
+{
+    if *left == 0 {
+        return Answer::Spent;
+    }
+    *left -= 1;
+    Answer::No
+}
+
+// Visits a node that succeeds.
+fn visit_leaf(left: &mut u64) -> Answer
+    ensures answer { result ≡ answer_of true 1 left.old }
+    ensures left { left.new ≡ left.old - 1 }
+{
+    if *left == 0 {
+        return Answer::Spent;
+    }
+    *left -= 1;
+    Answer::Yes
+}
+
+impl<'a> SearchTree<'a> {
+    // Gives the parameter the first value of its list, if it has none.
+    fn fill_cell(&self, p: ParamNo, cells: &mut Cells)
+        requires parameter { p < length self.now.model.params }
+        requires within { p < length cells.old }
+        ensures { cells.new ≡ slice_set cells.old p (filled_cell (slice_index_or self.now.values p []) (slice_index_or cells.old p None)) }
+    {
+        if cells.get(p).is_some() {
+            return;
+        }
+        if let Some(v) = self.values_of(p).first() {
+            cells.set_cell(p, *v);
+        }
+    }
+
+    // Gives each parameter without a value the first of its list.
+    pub(crate) fn fill(&self, cells: &mut Cells)
+        requires { length cells.old ≡ length self.now.model.params }
+        ensures { cells.new ≡ filled self.now.values cells.old }
+    {
+        self.assert_invariant();
+        let count = self.model().params().len() as ParamNo;
+        for p in 0..count {
+            self.fill_cell(p, cells);
+        }
+    }
+
+    // Visits a node that doesn't fail, given that the constrained parameters before a place have
+    // values. The sets show the live values, before and after.
+    #[cycle(visits)]
+    fn visit(&self, i: usize, cells: &mut Cells, sets: &mut LiveSets, left: &mut u64) -> Answer
+        requires place { i ≤ length (constrained_params self.now.model) }
+        requires fits { FitsModel self.now.model cells.old }
+        requires node { is_failing self.now.model self.now.values cells.old ≡ false }
+        requires live { ShowsLive self.now.model self.now.values cells.old sets.old }
+        ensures told { VisitTells self.now (constrained_from self.now.model i) cells.old cells.old cells.new left.old left.new result }
+        ensures sets { sets.new ≡ sets.old }
+    {
+        self.assert_invariant();
+        if i == self.constrained_len() {
+            return visit_leaf(left);
+        }
+        let p = self.constrained_at(i).param;
+        if cells.get(p).is_some() {
+            return self.visit(i + 1, cells, sets, left);
+        }
+        if *left == 0 {
+            return Answer::Spent;
+        }
+        *left -= 1;
+        let values = self.values_of(p);
+        for v in values {
+            match self.visit_value(i, *v, cells, sets, left) {
+                Answer::Yes => return Answer::Yes,
+                Answer::Spent => return Answer::Spent,
+                Answer::No => {}
+            }
+        }
+        Answer::No
+    }
+
+    // Visits the node that one more value leads to, of the constrained parameter at a place.
+    #[cycle(visits)]
+    fn visit_value(
+        &self,
+        i: usize,
+        v: ValueNo,
+        cells: &mut Cells,
+        sets: &mut LiveSets,
+        left: &mut u64,
+    ) -> Answer
+        requires place { i < length (constrained_params self.now.model) }
+        requires value { is_among (slice_index_or self.now.values (constrained_at self.now.model i) []) v ≡ true }
+        requires free { is_assigned cells.old (constrained_at self.now.model i) ≡ false }
+        requires fits { FitsModel self.now.model cells.old }
+        requires node { is_failing self.now.model self.now.values cells.old ≡ false }
+        requires live { ShowsLive self.now.model self.now.values cells.old sets.old }
+        ensures told { VisitTells self.now (constrained_from self.now.model (i + 1)) (with_value cells.old (constrained_at self.now.model i) v) cells.old cells.new left.old left.new result }
+        ensures sets { sets.new ≡ sets.old }
+    {
+        self.assert_invariant();
+        let p = self.constrained_at(i).param;
+        if !sets.is_live(p, v) {
+            return visit_failing(left);
+        }
+        let len = sets.trail_len();
+        if !self.enter(i, v, cells, sets) {
+            sets.undo(len);
+            cells.clear_cell(p);
+            return visit_failing(left);
+        }
+        let answer = self.visit(i + 1, cells, sets, left);
+        sets.undo(len);
+        if answer == Answer::No {
+            cells.clear_cell(p);
+        }
+        answer
+    }
+
+    // Searches for a completion of the cells, given whether the node without values fails. After Yes
+    // the room holds the values of the constrained parameters.
+    pub(crate) fn search(
+        &self,
+        fails: bool,
+        cells: &Cells,
+        room: &mut Cells,
+        sets: &mut LiveSets,
+        budget: u64,
+    ) -> Answer
+        requires fits { FitsModel self.now.model cells.now }
+        requires listed { IsListed self.now.values cells.now }
+        requires long { length room.old ≡ length cells.now }
+        requires ready { IsReady self.now.model self.now.values fails sets.old }
+        ensures answer { result ≡ answer_of (searched self.now cells.now).found (searched self.now cells.now).cost budget }
+        ensures yes { result ≡ Answer.Yes → room.new ≡ reached self.now.model self.now.values (constrained_params self.now.model) cells.now }
+        ensures long { length room.new ≡ length room.old }
+        ensures sound { IsSound self.now.model }
+        ensures sets { sets.new ≡ sets.old }
+    {
+        self.assert_invariant();
+        let mut left = budget;
+        if fails {
+            return visit_failing(&mut left);
+        }
+        room.copy_from(cells);
+        let len = sets.trail_len();
+        if !self.start(room, sets) {
+            sets.undo(len);
+            return visit_failing(&mut left);
+        }
+        let answer = self.visit(0, room, sets, &mut left);
+        sets.undo(len);
+        answer
+    }
+}

@@ -1,0 +1,130 @@
+//! A model with every form of the language, cut off and with bytes replaced: no run may fail on it.
+
+use std::alloc::Global;
+use std::test::Fail;
+use std::thread::Threads;
+use test_runs::{Ended, on_model, run};
+use value_text::NoMemory;
+
+// One parameter of each kind, each form of a group and each form of a constraint.
+const MODEL: &[u8] = b"\xef\xbb\xbf# every form of the language\n\
+    \n\
+    A: 1, 2, +3\r\n\
+    Size: 10, 1.5 (3), ~-1, 10\n\
+    OS: Win 10 | W, Linux (2), ~None\n\
+    B: <OS>, x (y), os\n\
+    \x20\t\n\
+    Q]: a\"b, c\\d, e] (7)\n\
+    # what is on and what is off\n\
+    T: on, off\n\
+    U: 01, 2\n\
+    V: u, v\n\
+    \n\
+    { A, Size }\n\
+    { OS, t } @ 1\n\
+    @ 2 { T, U, Q] }\n\
+    # the first constraint\n\
+    IF [A] = 1 THEN [T] = \"on\";\n\
+    \n\
+    IF [Size] > +1.50 OR [U] <> 1 AND NOT [t] = \"on\"\n\
+    # a comment inside a constraint\n\
+    \x20 THEN [OS] IN { \"Linux\", \"win 10\", \"none\" }\n\
+    \x20 ELSE [OS] NOT IN {\"Linux\"};\n\
+    [Q\\]] <> \"a\\\"b\" OR [ Q\\]] = \"a\\\"b\";\n\
+    [Q\\]] <> \"c\\\\d\" OR\n\
+    \n\
+    \t[V] = \"u\";\n\
+    [B] LIKE \"*n*\" OR [B] NOT LIKE \"W?n*\"\n\
+    \x20 OR NOT NOT [B] = [OS];\n\
+    ([A] < 3 AND ([U] <= 2)) OR [A] >= -2.5 OR [A] > [U];\n\
+    [Size] = -1 OR [A] <= [Size]\n\
+    \x20 OR [Size] <> 99;\n\
+    IF isnegative ([Size]) THEN IsPositive([OS]);\n\
+    ISPOSITIVE([B]) OR (\n\
+    \x20 NOT (ISPOSITIVE([Size])\n\
+    \x20   OR [V] = [T])\n\
+    \x20 OR [V] <> \"v\"\n\
+    );\n\
+    NOT ISNEGATIVE([B]) OR [OS] < [B];\n\
+    # the end\n";
+
+// Whether these lines are what a run with this status has to tell: warnings, and behind them one error
+// exactly where the status isn't 0.
+fn are_told(status: u8, lines: &str) -> bool {
+    let mut behind = lines
+        .lines()
+        .skip_while(|line| line.starts_with("warning: "));
+    let is_right = match behind.next() {
+        Some(line) => status != 0 && line.starts_with("error: "),
+        None => status == 0,
+    };
+    is_right && behind.next().is_none() && (lines.is_empty() || lines.ends_with("\n"))
+}
+
+// Whether a run ended in a way in which a run over a broken model may.
+fn is_allowed(ended: &Ended) -> bool {
+    let Ok(lines) = str::from_utf8(ended.told.bytes()) else {
+        return false;
+    };
+    let status = ended.status;
+    matches!(status, 0 | 4 | 5 | 9)
+        && ended.written.bytes().is_empty() == (status != 0)
+        && are_told(status, lines)
+}
+
+// Whether a run over this model ends in such a way.
+fn is_run_allowed<R: Threads + Sync>(
+    rt: &R,
+    alloc: Global,
+    model: &[u8],
+) -> Result<bool, NoMemory> {
+    let ended = run(rt, alloc, &on_model(&["m", "/o:1"], model))?;
+    Ok(is_allowed(&ended))
+}
+
+#[test]
+fn no_prefix_makes_a_run_fail(rt: HostRuntime) -> Result<(), Fail> {
+    for length in 0..MODEL.len() {
+        let is_allowed = is_run_allowed(&rt, rt.alloc(), &MODEL[..length])?;
+        assert!(rt; is_allowed, "the first {length} bytes");
+    }
+    let ended = run(&rt, rt.alloc(), &on_model(&["m", "/o:1"], MODEL))?;
+    assert!(rt; ended.status == 0 && is_allowed(&ended));
+    Ok(())
+}
+
+// Whether no run fails on the model with any one byte replaced by one of these.
+fn is_allowed_with<R: Threads + Sync>(
+    rt: &R,
+    alloc: Global,
+    bytes: &[u8],
+) -> Result<bool, NoMemory> {
+    for byte in bytes {
+        for place in 0..MODEL.len() {
+            let mut model = Vec::from_slice(alloc, MODEL)?;
+            model[place] = *byte;
+            if !is_run_allowed(rt, alloc, model.as_slice())? {
+                return Ok(false);
+            }
+        }
+    }
+    Ok(true)
+}
+
+#[test]
+fn no_control_byte_makes_a_run_fail(rt: HostRuntime) -> Result<(), Fail> {
+    assert!(rt; is_allowed_with(&rt, rt.alloc(), b"\0\n")?);
+    Ok(())
+}
+
+#[test]
+fn no_byte_of_text_makes_a_run_fail(rt: HostRuntime) -> Result<(), Fail> {
+    assert!(rt; is_allowed_with(&rt, rt.alloc(), b"\xff~")?);
+    Ok(())
+}
+
+#[test]
+fn no_sign_makes_a_run_fail(rt: HostRuntime) -> Result<(), Fail> {
+    assert!(rt; is_allowed_with(&rt, rt.alloc(), b"\"[")?);
+    Ok(())
+}

@@ -1,0 +1,86 @@
+//! Folders and sinks that fail.
+
+use outside_io::{FileHeld, FileList, SureFolder, SureSink};
+use pict_cli::run_pict;
+use std::alloc::Global;
+use std::test::Fail;
+use test_runs::{Given, ends_as, on_model};
+use value_text::{NoMemory, OwnedList, Text};
+
+const MODEL: &str = "A: 1, 2\nB: x, y\n";
+
+const REPORT: &str = "A\tB\n1\tx\n1\ty\n2\tx\n2\ty\n";
+
+#[test]
+fn keeps_what_fits_of_the_report(rt: HostRuntime) -> Result<(), Fail> {
+    let line = "error: cannot write the report\n";
+    for room in 0..20 {
+        let given = Given {
+            room: (room, 1 << 10),
+            ..on_model(&["m"], MODEL.as_bytes())
+        };
+        let kept = REPORT.get(..room).ok_or("the report has 20 bytes")?;
+        assert!(rt; ends_as(&rt, rt.alloc(), &given, 8, kept, line)?, "{room}");
+    }
+    Ok(())
+}
+
+// The name of the one file, the calls of the folder that fail, how many bytes fit into standard error,
+// the words, and the status, the report and the line.
+const FAULTS: &[(&str, &[u64], usize, &[&str], u8, &str, &str)] = &[
+    ("m", &[1], 100, &["m"], 7, "", "error: cannot read m\n"),
+    ("n", &[], 100, &["m"], 7, "", "error: cannot read m\n"),
+    // A fault of standard error changes nothing.
+    ("m", &[], 0, &["m", "/o:3"], 4, "", ""),
+    ("m", &[], 11, &["m", "/o:3"], 4, "", "error: mode"),
+    ("m", &[], 0, &["m"], 0, REPORT, ""),
+];
+
+#[test]
+fn ends_with_the_status_of_a_fault(rt: HostRuntime) -> Result<(), Fail> {
+    for (name, fail, room, words, status, report, line) in FAULTS {
+        let given = Given {
+            name,
+            fail,
+            room: (100, *room),
+            ..on_model(words, MODEL.as_bytes())
+        };
+        assert!(rt;
+            ends_as(&rt, rt.alloc(), &given, *status, report, line)?,
+            "{status} {line}"
+        );
+    }
+    Ok(())
+}
+
+// A folder that never fails, with the model in the file `m`.
+fn folder_of(alloc: Global) -> Result<SureFolder, NoMemory> {
+    let mut bytes = OwnedList::new(alloc);
+    for byte in MODEL.as_bytes() {
+        bytes.push(*byte)?;
+    }
+    let name = Text::copy(alloc, "m")?;
+    let mut files = FileList::new(alloc);
+    files.push(FileHeld { name, bytes })?;
+    Ok(SureFolder::new(files))
+}
+
+#[test]
+fn runs_where_nothing_fails(rt: HostRuntime) -> Result<(), Fail> {
+    let mut folder = folder_of(rt.alloc())?;
+    let mut out = SureSink::new();
+    let mut told = SureSink::new();
+    let mut words = Vec::new(rt.alloc());
+    words.push(String::from_str(rt.alloc(), "m")?)?;
+    let status = run_pict(
+        &rt,
+        rt.alloc(),
+        words.as_slice(),
+        &mut folder,
+        &mut out,
+        &mut told,
+        5,
+    );
+    assert!(rt; status == 0 && out.taken() == 20 && told.taken() == 0);
+    Ok(())
+}

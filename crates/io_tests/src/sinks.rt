@@ -1,0 +1,57 @@
+//! Sinks that take bytes.
+
+use outside_io::{MemSink, RealSink, Sink, SureSink, WriteAnswer};
+use std::io;
+use std::io::Write;
+use std::test::Fail;
+
+// A stream that takes one byte a call, and nothing once it is full.
+#[derive(Drop)]
+struct Narrow {
+    left: u8,
+}
+
+impl Write for Narrow {
+    fn write(&mut self, piece: &[u8]) -> io::Result<usize> {
+        if self.left == 0 || piece.is_empty() {
+            return Ok(0);
+        }
+        self.left -= 1;
+        Ok(1)
+    }
+
+    fn flush(&mut self) -> io::Result<()> {
+        Ok(())
+    }
+}
+
+#[test]
+fn a_sink_in_memory_keeps_what_fits(rt: HostRuntime) -> Result<(), Fail> {
+    let mut sink = MemSink::up_to(rt.alloc(), 5)?;
+    assert!(rt; sink.put(b"xyz") == WriteAnswer::Done);
+    assert!(rt; sink.put(b"") == WriteAnswer::Done);
+    assert!(rt; sink.put(b"uvw") == WriteAnswer::Failed);
+    assert!(rt; sink.put(b"t") == WriteAnswer::Failed);
+    assert!(rt; sink.bytes() == b"xyzuv".as_slice());
+    Ok(())
+}
+
+#[test]
+fn a_sure_sink_counts(rt: HostRuntime) {
+    let mut counter = SureSink::new();
+    assert!(rt; counter.put(b"xyz") == WriteAnswer::Done);
+    assert!(rt; counter.taken() == 3);
+}
+
+#[test]
+fn a_stream_may_take_less_than_it_is_given(rt: HostRuntime) {
+    let mut narrow = RealSink::new(Narrow { left: 4 });
+    assert!(rt; narrow.put(b"xyz") == WriteAnswer::Done);
+    assert!(rt; narrow.put(b"xyz") == WriteAnswer::Failed);
+    assert!(rt; narrow.put(b"") == WriteAnswer::Done);
+}
+
+#[test]
+fn a_stream_of_the_system_takes_bytes(rt: HostRuntime) {
+    assert!(rt; RealSink::new(rt.stdout()).put(b"") == WriteAnswer::Done);
+}

@@ -1,0 +1,102 @@
+use Rattle.std.proofs.Common.{◌≡◌, ◌∙◌, ◌++◌, Err, None, true, length, ap, sym, subst}
+use Rattle.std.specs.List.{list_any}
+use Rattle.std.proofs.lemmas.Result.{err_from_is_err_and}
+use Rattle.cov_model.specs.Sound.{ModelView}
+use Rattle.cov_model.specs.declared.slice.Slice.{Slice}
+use Rattle.definitions.specs.Growth.{down, settle}
+use Rattle.uncovered_table.specs.Places.{is_place, slice_places, tuple_at}
+use Rattle.ipog_grow.specs.Growing.{open_tuples}
+use Rattle.ipog_grow.specs.Asking.{SearchContext, IsNext, IsPassed, Told, extends, first_spent}
+use Rattle.ipog_grow.proofs.Asking.{told-err}
+use Rattle.ipog_grow.proofs.PlaceTupleLemmas.{placed}
+use Rattle.ipog_grow.proofs.VerticalLemmas.{downing-next, downing-more, downing-spent, downing-end, downing-falls}
+use Rattle.ipog_grow.proofs.slice_growth.SliceGrowth.grow_vertically.Goals as goal
+
+pub put_tuple-requires-clause-set : goal.put_tuple-requires-clause-set
+put_tuple-requires-clause-set c =
+    let own = placed c.loop-place.self.table c.assert_invariant.ensures.context c.loop-place.invariant.downing.is_open.of c.requires.plan
+    c.assert_invariant-2.ensures c.in-Some.ensures.own in
+    own.known
+
+pub put_tuple-requires-clause-rank : goal.put_tuple-requires-clause-rank
+put_tuple-requires-clause-rank c =
+    let own = placed c.loop-place.self.table c.assert_invariant.ensures.context c.loop-place.invariant.downing.is_open.of c.requires.plan
+    c.assert_invariant-2.ensures c.in-Some.ensures.own in
+    own.below
+
+pub put_tuple-requires-clause-members : goal.put_tuple-requires-clause-members
+put_tuple-requires-clause-members c =
+    let own = placed c.loop-place.self.table c.assert_invariant.ensures.context c.loop-place.invariant.downing.is_open.of c.requires.plan
+    c.assert_invariant-2.ensures c.in-Some.ensures.own in
+    own.few
+
+pub settle-requires-clause-next : goal.settle-requires-clause-next
+settle-requires-clause-next c =
+    let put = c.put_tuple.ensures.tuple c.args.self.now.asker.context.model c.requires.plan (c.loop-place.invariant.tuple ∙ c.requires.tuple) in
+    let next = downing-next c.loop-place.invariant.downing (sym c.next_open.ensures.value ∙ c.in-Some.is) c.in-Some.ensures.own
+    (put ∙ ap (λ (m : ModelView). tuple_at m c.in-Some.place) (sym c.loop-place.invariant.downing.is_open.of.0)) in
+    subst (λ (w : SearchContext). IsNext w c.loop-place.self.table c.args.column c.in-Some.place c.put_tuple.new.into c.loop-place.self.rows.items)
+    (sym c.loop-place.invariant.context) next
+
+pub returns-in_err-settle-clause-asked : goal.returns-in_err-settle-clause-asked
+returns-in_err-settle-clause-asked c =
+    let put = c.put_tuple.ensures.tuple c.args.self.now.asker.context.model c.requires.plan (c.loop-place.invariant.tuple ∙ c.requires.tuple) in
+    let next = downing-next c.loop-place.invariant.downing (sym c.next_open.ensures.value ∙ c.in-Some.is) c.in-Some.ensures.own
+    (put ∙ ap (λ (m : ModelView). tuple_at m c.in-Some.place) (sym c.loop-place.invariant.downing.is_open.of.0)) in
+    let p = err_from_is_err_and c.from_residual-in_err-settle.result c.from_residual-in_err-settle.ensures.1 in
+    rw (p.1, p.2) (told-err (Unit {0}) (Unit {0}) c.in_err-settle.field-0.0 c.settle.new.self.asker.question
+    (first_spent c.args.self.now.asker.context (settle (extends c.args.self.now.asker.context) c.put_tuple.new.into c.loop-place.self.rows.items).asked)
+    (first_spent c.args.self.now.asker.context (down (extends c.args.self.now.asker.context) (open_tuples c.args.self.now.table c.args.column)
+    c.args.self.now.rows.items).asked)
+    (λ over. downing-spent c.loop-place.invariant.downing next over)
+    (subst (λ (w : SearchContext). Told {A = Unit {0}} (Err c.in_err-settle.field-0.0) c.settle.new.self.asker.question
+    (first_spent w (settle (extends w) c.put_tuple.new.into c.loop-place.self.rows.items).asked)) c.loop-place.invariant.context
+    c.in_err-settle.ensures.asked))
+
+pub loop-place-smaller : goal.loop-place-smaller
+loop-place-smaller c =
+    let put = c.put_tuple.ensures.tuple c.args.self.now.asker.context.model c.requires.plan (c.loop-place.invariant.tuple ∙ c.requires.tuple) in
+    let next = downing-next c.loop-place.invariant.downing (sym c.next_open.ensures.value ∙ c.in-Some.is) c.in-Some.ensures.own
+    (put ∙ ap (λ (m : ModelView). tuple_at m c.in-Some.place) (sym c.loop-place.invariant.downing.is_open.of.0)) in
+    let passes = subst (λ (w : SearchContext). IsPassed w c.loop-place.self.table c.settle.new.self.table c.args.column c.in-Some.place
+    c.settle.new.self.rows.items) c.loop-place.invariant.context c.in_ok-settle.ensures.passed in
+    downing-falls next passes
+
+pub loop-place-preserved : goal.loop-place-preserved
+loop-place-preserved c =
+    let put = c.put_tuple.ensures.tuple c.args.self.now.asker.context.model c.requires.plan (c.loop-place.invariant.tuple ∙ c.requires.tuple) in
+    let next = downing-next c.loop-place.invariant.downing (sym c.next_open.ensures.value ∙ c.in-Some.is) c.in-Some.ensures.own
+    (put ∙ ap (λ (m : ModelView). tuple_at m c.in-Some.place) (sym c.loop-place.invariant.downing.is_open.of.0)) in
+    let passes = subst (λ (w : SearchContext). IsPassed w c.loop-place.self.table c.settle.new.self.table c.args.column c.in-Some.place
+    c.settle.new.self.rows.items) c.loop-place.invariant.context c.in_ok-settle.ensures.passed in
+    record {
+      context = c.settle.ensures.same ∙ c.loop-place.invariant.context;
+      tuple = ap length c.settle.ensures.tuple ∙ c.put_tuple.ensures.long ∙ c.loop-place.invariant.tuple;
+      room = c.settle.ensures.room ∙ c.loop-place.invariant.room;
+      unfilled = c.in_ok-settle.ensures.unfilled;
+      from =
+          subst (λ (m : ModelView). list_any (is_place c.in-Some.place) (slice_places m c.settle.new.self.table.slice) ≡ true) (sym passes.keeps.model)
+          (subst (λ (s : Slice). list_any (is_place c.in-Some.place) (slice_places c.loop-place.self.table.model s) ≡ true)
+          (sym passes.keeps.slice) c.in-Some.ensures.own);
+      downing =
+          downing-more c.loop-place.invariant.downing next
+          (subst (λ (w : SearchContext). first_spent w (settle (extends w) c.put_tuple.new.into c.loop-place.self.rows.items).asked ≡ None)
+          c.loop-place.invariant.context c.in_ok-settle.ensures.asked)
+          (subst (λ (w : SearchContext). c.settle.new.self.rows.items ≡ (settle (extends w) c.put_tuple.new.into c.loop-place.self.rows.items).rows)
+          c.loop-place.invariant.context c.in_ok-settle.ensures.rows)
+          (subst (λ (w : SearchContext). c.settle.new.self.omitted ≡ c.loop-place.self.omitted
+          ++ (settle (extends w) c.put_tuple.new.into c.loop-place.self.rows.items).omitted) c.loop-place.invariant.context c.in_ok-settle.ensures.omitted)
+          passes;
+    }
+
+pub returns-clause-asked : goal.returns-clause-asked
+returns-clause-asked c =
+    (downing-end c.loop-place.invariant.downing (sym c.next_open.ensures.value ∙ c.in_default.is)).asked
+
+pub returns-clause-rows : goal.returns-clause-rows
+returns-clause-rows c =
+    (downing-end c.loop-place.invariant.downing (sym c.next_open.ensures.value ∙ c.in_default.is)).given
+
+pub returns-clause-omitted : goal.returns-clause-omitted
+returns-clause-omitted c =
+    (downing-end c.loop-place.invariant.downing (sym c.next_open.ensures.value ∙ c.in_default.is)).left_out

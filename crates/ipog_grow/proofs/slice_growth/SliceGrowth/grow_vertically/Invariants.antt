@@ -1,0 +1,21 @@
+use Rattle.std.proofs.Common.{◌≡◌, length, IfSome}
+use Rattle.uncovered_table.specs.Open.{IsPlaceOf}
+use Rattle.ipog_grow.specs.UnfilledRows.{HasUnfilled}
+use Rattle.ipog_grow.specs.Growing.{open_tuples}
+use Rattle.ipog_grow.proofs.VerticalLemmas.{Downing}
+use Rattle.ipog_grow.proofs.slice_growth.SliceGrowth.grow_vertically.Given as goal
+
+-- the open tuples that are left decide
+abbrev pub invariant-loop-place : goal.invariant-loop-place
+invariant-loop-place l = record {
+  context : l.self.asker.context ≡ l.fn.self.asker.context;
+  tuple : length l.self.tuple ≡ length l.fn.self.tuple;
+  room : length l.self.room ≡ length l.fn.self.room;
+  unfilled : HasUnfilled l.columns l.self.rows.items l.unfilled.items;
+  from : IfSome l.from (IsPlaceOf l.self.table);
+  downing : Downing l.fn.self.asker.context l.column l.fn.self.table l.self.table l.fn.self.rows.items l.self.rows.items l.fn.self.omitted l.self.omitted
+      l.from;
+}
+
+abbrev pub decreases-loop-place : goal.decreases-loop-place
+decreases-loop-place l = length (open_tuples l.self.table l.column)

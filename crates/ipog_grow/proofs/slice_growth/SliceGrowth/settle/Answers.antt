@@ -1,0 +1,100 @@
+use Rattle.std.proofs.Common.{◌≡◌, List, ◌<◌, ◌∙◌, ◌∷◌, ◌++◌, [], ℕ, Err, Option, false, take, drop, length, get_or, ap, sym, subst, arith}
+use Rattle.std.proofs.lemmas.Result.{err_from_is_err_and}
+use Rattle.std.proofs.lemmas.List.{get_or-set_same}
+use Rattle.cov_model.specs.Sound.{ModelView}
+use Rattle.cov_model.specs.declared.slice.Slice.{Slice}
+use Rattle.definitions.specs.Demand.{is_among}
+use Rattle.definitions.specs.SliceRows.{IsOfSlice}
+use Rattle.definitions.specs.Growth.{agrees, join, settle, union}
+use Rattle.uncovered_table.specs.Open.{row_closed}
+use Rattle.ipog_grow.specs.Asking.{SearchContext, Grows, IsPassed, Told, extends, first_spent, rows_alone}
+use Rattle.ipog_grow.specs.UnfilledRows.{HasUnfilled}
+use Rattle.ipog_grow.proofs.Asking.{told-err}
+use Rattle.ipog_grow.proofs.Closing.{is_alone, next-grows, next-may_agree, passed-union, settle-asks, settle-stops, taken_at, whole_slice}
+use Rattle.ipog_grow.proofs.Settling.{settle-alone_rows}
+use Rattle.ipog_grow.proofs.UnfilledLemmas.{unfilled-union}
+use Rattle.ipog_grow.proofs.slice_growth.SliceGrowth.settle.Goals as goal
+
+pub join_first-requires-clause-tuple : goal.join_first-requires-clause-tuple
+join_first-requires-clause-tuple c = next-grows c.requires.next
+
+pub join_first-requires-clause-others : goal.join_first-requires-clause-others
+join_first-requires-clause-others c =
+    let rows = c.args.self.now.rows.items in
+    subst (λ (seen : List (List (Option ℕ))). (i : ℕ) → i < length seen → is_among c.as_slice.result.now i ≡ false
+    → agrees (get_or seen i []) c.args.self.now.tuple ≡ false) (sym c.as_mut_slice.ensures.value)
+    (subst (λ (numbers : List ℕ). (i : ℕ) → i < length rows → is_among numbers i ≡ false → agrees (get_or rows i []) c.args.self.now.tuple ≡ false)
+    (sym c.as_slice.ensures.value)
+    (next-may_agree c.requires.next c.requires.columns c.requires.unfilled))
+
+pub returns-in_err-i-clause-asked : goal.returns-in_err-i-clause-asked
+returns-in_err-i-clause-asked c =
+    let context = c.args.self.now.asker.context in
+    let asked : List (List (Option ℕ)) → List (List (Option ℕ)) = λ rows. (join (extends context) c.args.self.now.tuple rows).asked in
+    let p = err_from_is_err_and c.from_residual.result c.from_residual.ensures.1 in
+    rw (p.1, p.2) (told-err (Option ℕ) (Unit {0}) c.in_err-i.field-0.0 c.join_first.new.asker.question (first_spent context (asked c.args.self.now.rows.items))
+    (first_spent context (settle (extends context) c.args.self.now.tuple c.args.self.now.rows.items).asked)
+    (λ over. settle-stops context c.args.self.now.tuple c.join_first.new.asker.question c.args.self.now.rows.items over)
+    (subst (λ (rows : List (List (Option ℕ))). Told {A = Option ℕ} (Err c.in_err-i.field-0.0) c.join_first.new.asker.question
+    (first_spent context (asked rows))) c.as_mut_slice.ensures.value c.in_err-i.ensures.asked))
+
+pub close_row-requires-clause-cells : goal.close_row-requires-clause-cells
+close_row-requires-clause-cells c =
+    let size : c.args.self.now.rows.len ≡ length c.args.self.now.rows.items = omega (arith, c.args.self.now.rows.ok.0) in
+    let taken = taken_at c.as_mut_slice.ensures.value size c.join_first.auto.rows c.in-Some.is c.in_ok-i.ensures.place c.index.ensures in
+    let own : Grows c.args.self.now.asker.context c.index.result.now = subst (Grows c.args.self.now.asker.context) (sym taken.read_is)
+    (c.in_ok-i.ensures.grows c.in-Some.i [] taken.within) in
+    subst (λ (m : ModelView). IsOfSlice m c.args.self.now.table.slice c.index.result.now) (sym c.requires.next.of.0)
+    (subst (λ (s : Slice). IsOfSlice c.args.self.now.asker.context.model s c.index.result.now) (sym c.requires.next.of.1) own.of)
+
+pub returns-in-Some-clause-passed : goal.returns-in-Some-clause-passed
+returns-in-Some-clause-passed c =
+    let rows = c.args.self.now.rows.items in
+    let i = c.in-Some.i in
+    let size : c.args.self.now.rows.len ≡ length c.args.self.now.rows.items = omega (arith, c.args.self.now.rows.ok.0) in
+    let taken = taken_at c.as_mut_slice.ensures.value size c.join_first.auto.rows c.in-Some.is c.in_ok-i.ensures.place c.index.ensures in
+    subst (IsPassed c.args.self.now.asker.context c.args.self.now.table c.close_row.new.self c.args.column c.args.place) (sym taken.whole)
+    (passed-union c.requires.next taken.union_at
+    (c.close_row.ensures ∙ ap (row_closed c.args.self.now.table c.args.column) taken.read_is)
+    (ap (λ list. get_or list i []) taken.union_at.put ∙ get_or-set_same rows i (union (get_or rows i []) c.args.self.now.tuple) [] taken.union_at.within)
+    c.in_ok-i.ensures.grows)
+
+pub returns-in-Some-clause-unfilled : goal.returns-in-Some-clause-unfilled
+returns-in-Some-clause-unfilled c =
+    let size : c.args.self.now.rows.len ≡ length c.args.self.now.rows.items = omega (arith, c.args.self.now.rows.ok.0) in
+    let taken = taken_at c.as_mut_slice.ensures.value size c.join_first.auto.rows c.in-Some.is c.in_ok-i.ensures.place c.index.ensures in
+    subst (λ (rows : List (List (Option ℕ))). HasUnfilled c.args.columns.now rows c.args.unfilled.now.items) (sym (taken.whole ∙ taken.union_at.put))
+    (unfilled-union c.args.columns.now c.args.self.now.rows.items c.args.unfilled.now.items c.args.self.now.tuple c.in-Some.i taken.union_at.within
+    c.requires.unfilled)
+
+pub returns-in_err-settle_alone-in-None-clause-asked : goal.returns-in_err-settle_alone-in-None-clause-asked
+returns-in_err-settle_alone-in-None-clause-asked c =
+    let context = c.args.self.now.asker.context in
+    let alone = is_alone c.args.self.now.asker.context c.as_mut_slice.ensures.value c.in-None.is c.in_ok-i.ensures.taken c.in_ok-i.ensures.asked in
+    let p = err_from_is_err_and c.from_residual-in_err-settle_alone-in-None.result c.from_residual-in_err-settle_alone-in-None.ensures.1 in
+    rw (p.1, p.2) (told-err (Unit {0}) (Unit {0}) c.in_err-settle_alone-in-None.field-0.0 c.settle_alone.new.self.asker.question
+    (first_spent context (c.args.self.now.tuple ∷ []))
+    (first_spent context (settle (extends context) c.args.self.now.tuple c.args.self.now.rows.items).asked)
+    (λ over. settle-asks context c.args.self.now.tuple c.args.self.now.rows.items alone.alone alone.unspent ∙ over)
+    (subst (λ (w : SearchContext). Told {A = Unit {0}} (Err c.in_err-settle_alone-in-None.field-0.0) c.settle_alone.new.self.asker.question
+    (first_spent w (c.args.self.now.tuple ∷ []))) c.in_ok-i.ensures.same
+    c.in_err-settle_alone-in-None.ensures.asked))
+
+pub returns-in_ok-settle_alone-in-None-clause-asked : goal.returns-in_ok-settle_alone-in-None-clause-asked
+returns-in_ok-settle_alone-in-None-clause-asked c =
+    let alone = is_alone c.args.self.now.asker.context c.as_mut_slice.ensures.value c.in-None.is c.in_ok-i.ensures.taken c.in_ok-i.ensures.asked in
+    settle-asks c.args.self.now.asker.context c.args.self.now.tuple c.args.self.now.rows.items alone.alone alone.unspent
+    ∙ ap (λ (w : SearchContext). first_spent w (c.args.self.now.tuple ∷ [])) (sym c.in_ok-i.ensures.same) ∙ c.in_ok-settle_alone-in-None.ensures.asked
+
+pub returns-in_ok-settle_alone-in-None-clause-rows : goal.returns-in_ok-settle_alone-in-None-clause-rows
+returns-in_ok-settle_alone-in-None-clause-rows c =
+    let context = c.args.self.now.asker.context in
+    let rows = c.args.self.now.rows.items in
+    let size : c.args.self.now.rows.len ≡ length c.args.self.now.rows.items = omega (arith, c.args.self.now.rows.ok.0) in
+    let alone = is_alone c.args.self.now.asker.context c.as_mut_slice.ensures.value c.in-None.is c.in_ok-i.ensures.taken c.in_ok-i.ensures.asked in
+    let whole = whole_slice rows c.join_first.new.rows c.args.self.now.rows.len size (c.join_first.auto.rows ∙ ap length c.as_mut_slice.ensures.value) in
+    let same = whole ∙ c.in_ok-i.ensures.unchanged c.in-None.is ∙ c.as_mut_slice.ensures.value in
+    c.in_ok-settle_alone-in-None.ensures.rows
+    ∙ ap (λ (w : SearchContext). rows_alone w c.args.self.now.tuple
+    (take c.args.self.now.rows.len (c.join_first.new.rows ++ drop (length c.join_first.new.rows) rows))) c.in_ok-i.ensures.same
+    ∙ ap (rows_alone context c.args.self.now.tuple) same ∙ sym (settle-alone_rows (extends context) c.args.self.now.tuple rows alone.alone)

@@ -1,0 +1,50 @@
+ghost use Rattle.std.specs.Prelude.{◌≡◌, ◌<◌, List, Option, ℕ, All, [], length, slice_index_or, OnOk};
+ghost use Rattle.std.specs.List.{filter};
+ghost use Rattle.cov_model.specs.Sound.{param_at};
+ghost use Rattle.definitions.specs.Growth.{is_uncovered};
+ghost use Rattle.ipog_grow.specs.Asking.{Grows, IsTableOf, Told, crossed, first_spent};
+ghost use Rattle.ipog_grow.specs.Growing.{IsInPlay, Keeps, open_tuples};
+
+use crate::asker::Asker;
+use crate::fill::fill_cell;
+use crate::stop::Stop;
+use crate::workers::Workers;
+use cov_model::{Cells, ParamNo, ValueNo};
+use outside_io::Gate;
+use std::thread::Threads;
+use uncovered_table::Uncovered;
+
+// Horizontal growth of a column: each partial row in order gets its best value there. The open tuples
+// in play are those that no row contains, before and after.
+pub(crate) fn grow_horizontally<R: Threads + Sync, G: Gate + Sync>(
+    workers: &Workers<'_, R, G>,
+    table: &mut Uncovered,
+    asker: &mut Asker,
+    order: &[ValueNo],
+    column: ParamNo,
+    scores: &mut [u32],
+    rows: &mut [Cells],
+) -> Result<(), Stop>
+    requires table { IsTableOf asker.old.context table.old }
+    requires column { column < length asker.old.context.model.params }
+    requires order { order.now ≡ slice_index_or asker.old.context.prefs column [] }
+    requires scores { length scores.old ≡ length (param_at asker.old.context.model.params column).values }
+    requires in_play { All (IsInPlay asker.old.context.model asker.old.context.slice column) (open_tuples table.old column) }
+    requires grows { All (Grows asker.old.context) rows.old }
+    ensures asked { (tuples : List (List (Option ℕ))) → open_tuples table.old column ≡ filter (is_uncovered rows.old) tuples
+        → Told result asker.new.question (first_spent asker.old.context (crossed asker.old.context column tuples [] rows.old).asked) }
+    ensures rows { OnOk result ((tuples : List (List (Option ℕ))) → open_tuples table.old column ≡ filter (is_uncovered rows.old) tuples
+        → rows.new ≡ (crossed asker.old.context column tuples [] rows.old).rows) }
+    ensures moment { OnOk result ((tuples : List (List (Option ℕ))) → open_tuples table.old column ≡ filter (is_uncovered rows.old) tuples
+        → open_tuples table.new column ≡ filter (is_uncovered rows.new) tuples) }
+    ensures keeps { OnOk result (Keeps table.old table.new column) }
+    ensures in_play { OnOk result (All (IsInPlay asker.old.context.model asker.old.context.slice column) (open_tuples table.new column)) }
+    ensures grows { OnOk result (All (Grows asker.old.context) rows.new) }
+    ensures same { asker.new.context ≡ asker.old.context }
+    ensures long { length scores.new ≡ length scores.old }
+{
+    for i in 0..rows.len() {
+        fill_cell(workers, table, asker, order, column, scores, &mut rows[i])?;
+    }
+    Ok(())
+}

@@ -1,0 +1,139 @@
+//! The parameters and the groups of models.
+
+ghost use Rattle.model_parse.specs.RawModels.{AreOpts};
+
+use cov_model::{Group, Param, TestModel, Value};
+use model_lex::{Marks, ModelOpts, NoteList, OrderWord, split_model};
+use model_parse::parse_params;
+use std::alloc::{AllocError, Global};
+use std::test::Fail;
+use test_models::{options, read};
+
+// ` ~a|b(5)` for a negative value a with the alias b and the weight 5.
+fn show_value(alloc: Global, value: &Value, into: &mut String) -> Result<(), AllocError> {
+    into.push_str(if value.negative { " ~" } else { " " })?;
+    for (at, name) in value.names.as_slice().iter().enumerate() {
+        into.push_str(if at > 0 { "|" } else { "" })?;
+        into.push_str(name.as_str())?;
+    }
+    if value.weight != 1 {
+        into.push_str(format!(in alloc; "({})", value.weight)?.as_str())?;
+    }
+    Ok(())
+}
+
+// `2#A: 1 2` for a numeric parameter A of line 2 with the values 1 and 2.
+fn show_param(alloc: Global, param: &Param, into: &mut String) -> Result<(), AllocError> {
+    let mark = if param.numeric { "#" } else { "" };
+    let name = param.name.as_str();
+    into.push_str(format!(in alloc; "{}{mark}{name}:", param.line)?.as_str())?;
+    for value in param.values.as_slice() {
+        show_value(alloc, value, into)?;
+    }
+    into.push_str("\n")
+}
+
+fn show_group(alloc: Global, group: &Group, into: &mut String) -> Result<(), AllocError> {
+    for p in group.members.as_slice() {
+        into.push_str(format!(in alloc; "{p} ")?.as_str())?;
+    }
+    into.push_str(format!(in alloc; "@ {}\n", group.order)?.as_str())
+}
+
+// The parameters, the order, the sub-models, behind `and` the relations, and the lines of the notes.
+fn show(alloc: Global, model: &TestModel, notes: &NoteList) -> Result<String, AllocError> {
+    let mut text = String::new(alloc);
+    for param in model.params().as_slice() {
+        show_param(alloc, param, &mut text)?;
+    }
+    let demand = model.demand();
+    text.push_str(format!(in alloc; "order {}\n", demand.order)?.as_str())?;
+    for group in demand.subs.as_slice() {
+        show_group(alloc, group, &mut text)?;
+    }
+    text.push_str("and\n")?;
+    for group in demand.relations.as_slice() {
+        show_group(alloc, group, &mut text)?;
+    }
+    for note in notes.as_slice() {
+        text.push_str(format!(in alloc; "note {}\n", note.line)?.as_str())?;
+    }
+    Ok(text)
+}
+
+const MODELS: &[(&str, &str)] = &[
+    ("A: 1, 2\nB: x, y\n", "1#A: 1 2\n2B: x y\norder 2\nand\n"),
+    (
+        " A \t:a , A,b\nB:x",
+        "1A: a b\n2B: x\norder 2\nand\nnote 1\n",
+    ),
+    (
+        "A: 1, 2\nB: <A>, 3, <a>",
+        "1#A: 1 2\n2#B: 1 2 3\norder 2\nand\nnote 2\nnote 2\n",
+    ),
+    (
+        "A: 1, 2 (5)\nB: x, y, Foo (bar)",
+        "1#A: 1 2(5)\n2B: x y Foo (bar)\norder 2\nand\n",
+    ),
+    (
+        "A: ~-1, 0 | zero | ~null ( 007 ), ~ x|ZERO\n#\nB: < a >, (1)x, x() (4294967295)\n{a, b}\n@ 01 {B}\n{ B } @ 1",
+        "1A: ~-1 0|zero|null(7) ~x\n3B: ~-1 0|zero|null(7) ~x (1)x x()(4294967295)\norder 2\n0 1 @ 2\n1 @ 1\nand\n1 @ 1\nnote 1\n",
+    ),
+    (
+        "A: 99999999999999999999999999999\nB: 9999999999999999999999999999.5, ~1",
+        "1A: 99999999999999999999999999999\n2#B: 9999999999999999999999999999.5 ~1\norder 2\nand\n",
+    ),
+    (
+        "A: 1|x, 2\nB: <, <>x",
+        "1#A: 1|x 2\n2B: < <>x\norder 2\nand\n",
+    ),
+    (
+        "A:a\nB:b\nC:c\n\t{ A}\n{A , b, C }@2\n@2{C,A}",
+        "1A: a\n2B: b\n3C: c\norder 2\n0 @ 1\n0 1 2 @ 2\nand\n2 0 @ 2\n",
+    ),
+];
+
+#[test]
+fn reads_models(rt: HostRuntime) -> Result<(), Fail> {
+    for (file, shown) in MODELS {
+        let (model, notes) = read(rt.alloc(), file, &options(2))?;
+        assert!(rt;
+            show(rt.alloc(), &model, &notes)?.as_str() == *shown,
+            "{file}"
+        );
+    }
+    Ok(())
+}
+
+// Other marks, all parameters at once, and letters of either case are two.
+fn other_options() -> ModelOpts
+    ensures { AreOpts result }
+{
+    ModelOpts {
+        order: OrderWord::Max,
+        marks: Marks {
+            separator: b';',
+            alias: b'/',
+            prefix: b'!',
+        },
+        fold: false,
+    }
+}
+
+#[test]
+fn reads_by_other_marks(rt: HostRuntime) -> Result<(), Fail> {
+    let file = "A: 1; 2,5\nB: a;A;!b/~c\n{ A; B }";
+    let (model, notes) = read(rt.alloc(), file, &other_options())?;
+    let shown = "1A: 1 2,5\n2B: a A ~b|~c\norder 2\n0 1 @ 2\nand\n";
+    assert!(rt; show(rt.alloc(), &model, &notes)?.as_str() == shown);
+    assert!(rt; model.prefix() == b'!' && !model.fold());
+    Ok(())
+}
+
+#[test]
+fn parses_parameters(rt: HostRuntime) -> Result<(), Fail> {
+    let sections = split_model(rt.alloc(), b"A: 1, 2\nB: x, y\n")?;
+    let raw = parse_params(rt.alloc(), &sections, &options(2))?;
+    assert!(rt; raw.params.len() == 2 && raw.demand.order == 2 && raw.notes.is_empty());
+    Ok(())
+}

@@ -1,0 +1,47 @@
+//! What is read of a model file.
+
+use std::test::Fail;
+use test_runs::{ends_as, on_model};
+
+const PAIRS: &str = "A\tB\n1\tx\n1\ty\n2\tx\n2\ty\n";
+
+// Words, a model file, and its report.
+const REPORTS: &[(&[&str], &[u8], &str)] = &[
+    (&["m"], b"\xef\xbb\xbfA: 1, 2\r\nB: x, y", PAIRS),
+    (
+        &["m"],
+        b"# a comment \xff\n\nA: 1, 2\n \t\nB: x, y\n#\n",
+        PAIRS,
+    ),
+    (
+        &["m"],
+        b" File system :FAT,  NTFS \nSize: 10,1.5 ,-1\n",
+        "File system\tSize\nFAT\t10\nFAT\t1.5\nFAT\t-1\nNTFS\t10\nNTFS\t1.5\nNTFS\t-1\n",
+    ),
+    // A name may stand as a parameter and as a value, and as a value of both.
+    (&["m"], b"a_1: a_1, b\nb: b\n", "a_1\tb\na_1\tb\nb\tb\n"),
+    (
+        &["m"],
+        b"A: 1, 2\nB: x, y\n# c\nIF [A] = 3\n  THEN [B] = \"x\";\n",
+        PAIRS,
+    ),
+    (&["m", "/o:1", "/d:;"], b"A: 1; 2,5\n", "A\n1\n2,5\n"),
+    (
+        &["m", "/o:1", "/a:/"],
+        b"A: a/b, c\nB: 1, 2, 3\n",
+        "A\tB\na\t1\nc\t2\nb\t3\n",
+    ),
+    (&["m", "/o:1", "/N:!"], b"A: !a, ~b\n", "A\n~b\n!a\n"),
+];
+
+#[test]
+fn reads_every_kind_of_line(rt: HostRuntime) -> Result<(), Fail> {
+    for (words, model, report) in REPORTS {
+        let given = on_model(words, model);
+        assert!(rt;
+            ends_as(&rt, rt.alloc(), &given, 0, report, "")?,
+            "{report}"
+        );
+    }
+    Ok(())
+}

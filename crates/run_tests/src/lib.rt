@@ -1,0 +1,15 @@
+//! Tests of whole runs of `pict`: what is printed of models, and what its words ask for.
+#![tactic(auto)]
+
+#[cfg(test)]
+mod commands;
+#[cfg(test)]
+mod constraints;
+#[cfg(test)]
+mod disk;
+#[cfg(test)]
+mod growth;
+#[cfg(test)]
+mod language;
+#[cfg(test)]
+mod words;

@@ -1,0 +1,103 @@
+//! What reports, statistics and figures are written as.
+
+ghost use Rattle.std.specs.Prelude.{◌≡◌, true, All, IfOk};
+ghost use Rattle.cov_model.specs.Valid.{is_row};
+
+use cov_model::{Rows, TestModel, ValueNo};
+use outside_io::{MemSink, WriteAnswer};
+use row_text::{Figures, Stats, Turns, put_figures, put_report, put_stats};
+use std::alloc::Global;
+use std::test::Fail;
+use test_models::{model_of, row_of};
+use value_text::NoMemory;
+
+// The rows of these values of a model with two parameters.
+fn rows_of(alloc: Global, model: &TestModel, table: &[(ValueNo, ValueNo)]) -> Result<Rows, NoMemory>
+    ensures { IfOk result (All (λ row. is_row model.now row ≡ true)) }
+{
+    let mut rows = Rows::new(alloc);
+    for (first, second) in table {
+        match row_of(alloc, model, *first, *second) {
+            Some(row) => rows.push(row)?,
+            None => return Err(NoMemory),
+        }
+    }
+    Ok(rows)
+}
+
+// A model, the values of its rows, and their report.
+const REPORTS: &[(&str, &[(ValueNo, ValueNo)], &str)] = &[
+    (
+        "A: 1, 2\nB: x, y\n",
+        &[(0, 0), (0, 1), (1, 0), (1, 1)],
+        "A\tB\n1\tx\n1\ty\n2\tx\n2\ty\n",
+    ),
+    (
+        "A: 1, 2\nB: x, y, Foo (bar)\n",
+        &[(1, 0), (0, 2)],
+        "A\tB\n2\tx\n1\tFoo (bar)\n",
+    ),
+    (
+        "A: ~-1, 0, 1\nB: 0, 1\n",
+        &[(1, 0), (0, 0)],
+        "A\tB\n0\t0\n~-1\t0\n",
+    ),
+    (
+        "OS: Win8 | Win10, Linux\nB: 1, 2, 3\n",
+        &[(0, 0), (0, 1), (0, 2), (1, 0)],
+        "OS\tB\nWin8\t1\nWin10\t2\nWin8\t3\nLinux\t1\n",
+    ),
+];
+
+#[test]
+fn writes_reports(rt: HostRuntime) -> Result<(), Fail> {
+    for (text, table, report) in REPORTS {
+        let model = model_of(rt.alloc(), text)?;
+        let rows = rows_of(rt.alloc(), &model, table)?;
+        let mut turns = Turns::new(rt.alloc(), &model)?;
+        let mut out = MemSink::up_to(rt.alloc(), 100)?;
+        assert!(rt; put_report(&model, &rows, &mut turns, &mut out) == WriteAnswer::Done);
+        assert!(rt; out.bytes() == report.as_bytes(), "{text}");
+    }
+    Ok(())
+}
+
+#[test]
+fn writes_statistics(rt: HostRuntime) -> Result<(), Fail> {
+    let stats = Stats {
+        sets: 15,
+        tuples: 331,
+        omitted: 4,
+        kept: 0,
+        tests: 70,
+    };
+    let text =
+        "Demanded sets: 15\nDemanded tuples: 331\nOmitted tuples: 4\nKept seeds: 0\nGenerated tests: 70\n";
+    let mut out = MemSink::up_to(rt.alloc(), 200)?;
+    assert!(rt; put_stats(&stats, &mut out) == WriteAnswer::Done);
+    assert!(rt; out.bytes() == text.as_bytes());
+    Ok(())
+}
+
+#[test]
+fn writes_figures(rt: HostRuntime) -> Result<(), Fail> {
+    let figures = Figures {
+        tests: 2,
+        incomplete: 1,
+        invalid: 1,
+        sets: 1,
+        tuples: 4,
+        servable: 3,
+        covered: 2,
+        complete: 0,
+        at75: 0,
+        at50: 1,
+        at25: 1,
+    };
+    let text =
+        "Tests: 2\nIncomplete tests: 1\nInvalid tests: 1\nDemanded sets: 1\nDemanded tuples: 4\nCovered tuples: 2 of 3\nComplete sets: 0 of 1\nSets at 75 percent: 0 of 1\nSets at 50 percent: 1 of 1\nSets at 25 percent: 1 of 1\n";
+    let mut out = MemSink::up_to(rt.alloc(), 400)?;
+    assert!(rt; put_figures(&figures, &mut out) == WriteAnswer::Done);
+    assert!(rt; out.bytes() == text.as_bytes());
+    Ok(())
+}

@@ -1,0 +1,82 @@
+-- Names of events, as texts and in the keys of a set.
+use Rattle.std.proofs.Common.{◌≡◌, ℕ, ◌+◌, ◌<◌, Bool, true, false, not, ◌||◌, cond, List, [], ◌∷◌, ◌++◌, map, length, Option, Some, None, Result, Ok, Err, IfOk, is_ok, refl, sym, ◌∙◌, ap, position, nat_lt, eqb, arith, get_or, AllPairs, ◌≢◌, length-append}
+use Rattle.std.proofs.lemmas.Bool.{and_parts, both_ways}
+use Rattle.std.proofs.lemmas.Bool.Decides.{nat_tests}
+use Rattle.std.proofs.lemmas.List.{length-map, map-append}
+use Rattle.std.proofs.lemmas.List.Elements.{All-weaker, All-push}
+use Rattle.std.proofs.lemmas.List.Folds.{list_any_at}
+use Rattle.std.proofs.lemmas.List.Quantifiers.{all_pairs_push}
+use Rattle.std.proofs.lemmas.List.Sums.{AllPass-from_list_all}
+use Rattle.std.proofs.lemmas.Slice.Eq.{bytes_eq-Decides}
+use Rattle.std.proofs.lemmas.Str.{IsUtf8-from_ascii}
+use Rattle.std.proofs.lemmas.Str.Ascii.{IsAscii-from_all}
+use Rattle.seq_check.specs.Reading.{AreKnown, Declared}
+use Rattle.std.specs.Char.{is_ascii_alphanumeric}
+use Rattle.std.specs.List.{list_any, prefix_len, position_or_len}
+use Rattle.std.specs.Str.{bytes_eq, IsUtf8}
+use Rattle.value_text.proofs.ListLemmas.{list_any-position}
+use Rattle.seq_check.specs.Events.{is_name}
+use Rattle.seq_check.specs.EventFile.{number_of}
+
+-- a name is a text of ASCII characters
+name_byte : (b : ℕ) → (is_ascii_alphanumeric b || eqb b 95) ≡ true → b < 128
+name_byte b is = grind (arith, nat_tests)
+
+pub name_utf8 : (name : List ℕ) → is_name name ≡ true → IsUtf8 name
+name_utf8 name is =
+    IsUtf8-from_ascii name (IsAscii-from_all name
+    (All-weaker (λ b. (is_ascii_alphanumeric b || eqb b 95) ≡ true) (λ b. b < 128) name_byte name
+    (AllPass-from_list_all (λ b. is_ascii_alphanumeric b || eqb b 95) name (and_parts _ _ is).1)))
+
+module _ {K : Type 0} (text : K → List ℕ) (q : List ℕ) where
+  any_text : (keys : List K) → list_any (λ key. bytes_eq q (text key)) keys ≡ list_any (bytes_eq q) (map text keys)
+  any_text [] = refl
+  any_text (key ∷ keys) = ap (λ b. bytes_eq q (text key) || b) (any_text keys)
+
+  others_text : (keys : List K) → prefix_len (λ key. not (bytes_eq q (text key))) keys ≡ prefix_len (λ t. not (bytes_eq q t)) (map text keys)
+  others_text [] = refl
+  others_text (key ∷ keys) = ap (λ n. cond (not (bytes_eq q (text key))) (1 + n) 0) (others_text keys)
+
+  place_text : (keys : List K) → position (λ key. bytes_eq q (text key)) keys ≡ position (bytes_eq q) (map text keys)
+  place_text keys =
+      ap (λ n. cond (nat_lt n (length keys)) (Some n) None) (others_text keys)
+      ∙ ap (λ n. cond (nat_lt (position_or_len (bytes_eq q) (map text keys)) n) (Some (position_or_len (bytes_eq q) (map text keys))) None) (sym (length-map keys text))
+
+  pub number_is : (name : List ℕ) (keys : List K) (names : List (List ℕ)) (number : Option ℕ) → number ≡ position (λ key. bytes_eq q (text key)) keys → q ≡ name → map text keys ≡ names → number ≡ number_of names name
+  number_is name keys names number e same views = e ∙ place_text keys ∙ ap (λ t. position (bytes_eq t) (map text keys)) same ∙ ap (λ ns. position (bytes_eq name) ns) views
+
+-- a name without a number is none of the names
+none_past : (n len : ℕ) (within : Bool) → nat_lt n len ≡ within → cond within (Some n) None ≡ None → within ≡ false
+none_past n len true e is = cc
+none_past n len false e is = refl
+
+pub unnumbered : (names : List (List ℕ)) (name : List ℕ) → number_of names name ≡ None → list_any (bytes_eq name) names ≡ false
+unnumbered names name none = list_any-position (bytes_eq name) names ∙ none_past _ _ _ refl none
+
+-- a new key goes last
+pub added_is : {K : Type 0} (text : K → List ℕ) (name : List ℕ) (key : K) (keys new : List K) (names : List (List ℕ))
+    → new ≡ cond (list_any (λ other. bytes_eq (text key) (text other)) keys) keys (keys ++ key ∷ []) → text key ≡ name → map text keys ≡ names → number_of names name ≡ None
+    → map text new ≡ names ++ name ∷ []
+added_is text name key keys new names e same views absent =
+    let known = any_text text (text key) keys ∙ ap (λ t. list_any (bytes_eq t) (map text keys)) same ∙ ap (list_any (bytes_eq name)) views ∙ unnumbered names name absent in
+    ap (map text) (e ∙ ap (λ b. cond b keys (keys ++ key ∷ [])) known)
+    ∙ map-append text keys (key ∷ []) ∙ ap (λ ns. ns ++ text key ∷ []) views ∙ ap (λ t. names ++ t ∷ []) same
+
+pub on_ok : {T E : Type 0} (r : Result T E) (P : Type 0) → IfOk r (λ _. P) → is_ok r ≡ true → P
+on_ok (Ok x) P h e = h
+on_ok (Err x) P h e = cc
+
+-- names stay distinct where one is added that is none of them
+pub still_distinct : (names : List (List ℕ)) (name : List ℕ) → AllPairs (λ a b. a ≢ b) names → number_of names name ≡ None → AllPairs (λ a b. a ≢ b) (names ++ name ∷ [])
+still_distinct names name apart none =
+    all_pairs_push (λ a b. a ≢ b) names name apart
+    (λ k d within same. both_ways (list_any (bytes_eq name) names) (unnumbered names name none) (list_any_at (bytes_eq name) names k d within ((bytes_eq-Decides name (get_or names k d)).1 (sym same))))
+
+-- what is known of names stays known with one more
+pub known_more : (d : Declared) (name : List ℕ) (line : ℕ) → AreKnown d → is_name name ≡ true → number_of d.names name ≡ None → AreKnown (record { names = d.names ++ name ∷ []; pairs = d.pairs; last = line })
+known_more d name line known is none = record {
+  named = All-push (λ n. is_name n ≡ true) d.names name known.named is;
+  distinct = still_distinct d.names name known.distinct none;
+  exist = All-weaker (λ pair. (pair.0 < length d.names) × (pair.1 < length d.names)) (λ pair. (pair.0 < length (d.names ++ name ∷ [])) × (pair.1 < length (d.names ++ name ∷ [])))
+      (λ pair fits. let long = length-append d.names (name ∷ []) in (omega (arith, fits.0), omega (arith, fits.1))) d.pairs known.exist;
+}

@@ -1,0 +1,155 @@
+-- Which sequences are open, by the place of their set.
+use Rattle.std.proofs.Common.{◌≡◌, ℕ, ◌+◌, ◌*◌, ◌<◌, ◌≤◌, ◌⊎◌, ◌-◌, Bool, true, false, ◌&&◌, List, [], ◌∷◌, ◌++◌, length, take, get_or, slice_index, nat_lt, eqb, All, inl, inr, refl, sym, ap, subst, ◌∙◌, arith}
+use Rattle.std.specs.Bool.{Decides}
+use Rattle.std.specs.Str.{bytes_eq}
+use Rattle.std.proofs.lemmas.Bool.{and_parts, and_from, cases_eq, eq-eqb, eqb-true, ne_eqb, lt-ltb, ltb-true}
+use Rattle.std.proofs.lemmas.Bool.Decides.{same_from_decides}
+use Rattle.std.proofs.lemmas.List.{take_more, length-take-le}
+use Rattle.std.proofs.Math.Seq.{take-length}
+use Rattle.std.proofs.lemmas.List.Elements.{All-head, All-tail, All-take}
+use Rattle.std.proofs.lemmas.Slice.Eq.{bytes_eq-Decides}
+use Rattle.seq_check.specs.EventSets.{AreSets, IsFront, OpenView, end_of, front_place, rises, set_count}
+
+-- the events but the last of two, and of three
+pub record Two (n : ℕ) (front : List ℕ) : Type 0 where
+  pub first : ℕ
+  pub is : front ≡ first ∷ []
+  pub exists : first < n
+
+pub record Three (n : ℕ) (front : List ℕ) : Type 0 where
+  pub first : ℕ
+  pub second : ℕ
+  pub is : front ≡ first ∷ second ∷ []
+  pub exists : first < n
+  pub later : second < n
+
+pub two : (n : ℕ) (front : List ℕ) → IsFront 2 n front → Two n front
+two n [] f = let long = f.long in absurd (omega arith)
+two n (a ∷ []) f = record { first = a; is = refl; exists = All-head (λ event. event < n) a [] f.exist }
+two n (a ∷ b ∷ rest) f = let long = f.long in absurd (omega arith)
+
+pub three : (n : ℕ) (front : List ℕ) → IsFront 3 n front → Three n front
+three n [] f = let long = f.long in absurd (omega arith)
+three n (a ∷ []) f = let long = f.long in absurd (omega arith)
+three n (a ∷ b ∷ []) f = record {
+  first = a;
+  second = b;
+  is = refl;
+  exists = All-head (λ event. event < n) a (b ∷ []) f.exist;
+  later = All-head (λ event. event < n) b [] (All-tail (λ event. event < n) a (b ∷ []) f.exist);
+}
+three n (a ∷ b ∷ d ∷ rest) f = let long = f.long in absurd (omega arith)
+
+-- there is a set at the place
+pub place_below : (len n : ℕ) (front : List ℕ) → (len ≡ 2) ⊎ (len ≡ 3) → n ≤ 64 → IsFront len n front → front_place front < set_count len
+place_below len n front of few f = elim of [
+  | inl e ↦
+      let shape = two n front (subst (λ l. IsFront l n front) e f) in
+      let exists = shape.exists in
+      rw (e, shape.is) (omega arith)
+  | inr e ↦
+      let shape = three n front (subst (λ l. IsFront l n front) e f) in
+      let exists = shape.exists in
+      let later = shape.later in
+      rw (e, shape.is) (omega arith)
+]
+
+pub place_within : (o : OpenView) (n : ℕ) (front : List ℕ) → AreSets o → n ≤ 64 → IsFront o.len n front → front_place front < length o.sets
+place_within o n front sets few f = let below = place_below o.len n front sets.0 few f in omega (arith, below, sets.1)
+
+-- and no two have the same
+same_pair : (a b c d : ℕ) → b < 64 → d < 64 → 64 * a + b ≡ 64 * c + d → (a ≡ c) × (b ≡ d)
+same_pair a b c d small_b small_d e = (omega arith, omega arith)
+
+pub same_front : (len : ℕ) (front other : List ℕ) → (len ≡ 2) ⊎ (len ≡ 3) → IsFront len 64 front → IsFront len 64 other → front_place front ≡ front_place other → front ≡ other
+same_front len front other of f g same = elim of [
+  | inl e ↦
+      let x = two 64 front (subst (λ l. IsFront l 64 front) e f) in
+      let y = two 64 other (subst (λ l. IsFront l 64 other) e g) in
+      let equal : x.first ≡ y.first = sym (ap front_place x.is) ∙ same ∙ ap front_place y.is in
+      x.is ∙ ap (λ k. k ∷ []) equal ∙ sym y.is
+  | inr e ↦
+      let x = three 64 front (subst (λ l. IsFront l 64 front) e f) in
+      let y = three 64 other (subst (λ l. IsFront l 64 other) e g) in
+      let equal = same_pair x.first x.second y.first y.second x.later y.later (sym (ap front_place x.is) ∙ same ∙ ap front_place y.is) in
+      x.is ∙ ap (λ k. k ∷ x.second ∷ []) equal.0 ∙ ap (λ k. y.first ∷ k ∷ []) equal.1 ∙ sym y.is
+]
+
+-- two lists with one more event each
+push_same : (xs ys : List ℕ) (x y : ℕ) → length xs ≡ length ys → xs ++ x ∷ [] ≡ ys ++ y ∷ [] → (xs ≡ ys) × (x ≡ y)
+push_same [] [] x y long e = (refl, cc)
+push_same [] (b ∷ ys) x y long e = absurd (omega arith)
+push_same (a ∷ xs) [] x y long e = absurd (omega arith)
+push_same (a ∷ xs) (b ∷ ys) x y long e =
+    let head : a ≡ b = cc in
+    let tail : xs ++ x ∷ [] ≡ ys ++ y ∷ [] = cc in
+    let rest = push_same xs ys x y (omega arith) tail in
+    (ap (λ k. k ∷ xs) head ∙ ap (λ l. b ∷ l) rest.0, rest.1)
+
+-- a sequence is the one that is closed
+pub closes_one : (len : ℕ) (front other : List ℕ) (last end : ℕ) → (len ≡ 2) ⊎ (len ≡ 3) → IsFront len 64 front → IsFront len 64 other
+    → (eqb (front_place other) (front_place front) && eqb end last) ≡ bytes_eq (front ++ last ∷ []) (other ++ end ∷ [])
+closes_one len front other last end of f g =
+    let Same : Type 0 = (front ≡ other) × (last ≡ end) in
+    let left : Decides (eqb (front_place other) (front_place front) && eqb end last) Same = (
+      λ e. let parts = and_parts _ _ e in
+          (same_front len front other of f g (sym (eqb-true _ _ parts.0)), sym (eqb-true _ _ parts.1)),
+      λ e. and_from _ _ (eq-eqb _ _ (sym (ap front_place e.0))) (eq-eqb _ _ (sym e.1)),
+    ) in
+    let right : Decides (bytes_eq (front ++ last ∷ []) (other ++ end ∷ [])) Same = (
+      λ e. push_same front other last end (omega (arith, f.long, g.long)) ((bytes_eq-Decides (front ++ last ∷ []) (other ++ end ∷ [])).0 e),
+      λ e. (bytes_eq-Decides (front ++ last ∷ []) (other ++ end ∷ [])).1 (ap (λ l. l ++ last ∷ []) e.0 ∙ ap (λ k. other ++ k ∷ []) e.1),
+    ) in
+    same_from_decides _ _ left right
+
+-- a list is its front and its last event
+split_last : (xs : List ℕ) → 0 < length xs → take (length xs - 1) xs ++ get_or xs (length xs - 1) 0 ∷ [] ≡ xs
+split_last xs some =
+    sym (take_more xs (length xs - 1) 0 (omega arith))
+    ∙ ap (λ n. take n xs) (let same : length xs - 1 + 1 ≡ length xs = omega arith in same) ∙ take-length xs
+
+pub front_is : (len : ℕ) (sequence : List ℕ) → (len ≡ 2) ⊎ (len ≡ 3) → length sequence ≡ len → All (λ event. event < 64) sequence → IsFront len 64 (take (length sequence - 1) sequence)
+front_is len sequence of long exist = record {
+  long = let some : 0 < len = elim of [ inl e ↦ omega arith | inr e ↦ omega arith ] in omega (arith, length-take-le (length sequence - 1) sequence (omega arith));
+  exist = All-take (λ event. event < 64) (length sequence - 1) sequence exist;
+}
+
+pub closes_last : (len : ℕ) (sequence front : List ℕ) (last : ℕ) → (len ≡ 2) ⊎ (len ≡ 3) → length sequence ≡ len → All (λ event. event < 64) sequence → IsFront len 64 front
+    → (eqb (front_place (take (length sequence - 1) sequence)) (front_place front) && eqb (get_or sequence (length sequence - 1) 0) last) ≡ bytes_eq (front ++ last ∷ []) sequence
+closes_last len sequence front last of long exist f =
+    let some : 0 < len = elim of [ inl e ↦ omega arith | inr e ↦ omega arith ] in
+    closes_one len front (take (length sequence - 1) sequence) last (get_or sequence (length sequence - 1) 0) of f (front_is len sequence of long exist)
+    ∙ ap (bytes_eq (front ++ last ∷ [])) (split_last sequence (omega arith))
+
+-- the last event but one exists
+pub end_below : (len n : ℕ) (front : List ℕ) → (len ≡ 2) ⊎ (len ≡ 3) → IsFront len n front → end_of front < n
+end_below len n front of f = elim of [
+  | inl e ↦ let shape = two n front (subst (λ l. IsFront l n front) e f) in rw shape.is shape.exists
+  | inr e ↦ let shape = three n front (subst (λ l. IsFront l n front) e f) in rw shape.is shape.later
+]
+
+-- three events rise exactly where the first two do, and the last two
+chain : (a b : Bool) (d : Bool) → (a ≡ true → b ≡ true → d ≡ true) → (a && b) ≡ (a && (d && (b && true)))
+chain false b d follows = refl
+chain true false d follows = sym (none d)
+  where
+    none : (t : Bool) → (t && false) ≡ false
+    none true = refl
+    none false = refl
+chain true true d follows = ap (λ t. t && true) (sym (follows refl refl))
+
+three_rise : (at : List ℕ) (a b d : ℕ) → (nat_lt (slice_index at a) (slice_index at b) && nat_lt (slice_index at b) (slice_index at d)) ≡ rises at (a ∷ b ∷ d ∷ [])
+three_rise at a b d =
+    chain (nat_lt (slice_index at a) (slice_index at b)) (nat_lt (slice_index at b) (slice_index at d)) (nat_lt (slice_index at a) (slice_index at d))
+    (λ first second. let low = ltb-true _ _ first in let high = ltb-true _ _ second in lt-ltb _ _ (omega arith))
+
+-- the triples that a row has, with the middle event
+pub behind_three : (at : List ℕ) (n event first second last : ℕ) (within : Bool) → last < n → within ≡ (nat_lt last n && nat_lt (slice_index at event) (slice_index at last))
+    → ((eqb event second && nat_lt (slice_index at first) (slice_index at event)) && within) ≡ (eqb event second && rises at (first ∷ second ∷ last ∷ []))
+behind_three at n event first second last within below is = elim (cases_eq event second) [
+  | inl same ↦
+      let inside : within ≡ nat_lt (slice_index at event) (slice_index at last) = is ∙ ap (λ t. t && nat_lt (slice_index at event) (slice_index at last)) (lt-ltb last n below) in
+      let here = eq-eqb event second same in
+      rw (here, inside) (ap (λ e. nat_lt (slice_index at first) (slice_index at e) && nat_lt (slice_index at e) (slice_index at last)) same ∙ three_rise at first second last)
+  | inr apart ↦ rw (ne_eqb event second apart) refl
+]

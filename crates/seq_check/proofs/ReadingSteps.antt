@@ -1,0 +1,50 @@
+-- How the events of a file are found line by line.
+use Rattle.std.proofs.Common.{◌≡◌, ℕ, ◌+◌, ◌^◌, ◌<◌, ◌≤◌, List, [], ◌∷◌, length, refl, arith, ◌∙◌, append_assoc, ap, sym, Some, None, Err, drop, nat_eq, length-drop}
+use Rattle.std.proofs.lemmas.List.{append-nil}
+use Rattle.std.proofs.lemmas.Bool.{cond_both}
+use Rattle.std.specs.List.{enumerate_from, starts_with}
+use Rattle.model_lex.specs.Lines.{byte_order_mark, file_lines, without_mark}
+use Rattle.seq_check.specs.EventFile.{declared, events_in, events_unless, events_with, first_refusal, last_declaring, line_of, names_in, pairs_in, precedences, refusal}
+use Rattle.seq_check.specs.Reading.{Declared, Reads, Refuses, SoFar, nothing_declared, with_line}
+use Rattle.seq_check.specs.declared.fault.EventCode.{EventCode}
+use Rattle.seq_check.specs.declared.fault.EventsFault.TheVariants.{Bad, TooMany, NoMemory}
+use Rattle.seq_check.specs.declared.fault.EventsFault.{EventsFault}
+
+pub begins : (rest : List ℕ) → length rest ≤ 2 ^ 28 → SoFar (enumerate_from 1 (file_lines rest)) nothing_declared 0 rest
+begins rest few = record { refused = refl; names = refl; pairs = refl; last = refl; few = omega arith }
+
+module _ (lines : List (ℕ × List ℕ)) (d : Declared) (line : ℕ) (rest text behind : List ℕ) (here : SoFar lines d line rest) (cut : file_lines rest ≡ text ∷ file_lines behind) (shorter : length behind < length rest) where
+  pub reads : refusal d.names (line_of text) ≡ None → SoFar lines (with_line (line + 1) (line_of text) d) (line + 1) behind
+  reads fine = record {
+    refused = here.refused ∙ rw (cut, fine) refl;
+    names = here.names ∙ rw cut (sym (append_assoc d.names (names_in (line_of text)) _));
+    pairs = here.pairs ∙ rw cut (sym (append_assoc d.pairs (pairs_in d.names (line_of text)) _));
+    last = here.last ∙ rw cut refl;
+    few = omega arith;
+  }
+
+  pub refuses : (len : ℕ) (code : EventCode) → refusal d.names (line_of text) ≡ Some code → events_in len lines ≡ Err (Bad (line + 1) code)
+  refuses len code fault = ap (λ refused. events_unless refused (events_with len (declared lines) (precedences [] lines) (last_declaring 0 lines))) refused
+    where
+      refused : first_refusal [] lines ≡ Some (line + 1, code)
+      refused = here.refused ∙ rw (cut, fault) refl
+
+pub ends : (lines : List (ℕ × List ℕ)) (d : Declared) (line len : ℕ) (rest : List ℕ) → SoFar lines d line rest → length rest ≡ 0 → events_in len lines ≡ events_with len d.names d.pairs d.last
+ends lines d line len [] here none =
+    ap (λ refused. events_unless refused (events_with len (declared lines) (precedences [] lines) (last_declaring 0 lines))) here.refused
+    ∙ ap (λ names. events_with len names (precedences [] lines) (last_declaring 0 lines)) (here.names ∙ append-nil d.names)
+    ∙ ap (λ pairs. events_with len d.names pairs (last_declaring 0 lines)) (here.pairs ∙ append-nil d.pairs)
+    ∙ ap (λ last. events_with len d.names d.pairs last) here.last
+ends lines d line len (b ∷ rest) here none = absurd (omega arith)
+
+-- a file without its byte-order mark is no longer
+pub unmarked_within : (bytes : List ℕ) → length (without_mark bytes) ≤ length bytes
+unmarked_within bytes =
+    cond_both (starts_with nat_eq bytes byte_order_mark) (drop 3 bytes) bytes (λ rest. length rest ≤ length bytes)
+    (λ _. omega (arith, length-drop 3 bytes)) (λ _. omega arith)
+
+-- a line that is refused, or want of memory
+pub stops : (lines : List (ℕ × List ℕ)) (d : Declared) (line : ℕ) (rest text behind : List ℕ) → SoFar lines d line rest → file_lines rest ≡ text ∷ file_lines behind → length behind < length rest → (len : ℕ) (fault : EventsFault) → Refuses (line + 1) (refusal d.names (line_of text)) fault → Reads (events_in len lines) (Err fault)
+stops lines d line rest text behind here cut shorter len (Bad number code) is = rw is.0 (refuses lines d line rest text behind here cut shorter len code is.1)
+stops lines d line rest text behind here cut shorter len (TooMany limit count) is = absurd is
+stops lines d line rest text behind here cut shorter len NoMemory is = tt

@@ -1,0 +1,16 @@
+use Rattle.std.proofs.Common.{◌≡◌, ◌∙◌, ◌+◌, ◌*◌, ◌&&◌, not, length, ap, sym, subst, arith, inl, inr}
+use Rattle.seq_check.specs.EventSets.{IsFront, OpenView, in_set, in_set_at}
+use Rattle.seq_check.proofs.OpenLemmas.{three, behind_three}
+use Rattle.seq_check.proofs.open.OpenSequences.close_behind.Goals as goal
+
+pub returns-else-self-eq2-clause-closed : goal.returns-else-self-eq2-clause-closed
+returns-else-self-eq2-clause-closed c = λ front last f below.
+    let n = length c.args.places.now in
+    let len : c.args.self.now.len ≡ 3 =
+    elim c.self.invariant.0 [ inl e ↦ absurd (c.if-self-eq2.false e) | inr e ↦ sym (ap (λ (v : OpenView). v.len) c.self.view_is) ∙ e ] in
+    let shape = three n front (subst (λ l. IsFront l n front) len f) in
+    let later = shape.later in
+    rw shape.is
+    (c.close_triples.ensures.closed shape.first shape.second last shape.exists (omega arith) (omega arith)
+    ∙ ap (λ t. in_set_at c.args.self.now.sets (64 * shape.first + shape.second) last && not t)
+    (behind_three c.args.places.now n c.args.event shape.first shape.second last (in_set c.events_behind-lasts.result last) below (c.events_behind-lasts.ensures last)))

@@ -1,0 +1,30 @@
+use Rattle.std.proofs.Common.{◌≡◌, ◌∙◌, ◌∷◌, ap, map, sym, arith, rules, ◌≤◌, length, ◌^◌, Err}
+use Rattle.std.proofs.lemmas.Bool.{eqb-true}
+use Rattle.model_lex.specs.Lines.{file_lines, without_mark, without_return, numbered_lines}
+use Rattle.seq_check.proofs.ReadingSteps.{begins, reads, stops, ends, unmarked_within}
+use Rattle.seq_check.proofs.reading.read_events.Goals as goal
+
+pub loop-rest-init : goal.loop-rest-init
+loop-rest-init c =
+    let few : length (without_mark c.args.bytes.now) ≤ 2 ^ 28 = omega (arith, unmarked_within c.args.bytes.now) in
+    rw (c.new-reading.ensures, c.without_mark-rest.ensures) (begins (without_mark c.args.bytes.now) few)
+
+pub loop-rest-preserved : goal.loop-rest-preserved
+loop-rest-preserved c =
+    let behind = c.cut_line.result.1.now in
+    let cut = ap (map without_return) c.cut_line.ensures.lines ∙ ap (λ text. text ∷ file_lines behind) (sym c.without_return.ensures) in
+    rw c.in_ok-reading.ensures.ok.1
+    (reads (numbered_lines c.args.bytes.now) c.loop-rest.reading c.loop-rest.line c.loop-rest.rest.now c.without_return.result.now behind c.loop-rest.invariant cut c.cut_line.ensures.shorter c.in_ok-reading.ensures.ok.0)
+
+pub returns-in_err-reading : goal.returns-in_err-reading
+returns-in_err-reading c =
+    let behind = c.cut_line.result.1.now in
+    let cut = ap (map without_return) c.cut_line.ensures.lines ∙ ap (λ text. text ∷ file_lines behind) (sym c.without_return.ensures) in
+    let is : c.from_residual.result ≡ Err c.in_err-reading.field-0.0 = search rules in
+    rw is
+    (stops (numbered_lines c.args.bytes.now) c.loop-rest.reading c.loop-rest.line c.loop-rest.rest.now c.without_return.result.now behind c.loop-rest.invariant cut c.cut_line.ensures.shorter c.args.t c.in_err-reading.field-0.0 c.in_err-reading.ensures.err)
+
+pub returns : goal.returns
+returns c =
+    let none = eqb-true _ _ (sym c.is_empty.ensures ∙ c.loop-rest-test.false) in
+    rw (ends (numbered_lines c.args.bytes.now) c.loop-rest.reading c.loop-rest.line c.args.t c.loop-rest.rest.now c.loop-rest.invariant none) c.finish.ensures

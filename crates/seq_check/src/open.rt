@@ -1,0 +1,216 @@
+ghost use Rattle.std.specs.Prelude.{◌≡◌, ◌≢◌, ◌<◌, ◌≤◌, ◌+◌, ◌*◌, ◌&&◌, ◌||◌, ◌==◌, ◌⊎◌, ◌∷◌, ◌++◌, [], ℕ, List, Bool, true, false, not, All, length, nat_lt, find, option_map, slice_index, IfOk};
+ghost use Rattle.std.specs.Str.{bytes_eq};
+ghost use Rattle.seq_check.specs.EventSets.{AreSets, IsFront, OpenView, Tells, front_place, in_set, in_set_at, end_of, is_open, rises, set_count};
+ghost use Rattle.seq_check.specs.Orders.{distinct_lists, is_among, lengthened};
+
+use crate::event_set::EventSet;
+use crate::lists::{distinct_lists, with_event};
+use cov_model::NoList;
+use std::alloc::Global;
+use std::marker::Model;
+use value_text::NoMemory;
+
+/// Which sequences of two or three events are still open: for all events of a sequence but the last, the set of
+/// the last ones.
+#[derive(Drop)]
+pub struct OpenSequences {
+    sets: Vec<EventSet>,
+    length: u32,
+}
+
+impl Model for OpenSequences {
+    ghost use Rattle.seq_check.specs.EventSets.{AreSets, OpenView};
+
+    ghost Value = { OpenView };
+
+    ghost view = { λ a. record { sets = a.sets.items; len = a.length } };
+
+    ghost invariant = { λ a. AreSets (record { sets = a.sets.items; len = a.length }) };
+}
+
+// How many sets there are.
+fn set_count(length: u32) -> usize
+    ensures { result ≡ set_count length }
+{
+    if length == 2 { 64 } else { 4096 }
+}
+
+// The place of the set for all events of a sequence but the last.
+fn place_of(front: &[u16]) -> usize
+    ensures { result ≡ front_place front.now }
+{
+    match front {
+        [] => 0,
+        [event] => *event as usize,
+        [first, second, ..] => 64 * *first as usize + *second as usize,
+    }
+}
+
+// The events with a higher place than one.
+fn events_behind(places: &[u16], event: u16) -> EventSet
+    requires few { length places.now ≤ 64 }
+    requires event { event < length places.now }
+    ensures { (other : ℕ) → in_set result other ≡ (nat_lt other (length places.now) && nat_lt (slice_index places.now event) (slice_index places.now other)) }
+{
+    let mut behind = EventSet::none();
+    for other in 0..places.len() as u16 {
+        if places[event as usize] < places[other as usize] {
+            behind = behind.with(other);
+        }
+    }
+    behind
+}
+
+// The events below a number that a list hasn't.
+fn events_besides(front: &[u16], count: u16) -> EventSet
+    requires { count ≤ 64 }
+    ensures { (event : ℕ) → in_set result event ≡ (nat_lt event count && not (is_among front.now event)) }
+{
+    let mut besides = EventSet::none();
+    for event in 0..count {
+        if !front.contains(&event) {
+            besides = besides.with(event);
+        }
+    }
+    besides
+}
+
+impl OpenSequences {
+    /// Every sequence is open.
+    ///
+    /// # Errors
+    ///
+    /// `NoMemory` where memory was refused.
+    pub fn new(alloc: Global, length: u32) -> Result<OpenSequences, NoMemory>
+        requires { (length ≡ 2) ⊎ (length ≡ 3) }
+        ensures len { IfOk result (λ o. o.len ≡ length) }
+        ensures open { IfOk result (λ o. (front : List ℕ) (last : ℕ) → IsFront length 64 front → last < 64 → is_open o front last ≡ true) }
+    {
+        match vec![in alloc; EventSet::all(); set_count(length)] {
+            Ok(sets) => Ok(OpenSequences { sets, length }),
+            Err(_) => Err(NoMemory),
+        }
+    }
+
+    // Says what is kept of the sets. It does nothing.
+    fn assert_invariant(&self)
+        ensures { AreSets self.now }
+    {
+        let _length = self.length;
+    }
+
+    /// The last events of the open sequences that begin with all other events of theirs.
+    #[inline]
+    pub fn behind(&self, front: &[u16]) -> EventSet
+        requires { IsFront self.now.len 64 front.now }
+        ensures { (last : ℕ) → in_set result last ≡ is_open self.now front.now last }
+    {
+        self.sets[place_of(front)]
+    }
+
+    // Closes the sequences with some last events, by the place of their set.
+    #[inline]
+    fn close_at(&mut self, place: usize, lasts: EventSet)
+        requires { place < length self.old.sets }
+        ensures len { self.new.len ≡ self.old.len }
+        ensures long { length self.new.sets ≡ length self.old.sets }
+        ensures closed { (other last : ℕ) → last < 64 → in_set_at self.new.sets other last ≡ (in_set_at self.old.sets other last && not ((place == other) && in_set lasts last)) }
+    {
+        let left = self.sets[place].without(lasts);
+        self.sets[place] = left;
+    }
+
+    /// Closes a sequence.
+    pub fn close(&mut self, sequence: &[u16])
+        requires long { length sequence.now ≡ self.old.len }
+        requires exist { All (λ event. event < 64) sequence.now }
+        ensures len { self.new.len ≡ self.old.len }
+        ensures closed { (front : List ℕ) (last : ℕ) → IsFront self.old.len 64 front → last < 64 →
+            is_open self.new front last ≡ (is_open self.old front last && not (bytes_eq (front ++ last ∷ []) sequence.now)) }
+    {
+        self.assert_invariant();
+        if let [front @ .., last] = sequence {
+            self.close_at(place_of(front), EventSet::none().with(*last));
+        }
+    }
+
+    // Closes the sequences of three events whose second event is this one, whose first has a lower place, and
+    // whose last is one of these.
+    fn close_triples(&mut self, places: &[u16], event: u16, lasts: EventSet)
+        requires len { self.old.len ≡ 3 }
+        requires few { length places.now ≤ 64 }
+        requires event { event < length places.now }
+        ensures len { self.new.len ≡ self.old.len }
+        ensures closed { (first second last : ℕ) → first < length places.now → second < 64 → last < 64 →
+            in_set_at self.new.sets (64 * first + second) last ≡ (in_set_at self.old.sets (64 * first + second) last
+            && not (((event == second) && nat_lt (slice_index places.now first) (slice_index places.now event)) && in_set lasts last)) }
+    {
+        self.assert_invariant();
+        for first in 0..places.len() as u16 {
+            if places[first as usize] >= places[event as usize] {
+                continue;
+            }
+            self.close_at(64 * first as usize + event as usize, lasts);
+        }
+    }
+
+    // Closes the sequences that a row has, and whose last event but one is this one.
+    fn close_behind(&mut self, places: &[u16], event: u16)
+        requires few { length places.now ≤ 64 }
+        requires event { event < length places.now }
+        ensures len { self.new.len ≡ self.old.len }
+        ensures closed { (front : List ℕ) (last : ℕ) → IsFront self.old.len (length places.now) front → last < length places.now →
+            is_open self.new front last ≡ (is_open self.old front last && not ((event == end_of front) && rises places.now (front ++ last ∷ []))) }
+    {
+        let lasts = events_behind(places, event);
+        if self.length == 2 {
+            self.close_at(event as usize, lasts);
+        } else {
+            self.close_triples(places, event, lasts);
+        }
+    }
+
+    /// Closes the sequences that a row has, which is given by the places of its events.
+    pub fn close_row(&mut self, places: &[u16])
+        requires few { length places.now ≤ 64 }
+        ensures len { self.new.len ≡ self.old.len }
+        ensures closed { (front : List ℕ) (last : ℕ) → IsFront self.old.len (length places.now) front → last < length places.now →
+            is_open self.new front last ≡ (is_open self.old front last && not (rises places.now (front ++ last ∷ []))) }
+    {
+        self.assert_invariant();
+        for event in 0..places.len() as u16 {
+            self.close_behind(places, event);
+        }
+    }
+
+    // The least event below a number with which these events are an open sequence.
+    fn first_behind(&self, front: &[u16], count: u16) -> Option<u16>
+        requires count { count ≤ 64 }
+        requires front { IsFront self.now.len count front.now }
+        ensures { (test : List ℕ → Bool) → Tells self.now count test →
+            option_map (λ last. front.now ++ last ∷ []) result ≡ find test (lengthened count front.now) }
+    {
+        self.behind(front)
+            .common(events_besides(front, count))
+            .first()
+    }
+
+    /// The first open sequence of the events below a number, in lexicographic order.
+    ///
+    /// # Errors
+    ///
+    /// `NoMemory` where memory was refused.
+    pub fn first_open(&self, alloc: Global, count: u16) -> Result<Option<NoList>, NoMemory>
+        requires { count ≤ 64 }
+        ensures { IfOk result (λ found. (test : List ℕ → Bool) → Tells self.now count test → found ≡ find test (distinct_lists count self.now.len)) }
+    {
+        self.assert_invariant();
+        let fronts = distinct_lists(alloc, count, self.length - 1)?;
+        for front in fronts.as_slice() {
+            if let Some(last) = self.first_behind(front.as_slice(), count) {
+                return Ok(Some(with_event(alloc, front.as_slice(), last)?));
+            }
+        }
+        Ok(None)
+    }
+}

@@ -1,0 +1,165 @@
+ghost use Rattle.std.specs.Prelude.{◌≡◌, ◌≤◌, ◌<◌, ◌^◌, ◌⊎◌, ◌++◌, [], All, length, IfErr, None, IfOk, true};
+ghost use Rattle.seq_check.specs.Events.{is_name};
+ghost use Rattle.seq_check.specs.EventFile.{Event, Precedence, events_of, events_with, line_of, refusal};
+ghost use Rattle.seq_check.specs.Reading.{AreKnown, Declared, Reads, Refuses, SoFar, nothing_declared, with_line};
+
+use crate::cut::{cut_line, without_mark, without_return};
+use crate::event_line::{EventLine, line_of};
+use crate::event_names::EventNames;
+use crate::events::{Events, PairList};
+use crate::fault::{EventCode, EventLimit, EventsFault};
+use std::alloc::Global;
+use std::marker::Model;
+use value_text::{NoMemory, OwnedList, Text, TextList};
+
+/// The most events.
+const MOST_EVENTS: usize = 64;
+
+/// The most precedences.
+const MOST_PRECEDENCES: usize = 4096;
+
+// What the lines so far declare.
+#[derive(Drop)]
+struct Reading {
+    names: TextList,
+    known: EventNames,
+    pairs: OwnedList<(usize, usize)>,
+    last: u32,
+}
+
+impl Model for Reading {
+    ghost use Rattle.std.specs.Prelude.{◌≡◌};
+    ghost use Rattle.seq_check.specs.Reading.{AreKnown, Declared};
+
+    ghost Value = { Declared };
+
+    ghost view = { λ reading. record { names = reading.names; pairs = reading.pairs; last = reading.last } };
+
+    ghost invariant = { λ reading. (reading.known ≡ reading.names)
+        × AreKnown (record { names = reading.names; pairs = reading.pairs; last = reading.last }) };
+}
+
+impl Reading {
+    // No lines so far.
+    fn new(alloc: Global) -> Reading
+        ensures { result ≡ nothing_declared }
+    {
+        Reading {
+            names: OwnedList::new(alloc),
+            known: EventNames::new(alloc),
+            pairs: OwnedList::new(alloc),
+            last: 0,
+        }
+    }
+
+    // And a line that declares an event.
+    fn declare(mut self, alloc: Global, line: u32, name: &str) -> Result<Reading, EventsFault>
+        requires { is_name name.now ≡ true }
+        ensures ok { IfOk result (λ reading. (refusal self.names (Event name.now) ≡ None) × (reading ≡ with_line line (Event name.now) self)) }
+        ensures err { IfErr result (Refuses line (refusal self.names (Event name.now))) }
+    {
+        if self.known.number(alloc, name.as_bytes())?.is_some() {
+            return Err(EventsFault::Bad(line, EventCode::Q2));
+        }
+        self.known.add(alloc, name.as_bytes())?;
+        self.names.push(Text::copy(alloc, name)?)?;
+        self.last = line;
+        Ok(self)
+    }
+
+    // And a line that gives a precedence.
+    fn precede(
+        mut self,
+        alloc: Global,
+        line: u32,
+        first: &[u8],
+        second: &[u8],
+    ) -> Result<Reading, EventsFault>
+        ensures ok { IfOk result (λ reading. (refusal self.names (Precedence first.now second.now) ≡ None) × (reading ≡ with_line line (Precedence first.now second.now) self)) }
+        ensures err { IfErr result (Refuses line (refusal self.names (Precedence first.now second.now))) }
+    {
+        let earlier = self.known.number(alloc, first)?;
+        let later = self.known.number(alloc, second)?;
+        match (earlier, later) {
+            (Some(earlier), Some(later)) => {
+                self.pairs.push((earlier, later))?;
+                Ok(self)
+            }
+            _ => Err(EventsFault::Bad(line, EventCode::Q3)),
+        }
+    }
+
+    // And a line.
+    fn read_line(self, alloc: Global, line: u32, text: &[u8]) -> Result<Reading, EventsFault>
+        ensures ok { IfOk result (λ reading. (refusal self.names (line_of text.now) ≡ None) × (reading ≡ with_line line (line_of text.now) self)) }
+        ensures err { IfErr result (Refuses line (refusal self.names (line_of text.now))) }
+    {
+        match line_of(text) {
+            EventLine::Ignored => Ok(self),
+            EventLine::Event(name) => self.declare(alloc, line, name),
+            EventLine::Precedence(first, second) => self.precede(alloc, line, first, second),
+            EventLine::Neither => Err(EventsFault::Bad(line, EventCode::Q1)),
+        }
+    }
+
+    // The events, where all lines are read.
+    fn finish(self, alloc: Global, length: u32) -> Result<Events, EventsFault>
+        requires { (length ≡ 2) ⊎ (length ≡ 3) }
+        ensures { Reads (events_with length self.names self.pairs self.last) result }
+    {
+        if self.names.is_empty() {
+            return Err(EventsFault::Bad(1, EventCode::Q4));
+        }
+        if self.names.len() > MOST_EVENTS {
+            return Err(EventsFault::TooMany(EventLimit::Events, self.names.len() as u64));
+        }
+        if self.pairs.len() > MOST_PRECEDENCES {
+            return Err(EventsFault::TooMany(EventLimit::Precedences, self.pairs.len() as u64));
+        }
+        if self.names.len() < length as usize {
+            return Err(EventsFault::Bad(self.last, EventCode::Q5));
+        }
+        let pairs = short_pairs(alloc, self.pairs.as_slice())?;
+        Ok(Events::new(self.names, pairs, length))
+    }
+}
+
+// Pairs of small numbers.
+fn short_pairs(alloc: Global, pairs: &[(usize, usize)]) -> Result<PairList, NoMemory>
+    requires { All (λ pair. (pair.0 < 64) × (pair.1 < 64)) pairs.now }
+    ensures { IfOk result (λ short. short ≡ pairs.now) }
+{
+    let mut short = OwnedList::new(alloc);
+    for pair in pairs {
+        short.push((pair.0 as u16, pair.1 as u16))?;
+    }
+    Ok(short)
+}
+
+/// The events of a file (this project's rules): a line is a name, which declares an event, or `name < name`, a
+/// precedence; lines of blanks alone and comments are left out. `t` is the length of the sequences of events
+/// that are to be covered.
+///
+/// # Errors
+///
+/// The first line that is refused, as `Bad` with `Q1` where it is none of these, with `Q2` where an earlier line
+/// declares the name, with `Q3` where no earlier line declares a name of the precedence. Then `Bad` with line 1
+/// and `Q4` where no event is declared, `TooMany` with more than 64 events, then with more than 4,096
+/// precedences, and `Bad` with the line of the last event and `Q5` where there are fewer than `t` events.
+/// `NoMemory` where memory was refused.
+pub fn read_events(alloc: Global, bytes: &[u8], t: u32) -> Result<Events, EventsFault>
+    requires len { length bytes.now ≤ 2 ^ 28 }
+    requires t { (t ≡ 2) ⊎ (t ≡ 3) }
+    ensures { Reads (events_of t bytes.now) result }
+{
+    let mut reading = Reading::new(alloc);
+    let mut line = 0;
+    let mut rest = without_mark(bytes);
+    while !rest.is_empty() {
+        let (text, behind) = cut_line(rest);
+        rest = behind;
+        line += 1;
+        reading = reading.read_line(alloc, line, without_return(text))?;
+    }
+    reading.finish(alloc, t)
+}

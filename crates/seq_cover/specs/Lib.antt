@@ -1,0 +1,4 @@
+pub mod Ways
+pub mod OrderGrowth
+pub mod Sets
+pub mod Growing

@@ -1,0 +1,141 @@
+//! Growth: sequence by sequence.
+ghost use Rattle.std.specs.Prelude.{◌≡◌, ◌≤◌, ◌<◌, ◌+◌, ◌∷◌, ◌++◌, [], ℕ, All, false, length, fold, IfOk, OnOk};
+ghost use Rattle.seq_check.specs.EventSets.{IsFront};
+ghost use Rattle.seq_check.specs.Orders.{arrows, is_among, is_had, lengthened};
+ghost use Rattle.seq_cover.specs.Growing.{AreFixed, IsLeft};
+ghost use Rattle.seq_cover.specs.OrderGrowth.{built_from, grown, nothing_grown, settled, settled_by};
+ghost use Rattle.seq_cover.specs.Ways.{cycle_of};
+
+use crate::row::build_row;
+use crate::steps::{arrows_of, cycle_of};
+use crate::suite::{Never, OrderSuite};
+use crate::ways::ways_of;
+use cov_model::NoList;
+use seq_check::{Arrows, Events, OpenSequences, distinct_lists, places_of, with_event};
+use std::alloc::Global;
+use value_text::{NoMemory, OwnedList};
+
+// What was grown, and the sequences that no row has.
+#[derive(Drop)]
+struct Growth {
+    suite: OrderSuite,
+    open: OpenSequences,
+}
+
+// The precedences, by the ways along them and by their ends.
+#[derive(Drop)]
+struct Fixed {
+    ways: Arrows,
+    ends: Arrows,
+}
+
+impl Growth {
+    // Sets a sequence aside.
+    fn set_aside(&mut self, sequence: NoList, cycle: NoList) -> Result<(), NoMemory>
+        ensures rows { OnOk result (self.new.suite.rows ≡ self.old.suite.rows) }
+        ensures never { OnOk result (self.new.suite.never ≡ self.old.suite.never ++ record { sequence = sequence; cycle = cycle } ∷ []) }
+        ensures open { self.new.open ≡ self.old.open }
+    {
+        self.suite.never.push(Never { sequence, cycle })
+    }
+
+    // Adds the row that is built for a sequence.
+    fn add_row(&mut self, alloc: Global, events: &Events, sequence: &[u16]) -> Result<(), NoMemory>
+        requires left { IsLeft events.now self.old.open self.old.suite.rows }
+        requires sequence { length sequence.now ≡ events.now.len }
+        ensures rows { OnOk result (self.new.suite.rows ≡ self.old.suite.rows
+            ++ built_from (length events.now.names) events.now.len (arrows events.now sequence.now) self.old.suite.rows (length events.now.names) [] ∷ []) }
+        ensures never { OnOk result (self.new.suite.never ≡ self.old.suite.never) }
+        ensures left { OnOk result (IsLeft events.now self.new.open self.new.suite.rows) }
+    {
+        events.assert_invariant();
+        let count = events.names().len() as u16;
+        let pairs = arrows_of(alloc, sequence, events.precedences().as_slice())?;
+        let row = build_row(alloc, pairs.as_slice(), &self.open, events.length(), count)?;
+        let places = places_of(alloc, row.as_slice(), count)?;
+        self.open.close_row(places.as_slice());
+        self.suite.rows.push(row)
+    }
+
+    // Takes a sequence: it is had, or set aside, or gets a row.
+    fn settle(
+        &mut self,
+        alloc: Global,
+        events: &Events,
+        fixed: &Fixed,
+        front: &[u16],
+        last: u16,
+    ) -> Result<(), NoMemory>
+        requires left { IsLeft events.now self.old.open self.old.suite.rows }
+        requires fixed { AreFixed events.now fixed.now.ways fixed.now.ends }
+        requires front { IsFront events.now.len (length events.now.names) front.now }
+        requires last { last < length events.now.names }
+        ensures suite { OnOk result (self.new.suite ≡ settled events.now self.old.suite (front.now ++ last ∷ [])) }
+        ensures left { OnOk result (IsLeft events.now self.new.open self.new.suite.rows) }
+    {
+        events.assert_invariant();
+        if !self.open.behind(front).has(last) {
+            return Ok(());
+        }
+        let sequence = with_event(alloc, front, last)?;
+        let count = events.names().len() as u16;
+        match cycle_of(alloc, &fixed.ways, &fixed.ends, sequence.as_slice(), count)? {
+            Some(cycle) => self.set_aside(sequence, cycle),
+            None => self.add_row(alloc, events, sequence.as_slice()),
+        }
+    }
+
+    // Takes the sequences that begin with all of their events but the last.
+    fn settle_all(
+        &mut self,
+        alloc: Global,
+        events: &Events,
+        fixed: &Fixed,
+        front: &[u16],
+    ) -> Result<(), NoMemory>
+        requires left { IsLeft events.now self.old.open self.old.suite.rows }
+        requires fixed { AreFixed events.now fixed.now.ways fixed.now.ends }
+        requires front { IsFront events.now.len (length events.now.names) front.now }
+        ensures suite { OnOk result (self.new.suite ≡ fold (settled events.now) self.old.suite (lengthened (length events.now.names) front.now)) }
+        ensures left { OnOk result (IsLeft events.now self.new.open self.new.suite.rows) }
+    {
+        events.assert_invariant();
+        let count = events.names().len() as u16;
+        for last in 0..count {
+            if front.contains(&last) {
+                continue;
+            }
+            self.settle(alloc, events, fixed, front, last)?;
+        }
+        Ok(())
+    }
+}
+
+/// Rows that together have each sequence that a permitted order has, and the other sequences, each with a cycle as
+/// the reason (greedy growth as Kuhn and others 2012 have it; precedences, cycles and ties are this project's rules).
+///
+/// # Errors
+///
+/// `NoMemory` where memory was refused.
+pub fn cover_orders(alloc: Global, events: &Events) -> Result<OrderSuite, NoMemory>
+    ensures { IfOk result (λ suite. suite ≡ grown events.now) }
+{
+    events.assert_invariant();
+    let precedences = events.precedences().as_slice();
+    let fixed = Fixed {
+        ways: ways_of(alloc, precedences)?,
+        ends: Arrows::of(alloc, precedences)?,
+    };
+    let mut growth = Growth {
+        suite: OrderSuite {
+            rows: OwnedList::new(alloc),
+            never: OwnedList::new(alloc),
+        },
+        open: OpenSequences::new(alloc, events.length())?,
+    };
+    let fronts = distinct_lists(alloc, events.names().len() as u16, events.length() - 1)?;
+    for front in fronts.as_slice() {
+        growth.settle_all(alloc, events, &fixed, front.as_slice())?;
+    }
+    Ok(growth.suite)
+}

@@ -1,0 +1,16 @@
+//! The growth of orders of events: rows that together have each sequence of two or three events that a permitted
+//! order has, and for each other sequence a cycle as the reason.
+//!
+//! - `cover_orders` gives the rows and the sequences that are set aside.
+//! - specs/Ways says what a cycle is that is told, specs/OrderGrowth how rows grow.
+#![tactic(auto)]
+
+mod cycle;
+mod grow;
+mod row;
+mod steps;
+mod suite;
+mod ways;
+
+pub use grow::cover_orders;
+pub use suite::{Never, NeverList, OrderSuite};

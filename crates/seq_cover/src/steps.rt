@@ -1,0 +1,100 @@
+//! The arrows of a sequence: its steps and the precedences.
+ghost use Rattle.std.specs.Prelude.{◌≡◌, ◌<◌, ◌≤◌, ◌++◌, ◌⊎◌, ℕ, List, All, length, IfOk};
+ghost use Rattle.seq_check.specs.EventSets.{AreOf};
+ghost use Rattle.seq_check.specs.Orders.{steps};
+ghost use Rattle.seq_cover.specs.Sets.{AreWays};
+ghost use Rattle.seq_cover.specs.Ways.{cycle_of};
+
+use crate::cycle::cycle_from;
+use crate::ways::{add_steps, first_on_cycle};
+use cov_model::NoList;
+use seq_check::{Arrows, PairList};
+use std::alloc::Global;
+use value_text::{NoMemory, OwnedList};
+
+// The steps of a sequence of two or three events.
+fn steps_of(alloc: Global, sequence: &[u16]) -> Result<PairList, NoMemory>
+    requires { (length sequence.now ≡ 2) ⊎ (length sequence.now ≡ 3) }
+    ensures { IfOk result (λ pairs. pairs ≡ steps sequence.now) }
+{
+    let mut pairs = OwnedList::new(alloc);
+    match sequence {
+        [first, second] => {
+            pairs.push((*first, *second))?;
+            Ok(pairs)
+        }
+        [first, second, third] => {
+            pairs.push((*first, *second))?;
+            pairs.push((*first, *third))?;
+            pairs.push((*second, *third))?;
+            Ok(pairs)
+        }
+        _ => Ok(pairs),
+    }
+}
+
+/// The arrows of a sequence: its steps, and then the precedences.
+///
+/// # Errors
+///
+/// `NoMemory` where memory was refused.
+pub(crate) fn arrows_of(
+    alloc: Global,
+    sequence: &[u16],
+    precedences: &[(u16, u16)],
+) -> Result<PairList, NoMemory>
+    requires { (length sequence.now ≡ 2) ⊎ (length sequence.now ≡ 3) }
+    ensures { IfOk result (λ pairs. pairs ≡ steps sequence.now ++ precedences.now) }
+{
+    let mut pairs = steps_of(alloc, sequence)?;
+    for pair in precedences {
+        pairs.push(*pair)?;
+    }
+    Ok(pairs)
+}
+
+// Adds the steps of a sequence to arrows.
+fn add_arrows(ends: &mut Arrows, sequence: &[u16])
+    requires exist { All (λ event. event < 64) sequence.now }
+    requires len { (length sequence.now ≡ 2) ⊎ (length sequence.now ≡ 3) }
+    ensures { (pairs : List (ℕ × ℕ)) → AreOf ends.old pairs → AreOf ends.new (steps sequence.now ++ pairs) }
+{
+    match sequence {
+        [first, second] => ends.add(*first, *second),
+        [first, second, third] => {
+            ends.add(*second, *third);
+            ends.add(*first, *third);
+            ends.add(*first, *second);
+        }
+        _ => {}
+    }
+}
+
+/// The cycle along the steps of a sequence and precedences, where there is one. The precedences are given by
+/// their ways and their ends.
+///
+/// # Errors
+///
+/// `NoMemory` where memory was refused.
+pub(crate) fn cycle_of(
+    alloc: Global,
+    ways: &Arrows,
+    ends: &Arrows,
+    sequence: &[u16],
+    count: u16,
+) -> Result<Option<NoList>, NoMemory>
+    requires exist { All (λ event. event < 64) sequence.now }
+    requires len { (length sequence.now ≡ 2) ⊎ (length sequence.now ≡ 3) }
+    requires count { count ≤ 64 }
+    ensures { IfOk result (λ cycle. (pairs : List (ℕ × ℕ)) → AreWays ways.now pairs → AreOf ends.now pairs → cycle ≡ cycle_of count (steps sequence.now ++ pairs)) }
+{
+    let mut ways = ways.copy(alloc)?;
+    add_steps(&mut ways, sequence);
+    let Some(first) = first_on_cycle(&ways, count) else {
+        return Ok(None);
+    };
+    let mut ends = ends.copy(alloc)?;
+    add_arrows(&mut ends, sequence);
+    let cycle = cycle_from(alloc, &ends, count, first)?;
+    Ok(Some(cycle))
+}

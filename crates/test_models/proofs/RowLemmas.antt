@@ -1,0 +1,50 @@
+-- Rows whose cells are tested one by one are of the positive slice.
+use Rattle.std.proofs.Common.{◌≡◌, ℕ, ◌<◌, true, false, not, List, length, get_or, Option, Some, None, is_some, unwrap_or, ◌∙◌, sym, ap, subst, inl, inr}
+use Rattle.std.proofs.lemmas.Bool.{false≢true, cases_lt}
+use Rattle.std.proofs.lemmas.List.{get_or_past}
+use Rattle.cov_model.specs.declared.slice.Slice.TheVariants.{Positive}
+use Rattle.cov_model.specs.Sound.{ModelView, param_at}
+use Rattle.cov_model.specs.Meaning.{value_at}
+use Rattle.cov_model.specs.Rows.{is_assigned, value_in}
+use Rattle.cov_model.specs.Slices.{value_numbers}
+use Rattle.definitions.specs.SliceRows.{IsOfSlice}
+use Rattle.definitions.specs.Demand.{is_among}
+use Rattle.definitions.proofs.Members.{has_filter, among_has}
+use Rattle.definitions.proofs.SliceLemmas.{values_at, values_positive, has_numbers}
+use Rattle.test_models.specs.Rows.{IsPositiveCell}
+
+-- a value that exists and isn't negative is one of the positive slice
+listed_value : (m : ModelView) (p v : ℕ) → p < length m.params → v < length (param_at m.params p).values
+    → (value_at m p v).negative ≡ false → is_among (values_at m Positive p) v ≡ true
+listed_value m p v within exists positive =
+    subst (λ (values : List ℕ). is_among values v ≡ true) (sym (values_positive m p within))
+    (among_has _ v (has_filter (λ w. not (value_at m p w).negative) (value_numbers m p) v (has_numbers m p v exists) (ap not positive)))
+
+-- a parameter that has a value is one of the model's
+assigned_within : (cells : List (Option ℕ)) (p : ℕ) → is_assigned cells p ≡ true → p < length cells
+assigned_within cells p assigned =
+    elim (cases_lt p (length cells)) [
+      | inl within ↦ within
+      | inr past ↦ absurd (false≢true (sym (ap is_some (get_or_past cells p None past)) ∙ assigned))
+    ]
+
+-- what is known of a cell that has a value
+given_value : (m : ModelView) (p : ℕ) (cell : Option ℕ) → is_some cell ≡ true → IsPositiveCell m p cell
+    → (unwrap_or cell 0 < length (param_at m.params p).values) × ((value_at m p (unwrap_or cell 0)).negative ≡ false)
+given_value m p None assigned is = absurd (false≢true assigned)
+given_value m p (Some v) assigned is = is
+
+pub positive_row : (m : ModelView) (cells : List (Option ℕ)) → length cells ≡ length m.params
+    → ((p : ℕ) → p < length m.params → IsPositiveCell m p (get_or cells p None)) → IsOfSlice m Positive cells
+positive_row m cells long each =
+    record {
+      fits = record { as_long = long; exist = λ p assigned. (given p assigned).0 };
+      listed = λ p assigned. listed_value m p (value_in cells p) (inside p assigned) (given p assigned).0 (given p assigned).1;
+    }
+  where
+    inside : (p : ℕ) → is_assigned cells p ≡ true → p < length m.params
+    inside p assigned = subst (λ n. p < n) long (assigned_within cells p assigned)
+
+    given : (p : ℕ) → is_assigned cells p ≡ true
+        → (value_in cells p < length (param_at m.params p).values) × ((value_at m p (value_in cells p)).negative ≡ false)
+    given p assigned = given_value m p (get_or cells p None) assigned (each p (inside p assigned))

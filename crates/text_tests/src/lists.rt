@@ -1,0 +1,46 @@
+//! Lists, marks and packed lists.
+
+use bit_table::BitTable;
+use packed_lists::PackedLists;
+use std::test::Fail;
+use value_text::{Text, TextList};
+
+#[test]
+fn texts_stand_in_a_list(rt: HostRuntime) -> Result<(), Fail> {
+    let mut names = TextList::new(rt.alloc());
+    names.push(Text::copy(rt.alloc(), "one")?)?;
+    names.push(Text::copy(rt.alloc(), "two")?)?;
+    assert!(rt; names.len() == 2 && !names.is_empty());
+    assert!(rt; names.as_slice().len() == 2 && names.iter().count() == 2);
+    match names.get(1) {
+        Some(name) => assert!(rt; name.as_str() == "two"),
+        None => assert!(rt; false),
+    }
+    Ok(())
+}
+
+#[test]
+fn marks_are_set_and_cleared(rt: HostRuntime) -> Result<(), Fail> {
+    let mut table = BitTable::all_set(rt.alloc(), 70)?;
+    assert!(rt; table.len() == 70 && table.count() == 70);
+    table.clear(64);
+    table.clear(65);
+    assert!(rt; table.count() == 68);
+    assert!(rt; table.next_set(64, 70) == Some(66));
+    table.set(64);
+    assert!(rt; table.is_set(64) && !table.is_set(65));
+    Ok(())
+}
+
+#[test]
+fn lists_are_packed(rt: HostRuntime) -> Result<(), Fail> {
+    let mut lists = PackedLists::new(rt.alloc());
+    lists.push(&[3, 1])?;
+    lists.push(&[])?;
+    lists.push(&[65535])?;
+    assert!(rt; lists.len() == 3);
+    assert!(rt; lists.list(0) == [3, 1].as_slice());
+    assert!(rt; lists.list(1).is_empty());
+    assert!(rt; lists.list(2) == [65535].as_slice());
+    Ok(())
+}

@@ -1,0 +1,115 @@
+-- Facts of Bool, Option, Result, lists and numbers that several crates need and the standard library has not.
+use Rattle.std.proofs.Common.{◌≡◌, ℕ, zero, suc, ◌+◌, ◌*◌, ◌<◌, ◌≤◌, Bool, true, false, not, cond, ◌&&◌, ◌||◌, ◌==◌, nat_lt, nat_eq, Option, Some, None, is_some, unwrap_or, Result, Ok, Err, List, [], ◌∷◌, ◌++◌, map, filter, length, get_or, All, refl, sym, ◌∙◌, ap, arith}
+use Rattle.std.proofs.lemmas.Bool.{false≢true, cond-true, eqb-true}
+use Rattle.std.proofs.lemmas.Bool.Decides.{nat_tests}
+use Rattle.std.proofs.lemmas.List.{map-id, same_lists, get_or_default}
+use Rattle.std.proofs.lemmas.List.Elements.{All-head, All-tail}
+use Rattle.std.proofs.lemmas.List.FromFn.{map-range_with_len_more, length-map-range_with_len, get_or-map-range_with_len}
+use Rattle.std.proofs.lemmas.List.Sums.{length-filter, count_by-le-length}
+use Rattle.std.proofs.Math.Bool.{and_comm, or_assoc, or_self}
+use Rattle.std.specs.List.{list_any, position_or_len, range_with_len}
+use Rattle.std.specs.Option.{option_or, option_map_or}
+
+-- ---- tests
+
+-- a test that stands twice
+pub or_twice : (a b : Bool) → (a || b) ≡ (a || (a || b))
+or_twice a b = ap (λ c. c || b) (sym (or_self a)) ∙ or_assoc a a b
+
+-- ---- options and results
+
+-- neither of two options is given
+pub option_or_parts : {X : Type 0} (a b : Option X) → option_or a b ≡ None → (a ≡ None) × (b ≡ None)
+option_or_parts None b none = (refl, none)
+option_or_parts (Some x) b none = cc
+
+-- an option that is given is its value
+pub Some-unwrap_or : {X : Type 0} (o : Option X) (d : X) → is_some o ≡ true → o ≡ Some (unwrap_or o d)
+Some-unwrap_or (Some x) d given = refl
+Some-unwrap_or None d given = absurd (false≢true given)
+
+-- an option with a number that is equal to another
+pub Some-from_equal : (o : Option ℕ) (n : ℕ) → option_map_or (λ k. nat_eq k n) o false ≡ true → o ≡ Some n
+Some-from_equal None n equal = absurd (false≢true equal)
+Some-from_equal (Some k) n equal = ap Some (eqb-true k n equal)
+
+-- a result is not both
+pub ok-err : {T E : Type 0} {r : Result T E} (x : T) (e : E) → r ≡ Ok x → r ≡ Err e → ⊥
+ok-err x e ok err = cc
+
+-- ---- filters
+
+-- a filter keeps no more than there is
+pub length-filter-le : {X : Type 0} (p : X → Bool) (xs : List X) → length (filter p xs) ≤ length xs
+length-filter-le p xs = omega (arith, length-filter p xs, count_by-le-length p xs)
+
+-- a filter that each item passes
+pub filter_all : {X : Type 0} (p : X → Bool) (xs : List X) → All (λ x. p x ≡ true) xs → filter p xs ≡ xs
+filter_all p [] pass = refl
+filter_all p (x ∷ xs) pass =
+    cond-true (p x) _ _ (All-head (λ y. p y ≡ true) x xs pass) ∙ ap (λ ys. x ∷ ys) (filter_all p xs (All-tail (λ y. p y ≡ true) x xs pass))
+
+-- tests that agree on each item
+pub filter_same : {X : Type 0} (p q : X → Bool) (xs : List X) → ((x : X) → p x ≡ q x) → filter p xs ≡ filter q xs
+filter_same p q [] same = refl
+filter_same p q (x ∷ xs) same =
+    ap (λ (b : Bool). cond b (x ∷ filter p xs) (filter p xs)) (same x) ∙ ap (λ rest. cond (q x) (x ∷ rest) rest) (filter_same p q xs same)
+
+-- one filter after another
+pub filter-filter : {X : Type 0} (p q : X → Bool) (xs : List X) → filter p (filter q xs) ≡ filter (λ x. q x && p x) xs
+filter-filter p q [] = refl
+filter-filter p q (x ∷ xs) = at (q x) (filter-filter p q xs)
+  where
+    at : (b : Bool) → filter p (filter q xs) ≡ filter (λ y. q y && p y) xs
+        → filter p (cond b (x ∷ filter q xs) (filter q xs)) ≡ cond (b && p x) (x ∷ filter (λ y. q y && p y) xs) (filter (λ y. q y && p y) xs)
+    at true later = ap (λ rest. cond (p x) (x ∷ rest) rest) later
+    at false later = later
+
+-- in either order
+pub filter_swap : {X : Type 0} (p q : X → Bool) (xs : List X) → filter p (filter q xs) ≡ filter q (filter p xs)
+filter_swap p q xs = filter-filter p q xs ∙ filter_same _ _ xs (λ x. and_comm (q x) (p x)) ∙ sym (filter-filter q p xs)
+
+-- ---- lists
+
+-- whether an item of a list that a function gave passes
+pub list_any-map : {X Y : Type 0} (p : Y → Bool) (f : X → Y) (xs : List X) → list_any p (map f xs) ≡ list_any (λ x. p (f x)) xs
+list_any-map p f [] = refl
+list_any-map p f (x ∷ xs) = ap (λ b. p (f x) || b) (list_any-map p f xs)
+
+-- an item passes exactly where the first that passes stands within the list
+pub list_any-position : {X : Type 0} (p : X → Bool) (xs : List X) → list_any p xs ≡ nat_lt (position_or_len p xs) (length xs)
+list_any-position p [] = refl
+list_any-position p (x ∷ xs) =
+    let rest = list_any-position p xs in
+    elim (p x) as (λ b. b || list_any p xs ≡ nat_lt (cond (not b) (1 + position_or_len p xs) 0) (suc (length xs))) [
+      | true ↦ grind (arith, nat_tests)
+      | false ↦ rest ∙ grind (arith, nat_tests)
+    ]
+
+-- one number more
+pub range_with_len_more : (a n : ℕ) → range_with_len a (n + 1) ≡ range_with_len a n ++ (a + n) ∷ []
+range_with_len_more a n =
+    sym (map-id (range_with_len a (n + 1))) ∙ map-range_with_len_more (λ k. k) a n (a + n) refl ∙ ap (λ list. list ++ (a + n) ∷ []) (map-id (range_with_len a n))
+
+-- the items at all places
+pub map-get_or-range_with_len : {X : Type 0} (xs : List X) (d : X) → map (λ i. get_or xs i d) (range_with_len 0 (length xs)) ≡ xs
+map-get_or-range_with_len xs d =
+    let long = length-map-range_with_len (λ i. get_or xs i d) 0 (length xs) in
+    same_lists _ xs long (λ k e within.
+    let inside : k < length xs = omega (arith, within, long) in
+    get_or-map-range_with_len (λ i. get_or xs i d) 0 (length xs) k k e inside (omega arith) ∙ get_or_default xs k d e inside)
+
+-- ---- numbers
+
+-- equal summands do not change whether two sums are equal
+pub eqb-add_left : (k m n : ℕ) → (k + m == k + n) ≡ (m == n)
+eqb-add_left k m n = grind (arith, nat_tests)
+
+-- a product that is not 0 has factors that are not
+pub pos_left_of_mul : (a b : ℕ) → 0 < a * b → 0 < a
+pos_left_of_mul zero b some = absurd (grind (arith, some))
+pos_left_of_mul (suc a) b some = omega arith
+
+pub pos_right_of_mul : (a b : ℕ) → 0 < a * b → 0 < b
+pos_right_of_mul a zero some = absurd (grind (arith, some))
+pos_right_of_mul a (suc b) some = omega arith
