@@ -17,5 +17,6 @@ pub mod Statistics
 pub mod Verdict
 pub mod Diagnostics
 pub mod Settings
+pub mod SuiteProof
 pub mod Words
 pub mod Laws

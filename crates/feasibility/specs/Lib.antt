@@ -4,3 +4,4 @@ pub mod Path
 pub mod Solving
 pub mod Tree
 pub mod Live
+pub mod Refuting

@@ -38,3 +38,23 @@ impl From<NoMemory> for SearchFault {
         SearchFault::NoMemory
     }
 }
+
+/// Why a tuple isn't refuted.
+#[derive(Debug, Drop, Clone, Copy, PartialEq, Eq)]
+pub enum RefuteFault {
+    /// The plain cost of the tuple exceeds the budget.
+    Spent,
+    /// There was no room.
+    NoMemory,
+}
+
+impl From<NoMemory> for RefuteFault {
+    ghost use Rattle.std.specs.Prelude.{◌≡◌};
+    ghost use Rattle.feasibility.specs.declared.answer.RefuteFault.TheVariants.{NoMemory};
+
+    ghost from_gives = { λ _ fault. fault ≡ NoMemory };
+
+    fn from(_refused: NoMemory) -> RefuteFault {
+        RefuteFault::NoMemory
+    }
+}

@@ -2,6 +2,7 @@
 //!
 //! - `Solver` asks and completes; `SearchTree` has the search, whose nodes, answers and rows are those
 //!   of the definition of plain search.
+//! - `Solver::refute` gives a tree that refutes a tuple which no row serves.
 //! - That a search succeeds exactly on what is extendable, and reaches the first completion, is a law
 //!   over plain lists: `plain_search_is_exact`.
 #![tactic(auto)]
@@ -12,11 +13,12 @@ mod laws;
 mod members;
 mod named;
 mod narrowing;
+mod refuting;
 mod solver;
 mod tree;
 mod values;
 mod visiting;
 
-pub use answer::{Answer, Question, SearchFault};
+pub use answer::{Answer, Question, RefuteFault, SearchFault};
 pub use laws::plain_search_is_exact;
 pub use solver::Solver;

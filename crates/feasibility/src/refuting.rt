@@ -1,0 +1,50 @@
+ghost use Rattle.std.specs.Prelude.{◌≡◌, ◌≤◌, ◌<◌, ◌^◌, true, All, length, map, Err, OnOk, OnErr};
+ghost use Rattle.cov_model.specs.Fits.{FitsModel};
+ghost use Rattle.definitions.specs.Covering.{IsUnserved};
+ghost use Rattle.definitions.specs.Pairs.{cells_of};
+ghost use Rattle.definitions.specs.Refutation.{is_eager};
+ghost use Rattle.definitions.specs.Search.{plain_cost};
+ghost use Rattle.definitions.specs.SliceRows.{IsOfSlice};
+ghost use Rattle.definitions.specs.SuiteProof.{branch_count};
+ghost use Rattle.refutation.specs.Proofs.{format_of, meant};
+ghost use Rattle.feasibility.specs.Refuting.{earlier_tuples};
+
+use crate::answer::RefuteFault;
+use crate::solver::Solver;
+use cov_model::Tuple;
+use refutation::{Omissions, TreeBuf};
+
+impl<'a> Solver<'a> {
+    /// Refutes a tuple of the slice which no row serves: the tokens become an eager tree after the
+    /// tuples of the earlier omissions, in their form, with no more branches than the plain cost of
+    /// the tuple. No row may serve a tuple of the earlier omissions either.
+    ///
+    /// # Errors
+    ///
+    /// `Spent` exactly where the plain cost of the tuple exceeds the budget, `NoMemory` where there
+    /// is no room. The tokens are then as before.
+    pub fn refute(
+        &mut self,
+        tuple: &Tuple,
+        budget: u64,
+        earlier: &Omissions,
+        into: &mut TreeBuf,
+    ) -> Result<(), RefuteFault>
+        requires of { IsOfSlice self.old.model self.old.slice (cells_of (length self.old.model.params) tuple.now) }
+        requires unserved { IsUnserved self.old.model (cells_of (length self.old.model.params) tuple.now) }
+        requires fit { All (FitsModel self.old.model) (earlier_tuples self.old.model earlier.now) }
+        requires earlier { All (IsUnserved self.old.model) (earlier_tuples self.old.model earlier.now) }
+        requires few { length earlier.now.omissions < 2 ^ 32 }
+        ensures eager { OnOk result (is_eager self.old.model (format_of earlier.now.form) (earlier_tuples self.old.model earlier.now)
+            (cells_of (length self.old.model.params) tuple.now) (map meant into.new) ≡ true) }
+        ensures branches { OnOk result (branch_count (map meant into.new)
+            ≤ plain_cost self.old.model self.old.prefs self.old.slice (cells_of (length self.old.model.params) tuple.now)) }
+        ensures within { OnOk result (plain_cost self.old.model self.old.prefs self.old.slice (cells_of (length self.old.model.params) tuple.now) ≤ budget) }
+        ensures spent { result ≡ Err RefuteFault.Spent
+            → budget < plain_cost self.old.model self.old.prefs self.old.slice (cells_of (length self.old.model.params) tuple.now) }
+        ensures kept { OnErr result (into.new ≡ into.old) }
+        ensures same { self.new ≡ self.old }
+    {
+        Err(RefuteFault::NoMemory)
+    }
+}
