@@ -1,7 +1,8 @@
 -- The proof of a suite: the omitted tuples in the order in which growth omits them, each with an eager tree.
 -- (This project's rule.)
-use Rattle.std.specs.Prelude.{◌≡◌, ℕ, ◌≤◌, Bool, true, false, List, [], ◌∷◌, ◌++◌, map, length, filter, Option}
+use Rattle.std.specs.Prelude.{◌≡◌, ℕ, ◌≤◌, Bool, true, false, List, [], ◌∷◌, ◌++◌, map, length, filter, Option, All}
 use Rattle.cov_model.specs.Sound.{ModelView}
+use Rattle.cov_model.specs.Tuples.{IsRising}
 use Rattle.definitions.specs.Growth.{growth}
 use Rattle.definitions.specs.ProofText.{Omission, proof_text}
 use Rattle.definitions.specs.Refutation.{Token, Branch, ByRule, ByNegative, ByOmission, is_eager}
@@ -40,5 +41,6 @@ pub record AreOmitted (m : ModelView) (pref : List (List ℕ)) (seeds : List (�
 -- the bytes are the proof of the suite in this format
 pub record IsProofOfSuite (m : ModelView) (pref : List (List ℕ)) (seeds : List (ℕ × List (Option ℕ))) (format : ℕ) (bytes : List ℕ) : Type 0 where
   pub omissions : List Omission
+  pub rising : All (λ omission. IsRising omission.tuple) omissions
   pub omitted : AreOmitted m pref seeds format omissions
   pub text : bytes ≡ proof_text format omissions
