@@ -46,3 +46,6 @@ pub mod Spelling
 pub mod ProofWords
 pub mod ProofLines
 pub mod ProofFiles
+pub mod NamedPairs
+pub mod TreeTokens
+pub mod SuiteLaws

@@ -20,3 +20,4 @@ pub mod Settings
 pub mod SuiteProof
 pub mod Words
 pub mod Laws
+pub mod SuiteLaws

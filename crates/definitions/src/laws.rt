@@ -2,6 +2,7 @@
 //! that holds of every model, and is proved with the crate.
 
 ghost use Rattle.definitions.specs.Laws.{AcceptedAreCertified, CompletionsAreRows, ExtendableContains, GrowthCovers, ProofsHaveOneText, ProofsReadBack, RefutedAreUnserved, ReportsAreRead, ReportsReadBack, ServableAreExtendable, SlicesServe, SuitesAreRead, SuitesCover, SuitesHaveFewRows};
+ghost use Rattle.definitions.specs.SuiteLaws.{SuiteProofsAreAccepted, SuiteProofsAreOfModels, SuiteProofsList, SuiteProofsReadBack, SuiteProofsRefute, SuitesServeOrRefute};
 
 /// A report holds its rows: the text that is written of any number of rows of a sound model has
 /// these rows in their order, and no note (this project's rule).
@@ -91,4 +92,41 @@ pub fn suites_cover()
 /// tuples that some row of the model serves and kept seeds (this project's rule).
 pub fn suites_have_few_rows()
     ensures { SuitesHaveFewRows }
+{}
+
+/// The proof of a suite refutes: each token list of it refutes its tuple after the tuples before it
+/// (this project's rule).
+pub fn suite_proofs_refute()
+    ensures { SuiteProofsRefute }
+{}
+
+/// The proof of a suite is of its model: neither a tuple nor a tree of it is empty, parameters rise, and
+/// parameters, values and tokens are of the model and the format (this project's rule).
+pub fn suite_proofs_are_of_models()
+    ensures { SuiteProofsAreOfModels }
+{}
+
+/// The proof of a suite is read back: its bytes are read as its format and its omissions (this
+/// project's rule).
+pub fn suite_proofs_read_back()
+    ensures { SuiteProofsReadBack }
+{}
+
+/// The proof of a suite lists what can't be served: its bytes are read as a proof that lists the
+/// demanded tuples which no row serves, each once and no others, and whose token lists each refute
+/// their tuple after the tuples before it (this project's rule).
+pub fn suite_proofs_list()
+    ensures { SuiteProofsList }
+{}
+
+/// A suite and its proof leave nothing open: each demanded tuple is served by a row of the suite, or no
+/// row of the model serves it, and the proof refutes it (this project's rule).
+pub fn suites_serve_or_refute()
+    ensures { SuitesServeOrRefute }
+{}
+
+/// A suite is accepted with its proof: the verdict on its rows, on lines of any numbers, and on the
+/// bytes of its proof accepts them, with the numbers of rows and of omissions (this project's rule).
+pub fn suite_proofs_are_accepted()
+    ensures { SuiteProofsAreAccepted }
 {}

@@ -11,6 +11,7 @@ mod laws;
 pub use laws::{
     accepted_are_certified, completions_are_rows, extendable_contains, growth_covers,
     proofs_have_one_text, proofs_read_back, refuted_are_unserved, reports_are_read,
-    reports_read_back, servable_are_extendable, slices_serve, suites_are_read, suites_cover,
-    suites_have_few_rows,
+    reports_read_back, servable_are_extendable, slices_serve, suite_proofs_are_accepted,
+    suite_proofs_are_of_models, suite_proofs_list, suite_proofs_read_back, suite_proofs_refute,
+    suites_are_read, suites_cover, suites_have_few_rows, suites_serve_or_refute,
 };
