@@ -10,6 +10,7 @@ pub mod RefutationExamples
 pub mod ProofTextExamples
 pub mod FiguresExamples
 pub mod VerdictExamples
+pub mod SuiteProofExamples
 pub mod DiagnosticsExamples
 pub mod WordsExamples
 pub mod Cells
