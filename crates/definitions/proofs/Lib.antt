@@ -47,6 +47,7 @@ pub mod Spelling
 pub mod ProofWords
 pub mod ProofLines
 pub mod ProofFiles
+pub mod PairLists
 pub mod NamedPairs
 pub mod TreeTokens
 pub mod SuiteLaws

@@ -14,19 +14,20 @@ use Rattle.cov_model.specs.Valid.{is_valid, serves}
 use Rattle.definitions.specs.Demand.{demanded_tuples}
 use Rattle.definitions.specs.Seeds.{is_same_row}
 use Rattle.definitions.specs.Growth.{growth}
-use Rattle.definitions.specs.Pairs.{cells_of}
+use Rattle.definitions.specs.Pairs.{cells_of, pairs_of}
 use Rattle.definitions.specs.Refutation.{Token, refutes, are_eager}
 use Rattle.definitions.specs.ProofText.{Omission, omissions_of}
 use Rattle.definitions.specs.Figures.{is_served}
 use Rattle.definitions.specs.Covering.{IsUnserved}
 use Rattle.definitions.specs.Verdict.{Accepted, as_cells, listed, first_uncovered, by_row, by_proof, by_omission, by_tuple}
 use Rattle.definitions.specs.Laws.{IsTokenOf, IsOmissionOf, IsGrownSuite}
-use Rattle.definitions.specs.SuiteLaws.{NamesParams, IsSoundProof, SuiteProofsRefute, SuiteProofsAreOfModels, SuiteProofsReadBack, SuiteProofsList, IsRefutedIn, SuitesServeOrRefute, SuiteProofsAreAccepted}
+use Rattle.definitions.specs.SuiteLaws.{IsSoundProof, SuiteProofsRefute, SuiteProofsAreOfModels, SuiteProofsReadBack, SuiteProofsList, IsRefutedIn, SuitesServeOrRefute, SuiteProofsAreAccepted}
 use Rattle.definitions.proofs.Contained.{left}
 use Rattle.definitions.proofs.Nothing.{nothing_found}
-use Rattle.definitions.proofs.Members.{Has, has_contained, contains_member, all_members, member_of_all, has_map, any_member, of_any, same_answer}
+use Rattle.definitions.proofs.Members.{Has, has_contained, contains_member, all_members, member_of_all, has_map, of_map, any_member, of_any, same_answer}
 use Rattle.definitions.proofs.PartialRowLemmas.{same-refl, same-sym, same-trans}
-use Rattle.definitions.proofs.Grown.{of_omitted}
+use Rattle.definitions.proofs.Grown.{IsDemanded, IsOmitted, of_omitted}
+use Rattle.definitions.proofs.PairLists.{cells_of-pairs_of, pairs_of-rise, pairs_of-within}
 use Rattle.definitions.proofs.GrowthLaw.{growth_covers, suites_cover}
 use Rattle.definitions.proofs.ProofWords.{IsPair}
 use Rattle.definitions.proofs.ProofFiles.{proofs_read_back}
@@ -63,6 +64,41 @@ cells m omission = cells_of (length m.params) omission.tuple
 abbrev with_tokens : ModelView → Omission → List (Option ℕ) × List Token
 with_tokens m omission = (cells m omission, omission.tree)
 
+-- the tuple of an omission is that of a partial row that growth omits
+pub record IsOfOmitted (m : ModelView) (omission : Omission) : Type 0 where
+  pub row : List (Option ℕ)
+  pub is : IsOmitted m row
+  pub tuple : omission.tuple ≡ pairs_of row
+
+of_tuple : (m : ModelView) (pref : List (List ℕ)) (seeds : List (ℕ × List (Option ℕ))) (format : ℕ) (bytes : List ℕ)
+    (is : IsSoundProof m pref seeds format bytes) (omission : Omission) → Has is.proof.omissions omission → IsOfOmitted m omission
+of_tuple m pref seeds format bytes is omission has =
+    let listed_one = subst (λ tuples. Has tuples omission.tuple) is.proof.omitted.tuples (has_map (λ o. o.tuple) is.proof.omissions omission has) in
+    let found = of_map pairs_of (growth m pref seeds).omitted omission.tuple listed_one in
+    record { row = found.0; is = of_omitted m pref seeds found.0 is.orders found.1; tuple = sym found.2 }
+
+-- so the listed tuples are those that growth omits
+given_again : (m : ModelView) (row : List (Option ℕ)) → IsOmitted m row → cells_of (length m.params) (pairs_of row) ≡ row
+given_again m row is = ap (λ n. cells_of n (pairs_of row)) (sym is.demanded.long) ∙ cells_of-pairs_of row
+
+all_given_again : (m : ModelView) (rows : List (List (Option ℕ))) → ((row : List (Option ℕ)) → Has rows row → IsOmitted m row)
+    → map (cells_of (length m.params)) (map pairs_of rows) ≡ rows
+all_given_again m [] each = refl
+all_given_again m (row ∷ rows) each =
+    ap (λ first. first ∷ map (cells_of (length m.params)) (map pairs_of rows)) (given_again m row (each row (inl refl)))
+    ∙ ap (λ rest. row ∷ rest) (all_given_again m rows (λ other has. each other (inr has)))
+
+tuples_cells : (m : ModelView) (omissions : List Omission) → listed m omissions ≡ map (cells_of (length m.params)) (map (λ o. o.tuple) omissions)
+tuples_cells m [] = refl
+tuples_cells m (omission ∷ omissions) = ap (λ rest. cells_of (length m.params) omission.tuple ∷ rest) (tuples_cells m omissions)
+
+listed_is : (m : ModelView) (pref : List (List ℕ)) (seeds : List (ℕ × List (Option ℕ))) (format : ℕ) (bytes : List ℕ)
+    (is : IsSoundProof m pref seeds format bytes) → listed m is.proof.omissions ≡ (growth m pref seeds).omitted
+listed_is m pref seeds format bytes is =
+    tuples_cells m is.proof.omissions
+    ∙ ap (map (cells_of (length m.params))) is.proof.omitted.tuples
+    ∙ all_given_again m (growth m pref seeds).omitted (λ row. of_omitted m pref seeds row is.orders)
+
 few_omissions : (m : ModelView) (pref : List (List ℕ)) (seeds : List (ℕ × List (Option ℕ))) (format : ℕ) (bytes : List ℕ)
     (is : IsSoundProof m pref seeds format bytes) → length (as_cells m is.proof.omissions) < 2 ^ 32
 few_omissions m pref seeds format bytes is =
@@ -71,7 +107,7 @@ few_omissions m pref seeds format bytes is =
       arith,
       length-map omissions (with_tokens m),
       length-map omissions (cells m),
-      ap length is.proof.omitted.tuples,
+      ap length (listed_is m pref seeds format bytes is),
       few_omitted m pref seeds (growth_covers m pref seeds is.sound is.orders),
       is.few,
     )
@@ -81,20 +117,20 @@ omission_is : (m : ModelView) (pref : List (List ℕ)) (seeds : List (ℕ × Lis
 omission_is m pref seeds format bytes is omission has =
     let omissions = is.proof.omissions in
     let tuple = cells m omission in
-    let omitted = of_omitted m pref seeds tuple is.orders
-    (subst (λ tuples. Has tuples tuple) is.proof.omitted.tuples (has_map (cells m) omissions omission has)) in
+    let of = of_tuple m pref seeds format bytes is omission has in
+    let demanded : IsDemanded m tuple = subst (IsDemanded m) (sym (ap (cells_of (length m.params)) of.tuple ∙ given_again m of.row of.is)) of.is.demanded in
     let own = member_has_tree m pref format (length (as_cells m omissions)) [] (as_cells m omissions) (with_tokens m omission) is.proof.omitted.trees (omega arith)
     (has_map (with_tokens m) omissions omission has) in
     let refuting = left (refutes m format own.earlier tuple omission.tree) (are_eager m format own.earlier tuple (tuple ∷ []) omission.tree) own.tree.eager in
-    let rising = member_of_all (λ omission. IsRising omission.tuple) omissions omission is.proof.rising has in
-    let named = member_of_all (NamesParams m) omissions omission is.named has in
+    let rising = subst IsRising (sym of.tuple) (pairs_of-rise of.row) in
     record {
-      some_tuple = demanded_some m omission.tuple is.sound omitted.demanded;
+      some_tuple = demanded_some m omission.tuple is.sound demanded;
       some_tree = some_tokens m format own.earlier tuple omission.tree refuting;
       rising = rising;
       exist = all_members (IsPair m) omission.tuple (λ pair listed.
-          let within = member_of_all (λ pair. pair.0 < length m.params) omission.tuple pair named listed in
-          (within, pair_exists m omission.tuple pair rising omitted.demanded within listed));
+          let inside = pairs_of-within of.row pair (subst (λ pairs. Has pairs pair) of.tuple listed) in
+          let within : pair.0 < length m.params = omega (arith, inside, of.is.demanded.long) in
+          (within, pair_exists m omission.tuple pair rising demanded within listed));
       tokens = all_members (IsTokenOf m format) omission.tree (λ token listed.
           tokens_are m format own.earlier tuple (tuple ∷ []) omission.tree token is.sound
           (omega (arith, own.few, few_omissions m pref seeds format bytes is)) refuting listed);
@@ -132,13 +168,13 @@ unserved_listed : (m : ModelView) (pref : List (List ℕ)) (seeds : List (ℕ ×
     (is : IsSoundProof m pref seeds format bytes)
     → All (λ tuple. IsUnserved m tuple → list_any (is_same_row tuple) (listed m is.proof.omissions) ≡ true) (demanded_tuples m)
 unserved_listed m pref seeds format bytes is =
-    subst (λ tuples. All (λ tuple. IsUnserved m tuple → list_any (is_same_row tuple) tuples ≡ true) (demanded_tuples m)) (sym is.proof.omitted.tuples)
+    subst (λ tuples. All (λ tuple. IsUnserved m tuple → list_any (is_same_row tuple) tuples ≡ true) (demanded_tuples m)) (sym (listed_is m pref seeds format bytes is))
     (unserved_omitted m pref seeds (growth_covers m pref seeds is.sound is.orders))
 
 pub suite_proofs_list : SuiteProofsList
 suite_proofs_list m pref seeds format bytes is =
     let grown = growth_covers m pref seeds is.sound is.orders in
-    let same = sym is.proof.omitted.tuples in
+    let same = sym (listed_is m pref seeds format bytes is) in
     record {
       omissions = is.proof.omissions;
       read = suite_proofs_read_back m pref seeds format bytes is;

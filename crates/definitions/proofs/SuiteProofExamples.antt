@@ -1,14 +1,11 @@
 -- The proofs of small suites.
-use Rattle.std.proofs.Common.{◌≡◌, ℕ, List, [], ◌∷◌, codes, refl, arith}
+use Rattle.std.proofs.Common.{ℕ, List, [], ◌∷◌, codes, refl, arith}
 use Rattle.std.specs.Fmt.{digits}
-use Rattle.std.proofs.lemmas.List.Elements.{All-from_recursion}
-use Rattle.cov_model.specs.Tuples.{IsRising}
 use Rattle.definitions.specs.Refutation.{Token, Branch, ByRule, ByOmission}
-use Rattle.definitions.specs.Pairs.{cells_of}
 use Rattle.definitions.specs.ProofText.{Omission}
 use Rattle.definitions.specs.SuiteProof.{IsProofOfSuite}
 use Rattle.definitions.proofs.Examples.{declared}
-use Rattle.definitions.proofs.Models.{row, bound, twin_and_one}
+use Rattle.definitions.proofs.Models.{bound, twin_and_one}
 
 abbrev omit : List (ℕ × ℕ) → List Token → Omission
 omit tuple tree = record { tuple = tuple; tree = tree }
@@ -17,7 +14,6 @@ bound-proof : IsProofOfSuite bound (declared bound) [] 1 (codes "pict-proof 1\no
 unfolding digits
 bound-proof = record {
   omissions = omit ((0, 0) ∷ (1, 1) ∷ []) (ByRule 1 ∷ []) ∷ [];
-  rising = All-from_recursion (λ omission. IsRising omission.tuple) (omit ((0, 0) ∷ (1, 1) ∷ []) (ByRule 1 ∷ []) ∷ []) ((omega arith, tt), tt);
   omitted = record { tuples = refl; trees = (record { eager = refl; few = omega arith }, tt) };
   text = refl;
 }
@@ -34,8 +30,6 @@ citing-proof : IsProofOfSuite twin_and_one (declared twin_and_one) [] 2
 unfolding digits
 citing-proof = record {
   omissions = citing;
-  rising = All-from_recursion (λ omission. IsRising omission.tuple) citing
-      ((omega arith, tt), ((omega arith, tt), ((omega arith, tt), ((omega arith, tt), ((omega arith, tt), ((omega arith, tt), tt))))));
   omitted = record {
     tuples = refl;
     trees = (
@@ -57,7 +51,3 @@ citing-proof = record {
   };
   text = refl;
 }
-
--- a pair whose parameter doesn't exist leaves no trace in the partial row
-stray : cells_of 2 ((0, 0) ∷ (1, 1) ∷ (5, 3) ∷ []) ≡ row (codes "01")
-stray = refl

@@ -13,20 +13,14 @@ use Rattle.definitions.specs.Verdict.{Accepted, as_cells, listed, verdict}
 use Rattle.definitions.specs.SuiteProof.{IsProofOfSuite}
 use Rattle.definitions.specs.Laws.{ArePreferences, IsOmissionOf}
 
--- the tuple of an omission names parameters of the model
-abbrev pub NamesParams : ModelView → Omission → Type 0
-NamesParams m omission = All (λ pair. pair.0 < length m.params) omission.tuple
-
 -- what these laws are about: the proof, in format 1 or 2, of the suite of a sound model with preference orders and
--- any seed rows; its tuples name parameters of the model, and fewer than 2^32 are demanded, so each omission has a
--- number that a token can cite
+-- any seed rows, where fewer than 2^32 tuples are demanded, so that each omission has a number that a token can cite
 pub record IsSoundProof (m : ModelView) (pref : List (List ℕ)) (seeds : List (ℕ × List (Option ℕ))) (format : ℕ) (bytes : List ℕ) : Type 0 where
   pub sound : IsSound m
   pub orders : ArePreferences m pref
   pub known : (format ≡ 1) ⊎ (format ≡ 2)
   pub few : length (demanded_tuples m) < 2 ^ 32
   pub proof : IsProofOfSuite m pref seeds format bytes
-  pub named : All (NamesParams m) proof.omissions
 
 -- each of its token lists refutes its tuple after the tuples before it
 abbrev pub SuiteProofsRefute : Type 0

@@ -1,13 +1,13 @@
 -- The proof of a suite: the omitted tuples in the order in which growth omits them, each with an eager tree.
 -- (This project's rule.)
-use Rattle.std.specs.Prelude.{◌≡◌, ℕ, ◌≤◌, Bool, true, false, List, [], ◌∷◌, ◌++◌, map, length, filter, Option, All}
+use Rattle.std.specs.Prelude.{◌≡◌, ℕ, ◌≤◌, Bool, true, false, List, [], ◌∷◌, ◌++◌, map, length, filter, Option}
 use Rattle.cov_model.specs.Sound.{ModelView}
-use Rattle.cov_model.specs.Tuples.{IsRising}
 use Rattle.definitions.specs.Growth.{growth}
+use Rattle.definitions.specs.Pairs.{pairs_of}
 use Rattle.definitions.specs.ProofText.{Omission, proof_text}
 use Rattle.definitions.specs.Refutation.{Token, Branch, ByRule, ByNegative, ByOmission, is_eager}
 use Rattle.definitions.specs.Search.{question_cost}
-use Rattle.definitions.specs.Verdict.{as_cells, listed}
+use Rattle.definitions.specs.Verdict.{as_cells}
 
 -- the token is a branch
 abbrev pub is_branching : Token → Bool
@@ -35,12 +35,11 @@ AreEagerTrees m pref format earlier (omission ∷ omissions) =
 -- the omissions are the tuples that growth omits with these preferences and seeds, in its order, each with such a
 -- tree
 pub record AreOmitted (m : ModelView) (pref : List (List ℕ)) (seeds : List (ℕ × List (Option ℕ))) (format : ℕ) (omissions : List Omission) : Type 0 where
-  pub tuples : listed m omissions ≡ (growth m pref seeds).omitted
+  pub tuples : map (λ omission. omission.tuple) omissions ≡ map pairs_of (growth m pref seeds).omitted
   pub trees : AreEagerTrees m pref format [] (as_cells m omissions)
 
 -- the bytes are the proof of the suite in this format
 pub record IsProofOfSuite (m : ModelView) (pref : List (List ℕ)) (seeds : List (ℕ × List (Option ℕ))) (format : ℕ) (bytes : List ℕ) : Type 0 where
   pub omissions : List Omission
-  pub rising : All (λ omission. IsRising omission.tuple) omissions
   pub omitted : AreOmitted m pref seeds format omissions
   pub text : bytes ≡ proof_text format omissions
