@@ -2,10 +2,14 @@
 //!
 //! - `TreeToken` is a token of a tree in preorder, `Omissions` a proof: its form and its omitted tuples
 //!   with their trees.
+//! - `put_format` and `put_omission` append the lines of a proof file, for which there has to be room;
+//!   `format_len` and `omission_len` tell how much.
 #![tactic(auto)]
 
 mod omissions;
 mod token;
+mod writing;
 
 pub use omissions::{Omission, OmissionList, Omissions, ProofForm};
 pub use token::{TreeBuf, TreeToken};
+pub use writing::{format_len, omission_len, put_format, put_omission, write_omission};
