@@ -1,1 +1,4 @@
+pub mod LeafLemmas
 pub mod LineLemmas
+pub mod PairLemmas
+pub mod TreeLemmas

@@ -1,0 +1,29 @@
+use Rattle.std.proofs.Common.{◌≡◌, None, length, ◌∙◌, ap, sym, subst}
+use Rattle.std.proofs.lemmas.List.{length-replicate}
+use Rattle.cov_model.specs.Fits.{FitsModel}
+use Rattle.cov_model.specs.Rows.{contains}
+use Rattle.cov_model.proofs.CellLemmas.{contains-refl}
+use Rattle.definitions.specs.Pairs.{cells_of}
+use Rattle.definitions.specs.Refutation.{is_negative_leaf}
+use Rattle.refutation.specs.Checking.{tuple_in}
+use Rattle.refutation.proofs.LeafLemmas.{negative_leaf-start}
+use Rattle.refutation.proofs.PairLemmas.{FitsModel-cells_of}
+use Rattle.refutation.proofs.tree_check.TreeCheck.begin.Goals as goal
+
+-- the cells are the tuple in the end
+is_tuple : (c : goal.After-set_all) → c.set_all.new.cells ≡ tuple_in c.args.self.now
+is_tuple c =
+    c.set_all.ensures
+    ∙ ap (λ n. cells_of n c.as_slice.result.now) (ap length c.clear.ensures ∙ length-replicate (length c.args.path.now) None ∙ c.requires)
+    ∙ ap (cells_of (length c.args.self.now.model.params)) (c.as_slice.ensures.value ∙ c.tuple.ensures.value)
+
+pub returns-clause-fits : goal.returns-clause-fits
+returns-clause-fits c =
+    subst (FitsModel c.args.self.now.model) (sym (is_tuple c)) (FitsModel-cells_of c.args.self.now.model c.args.self.now.tuple c.tuple.ensures.of_model)
+
+pub returns-clause-part : goal.returns-clause-part
+returns-clause-part c = ap (λ path. contains path (tuple_in c.args.self.now)) (is_tuple c) ∙ contains-refl (tuple_in c.args.self.now)
+
+pub returns-clause-outside : goal.returns-clause-outside
+returns-clause-outside c =
+    ap (is_negative_leaf c.args.self.now.model (tuple_in c.args.self.now)) (is_tuple c) ∙ negative_leaf-start c.args.self.now.model (tuple_in c.args.self.now)

@@ -1,0 +1,204 @@
+ghost use Rattle.std.specs.Prelude.{◌≡◌, ◌==◌, ◌<◌, ◌≤◌, ◌||◌, All, IfSome, length, not, option_map, take};
+ghost use Rattle.std.specs.List.{list_all};
+ghost use Rattle.cov_model.specs.Fits.{FitsModel};
+ghost use Rattle.cov_model.specs.Kleene.{body_truth};
+ghost use Rattle.cov_model.specs.Meaning.{value_at};
+ghost use Rattle.cov_model.specs.Rows.{contains, is_assigned};
+ghost use Rattle.cov_model.specs.Sound.{IsSound, ModelView, param_at, rule_at};
+ghost use Rattle.cov_model.specs.Valid.{negatives};
+ghost use Rattle.definitions.specs.Pairs.{cells_of};
+ghost use Rattle.definitions.specs.Refutation.{earlier_tuple, is_branch, is_omission_leaf, is_rule_leaf};
+ghost use Rattle.definitions.specs.Search.{is_no};
+ghost use Rattle.refutation.specs.Checking.{AreOfModel, earlier_in, has_param, has_rule, tuple_in, tuples_of};
+ghost use Rattle.refutation.specs.Proofs.{format_of};
+
+use crate::omissions::{Omission, Omissions, ProofForm};
+use crate::pairs::{gives_all, has_param};
+use cov_model::{Cells, ParamNo, TestModel, Truth, Tuple, ValueNo};
+use std::marker::Model;
+
+/// What a tree is checked against: a model, the format of the proof, the omissions that may be cited,
+/// and the tuple that the tree has to refute.
+#[derive(Drop)]
+pub(crate) struct TreeCheck<'a> {
+    model: &'a TestModel,
+    form: ProofForm,
+    earlier: &'a [Omission],
+    tuple: &'a Tuple,
+}
+
+impl<'a> Model for TreeCheck<'a> {
+    ghost use Rattle.std.specs.Coded.{codes};
+    ghost use Rattle.cov_model.specs.contracts.model.TestModel as tested;
+    ghost use Rattle.refutation.specs.Checking.{CheckView, IsCheck};
+
+    ghost Value = { CheckView };
+
+    ghost coded = { Prim.hlevel (codes, tested.the_row.coded) };
+
+    ghost view = { λ a. record { model = a.model.now; form = a.form; earlier = a.earlier.now; tuple = a.tuple.now } };
+
+    ghost invariant = { λ a. IsCheck (record { model = a.model.now; form = a.form; earlier = a.earlier.now; tuple = a.tuple.now }) };
+}
+
+// Whether there is a constraint of this number.
+pub(crate) fn has_rule(model: &TestModel, rule: u32) -> bool
+    ensures value { result ≡ has_rule model.now rule }
+    ensures sound { IsSound model.now }
+{
+    let count = model.rules().len();
+    rule != 0 && rule as usize <= count
+}
+
+// The tuple of the omission of this number, counted from 1.
+fn cited(omissions: &[Omission], number: u32) -> Option<&Tuple>
+    ensures tuple { (m : ModelView) → option_map (λ tuple. cells_of (length m.params) tuple.now) result ≡ earlier_tuple (tuples_of m omissions.now) number }
+    ensures of_model { (m : ModelView) → All (λ omission. AreOfModel m omission.tuple) omissions.now → IfSome result (λ tuple. AreOfModel m tuple.now) }
+{
+    if number == 0 {
+        return None;
+    }
+    match omissions.get(number as usize - 1) {
+        Some(omission) => Some(&omission.tuple),
+        None => None,
+    }
+}
+
+impl<'a> TreeCheck<'a> {
+    // What a tree for the tuple is checked against, behind the first `before` of the earlier omissions.
+    pub(crate) fn new(
+        model: &'a TestModel,
+        tuple: &'a Tuple,
+        earlier: &'a Omissions,
+        before: u32,
+    ) -> TreeCheck<'a>
+        requires within { before ≤ length earlier.now.omissions }
+        requires tuple { AreOfModel model.now tuple.now }
+        requires earlier { All (λ omission. AreOfModel model.now omission.tuple) earlier.now.omissions }
+        ensures { result ≡ record { model = model.now; form = earlier.now.form; earlier = take before earlier.now.omissions; tuple = tuple.now } }
+    {
+        TreeCheck {
+            model,
+            form: earlier.form(),
+            earlier: &earlier.as_slice()[..before as usize],
+            tuple,
+        }
+    }
+
+    // The model.
+    pub(crate) fn model(&self) -> &'a TestModel
+        ensures { result.now ≡ self.now.model }
+    {
+        self.model
+    }
+
+    // The tuple that the tree has to refute.
+    pub(crate) fn tuple(&self) -> &'a Tuple
+        ensures value { result.now ≡ self.now.tuple }
+        ensures of_model { AreOfModel self.now.model self.now.tuple }
+    {
+        self.tuple
+    }
+
+    // The omissions that may be cited, where the format allows it.
+    fn earlier(&self) -> &'a [Omission]
+        ensures value { result.now ≡ self.now.earlier }
+        ensures of_model { All (λ omission. AreOfModel self.now.model omission.tuple) self.now.earlier }
+    {
+        self.earlier
+    }
+
+    // Whether the format allows it to cite omissions.
+    fn may_cite(&self) -> bool
+        ensures { result ≡ (format_of self.now.form == 2) }
+    {
+        match self.form {
+            ProofForm::One => false,
+            ProofForm::Two => true,
+        }
+    }
+
+    // How many values a parameter has.
+    pub(crate) fn count_of(&self, p: ParamNo) -> ValueNo
+        requires { p < length self.now.model.params }
+        ensures { result ≡ length (param_at self.now.model.params p).values }
+    {
+        self.model().params().as_slice()[p as usize].values.len() as ValueNo
+    }
+
+    // Whether a value of a parameter is negative.
+    pub(crate) fn is_negative(&self, p: ParamNo, v: ValueNo) -> bool
+        requires parameter { p < length self.now.model.params }
+        requires value { v < length (param_at self.now.model.params p).values }
+        ensures { result ≡ (value_at self.now.model p v).negative }
+    {
+        let param = &self.model().params().as_slice()[p as usize];
+        param.values.as_slice()[v as usize].negative
+    }
+
+    // Whether the parameter exists and has no value on the path.
+    pub(crate) fn is_branch(&self, p: ParamNo, path: &Cells) -> bool
+        requires { length path.now ≡ length self.now.model.params }
+        ensures { result ≡ is_branch self.now.model path.now p }
+    {
+        (p as usize) < self.model().params().len() && path.get(p).is_none()
+    }
+
+    // Whether the constraint of this number is No on the path.
+    fn is_no(&self, rule: u32, path: &Cells) -> bool
+        requires first { 0 < rule }
+        requires last { rule ≤ length self.now.model.rules }
+        requires fits { FitsModel self.now.model path.now }
+        ensures { result ≡ is_no (body_truth self.now.model (rule_at self.now.model rule).body path.now) }
+    {
+        self.model().eval(rule, path) == Truth::No
+    }
+
+    // Whether the constraint of this number exists and is No on the path.
+    pub(crate) fn is_rule_leaf(&self, rule: u32, path: &Cells) -> bool
+        requires { FitsModel self.now.model path.now }
+        ensures { result ≡ is_rule_leaf self.now.model path.now rule }
+    {
+        has_rule(self.model(), rule) && self.is_no(rule, path)
+    }
+
+    // Whether the path gives each value of a tuple.
+    fn is_contained(&self, other: &Tuple, path: &Cells) -> bool
+        requires of_model { AreOfModel self.now.model other.now }
+        requires long { length path.now ≡ length self.now.model.params }
+        ensures { result ≡ contains path.now (cells_of (length self.now.model.params) other.now) }
+    {
+        gives_all(path, other.as_slice())
+    }
+
+    // Whether each parameter with a negative value in the tuple has a value in the other.
+    fn has_negatives(&self, other: &Tuple) -> bool
+        requires { AreOfModel self.now.model other.now }
+        ensures { result ≡ list_all (is_assigned (cells_of (length self.now.model.params) other.now)) (negatives self.now.model (tuple_in self.now)) }
+    {
+        self.are_in(self.tuple().as_slice(), other.as_slice())
+    }
+
+    // Whether each of the pairs is positive or has a parameter of the others.
+    fn are_in(&self, pairs: &[(ParamNo, ValueNo)], others: &[(ParamNo, ValueNo)]) -> bool
+        requires { AreOfModel self.now.model pairs.now }
+        ensures { result ≡ list_all (λ pair. not (value_at self.now.model pair.0 pair.1).negative || has_param others.now pair.0) pairs.now }
+    {
+        pairs.iter().all(|pair| !self.is_negative(pair.0, pair.1) || has_param(others, pair.0))
+    }
+
+    // Whether the path has the earlier tuple of this number, counted from 1, and this tuple each
+    // parameter with a negative value.
+    pub(crate) fn is_omission_leaf(&self, number: u32, path: &Cells) -> bool
+        requires { length path.now ≡ length self.now.model.params }
+        ensures { result ≡ is_omission_leaf self.now.model (format_of self.now.form) (earlier_in self.now) (tuple_in self.now) path.now number }
+    {
+        if !self.may_cite() {
+            return false;
+        }
+        match cited(self.earlier(), number) {
+            Some(other) => self.is_contained(other, path) && self.has_negatives(other),
+            None => false,
+        }
+    }
+}
