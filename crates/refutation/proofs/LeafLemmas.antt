@@ -1,28 +1,26 @@
 -- The leaves of a tree, as they are tested: one constraint, the negative values that branches gave, and
 -- one earlier tuple.
-use Rattle.std.proofs.Common.{◌≡◌, ◌≢◌, ℕ, zero, suc, ◌+◌, ◌-◌, ◌<◌, ◌≤◌, Bool, true, false, ◌&&◌, ◌||◌, not, List, [], ◌∷◌, length, get_or, map, Option, Some, None, is_some, unwrap_or, option_map, All, inl, inr, ◌∙◌, sym, ap, subst, refl, arith, eq-eqb, le-leb}
+use Rattle.std.proofs.Common.{◌≡◌, ◌≢◌, ℕ, zero, suc, ◌+◌, ◌-◌, ◌<◌, ◌≤◌, Bool, true, false, ◌&&◌, ◌||◌, not, List, [], ◌∷◌, length, get_or, Option, Some, None, is_some, unwrap_or, option_map, inl, inr, ◌∙◌, sym, ap, refl, arith, eq-eqb, le-leb}
 use Rattle.std.specs.Prelude.{◌==◌, nat_le}
-use Rattle.std.specs.List.{list_all, list_any, range_with_len, slice_get}
-use Rattle.std.specs.Option.{option_map_or}
+use Rattle.std.specs.List.{list_all, slice_get}
 use Rattle.std.proofs.lemmas.Bool.{false≢true, false_from_ne_true, cases_Bool, cases_eq, and_parts, and_from, or_cases, or_left, or_right, not-true, not_from_false, eqb-true, leb-true}
 use Rattle.std.proofs.lemmas.List.{get_or_default, get_or-set_other, get_or-set_same}
 use Rattle.std.proofs.lemmas.Option.{slice_get-map, slice_get-get_or, slice_get_past}
 use Rattle.cov_model.specs.Meaning.{given_value, value_at}
 use Rattle.cov_model.specs.Kleene.{body_truth}
-use Rattle.cov_model.specs.Rows.{contains, is_assigned}
+use Rattle.cov_model.specs.Rows.{is_assigned}
 use Rattle.cov_model.specs.Sound.{ModelView, IsSound, no_rule, rule_at}
 use Rattle.cov_model.specs.Tuples.{IsRising}
 use Rattle.cov_model.specs.Valid.{negatives, param_numbers}
 use Rattle.cov_model.specs.Views.{RuleView}
-use Rattle.cov_model.proofs.CellLemmas.{assigned_within}
 use Rattle.definitions.specs.Completion.{with_value}
 use Rattle.definitions.specs.Pairs.{cells_of}
-use Rattle.definitions.specs.Refutation.{earlier_tuple, is_negative_leaf, is_omission_leaf, is_rule_leaf}
+use Rattle.definitions.specs.Refutation.{earlier_tuple, is_negative_leaf, is_rule_leaf}
 use Rattle.definitions.specs.Search.{is_no}
 use Rattle.definitions.proofs.Members.{Has, contains_member, has_contained, of_any, any_member, has_filter, of_filter, has_range, of_range, all_pass, passes_all, member_of_all, same_answer}
 use Rattle.refutation.specs.declared.omissions.Omission.{Omission}
 use Rattle.refutation.specs.Checking.{AreOfModel, has_param, has_rule, tuples_of}
-use Rattle.refutation.proofs.PairLemmas.{AreBelow, assigned_by, given_by, below_params}
+use Rattle.refutation.proofs.PairLemmas.{assigned_by, given_by, below_params}
 
 -- ---- constraints
 

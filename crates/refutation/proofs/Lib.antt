@@ -1,4 +1,7 @@
+pub mod FileLemmas
 pub mod LeafLemmas
 pub mod LineLemmas
 pub mod PairLemmas
+pub mod ReadingLemmas
 pub mod TreeLemmas
+pub mod WordLemmas

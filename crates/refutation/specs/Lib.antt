@@ -1,3 +1,4 @@
 pub mod Checking
 pub mod Lines
 pub mod Proofs
+pub mod Reading

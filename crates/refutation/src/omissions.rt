@@ -1,4 +1,4 @@
-ghost use Rattle.std.specs.Prelude.{◌≡◌, ◌++◌, ◌∷◌, [], length, slice_get, option_copied, OnOk, OnErr};
+ghost use Rattle.std.specs.Prelude.{◌≡◌, ◌==◌, ◌++◌, ◌∷◌, [], length, slice_get, option_copied, OnOk, OnErr};
 
 use crate::token::TreeBuf;
 use cov_model::Tuple;
@@ -13,6 +13,20 @@ pub enum ProofForm {
     One,
     /// Trees may cite earlier omissions too.
     Two,
+}
+
+impl ProofForm {
+    ghost use Rattle.refutation.specs.Proofs.{format_of};
+
+    // Whether trees may cite earlier omissions.
+    pub(crate) fn may_cite(self) -> bool
+        ensures { result ≡ (format_of self == 2) }
+    {
+        match self {
+            ProofForm::One => false,
+            ProofForm::Two => true,
+        }
+    }
 }
 
 /// A tuple that no row serves, with the tree that refutes it.
@@ -50,6 +64,16 @@ impl Omissions {
         Omissions {
             format: form,
             listed: OwnedList::new(alloc),
+        }
+    }
+
+    // A proof of this format with these omissions.
+    pub(crate) fn of(form: ProofForm, omissions: OmissionList) -> Omissions
+        ensures { result ≡ record { form = form; omissions = omissions } }
+    {
+        Omissions {
+            format: form,
+            listed: omissions,
         }
     }
 

@@ -1,4 +1,4 @@
-ghost use Rattle.std.specs.Prelude.{◌≡◌, ◌==◌, ◌<◌, ◌≤◌, ◌||◌, All, IfSome, length, not, option_map, take};
+ghost use Rattle.std.specs.Prelude.{◌≡◌, ◌<◌, ◌≤◌, ◌||◌, All, IfSome, length, not, option_map, take};
 ghost use Rattle.std.specs.List.{list_all};
 ghost use Rattle.cov_model.specs.Fits.{FitsModel};
 ghost use Rattle.cov_model.specs.Kleene.{body_truth};
@@ -92,6 +92,13 @@ impl<'a> TreeCheck<'a> {
         self.model
     }
 
+    // The format of the proof.
+    fn form(&self) -> ProofForm
+        ensures { result ≡ self.now.form }
+    {
+        self.form
+    }
+
     // The tuple that the tree has to refute.
     pub(crate) fn tuple(&self) -> &'a Tuple
         ensures value { result.now ≡ self.now.tuple }
@@ -106,16 +113,6 @@ impl<'a> TreeCheck<'a> {
         ensures of_model { All (λ omission. AreOfModel self.now.model omission.tuple) self.now.earlier }
     {
         self.earlier
-    }
-
-    // Whether the format allows it to cite omissions.
-    fn may_cite(&self) -> bool
-        ensures { result ≡ (format_of self.now.form == 2) }
-    {
-        match self.form {
-            ProofForm::One => false,
-            ProofForm::Two => true,
-        }
     }
 
     // How many values a parameter has.
@@ -193,7 +190,7 @@ impl<'a> TreeCheck<'a> {
         requires { length path.now ≡ length self.now.model.params }
         ensures { result ≡ is_omission_leaf self.now.model (format_of self.now.form) (earlier_in self.now) (tuple_in self.now) path.now number }
     {
-        if !self.may_cite() {
+        if !self.form().may_cite() {
             return false;
         }
         match cited(self.earlier(), number) {

@@ -1,5 +1,3 @@
-use Rattle.std.proofs.Common.{sym}
-use Rattle.refutation.specs.Checking.{tuples_of}
 use Rattle.refutation.proofs.LeafLemmas.{cited_none, cited_at, cited_past}
 use Rattle.refutation.proofs.tree_check.cited.Goals as goal
 

@@ -1,4 +1,4 @@
-use Rattle.std.proofs.Common.{length, map, ◌∙◌, sym, ap}
+use Rattle.std.proofs.Common.{length, ◌∙◌, sym, ap}
 use Rattle.std.proofs.lemmas.List.{length-map}
 use Rattle.cov_model.specs.Views.{rule_view}
 use Rattle.refutation.proofs.LeafLemmas.{has_rule_zero, has_rule_tested}

@@ -1,4 +1,4 @@
-use Rattle.std.proofs.Common.{◌≡◌, ℕ, ◌+◌, ◌-◌, ◌^◌, min, length, ◌∙◌, ap, sym, arith}
+use Rattle.std.proofs.Common.{◌≡◌, ℕ, ◌+◌, ◌-◌, ◌^◌, min, length, ◌∙◌, ap, arith}
 use Rattle.refutation.specs.Lines.{spaced, pair_words, token_words}
 use Rattle.refutation.proofs.LineLemmas.{length-line_text}
 use Rattle.refutation.proofs.writing.omission_len.Goals as goal

@@ -1,4 +1,4 @@
-use Rattle.std.proofs.Common.{◌++◌, ◌∙◌, length, ap, sym, arith}
+use Rattle.std.proofs.Common.{◌++◌, ◌∙◌, length, ap, arith}
 use Rattle.std.specs.Prelude.{codes}
 use Rattle.refutation.specs.Lines.{spaced, pair_words, token_words}
 use Rattle.refutation.proofs.LineLemmas.{length-line_text, parts_put}

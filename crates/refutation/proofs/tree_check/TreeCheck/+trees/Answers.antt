@@ -1,6 +1,4 @@
-use Rattle.std.proofs.Common.{◌≡◌, ◌<◌, ◌∷◌, [], true, None, length, set, ◌∙◌, ap, sym, subst, refl, arith}
-use Rattle.std.proofs.lemmas.Bool.{not-false}
-use Rattle.std.proofs.lemmas.List.{set-set, set-get_or}
+use Rattle.std.proofs.Common.{◌∷◌, [], None, set, ◌∙◌, ap, sym, subst, arith}
 use Rattle.cov_model.specs.Fits.{FitsModel}
 use Rattle.cov_model.specs.Rows.{contains}
 use Rattle.definitions.specs.Completion.{with_value}

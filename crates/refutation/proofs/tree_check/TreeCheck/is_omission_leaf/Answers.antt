@@ -1,4 +1,4 @@
-use Rattle.std.proofs.Common.{ap, sym, subst, All}
+use Rattle.std.proofs.Common.{sym, subst, All}
 use Rattle.refutation.specs.Checking.{AreOfModel}
 use Rattle.refutation.proofs.tree_check.TreeCheck.is_omission_leaf.Goals as goal
 

@@ -1,4 +1,4 @@
-use Rattle.std.proofs.Common.{◌≡◌, true, false, ◌∙◌, sym, ap, subst}
+use Rattle.std.proofs.Common.{◌∙◌, sym, ap, subst}
 use Rattle.cov_model.specs.Sound.{IsSound}
 use Rattle.refutation.specs.Checking.{has_rule}
 use Rattle.refutation.proofs.LeafLemmas.{has_rule_range, rule_leaf-none, rule_leaf-some}

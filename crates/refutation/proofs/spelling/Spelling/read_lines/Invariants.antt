@@ -1,0 +1,17 @@
+use Rattle.std.proofs.Common.{◌≡◌, ◌+◌, ◌≤◌, length}
+use Rattle.definitions.specs.ProofText.{read_lines}
+use Rattle.refutation.specs.Proofs.{format_of}
+use Rattle.refutation.specs.Reading.{omissions_meant, pieces, with_omissions}
+use Rattle.refutation.proofs.spelling.Spelling.read_lines.Given as goal
+
+abbrev pub decreases-loop-text : goal.decreases-loop-text
+decreases-loop-text l = length l.rest
+
+-- what is read of all lines is what is read of those that are left, behind the omissions so far
+abbrev pub invariant-loop-text : goal.invariant-loop-text
+invariant-loop-text l = record {
+  read : read_lines l.self.model (format_of l.self.form) 2 (pieces 10 l.bytes)
+      ≡ with_omissions (omissions_meant l.omissions) (read_lines l.self.model (format_of l.self.form) l.line (pieces 10 l.rest));
+  counted : length l.omissions + 2 ≡ l.line;
+  within : l.line + length l.rest ≤ length l.bytes + 2;
+}

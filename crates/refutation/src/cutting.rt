@@ -1,0 +1,66 @@
+ghost use Rattle.std.specs.Prelude.{◌≡◌, ◌==◌, ◌<◌, [], ◌∷◌, MatchOption, IfSome, length, position};
+ghost use Rattle.std.specs.List.{after_first, before_first};
+ghost use Rattle.refutation.specs.Reading.{pieces, pieces_left};
+
+use std::marker::Model;
+
+// The place of the first byte that is a mark.
+fn place_of(text: &[u8], mark: u8) -> Option<usize>
+    ensures { result ≡ position (λ b. b == mark) text.now }
+{
+    text.iter().position(|byte| *byte == mark)
+}
+
+// What stands before the first mark and what stands behind it, where there is one.
+pub(crate) fn split_once(text: &[u8], mark: u8) -> Option<(&[u8], &[u8])>
+    ensures pieces { MatchOption result (pieces mark text.now ≡ text.now ∷ []) (λ parts. pieces mark text.now ≡ parts.0.now ∷ pieces mark parts.1.now) }
+    ensures front { MatchOption result (before_first (λ b. b == mark) text.now ≡ text.now) (λ parts. before_first (λ b. b == mark) text.now ≡ parts.0.now) }
+    ensures behind { MatchOption result (after_first (λ b. b == mark) text.now ≡ []) (λ parts. after_first (λ b. b == mark) text.now ≡ parts.1.now) }
+    ensures shorter { IfSome result (λ parts. length parts.1.now < length text.now) }
+{
+    match place_of(text, mark) {
+        Some(end) => Some((&text[..end], &text[end + 1..])),
+        None => None,
+    }
+}
+
+/// The words of a line that are still to be read, which single spaces part. Contracts see their list.
+#[derive(Drop)]
+pub(crate) struct Words<'a> {
+    rest: Option<&'a [u8]>,
+}
+
+impl<'a> Model for Words<'a> {
+    ghost use Rattle.std.specs.Prelude.{List, ℕ, option_copied};
+    ghost use Rattle.refutation.specs.Reading.{pieces_left};
+
+    ghost Value = { List (List ℕ) };
+
+    ghost view = { λ words. pieces_left 32 (option_copied words.rest) };
+}
+
+impl<'a> Words<'a> {
+    // The words of a line.
+    pub(crate) fn of(line: &'a [u8]) -> Words<'a>
+        ensures { result ≡ pieces 32 line.now }
+    {
+        Words { rest: Some(line) }
+    }
+
+    // Takes the next word.
+    pub(crate) fn next(&mut self) -> Option<&'a [u8]>
+        ensures { MatchOption result ((self.old ≡ []) × (self.new ≡ [])) (λ word. self.old ≡ word.now ∷ self.new) }
+    {
+        let text = self.rest?;
+        match split_once(text, b' ') {
+            Some((word, behind)) => {
+                self.rest = Some(behind);
+                Some(word)
+            }
+            None => {
+                self.rest = None;
+                Some(text)
+            }
+        }
+    }
+}
