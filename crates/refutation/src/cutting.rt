@@ -1,4 +1,4 @@
-ghost use Rattle.std.specs.Prelude.{◌≡◌, ◌==◌, ◌<◌, [], ◌∷◌, MatchOption, IfSome, length, position};
+ghost use Rattle.std.specs.Prelude.{◌≡◌, ◌==◌, ◌<◌, ◌^◌, [], ◌∷◌, MatchOption, IfSome, length, position};
 ghost use Rattle.std.specs.List.{after_first, before_first};
 ghost use Rattle.refutation.specs.Reading.{pieces, pieces_left};
 
@@ -22,6 +22,14 @@ pub(crate) fn split_once(text: &[u8], mark: u8) -> Option<(&[u8], &[u8])>
         Some(end) => Some((&text[..end], &text[end + 1..])),
         None => None,
     }
+}
+
+// No fewer than there are pieces of a text between marks, where each has so many bytes or more.
+pub(crate) fn most_pieces(text: &[u8], mark: u8, least: usize) -> usize
+    requires { least < 2 ^ 32 }
+{
+    let marks = text.iter().filter(|byte| **byte == mark).count();
+    marks.min(text.len() / (least + 1)) + 1
 }
 
 /// The words of a line that are still to be read, which single spaces part. Contracts see their list.
@@ -61,6 +69,14 @@ impl<'a> Words<'a> {
                 self.rest = None;
                 Some(text)
             }
+        }
+    }
+
+    // No fewer than there are words with a byte.
+    pub(crate) fn most(&self) -> usize {
+        match self.rest {
+            Some(text) => most_pieces(text, b' ', 1),
+            None => 0,
         }
     }
 }

@@ -24,7 +24,7 @@ mod writing;
 
 pub use checking::tree_ok;
 pub use fault::ProofFault;
-pub use omissions::{Omission, OmissionList, Omissions, ProofForm};
+pub use omissions::{Omission, Omissions, ProofForm};
 pub use reading::read_omissions;
 pub use token::{TreeBuf, TreeToken};
 pub use writing::{format_len, omission_len, put_format, put_omission, write_omission};

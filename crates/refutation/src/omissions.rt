@@ -1,10 +1,14 @@
-ghost use Rattle.std.specs.Prelude.{◌≡◌, ◌==◌, ◌++◌, ◌∷◌, [], length, slice_get, option_copied, OnOk, OnErr};
+ghost use Rattle.std.specs.Prelude.{◌≡◌, ◌==◌, ◌^◌, ◌<◌, ◌++◌, ◌∷◌, [], length, slice_get, option_copied, IfOk, OnOk, OnErr};
+ghost use Rattle.std.specs.Iterator.Adapters.{IterYieldsInOrder};
+ghost use Rattle.std.specs.Slice.Iter.{iter_rest};
+ghost use Rattle.refutation.specs.declared.omissions.Omission.{Omission};
 
 use crate::token::TreeBuf;
 use cov_model::Tuple;
 use std::alloc::Global;
 use std::marker::Model;
-use value_text::{NoMemory, OwnedList};
+use std::slice::Iter;
+use value_text::NoMemory;
 
 /// The format of a proof (this project's rule).
 #[derive(Debug, Drop, Clone, Copy, PartialEq, Eq)]
@@ -38,14 +42,11 @@ pub struct Omission {
     pub tree: TreeBuf,
 }
 
-/// Some omissions, in order.
-pub type OmissionList = OwnedList<Omission>;
-
 /// A proof: its format, and the omitted tuples with their trees, in order. Contracts see both.
 #[derive(Drop)]
 pub struct Omissions {
     format: ProofForm,
-    listed: OmissionList,
+    listed: Vec<Omission>,
 }
 
 impl Model for Omissions {
@@ -53,7 +54,7 @@ impl Model for Omissions {
 
     ghost Value = { ProofView };
 
-    ghost view = { λ a. record { form = a.format; omissions = a.listed } };
+    ghost view = { λ a. record { form = a.format; omissions = a.listed.items } };
 }
 
 impl Omissions {
@@ -63,18 +64,23 @@ impl Omissions {
     {
         Omissions {
             format: form,
-            listed: OwnedList::new(alloc),
+            listed: Vec::new(alloc),
         }
     }
 
-    // A proof of this format with these omissions.
-    pub(crate) fn of(form: ProofForm, omissions: OmissionList) -> Omissions
-        ensures { result ≡ record { form = form; omissions = omissions } }
+    // A proof of this format without omissions, with room for so many.
+    pub(crate) fn with_room(
+        alloc: Global,
+        form: ProofForm,
+        count: usize,
+    ) -> Result<Omissions, NoMemory>
+        ensures { IfOk result (λ proof. proof ≡ record { form = form; omissions = [] }) }
     {
-        Omissions {
+        let listed = Vec::with_capacity(alloc, count)?;
+        Ok(Omissions {
             format: form,
-            listed: omissions,
-        }
+            listed,
+        })
     }
 
     /// The format. Takes no memory.
@@ -91,6 +97,13 @@ impl Omissions {
         self.listed.len()
     }
 
+    /// Whether there is no omission. Takes no memory.
+    pub fn is_empty(&self) -> bool
+        ensures { result ≡ (length self.now.omissions == 0) }
+    {
+        self.listed.is_empty()
+    }
+
     /// The omission at a place, counted from 0, or `None` at and behind the end. Takes no memory.
     pub fn get(&self, i: usize) -> Option<&Omission>
         ensures { option_copied result ≡ slice_get self.now.omissions i }
@@ -105,6 +118,15 @@ impl Omissions {
         self.listed.as_slice()
     }
 
+    /// The omissions, one after another. Takes no memory.
+    pub fn iter(&self) -> Iter<'_, Omission>
+        ensures rest { iter_rest result ≡ self.now.omissions }
+        ensures bound { length (iter_rest result) < 2 ^ 64 }
+        ensures runs { IterYieldsInOrder Omission }
+    {
+        self.listed.iter()
+    }
+
     /// Adds an omission at the end.
     ///
     /// # Errors
@@ -114,6 +136,7 @@ impl Omissions {
         ensures ok { OnOk result (self.new ≡ record { form = self.old.form; omissions = self.old.omissions ++ omission ∷ [] }) }
         ensures err { OnErr result (self.new ≡ self.old) }
     {
-        self.listed.push(omission)
+        self.listed.push(omission)?;
+        Ok(())
     }
 }

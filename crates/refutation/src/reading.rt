@@ -7,14 +7,18 @@ ghost use Rattle.refutation.specs.Checking.{AreOfModel};
 ghost use Rattle.refutation.specs.Proofs.{format_of, meant, omission_meant};
 ghost use Rattle.refutation.specs.Reading.{Gives, LacksTree, LacksTuple, ReadsTree, ReadsTuple, omissions_meant, pieces, proof_meant};
 
-use crate::cutting::{Words, split_once};
+use crate::cutting::{Words, most_pieces, split_once};
 use crate::fault::ProofFault;
-use crate::omissions::{Omission, OmissionList, Omissions, ProofForm};
+use crate::omissions::{Omission, Omissions, ProofForm};
 use crate::spelling::Spelling;
-use crate::token::{TreeBuf, TreeToken};
+use crate::token::TreeBuf;
 use cov_model::{ParamNo, TestModel, Tuple, ValueNo};
+use smallvec::SmallVec;
 use std::alloc::Global;
 use value_text::NoMemory;
+
+// The fewest bytes of the line of an omission, as `omit 0=0 : N`.
+const LEAST_LINE: usize = 12;
 
 // Whether a word is the one that begins the line of an omission.
 fn is_omit(word: &[u8]) -> bool
@@ -60,7 +64,7 @@ impl<'a> Spelling<'a> {
     fn read_pairs(
         &self,
         words: &mut Words,
-        pairs: &mut Vec<(ParamNo, ValueNo)>,
+        pairs: &mut SmallVec<(ParamNo, ValueNo), 8>,
     ) -> Result<bool, NoMemory>
         requires { pairs.old.items ≡ [] }
         ensures { IfOk result (λ read. MatchBool read
@@ -99,7 +103,7 @@ impl<'a> Spelling<'a> {
     fn read_tuple(&self, alloc: Global, words: &mut Words) -> Result<Option<Tuple>, NoMemory>
         ensures { IfOk result (λ read. MatchOption read (LacksTuple self.now.model words.old) (ReadsTuple self.now.model words.old words.new)) }
     {
-        let mut pairs = Vec::new(alloc);
+        let mut pairs = SmallVec::new(alloc);
         if !self.read_pairs(words, &mut pairs)? {
             return Ok(None);
         }
@@ -115,7 +119,7 @@ impl<'a> Spelling<'a> {
         ensures { IfOk result (λ read. MatchOption read (LacksTree self.now.model (format_of self.now.form) words.old)
             (λ tree. ReadsTree self.now.model (format_of self.now.form) words.old (map meant tree))) }
     {
-        let mut tree = TreeBuf::new(alloc);
+        let mut tree = TreeBuf::with_room(alloc, words.most())?;
         if !self.read_tokens(words, &mut tree)? {
             return Ok(None);
         }
@@ -146,26 +150,28 @@ impl<'a> Spelling<'a> {
     }
 
     // Reads the lines from the second one on, of which each is an omission's.
-    fn read_lines(&self, alloc: Global, bytes: &[u8]) -> Result<OmissionList, ProofFault>
+    fn read_lines(&self, alloc: Global, bytes: &[u8]) -> Result<Omissions, ProofFault>
         requires { length bytes.now ≤ 2 ^ 28 }
-        ensures read { Gives omissions_meant result (read_lines self.now.model (format_of self.now.form) 2 (pieces 10 bytes.now)) }
-        ensures few { IfOk result (λ omissions. length omissions ≤ length bytes.now) }
+        ensures read { Gives (λ proof. omissions_meant proof.omissions) result (read_lines self.now.model (format_of self.now.form) 2 (pieces 10 bytes.now)) }
+        ensures form { IfOk result (λ proof. proof.form ≡ self.now.form) }
+        ensures few { IfOk result (λ proof. length proof.omissions ≤ length bytes.now) }
     {
-        let mut omissions = OmissionList::new(alloc);
+        let most = most_pieces(bytes, b'\n', LEAST_LINE);
+        let mut proof = Omissions::with_room(alloc, self.form(), most)?;
         let mut rest = bytes;
         let mut line = 2;
         while let Some((text, behind)) = split_once(rest, b'\n') {
             let Some(omission) = self.read_omission(alloc, text)? else {
                 return Err(ProofFault::Line(line));
             };
-            omissions.push(omission)?;
+            proof.push(omission)?;
             rest = behind;
             line += 1;
         }
         if !rest.is_empty() {
             return Err(ProofFault::Line(line));
         }
-        Ok(omissions)
+        Ok(proof)
     }
 }
 
@@ -195,6 +201,6 @@ pub fn read_omissions(
     let Some(form) = read_format(line) else {
         return Err(ProofFault::Line(1));
     };
-    let omissions = Spelling::new(model, form).read_lines(alloc, rest)?;
-    Ok(Omissions::of(form, omissions))
+    let proof = Spelling::new(model, form).read_lines(alloc, rest)?;
+    Ok(proof)
 }

@@ -70,6 +70,13 @@ impl<'a> Spelling<'a> {
         self.model
     }
 
+    // The format.
+    pub(crate) fn form(&self) -> ProofForm
+        ensures { result ≡ self.now.form }
+    {
+        self.form
+    }
+
     // The parameter whose number a text spells.
     fn read_param(&self, text: &[u8]) -> Option<ParamNo>
         ensures { result ≡ number_where (λ p. nat_lt p (length self.now.model.params)) text.now }

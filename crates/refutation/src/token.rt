@@ -1,8 +1,17 @@
+ghost use Rattle.std.specs.Prelude.{◌≡◌, ◌==◌, ◌^◌, ◌<◌, [], ◌∷◌, ◌++◌, length, slice_get, option_copied, OnOk, OnErr, OnSome, IfOk};
+ghost use Rattle.std.specs.Iterator.Adapters.{IterYieldsInOrder};
+ghost use Rattle.std.specs.Slice.Iter.{iter_rest};
+ghost use Rattle.refutation.specs.declared.token.TreeToken.{TreeToken};
+
 use cov_model::ParamNo;
-use value_text::OwnedList;
+use smallvec::SmallVec;
+use std::alloc::Global;
+use std::marker::Model;
+use std::slice::Iter;
+use value_text::NoMemory;
 
 /// A token of a refutation tree, which is written in preorder (this project's rule).
-#[derive(Debug, Drop, Clone, Copy, PartialEq, Eq)]
+#[derive(Debug, Default, Drop, Clone, Copy, PartialEq, Eq)]
 pub enum TreeToken {
     /// A branch on a parameter: a tree follows for each of its values in declared order, negative
     /// ones too.
@@ -10,10 +19,96 @@ pub enum TreeToken {
     /// A leaf: the constraint of this number is false whatever values are added.
     ByRule(u32),
     /// A leaf: there is a negative value that isn't in the tuple.
+    #[default]
     ByNegative,
     /// A leaf: the omission of this number, counted from 1, has a tuple that is contained.
     ByOmission(u32),
 }
 
-/// The tokens of a tree.
-pub type TreeBuf = OwnedList<TreeToken>;
+/// The tokens of a tree. Contracts see their list.
+///
+/// Most trees of a proof are a leaf, so a few tokens stand in the value itself.
+#[derive(Drop)]
+pub struct TreeBuf {
+    tokens: SmallVec<TreeToken, 2>,
+}
+
+impl Model for TreeBuf {
+    ghost use Rattle.std.specs.Prelude.{List};
+    ghost use Rattle.refutation.specs.declared.token.TreeToken.{TreeToken};
+
+    ghost Value = { List TreeToken };
+
+    ghost view = { λ tree. tree.tokens.items };
+}
+
+impl TreeBuf {
+    /// No tokens. Takes no memory; the list keeps the allocator for what it is given later.
+    pub fn new(alloc: Global) -> Self
+        ensures { result ≡ [] }
+    {
+        TreeBuf {
+            tokens: SmallVec::new(alloc),
+        }
+    }
+
+    // No tokens, with room for so many.
+    pub(crate) fn with_room(alloc: Global, count: usize) -> Result<Self, NoMemory>
+        ensures { IfOk result (λ tree. tree ≡ []) }
+    {
+        let tokens = SmallVec::with_capacity(alloc, count)?;
+        Ok(TreeBuf { tokens })
+    }
+
+    /// The number of tokens. Takes no memory.
+    pub fn len(&self) -> usize
+        ensures { result ≡ length self.now }
+    {
+        self.tokens.len()
+    }
+
+    /// Whether there is no token. Takes no memory.
+    pub fn is_empty(&self) -> bool
+        ensures { result ≡ (length self.now == 0) }
+    {
+        self.tokens.is_empty()
+    }
+
+    /// The tokens, in order. Takes no memory.
+    pub fn as_slice(&self) -> &[TreeToken]
+        ensures { result.now ≡ self.now }
+    {
+        self.tokens.as_slice()
+    }
+
+    /// The token at a place counted from 0; `None` exactly where the place is not below the number of
+    /// tokens. Takes no memory.
+    pub fn get(&self, at: usize) -> Option<&TreeToken>
+        ensures value { option_copied result ≡ slice_get self.now at }
+        ensures within { OnSome result (at < length self.now) }
+    {
+        self.as_slice().get(at)
+    }
+
+    /// The tokens, one after another. Takes no memory.
+    pub fn iter(&self) -> Iter<'_, TreeToken>
+        ensures rest { iter_rest result ≡ self.now }
+        ensures bound { length (iter_rest result) < 2 ^ 64 }
+        ensures runs { IterYieldsInOrder TreeToken }
+    {
+        self.as_slice().iter()
+    }
+
+    /// Adds a token at the end.
+    ///
+    /// # Errors
+    ///
+    /// `NoMemory` where there is no room; the tokens are then as before.
+    pub fn push(&mut self, token: TreeToken) -> Result<(), NoMemory>
+        ensures ok { OnOk result (self.new ≡ self.old ++ token ∷ []) }
+        ensures err { OnErr result (self.new ≡ self.old) }
+    {
+        self.tokens.push(token)?;
+        Ok(())
+    }
+}

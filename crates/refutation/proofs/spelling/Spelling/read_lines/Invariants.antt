@@ -11,7 +11,8 @@ decreases-loop-text l = length l.rest
 abbrev pub invariant-loop-text : goal.invariant-loop-text
 invariant-loop-text l = record {
   read : read_lines l.self.model (format_of l.self.form) 2 (pieces 10 l.bytes)
-      ≡ with_omissions (omissions_meant l.omissions) (read_lines l.self.model (format_of l.self.form) l.line (pieces 10 l.rest));
-  counted : length l.omissions + 2 ≡ l.line;
+      ≡ with_omissions (omissions_meant l.proof.omissions) (read_lines l.self.model (format_of l.self.form) l.line (pieces 10 l.rest));
+  form : l.proof.form ≡ l.self.form;
+  counted : length l.proof.omissions + 2 ≡ l.line;
   within : l.line + length l.rest ≤ length l.bytes + 2;
 }

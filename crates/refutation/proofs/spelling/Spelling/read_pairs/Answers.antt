@@ -14,7 +14,7 @@ loop-word-preserved c =
     let so_far = subst (λ left. ReadSoFar read all left front) (ap (before_first is_colon) c.in-Some.ensures ∙ before_first-no is_colon word c.next.new.self other)
     c.loop-word.invariant.read in
     record {
-      read = subst (ReadSoFar read all (before_first is_colon c.next.new.self)) (sym c.in_ok-push.ensures.items)
+      read = subst (ReadSoFar read all (before_first is_colon c.next.new.self)) (sym c.in_ok-push.ensures.ok)
           (read_more read all (before_first is_colon c.next.new.self) word c.in-Some-read_pair.pair front so_far (sym c.in-Some-read_pair.ensures));
       left = c.loop-word.invariant.left ∙ ap (after_first is_colon) c.in-Some.ensures ∙ after_first-no is_colon word c.next.new.self other;
     }

@@ -5,4 +5,4 @@ use Rattle.refutation.proofs.spelling.Spelling.read_tuple.Goals as goal
 
 pub of-requires : goal.of-requires
 of-requires c =
-    subst IsRising (c.as_slice.ensures.value ∙ sym c.as_slice-2.ensures.value) (rising_is c.as_slice.result.now (sym c.if-not-is_rising.ensures))
+    subst IsRising (c.as_slice.ensures ∙ sym c.as_slice-2.ensures) (rising_is c.as_slice.result.now (sym c.if-not-is_rising.ensures))
