@@ -1,13 +1,11 @@
 -- Constraints that are No on a partial row, and on one that gives more values.
-use Rattle.std.proofs.Common.{◌≡◌, ◌≢◌, ℕ, ◌+◌, ◌-◌, ◌<◌, ◌≤◌, Bool, true, false, not, List, [], ◌∷◌, length, map, filter, Option, Some, None, is_some, get_or, set, replicate, if◌then◌else◌, ◌⊎◌, ◌∙◌, sym, ap, subst, refl, arith, inl, inr}
-use Rattle.std.specs.List.{flat_map, list_any}
-use Rattle.std.proofs.lemmas.Bool.{false≢true, cases_Bool, cases_eq, cases_lt, eqb-true, eq-eqb, false_from_ne_true, not-false}
+use Rattle.std.proofs.Common.{◌≡◌, ℕ, ◌+◌, ◌-◌, ◌<◌, ◌≤◌, Bool, true, false, not, List, [], ◌∷◌, length, filter, Option, Some, None, is_some, get_or, set, replicate, if◌then◌else◌, ◌⊎◌, ◌∙◌, sym, ap, subst, arith, inl, inr}
+use Rattle.std.specs.List.{list_any}
+use Rattle.std.proofs.lemmas.Bool.{false≢true, cases_Bool, cases_eq, cases_lt, false_from_ne_true, not-false}
 use Rattle.std.proofs.lemmas.List.{get_or-replicate, get_or-set_other, get_or-set_same, get_or_default, get_or_past, length-replicate, length-set}
 use Rattle.std.proofs.lemmas.List.Elements.{Contains-get_or}
 use Rattle.std.proofs.lemmas.List.Folds.{Any-from_list_any, list_any_at}
 use Rattle.value_text.proofs.ListLemmas.{Some-unwrap_or}
-use Rattle.cov_model.specs.declared.truth.Truth.{Truth}
-use Rattle.cov_model.specs.declared.truth.Truth.TheVariants.{Yes, No, Unknown}
 use Rattle.cov_model.specs.Sound.{ModelView, IsSound, no_rule, rule_at}
 use Rattle.cov_model.specs.Kleene.{body_truth}
 use Rattle.cov_model.specs.Rows.{is_assigned, value_in}

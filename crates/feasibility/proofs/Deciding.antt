@@ -1,9 +1,8 @@
 -- The constraints that were looked at decide which values are live, and whether a node fails.
-use Rattle.std.proofs.Common.{◌≡◌, ◌≢◌, ℕ, ◌+◌, ◌<◌, ◌≤◌, Bool, true, false, not, ◌&&◌, ◌||◌, List, [], ◌∷◌, ◌++◌, length, Option, Some, None, is_some, get_or, set, replicate, ◌⊎◌, ◌∙◌, sym, ap, subst, refl, arith, inl, inr}
+use Rattle.std.proofs.Common.{◌≡◌, ℕ, ◌<◌, ◌≤◌, Bool, true, false, not, ◌&&◌, List, [], length, Option, Some, None, get_or, ◌⊎◌, ◌∙◌, sym, ap, refl, arith, inl, inr}
 use Rattle.std.specs.List.{count_by, list_any, range_with_len}
-use Rattle.std.proofs.lemmas.Bool.{false≢true, cases_Bool, cases_eq, and_parts, and_from, or_cases, or_from, or_parts, or_left, or_right, false_from_ne_true, not-true, not-false, true_from_ne_false}
+use Rattle.std.proofs.lemmas.Bool.{false≢true, cases_Bool, cases_eq, and_parts, or_cases, or_from, or_parts, or_left, or_right, false_from_ne_true, not-true, not-false, true_from_ne_false}
 use Rattle.std.proofs.lemmas.List.{length-replicate, length-set}
-use Rattle.std.proofs.lemmas.List.FromFn.{get_or-range_with_len, length-range_with_len}
 use Rattle.value_text.proofs.ListLemmas.{Some-unwrap_or}
 use Rattle.cov_model.specs.Sound.{ModelView, IsSound, param_at}
 use Rattle.cov_model.specs.Rows.{is_assigned, value_in}
@@ -11,12 +10,12 @@ use Rattle.cov_model.specs.Valid.{param_numbers}
 use Rattle.definitions.specs.Completion.{with_value}
 use Rattle.definitions.specs.Demand.{is_among}
 use Rattle.definitions.specs.Search.{breaks_a_rule, constrained_params, is_failing, is_stuck}
-use Rattle.definitions.proofs.Members.{Has, among_has, any_member, has_range, of_among, of_any, all_members, of_range}
+use Rattle.definitions.proofs.Members.{Has, among_has, any_member, has_range, of_among, of_any}
 use Rattle.definitions.proofs.SliceLemmas.{has_params, of_params}
 use Rattle.live_sets.specs.Trail.{LiveView, mark_at}
-use Rattle.feasibility.specs.Live.{AreRules, EachHasOne, HasShape, IsStopped, LookedAt, Marks, ShowsListed, ShowsLive, Stops, breaks_one, is_live, no_on, undecided_of}
+use Rattle.feasibility.specs.Live.{AreRules, EachHasOne, HasShape, HasUnmarked, LookedAt, ShowsFailure, ShowsListed, ShowsLive, Stops, breaks_one, is_live, undecided_of}
 use Rattle.feasibility.specs.Tree.{IsListed, ListsValues, no_values, undecided}
-use Rattle.feasibility.proofs.Broken.{IsSettled, breaks_of, broken_stays, longer_alone, longer_none, longer_set, longer_with, settled_by_value, settled_by_values, settled_no, settled_with, shorter_free, told_by}
+use Rattle.feasibility.proofs.Broken.{IsSettled, broken_stays, longer_alone, longer_none, longer_set, longer_with, settled_by_value, settled_by_values, settled_no, settled_with, shorter_free, told_by}
 use Rattle.feasibility.proofs.Growing.{Longer}
 use Rattle.feasibility.proofs.Naming.{first_rules, undecided_exist, undecided_of_exist}
 use Rattle.feasibility.proofs.NarrowedSets.{count_none, count_some}
@@ -92,36 +91,46 @@ decided_free m lists cells numbers old new decides looked =
           ∙ ap not (any_member live (get_or lists q []) found.0 (of_among (get_or lists q []) found.0 parts.0) parts.1)
     ]
 
--- and where looking at them stopped, it does
-pub decided_stops : (m : ModelView) (lists : List (List ℕ)) (cells : List (Option ℕ)) (numbers : List ℕ) (live : List (List Bool)) → ListsValues m lists
-    → Decides m lists cells numbers live
-    → Stops m cells live → is_failing m lists cells ≡ true
-decided_stops m lists cells numbers live good decides (inl broken) =
-    or_left (breaks_a_rule m cells) (list_any (is_stuck m lists cells) (param_numbers m)) broken
-decided_stops m lists cells numbers live good decides (inr stopped) =
-    stuck_fails m lists cells stopped.param stopped.exists stopped.free each
+-- where looking at them stopped, the sets show why
+pub decided_why : (m : ModelView) (lists : List (List ℕ)) (cells : List (Option ℕ)) (numbers : List ℕ) (old new : LiveView)
+    → Decides m lists cells numbers old.live → Stops m cells old new → ShowsFailure m lists cells new
+decided_why m lists cells numbers old new decides stops = record {
+  shape = stops.shape;
+  dead = λ q w low inside free listed gone. elim (cases_Bool (mark_at old.live q w)) [
+    | inl marked ↦ stops.taken q w low inside free marked gone
+    | inr unmarked ↦
+        not-false (breaks_a_rule m (with_value cells q w))
+        (ap (λ (b : Bool). b && not (breaks_a_rule m (with_value cells q w))) (sym listed) ∙ decides.marks q w low inside free
+        ∙ ap (λ (b : Bool). b && not (breaks_one m numbers (with_value cells q w))) unmarked)
+  ];
+  why = stops.why;
+}
+
+-- and a node of which they show it fails
+pub shown_fails : (m : ModelView) (lists : List (List ℕ)) (cells : List (Option ℕ)) (sets : LiveView) → ListsValues m lists
+    → ShowsFailure m lists cells sets → is_failing m lists cells ≡ true
+shown_fails m lists cells sets good shows = by_reason shows.why
   where
-    each : (w : ℕ) → Has (get_or lists stopped.param []) w → breaks_a_rule m (with_value cells stopped.param w) ≡ true
-    each w listed =
-        let among = among_has (get_or lists stopped.param []) w listed in
-        let inside = good.exist stopped.param w among in
-        elim (cases_Bool (mark_at live stopped.param w)) [
-          | inl marked ↦ stopped.each w inside marked
-          | inr unmarked ↦
-              let dead = decides.marks stopped.param w stopped.exists inside stopped.free
-              ∙ ap (λ (b : Bool). b && not (breaks_one m numbers (with_value cells stopped.param w))) unmarked in
-              not-false (breaks_a_rule m (with_value cells stopped.param w))
-              (ap (λ (b : Bool). b && not (breaks_a_rule m (with_value cells stopped.param w))) (sym among) ∙ dead)
-        ]
+    by_reason : (breaks_a_rule m cells ≡ true) ⊎ HasUnmarked m cells sets.live → is_failing m lists cells ≡ true
+    by_reason (inl broken) = or_left (breaks_a_rule m cells) (list_any (is_stuck m lists cells) (param_numbers m)) broken
+    by_reason (inr none) =
+        stuck_fails m lists cells none.param none.exists none.free (λ w listed.
+        let among = among_has (get_or lists none.param []) w listed in
+        shows.dead none.param w none.exists (good.exist none.param w among) none.free among (count_none (get_or sets.live none.param []) w none.unmarked))
+
+pub decided_stops : (m : ModelView) (lists : List (List ℕ)) (cells : List (Option ℕ)) (numbers : List ℕ) (old new : LiveView) → ListsValues m lists
+    → Decides m lists cells numbers old.live → Stops m cells old new → is_failing m lists cells ≡ true
+decided_stops m lists cells numbers old new good decides stops =
+    shown_fails m lists cells new good (decided_why m lists cells numbers old new decides stops)
 
 -- so what looking at them answers tells whether the node fails
 pub decided_answer : (m : ModelView) (lists : List (List ℕ)) (cells : List (Option ℕ)) (numbers : List ℕ) (old new : LiveView) (whole : Bool)
     → ListsValues m lists
-    → Decides m lists cells numbers old.live → (whole ≡ true → LookedAt m numbers cells old new) → (whole ≡ false → Stops m cells old.live)
+    → Decides m lists cells numbers old.live → (whole ≡ true → LookedAt m numbers cells old new) → (whole ≡ false → Stops m cells old new)
     → whole ≡ not (is_failing m lists cells)
 decided_answer m lists cells numbers old new true good decides looked stops = sym (ap not (decided_free m lists cells numbers old new decides (looked refl)))
 decided_answer m lists cells numbers old new false good decides looked stops =
-    sym (ap not (decided_stops m lists cells numbers old.live good decides (stops refl)))
+    sym (ap not (decided_stops m lists cells numbers old new good decides (stops refl)))
 
 -- all constraints decide, from the listed values
 pub listed_decide : (m : ModelView) (lists : List (List ℕ)) (cells : List (Option ℕ)) (sets : LiveView) → ShowsListed m lists sets
@@ -141,14 +150,14 @@ listed_decide m lists cells sets shows = record {
         (λ k some most away. absurd (false≢true (sym away ∙ listed k some most)))
 
 -- a parameter without a mark
-pub empty_stops : (m : ModelView) (cells : List (Option ℕ)) (live : List (List Bool)) (q : ℕ) → q < length m.params → is_assigned cells q ≡ false
-    → count_by (λ mark. mark) (get_or live q []) ≡ 0 → Stops m cells live
-empty_stops m cells live q within free none = inr (record {
-  param = q;
-  exists = within;
-  free = free;
-  each = λ w inside marked. absurd (false≢true (sym (count_none (get_or live q []) w none) ∙ marked));
-})
+pub empty_stops : (m : ModelView) (cells : List (Option ℕ)) (sets : LiveView) (q : ℕ) → HasShape m sets.live → q < length m.params
+    → is_assigned cells q ≡ false
+    → count_by (λ mark. mark) (get_or sets.live q []) ≡ 0 → Stops m cells sets sets
+empty_stops m cells sets q shape within free none = record {
+  shape = shape;
+  taken = λ s w low inside unset was gone. absurd (false≢true (sym gone ∙ was));
+  why = inr (record { param = q; exists = within; free = free; unmarked = none });
+}
 
 -- constraints by which a longer row is settled decide, from the live values before
 pub settled_decide : (m : ModelView) (lists : List (List ℕ)) (before after : List (Option ℕ)) (numbers : List ℕ) (sets : LiveView)

@@ -2,7 +2,7 @@
 use Rattle.std.proofs.Common.{◌≡◌, ℕ, zero, suc, ◌+◌, ◌<◌, ◌≤◌, Bool, true, false, not, ◌||◌, ◌==◌, cond, List, [], ◌∷◌, map, length, Option, Some, None, is_some, find, get_or, ◌∙◌, sym, ap, subst, refl, arith, inl, inr, eq-eqb, zero-add}
 use Rattle.std.specs.List.{filter, list_any, range_with_len}
 use Rattle.std.proofs.lemmas.Bool.{false≢true, cases_lt, cases_eq, eqb-true, false_from_ne_true}
-use Rattle.std.proofs.lemmas.List.{get_or-set_other, get_or-set_same, get_or_past, length-set}
+use Rattle.std.proofs.lemmas.List.{get_or-set_other, get_or-set_same, get_or_past}
 use Rattle.std.proofs.lemmas.List.Folds.{list_any_at}
 use Rattle.std.proofs.lemmas.List.Sorted.{list_any-IsPermutation}
 use Rattle.std.proofs.lemmas.List.FromFn.{length-range_with_len, get_or-range_with_len, length-map-range_with_len, get_or-map-range_with_len}
@@ -158,7 +158,7 @@ preferred_listed m pref slice p v listed =
     ]
 
 -- and each value of the slice is listed
-slice_listed : (m : ModelView) (pref : List (List ℕ)) (slice : Slice) (p v : ℕ) → ArePreferences m pref → IsSliceOf m slice
+pub slice_listed : (m : ModelView) (pref : List (List ℕ)) (slice : Slice) (p v : ℕ) → ArePreferences m pref → IsSliceOf m slice
     → is_among (get_or (slice_values m slice) p []) v ≡ true → is_among (get_or (preferred_values m pref slice) p []) v ≡ true
 slice_listed m pref slice p v are is listed =
     elim (cases_lt p (length m.params)) [

@@ -11,3 +11,9 @@ pub mod Broken
 pub mod Looking
 pub mod Deciding
 pub mod ListedSets
+pub mod Leaves
+pub mod AddedTrees
+pub mod Costs
+pub mod Paths
+pub mod TuplePairs
+pub mod SolverTrees

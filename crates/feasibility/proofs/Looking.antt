@@ -1,26 +1,24 @@
 -- What looking at constraints takes away, and when it stops.
-use Rattle.std.proofs.Common.{◌≡◌, ◌≢◌, ℕ, ◌+◌, ◌<◌, ◌≤◌, Bool, true, false, not, ◌&&◌, ◌||◌, ◌==◌, List, [], ◌∷◌, ◌++◌, length, Option, Some, None, is_some, get_or, set, All, ◌⊎◌, ◌∙◌, sym, ap, subst, refl, arith, inl, inr}
-use Rattle.std.specs.List.{count_by, filter, list_any, range_with_len}
+use Rattle.std.proofs.Common.{◌≡◌, ◌≢◌, ℕ, ◌<◌, ◌≤◌, Bool, true, false, not, ◌&&◌, ◌||◌, ◌==◌, List, [], ◌∷◌, ◌++◌, length, Option, Some, get_or, ◌∙◌, sym, ap, subst, refl, arith, inl, inr}
+use Rattle.std.specs.List.{count_by, range_with_len}
 use Rattle.std.proofs.Math.Bool.{and-true}
-use Rattle.std.proofs.lemmas.Bool.{false≢true, cases_Bool, cases_eq, and_from, and_left, or_from, eq-eqb, false_from_ne_true, ne_eqb}
-use Rattle.std.proofs.lemmas.List.Elements.{All-nil, All-cons}
+use Rattle.std.proofs.lemmas.Bool.{false≢true, cases_Bool, cases_eq, and_left, or_from, eq-eqb, false_from_ne_true, ne_eqb}
 use Rattle.std.proofs.lemmas.List.Folds.{list_any-append}
 use Rattle.cov_model.specs.Sound.{ModelView, param_at, rule_at}
 use Rattle.cov_model.specs.Kleene.{body_truth}
 use Rattle.cov_model.specs.Rows.{is_assigned}
 use Rattle.definitions.specs.Completion.{with_value}
 use Rattle.definitions.specs.Demand.{is_among}
-use Rattle.definitions.specs.Search.{body_params, breaks_a_rule, is_no}
-use Rattle.definitions.proofs.Members.{among_has, has_filter, has_range, of_among}
+use Rattle.definitions.specs.Search.{body_params, is_no}
+use Rattle.definitions.proofs.Members.{among_has, has_filter, has_range}
 use Rattle.compiled_rules.specs.Codes.{is_yes}
 use Rattle.live_sets.specs.Trail.{LiveView, mark_at, IsSince}
 use Rattle.live_sets.proofs.TrailLemmas.{since_self, since_more}
-use Rattle.feasibility.specs.Live.{AreRules, EachHasOne, HasShape, IsStopped, LookedAt, Narrowed, Stops, breaks_one, no_on}
+use Rattle.feasibility.specs.Live.{AreRules, EachHasOne, HasShape, LookedAt, Narrowed, Stops, breaks_one, no_on}
 use Rattle.feasibility.specs.Tree.{members}
 use Rattle.feasibility.proofs.Broken.{breaks_by, breaks_of, longer_set}
 use Rattle.feasibility.proofs.Growing.{not_no, stays_body, yes_from_yes}
 use Rattle.feasibility.proofs.Local.{agree_set, local_body}
-use Rattle.feasibility.proofs.NarrowedSets.{count_none}
 
 -- no constraint
 pub looked_none : (m : ModelView) (cells : List (Option ℕ)) (sets : LiveView) → HasShape m sets.live → EachHasOne m cells sets.live
@@ -144,27 +142,51 @@ ahead_more m k cells done q old now new to within unset narrowed some = record {
     again true false c = refl
     again false b c = refl
 
+-- a constraint that is No
+pub broken_stops : (m : ModelView) (k : ℕ) (cells : List (Option ℕ)) (sets : LiveView) → 0 < k → k ≤ length m.rules → HasShape m sets.live
+    → no_on m cells k ≡ true → Stops m cells sets sets
+broken_stops m k cells sets least most shape broken = record {
+  shape = shape;
+  taken = λ q w low inside free was gone. absurd (false≢true (sym gone ∙ was));
+  why = inl (breaks_by m cells k least most broken);
+}
+
 -- one of which no value is left
 pub ahead_stops : (m : ModelView) (k : ℕ) (cells : List (Option ℕ)) (done : List ℕ) (q : ℕ) (old now new : LiveView) → 0 < k → k ≤ length m.rules
     → AheadTo m k cells done old now
     → q < length m.params → is_assigned cells q ≡ false → Narrowed m k q cells now new → count_by (λ mark. mark) (get_or new.live q []) ≡ 0
-    → Stops m cells old.live
-ahead_stops m k cells done q old now new least most to within unset narrowed none = inr (record {
-  param = q;
-  exists = within;
-  free = unset;
-  each = λ w inside marked.
-      breaks_by m (with_value cells q w) k least most
-      (was_no (mark_at old.live q w) (is_among done q) (no_on m (with_value cells q w) k) marked
-      (ap (λ (b : Bool). b && not (no_on m (with_value cells q w) k)) (sym (to.marks q w within inside unset)) ∙ sym (narrowed.below w inside)
-      ∙ count_none (get_or new.live q []) w none));
-})
+    → Stops m cells old new
+ahead_stops m k cells done q old now new least most to within unset narrowed none = record {
+  shape = narrowed.shape;
+  taken = λ s w low inside free was gone. breaks_by m (with_value cells s w) k least most (elim (cases_eq s q) [
+    | inl same ↦
+        ap (λ (p : ℕ). no_on m (with_value cells p w) k) same
+        ∙ here w (subst (λ (p : ℕ). w < length (param_at m.params p).values) same inside)
+        (ap (λ (p : ℕ). mark_at old.live p w) (sym same) ∙ was) (ap (λ (p : ℕ). mark_at new.live p w) (sym same) ∙ gone)
+    | inr differs ↦
+        before_no (mark_at old.live s w) (is_among done s) (no_on m (with_value cells s w) k) was
+        (sym (ap (λ (list : List Bool). get_or list w false) (narrowed.others s differs) ∙ to.marks s w low inside free) ∙ gone)
+  ]);
+  why = inr (record { param = q; exists = within; free = unset; unmarked = none });
+}
   where
     was_no : (a b c : Bool) → a ≡ true → ((a && not (b && c)) && not c) ≡ false → c ≡ true
     was_no a b true h gone = refl
     was_no true true false h gone = absurd (false≢true (sym gone))
     was_no true false false h gone = absurd (false≢true (sym gone))
     was_no false b false h gone = absurd (false≢true h)
+
+    before_no : (a b c : Bool) → a ≡ true → (a && not (b && c)) ≡ false → c ≡ true
+    before_no a b true h gone = refl
+    before_no true true false h gone = absurd (false≢true (sym gone))
+    before_no true false false h gone = absurd (false≢true (sym gone))
+    before_no false b false h gone = absurd (false≢true h)
+
+    here : (w : ℕ) → w < length (param_at m.params q).values → mark_at old.live q w ≡ true → mark_at new.live q w ≡ false
+        → no_on m (with_value cells q w) k ≡ true
+    here w inside was gone =
+        was_no (mark_at old.live q w) (is_among done q) (no_on m (with_value cells q w) k) was
+        (ap (λ (b : Bool). b && not (no_on m (with_value cells q w) k)) (sym (to.marks q w within inside unset)) ∙ sym (narrowed.below w inside) ∙ gone)
 
 -- all that it names
 pub ahead_all : (m : ModelView) (k : ℕ) (cells : List (Option ℕ)) (done : List ℕ) (old new : LiveView) → no_on m cells k ≡ false
@@ -197,18 +219,21 @@ ahead_all m k cells done old new unbroken whole to = record {
         ∙ unbroken
 
 -- what stops after some constraints were looked at stops from the start
-pub stops_before : (m : ModelView) (numbers : List ℕ) (cells : List (Option ℕ)) (old now : LiveView) → AreRules m numbers → LookedAt m numbers cells old now
-    → Stops m cells now.live → Stops m cells old.live
-stops_before m numbers cells old now exist to (inl broken) = inl broken
-stops_before m numbers cells old now exist to (inr stopped) = inr (record {
-  param = stopped.param;
-  exists = stopped.exists;
-  free = stopped.free;
-  each = λ w inside marked. elim (cases_Bool (breaks_one m numbers (with_value cells stopped.param w))) [
-    | inl broken ↦ breaks_of m numbers (with_value cells stopped.param w) exist broken
-    | inr unbroken ↦
-        stopped.each w inside
-        (to.marks stopped.param w stopped.exists inside stopped.free
-        ∙ and_from (mark_at old.live stopped.param w) (not (breaks_one m numbers (with_value cells stopped.param w))) marked (ap not unbroken))
+pub stops_before : (m : ModelView) (numbers : List ℕ) (cells : List (Option ℕ)) (old now new : LiveView) → AreRules m numbers
+    → LookedAt m numbers cells old now
+    → Stops m cells now new → Stops m cells old new
+stops_before m numbers cells old now new exist to stops = record {
+  shape = stops.shape;
+  taken = λ q w low inside free was gone. elim (cases_Bool (mark_at now.live q w)) [
+    | inl marked ↦ stops.taken q w low inside free marked gone
+    | inr unmarked ↦
+        breaks_of m numbers (with_value cells q w) exist
+        (was_broken (mark_at old.live q w) (breaks_one m numbers (with_value cells q w)) was (sym (to.marks q w low inside free) ∙ unmarked))
   ];
-})
+  why = stops.why;
+}
+  where
+    was_broken : (a b : Bool) → a ≡ true → (a && not b) ≡ false → b ≡ true
+    was_broken a true h gone = refl
+    was_broken true false h gone = absurd (false≢true (sym gone))
+    was_broken false false h gone = absurd (false≢true h)

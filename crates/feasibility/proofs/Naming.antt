@@ -1,13 +1,12 @@
 -- Which constraints name a parameter.
-use Rattle.std.proofs.Common.{◌≡◌, ℕ, ◌+◌, ◌-◌, ◌<◌, ◌≤◌, Bool, true, false, not, ◌||◌, ◌==◌, cond, if◌then◌else◌, ◌++◌, List, [], ◌∷◌, map, take, length, append-nil, Option, is_some, unwrap_or, Some, None, get_or, set, All, ◌∙◌, sym, ap, subst, refl, arith, eq-eqb, zero-add}
+use Rattle.std.proofs.Common.{◌≡◌, ℕ, ◌+◌, ◌<◌, ◌≤◌, Bool, true, false, not, ◌||◌, ◌==◌, cond, if◌then◌else◌, ◌++◌, List, [], ◌∷◌, map, take, length, append-nil, Option, is_some, unwrap_or, Some, None, get_or, All, ◌∙◌, sym, ap, subst, refl, arith, zero-add}
 use Rattle.std.specs.List.{filter, list_any, range_with_len}
-use Rattle.std.proofs.lemmas.Bool.{false≢true, or_parts}
 use Rattle.std.proofs.lemmas.List.{take_more}
 use Rattle.std.proofs.lemmas.Grind.{flat_map-append}
 use Rattle.std.proofs.lemmas.List.Elements.{All-append, All-filter, All-map, All-nil, filter-append}
 use Rattle.std.proofs.lemmas.List.Folds.{list_any-append}
-use Rattle.std.proofs.lemmas.List.FromFn.{length-map-range_with_len, get_or-map-range_with_len}
-use Rattle.value_text.proofs.ListLemmas.{range_with_len_more}
+use Rattle.std.proofs.lemmas.List.FromFn.{length-map-range_with_len, length-range_with_len, get_or-map-range_with_len}
+use Rattle.value_text.proofs.ListLemmas.{length-filter-le, range_with_len_more}
 use Rattle.cov_model.specs.declared.constraint.Rule.{Rule}
 use Rattle.cov_model.specs.Views.{BodyView, RuleView, body_view, each_is, either_is, pred_view, preds_in, rule_view}
 use Rattle.cov_model.specs.Sound.{ModelView, IsSound, param_at, rule_at}
@@ -122,6 +121,10 @@ pub constrained_exists : (m : ModelView) (i : ℕ) → i < length (constrained_p
 constrained_exists m i within =
     All-filter (is_named m) (λ q. q < length m.params) (param_numbers m)
     (members_are (λ q. q < length m.params) (param_numbers m) (λ q has. of_params m q has)) i 0 within
+
+-- there are few constrained parameters
+pub constrained_few : (m : ModelView) → IsSound m → length (constrained_params m) ≤ 256
+constrained_few m sound = omega (arith, length-filter-le (is_named m) (param_numbers m), length-range_with_len 0 (length m.params), sound.few)
 
 -- what is kept of a constrained parameter
 pub record HasUndecided (m : ModelView) (p v : ℕ) (entry : Constrained) : Type 0 where

@@ -8,9 +8,8 @@ use Rattle.std.proofs.lemmas.List.Sums.{sum_by-cons}
 use Rattle.bit_table.specs.Marks.{NoneSet}
 use Rattle.cov_model.specs.Sound.{ModelView, param_at}
 use Rattle.definitions.specs.Completion.{with_value}
-use Rattle.live_sets.specs.declared.sets.Taken.{Taken}
 use Rattle.live_sets.specs.Trail.{LiveView, mark_at, with_mark, IsSince}
-use Rattle.live_sets.proofs.TrailLemmas.{since_self, since_more, since_taken}
+use Rattle.live_sets.proofs.TrailLemmas.{since_more, since_taken}
 use Rattle.feasibility.specs.Live.{HasShape, NarrowedTo, no_on}
 
 -- values without a mark are passed over

@@ -1,19 +1,13 @@
 -- Nodes of a search: what setting, clearing and filling cells gives.
-use Rattle.std.proofs.Common.{◌≡◌, ℕ, zero, suc, ◌+◌, ◌<◌, ◌≤◌, Bool, true, false, not, ◌&&◌, ◌||◌, ◌==◌, List, [], ◌∷◌, ◌++◌, take, length, Option, Some, None, is_some, unwrap_or, get_or, set, ◌∙◌, sym, ap, subst, refl, arith, inl, inr, eq-eqb, zero-add}
-use Rattle.std.specs.List.{list_any, range_with_len}
-use Rattle.std.proofs.lemmas.Bool.{false≢true, cases_eq}
-use Rattle.std.proofs.lemmas.List.{map-id, get_or-set_other, get_or-set_same, get_or_default, length-set, same_lists, set-get_or, set-set}
-use Rattle.std.proofs.lemmas.List.Folds.{list_any_at, list_any_more, list_any-append}
-use Rattle.std.proofs.lemmas.List.FromFn.{length-range_with_len, get_or-range_with_len, map-range_with_len_more}
-use Rattle.cov_model.specs.Sound.{ModelView, IsSound, param_at, rule_at}
-use Rattle.cov_model.specs.Rows.{is_assigned}
-use Rattle.cov_model.specs.Valid.{param_numbers}
+use Rattle.std.proofs.Common.{◌≡◌, ℕ, zero, suc, ◌+◌, ◌<◌, ◌≤◌, true, ◌==◌, List, [], ◌∷◌, length, Option, Some, None, is_some, unwrap_or, get_or, set, ◌∙◌, sym, ap, subst, refl, arith, inl, inr, eq-eqb}
+use Rattle.std.proofs.lemmas.Bool.{cases_eq}
+use Rattle.std.proofs.lemmas.List.{get_or-set_other, get_or-set_same, get_or_default, length-set, same_lists, set-get_or, set-set}
+use Rattle.std.proofs.lemmas.List.Folds.{list_any_at}
+use Rattle.cov_model.specs.Sound.{ModelView, param_at}
 use Rattle.cov_model.specs.Fits.{FitsModel}
 use Rattle.definitions.specs.Completion.{with_value}
 use Rattle.definitions.specs.Demand.{is_among}
-use Rattle.definitions.specs.Search.{breaks_a_rule, is_no, is_stuck, is_failing}
 use Rattle.feasibility.specs.Path.{filled, filled_cell}
-use Rattle.feasibility.specs.Tree.{ListsValues, naming}
 pub use Rattle.feasibility.proofs.Local.{none_of}
 
 -- a cell that is set and cleared is as before

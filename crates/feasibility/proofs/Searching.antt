@@ -23,7 +23,7 @@ use Rattle.definitions.specs.Completion.{with_value, meets_rules}
 use Rattle.definitions.specs.Search.{Outcome, body_params, breaks_a_rule, is_no, is_stuck, is_failing, try_values, visit}
 use Rattle.feasibility.specs.Tree.{ListsValues, IsListed, is_named}
 use Rattle.feasibility.specs.Path.{filled, reached, reached_by}
-use Rattle.feasibility.proofs.Completing.{tried, tried_same, among_head, among_tail, first_of, IsFree, Decided, first_of-branch, IsCompletion, first_of-none, CanBeFilled, filled_is_completion, first_of-filled, completion_contains, completion_length, completion_gives}
+use Rattle.feasibility.proofs.Completing.{tried, tried_same, first_of, IsFree, Decided, first_of-branch, IsCompletion, first_of-none, CanBeFilled, filled_is_completion, first_of-filled, completion_contains, completion_length, completion_gives}
 use Rattle.feasibility.proofs.Local.{AgreeOn, agree_each, local_body}
 
 -- a row on which every constraint holds contains no partial row on which some constraint is No
@@ -41,7 +41,7 @@ broken_fails m (rule ∷ rules) cells row contained broken =
     by_case Unknown is h later = and_right (body_holds m rule.body row) (list_all (λ rule. body_holds m rule.body row) rules) (later h)
 
 -- a row contains the partial row with one of its own values put in
-contains-with_value : (row cells : List (Option ℕ)) (p v : ℕ) → contains row cells ≡ true → get_or row p None ≡ Some v
+pub contains-with_value : (row cells : List (Option ℕ)) (p v : ℕ) → contains row cells ≡ true → get_or row p None ≡ Some v
     → contains row (with_value cells p v) ≡ true
 contains-with_value row cells p v contained gives = contains-from row (with_value cells p v) (λ q assigned.
     elim (cases_eq q p) [

@@ -1,7 +1,7 @@
 -- The visit of a node: what it answers, and what is left of the budget.
 use Rattle.std.proofs.Common.{◌≡◌, ℕ, suc, ◌+◌, ◌-◌, ◌<◌, ◌≤◌, Bool, true, false, not, if◌then◌else◌, nat_lt, List, [], ◌∷◌, length, drop, get_or, Option, None, is_some, ◌∙◌, sym, ap, subst, refl, arith, inl, inr}
 use Rattle.std.proofs.lemmas.Bool.{cases_lt, le-ltb, lt-ltb}
-use Rattle.std.proofs.lemmas.List.{at_drop_all, drop_all, drop_more}
+use Rattle.std.proofs.lemmas.List.{drop_all, drop_more}
 use Rattle.cov_model.specs.Sound.{ModelView}
 use Rattle.cov_model.specs.Rows.{is_assigned}
 use Rattle.definitions.specs.Completion.{with_value}
@@ -24,10 +24,10 @@ no_spent : No ≡ Spent → ⊥
 no_spent e = cc
 
 -- the answer where the budget is enough, and where it isn't
-answer_enough : (found : Bool) (cost budget : ℕ) → cost ≤ budget → answer_of found cost budget ≡ (if found then Yes else No)
+pub answer_enough : (found : Bool) (cost budget : ℕ) → cost ≤ budget → answer_of found cost budget ≡ (if found then Yes else No)
 answer_enough found cost budget enough = ap (λ (k : Bool). if k then Spent else if found then Yes else No) (le-ltb budget cost enough)
 
-answer_spent : (found : Bool) (cost budget : ℕ) → budget < cost → answer_of found cost budget ≡ Spent
+pub answer_spent : (found : Bool) (cost budget : ℕ) → budget < cost → answer_of found cost budget ≡ Spent
 answer_spent found cost budget over = ap (λ (k : Bool). if k then Spent else if found then Yes else No) (lt-ltb budget cost over)
 
 -- what an answer tells of the outcome
@@ -57,7 +57,7 @@ told_no found cost budget told =
     by_found true e = absurd (yes_no (sym e))
     by_found false e = refl
 
-told_spent : (found : Bool) (cost budget : ℕ) → Spent ≡ answer_of found cost budget → budget < cost
+pub told_spent : (found : Bool) (cost budget : ℕ) → Spent ≡ answer_of found cost budget → budget < cost
 told_spent found cost budget told =
     elim (cases_lt budget cost) [
       | inl over ↦ over
@@ -99,7 +99,7 @@ told_over m lists params cells path budget none =
     }
 
 -- a node that fails costs one, whichever parameters are left
-failing_outcome : (m : ModelView) (lists : List (List ℕ)) (params : List ℕ) (cells : List (Option ℕ)) → is_failing m lists cells ≡ true
+pub failing_outcome : (m : ModelView) (lists : List (List ℕ)) (params : List ℕ) (cells : List (Option ℕ)) → is_failing m lists cells ≡ true
     → visit m lists params cells ≡ record { found = false; cost = 1 }
 failing_outcome m lists [] cells fails = ap (λ (b : Bool). record { found = not b; cost = 1 }) fails
 failing_outcome m lists (p ∷ params) cells fails = by_case (is_assigned cells p) (failing_outcome m lists params cells fails)

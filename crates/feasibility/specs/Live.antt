@@ -1,6 +1,6 @@
 -- The values of the parameters that are live on a path, and what looking at constraints tells of them. (This
 -- project's rule.)
-use Rattle.std.specs.Prelude.{◌≡◌, ◌≢◌, ℕ, ◌<◌, ◌≤◌, Bool, true, false, ◌&&◌, not, List, [], ◌++◌, length, Option, slice_index_or, All, ◌⊎◌, if◌then◌else◌}
+use Rattle.std.specs.Prelude.{◌≡◌, ◌≢◌, ℕ, ◌<◌, ◌≤◌, Bool, true, false, ◌&&◌, not, List, [], length, Option, slice_index_or, All, ◌⊎◌, if◌then◌else◌}
 use Rattle.std.specs.List.{count_by, flat_map, list_any}
 use Rattle.cov_model.specs.Sound.{ModelView, param_at, rule_at}
 use Rattle.cov_model.specs.Rows.{is_assigned, value_in}
@@ -72,16 +72,28 @@ pub record LookedAt (m : ModelView) (numbers : List ℕ) (cells : List (Option �
   pub left : EachHasOne m cells new.live
   pub since : IsSince old new
 
--- with each marked value of some parameter without a value a constraint is No
-pub record IsStopped (m : ModelView) (cells : List (Option ℕ)) (live : List (List Bool)) : Type 0 where
+-- some parameter without a value has no mark
+pub record HasUnmarked (m : ModelView) (cells : List (Option ℕ)) (live : List (List Bool)) : Type 0 where
   pub param : ℕ
   pub exists : param < length m.params
   pub free : is_assigned cells param ≡ false
-  pub each : (w : ℕ) → w < length (param_at m.params param).values → mark_at live param w ≡ true → breaks_a_rule m (with_value cells param w) ≡ true
+  pub unmarked : count_by (λ mark. mark) (slice_index_or live param []) ≡ 0
 
--- so the node fails, as it does where a constraint is No
-abbrev pub Stops : ModelView → List (Option ℕ) → List (List Bool) → Type 0
-Stops m cells live = (breaks_a_rule m cells ≡ true) ⊎ IsStopped m cells live
+-- only values were taken away with which a constraint is No, and then a constraint is No, or some parameter without
+-- a value has no mark: so the node fails
+pub record Stops (m : ModelView) (cells : List (Option ℕ)) (old new : LiveView) : Type 0 where
+  pub shape : HasShape m new.live
+  pub taken : (q w : ℕ) → q < length m.params → w < length (param_at m.params q).values → is_assigned cells q ≡ false
+      → mark_at old.live q w ≡ true → mark_at new.live q w ≡ false → breaks_a_rule m (with_value cells q w) ≡ true
+  pub why : (breaks_a_rule m cells ≡ true) ⊎ HasUnmarked m cells new.live
+
+-- the sets show why a node fails: with each listed value without a mark a constraint is No, and a constraint is No,
+-- or some parameter without a value has no mark
+pub record ShowsFailure (m : ModelView) (lists : List (List ℕ)) (cells : List (Option ℕ)) (sets : LiveView) : Type 0 where
+  pub shape : HasShape m sets.live
+  pub dead : (q w : ℕ) → q < length m.params → w < length (param_at m.params q).values → is_assigned cells q ≡ false
+      → is_among (slice_index_or lists q []) w ≡ true → mark_at sets.live q w ≡ false → breaks_a_rule m (with_value cells q w) ≡ true
+  pub why : (breaks_a_rule m cells ≡ true) ⊎ HasUnmarked m cells sets.live
 
 -- the constraints that the values of some parameters leave undecided
 abbrev pub undecided_of : ModelView → List (Option ℕ) → List ℕ → List ℕ

@@ -1,5 +1,5 @@
 -- The solver that contracts see. (This project's rule.)
-use Rattle.std.specs.Prelude.{◌≡◌, ℕ, Bool, false, List, length, Option}
+use Rattle.std.specs.Prelude.{◌≡◌, ℕ, Bool, true, false, List, length, Option}
 use Rattle.cov_model.specs.declared.slice.Slice.{Slice}
 use Rattle.cov_model.specs.Sound.{ModelView}
 use Rattle.cov_model.specs.Preference.{OrdersValues}
@@ -7,7 +7,7 @@ use Rattle.definitions.specs.Completion.{preferred_values}
 use Rattle.definitions.specs.Search.{is_failing}
 use Rattle.definitions.specs.SliceRows.{IsSliceOf}
 use Rattle.live_sets.specs.Trail.{LiveView}
-use Rattle.feasibility.specs.Live.{ShowsLive}
+use Rattle.feasibility.specs.Live.{ShowsFailure, ShowsLive}
 use Rattle.feasibility.specs.Tree.{no_values}
 
 -- a solver answers questions about one slice of a model, and completes by these preferences
@@ -16,10 +16,11 @@ pub record SolverView : Type 0 where
   pub prefs : List (List ℕ)
   pub slice : Slice
 
--- it is told whether the node without values fails; where it doesn't, the sets show the values that are live there
+-- it is told whether the node without values fails; the sets show why, or the values that are live there
 pub record IsReady (m : ModelView) (lists : List (List ℕ)) (failing : Bool) (sets : LiveView) : Type 0 where
   pub fails : failing ≡ is_failing m lists (no_values m)
   pub live : failing ≡ false → ShowsLive m lists (no_values m) sets
+  pub why : failing ≡ true → ShowsFailure m lists (no_values m) sets
 
 -- the slice and the preferences are the model's, the values to try are those of the slice, there is room for a
 -- partial row, and a search can begin

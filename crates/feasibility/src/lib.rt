@@ -8,11 +8,14 @@
 #![tactic(auto)]
 
 mod answer;
+mod closing;
 mod constrained;
+mod contained;
 mod laws;
 mod members;
 mod named;
 mod narrowing;
+mod refuter;
 mod refuting;
 mod solver;
 mod tree;

@@ -5,7 +5,7 @@ ghost use Rattle.cov_model.specs.Rows.{is_assigned};
 ghost use Rattle.definitions.specs.Completion.{with_value};
 ghost use Rattle.definitions.specs.Search.{constrained_params, is_failing};
 ghost use Rattle.live_sets.specs.Trail.{IsSince, mark_at};
-ghost use Rattle.feasibility.specs.Live.{AreRules, EachHasOne, HasShape, ListMarks, LookedAt, Narrowed, ShowsListed, ShowsLive, Stops, no_on};
+ghost use Rattle.feasibility.specs.Live.{AreRules, EachHasOne, HasShape, ListMarks, LookedAt, Narrowed, ShowsFailure, ShowsListed, ShowsLive, Stops, no_on};
 ghost use Rattle.feasibility.specs.Tree.{constrained_at, no_values};
 
 use crate::tree::SearchTree;
@@ -46,6 +46,16 @@ impl<'a> SearchTree<'a> {
         Ok(all)
     }
 
+    // Whether the constraint is No on the cells.
+    pub(crate) fn is_no(&self, rule: u32, cells: &Cells) -> bool
+        requires first { 0 < rule }
+        requires last { rule ≤ length self.now.model.rules }
+        requires fits { FitsModel self.now.model cells.now }
+        ensures { result ≡ no_on self.now.model cells.now rule }
+    {
+        self.truth(rule, cells) == Truth::No
+    }
+
     // Whether the constraint is No with this value of a parameter.
     fn is_no_with(&self, rule: u32, q: ParamNo, w: ValueNo, cells: &mut Cells) -> bool
         requires first { 0 < rule }
@@ -58,7 +68,7 @@ impl<'a> SearchTree<'a> {
         ensures same { cells.new ≡ cells.old }
     {
         cells.set_cell(q, w);
-        let broken = self.truth(rule, cells) == Truth::No;
+        let broken = self.is_no(rule, cells);
         cells.clear_cell(q);
         broken
     }
@@ -94,7 +104,7 @@ impl<'a> SearchTree<'a> {
         requires shape { HasShape self.now.model sets.old.live }
         requires left { EachHasOne self.now.model cells.old sets.old.live }
         ensures looked { result ≡ true → LookedAt self.now.model (rule ∷ []) cells.old sets.old sets.new }
-        ensures stops { result ≡ false → Stops self.now.model cells.old sets.old.live }
+        ensures stops { result ≡ false → Stops self.now.model cells.old sets.old sets.new }
         ensures since { IsSince sets.old sets.new }
         ensures same { cells.new ≡ cells.old }
     {
@@ -119,7 +129,7 @@ impl<'a> SearchTree<'a> {
         requires shape { HasShape self.now.model sets.old.live }
         requires left { EachHasOne self.now.model cells.old sets.old.live }
         ensures looked { result ≡ true → LookedAt self.now.model (rule ∷ []) cells.old sets.old sets.new }
-        ensures stops { result ≡ false → Stops self.now.model cells.old sets.old.live }
+        ensures stops { result ≡ false → Stops self.now.model cells.old sets.old sets.new }
         ensures since { IsSince sets.old sets.new }
         ensures same { cells.new ≡ cells.old }
     {
@@ -137,7 +147,7 @@ impl<'a> SearchTree<'a> {
         requires shape { HasShape self.now.model sets.old.live }
         requires left { EachHasOne self.now.model cells.old sets.old.live }
         ensures looked { result ≡ true → LookedAt self.now.model rules.now cells.old sets.old sets.new }
-        ensures stops { result ≡ false → Stops self.now.model cells.old sets.old.live }
+        ensures stops { result ≡ false → Stops self.now.model cells.old sets.old sets.new }
         ensures since { IsSince sets.old sets.new }
         ensures same { cells.new ≡ cells.old }
     {
@@ -154,7 +164,7 @@ impl<'a> SearchTree<'a> {
         requires shape { HasShape self.now.model sets.now.live }
         requires none { cells.now ≡ no_values self.now.model }
         ensures left { result ≡ true → EachHasOne self.now.model cells.now sets.now.live }
-        ensures stops { result ≡ false → Stops self.now.model cells.now sets.now.live }
+        ensures stops { result ≡ false → Stops self.now.model cells.now sets.now sets.now }
     {
         let count = self.model().params().len() as ParamNo;
         for q in 0..count {
@@ -165,12 +175,14 @@ impl<'a> SearchTree<'a> {
         true
     }
 
-    // Takes the values away that aren't live where no parameter has a value. Whether this node fails.
+    // Takes the values away that aren't live where no parameter has a value. Whether this node fails;
+    // then the sets show why.
     pub(crate) fn begin(&self, cells: &mut Cells, sets: &mut LiveSets) -> bool
         requires none { cells.old ≡ no_values self.now.model }
         requires listed { ShowsListed self.now.model self.now.values sets.old }
         ensures fails { result ≡ is_failing self.now.model self.now.values cells.old }
         ensures live { result ≡ false → ShowsLive self.now.model self.now.values cells.old sets.new }
+        ensures why { result ≡ true → ShowsFailure self.now.model self.now.values cells.old sets.new }
         ensures same { cells.new ≡ cells.old }
     {
         self.assert_invariant();
@@ -188,13 +200,14 @@ impl<'a> SearchTree<'a> {
 
     // Takes the values away that aren't live on the cells, from those that are where no parameter has
     // a value: looks at the constraints that the cells' values leave undecided. Whether the node
-    // doesn't fail.
+    // doesn't fail; else the sets show why.
     pub(crate) fn start(&self, cells: &mut Cells, sets: &mut LiveSets) -> bool
         requires fits { FitsModel self.now.model cells.old }
         requires node { is_failing self.now.model self.now.values (no_values self.now.model) ≡ false }
         requires live { ShowsLive self.now.model self.now.values (no_values self.now.model) sets.old }
         ensures fails { result ≡ not (is_failing self.now.model self.now.values cells.old) }
         ensures live { result ≡ true → ShowsLive self.now.model self.now.values cells.old sets.new }
+        ensures why { result ≡ false → ShowsFailure self.now.model self.now.values cells.old sets.new }
         ensures since { IsSince sets.old sets.new }
         ensures same { cells.new ≡ cells.old }
     {
@@ -212,7 +225,7 @@ impl<'a> SearchTree<'a> {
     }
 
     // Gives the constrained parameter at a place a live value, and takes the values away that so stop
-    // being live. Whether the node doesn't fail.
+    // being live. Whether the node doesn't fail; else the sets show why.
     pub(crate) fn enter(&self, i: usize, v: ValueNo, cells: &mut Cells, sets: &mut LiveSets) -> bool
         requires place { i < length (constrained_params self.now.model) }
         requires value { v < length (param_at self.now.model.params (constrained_at self.now.model i)).values }
@@ -222,6 +235,7 @@ impl<'a> SearchTree<'a> {
         requires live { ShowsLive self.now.model self.now.values cells.old sets.old }
         ensures fails { result ≡ not (is_failing self.now.model self.now.values (with_value cells.old (constrained_at self.now.model i) v)) }
         ensures live { result ≡ true → ShowsLive self.now.model self.now.values (with_value cells.old (constrained_at self.now.model i) v) sets.new }
+        ensures why { result ≡ false → ShowsFailure self.now.model self.now.values (with_value cells.old (constrained_at self.now.model i) v) sets.new }
         ensures since { IsSince sets.old sets.new }
         ensures cells { cells.new ≡ with_value cells.old (constrained_at self.now.model i) v }
     {

@@ -1,5 +1,6 @@
 ghost use Rattle.std.specs.Prelude.{◌≡◌, ◌≤◌, ◌<◌, ◌^◌, true, All, length, map, Err, OnOk, OnErr};
 ghost use Rattle.cov_model.specs.Fits.{FitsModel};
+ghost use Rattle.cov_model.specs.Slices.{slice_of};
 ghost use Rattle.definitions.specs.Covering.{IsUnserved};
 ghost use Rattle.definitions.specs.Pairs.{cells_of};
 ghost use Rattle.definitions.specs.Refutation.{is_eager};
@@ -10,6 +11,7 @@ ghost use Rattle.refutation.specs.Proofs.{format_of, meant};
 ghost use Rattle.feasibility.specs.Refuting.{earlier_tuples};
 
 use crate::answer::RefuteFault;
+use crate::refuter::Refuter;
 use crate::solver::Solver;
 use cov_model::Tuple;
 use refutation::{Omissions, TreeBuf};
@@ -31,6 +33,7 @@ impl<'a> Solver<'a> {
         into: &mut TreeBuf,
     ) -> Result<(), RefuteFault>
         requires of { IsOfSlice self.old.model self.old.slice (cells_of (length self.old.model.params) tuple.now) }
+        requires slice { slice_of self.old.model (cells_of (length self.old.model.params) tuple.now) ≡ self.old.slice }
         requires unserved { IsUnserved self.old.model (cells_of (length self.old.model.params) tuple.now) }
         requires fit { All (FitsModel self.old.model) (earlier_tuples self.old.model earlier.now) }
         requires earlier { All (IsUnserved self.old.model) (earlier_tuples self.old.model earlier.now) }
@@ -45,6 +48,17 @@ impl<'a> Solver<'a> {
         ensures kept { OnErr result (into.new ≡ into.old) }
         ensures same { self.new ≡ self.old }
     {
-        Err(RefuteFault::NoMemory)
+        self.tree.assert_invariant();
+        let refuter = Refuter::new(&self.tree, self.slice, tuple, earlier);
+        let mut tokens = TreeBuf::new(self.alloc);
+        refuter.make_tree(
+            self.fails,
+            budget,
+            &mut self.room,
+            &mut self.sets,
+            &mut tokens,
+        )?;
+        *into = tokens;
+        Ok(())
     }
 }

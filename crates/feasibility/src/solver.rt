@@ -18,12 +18,13 @@ use value_text::NoMemory;
 /// Contracts see the model, the preference orders and the slice, and no call changes them.
 #[derive(Drop)]
 pub struct Solver<'a> {
-    tree: SearchTree<'a>,
-    prefs: &'a Prefs,
-    slice: Slice,
-    room: Cells,
-    sets: LiveSets,
-    fails: bool,
+    pub(crate) alloc: Global,
+    pub(crate) tree: SearchTree<'a>,
+    pub(crate) prefs: &'a Prefs,
+    pub(crate) slice: Slice,
+    pub(crate) room: Cells,
+    pub(crate) sets: LiveSets,
+    pub(crate) fails: bool,
 }
 
 impl<'a> Model for Solver<'a> {
@@ -62,6 +63,7 @@ impl<'a> Solver<'a> {
         let mut sets = tree.listed_sets(alloc)?;
         let fails = tree.begin(&mut room, &mut sets);
         Ok(Solver {
+            alloc,
             tree,
             prefs,
             slice,

@@ -14,7 +14,7 @@ use std::alloc::Global;
 use value_text::NoMemory;
 
 // Whether a value isn't negative.
-fn is_positive(model: &TestModel, p: ParamNo, v: ValueNo) -> bool
+pub(crate) fn is_positive(model: &TestModel, p: ParamNo, v: ValueNo) -> bool
     requires parameter { p < length model.now.params }
     requires value { v < length (param_at model.now.params p).values }
     ensures { result ≡ not (value_at model.now p v).negative }

@@ -159,12 +159,33 @@ impl<'a> SearchTree<'a> {
         ensures sound { IsSound self.now.model }
         ensures sets { sets.new ≡ sets.old }
     {
+        room.copy_from(cells);
+        self.search_from(fails, room, sets, budget)
+    }
+
+    // The same for the cells in the room, which after No are as before.
+    pub(crate) fn search_from(
+        &self,
+        fails: bool,
+        room: &mut Cells,
+        sets: &mut LiveSets,
+        budget: u64,
+    ) -> Answer
+        requires fits { FitsModel self.now.model room.old }
+        requires listed { IsListed self.now.values room.old }
+        requires ready { IsReady self.now.model self.now.values fails sets.old }
+        ensures answer { result ≡ answer_of (searched self.now room.old).found (searched self.now room.old).cost budget }
+        ensures yes { result ≡ Answer.Yes → room.new ≡ reached self.now.model self.now.values (constrained_params self.now.model) room.old }
+        ensures no { result ≡ Answer.No → room.new ≡ room.old }
+        ensures long { length room.new ≡ length room.old }
+        ensures sound { IsSound self.now.model }
+        ensures sets { sets.new ≡ sets.old }
+    {
         self.assert_invariant();
         let mut left = budget;
         if fails {
             return visit_failing(&mut left);
         }
-        room.copy_from(cells);
         let len = sets.trail_len();
         if !self.start(room, sets) {
             sets.undo(len);

@@ -1,7 +1,7 @@
-use Rattle.std.proofs.Common.{◌≡◌, ◌∙◌, List, length, map, sym, ap, arith}
+use Rattle.std.proofs.Common.{◌∙◌, List, length, map, ap, arith}
 use Rattle.std.proofs.lemmas.List.{take_all}
 use Rattle.cov_model.specs.declared.constraint.Rule.{Rule}
-use Rattle.cov_model.specs.Views.{RuleView, body_view, rule_view}
+use Rattle.cov_model.specs.Views.{body_view}
 use Rattle.feasibility.specs.Tree.{members}
 use Rattle.feasibility.proofs.Naming.{members_seen}
 use Rattle.feasibility.proofs.members.member_lists.Goals as goal

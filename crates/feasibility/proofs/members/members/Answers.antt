@@ -3,7 +3,6 @@ use Rattle.std.specs.List.{filter, range_with_len}
 use Rattle.cov_model.specs.Views.{body_view}
 use Rattle.definitions.specs.Demand.{is_among}
 use Rattle.definitions.specs.Search.{body_params}
-use Rattle.feasibility.specs.Tree.{members}
 use Rattle.feasibility.proofs.Naming.{filter_range_more}
 use Rattle.feasibility.proofs.members.members.Goals as goal
 use Rattle.feasibility.proofs.members.members.Goals.{then-body_names+in_ok-push, else-body_names}

@@ -1,7 +1,6 @@
-use Rattle.std.proofs.Common.{◌≡◌, ◌<◌, ◌≤◌, ◌+◌, ◌-◌, ◌∙◌, None, [], true, false, not, drop, length, get_or, set, refl, sym, ap, subst, arith}
+use Rattle.std.proofs.Common.{◌≡◌, ◌<◌, ◌+◌, ◌-◌, ◌∙◌, None, true, false, drop, length, get_or, set, refl, sym, ap, subst, arith}
 use Rattle.std.proofs.lemmas.Bool.{not-true, not-false}
 use Rattle.std.proofs.lemmas.Grind.{common_steps}
-use Rattle.std.proofs.lemmas.List.{length-set}
 use Rattle.std.proofs.lemmas.List.FromFn.{length-range_with_len}
 use Rattle.value_text.proofs.ListLemmas.{length-filter-le}
 use Rattle.cov_model.specs.Fits.{FitsModel}
@@ -9,8 +8,7 @@ use Rattle.cov_model.specs.Rows.{is_assigned}
 use Rattle.cov_model.specs.Valid.{param_numbers}
 use Rattle.definitions.specs.Completion.{with_value}
 use Rattle.definitions.specs.Search.{constrained_params, is_failing, visit}
-use Rattle.definitions.proofs.Members.{among_has}
-use Rattle.live_sets.specs.Trail.{mark_at, undone}
+use Rattle.live_sets.specs.Trail.{mark_at}
 use Rattle.feasibility.specs.declared.answer.Answer.TheVariants.{Yes, No, Spent}
 use Rattle.feasibility.specs.Answers.{Told}
 use Rattle.feasibility.specs.Live.{ShowsLive}
@@ -19,7 +17,7 @@ use Rattle.feasibility.specs.Tree.{is_named}
 use Rattle.feasibility.proofs.Deciding.{dead_fails}
 use Rattle.feasibility.proofs.Naming.{constrained_exists}
 use Rattle.feasibility.proofs.Nodes.{FitsModel-with_value, listed_at, none_of, set_clear}
-use Rattle.feasibility.proofs.Visits.{at_node, going_more, going_no, going_spent, going_yes, told_back, told_fails, told_kept, told_leaf, told_node, told_on, told_over, told_skip}
+use Rattle.feasibility.proofs.Visits.{at_node, going_more, going_no, going_spent, going_yes, told_back, told_fails, told_node, told_on, told_over}
 use Rattle.feasibility.proofs.tree.SearchTree.+visits.Goals as goal
 
 pub visit-get-requires : goal.visit-get-requires

@@ -1,10 +1,10 @@
-use Rattle.std.proofs.Common.{◌≡◌, ◌<◌, ◌∙◌, true, false, length, get_or, sym, ap, subst, arith}
+use Rattle.std.proofs.Common.{◌≡◌, ◌∙◌, get_or, sym, ap, subst}
 use Rattle.definitions.specs.Completion.{with_value}
 use Rattle.definitions.specs.Search.{constrained_params}
 use Rattle.feasibility.specs.Live.{AreRules, EachHasOne, LookedAt, Stops}
 use Rattle.feasibility.specs.Tree.{undecided}
 use Rattle.feasibility.proofs.Broken.{longer_set}
-use Rattle.feasibility.proofs.Deciding.{decided_answer, decided_live, fewer_left, free_left, value_decides}
+use Rattle.feasibility.proofs.Deciding.{decided_answer, decided_live, decided_why, fewer_left, free_left, value_decides}
 use Rattle.feasibility.proofs.Naming.{constrained_exists, has_undecided}
 use Rattle.feasibility.proofs.tree.SearchTree.enter.Goals as goal
 
@@ -46,7 +46,18 @@ returns-clause-fails c =
     (constrained_exists m c.args.i c.requires.place) c.requires.free c.requires.node c.requires.live)
     (λ e. subst (λ numbers. LookedAt m numbers (with_value c.args.cells.now p c.args.v) c.args.sets.now c.look_at_each.new.sets) list
     (subst (λ cells. LookedAt m c.list.result.now cells c.args.sets.now c.look_at_each.new.sets) row (c.look_at_each.ensures.looked e)))
-    (λ e. subst (λ cells. Stops m cells c.args.sets.now.live) row (c.look_at_each.ensures.stops e))
+    (λ e. subst (λ cells. Stops m cells c.args.sets.now c.look_at_each.new.sets) row (c.look_at_each.ensures.stops e))
+
+pub returns-clause-why : goal.returns-clause-why
+returns-clause-why c e =
+    let m = c.args.self.now.model in
+    let p = get_or (constrained_params m) c.args.i 0 in
+    let row : c.set_cell.new.self ≡ with_value c.args.cells.now p c.args.v =
+    c.set_cell.ensures ∙ ap (λ entry. with_value c.args.cells.now entry.param c.args.v) c.constrained_at-named.ensures in
+    decided_why m c.args.self.now.values (with_value c.args.cells.now p c.args.v) (undecided m p c.args.v) c.args.sets.now c.look_at_each.new.sets
+    (value_decides m c.args.self.now.values c.args.cells.now p c.args.v c.args.sets.now c.assert_invariant.ensures.sound c.requires.fits.as_long
+    (constrained_exists m c.args.i c.requires.place) c.requires.free c.requires.node c.requires.live)
+    (subst (λ cells. Stops m cells c.args.sets.now c.look_at_each.new.sets) row (c.look_at_each.ensures.stops e))
 
 pub returns-clause-live : goal.returns-clause-live
 returns-clause-live c e =

@@ -1,4 +1,4 @@
-use Rattle.std.proofs.Common.{◌≡◌, ◌<◌, ◌≤◌, ◌+◌, ◌∷◌, ◌∙◌, [], true, false, take, length, get_or, sym, subst}
+use Rattle.std.proofs.Common.{◌<◌, ◌≤◌, ◌∷◌, ◌∙◌, [], take, length, get_or, sym, subst}
 use Rattle.std.proofs.lemmas.List.{take_more}
 use Rattle.std.proofs.lemmas.List.Elements.{All-take}
 use Rattle.live_sets.proofs.TrailLemmas.{since_more}
@@ -8,9 +8,10 @@ use Rattle.feasibility.proofs.tree.SearchTree.look_at_each.Goals as goal
 
 pub returns-then-not-look_at-clause-stops : goal.returns-then-not-look_at-clause-stops
 returns-then-not-look_at-clause-stops c e =
-    stops_before c.args.self.now.model (take c.loop-rule.rule-index c.args.rules.now) c.args.cells.now c.args.sets.now c.loop-rule.sets
+    stops_before c.args.self.now.model (take c.loop-rule.rule-index c.args.rules.now) c.args.cells.now c.args.sets.now c.loop-rule.sets c.look_at.new.sets
     (All-take (λ k. (0 < k) × (k ≤ length c.args.self.now.model.rules)) c.loop-rule.rule-index c.args.rules.now c.requires.exist) c.loop-rule.invariant.to
-    (subst (λ cells. Stops c.args.self.now.model cells c.loop-rule.sets.live) c.loop-rule.invariant.cells (c.look_at.ensures.stops c.if-not-look_at.true))
+    (subst (λ cells. Stops c.args.self.now.model cells c.loop-rule.sets c.look_at.new.sets) c.loop-rule.invariant.cells
+    (c.look_at.ensures.stops c.if-not-look_at.true))
 
 pub returns-then-not-look_at-clause-since : goal.returns-then-not-look_at-clause-since
 returns-then-not-look_at-clause-since c = since_more c.args.sets.now c.loop-rule.sets c.look_at.new.sets c.loop-rule.invariant.to.since

@@ -1,4 +1,4 @@
-use Rattle.std.proofs.Common.{◌≡◌, ◌<◌, ◌≤◌, ◌+◌, ◌∙◌, [], length, get_or, sym, ap, subst, arith}
+use Rattle.std.proofs.Common.{◌≡◌, ◌<◌, ◌+◌, ◌∙◌, length, sym, ap, subst, arith}
 use Rattle.cov_model.specs.Sound.{param_at}
 use Rattle.definitions.specs.Completion.{with_value}
 use Rattle.feasibility.specs.Live.{NarrowedTo, no_on}

@@ -1,13 +1,12 @@
-use Rattle.std.proofs.Common.{◌≡◌, ◌<◌, ◌+◌, ◌++◌, ◌∷◌, ◌∙◌, [], List, Bool, Some, None, is_some, true, false, not, if◌then◌else◌, take, length, get_or, refl, sym, ap, subst, arith, append-nil}
-use Rattle.std.specs.List.{flat_map}
-use Rattle.std.proofs.lemmas.List.{take_more, take_all}
+use Rattle.std.proofs.Common.{◌≡◌, ◌<◌, ◌+◌, ◌++◌, ◌∙◌, [], List, Bool, None, is_some, false, not, if◌then◌else◌, take, length, get_or, refl, sym, ap, subst, arith, append-nil}
+use Rattle.std.proofs.lemmas.List.{take_all}
 use Rattle.cov_model.specs.Rows.{is_assigned, value_in}
 use Rattle.definitions.specs.Search.{constrained_params}
 use Rattle.live_sets.proofs.TrailLemmas.{since_more}
 use Rattle.feasibility.specs.Live.{AreRules, LookedAt, Stops, undecided_of}
 use Rattle.feasibility.specs.Tree.{no_values, undecided}
 use Rattle.feasibility.proofs.Broken.{longer_none}
-use Rattle.feasibility.proofs.Deciding.{decided_free, decided_live, decided_stops, fewer_left, free_left, values_decide}
+use Rattle.feasibility.proofs.Deciding.{decided_free, decided_live, decided_stops, decided_why, fewer_left, free_left, values_decide}
 use Rattle.feasibility.proofs.Looking.{looked_append, looked_none, stops_before}
 use Rattle.feasibility.proofs.Naming.{constrained_exists, undecided_of_exist, undecided_of_more, has_given}
 use Rattle.feasibility.proofs.tree.SearchTree.start.Goals as goal
@@ -54,13 +53,27 @@ look_at_each-requires-clause-exist c =
 pub returns-then-not-look_at_each-clause-fails : goal.returns-then-not-look_at_each-clause-fails
 returns-then-not-look_at_each-clause-fails c =
     let m = c.args.self.now.model in
-    sym (ap not (decided_stops m c.args.self.now.values c.args.cells.now (undecided_of m c.args.cells.now (constrained_params m)) c.args.sets.now.live
-    c.assert_invariant.ensures.values
+    sym (ap not (decided_stops m c.args.self.now.values c.args.cells.now (undecided_of m c.args.cells.now (constrained_params m)) c.args.sets.now
+    c.look_at_each.new.sets c.assert_invariant.ensures.values
     (values_decide m c.args.self.now.values c.args.cells.now c.args.sets.now c.assert_invariant.ensures.sound c.requires.fits.as_long c.requires.node
     c.requires.live)
     (stops_before m (undecided_of m c.args.cells.now (take c.loop-i.i (constrained_params m))) c.args.cells.now c.args.sets.now c.loop-i.sets
+    c.look_at_each.new.sets
     (undecided_of_exist m c.args.cells.now (take c.loop-i.i (constrained_params m)) c.assert_invariant.ensures.sound) c.loop-i.invariant.to
-    (subst (λ cells. Stops m cells c.loop-i.sets.live) c.loop-i.invariant.cells (c.look_at_each.ensures.stops c.if-not-look_at_each.true)))))
+    (subst (λ cells. Stops m cells c.loop-i.sets c.look_at_each.new.sets) c.loop-i.invariant.cells
+    (c.look_at_each.ensures.stops c.if-not-look_at_each.true)))))
+
+pub returns-then-not-look_at_each-clause-why : goal.returns-then-not-look_at_each-clause-why
+returns-then-not-look_at_each-clause-why c e =
+    let m = c.args.self.now.model in
+    decided_why m c.args.self.now.values c.args.cells.now (undecided_of m c.args.cells.now (constrained_params m)) c.args.sets.now c.look_at_each.new.sets
+    (values_decide m c.args.self.now.values c.args.cells.now c.args.sets.now c.assert_invariant.ensures.sound c.requires.fits.as_long c.requires.node
+    c.requires.live)
+    (stops_before m (undecided_of m c.args.cells.now (take c.loop-i.i (constrained_params m))) c.args.cells.now c.args.sets.now c.loop-i.sets
+    c.look_at_each.new.sets
+    (undecided_of_exist m c.args.cells.now (take c.loop-i.i (constrained_params m)) c.assert_invariant.ensures.sound) c.loop-i.invariant.to
+    (subst (λ cells. Stops m cells c.loop-i.sets c.look_at_each.new.sets) c.loop-i.invariant.cells
+    (c.look_at_each.ensures.stops c.if-not-look_at_each.true)))
 
 pub returns-then-not-look_at_each-clause-since : goal.returns-then-not-look_at_each-clause-since
 returns-then-not-look_at_each-clause-since c = since_more c.args.sets.now c.loop-i.sets c.look_at_each.new.sets c.loop-i.invariant.to.since

@@ -1,0 +1,179 @@
+ghost use Rattle.std.specs.Prelude.{◌≡◌, ◌+◌, ◌<◌, ◌≤◌, [], length, find, slice_index_or};
+ghost use Rattle.std.specs.List.{list_all, range_with_len};
+ghost use Rattle.cov_model.specs.Fits.{FitsModel};
+ghost use Rattle.cov_model.specs.Rows.{is_assigned};
+ghost use Rattle.cov_model.specs.Meaning.{value_at};
+ghost use Rattle.cov_model.specs.Sound.{IsSound, param_at};
+ghost use Rattle.cov_model.specs.Valid.{negatives};
+ghost use Rattle.definitions.specs.Pairs.{cells_of};
+ghost use Rattle.definitions.specs.Refutation.{is_omission_leaf};
+ghost use Rattle.definitions.specs.Search.{constrained_params};
+ghost use Rattle.refutation.specs.Proofs.{format_of};
+ghost use Rattle.feasibility.specs.Live.{no_on};
+ghost use Rattle.feasibility.specs.Refuting.{IsRefuter, TriesPositive, earlier_tuples, is_cited};
+ghost use Rattle.feasibility.specs.Tree.{ListsValues, constrained_at};
+
+use crate::contained::{contains_tuple, copy_tuple, gives_param};
+use crate::tree::SearchTree;
+use crate::values::is_positive;
+use cov_model::{Cells, ParamNo, Slice, Tuple, ValueNo};
+use refutation::{Omissions, ProofForm};
+use std::marker::Model;
+
+/// What the tree of a tuple is made from: what a search of the tuple's slice looks at, and the
+/// omissions that stand before it.
+#[derive(Drop)]
+pub(crate) struct Refuter<'t> {
+    tree: &'t SearchTree<'t>,
+    slice: Slice,
+    tuple: &'t Tuple,
+    omissions: &'t Omissions,
+}
+
+impl<'t> Model for Refuter<'t> {
+    ghost use Rattle.std.specs.Prelude.{length};
+    ghost use Rattle.std.specs.Coded.{codes};
+    ghost use Rattle.cov_model.specs.contracts.model.TestModel as tested;
+    ghost use Rattle.definitions.specs.Pairs.{cells_of};
+    ghost use Rattle.refutation.specs.Proofs.{format_of};
+    ghost use Rattle.feasibility.specs.Refuting.{IsRefuter, RefuterView, earlier_tuples};
+
+    ghost Value = { RefuterView };
+
+    ghost coded = { Prim.hlevel (codes, tested.the_row.coded) };
+
+    ghost view = { λ a. record { model = a.tree.now.model; lists = a.tree.now.values; format = format_of a.omissions.now.form; earlier = earlier_tuples a.tree.now.model a.omissions.now; tuple = cells_of (length a.tree.now.model.params) a.tuple.now } };
+
+    ghost invariant = { λ a. IsRefuter (record { model = a.tree.now.model; lists = a.tree.now.values; format = format_of a.omissions.now.form; earlier = earlier_tuples a.tree.now.model a.omissions.now; tuple = cells_of (length a.tree.now.model.params) a.tuple.now }) a.slice };
+}
+
+impl<'t> Refuter<'t> {
+    // A refuter of the tuple of a slice, after these omissions.
+    pub(crate) fn new(
+        tree: &'t SearchTree<'t>,
+        slice: Slice,
+        tuple: &'t Tuple,
+        omissions: &'t Omissions,
+    ) -> Refuter<'t>
+        requires { IsRefuter (record { model = tree.now.model; lists = tree.now.values; format = format_of omissions.now.form; earlier = earlier_tuples tree.now.model omissions.now; tuple = cells_of (length tree.now.model.params) tuple.now }) slice }
+        ensures { result ≡ record { model = tree.now.model; lists = tree.now.values; format = format_of omissions.now.form; earlier = earlier_tuples tree.now.model omissions.now; tuple = cells_of (length tree.now.model.params) tuple.now } }
+    {
+        Refuter {
+            tree,
+            slice,
+            tuple,
+            omissions,
+        }
+    }
+
+    // What a refuter keeps.
+    pub(crate) fn assert_invariant(&self)
+        ensures sound { IsSound self.now.model }
+        ensures values { ListsValues self.now.model self.now.lists }
+        ensures positive { TriesPositive self.now }
+    {
+        self.tree.assert_invariant();
+    }
+
+    // What a search of the tuple's slice looks at.
+    pub(crate) fn tree(&self) -> &'t SearchTree<'t>
+        ensures { result.now ≡ record { model = self.now.model; values = self.now.lists } }
+    {
+        self.tree
+    }
+
+    // The constrained parameter at a place.
+    pub(crate) fn constrained_param(&self, i: usize) -> ParamNo
+        requires { i < length (constrained_params self.now.model) }
+        ensures { result ≡ constrained_at self.now.model i }
+    {
+        self.tree().constrained_at(i).param
+    }
+
+    // How many values a parameter has.
+    pub(crate) fn count_of(&self, q: ParamNo) -> ValueNo
+        requires { q < length self.now.model.params }
+        ensures { result ≡ length (param_at self.now.model.params q).values }
+    {
+        self.tree().count_of(q)
+    }
+
+    // Whether a value is negative.
+    pub(crate) fn is_negative(&self, q: ParamNo, v: ValueNo) -> bool
+        requires parameter { q < length self.now.model.params }
+        requires value { v < length (param_at self.now.model.params q).values }
+        ensures { result ≡ (value_at self.now.model q v).negative }
+    {
+        !is_positive(self.tree().model(), q, v)
+    }
+
+    // The cells become the tuple.
+    pub(crate) fn begin(&self, cells: &mut Cells)
+        requires { length cells.old ≡ length self.now.model.params }
+        ensures { cells.new ≡ self.now.tuple }
+    {
+        let count = self.tree.model().params().len() as ParamNo;
+        copy_tuple(self.tuple, cells, count);
+    }
+
+    // The least number of a constraint that is No on the cells.
+    pub(crate) fn first_no(&self, cells: &Cells) -> Option<u32>
+        requires { FitsModel self.now.model cells.now }
+        ensures { result ≡ find (no_on self.now.model cells.now) (range_with_len 1 (length self.now.model.rules)) }
+    {
+        let tree = self.tree();
+        let count = tree.model().rules().len() as u32;
+        for i in 0..count {
+            if tree.is_no(i + 1, cells) {
+                return Some(i + 1);
+            }
+        }
+        None
+    }
+
+    // Whether the tuple gives the parameter of the slice's negative value a value, if there is one.
+    fn gives_negative(&self, tuple: &Tuple) -> bool
+        ensures { result ≡ list_all (is_assigned (cells_of (length self.now.model.params) tuple.now)) (negatives self.now.model self.now.tuple) }
+    {
+        match self.slice {
+            Slice::Positive => true,
+            Slice::Negative(fixed, _) => gives_param(tuple, fixed),
+        }
+    }
+
+    // Whether the omission at a place is a leaf on the cells, in a proof whose form has such leaves.
+    fn is_cited(&self, i: u32, cells: &Cells) -> bool
+        requires place { i < length self.now.earlier }
+        requires long { length cells.now ≡ length self.now.model.params }
+        ensures { result ≡ is_cited self.now cells.now (slice_index_or self.now.earlier i []) }
+    {
+        let tuple = &self.omissions.as_slice()[i as usize].tuple;
+        contains_tuple(cells, tuple) && self.gives_negative(tuple)
+    }
+
+    // The least number of such an omission.
+    fn first_contained(&self, cells: &Cells) -> Option<u32>
+        requires form { self.now.format ≡ 2 }
+        requires long { length cells.now ≡ length self.now.model.params }
+        ensures { result ≡ find (is_omission_leaf self.now.model self.now.format self.now.earlier self.now.tuple cells.now) (range_with_len 1 (length self.now.earlier)) }
+    {
+        let count = self.omissions.len() as u32;
+        for i in 0..count {
+            if self.is_cited(i, cells) {
+                return Some(i + 1);
+            }
+        }
+        None
+    }
+
+    // The least number of an omission that is a leaf on the cells.
+    pub(crate) fn first_cited(&self, cells: &Cells) -> Option<u32>
+        requires { length cells.now ≡ length self.now.model.params }
+        ensures { result ≡ find (is_omission_leaf self.now.model self.now.format self.now.earlier self.now.tuple cells.now) (range_with_len 1 (length self.now.earlier)) }
+    {
+        match self.omissions.form() {
+            ProofForm::One => None,
+            ProofForm::Two => self.first_contained(cells),
+        }
+    }
+}
