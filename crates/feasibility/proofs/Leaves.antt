@@ -1,11 +1,13 @@
 -- Which of the leaves that are possible on a path is the first.
-use Rattle.std.proofs.Common.{◌≡◌, ℕ, zero, suc, ◌+◌, ◌-◌, ◌<◌, ◌≤◌, Bool, true, false, ◌&&◌, ◌==◌, cond, List, [], ◌∷◌, ◌++◌, map, filter, find, length, get_or, Option, Some, None, inl, inr, ◌∙◌, sym, ap, refl, arith, append-nil, eq-eqb}
+use Rattle.std.proofs.Common.{◌≡◌, ℕ, zero, suc, ◌+◌, ◌-◌, ◌<◌, ◌≤◌, Bool, true, false, ◌&&◌, ◌==◌, cond, List, [], ◌∷◌, ◌++◌, map, filter, find, take, drop, length, get_or, Option, Some, None, inl, inr, ◌∙◌, sym, ap, refl, arith, append-nil, eq-eqb}
 use Rattle.std.specs.List.{range_with_len}
 use Rattle.std.proofs.lemmas.Bool.{false≢true, and_parts, and_from, eqb-true, false_from_ne_true}
-use Rattle.std.proofs.lemmas.List.{get_or-map, get_or_default, length-map, same_lists}
-use Rattle.std.proofs.lemmas.List.FromFn.{get_or-range_with_len, length-map-range_with_len, length-range_with_len}
+use Rattle.std.specs.Option.{option_or}
+use Rattle.std.proofs.lemmas.List.{drop_more, get_or-map, get_or_default, length-map, same_lists, take-append-drop, take_more}
+use Rattle.std.proofs.lemmas.List.FromFn.{get_or-range_with_len, length-range_with_len}
 use Rattle.std.proofs.lemmas.List.Folds.{Any-from_list_any, find-append, list_any_at}
 use Rattle.std.proofs.lemmas.Option.{none-some, same_Some}
+use Rattle.std.proofs.lemmas.Simd.{map-map}
 use Rattle.value_text.proofs.ListLemmas.{range_with_len_more}
 use Rattle.cov_model.specs.Views.{RuleView}
 use Rattle.cov_model.specs.Sound.{ModelView, IsSound, no_rule, rule_at}
@@ -48,6 +50,22 @@ find_agrees p q (n ∷ ns) same =
     ap (λ (b : Bool). cond b (Some n) (find p ns)) (same n (inl refl))
     ∙ ap (λ (o : Option ℕ). cond (q n) (Some n) o) (find_agrees p q ns (λ k has. same k (inr has)))
 
+-- the first item of a list that passes, after those before a place of which none does
+pub item_found : (test : ℕ → Bool) (ns : List ℕ) (i : ℕ) → i < length ns → find test (take i ns) ≡ None → test (get_or ns i 0) ≡ true
+    → Some (get_or ns i 0) ≡ find test ns
+item_found test ns i within none passes =
+    sym (ap (find test) (sym (take-append-drop i ns)) ∙ find-append test (take i ns) (drop i ns)
+    ∙ ap (λ (o : Option ℕ). option_or o (find test (drop i ns))) none
+    ∙ ap (find test) (drop_more ns i 0 within)
+    ∙ ap (λ (b : Bool). cond b (Some (get_or ns i 0)) (find test (drop (i + 1) ns))) passes)
+
+-- one item more that doesn't pass
+pub item_passed : (test : ℕ → Bool) (ns : List ℕ) (i : ℕ) → i < length ns → find test (take i ns) ≡ None → test (get_or ns i 0) ≡ false
+    → find test (take (i + 1) ns) ≡ None
+item_passed test ns i within none fails =
+    ap (find test) (take_more ns i 0 within) ∙ find-append test (take i ns) (get_or ns i 0 ∷ [])
+    ∙ no_first (find test (take i ns)) (find test (get_or ns i 0 ∷ [])) none (ap (λ (b : Bool). cond b (Some (get_or ns i 0)) None) fails)
+
 -- the first number of a range that passes, after a shorter one of which none does
 first_at : (test : ℕ → Bool) (a k n : ℕ) → k < n → find test (range_with_len a k) ≡ None → test (a + k) ≡ true → find test (range_with_len a n) ≡ Some (a + k)
 first_at test a k zero within none passes = absurd (omega arith)
@@ -80,23 +98,17 @@ number_passed test i none fails =
     (ap (λ (b : Bool). cond b (Some (1 + i)) None) (ap test next ∙ fails))
 
 -- the numbers of the constraints
+pub numbers_are : (m : ModelView) → IsSound m → map (λ rule. rule.number) m.rules ≡ range_with_len 1 (length m.rules)
+numbers_are m sound =
+    same_lists (map (λ rule. rule.number) m.rules) (range_with_len 1 (length m.rules))
+    (length-map m.rules (λ (rule : RuleView). rule.number) ∙ sym (length-range_with_len 1 (length m.rules))) (λ i d within.
+    let inside : i < length m.rules = omega (arith, within, length-map m.rules (λ (rule : RuleView). rule.number)) in
+    let next : 1 + i ≡ i + 1 = omega arith in
+    get_or-map (λ (rule : RuleView). rule.number) m.rules i no_rule d inside
+    ∙ sound.numbered i no_rule inside ∙ sym (get_or-range_with_len 1 (length m.rules) i d inside ∙ next))
+
 rule_tokens : (m : ModelView) → IsSound m → map (λ rule. ByRule rule.number) m.rules ≡ map ByRule (range_with_len 1 (length m.rules))
-rule_tokens m sound =
-    same_lists (map (λ rule. ByRule rule.number) m.rules) (map ByRule (range_with_len 1 (length m.rules))) (omega (arith, long, same_length)) (λ i d within.
-    let inside : i < length m.rules = omega (arith, within, long) in
-    get_or-map (λ (rule : RuleView). ByRule rule.number) m.rules i no_rule d inside
-    ∙ ap (λ (k : ℕ). ByRule k) (sound.numbered i no_rule inside)
-    ∙ sym (get_or-map ByRule (range_with_len 1 (length m.rules)) i 0 d (omega (arith, inside, length-range_with_len 1 (length m.rules)))
-    ∙ ap ByRule (get_or-range_with_len 1 (length m.rules) i 0 inside ∙ next i)))
-  where
-    next : (i : ℕ) → 1 + i ≡ i + 1
-    next i = omega arith
-
-    long : length (map (λ (rule : RuleView). ByRule rule.number) m.rules) ≡ length m.rules
-    long = length-map m.rules (λ (rule : RuleView). ByRule rule.number)
-
-    same_length : length (map ByRule (range_with_len 1 (length m.rules))) ≡ length m.rules
-    same_length = length-map-range_with_len ByRule 1 (length m.rules)
+rule_tokens m sound = sym (map-map ByRule (λ (rule : RuleView). rule.number) m.rules) ∙ ap (map ByRule) (numbers_are m sound)
 
 -- the constraint has the number and is No
 abbrev is_no_at : ModelView → List (Option ℕ) → ℕ → RuleView → Bool

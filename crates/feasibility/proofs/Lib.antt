@@ -17,3 +17,4 @@ pub mod Costs
 pub mod Paths
 pub mod TuplePairs
 pub mod SolverTrees
+pub mod LeastRules

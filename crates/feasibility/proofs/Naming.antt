@@ -1,7 +1,8 @@
 -- Which constraints name a parameter.
 use Rattle.std.proofs.Common.{◌≡◌, ℕ, ◌+◌, ◌<◌, ◌≤◌, Bool, true, false, not, ◌||◌, ◌==◌, cond, if◌then◌else◌, ◌++◌, List, [], ◌∷◌, map, take, length, append-nil, Option, is_some, unwrap_or, Some, None, get_or, All, ◌∙◌, sym, ap, subst, refl, arith, zero-add}
 use Rattle.std.specs.List.{filter, list_any, range_with_len}
-use Rattle.std.proofs.lemmas.List.{take_more}
+use Rattle.std.proofs.lemmas.Bool.{false_from_ne_true}
+use Rattle.std.proofs.lemmas.List.{get_or_default, take_more}
 use Rattle.std.proofs.lemmas.Grind.{flat_map-append}
 use Rattle.std.proofs.lemmas.List.Elements.{All-append, All-filter, All-map, All-nil, filter-append}
 use Rattle.std.proofs.lemmas.List.Folds.{list_any-append}
@@ -20,12 +21,13 @@ use Rattle.cov_model.specs.declared.constraint.Pred.{Pred}
 use Rattle.definitions.specs.Demand.{is_among}
 use Rattle.definitions.specs.Completion.{with_value}
 use Rattle.definitions.specs.Search.{pred_params, parts_params, body_params, constrained_params}
-use Rattle.definitions.proofs.Members.{all_members as members_are, of_range}
+use Rattle.definitions.proofs.Members.{Has, all_members as members_are, any_member, contains_member, has_filter, of_range}
+use Rattle.definitions.proofs.Nothing.{nothing_kept}
 use Rattle.definitions.proofs.ProofWords.{rule_numbers}
-use Rattle.definitions.proofs.SliceLemmas.{of_params}
+use Rattle.definitions.proofs.SliceLemmas.{has_params, of_params}
 use Rattle.feasibility.specs.Live.{AreRules, undecided_of}
 use Rattle.feasibility.specs.declared.constrained.Constrained.{Constrained}
-use Rattle.feasibility.specs.Tree.{all_members, is_named, members, naming, no_values, undecided, undecided_by}
+use Rattle.feasibility.specs.Tree.{all_members, is_named, members, naming, no_values, undecided, undecided_by, undecided_on}
 
 parts_name : (parts : List Pred) (p : ℕ) → is_among (parts_params (preds_in parts)) p ≡ list_any (λ part. is_among (pred_params (pred_view part)) p) parts
 parts_name [] p = refl
@@ -109,6 +111,21 @@ named_some m p = of_rules m.rules
             → (b || list_any (λ rule. is_among (body_params rule.body) p) rules) ≡ false)
         by_case true rest = (λ h. refl, λ h. absurd (omega arith))
         by_case false rest = rest
+
+-- a parameter that isn't among the constrained ones leaves nothing undecided
+pub undecided_none : (m : ModelView) (p v : ℕ) → p < length m.params
+    → ((k : ℕ) → k < length (constrained_params m) → get_or (constrained_params m) k 0 ≡ p → ⊥) → [] ≡ undecided m p v
+undecided_none m p v within away =
+    sym (ap (λ (rules : List RuleView). undecided_on m (map (λ rule. rule.number) rules) (with_value (no_values m) p v))
+    (nothing_kept (λ rule. is_among (body_params rule.body) p) m.rules
+    (members_are (λ rule. is_among (body_params rule.body) p ≡ false) m.rules (λ rule has.
+    false_from_ne_true (is_among (body_params rule.body) p) (λ names. unnamed rule has names)))))
+  where
+    unnamed : (rule : RuleView) → Has m.rules rule → is_among (body_params rule.body) p ≡ true → ⊥
+    unnamed rule has names =
+        let listed = contains_member (constrained_params m) p (has_filter (is_named m) (param_numbers m) p (has_params m p within)
+        (any_member (λ rule. is_among (body_params rule.body) p) m.rules rule has names)) in
+        away listed.0 listed.1 (get_or_default (constrained_params m) listed.0 0 p listed.1 ∙ listed.2)
 
 -- the parameters that a constraint names exist, and those that constraints name do
 pub member_exists : (n : ℕ) (body : BodyView) (list : List ℕ) (i : ℕ) → list ≡ members n body → i < length list → get_or list i 0 < n

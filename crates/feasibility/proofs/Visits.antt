@@ -46,7 +46,7 @@ told_yes found cost budget told =
     by_found true e = refl
     by_found false e = absurd (yes_no e)
 
-told_no : (found : Bool) (cost budget : ℕ) → No ≡ answer_of found cost budget → Ended found false cost budget
+pub told_no : (found : Bool) (cost budget : ℕ) → No ≡ answer_of found cost budget → Ended found false cost budget
 told_no found cost budget told =
     elim (cases_lt budget cost) [
       | inl over ↦ absurd (no_spent (told ∙ answer_spent found cost budget over))

@@ -22,17 +22,21 @@ use refutation::{TreeBuf, TreeToken};
 use value_text::NoMemory;
 
 impl<'t> Refuter<'t> {
-    // The least number of a constraint that is No with this value of a parameter.
+    // The least number of a constraint that is No with this value of a parameter, where without it
+    // none is: it is one that the value leaves undecided.
     fn first_no_with(&self, q: ParamNo, v: ValueNo, cells: &mut Cells) -> Option<u32>
         requires parameter { q < length self.now.model.params }
         requires value { v < length (param_at self.now.model.params q).values }
         requires free { is_assigned cells.old q ≡ false }
         requires path { IsPath self.now cells.old }
+        requires unbroken { breaks_a_rule self.now.model cells.old ≡ false }
         ensures least { result ≡ find (no_on self.now.model (with_value cells.old q v)) (range_with_len 1 (length self.now.model.rules)) }
         ensures same { cells.new ≡ cells.old }
     {
+        self.assert_invariant();
+        let rules = self.undecided(q, v);
         cells.set_cell(q, v);
-        let rule = self.first_no(cells);
+        let rule = self.first_no_of(rules, cells);
         cells.clear_cell(q);
         rule
     }
@@ -63,6 +67,7 @@ impl<'t> Refuter<'t> {
         requires value { v < length (param_at self.now.model.params q).values }
         requires free { is_assigned cells.old q ≡ false }
         requires path { IsPath self.now cells.old }
+        requires unbroken { breaks_a_rule self.now.model cells.old ≡ false }
         requires dead { (value_at self.now.model q v).negative ≡ false → breaks_a_rule self.now.model (with_value cells.old q v) ≡ true }
         ensures closes { OnOk result (Closes self.now (with_value cells.old q v ∷ []) 0 tokens.old tokens.new) }
         ensures same { cells.new ≡ cells.old }

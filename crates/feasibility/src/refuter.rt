@@ -9,9 +9,9 @@ ghost use Rattle.definitions.specs.Pairs.{cells_of};
 ghost use Rattle.definitions.specs.Refutation.{is_omission_leaf};
 ghost use Rattle.definitions.specs.Search.{constrained_params};
 ghost use Rattle.refutation.specs.Proofs.{format_of};
-ghost use Rattle.feasibility.specs.Live.{no_on};
+ghost use Rattle.feasibility.specs.Live.{AreRules, no_on};
 ghost use Rattle.feasibility.specs.Refuting.{IsRefuter, TriesPositive, earlier_tuples, is_cited};
-ghost use Rattle.feasibility.specs.Tree.{ListsValues, constrained_at};
+ghost use Rattle.feasibility.specs.Tree.{ListsValues, constrained_at, undecided};
 
 use crate::contained::{contains_tuple, copy_tuple, gives_param};
 use crate::tree::SearchTree;
@@ -116,6 +116,16 @@ impl<'t> Refuter<'t> {
         copy_tuple(self.tuple, cells, count);
     }
 
+    // The constraints that this value of a parameter leaves undecided, of those that name the
+    // parameter.
+    pub(crate) fn undecided(&self, q: ParamNo, v: ValueNo) -> &'t [u16]
+        requires parameter { q < length self.now.model.params }
+        requires value { v < length (param_at self.now.model.params q).values }
+        ensures { result.now ≡ undecided self.now.model q v }
+    {
+        self.tree.undecided(q, v)
+    }
+
     // The least number of a constraint that is No on the cells.
     pub(crate) fn first_no(&self, cells: &Cells) -> Option<u32>
         requires { FitsModel self.now.model cells.now }
@@ -126,6 +136,21 @@ impl<'t> Refuter<'t> {
         for i in 0..count {
             if tree.is_no(i + 1, cells) {
                 return Some(i + 1);
+            }
+        }
+        None
+    }
+
+    // The first of these numbers of constraints whose constraint is No on the cells.
+    pub(crate) fn first_no_of(&self, rules: &[u16], cells: &Cells) -> Option<u32>
+        requires exist { AreRules self.now.model rules.now }
+        requires fits { FitsModel self.now.model cells.now }
+        ensures { result ≡ find (no_on self.now.model cells.now) rules.now }
+    {
+        let tree = self.tree();
+        for rule in rules {
+            if tree.is_no(*rule as u32, cells) {
+                return Some(*rule as u32);
             }
         }
         None

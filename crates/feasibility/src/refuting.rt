@@ -1,5 +1,4 @@
-ghost use Rattle.std.specs.Prelude.{◌≡◌, ◌≤◌, ◌<◌, ◌^◌, true, All, length, map, Err, OnOk, OnErr};
-ghost use Rattle.cov_model.specs.Fits.{FitsModel};
+ghost use Rattle.std.specs.Prelude.{◌≡◌, ◌≤◌, ◌<◌, ◌^◌, true, length, map, Err, OnOk, OnErr};
 ghost use Rattle.cov_model.specs.Slices.{slice_of};
 ghost use Rattle.definitions.specs.Covering.{IsUnserved};
 ghost use Rattle.definitions.specs.Pairs.{cells_of};
@@ -19,7 +18,7 @@ use refutation::{Omissions, TreeBuf};
 impl<'a> Solver<'a> {
     /// Refutes a tuple of the slice which no row serves: the tokens become an eager tree after the
     /// tuples of the earlier omissions, in their form, with no more branches than the plain cost of
-    /// the tuple. No row may serve a tuple of the earlier omissions either.
+    /// the tuple. In a negative slice the tuple gives its negative value.
     ///
     /// # Errors
     ///
@@ -35,8 +34,6 @@ impl<'a> Solver<'a> {
         requires of { IsOfSlice self.old.model self.old.slice (cells_of (length self.old.model.params) tuple.now) }
         requires slice { slice_of self.old.model (cells_of (length self.old.model.params) tuple.now) ≡ self.old.slice }
         requires unserved { IsUnserved self.old.model (cells_of (length self.old.model.params) tuple.now) }
-        requires fit { All (FitsModel self.old.model) (earlier_tuples self.old.model earlier.now) }
-        requires earlier { All (IsUnserved self.old.model) (earlier_tuples self.old.model earlier.now) }
         requires few { length earlier.now.omissions < 2 ^ 32 }
         ensures eager { OnOk result (is_eager self.old.model (format_of earlier.now.form) (earlier_tuples self.old.model earlier.now)
             (cells_of (length self.old.model.params) tuple.now) (map meant into.new) ≡ true) }

@@ -6,7 +6,7 @@ ghost use Rattle.cov_model.specs.Sound.{IsSound, param_at, rule_at};
 ghost use Rattle.definitions.specs.Completion.{preferred_values};
 ghost use Rattle.definitions.specs.Search.{constrained_params};
 ghost use Rattle.definitions.specs.SliceRows.{IsSliceOf};
-ghost use Rattle.feasibility.specs.Tree.{ListsValues, constrained_at, members, undecided_by};
+ghost use Rattle.feasibility.specs.Tree.{ListsValues, constrained_at, members, undecided, undecided_by};
 
 use crate::constrained::{Constrained, constrained_params};
 use crate::members::member_lists;
@@ -116,6 +116,7 @@ impl<'a> SearchTree<'a> {
     {
         self.members.list(rule as usize - 1)
     }
+
     // How many parameters constraints name.
     pub(crate) fn constrained_len(&self) -> usize
         ensures { result ≡ length (constrained_params self.now.model) }
@@ -129,5 +130,23 @@ impl<'a> SearchTree<'a> {
         ensures { result.now ≡ undecided_by self.now.model (constrained_at self.now.model i) }
     {
         &self.constrained[i]
+    }
+
+    // The constraints that this value of a parameter leaves undecided, of those that name the
+    // parameter.
+    pub(crate) fn undecided(&self, q: ParamNo, v: ValueNo) -> &[u16]
+        requires parameter { q < length self.now.model.params }
+        requires value { v < length (param_at self.now.model.params q).values }
+        ensures { result.now ≡ undecided self.now.model q v }
+    {
+        self.assert_invariant();
+        let count = self.constrained_len();
+        for i in 0..count {
+            let named = self.constrained_at(i);
+            if named.param == q {
+                return named.undecided.list(v as usize);
+            }
+        }
+        &[]
     }
 }

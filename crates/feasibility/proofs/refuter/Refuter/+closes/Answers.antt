@@ -264,10 +264,10 @@ close_value-returns-in-Some-clause-closes t c =
     c.requires.value c.requires.free
     (ap (λ (q : ℕ). mark_at c.args.sets.now.live q c.args.v) (sym c.constrained_param-p.ensures) ∙ sym c.is_live.ensures ∙ c.if-not-is_live.false) in
     let path = positive_value r c.args.cells.now p c.args.v c.requires.path low c.requires.value live.positive in
-    let test = is_omission_leaf r.model r.format r.earlier r.tuple row in
-    let found : find test (range_with_len 1 (length r.earlier)) ≡ Some c.in-Some.number =
-    sym (ap (λ (q : ℕ). find (is_omission_leaf r.model r.format r.earlier r.tuple (with_value c.args.cells.now q c.args.v)) (range_with_len 1 (length r.earlier)))
-    c.constrained_param-p.ensures) ∙ sym c.first_cited_with.ensures.least ∙ c.in-Some.is in
+    let cited = λ (q : ℕ). find (is_omission_leaf r.model r.format r.earlier r.tuple (with_value c.args.cells.now q c.args.v))
+    (range_with_len 1 (length r.earlier)) in
+    let found : cited p ≡ Some c.in-Some.number =
+    ap cited (sym c.constrained_param-p.ensures) ∙ sym {b = cited c.constrained_param-p.result} c.first_cited_with.ensures.least ∙ c.in-Some.is in
     on_ok_weaker c.push.result
     (λ pushed. closes_more r (row ∷ []) 0 (value_cost r (drop (c.args.i + 1) (constrained_params r.model)) c.args.cells.now p c.args.v) c.args.tokens.now
     c.push.new.self (omega arith)
@@ -285,9 +285,10 @@ close_value-close_live-closed-requires t c =
     c.requires.value c.requires.free
     (ap (λ (q : ℕ). mark_at c.args.sets.now.live q c.args.v) (sym c.constrained_param-p.ensures) ∙ sym c.is_live.ensures ∙ c.if-not-is_live.false) in
     let path = positive_value r c.args.cells.now p c.args.v c.requires.path low c.requires.value live.positive in
-    let none : find (is_omission_leaf r.model r.format r.earlier r.tuple row) (range_with_len 1 (length r.earlier)) ≡ None =
-    sym (ap (λ (q : ℕ). find (is_omission_leaf r.model r.format r.earlier r.tuple (with_value c.args.cells.now q c.args.v)) (range_with_len 1 (length r.earlier)))
-    c.constrained_param-p.ensures) ∙ sym c.first_cited_with.ensures.least ∙ c.in_default.is in
+    let cited = λ (q : ℕ). find (is_omission_leaf r.model r.format r.earlier r.tuple (with_value c.args.cells.now q c.args.v))
+    (range_with_len 1 (length r.earlier)) in
+    let none : cited p ≡ None =
+    ap cited (sym c.constrained_param-p.ensures) ∙ sym {b = cited c.constrained_param-p.result} c.first_cited_with.ensures.least ∙ c.in_default.is in
     let cells = c.first_cited_with.ensures.same in
     let same : with_value c.first_cited_with.new.cells p c.args.v ≡ row = ap (λ start. with_value start p c.args.v) cells in (
       omega (arith, c.requires.place),
