@@ -32,3 +32,6 @@ pub mod Taking
 pub mod Giving
 pub mod UnfilledLemmas
 pub mod ColumnLemmas
+pub mod Refuting
+pub mod Trees
+pub mod MetCount

@@ -56,3 +56,7 @@ cells_of-pairs_from n p (Some v ∷ cells) long =
 
 pub cells_of-pairs_of : (cells : List (Option ℕ)) → cells_of (length cells) (pairs_of cells) ≡ cells
 cells_of-pairs_of cells = cells_of-pairs_from (length cells) 0 cells (zero-add (length cells))
+
+-- so pairs that are those of a partial row of n parameters do
+pub cells_of-pairs : (n : ℕ) (cells : List (Option ℕ)) (pairs : List (ℕ × ℕ)) → length cells ≡ n → pairs ≡ pairs_of cells → cells_of n pairs ≡ cells
+cells_of-pairs n cells pairs long are = ap (cells_of n) are ∙ ap (λ k. cells_of k (pairs_of cells)) (sym long) ∙ cells_of-pairs_of cells

@@ -65,16 +65,21 @@ fixed_is : (slice : Slice) (cells : List (Option ℕ)) → slices.HasFixed slice
 fixed_is Positive cells fixed = tt
 fixed_is (Negative q v) cells fixed = fixed
 
--- a tuple of a set that ends with a column is in play there
+-- a tuple of a set grows in its slice
+pub tuple-grows : (m : ModelView) (slice : Slice) (set : List ℕ) (tuple : List (Option ℕ)) → IsSliceOf m slice → IsTupleOf m set slice tuple
+    → GrowsIn m slice tuple
+tuple-grows m slice set tuple is of = record {
+  of = of_slice m slice tuple is (of.choice.long ∙ length-slice_values m slice)
+      (λ q has. among_has (get_or (slice_values m slice) q []) (value_in tuple q)
+      (of.choice.listed q (omega (arith, assigned_within tuple q has, of.choice.long)) has));
+  fixed = fixed_is slice tuple of.belongs.fixed;
+}
+
+-- where the set ends with a column, it is in play there
 in_play-of : (m : ModelView) (slice : Slice) (p : ℕ) (set : List ℕ) (tuple : List (Option ℕ)) → IsSliceOf m slice → p < length m.params
     → ends_with_column m slice p set ≡ true → IsTupleOf m set slice tuple → IsInPlay m slice p tuple
 in_play-of m slice p set tuple is within ends of = record {
-  grows = record {
-    of = of_slice m slice tuple is (of.choice.long ∙ long)
-        (λ q has. among_has (get_or (slice_values m slice) q []) (value_in tuple q)
-        (of.choice.listed q (omega (arith, assigned_within tuple q has, of.choice.long)) has));
-    fixed = fixed_is slice tuple of.belongs.fixed;
-  };
+  grows = tuple-grows m slice set tuple is of;
   own = of.choice.given p (omega (arith, within, long)) ∙ ap (is_among set) (zero-add p) ∙ ends-among m slice p set ends;
   columns = λ q has.
       let inside : q < length (slice_values m slice) = omega (arith, assigned_within tuple q has, of.choice.long) in

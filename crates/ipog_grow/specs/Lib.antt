@@ -6,3 +6,5 @@ pub mod Completing
 pub mod UnfilledRows
 pub mod Growing
 pub mod Asking
+pub mod Omissions
+pub mod Inputs

@@ -4,8 +4,11 @@ use Rattle.cov_model.specs.Sound.{ModelView}
 use Rattle.definitions.specs.Growth.{growth}
 use Rattle.definitions.specs.Pairs.{cells_of, pairs_of}
 use Rattle.definitions.specs.Seeds.{kept_seeds, dropped_lines}
+use Rattle.definitions.specs.SuiteProof.{AreEagerTrees}
+use Rattle.definitions.specs.Verdict.{as_cells}
 use Rattle.feasibility.specs.declared.answer.SearchFault.{SearchFault}
 use Rattle.feasibility.specs.declared.answer.SearchFault.TheVariants.{Spent, NoMemory}
+use Rattle.refutation.specs.Proofs.{format_of, omission_meant}
 use Rattle.refutation.specs.declared.omissions.Omission.{Omission}
 use Rattle.refutation.specs.declared.omissions.ProofForm.{ProofForm}
 use Rattle.refutation.specs.declared.omissions.ProofForm.TheVariants.{One}
@@ -21,13 +24,19 @@ omitted_cells n omission = cells_of n omission.tuple
 abbrev pub HasNoTree : Omission → Type 0
 HasNoTree omission = omission.tree ≡ []
 
--- a suite is what growth gives with these preferences and seeds; its omissions have no trees, and their
--- form is the one asked for, or the first where none was
+-- without a proof there are no trees; with one, in its form, each omission has an eager tree that refutes its tuple
+-- after those before it, with no more branches than the plain cost of the tuple
+abbrev pub HasTrees : ModelView → List (List ℕ) → Option ProofForm → List Omission → Type 0
+HasTrees m pref None omissions = All HasNoTree omissions
+HasTrees m pref (Some form) omissions = AreEagerTrees m pref (format_of form) [] (as_cells m (map omission_meant omissions))
+
+-- a suite is what growth gives with these preferences and seeds; its omissions have the trees that are asked for, and
+-- their form is the one asked for, or the first where none was
 pub record IsSuiteOf (m : ModelView) (pref : List (List ℕ)) (seeds : List (ℕ × List (Option ℕ))) (proof : Option ProofForm) (suite : Suite) : Type 0 where
   pub rows : suite.rows ≡ (growth m pref seeds).rows
   pub omitted : map (omitted_cells (length m.params)) suite.omitted.omissions ≡ (growth m pref seeds).omitted
   pub form : suite.omitted.form ≡ unwrap_or proof One
-  pub trees : All HasNoTree suite.omitted.omissions
+  pub trees : HasTrees m pref proof suite.omitted.omissions
   pub kept : suite.kept ≡ length (kept_seeds m seeds)
   pub dropped : suite.dropped ≡ dropped_lines m seeds
 

@@ -1,12 +1,20 @@
-ghost use Rattle.std.specs.Prelude.{◌≡◌, ◌∷◌, [], Some, None, length, replicate, if◌then◌else◌, IfOk};
+ghost use Rattle.std.specs.Prelude.{◌≡◌, ◌<◌, ◌^◌, ◌∷◌, [], Some, None, All, length, map, replicate, if◌then◌else◌, IfOk};
+ghost use Rattle.cov_model.specs.Fits.{FitsModel};
 ghost use Rattle.cov_model.specs.Preference.{OrdersValues};
+ghost use Rattle.definitions.specs.Covering.{IsUnserved};
+ghost use Rattle.definitions.specs.Pairs.{cells_of};
 ghost use Rattle.definitions.specs.SliceRows.{IsSliceOf};
+ghost use Rattle.definitions.specs.SuiteProof.{IsEagerTree};
+ghost use Rattle.feasibility.specs.Refuting.{earlier_tuples};
+ghost use Rattle.refutation.specs.Proofs.{format_of, meant};
 ghost use Rattle.ipog_grow.specs.Asking.{Grows, IsAsker, Told, extends, first_spent};
 ghost use Rattle.ipog_grow.specs.Completing.{completed};
+ghost use Rattle.ipog_grow.specs.Omissions.{IsOmittedIn};
 
 use crate::stop::Stop;
-use cov_model::{Cells, Prefs, Slice, TestModel};
-use feasibility::{Answer, Solver};
+use cov_model::{Cells, Prefs, Slice, TestModel, Tuple};
+use feasibility::{Answer, RefuteFault, Solver};
+use refutation::{Omissions, TreeBuf};
 use std::alloc::Global;
 use std::marker::Model;
 use value_text::NoMemory;
@@ -101,6 +109,31 @@ impl<'a> Asker<'a> {
                 self.question.copy_from(cells);
                 Err(Stop::Spent)
             }
+        }
+    }
+
+    // An eager tree that refutes an omitted tuple of the slice after the tuples of earlier omissions,
+    // which no row serves either.
+    pub(crate) fn refute(
+        &mut self,
+        alloc: Global,
+        tuple: &Tuple,
+        earlier: &Omissions,
+    ) -> Result<TreeBuf, NoMemory>
+        requires omitted { IsOmittedIn self.old.context (cells_of (length self.old.context.model.params) tuple.now) }
+        requires fit { All (FitsModel self.old.context.model) (earlier_tuples self.old.context.model earlier.now) }
+        requires unserved { All (IsUnserved self.old.context.model) (earlier_tuples self.old.context.model earlier.now) }
+        requires few { length earlier.now.omissions < 2 ^ 32 }
+        ensures tree { IfOk result (λ tree. IsEagerTree self.old.context.model self.old.context.prefs (format_of earlier.now.form)
+            (earlier_tuples self.old.context.model earlier.now) (cells_of (length self.old.context.model.params) tuple.now) (map meant tree)) }
+        ensures same { self.new.context ≡ self.old.context }
+    {
+        let mut tree = TreeBuf::new(alloc);
+        match self.solver.refute(tuple, self.budget, earlier, &mut tree) {
+            Ok(()) => Ok(tree),
+            Err(RefuteFault::NoMemory) => Err(NoMemory),
+            // it was asked whether the tuple is extendable, and the answer was within the budget
+            Err(RefuteFault::Spent) => unreachable!(),
         }
     }
 

@@ -1,37 +1,82 @@
-ghost use Rattle.std.specs.Prelude.{◌≡◌, ◌≤◌, ◌++◌, [], All, map, length, filter_map, OnOk};
+ghost use Rattle.std.specs.Prelude.{◌≡◌, ◌+◌, ◌<◌, ◌^◌, ◌++◌, ◌∷◌, [], All, length, filter_map, IfOk, OnOk};
+ghost use Rattle.definitions.specs.Pairs.{cells_of};
 ghost use Rattle.definitions.specs.Seeds.{distinct};
+ghost use Rattle.feasibility.specs.Refuting.{earlier_tuples};
 ghost use Rattle.ipog_grow.specs.Asking.{Grows, first_spent};
 ghost use Rattle.ipog_grow.specs.Completing.{completed};
-ghost use Rattle.ipog_grow.specs.Suites.{Ends, HasNoTree, omitted_cells};
+ghost use Rattle.ipog_grow.specs.Omissions.{AreOmissionsOf, IsOmittedIn, IsTreeOf};
+ghost use Rattle.ipog_grow.specs.Suites.{Ends};
 
 use crate::asker::Asker;
 use crate::completing::complete_rows;
 use crate::question::{fault_of, tuple_of};
-use cov_model::{Cells, Rows, TestModel};
+use cov_model::{Cells, Rows, Tuple};
 use feasibility::SearchFault;
-use refutation::{Omission, Omissions, TreeBuf};
+use refutation::{Omission, Omissions, ProofForm, TreeBuf};
 use std::alloc::Global;
 use value_text::NoMemory;
 
-// Puts the omitted tuples of a slice behind others, without trees.
+// The tree of an omitted tuple of the slice after earlier omissions. It has no tokens where no proof is
+// asked for.
+fn tree_of(
+    alloc: Global,
+    asker: &mut Asker,
+    proof: Option<ProofForm>,
+    tuple: &Tuple,
+    earlier: &Omissions,
+) -> Result<TreeBuf, NoMemory>
+    requires omitted { IsOmittedIn asker.old.context (cells_of (length asker.old.context.model.params) tuple.now) }
+    requires earlier { AreOmissionsOf asker.old.context.model asker.old.context.prefs proof earlier.now }
+    requires few { length earlier.now.omissions < 2 ^ 32 }
+    ensures tree { IfOk result (IsTreeOf asker.old.context.model asker.old.context.prefs proof
+        (earlier_tuples asker.old.context.model earlier.now) (cells_of (length asker.old.context.model.params) tuple.now)) }
+    ensures same { asker.new.context ≡ asker.old.context }
+{
+    match proof {
+        Some(_) => asker.refute(alloc, tuple, earlier),
+        None => Ok(TreeBuf::new(alloc)),
+    }
+}
+
+// Puts an omitted tuple of the slice behind earlier omissions, with its tree.
+fn push_omission(
+    alloc: Global,
+    asker: &mut Asker,
+    proof: Option<ProofForm>,
+    cells: &Cells,
+    into: &mut Omissions,
+) -> Result<(), NoMemory>
+    requires omitted { IsOmittedIn asker.old.context cells.now }
+    requires earlier { AreOmissionsOf asker.old.context.model asker.old.context.prefs proof into.old }
+    requires few { length into.old.omissions < 2 ^ 32 }
+    ensures tuples { OnOk result (earlier_tuples asker.old.context.model into.new
+        ≡ earlier_tuples asker.old.context.model into.old ++ cells.now ∷ []) }
+    ensures omissions { OnOk result (AreOmissionsOf asker.old.context.model asker.old.context.prefs proof into.new) }
+    ensures same { asker.new.context ≡ asker.old.context }
+{
+    asker.assert_invariant();
+    let tuple = tuple_of(alloc, cells)?;
+    let tree = tree_of(alloc, asker, proof, &tuple, into)?;
+    into.push(Omission { tuple, tree })
+}
+
+// Puts the omitted tuples of a slice behind earlier omissions, each with its tree.
 fn push_omitted(
     alloc: Global,
-    model: &TestModel,
+    asker: &mut Asker,
+    proof: Option<ProofForm>,
     omitted: &[Cells],
     into: &mut Omissions,
 ) -> Result<(), NoMemory>
-    requires long { All (λ tuple. length tuple ≡ length model.now.params) omitted.now }
-    requires trees { All HasNoTree into.old.omissions }
-    ensures tuples { OnOk result (map (omitted_cells (length model.now.params)) into.new.omissions
-        ≡ map (omitted_cells (length model.now.params)) into.old.omissions ++ omitted.now) }
-    ensures trees { OnOk result (All HasNoTree into.new.omissions) }
-    ensures form { OnOk result (into.new.form ≡ into.old.form) }
+    requires omitted { All (IsOmittedIn asker.old.context) omitted.now }
+    requires earlier { AreOmissionsOf asker.old.context.model asker.old.context.prefs proof into.old }
+    requires few { length into.old.omissions + length omitted.now < 2 ^ 32 }
+    ensures tuples { OnOk result (earlier_tuples asker.old.context.model into.new
+        ≡ earlier_tuples asker.old.context.model into.old ++ omitted.now) }
+    ensures omissions { OnOk result (AreOmissionsOf asker.old.context.model asker.old.context.prefs proof into.new) }
 {
-    model.assert_invariant();
     for cells in omitted {
-        let tuple = tuple_of(alloc, cells)?;
-        let tree = TreeBuf::new(alloc);
-        into.push(Omission { tuple, tree })?;
+        push_omission(alloc, asker, proof, cells, into)?;
     }
     Ok(())
 }
@@ -40,29 +85,28 @@ fn push_omitted(
 // omitted tuples behind those of earlier slices.
 pub(crate) fn finish_slice(
     alloc: Global,
-    model: &TestModel,
     asker: &mut Asker,
+    proof: Option<ProofForm>,
     grown: &[Cells],
     omitted: &[Cells],
     rows: &mut Rows,
     omissions: &mut Omissions,
 ) -> Result<(), SearchFault>
-    requires model { asker.old.context.model ≡ model.now }
     requires grows { All (Grows asker.old.context) grown.now }
-    requires long { All (λ tuple. length tuple ≡ length model.now.params) omitted.now }
-    requires trees { All HasNoTree omissions.old.omissions }
+    requires omitted { All (IsOmittedIn asker.old.context) omitted.now }
+    requires earlier { AreOmissionsOf asker.old.context.model asker.old.context.prefs proof omissions.old }
+    requires few { length omissions.old.omissions + length omitted.now < 2 ^ 32 }
     ensures rows { OnOk result (rows.new ≡ rows.old ++ distinct (filter_map (completed asker.old.context) grown.now)) }
-    ensures tuples { OnOk result (map (omitted_cells (length model.now.params)) omissions.new.omissions
-        ≡ map (omitted_cells (length model.now.params)) omissions.old.omissions ++ omitted.now) }
-    ensures trees { OnOk result (All HasNoTree omissions.new.omissions) }
-    ensures form { OnOk result (omissions.new.form ≡ omissions.old.form) }
+    ensures tuples { OnOk result (earlier_tuples asker.old.context.model omissions.new
+        ≡ earlier_tuples asker.old.context.model omissions.old ++ omitted.now) }
+    ensures omissions { OnOk result (AreOmissionsOf asker.old.context.model asker.old.context.prefs proof omissions.new) }
     ensures asked { Ends result (first_spent asker.old.context grown.now) }
 {
-    model.assert_invariant();
+    asker.assert_invariant();
     if let Err(stop) = complete_rows(alloc, asker, grown, rows) {
         return Err(fault_of(alloc, stop, asker.question()));
     }
-    match push_omitted(alloc, model, omitted, omissions) {
+    match push_omitted(alloc, asker, proof, omitted, omissions) {
         Ok(()) => Ok(()),
         Err(_) => Err(SearchFault::NoMemory),
     }

@@ -1,15 +1,18 @@
-ghost use Rattle.std.specs.Prelude.{◌≡◌, ◌≤◌, ◌^◌, true, [], ℕ, List, Option, All, map, length, unwrap_or, IfOk, OnOk};
+ghost use Rattle.std.specs.Prelude.{◌≡◌, ◌<◌, ◌≤◌, ◌^◌, [], ℕ, List, Option, All, length, sum_by, unwrap_or, IfOk, OnOk};
 ghost use Rattle.cov_model.specs.Fits.{FitsModel};
 ghost use Rattle.cov_model.specs.Preference.{OrdersValues};
-ghost use Rattle.definitions.specs.Completion.{has_slice};
 ghost use Rattle.definitions.specs.Growth.{growth, slices_growth};
 ghost use Rattle.definitions.specs.Search.{first_over};
 ghost use Rattle.definitions.specs.Seeds.{kept_seeds};
 ghost use Rattle.definitions.specs.SliceRows.{IsSliceOf};
+ghost use Rattle.feasibility.specs.Refuting.{earlier_tuples};
 ghost use Rattle.row_text.specs.RowFiles.{seeds_seen};
 ghost use Rattle.tuple_index.specs.Plan.{plan_of};
-ghost use Rattle.ipog_grow.specs.Suites.{Ends, HasNoTree, IsSuiteOf, omitted_cells};
+ghost use Rattle.ipog_grow.specs.Inputs.{IsSoundInput};
+ghost use Rattle.ipog_grow.specs.Omissions.{AreOmissionsOf, met_count};
+ghost use Rattle.ipog_grow.specs.Suites.{Ends, IsSuiteOf};
 
+use crate::input::GrowInput;
 use crate::seeds::sort_seeds;
 use crate::slice_suite::grow_slice;
 use crate::slices::slices_of;
@@ -28,40 +31,34 @@ use tuple_index::Plan;
 fn grow_slices<R: Threads + Sync, G: Gate + Sync>(
     workers: &Workers<'_, R, G>,
     alloc: Global,
-    model: &TestModel,
-    plan: &Plan,
-    prefs: &Prefs,
-    kept: &Rows,
+    input: &GrowInput<'_>,
     slices: &[Slice],
-    budget: u64,
     rows: &mut Rows,
     omissions: &mut Omissions,
 ) -> Result<(), SearchFault>
-    requires plan { plan.now ≡ plan_of model.now }
-    requires orders { OrdersValues model.now prefs.now }
-    requires slices { All (IsSliceOf model.now) slices.now }
-    requires fit { All (FitsModel model.now) kept.now }
-    requires few { All (λ seed. has_slice model.now seed ≡ true) kept.now }
+    requires input { IsSoundInput input.now }
+    requires slices { All (IsSliceOf input.now.model.now) slices.now }
+    requires few { sum_by (met_count input.now.model.now) slices.now < 2 ^ 32 }
     requires none { rows.old ≡ [] }
-    requires none_omitted { omissions.old.omissions ≡ [] }
-    ensures rows { OnOk result ((seeds : List (ℕ × List (Option ℕ))) → kept.now ≡ kept_seeds model.now seeds
-        → rows.new ≡ (slices_growth model.now prefs.now seeds slices.now).rows) }
-    ensures tuples { OnOk result ((seeds : List (ℕ × List (Option ℕ))) → kept.now ≡ kept_seeds model.now seeds
-        → map (omitted_cells (length model.now.params)) omissions.new.omissions ≡ (slices_growth model.now prefs.now seeds slices.now).omitted) }
-    ensures trees { OnOk result (All HasNoTree omissions.new.omissions) }
-    ensures form { OnOk result (omissions.new.form ≡ omissions.old.form) }
-    ensures asked { (seeds : List (ℕ × List (Option ℕ))) → kept.now ≡ kept_seeds model.now seeds
-        → Ends result (first_over model.now prefs.now budget (slices_growth model.now prefs.now seeds slices.now).asked) }
+    requires none_omitted { omissions.old ≡ record { form = unwrap_or input.now.proof ProofForm.One; omissions = [] } }
+    ensures rows { OnOk result ((seeds : List (ℕ × List (Option ℕ))) → input.now.kept.now ≡ kept_seeds input.now.model.now seeds
+        → rows.new ≡ (slices_growth input.now.model.now input.now.prefs.now seeds slices.now).rows) }
+    ensures tuples { OnOk result ((seeds : List (ℕ × List (Option ℕ))) → input.now.kept.now ≡ kept_seeds input.now.model.now seeds
+        → earlier_tuples input.now.model.now omissions.new ≡ (slices_growth input.now.model.now input.now.prefs.now seeds slices.now).omitted) }
+    ensures omissions { OnOk result (AreOmissionsOf input.now.model.now input.now.prefs.now input.now.proof omissions.new) }
+    ensures asked { (seeds : List (ℕ × List (Option ℕ))) → input.now.kept.now ≡ kept_seeds input.now.model.now seeds
+        → Ends result (first_over input.now.model.now input.now.prefs.now input.now.budget
+        (slices_growth input.now.model.now input.now.prefs.now seeds slices.now).asked) }
 {
     for slice in slices {
-        grow_slice(
-            workers, alloc, model, plan, prefs, kept, *slice, budget, rows, omissions,
-        )?;
+        grow_slice(workers, alloc, input, *slice, rows, omissions)?;
     }
     Ok(())
 }
 
 /// Generates a suite: row by row what growth gives for the model with these preferences and seeds.
+/// Where a proof is asked for, each omitted tuple has an eager tree of its form, which refutes it
+/// after those before it.
 ///
 /// # Errors
 ///
@@ -86,6 +83,7 @@ pub fn generate<R: Threads + Sync, G: Gate + Sync>(
     ensures suite { IfOk result (IsSuiteOf model.now prefs.now (seeds_seen seeds.now) opts.now.proof) }
     ensures asked { Ends result (first_over model.now prefs.now opts.now.budget (growth model.now prefs.now (seeds_seen seeds.now)).asked) }
 {
+    plan.assert_invariant();
     let workers = Workers {
         rt,
         count: opts.workers,
@@ -101,15 +99,19 @@ pub fn generate<R: Threads + Sync, G: Gate + Sync>(
     };
     let mut rows = Rows::new(alloc);
     let mut omitted = Omissions::empty(alloc, form);
-    grow_slices(
-        &workers,
-        alloc,
+    let input = GrowInput {
         model,
         plan,
         prefs,
-        &sorted.kept,
+        kept: &sorted.kept,
+        budget: opts.budget,
+        proof: opts.proof,
+    };
+    grow_slices(
+        &workers,
+        alloc,
+        &input,
         slices.as_slice(),
-        opts.budget,
         &mut rows,
         &mut omitted,
     )?;

@@ -10,6 +10,7 @@ mod fill;
 mod finish;
 mod generating;
 mod horizontal;
+mod input;
 mod join;
 mod order;
 mod place_tuple;

@@ -1,4 +1,4 @@
-use Rattle.std.proofs.Common.{◌≡◌, ◌++◌, ◌∙◌, ℕ, Bool, true, List, Option, All, nat_lt, find, length, ap, sym, subst, arith}
+use Rattle.std.proofs.Common.{◌≡◌, ◌++◌, ◌∙◌, ℕ, Bool, true, List, Option, All, nat_lt, find, length, sum, sum_by, ap, sym, subst, arith}
 use Rattle.std.proofs.lemmas.List.{length-map}
 use Rattle.std.proofs.lemmas.List.Elements.{All-map}
 use Rattle.std.proofs.lemmas.Result.{err_from_is_err_and}
@@ -11,7 +11,10 @@ use Rattle.definitions.specs.Search.{question_cost}
 use Rattle.definitions.specs.Seeds.{asked_seeds}
 use Rattle.definitions.specs.SliceRows.{IsSliceOf}
 use Rattle.row_text.specs.RowFiles.{row_seen, seeds_seen}
+use Rattle.tuple_index.specs.Plan.{PlanView}
+use Rattle.ipog_grow.specs.Omissions.{met_count}
 use Rattle.ipog_grow.proofs.Beginning.{slices_exist, kept-fit, kept-few, kept-short}
+use Rattle.ipog_grow.proofs.MetCount.{few_in_slices}
 use Rattle.ipog_grow.proofs.Sorting.{ends-by}
 use Rattle.ipog_grow.proofs.Spending.{find-later, find-earlier}
 use Rattle.ipog_grow.proofs.generating.generate.Goals as goal
@@ -25,20 +28,30 @@ returns-in_err-sorted-clause-asked g c =
     rw (p.1, p.2) (ends-by c.in_err-sorted.field-0.0 (find over first) (find over (first ++ later)) (λ q spent. find-earlier over q first later spent)
     c.in_err-sorted.ensures.asked)
 
+pub grow_slices-requires-clause-input : goal.grow_slices-requires-clause-input
+grow_slices-requires-clause-input g c _ _ = record {
+  plan = c.requires.plan;
+  orders = c.requires.orders;
+  fit = subst (λ (rows : List (List (Option ℕ))). All (FitsModel c.args.model.now) rows) (sym c.in_ok-sorted.ensures.kept)
+      (kept-fit c.args.model.now (seeds_seen c.args.seeds.now)
+      (All-map (λ seed. FitsModel c.args.model.now seed.1) row_seen c.args.seeds.now.rows c.requires.seeds));
+  few = subst (λ (rows : List (List (Option ℕ))). All (λ seed. has_slice c.args.model.now seed ≡ true) rows) (sym c.in_ok-sorted.ensures.kept)
+      (kept-few c.args.model.now (seeds_seen c.args.seeds.now));
+}
+
 pub grow_slices-requires-clause-slices : goal.grow_slices-requires-clause-slices
 grow_slices-requires-clause-slices g c _ _ =
     subst (λ (parts : List Slice). All (IsSliceOf c.args.model.now) parts) (sym (c.as_slice.ensures.value ∙ c.in-Ok.ensures)) (slices_exist c.args.model.now)
 
-pub grow_slices-requires-clause-fit : goal.grow_slices-requires-clause-fit
-grow_slices-requires-clause-fit g c _ _ =
-    subst (λ (rows : List (List (Option ℕ))). All (FitsModel c.args.model.now) rows) (sym c.in_ok-sorted.ensures.kept)
-    (kept-fit c.args.model.now (seeds_seen c.args.seeds.now)
-    (All-map (λ seed. FitsModel c.args.model.now seed.1) row_seen c.args.seeds.now.rows c.requires.seeds))
-
 pub grow_slices-requires-clause-few : goal.grow_slices-requires-clause-few
 grow_slices-requires-clause-few g c _ _ =
-    subst (λ (rows : List (List (Option ℕ))). All (λ seed. has_slice c.args.model.now seed ≡ true) rows) (sym c.in_ok-sorted.ensures.kept)
-    (kept-few c.args.model.now (seeds_seen c.args.seeds.now))
+    omega (
+      arith,
+      ap (sum_by (met_count c.args.model.now)) (c.as_slice.ensures.value ∙ c.in-Ok.ensures),
+      few_in_slices c.args.model.now,
+      ap (λ (plan : PlanView). sum plan.sizes) c.requires.plan,
+      c.assert_invariant.ensures.within,
+    )
 
 pub returns-in_err-grow_slices-clause-asked : goal.returns-in_err-grow_slices-clause-asked
 returns-in_err-grow_slices-clause-asked g c =

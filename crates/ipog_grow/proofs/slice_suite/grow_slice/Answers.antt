@@ -1,39 +1,50 @@
-use Rattle.std.proofs.Common.{◌≡◌, ◌++◌, ℕ, Bool, List, Option, Err, All, length, nat_lt, filter, ◌∙◌, sym, ap, subst}
+use Rattle.std.proofs.Common.{◌≡◌, ◌++◌, ℕ, Bool, List, [], Option, Err, All, length, nat_lt, filter, ◌∙◌, sym, ap, subst, arith}
+use Rattle.std.proofs.lemmas.Result.{on_ok_weaker}
 use Rattle.definitions.specs.Completion.{column_order}
 use Rattle.definitions.specs.Growth.{Grown, is_of_slice}
 use Rattle.definitions.specs.Search.{question_cost}
 use Rattle.ipog_grow.specs.Asking.{SearchContext, Grows, Told, columns_grown, first_spent}
+use Rattle.ipog_grow.specs.Inputs.{context_in}
+use Rattle.ipog_grow.specs.Omissions.{IsOmittedIn}
 use Rattle.ipog_grow.specs.Suites.{Ends}
-use Rattle.ipog_grow.proofs.Omitting.{omitted-long}
+use Rattle.ipog_grow.proofs.Omitting.{omitted-in, omitted-few}
 use Rattle.ipog_grow.proofs.Slicing.{seeds_grow, stopped-in}
 use Rattle.ipog_grow.proofs.Spending.{find-later, find-earlier}
+use Rattle.ipog_grow.proofs.Trees.{omissions-count}
 use Rattle.ipog_grow.proofs.slice_suite.grow_slice.Goals as goal
 
 abbrev over : SearchContext → List (Option ℕ) → Bool
 over context cells = nat_lt context.budget (question_cost context.model context.prefs cells)
 
-pub grow_columns-requires-clause-grows : goal.grow_columns-requires-clause-grows
-grow_columns-requires-clause-grows g c _ _ =
-    subst (λ (w : SearchContext). All (Grows w) c.in-Ok-new.growth.rows.items) (sym c.in-Ok-new.ensures.context)
-    (subst (λ (rows : List (List (Option ℕ))). All
-    (Grows (record { model = c.args.model.now; prefs = c.args.prefs.now; slice = c.args.slice; budget = c.args.budget })) rows)
-    (sym (c.in-Ok-new.ensures.rows ∙ c.in-Ok.ensures)) (seeds_grow c.args.model.now c.args.slice c.args.kept.now c.requires.fit c.requires.few))
+-- what the columns give, as they start
+same_grown : (now context : SearchContext) (order : List ℕ) (grown start : List (List (Option ℕ))) → now ≡ context → grown ≡ start
+    → columns_grown now order grown ≡ columns_grown context order start
+same_grown now context order grown start same starts = ap (λ w. columns_grown w order grown) same ∙ ap (columns_grown context order) starts
 
--- what the columns ask, as they start
 same_asked : (now context : SearchContext) (order : List ℕ) (grown start : List (List (Option ℕ))) → now ≡ context → grown ≡ start
     → first_spent now (columns_grown now order grown).asked ≡ first_spent context (columns_grown context order start).asked
 same_asked now context order grown start same starts =
     ap (λ w. first_spent w (columns_grown w order grown).asked) same ∙ ap (λ rows. first_spent context (columns_grown context order rows).asked) starts
 
-same_grown : (now context : SearchContext) (order : List ℕ) (grown start : List (List (Option ℕ))) → now ≡ context → grown ≡ start
-    → columns_grown now order grown ≡ columns_grown context order start
-same_grown now context order grown start same starts = ap (λ w. columns_grown w order grown) same ∙ ap (columns_grown context order) starts
+-- what they omit, behind nothing
+same_omitted : (now context : SearchContext) (order : List ℕ) (grown start before given put : List (List (Option ℕ))) → now ≡ context → grown ≡ start
+    → before ≡ [] → put ≡ before ++ (columns_grown now order grown).omitted → given ≡ put → given ≡ (columns_grown context order start).omitted
+same_omitted now context order grown start before given put same starts none puts gives =
+    gives ∙ puts ∙ ap (λ tuples. tuples ++ (columns_grown now order grown).omitted) none ∙ ap (λ (g : Grown). g.omitted)
+    (same_grown now context order grown start same starts)
+
+pub grow_columns-requires-clause-grows : goal.grow_columns-requires-clause-grows
+grow_columns-requires-clause-grows g c _ _ =
+    subst (λ (w : SearchContext). All (Grows w) c.in-Ok-new.growth.rows.items) (sym c.in-Ok-new.ensures.context)
+    (subst (λ (rows : List (List (Option ℕ))). All (Grows (context_in c.args.input.now c.args.slice)) rows)
+    (sym (c.in-Ok-new.ensures.rows ∙ c.in-Ok.ensures))
+    (seeds_grow c.args.input.now.model.now c.args.slice c.args.input.now.kept.now c.requires.input.fit c.requires.input.few))
 
 pub returns-in-Err-clause-asked : goal.returns-in-Err-clause-asked
 returns-in-Err-clause-asked g c =
-    let context : SearchContext = record { model = c.args.model.now; prefs = c.args.prefs.now; slice = c.args.slice; budget = c.args.budget } in
-    let start : List (List (Option ℕ)) = filter (is_of_slice c.args.model.now c.args.slice) c.args.kept.now in
-    let order : List ℕ = column_order c.args.model.now c.args.slice in
+    let context : SearchContext = context_in c.args.input.now c.args.slice in
+    let start : List (List (Option ℕ)) = filter (is_of_slice context.model c.args.slice) c.args.input.now.kept.now in
+    let order : List ℕ = column_order context.model c.args.slice in
     let grown : Grown = columns_grown context order start in
     c.fault_of.ensures (first_spent context (grown.asked ++ grown.rows))
     (stopped-in (Unit {0}) c.in-Err.stop c.question.result.now (first_spent context grown.asked) (first_spent context (grown.asked ++ grown.rows))
@@ -43,22 +54,55 @@ returns-in-Err-clause-asked g c =
     (same_asked c.in-Ok-new.growth.asker.context context order c.in-Ok-new.growth.rows.items start c.in-Ok-new.ensures.context
     (c.in-Ok-new.ensures.rows ∙ c.in-Ok.ensures)) c.in-Err.ensures.asked)))
 
-pub finish_slice-requires-clause-long : goal.finish_slice-requires-clause-long
-finish_slice-requires-clause-long g c =
-    let context : SearchContext = record { model = c.args.model.now; prefs = c.args.prefs.now; slice = c.args.slice; budget = c.args.budget } in
-    let order : List ℕ = column_order c.args.model.now c.args.slice in
+pub finish_slice-requires-clause-omitted : goal.finish_slice-requires-clause-omitted
+finish_slice-requires-clause-omitted g c =
+    let context : SearchContext = context_in c.args.input.now c.args.slice in
+    let start : List (List (Option ℕ)) = filter (is_of_slice context.model c.args.slice) c.args.input.now.kept.now in
+    let order : List ℕ = column_order context.model c.args.slice in
+    let now : SearchContext = c.in-Ok-new.growth.asker.context in
     let rows : List (List (Option ℕ)) = c.in-Ok-new.growth.rows.items in
-    subst (λ (tuples : List (List (Option ℕ))). All (λ tuple. length tuple ≡ length c.args.model.now.params) tuples)
-    (sym (c.as_slice-2.ensures ∙ c.in_default-grow_columns.ensures.omitted
-    ∙ ap (λ before. before ++ (columns_grown c.in-Ok-new.growth.asker.context order rows).omitted) c.in-Ok-new.ensures.omitted
-    ∙ ap (λ w. (columns_grown w order rows).omitted) c.in-Ok-new.ensures.context))
-    (omitted-long c.args.model.now c.args.prefs.now c.args.slice order rows c.requires.slice)
+    let same = c.in-Ok-new.ensures.rows ∙ c.in-Ok.ensures in
+    subst (λ (w : SearchContext). All (IsOmittedIn w) c.as_slice-2.result.now)
+    (sym (c.in_default-grow_columns.ensures.same ∙ c.in-Ok-new.ensures.context))
+    (subst (λ (tuples : List (List (Option ℕ))). All (IsOmittedIn context) tuples)
+    (sym (same_omitted now context order rows start c.in-Ok-new.growth.omitted c.as_slice-2.result.now c.grow_columns.new.self.omitted
+    c.in-Ok-new.ensures.context same c.in-Ok-new.ensures.omitted c.in_default-grow_columns.ensures.omitted c.as_slice-2.ensures))
+    (omitted-in context order start c.requires.slice
+    (sym (same_asked now context order rows start c.in-Ok-new.ensures.context same) ∙ c.in_default-grow_columns.ensures.asked)))
+
+pub finish_slice-requires-clause-few : goal.finish_slice-requires-clause-few
+finish_slice-requires-clause-few g c =
+    let context : SearchContext = context_in c.args.input.now c.args.slice in
+    let start : List (List (Option ℕ)) = filter (is_of_slice context.model c.args.slice) c.args.input.now.kept.now in
+    let order : List ℕ = column_order context.model c.args.slice in
+    omega (
+      arith,
+      c.requires.few,
+      omitted-few context order start,
+      ap length (same_omitted c.in-Ok-new.growth.asker.context context order c.in-Ok-new.growth.rows.items start c.in-Ok-new.growth.omitted
+          c.as_slice-2.result.now c.grow_columns.new.self.omitted c.in-Ok-new.ensures.context (c.in-Ok-new.ensures.rows ∙ c.in-Ok.ensures)
+          c.in-Ok-new.ensures.omitted c.in_default-grow_columns.ensures.omitted c.as_slice-2.ensures),
+    )
+
+pub returns-clause-count : goal.returns-clause-count
+returns-clause-count g c =
+    let context : SearchContext = context_in c.args.input.now c.args.slice in
+    let start : List (List (Option ℕ)) = filter (is_of_slice context.model c.args.slice) c.args.input.now.kept.now in
+    let order : List ℕ = column_order context.model c.args.slice in
+    let few = omitted-few context order start in
+    let put = ap length (same_omitted c.in-Ok-new.growth.asker.context context order c.in-Ok-new.growth.rows.items start c.in-Ok-new.growth.omitted
+    c.as_slice-2.result.now c.grow_columns.new.self.omitted c.in-Ok-new.ensures.context (c.in-Ok-new.ensures.rows ∙ c.in-Ok.ensures)
+    c.in-Ok-new.ensures.omitted c.in_default-grow_columns.ensures.omitted c.as_slice-2.ensures) in
+    on_ok_weaker c.finish_slice.result
+    (λ tuples.
+    let count = omissions-count c.grow_columns.new.self.asker.context.model c.args.omissions.now c.finish_slice.new.omissions c.as_slice-2.result.now tuples in
+    omega (arith, few, put, count)) c.finish_slice.ensures.tuples
 
 pub returns-clause-asked : goal.returns-clause-asked
 returns-clause-asked g c =
-    let context : SearchContext = record { model = c.args.model.now; prefs = c.args.prefs.now; slice = c.args.slice; budget = c.args.budget } in
-    let start : List (List (Option ℕ)) = filter (is_of_slice c.args.model.now c.args.slice) c.args.kept.now in
-    let order : List ℕ = column_order c.args.model.now c.args.slice in
+    let context : SearchContext = context_in c.args.input.now c.args.slice in
+    let start : List (List (Option ℕ)) = filter (is_of_slice context.model c.args.slice) c.args.input.now.kept.now in
+    let order : List ℕ = column_order context.model c.args.slice in
     let grown : Grown = columns_grown context order start in
     let same = c.in-Ok-new.ensures.rows ∙ c.in-Ok.ensures in
     let rows : c.as_slice.result.now ≡ grown.rows =

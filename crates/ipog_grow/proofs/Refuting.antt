@@ -1,0 +1,73 @@
+-- What the refutation of an omitted tuple stands on.
+use Rattle.std.proofs.Common.{◌≡◌, ℕ, ◌<◌, ◌≤◌, Bool, true, false, cond, nat_lt, List, [], get_or, Option, Some, None, ◌∙◌, sym, ap, subst, lt-ltb}
+use Rattle.std.proofs.lemmas.Bool.{false≢true, false_from_ne_true}
+use Rattle.std.proofs.lemmas.Option.{none-some}
+use Rattle.cov_model.specs.declared.slice.Slice.{Slice}
+use Rattle.cov_model.specs.declared.slice.Slice.TheVariants.{Positive, Negative}
+use Rattle.cov_model.specs.Rows.{value_in}
+use Rattle.cov_model.specs.Slices.{slice_values}
+use Rattle.cov_model.specs.Sound.{ModelView}
+use Rattle.cov_model.specs.Valid.{serves}
+use Rattle.definitions.specs.Completion.{is_extendable}
+use Rattle.definitions.specs.Covering.{IsUnserved}
+use Rattle.definitions.specs.Refutation.{Token, is_eager}
+use Rattle.definitions.specs.Search.{plain_cost, question_cost}
+use Rattle.definitions.specs.SuiteProof.{IsEagerTree, branch_count}
+use Rattle.definitions.proofs.Members.{of_among}
+use Rattle.definitions.proofs.Serving.{served_extends}
+use Rattle.definitions.proofs.SliceLemmas.{InSlice, slice_is}
+use Rattle.definitions.proofs.SliceLemmas as slices
+use Rattle.ipog_grow.specs.Asking.{SearchContext, IsSoundContext}
+use Rattle.ipog_grow.specs.Growing.{GrowsIn, HasFixed}
+use Rattle.ipog_grow.specs.Omissions.{IsOmittedIn}
+use Rattle.ipog_grow.proofs.Tuples.{is_slice-of, grows-slice}
+
+-- a partial row that grows in a slice belongs to it
+grows-belongs : (m : ModelView) (slice : Slice) (cells : List (Option ℕ)) → GrowsIn m slice cells → InSlice m slice cells
+grows-belongs m slice cells grows = record {
+  values = λ p within assigned. of_among (get_or (slice_values m slice) p []) (value_in cells p) (grows.of.listed p assigned);
+  fixed = fixed slice grows.fixed;
+}
+  where
+    fixed : (slice : Slice) → HasFixed slice cells → slices.HasFixed slice cells
+    fixed Positive has = tt
+    fixed (Negative q v) has = has
+
+-- no row serves an omitted tuple
+pub omitted-unserved : (context : SearchContext) (tuple : List (Option ℕ)) → IsSoundContext context → IsOmittedIn context tuple
+    → IsUnserved context.model tuple
+omitted-unserved context tuple is omitted row =
+    let own = slice_is context.model context.slice tuple (is_slice-of context.model context.slice is.slice)
+    (grows-belongs context.model context.slice tuple omitted.grows) in
+    false_from_ne_true (serves context.model row tuple)
+    (λ holds.
+    false≢true (sym omitted.fails ∙ ap (λ slice. is_extendable context.model slice tuple) (sym own.is)
+    ∙ served_extends context.model row tuple own.few holds))
+
+-- its plain cost is that of its question
+pub omitted-cost : (context : SearchContext) (tuple : List (Option ℕ)) → IsSoundContext context → IsOmittedIn context tuple
+    → question_cost context.model context.prefs tuple ≡ plain_cost context.model context.prefs context.slice tuple
+omitted-cost context tuple is omitted =
+    ap (λ slice. plain_cost context.model context.prefs slice tuple) (grows-slice context.model context.slice tuple is.slice omitted.grows)
+
+-- which is within the budget
+pub omitted-within : (context : SearchContext) (tuple : List (Option ℕ)) → IsSoundContext context → IsOmittedIn context tuple
+    → context.budget < plain_cost context.model context.prefs context.slice tuple → ⊥
+omitted-within context tuple is omitted above =
+    let cost = question_cost context.model context.prefs tuple in
+    not_over (nat_lt context.budget cost)
+    (lt-ltb context.budget cost (subst (λ (n : ℕ). context.budget < n) (sym (omitted-cost context tuple is omitted)) above)) omitted.within
+  where
+    not_over : (b : Bool) → b ≡ true → cond b (Some tuple) None ≡ None → ⊥
+    not_over true is unspent = none-some tuple (sym unspent)
+    not_over false is unspent = false≢true is
+
+-- so an eager tree with no more branches than its plain cost is one of a proof
+pub omitted-tree : (context : SearchContext) (tuple : List (Option ℕ)) (format : ℕ) (earlier : List (List (Option ℕ))) (tokens : List Token)
+    → IsSoundContext context → IsOmittedIn context tuple → is_eager context.model format earlier tuple tokens ≡ true
+    → branch_count tokens ≤ plain_cost context.model context.prefs context.slice tuple
+    → IsEagerTree context.model context.prefs format earlier tuple tokens
+omitted-tree context tuple format earlier tokens is omitted eager few = record {
+  eager = eager;
+  few = subst (λ (n : ℕ). branch_count tokens ≤ n) (sym (omitted-cost context tuple is omitted)) few;
+}

@@ -1,0 +1,40 @@
+-- What growth omits, and the omissions that it leaves. (This project's rules.)
+use Rattle.std.specs.Prelude.{◌≡◌, ℕ, false, List, [], ◌∷◌, flat_map, length, map, Option, Some, None, All, unwrap_or}
+use Rattle.cov_model.specs.declared.slice.Slice.{Slice}
+use Rattle.cov_model.specs.Fits.{FitsModel}
+use Rattle.cov_model.specs.Sound.{ModelView}
+use Rattle.definitions.specs.Completion.{column_order}
+use Rattle.definitions.specs.Covering.{IsUnserved}
+use Rattle.definitions.specs.Growth.{tuples_in_play}
+use Rattle.definitions.specs.SuiteProof.{IsEagerTree}
+use Rattle.feasibility.specs.Refuting.{earlier_tuples}
+use Rattle.refutation.specs.Proofs.{ProofView, format_of, meant}
+use Rattle.refutation.specs.declared.omissions.ProofForm.{ProofForm}
+use Rattle.refutation.specs.declared.omissions.ProofForm.TheVariants.{One}
+use Rattle.refutation.specs.declared.token.TreeToken.{TreeToken}
+use Rattle.ipog_grow.specs.Asking.{SearchContext, Grows, extends, first_spent}
+use Rattle.ipog_grow.specs.Suites.{HasTrees}
+
+-- a tuple that is omitted in a slice: it isn't extendable there, and its question was within the budget
+pub record IsOmittedIn (context : SearchContext) (tuple : List (Option ℕ)) : Type 0 where
+  pub grows : Grows context tuple
+  pub fails : extends context tuple ≡ false
+  pub within : first_spent context (tuple ∷ []) ≡ None
+
+-- the tree of an omitted tuple after earlier ones: an eager one in the form that is asked for, without tokens where
+-- none is
+abbrev pub IsTreeOf : ModelView → List (List ℕ) → Option ProofForm → List (List (Option ℕ)) → List (Option ℕ) → List TreeToken → Type 0
+IsTreeOf m pref None earlier tuple tree = tree ≡ []
+IsTreeOf m pref (Some form) earlier tuple tree = IsEagerTree m pref (format_of form) earlier tuple (map meant tree)
+
+-- omissions of a model in the form that is asked for, or in the first where none is: no row serves their tuples,
+-- and they have their trees
+pub record AreOmissionsOf (m : ModelView) (pref : List (List ℕ)) (proof : Option ProofForm) (omissions : ProofView) : Type 0 where
+  pub form : omissions.form ≡ unwrap_or proof One
+  pub fit : All (FitsModel m) (earlier_tuples m omissions)
+  pub unserved : All (IsUnserved m) (earlier_tuples m omissions)
+  pub trees : HasTrees m pref proof omissions.omissions
+
+-- how many tuples growth meets in a slice
+abbrev pub met_count : ModelView → Slice → ℕ
+met_count m slice = length (flat_map (tuples_in_play m slice) (column_order m slice))
