@@ -15,7 +15,7 @@ use Rattle.refutation.specs.declared.token.TreeToken.{TreeToken}
 use Rattle.ipog_grow.specs.Asking.{SearchContext, Grows, extends, first_spent}
 use Rattle.ipog_grow.specs.Suites.{HasTrees}
 
--- a tuple that is omitted in a slice: it isn't extendable there, and its question was within the budget
+-- a tuple that is omitted in a slice: it grows there, isn't extendable, and its question is within the budget
 pub record IsOmittedIn (context : SearchContext) (tuple : List (Option ℕ)) : Type 0 where
   pub grows : Grows context tuple
   pub fails : extends context tuple ≡ false
@@ -27,8 +27,8 @@ abbrev pub IsTreeOf : ModelView → List (List ℕ) → Option ProofForm → Lis
 IsTreeOf m pref None earlier tuple tree = tree ≡ []
 IsTreeOf m pref (Some form) earlier tuple tree = IsEagerTree m pref (format_of form) earlier tuple (map meant tree)
 
--- omissions of a model in the form that is asked for, or in the first where none is: no row serves their tuples,
--- and they have their trees
+-- omissions of a model in the form that is asked for, or in the first where none is: their tuples fit the model, no
+-- row serves them, and they have their trees
 pub record AreOmissionsOf (m : ModelView) (pref : List (List ℕ)) (proof : Option ProofForm) (omissions : ProofView) : Type 0 where
   pub form : omissions.form ≡ unwrap_or proof One
   pub fit : All (FitsModel m) (earlier_tuples m omissions)

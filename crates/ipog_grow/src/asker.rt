@@ -132,7 +132,7 @@ impl<'a> Asker<'a> {
         match self.solver.refute(tuple, self.budget, earlier, &mut tree) {
             Ok(()) => Ok(tree),
             Err(RefuteFault::NoMemory) => Err(NoMemory),
-            // it was asked whether the tuple is extendable, and the answer was within the budget
+            // the tuple was asked before, and its cost didn't exceed the budget
             Err(RefuteFault::Spent) => unreachable!(),
         }
     }
