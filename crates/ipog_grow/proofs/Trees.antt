@@ -5,7 +5,7 @@ use Rattle.std.proofs.lemmas.List.Elements.{All-nil, All-cons, All-append}
 use Rattle.cov_model.specs.Fits.{FitsModel}
 use Rattle.cov_model.specs.Sound.{ModelView}
 use Rattle.definitions.specs.Covering.{IsUnserved}
-use Rattle.definitions.specs.Pairs.{cells_of}
+use Rattle.definitions.specs.Pairs.{cells_of, pairs_of}
 use Rattle.definitions.specs.Refutation.{Token}
 use Rattle.definitions.specs.SuiteProof.{AreEagerTrees, IsEagerTree}
 use Rattle.definitions.specs.Verdict.{as_cells}
@@ -61,14 +61,20 @@ trees-push m pref (Some form) omissions omission trees tree =
 
 pub omissions-push : (m : ModelView) (pref : List (List ℕ)) (proof : Option ProofForm) (omissions after : ProofView) (omission : Omission)
     → AreOmissionsOf m pref proof omissions → after ≡ record { form = omissions.form; omissions = omissions.omissions ++ omission ∷ [] }
+    → omission.tuple ≡ pairs_of (omitted_cells (length m.params) omission)
     → FitsModel m (omitted_cells (length m.params) omission) → IsUnserved m (omitted_cells (length m.params) omission)
     → IsTreeOf m pref proof (earlier_tuples m omissions) (omitted_cells (length m.params) omission) omission.tree → AreOmissionsOf m pref proof after
-omissions-push m pref proof omissions after omission are put fits unserved tree =
+omissions-push m pref proof omissions after omission are put pairs fits unserved tree =
     let cells : Omission → List (Option ℕ) = omitted_cells (length m.params) in
     let tuples : List (List (Option ℕ)) = map cells omissions.omissions in
     let more : map cells (omissions.omissions ++ omission ∷ []) ≡ tuples ++ cells omission ∷ [] = map-append cells omissions.omissions (omission ∷ []) in
     subst (AreOmissionsOf m pref proof) (sym put) (record {
       form = are.form;
+      pairs =
+          map-append (λ omission. omission.tuple) omissions.omissions (omission ∷ [])
+          ∙ ap (λ listed. listed ++ omission.tuple ∷ []) are.pairs
+          ∙ ap (λ last. map pairs_of tuples ++ last ∷ []) pairs
+          ∙ sym (ap (map pairs_of) more ∙ map-append pairs_of tuples (cells omission ∷ []));
       fit = subst (All (FitsModel m)) (sym more)
           (All-append (FitsModel m) tuples (cells omission ∷ []) are.fit (All-cons (FitsModel m) (cells omission) [] fits (All-nil (FitsModel m))));
       unserved = subst (All (IsUnserved m)) (sym more)

@@ -6,6 +6,7 @@ use Rattle.cov_model.specs.Sound.{ModelView}
 use Rattle.definitions.specs.Completion.{column_order}
 use Rattle.definitions.specs.Covering.{IsUnserved}
 use Rattle.definitions.specs.Growth.{tuples_in_play}
+use Rattle.definitions.specs.Pairs.{pairs_of}
 use Rattle.definitions.specs.SuiteProof.{IsEagerTree}
 use Rattle.feasibility.specs.Refuting.{earlier_tuples}
 use Rattle.refutation.specs.Proofs.{ProofView, format_of, meant}
@@ -27,10 +28,11 @@ abbrev pub IsTreeOf : ModelView → List (List ℕ) → Option ProofForm → Lis
 IsTreeOf m pref None earlier tuple tree = tree ≡ []
 IsTreeOf m pref (Some form) earlier tuple tree = IsEagerTree m pref (format_of form) earlier tuple (map meant tree)
 
--- omissions of a model in the form that is asked for, or in the first where none is: their tuples fit the model, no
--- row serves them, and they have their trees
+-- omissions of a model in the form that is asked for, or in the first where none is: they have the pairs of partial
+-- rows that fit the model and that no row serves, and they have their trees
 pub record AreOmissionsOf (m : ModelView) (pref : List (List ℕ)) (proof : Option ProofForm) (omissions : ProofView) : Type 0 where
   pub form : omissions.form ≡ unwrap_or proof One
+  pub pairs : map (λ omission. omission.tuple) omissions.omissions ≡ map pairs_of (earlier_tuples m omissions)
   pub fit : All (FitsModel m) (earlier_tuples m omissions)
   pub unserved : All (IsUnserved m) (earlier_tuples m omissions)
   pub trees : HasTrees m pref proof omissions.omissions

@@ -34,7 +34,7 @@ HasTrees m pref (Some form) omissions = AreEagerTrees m pref (format_of form) []
 -- their form is the one asked for, or the first where none was
 pub record IsSuiteOf (m : ModelView) (pref : List (List ℕ)) (seeds : List (ℕ × List (Option ℕ))) (proof : Option ProofForm) (suite : Suite) : Type 0 where
   pub rows : suite.rows ≡ (growth m pref seeds).rows
-  pub omitted : map (omitted_cells (length m.params)) suite.omitted.omissions ≡ (growth m pref seeds).omitted
+  pub omitted : map (λ omission. omission.tuple) suite.omitted.omissions ≡ map pairs_of (growth m pref seeds).omitted
   pub form : suite.omitted.form ≡ unwrap_or proof One
   pub trees : HasTrees m pref proof suite.omitted.omissions
   pub kept : suite.kept ≡ length (kept_seeds m seeds)

@@ -3,7 +3,7 @@ use Rattle.std.proofs.lemmas.List.{map-append}
 use Rattle.std.proofs.lemmas.Result.{on_ok_weaker}
 use Rattle.cov_model.specs.Fits.{FitsModel}
 use Rattle.definitions.specs.Covering.{IsUnserved}
-use Rattle.definitions.specs.Pairs.{cells_of}
+use Rattle.definitions.specs.Pairs.{cells_of, pairs_of}
 use Rattle.feasibility.specs.Refuting.{earlier_tuples}
 use Rattle.refutation.specs.declared.omissions.Omission.{Omission}
 use Rattle.ipog_grow.specs.Asking.{SearchContext}
@@ -40,6 +40,7 @@ returns-clause-omissions c =
     on_ok_weaker c.push.result
     (λ put.
     omissions-push context.model context.prefs c.args.proof c.args.into.now c.push.new.self omission c.requires.earlier put
+    (c.in_ok-tuple.ensures ∙ ap pairs_of is)
     (subst (FitsModel context.model) is c.requires.omitted.grows.of.fits)
     (subst (IsUnserved context.model) is (omitted-unserved context c.args.cells.now c.assert_invariant.ensures.context c.requires.omitted))
     c.in_ok-tree.ensures.tree) c.push.ensures.ok

@@ -7,6 +7,7 @@ use Rattle.refutation.specs.Proofs.{format_of, meant}
 use Rattle.ipog_grow.specs.declared.asker.Asker.TheInside.{Inside}
 use Rattle.ipog_grow.specs.Asking.{AskerView, SearchContext}
 use Rattle.ipog_grow.specs.Omissions.{IsOmittedIn}
+use Rattle.ipog_grow.proofs.Tuples.{grows-slice}
 use Rattle.ipog_grow.proofs.Refuting.{omitted-tree, omitted-unserved, omitted-within}
 use Rattle.ipog_grow.proofs.asker.Asker.refute.Goals as goal
 use Rattle.ipog_grow.proofs.asker.Asker.refute.Goals.{in-Ok, in-Err-NoMemory}
@@ -22,6 +23,11 @@ omitted_here : (a : Inside) (view : AskerView) (pairs : List (ℕ × ℕ)) → r
     → IsOmittedIn view.context (cells_of (length view.context.model.params) pairs) → IsOmittedIn (context_of a) (tuple_of a pairs)
 omitted_here a view pairs seen omitted =
     subst (λ (asker : AskerView). IsOmittedIn asker.context (cells_of (length asker.context.model.params) pairs)) (sym seen) omitted
+
+pub refute-requires-clause-slice : goal.refute-requires-clause-slice
+refute-requires-clause-slice c =
+    grows-slice c.self.inside.solver.model c.self.inside.solver.slice (tuple_of c.self.inside c.args.tuple.now) c.self.invariant.context.slice
+    (omitted_here c.self.inside c.args.self.now c.args.tuple.now c.self.view_is c.requires.omitted).grows
 
 pub refute-requires-clause-unserved : goal.refute-requires-clause-unserved
 refute-requires-clause-unserved c =
