@@ -1,9 +1,8 @@
 -- Which status a run must end with, from what its model file holds.
 use Rattle.std.proofs.Common.{◌≡◌, ℕ, ◌<◌, ◌≤◌, List, Option, None, Some, Ok, Err, Result, inl, inr, refl, sym, ap, subst, ◌∙◌, length, arith}
-use Rattle.std.specs.Prelude.{◌⊎◌, ◌≢◌, option_map, IsSomeAnd, IsErrAnd}
+use Rattle.std.specs.Prelude.{◌⊎◌, ◌≢◌, option_map, IfSome, IsSomeAnd, IsErrAnd}
 use Rattle.std.proofs.lemmas.Option.{none-some}
 use Rattle.outside_io.specs.Faults.{Rose}
-use Rattle.outside_io.specs.Files.{Files}
 use Rattle.cov_model.specs.Sound.{ModelView}
 use Rattle.definitions.specs.Limits.{ModelFile, most_bytes}
 use Rattle.definitions.specs.Pairs.{pairs_of}
@@ -13,23 +12,24 @@ use Rattle.model_lex.specs.declared.options.ModelOpts.{ModelOpts}
 use Rattle.model_lex.specs.declared.fault.ModelFault.{ModelFault}
 use Rattle.type_check.specs.ModelOf.{IsModelOf, IsRefusalOf}
 use Rattle.type_check.proofs.OneAnswer.{models_are_not_refused, refusals_are_one}
-use Rattle.pict_cli.specs.Runs.{EndsBehind, IsGrown, IsRefused, StopsReading, cannot_read, cannot_write, fault_status, is_refused, is_spent, no_memory, opts_of, out_of_memory, too_long, too_many}
-use Rattle.pict_cli.specs.Steps.{CountsOut, Ran}
+use Rattle.pict_cli.specs.Runs.{EndsBehind, IsGrown, IsRefused, StopsReading, cannot_read, cannot_write, cannot_write_proof, fault_status, is_refused, is_spent, no_memory, opts_of, out_of_memory, too_long, too_many}
+use Rattle.pict_cli.specs.Steps.{CountsOut, CountsWrites, Moment, Ran}
 use Rattle.pict_cli.specs.Stops.{status_of}
 use Rattle.pict_cli.specs.Told.{end_status}
 use Rattle.pict_cli.specs.declared.stop.Stop.{Stop}
-use Rattle.pict_cli.specs.declared.stop.Stop.TheVariants.{CannotRead, CannotWriteReport}
+use Rattle.pict_cli.specs.declared.stop.Stop.TheVariants.{CannotRead, CannotWriteProof, CannotWriteReport}
 use Rattle.pict_cli.proofs.RunEnds.{ends_told}
 
 -- why a run on a model ends whose suite is grown
-grown_end : (s : Settings) (seed : ℕ) (m : ModelView) (end : Result (Unit {0}) Stop) → IsGrown s seed m → end ≢ Err CannotWriteReport
+grown_end : (s : Settings) (seed : ℕ) (m : ModelView) (end : Result (Unit {0}) Stop) → IsGrown s seed m → end ≢ Err CannotWriteReport → end ≢ Err CannotWriteProof
     → EndsBehind s seed m end → (end_status end ≡ 0) ⊎ (end_status end ≡ 1)
-grown_end s seed m (Ok done) grown write printed = inl refl
-grown_end s seed m (Err stop) grown write (no_memory e) = inr (ap status_of e)
-grown_end s seed m (Err stop) grown write (too_many fault e passed) = absurd (none-some fault (sym grown.within ∙ passed))
-grown_end s seed m (Err stop) grown write (is_spent question e within over) =
+grown_end s seed m (Ok done) grown write proof printed = inl refl
+grown_end s seed m (Err stop) grown write proof (no_memory e) = inr (ap status_of e)
+grown_end s seed m (Err stop) grown write proof (too_many fault e passed) = absurd (none-some fault (sym grown.within ∙ passed))
+grown_end s seed m (Err stop) grown write proof (is_spent question e within over) =
     absurd (none-some question.cells (sym (ap (option_map pairs_of) grown.answered) ∙ over))
-grown_end s seed m (Err stop) grown write (cannot_write e printed) = absurd (write (ap Err e))
+grown_end s seed m (Err stop) grown write proof (cannot_write_proof name e asked printed) = absurd (proof (ap Err e))
+grown_end s seed m (Err stop) grown write proof (cannot_write e printed) = absurd (write (ap Err e))
 
 -- why a run ends whose reading stopped: Q is the status of a refusal, and R that of a file with too many bytes
 reading_end :
@@ -43,20 +43,25 @@ reading_end opts held (Err stop) Q read long refused (cannot_read e) = absurd (r
 reading_end opts held (Err stop) Q read long refused (too_long e above) = inl (long above (ap status_of e))
 reading_end opts held (Err stop) Q read long refused (is_refused fault e cause) = inl (refused fault cause (ap status_of e))
 
+-- no count rose
+none_rose : (proof : Option (List ℕ)) (writes writes_after : List ℕ → ℕ) → IfSome proof (λ file. ¬ Rose (writes file) (writes_after file))
+    → IsSomeAnd proof (λ file. Rose (writes file) (writes_after file)) → ⊥
+none_rose None writes writes_after stays rose = rose
+none_rose (Some file) writes writes_after stays rose = stays rose
+
 -- a run whose end has this status, where its count of faults of reading didn't rise
-module _ {s : Settings} {seed : ℕ} {files : Files} {reads reads_after : List ℕ → ℕ} {name : List ℕ} {before after : Option (List ℕ)} {faults faults_after : ℕ}
-    {notes : List Note} {end : Result (Unit {0}) Stop}
-    (ran : Ran s seed files reads reads_after name before after faults faults_after notes end) (status : ℕ) (is : status ≡ end_status end) where
-  calm : ¬ (Rose (reads name) (reads_after name)) → end ≢ Err CannotRead
+module _ {s : Settings} {seed : ℕ} {name : List ℕ} {start after : Moment} {notes : List Note} {end : Result (Unit {0}) Stop}
+    (ran : Ran s seed name start after notes end) (status : ℕ) (is : status ≡ end_status end) where
+  calm : ¬ (Rose (start.reads name) (after.reads name)) → end ≢ Err CannotRead
   calm stays e = stays (ran.read e)
 
   ended : (Q : ℕ → Type 0) → Q (end_status end) ⊎ (end_status end ≡ 1) → Q status ⊎ (status ≡ 1)
   ended Q at = subst (λ n. Q n ⊎ (n ≡ 1)) (sym is) at
 
   -- a refused file: the refusal's status, unless memory was wanting
-  pub refused_end : (bytes : List ℕ) (fault : ModelFault) → files name ≡ Some (Some bytes) → length bytes ≤ most_bytes ModelFile
+  pub refused_end : (bytes : List ℕ) (fault : ModelFault) → start.files name ≡ Some (Some bytes) → length bytes ≤ most_bytes ModelFile
       → IsRefusalOf (opts_of s) bytes fault
-      → ¬ (Rose (reads name) (reads_after name)) → (status ≡ fault_status fault) ⊎ (status ≡ 1)
+      → ¬ (Rose (start.reads name) (after.reads name)) → (status ≡ fault_status fault) ⊎ (status ≡ 1)
   refused_end bytes fault at short refusal stays = ended (λ n. n ≡ fault_status fault) (elim (ends_told ran (Some bytes) at) [
     | inl reading ↦ reading_end (opts_of s) (Some bytes) end _ (calm stays) (λ above nine. absurd (omega (arith, above, short)))
         (λ other cause same. same ∙ ap fault_status (refusals_are_one (opts_of s) bytes other fault cause.1 refusal)) reading.0
@@ -64,7 +69,7 @@ module _ {s : Settings} {seed : ℕ} {files : Files} {reads reads_after : List �
   ])
 
   -- a file with too many bytes
-  pub long_end : (bytes : List ℕ) → files name ≡ Some (Some bytes) → most_bytes ModelFile < length bytes → ¬ (Rose (reads name) (reads_after name))
+  pub long_end : (bytes : List ℕ) → start.files name ≡ Some (Some bytes) → most_bytes ModelFile < length bytes → ¬ (Rose (start.reads name) (after.reads name))
       → (status ≡ 9) ⊎ (status ≡ 1)
   long_end bytes at long stays = ended (λ n. n ≡ 9) (elim (ends_told ran (Some bytes) at) [
     | inl reading ↦
@@ -73,7 +78,7 @@ module _ {s : Settings} {seed : ℕ} {files : Files} {reads reads_after : List �
   ])
 
   -- no file
-  pub missing_end : files name ≡ Some None → (status ≡ 7) ⊎ (status ≡ 1)
+  pub missing_end : start.files name ≡ Some None → (status ≡ 7) ⊎ (status ≡ 1)
   missing_end at = ended (λ n. n ≡ 7) (elim (ends_told ran None at) [
     | inl reading ↦ missing end reading.0
     | inr none ↦ absurd none
@@ -87,11 +92,14 @@ module _ {s : Settings} {seed : ℕ} {files : Files} {reads reads_after : List �
       missing (Err stop) (is_refused other e none) = absurd none
 
   -- a file that spells a model whose suite is grown: it is printed, unless memory was wanting
-  pub complete_end : (bytes : List ℕ) (m : ModelView) (told : List Note) → files name ≡ Some (Some bytes) → length bytes ≤ most_bytes ModelFile
+  pub complete_end : (bytes : List ℕ) (m : ModelView) (told : List Note) → start.files name ≡ Some (Some bytes) → length bytes ≤ most_bytes ModelFile
       → IsModelOf (opts_of s) bytes m told → IsGrown s seed m
-      → ¬ (Rose (reads name) (reads_after name)) → ¬ (Rose faults faults_after) → (status ≡ 0) ⊎ (status ≡ 1)
-  complete_end bytes m told at short spelled grown stays unbroken = ended (λ n. n ≡ 0) (elim (ends_told ran (Some bytes) at) [
+      → ¬ (Rose (start.reads name) (after.reads name)) → IfSome s.proof (λ file. ¬ Rose (start.writes file) (after.writes file)) → ¬ (Rose start.faults after.faults)
+      → (status ≡ 0) ⊎ (status ≡ 1)
+  complete_end bytes m told at short spelled grown stays unwritten unbroken = ended (λ n. n ≡ 0) (elim (ends_told ran (Some bytes) at) [
     | inl reading ↦ reading_end (opts_of s) (Some bytes) end _ (calm stays) (λ above nine. absurd (omega (arith, above, short)))
         (λ fault cause same. absurd (models_are_not_refused (opts_of s) bytes m told fault spelled cause.1)) reading.0
-    | inr model ↦ grown_end s seed m end grown (λ e. unbroken (subst (λ x. CountsOut x faults faults_after) e ran.counts)) (model.each m told spelled).2
+    | inr model ↦ grown_end s seed m end grown (λ e. unbroken (subst (λ x. CountsOut x start.faults after.faults) e ran.counts))
+        (λ e. none_rose s.proof start.writes after.writes unwritten (subst (λ x. CountsWrites s x start.writes after.writes) e ran.writes))
+        (model.each m told spelled).1.ends
   ])

@@ -2,12 +2,14 @@ pub mod Causes
 pub mod GrowthEnds
 pub mod Headline
 pub mod KindLemmas
+pub mod ProofTexts
 pub mod PutLines
 pub mod PutPairs
 pub mod PutPieces
 pub mod PutTold
 pub mod RangeLemmas
 pub mod RunEnds
+pub mod Stopped
 pub mod Stopping
 pub mod Stops
 pub mod Unbuilt

@@ -1,9 +1,9 @@
 -- How a run ends, from how its reading and its growth ended.
 use Rattle.std.proofs.Common.{◌≡◌, ℕ, ◌||◌, ◌≤◌, length, List, [], Option, None, Some, Ok, Err, Result, inl, inr, refl, ap, subst, arith}
-use Rattle.std.specs.Prelude.{◌==◌, ◌≢◌, IfSome, IsSomeAnd, IsOkAnd}
+use Rattle.std.specs.Prelude.{◌==◌, ◌≢◌, ◌⊎◌, IfSome, IsSomeAnd, IsOkAnd}
 use Rattle.std.proofs.lemmas.Bool.{eqb-false, or_parts}
 use Rattle.outside_io.specs.declared.answers.WriteAnswer.TheVariants.{Done}
-use Rattle.outside_io.specs.Files.{Files}
+use Rattle.outside_io.specs.Files.{Files, KeepsFiles}
 use Rattle.outside_io.specs.Puts.{Puts}
 use Rattle.cov_model.specs.Sound.{ModelView, IsSound}
 use Rattle.definitions.specs.Limits.{ModelFile, most_bytes}
@@ -13,19 +13,23 @@ use Rattle.model_lex.specs.declared.options.ModelOpts.{ModelOpts}
 use Rattle.model_lex.specs.declared.options.OrderWord as words
 use Rattle.model_lex.specs.declared.options.OrderWord.TheVariants.{Number, Max}
 use Rattle.model_parse.specs.RawModels.{AreOpts, IsOrder}
+use Rattle.refutation.specs.Proofs.{format_of}
+use Rattle.refutation.specs.declared.omissions.ProofForm.{ProofForm}
+use Rattle.refutation.specs.declared.omissions.ProofForm.TheVariants.{One, Two}
 use Rattle.tuple_index.specs.declared.fault.PlanFault.TheVariants.{TooManySets, TooManyTuples}
 use Rattle.tuple_index.specs.declared.fault.PlanFault.TheVariants as plan_faults
 use Rattle.type_check.specs.ModelOf.{IsModelOf}
 use Rattle.type_check.proofs.OneAnswer.{files_have_one_model}
 use Rattle.pict_cli.specs.declared.options.Opts.{Opts}
 use Rattle.pict_cli.specs.declared.stop.Stop.{Stop}
-use Rattle.pict_cli.specs.declared.stop.Stop.TheVariants.{OutOfMemory, Spent, BadWord, BadModel, BadConstraint, CannotRead, CannotWriteReport, TooMany, TooLong}
+use Rattle.pict_cli.specs.declared.stop.Stop.TheVariants.{OutOfMemory, Spent, BadWord, BadModel, BadConstraint, CannotRead, CannotWriteProof, CannotWriteReport, TooMany, TooLong}
 use Rattle.pict_cli.specs.Options.{order_seen, settings_seen}
 use Rattle.pict_cli.specs.Ranges.{IsLeast, AreFit}
-use Rattle.pict_cli.specs.Runs.{Ends, EndsBehind, HasModel, Prints, PrintsCovering, PrintsFewRows, SpellsModel, StopsReading, cannot_write, is_spent, no_memory, opts_of, order_word, out_text, shuffled_by, too_many}
-use Rattle.pict_cli.specs.Steps.{IsLoaded, Ran}
+use Rattle.pict_cli.specs.Runs.{Ends, EndsBehind, HasModel, HoldsWholeProof, PrintsCovering, PrintsFewRows, RunsModel, SpellsModel, StopsReading, cannot_write, cannot_write_proof, is_spent, no_memory, opts_of, order_word, told_proof, too_many}
+use Rattle.pict_cli.specs.Steps.{CountsWrites, IsLoaded, Moment, Ran, StaysStill}
+use Rattle.outside_io.specs.Faults.{KeepsCounts}
 use Rattle.pict_cli.specs.Told.{end_status}
-use Rattle.pict_cli.proofs.Headline.{prints_covering, prints_few_rows}
+use Rattle.pict_cli.proofs.Headline.{holds_whole_proof, prints_covering, prints_few_rows}
 
 same_order : (order : words.OrderWord) → order ≡ order_word (order_seen order)
 same_order (Number n) = refl
@@ -80,20 +84,21 @@ model_then opts (Some bytes) P Q then has = record {
 }
 
 -- how a run ends whose model was read
-ends_loaded : (s : Settings) (seed : ℕ) (held : Option (List ℕ)) (m : ModelView) (notes : List Note) (before after : Option (List ℕ))
-    (end : Result (Unit {0}) Stop)
-    → IsLoaded (opts_of s) held m notes → IsSound m → EndsBehind s seed m end → Prints (out_text s seed m) before after end
-    → Ends s seed held notes before after end
-ends_loaded s seed None m notes before after end loaded sound ends prints = absurd loaded
-ends_loaded s seed (Some bytes) m notes before after end loaded sound ends prints =
-    inr (spells_model (opts_of s) _ bytes m notes loaded.0 loaded.1 (refl, sound, ends, prints))
+ends_loaded : (s : Settings) (seed : ℕ) (held : Option (List ℕ)) (m : ModelView) (notes : List Note) (files files_after : Files)
+    (before after : Option (List ℕ)) (end : Result (Unit {0}) Stop)
+    → IsLoaded (opts_of s) held m notes → RunsModel s seed m files files_after before after end
+    → Ends s seed held notes files files_after before after end
+ends_loaded s seed None m notes files files_after before after end loaded runs = absurd loaded
+ends_loaded s seed (Some bytes) m notes files files_after before after end loaded runs =
+    inr (spells_model (opts_of s) _ bytes m notes loaded.0 loaded.1 (refl, runs))
 
-pub ends_behind : (s : Settings) (seed : ℕ) (file : Option (Option (List ℕ))) (m : ModelView) (notes : List Note) (before after : Option (List ℕ))
-    (end : Result (Unit {0}) Stop)
-    → IfSome file (λ held. IsLoaded (opts_of s) held m notes) → IsSound m → EndsBehind s seed m end → Prints (out_text s seed m) before after end
-    → IfSome file (λ held. Ends s seed held notes before after end)
-ends_behind s seed None m notes before after end loaded sound ends prints = tt
-ends_behind s seed (Some held) m notes before after end loaded sound ends prints = ends_loaded s seed held m notes before after end loaded sound ends prints
+pub ends_behind : (s : Settings) (seed : ℕ) (file : Option (Option (List ℕ))) (m : ModelView) (notes : List Note) (files files_after : Files)
+    (before after : Option (List ℕ)) (end : Result (Unit {0}) Stop)
+    → IfSome file (λ held. IsLoaded (opts_of s) held m notes) → RunsModel s seed m files files_after before after end
+    → IfSome file (λ held. Ends s seed held notes files files_after before after end)
+ends_behind s seed None m notes files files_after before after end loaded runs = tt
+ends_behind s seed (Some held) m notes files files_after before after end loaded runs =
+    ends_loaded s seed held m notes files files_after before after end loaded runs
 
 pub behind_reading : (s : Settings) (seed : ℕ) (m : ModelView) (end : Result (Unit {0}) Stop) → EndsBehind s seed m end → end ≢ Err CannotRead
 behind_reading s seed m (Ok done) ends e = cc
@@ -102,12 +107,14 @@ behind_reading s seed m (Err stop) (too_many plan_faults.NoMemory is passed) e =
 behind_reading s seed m (Err stop) (too_many (TooManySets count) is passed) e = cc
 behind_reading s seed m (Err stop) (too_many (TooManyTuples count) is passed) e = cc
 behind_reading s seed m (Err stop) (is_spent question is within over) e = cc
+behind_reading s seed m (Err stop) (cannot_write_proof name is asked grown) e = cc
 behind_reading s seed m (Err stop) (cannot_write is grown) e = cc
 
-pub ends_reading : (s : Settings) (seed : ℕ) (file : Option (Option (List ℕ))) (out : Option (List ℕ)) (stop : Stop)
-    → IfSome file (λ held. StopsReading (opts_of s) held stop) → IfSome file (λ held. Ends s seed held [] out out (Err stop))
-ends_reading s seed None out stop stops = tt
-ends_reading s seed (Some held) out stop stops = inl (stops, refl, refl)
+pub ends_reading : (s : Settings) (seed : ℕ) (file : Option (Option (List ℕ))) (files files_after : Files) (out : Option (List ℕ)) (stop : Stop)
+    → KeepsFiles files files_after → IfSome file (λ held. StopsReading (opts_of s) held stop)
+    → IfSome file (λ held. Ends s seed held [] files files_after out out (Err stop))
+ends_reading s seed None files files_after out stop keeps stops = tt
+ends_reading s seed (Some held) files files_after out stop keeps stops = inl (stops, refl, refl, keeps)
 
 -- what a status tells of the end
 zero_is_end : (end : Result (Unit {0}) Stop) → end_status end ≡ 0 → end ≡ Ok tt
@@ -118,6 +125,7 @@ zero_is_end (Err (BadWord index)) h = absurd (omega (arith, h))
 zero_is_end (Err (BadModel diag)) h = absurd (omega (arith, h))
 zero_is_end (Err (BadConstraint diag)) h = absurd (omega (arith, h))
 zero_is_end (Err CannotRead) h = absurd (omega (arith, h))
+zero_is_end (Err CannotWriteProof) h = absurd (omega (arith, h))
 zero_is_end (Err CannotWriteReport) h = absurd (omega (arith, h))
 zero_is_end (Err (TooMany quantity count)) h = absurd (omega (arith, h))
 zero_is_end (Err TooLong) h = absurd (omega (arith, h))
@@ -130,47 +138,99 @@ seven_is_end (Err (BadWord index)) h = absurd (omega (arith, h))
 seven_is_end (Err (BadModel diag)) h = absurd (omega (arith, h))
 seven_is_end (Err (BadConstraint diag)) h = absurd (omega (arith, h))
 seven_is_end (Err CannotRead) h = refl
+seven_is_end (Err CannotWriteProof) h = absurd (omega (arith, h))
 seven_is_end (Err CannotWriteReport) h = absurd (omega (arith, h))
 seven_is_end (Err (TooMany quantity count)) h = absurd (omega (arith, h))
 seven_is_end (Err TooLong) h = absurd (omega (arith, h))
+
+pub eight_is_end : (end : Result (Unit {0}) Stop) → end_status end ≡ 8 → (end ≡ Err CannotWriteReport) ⊎ (end ≡ Err CannotWriteProof)
+eight_is_end (Ok done) h = absurd (omega (arith, h))
+eight_is_end (Err OutOfMemory) h = absurd (omega (arith, h))
+eight_is_end (Err (Spent budget question)) h = absurd (omega (arith, h))
+eight_is_end (Err (BadWord index)) h = absurd (omega (arith, h))
+eight_is_end (Err (BadModel diag)) h = absurd (omega (arith, h))
+eight_is_end (Err (BadConstraint diag)) h = absurd (omega (arith, h))
+eight_is_end (Err CannotRead) h = absurd (omega (arith, h))
+eight_is_end (Err CannotWriteProof) h = inr refl
+eight_is_end (Err CannotWriteReport) h = inl refl
+eight_is_end (Err (TooMany quantity count)) h = absurd (omega (arith, h))
+eight_is_end (Err TooLong) h = absurd (omega (arith, h))
+
+-- with another status nothing is written
+pub still_end : (end : Result (Unit {0}) Stop) (files files_after : Files) → end_status end ≢ 0 → end_status end ≢ 8 → StaysStill end files files_after
+    → KeepsFiles files files_after
+still_end (Ok done) files files_after zero eight still = absurd (zero refl)
+still_end (Err OutOfMemory) files files_after zero eight still = still
+still_end (Err (Spent budget question)) files files_after zero eight still = still
+still_end (Err (BadWord index)) files files_after zero eight still = still
+still_end (Err (BadModel diag)) files files_after zero eight still = still
+still_end (Err (BadConstraint diag)) files files_after zero eight still = still
+still_end (Err CannotRead) files files_after zero eight still = still
+still_end (Err CannotWriteProof) files files_after zero eight still = absurd (eight refl)
+still_end (Err CannotWriteReport) files files_after zero eight still = absurd (eight refl)
+still_end (Err (TooMany quantity count)) files files_after zero eight still = still
+still_end (Err TooLong) files files_after zero eight still = still
+
+pub writes_end : (s : Settings) (end : Result (Unit {0}) Stop) (writes writes_after : List ℕ → ℕ) → end_status end ≢ 8 → CountsWrites s end writes writes_after
+    → KeepsCounts writes writes_after
+writes_end s (Ok done) writes writes_after eight counts = counts
+writes_end s (Err OutOfMemory) writes writes_after eight counts = counts
+writes_end s (Err (Spent budget question)) writes writes_after eight counts = counts
+writes_end s (Err (BadWord index)) writes writes_after eight counts = counts
+writes_end s (Err (BadModel diag)) writes writes_after eight counts = counts
+writes_end s (Err (BadConstraint diag)) writes writes_after eight counts = counts
+writes_end s (Err CannotRead) writes writes_after eight counts = counts
+writes_end s (Err CannotWriteProof) writes writes_after eight counts = absurd (eight refl)
+writes_end s (Err CannotWriteReport) writes writes_after eight counts = counts
+writes_end s (Err (TooMany quantity count)) writes writes_after eight counts = counts
+writes_end s (Err TooLong) writes writes_after eight counts = counts
+
+-- the format that is asked for is 1 or 2
+a_form : (form : ProofForm) → (format_of form ≡ 1) ⊎ (format_of form ≡ 2)
+a_form One = inl refl
+a_form Two = inr refl
+
+pub form_known : (o : Opts) (s : Settings) → settings_seen o ≡ s → (s.form ≡ 1) ⊎ (s.form ≡ 2)
+form_known o s same = subst (λ t. (t.form ≡ 1) ⊎ (t.form ≡ 2)) same (a_form o.form)
 
 -- words ask for one thing
 pub one_asked : {asked : Result Settings ℕ} {s other : Settings} → asked ≡ Ok s → asked ≡ Ok other → s ≡ other
 one_asked e f = cc
 
 -- a run ended for the settings and the name that are asked for
-pub ran_asked :
-    {asked : Result Settings ℕ} {s other : Settings} {seed : ℕ} {files : Files} {reads reads_after : List ℕ → ℕ} {name model : List ℕ}
-    {before after : Option (List ℕ)} {faults faults_after : ℕ} {notes : List Note} {end : Result (Unit {0}) Stop}
-    → asked ≡ Ok s → asked ≡ Ok other → name ≡ model → Ran s seed files reads reads_after name before after faults faults_after notes end
-    → Ran other seed files reads reads_after model before after faults faults_after notes end
-ran_asked {asked} {s} {other} {seed} {files} {reads} {reads_after} {name} {model} {before} {after} {faults} {faults_after} {notes} {end} e f same ran =
-    subst (λ n. Ran other seed files reads reads_after n before after faults faults_after notes end) same
-    (subst (λ t. Ran t seed files reads reads_after name before after faults faults_after notes end) (one_asked e f) ran)
+pub ran_asked : {asked : Result Settings ℕ} {s other : Settings} {seed : ℕ} {name model : List ℕ} {before after : Moment} {notes : List Note}
+    {end : Result (Unit {0}) Stop}
+    → asked ≡ Ok s → asked ≡ Ok other → name ≡ model → Ran s seed name before after notes end → Ran other seed model before after notes end
+ran_asked {asked} {s} {other} {seed} {name} {model} {before} {after} {notes} {end} e f same ran =
+    subst (λ n. Ran other seed n before after notes end) same (subst (λ t. Ran t seed name before after notes end) (one_asked e f) ran)
 
-module _ {s : Settings} {seed : ℕ} {files : Files} {reads reads_after : List ℕ → ℕ} {name : List ℕ} {out after : Option (List ℕ)} {faults faults_after : ℕ}
-    {notes : List Note} {end : Result (Unit {0}) Stop}
-    (ran : Ran s seed files reads reads_after name out after faults faults_after notes end) (held : Option (List ℕ)) (at : files name ≡ Some held) where
+module _ {s : Settings} {seed : ℕ} {name : List ℕ} {start after : Moment} {notes : List Note} {end : Result (Unit {0}) Stop}
+    (ran : Ran s seed name start after notes end) (held : Option (List ℕ)) (at : start.files name ≡ Some held) where
   -- how it ended, where it is told what stands under the name
-  pub ends_told : Ends s seed held notes out after end
-  ends_told = subst (λ found. IfSome found (λ h. Ends s seed h notes out after end)) at ran.ends
+  pub ends_told : Ends s seed held notes start.files after.files start.out after.out end
+  ends_told = subst (λ found. IfSome found (λ h. Ends s seed h notes start.files after.files start.out after.out end)) at ran.ends
 
-  -- a report was written whole: what was printed covers, and is of few rows
-  whole : (P : ModelView → List ℕ → List ℕ → Type 0)
-      → ((m : ModelView) (before : List ℕ) → IsSound m → Puts Done (Some before) after (out_text s seed m) → IsSomeAnd after (P m before))
-      → end_status end ≡ 0 → HasModel (opts_of s) held (λ m noted. (before : List ℕ) → out ≡ Some before → IsSomeAnd after (P m before))
-  whole P says zero = ended (subst (λ e. Ends s seed held notes out after e) (zero_is_end end zero) ends_told)
+  -- a run came to its end: what follows for its model
+  whole : (P : ModelView → Type 0) → ((m : ModelView) → RunsModel s seed m start.files after.files start.out after.out (Ok tt) → P m)
+      → end_status end ≡ 0 → HasModel (opts_of s) held (λ m noted. P m)
+  whole P says zero = ended (subst (Ends s seed held notes start.files after.files start.out after.out) (zero_is_end end zero) ends_told)
     where
-      ended : Ends s seed held notes out after (Ok tt) → HasModel (opts_of s) held (λ m noted. (before : List ℕ) → out ≡ Some before → IsSomeAnd after (P m before))
+      ended : Ends s seed held notes start.files after.files start.out after.out (Ok tt) → HasModel (opts_of s) held (λ m noted. P m)
       ended (inl reading) = absurd reading.0
-      ended (inr model) =
-          model_then (opts_of s) held _ _ (λ m noted holds before told. says m before holds.1 (subst (λ o. Puts Done o after (out_text s seed m)) told holds.3)) model
+      ended (inr model) = model_then (opts_of s) held _ _ (λ m noted holds. says m holds.1) model
 
-  pub covers_whole : end_status end ≡ 0 → HasModel (opts_of s) held (λ m noted. (before : List ℕ) → out ≡ Some before → IsSomeAnd after (PrintsCovering m before))
-  covers_whole = whole PrintsCovering (λ m before. prints_covering m (shuffled_by s.shuffle seed) before after)
+  pub covers_whole : (known : (s.form ≡ 1) ⊎ (s.form ≡ 2)) → end_status end ≡ 0
+      → HasModel (opts_of s) held (λ m noted. (before : List ℕ) → start.out ≡ Some before
+      → IsSomeAnd after.out (PrintsCovering m s.form (told_proof s after.files) before))
+  covers_whole known = whole _ (λ m runs before told. prints_covering s seed m start.files after.files start.out after.out known runs before told)
 
-  pub few_whole : end_status end ≡ 0 → HasModel (opts_of s) held (λ m noted. (before : List ℕ) → out ≡ Some before → IsSomeAnd after (PrintsFewRows m before))
-  few_whole = whole PrintsFewRows (λ m before. prints_few_rows m (shuffled_by s.shuffle seed) before after)
+  pub few_whole : end_status end ≡ 0
+      → HasModel (opts_of s) held (λ m noted. (before : List ℕ) → start.out ≡ Some before → IsSomeAnd after.out (PrintsFewRows m before))
+  few_whole = whole _ (λ m runs before told. prints_few_rows s seed m start.files after.files start.out after.out runs before told)
+
+  pub proof_whole : (known : (s.form ≡ 1) ⊎ (s.form ≡ 2)) (proof : Option (List ℕ)) → told_proof s after.files ≡ Some proof → end_status end ≡ 0
+      → HasModel (opts_of s) held (λ m noted. HoldsWholeProof s seed m proof)
+  proof_whole known proof told = whole _ (λ m runs. holds_whole_proof s seed m start.files after.files start.out after.out known runs proof told)
 
 -- words that have no reading end with another status
 pub asked_or_three : (asked : Result Settings ℕ) (status : ℕ) (P : Settings → Type 0) → ((s : Settings) → asked ≡ Ok s → P s)

@@ -12,9 +12,9 @@ use Rattle.tuple_index.specs.declared.fault.PlanFault.{PlanFault}
 use Rattle.tuple_index.specs.declared.fault.PlanFault.TheVariants.{TooManySets, TooManyTuples}
 use Rattle.tuple_index.specs.declared.fault.PlanFault.TheVariants as plan_faults
 use Rattle.definitions.specs.Limits as limits
-use Rattle.definitions.specs.Diagnostics.{bytes_limit_line, cannot_read_line, cannot_write_report_line, count_limit_line, memory_line, model_line, spent_line, word_line}
+use Rattle.definitions.specs.Diagnostics.{bytes_limit_line, cannot_read_line, cannot_write_line, cannot_write_report_line, count_limit_line, memory_line, model_line, spent_line, word_line}
 use Rattle.pict_cli.specs.declared.stop.Stop.{Stop}
-use Rattle.pict_cli.specs.declared.stop.Stop.TheVariants.{OutOfMemory, Spent, BadWord, BadModel, BadConstraint, CannotRead, CannotWriteReport, TooMany, TooLong}
+use Rattle.pict_cli.specs.declared.stop.Stop.TheVariants.{OutOfMemory, Spent, BadWord, BadModel, BadConstraint, CannotRead, CannotWriteProof, CannotWriteReport, TooMany, TooLong}
 use Rattle.pict_cli.specs.declared.stop.Quantity.{Quantity}
 use Rattle.pict_cli.specs.declared.stop.Quantity.TheVariants.{Part, DemandedSets, DemandedTuples}
 
@@ -50,21 +50,28 @@ status_of (BadWord index) = 3
 status_of (BadModel diag) = 4
 status_of (BadConstraint diag) = 5
 status_of CannotRead = 7
+status_of CannotWriteProof = 8
 status_of CannotWriteReport = 8
 status_of (TooMany quantity count) = 9
 status_of TooLong = 9
 
--- the line, where the model file has this name
-abbrev pub line_of : Stop → List ℕ → List ℕ
-line_of OutOfMemory name = memory_line
-line_of (Spent budget question) name = spent_line budget question.cells
-line_of (BadWord index) name = word_line index
-line_of (BadModel diag) name = model_line diag.line (diag_code diag.code) (diag_text diag.code)
-line_of (BadConstraint diag) name = model_line diag.line (diag_code diag.code) (diag_text diag.code)
-line_of CannotRead name = cannot_read_line name
-line_of CannotWriteReport name = cannot_write_report_line
-line_of (TooMany quantity count) name = count_limit_line (counted quantity) count
-line_of TooLong name = bytes_limit_line limits.ModelFile
+-- the names of the files of a run; the empty name stands for a file that the words don't ask for
+pub record NamesView : Type 0 where
+  pub model : List ℕ
+  pub proof : List ℕ
+
+-- the line, where the files have these names
+abbrev pub line_of : Stop → NamesView → List ℕ
+line_of OutOfMemory names = memory_line
+line_of (Spent budget question) names = spent_line budget question.cells
+line_of (BadWord index) names = word_line index
+line_of (BadModel diag) names = model_line diag.line (diag_code diag.code) (diag_text diag.code)
+line_of (BadConstraint diag) names = model_line diag.line (diag_code diag.code) (diag_text diag.code)
+line_of CannotRead names = cannot_read_line names.model
+line_of CannotWriteProof names = cannot_write_line names.proof
+line_of CannotWriteReport names = cannot_write_report_line
+line_of (TooMany quantity count) names = count_limit_line (counted quantity) count
+line_of TooLong names = bytes_limit_line limits.ModelFile
 
 -- the statuses that a run may end with
 abbrev pub IsStatus : ℕ → Type 0

@@ -7,7 +7,7 @@ use Rattle.model_lex.specs.Codes.{note_code, note_text}
 use Rattle.model_lex.specs.declared.note.Note.{Note}
 use Rattle.definitions.specs.Diagnostics.{model_note_line, used_seed_line}
 use Rattle.pict_cli.specs.declared.stop.Stop.{Stop}
-use Rattle.pict_cli.specs.Stops.{line_of, status_of}
+use Rattle.pict_cli.specs.Stops.{NamesView, line_of, status_of}
 
 -- the line of a seed that no word gave
 abbrev pub seed_text : Option ℕ → List ℕ
@@ -21,14 +21,14 @@ note_line note = model_note_line note.line (note_code note.code) (note_text note
 abbrev pub notes_text : List Note → List ℕ
 notes_text notes = flat_map note_line notes
 
--- the line of the stop, if there is one, where the model file has this name
-abbrev pub end_text : List ℕ → Result (Unit {0}) Stop → List ℕ
-end_text name (Ok done) = []
-end_text name (Err stop) = line_of stop name
+-- the line of the stop, if there is one, where the files have these names
+abbrev pub end_text : NamesView → Result (Unit {0}) Stop → List ℕ
+end_text names (Ok done) = []
+end_text names (Err stop) = line_of stop names
 
 -- the lines of a run in their order
-abbrev pub told_text : Option ℕ → List Note → List ℕ → Result (Unit {0}) Stop → List ℕ
-told_text seed notes name end = seed_text seed ++ (notes_text notes ++ end_text name end)
+abbrev pub told_text : Option ℕ → List Note → NamesView → Result (Unit {0}) Stop → List ℕ
+told_text seed notes names end = seed_text seed ++ (notes_text notes ++ end_text names end)
 
 -- a sink was asked for a text: it has the whole text, or a prefix of it where its count of faults rose
 abbrev pub Tells : Option (List ℕ) → Option (List ℕ) → ℕ → ℕ → List ℕ → Type 0

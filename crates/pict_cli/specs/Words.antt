@@ -20,7 +20,7 @@ is_unbuilt CaseCounts = false
 is_unbuilt Statistics = true
 is_unbuilt (Workers n) = false
 is_unbuilt (Budget n) = false
-is_unbuilt (ProofFile name) = true
+is_unbuilt (ProofFile name) = false
 is_unbuilt (ProofFormat n) = false
 is_unbuilt (MeasureFile name) = true
 is_unbuilt (Make n) = true
@@ -63,3 +63,11 @@ texts words = map string_bytes words
 
 abbrev pub model_file : List (String Global) → List ℕ
 model_file words = model_name (texts words)
+
+-- the name of the proof file, where the words have a reading and ask for one
+abbrev pub proof_of : Result Settings ℕ → Option (List ℕ)
+proof_of (Ok s) = s.proof
+proof_of (Err index) = None
+
+abbrev pub proof_file : List (String Global) → Option (List ℕ)
+proof_file words = proof_of (asked_by (texts words))

@@ -1,4 +1,4 @@
-ghost use Rattle.std.specs.Prelude.{◌≡◌, IsOkAnd};
+ghost use Rattle.std.specs.Prelude.{◌≡◌, IsOkAnd, option_map};
 ghost use Rattle.outside_io.specs.MemFolder.{file_of};
 ghost use Rattle.pict_cli.specs.Runs.{HasModel, PrintsCovering, PrintsFewRows, opts_of};
 ghost use Rattle.pict_cli.specs.Words.{asked_by, model_file, texts};
@@ -12,7 +12,8 @@ use std::thread::Threads;
 ///
 /// So the headline stands here without a premise: after status 0 the words have a reading, the model
 /// file is there and spells a model, and the bytes that `out` got behind those that it held are a
-/// report that covers what can be covered.
+/// report that covers what can be covered; what it leaves out is refuted in the proof file, where the
+/// words ask for one.
 pub fn run_pict_in_memory<R: Threads + Sync>(
     rt: &R,
     alloc: Global,
@@ -22,10 +23,11 @@ pub fn run_pict_in_memory<R: Threads + Sync>(
     diag: &mut MemSink,
     seed_word: u64,
 ) -> u8
-    // every printed row is valid, and every demanded tuple is served by one of them, or no row serves it
+    // every printed row is valid, and every demanded tuple is served by one of them, or no row serves it, and then
+    // the proof lists it with a tree that refutes it
     ensures headline { result ≡ 0 → IsOkAnd (asked_by (texts words.now)) (λ s.
         HasModel (opts_of s) (file_of files.old.slots (model_file words.now)) (λ m notes.
-        PrintsCovering m out.old.bytes out.new.bytes)) }
+        PrintsCovering m s.form (option_map (file_of files.new.slots) s.proof) out.old.bytes out.new.bytes)) }
 
     // no row is printed twice, and no more rows than there are tuples to serve
     ensures few { result ≡ 0 → IsOkAnd (asked_by (texts words.now)) (λ s.

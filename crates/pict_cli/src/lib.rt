@@ -2,7 +2,8 @@
 //!
 //! - `run_pict` is the call that `main` makes, over any folder and sinks. Its clause `headline` is
 //!   what this project is for: after status 0 every printed row is valid, and every demanded tuple
-//!   is served by a printed row, or no row serves it.
+//!   is served by a printed row, or no row serves it, and then the proof, where one is asked for, lists
+//!   it with a tree that refutes it.
 //! - `run_pict_in_memory` is the same on a folder and sinks in memory, where the headline has no
 //!   premise but the status.
 //! - `read_words` is the definition's reading of words.
@@ -14,6 +15,7 @@ mod in_memory;
 mod kinds;
 mod load;
 mod options;
+mod proof;
 mod put;
 mod run;
 mod setting;

@@ -1,13 +1,15 @@
-ghost use Rattle.std.specs.Prelude.{◌≡◌, ◌-◌, ◌+◌, ◌^◌, ◌<◌, ◌&&◌, ◌||◌, ℕ, List, [], ◌∷◌, true, not, length, map, take, drop, min, slice_index_or, Ok, Err, MatchResult, IfSome, Option, Some, None, is_none};
+ghost use Rattle.std.specs.Prelude.{◌≡◌, ◌-◌, ◌+◌, ◌^◌, ◌<◌, ◌&&◌, ◌||◌, ℕ, List, [], ◌∷◌, true, not, length, map, take, drop, min, slice_index_or, Ok, Err, MatchResult, IfSome, Option, Some, None, is_none, option_map};
 ghost use Rattle.std.specs.List.{list_any};
 ghost use Rattle.std.specs.String.{string_bytes};
 ghost use Rattle.definitions.specs.Settings as defined;
 ghost use Rattle.definitions.specs.Words as reading;
 ghost use Rattle.pict_cli.specs.Options.{setting_seen, settings_seen, command_seen, IsReading, is_faulty_at, HasFault};
+ghost use Rattle.pict_cli.specs.Runs.{names_of};
 ghost use Rattle.pict_cli.specs.Words.{TellsFault, texts};
 
 use crate::kinds::Kinds;
 use crate::setting::{Setting, Shuffle, is_named, setting_of};
+use crate::stop::FileNames;
 use model_lex::{Marks, ModelOpts, OrderWord};
 use refutation::ProofForm;
 
@@ -74,6 +76,30 @@ impl<'w> Opts<'w> {
             measure: None,
             make: None,
             suspect: None,
+        }
+    }
+
+    /// The names of the files of the run.
+    pub(crate) fn names(&self) -> FileNames<'w>
+        ensures { result ≡ names_of self.now.model.now (settings_seen self.now) }
+    {
+        let proof = match self.proof {
+            Some(name) => name,
+            None => "",
+        };
+        FileNames {
+            model: self.model,
+            proof,
+        }
+    }
+
+    /// The form of the proof, where one is asked for.
+    pub(crate) fn proof_form(&self) -> Option<ProofForm>
+        ensures { result ≡ option_map (λ _. self.now.form) self.now.proof }
+    {
+        match self.proof {
+            Some(_) => Some(self.form),
+            None => None,
         }
     }
 

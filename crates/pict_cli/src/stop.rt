@@ -1,4 +1,4 @@
-ghost use Rattle.std.specs.Prelude.{◌≡◌};
+ghost use Rattle.std.specs.Prelude.{◌≡◌, []};
 ghost use Rattle.outside_io.specs.Puts.{Puts, CountsFaults};
 ghost use Rattle.definitions.specs.Diagnostics.{bytes_limit_line, count_limit_line, counted_name, model_line, spent_line, word_line};
 ghost use Rattle.definitions.specs.Limits.{ModelFile, most_counted};
@@ -11,11 +11,39 @@ use feasibility::Question;
 use itoa::Buffer;
 use model_lex::{Diag, LimitName, ModelFault};
 use outside_io::{Sink, WriteAnswer};
+use std::marker::Model;
 use tuple_index::PlanFault;
 use value_text::NoMemory;
 
 /// The most bytes that a model file may have.
 pub(crate) const MOST_MODEL_BYTES: usize = 4_194_304;
+
+/// The names of the files of a run; the empty name stands for a file that the words don't ask for.
+#[derive(Drop)]
+pub(crate) struct FileNames<'w> {
+    pub(crate) model: &'w str,
+    pub(crate) proof: &'w str,
+}
+
+impl<'w> Model for FileNames<'w> {
+    ghost use Rattle.pict_cli.specs.Stops.{NamesView};
+
+    ghost Value = { NamesView };
+
+    ghost view = { λ names. record { model = names.model.now; proof = names.proof.now } };
+}
+
+impl<'w> FileNames<'w> {
+    /// The names of no files.
+    pub(crate) fn none() -> FileNames<'w>
+        ensures { result ≡ record { model = []; proof = [] } }
+    {
+        FileNames {
+            model: "",
+            proof: "",
+        }
+    }
+}
 
 /// What there may be only so many of.
 #[derive(Debug, Drop, Clone, Copy, PartialEq, Eq)]
@@ -70,6 +98,8 @@ pub(crate) enum Stop {
     BadConstraint(Diag),
     /// The model file could not be read: status 7.
     CannotRead,
+    /// The proof file could not be written whole: status 8.
+    CannotWriteProof,
     /// The output could not be written whole: status 8.
     CannotWriteReport,
     /// There are so many of something, above its limit: status 9.
@@ -205,14 +235,14 @@ impl Stop {
             Stop::BadModel(_) => 4,
             Stop::BadConstraint(_) => 5,
             Stop::CannotRead => 7,
-            Stop::CannotWriteReport => 8,
+            Stop::CannotWriteProof | Stop::CannotWriteReport => 8,
             Stop::TooMany(..) | Stop::TooLong => 9,
         }
     }
 
-    /// Writes the line that says why, where the model file has this name. Takes no memory.
-    pub(crate) fn put_line<E: Sink>(&self, name: &str, diag: &mut E) -> WriteAnswer
-        ensures puts { Puts result (E.written diag.old) (E.written diag.new) (line_of self.now name.now) }
+    /// Writes the line that says why, where the files have these names. Takes no memory.
+    pub(crate) fn put_line<E: Sink>(&self, names: &FileNames<'_>, diag: &mut E) -> WriteAnswer
+        ensures puts { Puts result (E.written diag.old) (E.written diag.new) (line_of self.now names.now) }
         ensures counts { CountsFaults result (E.faults diag.old) (E.faults diag.new) }
     {
         match self {
@@ -221,7 +251,10 @@ impl Stop {
             Stop::BadWord(index) => put_word(*index, diag),
             Stop::BadModel(refusal) => put_diag(refusal, diag),
             Stop::BadConstraint(refusal) => put_diag(refusal, diag),
-            Stop::CannotRead => put_pieces(diag, &["error: cannot read ", name, "\n"]),
+            Stop::CannotRead => put_pieces(diag, &["error: cannot read ", names.model, "\n"]),
+            Stop::CannotWriteProof => {
+                put_pieces(diag, &["error: cannot write ", names.proof, "\n"])
+            }
             Stop::CannotWriteReport => put_pieces(diag, &["error: cannot write the report\n"]),
             Stop::TooMany(quantity, count) => put_limit(*quantity, *count, diag),
             Stop::TooLong => put_too_long(diag),

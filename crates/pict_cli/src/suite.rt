@@ -1,23 +1,29 @@
-ghost use Rattle.std.specs.Prelude.{◌≡◌, ◌≢◌, ◌⊎◌, ℕ, true, None, Some, All, IfOk, IfErr, OnOk};
+ghost use Rattle.std.specs.Prelude.{◌≡◌, ◌≢◌, ◌⊎◌, ℕ, true, [], map, None, All, IfOk, IfErr, IfSome, OnOk};
+ghost use Rattle.outside_io.specs.Faults.{KeepsCounts};
 ghost use Rattle.cov_model.specs.Sound.{ModelView};
 ghost use Rattle.cov_model.specs.Valid.{is_row};
 ghost use Rattle.definitions.specs.Report.{report_text};
 ghost use Rattle.definitions.specs.Settings.{Settings};
+ghost use Rattle.definitions.specs.SuiteProof.{AreOmitted};
 ghost use Rattle.ipog_grow.specs.Suites.{EndsBy};
+ghost use Rattle.row_text.specs.Turns.{AreMadeFor};
 ghost use Rattle.tuple_index.specs.Plan.{plan_of};
 ghost use Rattle.tuple_index.specs.PlanFault.{limit_passed};
 ghost use Rattle.pict_cli.specs.Options.{settings_seen, shuffle_seen};
 ghost use Rattle.pict_cli.specs.Ranges.{AreFit};
-ghost use Rattle.pict_cli.specs.Runs.{EndsBehind, IsGrown, Prints, StopsBehind, growth_of, out_text, question_over, shuffled_by};
-ghost use Rattle.pict_cli.specs.Steps.{CountsOut};
+ghost use Rattle.refutation.specs.Proofs.{format_of, omission_meant};
+ghost use Rattle.pict_cli.specs.Runs.{IsGrown, IsProof, Prints, RunsModel, StopsBehind, WritesProof, growth_of, orders_of, question_over, shuffled_by};
+ghost use Rattle.pict_cli.specs.Steps.{CountsOut, CountsWrites, KeepsOthers, StaysStill};
 
 use crate::options::Opts;
+use crate::proof::{proof_text, write_proof};
 use crate::setting::Shuffle;
 use crate::stop::Stop;
 use cov_model::{Prefs, Rows, TestModel};
 use feasibility::SearchFault;
 use ipog_grow::{GrowOpts, Suite, generate};
-use outside_io::{OpenGate, Sink, WriteAnswer};
+use outside_io::{Folder, OpenGate, Sink, WriteAnswer};
+use refutation::Omissions;
 use row_text::{RowFile, Turns, put_report};
 use std::alloc::Global;
 use std::thread::Threads;
@@ -37,7 +43,7 @@ fn shuffle_number(shuffle: Shuffle, seed_word: u64) -> Option<u64>
 
 /// Why a run stops whose growth ended early.
 fn stop_of_search(fault: SearchFault, budget: u64) -> Stop
-    ensures other { result ≢ Stop.CannotWriteReport }
+    ensures other { (result ≢ Stop.CannotWriteReport) × (result ≢ Stop.CannotWriteProof) }
     ensures stops { (s : Settings) (seed : ℕ) (m : ModelView) → budget ≡ s.budget → limit_passed m ≡ None →
         EndsBy (question_over s seed m) fault → StopsBehind s seed m result }
 {
@@ -65,8 +71,11 @@ fn grow<R: Threads + Sync>(
     requires fit { AreFit (settings_seen opts.now) }
     ensures grown { OnOk result (IsGrown (settings_seen opts.now) seed_word model.now) }
     ensures rows { IfOk result (λ suite. suite.rows ≡ (growth_of (settings_seen opts.now) seed_word model.now).rows) }
+    ensures form { IfOk result (λ suite. IfSome opts.now.proof (λ _. suite.omitted.form ≡ opts.now.form)) }
+    ensures omitted { IfOk result (λ suite. IfSome opts.now.proof (λ _. AreOmitted model.now (orders_of (settings_seen opts.now) seed_word model.now) []
+        (format_of opts.now.form) (map omission_meant suite.omitted.omissions))) }
     ensures stops { IfErr result (StopsBehind (settings_seen opts.now) seed_word model.now) }
-    ensures other { IfErr result (λ stop. stop ≢ Stop.CannotWriteReport) }
+    ensures other { IfErr result (λ stop. (stop ≢ Stop.CannotWriteReport) × (stop ≢ Stop.CannotWriteProof)) }
 {
     let number = shuffle_number(opts.shuffle, seed_word);
     let prefs = Prefs::new(alloc, model, number)?;
@@ -77,7 +86,7 @@ fn grow<R: Threads + Sync>(
     let grow_opts = GrowOpts {
         budget: opts.budget,
         workers: opts.workers,
-        proof: None,
+        proof: opts.proof_form(),
     };
     match generate(
         rt, alloc, model, plan, &prefs, &seeds, &grow_opts, &OpenGate,
@@ -87,45 +96,124 @@ fn grow<R: Threads + Sync>(
     }
 }
 
-/// Writes the report of rows of a model. All memory is taken before the first byte is written.
+/// The text of the proof of a suite, where the options ask for one; else no text.
 ///
 /// # Errors
 ///
-/// `CannotWriteReport` where `out` failed, `OutOfMemory` where memory was refused.
-fn print<O: Sink>(alloc: Global, model: &TestModel, rows: &Rows, out: &mut O) -> Result<(), Stop>
-    requires { All (λ row. is_row model.now row ≡ true) rows.now }
+/// `OutOfMemory` where memory was refused.
+fn text_of(
+    alloc: Global,
+    model: &TestModel,
+    opts: &Opts<'_>,
+    seed_word: u64,
+    omitted: &Omissions,
+) -> Result<Vec<u8>, Stop>
+    requires within { limit_passed model.now ≡ None }
+    requires form { IfSome opts.now.proof (λ _. omitted.now.form ≡ opts.now.form) }
+    requires omitted { IfSome opts.now.proof (λ _. AreOmitted model.now (orders_of (settings_seen opts.now) seed_word model.now) []
+        (format_of opts.now.form) (map omission_meant omitted.now.omissions)) }
+    ensures proof { IfOk result (λ text. IfSome opts.now.proof (λ _. IsProof (settings_seen opts.now) seed_word model.now text.items)) }
+    ensures stops { IfErr result (λ stop. stop ≡ Stop.OutOfMemory) }
+{
+    if opts.proof.is_none() {
+        return Ok(Vec::new(alloc));
+    }
+    model.assert_invariant();
+    Ok(proof_text(alloc, omitted)?)
+}
+
+/// Writes the report of rows of a model.
+///
+/// # Errors
+///
+/// `CannotWriteReport` where `out` failed.
+fn print<O: Sink>(
+    model: &TestModel,
+    rows: &Rows,
+    turns: &mut Turns,
+    out: &mut O,
+) -> Result<(), Stop>
+    requires rows { All (λ row. is_row model.now row ≡ true) rows.now }
+    requires turns { AreMadeFor model.now turns.old }
     ensures prints { Prints (report_text model.now rows.now) (O.written out.old) (O.written out.new) result }
     ensures counts { CountsOut result (O.faults out.old) (O.faults out.new) }
-    ensures stops { IfErr result (λ stop. (stop ≡ Stop.OutOfMemory) ⊎ (stop ≡ Stop.CannotWriteReport)) }
+    ensures stops { IfErr result (λ stop. stop ≡ Stop.CannotWriteReport) }
 {
-    let mut turns = Turns::new(alloc, model)?;
-    match put_report(model, rows, &mut turns, out) {
+    match put_report(model, rows, turns, out) {
         WriteAnswer::Done => Ok(()),
         WriteAnswer::Failed => Err(Stop::CannotWriteReport),
     }
 }
 
-/// Writes the report of the suite of a model, as the options ask for it.
+/// Writes the proof of a suite to its file, where the options ask for one, and then the report of its
+/// rows. Takes no memory.
+///
+/// # Errors
+///
+/// `CannotWriteProof` where the folder failed, `CannotWriteReport` where `out` did.
+fn write_suite<F: Folder, O: Sink>(
+    model: &TestModel,
+    opts: &Opts<'_>,
+    rows: &Rows,
+    proof: &[u8],
+    turns: &mut Turns,
+    files: &mut F,
+    out: &mut O,
+) -> Result<(), Stop>
+    requires rows { All (λ row. is_row model.now row ≡ true) rows.now }
+    requires turns { AreMadeFor model.now turns.old }
+    ensures stops { IfErr result (λ stop. (stop ≡ Stop.CannotWriteReport) ⊎ ((stop ≡ Stop.CannotWriteProof) × ((settings_seen opts.now).proof ≢ None))) }
+    ensures prints { Prints (report_text model.now rows.now) (O.written out.old) (O.written out.new) result }
+    ensures counts { CountsOut result (O.faults out.old) (O.faults out.new) }
+    ensures writes { (seed : ℕ) → (IfSome opts.now.proof (λ _. IsProof (settings_seen opts.now) seed model.now proof.now))
+        → WritesProof (settings_seen opts.now) seed model.now (F.file files.old) (F.file files.new) result }
+    ensures write_faults { CountsWrites (settings_seen opts.now) result (F.write_faults files.old) (F.write_faults files.new) }
+    ensures others { KeepsOthers (settings_seen opts.now).proof (F.file files.old) (F.file files.new) }
+    ensures reads { KeepsCounts (F.read_faults files.old) (F.read_faults files.new) }
+{
+    if let Some(name) = opts.proof {
+        write_proof(name, proof, files)?;
+    }
+    print(model, rows, turns, out)
+}
+
+/// Writes the proof and the report of the suite of a model, as the options ask for it. All memory is
+/// taken before the first byte is written.
 ///
 /// # Errors
 ///
 /// `TooMany` where the model demands too much, `Spent` where a question costs too much,
-/// `CannotWriteReport` where `out` failed, `OutOfMemory` where memory was refused.
-pub(crate) fn run_model<R: Threads + Sync, O: Sink>(
+/// `CannotWriteProof` where the folder failed, `CannotWriteReport` where `out` did, `OutOfMemory` where
+/// memory was refused.
+pub(crate) fn run_model<R: Threads + Sync, F: Folder, O: Sink>(
     rt: &R,
     alloc: Global,
     model: &TestModel,
     opts: &Opts<'_>,
     seed_word: u64,
+    files: &mut F,
     out: &mut O,
 ) -> Result<(), Stop>
     requires { AreFit (settings_seen opts.now) }
-    ensures ends { EndsBehind (settings_seen opts.now) seed_word model.now result }
-    ensures prints { Prints (out_text (settings_seen opts.now) seed_word model.now) (O.written out.old) (O.written out.new) result }
+    ensures runs { RunsModel (settings_seen opts.now) seed_word model.now (F.file files.old) (F.file files.new) (O.written out.old) (O.written out.new) result }
     ensures counts { CountsOut result (O.faults out.old) (O.faults out.new) }
+    ensures write_faults { CountsWrites (settings_seen opts.now) result (F.write_faults files.old) (F.write_faults files.new) }
+    ensures others { KeepsOthers (settings_seen opts.now).proof (F.file files.old) (F.file files.new) }
+    ensures still { StaysStill result (F.file files.old) (F.file files.new) }
+    ensures reads { KeepsCounts (F.read_faults files.old) (F.read_faults files.new) }
 {
     model.assert_invariant();
     let plan = Plan::new(alloc, model)?;
     let suite = grow(rt, alloc, model, &plan, opts, seed_word)?;
-    print(alloc, model, &suite.rows, out)
+    let proof = text_of(alloc, model, opts, seed_word, &suite.omitted)?;
+    let mut turns = Turns::new(alloc, model)?;
+    write_suite(
+        model,
+        opts,
+        &suite.rows,
+        proof.as_slice(),
+        &mut turns,
+        files,
+        out,
+    )
 }

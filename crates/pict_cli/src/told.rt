@@ -7,7 +7,7 @@ ghost use Rattle.pict_cli.specs.Told.{end_text, notes_text, seed_text, told_text
 ghost use Rattle.pict_cli.specs.Stops.{line_of};
 
 use crate::put::put_pieces;
-use crate::stop::Stop;
+use crate::stop::{FileNames, Stop};
 use itoa::Buffer;
 use model_lex::Note;
 use outside_io::{Sink, WriteAnswer};
@@ -55,13 +55,13 @@ fn put_notes<E: Sink>(notes: &[Note], sink: &mut E) -> WriteAnswer
 }
 
 /// Writes the line of the stop, if there is one.
-fn put_end<E: Sink>(end: &Result<(), Stop>, name: &str, sink: &mut E) -> WriteAnswer
-    ensures puts { Puts result (E.written sink.old) (E.written sink.new) (end_text name.now end.now) }
+fn put_end<E: Sink>(end: &Result<(), Stop>, names: &FileNames<'_>, sink: &mut E) -> WriteAnswer
+    ensures puts { Puts result (E.written sink.old) (E.written sink.new) (end_text names.now end.now) }
     ensures counts { CountsFaults result (E.faults sink.old) (E.faults sink.new) }
 {
     match end {
         Ok(()) => WriteAnswer::Done,
-        Err(stop) => stop.put_line(name, sink),
+        Err(stop) => stop.put_line(names, sink),
     }
 }
 
@@ -71,10 +71,10 @@ pub(crate) fn tell<E: Sink>(
     seed: Option<u64>,
     notes: &[Note],
     end: &Result<(), Stop>,
-    name: &str,
+    names: &FileNames<'_>,
     sink: &mut E,
 ) -> WriteAnswer
-    ensures puts { Puts result (E.written sink.old) (E.written sink.new) (told_text seed notes.now name.now end.now) }
+    ensures puts { Puts result (E.written sink.old) (E.written sink.new) (told_text seed notes.now names.now end.now) }
     ensures counts { CountsFaults result (E.faults sink.old) (E.faults sink.new) }
 {
     match put_seed(seed, sink) {
@@ -82,7 +82,7 @@ pub(crate) fn tell<E: Sink>(
         WriteAnswer::Failed => return WriteAnswer::Failed,
     }
     match put_notes(notes, sink) {
-        WriteAnswer::Done => put_end(end, name, sink),
+        WriteAnswer::Done => put_end(end, names, sink),
         WriteAnswer::Failed => WriteAnswer::Failed,
     }
 }

@@ -14,7 +14,6 @@ fn is_unbuilt(setting: &Setting<'_>) -> bool
     match setting {
         Setting::SeedFile(_)
         | Setting::Statistics
-        | Setting::ProofFile(_)
         | Setting::MeasureFile(_)
         | Setting::Make(_)
         | Setting::SuspectFile(_) => true,

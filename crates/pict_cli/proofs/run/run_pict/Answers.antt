@@ -1,13 +1,24 @@
-use Rattle.std.proofs.Common.{sym, ap, subst, ◌∙◌}
-use Rattle.pict_cli.specs.Runs.{used_seed}
+use Rattle.std.proofs.Common.{inl, inr, sym, ap, subst, ◌∙◌}
+use Rattle.std.specs.Prelude.{IsSomeAnd}
+use Rattle.outside_io.specs.Faults.{Rose}
+use Rattle.pict_cli.specs.Options.{settings_seen}
+use Rattle.pict_cli.specs.Steps.{CountsOut, CountsWrites, KeepsOthers}
+use Rattle.pict_cli.specs.Words.{proof_of}
+use Rattle.pict_cli.specs.Runs.{names_of, used_seed}
 use Rattle.pict_cli.specs.Told.{Tells, told_text}
 use Rattle.pict_cli.proofs.Causes.{complete_end, long_end, missing_end, refused_end}
-use Rattle.pict_cli.proofs.RunEnds.{covers_whole, ends_told, few_whole, one_asked, ran_asked, seven_is_end}
+use Rattle.pict_cli.proofs.RunEnds.{covers_whole, ends_told, eight_is_end, few_whole, form_known, one_asked, proof_whole, ran_asked, seven_is_end, still_end, writes_end}
 use Rattle.pict_cli.proofs.run.run_pict.Goals as goal
 
 pub returns-clause-headline : goal.returns-clause-headline
 returns-clause-headline g c = λ zero s held asked at.
-    covers_whole (ran_asked c.in-Ok.ensures.0 asked c.in-Ok.ensures.2 c.run-notes.ensures.ran) held at (sym c.status_of.ensures ∙ zero)
+    covers_whole (ran_asked c.in-Ok.ensures.0 asked c.in-Ok.ensures.2 c.run-notes.ensures.ran) held at (form_known c.in-Ok.opts s (one_asked c.in-Ok.ensures.0 asked))
+    (sym c.status_of.ensures ∙ zero)
+
+pub returns-clause-proof : goal.returns-clause-proof
+returns-clause-proof g c = λ zero s held after asked at told.
+    proof_whole (ran_asked c.in-Ok.ensures.0 asked c.in-Ok.ensures.2 c.run-notes.ensures.ran) held at (form_known c.in-Ok.opts s (one_asked c.in-Ok.ensures.0 asked))
+    after told (sym c.status_of.ensures ∙ zero)
 
 pub returns-clause-few : goal.returns-clause-few
 returns-clause-few g c = λ zero s held asked at.
@@ -15,11 +26,12 @@ returns-clause-few g c = λ zero s held asked at.
 
 pub returns-clause-run : goal.returns-clause-run
 returns-clause-run g c = λ s held asked at.
-    let text = ap (λ seed. told_text seed c.as_slice.result.now c.in-Ok.opts.model.now c.run-notes.result.1) c.told_seed-seed.ensures
-    ∙ ap (λ t. told_text (used_seed t.shuffle c.args.seed_word) c.as_slice.result.now c.in-Ok.opts.model.now c.run-notes.result.1)
-    (one_asked c.in-Ok.ensures.0 asked)
-    ∙ ap (λ notes. told_text (used_seed s.shuffle c.args.seed_word) notes c.in-Ok.opts.model.now c.run-notes.result.1) c.as_slice.ensures
-    ∙ ap (λ name. told_text (used_seed s.shuffle c.args.seed_word) c.run-notes.result.0 name c.run-notes.result.1) c.in-Ok.ensures.2 in
+    let names = c.names.result in
+    let text = ap (λ seed. told_text seed c.as_slice.result.now names c.run-notes.result.1) c.told_seed-seed.ensures
+    ∙ ap (λ t. told_text (used_seed t.shuffle c.args.seed_word) c.as_slice.result.now names c.run-notes.result.1) (one_asked c.in-Ok.ensures.0 asked)
+    ∙ ap (λ notes. told_text (used_seed s.shuffle c.args.seed_word) notes names c.run-notes.result.1) c.as_slice.ensures
+    ∙ ap (λ names. told_text (used_seed s.shuffle c.args.seed_word) c.run-notes.result.0 names c.run-notes.result.1)
+    (c.names.ensures ∙ ap (names_of c.in-Ok.opts.model.now) (one_asked c.in-Ok.ensures.0 asked) ∙ ap (λ name. names_of name s) c.in-Ok.ensures.2) in
     record {
       notes = c.run-notes.result.0;
       end = c.run-notes.result.1;
@@ -51,3 +63,33 @@ pub returns-clause-read : goal.returns-clause-read
 returns-clause-read g c = λ seven.
     (ran_asked c.in-Ok.ensures.0 c.in-Ok.ensures.0 c.in-Ok.ensures.2 c.run-notes.ensures.ran).read
     (seven_is_end c.run-notes.result.1 (sym c.status_of.ensures ∙ seven))
+
+pub returns-clause-write : goal.returns-clause-write
+returns-clause-write g c = λ eight.
+    let ran = c.run-notes.ensures.ran in
+    let s = settings_seen c.in-Ok.opts in
+    elim (eight_is_end c.run-notes.result.1 (sym c.status_of.ensures ∙ eight)) [
+      | inl report ↦ inl (subst (λ e. CountsOut e (g.O.Sink.faults c.args.out.now) (g.O.Sink.faults c.run-notes.new.out)) report ran.counts)
+      | inr proof ↦ inr (
+        c.run-notes.ensures.nothing (λ e. cc) (λ e. cc),
+        subst (λ e. CountsOut e (g.O.Sink.faults c.args.out.now) (g.O.Sink.faults c.run-notes.new.out)) proof ran.counts,
+        subst (λ asked. IsSomeAnd (proof_of asked) (λ name. Rose (g.F.Folder.write_faults c.args.files.now name) (g.F.Folder.write_faults c.run-notes.new.files name)))
+            (sym c.in-Ok.ensures.0)
+            (subst (λ e. CountsWrites s e (g.F.Folder.write_faults c.args.files.now) (g.F.Folder.write_faults c.run-notes.new.files)) proof ran.writes),
+      )
+    ]
+
+pub returns-clause-files : goal.returns-clause-files
+returns-clause-files g c =
+    subst (λ asked. KeepsOthers (proof_of asked) (g.F.Folder.file c.args.files.now) (g.F.Folder.file c.run-notes.new.files)) (sym c.in-Ok.ensures.0)
+    c.run-notes.ensures.ran.others
+
+pub returns-clause-unwritten : goal.returns-clause-unwritten
+returns-clause-unwritten g c = λ zero eight.
+    still_end c.run-notes.result.1 (g.F.Folder.file c.args.files.now) (g.F.Folder.file c.run-notes.new.files)
+    (λ e. zero (c.status_of.ensures ∙ e)) (λ e. eight (c.status_of.ensures ∙ e)) c.run-notes.ensures.ran.still
+
+pub returns-clause-write_faults : goal.returns-clause-write_faults
+returns-clause-write_faults g c = λ eight.
+    writes_end (settings_seen c.in-Ok.opts) c.run-notes.result.1 (g.F.Folder.write_faults c.args.files.now) (g.F.Folder.write_faults c.run-notes.new.files)
+    (λ e. eight (c.status_of.ensures ∙ e)) c.run-notes.ensures.ran.writes

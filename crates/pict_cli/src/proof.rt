@@ -1,0 +1,62 @@
+ghost use Rattle.std.specs.Prelude.{◌≡◌, Some, All, map, length, IfOk, IfErr, IfSome, OnOk};
+ghost use Rattle.outside_io.specs.Faults.{KeepsCounts, Rose};
+ghost use Rattle.outside_io.specs.Files.{HoldsOldOrPrefix, KeepsOtherFiles};
+ghost use Rattle.pict_cli.specs.Steps.{written};
+
+use crate::stop::Stop;
+use outside_io::{Folder, WriteAnswer};
+use refutation::{Omissions, format_len, omission_len, put_format, put_omission};
+use std::alloc::Global;
+use value_text::NoMemory;
+
+/// The number of bytes of the text of a proof.
+///
+/// # Errors
+///
+/// `NoMemory` where it is above 2^64 - 1.
+fn proof_len(proof: &Omissions) -> Result<u64, NoMemory>
+    ensures len { IfOk result (λ count. count ≡ length (written proof.now.form proof.now.omissions)) }
+{
+    let mut count = format_len(proof.form());
+    for omission in proof.as_slice() {
+        count = count.checked_add(omission_len(omission)).ok_or(NoMemory)?;
+    }
+    Ok(count)
+}
+
+/// The text of a proof, in one piece of memory that is taken at once.
+///
+/// # Errors
+///
+/// `NoMemory` where there is no room.
+pub(crate) fn proof_text(alloc: Global, proof: &Omissions) -> Result<Vec<u8>, NoMemory>
+    ensures text { IfOk result (λ bytes. bytes.items ≡ written proof.now.form proof.now.omissions) }
+{
+    let count = proof_len(proof)?;
+    let mut text = Vec::with_capacity(alloc, count as usize)?;
+    put_format(proof.form(), &mut text);
+    for omission in proof.as_slice() {
+        put_omission(omission, &mut text);
+    }
+    Ok(text)
+}
+
+/// Writes the text of a proof to the file of this name.
+///
+/// # Errors
+///
+/// `CannotWriteProof` where the folder failed.
+pub(crate) fn write_proof<F: Folder>(name: &str, text: &[u8], files: &mut F) -> Result<(), Stop>
+    ensures written { IfOk result (λ _. IfSome (F.file files.new name.now) (λ held. held ≡ Some text.now)) }
+    ensures partial { IfErr result (λ stop. (stop ≡ Stop.CannotWriteProof)
+        × IfSome (F.file files.new name.now) (λ held. HoldsOldOrPrefix (F.file files.old name.now) held text.now)
+        × Rose (F.write_faults files.old name.now) (F.write_faults files.new name.now)) }
+    ensures no_fault { OnOk result (KeepsCounts (F.write_faults files.old) (F.write_faults files.new)) }
+    ensures others { KeepsOtherFiles name.now (F.file files.old) (F.file files.new) }
+    ensures reads { KeepsCounts (F.read_faults files.old) (F.read_faults files.new) }
+{
+    match files.write_file(name, text) {
+        WriteAnswer::Done => Ok(()),
+        WriteAnswer::Failed => Err(Stop::CannotWriteProof),
+    }
+}
