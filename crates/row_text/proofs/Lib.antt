@@ -1,3 +1,9 @@
 pub mod Sending
 pub mod Turning
 pub mod Lines
+pub mod LookingUp
+pub mod LineSteps
+pub mod RowSteps
+pub mod ColumnSteps
+pub mod ReadingSteps
+pub mod NameSteps

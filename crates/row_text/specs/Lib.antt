@@ -1,4 +1,7 @@
 pub mod RowFiles
+pub mod Readings
 pub mod Told
 pub mod Buffering
 pub mod Turns
+pub mod Lookups
+pub mod RowLines

@@ -2,23 +2,35 @@
 //!
 //! - `put_report` writes the report of a suite, in which the names of a value take turns; `put_stats` and
 //!   `put_figures` write the lines of statistics and figures.
-//! - `RowFile` is what a row file holds: partial rows, each with its line, and notes.
+//! - `read_rows` reads a row file, in one of two modes: exactly the partial rows and the notes of its bytes, or
+//!   the first fault. `RowFile` is what it holds: partial rows, each with its line, and notes.
 //!
-//! Reports go through a buffer of a fixed size in `Turns`. But for `Turns::new`, which answers `NoMemory`,
-//! no call takes memory.
+//! Reports go through a buffer of a fixed size in `Turns`. But for `Turns::new` and `read_rows`, which answer
+//! `NoMemory`, no call takes memory.
 #![tactic(auto)]
 
+mod cuts;
 mod figures;
+mod file_rows;
+mod filled_lines;
+mod header;
+mod line_cells;
 mod lines_out;
+mod model_names;
 mod next_names;
 mod numbers;
 mod out_buffer;
+mod reading;
 mod report;
 mod row_file;
+mod rows_fault;
+mod text_numbers;
 mod turns;
 
 pub use figures::{Figures, Stats};
 pub use numbers::{put_figures, put_stats};
+pub use reading::read_rows;
 pub use report::put_report;
 pub use row_file::{FileRow, FileRowList, RowFile, RowMode};
+pub use rows_fault::RowsFault;
 pub use turns::Turns;

@@ -2,7 +2,7 @@ use cov_model::Cells;
 use model_lex::NoteList;
 use value_text::OwnedList;
 
-/// How a row file is read (PICT's guide for seed files).
+/// How `read_rows` takes a row file (PICT's guide for seed files).
 #[derive(Debug, Drop, Clone, Copy, PartialEq, Eq)]
 pub enum RowMode {
     /// As seed rows, which may leave parameters out.
