@@ -28,7 +28,8 @@ use Rattle.model_lex.specs.Lines.{file_lines, without_mark}
 use Rattle.model_lex.specs.declared.note.Note.{Note}
 use Rattle.row_text.specs.Readings.{HoldsReading, IsFileOf, fault_of, note_told}
 use Rattle.row_text.specs.RowFiles.{row_seen, seeds_seen}
-use Rattle.row_text.specs.RowLines.{AreOnce}
+use Rattle.row_text.specs.RowLines.{AreOnce, line_seen}
+use Rattle.row_text.specs.declared.filled_lines.FilledLine.{FilledLine}
 use Rattle.row_text.specs.declared.row_file.FileRow.{FileRow}
 use Rattle.row_text.specs.declared.row_file.RowFile.{RowFile}
 use Rattle.row_text.specs.declared.rows_fault.RowsFault.{RowsFault}
@@ -159,6 +160,28 @@ file_keeps m header file bytes first lines all same few =
           omega (arith, a, b, numbers (suc i) (suc j) (0, []) (omega arith) (omega (arith, size, within)));
     }
 
+-- ---- under a header that is read
+
+-- its line is the first that has a byte, and the columns, also as they are lent, are of the parameters that its cells name
+pub record UnderHeader (m : ModelView) (bytes : List ℕ) (first : FilledLine) (lines : List (ℕ × List ℕ)) (columns lent : List (Option ℕ)) : Type 0 where
+  pub all : filled_lines bytes ≡ line_seen first ∷ lines
+  pub named : columns ≡ map (named_param m) (cells_of_line first.text.now)
+  pub lent_named : lent ≡ map (named_param m) (cells_of_line first.text.now)
+  pub size : length (cells_of_line first.text.now) ≡ length lent
+
+pub under_header : (m names : ModelView) (bytes : List ℕ) (first : FilledLine) (whole lines : List (ℕ × List ℕ)) (columns lent : List (Option ℕ)) → whole ≡ filled_lines bytes
+    → whole ≡ line_seen first ∷ lines → names ≡ m → columns ≡ map (named_param names) (cells_of_line first.text.now) → lent ≡ columns
+    → UnderHeader m bytes first lines columns lent
+under_header m names bytes first whole lines columns lent is_whole taken same read is_lent =
+    let cells = cells_of_line first.text.now in
+    let named : columns ≡ map (named_param m) cells = read ∙ ap (λ n. map (named_param n) cells) same in
+    record {
+      all = sym is_whole ∙ taken;
+      named = named;
+      lent_named = is_lent ∙ named;
+      size = sym (ap length (is_lent ∙ named) ∙ length-map cells (named_param m));
+    }
+
 -- ---- the answer
 
 -- the rows and the notes of lines under the names of the model
@@ -230,6 +253,3 @@ module _ (m : ModelView) (mode : defined.RowMode) (bytes : List ℕ) (first : �
           ∙ sym (map-append note_told (column_notes m first.0 header) (flat_map (value_notes m header) lines));
     },
   )
-
-pub refused_without : (m : ModelView) (mode : defined.RowMode) (bytes : List ℕ) → filled_lines bytes ≡ [] → read_rows m mode bytes ≡ Err defined.NoHeader
-refused_without m mode bytes none = ap (read_numbered m mode) none
