@@ -1,7 +1,5 @@
 //! Row files that are read, and what is expected of them.
 
-ghost use Rattle.std.specs.Prelude.{◌≤◌, ◌<◌, ◌^◌, length};
-
 use cov_model::{Cells, ParamNo, TestModel, ValueNo};
 use model_lex::NoteCode;
 use row_text::{RowFile, RowMode, RowsFault, read_rows};

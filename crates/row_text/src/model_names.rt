@@ -1,7 +1,7 @@
-ghost use Rattle.std.specs.Prelude.{◌≡◌, ◌<◌, ◌≤◌, ℕ, List, [], ◌∷◌, Some, None, if◌then◌else◌, length, position, IfOk, OnOk, All};
+ghost use Rattle.std.specs.Prelude.{◌≡◌, ◌<◌, ◌≤◌, ℕ, List, [], ◌∷◌, Some, None, if◌then◌else◌, length, position, IfOk, OnOk};
 ghost use Rattle.std.specs.Option.{option_or};
 ghost use Rattle.value_text.specs.Texts.{folded};
-ghost use Rattle.cov_model.specs.Sound.{ModelView, IsSound, IsSoundParam};
+ghost use Rattle.cov_model.specs.Sound.{IsSound};
 ghost use Rattle.definitions.specs.Report.{printed};
 ghost use Rattle.definitions.specs.RowFile.{named_param, named_value};
 ghost use Rattle.row_text.specs.Lookups.{is_param_named, is_value_named, number_of};
