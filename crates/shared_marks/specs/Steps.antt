@@ -1,0 +1,17 @@
+-- What a test tells its caller. (This project's rule.)
+use Rattle.std.specs.Prelude.{◌≡◌, ℕ, ◌%◌, ◌==◌, Bool, true}
+use Rattle.std.specs.Int.{bit_at}
+use Rattle.definitions.specs.Demand.{is_among}
+use Rattle.shared_marks.specs.declared.holding.Holding.{Holding}
+use Rattle.shared_marks.specs.Seats.{IsWhole, is_held, testing}
+
+-- whether the bit of a place is set in its word
+abbrev pub has_bit : ℕ → ℕ → Bool
+has_bit word place = bit_at word (place % 64) == 1
+
+-- a place whose bit is set in the word joins the seen ones; the bit of a place that the seat holds is set;
+-- and where the seat has the whole share, the bit is set exactly if it marked the place
+pub record IsTest (place word : ℕ) (before after : Holding) : Type 0 where
+  pub seen : after ≡ testing place (has_bit word place) before
+  pub held : is_held before place ≡ true → has_bit word place ≡ true
+  pub whole : IsWhole before → has_bit word place ≡ is_among before.marked place

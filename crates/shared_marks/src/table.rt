@@ -1,0 +1,208 @@
+ghost use Rattle.std.specs.Prelude.{◌≡◌, ◌<◌, ℕ, true, false, length, map, slice_index_or, IfOk};
+ghost use Rattle.std.specs.List.{range_with_len};
+ghost use Rattle.std.specs.Slots.{IsFull, slots_items, slots_len};
+ghost use Rattle.definitions.specs.Demand.{is_among};
+ghost use Rattle.shared_marks.specs.Seats.{IsWhole, first_holding, halved, holding, is_held, joined, marking, other_half, testing};
+
+use crate::holding::Holding;
+use crate::rule::{Halves, MarkRule, Marking, Place, Testing};
+use atomic_table::{Closed, Seat, Table};
+use std::alloc::Global;
+use std::marker::{Brand, Model};
+use value_text::NoMemory;
+
+/// The number of bits of a word.
+const WORD_BITS: usize = 64;
+
+/// A seat of a table of marks: what a worker steps with. Contracts see of which table it is, and what it
+/// holds: the places that it marked, those that it has seen marked, and its share of the table.
+#[derive(Drop)]
+pub struct MarkSeat {
+    seat: Seat<(), Holding>,
+}
+
+impl Model for MarkSeat {
+    ghost use Rattle.std.specs.Prelude.{◌≡◌, ◌<◌, []};
+    ghost use Rattle.shared_marks.specs.Seats.{SeatView};
+
+    ghost Value = { SeatView };
+
+    ghost view = { λ a. record { table = a.seat.table_id; holds = a.seat.me.0 } };
+
+    ghost invariant = { λ a. (a.seat.me.1 ≡ []) × (0 < a.seat.me.0.parts) };
+}
+
+/// A table of marks that several workers put, each with a seat of its own. Contracts see which table it is
+/// and the number of its places.
+#[derive(Drop)]
+pub struct SharedMarks {
+    table: Table<(), Holding, usize, MarkRule, Global>,
+    room: Vec<u64>,
+    size: u32,
+}
+
+impl Model for SharedMarks {
+    ghost use Rattle.std.specs.Prelude.{◌≡◌, ◌*◌, ◌<◌, length};
+    ghost use Rattle.shared_marks.specs.Seats.{TableView};
+
+    ghost Value = { TableView };
+
+    ghost view = { λ a. record { table = a.table.shared.table_id; bits = a.size } };
+
+    ghost invariant = { λ a. (a.table.shared.table_id.words ≡ a.table.shared.key) × (a.table.shared.table_id.slots ≡ 0)
+        × (a.size < 64 * a.table.shared.key) × (length a.room.items ≡ a.table.shared.key) };
+}
+
+impl SharedMarks {
+    /// A table of `bits` places without a mark, and its first seat, which has the whole share.
+    ///
+    /// # Errors
+    ///
+    /// `NoMemory` where memory is refused.
+    pub fn new(alloc: Global, bits: u32) -> Result<(SharedMarks, MarkSeat), NoMemory>
+        ensures { IfOk result (λ made. (made.0.bits ≡ bits) × (made.1 ≡ record { table = made.0.table; holds = first_holding })) }
+    {
+        let count = bits as usize / WORD_BITS + 1;
+        let room = vec![in alloc; 0; count]?;
+        let (table, seat) = Table::of_words(alloc, room.as_slice(), &count)?;
+        Ok((
+            SharedMarks {
+                table,
+                room,
+                size: bits,
+            },
+            MarkSeat { seat },
+        ))
+    }
+
+    /// Marks a place: one `fetch_or` of its word. The seat has to be of this table. Takes no memory.
+    pub fn mark(&self, seat: &mut MarkSeat, place: u32)
+        requires table { seat.old.table ≡ self.now.table }
+        requires place { place < self.now.bits }
+        ensures { seat.new ≡ holding seat.old (marking place seat.old.holds) }
+    {
+        self.put::<Brand>(seat, place);
+    }
+
+    /// Whether a place is marked: one load of its word. The seat has to be of this table; a place that is
+    /// marked joins those that it has seen. Takes no memory.
+    pub fn is_marked(&self, seat: &mut MarkSeat, place: u32) -> bool
+        requires table { seat.old.table ≡ self.now.table }
+        requires place { place < self.now.bits }
+        ensures seat { seat.new ≡ holding seat.old (testing place result seat.old.holds) }
+        ensures held { is_held seat.old.holds place ≡ true → result ≡ true }
+        ensures whole { IsWhole seat.old.holds → result ≡ is_among seat.old.holds.marked place }
+    {
+        self.look::<Brand>(seat, place)
+    }
+
+    /// Cuts the share of a seat in two, and gives a new seat the second half. The new seat marked nothing,
+    /// and has seen what the seat marked or saw. The seat has to be of this table. Takes no memory.
+    pub fn split(&self, seat: &mut MarkSeat) -> MarkSeat
+        requires { seat.old.table ≡ self.now.table }
+        ensures seat { seat.new ≡ holding seat.old (halved seat.old.holds) }
+        ensures other { result ≡ holding seat.old (other_half seat.old.holds) }
+    {
+        MarkSeat {
+            seat: self.table.shared.split_seat::<Halves>(&mut seat.seat),
+        }
+    }
+
+    /// Adds what another seat holds to a seat, its share too. Both have to be of this table. Takes no memory.
+    pub fn join(&self, seat: &mut MarkSeat, other: MarkSeat)
+        requires seat { seat.old.table ≡ self.now.table }
+        requires other { other.table ≡ self.now.table }
+        ensures { seat.new ≡ holding seat.old (joined seat.old.holds other.holds) }
+    {
+        let MarkSeat { seat: from } = other;
+        self.table.shared.join_seat::<Halves>(&mut seat.seat, from);
+    }
+
+    /// The marks of the table, which is taken apart: a mark at each place that the seat marked or saw marked,
+    /// and no other one if it has the whole share. The seat has to be of this table. Takes no memory.
+    pub fn close(self, seat: MarkSeat) -> Bits
+        requires { seat.table ≡ self.table }
+        ensures size { length result ≡ self.bits }
+        ensures held { (place : ℕ) → place < self.bits → is_held seat.holds place ≡ true → slice_index_or result place false ≡ true }
+        ensures whole { IsWhole seat.holds → result ≡ map (is_among seat.holds.marked) (range_with_len 0 self.bits) }
+    {
+        let SharedMarks { table, room, size } = self;
+        let MarkSeat { seat } = seat;
+        let closed = table.close_with(seat);
+        let words = words_of(&closed, room);
+        closed.free();
+        Bits { words, size }
+    }
+
+    // Marks the place that this step is about.
+    fn put<P: Place>(&self, seat: &mut MarkSeat, place: u32)
+        requires step { P.place ≡ place }
+        requires table { seat.old.table ≡ self.now.table }
+        requires place { place < self.now.bits }
+        ensures { seat.new ≡ holding seat.old (marking place seat.old.holds) }
+    {
+        let word = place as usize / WORD_BITS;
+        let bit = 1 << (place as usize % WORD_BITS);
+        self.table
+            .shared
+            .fetch_or::<Marking<P>>(&mut seat.seat, word, bit);
+    }
+
+    // Tests the place that this step is about.
+    fn look<P: Place>(&self, seat: &mut MarkSeat, place: u32) -> bool
+        requires step { P.place ≡ place }
+        requires table { seat.old.table ≡ self.now.table }
+        requires place { place < self.now.bits }
+        ensures seat { seat.new ≡ holding seat.old (testing place result seat.old.holds) }
+        ensures held { is_held seat.old.holds place ≡ true → result ≡ true }
+        ensures whole { IsWhole seat.old.holds → result ≡ is_among seat.old.holds.marked place }
+    {
+        let word = self
+            .table
+            .shared
+            .load::<Testing<P>>(&mut seat.seat, place as usize / WORD_BITS);
+        (word >> (place as usize % WORD_BITS)) & 1 == 1
+    }
+}
+
+// The words of a closed table, in a vector that is as long.
+fn words_of(closed: &Closed<(), Global>, mut into: Vec<u64>) -> Vec<u64>
+    requires full { IsFull closed.now.words }
+    requires room { length into.items ≡ slots_len closed.now.words }
+    ensures { result.items ≡ slots_items closed.now.words }
+{
+    for i in 0..into.len() {
+        into[i] = closed.word(i);
+    }
+    into
+}
+
+/// The marks of a closed table, a bit each. Contracts see the list of the marks.
+#[derive(Drop)]
+pub struct Bits {
+    words: Vec<u64>,
+    size: u32,
+}
+
+impl Model for Bits {
+    ghost use Rattle.std.specs.Prelude.{◌*◌, ◌≤◌, Bool, List, length};
+    ghost use Rattle.bit_table.specs.Words.{marks_of};
+
+    ghost Value = { List Bool };
+
+    ghost view = { λ a. marks_of a.words.items a.size };
+
+    ghost invariant = { λ a. a.size ≤ 64 * length a.words.items };
+}
+
+impl Bits {
+    /// Whether a place is marked. Takes no memory.
+    pub fn has(&self, place: u32) -> bool
+        requires { place < length self.now }
+        ensures { result ≡ slice_index_or self.now place false }
+    {
+        let place = place as usize;
+        let word = self.words[place / WORD_BITS];
+        (word >> (place % WORD_BITS)) & 1 == 1
+    }
+}
