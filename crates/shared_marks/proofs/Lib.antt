@@ -4,3 +4,7 @@ pub mod ShareLemmas
 pub mod StepLemmas
 pub mod CallerLemmas
 pub mod CloseLemmas
+pub mod AddingLemmas
+pub mod OwnTupleLemmas
+pub mod PlaceLemmas
+pub mod RowLemmas

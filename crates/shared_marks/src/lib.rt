@@ -9,6 +9,7 @@
 
 mod holding;
 mod rule;
+mod served;
 mod table;
 
 pub use table::{Bits, MarkSeat, SharedMarks};
