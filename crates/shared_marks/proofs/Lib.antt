@@ -8,3 +8,4 @@ pub mod AddingLemmas
 pub mod OwnTupleLemmas
 pub mod PlaceLemmas
 pub mod RowLemmas
+pub mod WorkerLemmas

@@ -1,15 +1,18 @@
-//! Marks on places numbered from 0 that several workers put into one table, and the demanded tuples that
-//! a suite serves, marked so.
+//! Marks that several workers put into one table, and so the demanded tuples that a suite serves.
 //!
-//! - `SharedMarks` is the table. Its calls on seats take no memory and never wait: each is one atomic step
-//!   on one word. specs/Seats says what a seat holds and what each kind of step does to it, specs/Facts
-//!   what holds of all seats between any two steps.
+//! - `SharedMarks` is the table. Each call on a seat is one atomic step on one word; it takes no memory and
+//!   waits for nobody. specs/Seats says what a seat holds and what each kind of step does to it, specs/Facts
+//!   what holds of the words and of all seats between any two steps.
 //! - `Bits` are the marks of a closed table. Only `SharedMarks::close` makes them.
+//! - `SharedMarks::mark_served` marks what some rows of a file serve, and `mark_rows` does so for all rows,
+//!   by workers: the marks are those of the served tuples, for every number of workers from 1 to 64.
 #![tactic(auto)]
 
 mod holding;
 mod rule;
 mod served;
 mod table;
+mod workers;
 
 pub use table::{Bits, MarkSeat, SharedMarks};
+pub use workers::mark_rows;

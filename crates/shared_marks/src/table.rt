@@ -196,6 +196,13 @@ impl Model for Bits {
 }
 
 impl Bits {
+    /// The number of places. Takes no memory.
+    pub fn len(&self) -> u32
+        ensures { result ≡ length self.now }
+    {
+        self.size
+    }
+
     /// Whether a place is marked. Takes no memory.
     pub fn has(&self, place: u32) -> bool
         requires { place < length self.now }

@@ -1,0 +1,132 @@
+ghost use Rattle.std.specs.Prelude.{◌≡◌, ◌+◌, ◌^◌, ◌<◌, ◌≤◌, All, IfOk, length, map, slice_range, sum};
+ghost use Rattle.std.specs.Thread.{IsSync};
+ghost use Rattle.cov_model.specs.Fits.{FitsModel};
+ghost use Rattle.definitions.specs.Demand.{demanded_tuples};
+ghost use Rattle.definitions.specs.Figures.{is_served, tests_of};
+ghost use Rattle.row_text.specs.RowFiles.{suite_seen};
+ghost use Rattle.tuple_index.specs.Plan.{plan_of};
+ghost use Rattle.shared_marks.specs.Adding.{Adds};
+ghost use Rattle.shared_marks.specs.Served.{is_served_at};
+
+use crate::table::{Bits, MarkSeat, SharedMarks};
+use cov_model::TestModel;
+use outside_io::Gate;
+use row_text::RowFile;
+use std::alloc::Global;
+use std::thread::{Threads, join};
+use tuple_index::Plan;
+use value_text::NoMemory;
+
+/// The marks of the demanded tuples that some test of a file serves, put by workers numbered from 1. Each
+/// worker comes to the gate and then marks, with a seat of its own, what its share of the rows serves; with
+/// more workers than rows some shares are empty. The marks are the same for every number of workers from 1
+/// to 64. A test is a complete and valid row, and the place of a tuple is the base of its set plus its rank.
+/// Plan and file have to be the model's; a file has at most 2^20 rows.
+///
+/// # Errors
+///
+/// `NoMemory` where memory is refused.
+pub fn mark_rows<R: Threads + Sync, G: Gate + Sync>(
+    rt: &R,
+    alloc: Global,
+    model: &TestModel,
+    plan: &Plan,
+    file: &RowFile,
+    workers: u32,
+    gate: &G,
+) -> Result<Bits, NoMemory>
+    requires plan { plan.now ≡ plan_of model.now }
+    requires fits { All (λ row. FitsModel model.now row.cells) file.now.rows }
+    requires few { length file.now.rows ≤ 2 ^ 20 }
+    requires least { 1 ≤ workers }
+    requires most { workers ≤ 64 }
+    ensures { IfOk result (λ bits. bits ≡ map (is_served model.now (tests_of model.now (suite_seen file.now))) (demanded_tuples model.now)) }
+{
+    let (table, seat) = SharedMarks::new(alloc, count_tuples(plan))?;
+    let rows = file.rows.len() as u32;
+    let seat = mark_range(
+        rt, &table, seat, model, plan, file, 0, rows, 1, workers, gate,
+    );
+    Ok(table.close(seat))
+}
+
+// The number of demanded tuples.
+fn count_tuples(plan: &Plan) -> u32
+    ensures { result ≡ sum plan.now.sizes }
+{
+    let sets = plan.set_count();
+    if sets == 0 {
+        return 0;
+    }
+    plan.base(sets - 1) + plan.size(sets - 1)
+}
+
+// How many of the rows the first of the workers take.
+fn share(count: u32, first: u32, workers: u32) -> u32
+    requires { first < workers }
+    ensures { result ≤ count }
+{
+    (u64::from(count) * u64::from(first) / u64::from(workers)) as u32
+}
+
+// Marks what the tests of a range of the rows serve, by these many workers from one on. The seat comes back
+// with all that they marked, and with its share.
+fn mark_range<R: Threads + Sync, G: Gate + Sync>(
+    rt: &R,
+    table: &SharedMarks,
+    mut seat: MarkSeat,
+    model: &TestModel,
+    plan: &Plan,
+    file: &RowFile,
+    from: u32,
+    to: u32,
+    worker: u32,
+    workers: u32,
+    gate: &G,
+) -> MarkSeat
+    requires table { seat.table ≡ table.now.table }
+    requires plan { plan.now ≡ plan_of model.now }
+    requires bits { table.now.bits ≡ length (demanded_tuples model.now) }
+    requires fits { All (λ row. FitsModel model.now row.cells) file.now.rows }
+    requires ordered { from ≤ to }
+    requires within { to ≤ length file.now.rows }
+    requires some { 0 < workers }
+    requires last { worker + workers ≤ 65 }
+    ensures { Adds (is_served_at model.now (slice_range (suite_seen file.now) from to)) seat result }
+{
+    if workers == 1 {
+        gate.come(worker);
+        table.mark_served(&mut seat, model, plan, file, from, to);
+        return seat;
+    }
+    let half = workers / 2;
+    let next = worker + half;
+    let rest = workers - half;
+    let middle = from + share(to - from, half, workers);
+    let other = table.split(&mut seat);
+    let (mut seat, other) = join(
+        rt,
+        move || -> MarkSeat
+            requires { IsSync R.row × IsSync G.row × (seat.table ≡ table.now.table) × (plan.now ≡ plan_of model.now)
+                × (table.now.bits ≡ length (demanded_tuples model.now)) × All (λ row. FitsModel model.now row.cells) file.now.rows
+                × (from ≤ middle) × (middle ≤ length file.now.rows) × (0 < half) × (worker + half ≤ 65) }
+            ensures { Adds (is_served_at model.entry.now (slice_range (suite_seen file.entry.now) from middle)) seat result }
+        {
+            mark_range(
+                rt, table, seat, model, plan, file, from, middle, worker, half, gate,
+            )
+        },
+        move || -> MarkSeat
+            requires { IsSync R.row × IsSync G.row × (other.table ≡ table.now.table) × (plan.now ≡ plan_of model.now)
+                × (table.now.bits ≡ length (demanded_tuples model.now)) × All (λ row. FitsModel model.now row.cells) file.now.rows
+                × (middle ≤ to) × (to ≤ length file.now.rows) × (0 < rest) × (next + rest ≤ 65) }
+            ensures { Adds (is_served_at model.entry.now (slice_range (suite_seen file.entry.now) middle to)) other result }
+        {
+            mark_range(
+                rt, table, other, model, plan, file, middle, to, next, rest, gate,
+            )
+        },
+    );
+    table.join(&mut seat, other);
+    seat
+}
