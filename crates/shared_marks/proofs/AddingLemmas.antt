@@ -7,7 +7,7 @@ use Rattle.std.proofs.lemmas.Nat.{pow-add}
 use Rattle.definitions.specs.Demand.{is_among}
 use Rattle.shared_marks.specs.declared.holding.Holding.{Holding}
 use Rattle.shared_marks.specs.Adding.{Adds, IsSameShare, Marks}
-use Rattle.shared_marks.specs.Seats.{IsWhole, SeatView, first_holding, halved, holding, joined, marking, other_half}
+use Rattle.shared_marks.specs.Seats.{IsWhole, SeatView, first_holding, halved, with_holding, joined, marking, other_half}
 
 -- none
 pub marks_none : (adds : ℕ → Bool) (seat : SeatView) → ((place : ℕ) → adds place ≡ false) → Marks adds seat seat
@@ -21,7 +21,7 @@ marks_none adds seat none = record {
 
 -- one
 pub marks_one : (adds : ℕ → Bool) (seat : SeatView) (own : ℕ) → ((place : ℕ) → adds place ≡ (own == place))
-    → Marks adds seat (holding seat (marking own seat.holds))
+    → Marks adds seat (with_holding seat (marking own seat.holds))
 marks_one adds seat own is = record {
   table = refl;
   marked = λ place. or_comm (own == place) (is_among seat.holds.marked place) ∙ ap (λ t. is_among seat.holds.marked place || t) (sym (is place));
@@ -64,9 +64,9 @@ marks_add adds before after is = record {
 }
 
 -- a seat that was split and joined again, and what was added by both halves
-pub halves_add : (first second both : ℕ → Bool) (seat one other : SeatView) → Adds first (holding seat (halved seat.holds)) one
-    → Adds second (holding seat (other_half seat.holds)) other → ((place : ℕ) → (first place || second place) ≡ both place)
-    → Adds both seat (holding one (joined one.holds other.holds))
+pub halves_add : (first second both : ℕ → Bool) (seat one other : SeatView) → Adds first (with_holding seat (halved seat.holds)) one
+    → Adds second (with_holding seat (other_half seat.holds)) other → ((place : ℕ) → (first place || second place) ≡ both place)
+    → Adds both seat (with_holding one (joined one.holds other.holds))
 halves_add first second both seat one other left right is = record {
   table = left.table;
   marked = λ place.

@@ -7,7 +7,7 @@ use Rattle.cov_model.specs.Sound.{ModelView}
 use Rattle.definitions.specs.Demand.{demanded_tuples, is_among}
 use Rattle.definitions.specs.Figures.{is_served, tests_of}
 use Rattle.shared_marks.specs.Adding.{Adds, IsSameShare}
-use Rattle.shared_marks.specs.Seats.{IsWhole, SeatView, first_holding, halved, holding, joined, other_half}
+use Rattle.shared_marks.specs.Seats.{IsWhole, SeatView, first_holding, halved, with_holding, joined, other_half}
 use Rattle.shared_marks.specs.Served.{is_served_at}
 use Rattle.shared_marks.proofs.AddingLemmas.{halves_add, same_is_whole}
 use Rattle.shared_marks.proofs.PlaceLemmas.{served_all, served_append}
@@ -15,9 +15,9 @@ use Rattle.shared_marks.proofs.RowLemmas.{range_joined}
 
 -- two workers with the halves of a seat, for two parts of a range
 pub parts_add : (m : ModelView) (rows : List (List (Option ℕ))) (from middle to : ℕ) (seat left right one other after : SeatView) → from ≤ middle → middle ≤ to
-    → left ≡ holding seat (halved seat.holds) → right ≡ holding seat (other_half seat.holds)
+    → left ≡ with_holding seat (halved seat.holds) → right ≡ with_holding seat (other_half seat.holds)
     → Adds (is_served_at m (slice_range rows from middle)) left one → Adds (is_served_at m (slice_range rows middle to)) right other
-    → after ≡ holding one (joined one.holds other.holds) → Adds (is_served_at m (slice_range rows from to)) seat after
+    → after ≡ with_holding one (joined one.holds other.holds) → Adds (is_served_at m (slice_range rows from to)) seat after
 parts_add m rows from middle to seat left right one other after first second halves behind own others both =
     let lower = is_served_at m (slice_range rows from middle) in
     let upper = is_served_at m (slice_range rows middle to) in

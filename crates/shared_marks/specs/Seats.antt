@@ -16,8 +16,8 @@ pub record TableView : Type 0 where
   pub bits : ℕ
 
 -- the seat with another holding
-abbrev pub holding : SeatView → Holding → SeatView
-holding seat held = record { table = seat.table; holds = held }
+abbrev pub with_holding : SeatView → Holding → SeatView
+with_holding seat held = record { table = seat.table; holds = held }
 
 -- make: the first seat holds no place and the whole share
 abbrev pub first_holding : Holding

@@ -2,7 +2,7 @@ ghost use Rattle.std.specs.Prelude.{◌≡◌, ◌<◌, ℕ, true, false, length
 ghost use Rattle.std.specs.List.{range_with_len};
 ghost use Rattle.std.specs.Slots.{IsFull, slots_items, slots_len};
 ghost use Rattle.definitions.specs.Demand.{is_among};
-ghost use Rattle.shared_marks.specs.Seats.{IsWhole, first_holding, halved, holding, is_held, joined, marking, other_half, testing};
+ghost use Rattle.shared_marks.specs.Seats.{IsWhole, first_holding, halved, with_holding, is_held, joined, marking, other_half, testing};
 
 use crate::holding::Holding;
 use crate::rule::{Halves, MarkRule, Marking, Place, Testing};
@@ -79,7 +79,7 @@ impl SharedMarks {
     pub fn mark(&self, seat: &mut MarkSeat, place: u32)
         requires table { seat.old.table ≡ self.now.table }
         requires place { place < self.now.bits }
-        ensures { seat.new ≡ holding seat.old (marking place seat.old.holds) }
+        ensures { seat.new ≡ with_holding seat.old (marking place seat.old.holds) }
     {
         self.put::<Brand>(seat, place);
     }
@@ -89,7 +89,7 @@ impl SharedMarks {
     pub fn is_marked(&self, seat: &mut MarkSeat, place: u32) -> bool
         requires table { seat.old.table ≡ self.now.table }
         requires place { place < self.now.bits }
-        ensures seat { seat.new ≡ holding seat.old (testing place result seat.old.holds) }
+        ensures seat { seat.new ≡ with_holding seat.old (testing place result seat.old.holds) }
         ensures held { is_held seat.old.holds place ≡ true → result ≡ true }
         ensures whole { IsWhole seat.old.holds → result ≡ is_among seat.old.holds.marked place }
     {
@@ -100,8 +100,8 @@ impl SharedMarks {
     /// and has seen what the seat marked or saw. The seat has to be of this table. Takes no memory.
     pub fn split(&self, seat: &mut MarkSeat) -> MarkSeat
         requires { seat.old.table ≡ self.now.table }
-        ensures seat { seat.new ≡ holding seat.old (halved seat.old.holds) }
-        ensures other { result ≡ holding seat.old (other_half seat.old.holds) }
+        ensures seat { seat.new ≡ with_holding seat.old (halved seat.old.holds) }
+        ensures other { result ≡ with_holding seat.old (other_half seat.old.holds) }
     {
         MarkSeat {
             seat: self.table.shared.split_seat::<Halves>(&mut seat.seat),
@@ -112,7 +112,7 @@ impl SharedMarks {
     pub fn join(&self, seat: &mut MarkSeat, other: MarkSeat)
         requires seat { seat.old.table ≡ self.now.table }
         requires other { other.table ≡ self.now.table }
-        ensures { seat.new ≡ holding seat.old (joined seat.old.holds other.holds) }
+        ensures { seat.new ≡ with_holding seat.old (joined seat.old.holds other.holds) }
     {
         let MarkSeat { seat: from } = other;
         self.table.shared.join_seat::<Halves>(&mut seat.seat, from);
@@ -139,7 +139,7 @@ impl SharedMarks {
         requires step { P.place ≡ place }
         requires table { seat.old.table ≡ self.now.table }
         requires place { place < self.now.bits }
-        ensures { seat.new ≡ holding seat.old (marking place seat.old.holds) }
+        ensures { seat.new ≡ with_holding seat.old (marking place seat.old.holds) }
     {
         let word = place as usize / WORD_BITS;
         let bit = 1 << (place as usize % WORD_BITS);
@@ -153,7 +153,7 @@ impl SharedMarks {
         requires step { P.place ≡ place }
         requires table { seat.old.table ≡ self.now.table }
         requires place { place < self.now.bits }
-        ensures seat { seat.new ≡ holding seat.old (testing place result seat.old.holds) }
+        ensures seat { seat.new ≡ with_holding seat.old (testing place result seat.old.holds) }
         ensures held { is_held seat.old.holds place ≡ true → result ≡ true }
         ensures whole { IsWhole seat.old.holds → result ≡ is_among seat.old.holds.marked place }
     {
