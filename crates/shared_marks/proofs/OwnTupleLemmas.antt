@@ -5,7 +5,6 @@ use Rattle.std.specs.List.{list_all}
 use Rattle.std.proofs.lemmas.Bool.{and_from, and_parts, eq-eqb, eqb-true, false_from_ne_true, false≢true, leb-true, not_from_false, or_left, or_right, true_from_ne_false}
 use Rattle.std.proofs.lemmas.Option.{same_Some, slice_get_within}
 use Rattle.std.proofs.lemmas.List.{get_or_default, same_lists}
-use Rattle.std.proofs.lemmas.List.Elements.{All-cons, All-nil}
 use Rattle.std.proofs.lemmas.List.FromFn.{get_or-map-range_with_len, length-map-range_with_len}
 use Rattle.cov_model.specs.declared.slice.Slice.{Slice}
 use Rattle.cov_model.specs.Sound.{ModelView, param_at}
@@ -23,6 +22,7 @@ use Rattle.definitions.proofs.SliceLemmas.{has_negatives, has_numbers, is_slice,
 use Rattle.tuple_index.specs.Places.{RisesFrom, has_part}
 use Rattle.tuple_index.specs.Plan.{IsChoice, PlanView, are_values, is_negative, is_value, negative_count, plan_of, set_at, tuple_cells, value_given}
 use Rattle.tuple_index.proofs.InverseLemmas.{has_place, ranks_are_inverse}
+use Rattle.tuple_index.proofs.LoopLemmas.{rises_within}
 use Rattle.tuple_index.proofs.OrderLemmas.{demanded_rise}
 use Rattle.shared_marks.specs.Served.{IsServedRank}
 
@@ -269,11 +269,7 @@ no_rank m row set part = record {
       (sym part ∙ (served_is_own m set row tuple (of_set m set tuple (has_place (tuples_of m set) rank tuple here)) holds).1));
 }
 
--- the members of a rising set exist, and there are no more of them than numbers
-pub members_exist : (set : List ℕ) (p e : ℕ) → RisesFrom p e set → All (λ q. q < e) set
-members_exist [] p e rises = All-nil (λ q. q < e)
-members_exist (q ∷ set) p e rises = All-cons (λ r. r < e) q set rises.1 (members_exist set (q + 1) e rises.2)
-
+-- there are no more members of a rising set than numbers
 pub members_few : (set : List ℕ) (p e : ℕ) → RisesFrom p e set → p ≤ e → length set + p ≤ e
 members_few [] p e rises ordered = omega (arith, ordered)
 members_few (q ∷ set) p e rises ordered = let rest = members_few set (q + 1) e rises.2 (omega (arith, rises.1)) in omega (arith, rest, rises.0)
@@ -300,7 +296,7 @@ pub chosen_members : (m : ModelView) (plan : PlanView) (i : ℕ) (row : List (Op
 chosen_members m plan i row members from few =
     let rises = set_rises m plan i row members from in
     let count = members_few members 0 (length m.params) rises (omega arith) in (
-      subst (λ n. All (λ p. p < n) members) (sym from.is.long) (members_exist members 0 (length m.params) rises),
+      subst (λ n. All (λ p. p < n) members) (sym from.is.long) (rises_within members 0 (length m.params) rises),
       omega (arith, count, few),
     )
 

@@ -18,20 +18,16 @@ use Rattle.cov_model.specs.Valid.{is_valid, serves}
 use Rattle.definitions.specs.Demand.{demanded_sets, demanded_tuples, tuples_of}
 use Rattle.definitions.specs.Figures.{is_served, tests_of}
 use Rattle.tuple_index.specs.Plan.{plan_of, set_at}
-use Rattle.shared_marks.specs.Served.{IsServedRank, is_rank, is_served_at, served_between}
+use Rattle.shared_marks.specs.Served.{IsServedRank, PlacesAreRanks, base_of, is_rank, is_served_at, served_between}
 
--- where the places of a set begin, and where those of the next one do
-abbrev pub base_of : ModelView → ℕ → ℕ
-base_of m i = sum (take i (plan_of m).sizes)
-
+-- the base of a set
 base_is : (m : ModelView) (i : ℕ) → base_of m i ≡ length (flat_map (tuples_of m) (take i (demanded_sets m)))
 base_is m i =
     ap sum (take-map (λ set. length (tuples_of m set)) i (demanded_sets m)) ∙ sum-map (λ set. length (tuples_of m set)) (take i (demanded_sets m))
     ∙ sym (length-flat_map (tuples_of m) (take i (demanded_sets m)))
 
 -- the tuple at a place of a set
-pub tuple_there : (m : ModelView) (i rank : ℕ) → i < length (demanded_sets m) → rank < length (tuples_of m (set_at (plan_of m) i))
-    → slice_get (demanded_tuples m) (base_of m i + rank) ≡ slice_get (tuples_of m (set_at (plan_of m) i)) rank
+pub tuple_there : PlacesAreRanks
 tuple_there m i rank within inside =
     let set = set_at (plan_of m) i in
     let room = length-flat_map-take (tuples_of m) (demanded_sets m) i [] within in
@@ -47,7 +43,7 @@ place_within m i rank within inside =
     let room = length-flat_map-take (tuples_of m) (demanded_sets m) i [] within in
     omega (arith, room, base_is m i, inside)
 
--- where the places of the next set begin, and how many places there are
+-- the base of the next set, and how many places there are
 pub base_more : (m : ModelView) (i : ℕ) → i < length (demanded_sets m) → base_of m (i + 1) ≡ base_of m i + length (tuples_of m (set_at (plan_of m) i))
 base_more m i within =
     sum_by_more (λ n. n) (plan_of m).sizes i 0 (rw (length-map (demanded_sets m) (λ set. length (tuples_of m set))) within)

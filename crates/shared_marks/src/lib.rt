@@ -5,7 +5,8 @@
 //!   what holds of the words and of all seats between any two steps.
 //! - `Bits` are the marks of a closed table. Only `SharedMarks::close` makes them.
 //! - `SharedMarks::mark_served` marks what some rows of a file serve, and `mark_rows` does so for all rows,
-//!   by workers: the marks are those of the served tuples, for every number of workers from 1 to 64.
+//!   by workers: the marks are those of the served tuples, for every number of workers from 1 to 64. Each
+//!   demanded tuple has a place, the base of its set plus its rank (`places_are_ranks`).
 #![tactic(auto)]
 
 mod holding;
@@ -14,5 +15,6 @@ mod served;
 mod table;
 mod workers;
 
+pub use served::places_are_ranks;
 pub use table::{Bits, MarkSeat, SharedMarks};
 pub use workers::mark_rows;

@@ -1,4 +1,4 @@
-ghost use Rattle.std.specs.Prelude.{◌≡◌, ◌&&◌, ◌+◌, ◌≤◌, ◌<◌, true, All, [], ◌∷◌, length, map, sum, take, slice_range};
+ghost use Rattle.std.specs.Prelude.{◌≡◌, ◌&&◌, ◌+◌, ◌≤◌, ◌<◌, true, All, [], ◌∷◌, length, map, take, slice_range};
 ghost use Rattle.cov_model.specs.Fits.{FitsModel};
 ghost use Rattle.cov_model.specs.Rows.{is_complete, value_in};
 ghost use Rattle.cov_model.specs.Slices.{slice_of};
@@ -8,7 +8,7 @@ ghost use Rattle.row_text.specs.RowFiles.{suite_seen};
 ghost use Rattle.tuple_index.specs.Places.{has_part};
 ghost use Rattle.tuple_index.specs.Plan.{plan_of, set_at};
 ghost use Rattle.shared_marks.specs.Adding.{Marks};
-ghost use Rattle.shared_marks.specs.Served.{IsServedRank, is_served_at, served_between};
+ghost use Rattle.shared_marks.specs.Served.{IsServedRank, PlacesAreRanks, base_of, is_served_at, served_between};
 
 use crate::table::{MarkSeat, SharedMarks};
 use cov_model::{Cells, ParamNo, Slice, TestModel, ValueNo};
@@ -17,6 +17,12 @@ use tuple_index::Plan;
 
 /// The most members that a set has: as many as a model has parameters.
 const MOST_MEMBERS: usize = 256;
+
+/// The place of a demanded tuple among all of them is the base of its set plus its rank (this project's
+/// rule).
+pub fn places_are_ranks()
+    ensures { PlacesAreRanks }
+{}
 
 // Whether a row of a file is a test: it is complete and valid.
 fn is_test(model: &TestModel, cells: &Cells) -> bool
@@ -114,7 +120,7 @@ impl SharedMarks {
         requires test { (is_complete cells.now && is_valid model.now cells.now) ≡ true }
         requires slice { slice ≡ slice_of model.now cells.now }
         requires room { length values.old ≡ 256 }
-        ensures { Marks (served_between model.now cells.now (sum (take set (plan_of model.now).sizes)) (sum (take (set + 1) (plan_of model.now).sizes))) seat.old seat.new }
+        ensures { Marks (served_between model.now cells.now (base_of model.now set) (base_of model.now (set + 1))) seat.old seat.new }
     {
         plan.assert_invariant();
         match served_rank(model, plan, set, cells, slice, values) {

@@ -37,6 +37,7 @@ impl Model for MarkSeat {
 #[derive(Drop)]
 pub struct SharedMarks {
     table: Table<(), Holding, usize, MarkRule, Global>,
+    // as long as the table, so that its closing takes no memory
     room: Vec<u64>,
     size: u32,
 }

@@ -1,8 +1,8 @@
 use Rattle.std.proofs.Common.{◌≡◌, ◌+◌, length, ◌∙◌, ap, arith}
 use Rattle.definitions.specs.Demand.{demanded_sets}
-use Rattle.shared_marks.specs.Served.{served_between}
+use Rattle.shared_marks.specs.Served.{base_of, served_between}
 use Rattle.shared_marks.proofs.AddingLemmas.{marks_same, marks_then}
-use Rattle.shared_marks.proofs.PlaceLemmas.{base_end, base_more, base_of, between_all, between_more}
+use Rattle.shared_marks.proofs.PlaceLemmas.{base_end, base_more, between_all, between_more}
 use Rattle.shared_marks.proofs.table.SharedMarks.mark_row.Goals as goal
 
 pub loop-set-preserved : goal.loop-set-preserved

@@ -2,9 +2,9 @@ use Rattle.std.proofs.Common.{◌≡◌, ◌+◌, ◌∙◌, sym, ap, subst, ari
 use Rattle.std.specs.Prelude.{◌==◌, sum, take}
 use Rattle.tuple_index.specs.Plan.{plan_of, set_at}
 use Rattle.shared_marks.specs.Adding.{Marks}
-use Rattle.shared_marks.specs.Served.{IsServedRank, served_between}
+use Rattle.shared_marks.specs.Served.{IsServedRank, base_of, served_between}
 use Rattle.shared_marks.proofs.AddingLemmas.{marks_none, marks_one}
-use Rattle.shared_marks.proofs.PlaceLemmas.{base_of, one_set, place_within}
+use Rattle.shared_marks.proofs.PlaceLemmas.{one_set, place_within}
 use Rattle.shared_marks.proofs.table.SharedMarks.mark_set.Goals as goal
 
 pub mark-requires-clause-place : goal.mark-requires-clause-place
