@@ -37,7 +37,7 @@ first_number p n k within passes fails =
     find_at p (range_with_len 0 n) ∙ ap (slice_get (range_with_len 0 n)) placed
     ∙ slice_get-get_or (range_with_len 0 n) k 0 (rw (length-range_with_len 0 n) within) ∙ ap Some (read k within)
 
-no_item : (p : ℕ → Bool) (xs : List ℕ) → All (λ x. p x ≡ false) xs → find p xs ≡ None
+pub no_item : {X : Type 0} (p : X → Bool) (xs : List X) → All (λ x. p x ≡ false) xs → find p xs ≡ None
 no_item p [] all = refl
 no_item p (x ∷ xs) all = rw (All-head (λ y. p y ≡ false) x xs all) (no_item p xs (All-tail (λ y. p y ≡ false) x xs all))
 
@@ -100,7 +100,7 @@ module _ {X : Type 0} (test : List ℕ → Bool) (g : X → List (List ℕ)) (xs
 abbrev pub IsList : ℕ → ℕ → List ℕ → Type 0
 IsList n len list = (length list ≡ len) × All (λ event. event < n) list
 
-all_flat : {X Y : Type 0} (P : Y → Type 0) (Q : X → Type 0) (g : X → List Y) (xs : List X) → ((x : X) → Q x → All P (g x)) → All Q xs → All P (flat_map g xs)
+pub all_flat : {X Y : Type 0} (P : Y → Type 0) (Q : X → Type 0) (g : X → List Y) (xs : List X) → ((x : X) → Q x → All P (g x)) → All Q xs → All P (flat_map g xs)
 all_flat P Q g [] each all = All-nil P
 all_flat P Q g (x ∷ xs) each all =
     rw (flat_map-cons g x xs) (All-append P (g x) (flat_map g xs) (each x (All-head Q x xs all)) (all_flat P Q g xs each (All-tail Q x xs all)))

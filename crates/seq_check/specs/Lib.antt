@@ -1,6 +1,7 @@
 pub mod Events
 pub mod Orders
 pub mod EventFile
+pub mod Codes
 pub mod OrderReport
 pub mod Verdicts
 pub mod Reading

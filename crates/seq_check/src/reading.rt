@@ -7,16 +7,10 @@ use crate::cut::{cut_line, without_mark, without_return};
 use crate::event_line::{EventLine, line_of};
 use crate::event_names::EventNames;
 use crate::events::{Events, PairList};
-use crate::fault::{EventCode, EventLimit, EventsFault};
+use crate::fault::{EventCode, EventLimit, EventsFault, MOST_EVENTS, MOST_PRECEDENCES};
 use std::alloc::Global;
 use std::marker::Model;
 use value_text::{NoMemory, OwnedList, Text, TextList};
-
-/// The most events.
-const MOST_EVENTS: usize = 64;
-
-/// The most precedences.
-const MOST_PRECEDENCES: usize = 4096;
 
 // What the lines so far declare.
 #[derive(Drop)]
