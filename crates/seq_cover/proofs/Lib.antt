@@ -3,4 +3,20 @@ pub mod LevelLemmas
 pub mod GainLemmas
 pub mod RowLemmas
 pub mod GrowLemmas
+pub mod Leading
+pub mod Counting
+pub mod FindLaws
+pub mod CycleLaws
+pub mod NoOrder
+pub mod PlacingLaws
+pub mod SequenceLaws
+pub mod CoverLaws
+pub mod ReportLaws
+pub mod AcceptedLaws
+pub mod PutPieces
+pub mod TextLemmas
+pub mod Stopping
+pub mod CommandLemmas
+pub mod RunEnds
+pub mod Causes
 mod Examples

@@ -2,3 +2,10 @@ pub mod Ways
 pub mod OrderGrowth
 pub mod Sets
 pub mod Growing
+pub mod ReportText
+pub mod Covering
+pub mod Words
+pub mod Commands
+pub mod Stops
+pub mod Runs
+pub mod Steps

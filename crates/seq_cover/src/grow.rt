@@ -2,8 +2,12 @@
 ghost use Rattle.std.specs.Prelude.{◌≡◌, ◌≤◌, ◌<◌, ◌+◌, ◌∷◌, ◌++◌, [], ℕ, All, false, length, fold, IfOk, OnOk};
 ghost use Rattle.seq_check.specs.EventSets.{IsFront};
 ghost use Rattle.seq_check.specs.Orders.{arrows, is_among, is_had, lengthened};
+ghost use Rattle.seq_check.specs.Verdicts.{verdict};
+ghost use Rattle.seq_check.specs.declared.verdict.OrderVerdict.TheVariants.{Accepted};
+ghost use Rattle.seq_cover.specs.Covering.{Covers};
 ghost use Rattle.seq_cover.specs.Growing.{AreFixed, IsLeft};
 ghost use Rattle.seq_cover.specs.OrderGrowth.{built_from, grown, nothing_grown, settled, settled_by};
+ghost use Rattle.seq_cover.specs.ReportText.{report_text};
 ghost use Rattle.seq_cover.specs.Ways.{cycle_of};
 
 use crate::row::build_row;
@@ -19,7 +23,7 @@ use value_text::{NoMemory, OwnedList};
 #[derive(Drop)]
 struct Growth {
     suite: OrderSuite,
-    open: OpenSequences,
+    opened: OpenSequences,
 }
 
 // The precedences, by the ways along them and by their ends.
@@ -34,26 +38,32 @@ impl Growth {
     fn set_aside(&mut self, sequence: NoList, cycle: NoList) -> Result<(), NoMemory>
         ensures rows { OnOk result (self.new.suite.rows ≡ self.old.suite.rows) }
         ensures never { OnOk result (self.new.suite.never ≡ self.old.suite.never ++ record { sequence = sequence; cycle = cycle } ∷ []) }
-        ensures open { self.new.open ≡ self.old.open }
+        ensures opened { self.new.opened ≡ self.old.opened }
     {
         self.suite.never.push(Never { sequence, cycle })
     }
 
     // Adds the row that is built for a sequence.
     fn add_row(&mut self, alloc: Global, events: &Events, sequence: &[u16]) -> Result<(), NoMemory>
-        requires left { IsLeft events.now self.old.open self.old.suite.rows }
+        requires left { IsLeft events.now self.old.opened self.old.suite.rows }
         requires sequence { length sequence.now ≡ events.now.len }
         ensures rows { OnOk result (self.new.suite.rows ≡ self.old.suite.rows
             ++ built_from (length events.now.names) events.now.len (arrows events.now sequence.now) self.old.suite.rows (length events.now.names) [] ∷ []) }
         ensures never { OnOk result (self.new.suite.never ≡ self.old.suite.never) }
-        ensures left { OnOk result (IsLeft events.now self.new.open self.new.suite.rows) }
+        ensures left { OnOk result (IsLeft events.now self.new.opened self.new.suite.rows) }
     {
         events.assert_invariant();
         let count = events.names().len() as u16;
         let pairs = arrows_of(alloc, sequence, events.precedences().as_slice())?;
-        let row = build_row(alloc, pairs.as_slice(), &self.open, events.length(), count)?;
+        let row = build_row(
+            alloc,
+            pairs.as_slice(),
+            &self.opened,
+            events.length(),
+            count,
+        )?;
         let places = places_of(alloc, row.as_slice(), count)?;
-        self.open.close_row(places.as_slice());
+        self.opened.close_row(places.as_slice());
         self.suite.rows.push(row)
     }
 
@@ -66,15 +76,15 @@ impl Growth {
         front: &[u16],
         last: u16,
     ) -> Result<(), NoMemory>
-        requires left { IsLeft events.now self.old.open self.old.suite.rows }
+        requires left { IsLeft events.now self.old.opened self.old.suite.rows }
         requires fixed { AreFixed events.now fixed.now.ways fixed.now.ends }
         requires front { IsFront events.now.len (length events.now.names) front.now }
         requires last { last < length events.now.names }
         ensures suite { OnOk result (self.new.suite ≡ settled events.now self.old.suite (front.now ++ last ∷ [])) }
-        ensures left { OnOk result (IsLeft events.now self.new.open self.new.suite.rows) }
+        ensures left { OnOk result (IsLeft events.now self.new.opened self.new.suite.rows) }
     {
         events.assert_invariant();
-        if !self.open.behind(front).has(last) {
+        if !self.opened.behind(front).has(last) {
             return Ok(());
         }
         let sequence = with_event(alloc, front, last)?;
@@ -93,11 +103,11 @@ impl Growth {
         fixed: &Fixed,
         front: &[u16],
     ) -> Result<(), NoMemory>
-        requires left { IsLeft events.now self.old.open self.old.suite.rows }
+        requires left { IsLeft events.now self.old.opened self.old.suite.rows }
         requires fixed { AreFixed events.now fixed.now.ways fixed.now.ends }
         requires front { IsFront events.now.len (length events.now.names) front.now }
         ensures suite { OnOk result (self.new.suite ≡ fold (settled events.now) self.old.suite (lengthened (length events.now.names) front.now)) }
-        ensures left { OnOk result (IsLeft events.now self.new.open self.new.suite.rows) }
+        ensures left { OnOk result (IsLeft events.now self.new.opened self.new.suite.rows) }
     {
         events.assert_invariant();
         let count = events.names().len() as u16;
@@ -111,13 +121,8 @@ impl Growth {
     }
 }
 
-/// Rows that together have each sequence that a permitted order has, and the other sequences, each with a cycle as
-/// the reason (greedy growth as Kuhn and others 2012 have it; precedences, cycles and ties are this project's rules).
-///
-/// # Errors
-///
-/// `NoMemory` where memory was refused.
-pub fn cover_orders(alloc: Global, events: &Events) -> Result<OrderSuite, NoMemory>
+// The rows and the sequences that are set aside, as growth takes the sequences in their order.
+fn grow_suite(alloc: Global, events: &Events) -> Result<OrderSuite, NoMemory>
     ensures { IfOk result (λ suite. suite ≡ grown events.now) }
 {
     events.assert_invariant();
@@ -131,11 +136,30 @@ pub fn cover_orders(alloc: Global, events: &Events) -> Result<OrderSuite, NoMemo
             rows: OwnedList::new(alloc),
             never: OwnedList::new(alloc),
         },
-        open: OpenSequences::new(alloc, events.length())?,
+        opened: OpenSequences::new(alloc, events.length())?,
     };
     let fronts = distinct_lists(alloc, events.names().len() as u16, events.length() - 1)?;
     for front in fronts.as_slice() {
         growth.settle_all(alloc, events, &fixed, front.as_slice())?;
     }
     Ok(growth.suite)
+}
+
+/// Rows that together have each sequence that a permitted order has, and the other sequences, each with a cycle as
+/// the reason (greedy growth as Kuhn and others 2012 have it; precedences, cycles and ties are this project's rules).
+///
+/// # Errors
+///
+/// `NoMemory` where memory was refused.
+pub fn cover_orders(alloc: Global, events: &Events) -> Result<OrderSuite, NoMemory>
+    // exactly the rows and the cycles of the definition of growth
+    ensures grown { IfOk result (λ suite. suite ≡ grown events.now) }
+    // the rows are permitted orders, and each sequence is had by one of them or set aside with a cycle
+    ensures covers { IfOk result (Covers events.now) }
+    // the checker accepts the report
+    ensures accepted { IfOk result (λ suite. verdict events.now (report_text events.now suite) ≡ Accepted (length suite.rows) (length suite.never)) }
+{
+    events.assert_invariant();
+    let suite = grow_suite(alloc, events)?;
+    Ok(suite)
 }

@@ -32,16 +32,16 @@ fn can_be_placed(pairs: &[(u16, u16)], row: &[u16], event: u16) -> bool
 }
 
 // How many events of a row are the first of an open pair with this second one.
-fn open_pairs(open: &OpenSequences, row: &[u16], event: u16) -> u32
-    requires len { open.now.len ≡ 2 }
+fn open_pairs(opened: &OpenSequences, row: &[u16], event: u16) -> u32
+    requires len { opened.now.len ≡ 2 }
     requires exist { All (λ other. other < 64) row.now }
     requires event { event < 64 }
     requires few { length row.now ≤ 64 }
-    ensures { result ≡ count_by (λ first. is_open open.now (first ∷ []) event) row.now }
+    ensures { result ≡ count_by (λ first. is_open opened.now (first ∷ []) event) row.now }
 {
     let mut count = 0;
     for first in row {
-        if open.behind(&[*first]).has(event) {
+        if opened.behind(&[*first]).has(event) {
             count += 1;
         }
     }
@@ -49,18 +49,18 @@ fn open_pairs(open: &OpenSequences, row: &[u16], event: u16) -> u32
 }
 
 // How many events of a row are the first of an open triple with these later ones.
-fn open_before(open: &OpenSequences, row: &[u16], second: u16, event: u16) -> u32
-    requires len { open.now.len ≡ 3 }
+fn open_before(opened: &OpenSequences, row: &[u16], second: u16, event: u16) -> u32
+    requires len { opened.now.len ≡ 3 }
     requires exist { All (λ other. other < 64) row.now }
     requires second { second < 64 }
     requires event { event < 64 }
     requires few { length row.now ≤ 64 }
-    ensures count { result ≡ count_by (λ first. is_open open.now (first ∷ second ∷ []) event) row.now }
+    ensures count { result ≡ count_by (λ first. is_open opened.now (first ∷ second ∷ []) event) row.now }
     ensures few { result ≤ 64 }
 {
     let mut count = 0;
     for first in row {
-        if open.behind(&[*first, second]).has(event) {
+        if opened.behind(&[*first, second]).has(event) {
             count += 1;
         }
     }
@@ -68,34 +68,34 @@ fn open_before(open: &OpenSequences, row: &[u16], second: u16, event: u16) -> u3
 }
 
 // How many pairs of events of a row, in its order, are the first ones of an open triple with this last one.
-fn open_triples(open: &OpenSequences, row: &[u16], event: u16) -> u32
-    requires len { open.now.len ≡ 3 }
+fn open_triples(opened: &OpenSequences, row: &[u16], event: u16) -> u32
+    requires len { opened.now.len ≡ 3 }
     requires exist { All (λ other. other < 64) row.now }
     requires event { event < 64 }
     requires few { length row.now ≤ 64 }
-    ensures { result ≡ count_by (λ front. is_open open.now front event) (choose 2 row.now) }
+    ensures { result ≡ count_by (λ front. is_open opened.now front event) (choose 2 row.now) }
 {
     let mut count = 0;
     for at in 0..row.len() {
-        count += open_before(open, &row[..at], row[at], event);
+        count += open_before(opened, &row[..at], row[at], event);
     }
     count
 }
 
 // How many open sequences an event ends whose other events stand in the row in order.
-fn gain(open: &OpenSequences, len: u32, row: &[u16], event: u16) -> u32
-    requires len { open.now.len ≡ len }
+fn gain(opened: &OpenSequences, len: u32, row: &[u16], event: u16) -> u32
+    requires len { opened.now.len ≡ len }
     requires lens { (len ≡ 2) ⊎ (len ≡ 3) }
     requires exist { All (λ other. other < 64) row.now }
     requires event { event < 64 }
     requires few { length row.now ≤ 64 }
-    ensures { (rows : List (List ℕ)) (n : ℕ) → n ≤ 64 → Tells open.now n (λ s. not (is_had rows s)) → All (λ other. other < n) row.now → event < n →
+    ensures { (rows : List (List ℕ)) (n : ℕ) → n ≤ 64 → Tells opened.now n (λ s. not (is_had rows s)) → All (λ other. other < n) row.now → event < n →
         result ≡ gain len rows row.now event }
 {
     if len == 2 {
-        open_pairs(open, row, event)
+        open_pairs(opened, row, event)
     } else {
-        open_triples(open, row, event)
+        open_triples(opened, row, event)
     }
 }
 
@@ -112,17 +112,17 @@ fn is_better(best: Option<u16>, most: u32, gained: u32) -> bool
 // The next event of a row, if one can be placed: the first of those of the greatest gain.
 fn next_placed(
     pairs: &[(u16, u16)],
-    open: &OpenSequences,
+    opened: &OpenSequences,
     len: u32,
     row: &[u16],
     count: u16,
 ) -> Option<u16>
-    requires len { open.now.len ≡ len }
+    requires len { opened.now.len ≡ len }
     requires lens { (len ≡ 2) ⊎ (len ≡ 3) }
     requires exist { All (λ other. other < count) row.now }
     requires count { count ≤ 64 }
     requires few { length row.now ≤ 64 }
-    ensures value { (rows : List (List ℕ)) → Tells open.now count (λ s. not (is_had rows s)) → result ≡ next_placed count len pairs.now rows row.now }
+    ensures value { (rows : List (List ℕ)) → Tells opened.now count (λ s. not (is_had rows s)) → result ≡ next_placed count len pairs.now rows row.now }
     ensures below { IfSome result (λ event. event < count) }
 {
     let mut best = None;
@@ -131,7 +131,7 @@ fn next_placed(
         if !can_be_placed(pairs, row, event) {
             continue;
         }
-        let gained = gain(open, len, row, event);
+        let gained = gain(opened, len, row, event);
         if !is_better(best, most, gained) {
             continue;
         }
@@ -149,19 +149,19 @@ fn next_placed(
 pub(crate) fn build_row(
     alloc: Global,
     pairs: &[(u16, u16)],
-    open: &OpenSequences,
+    opened: &OpenSequences,
     len: u32,
     count: u16,
 ) -> Result<NoList, NoMemory>
-    requires len { open.now.len ≡ len }
+    requires len { opened.now.len ≡ len }
     requires lens { (len ≡ 2) ⊎ (len ≡ 3) }
     requires count { count ≤ 64 }
-    ensures value { IfOk result (λ row. (rows : List (List ℕ)) → Tells open.now count (λ s. not (is_had rows s)) → row ≡ built_from count len pairs.now rows count []) }
+    ensures value { IfOk result (λ row. (rows : List (List ℕ)) → Tells opened.now count (λ s. not (is_had rows s)) → row ≡ built_from count len pairs.now rows count []) }
     ensures few { IfOk result (λ row. length row ≤ 64) }
 {
     let mut row = OwnedList::new(alloc);
     for turn in 0..count {
-        match next_placed(pairs, open, len, row.as_slice(), count) {
+        match next_placed(pairs, opened, len, row.as_slice(), count) {
             Some(event) => row.push(event)?,
             None => return Ok(row),
         }

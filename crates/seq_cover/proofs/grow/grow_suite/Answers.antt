@@ -3,7 +3,7 @@ use Rattle.seq_check.proofs.FindLemmas.{list_is}
 use Rattle.seq_check.specs.Orders.{distinct_lists, lengthened}
 use Rattle.seq_cover.specs.OrderGrowth.{nothing_grown, settled}
 use Rattle.seq_cover.proofs.GrowLemmas.{fold_lists}
-use Rattle.seq_cover.proofs.grow.cover_orders.Goals as goal
+use Rattle.seq_cover.proofs.grow.grow_suite.Goals as goal
 
 pub settle_all-requires-clause-front : goal.settle_all-requires-clause-front
 settle_all-requires-clause-front c =

@@ -8,6 +8,6 @@ use Rattle.seq_cover.proofs.row.next_placed.Given as goal
 abbrev pub invariant-loop-event : goal.invariant-loop-event
 invariant-loop-event l =
     IfSome l.best (λ event. event < l.count)
-    × ((rows : List (List ℕ)) → Tells l.open l.count (λ s. not (is_had rows s)) →
+    × ((rows : List (List ℕ)) → Tells l.opened l.count (λ s. not (is_had rows s)) →
     (l.best ≡ fold (better (gain l.len rows l.row)) None (filter (can_be_placed l.pairs l.row) (range_with_len 0 l.event)))
     × IfSome l.best (λ event. l.most ≡ gain l.len rows l.row event))

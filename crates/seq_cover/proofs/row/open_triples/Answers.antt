@@ -6,7 +6,7 @@ use Rattle.seq_cover.proofs.row.open_triples.Goals as goal
 
 pub loop-at-preserved : goal.loop-at-preserved
 loop-at-preserved c =
-    let o = c.args.open.now in
+    let o = c.args.opened.now in
     let row = c.args.row.now in
     let at = c.loop-at.at in
     let few = c.open_before-count.ensures.few in

@@ -17,7 +17,7 @@ pub returns-clause-left : goal.returns-clause-left
 returns-clause-left c =
     let e = c.args.events.now in
     let n = length e.names in
-    let o = c.args.self.now.open in
+    let o = c.args.self.now.opened in
     let rows = c.args.self.now.suite.rows in
     let row = c.in_ok-row.row in
     let count_is : c.len-count.result ≡ n = c.len-count.ensures ∙ ap length c.names.ensures in

@@ -1,0 +1,182 @@
+-- What is known of a run from how it ended.
+use Rattle.std.proofs.Common.{◌≡◌, ℕ, ◌<◌, ◌≤◌, List, length, Option, Some, None, Result, Ok, Err, inl, inr, refl, sym, ap, subst, ◌∙◌, arith}
+use Rattle.std.specs.Prelude.{IfSome, IsSomeAnd}
+use Rattle.outside_io.specs.Files.{Files}
+use Rattle.outside_io.specs.Puts.{Puts}
+use Rattle.outside_io.specs.declared.answers.WriteAnswer.TheVariants.{Done}
+use Rattle.seq_check.specs.Events.{AreEvents, EventsView}
+use Rattle.seq_check.specs.EventFile.{events_of}
+use Rattle.seq_check.specs.Verdicts.{verdict}
+use Rattle.seq_check.specs.declared.fault.EventsFault.{EventsFault}
+use Rattle.seq_check.specs.declared.verdict.OrderVerdict.{OrderVerdict}
+use Rattle.seq_check.specs.declared.verdict.OrderVerdict.TheVariants.{Accepted, BadLine, Uncovered}
+use Rattle.seq_cover.specs.Covering.{IsAccepted}
+use Rattle.seq_cover.specs.OrderGrowth.{grown}
+use Rattle.seq_cover.specs.ReportText.{report_text}
+use Rattle.seq_cover.specs.Runs.{AreRead, Ends, HasVerdict, IsRead, IsReportRead, PrintsCovering, ReadFault, Spells, answer_of, answers, at_file, behind, ended_by}
+use Rattle.seq_cover.specs.Steps.{Ran, RoseOf}
+use Rattle.seq_cover.specs.Stops.{end_status, most_of}
+use Rattle.seq_cover.specs.Words.{Asked}
+use Rattle.seq_cover.specs.declared.stop.Ended.{Ended}
+use Rattle.seq_cover.specs.declared.stop.Ended.TheVariants.{Whole, Refused}
+use Rattle.seq_cover.specs.declared.stop.Input.{Input}
+use Rattle.seq_cover.specs.declared.stop.Input.TheVariants.{EventFile, ReportFile}
+use Rattle.seq_cover.specs.declared.stop.Stop.{Stop}
+use Rattle.seq_cover.specs.declared.stop.Stop.TheVariants.{OutOfMemory, CannotRead, CannotWrite, TooMany, TooLong}
+use Rattle.seq_cover.specs.declared.stop.Stop.TheVariants as stops
+use Rattle.seq_cover.proofs.AcceptedLaws.{grown_accepted, grown_text_covers}
+
+-- ---- what a status tells of the end
+
+zero_is_end : (end : Result Ended Stop) → end_status end ≡ 0 → end ≡ Ok Whole
+zero_is_end (Ok Whole) h = refl
+zero_is_end (Ok Refused) h = absurd (omega (arith, h))
+zero_is_end (Err OutOfMemory) h = absurd (omega (arith, h))
+zero_is_end (Err (stops.BadLine line code)) h = absurd (omega (arith, h))
+zero_is_end (Err (CannotRead input)) h = absurd (omega (arith, h))
+zero_is_end (Err CannotWrite) h = absurd (omega (arith, h))
+zero_is_end (Err (TooMany limit count)) h = absurd (omega (arith, h))
+zero_is_end (Err (TooLong input)) h = absurd (omega (arith, h))
+
+ten_is_end : (end : Result Ended Stop) → end_status end ≡ 10 → end ≡ Ok Refused
+ten_is_end (Ok Whole) h = absurd (omega (arith, h))
+ten_is_end (Ok Refused) h = refl
+ten_is_end (Err OutOfMemory) h = absurd (omega (arith, h))
+ten_is_end (Err (stops.BadLine line code)) h = absurd (omega (arith, h))
+ten_is_end (Err (CannotRead input)) h = absurd (omega (arith, h))
+ten_is_end (Err CannotWrite) h = absurd (omega (arith, h))
+ten_is_end (Err (TooMany limit count)) h = absurd (omega (arith, h))
+ten_is_end (Err (TooLong input)) h = absurd (omega (arith, h))
+
+seven_is_end : (end : Result Ended Stop) → end_status end ≡ 7 → (input : Input) × (end ≡ Err (CannotRead input))
+seven_is_end (Ok Whole) h = absurd (omega (arith, h))
+seven_is_end (Ok Refused) h = absurd (omega (arith, h))
+seven_is_end (Err OutOfMemory) h = absurd (omega (arith, h))
+seven_is_end (Err (stops.BadLine line code)) h = absurd (omega (arith, h))
+seven_is_end (Err (CannotRead input)) h = (input, refl)
+seven_is_end (Err CannotWrite) h = absurd (omega (arith, h))
+seven_is_end (Err (TooMany limit count)) h = absurd (omega (arith, h))
+seven_is_end (Err (TooLong input)) h = absurd (omega (arith, h))
+
+-- ---- a run ended for what is asked
+
+pub one_asked : {asked : Result Asked ℕ} {one other : Asked} → asked ≡ Ok one → asked ≡ Ok other → one ≡ other
+one_asked e f = cc
+
+pub ran_asked :
+    {asked : Result Asked ℕ} {one other : Asked} {files : Files} {reads reads_after : List ℕ → ℕ} {before after : Option (List ℕ)} {faults faults_after : ℕ}
+    {end : Result Ended Stop} → asked ≡ Ok one → asked ≡ Ok other → Ran one files reads reads_after before after faults faults_after end
+    → Ran other files reads reads_after before after faults faults_after end
+ran_asked {asked} {one} {other} {files} {reads} {reads_after} {before} {after} {faults} {faults_after} {end} e f ran =
+    subst (λ a. Ran a files reads reads_after before after faults faults_after end) (one_asked e f) ran
+
+-- ---- bytes that were read, where the folder tells
+
+module _ (files : Files) (name : List ℕ) (input : Input) where
+  pub held_is : (held : Option (List ℕ)) (bytes : List ℕ) → files name ≡ Some held → IsRead files name input bytes → held ≡ Some bytes
+  held_is held bytes told read = subst (λ f. IfSome f (λ h. h ≡ Some bytes)) told read.held
+
+  pub same_bytes : (told bytes : List ℕ) → files name ≡ Some (Some told) → IsRead files name input bytes → told ≡ bytes
+  same_bytes told bytes at read = let same = held_is (Some told) bytes at read in cc
+
+  pub not_missing : {A : Type 0} (bytes : List ℕ) → files name ≡ Some None → IsRead files name input bytes → A
+  not_missing bytes at read = let none = held_is None bytes at read in absurd (cc)
+
+  pub is_long : (held : Option (List ℕ)) → files name ≡ Some held → IfSome (files name) (λ h. IsSomeAnd h (λ bytes. most_of input < length bytes))
+      → IsSomeAnd held (λ bytes. most_of input < length bytes)
+  is_long held at long = subst (λ f. IfSome f (λ h. IsSomeAnd h (λ bytes. most_of input < length bytes))) at long
+
+pub not_both : {A : Type 0} (len : ℕ) (bytes other : List ℕ) (e : EventsView) (fault : EventsFault) → bytes ≡ other → events_of len bytes ≡ Ok e → events_of len other ≡ Err fault → A
+not_both len bytes other e fault same ok err = let ok_other : events_of len other ≡ Ok e = ap (events_of len) (sym same) ∙ ok in absurd (cc)
+
+-- the events that are spelled, where the folder tells
+spelled_events : (asked : Asked) (files : Files) (held : Option (List ℕ)) (e : EventsView) → files asked.file ≡ Some held → AreRead asked files e → Spells asked.len held e
+spelled_events asked files held e at read =
+    subst (λ h. IsSomeAnd h (λ bytes. (length bytes ≤ most_of EventFile) × (events_of asked.len bytes ≡ Ok e)))
+    (sym (held_is files asked.file EventFile held read.bytes at read.read)) (read.read.within, read.spelled)
+
+-- ---- a run that wrote its text whole
+
+record Answered (asked : Asked) (files : Files) (before after : Option (List ℕ)) (ended : Ended) : Type 0 where
+  e : EventsView
+  report : Option (List ℕ)
+  read : AreRead asked files e
+  report_read : IsReportRead files asked.report report
+  ended_is : ended ≡ (answer_of e report).ended
+  puts : Puts Done before after (answer_of e report).text
+
+answered : (asked : Asked) (files : Files) (before after : Option (List ℕ)) (ended : Ended) → Ends asked files before after (Ok ended) → Answered asked files before after ended
+answered asked files before after ended (at_file stops same) = absurd stops
+answered asked files before after ended (behind e read stops same) = absurd stops
+answered asked files before after ended (answers e report read report_read writes) =
+    record { e = e; report = report; read = read; report_read = report_read; ended_is = writes.0; puts = writes.1 }
+
+-- the verdict behind an end
+accepted_by : (v : OrderVerdict) → Whole ≡ ended_by v → IsAccepted v
+accepted_by (Accepted rows omissions) is = tt
+accepted_by (BadLine line) is = absurd (cc)
+accepted_by (Uncovered sequence) is = absurd (cc)
+
+refused_by : (v : OrderVerdict) → Refused ≡ ended_by v → ¬ (IsAccepted v)
+refused_by (Accepted rows omissions) is = absurd (cc)
+refused_by (BadLine line) is = λ none. none
+refused_by (Uncovered sequence) is = λ none. none
+
+-- what is printed covers
+prints_covering : (e : EventsView) (before : List ℕ) (after : Option (List ℕ)) → AreEvents e → Puts Done (Some before) after (report_text e (grown e)) → IsSomeAnd after (PrintsCovering e before)
+prints_covering e before after kept puts =
+    subst (λ a. IsSomeAnd a (PrintsCovering e before)) (sym puts) (record {
+      added = report_text e (grown e);
+      behind = refl;
+      covers = grown_text_covers e kept;
+      accepted = subst IsAccepted (sym (grown_accepted e kept)) tt;
+    })
+
+module _ {asked : Asked} {files : Files} {reads reads_after : List ℕ → ℕ} {before after : Option (List ℕ)} {faults faults_after : ℕ} {end : Result Ended Stop}
+    (ran : Ran asked files reads reads_after before after faults faults_after end) (status : ℕ) (is : status ≡ end_status end) where
+  whole_end : (ended : Ended) → end ≡ Ok ended → Answered asked files before after ended
+  whole_end ended same = answered asked files before after ended (subst (Ends asked files before after) same ran.ends)
+
+  -- the headline
+  pub covers_end : (held : Option (List ℕ)) (old : List ℕ) → status ≡ 0 → asked.report ≡ None → files asked.file ≡ Some held → before ≡ Some old
+      → (e : EventsView) × Spells asked.len held e × IsSomeAnd after (PrintsCovering e old)
+  covers_end held old zero none at told =
+      let it = whole_end Whole (zero_is_end end (sym is ∙ zero)) in
+      let no_report_is : it.report ≡ None = subst (λ name. IsReportRead files name it.report) none it.report_read in
+      let puts = subst (λ b. Puts Done b after (report_text it.e (grown it.e))) told (subst (λ r. Puts Done before after (answer_of it.e r).text) no_report_is it.puts) in
+      (it.e, spelled_events asked files held it.e at it.read, prints_covering it.e old after it.read.kept puts)
+
+  -- a report that is checked
+  has_verdict : (ended : Ended) (P : OrderVerdict → Type 0) → ((v : OrderVerdict) → ended ≡ ended_by v → P v) → (name : List ℕ) (held report : Option (List ℕ)) → end ≡ Ok ended
+      → asked.report ≡ Some name → files asked.file ≡ Some held → files name ≡ Some report → HasVerdict asked.len held report P
+  has_verdict ended P says name held report same checked at at_report =
+      let it = whole_end ended same in
+      by it it.report it.ended_is (subst (λ n. IsReportRead files n it.report) checked it.report_read)
+    where
+      by : (it : Answered asked files before after ended) (found : Option (List ℕ)) → ended ≡ (answer_of it.e found).ended → IsReportRead files (Some name) found → HasVerdict asked.len held report P
+      by it None ended_is none = absurd none
+      by it (Some bytes) ended_is read = (
+        it.e,
+        spelled_events asked files held it.e at it.read,
+        subst (λ r. IsSomeAnd r (λ b. (length b ≤ most_of ReportFile) × P (verdict it.e b))) (sym (held_is files name ReportFile report bytes at_report read))
+            (read.within, says (verdict it.e bytes) ended_is),
+      )
+
+  pub accepts_end : (name : List ℕ) (held report : Option (List ℕ)) → status ≡ 0 → asked.report ≡ Some name → files asked.file ≡ Some held → files name ≡ Some report
+      → HasVerdict asked.len held report IsAccepted
+  accepts_end name held report zero = has_verdict Whole IsAccepted accepted_by name held report (zero_is_end end (sym is ∙ zero))
+
+  pub refuses_end : (name : List ℕ) (held report : Option (List ℕ)) → status ≡ 10 → asked.report ≡ Some name → files asked.file ≡ Some held → files name ≡ Some report
+      → HasVerdict asked.len held report (λ v. ¬ (IsAccepted v))
+  refuses_end name held report ten = has_verdict Refused (λ v. ¬ (IsAccepted v)) refused_by name held report (ten_is_end end (sym is ∙ ten))
+
+  -- a count of faults of reading rose
+  pub read_end : status ≡ 7 → ReadFault asked reads reads_after
+  read_end seven = of it.0 (ran.rose it.0 it.1)
+    where
+      it : (input : Input) × (end ≡ Err (CannotRead input))
+      it = seven_is_end end (sym is ∙ seven)
+
+      of : (input : Input) → RoseOf asked input reads reads_after → ReadFault asked reads reads_after
+      of EventFile rose = inl rose
+      of ReportFile rose = inr rose

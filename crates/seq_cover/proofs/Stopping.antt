@@ -1,0 +1,112 @@
+-- Why a step of a run stops, by what it was handed.
+use Rattle.std.proofs.Common.{◌≡◌, ℕ, List, Option, Some, None, Result, Ok, Err, inl, inr, ◌⊎◌, refl, sym, ap, subst, ◌∙◌, ◌<◌, length}
+use Rattle.std.specs.Prelude.{IfErr, IfSome, IsErrAnd, IsSomeAnd}
+use Rattle.outside_io.specs.Faults.{KeepsCounts, Rose}
+use Rattle.outside_io.specs.Files.{Files, KeepsFiles}
+use Rattle.outside_io.specs.Puts.{CountsFaults, Puts}
+use Rattle.outside_io.specs.declared.answers.WriteAnswer.TheVariants.{Done, Failed}
+use Rattle.seq_check.specs.Events.{EventsView}
+use Rattle.seq_check.specs.EventFile.{events_of}
+use Rattle.seq_check.specs.Reading.{Reads}
+use Rattle.seq_check.specs.declared.fault.EventsFault.{EventsFault}
+use Rattle.seq_check.specs.declared.fault.EventsFault.TheVariants.{Bad, TooMany, NoMemory}
+use Rattle.seq_cover.specs.Runs.{AreRead, IsRead, IsReportRead, StopsAtFile, StopsBehind, StopsReading, answers, behind, cannot_read, is_refused, no_memory, no_report, too_long, wants_memory}
+use Rattle.seq_cover.specs.Steps.{CountsOut, IsAnswer, Ran, RoseOf}
+use Rattle.seq_cover.specs.Stops.{most_of, stop_of}
+use Rattle.seq_cover.specs.Words.{Asked}
+use Rattle.seq_cover.specs.declared.stop.Ended.{Ended}
+use Rattle.seq_cover.specs.declared.stop.Input.{Input}
+use Rattle.seq_cover.specs.declared.stop.Input.TheVariants.{EventFile, ReportFile}
+use Rattle.seq_cover.specs.declared.stop.Stop.{Stop}
+use Rattle.seq_cover.specs.declared.stop.Stop.TheVariants.{OutOfMemory, CannotRead, CannotWrite}
+
+-- a file of events that was read is refused
+stops_refused : (asked : Asked) (files : Files) (bytes : List ℕ) (stop : Stop) (fault : EventsFault) → stop ≡ stop_of fault → IsRead files asked.file EventFile bytes
+    → Reads (events_of asked.len bytes) (Err fault) → StopsAtFile asked files stop
+stops_refused asked files bytes stop NoMemory is read reads = wants_memory is
+stops_refused asked files bytes stop (Bad line code) is read reads = is_refused bytes (Bad line code) read reads is
+stops_refused asked files bytes stop (TooMany limit count) is read reads = is_refused bytes (TooMany limit count) read reads is
+
+pub refused_file : {A : Type 0} (asked : Asked) (files : Files) (bytes : List ℕ) (result : Result A Stop) (fault : EventsFault)
+    → IsErrAnd result (λ stop. stop ≡ stop_of fault) → IsRead files asked.file EventFile bytes → Reads (events_of asked.len bytes) (Err fault)
+    → IfErr result (StopsAtFile asked files)
+refused_file asked files bytes (Ok read) fault none read_bytes reads = absurd none
+refused_file asked files bytes (Err stop) fault is read_bytes reads = stops_refused asked files bytes stop fault is read_bytes reads
+
+-- the report that is checked isn't read
+pub no_report_read : {A : Type 0} (asked : Asked) (files : Files) (name : List ℕ) (result : Result A Stop) (stop : Stop) → IsErrAnd result (λ s. s ≡ stop)
+    → asked.report ≡ Some name → (stop ≡ OutOfMemory) ⊎ StopsReading files name ReportFile stop → IfErr result (StopsBehind asked files)
+no_report_read asked files name (Ok read) stop none checked stops = absurd none
+no_report_read asked files name (Err s) stop same checked (inl memory) = no_memory (same ∙ memory)
+no_report_read asked files name (Err s) stop same checked (inr stops) = no_report name checked (subst (StopsReading files name ReportFile) (sym same) stops)
+
+is_err : {A : Type 0} (end : Result A Stop) (stop : Stop) → IsErrAnd end (λ s. s ≡ stop) → end ≡ Err stop
+is_err (Ok x) stop none = absurd none
+is_err (Err s) stop same = ap Err same
+
+stop_is : {A : Type 0} (end : Result A Stop) (stop other : Stop) → end ≡ Err stop → end ≡ Err other → stop ≡ other
+stop_is end stop other e f = cc
+
+-- ---- what the folder tells stays
+
+module _ (old new : Files) (keeps : KeepsFiles old new) where
+  read_before : (name bytes : List ℕ) (input : Input) → IsRead new name input bytes → IsRead old name input bytes
+  read_before name bytes input read = record { held = subst (λ f. IfSome f (λ held. held ≡ Some bytes)) (keeps name) read.held; within = read.within }
+
+  stops_before : (name : List ℕ) (input : Input) (stop : Stop) → StopsReading new name input stop → StopsReading old name input stop
+  stops_before name input stop (cannot_read is) = cannot_read is
+  stops_before name input stop (too_long is long) = too_long is (subst (λ f. IfSome f (λ held. IsSomeAnd held (λ bytes. most_of input < length bytes))) (keeps name) long)
+
+  pub behind_before : (asked : Asked) (stop : Stop) → StopsBehind asked new stop → StopsBehind asked old stop
+  behind_before asked stop (no_memory is) = no_memory is
+  behind_before asked stop (no_report name checked stops) = no_report name checked (stops_before name ReportFile stop stops)
+
+  report_before : (name report : Option (List ℕ)) → IsReportRead new name report → IsReportRead old name report
+  report_before None report is = is
+  report_before (Some name) None none = absurd none
+  report_before (Some name) (Some bytes) read = read_before name bytes ReportFile read
+
+-- ---- the ends of a run whose events are read
+
+module _ (asked : Asked) (files later : Files) (keeps : KeepsFiles files later) (e : EventsView) (read : AreRead asked files e) (reads reads_after : List ℕ → ℕ) (before after : Option (List ℕ))
+    (faults faults_after : ℕ) where
+  -- the report that is checked isn't read
+  pub ran_behind : (middle : List ℕ → ℕ) (end : Result Ended Stop) (stop : Stop) → IsErrAnd end (λ s. s ≡ stop) → StopsBehind asked later stop → KeepsCounts reads middle
+      → (stop ≡ CannotRead ReportFile → IsSomeAnd asked.report (λ name. Rose (middle name) (reads_after name))) → Ran asked files reads reads_after before before faults faults end
+  ran_behind middle end stop same stops stay rose = let is = is_err end stop same in record {
+    ends = behind e read (subst (λ r. IsErrAnd r (StopsBehind asked files)) (sym is) (behind_before files later keeps asked stop stops)) refl;
+    rose = λ input failed. of input (stop_is end stop (CannotRead input) is failed) stops;
+    counts = subst (λ r. CountsOut r faults faults) (sym is) (calm stop stops);
+  }
+    where
+      risen : (name : Option (List ℕ)) → IsSomeAnd name (λ n. Rose (middle n) (reads_after n)) → IsSomeAnd name (λ n. Rose (reads n) (reads_after n))
+      risen None none = none
+      risen (Some n) more = subst (λ k. Rose k (reads_after n)) (stay n) more
+
+      of : (input : Input) → stop ≡ CannotRead input → StopsBehind asked later stop → RoseOf asked input reads reads_after
+      of ReportFile same stops = risen asked.report (rose same)
+      of EventFile same (no_memory it) = absurd (cc)
+      of EventFile same (no_report name checked (cannot_read it)) = absurd (cc)
+      of EventFile same (no_report name checked (too_long it long)) = absurd (cc)
+
+      calm : (s : Stop) → StopsBehind asked later s → CountsOut (Err s) faults faults
+      calm s (no_memory it) = subst (λ t. CountsOut (Err t) faults faults) (sym it) refl
+      calm s (no_report name checked (cannot_read it)) = subst (λ t. CountsOut (Err t) faults faults) (sym it) refl
+      calm s (no_report name checked (too_long it long)) = subst (λ t. CountsOut (Err t) faults faults) (sym it) refl
+
+  module _ (text put : List ℕ) (ended : Ended) (answer : IsAnswer asked later e text ended) (same : put ≡ text) where
+    -- the text was written whole
+    pub ran_whole : Puts Done before after put → CountsFaults Done faults faults_after → Ran asked files reads reads_after before after faults faults_after (Ok ended)
+    ran_whole puts stays = record {
+      ends = answers e answer.report read (report_before files later keeps asked.report answer.report answer.read) (answer.ended_is, subst (Puts Done before after) (same ∙ answer.text_is) puts);
+      rose = λ input failed. absurd (cc);
+      counts = stays;
+    }
+
+    -- or not
+    pub ran_failed : Puts Failed before after put → CountsFaults Failed faults faults_after → Ran asked files reads reads_after before after faults faults_after (Err CannotWrite)
+    ran_failed puts rises = record {
+      ends = answers e answer.report read (report_before files later keeps asked.report answer.report answer.read) (refl, subst (Puts Failed before after) (same ∙ answer.text_is) puts);
+      rose = λ input failed. absurd (cc);
+      counts = rises.0;
+    }

@@ -1,0 +1,47 @@
+use Rattle.std.proofs.Common.{subst}
+use Rattle.seq_cover.specs.Stops.{Tells, end_text}
+use Rattle.seq_cover.proofs.Causes.{complete_end, long_end, refused_end, report_long_end}
+use Rattle.seq_cover.proofs.RunEnds.{accepts_end, covers_end, one_asked, ran_asked, read_end, refuses_end}
+use Rattle.seq_cover.proofs.run.run_seq.Goals as goal
+
+pub returns-clause-headline : goal.returns-clause-headline
+returns-clause-headline g c = λ zero asked held before words none at told.
+    covers_end (ran_asked c.in-Ok.ensures words c.run-end.ensures.ran) c.tell.result c.tell.ensures.status held before zero none at told
+
+pub returns-clause-accepts : goal.returns-clause-accepts
+returns-clause-accepts g c = λ zero asked name held report words checked at at_report.
+    accepts_end (ran_asked c.in-Ok.ensures words c.run-end.ensures.ran) c.tell.result c.tell.ensures.status name held report zero checked at at_report
+
+pub returns-clause-refuses : goal.returns-clause-refuses
+returns-clause-refuses g c = λ ten asked name held report words checked at at_report.
+    refuses_end (ran_asked c.in-Ok.ensures words c.run-end.ensures.ran) c.tell.result c.tell.ensures.status name held report ten checked at at_report
+
+pub returns-clause-run : goal.returns-clause-run
+returns-clause-run g c = λ asked words. record {
+  end = c.run-end.result;
+  ends = (ran_asked c.in-Ok.ensures words c.run-end.ensures.ran).ends;
+  told =
+      subst (λ a. Tells (g.E.Sink.written c.args.diag.now) (g.E.Sink.written c.tell.new.diag) (g.E.Sink.faults c.args.diag.now) (g.E.Sink.faults c.tell.new.diag) (end_text a c.run-end.result))
+      (one_asked c.in-Ok.ensures words) c.tell.ensures.told;
+  ended = c.tell.ensures.status;
+}
+
+pub returns-clause-complete : goal.returns-clause-complete
+returns-clause-complete g c = λ asked bytes e report words at short spelled.
+    complete_end (ran_asked c.in-Ok.ensures words c.run-end.ensures.ran) c.tell.result c.tell.ensures.status _ e at (short, spelled) report
+
+pub returns-clause-refused : goal.returns-clause-refused
+returns-clause-refused g c = λ asked bytes fault words.
+    refused_end (ran_asked c.in-Ok.ensures words c.run-end.ensures.ran) c.tell.result c.tell.ensures.status bytes fault
+
+pub returns-clause-too_long : goal.returns-clause-too_long
+returns-clause-too_long g c = λ asked bytes words.
+    long_end (ran_asked c.in-Ok.ensures words c.run-end.ensures.ran) c.tell.result c.tell.ensures.status bytes
+
+pub returns-clause-report_too_long : goal.returns-clause-report_too_long
+returns-clause-report_too_long g c = λ asked held e name report words at spells.
+    report_long_end (ran_asked c.in-Ok.ensures words c.run-end.ensures.ran) c.tell.result c.tell.ensures.status held e at spells name report
+
+pub returns-clause-read : goal.returns-clause-read
+returns-clause-read g c = λ seven asked words.
+    read_end (ran_asked c.in-Ok.ensures words c.run-end.ensures.ran) c.tell.result c.tell.ensures.status seven

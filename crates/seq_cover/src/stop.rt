@@ -1,0 +1,200 @@
+ghost use Rattle.std.specs.Prelude.{◌≡◌, ℕ};
+ghost use Rattle.outside_io.specs.Puts.{CountsFaults, Puts};
+ghost use Rattle.definitions.specs.Diagnostics.{bytes_limit_line, bytes_name, model_line, word_line};
+ghost use Rattle.seq_check.specs.Codes.{event_code, event_text};
+ghost use Rattle.seq_cover.specs.Commands.{asked_seen};
+ghost use Rattle.seq_cover.specs.Stops.{count_limit_line, ended_status, line_of, measured, most_of, name_of, status_of};
+
+use crate::command::Command;
+use crate::put::put_pieces;
+use itoa::Buffer;
+use outside_io::{Sink, WriteAnswer};
+use seq_check::{EventCode, EventLimit, EventsFault};
+use value_text::NoMemory;
+
+/// How a run ends that writes its output whole.
+#[derive(Debug, Drop, Clone, Copy, PartialEq, Eq)]
+pub(crate) enum Ended {
+    /// With a report, or the text that one is accepted: status 0.
+    Whole,
+    /// With the text that a report is refused: status 10.
+    Refused,
+}
+
+impl Ended {
+    /// The exit status.
+    pub(crate) fn status(self) -> u8
+        ensures { result ≡ ended_status self }
+    {
+        match self {
+            Ended::Whole => 0,
+            Ended::Refused => 10,
+        }
+    }
+}
+
+/// A file that is read.
+#[derive(Debug, Drop, Clone, Copy, PartialEq, Eq)]
+pub(crate) enum Input {
+    /// The file of events.
+    EventFile,
+    /// The report that is checked.
+    ReportFile,
+}
+
+impl Input {
+    /// The most bytes that it may have.
+    pub(crate) fn most(self) -> usize
+        ensures { result ≡ most_of self }
+    {
+        match self {
+            Input::EventFile => 1 << 22,
+            Input::ReportFile => 1 << 26,
+        }
+    }
+
+    /// What its bytes are called.
+    fn bytes_name(self) -> &'static str
+        ensures { result.now ≡ bytes_name (measured self) }
+    {
+        match self {
+            Input::EventFile => "model bytes",
+            Input::ReportFile => "row file bytes",
+        }
+    }
+
+    /// Its name, by the words of the command.
+    fn name<'w>(self, command: &Command<'w>) -> &'w str
+        ensures { result.now ≡ name_of (asked_seen command.now) self }
+    {
+        match self {
+            Input::EventFile => command.file,
+            Input::ReportFile => command.report.unwrap_or(""),
+        }
+    }
+}
+
+/// Why a run ended before its output was written whole.
+#[derive(Debug, Drop, Clone, Copy, PartialEq, Eq)]
+pub(crate) enum Stop {
+    /// Memory was refused: status 1.
+    OutOfMemory,
+    /// A line of the file of events is refused, by its number from 1: status 4.
+    BadLine(u32, EventCode),
+    /// A file could not be read: status 7.
+    CannotRead(Input),
+    /// The output could not be written whole: status 8.
+    CannotWrite,
+    /// The file of events has so many of something, above its limit: status 9.
+    TooMany(EventLimit, u64),
+    /// A file has too many bytes: status 9.
+    TooLong(Input),
+}
+
+impl From<NoMemory> for Stop {
+    ghost use Rattle.seq_cover.specs.declared.stop.Stop.TheVariants as stops;
+
+    ghost from_gives = { λ _ stop. stop ≡ stops.OutOfMemory };
+
+    fn from(_refused: NoMemory) -> Stop {
+        Stop::OutOfMemory
+    }
+}
+
+impl From<EventsFault> for Stop {
+    ghost use Rattle.seq_cover.specs.Stops.{stop_of};
+
+    ghost from_gives = { λ fault stop. stop ≡ stop_of fault };
+
+    fn from(fault: EventsFault) -> Stop {
+        match fault {
+            EventsFault::Bad(line, code) => Stop::BadLine(line, code),
+            EventsFault::TooMany(limit, count) => Stop::TooMany(limit, count),
+            EventsFault::NoMemory => Stop::OutOfMemory,
+        }
+    }
+}
+
+/// Writes the line of a refusal of the file of events.
+fn put_refusal<E: Sink>(line: u32, code: EventCode, sink: &mut E) -> WriteAnswer
+    ensures puts { Puts result (E.written sink.old) (E.written sink.new) (model_line line (event_code code) (event_text code)) }
+    ensures counts { CountsFaults result (E.faults sink.old) (E.faults sink.new) }
+{
+    let mut buffer = Buffer::new();
+    let number = buffer.format(line);
+    let name = code.code();
+    let text = code.text();
+    put_pieces(
+        sink,
+        &["error: model line ", number, ": ", name, " ", text, "\n"],
+    )
+}
+
+/// Writes the line of a limit.
+fn put_limit<E: Sink>(limit: EventLimit, count: u64, sink: &mut E) -> WriteAnswer
+    ensures puts { Puts result (E.written sink.old) (E.written sink.new) (count_limit_line limit count) }
+    ensures counts { CountsFaults result (E.faults sink.old) (E.faults sink.new) }
+{
+    let mut given = Buffer::new();
+    let mut most = Buffer::new();
+    let name = limit.name();
+    let given = given.format(count);
+    let most = most.format(limit.most());
+    put_pieces(
+        sink,
+        &["error: limit: ", name, " ", given, " above ", most, "\n"],
+    )
+}
+
+/// Writes the line of a file that is too long.
+fn put_too_long<E: Sink>(input: Input, sink: &mut E) -> WriteAnswer
+    ensures puts { Puts result (E.written sink.old) (E.written sink.new) (bytes_limit_line (measured input)) }
+    ensures counts { CountsFaults result (E.faults sink.old) (E.faults sink.new) }
+{
+    let mut buffer = Buffer::new();
+    let name = input.bytes_name();
+    let most = buffer.format(input.most());
+    put_pieces(sink, &["error: limit: ", name, " above ", most, "\n"])
+}
+
+/// Writes the line of a word that has no reading. Takes no memory.
+pub(crate) fn put_word<E: Sink>(index: u32, sink: &mut E) -> WriteAnswer
+    ensures puts { Puts result (E.written sink.old) (E.written sink.new) (word_line index) }
+    ensures counts { CountsFaults result (E.faults sink.old) (E.faults sink.new) }
+{
+    let mut buffer = Buffer::new();
+    let number = buffer.format(index);
+    put_pieces(sink, &["error: word ", number, " is not understood\n"])
+}
+
+impl Stop {
+    /// The exit status of a run that ended so.
+    pub(crate) fn status(self) -> u8
+        ensures { result ≡ status_of self }
+    {
+        match self {
+            Stop::OutOfMemory => 1,
+            Stop::BadLine(..) => 4,
+            Stop::CannotRead(_) => 7,
+            Stop::CannotWrite => 8,
+            Stop::TooMany(..) | Stop::TooLong(_) => 9,
+        }
+    }
+
+    /// Writes the line that says why. Takes no memory.
+    pub(crate) fn put_line<E: Sink>(self, command: &Command<'_>, diag: &mut E) -> WriteAnswer
+        ensures puts { Puts result (E.written diag.old) (E.written diag.new) (line_of (asked_seen command.now) self) }
+        ensures counts { CountsFaults result (E.faults diag.old) (E.faults diag.new) }
+    {
+        match self {
+            Stop::OutOfMemory => put_pieces(diag, &["error: out of memory\n"]),
+            Stop::BadLine(line, code) => put_refusal(line, code, diag),
+            Stop::CannotRead(input) => {
+                put_pieces(diag, &["error: cannot read ", input.name(command), "\n"])
+            }
+            Stop::CannotWrite => put_pieces(diag, &["error: cannot write the report\n"]),
+            Stop::TooMany(limit, count) => put_limit(limit, count, diag),
+            Stop::TooLong(input) => put_too_long(input, diag),
+        }
+    }
+}

@@ -1,0 +1,22 @@
+ghost use Rattle.std.specs.Prelude.{◌≡◌, IfOk};
+ghost use Rattle.seq_cover.specs.Commands.{asked_seen};
+ghost use Rattle.seq_cover.specs.Stops.{Tells, end_status, end_text};
+
+use crate::command::Command;
+use crate::stop::{Ended, Stop};
+use outside_io::Sink;
+
+/// Tells why a run stopped, where it did, and gives the exit status. Takes no memory.
+pub(crate) fn tell<E: Sink>(end: Result<Ended, Stop>, command: &Command<'_>, diag: &mut E) -> u8
+    ensures status { result ≡ end_status end }
+    ensures told { Tells (E.written diag.old) (E.written diag.new) (E.faults diag.old) (E.faults diag.new) (end_text (asked_seen command.now) end) }
+    ensures quiet { IfOk end (λ ended. (E.written diag.new ≡ E.written diag.old) × (E.faults diag.new ≡ E.faults diag.old)) }
+{
+    match end {
+        Ok(ended) => ended.status(),
+        Err(stop) => {
+            let _ = stop.put_line(command, diag);
+            stop.status()
+        }
+    }
+}
