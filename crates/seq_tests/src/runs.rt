@@ -1,0 +1,290 @@
+//! Whole runs of `pictseq`, over a folder and sinks in memory.
+
+use outside_io::{Calls, MemFolder, MemSink};
+use seq_cover::run_seq;
+use std::alloc::Global;
+use std::test::Fail;
+use value_text::NoMemory;
+
+/// The words of a text, parted by spaces.
+pub(crate) fn words_of(alloc: Global, text: &str) -> Result<Vec<String>, NoMemory> {
+    let mut words = Vec::new(alloc);
+    for word in text.split(' ') {
+        words.push(String::from_str(alloc, word)?)?;
+    }
+    Ok(words)
+}
+
+fn calls_of(alloc: Global, numbers: &[u64]) -> Result<Calls, NoMemory> {
+    let mut calls = Calls::new(alloc);
+    for number in numbers {
+        calls.push(*number)?;
+    }
+    Ok(calls)
+}
+
+/// What a run is given.
+#[derive(Clone, Copy)]
+pub(crate) struct Given<'a> {
+    /// The words behind the program's name.
+    pub words: &'a [String],
+    /// The bytes of the file `f`.
+    pub file: &'a [u8],
+    /// Those of the file `r`, where there are any.
+    pub report: &'a [u8],
+    /// The numbers of the calls of the folder that fail, from 1.
+    pub fail: &'a [u64],
+    /// How many bytes fit into standard output, and into standard error.
+    pub room: (usize, usize),
+}
+
+fn folder_of(alloc: Global, given: &Given) -> Result<MemFolder, NoMemory> {
+    let mut folder = MemFolder::new(alloc, calls_of(alloc, given.fail)?);
+    folder.add("f", given.file)?;
+    if !given.report.is_empty() {
+        folder.add("r", given.report)?;
+    }
+    Ok(folder)
+}
+
+/// Whether a run ends with this status, and the two streams get these texts.
+pub(crate) fn ends_as(
+    alloc: Global,
+    given: &Given,
+    status: u8,
+    written: &str,
+    told: &str,
+) -> Result<bool, NoMemory> {
+    let mut files = folder_of(alloc, given)?;
+    let mut out = MemSink::up_to(alloc, given.room.0)?;
+    let mut diag = MemSink::up_to(alloc, given.room.1)?;
+    let ended = run_seq(alloc, given.words, &mut files, &mut out, &mut diag);
+    let is_written = out.bytes() == written.as_bytes();
+    let is_told = diag.bytes() == told.as_bytes();
+    Ok(ended == status && is_written && is_told)
+}
+
+/// The events a, b and c, a before b.
+pub(crate) const THREE: &str = "a\nb\nc\na < b\n";
+/// Their report.
+pub(crate) const REPORT: &str = "a\tb\tc\nc\ta\tb\nnever b a : a b a\n";
+
+// The words, the file and the report, and the status and what the two streams get.
+const RUNS: &[(&str, &str, &str, u8, &str, &str)] = &[
+    // Reports.
+    ("f", THREE, "", 0, REPORT, ""),
+    (
+        "f",
+        "a\nb\na < a\n",
+        "",
+        0,
+        "never a b : a a\nnever b a : a a\n",
+        "",
+    ),
+    (
+        "f",
+        "a\nb\nc\nd\n",
+        "",
+        0,
+        "a\tb\tc\td\nb\ta\tc\td\nb\tc\ta\td\na\tc\tb\td\nb\tc\td\ta\na\tc\td\tb\na\tb\td\tc\n",
+        "",
+    ),
+    (
+        "f",
+        "a\nb\nc\nd\nd < c\nc < b\n",
+        "",
+        0,
+        "a\td\tc\tb\nd\tc\tb\ta\nnever b c : b c b\nnever b d : b d c b\nnever c d : c d c\n",
+        "",
+    ),
+    (
+        "f /t:3",
+        "a\nb\nc\n",
+        "",
+        0,
+        "a\tb\tc\na\tc\tb\nb\ta\tc\nb\tc\ta\nc\ta\tb\nc\tb\ta\n",
+        "",
+    ),
+    (
+        "f /t:3",
+        "a\nb\nc\nd\na < b\nb < c\n",
+        "",
+        0,
+        "a\tb\tc\td\na\td\tb\tc\na\tb\td\tc\nd\ta\tb\tc\nnever a c b : b c b\nnever b a c : a b a\nnever b a d : a b a\nnever b c a : a b a\nnever b d a : a b a\nnever c a b : a b c a\nnever c a d : a b c a\nnever c b a : a b a\nnever c b d : b c b\nnever c d a : a b c a\nnever c d b : b c b\nnever d b a : a b a\nnever d c a : a b c a\nnever d c b : b c b\n",
+        "",
+    ),
+    // Verdicts.
+    (
+        "f /check:r",
+        THREE,
+        REPORT,
+        0,
+        "accepted: 2 rows, 1 omissions\n",
+        "",
+    ),
+    (
+        "f /check:r",
+        THREE,
+        "a\tb\tc\nnever b a : a b a\n",
+        10,
+        "refused: uncovered c a\n",
+        "",
+    ),
+    (
+        "f /check:r",
+        THREE,
+        "a\tb\tc\na\n",
+        10,
+        "refused: report line 2\n",
+        "",
+    ),
+    // Words.
+    ("", THREE, "", 3, "", "error: word 1 is not understood\n"),
+    (
+        " /t:2",
+        THREE,
+        "",
+        3,
+        "",
+        "error: word 1 is not understood\n",
+    ),
+    (
+        "f /t:4",
+        THREE,
+        "",
+        3,
+        "",
+        "error: word 2 is not understood\n",
+    ),
+    (
+        "f /t:1",
+        THREE,
+        "",
+        3,
+        "",
+        "error: word 2 is not understood\n",
+    ),
+    (
+        "f /t:",
+        THREE,
+        "",
+        3,
+        "",
+        "error: word 2 is not understood\n",
+    ),
+    (
+        "f /t",
+        THREE,
+        "",
+        3,
+        "",
+        "error: word 2 is not understood\n",
+    ),
+    ("f f", THREE, "", 3, "", "error: word 2 is not understood\n"),
+    (
+        "f /check:",
+        THREE,
+        "",
+        3,
+        "",
+        "error: word 2 is not understood\n",
+    ),
+    (
+        "f /t:3 /o:2",
+        THREE,
+        "",
+        3,
+        "",
+        "error: word 3 is not understood\n",
+    ),
+    ("f /t:3 /T:02", THREE, "", 0, REPORT, ""),
+    (
+        "f /check:q /Check:r",
+        THREE,
+        REPORT,
+        0,
+        "accepted: 2 rows, 1 omissions\n",
+        "",
+    ),
+    ("/t:2", THREE, "", 7, "", "error: cannot read /t:2\n"),
+    // Refused files.
+    (
+        "f",
+        "a b\n",
+        "",
+        4,
+        "",
+        "error: model line 1: Q1 not an event line\n",
+    ),
+    (
+        "f",
+        "a\na\n",
+        "",
+        4,
+        "",
+        "error: model line 2: Q2 repeated event\n",
+    ),
+    (
+        "f",
+        "a\na < b\n",
+        "",
+        4,
+        "",
+        "error: model line 2: Q3 unknown event\n",
+    ),
+    ("f", "\n", "", 4, "", "error: model line 1: Q4 no events\n"),
+    (
+        "f /t:3",
+        "a\nb\n\n",
+        "",
+        4,
+        "",
+        "error: model line 2: Q5 fewer events than the length\n",
+    ),
+    // A refused file comes before the report is read.
+    (
+        "f /check:q",
+        "a\na\n",
+        "",
+        4,
+        "",
+        "error: model line 2: Q2 repeated event\n",
+    ),
+    ("f /check:q", THREE, "", 7, "", "error: cannot read q\n"),
+    ("g", THREE, "", 7, "", "error: cannot read g\n"),
+];
+
+#[test]
+fn runs(rt: HostRuntime) -> Result<(), Fail> {
+    for (text, file, report, status, written, told) in RUNS {
+        let words = words_of(rt.alloc(), text)?;
+        let given = Given {
+            words: words.as_slice(),
+            file: file.as_bytes(),
+            report: report.as_bytes(),
+            fail: &[],
+            room: (1 << 12, 1 << 8),
+        };
+        assert!(rt;
+            ends_as(rt.alloc(), &given, *status, written, told)?,
+            "{text} {file}"
+        );
+    }
+    let none = Given {
+        words: &[],
+        file: &[],
+        report: &[],
+        fail: &[],
+        room: (1 << 8, 1 << 8),
+    };
+    assert!(rt;
+        ends_as(
+            rt.alloc(),
+            &none,
+            3,
+            "",
+            "error: word 1 is not understood\n"
+        )?
+    );
+    Ok(())
+}
