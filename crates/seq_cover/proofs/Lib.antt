@@ -19,4 +19,5 @@ pub mod Stopping
 pub mod CommandLemmas
 pub mod RunEnds
 pub mod Causes
+pub mod InMemory
 mod Examples

@@ -147,28 +147,37 @@ module _ {asked : Asked} {files : Files} {reads reads_after : List ℕ → ℕ} 
       (it.e, spelled_events asked files held it.e at it.read, prints_covering it.e old after it.read.kept puts)
 
   -- a report that is checked
-  has_verdict : (ended : Ended) (P : OrderVerdict → Type 0) → ((v : OrderVerdict) → ended ≡ ended_by v → P v) → (name : List ℕ) (held report : Option (List ℕ)) → end ≡ Ok ended
-      → asked.report ≡ Some name → files asked.file ≡ Some held → files name ≡ Some report → HasVerdict asked.len held report P
-  has_verdict ended P says name held report same checked at at_report =
-      let it = whole_end ended same in
-      by it it.report it.ended_is (subst (λ n. IsReportRead files n it.report) checked it.report_read)
-    where
-      by : (it : Answered asked files before after ended) (found : Option (List ℕ)) → ended ≡ (answer_of it.e found).ended → IsReportRead files (Some name) found → HasVerdict asked.len held report P
-      by it None ended_is none = absurd none
-      by it (Some bytes) ended_is read = (
-        it.e,
-        spelled_events asked files held it.e at it.read,
-        subst (λ r. IsSomeAnd r (λ b. (length b ≤ most_of ReportFile) × P (verdict it.e b))) (sym (held_is files name ReportFile report bytes at_report read))
-            (read.within, says (verdict it.e bytes) ended_is),
-      )
+  has_verdict : (ended : Ended) (P : OrderVerdict → Type 0) → ((v : OrderVerdict) → ended ≡ ended_by v → P v) → (it : Answered asked files before after ended)
+      → (name : List ℕ) (held report found : Option (List ℕ)) → files asked.file ≡ Some held → files name ≡ Some report
+      → ended ≡ (answer_of it.e found).ended → IsReportRead files (Some name) found → HasVerdict asked.len held report P
+  has_verdict ended P says it name held report None at at_report ended_is none = absurd none
+  has_verdict ended P says it name held report (Some bytes) at at_report ended_is read = (
+    it.e,
+    spelled_events asked files held it.e at it.read,
+    subst (λ r. IsSomeAnd r (λ b. (length b ≤ most_of ReportFile) × P (verdict it.e b)))
+        (sym (held_is files name ReportFile report bytes at_report read)) (read.within, says (verdict it.e bytes) ended_is),
+  )
 
   pub accepts_end : (name : List ℕ) (held report : Option (List ℕ)) → status ≡ 0 → asked.report ≡ Some name → files asked.file ≡ Some held → files name ≡ Some report
       → HasVerdict asked.len held report IsAccepted
-  accepts_end name held report zero = has_verdict Whole IsAccepted accepted_by name held report (zero_is_end end (sym is ∙ zero))
+  accepts_end name held report zero checked at at_report =
+      let it = whole_end Whole (zero_is_end end (sym is ∙ zero)) in
+      has_verdict Whole IsAccepted accepted_by it name held report it.report at at_report it.ended_is (subst (λ n. IsReportRead files n it.report) checked it.report_read)
 
-  pub refuses_end : (name : List ℕ) (held report : Option (List ℕ)) → status ≡ 10 → asked.report ≡ Some name → files asked.file ≡ Some held → files name ≡ Some report
-      → HasVerdict asked.len held report (λ v. ¬ (IsAccepted v))
-  refuses_end name held report ten = has_verdict Refused (λ v. ¬ (IsAccepted v)) refused_by name held report (ten_is_end end (sym is ∙ ten))
+  abbrev Refuses : Option (List ℕ) → List ℕ → Type 0
+  Refuses held name = (report : Option (List ℕ)) → files name ≡ Some report → HasVerdict asked.len held report (λ v. ¬ (IsAccepted v))
+
+  pub refuses_end : (held : Option (List ℕ)) → status ≡ 10 → files asked.file ≡ Some held → IsSomeAnd asked.report (Refuses held)
+  refuses_end held ten at =
+      let it = whole_end Refused (ten_is_end end (sym is ∙ ten)) in
+      checked asked.report it.report it it.ended_is it.report_read
+    where
+      checked :
+          (name found : Option (List ℕ)) (it : Answered asked files before after Refused) → Refused ≡ (answer_of it.e found).ended → IsReportRead files name found
+          → IsSomeAnd name (Refuses held)
+      checked None None it ended_is none = absurd (cc)
+      checked None (Some bytes) it ended_is none = absurd (cc)
+      checked (Some name) found it ended_is read = λ report at_report. has_verdict Refused (λ v. ¬ (IsAccepted v)) refused_by it name held report found at at_report ended_is read
 
   -- a count of faults of reading rose
   pub read_end : status ≡ 7 → ReadFault asked reads reads_after

@@ -67,13 +67,13 @@ pub fn run_seq<F: Folder, O: Sink, E: Sink>(
         F.file files.old asked.file ≡ Some held → O.written out.old ≡ Some before →
         (e : EventsView) × Spells asked.len held e × IsSomeAnd (O.written out.new) (PrintsCovering e before) }
 
-    // A report that is checked: with status 0 it is accepted, with status 10 it isn't. Premises: the words ask for this;
-    // the folder tells what both names held.
+    // A report that is checked: with status 0 it is accepted; status 10 comes only with one, and it isn't accepted.
+    // Premises: the words ask for this; the folder tells what both names held.
     ensures accepts { result ≡ 0 → (asked : Asked) (name : List ℕ) (held report : Option (List ℕ)) → asked_by (texts words.now) ≡ Ok asked →
         asked.report ≡ Some name → F.file files.old asked.file ≡ Some held → F.file files.old name ≡ Some report → HasVerdict asked.len held report IsAccepted }
-    ensures refuses { result ≡ 10 → (asked : Asked) (name : List ℕ) (held report : Option (List ℕ)) → asked_by (texts words.now) ≡ Ok asked →
-        asked.report ≡ Some name → F.file files.old asked.file ≡ Some held → F.file files.old name ≡ Some report →
-        HasVerdict asked.len held report (λ verdict. ¬ IsAccepted verdict) }
+    ensures refuses { result ≡ 10 → (asked : Asked) (held : Option (List ℕ)) → asked_by (texts words.now) ≡ Ok asked →
+        F.file files.old asked.file ≡ Some held → IsSomeAnd asked.report (λ name. (report : Option (List ℕ)) →
+        F.file files.old name ≡ Some report → HasVerdict asked.len held report (λ verdict. ¬ IsAccepted verdict)) }
 
     // What a run does: how it ends on what the folder tells of its files, what `out` and `diag` get then, and its
     // status. Premise: the words ask for this.

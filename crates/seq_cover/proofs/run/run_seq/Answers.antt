@@ -13,8 +13,8 @@ returns-clause-accepts g c = λ zero asked name held report words checked at at_
     accepts_end (ran_asked c.in-Ok.ensures words c.run-end.ensures.ran) c.tell.result c.tell.ensures.status name held report zero checked at at_report
 
 pub returns-clause-refuses : goal.returns-clause-refuses
-returns-clause-refuses g c = λ ten asked name held report words checked at at_report.
-    refuses_end (ran_asked c.in-Ok.ensures words c.run-end.ensures.ran) c.tell.result c.tell.ensures.status name held report ten checked at at_report
+returns-clause-refuses g c = λ ten asked held words at.
+    refuses_end (ran_asked c.in-Ok.ensures words c.run-end.ensures.ran) c.tell.result c.tell.ensures.status held ten at
 
 pub returns-clause-run : goal.returns-clause-run
 returns-clause-run g c = λ asked words. record {
