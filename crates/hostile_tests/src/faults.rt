@@ -30,6 +30,24 @@ fn keeps_what_fits_of_the_report(rt: HostRuntime) -> Result<(), Fail> {
 const FAULTS: &[(&str, &[u64], usize, &[&str], u8, &str, &str)] = &[
     ("m", &[1], 100, &["m"], 7, "", "error: cannot read m\n"),
     ("n", &[], 100, &["m"], 7, "", "error: cannot read m\n"),
+    (
+        "m",
+        &[2],
+        100,
+        &["m", "/proof:p"],
+        8,
+        "",
+        "error: cannot write p\n",
+    ),
+    (
+        "m",
+        &[],
+        100,
+        &["m", "/proof:q"],
+        8,
+        "",
+        "error: cannot write q\n",
+    ),
     // A fault of standard error changes nothing.
     ("m", &[], 0, &["m", "/o:3"], 4, "", ""),
     ("m", &[], 11, &["m", "/o:3"], 4, "", "error: mode"),

@@ -18,8 +18,8 @@ fn proof_len(proof: &Omissions) -> Result<u64, NoMemory>
     ensures len { IfOk result (λ count. count ≡ length (written proof.now.form proof.now.omissions)) }
 {
     let mut count = format_len(proof.form());
-    for omission in proof.as_slice() {
-        count = count.checked_add(omission_len(omission)).ok_or(NoMemory)?;
+    for listed in proof.as_slice() {
+        count = count.checked_add(omission_len(listed)).ok_or(NoMemory)?;
     }
     Ok(count)
 }

@@ -12,4 +12,6 @@ mod growth;
 #[cfg(test)]
 mod language;
 #[cfg(test)]
+mod proofs;
+#[cfg(test)]
 mod words;

@@ -3,4 +3,4 @@
 
 mod runs;
 
-pub use runs::{Ended, Given, ends_as, on_model, run};
+pub use runs::{Ended, Given, ends_as, on_model, run, writes};

@@ -17,9 +17,11 @@ pub struct Given<'a> {
     pub fail: &'a [u64],
     /// How many bytes fit into standard output, and into standard error.
     pub room: (usize, usize),
+    /// The name of a file that may be written.
+    pub written: &'a str,
 }
 
-/// A run with these words where the file `m` has these bytes, with room enough.
+/// A run with these words where the file `m` has these bytes, with room enough, also for a file `p`.
 pub fn on_model<'a>(words: &'a [&'a str], model: &'a [u8]) -> Given<'a> {
     Given {
         words,
@@ -27,6 +29,7 @@ pub fn on_model<'a>(words: &'a [&'a str], model: &'a [u8]) -> Given<'a> {
         model,
         fail: &[],
         room: (1 << 16, 1 << 10),
+        written: "p",
     }
 }
 
@@ -49,6 +52,7 @@ fn words_of(alloc: Global, words: &[&str]) -> Result<Vec<String>, NoMemory> {
 fn folder_of(alloc: Global, given: &Given) -> Result<MemFolder, NoMemory> {
     let mut folder = MemFolder::new(alloc, calls_of(alloc, given.fail)?);
     folder.add(given.name, given.model)?;
+    folder.room_for(given.written, 1 << 16)?;
     Ok(folder)
 }
 
@@ -61,6 +65,8 @@ pub struct Ended {
     pub written: MemSink,
     /// Standard error.
     pub told: MemSink,
+    /// The folder.
+    pub files: MemFolder,
 }
 
 /// Runs `pict`, with 5 as the seed that no word gives.
@@ -86,6 +92,7 @@ pub fn run<R: Threads + Sync>(rt: &R, alloc: Global, given: &Given) -> Result<En
         status,
         written,
         told,
+        files,
     })
 }
 
@@ -106,4 +113,26 @@ pub fn ends_as<R: Threads + Sync>(
     let is_written = ended.written.bytes() == written.as_bytes();
     let is_told = ended.told.bytes() == told.as_bytes();
     Ok(ended.status == status && is_written && is_told)
+}
+
+/// Whether a run ends with status 0 and this report, tells nothing, and leaves this text in the file that it
+/// may write.
+///
+/// # Errors
+///
+/// As from `run`.
+pub fn writes<R: Threads + Sync>(
+    rt: &R,
+    alloc: Global,
+    given: &Given,
+    report: &str,
+    text: &str,
+) -> Result<bool, NoMemory> {
+    let ended = run(rt, alloc, given)?;
+    let is_written = ended.written.bytes() == report.as_bytes();
+    let holds = match ended.files.held(given.written) {
+        Some(bytes) => bytes == text.as_bytes(),
+        None => false,
+    };
+    Ok(ended.status == 0 && is_written && holds && ended.told.bytes().is_empty())
 }

@@ -1,0 +1,132 @@
+//! The proof files of models.
+
+use crate::growth::{NONE_LIVE, NONE_LIVE_REPORT, TWIN};
+use std::test::Fail;
+use test_models::DISK;
+use test_runs::{ends_as, on_model, run, writes};
+
+// A model in which the first value of A goes with no row, and a parameter that no constraint names.
+const TWIN_AND_ONE: &[u8] = b"A: 1, 2\nB: 1, 2\nC: 1, 2\nD: 1, 2\n\
+    IF [A] = 1 THEN [B] = [C];\nIF [A] = 1 THEN [B] <> [C];\n";
+
+const TWIN_AND_ONE_REPORT: &str =
+    "A\tB\tC\tD\n2\t1\t1\t1\n2\t2\t2\t2\n2\t1\t2\t1\n2\t2\t1\t1\n2\t1\t1\t2\n";
+
+const NONE_LIVE_PROOF: &str =
+    "pict-proof 1\nomit 0=0 2=0 : L1\nomit 0=0 2=1 : L2\nomit 0=0 2=2 : L3\n\
+    omit 0=0 1=0 : B2 L1 L2 L3\nomit 0=0 1=1 : B2 L1 L2 L3\n";
+
+// Words, a model, its report, and its proof.
+const PROOFS: &[(&[&str], &[u8], &str, &str)] = &[
+    (
+        &["m", "/proof:p"],
+        b"A: 1, 2\nB: x, y\n",
+        "A\tB\n1\tx\n1\ty\n2\tx\n2\ty\n",
+        "pict-proof 1\n",
+    ),
+    (
+        &["m", "/proof:p"],
+        b"A: 1, 2\nB: x, y\nIF [A] = 1 THEN [B] = \"x\";\n",
+        "A\tB\n1\tx\n2\tx\n2\ty\n",
+        "pict-proof 1\nomit 0=0 1=1 : L1\n",
+    ),
+    (
+        &["m", "/proof:p"],
+        b"A: ~1, ~2\nB: x, y\nC: u, v\n",
+        "A\tB\tC\n~1\tx\tu\n~1\ty\tv\n~2\tx\tu\n~2\ty\tv\n",
+        "pict-proof 1\nomit 1=0 2=0 : B0 N N\nomit 1=0 2=1 : B0 N N\nomit 1=1 2=0 : B0 N N\nomit 1=1 2=1 : B0 N N\n",
+    ),
+    (
+        &["m", "/proof:p"],
+        NONE_LIVE,
+        NONE_LIVE_REPORT,
+        NONE_LIVE_PROOF,
+    ),
+    (
+        &["m", "/budget:3", "/Proof:p"],
+        NONE_LIVE,
+        NONE_LIVE_REPORT,
+        NONE_LIVE_PROOF,
+    ),
+    (
+        &["m", "/o:1", "/proof:p"],
+        b"A: 1, 2\n[A] > 5;\n",
+        "A\n",
+        "pict-proof 1\nomit 0=0 : L1\nomit 0=1 : L1\n",
+    ),
+    (
+        &["m", "/proof:p"],
+        b"A: ~1, 2\nB: x, ~y\nNOT ISNEGATIVE([A]);\n",
+        "A\tB\n2\tx\n2\t~y\n",
+        "pict-proof 1\nomit 0=0 1=0 : L1\n",
+    ),
+    (
+        &["m", "/o:1", "/proof:p", "/budget:4"],
+        TWIN,
+        "A\tB\tC\n2\t1\t1\n2\t2\t2\n",
+        "pict-proof 1\nomit 0=0 : B1 B2 L2 L1 B2 L1 L2\n",
+    ),
+    (
+        &["m", "/proofformat:2", "/proof:p"],
+        TWIN_AND_ONE,
+        TWIN_AND_ONE_REPORT,
+        "pict-proof 2\nomit 0=0 1=0 : B2 L2 L1\nomit 0=0 1=1 : B2 L1 L2\nomit 0=0 2=0 : B1 L2 L1\n\
+        omit 0=0 2=1 : B1 L1 L2\nomit 0=0 3=0 : B1 O1 O2\nomit 0=0 3=1 : B1 O1 O2\n",
+    ),
+];
+
+#[test]
+fn lists_what_no_row_serves(rt: HostRuntime) -> Result<(), Fail> {
+    for (words, model, report, proof) in PROOFS {
+        let given = on_model(words, model);
+        assert!(rt; writes(&rt, rt.alloc(), &given, report, proof)?, "{proof}");
+    }
+    Ok(())
+}
+
+#[test]
+fn lists_four_pairs_of_the_disk_model(rt: HostRuntime) -> Result<(), Fail> {
+    let proof =
+        "pict-proof 1\nomit 1=4 3=0 : L1\nomit 1=5 3=0 : L1\nomit 1=6 3=0 : L1\nomit 1=6 3=1 : L2\n";
+    let ended = run(
+        &rt,
+        rt.alloc(),
+        &on_model(&["m", "/proof:p"], DISK.as_bytes()),
+    )?;
+    assert!(rt; ended.status == 0 && ended.files.held("p") == Some(proof.as_bytes()));
+    Ok(())
+}
+
+// Words with which the growth of the twin rules ends early, and the line.
+const ENDED: &[(&[&str], &str)] = &[
+    (
+        &["m", "/o:1", "/proof:p", "/budget:3"],
+        "error: search budget 3 spent on 1=1\n",
+    ),
+    (
+        &["m", "/o:1", "/proof:p", "/budget:2"],
+        "error: search budget 2 spent on 0=0\n",
+    ),
+];
+
+// Then no proof is written.
+#[test]
+fn writes_no_proof_without_a_suite(rt: HostRuntime) -> Result<(), Fail> {
+    for (words, line) in ENDED {
+        let given = on_model(words, TWIN);
+        assert!(rt; ends_as(&rt, rt.alloc(), &given, 2, "", line)?);
+        let ended = run(&rt, rt.alloc(), &given)?;
+        assert!(rt; ended.files.held("p").is_none());
+    }
+    Ok(())
+}
+
+// The model file was read before.
+#[test]
+fn the_proof_may_take_the_place_of_the_model(rt: HostRuntime) -> Result<(), Fail> {
+    let model = b"A: 1, 2\nB: x, y\nIF [A] = 1 THEN [B] = \"x\";\n";
+    let ended = run(&rt, rt.alloc(), &on_model(&["m", "/proof:m"], model))?;
+    assert!(rt; ended.status == 0);
+    assert!(rt; ended.files.held("m") == Some(b"pict-proof 1\nomit 0=0 1=1 : L1\n"));
+    Ok(())
+}
