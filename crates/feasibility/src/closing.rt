@@ -41,11 +41,13 @@ impl<'t> Refuter<'t> {
         rule
     }
 
-    // The least number of an omission that is a leaf with this value of a parameter.
+    // The least number of an omission that is a leaf with this value of a parameter, where without it
+    // no leaf is possible: its tuple has the value.
     fn first_cited_with(&self, q: ParamNo, v: ValueNo, cells: &mut Cells) -> Option<u32>
         requires parameter { q < length self.now.model.params }
         requires free { is_assigned cells.old q ≡ false }
         requires path { IsPath self.now cells.old }
+        requires leafless { HasNoLeaf self.now cells.old }
         ensures least { result ≡ find (is_omission_leaf self.now.model self.now.format self.now.earlier self.now.tuple (with_value cells.old q v)) (range_with_len 1 (length self.now.earlier)) }
         ensures same { cells.new ≡ cells.old }
     {
@@ -167,6 +169,7 @@ impl<'t> Refuter<'t> {
         requires value { v < length (param_at self.now.model.params (constrained_at self.now.model i)).values }
         requires free { is_assigned cells.old (constrained_at self.now.model i) ≡ false }
         requires path { IsPath self.now cells.old }
+        requires leafless { HasNoLeaf self.now cells.old }
         requires node { is_failing self.now.model self.now.lists cells.old ≡ false }
         requires live { ShowsLive self.now.model self.now.lists cells.old sets.old }
         requires unfound { is_among (slice_index_or self.now.lists (constrained_at self.now.model i) []) v ≡ true

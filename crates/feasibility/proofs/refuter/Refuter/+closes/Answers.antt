@@ -175,12 +175,15 @@ close_node-close_value-requires t c =
             (
               subst (IsPath r) (sym cells) c.requires.path,
               (
-                ap (is_failing r.model r.lists) cells ∙ c.requires.node,
+                subst (HasNoLeaf r) (sym cells) c.requires.leafless,
                 (
-                  subst (λ row. ShowsLive r.model r.lists row c.loop-v.sets) (sym cells)
-                      (subst (ShowsLive r.model r.lists c.args.cells.now) (sym c.loop-v.invariant.sets) c.requires.live),
-                  λ listed. ap (λ row. (visited (with_value row p c.loop-v.v)).found) cells ∙ tried.each c.loop-v.v
-                      (of_among (get_or r.lists p []) c.loop-v.v listed),
+                  ap (is_failing r.model r.lists) cells ∙ c.requires.node,
+                  (
+                    subst (λ row. ShowsLive r.model r.lists row c.loop-v.sets) (sym cells)
+                        (subst (ShowsLive r.model r.lists c.args.cells.now) (sym c.loop-v.invariant.sets) c.requires.live),
+                    λ listed. ap (λ row. (visited (with_value row p c.loop-v.v)).found) cells ∙ tried.each c.loop-v.v
+                        (of_among (get_or r.lists p []) c.loop-v.v listed),
+                  ),
                 ),
               ),
             ),
