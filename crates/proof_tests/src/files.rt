@@ -1,0 +1,179 @@
+//! Proof files that are written and read back, and lines that are none.
+
+use crate::proofs::proof_of;
+use cov_model::TestModel;
+use refutation::{
+    Omissions, ProofFault, format_len, omission_len, put_format, put_omission, write_omission,
+};
+use std::alloc::Global;
+use std::test::Fail;
+use test_models::model_of;
+use value_text::NoMemory;
+
+// Eleven values, a negative one, and two constraints.
+const MODEL: &str = "A: 0, 1, 2, 3, 4, 5, 6, 7, 8, 9, 10\nB: x, ~y\nIF [A] = 1 THEN [B] = \"x\";\n\
+    IF [A] = 2 THEN [B] = \"x\";\n";
+
+// Proof files.
+const FILES: &[&str] = &[
+    "pict-proof 1\n",
+    "pict-proof 2\n",
+    "pict-proof 1\nomit 0=1 1=1 : L1\n",
+    "pict-proof 1\nomit 0=1 1=1 : L1\nomit 0=2 1=1 : L2\nomit 0=10 : B1 B0 N L1 L2 N\n",
+    "pict-proof 2\nomit 0=0 : O1\nomit 1=0 : O4294967295 O10 O2\n",
+];
+
+// Files that are none, each with the number of the first line that is none.
+const BROKEN: &[(&str, u32)] = &[
+    ("", 1),
+    ("\n", 1),
+    ("pict-proof 1", 1),
+    ("pict-proof 0\n", 1),
+    ("pict-proof 3\n", 1),
+    ("pict-proof 01\n", 1),
+    ("pict-proof 1\r\n", 1),
+    ("pict-proof 1 \n", 1),
+    ("pict-proof  1\n", 1),
+    ("Pict-proof 1\n", 1),
+    ("pict-proof 1\nomit 0=1 1=1 : L1", 2),
+    ("pict-proof 1\nomit 0=1 1=1 : L1\n ", 3),
+    ("pict-proof 1\nomit 0=1 1=1 : L1\n\n", 3),
+    ("pict-proof 1\n\nomit 0=1 1=1 : L1\n", 2),
+    ("pict-proof 1\nomit 0=1\nomit\n", 2),
+];
+
+// Lines that are none behind a line of an omission in format 1.
+const NO_LINES: &[&str] = &[
+    "omit",
+    "omit ",
+    "omit : L1",
+    "omit 0=1 :",
+    "omit 0=1 : ",
+    "omit 0=1 L1",
+    "omit 0=1 : : L1",
+    "omit 0=1 : L1 :",
+    "Omit 0=1 : L1",
+    " omit 0=1 : L1",
+    "omit  0=1 : L1",
+    "omit 0=1  : L1",
+    "omit 0=1 : L1 ",
+    "omit 0=1\t: L1",
+    "omit 0=1: L1",
+    "omit 1=1 0=1 : L1",
+    "omit 0=1 0=1 : L1",
+    "omit 2=0 : L1",
+    "omit 0=11 : L1",
+    "omit 1=2 : L1",
+    "omit 00=1 : L1",
+    "omit 0=01 : L1",
+    "omit +0=1 : L1",
+    "omit 0=-1 : L1",
+    "omit 0 : L1",
+    "omit 0= : L1",
+    "omit =1 : L1",
+    "omit 0=1=1 : L1",
+    "omit 0=4294967297 : L1",
+    "omit 0=18446744073709551617 : L1",
+    "omit 0=1 : L0",
+    "omit 0=1 : L3",
+    "omit 0=1 : L01",
+    "omit 0=1 : L",
+    "omit 0=1 : l1",
+    "omit 0=1 : B2",
+    "omit 0=1 : B",
+    "omit 0=1 : B01",
+    "omit 0=1 : N0",
+    "omit 0=1 : M",
+    "omit 0=1 : 1",
+    "omit 0=1 : O1",
+];
+
+// Citations that are none in format 2 either.
+const NO_CITATIONS: &[&str] = &["O0", "O", "O01", "O4294967296", "O-1", "o1"];
+
+// The text of a proof, each line with its own room.
+fn written(alloc: Global, proof: &Omissions) -> Result<Vec<u8>, NoMemory> {
+    let mut text = Vec::new(alloc);
+    text.reserve(format_len(proof.form()) as usize)?;
+    put_format(proof.form(), &mut text);
+    for omission in proof.as_slice() {
+        write_omission(omission, &mut text)?;
+    }
+    Ok(text)
+}
+
+// The lines of the omissions of a proof.
+fn put(alloc: Global, proof: &Omissions) -> Result<Vec<u8>, NoMemory> {
+    let mut text = Vec::new(alloc);
+    for omission in proof.as_slice() {
+        text.reserve(omission_len(omission) as usize)?;
+        put_omission(omission, &mut text);
+    }
+    Ok(text)
+}
+
+// The number of the line that is none.
+fn broken_line(alloc: Global, model: &TestModel, text: &str) -> Option<u32> {
+    match proof_of(alloc, model, text) {
+        Err(ProofFault::Line(line)) => Some(line),
+        Err(ProofFault::NoMemory) | Ok(_) => None,
+    }
+}
+
+#[test]
+fn proofs_are_written_as_they_were_read(rt: HostRuntime) -> Result<(), Fail> {
+    let model = model_of(rt.alloc(), MODEL)?;
+    for text in FILES {
+        let proof = proof_of(rt.alloc(), &model, text)?;
+        assert!(rt;
+            written(rt.alloc(), &proof)?.as_slice() == text.as_bytes(),
+            "{text}"
+        );
+        let lines = put(rt.alloc(), &proof)?;
+        assert!(rt; text.as_bytes().ends_with(lines.as_slice()), "{text}");
+        assert!(rt; proof.iter().count() == proof.len());
+        assert!(rt; proof.is_empty() == lines.is_empty());
+    }
+    Ok(())
+}
+
+#[test]
+fn files_that_are_no_proofs_are_refused(rt: HostRuntime) -> Result<(), Fail> {
+    let model = model_of(rt.alloc(), MODEL)?;
+    for (text, line) in BROKEN {
+        assert!(rt;
+            broken_line(rt.alloc(), &model, text) == Some(*line),
+            "{text}"
+        );
+    }
+    Ok(())
+}
+
+#[test]
+fn lines_that_are_no_omissions_are_refused(rt: HostRuntime) -> Result<(), Fail> {
+    let model = model_of(rt.alloc(), MODEL)?;
+    for line in NO_LINES {
+        let text = format!(in rt.alloc(); "pict-proof 1\nomit 0=1 1=1 : L1\n{line}\n")?;
+        assert!(rt;
+            broken_line(rt.alloc(), &model, text.as_str()) == Some(3),
+            "{line}"
+        );
+    }
+    for token in NO_CITATIONS {
+        let text = format!(in rt.alloc(); "pict-proof 2\nomit 0=1 : {token}\n")?;
+        assert!(rt;
+            broken_line(rt.alloc(), &model, text.as_str()) == Some(2),
+            "{token}"
+        );
+    }
+    Ok(())
+}
+
+#[test]
+fn faults_say_what_they_are(rt: HostRuntime) -> Result<(), Fail> {
+    let line = format!(in rt.alloc(); "{}", ProofFault::Line(6))?;
+    assert!(rt; line.as_str() == "line 6 is not a proof line");
+    let memory = format!(in rt.alloc(); "{}", ProofFault::NoMemory)?;
+    assert!(rt; memory.as_str() == "memory was refused");
+    Ok(())
+}

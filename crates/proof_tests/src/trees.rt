@@ -1,0 +1,135 @@
+//! Which trees refute a tuple.
+ghost use Rattle.std.specs.Prelude.{◌≤◌, ◌^◌, All, length};
+ghost use Rattle.refutation.specs.Checking.{AreOfModel};
+
+use crate::proofs::proof_of;
+use cov_model::{Cells, TestModel};
+use refutation::{Omissions, tree_ok};
+use std::alloc::Global;
+use std::test::Fail;
+use test_models::model_of;
+use value_text::NoMemory;
+
+// No value of C goes with the first value of A.
+const BARRED: &str = "A: 1, 2\nB: x, y\nC: p, q, r\nIF [A] = 1 THEN [C] <> \"p\";\n\
+    IF [A] = 1 THEN [C] <> \"q\";\nIF [A] = 1 THEN [C] <> \"r\";\n";
+
+// With the first value of A, B and C have to be equal and not equal.
+const TWIN: &str = "A: 1, 2\nB: 1, 2\nC: 1, 2\nIF [A] = 1 THEN [B] = [C];\n\
+    IF [A] = 1 THEN [B] <> [C];\n";
+
+// The same with one more parameter.
+const TWIN_AND_ONE: &str = "A: 1, 2\nB: 1, 2\nC: 1, 2\nD: 1, 2\nIF [A] = 1 THEN [B] = [C];\n\
+    IF [A] = 1 THEN [B] <> [C];\n";
+
+// A has negative values alone.
+const NEGATIVE: &str = "A: ~1, ~2\nB: x, y\nC: u, v\n";
+
+// B and C have a negative value.
+const MIXED: &str = "A: 1, 2\nB: x, ~n\nC: v, ~m\nIF [A] = 2 THEN [C] = \"v\";\n";
+
+// Lines of omissions in format 2, each but the last refuted after those before.
+const CITING: &str = "omit 0=0 1=0 : B2 L2 L1\nomit 0=0 1=1 : B2 L1 L2\nomit 0=0 2=0 : B1 L2 L1\n\
+    omit 0=0 2=1 : B1 L1 L2\nomit 0=0 3=0 : B1 O1 O2\n";
+
+// A model, the lines of some omissions, and whether the tree of the last refutes its tuple after those
+// before it.
+const TREES: &[(&str, &str, bool)] = &[
+    (BARRED, "omit 0=0 1=0 : B2 L1 L2 L3\n", true),
+    (BARRED, "omit 0=0 1=0 : L1\n", false),
+    (BARRED, "omit 0=0 1=0 : B2 L1 L2\n", false),
+    (BARRED, "omit 0=0 1=0 : B2 L1 L3 L3\n", false),
+    (BARRED, "omit 0=0 1=0 : B2 L1 L2 L3 L1\n", false),
+    (BARRED, "omit 0=0 1=0 : B0 L1 L1\n", false),
+    (BARRED, "omit 0=0 1=0 : B2\n", false),
+    (BARRED, "omit 0=0 2=1 : L2\n", true),
+    (BARRED, "omit 0=1 2=1 : L2\n", false),
+    (BARRED, "omit 0=0 2=0 : B1 L1 L1\n", true),
+    (BARRED, "omit 0=0 2=0 : N\n", false),
+    (TWIN, "omit 0=0 : B1 B2 L2 L1 B2 L1 L2\n", true),
+    (TWIN, "omit 0=0 : B2 B1 L2 L1 B1 L1 L2\n", true),
+    (TWIN, "omit 0=0 : B1 B2 L2 L1 B2 L2 L1\n", false),
+    (TWIN, "omit 0=0 : B1 B2 L2 L1 B1 L1 L2\n", false),
+    (NEGATIVE, "omit 1=0 2=0 : B0 N N\n", true),
+    (NEGATIVE, "omit 1=0 2=0 : B0 N\n", false),
+    (NEGATIVE, "omit 0=0 1=0 : N\n", false),
+    (MIXED, "omit 0=1 2=1 : L1\n", true),
+    (MIXED, "omit 0=1 2=1 : B1 L1 L1\n", true),
+    (MIXED, "omit 0=1 2=1 : B1 L1 N\n", true),
+    (MIXED, "omit 0=1 2=1 : B1 N L1\n", false),
+    (MIXED, "omit 0=1 2=1 : B1 L1\n", false),
+];
+
+// The same of lines behind those that cite, in format 2.
+const CITED: &[(&str, bool)] = &[
+    ("", true),
+    ("omit 0=0 3=1 : B1 O1 O2\n", true),
+    ("omit 0=0 3=1 : B2 O3 O4\n", true),
+    ("omit 0=0 3=1 : B1 O2 O1\n", false),
+    ("omit 0=0 3=1 : O1\n", false),
+    ("omit 0=0 3=1 : B1 O5 O2\n", false),
+    ("omit 0=0 3=1 : B1 O6 O2\n", false),
+    ("omit 0=0 3=1 : O6\n", false),
+    ("omit 0=0 3=1 : O7\n", false),
+];
+
+// Whether the tree of the last omission refutes its tuple after those before it; false where there is
+// no omission.
+fn last_refutes(alloc: Global, model: &TestModel, proof: &Omissions) -> Result<bool, NoMemory>
+    requires of_model { All (λ omission. AreOfModel model.now omission.tuple) proof.now.omissions }
+    requires few { length proof.now.omissions ≤ 2 ^ 20 }
+{
+    let [front @ .., last] = proof.as_slice() else {
+        return Ok(false);
+    };
+    let mut scratch = Cells::empty(alloc, model.params().len())?;
+    let before = front.len() as u32;
+    let refutes = tree_ok(
+        model,
+        &last.tuple,
+        last.tree.as_slice(),
+        proof,
+        before,
+        &mut scratch,
+    );
+    Ok(refutes)
+}
+
+#[test]
+fn trees_refute_their_tuples(rt: HostRuntime) -> Result<(), Fail> {
+    for (text, lines, expected) in TREES {
+        let model = model_of(rt.alloc(), text)?;
+        let text = format!(in rt.alloc(); "pict-proof 1\n{lines}")?;
+        let proof = proof_of(rt.alloc(), &model, text.as_str())?;
+        let refutes = last_refutes(rt.alloc(), &model, &proof)?;
+        assert!(rt; refutes == *expected, "{lines}");
+    }
+    Ok(())
+}
+
+#[test]
+fn trees_cite_earlier_tuples(rt: HostRuntime) -> Result<(), Fail> {
+    let model = model_of(rt.alloc(), TWIN_AND_ONE)?;
+    for (line, expected) in CITED {
+        let text = format!(in rt.alloc(); "pict-proof 2\n{CITING}{line}")?;
+        let proof = proof_of(rt.alloc(), &model, text.as_str())?;
+        let refutes = last_refutes(rt.alloc(), &model, &proof)?;
+        assert!(rt; refutes == *expected, "{line}");
+    }
+    Ok(())
+}
+
+// A tuple with a negative value may be omitted where one without it isn't, so it takes more to cite.
+#[test]
+fn negative_values_have_to_be_cited(rt: HostRuntime) -> Result<(), Fail> {
+    let model = model_of(rt.alloc(), NEGATIVE)?;
+    let first = "pict-proof 2\nomit 1=0 2=0 : B0 N N\nomit 0=0 1=0 2=0 : O1\n";
+    let proof = proof_of(rt.alloc(), &model, first)?;
+    let refutes = last_refutes(rt.alloc(), &model, &proof)?;
+    assert!(rt; !refutes);
+    let second = "pict-proof 2\nomit 2=0 : N\nomit 1=0 2=0 : B0 O1 O1\n";
+    let proof = proof_of(rt.alloc(), &model, second)?;
+    let refutes = last_refutes(rt.alloc(), &model, &proof)?;
+    assert!(rt; refutes);
+    Ok(())
+}
