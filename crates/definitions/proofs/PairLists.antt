@@ -58,6 +58,10 @@ cells_of-pairs_from n p (Some v ∷ cells) long =
 pub cells_of-pairs_of : (cells : List (Option ℕ)) → cells_of (length cells) (pairs_of cells) ≡ cells
 cells_of-pairs_of cells = cells_of-pairs_from (length cells) 0 cells (zero-add (length cells))
 
+-- so pairs that are those of a partial row of n parameters do
+pub cells_of-pairs : (n : ℕ) (cells : List (Option ℕ)) (pairs : List (ℕ × ℕ)) → length cells ≡ n → pairs ≡ pairs_of cells → cells_of n pairs ≡ cells
+cells_of-pairs n cells pairs long are = ap (cells_of n) are ∙ ap (λ k. cells_of k (pairs_of cells)) (sym long) ∙ cells_of-pairs_of cells
+
 -- and each of them is of one of its parameters
 within : (p : ℕ) (cells : List (Option ℕ)) (pair : ℕ × ℕ) → Has (pairs_from p cells) pair → pair.0 < p + length cells
 within p [] pair has = absurd has

@@ -27,7 +27,7 @@ use Rattle.definitions.proofs.Nothing.{nothing_found}
 use Rattle.definitions.proofs.Members.{Has, has_contained, contains_member, all_members, member_of_all, has_map, of_map, any_member, of_any, same_answer}
 use Rattle.definitions.proofs.PartialRowLemmas.{same-refl, same-sym, same-trans}
 use Rattle.definitions.proofs.Grown.{IsDemanded, IsOmitted, of_omitted}
-use Rattle.definitions.proofs.PairLists.{cells_of-pairs_of, pairs_of-rise, pairs_of-within}
+use Rattle.definitions.proofs.PairLists.{cells_of-pairs, pairs_of-rise, pairs_of-within}
 use Rattle.definitions.proofs.GrowthLaw.{growth_covers, suites_cover}
 use Rattle.definitions.proofs.ProofWords.{IsPair}
 use Rattle.definitions.proofs.ProofFiles.{proofs_read_back}
@@ -79,7 +79,7 @@ of_tuple m pref seeds format bytes is omission has =
 
 -- so the listed tuples are those that growth omits
 given_again : (m : ModelView) (row : List (Option ℕ)) → IsOmitted m row → cells_of (length m.params) (pairs_of row) ≡ row
-given_again m row is = ap (λ n. cells_of n (pairs_of row)) (sym is.demanded.long) ∙ cells_of-pairs_of row
+given_again m row is = cells_of-pairs (length m.params) row (pairs_of row) is.demanded.long refl
 
 all_given_again : (m : ModelView) (rows : List (List (Option ℕ))) → ((row : List (Option ℕ)) → Has rows row → IsOmitted m row)
     → map (cells_of (length m.params)) (map pairs_of rows) ≡ rows

@@ -7,7 +7,6 @@ pub mod Seeding
 pub mod SliceSteps
 pub mod Spending
 pub mod Completed
-pub mod PairLists
 pub mod SameRows
 pub mod Lists
 pub mod Falling

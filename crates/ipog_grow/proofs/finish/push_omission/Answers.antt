@@ -9,7 +9,7 @@ use Rattle.refutation.specs.declared.omissions.Omission.{Omission}
 use Rattle.ipog_grow.specs.Asking.{SearchContext}
 use Rattle.ipog_grow.specs.Omissions.{IsOmittedIn}
 use Rattle.ipog_grow.specs.Suites.{omitted_cells}
-use Rattle.ipog_grow.proofs.PairLists.{cells_of-pairs}
+use Rattle.definitions.proofs.PairLists.{cells_of-pairs}
 use Rattle.ipog_grow.proofs.Refuting.{omitted-unserved}
 use Rattle.ipog_grow.proofs.Trees.{omissions-push}
 use Rattle.ipog_grow.proofs.finish.push_omission.Goals as goal

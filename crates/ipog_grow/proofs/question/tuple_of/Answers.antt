@@ -2,7 +2,7 @@ use Rattle.std.proofs.Common.{◌≡◌, ◌<◌, length, ℕ, [], ◌∷◌, �
 use Rattle.std.proofs.lemmas.Grind.{common_steps}
 use Rattle.cov_model.specs.Tuples.{IsRising}
 use Rattle.definitions.specs.Pairs.{pairs_of}
-use Rattle.ipog_grow.proofs.PairLists.{pair_at, pairs_of-more, pairs_of-rise}
+use Rattle.definitions.proofs.PairLists.{pair_at, pairs_of-more, pairs_of-rise}
 use Rattle.std.proofs.lemmas.List.{append-nil, take_all}
 use Rattle.ipog_grow.proofs.question.tuple_of.Goals as goal
 use Rattle.ipog_grow.proofs.question.tuple_of.Goals.{in-Some+in_ok-push, in_default}
