@@ -1,5 +1,7 @@
 pub mod LineCuts
 pub mod SetLemmas
+pub mod Counting
+pub mod OnesLemmas
 pub mod NameLemmas
 pub mod ReadingSteps
 pub mod PlaceLemmas

@@ -8,7 +8,9 @@ use Rattle.std.proofs.lemmas.List.{take_more, length-take-le}
 use Rattle.std.proofs.Math.Seq.{take-length}
 use Rattle.std.proofs.lemmas.List.Elements.{All-head, All-tail, All-take}
 use Rattle.std.proofs.lemmas.Slice.Eq.{bytes_eq-Decides}
-use Rattle.seq_check.specs.EventSets.{AreSets, IsFront, OpenView, end_of, front_place, rises, set_count}
+use Rattle.std.proofs.Math.Bool.{and-true}
+use Rattle.seq_check.proofs.FindLemmas.{swapped}
+use Rattle.seq_check.specs.EventSets.{AreSets, IsFront, OpenView, first_of, rises, second_of, set_count, set_place}
 
 -- the events but the last of two, and of three
 pub record Two (n : ℕ) (front : List ℕ) : Type 0 where
@@ -41,38 +43,52 @@ three n (a ∷ b ∷ []) f = record {
 three n (a ∷ b ∷ d ∷ rest) f = let long = f.long in absurd (omega arith)
 
 -- there is a set at the place
-pub place_below : (len n : ℕ) (front : List ℕ) → (len ≡ 2) ⊎ (len ≡ 3) → n ≤ 64 → IsFront len n front → front_place front < set_count len
-place_below len n front of few f = elim of [
+pub place_below : (len n : ℕ) (front : List ℕ) (last : ℕ) → (len ≡ 2) ⊎ (len ≡ 3) → n ≤ 64 → IsFront len n front → last < 64 → set_place front last < set_count len
+place_below len n front last of few f below = elim of [
   | inl e ↦
       let shape = two n front (subst (λ l. IsFront l n front) e f) in
-      let exists = shape.exists in
-      rw (e, shape.is) (omega arith)
+      rw (e, shape.is) below
   | inr e ↦
       let shape = three n front (subst (λ l. IsFront l n front) e f) in
-      let exists = shape.exists in
       let later = shape.later in
       rw (e, shape.is) (omega arith)
 ]
 
-pub place_within : (o : OpenView) (n : ℕ) (front : List ℕ) → AreSets o → n ≤ 64 → IsFront o.len n front → front_place front < length o.sets
-place_within o n front sets few f = let below = place_below o.len n front sets.0 few f in omega (arith, below, sets.1)
+pub place_within : (o : OpenView) (n : ℕ) (front : List ℕ) (last : ℕ) → AreSets o → n ≤ 64 → IsFront o.len n front → last < 64 → set_place front last < length o.sets
+place_within o n front last sets few f below = let low = place_below o.len n front last sets.0 few f below in omega (arith, low, sets.1)
 
--- and no two have the same
+-- the first event exists, and the second one
+pub first_below : (len n : ℕ) (front : List ℕ) → (len ≡ 2) ⊎ (len ≡ 3) → IsFront len n front → first_of front < n
+first_below len n front of f = elim of [
+  | inl e ↦ let shape = two n front (subst (λ l. IsFront l n front) e f) in rw shape.is shape.exists
+  | inr e ↦ let shape = three n front (subst (λ l. IsFront l n front) e f) in rw shape.is shape.exists
+]
+
+pub second_below : (len n : ℕ) (front : List ℕ) (last : ℕ) → (len ≡ 2) ⊎ (len ≡ 3) → IsFront len n front → last < n → second_of front last < n
+second_below len n front last of f below = elim of [
+  | inl e ↦ let shape = two n front (subst (λ l. IsFront l n front) e f) in rw shape.is below
+  | inr e ↦ let shape = three n front (subst (λ l. IsFront l n front) e f) in rw shape.is shape.later
+]
+
+-- no two sequences have the same place and the same first event
 same_pair : (a b c d : ℕ) → b < 64 → d < 64 → 64 * a + b ≡ 64 * c + d → (a ≡ c) × (b ≡ d)
 same_pair a b c d small_b small_d e = (omega arith, omega arith)
 
-pub same_front : (len : ℕ) (front other : List ℕ) → (len ≡ 2) ⊎ (len ≡ 3) → IsFront len 64 front → IsFront len 64 other → front_place front ≡ front_place other → front ≡ other
-same_front len front other of f g same = elim of [
+same_sequence : (len : ℕ) (front other : List ℕ) (last end : ℕ) → (len ≡ 2) ⊎ (len ≡ 3) → IsFront len 64 front → IsFront len 64 other → last < 64 → end < 64
+    → set_place front last ≡ set_place other end → first_of front ≡ first_of other → (front ≡ other) × (last ≡ end)
+same_sequence len front other last end of f g low high same first = elim of [
   | inl e ↦
       let x = two 64 front (subst (λ l. IsFront l 64 front) e f) in
       let y = two 64 other (subst (λ l. IsFront l 64 other) e g) in
-      let equal : x.first ≡ y.first = sym (ap front_place x.is) ∙ same ∙ ap front_place y.is in
-      x.is ∙ ap (λ k. k ∷ []) equal ∙ sym y.is
+      let equal : x.first ≡ y.first = sym (ap first_of x.is) ∙ first ∙ ap first_of y.is in
+      let ends : last ≡ end = sym (ap (λ l. set_place l last) x.is) ∙ same ∙ ap (λ l. set_place l end) y.is in
+      (x.is ∙ ap (λ k. k ∷ []) equal ∙ sym y.is, ends)
   | inr e ↦
       let x = three 64 front (subst (λ l. IsFront l 64 front) e f) in
       let y = three 64 other (subst (λ l. IsFront l 64 other) e g) in
-      let equal = same_pair x.first x.second y.first y.second x.later y.later (sym (ap front_place x.is) ∙ same ∙ ap front_place y.is) in
-      x.is ∙ ap (λ k. k ∷ x.second ∷ []) equal.0 ∙ ap (λ k. y.first ∷ k ∷ []) equal.1 ∙ sym y.is
+      let equal : x.first ≡ y.first = sym (ap first_of x.is) ∙ first ∙ ap first_of y.is in
+      let pair = same_pair x.second last y.second end low high (sym (ap (λ l. set_place l last) x.is) ∙ same ∙ ap (λ l. set_place l end) y.is) in
+      (x.is ∙ ap (λ k. k ∷ x.second ∷ []) equal ∙ ap (λ k. y.first ∷ k ∷ []) pair.0 ∙ sym y.is, pair.1)
 ]
 
 -- two lists with one more event each
@@ -87,14 +103,14 @@ push_same (a ∷ xs) (b ∷ ys) x y long e =
     (ap (λ k. k ∷ xs) head ∙ ap (λ l. b ∷ l) rest.0, rest.1)
 
 -- a sequence is the one that is closed
-pub closes_one : (len : ℕ) (front other : List ℕ) (last end : ℕ) → (len ≡ 2) ⊎ (len ≡ 3) → IsFront len 64 front → IsFront len 64 other
-    → (eqb (front_place other) (front_place front) && eqb end last) ≡ bytes_eq (front ++ last ∷ []) (other ++ end ∷ [])
-closes_one len front other last end of f g =
+pub closes_one : (len : ℕ) (front other : List ℕ) (last end : ℕ) → (len ≡ 2) ⊎ (len ≡ 3) → IsFront len 64 front → IsFront len 64 other → last < 64 → end < 64
+    → (eqb (set_place other end) (set_place front last) && eqb (first_of other) (first_of front)) ≡ bytes_eq (front ++ last ∷ []) (other ++ end ∷ [])
+closes_one len front other last end of f g low high =
     let Same : Type 0 = (front ≡ other) × (last ≡ end) in
-    let left : Decides (eqb (front_place other) (front_place front) && eqb end last) Same = (
+    let left : Decides (eqb (set_place other end) (set_place front last) && eqb (first_of other) (first_of front)) Same = (
       λ e. let parts = and_parts _ _ e in
-          (same_front len front other of f g (sym (eqb-true _ _ parts.0)), sym (eqb-true _ _ parts.1)),
-      λ e. and_from _ _ (eq-eqb _ _ (sym (ap front_place e.0))) (eq-eqb _ _ (sym e.1)),
+          same_sequence len front other last end of f g low high (sym (eqb-true _ _ parts.0)) (sym (eqb-true _ _ parts.1)),
+      λ e. and_from _ _ (eq-eqb _ _ (sym (ap (λ l. set_place l last) e.0 ∙ ap (set_place other) e.1))) (eq-eqb _ _ (sym (ap first_of e.0))),
     ) in
     let right : Decides (bytes_eq (front ++ last ∷ []) (other ++ end ∷ [])) Same = (
       λ e. push_same front other last end (omega (arith, f.long, g.long)) ((bytes_eq-Decides (front ++ last ∷ []) (other ++ end ∷ [])).0 e),
@@ -114,19 +130,19 @@ front_is len sequence of long exist = record {
   exist = All-take (λ event. event < 64) (length sequence - 1) sequence exist;
 }
 
-pub closes_last : (len : ℕ) (sequence front : List ℕ) (last : ℕ) → (len ≡ 2) ⊎ (len ≡ 3) → length sequence ≡ len → All (λ event. event < 64) sequence → IsFront len 64 front
-    → (eqb (front_place (take (length sequence - 1) sequence)) (front_place front) && eqb (get_or sequence (length sequence - 1) 0) last) ≡ bytes_eq (front ++ last ∷ []) sequence
-closes_last len sequence front last of long exist f =
+pub last_below : (len : ℕ) (sequence : List ℕ) → (len ≡ 2) ⊎ (len ≡ 3) → length sequence ≡ len → All (λ event. event < 64) sequence → get_or sequence (length sequence - 1) 0 < 64
+last_below len sequence of long exist =
     let some : 0 < len = elim of [ inl e ↦ omega arith | inr e ↦ omega arith ] in
-    closes_one len front (take (length sequence - 1) sequence) last (get_or sequence (length sequence - 1) 0) of f (front_is len sequence of long exist)
-    ∙ ap (bytes_eq (front ++ last ∷ [])) (split_last sequence (omega arith))
+    exist (length sequence - 1) 0 (omega (arith, long, some))
 
--- the last event but one exists
-pub end_below : (len n : ℕ) (front : List ℕ) → (len ≡ 2) ⊎ (len ≡ 3) → IsFront len n front → end_of front < n
-end_below len n front of f = elim of [
-  | inl e ↦ let shape = two n front (subst (λ l. IsFront l n front) e f) in rw shape.is shape.exists
-  | inr e ↦ let shape = three n front (subst (λ l. IsFront l n front) e f) in rw shape.is shape.later
-]
+pub closes_last : (len : ℕ) (sequence front : List ℕ) (last : ℕ) → (len ≡ 2) ⊎ (len ≡ 3) → length sequence ≡ len → All (λ event. event < 64) sequence → IsFront len 64 front → last < 64
+    → (eqb (set_place (take (length sequence - 1) sequence) (get_or sequence (length sequence - 1) 0)) (set_place front last) && eqb (first_of (take (length sequence - 1) sequence)) (first_of front))
+    ≡ bytes_eq (front ++ last ∷ []) sequence
+closes_last len sequence front last of long exist f low =
+    let some : 0 < len = elim of [ inl e ↦ omega arith | inr e ↦ omega arith ] in
+    closes_one len front (take (length sequence - 1) sequence) last (get_or sequence (length sequence - 1) 0) of f (front_is len sequence of long exist) low
+    (last_below len sequence of long exist)
+    ∙ ap (bytes_eq (front ++ last ∷ [])) (split_last sequence (omega arith))
 
 -- three events rise exactly where the first two do, and the last two
 chain : (a b : Bool) (d : Bool) → (a ≡ true → b ≡ true → d ≡ true) → (a && b) ≡ (a && (d && (b && true)))
@@ -143,13 +159,25 @@ three_rise at a b d =
     chain (nat_lt (slice_index at a) (slice_index at b)) (nat_lt (slice_index at b) (slice_index at d)) (nat_lt (slice_index at a) (slice_index at d))
     (λ first second. let low = ltb-true _ _ first in let high = ltb-true _ _ second in lt-ltb _ _ (omega arith))
 
--- the triples that a row has, with the middle event
-pub behind_three : (at : List ℕ) (n event first second last : ℕ) (within : Bool) → last < n → within ≡ (nat_lt last n && nat_lt (slice_index at event) (slice_index at last))
-    → ((eqb event second && nat_lt (slice_index at first) (slice_index at event)) && within) ≡ (eqb event second && rises at (first ∷ second ∷ last ∷ []))
-behind_three at n event first second last within below is = elim (cases_eq event second) [
+-- the pairs that a row has, with the second event
+pub ahead_two : (at : List ℕ) (n event first last : ℕ) (within : Bool) → first < n → within ≡ (nat_lt first n && nat_lt (slice_index at first) (slice_index at event))
+    → (eqb event last && within) ≡ (eqb event last && rises at (first ∷ last ∷ []))
+ahead_two at n event first last within below is = elim (cases_eq event last) [
   | inl same ↦
-      let inside : within ≡ nat_lt (slice_index at event) (slice_index at last) = is ∙ ap (λ t. t && nat_lt (slice_index at event) (slice_index at last)) (lt-ltb last n below) in
+      let inside : within ≡ nat_lt (slice_index at first) (slice_index at event) = is ∙ ap (λ t. t && nat_lt (slice_index at first) (slice_index at event)) (lt-ltb first n below) in
+      let here = eq-eqb event last same in
+      rw here (inside ∙ ap (λ e. nat_lt (slice_index at first) (slice_index at e)) same ∙ sym (and-true (nat_lt (slice_index at first) (slice_index at last))))
+  | inr apart ↦ rw (ne_eqb event last apart) refl
+]
+
+-- and the triples
+pub ahead_three : (at : List ℕ) (n event first second last : ℕ) (within : Bool) → first < n → within ≡ (nat_lt first n && nat_lt (slice_index at first) (slice_index at event))
+    → ((eqb event second && nat_lt (slice_index at event) (slice_index at last)) && within) ≡ (eqb event second && rises at (first ∷ second ∷ last ∷ []))
+ahead_three at n event first second last within below is = elim (cases_eq event second) [
+  | inl same ↦
+      let inside : within ≡ nat_lt (slice_index at first) (slice_index at event) = is ∙ ap (λ t. t && nat_lt (slice_index at first) (slice_index at event)) (lt-ltb first n below) in
       let here = eq-eqb event second same in
-      rw (here, inside) (ap (λ e. nat_lt (slice_index at first) (slice_index at e) && nat_lt (slice_index at e) (slice_index at last)) same ∙ three_rise at first second last)
+      rw (here, inside) (swapped (nat_lt (slice_index at event) (slice_index at last)) (nat_lt (slice_index at first) (slice_index at event))
+      ∙ ap (λ e. nat_lt (slice_index at first) (slice_index at e) && nat_lt (slice_index at e) (slice_index at last)) same ∙ three_rise at first second last)
   | inr apart ↦ rw (ne_eqb event second apart) refl
 ]

@@ -1,5 +1,5 @@
 -- Sets of events as the bits of a word; arrows, and the sequences that are still open, by such sets.
-use Rattle.std.specs.Prelude.{◌≡◌, ℕ, ◌+◌, ◌*◌, ◌<◌, ◌⊎◌, Bool, true, false, List, [], ◌∷◌, ◌++◌, length, map, ◌==◌, nat_lt, if◌then◌else◌, slice_index, slice_index_or, All, Vec, Option, Some, None}
+use Rattle.std.specs.Prelude.{◌≡◌, ℕ, ◌+◌, ◌*◌, ◌<◌, ◌⊎◌, Bool, true, false, List, [], ◌∷◌, ◌++◌, length, map, ◌==◌, count_by, nat_lt, if◌then◌else◌, slice_index, slice_index_or, All, Vec, Option, Some, None}
 use Rattle.std.specs.Int.{bit_at}
 use Rattle.std.specs.List.{list_all, range_with_len}
 use Rattle.seq_check.specs.Events.{EventsView}
@@ -14,6 +14,10 @@ use Rattle.seq_check.specs.declared.event_set.EventSet.{EventSet}
 abbrev pub in_set : EventSet → ℕ → Bool
 in_set set event = bit_at set.bits event == 1
 
+-- how many events are in it
+unfoldable pub size_of : EventSet → ℕ
+size_of set = count_by (in_set set) (range_with_len 0 64)
+
 abbrev pub no_events : EventSet
 no_events = record { bits = 0 }
 
@@ -21,9 +25,13 @@ no_events = record { bits = 0 }
 abbrev pub in_set_at : List EventSet → ℕ → ℕ → Bool
 in_set_at sets place event = in_set (slice_index_or sets place no_events) event
 
--- the sets are the arrows of these pairs
+-- the sets are the arrows of these pairs: for each event, the events that an arrow leads to
 abbrev pub AreOf : List EventSet → List (ℕ × ℕ) → Type 0
 AreOf sets pairs = (first second : ℕ) → in_set_at sets first second ≡ is_arrow pairs (first, second)
+
+-- the sets are those arrows turned round: for each event, the events that an arrow leads from
+abbrev pub AreBack : List EventSet → List (ℕ × ℕ) → Type 0
+AreBack sets pairs = (first second : ℕ) → in_set_at sets second first ≡ is_arrow pairs (first, second)
 
 -- the places in an order of the events below a number
 abbrev pub places : ℕ → List ℕ → List ℕ
@@ -37,7 +45,7 @@ is_lower at pair = nat_lt (slice_index at pair.0) (slice_index at pair.1)
 abbrev pub rises : List ℕ → List ℕ → Bool
 rises at sequence = list_all (is_lower at) (steps sequence)
 
--- which sequences are open: for the events of a sequence but the last, the set of the last events
+-- which sequences are open: for the events of a sequence but the first, the set of the first events
 pub record OpenView : Type 0 where
   pub sets : List EventSet
   pub len : ℕ
@@ -48,17 +56,22 @@ set_count len = if len == 2 then 64 else 4096
 abbrev pub AreSets : OpenView → Type 0
 AreSets o = ((o.len ≡ 2) ⊎ (o.len ≡ 3)) × (length o.sets ≡ set_count o.len)
 
--- the place of the set, for sequences of two or three events
-abbrev pub front_place : List ℕ → ℕ
-front_place [] = 0
-front_place (first ∷ []) = first
-front_place (first ∷ second ∷ rest) = 64 * first + second
+-- a sequence of two or three events by all of its events but the last, and the last one: the place of its set,
+abbrev pub set_place : List ℕ → ℕ → ℕ
+set_place [] last = last
+set_place (first ∷ []) last = last
+set_place (first ∷ second ∷ rest) last = 64 * second + last
 
--- the last of these events
-abbrev pub end_of : List ℕ → ℕ
-end_of [] = 0
-end_of (first ∷ []) = first
-end_of (first ∷ second ∷ rest) = second
+-- its first event,
+abbrev pub first_of : List ℕ → ℕ
+first_of [] = 0
+first_of (first ∷ rest) = first
+
+-- and its second one
+abbrev pub second_of : List ℕ → ℕ → ℕ
+second_of [] last = last
+second_of (first ∷ []) last = last
+second_of (first ∷ second ∷ rest) last = second
 
 -- the events of a sequence but the last, each below n
 pub record IsFront (len n : ℕ) (front : List ℕ) : Type 0 where
@@ -66,7 +79,7 @@ pub record IsFront (len n : ℕ) (front : List ℕ) : Type 0 where
   pub exist : All (λ event. event < n) front
 
 abbrev pub is_open : OpenView → List ℕ → ℕ → Bool
-is_open o front last = in_set_at o.sets (front_place front) last
+is_open o front last = in_set_at o.sets (set_place front last) (first_of front)
 
 -- the sequences of n events that are open are those that pass a test
 abbrev pub Tells : OpenView → ℕ → (List ℕ → Bool) → Type 0

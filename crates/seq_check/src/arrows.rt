@@ -1,5 +1,5 @@
 ghost use Rattle.std.specs.Prelude.{◌≡◌, ◌<◌, ◌&&◌, ◌||◌, ◌==◌, ℕ, false, All, IfOk};
-ghost use Rattle.seq_check.specs.EventSets.{AreOf, in_set, in_set_at};
+ghost use Rattle.seq_check.specs.EventSets.{AreBack, AreOf, in_set, in_set_at};
 
 use crate::event_set::EventSet;
 use std::alloc::Global;
@@ -51,6 +51,22 @@ impl Arrows {
         let mut arrows = Arrows::new(alloc)?;
         for pair in pairs {
             arrows.add(pair.0, pair.1);
+        }
+        Ok(arrows)
+    }
+
+    /// The arrows of these pairs, turned round.
+    ///
+    /// # Errors
+    ///
+    /// `NoMemory` where memory was refused.
+    pub fn back(alloc: Global, pairs: &[(u16, u16)]) -> Result<Arrows, NoMemory>
+        requires { All (λ pair. (pair.0 < 64) × (pair.1 < 64)) pairs.now }
+        ensures { IfOk result (λ arrows. AreBack arrows pairs.now) }
+    {
+        let mut arrows = Arrows::new(alloc)?;
+        for pair in pairs {
+            arrows.add(pair.1, pair.0);
         }
         Ok(arrows)
     }

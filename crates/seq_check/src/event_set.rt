@@ -1,5 +1,5 @@
-ghost use Rattle.std.specs.Prelude.{◌≡◌, ◌<◌, ◌&&◌, ◌||◌, ◌==◌, ℕ, true, false, not, IfNone, IfSome};
-ghost use Rattle.seq_check.specs.EventSets.{in_set};
+ghost use Rattle.std.specs.Prelude.{◌≡◌, ◌≤◌, ◌<◌, ◌&&◌, ◌||◌, ◌==◌, ℕ, true, false, not, IfNone, IfSome};
+ghost use Rattle.seq_check.specs.EventSets.{in_set, size_of};
 
 /// A set of events, which are numbered below 64.
 #[derive(Debug, Clone, Copy, PartialEq, Eq)]
@@ -70,6 +70,15 @@ impl EventSet {
         EventSet {
             bits: self.bits & !other.bits,
         }
+    }
+
+    /// The number of events.
+    #[inline]
+    pub fn count(self) -> u32
+        ensures value { result ≡ size_of self }
+        ensures few { result ≤ 64 }
+    {
+        self.bits.count_ones()
     }
 
     /// The least event; `None` exactly where there is none.

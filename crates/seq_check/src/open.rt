@@ -1,6 +1,6 @@
 ghost use Rattle.std.specs.Prelude.{◌≡◌, ◌≢◌, ◌<◌, ◌≤◌, ◌+◌, ◌*◌, ◌&&◌, ◌||◌, ◌==◌, ◌⊎◌, ◌∷◌, ◌++◌, [], ℕ, List, Bool, true, false, not, All, length, nat_lt, find, option_map, slice_index, IfOk};
 ghost use Rattle.std.specs.Str.{bytes_eq};
-ghost use Rattle.seq_check.specs.EventSets.{AreSets, IsFront, OpenView, Tells, front_place, in_set, in_set_at, end_of, is_open, rises, set_count};
+ghost use Rattle.seq_check.specs.EventSets.{AreSets, IsFront, OpenView, Tells, first_of, in_set, in_set_at, is_open, rises, second_of, set_count, set_place};
 ghost use Rattle.seq_check.specs.Orders.{distinct_lists, is_among, lengthened};
 
 use crate::event_set::EventSet;
@@ -10,8 +10,8 @@ use std::alloc::Global;
 use std::marker::Model;
 use value_text::NoMemory;
 
-/// Which sequences of two or three events are still open: for all events of a sequence but the last, the set of
-/// the last ones.
+/// Which sequences of two or three events are still open: for all events of a sequence but the first, the set of
+/// the first ones.
 #[derive(Drop)]
 pub struct OpenSequences {
     sets: Vec<EventSet>,
@@ -35,44 +35,39 @@ fn set_count(length: u32) -> usize
     if length == 2 { 64 } else { 4096 }
 }
 
-// The place of the set for all events of a sequence but the last.
-fn place_of(front: &[u16]) -> usize
-    ensures { result ≡ front_place front.now }
+// The place of the set of a sequence, given by all of its events but the last, and the last one.
+fn place_of(front: &[u16], last: u16) -> usize
+    ensures { result ≡ set_place front.now last }
+{
+    match front {
+        [] | [_] => last as usize,
+        [_, second, ..] => 64 * *second as usize + last as usize,
+    }
+}
+
+// The first event of a sequence.
+fn first_of(front: &[u16]) -> u16
+    ensures { result ≡ first_of front.now }
 {
     match front {
         [] => 0,
-        [event] => *event as usize,
-        [first, second, ..] => 64 * *first as usize + *second as usize,
+        [first, ..] => *first,
     }
 }
 
-// The events with a higher place than one.
-fn events_behind(places: &[u16], event: u16) -> EventSet
+// The events with a lower place than one.
+fn events_ahead(places: &[u16], event: u16) -> EventSet
     requires few { length places.now ≤ 64 }
     requires event { event < length places.now }
-    ensures { (other : ℕ) → in_set result other ≡ (nat_lt other (length places.now) && nat_lt (slice_index places.now event) (slice_index places.now other)) }
+    ensures { (other : ℕ) → in_set result other ≡ (nat_lt other (length places.now) && nat_lt (slice_index places.now other) (slice_index places.now event)) }
 {
-    let mut behind = EventSet::none();
+    let mut ahead = EventSet::none();
     for other in 0..places.len() as u16 {
-        if places[event as usize] < places[other as usize] {
-            behind = behind.with(other);
+        if places[other as usize] < places[event as usize] {
+            ahead = ahead.with(other);
         }
     }
-    behind
-}
-
-// The events below a number that a list hasn't.
-fn events_besides(front: &[u16], count: u16) -> EventSet
-    requires { count ≤ 64 }
-    ensures { (event : ℕ) → in_set result event ≡ (nat_lt event count && not (is_among front.now event)) }
-{
-    let mut besides = EventSet::none();
-    for event in 0..count {
-        if !front.contains(&event) {
-            besides = besides.with(event);
-        }
-    }
-    besides
+    ahead
 }
 
 impl OpenSequences {
@@ -99,24 +94,36 @@ impl OpenSequences {
         let _length = self.length;
     }
 
-    /// The last events of the open sequences that begin with all other events of theirs.
+    /// Whether a sequence is open, given by all of its events but the last, and the last one.
     #[inline]
-    pub fn behind(&self, front: &[u16]) -> EventSet
-        requires { IsFront self.now.len 64 front.now }
-        ensures { (last : ℕ) → in_set result last ≡ is_open self.now front.now last }
+    pub fn is_open(&self, front: &[u16], last: u16) -> bool
+        requires front { IsFront self.now.len 64 front.now }
+        requires last { last < 64 }
+        ensures { result ≡ is_open self.now front.now last }
     {
-        self.sets[place_of(front)]
+        self.sets[place_of(front, last)].has(first_of(front))
     }
 
-    // Closes the sequences with some last events, by the place of their set.
+    /// The first events of the open sequences of three events that end with these.
     #[inline]
-    fn close_at(&mut self, place: usize, lasts: EventSet)
+    pub fn firsts(&self, second: u16, last: u16) -> EventSet
+        requires len { self.now.len ≡ 3 }
+        requires second { second < 64 }
+        requires last { last < 64 }
+        ensures { (first : ℕ) → in_set result first ≡ is_open self.now (first ∷ second ∷ []) last }
+    {
+        self.sets[64 * second as usize + last as usize]
+    }
+
+    // Closes the sequences with some first events, by the place of their set.
+    #[inline]
+    fn close_at(&mut self, place: usize, firsts: EventSet)
         requires { place < length self.old.sets }
         ensures len { self.new.len ≡ self.old.len }
         ensures long { length self.new.sets ≡ length self.old.sets }
-        ensures closed { (other last : ℕ) → last < 64 → in_set_at self.new.sets other last ≡ (in_set_at self.old.sets other last && not ((place == other) && in_set lasts last)) }
+        ensures closed { (other first : ℕ) → first < 64 → in_set_at self.new.sets other first ≡ (in_set_at self.old.sets other first && not ((place == other) && in_set firsts first)) }
     {
-        let left = self.sets[place].without(lasts);
+        let left = self.sets[place].without(firsts);
         self.sets[place] = left;
     }
 
@@ -130,43 +137,46 @@ impl OpenSequences {
     {
         self.assert_invariant();
         if let [front @ .., last] = sequence {
-            self.close_at(place_of(front), EventSet::none().with(*last));
+            self.close_at(
+                place_of(front, *last),
+                EventSet::none().with(first_of(front)),
+            );
         }
     }
 
-    // Closes the sequences of three events whose second event is this one, whose first has a lower place, and
-    // whose last is one of these.
-    fn close_triples(&mut self, places: &[u16], event: u16, lasts: EventSet)
+    // Closes the sequences of three events whose second event is this one, whose last has a higher place, and whose
+    // first is one of these.
+    fn close_triples(&mut self, places: &[u16], event: u16, firsts: EventSet)
         requires len { self.old.len ≡ 3 }
         requires few { length places.now ≤ 64 }
         requires event { event < length places.now }
         ensures len { self.new.len ≡ self.old.len }
-        ensures closed { (first second last : ℕ) → first < length places.now → second < 64 → last < 64 →
-            in_set_at self.new.sets (64 * first + second) last ≡ (in_set_at self.old.sets (64 * first + second) last
-            && not (((event == second) && nat_lt (slice_index places.now first) (slice_index places.now event)) && in_set lasts last)) }
+        ensures closed { (first second last : ℕ) → first < 64 → second < 64 → last < length places.now →
+            in_set_at self.new.sets (64 * second + last) first ≡ (in_set_at self.old.sets (64 * second + last) first
+            && not (((event == second) && nat_lt (slice_index places.now event) (slice_index places.now last)) && in_set firsts first)) }
     {
         self.assert_invariant();
-        for first in 0..places.len() as u16 {
-            if places[first as usize] >= places[event as usize] {
+        for last in 0..places.len() as u16 {
+            if places[event as usize] >= places[last as usize] {
                 continue;
             }
-            self.close_at(64 * first as usize + event as usize, lasts);
+            self.close_at(64 * event as usize + last as usize, firsts);
         }
     }
 
-    // Closes the sequences that a row has, and whose last event but one is this one.
+    // Closes the sequences that a row has, and whose second event is this one.
     fn close_behind(&mut self, places: &[u16], event: u16)
         requires few { length places.now ≤ 64 }
         requires event { event < length places.now }
         ensures len { self.new.len ≡ self.old.len }
         ensures closed { (front : List ℕ) (last : ℕ) → IsFront self.old.len (length places.now) front → last < length places.now →
-            is_open self.new front last ≡ (is_open self.old front last && not ((event == end_of front) && rises places.now (front ++ last ∷ []))) }
+            is_open self.new front last ≡ (is_open self.old front last && not ((event == second_of front last) && rises places.now (front ++ last ∷ []))) }
     {
-        let lasts = events_behind(places, event);
+        let firsts = events_ahead(places, event);
         if self.length == 2 {
-            self.close_at(event as usize, lasts);
+            self.close_at(event as usize, firsts);
         } else {
-            self.close_triples(places, event, lasts);
+            self.close_triples(places, event, firsts);
         }
     }
 
@@ -190,9 +200,15 @@ impl OpenSequences {
         ensures { (test : List ℕ → Bool) → Tells self.now count test →
             option_map (λ last. front.now ++ last ∷ []) result ≡ find test (lengthened count front.now) }
     {
-        self.behind(front)
-            .common(events_besides(front, count))
-            .first()
+        for last in 0..count {
+            if front.contains(&last) {
+                continue;
+            }
+            if self.is_open(front, last) {
+                return Some(last);
+            }
+        }
+        None
     }
 
     /// The first open sequence of the events below a number, in lexicographic order.

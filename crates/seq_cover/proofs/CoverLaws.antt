@@ -14,7 +14,8 @@ use Rattle.seq_cover.specs.OrderGrowth.{built_from, grown, nothing_grown, settle
 use Rattle.seq_cover.specs.Ways.{cycle_from, cycle_of, leads}
 use Rattle.seq_cover.specs.declared.suite.Never.{Never}
 use Rattle.seq_cover.specs.declared.suite.OrderSuite.{OrderSuite}
-use Rattle.seq_cover.proofs.CycleLaws.{ExistBelow, told_is}
+use Rattle.seq_cover.specs.Building.{ExistBelow}
+use Rattle.seq_cover.proofs.CycleLaws.{told_is}
 use Rattle.seq_cover.proofs.FindLaws.{number_fails}
 use Rattle.seq_cover.proofs.NoOrder.{no_order}
 use Rattle.seq_cover.proofs.PlacingLaws.{row_is}

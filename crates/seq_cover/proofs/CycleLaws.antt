@@ -5,8 +5,9 @@ use Rattle.std.proofs.lemmas.Bool.{false≢true, and_from, and_parts, both_ways,
 use Rattle.std.proofs.lemmas.List.Elements.{All-cons, All-nil, All-head, All-tail}
 use Rattle.seq_check.proofs.FindLemmas.{first_number}
 use Rattle.seq_check.specs.Orders.{is_arrow, is_cycle, neighbours}
+use Rattle.seq_cover.specs.Building.{ExistBelow}
 use Rattle.seq_cover.specs.Ways.{cycle_by, cycle_from, cycle_of, fewest, is_within, leads, next_event, way_back, with_rest}
-use Rattle.seq_cover.proofs.Counting.{among, among-fewer, among-le, below_all, least, passes_among}
+use Rattle.seq_check.proofs.Counting.{among, among-fewer, among-le, below_all, least, passes_among}
 use Rattle.seq_cover.proofs.FindLaws.{found_is, number_found}
 use Rattle.seq_cover.proofs.Leading.{arrows_are}
 
@@ -123,9 +124,6 @@ module _ (n : ℕ) (pairs : List (ℕ × ℕ)) (goal : ℕ) where
 pub record IsTold (n : ℕ) (pairs : List (ℕ × ℕ)) (cycle : List ℕ) : Type 0 where
   pub is : is_cycle pairs cycle ≡ true
   pub exist : All (λ x. x < n) cycle
-
-abbrev pub ExistBelow : ℕ → List (ℕ × ℕ) → Type 0
-ExistBelow n pairs = All (λ pair. (pair.0 < n) × (pair.1 < n)) pairs
 
 -- a way from an event back to it, and the event before it
 way_round : (n : ℕ) (pairs : List (ℕ × ℕ)) (first k : ℕ) (way : List ℕ) → first < n → IsWay n pairs first first k way → IsTold n pairs (first ∷ way)

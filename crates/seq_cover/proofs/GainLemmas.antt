@@ -1,11 +1,11 @@
 -- Counts of sequences by their events but the last.
-use Rattle.std.proofs.Common.{◌≡◌, ℕ, zero, suc, ◌+◌, ◌<◌, Bool, cond, not, List, [], ◌∷◌, ◌++◌, length, map, count_by, take, get_or, All, refl, sym, ap, ◌∙◌, arith}
-use Rattle.std.proofs.lemmas.List.{take_more}
+use Rattle.std.proofs.Common.{◌≡◌, ℕ, zero, suc, ◌+◌, ◌-◌, ◌<◌, ◌⊎◌, inl, inr, Bool, cond, not, List, [], ◌∷◌, ◌++◌, length, map, count_by, All, refl, sym, ap, ◌∙◌, arith, zero-add}
 use Rattle.seq_check.specs.EventSets.{OpenView, Tells, is_open}
 use Rattle.seq_check.specs.Orders.{is_had}
 use Rattle.std.proofs.lemmas.List.Elements.{All-nil, All-cons, All-append, All-map, All-head, All-tail, All-weaker}
 use Rattle.std.proofs.lemmas.List.Folds.{fold-map}
 use Rattle.std.proofs.lemmas.List.Sums.{sum_by-append, sum_by-cons}
+use Rattle.seq_cover.specs.Building.{open_gain}
 use Rattle.seq_cover.specs.OrderGrowth.{choose, gain}
 
 pub count_map : {X Y : Type 0} (p : Y → Bool) (f : X → Y) (xs : List X) → count_by p (map f xs) ≡ count_by (λ x. p (f x)) xs
@@ -72,16 +72,25 @@ module _ (o : OpenView) (n : ℕ) (rows : List (List ℕ)) (row : List ℕ) (eve
       (All-weaker (λ f. (length f ≡ k) × All (λ x. x < n) f) (λ f. is_open o f event ≡ not (is_had rows (f ++ event ∷ [])))
       (λ f is. tells f event (record { long = ap (λ m. m + 1) is.0 ∙ long; exist = is.1 }) below) (choose k row) (chosen_are k n row exist))
 
-  pub gain_pairs : o.len ≡ 2 → count_by (λ first. is_open o (first ∷ []) event) row ≡ gain 2 rows row event
-  gain_pairs len = sym (count_singly (λ front. is_open o front event) row) ∙ gain_is 1 (sym len)
+  pub open_gain_is : (len : ℕ) → o.len ≡ len → (len ≡ 2) ⊎ (len ≡ 3) → open_gain o row event ≡ gain len rows row event
+  open_gain_is len same of =
+      let one_less : o.len - 1 + 1 ≡ o.len = elim of [ inl two ↦ omega (arith, two) | inr three ↦ omega (arith, three) ] in
+      gain_is (o.len - 1) one_less ∙ ap (λ k. gain k rows row event) same
 
-  pub gain_triples : o.len ≡ 3 → count_by (λ front. is_open o front event) (choose 2 row) ≡ gain 3 rows row event
-  gain_triples len = gain_is 2 (sym len)
+-- one event more in a row
+module _ (o : OpenView) (row : List ℕ) (event last : ℕ) where
+  gain_more : (k : ℕ) → o.len - 1 ≡ suc k → open_gain o (row ++ event ∷ []) last ≡ open_gain o row last + count_by (λ front. is_open o (front ++ event ∷ []) last) (choose k row)
+  gain_more k long =
+      let test : List ℕ → Bool = λ front. is_open o front last in
+      ap (λ n. count_by test (choose n (row ++ event ∷ []))) long ∙ count_choose k test row event
+      ∙ ap (λ n. count_by test (choose n row) + count_by (λ front. test (front ++ event ∷ [])) (choose k row)) (sym long)
 
-pub triples_step : (o : OpenView) (row : List ℕ) (at event : ℕ) → at < length row
-    → count_by (λ front. is_open o front event) (choose 2 (take (at + 1) row)) ≡ count_by (λ front. is_open o front event) (choose 2 (take at row)) + count_by (λ first. is_open o (first ∷ get_or row at 0 ∷ []) event) (take at row)
-triples_step o row at event within =
-    let P : List ℕ → Bool = λ front. is_open o front event in
-    let y = get_or row at 0 in
-    ap (λ l. count_by P (choose 2 l)) (take_more row at 0 within) ∙ count_choose 1 P (take at row) y
-    ∙ ap (λ k. count_by P (choose 2 (take at row)) + k) (count_singly (λ f. P (f ++ y ∷ [])) (take at row))
+  pub raise_two : o.len ≡ 2 → open_gain o row last + cond (is_open o (event ∷ []) last) 1 0 ≡ open_gain o (row ++ event ∷ []) last
+  raise_two two =
+      let long : o.len - 1 ≡ 1 = omega (arith, two) in
+      sym (gain_more 0 long ∙ ap (λ n. open_gain o row last + n) (zero-add (cond (is_open o (event ∷ []) last) 1 0)))
+
+  pub raise_three : o.len ≡ 3 → open_gain o row last + count_by (λ first. is_open o (first ∷ event ∷ []) last) row ≡ open_gain o (row ++ event ∷ []) last
+  raise_three three =
+      let long : o.len - 1 ≡ 2 = omega (arith, three) in
+      sym (gain_more 1 long ∙ ap (λ n. open_gain o row last + n) (count_singly (λ front. is_open o (front ++ event ∷ []) last) row))

@@ -10,8 +10,9 @@ use Rattle.std.proofs.lemmas.List.Elements.{All-push}
 use Rattle.std.proofs.lemmas.List.Folds.{list_any-append}
 use Rattle.std.proofs.lemmas.List.FromFn.{length-map-range_with_len}
 use Rattle.seq_check.proofs.CheckSteps.{steps_exist}
+use Rattle.seq_check.proofs.FindLemmas.{swapped}
 use Rattle.seq_check.proofs.StepLemmas.{all_kept}
-use Rattle.seq_check.specs.EventSets.{AreOf, IsFront, OpenView, Tells, in_set_at, is_open, places, rises}
+use Rattle.seq_check.specs.EventSets.{AreBack, AreOf, IsFront, OpenView, Tells, in_set_at, is_open, places, rises}
 use Rattle.seq_check.specs.Orders.{distinct_lists, has, is_arrow, is_had, lengthened, place, sequences, steps}
 use Rattle.seq_check.specs.declared.event_set.EventSet.{EventSet}
 
@@ -25,6 +26,13 @@ pub arrow_more : (sets new : List EventSet) (pairs : List (ℕ × ℕ)) (a b : �
     → ((first second : ℕ) → in_set_at new first second ≡ (in_set_at sets first second || (eqb a first && eqb b second))) → AreOf new ((a, b) ∷ pairs)
 arrow_more sets new pairs a b of more = λ first second.
     more first second ∙ ap (λ t. t || (eqb a first && eqb b second)) (of first second) ∙ either_way (is_arrow pairs (first, second)) (eqb a first && eqb b second)
+
+-- the same of arrows that are turned round
+pub back_more : (sets new : List EventSet) (pairs : List (ℕ × ℕ)) (a b : ℕ) → AreBack sets pairs
+    → ((first second : ℕ) → in_set_at new first second ≡ (in_set_at sets first second || (eqb b first && eqb a second))) → AreBack new ((a, b) ∷ pairs)
+back_more sets new pairs a b turned more = λ first second.
+    more second first ∙ ap (λ t. t || (eqb b second && eqb a first)) (turned first second) ∙ ap (λ t. is_arrow pairs (first, second) || t) (swapped (eqb b second) (eqb a first))
+    ∙ either_way (is_arrow pairs (first, second)) (eqb a first && eqb b second)
 
 not_either : (a b : Bool) → (not a && not b) ≡ not (a || (b || false))
 not_either true b = refl

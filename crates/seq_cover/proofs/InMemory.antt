@@ -1,5 +1,5 @@
 -- Runs over a folder and sinks that tell everything.
-use Rattle.std.proofs.Common.{◌≡◌, ◌≢◌, ℕ, List, Option, Some, None, Result, Ok, Err, refl, arith}
+use Rattle.std.proofs.Common.{◌≡◌, ◌≢◌, ℕ, List, Option, Some, None, Result, Ok, Err, refl}
 use Rattle.std.specs.Prelude.{IfSome, IsOkAnd, IsSomeAnd}
 use Rattle.seq_cover.specs.Words.{Asked}
 

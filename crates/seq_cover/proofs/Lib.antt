@@ -4,10 +4,10 @@ pub mod GainLemmas
 pub mod RowLemmas
 pub mod GrowLemmas
 pub mod Leading
-pub mod Counting
 pub mod FindLaws
 pub mod CycleLaws
 pub mod NoOrder
+pub mod BuildLemmas
 pub mod PlacingLaws
 pub mod SequenceLaws
 pub mod CoverLaws

@@ -3,17 +3,17 @@ use Rattle.std.proofs.Common.{◌≡◌, ℕ, zero, suc, ◌+◌, ◌<◌, ◌�
 use Rattle.std.specs.List.{list_all, range_with_len}
 use Rattle.std.specs.Option.{unwrap_or}
 use Rattle.std.proofs.lemmas.Bool.{false≢true, and_cases, and_from, and_parts, both_ways, cases_Bool, cond_both, cond-false, cond-true, eq-eqb, eqb-true, false_from_ne_true, lt-ltb, ltb-true, ltb-false, ne_eqb, not-false, not_from_false, or_cases, or_parts}
-use Rattle.std.proofs.Math.Bool.{or-false}
 use Rattle.std.proofs.lemmas.List.{length_push}
 use Rattle.std.proofs.lemmas.List.Elements.{All-filter, All-head, All-nil, All-push, All-tail, filter_passes}
-use Rattle.std.proofs.lemmas.List.Folds.{list_any-append, position_or_len_push}
+use Rattle.std.proofs.lemmas.List.Folds.{position_or_len_push}
 use Rattle.std.proofs.lemmas.List.Sums.{AllPass-from_list_all, length-filter, list_all-from_AllPass, prefix_len-le-length}
 use Rattle.value_text.proofs.ListLemmas.{Some-unwrap_or, list_any-position}
 use Rattle.seq_check.specs.Orders.{has_each, is_among, is_arrow, keeps, place}
 use Rattle.seq_cover.specs.OrderGrowth.{better, built_from, can_be_placed, gain, next_placed, with_next}
 use Rattle.seq_cover.specs.Ways.{leads}
-use Rattle.seq_cover.proofs.Counting.{among, among-all, among-fewer, among-same, among-without, below_all, none_among, passes_among, some_among}
-use Rattle.seq_cover.proofs.CycleLaws.{ExistBelow}
+use Rattle.seq_check.proofs.Counting.{among, among-all, among-fewer, among-same, among-without, below_all, none_among, passes_among, some_among}
+use Rattle.seq_cover.specs.Building.{ExistBelow}
+use Rattle.seq_cover.proofs.BuildLemmas.{among_more}
 use Rattle.seq_cover.proofs.FindLaws.{some_fails}
 use Rattle.seq_cover.proofs.Leading.{arrows_are, leads-arrow, leads-then}
 
@@ -41,10 +41,6 @@ at_best P None all none = absurd (false≢true none)
 at_best P (Some x) is some = is
 
 -- ---- places in a row with one event more
-
-pub among_more : (row : List ℕ) (x event : ℕ) → is_among (row ++ x ∷ []) event ≡ (is_among row event || eqb x event)
-among_more row x event =
-    list_any-append (λ other. eqb other event) row (x ∷ []) ∙ ap (λ b. is_among row event || b) (or-false (eqb x event))
 
 pub place_below : (row : List ℕ) (event : ℕ) → is_among row event ≡ true → place row event < length row
 place_below row event is = ltb-true (place row event) (length row) (sym (list_any-position (λ other. eqb other event) row) ∙ is)

@@ -1,7 +1,7 @@
 -- How growth stands between two sequences.
 use Rattle.std.specs.Prelude.{◌≡◌, ℕ, not, List, length}
 use Rattle.seq_check.specs.Events.{EventsView}
-use Rattle.seq_check.specs.EventSets.{AreOf, OpenView, Tells}
+use Rattle.seq_check.specs.EventSets.{AreBack, AreOf, OpenView, Tells}
 use Rattle.seq_check.specs.Orders.{is_had}
 use Rattle.seq_check.specs.declared.event_set.EventSet.{EventSet}
 use Rattle.seq_cover.specs.Sets.{AreWays}
@@ -11,7 +11,8 @@ pub record IsLeft (e : EventsView) (o : OpenView) (rows : List (List ℕ)) : Typ
   pub len : o.len ≡ e.len
   pub tells : Tells o (length e.names) (λ s. not (is_had rows s))
 
--- the sets are the ways along the precedences, and their ends
-pub record AreFixed (e : EventsView) (ways ends : List EventSet) : Type 0 where
+-- the sets are the ways along the precedences, their ends, and the precedences turned round
+pub record AreFixed (e : EventsView) (ways ends back : List EventSet) : Type 0 where
   pub ways_are : AreWays ways e.precedences
   pub ends_are : AreOf ends e.precedences
+  pub back_are : AreBack back e.precedences

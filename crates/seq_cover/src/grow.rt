@@ -11,7 +11,7 @@ ghost use Rattle.seq_cover.specs.ReportText.{report_text};
 ghost use Rattle.seq_cover.specs.Ways.{cycle_of};
 
 use crate::row::build_row;
-use crate::steps::{arrows_of, cycle_of};
+use crate::steps::{back_with, cycle_of};
 use crate::suite::{Never, OrderSuite};
 use crate::ways::ways_of;
 use cov_model::NoList;
@@ -26,11 +26,12 @@ struct Growth {
     opened: OpenSequences,
 }
 
-// The precedences, by the ways along them and by their ends.
+// The precedences, by the ways along them, by their ends, and turned round.
 #[derive(Drop)]
 struct Fixed {
     ways: Arrows,
     ends: Arrows,
+    back: Arrows,
 }
 
 impl Growth {
@@ -44,9 +45,17 @@ impl Growth {
     }
 
     // Adds the row that is built for a sequence.
-    fn add_row(&mut self, alloc: Global, events: &Events, sequence: &[u16]) -> Result<(), NoMemory>
+    fn add_row(
+        &mut self,
+        alloc: Global,
+        events: &Events,
+        fixed: &Fixed,
+        sequence: &[u16],
+    ) -> Result<(), NoMemory>
         requires left { IsLeft events.now self.old.opened self.old.suite.rows }
+        requires fixed { AreFixed events.now fixed.now.ways fixed.now.ends fixed.now.back }
         requires sequence { length sequence.now ≡ events.now.len }
+        requires exist { All (λ event. event < length events.now.names) sequence.now }
         ensures rows { OnOk result (self.new.suite.rows ≡ self.old.suite.rows
             ++ built_from (length events.now.names) events.now.len (arrows events.now sequence.now) self.old.suite.rows (length events.now.names) [] ∷ []) }
         ensures never { OnOk result (self.new.suite.never ≡ self.old.suite.never) }
@@ -54,14 +63,8 @@ impl Growth {
     {
         events.assert_invariant();
         let count = events.names().len() as u16;
-        let pairs = arrows_of(alloc, sequence, events.precedences().as_slice())?;
-        let row = build_row(
-            alloc,
-            pairs.as_slice(),
-            &self.opened,
-            events.length(),
-            count,
-        )?;
+        let back = back_with(alloc, &fixed.back, sequence)?;
+        let row = build_row(alloc, &back, &self.opened, events.length(), count)?;
         let places = places_of(alloc, row.as_slice(), count)?;
         self.opened.close_row(places.as_slice());
         self.suite.rows.push(row)
@@ -77,21 +80,21 @@ impl Growth {
         last: u16,
     ) -> Result<(), NoMemory>
         requires left { IsLeft events.now self.old.opened self.old.suite.rows }
-        requires fixed { AreFixed events.now fixed.now.ways fixed.now.ends }
+        requires fixed { AreFixed events.now fixed.now.ways fixed.now.ends fixed.now.back }
         requires front { IsFront events.now.len (length events.now.names) front.now }
         requires last { last < length events.now.names }
         ensures suite { OnOk result (self.new.suite ≡ settled events.now self.old.suite (front.now ++ last ∷ [])) }
         ensures left { OnOk result (IsLeft events.now self.new.opened self.new.suite.rows) }
     {
         events.assert_invariant();
-        if !self.opened.behind(front).has(last) {
+        if !self.opened.is_open(front, last) {
             return Ok(());
         }
         let sequence = with_event(alloc, front, last)?;
         let count = events.names().len() as u16;
         match cycle_of(alloc, &fixed.ways, &fixed.ends, sequence.as_slice(), count)? {
             Some(cycle) => self.set_aside(sequence, cycle),
-            None => self.add_row(alloc, events, sequence.as_slice()),
+            None => self.add_row(alloc, events, fixed, sequence.as_slice()),
         }
     }
 
@@ -104,7 +107,7 @@ impl Growth {
         front: &[u16],
     ) -> Result<(), NoMemory>
         requires left { IsLeft events.now self.old.opened self.old.suite.rows }
-        requires fixed { AreFixed events.now fixed.now.ways fixed.now.ends }
+        requires fixed { AreFixed events.now fixed.now.ways fixed.now.ends fixed.now.back }
         requires front { IsFront events.now.len (length events.now.names) front.now }
         ensures suite { OnOk result (self.new.suite ≡ fold (settled events.now) self.old.suite (lengthened (length events.now.names) front.now)) }
         ensures left { OnOk result (IsLeft events.now self.new.opened self.new.suite.rows) }
@@ -130,6 +133,7 @@ fn grow_suite(alloc: Global, events: &Events) -> Result<OrderSuite, NoMemory>
     let fixed = Fixed {
         ways: ways_of(alloc, precedences)?,
         ends: Arrows::of(alloc, precedences)?,
+        back: Arrows::back(alloc, precedences)?,
     };
     let mut growth = Growth {
         suite: OrderSuite {

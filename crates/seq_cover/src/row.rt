@@ -1,102 +1,26 @@
 //! A row of a suite, place by place.
-ghost use Rattle.std.specs.Prelude.{◌≡◌, ◌<◌, ◌≤◌, ◌∷◌, ◌||◌, ◌⊎◌, ◌==◌, [], ℕ, List, All, not, nat_lt, length, count_by, is_some, IfOk, IfSome};
-ghost use Rattle.seq_check.specs.EventSets.{Tells, is_open};
-ghost use Rattle.seq_check.specs.Orders.{is_among, is_had};
-ghost use Rattle.seq_cover.specs.OrderGrowth.{built_from, can_be_placed, choose, gain, next_placed};
+ghost use Rattle.std.specs.Prelude.{◌≡◌, ◌<◌, ◌≤◌, ◌∷◌, ◌++◌, ◌+◌, ◌*◌, ◌||◌, ◌⊎◌, [], ℕ, List, All, true, false, not, nat_lt, length, is_some, slice_index, IfOk, IfSome};
+ghost use Rattle.seq_check.specs.EventSets.{AreBack, Tells, in_set};
+ghost use Rattle.seq_check.specs.Orders.{is_had};
+ghost use Rattle.seq_cover.specs.Building.{ArePlaced, ExistBelow, IsOnce, open_gain};
+ghost use Rattle.seq_cover.specs.OrderGrowth.{built_from, can_be_placed, gain, next_placed};
 
 use cov_model::NoList;
-use seq_check::OpenSequences;
+use seq_check::{Arrows, EventSet, OpenSequences};
 use std::alloc::Global;
 use value_text::{NoMemory, OwnedList};
 
-// Whether an arrow leads to the event from one that isn't placed.
-fn is_missing(row: &[u16], arrow: (u16, u16), event: u16) -> bool
-    ensures { result ≡ not (not (arrow.1 == event) || is_among row.now arrow.0) }
+// Whether an event isn't placed yet, and every event with an arrow to it is. The arrows are turned round.
+#[inline]
+fn can_be_placed(back: &Arrows, placed: EventSet, event: u16) -> bool
+    requires { event < 64 }
+    ensures value { (pairs : List (ℕ × ℕ)) (row : List ℕ) → AreBack back.now pairs → ExistBelow 64 pairs → ArePlaced placed row → result ≡ can_be_placed pairs row event }
+    ensures left { result ≡ true → in_set placed event ≡ false }
 {
-    arrow.1 == event && !row.contains(&arrow.0)
-}
-
-// Whether an event isn't placed yet, and every event with an arrow to it is.
-fn can_be_placed(pairs: &[(u16, u16)], row: &[u16], event: u16) -> bool
-    ensures { result ≡ can_be_placed pairs.now row.now event }
-{
-    if row.contains(&event) {
+    if placed.has(event) {
         return false;
     }
-    for arrow in pairs {
-        if is_missing(row, *arrow, event) {
-            return false;
-        }
-    }
-    true
-}
-
-// How many events of a row are the first of an open pair with this second one.
-fn open_pairs(opened: &OpenSequences, row: &[u16], event: u16) -> u32
-    requires len { opened.now.len ≡ 2 }
-    requires exist { All (λ other. other < 64) row.now }
-    requires event { event < 64 }
-    requires few { length row.now ≤ 64 }
-    ensures { result ≡ count_by (λ first. is_open opened.now (first ∷ []) event) row.now }
-{
-    let mut count = 0;
-    for first in row {
-        if opened.behind(&[*first]).has(event) {
-            count += 1;
-        }
-    }
-    count
-}
-
-// How many events of a row are the first of an open triple with these later ones.
-fn open_before(opened: &OpenSequences, row: &[u16], second: u16, event: u16) -> u32
-    requires len { opened.now.len ≡ 3 }
-    requires exist { All (λ other. other < 64) row.now }
-    requires second { second < 64 }
-    requires event { event < 64 }
-    requires few { length row.now ≤ 64 }
-    ensures count { result ≡ count_by (λ first. is_open opened.now (first ∷ second ∷ []) event) row.now }
-    ensures few { result ≤ 64 }
-{
-    let mut count = 0;
-    for first in row {
-        if opened.behind(&[*first, second]).has(event) {
-            count += 1;
-        }
-    }
-    count
-}
-
-// How many pairs of events of a row, in its order, are the first ones of an open triple with this last one.
-fn open_triples(opened: &OpenSequences, row: &[u16], event: u16) -> u32
-    requires len { opened.now.len ≡ 3 }
-    requires exist { All (λ other. other < 64) row.now }
-    requires event { event < 64 }
-    requires few { length row.now ≤ 64 }
-    ensures { result ≡ count_by (λ front. is_open opened.now front event) (choose 2 row.now) }
-{
-    let mut count = 0;
-    for at in 0..row.len() {
-        count += open_before(opened, &row[..at], row[at], event);
-    }
-    count
-}
-
-// How many open sequences an event ends whose other events stand in the row in order.
-fn gain(opened: &OpenSequences, len: u32, row: &[u16], event: u16) -> u32
-    requires len { opened.now.len ≡ len }
-    requires lens { (len ≡ 2) ⊎ (len ≡ 3) }
-    requires exist { All (λ other. other < 64) row.now }
-    requires event { event < 64 }
-    requires few { length row.now ≤ 64 }
-    ensures { (rows : List (List ℕ)) (n : ℕ) → n ≤ 64 → Tells opened.now n (λ s. not (is_had rows s)) → All (λ other. other < n) row.now → event < n →
-        result ≡ gain len rows row.now event }
-{
-    if len == 2 {
-        open_pairs(opened, row, event)
-    } else {
-        open_triples(opened, row, event)
-    }
+    back.ends(event).without(placed).first().is_none()
 }
 
 // Whether an event with this gain is better than the best so far, which has the most.
@@ -109,29 +33,23 @@ fn is_better(best: Option<u16>, most: u32, gained: u32) -> bool
     }
 }
 
-// The next event of a row, if one can be placed: the first of those of the greatest gain.
-fn next_placed(
-    pairs: &[(u16, u16)],
-    opened: &OpenSequences,
-    len: u32,
-    row: &[u16],
-    count: u16,
-) -> Option<u16>
-    requires len { opened.now.len ≡ len }
-    requires lens { (len ≡ 2) ⊎ (len ≡ 3) }
-    requires exist { All (λ other. other < count) row.now }
-    requires count { count ≤ 64 }
-    requires few { length row.now ≤ 64 }
-    ensures value { (rows : List (List ℕ)) → Tells opened.now count (λ s. not (is_had rows s)) → result ≡ next_placed count len pairs.now rows row.now }
-    ensures below { IfSome result (λ event. event < count) }
+// The next event of a row, if one can be placed: the first of those of the greatest gain. The gains are those of the
+// events behind the row.
+fn next_placed(back: &Arrows, placed: EventSet, gains: &[u32]) -> Option<u16>
+    requires { length gains.now ≤ 64 }
+    ensures value { (pairs : List (ℕ × ℕ)) (rows : List (List ℕ)) (row : List ℕ) (len : ℕ) → AreBack back.now pairs → ExistBelow 64 pairs → ArePlaced placed row →
+        ((event : ℕ) → event < length gains.now → slice_index gains.now event ≡ gain len rows row event) →
+        result ≡ next_placed (length gains.now) len pairs rows row }
+    ensures below { IfSome result (λ event. event < length gains.now) }
+    ensures left { IfSome result (λ event. in_set placed event ≡ false) }
 {
     let mut best = None;
     let mut most = 0;
-    for event in 0..count {
-        if !can_be_placed(pairs, row, event) {
+    for event in 0..gains.len() as u16 {
+        if !can_be_placed(back, placed, event) {
             continue;
         }
-        let gained = gain(opened, len, row, event);
+        let gained = gains[event as usize];
         if !is_better(best, most, gained) {
             continue;
         }
@@ -141,14 +59,49 @@ fn next_placed(
     best
 }
 
-/// A row, built place by place from the open sequences, for arrows between events below a number.
+// By how much the gain of an event rises where another is placed behind a row.
+#[inline]
+fn raised(opened: &OpenSequences, len: u32, placed: EventSet, event: u16, last: u16) -> u32
+    requires len { opened.now.len ≡ len }
+    requires lens { (len ≡ 2) ⊎ (len ≡ 3) }
+    requires event { event < 64 }
+    requires last { last < 64 }
+    ensures value { (row : List ℕ) → ArePlaced placed row → IsOnce row → open_gain opened.now row last + result ≡ open_gain opened.now (row ++ event ∷ []) last }
+    ensures few { result ≤ 64 }
+{
+    if len == 2 {
+        u32::from(opened.is_open(&[event], last))
+    } else {
+        opened.firsts(event, last).common(placed).count()
+    }
+}
+
+// Raises the gains where an event is placed behind a row.
+fn raise(opened: &OpenSequences, len: u32, placed: EventSet, event: u16, gains: &mut [u32])
+    requires len { opened.now.len ≡ len }
+    requires lens { (len ≡ 2) ⊎ (len ≡ 3) }
+    requires event { event < 64 }
+    requires count { length gains.old ≤ 64 }
+    requires few { All (λ gain. gain ≤ 64 * 64) gains.old }
+    ensures long { length gains.new ≡ length gains.old }
+    ensures value { (row : List ℕ) (last : ℕ) → ArePlaced placed row → IsOnce row → last < length gains.old →
+        slice_index gains.old last ≡ open_gain opened.now row last → slice_index gains.new last ≡ open_gain opened.now (row ++ event ∷ []) last }
+    ensures few { (last : ℕ) → last < length gains.old → slice_index gains.new last ≤ slice_index gains.old last + 64 }
+{
+    for last in 0..gains.len() as u16 {
+        gains[last as usize] += raised(opened, len, placed, event, last);
+    }
+}
+
+/// A row, built place by place from the open sequences, for arrows between events below a number. The arrows are
+/// turned round.
 ///
 /// # Errors
 ///
 /// `NoMemory` where memory was refused.
 pub(crate) fn build_row(
     alloc: Global,
-    pairs: &[(u16, u16)],
+    back: &Arrows,
     opened: &OpenSequences,
     len: u32,
     count: u16,
@@ -156,15 +109,20 @@ pub(crate) fn build_row(
     requires len { opened.now.len ≡ len }
     requires lens { (len ≡ 2) ⊎ (len ≡ 3) }
     requires count { count ≤ 64 }
-    ensures value { IfOk result (λ row. (rows : List (List ℕ)) → Tells opened.now count (λ s. not (is_had rows s)) → row ≡ built_from count len pairs.now rows count []) }
+    ensures value { IfOk result (λ row. (pairs : List (ℕ × ℕ)) (rows : List (List ℕ)) → AreBack back.now pairs → ExistBelow 64 pairs →
+        Tells opened.now count (λ s. not (is_had rows s)) → row ≡ built_from count len pairs rows count []) }
     ensures few { IfOk result (λ row. length row ≤ 64) }
 {
     let mut row = OwnedList::new(alloc);
+    let mut placed = EventSet::none();
+    let mut gains = vec![in alloc; 0; count as usize]?;
     for turn in 0..count {
-        match next_placed(pairs, opened, len, row.as_slice(), count) {
-            Some(event) => row.push(event)?,
-            None => return Ok(row),
-        }
+        let Some(event) = next_placed(back, placed, gains.as_slice()) else {
+            return Ok(row);
+        };
+        raise(opened, len, placed, event, gains.as_mut_slice());
+        placed = placed.with(event);
+        row.push(event)?;
     }
     Ok(row)
 }

@@ -1,6 +1,6 @@
 //! The arrows of a sequence: its steps and the precedences.
 ghost use Rattle.std.specs.Prelude.{◌≡◌, ◌<◌, ◌≤◌, ◌++◌, ◌⊎◌, ℕ, List, All, length, IfOk};
-ghost use Rattle.seq_check.specs.EventSets.{AreOf};
+ghost use Rattle.seq_check.specs.EventSets.{AreBack, AreOf};
 ghost use Rattle.seq_check.specs.Orders.{steps};
 ghost use Rattle.seq_cover.specs.Sets.{AreWays};
 ghost use Rattle.seq_cover.specs.Ways.{cycle_of};
@@ -8,50 +8,9 @@ ghost use Rattle.seq_cover.specs.Ways.{cycle_of};
 use crate::cycle::cycle_from;
 use crate::ways::{add_steps, first_on_cycle};
 use cov_model::NoList;
-use seq_check::{Arrows, PairList};
+use seq_check::Arrows;
 use std::alloc::Global;
-use value_text::{NoMemory, OwnedList};
-
-// The steps of a sequence of two or three events.
-fn steps_of(alloc: Global, sequence: &[u16]) -> Result<PairList, NoMemory>
-    requires { (length sequence.now ≡ 2) ⊎ (length sequence.now ≡ 3) }
-    ensures { IfOk result (λ pairs. pairs ≡ steps sequence.now) }
-{
-    let mut pairs = OwnedList::new(alloc);
-    match sequence {
-        [first, second] => {
-            pairs.push((*first, *second))?;
-            Ok(pairs)
-        }
-        [first, second, third] => {
-            pairs.push((*first, *second))?;
-            pairs.push((*first, *third))?;
-            pairs.push((*second, *third))?;
-            Ok(pairs)
-        }
-        _ => Ok(pairs),
-    }
-}
-
-/// The arrows of a sequence: its steps, and then the precedences.
-///
-/// # Errors
-///
-/// `NoMemory` where memory was refused.
-pub(crate) fn arrows_of(
-    alloc: Global,
-    sequence: &[u16],
-    precedences: &[(u16, u16)],
-) -> Result<PairList, NoMemory>
-    requires { (length sequence.now ≡ 2) ⊎ (length sequence.now ≡ 3) }
-    ensures { IfOk result (λ pairs. pairs ≡ steps sequence.now ++ precedences.now) }
-{
-    let mut pairs = steps_of(alloc, sequence)?;
-    for pair in precedences {
-        pairs.push(*pair)?;
-    }
-    Ok(pairs)
-}
+use value_text::NoMemory;
 
 // Adds the steps of a sequence to arrows.
 fn add_arrows(ends: &mut Arrows, sequence: &[u16])
@@ -68,6 +27,38 @@ fn add_arrows(ends: &mut Arrows, sequence: &[u16])
         }
         _ => {}
     }
+}
+
+// Adds the steps of a sequence to arrows that are turned round.
+fn add_back(back: &mut Arrows, sequence: &[u16])
+    requires exist { All (λ event. event < 64) sequence.now }
+    requires len { (length sequence.now ≡ 2) ⊎ (length sequence.now ≡ 3) }
+    ensures { (pairs : List (ℕ × ℕ)) → AreBack back.old pairs → AreBack back.new (steps sequence.now ++ pairs) }
+{
+    match sequence {
+        [first, second] => back.add(*second, *first),
+        [first, second, third] => {
+            back.add(*third, *second);
+            back.add(*third, *first);
+            back.add(*second, *first);
+        }
+        _ => {}
+    }
+}
+
+/// Precedences that are turned round, and with them the steps of a sequence.
+///
+/// # Errors
+///
+/// `NoMemory` where memory was refused.
+pub(crate) fn back_with(alloc: Global, back: &Arrows, sequence: &[u16]) -> Result<Arrows, NoMemory>
+    requires exist { All (λ event. event < 64) sequence.now }
+    requires len { (length sequence.now ≡ 2) ⊎ (length sequence.now ≡ 3) }
+    ensures { IfOk result (λ with. (pairs : List (ℕ × ℕ)) → AreBack back.now pairs → AreBack with (steps sequence.now ++ pairs)) }
+{
+    let mut with = back.copy(alloc)?;
+    add_back(&mut with, sequence);
+    Ok(with)
 }
 
 /// The cycle along the steps of a sequence and precedences, where there is one. The precedences are given by

@@ -5,9 +5,8 @@ use Rattle.std.proofs.Math.Bool.{and-false, and-true}
 use Rattle.std.proofs.lemmas.Bool.{false≢true, cases_Bool, cases_eq, eq-eqb, false_from_ne_true, ne_eqb}
 use Rattle.std.proofs.lemmas.List.Elements.{All-from_get_or}
 use Rattle.std.proofs.lemmas.List.FromFn.{get_or-range_with_len, length-range_with_len}
-use Rattle.std.proofs.lemmas.List.Sums.{count_by-le-length}
+use Rattle.std.proofs.lemmas.List.Sums.{count_by-le-length, sum_by-append}
 use Rattle.value_text.proofs.ListLemmas.{range_with_len_more}
-use Rattle.seq_cover.proofs.GainLemmas.{count_append}
 
 pub below_all : (n : ℕ) → All (λ x. x < n) (range_with_len 0 n)
 below_all n = All-from_get_or (λ x. x < n) (range_with_len 0 n) 0
@@ -23,7 +22,7 @@ one_if passes = cond passes 1 0
 pub among-suc : (p : ℕ → Bool) (n : ℕ) → among p (suc n) ≡ among p n + one_if (p n)
 among-suc p n =
     ap (among p) (sym (add-one n)) ∙ ap (count_by p) (range_with_len_more 0 n ∙ ap (λ k. range_with_len 0 n ++ k ∷ []) (zero-add n))
-    ∙ count_append p (range_with_len 0 n) (n ∷ []) ∙ ap (λ k. among p n + k) (zero-add (one_if (p n)))
+    ∙ sum_by-append (λ x. one_if (p x)) (range_with_len 0 n) (n ∷ []) ∙ ap (λ k. among p n + k) (zero-add (one_if (p n)))
 
 pub among-le : (p : ℕ → Bool) (n : ℕ) → among p n ≤ n
 among-le p n = omega (arith, count_by-le-length p (range_with_len 0 n), length-range_with_len 0 n)
@@ -32,6 +31,11 @@ among-le p n = omega (arith, count_by-le-length p (range_with_len 0 n), length-r
 pub among-all : (n : ℕ) → among (λ x. true) n ≡ n
 among-all zero = refl
 among-all (suc n) = let rest = among-all n in omega (arith, among-suc (λ x. true) n)
+
+-- none of them
+pub among-none : (n : ℕ) → among (λ x. false) n ≡ 0
+among-none zero = refl
+among-none (suc n) = let rest = among-none n in omega (arith, among-suc (λ x. false) n)
 
 step_le : (a b : Bool) → (a ≡ true → b ≡ true) → one_if a ≤ one_if b
 step_le true b follows = rw (follows refl) (omega arith)
