@@ -1,9 +1,10 @@
 //! Proof files that are written and read back, and lines that are none.
 
 use crate::proofs::proof_of;
-use cov_model::TestModel;
+use cov_model::{TestModel, Tuple};
 use refutation::{
-    Omissions, ProofFault, format_len, omission_len, put_format, put_omission, write_omission,
+    Omission, Omissions, ProofFault, ProofForm, TreeBuf, TreeToken, format_len, omission_len,
+    put_format, put_omission, write_omission,
 };
 use std::alloc::Global;
 use std::test::Fail;
@@ -134,6 +135,25 @@ fn proofs_are_written_as_they_were_read(rt: HostRuntime) -> Result<(), Fail> {
         assert!(rt; proof.iter().count() == proof.len());
         assert!(rt; proof.is_empty() == lines.is_empty());
     }
+    Ok(())
+}
+
+#[test]
+fn proofs_are_made_by_hand(rt: HostRuntime) -> Result<(), Fail> {
+    let tuple = Tuple::of(rt.alloc(), &[(0, 10), (1, 1)])?;
+    let mut tree = TreeBuf::new(rt.alloc());
+    assert!(rt; tree.is_empty());
+    tree.push(TreeToken::Branch(1))?;
+    tree.push(TreeToken::ByRule(2))?;
+    tree.push(TreeToken::ByNegative)?;
+    tree.push(TreeToken::ByOmission(30))?;
+    assert!(rt; tree.len() == 4 && tree.iter().count() == 4);
+    assert!(rt; tree.get(2).copied() == Some(TreeToken::ByNegative) && tree.get(4).is_none());
+    let mut proof = Omissions::empty(rt.alloc(), ProofForm::Two);
+    proof.push(Omission { tuple, tree })?;
+    assert!(rt; proof.get(0).is_some() && proof.get(1).is_none());
+    let text = written(rt.alloc(), &proof)?;
+    assert!(rt; text.as_slice() == b"pict-proof 2\nomit 0=10 1=1 : B1 L2 N O30\n".as_slice());
     Ok(())
 }
 
