@@ -1,0 +1,21 @@
+use Rattle.std.proofs.Common.{◌≡◌, ◌∙◌, Ok, true, ap, refl, sym, subst}
+use Rattle.std.specs.List.{list_all}
+use Rattle.acts_front.specs.ActsFiles.{line_gives, section_in, text_gives}
+use Rattle.acts_front.specs.Lines as lines
+use Rattle.acts_front.specs.Lines.{is_allowed}
+use Rattle.acts_front.specs.Reading.{Adds, ended}
+use Rattle.acts_front.specs.declared.translator.Translator.{Translator}
+use Rattle.acts_front.proofs.Adding.{adds_ended}
+use Rattle.acts_front.proofs.translator.Translator.add_line.Goals as goal
+
+pub returns : goal.returns
+returns c =
+    let section = c.args.self.section in
+    let scope = c.args.self.scope in
+    let text = c.line_text.result.now in
+    let next : Translator = record { section = c.in_ok-next.next.section; scope = c.in_ok-next.next.scope; text = c.end_line.new.out } in
+    let allowed : list_all is_allowed c.args.line.now ≡ true = sym c.are_allowed.ensures ∙ c.if-not-are_allowed.false in
+    let gives : line_gives section scope c.args.line.now ≡ text_gives section scope (lines.line_text c.args.line.now) = rw allowed refl in
+    subst (λ given. Adds c.args.number (section_in section (lines.line_text c.args.line.now)) ended given c.args.self (Ok next)) (ap (text_gives section scope) c.line_text.ensures ∙ sym gives)
+    (subst (λ behind. Adds c.args.number (section_in section behind) ended (text_gives section scope text) c.args.self (Ok next)) c.line_text.ensures
+    (adds_ended c.args.number (section_in section text) (text_gives section scope text) c.args.self c.in_ok-next.next next c.in_ok-next.ensures c.in_ok-end_line.ensures refl refl))

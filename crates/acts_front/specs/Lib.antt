@@ -1,0 +1,9 @@
+pub mod Lines
+pub mod ParameterLines
+pub mod RelationLines
+pub mod Tokens
+pub mod Constraints
+pub mod ActsFiles
+pub mod Translation
+pub mod Findings
+pub mod Reading

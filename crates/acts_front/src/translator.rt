@@ -1,0 +1,168 @@
+ghost use Rattle.std.specs.Prelude.{◌≡◌, ◌≤◌, ◌^◌, [], length};
+ghost use Rattle.acts_front.specs.ActsFiles.{constraint_line, line_gives, line_in, parameter_line, relation_line, section_behind, section_in, text_gives};
+ghost use Rattle.acts_front.specs.ParameterLines.{read_parameter};
+ghost use Rattle.acts_front.specs.Reading.{Adds, Translates, ended};
+ghost use Rattle.acts_front.specs.RelationLines.{read_relation};
+ghost use Rattle.acts_front.specs.Tokens.{tokens_of};
+ghost use Rattle.acts_front.specs.Translation.{line_text, translation};
+
+use crate::code::{ActsCode, ActsFault};
+use crate::line::{are_allowed, cut_line, line_text, without_mark};
+use crate::scope::Scope;
+use crate::section::Section;
+use crate::text::begins_with;
+use crate::token::tokens_of;
+use crate::write::{end_line, put_constraint};
+use std::alloc::Global;
+
+// What is known behind some lines: the section that they end in, the parameters that they declare, and their
+// translation.
+#[derive(Drop)]
+struct Translator<'a> {
+    section: Section,
+    scope: Scope<'a>,
+    text: Vec<u8>,
+}
+
+impl<'a> Translator<'a> {
+    // No lines.
+    fn new(alloc: Global, fold: bool) -> Translator<'a>
+        ensures text { result.text.items ≡ [] }
+        ensures scope { result.scope ≡ record { fold = fold; params = [] } }
+        ensures section { result.section ≡ Section.Outside }
+    {
+        Translator {
+            section: Section::Outside,
+            scope: Scope::new(alloc, fold),
+            text: Vec::new(alloc),
+        }
+    }
+
+    // And the text of a parameter line.
+    fn add_parameter(
+        mut self,
+        alloc: Global,
+        line: u32,
+        text: &'a [u8],
+    ) -> Result<Translator<'a>, ActsFault>
+        ensures { Adds line self.entry.section line_text (parameter_line (read_parameter self.entry.scope text.now)) self.entry result }
+    {
+        let param = self.scope.parameter(alloc, line, text)?;
+        param.put(alloc, &mut self.text)?;
+        self.scope = self.scope.with(alloc, param.name, param.kind)?;
+        Ok(self)
+    }
+
+    // And the text of a relation line.
+    fn add_relation(
+        mut self,
+        alloc: Global,
+        line: u32,
+        text: &[u8],
+    ) -> Result<Translator<'a>, ActsFault>
+        ensures { Adds line self.entry.section line_text (relation_line (read_relation self.entry.scope text.now)) self.entry result }
+    {
+        let relation = self.scope.relation(alloc, line, text)?;
+        relation.put(&mut self.text)?;
+        Ok(self)
+    }
+
+    // And the text of a constraint line.
+    fn add_constraint(
+        mut self,
+        alloc: Global,
+        line: u32,
+        text: &[u8],
+    ) -> Result<Translator<'a>, ActsFault>
+        ensures { Adds line self.entry.section line_text (constraint_line self.entry.scope (tokens_of text.now)) self.entry result }
+    {
+        let Some(tokens) = tokens_of(alloc, text)? else {
+            return Err(ActsFault::Bad(line, ActsCode::A9));
+        };
+        if let Some(code) = self.scope.constraint(alloc, tokens.as_slice())?.code() {
+            return Err(ActsFault::Bad(line, code));
+        }
+        put_constraint(&mut self.text, tokens.as_slice())?;
+        Ok(self)
+    }
+
+    // And a text that is no header and isn't empty.
+    fn add_in_section(
+        self,
+        alloc: Global,
+        line: u32,
+        text: &'a [u8],
+    ) -> Result<Translator<'a>, ActsFault>
+        ensures { Adds line self.entry.section line_text (line_in self.entry.section self.entry.scope text.now) self.entry result }
+    {
+        match self.section {
+            Section::Outside => Err(ActsFault::Bad(line, ActsCode::A2)),
+            Section::System => Ok(self),
+            Section::Parameters => self.add_parameter(alloc, line, text),
+            Section::Relations => self.add_relation(alloc, line, text),
+            Section::Constraints => self.add_constraint(alloc, line, text),
+        }
+    }
+
+    // And the text of a line.
+    fn add_text(self, alloc: Global, line: u32, text: &'a [u8]) -> Result<Translator<'a>, ActsFault>
+        ensures { Adds line (section_in self.entry.section text.now) line_text (text_gives self.entry.section self.entry.scope text.now) self.entry result }
+    {
+        if text.is_empty() {
+            return Ok(self);
+        }
+        if !begins_with(text, b'[') {
+            return self.add_in_section(alloc, line, text);
+        }
+        match self.section.begun(text) {
+            Some(section) => {
+                let mut next = self;
+                next.section = section;
+                Ok(next)
+            }
+            None => Err(ActsFault::Bad(line, ActsCode::A2)),
+        }
+    }
+
+    // And a line.
+    fn add_line(
+        self,
+        alloc: Global,
+        number: u32,
+        line: &'a [u8],
+    ) -> Result<Translator<'a>, ActsFault>
+        ensures { Adds number (section_behind self.entry.section line.now) ended (line_gives self.entry.section self.entry.scope line.now) self.entry result }
+    {
+        if !are_allowed(line) {
+            return Err(ActsFault::Bad(number, ActsCode::A1));
+        }
+        let mut next = self.add_text(alloc, number, line_text(line))?;
+        end_line(&mut next.text)?;
+        Ok(next)
+    }
+}
+
+/// Translates a file in the form of ACTS to a model file for `pict`, line by line (ACTS guide, PICT's guide; the
+/// form and the texts are this project's rules). Letters of either case are one where `fold` is set.
+///
+/// # Errors
+///
+/// `Bad` with the first line that is refused, and `NoMemory` where memory was refused.
+pub fn translate(alloc: Global, bytes: &[u8], fold: bool) -> Result<Vec<u8>, ActsFault>
+    requires { length bytes.now ≤ 2 ^ 28 }
+    ensures { Translates (translation fold bytes.now) result }
+{
+    let mut translator = Translator::new(alloc, fold);
+    let mut number = 0;
+    let mut rest = without_mark(bytes);
+    while !rest.is_empty() {
+        let (line, behind) = cut_line(rest);
+        rest = behind;
+        number += 1;
+        translator = translator.add_line(alloc, number, line)?;
+    }
+    if translator.scope.is_empty() {
+        return Err(ActsFault::Bad(1, ActsCode::A8));
+    }
+    Ok(translator.text)
+}
