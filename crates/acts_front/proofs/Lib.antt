@@ -8,7 +8,10 @@ pub mod LineForms
 pub mod Parts
 pub mod Repeated
 pub mod TokenLists
+pub mod WordLemmas
 pub mod Worst
+pub mod RunEnds
+pub mod PutPieces
 pub mod Units
 pub mod Arrows
 pub mod Codes

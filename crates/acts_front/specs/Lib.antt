@@ -7,3 +7,8 @@ pub mod ActsFiles
 pub mod Translation
 pub mod Findings
 pub mod Reading
+pub mod Codes
+pub mod Words
+pub mod Stops
+pub mod Runs
+pub mod Steps

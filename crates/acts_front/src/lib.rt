@@ -2,6 +2,7 @@
 //!
 //! - `translate` gives the model file that a file becomes, line by line, or its first refusal: a line and an
 //!   `ActsCode`.
+//! - `run_acts` is the call that `main` makes, over any folder and sink.
 //! - specs/ActsFiles says what a file declares, and specs/Translation what is written for it.
 #![tactic(auto)]
 
@@ -11,13 +12,18 @@ mod kind;
 mod line;
 mod name_set;
 mod parameter;
+mod put;
 mod relation;
+mod run;
 mod scope;
 mod section;
+mod stop;
 mod text;
 mod token;
 mod translator;
+mod words;
 mod write;
 
 pub use code::{ActsCode, ActsFault};
+pub use run::run_acts;
 pub use translator::translate;

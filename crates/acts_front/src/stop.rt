@@ -1,0 +1,137 @@
+ghost use Rattle.std.specs.Prelude.{◌≡◌, Ok};
+ghost use Rattle.outside_io.specs.Puts.{Puts, CountsFaults};
+ghost use Rattle.definitions.specs.Diagnostics.{bytes_limit_line, model_line, word_line};
+ghost use Rattle.definitions.specs.Limits.{ModelFile};
+ghost use Rattle.acts_front.specs.Codes.{acts_code, acts_text};
+ghost use Rattle.acts_front.specs.Stops.{end_status, end_text, line_of, status_of};
+
+use crate::code::{ActsCode, ActsFault};
+use crate::put::put_pieces;
+use itoa::Buffer;
+use outside_io::{Sink, WriteAnswer};
+
+/// The most bytes that the file may have.
+pub(crate) const MOST_MODEL_BYTES: usize = 4_194_304;
+
+/// Why a run ended before its file was written whole.
+#[derive(Drop, Clone, Copy)]
+pub(crate) enum Stop {
+    /// Memory was refused: status 1.
+    OutOfMemory,
+    /// The word of this number, from 1, has no reading: status 3.
+    BadWord(u32),
+    /// This line of the file is refused: status 4, or 5 where it is a constraint.
+    Refused(u32, ActsCode),
+    /// The file could not be read: status 7.
+    CannotRead,
+    /// The translation could not be written whole: status 8.
+    CannotWrite,
+    /// The file has too many bytes: status 9.
+    TooLong,
+}
+
+impl From<ActsFault> for Stop {
+    ghost use Rattle.acts_front.specs.Stops.{stop_of};
+
+    ghost from_gives = { λ fault stop. stop ≡ stop_of fault };
+
+    fn from(fault: ActsFault) -> Stop {
+        match fault {
+            ActsFault::Bad(line, code) => Stop::Refused(line, code),
+            ActsFault::NoMemory => Stop::OutOfMemory,
+        }
+    }
+}
+
+/// Writes the line of a refusal of a line.
+fn put_refusal<E: Sink>(line: u32, code: ActsCode, sink: &mut E) -> WriteAnswer
+    ensures puts { Puts result (E.written sink.old) (E.written sink.new) (model_line line (acts_code code) (acts_text code)) }
+    ensures counts { CountsFaults result (E.faults sink.old) (E.faults sink.new) }
+{
+    let mut buffer = Buffer::new();
+    let line = buffer.format(line);
+    let text = code.text();
+    let code = code.code();
+    put_pieces(
+        sink,
+        &["error: model line ", line, ": ", code, " ", text, "\n"],
+    )
+}
+
+/// Writes the line of a file that is too long.
+fn put_too_long<E: Sink>(sink: &mut E) -> WriteAnswer
+    ensures puts { Puts result (E.written sink.old) (E.written sink.new) (bytes_limit_line ModelFile) }
+    ensures counts { CountsFaults result (E.faults sink.old) (E.faults sink.new) }
+{
+    let mut buffer = Buffer::new();
+    let most = buffer.format(MOST_MODEL_BYTES);
+    put_pieces(sink, &["error: limit: model bytes above ", most, "\n"])
+}
+
+/// Writes the line of a word that has no reading.
+fn put_word<E: Sink>(index: u32, sink: &mut E) -> WriteAnswer
+    ensures puts { Puts result (E.written sink.old) (E.written sink.new) (word_line index) }
+    ensures counts { CountsFaults result (E.faults sink.old) (E.faults sink.new) }
+{
+    let mut buffer = Buffer::new();
+    let number = buffer.format(index);
+    put_pieces(sink, &["error: word ", number, " is not understood\n"])
+}
+
+impl Stop {
+    /// The exit status of a run that ended so.
+    fn status(&self) -> u8
+        ensures { result ≡ status_of self.now }
+    {
+        match self {
+            Stop::OutOfMemory => 1,
+            Stop::BadWord(_) => 3,
+            Stop::Refused(_, code) => code.status(),
+            Stop::CannotRead => 7,
+            Stop::CannotWrite => 8,
+            Stop::TooLong => 9,
+        }
+    }
+
+    /// Writes the line that says why, where the files have these names. Takes no memory.
+    fn put_line<E: Sink>(&self, input: &str, output: &str, diag: &mut E) -> WriteAnswer
+        ensures puts { Puts result (E.written diag.old) (E.written diag.new) (line_of self.now input.now output.now) }
+        ensures counts { CountsFaults result (E.faults diag.old) (E.faults diag.new) }
+    {
+        match self {
+            Stop::OutOfMemory => put_pieces(diag, &["error: out of memory\n"]),
+            Stop::BadWord(index) => put_word(*index, diag),
+            Stop::Refused(line, code) => put_refusal(*line, *code, diag),
+            Stop::CannotRead => put_pieces(diag, &["error: cannot read ", input, "\n"]),
+            Stop::CannotWrite => put_pieces(diag, &["error: cannot write ", output, "\n"]),
+            Stop::TooLong => put_too_long(diag),
+        }
+    }
+}
+
+/// The exit status of a run that ended so.
+pub(crate) fn status_of(end: &Result<(), Stop>) -> u8
+    ensures { result ≡ end_status end.now }
+{
+    match end {
+        Ok(()) => 0,
+        Err(stop) => stop.status(),
+    }
+}
+
+/// Writes the line of the stop, if there is one, where the files have these names. Takes no memory.
+pub(crate) fn tell<E: Sink>(
+    end: &Result<(), Stop>,
+    input: &str,
+    output: &str,
+    diag: &mut E,
+) -> WriteAnswer
+    ensures puts { Puts result (E.written diag.old) (E.written diag.new) (end_text end.now input.now output.now) }
+    ensures counts { CountsFaults result (E.faults diag.old) (E.faults diag.new) }
+    ensures silent { end.now ≡ Ok tt → (E.written diag.new ≡ E.written diag.old) × (E.faults diag.new ≡ E.faults diag.old) }
+{
+    match end {
+        Ok(()) => WriteAnswer::Done,
+        Err(stop) => stop.put_line(input, output, diag),
+    }
+}
