@@ -8,7 +8,7 @@ use Rattle.std.proofs.lemmas.List.{take_more, length-take-le}
 use Rattle.std.proofs.Math.Seq.{take-length}
 use Rattle.std.proofs.lemmas.List.Elements.{All-head, All-tail, All-take}
 use Rattle.std.proofs.lemmas.Slice.Eq.{bytes_eq-Decides}
-use Rattle.std.proofs.Math.Bool.{and-true}
+use Rattle.std.proofs.Math.Bool.{and-false, and-true}
 use Rattle.seq_check.proofs.FindLemmas.{swapped}
 use Rattle.seq_check.specs.EventSets.{AreSets, IsFront, OpenView, first_of, rises, second_of, set_count, set_place}
 
@@ -147,11 +147,7 @@ closes_last len sequence front last of long exist f low =
 -- three events rise exactly where the first two do, and the last two
 chain : (a b : Bool) (d : Bool) → (a ≡ true → b ≡ true → d ≡ true) → (a && b) ≡ (a && (d && (b && true)))
 chain false b d follows = refl
-chain true false d follows = sym (none d)
-  where
-    none : (t : Bool) → (t && false) ≡ false
-    none true = refl
-    none false = refl
+chain true false d follows = sym (and-false d)
 chain true true d follows = ap (λ t. t && true) (sym (follows refl refl))
 
 three_rise : (at : List ℕ) (a b d : ℕ) → (nat_lt (slice_index at a) (slice_index at b) && nat_lt (slice_index at b) (slice_index at d)) ≡ rises at (a ∷ b ∷ d ∷ [])

@@ -1,5 +1,5 @@
 -- Growth, sequence by sequence.
-use Rattle.std.proofs.Common.{◌≡◌, ℕ, ◌+◌, ◌<◌, Bool, true, false, ◌&&◌, ◌||◌, not, List, [], ◌∷◌, ◌++◌, length, eqb, refl, sym, ap, subst, ◌∙◌, add-one, Result, Ok, Err, OnOk, take, get_or, fold}
+use Rattle.std.proofs.Common.{◌≡◌, ℕ, ◌+◌, ◌<◌, Bool, true, false, ◌&&◌, ◌||◌, not, List, [], ◌∷◌, ◌++◌, length, eqb, refl, sym, ap, subst, ◌∙◌, add-one, take, get_or, fold}
 use Rattle.std.proofs.lemmas.Grind.{flat_map-append}
 use Rattle.std.proofs.lemmas.List.{append-nil, take_more}
 use Rattle.std.proofs.lemmas.List.Concat.{flat_map-cons}
@@ -52,11 +52,6 @@ row_closes o closed n rows row len tells closes = λ front last f below.
     ∙ ap (λ t. not (is_had rows s) && not t) (all_kept n row (steps s) (steps_exist n s (All-push (λ event. event < n) front last f.exist below)))
     ∙ not_either (is_had rows s) (has row s)
     ∙ ap not (sym (list_any-append (λ order. has order s) rows (row ∷ [])))
-
--- what follows of an answer
-pub on_ok_more : {T E P Q : Type 0} (r : Result T E) → (P → Q) → OnOk r P → OnOk r Q
-on_ok_more (Ok x) step fact = step fact
-on_ok_more (Err x) step fact = tt
 
 -- one list of sequences more
 pub fold_lists : {X Y Z : Type 0} (f : Z → Y → Z) (z : Z) (g : X → List Y) (items : List X) (i : ℕ) (d : X) → i < length items

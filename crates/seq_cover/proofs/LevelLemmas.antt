@@ -1,5 +1,6 @@
 -- Levels of events by their distance to a goal, and the way back along them.
 use Rattle.std.proofs.Common.{◌≡◌, ℕ, zero, suc, ◌+◌, ◌-◌, ◌<◌, ◌≤◌, true, false, ◌&&◌, ◌||◌, List, [], ◌∷◌, ◌++◌, length, eqb, nat_lt, Option, Some, None, is_some, inl, inr, refl, sym, ap, subst, ◌∙◌, arith, add-one, append_assoc}
+use Rattle.std.proofs.Math.Bool.{and-false}
 use Rattle.std.proofs.lemmas.Bool.{cases_eq, eq-eqb, ne_eqb, lt-ltb}
 use Rattle.std.proofs.lemmas.List.{append-nil, get_or_append_left, get_or_push, length_push}
 use Rattle.seq_check.proofs.FindLemmas.{first_number, no_number}
@@ -7,7 +8,6 @@ use Rattle.seq_check.specs.EventSets.{in_set, no_events}
 use Rattle.seq_check.specs.declared.event_set.EventSet.{EventSet}
 use Rattle.seq_cover.specs.Ways.{fewest, is_within, next_event, next_near, way_back, with_rest}
 use Rattle.seq_cover.specs.Sets.{AreLevels, Holds}
-use Rattle.seq_cover.proofs.WayLemmas.{and_false}
 
 -- the sets so far, and the next
 pub record Climbs (n : ℕ) (pairs : List (ℕ × ℕ)) (goal : ℕ) (near : EventSet) (levels : List EventSet) (turn : ℕ) : Type 0 where
@@ -19,7 +19,7 @@ pub climbs_from : (n : ℕ) (pairs : List (ℕ × ℕ)) (goal : ℕ) (near : Eve
 climbs_from n pairs goal near low is = record {
   near_is = λ b below. is b ∙ elim (cases_eq b goal) [
     | inl same ↦ eq-eqb goal b (sym same) ∙ sym (ap (λ t. t && eqb b goal) (lt-ltb b n (subst (λ k. k < n) (sym same) low)) ∙ eq-eqb b goal same)
-    | inr apart ↦ ne_eqb goal b (λ e. apart (sym e)) ∙ sym (ap (λ t. nat_lt b n && t) (ne_eqb b goal apart) ∙ and_false (nat_lt b n))
+    | inr apart ↦ ne_eqb goal b (λ e. apart (sym e)) ∙ sym (ap (λ t. nat_lt b n && t) (ne_eqb b goal apart) ∙ and-false (nat_lt b n))
   ];
   levels_are = λ k event low below. absurd (omega arith);
   unmet = λ k low. absurd (omega arith);

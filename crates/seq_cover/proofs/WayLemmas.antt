@@ -1,5 +1,6 @@
 -- Ways as sets of events.
 use Rattle.std.proofs.Common.{◌≡◌, ℕ, ◌+◌, ◌<◌, ◌≤◌, Bool, true, false, ◌&&◌, ◌||◌, List, [], ◌∷◌, length, get_or, eqb, nat_lt, Option, Some, None, IfNone, IfSome, inl, inr, refl, sym, ap, ◌∙◌, arith}
+use Rattle.std.proofs.Math.Bool.{and-false}
 use Rattle.std.proofs.lemmas.Bool.{and_parts, cases_eq, eq-eqb, ne_eqb, lt-ltb, le-ltb, ltb-true, cases_lt}
 use Rattle.seq_check.proofs.FindLemmas.{first_number, no_number}
 use Rattle.seq_check.proofs.SetLemmas.{or_false}
@@ -9,16 +10,12 @@ use Rattle.seq_check.specs.declared.event_set.EventSet.{EventSet}
 use Rattle.seq_cover.specs.Ways.{leads, next_near}
 use Rattle.seq_cover.specs.Sets.{AreWays}
 
-pub and_false : (a : Bool) → (a && false) ≡ false
-and_false true = refl
-and_false false = refl
-
 -- one place more: nothing is added at it, or all
 pub none_added : (old a t : Bool) (first event : ℕ) → (first ≡ event → a ≡ false) → (old || (nat_lt first event && (a && t))) ≡ (old || (nat_lt first (event + 1) && (a && t)))
 none_added old a t first event fails = elim (cases_eq first event) [
   | inl same ↦
-      ap (λ b. old || (nat_lt first event && (b && t))) (fails same) ∙ ap (λ b. old || b) (and_false (nat_lt first event))
-      ∙ sym (ap (λ b. old || (nat_lt first (event + 1) && (b && t))) (fails same) ∙ ap (λ b. old || b) (and_false (nat_lt first (event + 1))))
+      ap (λ b. old || (nat_lt first event && (b && t))) (fails same) ∙ ap (λ b. old || b) (and-false (nat_lt first event))
+      ∙ sym (ap (λ b. old || (nat_lt first (event + 1) && (b && t))) (fails same) ∙ ap (λ b. old || b) (and-false (nat_lt first (event + 1))))
   | inr apart ↦ ap (λ b. old || (b && (a && t))) (below_same first event apart)
 ]
   where

@@ -3,7 +3,7 @@ use Rattle.std.specs.Prelude.{codes, decimal}
 use Rattle.std.specs.List.{join_with_byte}
 use Rattle.seq_check.specs.OrderReport.{names_of}
 use Rattle.seq_check.specs.Verdicts.{verdict_text}
-use Rattle.seq_cover.proofs.GrowLemmas.{on_ok_more}
+use Rattle.std.proofs.lemmas.Result.{on_ok_weaker}
 use Rattle.seq_cover.proofs.TextLemmas.{three_behind}
 use Rattle.seq_cover.proofs.text.add_verdict.Goals as goal
 
@@ -15,7 +15,7 @@ returns-in-Accepted c =
     ap (λ rows. codes "accepted: " ++ (rows ++ (codes " rows, " ++ (c.format-omissions.result.now ++ codes " omissions\n")))) c.format-rows.ensures.text
     ∙ ap (λ omissions. codes "accepted: " ++ (decimal c.in-Accepted.rows ++ (codes " rows, " ++ (omissions ++ codes " omissions\n")))) c.format-omissions.ensures.text
     ∙ joined (decimal c.in-Accepted.rows) (decimal c.in-Accepted.omissions) ∙ ap (verdict_text e) (sym c.in-Accepted.is) in
-    on_ok_more c.add_pieces.result (λ added. added ∙ ap (λ t. text ++ t) told) c.add_pieces.ensures
+    on_ok_weaker c.add_pieces.result (λ added. added ∙ ap (λ t. text ++ t) told) c.add_pieces.ensures
   where
     joined : (rows omissions : List ℕ) → codes "accepted: " ++ (rows ++ (codes " rows, " ++ (omissions ++ codes " omissions\n")))
         ≡ codes "accepted: " ++ rows ++ codes " rows, " ++ omissions ++ codes " omissions\n"
@@ -33,7 +33,7 @@ returns-in_ok-add_names-in-Uncovered c =
     sym (append_assoc (codes "refused: uncovered ") names (codes "\n"))
     ∙ ap (λ sequence. codes "refused: uncovered " ++ join_with_byte 32 (names_of e sequence) ++ codes "\n") c.as_slice.ensures
     ∙ ap (verdict_text e) (sym c.in-Uncovered.is) in
-    on_ok_more c.add_pieces-in-Uncovered-2.result
+    on_ok_weaker c.add_pieces-in-Uncovered-2.result
     (λ added.
     three_behind text (codes "refused: uncovered ") names (codes "\n") c.add_pieces-in-Uncovered.new.text.items c.add_names.new.text.items c.add_pieces-in-Uncovered-2.new.text.items
     c.in_ok-add_pieces-in-Uncovered.ensures c.in_ok-add_names-in-Uncovered.ensures added

@@ -1,12 +1,13 @@
 use Rattle.std.proofs.Common.{◌≡◌, ℕ, ◌<◌, ◌≤◌, ◌∷◌, ◌++◌, [], ◌&&◌, ◌∙◌, List, not, length, ap, sym, subst, arith}
 use Rattle.std.proofs.lemmas.List.Elements.{All-append, All-weaker}
+use Rattle.std.proofs.lemmas.Result.{on_ok_weaker}
 use Rattle.std.proofs.lemmas.List.FromFn.{length-map-range_with_len}
 use Rattle.seq_check.proofs.CheckSteps.{steps_exist}
 use Rattle.seq_check.specs.EventSets.{IsFront, Tells, is_open, places, rises}
 use Rattle.seq_check.specs.Orders.{arrows, is_had, place, steps}
 use Rattle.seq_cover.specs.Growing.{IsLeft}
 use Rattle.seq_cover.specs.OrderGrowth.{built_from}
-use Rattle.seq_cover.proofs.GrowLemmas.{on_ok_more, row_closes}
+use Rattle.seq_cover.proofs.GrowLemmas.{row_closes}
 use Rattle.seq_cover.proofs.grow.Growth.add_row.Goals as goal
 
 pub close_row-requires : goal.close_row-requires
@@ -31,7 +32,7 @@ returns-clause-rows c =
     let tells = subst (λ k. Tells c.args.self.now.opened k (λ s. not (is_had rows s))) (sym count_is) c.requires.left.tells in
     let built = c.in_ok-row.ensures.value (arrows e sequence) rows (c.in_ok-back.ensures e.precedences c.requires.fixed.back_are) exist tells in
     let is = built ∙ ap (λ k. built_from k c.length.result (arrows e sequence) rows k []) count_is ∙ ap (λ l. built_from n l (arrows e sequence) rows n []) len_is in
-    on_ok_more c.push.result (λ pushed. pushed ∙ ap (λ row. rows ++ row ∷ []) is) c.push.ensures.ok
+    on_ok_weaker c.push.result (λ pushed. pushed ∙ ap (λ row. rows ++ row ∷ []) is) c.push.ensures.ok
 
 pub returns-clause-left : goal.returns-clause-left
 returns-clause-left c =
@@ -48,4 +49,4 @@ returns-clause-left c =
       len = c.close_row.ensures.len ∙ c.requires.left.len;
       tells = row_closes o c.close_row.new.self n rows row c.close_row.ensures.len c.requires.left.tells closes;
     } in
-    on_ok_more c.push.result (λ pushed. subst (IsLeft e c.close_row.new.self) (sym pushed) left) c.push.ensures.ok
+    on_ok_weaker c.push.result (λ pushed. subst (IsLeft e c.close_row.new.self) (sym pushed) left) c.push.ensures.ok
