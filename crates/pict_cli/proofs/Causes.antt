@@ -12,28 +12,30 @@ use Rattle.model_lex.specs.declared.options.ModelOpts.{ModelOpts}
 use Rattle.model_lex.specs.declared.fault.ModelFault.{ModelFault}
 use Rattle.type_check.specs.ModelOf.{IsModelOf, IsRefusalOf}
 use Rattle.type_check.proofs.OneAnswer.{models_are_not_refused, refusals_are_one}
-use Rattle.pict_cli.specs.Runs.{EndsBehind, IsGrown, IsRefused, StopsReading, cannot_read, cannot_write, cannot_write_proof, fault_status, is_refused, is_spent, no_memory, opts_of, out_of_memory, too_long, too_many}
+use Rattle.command_line.specs.Loading.{IsRefused, StopsReading, cannot_read, is_refused, out_of_memory, too_long}
+use Rattle.pict_cli.specs.Runs.{EndsBehind, IsGrown, cannot_write, cannot_write_proof, fault_status, is_spent, no_memory, opts_of, too_many}
 use Rattle.pict_cli.specs.Steps.{CountsOut, CountsWrites, Moment, Ran}
-use Rattle.pict_cli.specs.Stops.{status_of}
-use Rattle.pict_cli.specs.Told.{end_status}
-use Rattle.pict_cli.specs.declared.stop.Stop.{Stop}
-use Rattle.pict_cli.specs.declared.stop.Stop.TheVariants.{CannotRead, CannotWriteProof, CannotWriteReport}
+use Rattle.command_line.specs.Stops.{status_of}
+use Rattle.command_line.specs.Told.{end_status}
+use Rattle.command_line.specs.declared.stop.Stop.{Stop}
+use Rattle.command_line.specs.declared.stop.Stop.TheVariants.{CannotRead, CannotWrite, CannotWriteReport}
+use Rattle.command_line.specs.declared.files.FileKind.TheVariants as kinds
 use Rattle.pict_cli.proofs.RunEnds.{ends_told}
 
 -- why a run on a model ends whose suite is grown
-grown_end : (s : Settings) (seed : ℕ) (m : ModelView) (end : Result (Unit {0}) Stop) → IsGrown s seed m → end ≢ Err CannotWriteReport → end ≢ Err CannotWriteProof
+grown_end : (s : Settings) (seed : ℕ) (m : ModelView) (end : Result (Unit {0}) Stop) → IsGrown s seed m → end ≢ Err CannotWriteReport → end ≢ Err (CannotWrite kinds.Proof)
     → EndsBehind s seed m end → (end_status end ≡ 0) ⊎ (end_status end ≡ 1)
 grown_end s seed m (Ok done) grown write proof printed = inl refl
 grown_end s seed m (Err stop) grown write proof (no_memory e) = inr (ap status_of e)
 grown_end s seed m (Err stop) grown write proof (too_many fault e passed) = absurd (none-some fault (sym grown.within ∙ passed))
 grown_end s seed m (Err stop) grown write proof (is_spent question e within over) =
-    absurd (none-some question.cells (sym (ap (option_map pairs_of) grown.answered) ∙ over))
+    absurd (none-some question (sym (ap (option_map pairs_of) grown.answered) ∙ over))
 grown_end s seed m (Err stop) grown write proof (cannot_write_proof name e asked printed) = absurd (proof (ap Err e))
 grown_end s seed m (Err stop) grown write proof (cannot_write e printed) = absurd (write (ap Err e))
 
 -- why a run ends whose reading stopped: Q is the status of a refusal, and R that of a file with too many bytes
 reading_end :
-    (opts : ModelOpts) (held : Option (List ℕ)) (end : Result (Unit {0}) Stop) (Q : Type 0) → end ≢ Err CannotRead
+    (opts : ModelOpts) (held : Option (List ℕ)) (end : Result (Unit {0}) Stop) (Q : Type 0) → end ≢ Err (CannotRead kinds.Model)
     → (IsSomeAnd held (λ bytes. most_bytes ModelFile < length bytes) → end_status end ≡ 9 → Q)
     → ((fault : ModelFault) → IsSomeAnd held (IsRefused opts fault) → end_status end ≡ fault_status fault → Q)
     → IsErrAnd end (StopsReading opts held) → Q ⊎ (end_status end ≡ 1)
@@ -52,7 +54,7 @@ none_rose (Some file) writes writes_after stays rose = stays rose
 -- a run whose end has this status, where its count of faults of reading didn't rise
 module _ {s : Settings} {seed : ℕ} {name : List ℕ} {start after : Moment} {notes : List Note} {end : Result (Unit {0}) Stop}
     (ran : Ran s seed name start after notes end) (status : ℕ) (is : status ≡ end_status end) where
-  calm : ¬ (Rose (start.reads name) (after.reads name)) → end ≢ Err CannotRead
+  calm : ¬ (Rose (start.reads name) (after.reads name)) → end ≢ Err (CannotRead kinds.Model)
   calm stays e = stays (ran.read e)
 
   ended : (Q : ℕ → Type 0) → Q (end_status end) ⊎ (end_status end ≡ 1) → Q status ⊎ (status ≡ 1)

@@ -3,14 +3,9 @@ pub mod GrowthEnds
 pub mod Headline
 pub mod KindLemmas
 pub mod ProofTexts
-pub mod PutLines
-pub mod PutPairs
-pub mod PutPieces
-pub mod PutTold
 pub mod RangeLemmas
 pub mod RunEnds
 pub mod Stopped
 pub mod Stopping
-pub mod Stops
 pub mod Unbuilt
 pub mod WordLemmas

@@ -1,6 +1,6 @@
 -- How a run ends, from how its reading and its growth ended.
 use Rattle.std.proofs.Common.{◌≡◌, ℕ, ◌||◌, ◌≤◌, length, List, [], Option, None, Some, Ok, Err, Result, inl, inr, refl, ap, subst, arith}
-use Rattle.std.specs.Prelude.{◌==◌, ◌≢◌, ◌⊎◌, IfSome, IsSomeAnd, IsOkAnd}
+use Rattle.std.specs.Prelude.{◌==◌, ◌≢◌, ◌⊎◌, IfErr, IfSome, IsSomeAnd, IsOkAnd}
 use Rattle.std.proofs.lemmas.Bool.{eqb-false, or_parts}
 use Rattle.outside_io.specs.declared.answers.WriteAnswer.TheVariants.{Done}
 use Rattle.outside_io.specs.Files.{Files, KeepsFiles}
@@ -21,14 +21,17 @@ use Rattle.tuple_index.specs.declared.fault.PlanFault.TheVariants as plan_faults
 use Rattle.type_check.specs.ModelOf.{IsModelOf}
 use Rattle.type_check.proofs.OneAnswer.{files_have_one_model}
 use Rattle.pict_cli.specs.declared.options.Opts.{Opts}
-use Rattle.pict_cli.specs.declared.stop.Stop.{Stop}
-use Rattle.pict_cli.specs.declared.stop.Stop.TheVariants.{OutOfMemory, Spent, BadWord, BadModel, BadConstraint, CannotRead, CannotWriteProof, CannotWriteReport, TooMany, TooLong}
-use Rattle.pict_cli.specs.Options.{order_seen, settings_seen}
+use Rattle.command_line.specs.declared.stop.Stop.{Stop}
+use Rattle.command_line.specs.declared.stop.Stop.TheVariants.{OutOfMemory, Spent, BadWord, BadModel, BadConstraint, BadRows, CannotRead, CannotWrite, CannotWriteReport, TooMany, TooLong}
+use Rattle.command_line.specs.declared.files.FileKind.TheVariants as kinds
+use Rattle.command_line.specs.Settings.{order_seen}
+use Rattle.pict_cli.specs.Options.{settings_seen}
 use Rattle.pict_cli.specs.Ranges.{IsLeast, AreFit}
-use Rattle.pict_cli.specs.Runs.{Ends, EndsBehind, HasModel, HoldsWholeProof, PrintsCovering, PrintsFewRows, RunsModel, SpellsModel, StopsReading, cannot_write, cannot_write_proof, is_spent, no_memory, opts_of, order_word, told_proof, too_many}
-use Rattle.pict_cli.specs.Steps.{CountsWrites, IsLoaded, Moment, Ran, StaysStill}
+use Rattle.pict_cli.specs.Runs.{Ends, EndsBehind, HasModel, HoldsWholeProof, IsStatus, PrintsCovering, PrintsFewRows, RunsModel, SpellsModel, cannot_write, cannot_write_proof, is_spent, no_memory, opts_of, order_word, told_proof, too_many}
+use Rattle.command_line.specs.Loading.{IsLoaded, IsOfReading, StopsReading}
+use Rattle.pict_cli.specs.Steps.{CountsWrites, IsOfRun, Moment, Ran, StaysStill}
 use Rattle.outside_io.specs.Faults.{KeepsCounts}
-use Rattle.pict_cli.specs.Told.{end_status}
+use Rattle.command_line.specs.Told.{end_status}
 use Rattle.pict_cli.proofs.Headline.{holds_whole_proof, prints_covering, prints_few_rows}
 
 same_order : (order : words.OrderWord) → order ≡ order_word (order_seen order)
@@ -100,7 +103,7 @@ ends_behind s seed None m notes files files_after before after end loaded runs =
 ends_behind s seed (Some held) m notes files files_after before after end loaded runs =
     ends_loaded s seed held m notes files files_after before after end loaded runs
 
-pub behind_reading : (s : Settings) (seed : ℕ) (m : ModelView) (end : Result (Unit {0}) Stop) → EndsBehind s seed m end → end ≢ Err CannotRead
+pub behind_reading : (s : Settings) (seed : ℕ) (m : ModelView) (end : Result (Unit {0}) Stop) → EndsBehind s seed m end → end ≢ Err (CannotRead kinds.Model)
 behind_reading s seed m (Ok done) ends e = cc
 behind_reading s seed m (Err stop) (no_memory is) e = cc
 behind_reading s seed m (Err stop) (too_many plan_faults.NoMemory is passed) e = cc
@@ -109,6 +112,25 @@ behind_reading s seed m (Err stop) (too_many (TooManyTuples count) is passed) e 
 behind_reading s seed m (Err stop) (is_spent question is within over) e = cc
 behind_reading s seed m (Err stop) (cannot_write_proof name is asked grown) e = cc
 behind_reading s seed m (Err stop) (cannot_write is grown) e = cc
+
+-- which stops come
+pub behind_of_run : (s : Settings) (seed : ℕ) (m : ModelView) (end : Result (Unit {0}) Stop) → EndsBehind s seed m end → IfErr end IsOfRun
+behind_of_run s seed m (Ok done) ends = tt
+behind_of_run s seed m (Err stop) (no_memory is) = record { words = λ i e. cc; rows = λ f e. cc; read = λ k e. cc; written = λ k e. cc }
+behind_of_run s seed m (Err stop) (too_many plan_faults.NoMemory is passed) = record { words = λ i e. cc; rows = λ f e. cc; read = λ k e. cc; written = λ k e. cc }
+behind_of_run s seed m (Err stop) (too_many (TooManySets count) is passed) = record { words = λ i e. cc; rows = λ f e. cc; read = λ k e. cc; written = λ k e. cc }
+behind_of_run s seed m (Err stop) (too_many (TooManyTuples count) is passed) = record { words = λ i e. cc; rows = λ f e. cc; read = λ k e. cc; written = λ k e. cc }
+behind_of_run s seed m (Err stop) (is_spent question is within over) = record { words = λ i e. cc; rows = λ f e. cc; read = λ k e. cc; written = λ k e. cc }
+behind_of_run s seed m (Err stop) (cannot_write_proof name is asked grown) = record { words = λ i e. cc; rows = λ f e. cc; read = λ k e. cc; written = λ k e. cc }
+behind_of_run s seed m (Err stop) (cannot_write is grown) = record { words = λ i e. cc; rows = λ f e. cc; read = λ k e. cc; written = λ k e. cc }
+
+pub reading_of_run : (stop : Stop) → IsOfReading kinds.Model stop → IsOfRun stop
+reading_of_run stop of = record {
+  words = of.words;
+  rows = of.rows;
+  read = of.read;
+  written = λ kind e. absurd (of.writes kind e);
+}
 
 pub ends_reading : (s : Settings) (seed : ℕ) (file : Option (Option (List ℕ))) (files files_after : Files) (out : Option (List ℕ)) (stop : Stop)
     → KeepsFiles files files_after → IfSome file (λ held. StopsReading (opts_of s) held stop)
@@ -124,37 +146,69 @@ zero_is_end (Err (Spent budget question)) h = absurd (omega (arith, h))
 zero_is_end (Err (BadWord index)) h = absurd (omega (arith, h))
 zero_is_end (Err (BadModel diag)) h = absurd (omega (arith, h))
 zero_is_end (Err (BadConstraint diag)) h = absurd (omega (arith, h))
-zero_is_end (Err CannotRead) h = absurd (omega (arith, h))
-zero_is_end (Err CannotWriteProof) h = absurd (omega (arith, h))
+zero_is_end (Err (BadRows fault)) h = absurd (omega (arith, h))
+zero_is_end (Err (CannotRead kind)) h = absurd (omega (arith, h))
+zero_is_end (Err (CannotWrite kind)) h = absurd (omega (arith, h))
 zero_is_end (Err CannotWriteReport) h = absurd (omega (arith, h))
 zero_is_end (Err (TooMany quantity count)) h = absurd (omega (arith, h))
-zero_is_end (Err TooLong) h = absurd (omega (arith, h))
+zero_is_end (Err (TooLong kind)) h = absurd (omega (arith, h))
 
-pub seven_is_end : (end : Result (Unit {0}) Stop) → end_status end ≡ 7 → end ≡ Err CannotRead
-seven_is_end (Ok done) h = absurd (omega (arith, h))
-seven_is_end (Err OutOfMemory) h = absurd (omega (arith, h))
-seven_is_end (Err (Spent budget question)) h = absurd (omega (arith, h))
-seven_is_end (Err (BadWord index)) h = absurd (omega (arith, h))
-seven_is_end (Err (BadModel diag)) h = absurd (omega (arith, h))
-seven_is_end (Err (BadConstraint diag)) h = absurd (omega (arith, h))
-seven_is_end (Err CannotRead) h = refl
-seven_is_end (Err CannotWriteProof) h = absurd (omega (arith, h))
-seven_is_end (Err CannotWriteReport) h = absurd (omega (arith, h))
-seven_is_end (Err (TooMany quantity count)) h = absurd (omega (arith, h))
-seven_is_end (Err TooLong) h = absurd (omega (arith, h))
+pub seven_is_end : (end : Result (Unit {0}) Stop) → IfErr end IsOfRun → end_status end ≡ 7 → end ≡ Err (CannotRead kinds.Model)
+seven_is_end (Ok done) of h = absurd (omega (arith, h))
+seven_is_end (Err OutOfMemory) of h = absurd (omega (arith, h))
+seven_is_end (Err (Spent budget question)) of h = absurd (omega (arith, h))
+seven_is_end (Err (BadWord index)) of h = absurd (omega (arith, h))
+seven_is_end (Err (BadModel diag)) of h = absurd (omega (arith, h))
+seven_is_end (Err (BadConstraint diag)) of h = absurd (omega (arith, h))
+seven_is_end (Err (BadRows fault)) of h = absurd (omega (arith, h))
+seven_is_end (Err (CannotRead kind)) of h = ap (λ k. Err (CannotRead k)) (of.read kind refl)
+seven_is_end (Err (CannotWrite kind)) of h = absurd (omega (arith, h))
+seven_is_end (Err CannotWriteReport) of h = absurd (omega (arith, h))
+seven_is_end (Err (TooMany quantity count)) of h = absurd (omega (arith, h))
+seven_is_end (Err (TooLong kind)) of h = absurd (omega (arith, h))
 
-pub eight_is_end : (end : Result (Unit {0}) Stop) → end_status end ≡ 8 → (end ≡ Err CannotWriteReport) ⊎ (end ≡ Err CannotWriteProof)
-eight_is_end (Ok done) h = absurd (omega (arith, h))
-eight_is_end (Err OutOfMemory) h = absurd (omega (arith, h))
-eight_is_end (Err (Spent budget question)) h = absurd (omega (arith, h))
-eight_is_end (Err (BadWord index)) h = absurd (omega (arith, h))
-eight_is_end (Err (BadModel diag)) h = absurd (omega (arith, h))
-eight_is_end (Err (BadConstraint diag)) h = absurd (omega (arith, h))
-eight_is_end (Err CannotRead) h = absurd (omega (arith, h))
-eight_is_end (Err CannotWriteProof) h = inr refl
-eight_is_end (Err CannotWriteReport) h = inl refl
-eight_is_end (Err (TooMany quantity count)) h = absurd (omega (arith, h))
-eight_is_end (Err TooLong) h = absurd (omega (arith, h))
+pub eight_is_end : (end : Result (Unit {0}) Stop) → IfErr end IsOfRun → end_status end ≡ 8 → (end ≡ Err CannotWriteReport) ⊎ (end ≡ Err (CannotWrite kinds.Proof))
+eight_is_end (Ok done) of h = absurd (omega (arith, h))
+eight_is_end (Err OutOfMemory) of h = absurd (omega (arith, h))
+eight_is_end (Err (Spent budget question)) of h = absurd (omega (arith, h))
+eight_is_end (Err (BadWord index)) of h = absurd (omega (arith, h))
+eight_is_end (Err (BadModel diag)) of h = absurd (omega (arith, h))
+eight_is_end (Err (BadConstraint diag)) of h = absurd (omega (arith, h))
+eight_is_end (Err (BadRows fault)) of h = absurd (omega (arith, h))
+eight_is_end (Err (CannotRead kind)) of h = absurd (omega (arith, h))
+eight_is_end (Err (CannotWrite kind)) of h = inr (ap (λ k. Err (CannotWrite k)) (of.written kind refl))
+eight_is_end (Err CannotWriteReport) of h = inl refl
+eight_is_end (Err (TooMany quantity count)) of h = absurd (omega (arith, h))
+eight_is_end (Err (TooLong kind)) of h = absurd (omega (arith, h))
+
+-- the statuses of such ends
+pub status_known : (end : Result (Unit {0}) Stop) → IfErr end IsOfRun → IsStatus (end_status end)
+status_known (Ok done) of = refl
+status_known (Err OutOfMemory) of = refl
+status_known (Err (Spent budget question)) of = refl
+status_known (Err (BadWord index)) of = refl
+status_known (Err (BadModel diag)) of = refl
+status_known (Err (BadConstraint diag)) of = refl
+status_known (Err (BadRows fault)) of = absurd (of.rows fault refl)
+status_known (Err (CannotRead kind)) of = refl
+status_known (Err (CannotWrite kind)) of = refl
+status_known (Err CannotWriteReport) of = refl
+status_known (Err (TooMany quantity count)) of = refl
+status_known (Err (TooLong kind)) of = refl
+
+pub not_three : (end : Result (Unit {0}) Stop) → IfErr end IsOfRun → end_status end ≢ 3
+not_three (Ok done) of h = absurd (omega (arith, h))
+not_three (Err OutOfMemory) of h = absurd (omega (arith, h))
+not_three (Err (Spent budget question)) of h = absurd (omega (arith, h))
+not_three (Err (BadWord index)) of h = absurd (of.words index refl)
+not_three (Err (BadModel diag)) of h = absurd (omega (arith, h))
+not_three (Err (BadConstraint diag)) of h = absurd (omega (arith, h))
+not_three (Err (BadRows fault)) of h = absurd (omega (arith, h))
+not_three (Err (CannotRead kind)) of h = absurd (omega (arith, h))
+not_three (Err (CannotWrite kind)) of h = absurd (omega (arith, h))
+not_three (Err CannotWriteReport) of h = absurd (omega (arith, h))
+not_three (Err (TooMany quantity count)) of h = absurd (omega (arith, h))
+not_three (Err (TooLong kind)) of h = absurd (omega (arith, h))
 
 -- with another status nothing is written
 pub still_end : (end : Result (Unit {0}) Stop) (files files_after : Files) → end_status end ≢ 0 → end_status end ≢ 8 → StaysStill end files files_after
@@ -165,11 +219,14 @@ still_end (Err (Spent budget question)) files files_after zero eight still = sti
 still_end (Err (BadWord index)) files files_after zero eight still = still
 still_end (Err (BadModel diag)) files files_after zero eight still = still
 still_end (Err (BadConstraint diag)) files files_after zero eight still = still
-still_end (Err CannotRead) files files_after zero eight still = still
-still_end (Err CannotWriteProof) files files_after zero eight still = absurd (eight refl)
+still_end (Err (BadRows fault)) files files_after zero eight still = still
+still_end (Err (CannotRead kind)) files files_after zero eight still = still
+still_end (Err (CannotWrite kinds.Model)) files files_after zero eight still = still
+still_end (Err (CannotWrite kinds.Rows)) files files_after zero eight still = still
+still_end (Err (CannotWrite kinds.Proof)) files files_after zero eight still = absurd (eight refl)
 still_end (Err CannotWriteReport) files files_after zero eight still = absurd (eight refl)
 still_end (Err (TooMany quantity count)) files files_after zero eight still = still
-still_end (Err TooLong) files files_after zero eight still = still
+still_end (Err (TooLong kind)) files files_after zero eight still = still
 
 pub writes_end : (s : Settings) (end : Result (Unit {0}) Stop) (writes writes_after : List ℕ → ℕ) → end_status end ≢ 8 → CountsWrites s end writes writes_after
     → KeepsCounts writes writes_after
@@ -179,11 +236,14 @@ writes_end s (Err (Spent budget question)) writes writes_after eight counts = co
 writes_end s (Err (BadWord index)) writes writes_after eight counts = counts
 writes_end s (Err (BadModel diag)) writes writes_after eight counts = counts
 writes_end s (Err (BadConstraint diag)) writes writes_after eight counts = counts
-writes_end s (Err CannotRead) writes writes_after eight counts = counts
-writes_end s (Err CannotWriteProof) writes writes_after eight counts = absurd (eight refl)
+writes_end s (Err (BadRows fault)) writes writes_after eight counts = counts
+writes_end s (Err (CannotRead kind)) writes writes_after eight counts = counts
+writes_end s (Err (CannotWrite kinds.Model)) writes writes_after eight counts = counts
+writes_end s (Err (CannotWrite kinds.Rows)) writes writes_after eight counts = counts
+writes_end s (Err (CannotWrite kinds.Proof)) writes writes_after eight counts = absurd (eight refl)
 writes_end s (Err CannotWriteReport) writes writes_after eight counts = counts
 writes_end s (Err (TooMany quantity count)) writes writes_after eight counts = counts
-writes_end s (Err TooLong) writes writes_after eight counts = counts
+writes_end s (Err (TooLong kind)) writes writes_after eight counts = counts
 
 -- the format that is asked for is 1 or 2
 a_form : (form : ProofForm) → (format_of form ≡ 1) ⊎ (format_of form ≡ 2)

@@ -9,14 +9,15 @@ use Rattle.tuple_index.specs.declared.fault.PlanFault.{PlanFault}
 use Rattle.tuple_index.specs.declared.fault.PlanFault.TheVariants.{TooManySets, TooManyTuples}
 use Rattle.tuple_index.specs.declared.fault.PlanFault.TheVariants as plan_faults
 use Rattle.pict_cli.specs.Runs.{EndsBehind, IsGrown, RunsModel, StopsBehind, cannot_write, cannot_write_proof, no_memory, out_text, too_many}
-use Rattle.pict_cli.specs.Stops.{stop_of_plan}
-use Rattle.pict_cli.specs.declared.stop.Stop.{Stop}
-use Rattle.pict_cli.specs.declared.stop.Stop.TheVariants.{OutOfMemory, CannotWriteProof, CannotWriteReport}
+use Rattle.command_line.specs.Stops.{stop_of_plan}
+use Rattle.command_line.specs.declared.stop.Stop.{Stop}
+use Rattle.command_line.specs.declared.stop.Stop.TheVariants.{OutOfMemory, CannotWrite, CannotWriteReport}
+use Rattle.command_line.specs.declared.files.FileKind.TheVariants as kinds
 use Rattle.pict_cli.proofs.Stopping.{prints_nothing, writes_nothing}
 
 -- nothing is written where a run stops before
 pub stopped : (s : Settings) (seed : ℕ) (m : ModelView) (files : Files) (out : Option (List ℕ)) (end : Result (Unit {0}) Stop) (stop : Stop)
-    → IsSound m → IsErrAnd end (λ other. other ≡ stop) → StopsBehind s seed m stop → stop ≢ CannotWriteReport → stop ≢ CannotWriteProof
+    → IsSound m → IsErrAnd end (λ other. other ≡ stop) → StopsBehind s seed m stop → stop ≢ CannotWriteReport → stop ≢ (CannotWrite kinds.Proof)
     → RunsModel s seed m files files out out end
 stopped s seed m files out (Ok done) stop sound none why report proof = absurd none
 stopped s seed m files out (Err other) stop sound is why report proof = record {
@@ -41,12 +42,12 @@ too_much s seed m files out end (TooManyTuples count) sound e is =
 
 -- the files of a suite were written, or not whole
 proof_stops : (s : Settings) (seed : ℕ) (m : ModelView) (stop : Stop) (proof : Option (List ℕ)) → s.proof ≡ proof → proof ≢ None → IsGrown s seed m
-    → stop ≡ CannotWriteProof → StopsBehind s seed m stop
+    → stop ≡ (CannotWrite kinds.Proof) → StopsBehind s seed m stop
 proof_stops s seed m stop None asked some grown is = absurd (some refl)
 proof_stops s seed m stop (Some name) asked some grown is = cannot_write_proof name is asked grown
 
 pub written_ends : (s : Settings) (seed : ℕ) (m : ModelView) (end : Result (Unit {0}) Stop) → IsGrown s seed m
-    → IfErr end (λ stop. (stop ≡ CannotWriteReport) ⊎ ((stop ≡ CannotWriteProof) × (s.proof ≢ None))) → EndsBehind s seed m end
+    → IfErr end (λ stop. (stop ≡ CannotWriteReport) ⊎ ((stop ≡ (CannotWrite kinds.Proof)) × (s.proof ≢ None))) → EndsBehind s seed m end
 written_ends s seed m (Ok done) grown stops = grown
 written_ends s seed m (Err stop) grown (inl is) = cannot_write is grown
 written_ends s seed m (Err stop) grown (inr both) = proof_stops s seed m stop s.proof refl both.1 grown both.0

@@ -1,7 +1,7 @@
 -- What a run of `pict` does with the bytes of a model file. (PICT's guide for what is printed; the steps,
 -- their order and their statuses are this project's rules.)
-use Rattle.std.specs.List.{Any}
-use Rattle.std.specs.Prelude.{◌≡◌, true, ℕ, ◌<◌, ◌≤◌, ◌⊎◌, List, [], ◌++◌, length, Option, Some, None, Result, Ok, Err, option_map, IsSomeAnd, IsErrAnd, MatchResult, IfSome, All, unwrap_or, option_and_then, is_none}
+use Rattle.std.specs.List.{Any, list_any}
+use Rattle.std.specs.Prelude.{◌≡◌, true, ℕ, ◌<◌, ◌≤◌, ◌⊎◌, List, [], ◌∷◌, ◌==◌, ◌++◌, length, Option, Some, None, Result, Ok, Err, option_map, IsSomeAnd, IsErrAnd, MatchResult, IfSome, All, unwrap_or, option_and_then, is_none}
 use Rattle.outside_io.specs.declared.answers.WriteAnswer.TheVariants.{Done, Failed}
 use Rattle.outside_io.specs.Files.{Files, HoldsOldOrPrefix, KeepsFiles}
 use Rattle.outside_io.specs.Puts.{Puts}
@@ -24,14 +24,15 @@ use Rattle.definitions.specs.Search.{first_over}
 use Rattle.definitions.specs.SuiteLaws.{IsRefutedIn, ListsUnserved}
 use Rattle.definitions.specs.SuiteProof.{IsProofOfSuite}
 use Rattle.definitions.specs.Settings.{OrderWord, OrderOf, OrderMax, Shuffle, NoShuffle, AnyShuffle, ShuffleBy, Settings}
-use Rattle.feasibility.specs.declared.answer.Question.{Question}
 use Rattle.tuple_index.specs.PlanFault.{limit_passed}
 use Rattle.tuple_index.specs.declared.fault.PlanFault.{PlanFault}
-use Rattle.type_check.specs.ModelOf.{IsModelOf, IsRefusalOf}
-use Rattle.pict_cli.specs.Stops.{NamesView, status_of, stop_of_model, stop_of_plan}
-use Rattle.pict_cli.specs.Told.{Tells, end_status, told_text}
-use Rattle.pict_cli.specs.declared.stop.Stop.{Stop}
-use Rattle.pict_cli.specs.declared.stop.Stop.TheVariants.{OutOfMemory, Spent, CannotRead, CannotWriteProof, CannotWriteReport, TooLong}
+use Rattle.type_check.specs.ModelOf.{IsModelOf}
+use Rattle.command_line.specs.Loading.{StopsReading}
+use Rattle.command_line.specs.Stops.{NamesView, status_of, stop_of_model, stop_of_plan}
+use Rattle.command_line.specs.Told.{Tells, end_status, told_text}
+use Rattle.command_line.specs.declared.stop.Stop.{Stop}
+use Rattle.command_line.specs.declared.stop.Stop.TheVariants.{OutOfMemory, Spent, CannotWrite, CannotWriteReport}
+use Rattle.command_line.specs.declared.files.FileKind.TheVariants as kinds
 
 -- how the model file is to be read
 abbrev pub order_word : OrderWord → words.OrderWord
@@ -69,7 +70,7 @@ IsProof s seed m bytes = IsProofOfSuite m (orders_of s seed m) [] s.form bytes
 
 -- the names of the files of a run on a model file of this name
 abbrev pub names_of : List ℕ → Settings → NamesView
-names_of model s = record { model = model; proof = unwrap_or s.proof [] }
+names_of model s = record { model = model; rows = []; proof = unwrap_or s.proof [] }
 
 -- the first question of the run whose plain cost is above the budget
 abbrev pub question_over : Settings → ℕ → ModelView → Option (List (Option ℕ))
@@ -79,10 +80,6 @@ question_over s seed m = first_over m (orders_of s seed m) s.budget (growth_of s
 pub record IsGrown (s : Settings) (seed : ℕ) (m : ModelView) : Type 0 where
   pub within : limit_passed m ≡ None
   pub answered : question_over s seed m ≡ None
-
--- the bytes of a model file are no more than they may be, and this is their first refusal
-abbrev pub IsRefused : ModelOpts → ModelFault → List ℕ → Type 0
-IsRefused opts fault bytes = (length bytes ≤ most_bytes ModelFile) × IsRefusalOf opts bytes fault
 
 -- the bytes of a model file are no more than they may be and spell a model, and P holds of it and its notes:
 -- of each that they spell, which is one alone (`FilesHaveOneModel` of `type_check`)
@@ -97,23 +94,15 @@ pub record SpellsModel (opts : ModelOpts) (P : ModelView → List Note → Type 
 abbrev pub HasModel : ModelOpts → Option (List ℕ) → (ModelView → List Note → Type 0) → Type 0
 HasModel opts held P = IsSomeAnd held (SpellsModel opts P)
 
--- why the reading of a model file may stop: for want of memory, where the folder failed, where the file has more
--- bytes than it may, and by its first refusal
-pub data StopsReading (opts : ModelOpts) (held : Option (List ℕ)) (stop : Stop) : Type 0 where
-  out_of_memory : stop ≡ OutOfMemory → StopsReading opts held stop
-  cannot_read : stop ≡ CannotRead → StopsReading opts held stop
-  too_long : stop ≡ TooLong → IsSomeAnd held (λ bytes. most_bytes ModelFile < length bytes) → StopsReading opts held stop
-  is_refused : (fault : ModelFault) → stop ≡ stop_of_model fault → IsSomeAnd held (IsRefused opts fault) → StopsReading opts held stop
-
 -- why a run may stop once its model is read: for want of memory, by the limit that the demand passes, at the first
 -- question above the budget, and, for which a suite was grown, where the proof file or the output failed
 pub data StopsBehind (s : Settings) (seed : ℕ) (m : ModelView) (stop : Stop) : Type 0 where
   no_memory : stop ≡ OutOfMemory → StopsBehind s seed m stop
   too_many : (fault : PlanFault) → stop ≡ stop_of_plan fault → limit_passed m ≡ Some fault → StopsBehind s seed m stop
   is_spent :
-      (question : Question) → stop ≡ Spent s.budget question → limit_passed m ≡ None
-      → option_map pairs_of (question_over s seed m) ≡ Some question.cells → StopsBehind s seed m stop
-  cannot_write_proof : (name : List ℕ) → stop ≡ CannotWriteProof → s.proof ≡ Some name → IsGrown s seed m → StopsBehind s seed m stop
+      (question : List (ℕ × ℕ)) → stop ≡ Spent s.budget question → limit_passed m ≡ None
+      → option_map pairs_of (question_over s seed m) ≡ Some question → StopsBehind s seed m stop
+  cannot_write_proof : (name : List ℕ) → stop ≡ (CannotWrite kinds.Proof) → s.proof ≡ Some name → IsGrown s seed m → StopsBehind s seed m stop
   cannot_write : stop ≡ CannotWriteReport → IsGrown s seed m → StopsBehind s seed m stop
 
 -- how a run may end once its model is read
@@ -132,7 +121,7 @@ Prints text before after (Err stop) = after ≡ before
 abbrev pub HoldsProof : Settings → ℕ → ModelView → Option (Option (List ℕ)) → Option (Option (List ℕ)) → Result (Unit {0}) Stop → Type 0
 HoldsProof s seed m before after (Ok done) = IfSome after (λ held. IsSomeAnd held (IsProof s seed m))
 HoldsProof s seed m before after (Err CannotWriteReport) = IfSome after (λ held. IsSomeAnd held (IsProof s seed m))
-HoldsProof s seed m before after (Err CannotWriteProof) =
+HoldsProof s seed m before after (Err (CannotWrite kinds.Proof)) =
     IfSome after (λ held. (proof : List ℕ) × IsProof s seed m proof × HoldsOldOrPrefix before held proof)
 HoldsProof s seed m before after (Err stop) = after ≡ before
 
@@ -161,7 +150,7 @@ pub record IsRun (s : Settings) (seed : ℕ) (held : Option (List ℕ)) (name : 
   pub notes : List Note
   pub end : Result (Unit {0}) Stop
   pub ends : Ends s seed held notes files files_after before after end
-  pub told : Tells told_before told_after faults faults_after (told_text (used_seed s.shuffle seed) notes (names_of name s) end)
+  pub told : Tells told_before told_after faults faults_after (told_text (used_seed s.shuffle seed) notes [] (names_of name s) end)
   pub ended : status ≡ end_status end
 
 -- what the folder tells of the proof file, where the words ask for one
@@ -190,3 +179,7 @@ HoldsWholeProof s seed m held = IsSomeAnd held (λ bytes. IsProof s seed m bytes
 -- the status of a refusal
 abbrev pub fault_status : ModelFault → ℕ
 fault_status fault = status_of (stop_of_model fault)
+
+-- the statuses that a run may end with
+abbrev pub IsStatus : ℕ → Type 0
+IsStatus status = list_any (λ s. s == status) (0 ∷ 1 ∷ 2 ∷ 3 ∷ 4 ∷ 5 ∷ 7 ∷ 8 ∷ 9 ∷ []) ≡ true

@@ -1,7 +1,8 @@
 ghost use Rattle.std.specs.Prelude.{◌≡◌, ◌||◌, []};
-ghost use Rattle.pict_cli.specs.Options.{setting_seen, kind_of, kinds_of, joined_kinds, excludes_by_kinds};
+ghost use Rattle.command_line.specs.Settings.{setting_seen};
+ghost use Rattle.pict_cli.specs.Options.{kind_of, kinds_of, joined_kinds, excludes_by_kinds};
 
-use crate::setting::Setting;
+use command_line::Setting;
 
 /// What settings are about, for the question which exclude each other.
 #[derive(Debug, Drop, Clone, Copy, PartialEq, Eq)]

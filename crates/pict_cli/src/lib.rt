@@ -13,18 +13,13 @@
 
 mod in_memory;
 mod kinds;
-mod load;
 mod options;
 mod proof;
-mod put;
 mod run;
-mod setting;
-mod stop;
 mod suite;
-mod told;
 mod words;
 
+pub use command_line::Shuffle;
 pub use in_memory::run_pict_in_memory;
 pub use options::{Opts, WordFault, read_words};
 pub use run::run_pict;
-pub use setting::Shuffle;

@@ -3,13 +3,13 @@ ghost use Rattle.std.specs.List.{list_any};
 ghost use Rattle.std.specs.String.{string_bytes};
 ghost use Rattle.definitions.specs.Settings as defined;
 ghost use Rattle.definitions.specs.Words as reading;
-ghost use Rattle.pict_cli.specs.Options.{setting_seen, settings_seen, command_seen, IsReading, is_faulty_at, HasFault};
+ghost use Rattle.command_line.specs.Settings.{setting_seen};
+ghost use Rattle.pict_cli.specs.Options.{settings_seen, command_seen, IsReading, is_faulty_at, HasFault};
 ghost use Rattle.pict_cli.specs.Runs.{names_of};
 ghost use Rattle.pict_cli.specs.Words.{TellsFault, texts};
 
 use crate::kinds::Kinds;
-use crate::setting::{Setting, Shuffle, is_named, setting_of};
-use crate::stop::FileNames;
+use command_line::{FileNames, Setting, Shuffle, is_named, setting_of};
 use model_lex::{Marks, ModelOpts, OrderWord};
 use refutation::ProofForm;
 
@@ -89,6 +89,7 @@ impl<'w> Opts<'w> {
         };
         FileNames {
             model: self.model,
+            rows: "",
             proof,
         }
     }

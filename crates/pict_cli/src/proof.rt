@@ -3,7 +3,7 @@ ghost use Rattle.outside_io.specs.Faults.{KeepsCounts, Rose};
 ghost use Rattle.outside_io.specs.Files.{HoldsOldOrPrefix, KeepsOtherFiles};
 ghost use Rattle.pict_cli.specs.Steps.{written};
 
-use crate::stop::Stop;
+use command_line::{FileKind, Stop};
 use outside_io::{Folder, WriteAnswer};
 use refutation::{Omissions, format_len, omission_len, put_format, put_omission};
 use std::alloc::Global;
@@ -45,10 +45,10 @@ pub(crate) fn proof_text(alloc: Global, proof: &Omissions) -> Result<Vec<u8>, No
 ///
 /// # Errors
 ///
-/// `CannotWriteProof` where the folder failed.
+/// `CannotWrite` where the folder failed.
 pub(crate) fn write_proof<F: Folder>(name: &str, text: &[u8], files: &mut F) -> Result<(), Stop>
     ensures written { IfOk result (λ _. IfSome (F.file files.new name.now) (λ held. held ≡ Some text.now)) }
-    ensures partial { IfErr result (λ stop. (stop ≡ Stop.CannotWriteProof)
+    ensures partial { IfErr result (λ stop. (stop ≡ Stop.CannotWrite FileKind.Proof)
         × IfSome (F.file files.new name.now) (λ held. HoldsOldOrPrefix (F.file files.old name.now) held text.now)
         × Rose (F.write_faults files.old name.now) (F.write_faults files.new name.now)) }
     ensures no_fault { OnOk result (KeepsCounts (F.write_faults files.old) (F.write_faults files.new)) }
@@ -57,6 +57,6 @@ pub(crate) fn write_proof<F: Folder>(name: &str, text: &[u8], files: &mut F) -> 
 {
     match files.write_file(name, text) {
         WriteAnswer::Done => Ok(()),
-        WriteAnswer::Failed => Err(Stop::CannotWriteProof),
+        WriteAnswer::Failed => Err(Stop::CannotWrite(FileKind::Proof)),
     }
 }

@@ -10,21 +10,18 @@ ghost use Rattle.definitions.specs.Settings.{Settings};
 ghost use Rattle.model_lex.specs.declared.fault.ModelFault.{ModelFault};
 ghost use Rattle.model_lex.specs.declared.note.Note.{Note};
 ghost use Rattle.type_check.specs.ModelOf.{IsModelOf, IsRefusalOf};
-ghost use Rattle.pict_cli.specs.Options.{settings_seen, shuffle_seen};
+ghost use Rattle.command_line.specs.Settings.{shuffle_seen};
+ghost use Rattle.pict_cli.specs.Options.{settings_seen};
 ghost use Rattle.pict_cli.specs.Ranges.{AreFit};
-ghost use Rattle.pict_cli.specs.Runs.{HasModel, HoldsWholeProof, IsGrown, IsRun, PrintsCovering, PrintsFewRows, fault_status, opts_of, told_proof, used_seed};
-ghost use Rattle.pict_cli.specs.Steps.{KeepsOthers, Ran};
-ghost use Rattle.pict_cli.specs.Stops.{IsStatus};
-ghost use Rattle.pict_cli.specs.Told.{Tells, end_status};
+ghost use Rattle.pict_cli.specs.Runs.{HasModel, HoldsWholeProof, IsGrown, IsRun, IsStatus, PrintsCovering, PrintsFewRows, fault_status, opts_of, told_proof, used_seed};
+ghost use Rattle.pict_cli.specs.Steps.{IsOfRun, KeepsOthers, Ran};
+ghost use Rattle.command_line.specs.Told.{Tells, end_status};
 ghost use Rattle.pict_cli.specs.Words.{IsWordFault, asked_by, model_file, proof_file, texts};
 
-use crate::load::load_model;
 use crate::options::Opts;
-use crate::setting::Shuffle;
-use crate::stop::{FileNames, Stop};
 use crate::suite::run_model;
-use crate::told::tell;
 use crate::words::read_command;
+use command_line::{FileKind, FileNames, Shuffle, Stop, load_model, tell};
 use model_lex::NoteList;
 use outside_io::{Folder, Sink};
 use std::alloc::Global;
@@ -64,8 +61,8 @@ fn run<R: Threads + Sync, F: Folder, O: Sink>(
     ensures ran { Ran (settings_seen opts.now) seed_word opts.now.model.now (record { files = F.file files.old; reads = F.read_faults files.old; writes = F.write_faults files.old; out = O.written out.old; faults = O.faults out.old })
         (record { files = F.file files.new; reads = F.read_faults files.new; writes = F.write_faults files.new; out = O.written out.new; faults = O.faults out.new }) result.0 result.1 }
     ensures nothing { result.1 ≢ Ok tt → result.1 ≢ Err Stop.CannotWriteReport → O.written out.new ≡ O.written out.old }
-    ensures words { IfErr result.1 (λ stop. (index : ℕ) → stop ≢ Stop.BadWord index) }
-    ensures no_fault { result.1 ≢ Err Stop.CannotRead → KeepsCounts (F.read_faults files.old) (F.read_faults files.new) }
+    ensures of_run { IfErr result.1 IsOfRun }
+    ensures no_fault { result.1 ≢ Err (Stop.CannotRead FileKind.Model) → KeepsCounts (F.read_faults files.old) (F.read_faults files.new) }
 {
     match load_model(alloc, opts.model, &opts.opts, files) {
         Ok((model, notes)) => {
@@ -178,12 +175,12 @@ pub fn run_pict<R: Threads + Sync, F: Folder, O: Sink, E: Sink>(
         Ok(opts) => opts,
         Err(fault) => {
             let end = Err(Stop::BadWord(fault.index));
-            let _ = tell(None, &[], &end, &FileNames::none(), diag);
+            let _ = tell(None, &[], &[], &end, &FileNames::none(), diag);
             return 3;
         }
     };
     let (notes, end) = run(rt, alloc, &opts, files, out, seed_word);
     let seed = told_seed(opts.shuffle, seed_word);
-    let _ = tell(seed, notes.as_slice(), &end, &opts.names(), diag);
+    let _ = tell(seed, notes.as_slice(), &[], &end, &opts.names(), diag);
     status_of(&end)
 }

@@ -9,7 +9,8 @@ ghost use Rattle.ipog_grow.specs.Suites.{EndsBy};
 ghost use Rattle.row_text.specs.Turns.{AreMadeFor};
 ghost use Rattle.tuple_index.specs.Plan.{plan_of};
 ghost use Rattle.tuple_index.specs.PlanFault.{limit_passed};
-ghost use Rattle.pict_cli.specs.Options.{settings_seen, shuffle_seen};
+ghost use Rattle.command_line.specs.Settings.{shuffle_seen};
+ghost use Rattle.pict_cli.specs.Options.{settings_seen};
 ghost use Rattle.pict_cli.specs.Ranges.{AreFit};
 ghost use Rattle.refutation.specs.Proofs.{format_of, omission_meant};
 ghost use Rattle.pict_cli.specs.Runs.{IsGrown, IsProof, Prints, RunsModel, StopsBehind, WritesProof, growth_of, orders_of, question_over, shuffled_by};
@@ -17,8 +18,7 @@ ghost use Rattle.pict_cli.specs.Steps.{CountsOut, CountsWrites, KeepsOthers, Sta
 
 use crate::options::Opts;
 use crate::proof::{proof_text, write_proof};
-use crate::setting::Shuffle;
-use crate::stop::Stop;
+use command_line::{FileKind, Shuffle, Stop};
 use cov_model::{Prefs, Rows, TestModel};
 use feasibility::SearchFault;
 use ipog_grow::{GrowOpts, Suite, generate};
@@ -43,12 +43,12 @@ fn shuffle_number(shuffle: Shuffle, seed_word: u64) -> Option<u64>
 
 /// Why a run stops whose growth ended early.
 fn stop_of_search(fault: SearchFault, budget: u64) -> Stop
-    ensures other { (result ≢ Stop.CannotWriteReport) × (result ≢ Stop.CannotWriteProof) }
+    ensures other { (result ≢ Stop.CannotWriteReport) × (result ≢ Stop.CannotWrite FileKind.Proof) }
     ensures stops { (s : Settings) (seed : ℕ) (m : ModelView) → budget ≡ s.budget → limit_passed m ≡ None →
         EndsBy (question_over s seed m) fault → StopsBehind s seed m result }
 {
     match fault {
-        SearchFault::Spent(question) => Stop::Spent(budget, question),
+        SearchFault::Spent(question) => Stop::Spent(budget, question.cells),
         SearchFault::NoMemory => Stop::OutOfMemory,
     }
 }
@@ -75,7 +75,7 @@ fn grow<R: Threads + Sync>(
     ensures omitted { IfOk result (λ suite. IfSome opts.now.proof (λ _. AreOmitted model.now (orders_of (settings_seen opts.now) seed_word model.now) []
         (format_of opts.now.form) (map omission_meant suite.omitted.omissions))) }
     ensures stops { IfErr result (StopsBehind (settings_seen opts.now) seed_word model.now) }
-    ensures other { IfErr result (λ stop. (stop ≢ Stop.CannotWriteReport) × (stop ≢ Stop.CannotWriteProof)) }
+    ensures other { IfErr result (λ stop. (stop ≢ Stop.CannotWriteReport) × (stop ≢ Stop.CannotWrite FileKind.Proof)) }
 {
     let number = shuffle_number(opts.shuffle, seed_word);
     let prefs = Prefs::new(alloc, model, number)?;
@@ -150,7 +150,7 @@ fn print<O: Sink>(
 ///
 /// # Errors
 ///
-/// `CannotWriteProof` where the folder failed, `CannotWriteReport` where `out` did.
+/// `CannotWrite` where the folder failed, `CannotWriteReport` where `out` did.
 fn write_suite<F: Folder, O: Sink>(
     model: &TestModel,
     opts: &Opts<'_>,
@@ -162,7 +162,7 @@ fn write_suite<F: Folder, O: Sink>(
 ) -> Result<(), Stop>
     requires rows { All (λ row. is_row model.now row ≡ true) rows.now }
     requires turns { AreMadeFor model.now turns.old }
-    ensures stops { IfErr result (λ stop. (stop ≡ Stop.CannotWriteReport) ⊎ ((stop ≡ Stop.CannotWriteProof) × ((settings_seen opts.now).proof ≢ None))) }
+    ensures stops { IfErr result (λ stop. (stop ≡ Stop.CannotWriteReport) ⊎ ((stop ≡ Stop.CannotWrite FileKind.Proof) × ((settings_seen opts.now).proof ≢ None))) }
     ensures prints { Prints (report_text model.now rows.now) (O.written out.old) (O.written out.new) result }
     ensures counts { CountsOut result (O.faults out.old) (O.faults out.new) }
     ensures writes { (seed : ℕ) → (IfSome opts.now.proof (λ _. IsProof (settings_seen opts.now) seed model.now proof.now))
@@ -183,7 +183,7 @@ fn write_suite<F: Folder, O: Sink>(
 /// # Errors
 ///
 /// `TooMany` where the model demands too much, `Spent` where a question costs too much,
-/// `CannotWriteProof` where the folder failed, `CannotWriteReport` where `out` did, `OutOfMemory` where
+/// `CannotWrite` where the folder failed, `CannotWriteReport` where `out` did, `OutOfMemory` where
 /// memory was refused.
 pub(crate) fn run_model<R: Threads + Sync, F: Folder, O: Sink>(
     rt: &R,

@@ -1,11 +1,12 @@
 ghost use Rattle.std.specs.Prelude.{◌≡◌, ◌+◌, Ok, MatchResult, option_map, position};
 ghost use Rattle.std.specs.String.{string_bytes};
-ghost use Rattle.pict_cli.specs.Options.{setting_seen, settings_seen};
+ghost use Rattle.command_line.specs.Settings.{setting_seen};
+ghost use Rattle.pict_cli.specs.Options.{settings_seen};
 ghost use Rattle.pict_cli.specs.Ranges.{AreFit};
 ghost use Rattle.pict_cli.specs.Words.{IsWordFault, asked_by, asks_unbuilt, first_unbuilt, is_unbuilt, model_file, texts};
 
 use crate::options::{Opts, WordFault, fault_at, read_words};
-use crate::setting::{Setting, setting_of};
+use command_line::{Setting, setting_of};
 
 /// Whether what a word sets isn't built yet.
 fn is_unbuilt(setting: &Setting<'_>) -> bool

@@ -3,10 +3,11 @@ use Rattle.std.specs.Prelude.{IfSome}
 use Rattle.outside_io.specs.Faults.{Rose}
 use Rattle.model_parse.specs.RawModels.{AreOpts}
 use Rattle.pict_cli.specs.Options.{settings_seen}
-use Rattle.pict_cli.specs.Runs.{Ends, StopsReading}
-use Rattle.pict_cli.specs.Steps.{IsLoaded}
-use Rattle.pict_cli.specs.declared.stop.Stop.TheVariants.{CannotRead}
-use Rattle.pict_cli.proofs.RunEnds.{are_opts, behind_reading, ends_behind, ends_reading, same_opts}
+use Rattle.command_line.specs.Loading.{IsLoaded, StopsReading}
+use Rattle.pict_cli.specs.Runs.{Ends}
+use Rattle.command_line.specs.declared.stop.Stop.TheVariants.{CannotRead}
+use Rattle.command_line.specs.declared.files.FileKind.TheVariants as kinds
+use Rattle.pict_cli.proofs.RunEnds.{are_opts, behind_of_run, behind_reading, ends_behind, ends_reading, reading_of_run, same_opts}
 use Rattle.pict_cli.proofs.Stopping.{counts_from, counts_nothing, keeps_writes, others_from, stays_still, still_from, writes_from}
 use Rattle.pict_cli.proofs.run.run.Goals as goal
 
@@ -54,11 +55,18 @@ returns-in-Err-clause-ran g c =
     record {
       ends = subst (λ notes. IfSome file (λ held. Ends s c.args.seed_word held notes files files_after out out (Err stop))) (sym c.new.ensures)
           (ends_reading s c.args.seed_word file files files_after out stop keeps stops);
-      read = λ e. let is : stop ≡ CannotRead = cc in c.in-Err.ensures.cannot_read (ap Err is);
-      counts = counts_nothing (g.O.Sink.faults c.args.out.now) stop c.in-Err.ensures.other.0;
+      read = λ e. let is : stop ≡ (CannotRead kinds.Model) = cc in c.in-Err.ensures.cannot_read (ap Err is);
+      counts = counts_nothing (g.O.Sink.faults c.args.out.now) stop c.in-Err.ensures.other.report;
       writes =
           counts_from s (g.F.Folder.write_faults c.args.files.now) (g.F.Folder.write_faults c.load_model.new.files) (g.F.Folder.write_faults c.load_model.new.files) (Err stop)
-          c.load_model.ensures.write_faults (keeps_writes s (g.F.Folder.write_faults c.load_model.new.files) stop c.in-Err.ensures.other.1);
+          c.load_model.ensures.write_faults (keeps_writes s (g.F.Folder.write_faults c.load_model.new.files) stop (c.in-Err.ensures.other.writes kinds.Proof));
       others = others_from s files files_after files_after keeps s.proof (λ name other. refl);
       still = still_from s files files_after files_after keeps (Err stop) (stays_still files_after stop);
     }
+
+pub returns-in-Ok-clause-of_run : goal.returns-in-Ok-clause-of_run
+returns-in-Ok-clause-of_run g c =
+    behind_of_run (settings_seen c.args.opts.now) c.args.seed_word c.in-Ok.model c.run_model-end.result c.run_model-end.ensures.runs.ends
+
+pub returns-in-Err-clause-of_run : goal.returns-in-Err-clause-of_run
+returns-in-Err-clause-of_run g c = reading_of_run c.in-Err.stop c.in-Err.ensures.other

@@ -1,13 +1,13 @@
-use Rattle.std.proofs.Common.{inl, inr, sym, ap, subst, ◌∙◌}
+use Rattle.std.proofs.Common.{[], inl, inr, sym, ap, subst, ◌∙◌}
 use Rattle.std.specs.Prelude.{IsSomeAnd}
 use Rattle.outside_io.specs.Faults.{Rose}
 use Rattle.pict_cli.specs.Options.{settings_seen}
 use Rattle.pict_cli.specs.Steps.{CountsOut, CountsWrites, KeepsOthers}
 use Rattle.pict_cli.specs.Words.{proof_of}
-use Rattle.pict_cli.specs.Runs.{names_of, used_seed}
-use Rattle.pict_cli.specs.Told.{Tells, told_text}
+use Rattle.pict_cli.specs.Runs.{IsStatus, names_of, used_seed}
+use Rattle.command_line.specs.Told.{Tells, told_text}
 use Rattle.pict_cli.proofs.Causes.{complete_end, long_end, missing_end, refused_end}
-use Rattle.pict_cli.proofs.RunEnds.{covers_whole, ends_told, eight_is_end, few_whole, form_known, one_asked, proof_whole, ran_asked, seven_is_end, still_end, writes_end}
+use Rattle.pict_cli.proofs.RunEnds.{covers_whole, ends_told, eight_is_end, few_whole, form_known, not_three, one_asked, proof_whole, ran_asked, seven_is_end, status_known, still_end, writes_end}
 use Rattle.pict_cli.proofs.run.run_pict.Goals as goal
 
 pub returns-clause-headline : goal.returns-clause-headline
@@ -27,10 +27,10 @@ returns-clause-few g c = λ zero s held asked at.
 pub returns-clause-run : goal.returns-clause-run
 returns-clause-run g c = λ s held asked at.
     let names = c.names.result in
-    let text = ap (λ seed. told_text seed c.as_slice.result.now names c.run-notes.result.1) c.told_seed-seed.ensures
-    ∙ ap (λ t. told_text (used_seed t.shuffle c.args.seed_word) c.as_slice.result.now names c.run-notes.result.1) (one_asked c.in-Ok.ensures.0 asked)
-    ∙ ap (λ notes. told_text (used_seed s.shuffle c.args.seed_word) notes names c.run-notes.result.1) c.as_slice.ensures
-    ∙ ap (λ names. told_text (used_seed s.shuffle c.args.seed_word) c.run-notes.result.0 names c.run-notes.result.1)
+    let text = ap (λ seed. told_text seed c.as_slice.result.now [] names c.run-notes.result.1) c.told_seed-seed.ensures
+    ∙ ap (λ t. told_text (used_seed t.shuffle c.args.seed_word) c.as_slice.result.now [] names c.run-notes.result.1) (one_asked c.in-Ok.ensures.0 asked)
+    ∙ ap (λ notes. told_text (used_seed s.shuffle c.args.seed_word) notes [] names c.run-notes.result.1) c.as_slice.ensures
+    ∙ ap (λ names. told_text (used_seed s.shuffle c.args.seed_word) c.run-notes.result.0 [] names c.run-notes.result.1)
     (c.names.ensures ∙ ap (names_of c.in-Ok.opts.model.now) (one_asked c.in-Ok.ensures.0 asked) ∙ ap (λ name. names_of name s) c.in-Ok.ensures.2) in
     record {
       notes = c.run-notes.result.0;
@@ -62,13 +62,13 @@ returns-clause-missing g c = λ s asked at.
 pub returns-clause-read : goal.returns-clause-read
 returns-clause-read g c = λ seven.
     (ran_asked c.in-Ok.ensures.0 c.in-Ok.ensures.0 c.in-Ok.ensures.2 c.run-notes.ensures.ran).read
-    (seven_is_end c.run-notes.result.1 (sym c.status_of.ensures ∙ seven))
+    (seven_is_end c.run-notes.result.1 c.run-notes.ensures.of_run (sym c.status_of.ensures ∙ seven))
 
 pub returns-clause-write : goal.returns-clause-write
 returns-clause-write g c = λ eight.
     let ran = c.run-notes.ensures.ran in
     let s = settings_seen c.in-Ok.opts in
-    elim (eight_is_end c.run-notes.result.1 (sym c.status_of.ensures ∙ eight)) [
+    elim (eight_is_end c.run-notes.result.1 c.run-notes.ensures.of_run (sym c.status_of.ensures ∙ eight)) [
       | inl report ↦ inl (subst (λ e. CountsOut e (g.O.Sink.faults c.args.out.now) (g.O.Sink.faults c.run-notes.new.out)) report ran.counts)
       | inr proof ↦ inr (
         c.run-notes.ensures.nothing (λ e. cc) (λ e. cc),
@@ -93,3 +93,9 @@ pub returns-clause-write_faults : goal.returns-clause-write_faults
 returns-clause-write_faults g c = λ eight.
     writes_end (settings_seen c.in-Ok.opts) c.run-notes.result.1 (g.F.Folder.write_faults c.args.files.now) (g.F.Folder.write_faults c.run-notes.new.files)
     (λ e. eight (c.status_of.ensures ∙ e)) c.run-notes.ensures.ran.writes
+
+pub returns-clause-read_words : goal.returns-clause-read_words
+returns-clause-read_words g c = λ s asked three. not_three c.run-notes.result.1 c.run-notes.ensures.of_run (sym c.status_of.ensures ∙ three)
+
+pub returns-clause-statuses : goal.returns-clause-statuses
+returns-clause-statuses g c = subst IsStatus (sym c.status_of.ensures) (status_known c.run-notes.result.1 c.run-notes.ensures.of_run)

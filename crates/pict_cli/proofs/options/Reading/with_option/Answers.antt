@@ -4,7 +4,8 @@ use Rattle.std.specs.String.{string_bytes}
 use Rattle.std.proofs.lemmas.List.{take_more, length-map}
 use Rattle.definitions.specs.Settings.{set, setting_of}
 use Rattle.definitions.specs.Words.{has_equal_marks, set_by}
-use Rattle.pict_cli.specs.Options.{setting_seen, kind_of, kinds_of, joined_kinds}
+use Rattle.command_line.specs.Settings.{setting_seen}
+use Rattle.pict_cli.specs.Options.{kind_of, kinds_of, joined_kinds}
 use Rattle.pict_cli.specs.Words.{texts}
 use Rattle.pict_cli.proofs.KindLemmas.{clash}
 use Rattle.pict_cli.proofs.WordLemmas.{faulty-by, word_at, set_by-push, about-push}

@@ -1,0 +1,11 @@
+use Rattle.std.proofs.Common.{◌≡◌, take}
+use Rattle.outside_io.specs.declared.answers.WriteAnswer.TheVariants.{Done}
+use Rattle.outside_io.specs.Puts.{Puts}
+use Rattle.definitions.specs.Pairs.{pairs_text}
+use Rattle.command_line.proofs.put.put_pairs.Given as goal
+
+abbrev pub invariant-loop-place : goal.invariant-loop-place
+invariant-loop-place g l = record {
+  puts : Puts Done (g.E.Sink.written l.fn.sink) (g.E.Sink.written l.sink) (pairs_text (take l.place l.pairs));
+  counts : g.E.Sink.faults l.sink ≡ g.E.Sink.faults l.fn.sink;
+}

@@ -1,0 +1,53 @@
+ghost use Rattle.std.specs.Prelude.{map};
+ghost use Rattle.std.specs.List.{flat_map, join_with_byte};
+ghost use Rattle.outside_io.specs.Puts.{Puts, CountsFaults};
+ghost use Rattle.definitions.specs.Pairs.{pair_text, pairs_text};
+ghost use Rattle.command_line.specs.Pieces.{pair_behind};
+
+use cov_model::{ParamNo, ValueNo};
+use itoa::Buffer;
+use outside_io::{Sink, WriteAnswer};
+
+/// Writes pieces one behind another, up to the first fault. Takes no memory.
+pub fn put_pieces<E: Sink>(sink: &mut E, pieces: &[&str]) -> WriteAnswer
+    ensures puts { Puts result (E.written sink.old) (E.written sink.new) (flat_map (λ piece. piece.now) pieces.now) }
+    ensures counts { CountsFaults result (E.faults sink.old) (E.faults sink.new) }
+{
+    for piece in pieces {
+        match sink.put(piece.as_bytes()) {
+            WriteAnswer::Done => {}
+            WriteAnswer::Failed => return WriteAnswer::Failed,
+        }
+    }
+    WriteAnswer::Done
+}
+
+/// Writes the pair at a place of a list, behind a space unless it is the first.
+fn put_pair<E: Sink>(sink: &mut E, place: usize, pair: (ParamNo, ValueNo)) -> WriteAnswer
+    ensures puts { Puts result (E.written sink.old) (E.written sink.new) (pair_behind place (pair.0, pair.1)) }
+    ensures counts { CountsFaults result (E.faults sink.old) (E.faults sink.new) }
+{
+    let mut parameter = Buffer::new();
+    let mut value = Buffer::new();
+    let parameter = parameter.format(pair.0);
+    let value = value.format(pair.1);
+    if place == 0 {
+        put_pieces(sink, &[parameter, "=", value])
+    } else {
+        put_pieces(sink, &[" ", parameter, "=", value])
+    }
+}
+
+/// Writes pairs of parameter and value, parted by spaces. Takes no memory.
+pub fn put_pairs<E: Sink>(sink: &mut E, pairs: &[(ParamNo, ValueNo)]) -> WriteAnswer
+    ensures puts { Puts result (E.written sink.old) (E.written sink.new) (pairs_text pairs.now) }
+    ensures counts { CountsFaults result (E.faults sink.old) (E.faults sink.new) }
+{
+    for (place, pair) in pairs.iter().enumerate() {
+        match put_pair(sink, place, *pair) {
+            WriteAnswer::Done => {}
+            WriteAnswer::Failed => return WriteAnswer::Failed,
+        }
+    }
+    WriteAnswer::Done
+}

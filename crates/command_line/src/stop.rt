@@ -1,0 +1,302 @@
+ghost use Rattle.std.specs.Prelude.{◌≡◌, []};
+ghost use Rattle.outside_io.specs.Puts.{Puts, CountsFaults};
+ghost use Rattle.definitions.specs.Diagnostics.{bytes_limit_line, count_limit_line, counted_name, model_line, no_column_line, spent_line, word_line};
+ghost use Rattle.definitions.specs.Limits.{most_counted};
+ghost use Rattle.model_lex.specs.Codes.{diag_code, diag_text};
+ghost use Rattle.command_line.specs.Pieces.{row_line, spent_opening};
+ghost use Rattle.command_line.specs.Stops.{counted, line_of, measured, rows_line, status_of};
+
+use crate::files::{FileKind, FileNames};
+use crate::put::{put_pairs, put_pieces};
+use cov_model::{ParamNo, Tuple};
+use itoa::Buffer;
+use model_lex::{Diag, LimitName, ModelFault};
+use outside_io::{Sink, WriteAnswer};
+use row_text::RowsFault;
+use tuple_index::PlanFault;
+use value_text::NoMemory;
+
+/// What there may be only so many of.
+#[derive(Debug, Drop, Clone, Copy, PartialEq, Eq)]
+pub enum Quantity {
+    /// A part of a model.
+    Part(LimitName),
+    /// Choices of demanded sets.
+    DemandedSets,
+    /// Demanded tuples.
+    DemandedTuples,
+    /// Rows of a file of rows.
+    Rows,
+}
+
+impl Quantity {
+    /// What it is called.
+    fn name(self) -> &'static str
+        ensures { result.now ≡ counted_name (counted self) }
+    {
+        match self {
+            Quantity::Part(LimitName::Params) => "parameters",
+            Quantity::Part(LimitName::Values) => "values",
+            Quantity::Part(LimitName::Names) => "names",
+            Quantity::Part(LimitName::Rules) => "constraints",
+            Quantity::DemandedSets => "demanded sets",
+            Quantity::DemandedTuples => "demanded tuples",
+            Quantity::Rows => "rows",
+        }
+    }
+
+    /// The most there may be.
+    fn most(self) -> u64
+        ensures { result ≡ most_counted (counted self) }
+    {
+        match self {
+            Quantity::Part(limit) => limit.most(),
+            Quantity::DemandedSets => 1 << 20,
+            Quantity::DemandedTuples => 1 << 26,
+            Quantity::Rows => 1 << 20,
+        }
+    }
+}
+
+/// Why a run ended before its output was written whole (this project's rules).
+#[derive(Drop)]
+pub enum Stop {
+    /// Memory was refused: status 1.
+    OutOfMemory,
+    /// The plain cost of the question about this tuple is above this budget: status 2.
+    Spent(u64, Tuple),
+    /// The word of this number, from 1, has no reading: status 3.
+    BadWord(u32),
+    /// A line, a parameter or a group of the model file is refused: status 4.
+    BadModel(Diag),
+    /// A constraint of the model file is refused: status 5.
+    BadConstraint(Diag),
+    /// The file of rows is refused: status 6.
+    BadRows(RowsFault),
+    /// The file of this kind could not be read: status 7.
+    CannotRead(FileKind),
+    /// The file of this kind could not be written whole: status 8.
+    CannotWrite(FileKind),
+    /// The output could not be written whole: status 8.
+    CannotWriteReport,
+    /// There are so many of something, above its limit: status 9.
+    TooMany(Quantity, u64),
+    /// The file of this kind has too many bytes: status 9.
+    TooLong(FileKind),
+}
+
+impl From<NoMemory> for Stop {
+    ghost use Rattle.command_line.specs.declared.stop.Stop.TheVariants as stops;
+
+    ghost from_gives = { λ _ stop. stop ≡ stops.OutOfMemory };
+
+    fn from(_refused: NoMemory) -> Stop {
+        Stop::OutOfMemory
+    }
+}
+
+impl From<ModelFault> for Stop {
+    ghost use Rattle.command_line.specs.Stops.{stop_of_model};
+
+    ghost from_gives = { λ fault stop. stop ≡ stop_of_model fault };
+
+    fn from(fault: ModelFault) -> Stop {
+        match fault {
+            ModelFault::Bad(diag) => Stop::BadModel(diag),
+            ModelFault::BadRule(diag) => Stop::BadConstraint(diag),
+            ModelFault::Limit(limit, count) => Stop::TooMany(Quantity::Part(limit), count),
+            ModelFault::NoMemory => Stop::OutOfMemory,
+        }
+    }
+}
+
+impl From<PlanFault> for Stop {
+    ghost use Rattle.command_line.specs.Stops.{stop_of_plan};
+
+    ghost from_gives = { λ fault stop. stop ≡ stop_of_plan fault };
+
+    fn from(fault: PlanFault) -> Stop {
+        match fault {
+            PlanFault::TooManySets(count) => Stop::TooMany(Quantity::DemandedSets, count),
+            PlanFault::TooManyTuples(count) => Stop::TooMany(Quantity::DemandedTuples, count),
+            PlanFault::NoMemory => Stop::OutOfMemory,
+        }
+    }
+}
+
+impl From<RowsFault> for Stop {
+    ghost use Rattle.command_line.specs.Stops.{stop_of_rows};
+
+    ghost from_gives = { λ fault stop. stop ≡ stop_of_rows fault };
+
+    fn from(fault: RowsFault) -> Stop {
+        match fault {
+            RowsFault::TooManyRows(count) => Stop::TooMany(Quantity::Rows, count),
+            RowsFault::NoMemory => Stop::OutOfMemory,
+            RowsFault::NoHeader => Stop::BadRows(RowsFault::NoHeader),
+            RowsFault::Twice(line) => Stop::BadRows(RowsFault::Twice(line)),
+            RowsFault::Missing(parameter) => Stop::BadRows(RowsFault::Missing(parameter)),
+            RowsFault::Width(line) => Stop::BadRows(RowsFault::Width(line)),
+        }
+    }
+}
+
+/// Writes the line of a refusal of the model file.
+fn put_diag<E: Sink>(diag: &Diag, sink: &mut E) -> WriteAnswer
+    ensures puts { Puts result (E.written sink.old) (E.written sink.new) (model_line diag.now.line (diag_code diag.now.code) (diag_text diag.now.code)) }
+    ensures counts { CountsFaults result (E.faults sink.old) (E.faults sink.new) }
+{
+    let mut buffer = Buffer::new();
+    let line = buffer.format(diag.line);
+    let code = diag.code.code();
+    let text = diag.code.text();
+    put_pieces(
+        sink,
+        &["error: model line ", line, ": ", code, " ", text, "\n"],
+    )
+}
+
+/// Writes the line of a limit.
+fn put_limit<E: Sink>(quantity: Quantity, count: u64, sink: &mut E) -> WriteAnswer
+    ensures puts { Puts result (E.written sink.old) (E.written sink.new) (count_limit_line (counted quantity) count) }
+    ensures counts { CountsFaults result (E.faults sink.old) (E.faults sink.new) }
+{
+    let mut given = Buffer::new();
+    let mut most = Buffer::new();
+    let name = quantity.name();
+    let given = given.format(count);
+    let most = most.format(quantity.most());
+    put_pieces(
+        sink,
+        &["error: limit: ", name, " ", given, " above ", most, "\n"],
+    )
+}
+
+/// Writes the line of a file that is too long.
+fn put_too_long<E: Sink>(kind: FileKind, sink: &mut E) -> WriteAnswer
+    ensures puts { Puts result (E.written sink.old) (E.written sink.new) (bytes_limit_line (measured kind)) }
+    ensures counts { CountsFaults result (E.faults sink.old) (E.faults sink.new) }
+{
+    let mut buffer = Buffer::new();
+    let name = kind.bytes_name();
+    let most = buffer.format(kind.most_bytes());
+    put_pieces(sink, &["error: limit: ", name, " above ", most, "\n"])
+}
+
+/// Writes the line of a refusal of a file of rows at a line, by the text behind the line's number.
+fn put_row_line<E: Sink>(line: u32, text: &str, sink: &mut E) -> WriteAnswer
+    ensures puts { Puts result (E.written sink.old) (E.written sink.new) (row_line line text.now) }
+    ensures counts { CountsFaults result (E.faults sink.old) (E.faults sink.new) }
+{
+    let mut buffer = Buffer::new();
+    let line = buffer.format(line);
+    put_pieces(sink, &["error: row file line ", line, text])
+}
+
+/// Writes the line of a file of rows that has no column for a parameter.
+fn put_no_column<E: Sink>(parameter: ParamNo, sink: &mut E) -> WriteAnswer
+    ensures puts { Puts result (E.written sink.old) (E.written sink.new) (no_column_line parameter) }
+    ensures counts { CountsFaults result (E.faults sink.old) (E.faults sink.new) }
+{
+    let mut buffer = Buffer::new();
+    let number = buffer.format(parameter);
+    put_pieces(
+        sink,
+        &["error: row file: F3 no column for parameter ", number, "\n"],
+    )
+}
+
+/// Writes the line of a refusal of a file of rows.
+fn put_rows_fault<E: Sink>(fault: RowsFault, sink: &mut E) -> WriteAnswer
+    ensures puts { Puts result (E.written sink.old) (E.written sink.new) (rows_line fault) }
+    ensures counts { CountsFaults result (E.faults sink.old) (E.faults sink.new) }
+{
+    match fault {
+        RowsFault::NoHeader => put_pieces(sink, &["error: row file: F1 no header\n"]),
+        RowsFault::Twice(line) => put_row_line(line, ": F2 parameter in two columns\n", sink),
+        RowsFault::Missing(parameter) => put_no_column(parameter, sink),
+        RowsFault::Width(line) => put_row_line(line, ": F4 more cells than the header\n", sink),
+        RowsFault::TooManyRows(count) => put_limit(Quantity::Rows, count, sink),
+        RowsFault::NoMemory => put_pieces(sink, &["error: out of memory\n"]),
+    }
+}
+
+/// Writes how the line of a question whose plain cost is above the budget begins.
+fn put_opening<E: Sink>(budget: u64, sink: &mut E) -> WriteAnswer
+    ensures puts { Puts result (E.written sink.old) (E.written sink.new) (spent_opening budget) }
+    ensures counts { CountsFaults result (E.faults sink.old) (E.faults sink.new) }
+{
+    let mut buffer = Buffer::new();
+    let number = buffer.format(budget);
+    put_pieces(sink, &["error: search budget ", number, " spent on "])
+}
+
+/// Writes the line of a question whose plain cost is above the budget.
+fn put_spent<E: Sink>(budget: u64, question: &Tuple, sink: &mut E) -> WriteAnswer
+    ensures puts { Puts result (E.written sink.old) (E.written sink.new) (spent_line budget question.now) }
+    ensures counts { CountsFaults result (E.faults sink.old) (E.faults sink.new) }
+{
+    match put_opening(budget, sink) {
+        WriteAnswer::Done => {}
+        WriteAnswer::Failed => return WriteAnswer::Failed,
+    }
+    match put_pairs(sink, question.as_slice()) {
+        WriteAnswer::Done => put_pieces(sink, &["\n"]),
+        WriteAnswer::Failed => WriteAnswer::Failed,
+    }
+}
+
+/// Writes the line of a word that has no reading.
+fn put_word<E: Sink>(index: u32, sink: &mut E) -> WriteAnswer
+    ensures puts { Puts result (E.written sink.old) (E.written sink.new) (word_line index) }
+    ensures counts { CountsFaults result (E.faults sink.old) (E.faults sink.new) }
+{
+    let mut buffer = Buffer::new();
+    let number = buffer.format(index);
+    put_pieces(sink, &["error: word ", number, " is not understood\n"])
+}
+
+impl Stop {
+    /// The exit status of a run that ended so.
+    pub fn status(&self) -> u8
+        ensures { result ≡ status_of self.now }
+    {
+        match self {
+            Stop::OutOfMemory => 1,
+            Stop::Spent(..) => 2,
+            Stop::BadWord(_) => 3,
+            Stop::BadModel(_) => 4,
+            Stop::BadConstraint(_) => 5,
+            Stop::BadRows(_) => 6,
+            Stop::CannotRead(_) => 7,
+            Stop::CannotWrite(_) | Stop::CannotWriteReport => 8,
+            Stop::TooMany(..) | Stop::TooLong(_) => 9,
+        }
+    }
+
+    /// Writes the line that says why, where the files have these names. Takes no memory.
+    pub fn put_line<E: Sink>(&self, names: &FileNames<'_>, diag: &mut E) -> WriteAnswer
+        ensures puts { Puts result (E.written diag.old) (E.written diag.new) (line_of self.now names.now) }
+        ensures counts { CountsFaults result (E.faults diag.old) (E.faults diag.new) }
+    {
+        match self {
+            Stop::OutOfMemory => put_pieces(diag, &["error: out of memory\n"]),
+            Stop::Spent(budget, question) => put_spent(*budget, question, diag),
+            Stop::BadWord(index) => put_word(*index, diag),
+            Stop::BadModel(refusal) => put_diag(refusal, diag),
+            Stop::BadConstraint(refusal) => put_diag(refusal, diag),
+            Stop::BadRows(fault) => put_rows_fault(*fault, diag),
+            Stop::CannotRead(kind) => put_pieces(
+                diag,
+                &["error: cannot read ", names.of(*kind), "\n"],
+            ),
+            Stop::CannotWrite(kind) => put_pieces(
+                diag,
+                &["error: cannot write ", names.of(*kind), "\n"],
+            ),
+            Stop::CannotWriteReport => put_pieces(diag, &["error: cannot write the report\n"]),
+            Stop::TooMany(quantity, count) => put_limit(*quantity, *count, diag),
+            Stop::TooLong(kind) => put_too_long(*kind, diag),
+        }
+    }
+}

@@ -1,9 +1,0 @@
-use Rattle.std.proofs.Common.{◌++◌, ap, subst}
-use Rattle.std.specs.Prelude.{codes}
-use Rattle.outside_io.specs.Puts.{Puts}
-use Rattle.pict_cli.proofs.stop.put_word.Goals as goal
-
-pub returns-clause-puts : goal.returns-clause-puts
-returns-clause-puts g c =
-    subst (Puts c.put_pieces.result (g.E.Sink.written c.args.sink.now) (g.E.Sink.written c.put_pieces.new.sink))
-    (ap (λ number. codes "error: word " ++ number ++ codes " is not understood\n") c.format-number.ensures.text) c.put_pieces.ensures.puts
