@@ -14,7 +14,7 @@ use Rattle.definitions.proofs.Demanded.{demanded_has}
 use Rattle.definitions.proofs.InPlay.{tuple_is}
 use Rattle.definitions.proofs.Grown.{IsDemanded}
 
-length-cells_of : (n : ℕ) (pairs : List (ℕ × ℕ)) → length (cells_of n pairs) ≡ n
+pub length-cells_of : (n : ℕ) (pairs : List (ℕ × ℕ)) → length (cells_of n pairs) ≡ n
 length-cells_of n [] = length-replicate n None
 length-cells_of n (pair ∷ pairs) = length-set (cells_of n pairs) pair.0 (Some pair.1) ∙ length-cells_of n pairs
 
@@ -24,7 +24,7 @@ above_first first [] pair rises has = absurd has
 above_first first (next ∷ pairs) pair rises (inl same) = subst (λ p. first.0 < p.0) same rises.0
 above_first first (next ∷ pairs) pair rises (inr has) = let later = above_first next pairs pair rises.1 has in omega (arith, rises.0, later)
 
-behind_first : (first : ℕ × ℕ) (pairs : List (ℕ × ℕ)) → IsRising (first ∷ pairs) → IsRising pairs
+pub behind_first : (first : ℕ × ℕ) (pairs : List (ℕ × ℕ)) → IsRising (first ∷ pairs) → IsRising pairs
 behind_first first [] rises = tt
 behind_first first (next ∷ pairs) rises = rises.1
 

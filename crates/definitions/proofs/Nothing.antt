@@ -19,12 +19,7 @@ none_found {X} f (x ∷ xs) h = at (f x) (none_found f xs) h
     at true later h = absurd (false≢true (ap is_nothing h))
     at false later h = later h
 
--- where each element fails the test, nothing is found and nothing is kept
-pub nothing_found : {X : Type 0} (test : X → Bool) (xs : List X) → All (λ x. test x ≡ false) xs → find test xs ≡ None
-nothing_found test [] fail = refl
-nothing_found test (x ∷ xs) fail =
-    cond-false (test x) _ _ (All-head (λ y. test y ≡ false) x xs fail) ∙ nothing_found test xs (All-tail (λ y. test y ≡ false) x xs fail)
-
+-- where each element fails the test, nothing is kept
 pub nothing_kept : {X : Type 0} (test : X → Bool) (xs : List X) → All (λ x. test x ≡ false) xs → filter test xs ≡ []
 nothing_kept test [] fail = refl
 nothing_kept test (x ∷ xs) fail =

@@ -59,7 +59,7 @@ rising_passes [] rises = refl
 rising_passes (a ∷ []) rises = refl
 rising_passes (a ∷ b ∷ pairs) rises = and_from (nat_lt a.0 b.0) (is_rising (b ∷ pairs)) (lt-ltb a.0 b.0 rises.0) (rising_passes (b ∷ pairs) rises.1)
 
-passes_rising : (pairs : List (ℕ × ℕ)) → is_rising pairs ≡ true → IsRising pairs
+pub passes_rising : (pairs : List (ℕ × ℕ)) → is_rising pairs ≡ true → IsRising pairs
 passes_rising [] passes = tt
 passes_rising (a ∷ []) passes = tt
 passes_rising (a ∷ b ∷ pairs) passes =

@@ -1,9 +1,9 @@
 -- Reading the line of a row gives the row.
-use Rattle.std.proofs.Common.{◌≡◌, ℕ, suc, zero, ◌+◌, ◌%◌, ◌<◌, ◌≤◌, Bool, true, false, List, [], ◌∷◌, map, filter, length, get_or, ◌==◌, nat_lt, All, AllPairs, flat_map, Option, Some, None, is_some, position, sym, refl, ap, ap₂, ◌∙◌, subst, ⊎_elim, arith, ne_eqb, eq-eqb, lt-ltb, unwrap_or, true≢false, ltb-true, eqb-true, mod-lt, zero-add}
-use Rattle.std.specs.List.{list_any, range_with_len, position_or_len}
+use Rattle.std.proofs.Common.{◌≡◌, ℕ, suc, zero, ◌+◌, ◌%◌, ◌<◌, ◌≤◌, Bool, true, false, List, [], ◌∷◌, map, filter, length, get_or, ◌==◌, All, AllPairs, flat_map, Option, Some, None, is_some, position, sym, refl, ap, ap₂, ◌∙◌, subst, ⊎_elim, arith, ne_eqb, eq-eqb, unwrap_or, true≢false, ltb-true, eqb-true, mod-lt, zero-add}
+use Rattle.std.specs.List.{list_any, range_with_len}
 use Rattle.std.proofs.lemmas.Bool.{and_parts, cond-true, cond-false, cases_eq}
 use Rattle.std.proofs.lemmas.List.{get_or-map, length-map, get_or_default, same_lists}
-use Rattle.std.proofs.lemmas.List.Sums.{AllPass-from_list_all, list_all-from_AllPass, position_or_len_is}
+use Rattle.std.proofs.lemmas.List.Sums.{AllPass-from_list_all, list_all-from_AllPass}
 use Rattle.std.proofs.lemmas.List.Folds.{list_any_none, list_any_at}
 use Rattle.std.proofs.lemmas.List.Elements.{All-map}
 use Rattle.std.proofs.lemmas.List.FromFn.{length-range_with_len, get_or-range_with_len, get_or-map-range_with_len, length-map-range_with_len}
@@ -20,6 +20,7 @@ use Rattle.definitions.specs.Report.{printed, cell_text, times_given}
 use Rattle.definitions.specs.RowFile.{named_param, named_value, columns_of, cell_at, row_of_line, cells_of_line}
 use Rattle.definitions.proofs.Cells.{IsCell, IsRow, joined, cells_of_line-joined}
 use Rattle.definitions.proofs.Names.{same_itself, IsUnmarked, marked_apart, apart, name_cell, marked_cell}
+use Rattle.value_text.proofs.ListLemmas.{position_is}
 
 -- what is read past the end of the parameters, and of the values
 abbrev no_param : Param
@@ -27,13 +28,6 @@ no_param = param_at [] 0
 
 abbrev no_value : Value
 no_value = record { names = []; weight = 0; negative = false }
-
--- the first place that passes
-position_is : {X : Type 0} (p : X → Bool) (xs : List X) (i : ℕ) (d : X) → i < length xs → ((k : ℕ) → k < i → p (get_or xs k d) ≡ false)
-    → p (get_or xs i d) ≡ true → position p xs ≡ Some i
-position_is p xs i d within before here =
-    let place : position_or_len p xs ≡ i = position_or_len_is p xs i d (omega arith) before (λ _. here) in
-    cond-true (nat_lt (position_or_len p xs) (length xs)) _ _ (lt-ltb _ _ (omega arith)) ∙ ap Some place
 
 -- a number of a range stands in it once
 filter_above : (test : ℕ → Bool) (a n p : ℕ) → ((k : ℕ) → a ≤ k → k < a + n → test k ≡ (k == p)) → p < a → filter test (range_with_len a n) ≡ []

@@ -12,11 +12,11 @@ use Rattle.definitions.specs.RowReading.{RowReading, RowsFault, Missing, Width, 
 use Rattle.definitions.specs.Laws.{SuitesAreRead}
 use Rattle.definitions.proofs.Nothing.{is_nothing, none_found}
 
-not_given : {X : Type 0} (b : Bool) (x : X) → cond b (Some x) None ≡ None → b ≡ false
+pub not_given : {X : Type 0} (b : Bool) (x : X) → cond b (Some x) None ≡ None → b ≡ false
 not_given true x h = absurd (false≢true (ap is_nothing h))
 not_given false x h = refl
 
-not_mapped : {X Y : Type 0} (f : X → Y) (o : Option X) → option_map f o ≡ None → o ≡ None
+pub not_mapped : {X Y : Type 0} (f : X → Y) (o : Option X) → option_map f o ≡ None → o ≡ None
 not_mapped f (Some x) h = absurd (false≢true (ap is_nothing h))
 not_mapped f None h = refl
 

@@ -55,7 +55,7 @@ all_range f g a (suc n) (suc k) ys within h =
     subst (λ (i : ℕ). f (g i) ≡ true) same (all_range f g (a + 1) n k ys (omega arith) (right (f (g a)) _ h))
 
 -- a row contains what it contains with one of its own values
-contains-with : (row path : List (Option ℕ)) (p v : ℕ) → contains row path ≡ true → get_or row p None ≡ Some v → contains row (with_value path p v) ≡ true
+pub contains-with : (row path : List (Option ℕ)) (p v : ℕ) → contains row path ≡ true → get_or row p None ≡ Some v → contains row (with_value path p v) ≡ true
 contains-with row [] p v h own = refl
 contains-with [] (cell ∷ path) p v h own = absurd (false≢true (ap is_some own))
 contains-with (None ∷ row) (cell ∷ path) zero v h own = absurd (false≢true (ap is_some own))

@@ -17,7 +17,8 @@ use Rattle.definitions.specs.Laws.{ReportsReadBack, ReportsAreRead}
 use Rattle.definitions.proofs.Cells.{joined, cells_of_line-joined}
 use Rattle.definitions.proofs.ReadRow.{header, header_row, columns_of-header, named_param-header, each_param, row_cells, row_cells_row, cell_text_cell, row_given, row_of_line-joined}
 use Rattle.definitions.proofs.ReadBack.{table, lines_of, filled_lines-report, each_line, is_wide, row_fits, read_back}
-use Rattle.definitions.proofs.Nothing.{no_first, nothing_found, nothing_kept, nothing_joined}
+use Rattle.definitions.proofs.Nothing.{no_first, nothing_kept, nothing_joined}
+use Rattle.value_text.proofs.ListLemmas.{nothing_found}
 
 length-table : (m : ModelView) (earlier rows : List (List (Option ℕ))) → length (table m earlier rows) ≡ length rows
 length-table m earlier [] = refl

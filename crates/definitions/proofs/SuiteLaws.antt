@@ -23,7 +23,6 @@ use Rattle.definitions.specs.Verdict.{Accepted, as_cells, listed, first_uncovere
 use Rattle.definitions.specs.Laws.{IsTokenOf, IsOmissionOf, IsGrownSuite}
 use Rattle.definitions.specs.SuiteLaws.{IsSoundProof, SuiteProofsRefute, SuiteProofsAreOfModels, SuiteProofsReadBack, SuiteProofsList, IsRefutedIn, SuitesServeOrRefute, SuiteProofsAreAccepted}
 use Rattle.definitions.proofs.Contained.{left}
-use Rattle.definitions.proofs.Nothing.{nothing_found}
 use Rattle.definitions.proofs.Members.{Has, has_contained, contains_member, all_members, member_of_all, has_map, of_map, any_member, of_any, same_answer}
 use Rattle.definitions.proofs.PartialRowLemmas.{same-refl, same-sym, same-trans}
 use Rattle.definitions.proofs.Grown.{IsDemanded, IsOmitted, of_omitted}
@@ -33,6 +32,7 @@ use Rattle.definitions.proofs.ProofWords.{IsPair}
 use Rattle.definitions.proofs.ProofFiles.{proofs_read_back}
 use Rattle.definitions.proofs.NamedPairs.{pair_exists, demanded_some}
 use Rattle.definitions.proofs.TreeTokens.{eager_refute, member_has_tree, tokens_are, some_tokens}
+use Rattle.value_text.proofs.ListLemmas.{nothing_found}
 
 pub suite_proofs_refute : SuiteProofsRefute
 suite_proofs_refute m pref seeds format bytes is =

@@ -6,7 +6,7 @@ use Rattle.std.proofs.Math.Numerals.{add-one}
 use Rattle.std.proofs.lemmas.Option.{slice_get-get_or}
 use Rattle.std.proofs.lemmas.Bool.{false≢true, cases_Bool, cases_eq, and_parts, cases_lt, false_from_ne_true, leb-true, not-false, not-true}
 use Rattle.std.proofs.lemmas.List.{get_or-set_other, get_or-set_same, length-replicate}
-use Rattle.value_text.proofs.ListLemmas.{Some-unwrap_or}
+use Rattle.value_text.proofs.ListLemmas.{Some-unwrap_or, nothing_found}
 use Rattle.cov_model.specs.declared.slice.Slice.{Slice}
 use Rattle.cov_model.specs.declared.slice.Slice.TheVariants.{Positive, Negative}
 use Rattle.cov_model.specs.Sound.{ModelView, param_at}
@@ -23,7 +23,6 @@ use Rattle.definitions.specs.Refutation.{is_negative_leaf, is_omission_leaf}
 use Rattle.definitions.specs.Search.{breaks_a_rule}
 use Rattle.definitions.specs.SliceRows.{IsOfSlice, IsSliceOf}
 use Rattle.definitions.proofs.Members.{Has, all_members, any_member, of_among, of_any, same_answer}
-use Rattle.definitions.proofs.Nothing.{nothing_found}
 use Rattle.definitions.proofs.SliceLemmas.{HasFixed, IsSlice, has_negatives, of_negatives, slice_is}
 use Rattle.live_sets.specs.Trail.{LiveView, mark_at}
 use Rattle.feasibility.specs.Live.{HasUnmarked, ShowsFailure, ShowsLive}

@@ -6,12 +6,12 @@ use Rattle.std.specs.List.{slice_split, position, position_or_len, before_first,
 use Rattle.std.specs.Prelude.{Some, None, nat_lt}
 use Rattle.model_lex.specs.Lines.{ended_lines, file_lines, is_line_feed, without_return}
 
-ended_lines-cons : (line : List ℕ) (lines : List (List ℕ)) → 0 < length lines → ended_lines (line ∷ lines) ≡ line ∷ ended_lines lines
+pub ended_lines-cons : (line : List ℕ) (lines : List (List ℕ)) → 0 < length lines → ended_lines (line ∷ lines) ≡ line ∷ ended_lines lines
 ended_lines-cons line [] some = absurd (omega arith)
 ended_lines-cons line (next ∷ lines) some = refl
 
 -- a text without line feeds is one piece
-one_piece : (text : List ℕ) → length text ≤ position_or_len is_line_feed text → slice_split is_line_feed text ≡ text ∷ []
+pub one_piece : (text : List ℕ) → length text ≤ position_or_len is_line_feed text → slice_split is_line_feed text ≡ text ∷ []
 one_piece [] whole = refl
 one_piece (b ∷ text) whole = at (is_line_feed b) refl (one_piece text)
   where

@@ -1,24 +1,11 @@
 -- Names in the keys of a set.
-use Rattle.std.proofs.Common.{◌≡◌, ℕ, ◌+◌, Bool, false, not, ◌||◌, cond, List, [], ◌∷◌, ◌++◌, map, length, Option, Some, None, refl, sym, ◌∙◌, ap, position, nat_lt}
-use Rattle.std.proofs.lemmas.List.{length-map, map-append}
-use Rattle.std.specs.List.{list_any, prefix_len, position_or_len}
+use Rattle.std.proofs.Common.{◌≡◌, ℕ, Bool, false, cond, List, [], ◌∷◌, ◌++◌, map, Option, refl, ◌∙◌, ap, position}
+use Rattle.std.proofs.lemmas.List.{map-append}
+use Rattle.std.specs.List.{list_any}
 use Rattle.std.specs.Str.{bytes_eq}
 use Rattle.value_text.specs.Texts.{folded}
 use Rattle.model_parse.specs.Values.{is_known, place_of}
-
-module _ {K : Type 0} (text : K → List ℕ) (q : List ℕ) where
-  any_text : (keys : List K) → list_any (λ key. bytes_eq q (text key)) keys ≡ list_any (bytes_eq q) (map text keys)
-  any_text [] = refl
-  any_text (key ∷ keys) = ap (λ b. bytes_eq q (text key) || b) (any_text keys)
-
-  others_text : (keys : List K) → prefix_len (λ key. not (bytes_eq q (text key))) keys ≡ prefix_len (λ t. not (bytes_eq q t)) (map text keys)
-  others_text [] = refl
-  others_text (key ∷ keys) = ap (λ n. cond (not (bytes_eq q (text key))) (1 + n) 0) (others_text keys)
-
-  place_text : (keys : List K) → position (λ key. bytes_eq q (text key)) keys ≡ position (bytes_eq q) (map text keys)
-  place_text keys =
-      ap (λ n. cond (nat_lt n (length keys)) (Some n) None) (others_text keys)
-      ∙ ap (λ n. cond (nat_lt (position_or_len (bytes_eq q) (map text keys)) n) (Some (position_or_len (bytes_eq q) (map text keys))) None) (sym (length-map keys text))
+use Rattle.value_text.proofs.ListLemmas.{any_text, place_text}
 
 module _ {K : Type 0} (text : K → List ℕ) (fold : Bool) (name q : List ℕ) (keys : List K) (names : List (List ℕ)) where
   pub known_is : (known : Bool) → known ≡ list_any (λ key. bytes_eq q (text key)) keys → q ≡ folded fold name → map text keys ≡ names → known ≡ is_known fold names name

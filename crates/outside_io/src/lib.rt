@@ -7,8 +7,8 @@
 //!   never fail, and `RealFolder` and `RealSink` are the edge to the operating system's files and
 //!   streams.
 //! - `write_file` and `put` take no memory of the caller.
-//! - Who writes several texts in a row says what a sink did by `Puts`, `Leaves`, `Balances` and
-//!   `CountsFaults`, which compose by the laws beside them.
+//! - Who writes several texts in a row, as `put_pieces` does, says what a sink did by `Puts`,
+//!   `Leaves`, `Balances` and `CountsFaults`, which compose by the laws beside them.
 #![tactic(auto)]
 
 mod answers;
@@ -18,6 +18,7 @@ mod gate;
 mod mem_file;
 mod mem_folder;
 mod mem_sink;
+mod pieces;
 mod real_folder;
 mod real_sink;
 mod sink;
@@ -32,6 +33,7 @@ pub use folder::Folder;
 pub use gate::{Gate, OpenGate};
 pub use mem_folder::{Calls, MemFolder};
 pub use mem_sink::MemSink;
+pub use pieces::put_pieces;
 pub use real_folder::RealFolder;
 pub use real_sink::RealSink;
 pub use sink::Sink;

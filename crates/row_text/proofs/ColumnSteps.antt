@@ -1,5 +1,5 @@
 -- How the columns of a header are read and checked.
-use Rattle.std.proofs.Common.{◌≡◌, ℕ, suc, ◌+◌, ◌<◌, ◌≤◌, Bool, true, false, cond, List, [], ◌∷◌, ◌++◌, map, filter, length, get_or, set, take, inl, inr, All, Option, Some, None, is_none, position, find, nat_lt, refl, sym, ◌∙◌, ap, ap₂, arith, zero-add}
+use Rattle.std.proofs.Common.{◌≡◌, ℕ, ◌+◌, ◌<◌, ◌≤◌, Bool, true, false, cond, List, [], ◌∷◌, ◌++◌, map, filter, length, get_or, set, take, inl, inr, All, Option, Some, None, is_none, position, find, nat_lt, refl, sym, ◌∙◌, ap, ap₂, arith, zero-add}
 use Rattle.std.specs.Prelude.{◌==◌, IfSome, nat_eq}
 use Rattle.std.specs.List.{count_by, list_any, position_or_len, range_with_len, slice_get}
 use Rattle.std.proofs.lemmas.Bool.{cases_eq, cond-false, cond-true, eq-eqb, ltb-false, ltb-true, ne_eqb}
@@ -12,7 +12,7 @@ use Rattle.std.proofs.lemmas.List.FromFn.{get_or-range_with_len, length-range_wi
 use Rattle.std.proofs.lemmas.List.Quantifiers.{position-Some}
 use Rattle.std.proofs.lemmas.List.Sums.{count_by-le-length, length-filter}
 use Rattle.std.proofs.lemmas.Option.{slice_get-get_or, slice_get_past}
-use Rattle.value_text.proofs.ListLemmas.{list_any-map, map-get_or-range_with_len}
+use Rattle.value_text.proofs.ListLemmas.{list_any-map, map-get_or-range_with_len, count_map}
 use Rattle.value_text.specs.Texts.{is_same_text}
 use Rattle.cov_model.specs.Sound.{ModelView, no_param}
 use Rattle.cov_model.specs.Valid.{param_numbers}
@@ -80,18 +80,6 @@ header_ends m cells left line columns notes so_far none = (
 
 -- ---- how many columns each parameter has
 
-count_by-map : {X Y : Type 0} (test : Y → Bool) (f : X → Y) (xs : List X) → count_by test (map f xs) ≡ count_by (λ x. test (f x)) xs
-count_by-map test f xs = sym (length-filter test (map f xs)) ∙ filtered xs ∙ length-filter (λ x. test (f x)) xs
-  where
-    filtered : (xs : List _) → length (filter test (map f xs)) ≡ length (filter (λ x. test (f x)) xs)
-    filtered [] = refl
-    filtered (x ∷ xs) = at (test (f x)) (filtered xs)
-      where
-        at : (b : Bool) → length (filter test (map f xs)) ≡ length (filter (λ x. test (f x)) xs)
-            → length (cond b (f x ∷ filter test (map f xs)) (filter test (map f xs))) ≡ length (cond b (x ∷ filter (λ x. test (f x)) xs) (filter (λ x. test (f x)) xs))
-        at true later = ap suc later
-        at false later = later
-
 -- whether a column is of the parameter
 abbrev pub is_of : ℕ → Option ℕ → Bool
 is_of p column = option_map_or (λ q. nat_eq q p) column false
@@ -100,9 +88,9 @@ pub column_count-counts : (m : ModelView) (header : List (List ℕ)) (p : ℕ) �
 column_count-counts m header p =
     let test : List ℕ → Bool = λ cell. is_of p (named_param m cell) in
     length-filter (λ c. test (get_or header c [])) (range_with_len 0 (length header))
-    ∙ sym (count_by-map test (λ c. get_or header c []) (range_with_len 0 (length header)))
+    ∙ sym (count_map test (λ c. get_or header c []) (range_with_len 0 (length header)))
     ∙ ap (count_by test) (map-get_or-range_with_len header [])
-    ∙ sym (count_by-map (is_of p) (named_param m) header)
+    ∙ sym (count_map (is_of p) (named_param m) header)
 
 count_more : (p : ℕ) (columns : List (Option ℕ)) (k : ℕ) (d : Option ℕ) → k < length columns
     → count_by (is_of p) (take (k + 1) columns) ≡ count_by (is_of p) (take k columns) + cond (is_of p (get_or columns k d)) 1 0

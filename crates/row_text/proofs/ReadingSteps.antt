@@ -1,9 +1,9 @@
 -- How a row file is read line by line, and what its checks find.
-use Rattle.std.proofs.Common.{◌≡◌, ℕ, suc, ◌<◌, ◌≤◌, Bool, true, false, cond, not, List, [], ◌∷◌, ◌++◌, map, length, get_or, All, AllPairs, Option, Some, None, is_some, unwrap_or, Ok, Err, find, nat_lt, refl, sym, ◌∙◌, ap, ap₂, subst, arith, zero-add}
+use Rattle.std.proofs.Common.{◌≡◌, ℕ, suc, ◌<◌, ◌≤◌, Bool, true, not, List, [], ◌∷◌, ◌++◌, map, length, get_or, All, AllPairs, Option, Some, None, is_some, unwrap_or, Ok, Err, find, nat_lt, refl, sym, ◌∙◌, ap, ap₂, subst, arith, zero-add}
 use Rattle.std.specs.Prelude.{IfSome}
 use Rattle.std.specs.List.{flat_map, list_any}
-use Rattle.std.specs.Option.{option_map, option_or}
-use Rattle.std.proofs.lemmas.Bool.{cond-true, both_ways, false_from_ne_true, ltb-false, not-true, true≢false}
+use Rattle.std.specs.Option.{option_or}
+use Rattle.std.proofs.lemmas.Bool.{both_ways, false_from_ne_true, ltb-false, not-true, true≢false}
 use Rattle.std.proofs.lemmas.Option.{none-some}
 use Rattle.std.proofs.lemmas.List.{append-nil, append_assoc, get_or-map, length-map, map-append}
 use Rattle.std.proofs.lemmas.List.Elements.{All-head, All-tail}
@@ -34,6 +34,7 @@ use Rattle.row_text.specs.declared.row_file.FileRow.{FileRow}
 use Rattle.row_text.specs.declared.row_file.RowFile.{RowFile}
 use Rattle.row_text.specs.declared.rows_fault.RowsFault.{RowsFault}
 use Rattle.row_text.proofs.LineSteps.{rising}
+use Rattle.definitions.proofs.Readings.{not_given, not_mapped}
 
 -- ---- line by line
 
@@ -91,31 +92,24 @@ lines_end m columns start lines left rows notes so_far none = (
 
 -- ---- what follows where no fault is found
 
-nothing_given : {X : Type 0} (b : Bool) (x : X) → cond b (Some x) None ≡ None → b ≡ false
-nothing_given b x none = false_from_ne_true b (λ e. none-some x (sym none ∙ cond-true b (Some x) None e))
-
 pub once_from_fault : (m : ModelView) (line : ℕ) (header : List (List ℕ)) → twice_fault m line header ≡ None → AreOnce m header
 once_from_fault m line header none p within =
     let test : ℕ → Bool = λ q. nat_lt 1 (column_count m header q) in
     let size = length-range_with_len 0 (length m.params) in
     let at : get_or (param_numbers m) p 0 ≡ p = get_or-range_with_len 0 (length m.params) p 0 within ∙ zero-add p in
     ltb-false 1 (column_count m header p) (false_from_ne_true (test p) (λ is.
-    both_ways (list_any test (param_numbers m)) (nothing_given (list_any test (param_numbers m)) (defined.Twice line) none)
+    both_ways (list_any test (param_numbers m)) (not_given (list_any test (param_numbers m)) (defined.Twice line) none)
     (list_any_at test (param_numbers m) p 0 (omega (arith, size, within)) (ap test at ∙ is))))
-
-nothing_found : {X Y : Type 0} (f : X → Y) (o : Option X) → option_map f o ≡ None → o ≡ None
-nothing_found f None none = refl
-nothing_found f (Some x) none = absurd (none-some (f x) (sym none))
 
 pub narrow_from_fault : (header : List (List ℕ)) (lines : List (ℕ × List ℕ)) → width_fault header lines ≡ None → All (λ line. length (cells_of_line line.1) ≤ length header) lines
 narrow_from_fault header lines none k d within =
     let test : ℕ × List ℕ → Bool = λ line. nat_lt (length header) (length (cells_of_line line.1)) in
-    let none_wide = none_found test lines (nothing_found (λ line. defined.Width line.0) (find test lines) none) in
+    let none_wide = none_found test lines (not_mapped (λ line. defined.Width line.0) (find test lines) none) in
     ltb-false (length header) (length (cells_of_line (get_or lines k d).1))
     (not-true (test (get_or lines k d)) (AllPass-from_list_all (λ line. not (test line)) lines none_wide k d within))
 
 pub few_from_fault : (count : ℕ) → count_fault count ≡ None → count ≤ most_counted Rows
-few_from_fault count none = ltb-false (most_counted Rows) count (nothing_given (nat_lt (most_counted Rows) count) (defined.TooManyRows count) none)
+few_from_fault count none = ltb-false (most_counted Rows) count (not_given (nat_lt (most_counted Rows) count) (defined.TooManyRows count) none)
 
 -- ---- what every row that is read keeps
 

@@ -14,6 +14,7 @@ use Rattle.std.proofs.lemmas.List.Sums.{position_or_len_is}
 use Rattle.std.proofs.lemmas.Option.{slice_get-get_or}
 use Rattle.seq_check.specs.Orders.{distinct_lists, is_among, lengthened}
 use Rattle.seq_check.specs.EventSets.{IsFront, OpenView, Tells, is_open}
+use Rattle.value_text.proofs.ListLemmas.{nothing_found}
 
 -- among items that were kept and changed
 kept : (test : List ℕ → Bool) (f : ℕ → List ℕ) (q : ℕ → Bool) (xs : List ℕ) → find test (map f (filter q xs)) ≡ option_map f (find (λ x. q x && test (f x)) xs)
@@ -37,13 +38,9 @@ first_number p n k within passes fails =
     find_at p (range_with_len 0 n) ∙ ap (slice_get (range_with_len 0 n)) placed
     ∙ slice_get-get_or (range_with_len 0 n) k 0 (rw (length-range_with_len 0 n) within) ∙ ap Some (read k within)
 
-pub no_item : {X : Type 0} (p : X → Bool) (xs : List X) → All (λ x. p x ≡ false) xs → find p xs ≡ None
-no_item p [] all = refl
-no_item p (x ∷ xs) all = rw (All-head (λ y. p y ≡ false) x xs all) (no_item p xs (All-tail (λ y. p y ≡ false) x xs all))
-
 pub no_number : (p : ℕ → Bool) (n : ℕ) → ((i : ℕ) → i < n → p i ≡ false) → find p (range_with_len 0 n) ≡ None
 no_number p n fails =
-    no_item p (range_with_len 0 n) (All-from_get_or (λ x. p x ≡ false) (range_with_len 0 n) 0
+    nothing_found p (range_with_len 0 n) (All-from_get_or (λ x. p x ≡ false) (range_with_len 0 n) 0
     (λ i within. let below : i < n = rw length-range_with_len at within in ap p (get_or-range_with_len 0 n i 0 below ∙ zero-add i) ∙ fails i below))
 
 pub swapped : (a b : Bool) → (a && b) ≡ (b && a)

@@ -1,24 +1,12 @@
 -- How a report is cut into lines, one after another.
-use Rattle.std.proofs.Common.{◌≡◌, ℕ, suc, ◌+◌, ◌<◌, ◌≤◌, Bool, true, false, cond, List, [], ◌∷◌, length, take, drop, refl, arith}
+use Rattle.std.proofs.Common.{◌≡◌, ℕ, ◌+◌, ◌<◌, Bool, true, false, cond, List, [], ◌∷◌, length, take, drop, refl, arith}
 use Rattle.std.proofs.lemmas.Bool.{ltb-true, ltb-false, ne_eqb}
 use Rattle.std.proofs.lemmas.List.Splits.{slice_split_first, length-slice_split}
 use Rattle.std.specs.List.{slice_split, position, position_or_len, before_first, after_first}
 use Rattle.std.specs.Prelude.{Some, None, nat_lt}
-use Rattle.model_lex.specs.Lines.{ended_lines, is_line_feed}
+use Rattle.model_lex.specs.Lines.{is_line_feed}
 use Rattle.seq_check.specs.OrderReport.{report_lines}
-
-ended_more : (line : List ℕ) (lines : List (List ℕ)) → 0 < length lines → ended_lines (line ∷ lines) ≡ line ∷ ended_lines lines
-ended_more line [] some = absurd (omega arith)
-ended_more line (next ∷ lines) some = refl
-
--- a text without line feeds is one piece
-one_piece : (text : List ℕ) → length text ≤ position_or_len is_line_feed text → slice_split is_line_feed text ≡ text ∷ []
-one_piece [] whole = refl
-one_piece (b ∷ text) whole = at (is_line_feed b) refl (one_piece text)
-  where
-    at : (ends : Bool) → is_line_feed b ≡ ends → (length text ≤ position_or_len is_line_feed text → slice_split is_line_feed text ≡ text ∷ []) → slice_split is_line_feed (b ∷ text) ≡ (b ∷ text) ∷ []
-    at true e rest = let over : suc (length text) ≤ 0 = rw e at whole in absurd (omega arith)
-    at false e rest = let left : suc (length text) ≤ 1 + position_or_len is_line_feed text = rw e at whole in rw (e, rest (omega arith)) refl
+use Rattle.model_lex.proofs.Cutting.{ended_lines-cons, one_piece}
 
 -- the line before the first line feed, and those behind it
 pub first_line : (text : List ℕ) (end : ℕ) → position is_line_feed text ≡ Some end → report_lines text ≡ take end text ∷ report_lines (drop (end + 1) text)
@@ -33,7 +21,7 @@ first_line text end found = at (nat_lt (position_or_len is_line_feed text) (leng
         → report_lines text ≡ take end text ∷ report_lines (drop (end + 1) text)
     at true e is_end =
         let place : position_or_len is_line_feed text ≡ end = cc in
-        rw (← place, slice_split_first is_line_feed text 0 (ltb-true _ _ e), ended_more (before_first is_line_feed text) (slice_split is_line_feed behind) (omega (arith, length-slice_split is_line_feed behind))) refl
+        rw (← place, slice_split_first is_line_feed text 0 (ltb-true _ _ e), ended_lines-cons (before_first is_line_feed text) (slice_split is_line_feed behind) (omega (arith, length-slice_split is_line_feed behind))) refl
     at false e is_end = cc
 
 -- without a line feed there is one line

@@ -1,8 +1,8 @@
 -- Names of events, as texts and in the keys of a set.
-use Rattle.std.proofs.Common.{◌≡◌, ℕ, ◌+◌, ◌<◌, Bool, true, false, not, ◌||◌, cond, List, [], ◌∷◌, ◌++◌, map, length, Option, Some, None, Result, Ok, Err, IfOk, is_ok, refl, sym, ◌∙◌, ap, position, nat_lt, eqb, arith, get_or, AllPairs, ◌≢◌, length-append}
+use Rattle.std.proofs.Common.{◌≡◌, ℕ, ◌<◌, Bool, true, false, ◌||◌, cond, List, [], ◌∷◌, ◌++◌, map, length, Option, Some, None, Result, Ok, Err, IfOk, is_ok, refl, sym, ◌∙◌, ap, position, nat_lt, eqb, arith, get_or, AllPairs, ◌≢◌, length-append}
 use Rattle.std.proofs.lemmas.Bool.{and_parts, both_ways}
 use Rattle.std.proofs.lemmas.Bool.Decides.{nat_tests}
-use Rattle.std.proofs.lemmas.List.{length-map, map-append}
+use Rattle.std.proofs.lemmas.List.{map-append}
 use Rattle.std.proofs.lemmas.List.Elements.{All-weaker, All-push}
 use Rattle.std.proofs.lemmas.List.Folds.{list_any_at}
 use Rattle.std.proofs.lemmas.List.Quantifiers.{all_pairs_push}
@@ -12,9 +12,9 @@ use Rattle.std.proofs.lemmas.Str.{IsUtf8-from_ascii}
 use Rattle.std.proofs.lemmas.Str.Ascii.{IsAscii-from_all}
 use Rattle.seq_check.specs.Reading.{AreKnown, Declared}
 use Rattle.std.specs.Char.{is_ascii_alphanumeric}
-use Rattle.std.specs.List.{list_any, prefix_len, position_or_len}
+use Rattle.std.specs.List.{list_any}
 use Rattle.std.specs.Str.{bytes_eq, IsUtf8}
-use Rattle.value_text.proofs.ListLemmas.{list_any-position}
+use Rattle.value_text.proofs.ListLemmas.{list_any-position, any_text, place_text}
 use Rattle.seq_check.specs.Events.{is_name}
 use Rattle.seq_check.specs.EventFile.{number_of}
 
@@ -29,21 +29,8 @@ name_utf8 name is =
     (AllPass-from_list_all (λ b. is_ascii_alphanumeric b || eqb b 95) name (and_parts _ _ is).1)))
 
 module _ {K : Type 0} (text : K → List ℕ) (q : List ℕ) where
-  any_text : (keys : List K) → list_any (λ key. bytes_eq q (text key)) keys ≡ list_any (bytes_eq q) (map text keys)
-  any_text [] = refl
-  any_text (key ∷ keys) = ap (λ b. bytes_eq q (text key) || b) (any_text keys)
-
-  others_text : (keys : List K) → prefix_len (λ key. not (bytes_eq q (text key))) keys ≡ prefix_len (λ t. not (bytes_eq q t)) (map text keys)
-  others_text [] = refl
-  others_text (key ∷ keys) = ap (λ n. cond (not (bytes_eq q (text key))) (1 + n) 0) (others_text keys)
-
-  place_text : (keys : List K) → position (λ key. bytes_eq q (text key)) keys ≡ position (bytes_eq q) (map text keys)
-  place_text keys =
-      ap (λ n. cond (nat_lt n (length keys)) (Some n) None) (others_text keys)
-      ∙ ap (λ n. cond (nat_lt (position_or_len (bytes_eq q) (map text keys)) n) (Some (position_or_len (bytes_eq q) (map text keys))) None) (sym (length-map keys text))
-
   pub number_is : (name : List ℕ) (keys : List K) (names : List (List ℕ)) (number : Option ℕ) → number ≡ position (λ key. bytes_eq q (text key)) keys → q ≡ name → map text keys ≡ names → number ≡ number_of names name
-  number_is name keys names number e same views = e ∙ place_text keys ∙ ap (λ t. position (bytes_eq t) (map text keys)) same ∙ ap (λ ns. position (bytes_eq name) ns) views
+  number_is name keys names number e same views = e ∙ place_text text q keys ∙ ap (λ t. position (bytes_eq t) (map text keys)) same ∙ ap (λ ns. position (bytes_eq name) ns) views
 
 -- a name without a number is none of the names
 none_past : (n len : ℕ) (within : Bool) → nat_lt n len ≡ within → cond within (Some n) None ≡ None → within ≡ false

@@ -6,8 +6,7 @@ use Rattle.std.proofs.lemmas.List.{append-nil, get_or-map, get_or-append_right, 
 use Rattle.std.proofs.lemmas.List.Elements.{All-append, All-head, All-map, All-tail, All-weaker, filter_map-append}
 use Rattle.std.proofs.lemmas.List.Folds.{Any-from_list_any, list_any_at, list_any_none}
 use Rattle.std.proofs.lemmas.Slice.Eq.{bytes_eq-Decides}
-use Rattle.value_text.proofs.ListLemmas.{list_any-position}
-use Rattle.seq_check.proofs.FindLemmas.{no_item}
+use Rattle.value_text.proofs.ListLemmas.{list_any-position, nothing_found}
 use Rattle.seq_check.specs.Events.{AreEvents, EventsView}
 use Rattle.seq_check.specs.OrderReport.{ReportLine, Row, Never, is_wrong, never_line, never_named, report_line_of, report_lines, row_line, row_named}
 use Rattle.seq_check.specs.Orders.{has, has_each, is_cycle, is_had, is_permitted, is_sequence, keeps, sequences}
@@ -165,7 +164,7 @@ module _ (e : EventsView) (kept : AreEvents e) (suite : OrderSuite) (good : IsGo
 
   module _ (met : All (IsMet e kept suite) (sequences e)) where
     none_left : find (is_left read) (sequences e) ≡ None
-    none_left = no_item (is_left read) (sequences e) (All-weaker (IsMet e kept suite) (λ s. is_left read s ≡ false) not_left (sequences e) met)
+    none_left = nothing_found (is_left read) (sequences e) (All-weaker (IsMet e kept suite) (λ s. is_left read s ≡ false) not_left (sequences e) met)
 
     pub accepted_is : verdict e (report_text e suite) ≡ Accepted (length suite.rows) (length suite.never)
     accepted_is =

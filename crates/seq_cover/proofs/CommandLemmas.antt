@@ -4,19 +4,13 @@ use Rattle.std.specs.List.{cons_option}
 use Rattle.std.specs.String.{string_bytes}
 use Rattle.std.specs.declared.string.String.{String}
 use Rattle.std.specs.declared.alloc.Global.{Global}
-use Rattle.std.proofs.lemmas.Bool.{le-ltb, lt-ltb}
+use Rattle.std.proofs.lemmas.Bool.{le-ltb}
 use Rattle.std.proofs.lemmas.List.{get_or-map, length-map, take_more}
 use Rattle.std.proofs.lemmas.List.Elements.{filter_map-append}
 use Rattle.std.proofs.lemmas.List.Sums.{fold_push, position_or_len_is}
 use Rattle.seq_cover.specs.Words.{Setting, asked_by, asked_of, set, set_by, setting_of, texts}
 
--- the first that passes, by those before it
-pub placed_at : {X : Type 0} (p : X → Bool) (xs : List X) (i : ℕ) (d : X) → i < length xs → ((k : ℕ) → k < i → p (get_or xs k d) ≡ false) → p (get_or xs i d) ≡ true
-    → position p xs ≡ Some i
-placed_at p xs i d within fails passes =
-    ap (λ n. cond (nat_lt n (length xs)) (Some n) None) (position_or_len_is p xs i d (omega (arith, within)) fails (λ _. passes))
-    ∙ ap (λ b. cond b (Some i) None) (lt-ltb i (length xs) within)
-
+-- none passes, by all of them
 pub placed_nowhere : {X : Type 0} (p : X → Bool) (xs : List X) (i : ℕ) (d : X) → length xs ≤ i → i ≤ length xs → ((k : ℕ) → k < i → p (get_or xs k d) ≡ false) → position p xs ≡ None
 placed_nowhere p xs i d past within fails =
     ap (λ n. cond (nat_lt n (length xs)) (Some n) None) (position_or_len_is p xs i d within fails (λ inside. absurd (omega (arith, inside, past))))

@@ -13,7 +13,6 @@ pub mod SequenceLaws
 pub mod CoverLaws
 pub mod ReportLaws
 pub mod AcceptedLaws
-pub mod PutPieces
 pub mod TextLemmas
 pub mod Stopping
 pub mod CommandLemmas

@@ -15,7 +15,6 @@ mod cycle;
 mod grow;
 mod in_memory;
 mod load;
-mod put;
 mod row;
 mod run;
 mod setting;

@@ -6,9 +6,8 @@ ghost use Rattle.seq_cover.specs.Commands.{asked_seen};
 ghost use Rattle.seq_cover.specs.Stops.{count_limit_line, ended_status, line_of, measured, most_of, name_of, status_of};
 
 use crate::command::Command;
-use crate::put::put_pieces;
 use itoa::Buffer;
-use outside_io::{Sink, WriteAnswer};
+use outside_io::{Sink, WriteAnswer, put_pieces};
 use seq_check::{EventCode, EventLimit, EventsFault};
 use value_text::NoMemory;
 

@@ -1,7 +1,6 @@
 -- Rows whose cells are tested one by one are of the positive slice.
-use Rattle.std.proofs.Common.{◌≡◌, ℕ, ◌<◌, true, false, not, List, length, get_or, Option, Some, None, is_some, unwrap_or, ◌∙◌, sym, ap, subst, inl, inr}
-use Rattle.std.proofs.lemmas.Bool.{false≢true, cases_lt}
-use Rattle.std.proofs.lemmas.List.{get_or_past}
+use Rattle.std.proofs.Common.{◌≡◌, ℕ, ◌<◌, true, false, not, List, length, get_or, Option, Some, None, is_some, unwrap_or, sym, ap, subst}
+use Rattle.std.proofs.lemmas.Bool.{false≢true}
 use Rattle.cov_model.specs.declared.slice.Slice.TheVariants.{Positive}
 use Rattle.cov_model.specs.Sound.{ModelView, param_at}
 use Rattle.cov_model.specs.Meaning.{value_at}
@@ -12,6 +11,7 @@ use Rattle.definitions.specs.Demand.{is_among}
 use Rattle.definitions.proofs.Members.{has_filter, among_has}
 use Rattle.definitions.proofs.SliceLemmas.{values_at, values_positive, has_numbers}
 use Rattle.test_models.specs.Rows.{IsPositiveCell}
+use Rattle.cov_model.proofs.CellLemmas.{assigned_within}
 
 -- a value that exists and isn't negative is one of the positive slice
 listed_value : (m : ModelView) (p v : ℕ) → p < length m.params → v < length (param_at m.params p).values
@@ -19,14 +19,6 @@ listed_value : (m : ModelView) (p v : ℕ) → p < length m.params → v < lengt
 listed_value m p v within exists positive =
     subst (λ (values : List ℕ). is_among values v ≡ true) (sym (values_positive m p within))
     (among_has _ v (has_filter (λ w. not (value_at m p w).negative) (value_numbers m p) v (has_numbers m p v exists) (ap not positive)))
-
--- a parameter that has a value is one of the model's
-assigned_within : (cells : List (Option ℕ)) (p : ℕ) → is_assigned cells p ≡ true → p < length cells
-assigned_within cells p assigned =
-    elim (cases_lt p (length cells)) [
-      | inl within ↦ within
-      | inr past ↦ absurd (false≢true (sym (ap is_some (get_or_past cells p None past)) ∙ assigned))
-    ]
 
 -- what is known of a cell that has a value
 given_value : (m : ModelView) (p : ℕ) (cell : Option ℕ) → is_some cell ≡ true → IsPositiveCell m p cell

@@ -1,14 +1,16 @@
 -- Facts of Bool, Option, Result, lists and numbers that several crates need and the standard library has not.
-use Rattle.std.proofs.Common.{◌≡◌, ℕ, zero, suc, ◌+◌, ◌*◌, ◌<◌, ◌≤◌, Bool, true, false, not, cond, ◌&&◌, ◌||◌, ◌==◌, nat_lt, nat_eq, Option, Some, None, is_some, unwrap_or, Result, Ok, Err, List, [], ◌∷◌, ◌++◌, map, filter, length, get_or, All, refl, sym, ◌∙◌, ap, arith}
-use Rattle.std.proofs.lemmas.Bool.{false≢true, cond-true, eqb-true}
+use Rattle.std.proofs.Common.{◌≡◌, ℕ, zero, suc, ◌+◌, ◌*◌, ◌<◌, ◌≤◌, Bool, true, false, not, cond, ◌&&◌, ◌||◌, ◌==◌, nat_lt, nat_eq, Option, Some, None, is_some, unwrap_or, Result, Ok, Err, List, [], ◌∷◌, ◌++◌, map, filter, length, get_or, All, refl, sym, ◌∙◌, ap, arith, position, find, count_by}
+use Rattle.std.proofs.lemmas.Bool.{false≢true, cond-true, eqb-true, lt-ltb, cond-false}
 use Rattle.std.proofs.lemmas.Bool.Decides.{nat_tests}
-use Rattle.std.proofs.lemmas.List.{map-id, same_lists, get_or_default}
+use Rattle.std.proofs.lemmas.List.{map-id, same_lists, get_or_default, length-map}
 use Rattle.std.proofs.lemmas.List.Elements.{All-head, All-tail}
 use Rattle.std.proofs.lemmas.List.FromFn.{map-range_with_len_more, length-map-range_with_len, get_or-map-range_with_len}
-use Rattle.std.proofs.lemmas.List.Sums.{length-filter, count_by-le-length}
+use Rattle.std.proofs.lemmas.List.Sums.{length-filter, count_by-le-length, position_or_len_is}
 use Rattle.std.proofs.Math.Bool.{and_comm, or_assoc, or_self}
-use Rattle.std.specs.List.{list_any, position_or_len, range_with_len}
+use Rattle.std.specs.List.{list_any, position_or_len, range_with_len, prefix_len}
 use Rattle.std.specs.Option.{option_or, option_map_or}
+use Rattle.std.proofs.lemmas.List.Folds.{fold-map}
+use Rattle.std.specs.Str.{bytes_eq}
 
 -- ---- tests
 
@@ -85,6 +87,38 @@ list_any-position p (x ∷ xs) =
       | true ↦ grind (arith, nat_tests)
       | false ↦ rest ∙ grind (arith, nat_tests)
     ]
+
+-- how many items of a list that a function gave pass
+pub count_map : {X Y : Type 0} (p : Y → Bool) (f : X → Y) (xs : List X) → count_by p (map f xs) ≡ count_by (λ x. p (f x)) xs
+count_map p f xs = fold-map (λ s y. s + cond (p y) 1 0) f 0 xs
+
+-- where each item fails the test, nothing is found
+pub nothing_found : {X : Type 0} (test : X → Bool) (xs : List X) → All (λ x. test x ≡ false) xs → find test xs ≡ None
+nothing_found test [] fail = refl
+nothing_found test (x ∷ xs) fail =
+    cond-false (test x) _ _ (All-head (λ y. test y ≡ false) x xs fail) ∙ nothing_found test xs (All-tail (λ y. test y ≡ false) x xs fail)
+
+-- the first that passes, by those before it
+pub position_is : {X : Type 0} (p : X → Bool) (xs : List X) (i : ℕ) (d : X) → i < length xs → ((k : ℕ) → k < i → p (get_or xs k d) ≡ false) → p (get_or xs i d) ≡ true
+    → position p xs ≡ Some i
+position_is p xs i d within fails passes =
+    ap (λ n. cond (nat_lt n (length xs)) (Some n) None) (position_or_len_is p xs i d (omega (arith, within)) fails (λ _. passes))
+    ∙ ap (λ b. cond b (Some i) None) (lt-ltb i (length xs) within)
+
+-- a text among those of keys
+module _ {K : Type 0} (text : K → List ℕ) (q : List ℕ) where
+  pub any_text : (keys : List K) → list_any (λ key. bytes_eq q (text key)) keys ≡ list_any (bytes_eq q) (map text keys)
+  any_text [] = refl
+  any_text (key ∷ keys) = ap (λ b. bytes_eq q (text key) || b) (any_text keys)
+
+  others_text : (keys : List K) → prefix_len (λ key. not (bytes_eq q (text key))) keys ≡ prefix_len (λ t. not (bytes_eq q t)) (map text keys)
+  others_text [] = refl
+  others_text (key ∷ keys) = ap (λ n. cond (not (bytes_eq q (text key))) (1 + n) 0) (others_text keys)
+
+  pub place_text : (keys : List K) → position (λ key. bytes_eq q (text key)) keys ≡ position (bytes_eq q) (map text keys)
+  place_text keys =
+      ap (λ n. cond (nat_lt n (length keys)) (Some n) None) (others_text keys)
+      ∙ ap (λ n. cond (nat_lt (position_or_len (bytes_eq q) (map text keys)) n) (Some (position_or_len (bytes_eq q) (map text keys))) None) (sym (length-map keys text))
 
 -- one number more
 pub range_with_len_more : (a n : ℕ) → range_with_len a (n + 1) ≡ range_with_len a n ++ (a + n) ∷ []

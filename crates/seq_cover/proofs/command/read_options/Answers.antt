@@ -3,8 +3,9 @@ use Rattle.std.proofs.lemmas.List.{length-map, take_all}
 use Rattle.std.specs.String.{string_bytes}
 use Rattle.seq_cover.specs.Commands.{setting_seen}
 use Rattle.seq_cover.specs.Words.{set, set_by, setting_of, texts}
-use Rattle.seq_cover.proofs.CommandLemmas.{many_words, placed_at, placed_nowhere, set_more, word_at}
+use Rattle.seq_cover.proofs.CommandLemmas.{many_words, placed_nowhere, set_more, word_at}
 use Rattle.seq_cover.proofs.command.read_options.Goals as goal
+use Rattle.value_text.proofs.ListLemmas.{position_is}
 
 pub returns-in_default : goal.returns-in_default
 returns-in_default c =
@@ -13,7 +14,7 @@ returns-in_default c =
     let word = word_at c.args.options.now place c.index-options-place.result c.as_str.result.now c.loop-place-test.true c.index-options-place.is c.as_str.ensures.value in
     let unread : is_none (setting_of (get_or words place [])) ≡ true = ap is_none (ap setting_of (sym word) ∙ sym c.in_default.ensures) in (
       place,
-      placed_at (λ w. is_none (setting_of w)) words place [] (many_words c.args.options.now place c.loop-place-test.true) c.loop-place.invariant.read unread,
+      position_is (λ w. is_none (setting_of w)) words place [] (many_words c.args.options.now place c.loop-place-test.true) c.loop-place.invariant.read unread,
       c.fault_at.ensures,
     )
 

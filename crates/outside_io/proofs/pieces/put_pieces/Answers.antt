@@ -1,6 +1,6 @@
 use Rattle.std.proofs.Common.{[]}
-use Rattle.seq_cover.proofs.PutPieces.{Puts-failed_at}
-use Rattle.seq_cover.proofs.put.put_pieces.Goals as goal
+use Rattle.outside_io.proofs.PieceLemmas.{Puts-failed_at}
+use Rattle.outside_io.proofs.pieces.put_pieces.Goals as goal
 
 pub returns-in-Failed-clause-puts : goal.returns-in-Failed-clause-puts
 returns-in-Failed-clause-puts g c =

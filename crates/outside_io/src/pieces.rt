@@ -1,10 +1,11 @@
 ghost use Rattle.std.specs.List.{flat_map};
 ghost use Rattle.outside_io.specs.Puts.{CountsFaults, Puts};
 
-use outside_io::{Sink, WriteAnswer};
+use crate::answers::WriteAnswer;
+use crate::sink::Sink;
 
 /// Writes pieces one behind another, up to the first fault. Takes no memory.
-pub(crate) fn put_pieces<E: Sink>(sink: &mut E, pieces: &[&str]) -> WriteAnswer
+pub fn put_pieces<E: Sink>(sink: &mut E, pieces: &[&str]) -> WriteAnswer
     ensures puts { Puts result (E.written sink.old) (E.written sink.new) (flat_map (λ piece. piece.now) pieces.now) }
     ensures counts { CountsFaults result (E.faults sink.old) (E.faults sink.new) }
 {
