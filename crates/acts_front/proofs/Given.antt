@@ -7,6 +7,7 @@ use Rattle.std.specs.List.{list_all, slice_split}
 use Rattle.model_lex.specs.Blanks.{trimmed}
 use Rattle.value_text.specs.Numbers.{count_of}
 use Rattle.model_parse.specs.Pieces.{is_byte, pieces}
+use Rattle.model_parse.proofs.SoundNames.{some_pieces}
 use Rattle.acts_front.specs.ParameterLines.{Parameter, Scope, are_few_digits, behind_kind, declared_in, folds, is_declared, is_name, is_repeated, is_value, kind_in, parameter_in, parameter_with, read_parameter}
 use Rattle.acts_front.specs.RelationLines.{Relation, parts_in, read_relation, related_in, relation_in, relation_of}
 use Rattle.acts_front.specs.declared.kind.Kind.{Kind}
@@ -14,9 +15,6 @@ use Rattle.acts_front.specs.declared.kind.Kind.{Kind}
 -- what an answer holds
 pub ok_is : {A E : Type 0} {x y : A} → ◌≡◌ {A = Result A E} (Ok x) (Ok y) → x ≡ y
 ok_is e = cc
-
-pub some_is : {A : Type 0} {x y : A} → Some x ≡ Some y → x ≡ y
-some_is e = cc
 
 -- what a choice gave
 pub taken : {A : Type 0} (b : Bool) (x y : A) → (if b then Some x else None) ≡ Some y → (b ≡ true) × (x ≡ y)
@@ -40,9 +38,6 @@ record HasForm (param : Parameter) : Type 0 where
   form_named : is_name param.name ≡ true
   form_some : 0 < length param.values
   form_values : list_all (is_value param.kind) param.values ≡ true
-
-some_pieces : (mark : ℕ) (text : List ℕ) → 0 < length (pieces mark text)
-some_pieces mark text = omega (arith, length-map (slice_split (is_byte mark) text) trimmed, length-slice_split (is_byte mark) text)
 
 formed : (text : List ℕ) (kind : Option Kind) (param : Parameter) → parameter_with text kind ≡ Some param → HasForm param
 formed text None param is = absurd (cc)

@@ -1,5 +1,6 @@
 -- What is known of all lines of a file that isn't refused: each line of itself, and their order.
 use Rattle.std.proofs.Common.{◌≡◌, ℕ, Bool, true, false, not, ◌&&◌, if◌then◌else◌, List, [], ◌∷◌, length, All, Option, Some, None, Result, Ok, Err, refl, sym, ap, subst, arith}
+use Rattle.std.proofs.lemmas.Option.{same_Some}
 use Rattle.std.proofs.lemmas.Bool.{and_from, and_parts, cond_both, eqb-true, false≢true}
 use Rattle.std.specs.List.{list_all, prefix_len}
 use Rattle.std.specs.Prelude.{◌==◌, is_some, nat_lt, unwrap_or}
@@ -18,7 +19,7 @@ use Rattle.acts_front.specs.declared.code.ActsCode.{ActsCode}
 use Rattle.acts_front.specs.declared.code.ActsCode.TheVariants.{A1, A2}
 use Rattle.acts_front.specs.declared.section.Section.{Section}
 use Rattle.acts_front.specs.declared.section.Section.TheVariants.{Outside, System, Parameters, Relations, Constraints}
-use Rattle.acts_front.proofs.Given.{IsParameter, IsRelation, ok_is, parameter_given, relation_given, some_is}
+use Rattle.acts_front.proofs.Given.{IsParameter, IsRelation, ok_is, parameter_given, relation_given}
 use Rattle.acts_front.proofs.GivenTokens.{IsWritten, all_dropped, all_taken, tokens_written}
 
 -- a constraint behind other lines
@@ -98,7 +99,7 @@ headed_next section text scope given (Some next) is e =
     by (Some other) e = at (nat_lt (place_of section) (place_of other)) refl e
       where
         at : (b : Bool) → nat_lt (place_of section) (place_of other) ≡ b → (if b then Some other else None) ≡ Some next → nat_lt (place_of section) (place_of next) ≡ true
-        at true later same = let is : other ≡ next = some_is same in subst (λ s. nat_lt (place_of section) (place_of s) ≡ true) is later
+        at true later same = let is : other ≡ next = same_Some _ _ same in subst (λ s. nat_lt (place_of section) (place_of s) ≡ true) is later
         at false later same = absurd (cc)
 
 -- another text

@@ -1,10 +1,10 @@
 -- The parts of a list of tokens, joined again.
 use Rattle.std.proofs.Common.{◌≡◌, ℕ, ◌<◌, Bool, true, ◌&&◌, List, [], ◌∷◌, ◌++◌, length, map, Some, None, Option, refl, sym, ap, ◌∙◌, arith}
+use Rattle.std.proofs.lemmas.Option.{same_Some}
 use Rattle.std.proofs.lemmas.Bool.{and_parts, cond_both}
 use Rattle.std.specs.Prelude.{◌==◌, option_map}
 use Rattle.acts_front.specs.Tokens.{Token, Name, Whole, Words, Truth, Relation, Arrow, Or, And, Not, Open, Close}
 use Rattle.acts_front.specs.Constraints.{Pred, Preds, More, is_and, is_or, more_preds, open_behind, parts, parts_behind, preds_of, put_first}
-use Rattle.acts_front.proofs.Given.{some_is}
 
 -- parts with a mark between two
 abbrev pub glue : Token → List (List Token) → List Token
@@ -83,7 +83,7 @@ or_some tokens = some_parts is_or 0 tokens
 
 -- what a mapped answer came from
 pub mapped_some : {A B : Type 0} (f : A → B) (found : Option A) (y : B) → option_map f found ≡ Some y → (x : A) × (found ≡ Some x) × (f x ≡ y)
-mapped_some f (Some x) y is = (x, refl, some_is is)
+mapped_some f (Some x) y is = (x, refl, same_Some _ _ is)
 mapped_some f None y is = absurd (cc)
 
 -- what several parts spell, the first of them spells first
@@ -101,4 +101,4 @@ spells_first read part others preds is = by (read part) refl (preds_of (map read
     by : (found : Option Pred) → read part ≡ found → (later : Option Preds) → preds_of (map read others) ≡ later → more_preds found later ≡ Some preds → SpellsFirst read part others preds
     by None a later b e = absurd (cc)
     by (Some pred) a None b e = absurd (cc)
-    by (Some pred) a (Some rest) b e = record { pred = pred; rest = rest; first = a; later = b; are = some_is e }
+    by (Some pred) a (Some rest) b e = record { pred = pred; rest = rest; first = a; later = b; are = same_Some _ _ e }

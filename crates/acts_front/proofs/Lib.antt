@@ -1,4 +1,5 @@
 mod Examples
+mod MeaningExamples
 pub mod Mapped
 pub mod Comments
 pub mod Scopes

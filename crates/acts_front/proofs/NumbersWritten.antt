@@ -1,12 +1,12 @@
 -- The whole numbers of a constraint are those of its tokens.
 use Rattle.std.proofs.Common.{◌≡◌, ℕ, zero, suc, ◌+◌, ◌-◌, Bool, true, false, if◌then◌else◌, List, [], ◌∷◌, ◌++◌, length, map, take, All, Some, None, Option, refl, sym, ap, subst, ◌∙◌, arith}
+use Rattle.std.proofs.lemmas.Option.{same_Some}
 use Rattle.std.proofs.lemmas.Bool.{and_from, and_parts}
 use Rattle.std.proofs.lemmas.List.Elements.{All-cons, All-drop, All-head, All-tail, All-take}
 use Rattle.std.specs.List.{after_first, before_first, list_any, position_or_len}
 use Rattle.std.specs.Prelude.{option_map, slice_index_or}
 use Rattle.acts_front.specs.Tokens.{Token, Name, Whole, Words, Truth, Relation, Arrow, Or, And, Not, Open, Close}
 use Rattle.acts_front.specs.Constraints.{Operand, OfWhole, OfText, OfTruth, OfParameter, Pred, Preds, Negated, End, More, Constraint, Plain, Implies, comparison_of, conj_in, cons_of, disj_in, disj_of, each_of, each_term, either_of, enclosed_of, every_term, implied, is_and, is_arrow, is_close, is_or, most_open, operand_of, parts, preds_of, terms_pass, unit_of}
-use Rattle.acts_front.proofs.Given.{some_is}
 use Rattle.acts_front.proofs.GivenTokens.{IsWritten}
 use Rattle.acts_front.proofs.Glued.{and_glued, glue, mapped_some, or_glued, spells_first}
 use Rattle.acts_front.proofs.TermsMean.{is_all_written, is_number_written}
@@ -16,10 +16,10 @@ abbrev Writes : Pred → Type 0
 Writes pred = each_term is_all_written pred ≡ true
 
 operand_written : (token : Token) (operand : Operand) → operand_of token ≡ Some operand → IsWritten token → is_number_written operand ≡ true
-operand_written (Whole text) operand is written = let same : OfWhole text ≡ operand = some_is is in subst (λ o. is_number_written o ≡ true) same written
-operand_written (Words text) operand is written = let same : OfText text ≡ operand = some_is is in subst (λ o. is_number_written o ≡ true) same refl
-operand_written (Truth truth) operand is written = let same : OfTruth truth ≡ operand = some_is is in subst (λ o. is_number_written o ≡ true) same refl
-operand_written (Name name) operand is written = let same : OfParameter name ≡ operand = some_is is in subst (λ o. is_number_written o ≡ true) same refl
+operand_written (Whole text) operand is written = let same : OfWhole text ≡ operand = same_Some _ _ is in subst (λ o. is_number_written o ≡ true) same written
+operand_written (Words text) operand is written = let same : OfText text ≡ operand = same_Some _ _ is in subst (λ o. is_number_written o ≡ true) same refl
+operand_written (Truth truth) operand is written = let same : OfTruth truth ≡ operand = same_Some _ _ is in subst (λ o. is_number_written o ≡ true) same refl
+operand_written (Name name) operand is written = let same : OfParameter name ≡ operand = same_Some _ _ is in subst (λ o. is_number_written o ≡ true) same refl
 operand_written (Relation rel) operand is written = absurd (cc)
 operand_written Arrow operand is written = absurd (cc)
 operand_written Or operand is written = absurd (cc)
@@ -47,10 +47,10 @@ behind_part (token ∷ front) back all = behind_part front back (All-tail IsWrit
 
 module _ (mark : Token) (read : List Token → Option Pred) (writes : (part : List Token) (pred : Pred) → read part ≡ Some pred → All IsWritten part → Writes pred) where
   parts_written : (list : List (List Token)) (preds : Preds) → preds_of (map read list) ≡ Some preds → All IsWritten (glue mark list) → every_term is_all_written preds ≡ true
-  parts_written [] preds is all = let same : End ≡ preds = some_is is in subst (λ p. every_term is_all_written p ≡ true) same refl
+  parts_written [] preds is all = let same : End ≡ preds = same_Some _ _ is in subst (λ p. every_term is_all_written p ≡ true) same refl
   parts_written (part ∷ []) preds is all =
       let first = spells_first read part [] preds is in
-      let none : End ≡ first.rest = some_is first.later in
+      let none : End ≡ first.rest = same_Some _ _ first.later in
       subst (λ p. every_term is_all_written p ≡ true) (ap (λ more. More first.pred more) none ∙ first.are) (and_from _ _ (writes part first.pred first.first all) refl)
   parts_written (part ∷ next ∷ others) preds is all =
       let first = spells_first read part (next ∷ others) preds is in
@@ -115,7 +115,7 @@ constraint_written tokens constraint is all = by (list_any is_arrow tokens) is
     premised None pred one two e = absurd (cc)
     premised (Some premise) None one two e = absurd (cc)
     premised (Some premise) (Some pred) one two e =
-        let same : Implies premise pred ≡ constraint = some_is e in
+        let same : Implies premise pred ≡ constraint = same_Some _ _ e in
         let front = disj_written (unit_of most_open) (unit_written most_open) (before_first is_arrow tokens) premise one (All-take IsWritten place tokens all) in
         let back = disj_written (unit_of most_open) (unit_written most_open) (after_first is_arrow tokens) pred two (All-drop IsWritten (place + 1) tokens all) in
         subst (λ c. terms_pass is_all_written c ≡ true) same (and_from _ _ front back)

@@ -1,5 +1,6 @@
 -- The parameters of names, by their places.
 use Rattle.std.proofs.Common.{◌≡◌, ℕ, ◌<◌, Bool, true, false, not, cond, List, [], ◌∷◌, length, map, get_or, Some, refl, sym, ap, ◌∙◌, one-add}
+use Rattle.std.proofs.lemmas.Option.{same_Some}
 use Rattle.std.proofs.lemmas.Bool.{cond-true, ltb-true, not-false}
 use Rattle.std.proofs.lemmas.List.Sums.{prefix_len_stops}
 use Rattle.std.proofs.lemmas.Slice.Eq.{bytes_eq-Decides}
@@ -14,7 +15,6 @@ use Rattle.acts_front.specs.Meaning.{no_parameter, number_named}
 use Rattle.acts_front.specs.ParameterLines.{Parameter, has_name, is_declared, kind_named}
 use Rattle.acts_front.specs.SameModels.{param_is}
 use Rattle.acts_front.specs.declared.kind.Kind.{Kind}
-use Rattle.acts_front.proofs.Given.{some_is}
 use Rattle.acts_front.proofs.GivenLists.{declared_as, scope_of}
 use Rattle.acts_front.proofs.Mapped.{position-map}
 
@@ -37,7 +37,7 @@ module _ (fold : Bool) (name : List ℕ) where
       by : (called : Bool) → is_called found ≡ called → option_map (λ d. d.kind) (cond called (Some (declared_as found)) (find (has_name fold name) (map declared_as params))) ≡ Some kind
           → (kind_named (scope_of fold (map declared_as params)) name ≡ Some kind → (get_or params (place_in params) no_found).1.kind ≡ kind)
           → (get_or (found ∷ params) (place_in (found ∷ params)) no_found).1.kind ≡ kind
-      by true called e later = rw called (some_is e)
+      by true called e later = rw called (same_Some _ _ e)
       by false called e later = rw (called, one-add) (later e)
 
   -- a name that is declared has a place

@@ -1,6 +1,7 @@
 -- The translation of a file spells a model that says what the file says, or it is refused by a limit or since the
 -- order is above the number of parameters.
 use Rattle.std.proofs.Common.{◌≡◌, ℕ, ◌+◌, ◌<◌, Bool, true, false, not, if◌then◌else◌, List, [], ◌∷◌, ◌++◌, flat_map, length, map, All, Some, None, Option, Ok, Err, Result, refl, sym, ap, subst, ◌∙◌, arith}
+use Rattle.std.proofs.lemmas.Option.{same_Some}
 use Rattle.std.proofs.lemmas.Bool.{cond_both, false≢true}
 use Rattle.std.proofs.lemmas.List.{length-map}
 use Rattle.std.proofs.lemmas.List.Elements.{All-cons, All-head, All-nil, All-tail}
@@ -43,7 +44,7 @@ use Rattle.acts_front.specs.Translation.{constraint_text, lines_text, text_given
 use Rattle.acts_front.specs.declared.code.ActsCode.{ActsCode}
 use Rattle.acts_front.specs.declared.code.ActsCode.TheVariants.{A8, A10, A11}
 use Rattle.acts_front.specs.declared.section.Section.TheVariants.{Outside}
-use Rattle.acts_front.proofs.Given.{IsRelation, ok_is, some_is}
+use Rattle.acts_front.proofs.Given.{IsRelation, ok_is}
 use Rattle.acts_front.proofs.GivenLines.{AreGiven, AreOrdered, IsConstraint, lines_given}
 use Rattle.acts_front.proofs.GivenLists.{AreParameters, IsSpelled, constraints_are, constraints_known, declared_are, declared_as, parameters_known, relations_known, scope_of, spelled_from}
 use Rattle.acts_front.proofs.LineCuts.{lines_back}
@@ -224,7 +225,7 @@ module _ (order : OrderWord) (fold : Bool) (lines : List Line) (are : AreLines f
   limited fault is = by (nat_lt (most_of Rules) (length trees)) (ap (λ r. fault_of r (length trees)) (sym (accepted listed are_constraints)) ∙ is)
     where
       by : (many : Bool) → (if many then Some (Limit Rules (length trees)) else None) ≡ Some fault → Says opts lines (Err fault)
-      by true e = let limit : Limit Rules (length trees) ≡ fault = some_is e in subst (λ f. Says opts lines (Err f)) limit tt
+      by true e = let limit : Limit Rules (length trees) ≡ fault = same_Some _ _ e in subst (λ f. Says opts lines (Err f)) limit tt
       by false e = absurd (cc)
 
   refused : {fault : ModelFault} → RawAnswer raw (Err fault) → Says opts lines (Err fault)

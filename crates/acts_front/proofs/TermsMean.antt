@@ -186,18 +186,14 @@ same_kinds None b same = absurd (false≢true same)
 kinds_same : (a : Option Kind) (kind : Kind) → is_same_kind a (Some kind) ≡ true → a ≡ Some kind
 kinds_same a kind same = let both = same_kinds a (Some kind) same in both.one ∙ sym both.two
 
+equality_alone : (order : Bool) → (not order || false) ≡ true → order ≡ false
+equality_alone false is = refl
+equality_alone true is = absurd (false≢true is)
+
 of_kinds : (rel : Rel) (kind : Kind) → (not (is_order rel) || is_same_kind (Some kind) (Some Int)) ≡ true → IsOf rel kind
 of_kinds rel Int is = tt
-of_kinds rel Enum is = alone (is_order rel) is
-  where
-    alone : (b : Bool) → (not b || false) ≡ true → b ≡ false
-    alone false is = refl
-    alone true is = absurd (false≢true is)
-of_kinds rel Boolean is = alone (is_order rel) is
-  where
-    alone : (b : Bool) → (not b || false) ≡ true → b ≡ false
-    alone false is = refl
-    alone true is = absurd (false≢true is)
+of_kinds rel Enum is = equality_alone (is_order rel) is
+of_kinds rel Boolean is = equality_alone (is_order rel) is
 
 no_order : (rel : Rel) (a : Option Kind) (kind : Kind) → a ≡ Some kind → is_int kind ≡ false → (not (is_order rel) || is_same_kind a (Some Int)) ≡ true → is_order rel ≡ false
 no_order rel a Int kind other is = absurd (false≢true (sym other))
@@ -267,9 +263,6 @@ module _ (fold : Bool) (params : List (ℕ × Parameter)) (valued : All (λ foun
   typed name kind is = record { place = placed fold name params (kind_declared fold name params kind is); of_kind = kind_at fold name params kind is }
 
   module _ (name : List ℕ) (kind : Kind) (is : IsTyped name kind) where
-    n : ℕ
-    n = place_in fold name params
-
     numeric_is : numeric_at (map param_is params) (place_in fold name params) ≡ is_int kind
     numeric_is = ap (λ (p : Param). p.numeric) (param_is_at (place_in fold name params) is.place.within) ∙ ap is_int is.of_kind
 

@@ -1,5 +1,6 @@
 -- The tokens that a translated constraint has in a model file, and the tree that they spell.
 use Rattle.std.proofs.Common.{◌≡◌, ℕ, zero, suc, ◌-◌, ◌<◌, ℤ, Bool, true, false, if◌then◌else◌, List, [], ◌∷◌, ◌++◌, length, map, take, drop, get_or, Some, None, Option, refl, sym, ap, subst, ◌∙◌, arith, append_assoc, drop-cons}
+use Rattle.std.proofs.lemmas.Option.{same_Some}
 use Rattle.std.proofs.lemmas.Bool.{not-false, ltb-true}
 use Rattle.std.proofs.lemmas.List.{drop_all, map-append, take-append-drop}
 use Rattle.std.proofs.lemmas.List.Sums.{prefix_len_stops, split_at_first}
@@ -23,7 +24,6 @@ use Rattle.constraint_ast.specs.declared.tree.RawTerm.TheVariants as terms
 use Rattle.acts_front.specs.Tokens.{Token, Name, Whole, Words, Truth, Relation, Arrow, Or, And, Not, Open, Close}
 use Rattle.acts_front.specs.Constraints.{Operand, OfWhole, OfText, OfTruth, OfParameter, Pred, Preds, Compares, Negated, Each, Either, End, More, Constraint, Plain, Implies, comparison_of, conj_in, cons_of, disj_in, disj_of, each_of, either_of, enclosed_of, implied, is_and, is_arrow, is_close, is_or, most_open, operand_of, parts, preds_of, unit_of}
 use Rattle.acts_front.specs.Translation.{truth_text}
-use Rattle.acts_front.proofs.Given.{some_is}
 use Rattle.acts_front.proofs.Glued.{and_glued, and_some, glue, mapped_some, or_glued, or_some, spells_first}
 
 abbrev pub raw_rel : Rel → RawRel
@@ -193,16 +193,16 @@ module _ (line : ℕ) where
 
   operand_spells : (room : ℕ) (name : List ℕ) (rel : Rel) (token : Token) (operand : Operand) → operand_of token ≡ Some operand → Spells room (Name name ∷ Relation rel ∷ token ∷ []) (Compares name rel operand)
   operand_spells room name rel (Whole text) operand is rest =
-      let same : OfWhole text ≡ operand = some_is is in
+      let same : OfWhole text ≡ operand = same_Some _ _ is in
       subst (λ o. IsUnit room (rule_tokens (Name name ∷ Relation rel ∷ Whole text ∷ []) ++ rest) (tree_at line (Compares name rel o)) rest) same value_is
   operand_spells room name rel (Words text) operand is rest =
-      let same : OfText text ≡ operand = some_is is in
+      let same : OfText text ≡ operand = same_Some _ _ is in
       subst (λ o. IsUnit room (rule_tokens (Name name ∷ Relation rel ∷ Words text ∷ []) ++ rest) (tree_at line (Compares name rel o)) rest) same value_is
   operand_spells room name rel (Truth truth) operand is rest =
-      let same : OfTruth truth ≡ operand = some_is is in
+      let same : OfTruth truth ≡ operand = same_Some _ _ is in
       subst (λ o. IsUnit room (rule_tokens (Name name ∷ Relation rel ∷ Truth truth ∷ []) ++ rest) (tree_at line (Compares name rel o)) rest) same value_is
   operand_spells room name rel (Name other) operand is rest =
-      let same : OfParameter other ≡ operand = some_is is in
+      let same : OfParameter other ≡ operand = same_Some _ _ is in
       subst (λ o. IsUnit room (rule_tokens (Name name ∷ Relation rel ∷ Name other ∷ []) ++ rest) (tree_at line (Compares name rel o)) rest) same param_is
   operand_spells room name rel (Relation other) operand is rest = absurd (cc)
   operand_spells room name rel Arrow operand is rest = absurd (cc)
@@ -223,7 +223,7 @@ module _ (line : ℕ) where
     units_spell [] preds some is rest = absurd (omega (arith, some))
     units_spell (part ∷ []) preds some is rest =
         let first = spells_first read part [] preds is in
-        let none : End ≡ first.rest = some_is first.later in
+        let none : End ≡ first.rest = same_Some _ _ first.later in
         subst (λ p. AreUnits room (rule_tokens part ++ rest) (trees_at line p) rest) (ap (λ more. More first.pred more) none ∙ first.are) (last_unit (spells part first.pred first.first rest))
     units_spell (part ∷ next ∷ others) preds some is rest =
         let first = spells_first read part (next ∷ others) preds is in
@@ -252,7 +252,7 @@ module _ (line : ℕ) where
     conjs_spell [] preds some is rest = absurd (omega (arith, some))
     conjs_spell (part ∷ []) preds some is rest =
         let first = spells_first (conj_in read) part [] preds is in
-        let none : End ≡ first.rest = some_is first.later in
+        let none : End ≡ first.rest = same_Some _ _ first.later in
         let conj = conj_is_read part first.pred first.first in
         let tree : trees.all_of (trees_at line conj.units) ≡ tree_at line first.pred = each_tree line conj.units ∙ ap (tree_at line) conj.conj_is in
         subst (λ p. AreConjs room (rule_tokens part ++ rest) (trees_at line p) rest) (ap (λ more. More first.pred more) none ∙ first.are)
@@ -348,7 +348,7 @@ module _ (line : ℕ) where
       premised None pred one two any e = absurd (cc)
       premised (Some premise) None one two any e = absurd (cc)
       premised (Some premise) (Some pred) one two any e =
-          let same : Implies premise pred ≡ constraint = some_is e in
+          let same : Implies premise pred ≡ constraint = same_Some _ _ e in
           let cut : (rule_tokens tokens ++ at line rule.Semicolon ∷ []) ++ to ≡ rule_tokens front ++ at line rule.Then ∷ (rule_tokens back ++ at line rule.Semicolon ∷ to) =
           append_assoc (rule_tokens tokens) (at line rule.Semicolon ∷ []) to ∙ (ap (λ list. rule_tokens list ++ at line rule.Semicolon ∷ to) (sym (round_arrow tokens any)) ∙ seam front Arrow back (at line rule.Semicolon ∷ to)) in
           subst (λ c. IsRule most_open (at line rule.If ∷ ((rule_tokens tokens ++ at line rule.Semicolon ∷ []) ++ to)) (rule_at line c) to) same
