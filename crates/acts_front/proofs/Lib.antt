@@ -1,4 +1,5 @@
 mod Examples
+mod MeaningExamples
 pub mod Mapped
 pub mod Comments
 pub mod Scopes
@@ -10,6 +11,23 @@ pub mod Repeated
 pub mod TokenLists
 pub mod WordLemmas
 pub mod Worst
+pub mod Glued
+pub mod Openers
+pub mod LineCuts
+pub mod SplitLines
+pub mod GivenLists
+pub mod AllowedTexts
+pub mod GivenTokens
+pub mod GivenLines
+pub mod Given
+pub mod SayTheSame
+pub mod NumbersWritten
+pub mod TermsMean
+pub mod Placed
+pub mod RelationsRead
+pub mod ParametersRead
+pub mod TokensRead
+pub mod TranslatedTrees
 pub mod RunEnds
 pub mod PutPieces
 pub mod Units

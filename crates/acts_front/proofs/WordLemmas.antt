@@ -1,6 +1,6 @@
 -- Words that name two files, with options behind them.
-use Rattle.std.proofs.Common.{◌≡◌, ℕ, ◌+◌, ◌-◌, ◌^◌, ◌≤◌, ◌<◌, Bool, cond, true, false, not, ◌||◌, List, [], ◌∷◌, length, map, take, drop, get_or, min, Option, Some, None, Result, Ok, Err, refl, sym, ap, ◌∙◌, arith}
-use Rattle.std.specs.Prelude.{◌==◌, MatchResult, nat_lt, option_map, position}
+use Rattle.std.proofs.Common.{◌≡◌, ℕ, ◌+◌, ◌-◌, ◌^◌, ◌≤◌, ◌<◌, Bool, cond, true, false, not, ◌||◌, List, [], ◌∷◌, length, take, drop, get_or, min, Option, Some, None, Result, Ok, Err, refl, sym, ap, ◌∙◌, arith}
+use Rattle.std.specs.Prelude.{◌==◌, MatchResult, option_map, position}
 use Rattle.std.specs.List.{list_any, position_or_len}
 use Rattle.std.specs.String.{string_bytes}
 use Rattle.std.specs.declared.string.String.{String}
@@ -13,6 +13,7 @@ use Rattle.value_text.proofs.ListLemmas.{list_any-position}
 use Rattle.std.specs.Option.{option_or}
 use Rattle.definitions.specs.Words.{missing_name}
 use Rattle.acts_front.specs.Runs.{asked_seen}
+use Rattle.acts_front.proofs.Mapped.{position-map}
 use Rattle.acts_front.specs.Words.{IsWordFault, asked_by, asked_unless, first_other, is_case_word, texts, word_fault}
 use Rattle.acts_front.specs.declared.words.Command.{Command}
 use Rattle.acts_front.specs.declared.words.WordFault.{WordFault}
@@ -26,15 +27,6 @@ first_and_rest (x ∷ rest) first some is = ap (λ y. y ∷ rest) (sym is) ∙ a
 -- the place of the first option that isn't `/c`
 abbrev pub other : List (String Global) → Option ℕ
 other options = position (λ word. not (is_case_word (string_bytes word))) options
-
-place-map : {X Y : Type 0} (p : X → Bool) (f : Y → X) (ys : List Y) → position_or_len p (map f ys) ≡ position_or_len (λ y. p (f y)) ys
-place-map p f [] = refl
-place-map p f (y ∷ ys) = ap (λ n. cond (not (p (f y))) (1 + n) 0) (place-map p f ys)
-
-position-map : {X Y : Type 0} (p : X → Bool) (f : Y → X) (ys : List Y) → position p (map f ys) ≡ position (λ y. p (f y)) ys
-position-map p f ys =
-    ap (λ n. cond (nat_lt n (length (map f ys))) (Some n) None) (place-map p f ys)
-    ∙ ap (λ n. cond (nat_lt (position_or_len (λ y. p (f y)) ys) n) (Some (position_or_len (λ y. p (f y)) ys)) None) (length-map ys f)
 
 -- options of which all are `/c` are none, or case counts
 none_passes : {X : Type 0} (p : X → Bool) (list : List X) → position p list ≡ None → list_any p list ≡ false
@@ -59,7 +51,7 @@ module _ (input output : String Global) (options : List (String Global)) (named 
   faults : word_fault (texts (input ∷ output ∷ options)) ≡ option_map (λ i. i + 3) (other options)
   faults =
       ap (λ o. option_or o (first_other (texts (input ∷ output ∷ options)))) all_named
-      ∙ ap (option_map (λ i. i + 3)) (position-map (λ word. not (is_case_word word)) string_bytes options)
+      ∙ ap (option_map (λ i. i + 3)) (position-map string_bytes (λ word. not (is_case_word word)) options)
 
   asks : (found : Option ℕ) → other options ≡ found
       → asked_by (texts (input ∷ output ∷ options)) ≡ asked_unless (option_map (λ i. i + 3) found) (texts (input ∷ output ∷ options))
@@ -72,7 +64,7 @@ module _ (input output : String Global) (options : List (String Global)) (named 
       (λ fault. (place : ℕ) × (other options ≡ Some place) × (fault.index ≡ min (place + 3) (2 ^ 32 - 1)))
       → MatchResult result (λ command. asked_by (texts words) ≡ Ok (asked_seen command)) (λ fault. IsWordFault (texts words) fault.index)
   asks_options words read write are reads writes (Ok command) is =
-      let none = position-map (λ word. not (is_case_word word)) string_bytes options ∙ is.0 in
+      let none = position-map string_bytes (λ word. not (is_case_word word)) options ∙ is.0 in
       let folds = ap (λ n. n == 0) (sym (length-map options string_bytes)) ∙ all_case (texts options) (none_passes _ (texts options) none) in
       ap (λ w. asked_by (texts w)) are ∙ asks None is.0
       ∙ ap (λ fold. Ok (record { input = string_bytes input; output = string_bytes output; fold = fold })) (sym folds)

@@ -79,13 +79,14 @@ declared_by (OfConstraint tokens constraint) = []
 abbrev pub and_line : Scope → Line → Scope
 and_line scope line = record scope { params = scope.params ++ declared_by line }
 
--- a line of a number before others, which what it gives may concern, or its refusal
+-- a line before others
+abbrev pub line_and : Line → Result (List Line) (ℕ × ActsCode) → Result (List Line) (ℕ × ActsCode)
+line_and line (Ok lines) = Ok (line ∷ lines)
+line_and line (Err refused) = Err refused
+
+-- what a line of a number gives before others, which it may concern, or its refusal
 abbrev pub line_before : ℕ → Result Line ActsCode → (Line → Result (List Line) (ℕ × ActsCode)) → Result (List Line) (ℕ × ActsCode)
-line_before number (Ok line) others = with_line line (others line)
-  where
-    with_line : Line → Result (List Line) (ℕ × ActsCode) → Result (List Line) (ℕ × ActsCode)
-    with_line line (Ok lines) = Ok (line ∷ lines)
-    with_line line (Err refused) = Err refused
+line_before number (Ok line) others = line_and line (others line)
 line_before number (Err code) others = Err (number, code)
 
 -- what lines give in a section, or the first refusal
@@ -107,21 +108,34 @@ with_parameters (Err refused) = Err refused
 abbrev pub acts : Bool → List ℕ → Result (List Line) (ℕ × ActsCode)
 acts fold bytes = with_parameters (lines_give Outside (record { fold = fold; params = [] }) (numbered_lines bytes))
 
--- the parameters, the relations, and the constraints with their lines
-abbrev pub parameters_of : List Line → List Parameter
-parameters_of [] = []
-parameters_of (OfParameter param ∷ lines) = param ∷ parameters_of lines
-parameters_of (line ∷ lines) = parameters_of lines
+-- the parameters, the relations and the constraints of lines that are numbered from here on, each with its line
+abbrev pub parameters_from : ℕ → List Line → List (ℕ × Parameter)
+parameters_from number [] = []
+parameters_from number (Nothing ∷ lines) = parameters_from (number + 1) lines
+parameters_from number (OfParameter param ∷ lines) = (number, param) ∷ parameters_from (number + 1) lines
+parameters_from number (OfRelation relation ∷ lines) = parameters_from (number + 1) lines
+parameters_from number (OfConstraint tokens constraint ∷ lines) = parameters_from (number + 1) lines
 
-abbrev pub relations_of : List Line → List Relation
-relations_of [] = []
-relations_of (OfRelation relation ∷ lines) = relation ∷ relations_of lines
-relations_of (line ∷ lines) = relations_of lines
+abbrev pub relations_from : ℕ → List Line → List (ℕ × Relation)
+relations_from number [] = []
+relations_from number (Nothing ∷ lines) = relations_from (number + 1) lines
+relations_from number (OfParameter param ∷ lines) = relations_from (number + 1) lines
+relations_from number (OfRelation relation ∷ lines) = (number, relation) ∷ relations_from (number + 1) lines
+relations_from number (OfConstraint tokens constraint ∷ lines) = relations_from (number + 1) lines
 
 abbrev pub constraints_from : ℕ → List Line → List (ℕ × Constraint)
 constraints_from number [] = []
+constraints_from number (Nothing ∷ lines) = constraints_from (number + 1) lines
+constraints_from number (OfParameter param ∷ lines) = constraints_from (number + 1) lines
+constraints_from number (OfRelation relation ∷ lines) = constraints_from (number + 1) lines
 constraints_from number (OfConstraint tokens constraint ∷ lines) = (number, constraint) ∷ constraints_from (number + 1) lines
-constraints_from number (line ∷ lines) = constraints_from (number + 1) lines
+
+-- those of a file
+abbrev pub parameters_of : List Line → List (ℕ × Parameter)
+parameters_of lines = parameters_from 1 lines
+
+abbrev pub relations_of : List Line → List (ℕ × Relation)
+relations_of lines = relations_from 1 lines
 
 abbrev pub constraints_of : List Line → List (ℕ × Constraint)
 constraints_of lines = constraints_from 1 lines

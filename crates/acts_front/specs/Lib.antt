@@ -12,3 +12,5 @@ pub mod Words
 pub mod Stops
 pub mod Runs
 pub mod Steps
+pub mod Meaning
+pub mod SameModels

@@ -5,6 +5,7 @@ ghost use Rattle.definitions.specs.Diagnostics.{word_line};
 ghost use Rattle.definitions.specs.Limits.{ModelFile, most_bytes};
 ghost use Rattle.acts_front.specs.Codes.{refusal_status};
 ghost use Rattle.acts_front.specs.Runs.{IsRun, IsTooLong, IsTranslated, asked_seen};
+ghost use Rattle.acts_front.specs.SameModels.{IsFaithful};
 ghost use Rattle.acts_front.specs.Steps.{Loads, Ran};
 ghost use Rattle.acts_front.specs.Stops.{IsStatus, Tells};
 ghost use Rattle.acts_front.specs.Translation.{translation};
@@ -73,6 +74,14 @@ pub fn run_acts<F: Folder, E: Sink>(
     ensures translated { result ≡ 0 → (asked : Asked) (held : Option (List ℕ)) → asked_by (texts words.now) ≡ Ok asked →
         F.file files.old asked.input ≡ Some held →
         IsSomeAnd held (IsTranslated asked.fold (λ text. IfSome (F.file files.new asked.output) (λ file. file ≡ Some text))) }
+
+    // What OUT holds after status 0 says what IN said: as a model file, read with the default marks, the same case
+    // flag and any order word, it spells a model without notes that has the parameters, values and relations of IN, and
+    // whose constraints hold on the same rows; or it is refused, by a limit or since the order is above the number of
+    // parameters. Premises: those of the clause before.
+    ensures meaning { result ≡ 0 → (asked : Asked) (held : Option (List ℕ)) → asked_by (texts words.now) ≡ Ok asked →
+        F.file files.old asked.input ≡ Some held →
+        IsSomeAnd held (λ bytes. IfSome (F.file files.new asked.output) (λ file. IsSomeAnd file (IsFaithful asked.fold bytes))) }
 
     // What a run does, as far as the folder tells what IN and OUT hold, and `diag` what it got. Premise: the words ask
     // for this.

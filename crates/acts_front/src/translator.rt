@@ -1,8 +1,9 @@
-ghost use Rattle.std.specs.Prelude.{◌≡◌, ◌≤◌, ◌^◌, [], length};
+ghost use Rattle.std.specs.Prelude.{◌≡◌, ◌≤◌, ◌^◌, [], length, IfOk};
 ghost use Rattle.acts_front.specs.ActsFiles.{constraint_line, line_gives, line_in, parameter_line, relation_line, section_behind, section_in, text_gives};
 ghost use Rattle.acts_front.specs.ParameterLines.{read_parameter};
 ghost use Rattle.acts_front.specs.Reading.{Adds, Translates, ended};
 ghost use Rattle.acts_front.specs.RelationLines.{read_relation};
+ghost use Rattle.acts_front.specs.SameModels.{IsFaithful};
 ghost use Rattle.acts_front.specs.Tokens.{tokens_of};
 ghost use Rattle.acts_front.specs.Translation.{line_text, translation};
 
@@ -150,7 +151,12 @@ impl<'a> Translator<'a> {
 /// `Bad` with the first line that is refused, and `NoMemory` where memory was refused.
 pub fn translate(alloc: Global, bytes: &[u8], fold: bool) -> Result<Vec<u8>, ActsFault>
     requires { length bytes.now ≤ 2 ^ 28 }
-    ensures { Translates (translation fold bytes.now) result }
+    // The translation, or the first refusal.
+    ensures translated { Translates (translation fold bytes.now) result }
+    // What is written says what the file says, whatever the order word: as a model file it spells a model without
+    // notes that has the file's parameters, values and relations, and whose constraints hold on the same rows; or it
+    // is refused, by a limit or since the order is above the number of parameters.
+    ensures meaning { IfOk result (λ text. IsFaithful fold bytes.now text.items) }
 {
     let mut translator = Translator::new(alloc, fold);
     let mut number = 0;
