@@ -5,6 +5,10 @@
 #![tactic(auto)]
 
 mod check;
+mod listed;
+mod rows;
+mod trees;
+mod uncovered;
 mod verdict;
 
 pub use check::check_bytes;
