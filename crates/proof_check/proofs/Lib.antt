@@ -1,0 +1,9 @@
+pub mod RowLemmas
+pub mod TreeSteps
+pub mod TupleSteps
+pub mod SetLemmas
+pub mod PairLemmas
+pub mod DemandLemmas
+pub mod LeftLemmas
+pub mod VerdictLemmas
+pub mod FaultLemmas

@@ -1,0 +1,114 @@
+-- Tuples as pairs, as values of a set, and as partial rows.
+use Rattle.std.proofs.Common.{◌≡◌, ℕ, ◌+◌, ◌<◌, Bool, true, false, ◌||◌, not, cond, List, [], ◌∷◌, map, length, get_or, replicate, Option, Some, None, is_some, inl, inr, ◌∙◌, refl, sym, ap, arith, zero-add}
+use Rattle.std.specs.Prelude.{◌==◌}
+use Rattle.std.specs.List.{count_by}
+use Rattle.std.proofs.lemmas.Bool.{and_from, cases_eq, cases_lt, eq-eqb, ne_eqb, not_from_false, or_left, or_right}
+use Rattle.std.proofs.lemmas.List.{get_or-replicate, get_or-set_other, get_or-set_same, get_or_past, get_or_default, length-replicate, length-set, same_lists}
+use Rattle.std.proofs.lemmas.List.FromFn.{get_or-map-range_with_len, length-map-range_with_len}
+use Rattle.std.proofs.lemmas.List.Sums.{sum_by-cons}
+use Rattle.cov_model.specs.Meaning.{value_at}
+use Rattle.cov_model.specs.Slices.{negative_values, positive_values, value_numbers}
+use Rattle.cov_model.specs.Sound.{ModelView, param_at}
+use Rattle.definitions.specs.Demand.{is_among}
+use Rattle.definitions.specs.Pairs.{cells_of}
+use Rattle.definitions.proofs.Members.{Has, among_has, has_filter, of_among, of_filter, same_answer}
+use Rattle.definitions.proofs.SliceLemmas.{has_numbers}
+use Rattle.tuple_index.specs.Plan.{are_values, is_negative, is_value, negative_count, plan_of, tuple_cells, value_given}
+
+-- the parameters and the values of pairs
+abbrev pub params : List (ℕ × ℕ) → List ℕ
+params pairs = map (λ pair. pair.0) pairs
+
+abbrev pub values : List (ℕ × ℕ) → List ℕ
+values pairs = map (λ pair. pair.1) pairs
+
+none_at : (n p : ℕ) → get_or {A = Option ℕ} (replicate n None) p None ≡ None
+none_at n p = elim (cases_lt p n) [
+  | inl within ↦ get_or-replicate n p None None within
+  | inr past ↦ get_or_past (replicate n None) p None (omega (arith, past, length-replicate {A = Option ℕ} n None))
+]
+
+pub length-cells_of : (n : ℕ) (pairs : List (ℕ × ℕ)) → length (cells_of n pairs) ≡ n
+length-cells_of n [] = length-replicate n None
+length-cells_of n (pair ∷ pairs) = length-set (cells_of n pairs) pair.0 (Some pair.1) ∙ length-cells_of n pairs
+
+pair_given : (n : ℕ) (pairs : List (ℕ × ℕ)) (p : ℕ) → p < n → get_or (cells_of n pairs) p None ≡ value_given (params pairs) (values pairs) p
+pair_given n [] p within = none_at n p
+pair_given n (pair ∷ pairs) p within = elim (cases_eq pair.0 p) [
+  | inl same ↦
+      ap (λ q. get_or (cells_of n ((q, pair.1) ∷ pairs)) p None) same
+      ∙ get_or-set_same (cells_of n pairs) p (Some pair.1) None (omega (arith, within, length-cells_of n pairs))
+      ∙ sym (ap (λ b. cond b (Some pair.1) (value_given (params pairs) (values pairs) p)) (eq-eqb pair.0 p same))
+  | inr apart ↦
+      get_or-set_other (cells_of n pairs) pair.0 p (Some pair.1) None (λ same. apart (sym same)) ∙ pair_given n pairs p within
+      ∙ sym (ap (λ b. cond b (Some pair.1) (value_given (params pairs) (values pairs) p)) (ne_eqb pair.0 p apart))
+]
+
+pub given_at : (m : ModelView) (set chosen : List ℕ) (p : ℕ) → p < length m.params → get_or (tuple_cells m set chosen) p None ≡ value_given set chosen p
+given_at m set chosen p within = get_or-map-range_with_len (value_given set chosen) 0 (length m.params) p p None within (zero-add p)
+
+-- the partial row of pairs is that of their values
+pub cells_are : (m : ModelView) (pairs : List (ℕ × ℕ)) → cells_of (length m.params) pairs ≡ tuple_cells m (params pairs) (values pairs)
+cells_are m pairs =
+    let long = length-cells_of (length m.params) pairs in
+    let size = length-map-range_with_len (value_given (params pairs) (values pairs)) 0 (length m.params) in
+    same_lists (cells_of (length m.params) pairs) (tuple_cells m (params pairs) (values pairs)) (long ∙ sym size) (λ p other inside.
+    let within : p < length m.params = omega (arith, inside, long) in
+    get_or_default (cells_of (length m.params) pairs) p other None inside ∙ pair_given (length m.params) pairs p within
+    ∙ sym (given_at m (params pairs) (values pairs) p within)
+    ∙ get_or_default (tuple_cells m (params pairs) (values pairs)) p None other (omega (arith, within, size)))
+
+assigned_among : (pairs : List (ℕ × ℕ)) (p : ℕ) → is_some (value_given (params pairs) (values pairs) p) ≡ is_among (params pairs) p
+assigned_among [] p = refl
+assigned_among (pair ∷ pairs) p = by_test (pair.0 == p) (assigned_among pairs p)
+  where
+    by_test : (b : Bool) → is_some (value_given (params pairs) (values pairs) p) ≡ is_among (params pairs) p
+        → is_some (cond b (Some pair.1) (value_given (params pairs) (values pairs) p)) ≡ (b || is_among (params pairs) p)
+    by_test true later = refl
+    by_test false later = later
+
+pub assigned_is : (n : ℕ) (pairs : List (ℕ × ℕ)) (p : ℕ) → p < n → is_some (get_or (cells_of n pairs) p None) ≡ is_among (params pairs) p
+assigned_is n pairs p within = ap is_some (pair_given n pairs p within) ∙ assigned_among pairs p
+
+-- the signs of a plan are those of the model
+negatives_listed : (m : ModelView) (p : ℕ) → p < length m.params → get_or (plan_of m).negatives p [] ≡ negative_values m p
+negatives_listed m p within = get_or-map-range_with_len (negative_values m) 0 (length m.params) p p [] within (zero-add p)
+
+negative_is : (m : ModelView) (p v : ℕ) → p < length m.params → v < length (param_at m.params p).values
+    → is_negative (plan_of m) p v ≡ (value_at m p v).negative
+negative_is m p v within exists =
+    ap (λ ns. is_among ns v) (negatives_listed m p within)
+    ∙ same_answer (is_among (negative_values m p) v) (value_at m p v).negative
+    (λ listed. (of_filter (λ w. (value_at m p w).negative) (value_numbers m p) v (of_among (negative_values m p) v listed)).1)
+    (λ negative. among_has (negative_values m p) v (has_filter (λ w. (value_at m p w).negative) (value_numbers m p) v (has_numbers m p v exists) negative))
+
+value_is : (m : ModelView) (p v : ℕ) → p < length m.params → v < length (param_at m.params p).values → is_value (plan_of m) p v ≡ true
+value_is m p v within exists = by_sign (value_at m p v).negative refl
+  where
+    by_sign : (b : Bool) → (value_at m p v).negative ≡ b → is_value (plan_of m) p v ≡ true
+    by_sign true is =
+        or_right (is_among (get_or (plan_of m).positives p []) v) (is_negative (plan_of m) p v) (negative_is m p v within exists ∙ is)
+    by_sign false is =
+        or_left (is_among (get_or (plan_of m).positives p []) v) (is_negative (plan_of m) p v)
+        (ap (λ ns. is_among ns v) (get_or-map-range_with_len (positive_values m) 0 (length m.params) p p [] within (zero-add p))
+        ∙ among_has (positive_values m p) v
+        (has_filter (λ w. not (value_at m p w).negative) (value_numbers m p) v (has_numbers m p v exists) (not_from_false (value_at m p v).negative is)))
+
+-- each pair is one of the model
+abbrev pub ArePairs : ModelView → List (ℕ × ℕ) → Type 0
+ArePairs m pairs = (pair : ℕ × ℕ) → Has pairs pair → (pair.0 < length m.params) × (pair.1 < length (param_at m.params pair.0).values)
+
+pub values_exist : (m : ModelView) (pairs : List (ℕ × ℕ)) → ArePairs m pairs → are_values (plan_of m) (params pairs) (values pairs) ≡ true
+values_exist m [] each = refl
+values_exist m (pair ∷ pairs) each =
+    and_from (is_value (plan_of m) pair.0 pair.1) (are_values (plan_of m) (params pairs) (values pairs))
+    (value_is m pair.0 pair.1 (each pair (inl refl)).0 (each pair (inl refl)).1) (values_exist m pairs (λ other has. each other (inr has)))
+
+pub negatives_counted : (m : ModelView) (pairs : List (ℕ × ℕ)) → ArePairs m pairs
+    → negative_count (plan_of m) (params pairs) (values pairs) ≡ count_by (λ pair. (value_at m pair.0 pair.1).negative) pairs
+negatives_counted m [] each = refl
+negatives_counted m (pair ∷ pairs) each =
+    ap (λ b. cond b 1 0 + negative_count (plan_of m) (params pairs) (values pairs))
+    (negative_is m pair.0 pair.1 (each pair (inl refl)).0 (each pair (inl refl)).1)
+    ∙ ap (λ n. cond (value_at m pair.0 pair.1).negative 1 0 + n) (negatives_counted m pairs (λ other has. each other (inr has)))
+    ∙ sym (sum_by-cons (λ pair. cond (value_at m pair.0 pair.1).negative 1 0) pair pairs)

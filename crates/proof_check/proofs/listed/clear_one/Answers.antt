@@ -1,0 +1,22 @@
+use Rattle.std.proofs.Common.{length, sym, subst}
+use Rattle.std.specs.Prelude.{MatchOption}
+use Rattle.definitions.specs.Pairs.{cells_of}
+use Rattle.proof_check.specs.Left.{Clears, IsPlaceOf, LacksPlace}
+use Rattle.proof_check.proofs.LeftLemmas.{clears_none, clears_place}
+use Rattle.proof_check.proofs.PairLemmas.{length-cells_of}
+use Rattle.proof_check.proofs.listed.clear_one.Goals as goal
+
+pub returns-in-Some : goal.returns-in-Some
+returns-in-Some c =
+    let m = c.args.model.now in
+    let cells = cells_of (length m.params) c.args.tuple.now in
+    let found = subst (λ found. MatchOption found (LacksPlace m cells) (IsPlaceOf m cells)) c.in-Some.is c.in_ok-place.ensures in
+    subst (Clears m cells c.args.left.now) (sym c.clear.ensures)
+    (clears_place m cells c.in-Some.place c.args.left.now (length-cells_of (length m.params) c.args.tuple.now) found c.requires.long)
+
+pub returns-in_default : goal.returns-in_default
+returns-in_default c =
+    let m = c.args.model.now in
+    let cells = cells_of (length m.params) c.args.tuple.now in
+    let none = subst (λ found. MatchOption found (LacksPlace m cells) (IsPlaceOf m cells)) c.in_default.is c.in_ok-place.ensures in
+    clears_none m cells c.args.left.now (length-cells_of (length m.params) c.args.tuple.now) none

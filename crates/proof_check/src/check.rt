@@ -1,0 +1,122 @@
+ghost use Rattle.std.specs.Prelude.{◌≡◌, ◌≤◌, ◌^◌, [], All, None, IfOk, find, length, not};
+ghost use Rattle.cov_model.specs.Valid.{is_valid};
+ghost use Rattle.definitions.specs.Refutation.{first_unrefuted};
+ghost use Rattle.definitions.specs.Verdict.{as_cells, by_omission, verdict};
+ghost use Rattle.model_parse.specs.RawModels.{AreOpts};
+ghost use Rattle.refutation.specs.Checking.{AreOfModel};
+ghost use Rattle.refutation.specs.Proofs.{format_of};
+ghost use Rattle.refutation.specs.Reading.{omissions_meant};
+ghost use Rattle.row_text.specs.Readings.{IsFileOf};
+ghost use Rattle.row_text.specs.RowFiles.{seeds_seen, suite_seen};
+ghost use Rattle.tuple_index.specs.Plan.{plan_of};
+ghost use Rattle.proof_check.specs.Checks.{IsCheckOf, told};
+
+use crate::rows::first_bad_row;
+use crate::trees::first_bad_tree;
+use crate::uncovered::first_uncovered;
+use crate::verdict::{CheckFault, Verdict};
+use cov_model::TestModel;
+use model_lex::ModelOpts;
+use outside_io::Gate;
+use refutation::{Omissions, ProofFault, read_omissions};
+use row_text::{RowFile, RowMode, read_rows};
+use std::alloc::Global;
+use std::thread::Threads;
+use tuple_index::Plan;
+use type_check::read_model;
+use value_text::NoMemory;
+
+// The verdict on rows that are valid and a proof that was read.
+fn judge_proof<R: Threads + Sync, G: Gate + Sync>(
+    rt: &R,
+    alloc: Global,
+    model: &TestModel,
+    plan: &Plan,
+    file: &RowFile,
+    proof: &Omissions,
+    workers: u32,
+    gate: &G,
+) -> Result<Verdict, NoMemory>
+    requires plan { plan.now ≡ plan_of model.now }
+    requires file { IsFileOf model.now file.now }
+    requires valid { find (λ row. not (is_valid model.now row)) (suite_seen file.now) ≡ None }
+    requires of_model { All (λ omission. AreOfModel model.now omission.tuple) proof.now.omissions }
+    requires few { length proof.now.omissions ≤ 2 ^ 28 }
+    requires least { 1 ≤ workers }
+    requires most { workers ≤ 64 }
+    ensures { IfOk result (λ given. given ≡ told (by_omission model.now (suite_seen file.now) (omissions_meant proof.now.omissions)
+        (first_unrefuted model.now (format_of proof.now.form) [] 2 (as_cells model.now (omissions_meant proof.now.omissions))))) }
+{
+    if let Some(line) = first_bad_tree(alloc, model, proof)? {
+        return Ok(Verdict::BadOmission(line));
+    }
+    match first_uncovered(rt, alloc, model, plan, file, proof, workers, gate)? {
+        Some(tuple) => Ok(Verdict::Uncovered(tuple)),
+        None => Ok(Verdict::Accepted(file.rows.len() as u32, proof.len() as u32)),
+    }
+}
+
+// The verdict on the rows of a report and the bytes of a proof.
+fn judge<R: Threads + Sync, G: Gate + Sync>(
+    rt: &R,
+    alloc: Global,
+    model: &TestModel,
+    plan: &Plan,
+    file: &RowFile,
+    proof: &[u8],
+    workers: u32,
+    gate: &G,
+) -> Result<Verdict, NoMemory>
+    requires plan { plan.now ≡ plan_of model.now }
+    requires file { IsFileOf model.now file.now }
+    requires proof { length proof.now ≤ 2 ^ 28 }
+    requires least { 1 ≤ workers }
+    requires most { workers ≤ 64 }
+    ensures { IfOk result (λ given. given ≡ told (verdict model.now (seeds_seen file.now) proof.now)) }
+{
+    if let Some(line) = first_bad_row(model, file) {
+        return Ok(Verdict::BadRow(line));
+    }
+    match read_omissions(alloc, proof, model) {
+        Ok(omissions) => judge_proof(rt, alloc, model, plan, file, &omissions, workers, gate),
+        Err(ProofFault::Line(line)) => Ok(Verdict::BadProof(line)),
+        Err(ProofFault::NoMemory) => Err(NoMemory),
+    }
+}
+
+/// What the checker says of a report and a proof for a model file (this project's rule). The report is read as a
+/// whole suite. The verdict is the first of these that applies: the first line of the report whose row isn't a
+/// complete and valid row; the first line of the proof that isn't one of a proof; the first one whose tree doesn't
+/// refute its tuple after the tuples of the lines before; the first demanded tuple that no row serves and no line
+/// lists; and else that both are accepted. Repeated rows and lines are allowed. It is the same for every number of
+/// workers from 1 to 64, who mark what the rows serve. The model and the proof may have at most 2^28 bytes, the
+/// report at most 2^26.
+///
+/// # Errors
+///
+/// The first of these: `BadModel` with the refusal of the model file; `Limits` where the model demands more than a
+/// plan holds; `Report` where the report is refused. `NoMemory` where memory was refused.
+pub fn check_bytes<R: Threads + Sync, G: Gate + Sync>(
+    rt: &R,
+    alloc: Global,
+    model: &[u8],
+    opts: &ModelOpts,
+    report: &[u8],
+    proof: &[u8],
+    workers: u32,
+    gate: &G,
+) -> Result<Verdict, CheckFault>
+    requires model { length model.now ≤ 2 ^ 28 }
+    requires opts { AreOpts opts.now }
+    requires report { length report.now ≤ 2 ^ 26 }
+    requires proof { length proof.now ≤ 2 ^ 28 }
+    requires least { 1 ≤ workers }
+    requires most { workers ≤ 64 }
+    ensures { IsCheckOf opts.now model.now report.now proof.now result }
+{
+    let (model, _notes) = read_model(alloc, model, opts)?;
+    let plan = Plan::new(alloc, &model)?;
+    let file = read_rows(alloc, report, &model, RowMode::Suite)?;
+    let verdict = judge(rt, alloc, &model, &plan, &file, proof, workers, gate)?;
+    Ok(verdict)
+}

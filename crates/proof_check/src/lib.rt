@@ -1,0 +1,15 @@
+//! The checker: what it says of a report and a proof.
+//!
+//! `check_bytes` reads a model, the report and the proof from their bytes, and tells the verdict of the
+//! definition. It doesn't stand on the search that wrote the proof.
+#![tactic(auto)]
+
+mod check;
+mod listed;
+mod rows;
+mod trees;
+mod uncovered;
+mod verdict;
+
+pub use check::check_bytes;
+pub use verdict::{CheckFault, Verdict};

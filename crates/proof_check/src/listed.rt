@@ -1,0 +1,165 @@
+ghost use Rattle.std.specs.Prelude.{◌≡◌, ◌≢◌, ◌<◌, ◌≤◌, ℕ, All, IfOk, OnOk, MatchOption, length, map, sum};
+ghost use Rattle.std.specs.List.{count_by};
+ghost use Rattle.std.specs.List.Sorted.{IsStrictlySortedBy};
+ghost use Rattle.std.specs.Ordering.{nat_cmp};
+ghost use Rattle.std.specs.Cmp.Lexicographic.{slice_cmp};
+ghost use Rattle.cov_model.specs.Meaning.{value_at};
+ghost use Rattle.cov_model.specs.Sound.{param_at};
+ghost use Rattle.definitions.specs.Demand.{demanded_tuples};
+ghost use Rattle.definitions.specs.Pairs.{cells_of};
+ghost use Rattle.refutation.specs.Checking.{AreOfModel};
+ghost use Rattle.tuple_index.specs.Plan.{plan_of, set_at};
+ghost use Rattle.proof_check.specs.Left.{AreLeft, Clears, IsPlaceOf, LacksPlace};
+
+use bit_table::BitTable;
+use cov_model::{ParamNo, TestModel, Tuple, ValueNo};
+use refutation::Omissions;
+use std::alloc::Global;
+use std::cmp::Ordering;
+use tuple_index::Plan;
+use value_text::NoMemory;
+
+// The parameters of a tuple.
+fn params_of(alloc: Global, tuple: &Tuple) -> Result<Vec<ParamNo>, NoMemory>
+    ensures { IfOk result (λ params. params.items ≡ map (λ pair. pair.0) tuple.now) }
+{
+    let mut params = Vec::new(alloc);
+    for pair in tuple.as_slice() {
+        params.push(pair.0)?;
+    }
+    Ok(params)
+}
+
+// Their values.
+fn values_of(alloc: Global, tuple: &Tuple) -> Result<Vec<ValueNo>, NoMemory>
+    ensures { IfOk result (λ values. values.items ≡ map (λ pair. pair.1) tuple.now) }
+{
+    let mut values = Vec::new(alloc);
+    for pair in tuple.as_slice() {
+        values.push(pair.1)?;
+    }
+    Ok(values)
+}
+
+// Whether the value of a pair is negative.
+fn is_negative(model: &TestModel, p: ParamNo, v: ValueNo) -> bool
+    requires parameter { p < length model.now.params }
+    requires value { v < length (param_at model.now.params p).values }
+    ensures { result ≡ (value_at model.now p v).negative }
+{
+    let param = &model.params().as_slice()[p as usize];
+    param.values.as_slice()[v as usize].negative
+}
+
+// How many values of a tuple are negative.
+fn count_negatives(model: &TestModel, tuple: &Tuple) -> usize
+    requires { AreOfModel model.now tuple.now }
+    ensures { result ≡ count_by (λ pair. (value_at model.now pair.0 pair.1).negative) tuple.now }
+{
+    let mut count = 0;
+    for pair in tuple.as_slice() {
+        if is_negative(model, pair.0, pair.1) {
+            count += 1;
+        }
+    }
+    count
+}
+
+// The demanded set of these parameters. The sets are in lexicographic order.
+fn find_set(plan: &Plan, params: &[ParamNo]) -> Option<u32>
+    requires { IsStrictlySortedBy (slice_cmp nat_cmp) plan.now.sets }
+    ensures { MatchOption result ((set : ℕ) → set < length plan.now.sets → set_at plan.now set ≢ params.now)
+        (λ set. (set < length plan.now.sets) × (set_at plan.now set ≡ params.now)) }
+{
+    let mut low = 0;
+    let mut high = plan.set_count();
+    while low < high {
+        let middle = low + (high - low) / 2;
+        match plan.members(middle).cmp(params) {
+            Ordering::Equal => return Some(middle),
+            Ordering::Less => low = middle + 1,
+            Ordering::Greater => high = middle,
+        }
+    }
+    None
+}
+
+// The place of a tuple among the demanded ones, if it is one of them. A demanded tuple has at most one
+// negative value.
+fn place_of(
+    alloc: Global,
+    model: &TestModel,
+    plan: &Plan,
+    tuple: &Tuple,
+) -> Result<Option<u32>, NoMemory>
+    requires plan { plan.now ≡ plan_of model.now }
+    requires of_model { AreOfModel model.now tuple.now }
+    ensures { IfOk result (λ found. MatchOption found (LacksPlace model.now (cells_of (length model.now.params) tuple.now))
+        (IsPlaceOf model.now (cells_of (length model.now.params) tuple.now))) }
+{
+    plan.assert_invariant();
+    // brings into the proof that the parameters rise
+    let _pairs = tuple.as_slice();
+    let params = params_of(alloc, tuple)?;
+    let Some(set) = find_set(plan, &params) else {
+        return Ok(None);
+    };
+    if count_negatives(model, tuple) > 1 {
+        return Ok(None);
+    }
+    let values = values_of(alloc, tuple)?;
+    Ok(Some(plan.base(set) + plan.rank(set, &values)))
+}
+
+// Takes away the mark of an omitted tuple, if it is demanded.
+fn clear_one(
+    alloc: Global,
+    model: &TestModel,
+    plan: &Plan,
+    tuple: &Tuple,
+    left: &mut BitTable,
+) -> Result<(), NoMemory>
+    requires plan { plan.now ≡ plan_of model.now }
+    requires of_model { AreOfModel model.now tuple.now }
+    requires long { length left.old ≡ length (demanded_tuples model.now) }
+    ensures { OnOk result (Clears model.now (cells_of (length model.now.params) tuple.now) left.old left.new) }
+{
+    if let Some(place) = place_of(alloc, model, plan, tuple)? {
+        left.clear(place);
+    }
+    Ok(())
+}
+
+/// Marks on the demanded tuples, at the place of each that no omission of a proof lists. The place of a tuple
+/// is the base of its set plus its rank. The plan and the tuples have to be of the model.
+///
+/// # Errors
+///
+/// `NoMemory` where there is no room for the marks, or for the parameters and values of one tuple.
+pub fn mark_unlisted(
+    alloc: Global,
+    model: &TestModel,
+    plan: &Plan,
+    proof: &Omissions,
+) -> Result<BitTable, NoMemory>
+    requires plan { plan.now ≡ plan_of model.now }
+    requires of_model { All (λ omission. AreOfModel model.now omission.tuple) proof.now.omissions }
+    ensures { IfOk result (AreLeft model.now proof.now.omissions) }
+{
+    let mut left = BitTable::all_set(alloc, count_tuples(plan))?;
+    for omission in proof.as_slice() {
+        clear_one(alloc, model, plan, &omission.tuple, &mut left)?;
+    }
+    Ok(left)
+}
+
+// The number of demanded tuples.
+fn count_tuples(plan: &Plan) -> u32
+    ensures { result ≡ sum plan.now.sizes }
+{
+    let sets = plan.set_count();
+    if sets == 0 {
+        return 0;
+    }
+    plan.base(sets - 1) + plan.size(sets - 1)
+}

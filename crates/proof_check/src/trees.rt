@@ -1,0 +1,43 @@
+ghost use Rattle.std.specs.Prelude.{◌≡◌, ◌≤◌, ◌^◌, [], All, IfOk, length};
+ghost use Rattle.definitions.specs.Refutation.{first_unrefuted};
+ghost use Rattle.definitions.specs.Verdict.{as_cells};
+ghost use Rattle.refutation.specs.Checking.{AreOfModel};
+ghost use Rattle.refutation.specs.Proofs.{format_of};
+ghost use Rattle.refutation.specs.Reading.{omissions_meant};
+
+use cov_model::{Cells, TestModel};
+use refutation::{Omissions, tree_ok};
+use std::alloc::Global;
+use value_text::NoMemory;
+
+/// The line of the first omission of a proof whose tree doesn't refute its tuple after the tuples of the
+/// omissions before; the first omission stands on line 2.
+///
+/// # Errors
+///
+/// `NoMemory` where there is no room for one row.
+pub fn first_bad_tree(
+    alloc: Global,
+    model: &TestModel,
+    proof: &Omissions,
+) -> Result<Option<u32>, NoMemory>
+    requires of_model { All (λ omission. AreOfModel model.now omission.tuple) proof.now.omissions }
+    requires few { length proof.now.omissions ≤ 2 ^ 28 }
+    ensures { IfOk result (λ found. found ≡ first_unrefuted model.now (format_of proof.now.form) [] 2 (as_cells model.now (omissions_meant proof.now.omissions))) }
+{
+    let mut scratch = Cells::empty(alloc, model.params().len())?;
+    for (i, omission) in proof.as_slice().iter().enumerate() {
+        let before = i as u32;
+        if !tree_ok(
+            model,
+            &omission.tuple,
+            omission.tree.as_slice(),
+            proof,
+            before,
+            &mut scratch,
+        ) {
+            return Ok(Some(before + 2));
+        }
+    }
+    Ok(None)
+}
