@@ -1,2 +1,6 @@
 pub mod Faults
 pub mod Checks
+pub mod RunSteps
+pub mod Runs
+pub mod WordSteps
+pub mod Words

@@ -1,0 +1,5 @@
+pub mod ReadLemmas
+pub mod RunEnds
+pub mod WordLemmas
+pub mod WordOptions
+pub mod WordRanges
