@@ -1,3 +1,7 @@
 pub mod Faults
 pub mod Checks
 pub mod Left
+pub mod RunSteps
+pub mod Runs
+pub mod WordSteps
+pub mod Words

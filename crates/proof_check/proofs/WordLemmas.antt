@@ -1,0 +1,134 @@
+-- When a word of the checker has no reading between the others, and what the words so far set.
+use Rattle.std.proofs.Common.{◌≡◌, ℕ, ◌+◌, ◌<◌, Bool, true, false, not, ◌&&◌, ◌||◌, if◌then◌else◌, List, [], ◌∷◌, ◌++◌, take, drop, length, get_or, Option, Some, None, inl, inr, refl, sym, ap, ap₂, subst, ◌∙◌, arith}
+use Rattle.std.specs.Prelude.{All, filter_map, ◌==◌, option_map}
+use Rattle.std.specs.List.{list_any, cons_option}
+use Rattle.std.specs.String.{string_bytes}
+use Rattle.std.specs.declared.string.String.{String}
+use Rattle.std.specs.declared.alloc.Global.{Global}
+use Rattle.std.specs.Option.{option_map_or}
+use Rattle.std.proofs.lemmas.Bool.{cases_Bool, false≢true}
+use Rattle.std.proofs.lemmas.List.{take_more, drop_more, get_or-map}
+use Rattle.std.proofs.lemmas.List.Elements.{filter_map-append, All-cons, All-nil, All-append}
+use Rattle.std.proofs.lemmas.List.Folds.{list_any_none}
+use Rattle.std.proofs.lemmas.List.Sums.{fold-append}
+use Rattle.definitions.specs.Settings.{Setting, Order, Separator, Alias, Prefix, SeedFile, ShuffleValues, CaseCounts, Statistics, Workers, Budget, ProofFile, ProofFormat, MeasureFile, Make, SuspectFile, defaults, set, setting_of, settings_of}
+use Rattle.definitions.specs.Words.{excludes, exclude_each_other, is_mark_word, has_equal_marks, set_by, is_faulty, is_faulty_for_checker, is_of_checker, first_faulty_for_checker, missing_name}
+use Rattle.proof_check.specs.WordSteps.{is_faulty_at}
+use Rattle.proof_check.specs.Words.{texts}
+
+-- what the words so far set, and one more
+settings-push : (before : List (List ℕ)) (word : List ℕ) (setting : Setting) → setting_of word ≡ Some setting
+    → filter_map setting_of (before ++ word ∷ []) ≡ filter_map setting_of before ++ setting ∷ []
+settings-push before word setting e = filter_map-append setting_of before (word ∷ []) ∙ ap (λ o. filter_map setting_of before ++ cons_option o []) e
+
+pub set_by-push : (before : List (List ℕ)) (word : List ℕ) (setting : Setting) → setting_of word ≡ Some setting
+    → set_by (before ++ word ∷ []) ≡ set (set_by before) setting
+set_by-push before word setting e =
+    ap settings_of (settings-push before word setting e) ∙ fold-append set defaults (filter_map setting_of before) (setting ∷ [])
+
+pub known-push : (before : List (List ℕ)) (word : List ℕ) (setting : Setting) → setting_of word ≡ Some setting → is_of_checker setting ≡ true
+    → All (λ s. is_of_checker s ≡ true) (filter_map setting_of before) → All (λ s. is_of_checker s ≡ true) (filter_map setting_of (before ++ word ∷ []))
+known-push before word setting e known all =
+    let P : Setting → Type 0 = λ s. is_of_checker s ≡ true in
+    subst (All P) (sym (settings-push before word setting e)) (All-append P (filter_map setting_of before) (setting ∷ []) all (All-cons P setting [] known (All-nil P)))
+
+-- options of the checker don't exclude each other
+none_excluded_by : (a b : Setting) → is_of_checker a ≡ true → excludes a b ≡ false
+none_excluded_by (Order order) b known = refl
+none_excluded_by (Separator c) b known = refl
+none_excluded_by (Alias c) b known = refl
+none_excluded_by (Prefix c) b known = refl
+none_excluded_by CaseCounts b known = refl
+none_excluded_by (Workers n) b known = refl
+none_excluded_by (SeedFile name) b known = refl
+none_excluded_by (ShuffleValues given) b known = refl
+none_excluded_by Statistics b known = refl
+none_excluded_by (Budget n) b known = refl
+none_excluded_by (ProofFile name) b known = refl
+none_excluded_by (ProofFormat n) b known = refl
+none_excluded_by (MeasureFile name) b known = absurd (false≢true known)
+none_excluded_by (Make n) b known = absurd (false≢true known)
+none_excluded_by (SuspectFile name) b known = absurd (false≢true known)
+
+none_excluded : (setting : Setting) (taken : List Setting) → is_of_checker setting ≡ true → All (λ s. is_of_checker s ≡ true) taken
+    → list_any (exclude_each_other setting) taken ≡ false
+none_excluded setting taken known all =
+    list_any_none (exclude_each_other setting) taken (λ k d inside.
+    ap₂ (λ a b. a || b) (none_excluded_by setting (get_or taken k d) known) (none_excluded_by (get_or taken k d) setting (all k d inside)))
+
+-- what is asked of a word
+pub faulty-alone : (before after : List (List ℕ)) (word : List ℕ) → setting_of word ≡ None → is_faulty_for_checker before word after ≡ true
+faulty-alone before after word e =
+    ap (λ o. not (option_map_or is_of_checker o true) || (option_map_or (λ setting. list_any (exclude_each_other setting) (filter_map setting_of before)) o true
+    || (is_mark_word word && not (list_any is_mark_word after) && has_equal_marks (set_by (before ++ word ∷ []))))) e
+
+pub faulty-unknown : (before after : List (List ℕ)) (word : List ℕ) (setting : Setting) → setting_of word ≡ Some setting → is_of_checker setting ≡ false
+    → is_faulty_for_checker before word after ≡ true
+faulty-unknown before after word setting e unknown =
+    ap (λ o. not (option_map_or is_of_checker o true) || is_faulty before word after) e ∙ ap (λ b. not b || is_faulty before word after) unknown
+
+pub faulty-by : (before after : List (List ℕ)) (word : List ℕ) (setting : Setting) (last equal : Bool) → setting_of word ≡ Some setting
+    → is_of_checker setting ≡ true → All (λ s. is_of_checker s ≡ true) (filter_map setting_of before)
+    → (is_mark_word word && not (list_any is_mark_word after)) ≡ last → has_equal_marks (set (set_by before) setting) ≡ equal
+    → is_faulty_for_checker before word after ≡ (last && equal)
+faulty-by before after word setting last equal e known all lasts equals =
+    ap (λ o. not (option_map_or is_of_checker o true) || (option_map_or (λ setting. list_any (exclude_each_other setting) (filter_map setting_of before)) o true
+    || (is_mark_word word && not (list_any is_mark_word after) && has_equal_marks (set_by (before ++ word ∷ []))))) e
+    ∙ ap (λ b. not b || (list_any (exclude_each_other setting) (filter_map setting_of before)
+    || (is_mark_word word && not (list_any is_mark_word after) && has_equal_marks (set_by (before ++ word ∷ []))))) known
+    ∙ ap (λ b. b || (is_mark_word word && not (list_any is_mark_word after) && has_equal_marks (set_by (before ++ word ∷ []))))
+    (none_excluded setting (filter_map setting_of before) known all)
+    ∙ ap (λ s. is_mark_word word && not (list_any is_mark_word after) && has_equal_marks s) (set_by-push before word setting e)
+    ∙ ap₂ (λ a b. a && b) lasts equals
+
+-- a word as it is passed
+pub word_at : (words : List (String Global)) (place : ℕ) (item : String Global) (text : List ℕ) → place < length words → item ≡ get_or words place item
+    → text ≡ string_bytes item → text ≡ get_or (texts words) place []
+word_at words place item text inside is e = e ∙ ap string_bytes is ∙ sym (get_or-map string_bytes words place item [] inside)
+
+-- the first fault is at this word or behind it
+pub first_faulty-step : (n : ℕ) (words : List (List ℕ)) (place : ℕ) → place < length words
+    → first_faulty_for_checker n (take place words) (drop place words) ≡
+    (if is_faulty_at words place then Some n else first_faulty_for_checker (n + 1) (take (place + 1) words) (drop (place + 1) words))
+first_faulty-step n words place inside =
+    ap (first_faulty_for_checker n (take place words)) (drop_more words place [] inside)
+    ∙ ap (λ before. if is_faulty_at words place then Some n else first_faulty_for_checker (n + 1) before (drop (place + 1) words)) (sym (take_more words place [] inside))
+
+pub one_more : (words : List (List ℕ)) (place : ℕ) → place < length words → false ≡ is_faulty_at words place
+    → first_faulty_for_checker (place + 4) (take place words) (drop place words)
+    ≡ first_faulty_for_checker (place + 1 + 4) (take (place + 1) words) (drop (place + 1) words)
+one_more words place inside good =
+    first_faulty-step (place + 4) words place inside
+    ∙ ap (λ b. if b then Some (place + 4) else first_faulty_for_checker (place + 4 + 1) (take (place + 1) words) (drop (place + 1) words)) (sym good)
+    ∙ ap (λ n. first_faulty_for_checker n (take (place + 1) words) (drop (place + 1) words)) (omega arith)
+
+-- which name is missing, by whether each of the three is
+abbrev pub chosen : Bool → Bool → Bool → Option ℕ
+chosen a b c = if a then Some 0 else if b then Some 1 else if c then Some 2 else None
+
+abbrev pub is_empty_at : List (List ℕ) → ℕ → Bool
+is_empty_at words place = length (get_or words place []) == 0
+
+pub missing_by : (words : List (List ℕ)) → option_map (λ place. place + 1) (chosen (is_empty_at words 0) (is_empty_at words 1) (is_empty_at words 2)) ≡ missing_name 3 words
+missing_by [] = refl
+missing_by (x ∷ []) = elim (cases_Bool (length x == 0)) [
+  | inl a ↦ rw a refl
+  | inr a ↦ rw a refl
+]
+missing_by (x ∷ y ∷ []) = elim (cases_Bool (length x == 0)) [
+  | inl a ↦ rw a refl
+  | inr a ↦ elim (cases_Bool (length y == 0)) [
+    | inl b ↦ rw (a, b) refl
+    | inr b ↦ rw (a, b) refl
+  ]
+]
+missing_by (x ∷ y ∷ z ∷ rest) = elim (cases_Bool (length x == 0)) [
+  | inl a ↦ rw a refl
+  | inr a ↦ elim (cases_Bool (length y == 0)) [
+    | inl b ↦ rw (a, b) refl
+    | inr b ↦ elim (cases_Bool (length z == 0)) [
+      | inl c ↦ rw (a, b, c) refl
+      | inr c ↦ rw (a, b, c) refl
+    ]
+  ]
+]

@@ -1,0 +1,21 @@
+use Rattle.std.proofs.Common.{◌≡◌, Err, ap, subst, sym, ◌∙◌}
+use Rattle.proof_check.specs.Checks.{IsCheckOf}
+use Rattle.proof_check.specs.Runs.{Inputs}
+use Rattle.proof_check.proofs.RunEnds.{check_stops}
+use Rattle.proof_check.proofs.WordOptions.{opts_fit}
+use Rattle.proof_check.proofs.run.judge.Goals as goal
+
+pub check_bytes-requires-clause-opts : goal.check_bytes-requires-clause-opts
+check_bytes-requires-clause-opts g c = λ _ _. opts_fit c.args.opts.now (record { ranged = c.requires.fit.ranged; apart = c.requires.fit.apart })
+
+pub returns-in-Err-clause-answers : goal.returns-in-Err-clause-answers
+returns-in-Err-clause-answers g c = λ held read.
+    let opts = c.args.opts.now.opts in
+    let given : Inputs = record { model = c.as_slice.result.now; report = c.as_slice-2.result.now; proof = c.as_slice-3.result.now } in
+    let same : given ≡ c.args.contents.now =
+    ap (λ m. record { model = m; report = c.as_slice-2.result.now; proof = c.as_slice-3.result.now }) c.as_slice.ensures.value
+    ∙ ap (λ r. record { model = c.contents.inside.model.items; report = r; proof = c.as_slice-3.result.now }) c.as_slice-2.ensures.value
+    ∙ ap (λ p. record { model = c.contents.inside.model.items; report = c.contents.inside.report.items; proof = p }) c.as_slice-3.ensures.value
+    ∙ c.contents.view_is in
+    check_stops opts held c.args.contents.now c.in-Err.fault c.from.result read
+    (subst (λ i. IsCheckOf opts i.model i.report i.proof (Err c.in-Err.fault)) same c.in-Err.ensures) c.from.ensures

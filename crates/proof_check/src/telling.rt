@@ -1,0 +1,96 @@
+ghost use Rattle.std.specs.Prelude.{◌≡◌, ◌++◌, codes, decimal};
+ghost use Rattle.outside_io.specs.Puts.{Puts, CountsFaults};
+ghost use Rattle.definitions.specs.Pairs.{pairs_text};
+ghost use Rattle.definitions.specs.Verdict.{verdict_text};
+ghost use Rattle.definitions.specs.Verdict as defined;
+ghost use Rattle.proof_check.specs.Runs.{answer_status, answer_text};
+
+use crate::verdict::Verdict;
+use command_line::{put_pairs, put_pieces};
+use cov_model::Tuple;
+use itoa::Buffer;
+use outside_io::{Sink, WriteAnswer};
+
+/// Writes the line of an accepted report and proof.
+fn put_accepted<O: Sink>(rows: u32, omissions: u32, out: &mut O) -> WriteAnswer
+    ensures puts { Puts result (O.written out.old) (O.written out.new) (verdict_text (defined.Accepted rows omissions)) }
+    ensures counts { CountsFaults result (O.faults out.old) (O.faults out.new) }
+{
+    let mut of_rows = Buffer::new();
+    let mut of_omissions = Buffer::new();
+    let rows = of_rows.format(rows);
+    let omissions = of_omissions.format(omissions);
+    put_pieces(
+        out,
+        &["accepted: ", rows, " rows, ", omissions, " omissions\n"],
+    )
+}
+
+/// Writes the line of a refusal at a line of the report or the proof, by the texts around the line's number.
+fn put_refused<O: Sink>(file: &str, line: u32, reason: &str, out: &mut O) -> WriteAnswer
+    ensures puts { Puts result (O.written out.old) (O.written out.new) (file.now ++ decimal line ++ reason.now) }
+    ensures counts { CountsFaults result (O.faults out.old) (O.faults out.new) }
+{
+    let mut buffer = Buffer::new();
+    let number = buffer.format(line);
+    put_pieces(out, &[file, number, reason])
+}
+
+/// Writes the line of a tuple that is neither served nor listed.
+fn put_uncovered<O: Sink>(tuple: &Tuple, out: &mut O) -> WriteAnswer
+    ensures puts { Puts result (O.written out.old) (O.written out.new) (codes "refused: uncovered " ++ pairs_text tuple.now ++ codes "\n") }
+    ensures counts { CountsFaults result (O.faults out.old) (O.faults out.new) }
+{
+    match put_pieces(out, &["refused: uncovered "]) {
+        WriteAnswer::Done => {}
+        WriteAnswer::Failed => return WriteAnswer::Failed,
+    }
+    match put_pairs(out, tuple.as_slice()) {
+        WriteAnswer::Done => put_pieces(out, &["\n"]),
+        WriteAnswer::Failed => WriteAnswer::Failed,
+    }
+}
+
+impl Verdict {
+    /// The exit status of a run with this verdict.
+    pub(crate) fn status(&self) -> u8
+        ensures { result ≡ answer_status self.now }
+    {
+        match self {
+            Verdict::Accepted(..) => 0,
+            Verdict::BadRow(_)
+            | Verdict::BadProof(_)
+            | Verdict::BadOmission(_)
+            | Verdict::Uncovered(_) => 10,
+        }
+    }
+
+    /// Writes the line of this verdict. Takes no memory.
+    pub(crate) fn put_line<O: Sink>(&self, out: &mut O) -> WriteAnswer
+        ensures puts { Puts result (O.written out.old) (O.written out.new) (answer_text self.now) }
+        ensures counts { CountsFaults result (O.faults out.old) (O.faults out.new) }
+    {
+        match self {
+            Verdict::Accepted(rows, omissions) => put_accepted(*rows, *omissions, out),
+            Verdict::BadRow(line) => put_refused(
+                "refused: report line ",
+                *line,
+                ": not a valid row\n",
+                out,
+            ),
+            Verdict::BadProof(line) => put_refused(
+                "refused: proof line ",
+                *line,
+                ": not a proof line\n",
+                out,
+            ),
+            Verdict::BadOmission(line) => put_refused(
+                "refused: proof line ",
+                *line,
+                ": the tree does not refute the tuple\n",
+                out,
+            ),
+            Verdict::Uncovered(tuple) => put_uncovered(tuple, out),
+        }
+    }
+}

@@ -1,0 +1,219 @@
+ghost use Rattle.std.specs.Prelude.{◌≡◌, ◌==◌, ◌-◌, ◌+◌, ◌^◌, ◌<◌, ◌&&◌, ℕ, List, [], ◌∷◌, true, not, length, map, take, drop, min, slice_index_or, Ok, Err, MatchResult, IfSome, None, is_none, option_map};
+ghost use Rattle.std.specs.List.{list_any};
+ghost use Rattle.std.specs.String.{string_bytes};
+ghost use Rattle.definitions.specs.Settings as defined;
+ghost use Rattle.definitions.specs.Words as reading;
+ghost use Rattle.command_line.specs.Settings.{setting_seen};
+ghost use Rattle.proof_check.specs.Words.{TellsFault, command_seen, names_seen, settings_seen, texts};
+ghost use Rattle.proof_check.specs.WordSteps.{HasFault, IsReading, is_faulty_at};
+
+use command_line::{FileNames, Setting, is_named, setting_of};
+use model_lex::{Marks, ModelOpts, OrderWord};
+
+/// What the words of the checker ask for (PICT's guide; this project's rules). It borrows the words.
+#[derive(Drop, Clone, Copy)]
+pub struct CheckOpts<'w> {
+    /// The name of the model file.
+    pub model: &'w str,
+    /// The name of the report.
+    pub report: &'w str,
+    /// The name of the proof file.
+    pub proof: &'w str,
+    /// How the model file is to be read.
+    pub opts: ModelOpts,
+    /// The number of workers.
+    pub workers: u32,
+}
+
+/// A command line that has no reading.
+#[derive(Debug, Drop, Clone, Copy, PartialEq, Eq)]
+pub struct WordFault {
+    /// The number of the first word without a reading, from 1; 2^32 - 1 stands for a greater one too.
+    pub index: u32,
+}
+
+impl<'w> CheckOpts<'w> {
+    /// What holds for three files without further words.
+    fn of(model: &'w str, report: &'w str, proof: &'w str) -> CheckOpts<'w>
+        ensures names { names_seen result ≡ record { model = model.now; rows = report.now; proof = proof.now } }
+        ensures settings { settings_seen result ≡ defined.defaults }
+    {
+        CheckOpts {
+            model,
+            report,
+            proof,
+            opts: ModelOpts {
+                order: OrderWord::Number(2),
+                marks: Marks {
+                    separator: b',',
+                    alias: b'|',
+                    prefix: b'~',
+                },
+                fold: true,
+            },
+            workers: 1,
+        }
+    }
+
+    /// The names of the files of the run; the report is its file of rows.
+    pub(crate) fn names(&self) -> FileNames<'w>
+        ensures { result ≡ names_seen self.now }
+    {
+        FileNames {
+            model: self.model,
+            rows: self.report,
+            proof: self.proof,
+        }
+    }
+
+    /// Sets one thing more, if the checker knows it; whether it does.
+    fn set(&mut self, setting: Setting<'_>) -> bool
+        ensures known { result ≡ reading.is_of_checker (setting_seen setting.entry) }
+        ensures names { names_seen self.new ≡ names_seen self.old }
+        ensures settings { result ≡ true → settings_seen self.new ≡ defined.set (settings_seen self.old) (setting_seen setting.entry) }
+    {
+        match setting {
+            Setting::Order(order) => self.opts.order = order,
+            Setting::Separator(mark) => self.opts.marks.separator = mark,
+            Setting::Alias(mark) => self.opts.marks.alias = mark,
+            Setting::Prefix(mark) => self.opts.marks.prefix = mark,
+            Setting::CaseCounts => self.opts.fold = false,
+            Setting::Workers(workers) => self.workers = workers,
+            Setting::SeedFile(_)
+            | Setting::ShuffleValues(_)
+            | Setting::Statistics
+            | Setting::Budget(_)
+            | Setting::ProofFile(_)
+            | Setting::ProofFormat(_)
+            | Setting::MeasureFile(_)
+            | Setting::Make(_)
+            | Setting::SuspectFile(_) => return false,
+        }
+        true
+    }
+
+    /// Whether two of the three marks are equal.
+    fn has_equal_marks(&self) -> bool
+        ensures { result ≡ reading.has_equal_marks (settings_seen self.now) }
+    {
+        let marks = self.opts.marks;
+        marks.separator == marks.alias
+            || marks.separator == marks.prefix
+            || marks.alias == marks.prefix
+    }
+
+    /// The options with that of this number from 0 behind those so far; `None` exactly where this one has no reading.
+    fn with_option(self, options: &'w [String], place: usize) -> Option<CheckOpts<'w>>
+        requires place { place < length options.now }
+        requires reads { IsReading self (take place (texts options.now)) }
+        ensures faulty { is_none result ≡ is_faulty_at (texts options.now) place }
+        ensures reads { IfSome result (λ more. IsReading more (take (place + 1) (texts options.now))) }
+        ensures names { IfSome result (λ more. names_seen more ≡ names_seen self.entry) }
+    {
+        let word = options[place].as_str();
+        let Some(setting) = setting_of(word) else {
+            return None;
+        };
+        let mut opts = self;
+        if !opts.set(setting) {
+            return None;
+        }
+        if is_last_mark(options, place) && opts.has_equal_marks() {
+            return None;
+        }
+        Some(opts)
+    }
+}
+
+/// Whether a word sets a mark, even if its value is no mark.
+fn is_mark_word(word: &str) -> bool
+    ensures { result ≡ reading.is_mark_word word.now }
+{
+    is_named(word, "/d") || is_named(word, "/a") || is_named(word, "/n")
+}
+
+/// Whether one of the words sets a mark.
+fn has_mark_word(words: &[String]) -> bool
+    ensures { result ≡ list_any (λ word. reading.is_mark_word (string_bytes word)) words.now }
+{
+    words.iter().any(|word| is_mark_word(word.as_str()))
+}
+
+/// Whether a word sets a mark, and none behind it does.
+fn is_last_mark(words: &[String], place: usize) -> bool
+    requires { place < length words.now }
+    ensures { result ≡ (reading.is_mark_word (slice_index_or (texts words.now) place [])
+        && not (list_any reading.is_mark_word (drop (place + 1) (texts words.now)))) }
+{
+    is_mark_word(words[place].as_str()) && !has_mark_word(&words[place + 1..])
+}
+
+/// The fault of the word of this number from 0.
+fn fault_at(place: usize) -> WordFault
+    ensures { result.index ≡ min (place + 1) (2 ^ 32 - 1) }
+{
+    WordFault {
+        index: u32::try_from(place.saturating_add(1)).unwrap_or(u32::MAX),
+    }
+}
+
+/// What options ask for behind those so far, of which the first is the fourth word.
+fn read_options<'w>(names: CheckOpts<'w>, options: &'w [String]) -> Result<CheckOpts<'w>, WordFault>
+    requires { settings_seen names ≡ defined.defaults }
+    ensures { MatchResult result
+        (λ opts. (reading.first_faulty_for_checker 4 [] (texts options.now) ≡ None) × (names_seen opts ≡ names_seen names.entry)
+        × (settings_seen opts ≡ reading.set_by (texts options.now)))
+        (λ fault. HasFault (reading.first_faulty_for_checker 4 [] (texts options.now)) fault.index) }
+{
+    let mut opts = names;
+    for place in 0..options.len() {
+        let Some(more) = opts.with_option(options, place) else {
+            return Err(fault_at(place.saturating_add(3)));
+        };
+        opts = more;
+    }
+    Ok(opts)
+}
+
+/// Whether the word of this number from 0 is missing or empty.
+fn is_missing(words: &[String], place: usize) -> bool
+    ensures { result ≡ (length (slice_index_or (texts words.now) place []) == 0) }
+{
+    match words.get(place) {
+        Some(word) => word.is_empty(),
+        None => true,
+    }
+}
+
+/// The place of the first of the three names, from 0, that is missing or empty.
+fn missing_name(words: &[String]) -> Option<usize>
+    ensures { option_map (λ place. place + 1) result ≡ reading.missing_name 3 (texts words.now) }
+{
+    if is_missing(words, 0) {
+        Some(0)
+    } else if is_missing(words, 1) {
+        Some(1)
+    } else if is_missing(words, 2) {
+        Some(2)
+    } else {
+        None
+    }
+}
+
+/// What the words of the checker ask for, those behind the program's name: MODEL, REPORT and PROOF, which are names
+/// whatever their first character, and the options `/o`, `/d`, `/a`, `/n`, `/c` and `/workers`. Takes no memory.
+///
+/// # Errors
+///
+/// The first word that has no reading; a name that is missing counts as one.
+pub fn read_check_words<'w>(words: &'w [String]) -> Result<CheckOpts<'w>, WordFault>
+    ensures { MatchResult result
+        (λ opts. reading.read_check_words (texts words.now) ≡ Ok (command_seen opts))
+        (λ fault. TellsFault (reading.read_check_words (texts words.now)) fault.index) }
+{
+    if let Some(place) = missing_name(words) {
+        return Err(fault_at(place));
+    }
+    let names = CheckOpts::of(words[0].as_str(), words[1].as_str(), words[2].as_str());
+    read_options(names, &words[3..])
+}
