@@ -1,0 +1,4 @@
+pub mod Results
+pub mod Suspects
+pub mod SuspectText
+pub mod Readings
