@@ -1,6 +1,6 @@
 -- The made model of a number: sixty parameters of two to seven values each, and thirty constraints, each of which
 -- forbids a pair of values. Each number in it is drawn by a word of its own. (This project's rule.)
-use Rattle.std.specs.Prelude.{ℕ, zero, suc, ◌+◌, ◌*◌, ◌-◌, ◌%◌, List, ◌++◌, codes, decimal}
+use Rattle.std.specs.Prelude.{ℕ, zero, suc, ◌+◌, ◌*◌, ◌-◌, ◌%◌, List, ◌++◌, map, codes, decimal}
 use Rattle.std.specs.List.{flat_map, range_with_len}
 use Rattle.made_models.specs.Words.{generator_of, word_of}
 
@@ -52,13 +52,17 @@ constraint_line pair =
     codes "IF [P" ++ decimal pair.first ++ codes "] = \"v" ++ decimal pair.first_value ++ codes "\" THEN [P" ++ decimal pair.second
     ++ codes "] <> \"v" ++ decimal pair.second_value ++ codes "\";\n"
 
--- the lines of the parameters, and those of the constraints
-abbrev pub parameter_lines : ℕ → List ℕ
-parameter_lines n = flat_map (λ i. parameter_line i (value_count n i)) (range_with_len 0 60)
+-- the numbers of values of the first parameters
+unfoldable pub value_counts : ℕ → ℕ → List ℕ
+value_counts n count = map (value_count n) (range_with_len 0 count)
 
-abbrev pub constraint_lines : ℕ → List ℕ
-constraint_lines n = flat_map (λ k. constraint_line (forbidden n k)) (range_with_len 0 30)
+-- the lines of the first parameters, and those of the first constraints
+unfoldable pub parameter_lines : ℕ → ℕ → List ℕ
+parameter_lines n count = flat_map (λ i. parameter_line i (value_count n i)) (range_with_len 0 count)
+
+unfoldable pub constraint_lines : ℕ → ℕ → List ℕ
+constraint_lines n count = flat_map (λ k. constraint_line (forbidden n k)) (range_with_len 0 count)
 
 -- the made model's text
 abbrev pub made_text : ℕ → List ℕ
-made_text n = parameter_lines n ++ constraint_lines n
+made_text n = parameter_lines n 60 ++ constraint_lines n 30

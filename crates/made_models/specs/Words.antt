@@ -8,7 +8,7 @@ abbrev pub generator_of : ℕ → Lcg
 generator_of n = started 64 multiplier_64 n (increment_of 64 1)
 
 -- the generator after so many words
-abbrev pub after_words : ℕ → Lcg → Lcg
+unfoldable pub after_words : ℕ → Lcg → Lcg
 after_words zero generator = generator
 after_words (suc k) generator = (pcg32 (after_words k generator)).1
 

@@ -3,6 +3,8 @@
 //! `made_model` is the text of specs/MadeModel, whose numbers come from the words of PCG.
 #![tactic(auto)]
 
+mod forbidden;
 mod making;
+mod texts;
 
 pub use making::made_model;
