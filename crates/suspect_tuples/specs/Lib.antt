@@ -2,3 +2,4 @@ pub mod Results
 pub mod Suspects
 pub mod SuspectText
 pub mod Readings
+pub mod FileLines

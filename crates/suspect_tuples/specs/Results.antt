@@ -38,9 +38,12 @@ outcome_of_line column line = outcome (slice_index_or (cells_of_line line) colum
 abbrev pub bad_line : ℕ → List (ℕ × List ℕ) → Option ℕ
 bad_line column lines = option_map (λ line. line.0) (find (λ line. is_none (outcome_of_line column line.1)) lines)
 
--- whether the tests of lines failed
+-- whether the test of a line failed, and the tests of lines
+abbrev pub flag_of : ℕ → ℕ × List ℕ → Bool
+flag_of column line = unwrap_or (outcome_of_line column line.1) false
+
 abbrev pub failed_under : ℕ → List (ℕ × List ℕ) → List Bool
-failed_under column lines = map (λ line. unwrap_or (outcome_of_line column line.1) false) lines
+failed_under column lines = map (flag_of column) lines
 
 -- the header's cells but for that of this column
 abbrev pub without_column : ℕ → List (List ℕ) → List (List ℕ)

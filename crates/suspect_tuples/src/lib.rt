@@ -5,7 +5,11 @@
 //! - `put_suspects` writes them: specs/SuspectText.
 #![tactic(auto)]
 
+mod cuts;
+mod filled_lines;
 mod found;
+mod line_cells;
+mod outcomes;
 mod reading;
 mod result_file;
 mod results_fault;
