@@ -1,0 +1,4 @@
+pub mod Texts
+pub mod ReadingSteps
+pub mod ReadingWhole
+mod Examples

@@ -1,0 +1,5 @@
+pub mod Results
+pub mod Suspects
+pub mod SuspectText
+pub mod Readings
+pub mod FileLines
