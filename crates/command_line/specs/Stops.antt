@@ -11,16 +11,16 @@ use Rattle.tuple_index.specs.declared.fault.PlanFault.{PlanFault}
 use Rattle.tuple_index.specs.declared.fault.PlanFault.TheVariants.{TooManySets, TooManyTuples}
 use Rattle.tuple_index.specs.declared.fault.PlanFault.TheVariants as plan_faults
 use Rattle.definitions.specs.Limits as limits
-use Rattle.definitions.specs.Diagnostics.{bytes_limit_line, cannot_read_line, cannot_write_line, cannot_write_report_line, count_limit_line, memory_line, model_line, no_column_line, no_header_line, spent_line, too_wide_line, two_columns_line, word_line}
+use Rattle.definitions.specs.Diagnostics.{bad_result_line, bytes_limit_line, cannot_read_line, cannot_write_line, cannot_write_report_line, count_limit_line, memory_line, model_line, no_column_line, no_header_line, no_result_line, spent_line, too_wide_line, two_columns_line, word_line}
 use Rattle.command_line.specs.declared.stop.Stop.{Stop}
 use Rattle.row_text.specs.declared.rows_fault.RowsFault.{RowsFault}
 use Rattle.row_text.specs.declared.rows_fault.RowsFault.TheVariants.{NoHeader, Twice, Missing, TooManyRows, Width}
 use Rattle.row_text.specs.declared.rows_fault.RowsFault.TheVariants as rows_faults
 use Rattle.command_line.specs.declared.files.FileKind.{FileKind}
 use Rattle.command_line.specs.declared.files.FileKind.TheVariants as kinds
-use Rattle.command_line.specs.declared.stop.Stop.TheVariants.{OutOfMemory, Spent, BadWord, BadModel, BadConstraint, BadRows, CannotRead, CannotWrite, CannotWriteReport, TooMany, TooLong}
+use Rattle.command_line.specs.declared.stop.Stop.TheVariants.{OutOfMemory, Spent, BadWord, BadModel, BadConstraint, BadRows, NoResult, BadResult, CannotRead, CannotWrite, CannotWriteReport, TooMany, TooLong}
 use Rattle.command_line.specs.declared.stop.Quantity.{Quantity}
-use Rattle.command_line.specs.declared.stop.Quantity.TheVariants.{Part, DemandedSets, DemandedTuples, Rows}
+use Rattle.command_line.specs.declared.stop.Quantity.TheVariants.{Part, DemandedSets, DemandedTuples, Rows, SuspectCandidates}
 
 -- what is counted
 abbrev pub counted_part : LimitName → limits.Counted
@@ -34,6 +34,7 @@ counted (Part limit) = counted_part limit
 counted DemandedSets = limits.DemandedSets
 counted DemandedTuples = limits.DemandedTuples
 counted Rows = limits.Rows
+counted SuspectCandidates = limits.SuspectCandidates
 
 -- the limit of bytes that a file has
 abbrev pub measured : FileKind → limits.Measured
@@ -70,6 +71,8 @@ status_of (BadWord index) = 3
 status_of (BadModel diag) = 4
 status_of (BadConstraint diag) = 5
 status_of (BadRows fault) = 6
+status_of NoResult = 6
+status_of (BadResult line) = 6
 status_of (CannotRead kind) = 7
 status_of (CannotWrite kind) = 8
 status_of CannotWriteReport = 8
@@ -104,6 +107,8 @@ line_of (BadWord index) names = word_line index
 line_of (BadModel diag) names = model_line diag.line (diag_code diag.code) (diag_text diag.code)
 line_of (BadConstraint diag) names = model_line diag.line (diag_code diag.code) (diag_text diag.code)
 line_of (BadRows fault) names = rows_line fault
+line_of NoResult names = no_result_line
+line_of (BadResult line) names = bad_result_line line
 line_of (CannotRead kind) names = cannot_read_line (name_of names kind)
 line_of (CannotWrite kind) names = cannot_write_line (name_of names kind)
 line_of CannotWriteReport names = cannot_write_report_line

@@ -27,6 +27,8 @@ pub enum Quantity {
     DemandedTuples,
     /// Rows of a file of rows.
     Rows,
+    /// Failing tests, each with every set of parameters that may explain it.
+    SuspectCandidates,
 }
 
 impl Quantity {
@@ -42,6 +44,7 @@ impl Quantity {
             Quantity::DemandedSets => "demanded sets",
             Quantity::DemandedTuples => "demanded tuples",
             Quantity::Rows => "rows",
+            Quantity::SuspectCandidates => "suspect candidates",
         }
     }
 
@@ -54,6 +57,7 @@ impl Quantity {
             Quantity::DemandedSets => 1 << 20,
             Quantity::DemandedTuples => 1 << 26,
             Quantity::Rows => 1 << 20,
+            Quantity::SuspectCandidates => 1 << 22,
         }
     }
 }
@@ -73,6 +77,10 @@ pub enum Stop {
     BadConstraint(Diag),
     /// The file of rows is refused: status 6.
     BadRows(RowsFault),
+    /// The file of results has no result column: status 6.
+    NoResult,
+    /// A line of the file of results tells neither pass nor fail: status 6.
+    BadResult(u32),
     /// The file of this kind could not be read: status 7.
     CannotRead(FileKind),
     /// The file of this kind could not be written whole: status 8.
@@ -267,7 +275,7 @@ impl Stop {
             Stop::BadWord(_) => 3,
             Stop::BadModel(_) => 4,
             Stop::BadConstraint(_) => 5,
-            Stop::BadRows(_) => 6,
+            Stop::BadRows(_) | Stop::NoResult | Stop::BadResult(_) => 6,
             Stop::CannotRead(_) => 7,
             Stop::CannotWrite(_) | Stop::CannotWriteReport => 8,
             Stop::TooMany(..) | Stop::TooLong(_) => 9,
@@ -286,6 +294,8 @@ impl Stop {
             Stop::BadModel(refusal) => put_diag(refusal, diag),
             Stop::BadConstraint(refusal) => put_diag(refusal, diag),
             Stop::BadRows(fault) => put_rows_fault(*fault, diag),
+            Stop::NoResult => put_pieces(diag, &["error: row file: F5 no result column\n"]),
+            Stop::BadResult(line) => put_row_line(*line, ": F6 neither pass nor fail\n", diag),
             Stop::CannotRead(kind) => put_pieces(
                 diag,
                 &["error: cannot read ", names.of(*kind), "\n"],

@@ -1,37 +1,68 @@
--- Which status a run must end with, from what its model file holds.
-use Rattle.std.proofs.Common.{◌≡◌, ℕ, ◌<◌, ◌≤◌, List, Option, None, Some, Ok, Err, Result, inl, inr, refl, sym, ap, subst, ◌∙◌, length, arith}
-use Rattle.std.specs.Prelude.{◌⊎◌, ◌≢◌, option_map, IfSome, IsSomeAnd, IsErrAnd}
-use Rattle.std.proofs.lemmas.Option.{none-some}
+-- Which status a run must end with, from what its files hold.
+use Rattle.std.proofs.Common.{◌≡◌, ℕ, ◌<◌, ◌≤◌, List, Option, None, Some, Ok, Err, Result, inl, inr, sym, ap, subst, ◌∙◌, length, arith}
+use Rattle.std.specs.Prelude.{◌⊎◌, ◌≢◌, option_map, IsSomeAnd, IsErrAnd}
+use Rattle.std.specs.Option.{option_or}
+use Rattle.std.proofs.lemmas.Option.{none-some, same_Some}
 use Rattle.outside_io.specs.Faults.{Rose}
 use Rattle.cov_model.specs.Sound.{ModelView}
 use Rattle.definitions.specs.Limits.{ModelFile, most_bytes}
-use Rattle.definitions.specs.Pairs.{pairs_of}
+use Rattle.definitions.specs.RowReading.{Seed}
 use Rattle.definitions.specs.Settings.{Settings}
 use Rattle.model_lex.specs.declared.note.Note.{Note}
 use Rattle.model_lex.specs.declared.options.ModelOpts.{ModelOpts}
 use Rattle.model_lex.specs.declared.fault.ModelFault.{ModelFault}
+use Rattle.tuple_index.specs.PlanFault.{limit_passed}
 use Rattle.type_check.specs.ModelOf.{IsModelOf, IsRefusalOf}
 use Rattle.type_check.proofs.OneAnswer.{models_are_not_refused, refusals_are_one}
 use Rattle.command_line.specs.Loading.{IsRefused, StopsReading, cannot_read, is_refused, out_of_memory, too_long}
-use Rattle.pict_cli.specs.Runs.{EndsBehind, IsGrown, cannot_write, cannot_write_proof, fault_status, is_spent, no_memory, opts_of, too_many}
-use Rattle.pict_cli.specs.Steps.{CountsOut, CountsWrites, Moment, Ran}
-use Rattle.command_line.specs.Stops.{status_of}
+use Rattle.command_line.specs.Stops.{status_of, stop_of_plan}
 use Rattle.command_line.specs.Told.{end_status}
+use Rattle.command_line.specs.declared.files.FileKind.TheVariants as kinds
 use Rattle.command_line.specs.declared.stop.Stop.{Stop}
 use Rattle.command_line.specs.declared.stop.Stop.TheVariants.{CannotRead, CannotWrite, CannotWriteReport}
-use Rattle.command_line.specs.declared.files.FileKind.TheVariants as kinds
-use Rattle.pict_cli.proofs.RunEnds.{ends_told}
+use Rattle.pict_cli.specs.Ends.{CountsOut, CountsReads, CountsWrites, Moment, end_of}
+use Rattle.pict_cli.specs.Modes.{RowSource, RowsHeld, row_source}
+use Rattle.pict_cli.specs.Runs.{EndsBehind, cannot_write, cannot_write_proof, comes_whole, fault_status, must_stop, no_memory, opts_of, question_over, rows_of_run, rows_unread, spent_on, stop_due}
+use Rattle.pict_cli.specs.RowSources.{read_source, stop_in}
+use Rattle.pict_cli.specs.Steps.{Ran}
+use Rattle.pict_cli.specs.Words.{ReadsCalmly, WritesCalmly}
 
--- why a run on a model ends whose suite is grown
-grown_end : (s : Settings) (seed : ℕ) (m : ModelView) (end : Result (Unit {0}) Stop) → IsGrown s seed m → end ≢ Err CannotWriteReport → end ≢ Err (CannotWrite kinds.Proof)
-    → EndsBehind s seed m end → (end_status end ≡ 0) ⊎ (end_status end ≡ 1)
-grown_end s seed m (Ok done) grown write proof printed = inl refl
-grown_end s seed m (Err stop) grown write proof (no_memory e) = inr (ap status_of e)
-grown_end s seed m (Err stop) grown write proof (too_many fault e passed) = absurd (none-some fault (sym grown.within ∙ passed))
-grown_end s seed m (Err stop) grown write proof (is_spent question e within over) =
-    absurd (none-some question (sym (ap (option_map pairs_of) grown.answered) ∙ over))
-grown_end s seed m (Err stop) grown write proof (cannot_write_proof name e asked printed) = absurd (proof (ap Err e))
-grown_end s seed m (Err stop) grown write proof (cannot_write e printed) = absurd (write (ap Err e))
+-- why a run on a model ends that needn't stop
+whole_end : (s : Settings) (seed : ℕ) (m : ModelView) (source : RowSource) (notes : List Note) (end : Result (Unit {0}) Stop) → stop_due s seed m source ≡ None
+    → end ≢ Err (CannotRead kinds.Rows) → end ≢ Err CannotWriteReport → end ≢ Err (CannotWrite kinds.Proof)
+    → EndsBehind s seed m source notes end → (end_status end ≡ 0) ⊎ (end_status end ≡ 1)
+whole_end s seed m source notes end due read write proof (comes_whole e free told) = inl (ap end_status e)
+whole_end s seed m source notes end due read write proof (no_memory count e told) = inr (ap end_status e)
+whole_end s seed m source notes end due read write proof (rows_unread e within told) = absurd (read e)
+whole_end s seed m source notes end due read write proof (must_stop stop e other told) = absurd (none-some stop (sym due ∙ other))
+whole_end s seed m source notes end due read write proof (cannot_write_proof name e asked free told) = absurd (proof e)
+whole_end s seed m source notes end due read write proof (cannot_write e free told) = absurd (write e)
+
+-- and of one that must stop
+stopped_end_behind : (s : Settings) (seed : ℕ) (m : ModelView) (source : RowSource) (notes : List Note) (end : Result (Unit {0}) Stop) (stop : Stop)
+    → stop_due s seed m source ≡ Some stop → end ≢ Err (CannotRead kinds.Rows)
+    → EndsBehind s seed m source notes end → (end_status end ≡ status_of stop) ⊎ (end_status end ≡ 1)
+stopped_end_behind s seed m source notes end stop due read (comes_whole e free told) = absurd (none-some stop (sym free ∙ due))
+stopped_end_behind s seed m source notes end stop due read (no_memory count e told) = inr (ap end_status e)
+stopped_end_behind s seed m source notes end stop due read (rows_unread e within told) = absurd (read e)
+stopped_end_behind s seed m source notes end stop due read (must_stop other e is told) = inl (ap end_status e ∙ ap status_of (same_Some other stop (sym is ∙ due)))
+stopped_end_behind s seed m source notes end stop due read (cannot_write_proof name e asked free told) = absurd (none-some stop (sym free ∙ due))
+stopped_end_behind s seed m source notes end stop due read (cannot_write e free told) = absurd (none-some stop (sym free ∙ due))
+
+-- and of one whose row file is missing
+missing_due : (s : Settings) (seed : ℕ) (m : ModelView) → limit_passed m ≡ None → stop_due s seed m (RowsHeld None) ≡ Some (CannotRead kinds.Rows)
+missing_due s seed m within =
+    ap (λ l. option_or (option_map stop_of_plan l) (option_or (stop_in (read_source m Seed (RowsHeld None))) (option_map (spent_on s) (question_over s seed m (rows_of_run m (RowsHeld None)))))) within
+
+missing_end_behind : (s : Settings) (seed : ℕ) (m : ModelView) (notes : List Note) (end : Result (Unit {0}) Stop) → limit_passed m ≡ None
+    → EndsBehind s seed m (RowsHeld None) notes end → (end_status end ≡ 7) ⊎ (end_status end ≡ 1)
+missing_end_behind s seed m notes end within (comes_whole e free told) = absurd (none-some (CannotRead kinds.Rows) (sym free ∙ missing_due s seed m within))
+missing_end_behind s seed m notes end within (no_memory count e told) = inr (ap end_status e)
+missing_end_behind s seed m notes end within (rows_unread e passed told) = inl (ap end_status e)
+missing_end_behind s seed m notes end within (must_stop other e is told) =
+    inl (ap end_status e ∙ ap status_of (same_Some other (CannotRead kinds.Rows) (sym is ∙ missing_due s seed m within)))
+missing_end_behind s seed m notes end within (cannot_write_proof name e asked free told) = absurd (none-some (CannotRead kinds.Rows) (sym free ∙ missing_due s seed m within))
+missing_end_behind s seed m notes end within (cannot_write e free told) = absurd (none-some (CannotRead kinds.Rows) (sym free ∙ missing_due s seed m within))
 
 -- why a run ends whose reading stopped: Q is the status of a refusal, and R that of a file with too many bytes
 reading_end :
@@ -45,17 +76,15 @@ reading_end opts held (Err stop) Q read long refused (cannot_read e) = absurd (r
 reading_end opts held (Err stop) Q read long refused (too_long e above) = inl (long above (ap status_of e))
 reading_end opts held (Err stop) Q read long refused (is_refused fault e cause) = inl (refused fault cause (ap status_of e))
 
--- no count rose
-none_rose : (proof : Option (List ℕ)) (writes writes_after : List ℕ → ℕ) → IfSome proof (λ file. ¬ Rose (writes file) (writes_after file))
-    → IsSomeAnd proof (λ file. Rose (writes file) (writes_after file)) → ⊥
-none_rose None writes writes_after stays rose = rose
-none_rose (Some file) writes writes_after stays rose = stays rose
-
--- a run whose end has this status, where its count of faults of reading didn't rise
-module _ {s : Settings} {seed : ℕ} {name : List ℕ} {start after : Moment} {notes : List Note} {end : Result (Unit {0}) Stop}
-    (ran : Ran s seed name start after notes end) (status : ℕ) (is : status ≡ end_status end) where
+-- a run whose end has this status, on files that are told
+module _ {s : Settings} {seed : ℕ} {name : List ℕ} {start after : Moment} {notes row_notes : List Note} {end : Result (Unit {0}) Stop}
+    (ran : Ran s seed name start after notes row_notes end) (status : ℕ) (is : status ≡ end_status end) (source : RowSource)
+    (rows : row_source s start.files ≡ Some source) where
   calm : ¬ (Rose (start.reads name) (after.reads name)) → end ≢ Err (CannotRead kinds.Model)
-  calm stays e = stays (ran.read e)
+  calm stays e = stays (subst (λ x. CountsReads s name (end_of x) start.reads after.reads) e ran.leaves.reads)
+
+  rows_calm : ReadsCalmly s name start.reads after.reads → end ≢ Err (CannotRead kinds.Rows)
+  rows_calm stays e = stays kinds.Rows (subst (λ x. CountsReads s name (end_of x) start.reads after.reads) e ran.leaves.reads)
 
   ended : (Q : ℕ → Type 0) → Q (end_status end) ⊎ (end_status end ≡ 1) → Q status ⊎ (status ≡ 1)
   ended Q at = subst (λ n. Q n ⊎ (n ≡ 1)) (sym is) at
@@ -64,7 +93,7 @@ module _ {s : Settings} {seed : ℕ} {name : List ℕ} {start after : Moment} {n
   pub refused_end : (bytes : List ℕ) (fault : ModelFault) → start.files name ≡ Some (Some bytes) → length bytes ≤ most_bytes ModelFile
       → IsRefusalOf (opts_of s) bytes fault
       → ¬ (Rose (start.reads name) (after.reads name)) → (status ≡ fault_status fault) ⊎ (status ≡ 1)
-  refused_end bytes fault at short refusal stays = ended (λ n. n ≡ fault_status fault) (elim (ends_told ran (Some bytes) at) [
+  refused_end bytes fault at short refusal stays = ended (λ n. n ≡ fault_status fault) (elim (ran.ends (Some bytes) source at rows) [
     | inl reading ↦ reading_end (opts_of s) (Some bytes) end _ (calm stays) (λ above nine. absurd (omega (arith, above, short)))
         (λ other cause same. same ∙ ap fault_status (refusals_are_one (opts_of s) bytes other fault cause.1 refusal)) reading.0
     | inr model ↦ absurd (models_are_not_refused (opts_of s) bytes model.model model.notes fault model.spelled refusal)
@@ -73,7 +102,7 @@ module _ {s : Settings} {seed : ℕ} {name : List ℕ} {start after : Moment} {n
   -- a file with too many bytes
   pub long_end : (bytes : List ℕ) → start.files name ≡ Some (Some bytes) → most_bytes ModelFile < length bytes → ¬ (Rose (start.reads name) (after.reads name))
       → (status ≡ 9) ⊎ (status ≡ 1)
-  long_end bytes at long stays = ended (λ n. n ≡ 9) (elim (ends_told ran (Some bytes) at) [
+  long_end bytes at long stays = ended (λ n. n ≡ 9) (elim (ran.ends (Some bytes) source at rows) [
     | inl reading ↦
         reading_end (opts_of s) (Some bytes) end _ (calm stays) (λ above nine. nine) (λ other cause same. absurd (omega (arith, long, cause.0))) reading.0
     | inr model ↦ absurd (omega (arith, long, model.within))
@@ -81,7 +110,7 @@ module _ {s : Settings} {seed : ℕ} {name : List ℕ} {start after : Moment} {n
 
   -- no file
   pub missing_end : start.files name ≡ Some None → (status ≡ 7) ⊎ (status ≡ 1)
-  missing_end at = ended (λ n. n ≡ 7) (elim (ends_told ran None at) [
+  missing_end at = ended (λ n. n ≡ 7) (elim (ran.ends None source at rows) [
     | inl reading ↦ missing end reading.0
     | inr none ↦ absurd none
   ])
@@ -93,15 +122,37 @@ module _ {s : Settings} {seed : ℕ} {name : List ℕ} {start after : Moment} {n
       missing (Err stop) (too_long e none) = absurd none
       missing (Err stop) (is_refused other e none) = absurd none
 
-  -- a file that spells a model whose suite is grown: it is printed, unless memory was wanting
-  pub complete_end : (bytes : List ℕ) (m : ModelView) (told : List Note) → start.files name ≡ Some (Some bytes) → length bytes ≤ most_bytes ModelFile
-      → IsModelOf (opts_of s) bytes m told → IsGrown s seed m
-      → ¬ (Rose (start.reads name) (after.reads name)) → IfSome s.proof (λ file. ¬ Rose (start.writes file) (after.writes file)) → ¬ (Rose start.faults after.faults)
-      → (status ≡ 0) ⊎ (status ≡ 1)
-  complete_end bytes m told at short spelled grown stays unwritten unbroken = ended (λ n. n ≡ 0) (elim (ends_told ran (Some bytes) at) [
-    | inl reading ↦ reading_end (opts_of s) (Some bytes) end _ (calm stays) (λ above nine. absurd (omega (arith, above, short)))
+  -- a file that spells a model, and what follows for its end
+  spelled_end : (Q : Type 0) (bytes : List ℕ) (m : ModelView) (told : List Note) → start.files name ≡ Some (Some bytes) → length bytes ≤ most_bytes ModelFile
+      → IsModelOf (opts_of s) bytes m told → end ≢ Err (CannotRead kinds.Model) → (EndsBehind s seed m source row_notes end → Q ⊎ (end_status end ≡ 1)) → Q ⊎ (end_status end ≡ 1)
+  spelled_end Q bytes m told at short spelled unread says = elim (ran.ends (Some bytes) source at rows) [
+    | inl reading ↦ reading_end (opts_of s) (Some bytes) end Q unread (λ above nine. absurd (omega (arith, above, short)))
         (λ fault cause same. absurd (models_are_not_refused (opts_of s) bytes m told fault spelled cause.1)) reading.0
-    | inr model ↦ grown_end s seed m end grown (λ e. unbroken (subst (λ x. CountsOut x start.faults after.faults) e ran.counts))
-        (λ e. none_rose s.proof start.writes after.writes unwritten (subst (λ x. CountsWrites s x start.writes after.writes) e ran.writes))
-        (model.each m told spelled).1.ends
-  ])
+    | inr model ↦ says (model.each m told spelled).1.ends
+  ]
+
+  -- one where the run needn't stop: it comes to its end, unless memory was wanting
+  pub complete_end : (bytes : List ℕ) (m : ModelView) (told : List Note) → start.files name ≡ Some (Some bytes) → length bytes ≤ most_bytes ModelFile
+      → IsModelOf (opts_of s) bytes m told → stop_due s seed m source ≡ None
+      → ReadsCalmly s name start.reads after.reads → WritesCalmly s name start.writes after.writes → ¬ (Rose start.faults after.faults) → (status ≡ 0) ⊎ (status ≡ 1)
+  complete_end bytes m told at short spelled due stays unwritten unbroken =
+      ended (λ n. n ≡ 0)
+      (spelled_end _ bytes m told at short spelled (calm (stays kinds.Model))
+      (whole_end s seed m source row_notes end due (rows_calm stays) (λ e. unbroken (subst (λ x. CountsOut (end_of x) start.faults after.faults) e ran.leaves.faults))
+      (λ e. unwritten kinds.Proof (subst (λ x. CountsWrites s name (end_of x) start.writes after.writes) e ran.leaves.writes))))
+
+  -- one where it must stop
+  pub stopped_end : (bytes : List ℕ) (m : ModelView) (told : List Note) (stop : Stop) → start.files name ≡ Some (Some bytes) → length bytes ≤ most_bytes ModelFile
+      → IsModelOf (opts_of s) bytes m told → stop_due s seed m source ≡ Some stop → ReadsCalmly s name start.reads after.reads → (status ≡ status_of stop) ⊎ (status ≡ 1)
+  stopped_end bytes m told stop at short spelled due stays =
+      ended (λ n. n ≡ status_of stop)
+      (spelled_end _ bytes m told at short spelled (calm (stays kinds.Model)) (stopped_end_behind s seed m source row_notes end stop due (rows_calm stays)))
+
+-- one whose row file is missing
+pub missing_rows_end : {s : Settings} {seed : ℕ} {name : List ℕ} {start after : Moment} {notes row_notes : List Note} {end : Result (Unit {0}) Stop}
+    (ran : Ran s seed name start after notes row_notes end) (status : ℕ) (is : status ≡ end_status end) → row_source s start.files ≡ Some (RowsHeld None)
+    → (bytes : List ℕ) (m : ModelView) (told : List Note) → start.files name ≡ Some (Some bytes) → length bytes ≤ most_bytes ModelFile
+    → IsModelOf (opts_of s) bytes m told → limit_passed m ≡ None → ¬ (Rose (start.reads name) (after.reads name)) → (status ≡ 7) ⊎ (status ≡ 1)
+missing_rows_end {s} {seed} {name} {start} {after} {notes} {row_notes} {end} ran status is rows bytes m told at short spelled within stays =
+    ended ran status is (RowsHeld None) rows (λ n. n ≡ 7) (spelled_end ran status is (RowsHeld None) rows _ bytes m told at short spelled (calm ran status is (RowsHeld None) rows stays)
+    (missing_end_behind s seed m row_notes end within))

@@ -1,7 +1,8 @@
 -- What a report that was printed whole holds covers what can be covered.
-use Rattle.std.proofs.Common.{◌≡◌, ℕ, ◌<◌, ◌^◌, ◌⊎◌, true, false, Bool, List, [], length, ◌++◌, Option, None, Some, Ok, inl, inr, refl, sym, subst, arith}
-use Rattle.std.specs.Prelude.{All, ◌&&◌, nat_le, nat_lt, if◌then◌else◌, slice_index_or, option_and_then, IfSome, IsSomeAnd}
+use Rattle.std.proofs.Common.{◌≡◌, ℕ, ◌<◌, ◌^◌, ◌⊎◌, true, false, Bool, List, length, ◌++◌, Option, None, Some, Ok, inl, inr, refl, sym, subst, arith}
+use Rattle.std.specs.Prelude.{All, ◌&&◌, nat_le, nat_lt, if◌then◌else◌, slice_index_or, option_map, option_and_then, IfSome, IsSomeAnd}
 use Rattle.std.specs.List.{list_all}
+use Rattle.std.specs.Option.{option_or}
 use Rattle.outside_io.specs.declared.answers.WriteAnswer.TheVariants.{Done}
 use Rattle.outside_io.specs.Puts.{Puts}
 use Rattle.cov_model.specs.Sound.{ModelView, IsSound}
@@ -14,18 +15,26 @@ use Rattle.std.proofs.lemmas.Option.{none-some}
 use Rattle.definitions.specs.Covering.{HasFewRows}
 use Rattle.definitions.specs.Demand.{choices, demanded_tuples}
 use Rattle.definitions.specs.Settings.{Settings}
+use Rattle.definitions.specs.Statistics as told
+use Rattle.definitions.specs.Statistics.{statistics}
 use Rattle.definitions.specs.SuiteLaws.{IsSoundProof}
-use Rattle.definitions.proofs.SuiteLaws.{suite_proofs_list, suites_serve_or_refute}
-use Rattle.tuple_index.specs.PlanFault.{limit_passed, told}
+use Rattle.definitions.proofs.SuiteLaws.{suite_proofs_are_accepted, suite_proofs_list, suite_proofs_read_back, suites_serve_or_refute}
+use Rattle.tuple_index.specs.PlanFault.{limit_passed}
+use Rattle.tuple_index.specs.PlanFault as limits
+use Rattle.tuple_index.specs.declared.fault.PlanFault.{PlanFault}
 use Rattle.tuple_index.specs.declared.fault.PlanFault.TheVariants.{TooManySets, TooManyTuples}
-use Rattle.outside_io.specs.Files.{Files}
 use Rattle.definitions.specs.Growth.{growth}
 use Rattle.definitions.specs.Report.{report_text}
 use Rattle.definitions.specs.RowFile.{rows_of}
 use Rattle.definitions.specs.Laws.{ArePreferences}
-use Rattle.definitions.proofs.GrowthLaw.{suites_cover, suites_have_few_rows}
+use Rattle.definitions.proofs.GrowthLaw.{growth_covers, suites_cover, suites_have_few_rows}
 use Rattle.definitions.proofs.ReadBack.{read_back}
-use Rattle.pict_cli.specs.Runs.{CoversOrRefutes, HoldsWholeProof, IsProof, PrintsCovering, PrintsFewRows, RunsModel, out_text, shuffled_by, told_proof}
+use Rattle.model_lex.specs.declared.note.Note.{Note}
+use Rattle.command_line.specs.Stops.{stop_of_plan}
+use Rattle.command_line.specs.declared.stop.Stop.{Stop}
+use Rattle.pict_cli.specs.Ends.{Moment}
+use Rattle.pict_cli.specs.Modes.{Mode, Report, RowSource, Statistics, is_report, mode_of, prints_rows}
+use Rattle.pict_cli.specs.Runs.{AreContained, CoversOrRefutes, EndsBehind, HoldsWholeProof, IsAcceptedWith, IsProof, PrintsAccepted, PrintsCovering, PrintsFewRows, PrintsSeeds, RunsModel, cannot_write, cannot_write_proof, comes_whole, must_stop, no_memory, out_text, rows_of_run, rows_unread, seeds_kept, shuffled_by, stop_due, suite_text, told_proof}
 
 -- the orders of a run
 are_preferences : (m : ModelView) (shuffle : Option ℕ) → ArePreferences m (preference m shuffle)
@@ -39,21 +48,37 @@ are_rows m rows valid k d within =
     (and_parts (is_row m row) holds (and_parts (is_row m row && holds) (nat_le (length (negatives m row)) 1) (valid k d within)).0).0
 
 -- what was printed whole holds the rows of the suite
-read_suite : (m : ModelView) (shuffle : Option ℕ) → IsSound m
-    → rows_of m (report_text m (growth m (preference m shuffle) []).rows) ≡ (growth m (preference m shuffle) []).rows
-read_suite m shuffle sound =
-    let rows = (growth m (preference m shuffle) []).rows in
-    read_back m rows sound (are_rows m rows (suites_cover m (preference m shuffle) [] sound (are_preferences m shuffle)).valid)
+read_suite : (m : ModelView) (pref : List (List ℕ)) (seeds : List (ℕ × List (Option ℕ))) → IsSound m → ArePreferences m pref
+    → rows_of m (report_text m (growth m pref seeds).rows) ≡ (growth m pref seeds).rows
+read_suite m pref seeds sound orders =
+    read_back m (growth m pref seeds).rows sound (are_rows m (growth m pref seeds).rows (suites_cover m pref seeds sound orders).valid)
 
 -- what was printed whole behind other bytes
-added : (P : List (List (Option ℕ)) → Type 0) (m : ModelView) (shuffle : Option ℕ) (before : List ℕ) (after : Option (List ℕ)) → IsSound m
-    → P (growth m (preference m shuffle) []).rows
-    → Puts Done (Some before) after (report_text m (growth m (preference m shuffle) []).rows)
+added : (P : List (List (Option ℕ)) → Type 0) (m : ModelView) (pref : List (List ℕ)) (seeds : List (ℕ × List (Option ℕ))) (before : List ℕ) (after : Option (List ℕ))
+    → IsSound m → ArePreferences m pref → P (growth m pref seeds).rows → Puts Done (Some before) after (report_text m (growth m pref seeds).rows)
     → IsSomeAnd after (λ bytes. (text : List ℕ) × (bytes ≡ before ++ text) × P (rows_of m text))
-added P m shuffle before after sound holds put =
-    let text = report_text m (growth m (preference m shuffle) []).rows in
+added P m pref seeds before after sound orders holds put =
+    let text = report_text m (growth m pref seeds).rows in
     subst (λ found. IsSomeAnd found (λ bytes. (added : List ℕ) × (bytes ≡ before ++ added) × P (rows_of m added))) (sym put)
-    (text, refl, subst P (sym (read_suite m shuffle sound)) holds)
+    (text, refl, subst P (sym (read_suite m pref seeds sound orders)) holds)
+
+-- the text of a run that prints rows
+report_printed : (mode : Mode) (m : ModelView) (rows : List (List (Option ℕ))) (numbers : told.Statistics) → is_report mode ≡ true → suite_text mode m rows numbers ≡ report_text m rows
+report_printed Report m rows numbers is = refl
+report_printed Statistics m rows numbers is = let no : ⊥ = cc in absurd no
+
+-- a run that came to its end needn't stop, and so passes no limit
+not_due : (s : Settings) (seed : ℕ) (m : ModelView) (source : RowSource) (notes : List Note) → EndsBehind s seed m source notes (Ok tt) → stop_due s seed m source ≡ None
+not_due s seed m source notes (comes_whole e due told) = due
+not_due s seed m source notes (no_memory count e told) = let no : ⊥ = cc in absurd no
+not_due s seed m source notes (rows_unread e within told) = let no : ⊥ = cc in absurd no
+not_due s seed m source notes (must_stop stop e due told) = let no : ⊥ = cc in absurd no
+not_due s seed m source notes (cannot_write_proof name e asked due told) = let no : ⊥ = cc in absurd no
+not_due s seed m source notes (cannot_write e due told) = let no : ⊥ = cc in absurd no
+
+pub within_limits : (passed : Option PlanFault) (rest : Option Stop) → option_or (option_map stop_of_plan passed) rest ≡ None → passed ≡ None
+within_limits None rest e = refl
+within_limits (Some fault) rest e = absurd (none-some (stop_of_plan fault) (sym e))
 
 -- the second of two limits isn't passed
 second_false : {X : Type 0} (x y : X) (first second : Bool) → (if first then Some x else if second then Some y else None) ≡ None → second ≡ false
@@ -62,70 +87,94 @@ second_false x y false true none = absurd (none-some y (sym none))
 second_false x y false false none = refl
 
 -- what a run left that came to its end
-module _ (s : Settings) (seed : ℕ) (m : ModelView) (files files_after : Files) (out after : Option (List ℕ)) where
-  abbrev shuffle : Option ℕ
-  shuffle = shuffled_by s.shuffle seed
+module _ (s : Settings) (seed : ℕ) (m : ModelView) (source : RowSource) (notes : List Note) (start after : Moment) (runs : RunsModel s seed m source notes start after (Ok tt)) where
+  abbrev pref : List (List ℕ)
+  pref = preference m (shuffled_by s.shuffle seed)
+
+  abbrev seeds : List (ℕ × List (Option ℕ))
+  seeds = rows_of_run m source
+
+  orders : ArePreferences m pref
+  orders = are_preferences m (shuffled_by s.shuffle seed)
+
+  within : limit_passed m ≡ None
+  within = within_limits (limit_passed m) _ (not_due s seed m source notes runs.ends)
 
   -- fewer than 2^32 tuples are demanded
-  few_demanded : limit_passed m ≡ None → length (demanded_tuples m) < 2 ^ 32
-  few_demanded within =
-      let few = ltb-false (2 ^ 26) (length (demanded_tuples m)) (second_false (TooManySets (told (length (choices m)))) (TooManyTuples (told (length (demanded_tuples m)))) (nat_lt (2 ^ 20) (length (choices m))) (nat_lt (2 ^ 26) (length (demanded_tuples m))) within) in
+  few_demanded : length (demanded_tuples m) < 2 ^ 32
+  few_demanded =
+      let few = ltb-false (2 ^ 26) (length (demanded_tuples m)) (second_false (TooManySets (limits.told (length (choices m)))) (TooManyTuples (limits.told (length (demanded_tuples m)))) (nat_lt (2 ^ 20) (length (choices m))) (nat_lt (2 ^ 26) (length (demanded_tuples m))) within) in
       omega (arith, few)
 
-  sound_proof : (s.form ≡ 1) ⊎ (s.form ≡ 2) → IsSound m → limit_passed m ≡ None → (bytes : List ℕ) → IsProof s seed m bytes
-      → IsSoundProof m (preference m shuffle) [] s.form bytes
-  sound_proof known sound within bytes is = record {
-    sound = sound;
-    orders = are_preferences m shuffle;
+  abbrev sound_proof : (s.form ≡ 1) ⊎ (s.form ≡ 2) → (bytes : List ℕ) → IsProof s seed m seeds bytes → IsSoundProof m pref seeds s.form bytes
+  sound_proof known bytes is = record {
+    sound = runs.sound;
+    orders = orders;
     known = known;
-    few = few_demanded within;
+    few = few_demanded;
     proof = is;
   }
 
   -- what is told of the proof, where it is
-  proof_told : (proof : Option (List ℕ)) → IfSome proof (λ name. IfSome (files_after name) (λ held. IsSomeAnd held (IsProof s seed m)))
-      → IfSome (option_and_then files_after proof) (λ held. IsSomeAnd held (IsProof s seed m))
-  proof_told None holds = tt
-  proof_told (Some name) holds = holds
+  proof_told : IfSome (told_proof s after.files) (λ held. IsSomeAnd held (IsProof s seed m seeds))
+  proof_told = at s.proof runs.writes
+    where
+      at : (proof : Option (List ℕ)) → IfSome proof (λ name. IfSome (after.files name) (λ held. IsSomeAnd held (IsProof s seed m seeds)))
+          → IfSome (option_and_then after.files proof) (λ held. IsSomeAnd held (IsProof s seed m seeds))
+      at None holds = tt
+      at (Some name) holds = holds
 
-  covers : (proof : Option (Option (List ℕ))) → IfSome proof (λ held. IsSomeAnd held (IsProof s seed m))
-      → (s.form ≡ 1) ⊎ (s.form ≡ 2) → IsSound m → limit_passed m ≡ None
-      → CoversOrRefutes m s.form proof (growth m (preference m shuffle) []).rows
-  covers None holds known sound within =
-      let plain = suites_cover m (preference m shuffle) [] sound (are_preferences m shuffle) in
+  covers : (proof : Option (Option (List ℕ))) → IfSome proof (λ held. IsSomeAnd held (IsProof s seed m seeds)) → (s.form ≡ 1) ⊎ (s.form ≡ 2)
+      → CoversOrRefutes m s.form proof (growth m pref seeds).rows
+  covers None holds known =
+      let plain = suites_cover m pref seeds runs.sound orders in
       record { valid = plain.valid; served = λ k d inside. elim (plain.served k d inside) [ inl some ↦ inl some | inr none ↦ inr (none, tt) ] }
-  covers (Some None) holds known sound within = absurd holds
-  covers (Some (Some bytes)) holds known sound within =
-      let plain = suites_cover m (preference m shuffle) [] sound (are_preferences m shuffle) in
-      record {
-        valid = plain.valid;
-        served = suites_serve_or_refute m (preference m shuffle) [] s.form bytes (sound_proof known sound within bytes holds);
+  covers (Some None) holds known = absurd holds
+  covers (Some (Some bytes)) holds known =
+      let plain = suites_cover m pref seeds runs.sound orders in
+      record { valid = plain.valid; served = suites_serve_or_refute m pref seeds s.form bytes (sound_proof known bytes holds) }
+
+  -- the report was put
+  put : prints_rows s ≡ true → (before : List ℕ) → start.out ≡ Some before → Puts Done (Some before) after.out (report_text m (growth m pref seeds).rows)
+  put is before out =
+      subst (Puts Done (Some before) after.out) (report_printed (mode_of s) m (growth m pref seeds).rows (statistics m pref seeds) is)
+      (subst (λ o. Puts Done o after.out (out_text s seed m seeds)) out runs.prints)
+
+  pub prints_covering : (s.form ≡ 1) ⊎ (s.form ≡ 2) → prints_rows s ≡ true → (before : List ℕ) → start.out ≡ Some before
+      → IsSomeAnd after.out (PrintsCovering m s.form (told_proof s after.files) before)
+  prints_covering known is before out =
+      added (CoversOrRefutes m s.form (told_proof s after.files)) m pref seeds before after.out runs.sound orders (covers (told_proof s after.files) proof_told known) (put is before out)
+
+  pub prints_few_rows : prints_rows s ≡ true → (before : List ℕ) → start.out ≡ Some before → IsSomeAnd after.out (PrintsFewRows m (length (seeds_kept m source)) before)
+  prints_few_rows is before out =
+      added (HasFewRows m (length (seeds_kept m source))) m pref seeds before after.out runs.sound orders (suites_have_few_rows m pref seeds runs.sound orders) (put is before out)
+
+  pub prints_seeds : prints_rows s ≡ true → (before : List ℕ) → start.out ≡ Some before → IsSomeAnd after.out (PrintsSeeds m (seeds_kept m source) before)
+  prints_seeds is before out =
+      added (AreContained (seeds_kept m source)) m pref seeds before after.out runs.sound orders (growth_covers m pref seeds runs.sound orders).kept (put is before out)
+
+  pub holds_whole_proof : (s.form ≡ 1) ⊎ (s.form ≡ 2) → (proof : Option (List ℕ)) → told_proof s after.files ≡ Some proof → HoldsWholeProof s seed m seeds proof
+  holds_whole_proof known proof is = whole proof (subst (λ found. IfSome found (λ held. IsSomeAnd held (IsProof s seed m seeds))) is proof_told)
+    where
+      whole : (held : Option (List ℕ)) → IsSomeAnd held (IsProof s seed m seeds) → HoldsWholeProof s seed m seeds held
+      whole None none = absurd none
+      whole (Some bytes) is = (is, suite_proofs_list m pref seeds s.form bytes (sound_proof known bytes is))
+
+  pub prints_accepted : (s.form ≡ 1) ⊎ (s.form ≡ 2) → prints_rows s ≡ true → (proof : Option (List ℕ)) → told_proof s after.files ≡ Some proof → (before : List ℕ)
+      → start.out ≡ Some before → IsSomeAnd after.out (PrintsAccepted m s.form proof before)
+  prints_accepted known rows proof is before out =
+      added (λ printed. IsSomeAnd proof (λ bytes. IsAcceptedWith m s.form bytes printed)) m pref seeds before after.out runs.sound orders
+      (accepted proof (subst (λ found. IfSome found (λ held. IsSomeAnd held (IsProof s seed m seeds))) is proof_told)) (put rows before out)
+    where
+      accepted : (held : Option (List ℕ)) → IsSomeAnd held (IsProof s seed m seeds) → IsSomeAnd held (λ bytes. IsAcceptedWith m s.form bytes (growth m pref seeds).rows)
+      accepted None none = absurd none
+      accepted (Some bytes) is = record {
+        omissions = is.omissions;
+        read = suite_proofs_read_back m pref seeds s.form bytes (sound_proof known bytes is);
+        accepted = λ lines same. suite_proofs_are_accepted m pref seeds s.form bytes lines (sound_proof known bytes is) same;
       }
 
-  pub prints_covering : (s.form ≡ 1) ⊎ (s.form ≡ 2) → RunsModel s seed m files files_after out after (Ok tt) → (before : List ℕ) → out ≡ Some before
-      → IsSomeAnd after (PrintsCovering m s.form (told_proof s files_after) before)
-  prints_covering known runs before is =
-      added (CoversOrRefutes m s.form (told_proof s files_after)) m shuffle before after runs.sound
-      (covers (told_proof s files_after) (proof_told s.proof runs.writes) known runs.sound runs.ends.within)
-      (subst (λ o. Puts Done o after (out_text s seed m)) is runs.prints)
-
-  pub prints_few_rows : RunsModel s seed m files files_after out after (Ok tt) → (before : List ℕ) → out ≡ Some before → IsSomeAnd after (PrintsFewRows m before)
-  prints_few_rows runs before is =
-      added (HasFewRows m 0) m shuffle before after runs.sound (suites_have_few_rows m (preference m shuffle) [] runs.sound (are_preferences m shuffle))
-      (subst (λ o. Puts Done o after (out_text s seed m)) is runs.prints)
-
-  whole_proof : (s.form ≡ 1) ⊎ (s.form ≡ 2) → IsSound m → limit_passed m ≡ None → (held : Option (List ℕ)) → IsSomeAnd held (IsProof s seed m)
-      → HoldsWholeProof s seed m held
-  whole_proof known sound within None none = absurd none
-  whole_proof known sound within (Some bytes) is = (is, suite_proofs_list m (preference m shuffle) [] s.form bytes (sound_proof known sound within bytes is))
-
-  pub holds_whole_proof : (s.form ≡ 1) ⊎ (s.form ≡ 2) → RunsModel s seed m files files_after out after (Ok tt) → (proof : Option (List ℕ))
-      → told_proof s files_after ≡ Some proof → HoldsWholeProof s seed m proof
-  holds_whole_proof known runs proof is =
-      whole_proof known runs.sound runs.ends.within proof
-      (subst (λ found. IfSome found (λ held. IsSomeAnd held (IsProof s seed m))) is (proof_told s.proof runs.writes))
-
 -- the rows of a suite are rows
-pub suite_rows : (m : ModelView) (shuffle : Option ℕ) → IsSound m → All (λ row. is_row m row ≡ true) (growth m (preference m shuffle) []).rows
-suite_rows m shuffle sound =
-    are_rows m (growth m (preference m shuffle) []).rows (suites_cover m (preference m shuffle) [] sound (are_preferences m shuffle)).valid
+pub suite_rows : (m : ModelView) (shuffle : Option ℕ) (seeds : List (ℕ × List (Option ℕ))) → IsSound m → All (λ row. is_row m row ≡ true) (growth m (preference m shuffle) seeds).rows
+suite_rows m shuffle seeds sound =
+    are_rows m (growth m (preference m shuffle) seeds).rows (suites_cover m (preference m shuffle) seeds sound (are_preferences m shuffle)).valid

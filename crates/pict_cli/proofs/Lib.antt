@@ -1,11 +1,13 @@
+pub mod Behind
 pub mod Causes
-pub mod GrowthEnds
+pub mod Early
 pub mod Headline
 pub mod KindLemmas
 pub mod ProofTexts
 pub mod RangeLemmas
+pub mod Reading
+pub mod RowFiles
 pub mod RunEnds
-pub mod Stopped
-pub mod Stopping
+pub mod Suites
 pub mod Unbuilt
 pub mod WordLemmas

@@ -1,11 +1,10 @@
--- How a run ends, from how its reading and its growth ended.
-use Rattle.std.proofs.Common.{◌≡◌, ℕ, ◌||◌, ◌≤◌, length, List, [], Option, None, Some, Ok, Err, Result, inl, inr, refl, ap, subst, arith}
-use Rattle.std.specs.Prelude.{◌==◌, ◌≢◌, ◌⊎◌, IfErr, IfSome, IsSomeAnd, IsOkAnd}
+-- How a run ends, from how its reading and its work on the model ended.
+use Rattle.std.proofs.Common.{◌≡◌, ℕ, ◌||◌, ◌≤◌, length, List, Option, None, Some, Ok, Err, Result, inl, inr, refl, ap, subst, arith}
+use Rattle.std.specs.Prelude.{◌==◌, ◌≢◌, ◌⊎◌, true, IsSomeAnd, IsOkAnd}
 use Rattle.std.proofs.lemmas.Bool.{eqb-false, or_parts}
-use Rattle.outside_io.specs.declared.answers.WriteAnswer.TheVariants.{Done}
+use Rattle.outside_io.specs.Faults.{KeepsCounts}
 use Rattle.outside_io.specs.Files.{Files, KeepsFiles}
-use Rattle.outside_io.specs.Puts.{Puts}
-use Rattle.cov_model.specs.Sound.{ModelView, IsSound}
+use Rattle.cov_model.specs.Sound.{ModelView}
 use Rattle.definitions.specs.Limits.{ModelFile, most_bytes}
 use Rattle.definitions.specs.Settings.{OrderWord, OrderOf, OrderMax, Settings}
 use Rattle.model_lex.specs.declared.note.Note.{Note}
@@ -16,23 +15,23 @@ use Rattle.model_parse.specs.RawModels.{AreOpts, IsOrder}
 use Rattle.refutation.specs.Proofs.{format_of}
 use Rattle.refutation.specs.declared.omissions.ProofForm.{ProofForm}
 use Rattle.refutation.specs.declared.omissions.ProofForm.TheVariants.{One, Two}
-use Rattle.tuple_index.specs.declared.fault.PlanFault.TheVariants.{TooManySets, TooManyTuples}
-use Rattle.tuple_index.specs.declared.fault.PlanFault.TheVariants as plan_faults
 use Rattle.type_check.specs.ModelOf.{IsModelOf}
 use Rattle.type_check.proofs.OneAnswer.{files_have_one_model}
-use Rattle.pict_cli.specs.declared.options.Opts.{Opts}
-use Rattle.command_line.specs.declared.stop.Stop.{Stop}
-use Rattle.command_line.specs.declared.stop.Stop.TheVariants.{OutOfMemory, Spent, BadWord, BadModel, BadConstraint, BadRows, CannotRead, CannotWrite, CannotWriteReport, TooMany, TooLong}
-use Rattle.command_line.specs.declared.files.FileKind.TheVariants as kinds
+use Rattle.command_line.specs.Loading.{IsLoaded, IsOfReading}
 use Rattle.command_line.specs.Settings.{order_seen}
+use Rattle.command_line.specs.Told.{end_status}
+use Rattle.command_line.specs.declared.files.FileKind.{FileKind}
+use Rattle.command_line.specs.declared.files.FileKind.TheVariants as kinds
+use Rattle.command_line.specs.declared.stop.Stop.{Stop}
+use Rattle.command_line.specs.declared.stop.Stop.TheVariants.{OutOfMemory, Spent, BadWord, BadModel, BadConstraint, BadRows, NoResult, BadResult, CannotRead, CannotWrite, CannotWriteReport, TooMany, TooLong}
+use Rattle.pict_cli.specs.declared.options.Opts.{Opts}
+use Rattle.pict_cli.specs.Ends.{CountsOut, CountsWrites, End, IsEarly, IsQuiet, Misworded, Moment, StaysStill, Stopped, Unprinted, Unread, Unwritten, Whole, end_of, file_read, file_written}
+use Rattle.pict_cli.specs.Modes.{RowSource, prints_rows, row_file, row_source}
 use Rattle.pict_cli.specs.Options.{settings_seen}
 use Rattle.pict_cli.specs.Ranges.{IsLeast, AreFit}
-use Rattle.pict_cli.specs.Runs.{Ends, EndsBehind, HasModel, HoldsWholeProof, IsStatus, PrintsCovering, PrintsFewRows, RunsModel, SpellsModel, cannot_write, cannot_write_proof, is_spent, no_memory, opts_of, order_word, told_proof, too_many}
-use Rattle.command_line.specs.Loading.{IsLoaded, IsOfReading, StopsReading}
-use Rattle.pict_cli.specs.Steps.{CountsWrites, IsOfRun, Moment, Ran, StaysStill}
-use Rattle.outside_io.specs.Faults.{KeepsCounts}
-use Rattle.command_line.specs.Told.{end_status}
-use Rattle.pict_cli.proofs.Headline.{holds_whole_proof, prints_covering, prints_few_rows}
+use Rattle.pict_cli.specs.Runs.{Ends, HasModel, HoldsWholeProof, IsStatus, PrintsAccepted, PrintsCovering, PrintsFewRows, PrintsSeeds, RunsModel, SpellsModel, opts_of, order_word, rows_of_run, seeds_kept, told_proof}
+use Rattle.pict_cli.specs.Steps.{Ran}
+use Rattle.pict_cli.proofs.Headline.{holds_whole_proof, prints_accepted, prints_covering, prints_few_rows, prints_seeds}
 
 same_order : (order : words.OrderWord) → order ≡ order_word (order_seen order)
 same_order (Number n) = refl
@@ -87,56 +86,27 @@ model_then opts (Some bytes) P Q then has = record {
 }
 
 -- how a run ends whose model was read
-ends_loaded : (s : Settings) (seed : ℕ) (held : Option (List ℕ)) (m : ModelView) (notes : List Note) (files files_after : Files)
-    (before after : Option (List ℕ)) (end : Result (Unit {0}) Stop)
-    → IsLoaded (opts_of s) held m notes → RunsModel s seed m files files_after before after end
-    → Ends s seed held notes files files_after before after end
-ends_loaded s seed None m notes files files_after before after end loaded runs = absurd loaded
-ends_loaded s seed (Some bytes) m notes files files_after before after end loaded runs =
+pub ends_loaded : (s : Settings) (seed : ℕ) (held : Option (List ℕ)) (source : RowSource) (m : ModelView) (notes row_notes : List Note) (before after : Moment) (end : Result (Unit {0}) Stop)
+    → IsLoaded (opts_of s) held m notes → RunsModel s seed m source row_notes before after end → Ends s seed held source notes row_notes before after end
+ends_loaded s seed None source m notes row_notes before after end loaded runs = absurd loaded
+ends_loaded s seed (Some bytes) source m notes row_notes before after end loaded runs =
     inr (spells_model (opts_of s) _ bytes m notes loaded.0 loaded.1 (refl, runs))
 
-pub ends_behind : (s : Settings) (seed : ℕ) (file : Option (Option (List ℕ))) (m : ModelView) (notes : List Note) (files files_after : Files)
-    (before after : Option (List ℕ)) (end : Result (Unit {0}) Stop)
-    → IfSome file (λ held. IsLoaded (opts_of s) held m notes) → RunsModel s seed m files files_after before after end
-    → IfSome file (λ held. Ends s seed held notes files files_after before after end)
-ends_behind s seed None m notes files files_after before after end loaded runs = tt
-ends_behind s seed (Some held) m notes files files_after before after end loaded runs =
-    ends_loaded s seed held m notes files files_after before after end loaded runs
-
-pub behind_reading : (s : Settings) (seed : ℕ) (m : ModelView) (end : Result (Unit {0}) Stop) → EndsBehind s seed m end → end ≢ Err (CannotRead kinds.Model)
-behind_reading s seed m (Ok done) ends e = cc
-behind_reading s seed m (Err stop) (no_memory is) e = cc
-behind_reading s seed m (Err stop) (too_many plan_faults.NoMemory is passed) e = cc
-behind_reading s seed m (Err stop) (too_many (TooManySets count) is passed) e = cc
-behind_reading s seed m (Err stop) (too_many (TooManyTuples count) is passed) e = cc
-behind_reading s seed m (Err stop) (is_spent question is within over) e = cc
-behind_reading s seed m (Err stop) (cannot_write_proof name is asked grown) e = cc
-behind_reading s seed m (Err stop) (cannot_write is grown) e = cc
-
--- which stops come
-pub behind_of_run : (s : Settings) (seed : ℕ) (m : ModelView) (end : Result (Unit {0}) Stop) → EndsBehind s seed m end → IfErr end IsOfRun
-behind_of_run s seed m (Ok done) ends = tt
-behind_of_run s seed m (Err stop) (no_memory is) = record { words = λ i e. cc; rows = λ f e. cc; read = λ k e. cc; written = λ k e. cc }
-behind_of_run s seed m (Err stop) (too_many plan_faults.NoMemory is passed) = record { words = λ i e. cc; rows = λ f e. cc; read = λ k e. cc; written = λ k e. cc }
-behind_of_run s seed m (Err stop) (too_many (TooManySets count) is passed) = record { words = λ i e. cc; rows = λ f e. cc; read = λ k e. cc; written = λ k e. cc }
-behind_of_run s seed m (Err stop) (too_many (TooManyTuples count) is passed) = record { words = λ i e. cc; rows = λ f e. cc; read = λ k e. cc; written = λ k e. cc }
-behind_of_run s seed m (Err stop) (is_spent question is within over) = record { words = λ i e. cc; rows = λ f e. cc; read = λ k e. cc; written = λ k e. cc }
-behind_of_run s seed m (Err stop) (cannot_write_proof name is asked grown) = record { words = λ i e. cc; rows = λ f e. cc; read = λ k e. cc; written = λ k e. cc }
-behind_of_run s seed m (Err stop) (cannot_write is grown) = record { words = λ i e. cc; rows = λ f e. cc; read = λ k e. cc; written = λ k e. cc }
-
-pub reading_of_run : (stop : Stop) → IsOfReading kinds.Model stop → IsOfRun stop
-reading_of_run stop of = record {
-  words = of.words;
-  rows = of.rows;
-  read = of.read;
-  written = λ kind e. absurd (of.writes kind e);
-}
-
-pub ends_reading : (s : Settings) (seed : ℕ) (file : Option (Option (List ℕ))) (files files_after : Files) (out : Option (List ℕ)) (stop : Stop)
-    → KeepsFiles files files_after → IfSome file (λ held. StopsReading (opts_of s) held stop)
-    → IfSome file (λ held. Ends s seed held [] files files_after out out (Err stop))
-ends_reading s seed None files files_after out stop keeps stops = tt
-ends_reading s seed (Some held) files files_after out stop keeps stops = inl (stops, refl, refl, keeps)
+-- the end of a reading of the model file that stopped
+pub reading_ends : (stop : Stop) → IsOfReading kinds.Model stop → (stop ≡ (CannotRead kinds.Model)) ⊎ (end_of (Err stop) ≡ Stopped)
+reading_ends OutOfMemory of = inr refl
+reading_ends (Spent budget question) of = inr refl
+reading_ends (BadWord index) of = absurd (of.words index refl)
+reading_ends (BadModel diag) of = inr refl
+reading_ends (BadConstraint diag) of = inr refl
+reading_ends (BadRows fault) of = inr refl
+reading_ends NoResult of = inr refl
+reading_ends (BadResult line) of = inr refl
+reading_ends (CannotRead kind) of = inl (ap CannotRead (of.read kind refl))
+reading_ends (CannotWrite kind) of = absurd (of.writes kind refl)
+reading_ends CannotWriteReport of = absurd (of.report refl)
+reading_ends (TooMany quantity count) of = inr refl
+reading_ends (TooLong kind) of = inr refl
 
 -- what a status tells of the end
 zero_is_end : (end : Result (Unit {0}) Stop) → end_status end ≡ 0 → end ≡ Ok tt
@@ -147,103 +117,143 @@ zero_is_end (Err (BadWord index)) h = absurd (omega (arith, h))
 zero_is_end (Err (BadModel diag)) h = absurd (omega (arith, h))
 zero_is_end (Err (BadConstraint diag)) h = absurd (omega (arith, h))
 zero_is_end (Err (BadRows fault)) h = absurd (omega (arith, h))
+zero_is_end (Err NoResult) h = absurd (omega (arith, h))
+zero_is_end (Err (BadResult line)) h = absurd (omega (arith, h))
 zero_is_end (Err (CannotRead kind)) h = absurd (omega (arith, h))
 zero_is_end (Err (CannotWrite kind)) h = absurd (omega (arith, h))
 zero_is_end (Err CannotWriteReport) h = absurd (omega (arith, h))
 zero_is_end (Err (TooMany quantity count)) h = absurd (omega (arith, h))
 zero_is_end (Err (TooLong kind)) h = absurd (omega (arith, h))
 
-pub seven_is_end : (end : Result (Unit {0}) Stop) → IfErr end IsOfRun → end_status end ≡ 7 → end ≡ Err (CannotRead kinds.Model)
-seven_is_end (Ok done) of h = absurd (omega (arith, h))
-seven_is_end (Err OutOfMemory) of h = absurd (omega (arith, h))
-seven_is_end (Err (Spent budget question)) of h = absurd (omega (arith, h))
-seven_is_end (Err (BadWord index)) of h = absurd (omega (arith, h))
-seven_is_end (Err (BadModel diag)) of h = absurd (omega (arith, h))
-seven_is_end (Err (BadConstraint diag)) of h = absurd (omega (arith, h))
-seven_is_end (Err (BadRows fault)) of h = absurd (omega (arith, h))
-seven_is_end (Err (CannotRead kind)) of h = ap (λ k. Err (CannotRead k)) (of.read kind refl)
-seven_is_end (Err (CannotWrite kind)) of h = absurd (omega (arith, h))
-seven_is_end (Err CannotWriteReport) of h = absurd (omega (arith, h))
-seven_is_end (Err (TooMany quantity count)) of h = absurd (omega (arith, h))
-seven_is_end (Err (TooLong kind)) of h = absurd (omega (arith, h))
+pub seven_is_end : (end : Result (Unit {0}) Stop) → end_status end ≡ 7 → (kind : FileKind) × (end_of end ≡ Unread kind)
+seven_is_end (Ok done) h = absurd (omega (arith, h))
+seven_is_end (Err OutOfMemory) h = absurd (omega (arith, h))
+seven_is_end (Err (Spent budget question)) h = absurd (omega (arith, h))
+seven_is_end (Err (BadWord index)) h = absurd (omega (arith, h))
+seven_is_end (Err (BadModel diag)) h = absurd (omega (arith, h))
+seven_is_end (Err (BadConstraint diag)) h = absurd (omega (arith, h))
+seven_is_end (Err (BadRows fault)) h = absurd (omega (arith, h))
+seven_is_end (Err NoResult) h = absurd (omega (arith, h))
+seven_is_end (Err (BadResult line)) h = absurd (omega (arith, h))
+seven_is_end (Err (CannotRead kind)) h = (kind, refl)
+seven_is_end (Err (CannotWrite kind)) h = absurd (omega (arith, h))
+seven_is_end (Err CannotWriteReport) h = absurd (omega (arith, h))
+seven_is_end (Err (TooMany quantity count)) h = absurd (omega (arith, h))
+seven_is_end (Err (TooLong kind)) h = absurd (omega (arith, h))
 
-pub eight_is_end : (end : Result (Unit {0}) Stop) → IfErr end IsOfRun → end_status end ≡ 8 → (end ≡ Err CannotWriteReport) ⊎ (end ≡ Err (CannotWrite kinds.Proof))
-eight_is_end (Ok done) of h = absurd (omega (arith, h))
-eight_is_end (Err OutOfMemory) of h = absurd (omega (arith, h))
-eight_is_end (Err (Spent budget question)) of h = absurd (omega (arith, h))
-eight_is_end (Err (BadWord index)) of h = absurd (omega (arith, h))
-eight_is_end (Err (BadModel diag)) of h = absurd (omega (arith, h))
-eight_is_end (Err (BadConstraint diag)) of h = absurd (omega (arith, h))
-eight_is_end (Err (BadRows fault)) of h = absurd (omega (arith, h))
-eight_is_end (Err (CannotRead kind)) of h = absurd (omega (arith, h))
-eight_is_end (Err (CannotWrite kind)) of h = inr (ap (λ k. Err (CannotWrite k)) (of.written kind refl))
-eight_is_end (Err CannotWriteReport) of h = inl refl
-eight_is_end (Err (TooMany quantity count)) of h = absurd (omega (arith, h))
-eight_is_end (Err (TooLong kind)) of h = absurd (omega (arith, h))
+pub eight_is_end : (end : Result (Unit {0}) Stop) → end_status end ≡ 8 → (end_of end ≡ Unprinted) ⊎ ((kind : FileKind) × (end_of end ≡ Unwritten kind))
+eight_is_end (Ok done) h = absurd (omega (arith, h))
+eight_is_end (Err OutOfMemory) h = absurd (omega (arith, h))
+eight_is_end (Err (Spent budget question)) h = absurd (omega (arith, h))
+eight_is_end (Err (BadWord index)) h = absurd (omega (arith, h))
+eight_is_end (Err (BadModel diag)) h = absurd (omega (arith, h))
+eight_is_end (Err (BadConstraint diag)) h = absurd (omega (arith, h))
+eight_is_end (Err (BadRows fault)) h = absurd (omega (arith, h))
+eight_is_end (Err NoResult) h = absurd (omega (arith, h))
+eight_is_end (Err (BadResult line)) h = absurd (omega (arith, h))
+eight_is_end (Err (CannotRead kind)) h = absurd (omega (arith, h))
+eight_is_end (Err (CannotWrite kind)) h = inr (kind, refl)
+eight_is_end (Err CannotWriteReport) h = inl refl
+eight_is_end (Err (TooMany quantity count)) h = absurd (omega (arith, h))
+eight_is_end (Err (TooLong kind)) h = absurd (omega (arith, h))
 
--- the statuses of such ends
-pub status_known : (end : Result (Unit {0}) Stop) → IfErr end IsOfRun → IsStatus (end_status end)
-status_known (Ok done) of = refl
-status_known (Err OutOfMemory) of = refl
-status_known (Err (Spent budget question)) of = refl
-status_known (Err (BadWord index)) of = refl
-status_known (Err (BadModel diag)) of = refl
-status_known (Err (BadConstraint diag)) of = refl
-status_known (Err (BadRows fault)) of = absurd (of.rows fault refl)
-status_known (Err (CannotRead kind)) of = refl
-status_known (Err (CannotWrite kind)) of = refl
-status_known (Err CannotWriteReport) of = refl
-status_known (Err (TooMany quantity count)) of = refl
-status_known (Err (TooLong kind)) of = refl
+pub not_three : (end : Result (Unit {0}) Stop) → end_of end ≢ Misworded → end_status end ≢ 3
+not_three (Ok done) worded h = absurd (omega (arith, h))
+not_three (Err OutOfMemory) worded h = absurd (omega (arith, h))
+not_three (Err (Spent budget question)) worded h = absurd (omega (arith, h))
+not_three (Err (BadWord index)) worded h = absurd (worded refl)
+not_three (Err (BadModel diag)) worded h = absurd (omega (arith, h))
+not_three (Err (BadConstraint diag)) worded h = absurd (omega (arith, h))
+not_three (Err (BadRows fault)) worded h = absurd (omega (arith, h))
+not_three (Err NoResult) worded h = absurd (omega (arith, h))
+not_three (Err (BadResult line)) worded h = absurd (omega (arith, h))
+not_three (Err (CannotRead kind)) worded h = absurd (omega (arith, h))
+not_three (Err (CannotWrite kind)) worded h = absurd (omega (arith, h))
+not_three (Err CannotWriteReport) worded h = absurd (omega (arith, h))
+not_three (Err (TooMany quantity count)) worded h = absurd (omega (arith, h))
+not_three (Err (TooLong kind)) worded h = absurd (omega (arith, h))
 
-pub not_three : (end : Result (Unit {0}) Stop) → IfErr end IsOfRun → end_status end ≢ 3
-not_three (Ok done) of h = absurd (omega (arith, h))
-not_three (Err OutOfMemory) of h = absurd (omega (arith, h))
-not_three (Err (Spent budget question)) of h = absurd (omega (arith, h))
-not_three (Err (BadWord index)) of h = absurd (of.words index refl)
-not_three (Err (BadModel diag)) of h = absurd (omega (arith, h))
-not_three (Err (BadConstraint diag)) of h = absurd (omega (arith, h))
-not_three (Err (BadRows fault)) of h = absurd (omega (arith, h))
-not_three (Err (CannotRead kind)) of h = absurd (omega (arith, h))
-not_three (Err (CannotWrite kind)) of h = absurd (omega (arith, h))
-not_three (Err CannotWriteReport) of h = absurd (omega (arith, h))
-not_three (Err (TooMany quantity count)) of h = absurd (omega (arith, h))
-not_three (Err (TooLong kind)) of h = absurd (omega (arith, h))
+-- the statuses of runs
+pub status_known : (end : Result (Unit {0}) Stop) → IsStatus (end_status end)
+status_known (Ok done) = refl
+status_known (Err OutOfMemory) = refl
+status_known (Err (Spent budget question)) = refl
+status_known (Err (BadWord index)) = refl
+status_known (Err (BadModel diag)) = refl
+status_known (Err (BadConstraint diag)) = refl
+status_known (Err (BadRows fault)) = refl
+status_known (Err NoResult) = refl
+status_known (Err (BadResult line)) = refl
+status_known (Err (CannotRead kind)) = refl
+status_known (Err (CannotWrite kind)) = refl
+status_known (Err CannotWriteReport) = refl
+status_known (Err (TooMany quantity count)) = refl
+status_known (Err (TooLong kind)) = refl
 
--- with another status nothing is written
-pub still_end : (end : Result (Unit {0}) Stop) (files files_after : Files) → end_status end ≢ 0 → end_status end ≢ 8 → StaysStill end files files_after
-    → KeepsFiles files files_after
-still_end (Ok done) files files_after zero eight still = absurd (zero refl)
-still_end (Err OutOfMemory) files files_after zero eight still = still
-still_end (Err (Spent budget question)) files files_after zero eight still = still
-still_end (Err (BadWord index)) files files_after zero eight still = still
-still_end (Err (BadModel diag)) files files_after zero eight still = still
-still_end (Err (BadConstraint diag)) files files_after zero eight still = still
-still_end (Err (BadRows fault)) files files_after zero eight still = still
-still_end (Err (CannotRead kind)) files files_after zero eight still = still
-still_end (Err (CannotWrite kinds.Model)) files files_after zero eight still = still
-still_end (Err (CannotWrite kinds.Rows)) files files_after zero eight still = still
-still_end (Err (CannotWrite kinds.Proof)) files files_after zero eight still = absurd (eight refl)
-still_end (Err CannotWriteReport) files files_after zero eight still = absurd (eight refl)
-still_end (Err (TooMany quantity count)) files files_after zero eight still = still
-still_end (Err (TooLong kind)) files files_after zero eight still = still
+-- with another status nothing is printed or written
+pub untouched_end : (end : Result (Unit {0}) Stop) → end_status end ≢ 0 → end_status end ≢ 8 → end_of end ≢ Misworded → IsEarly (end_of end)
+untouched_end (Ok done) zero eight worded = absurd (zero refl)
+untouched_end (Err OutOfMemory) zero eight worded = tt
+untouched_end (Err (Spent budget question)) zero eight worded = tt
+untouched_end (Err (BadWord index)) zero eight worded = absurd (worded refl)
+untouched_end (Err (BadModel diag)) zero eight worded = tt
+untouched_end (Err (BadConstraint diag)) zero eight worded = tt
+untouched_end (Err (BadRows fault)) zero eight worded = tt
+untouched_end (Err NoResult) zero eight worded = tt
+untouched_end (Err (BadResult line)) zero eight worded = tt
+untouched_end (Err (CannotRead kind)) zero eight worded = tt
+untouched_end (Err (CannotWrite kind)) zero eight worded = absurd (eight refl)
+untouched_end (Err CannotWriteReport) zero eight worded = absurd (eight refl)
+untouched_end (Err (TooMany quantity count)) zero eight worded = tt
+untouched_end (Err (TooLong kind)) zero eight worded = tt
 
-pub writes_end : (s : Settings) (end : Result (Unit {0}) Stop) (writes writes_after : List ℕ → ℕ) → end_status end ≢ 8 → CountsWrites s end writes writes_after
-    → KeepsCounts writes writes_after
-writes_end s (Ok done) writes writes_after eight counts = counts
-writes_end s (Err OutOfMemory) writes writes_after eight counts = counts
-writes_end s (Err (Spent budget question)) writes writes_after eight counts = counts
-writes_end s (Err (BadWord index)) writes writes_after eight counts = counts
-writes_end s (Err (BadModel diag)) writes writes_after eight counts = counts
-writes_end s (Err (BadConstraint diag)) writes writes_after eight counts = counts
-writes_end s (Err (BadRows fault)) writes writes_after eight counts = counts
-writes_end s (Err (CannotRead kind)) writes writes_after eight counts = counts
-writes_end s (Err (CannotWrite kinds.Model)) writes writes_after eight counts = counts
-writes_end s (Err (CannotWrite kinds.Rows)) writes writes_after eight counts = counts
-writes_end s (Err (CannotWrite kinds.Proof)) writes writes_after eight counts = absurd (eight refl)
-writes_end s (Err CannotWriteReport) writes writes_after eight counts = counts
-writes_end s (Err (TooMany quantity count)) writes writes_after eight counts = counts
-writes_end s (Err (TooLong kind)) writes writes_after eight counts = counts
+pub unwritten_end : (s : Settings) (name : List ℕ) (end : Result (Unit {0}) Stop) (writes after : List ℕ → ℕ) → end_status end ≢ 8 → CountsWrites s name (end_of end) writes after
+    → KeepsCounts writes after
+unwritten_end s name (Ok done) writes after eight counts = counts
+unwritten_end s name (Err OutOfMemory) writes after eight counts = counts
+unwritten_end s name (Err (Spent budget question)) writes after eight counts = counts
+unwritten_end s name (Err (BadWord index)) writes after eight counts = counts
+unwritten_end s name (Err (BadModel diag)) writes after eight counts = counts
+unwritten_end s name (Err (BadConstraint diag)) writes after eight counts = counts
+unwritten_end s name (Err (BadRows fault)) writes after eight counts = counts
+unwritten_end s name (Err NoResult) writes after eight counts = counts
+unwritten_end s name (Err (BadResult line)) writes after eight counts = counts
+unwritten_end s name (Err (CannotRead kind)) writes after eight counts = counts
+unwritten_end s name (Err (CannotWrite kind)) writes after eight counts = absurd (eight refl)
+unwritten_end s name (Err CannotWriteReport) writes after eight counts = counts
+unwritten_end s name (Err (TooMany quantity count)) writes after eight counts = counts
+unwritten_end s name (Err (TooLong kind)) writes after eight counts = counts
+
+quiet_of : (end : End) (out after : Option (List ℕ)) → IsEarly end → IsQuiet end out after → after ≡ out
+quiet_of Whole out after early quiet = absurd early
+quiet_of (Unread kind) out after early quiet = quiet
+quiet_of (Unwritten kind) out after early quiet = absurd early
+quiet_of Unprinted out after early quiet = absurd early
+quiet_of Misworded out after early quiet = absurd early
+quiet_of Stopped out after early quiet = quiet
+
+faults_of : (end : End) (faults after : ℕ) → IsEarly end → CountsOut end faults after → after ≡ faults
+faults_of Whole faults after early same = absurd early
+faults_of (Unread kind) faults after early same = same
+faults_of (Unwritten kind) faults after early same = absurd early
+faults_of Unprinted faults after early same = absurd early
+faults_of Misworded faults after early same = absurd early
+faults_of Stopped faults after early same = same
+
+still_of : (end : End) (files after : Files) → IsEarly end → StaysStill end files after → KeepsFiles files after
+still_of Whole files after early still = absurd early
+still_of (Unread kind) files after early still = still
+still_of (Unwritten kind) files after early still = absurd early
+still_of Unprinted files after early still = absurd early
+still_of Misworded files after early still = absurd early
+still_of Stopped files after early still = still
+
+pub nothing_end : (end : Result (Unit {0}) Stop) (out after : Option (List ℕ)) (faults faults_after : ℕ) → IsEarly (end_of end) → IsQuiet (end_of end) out after
+    → CountsOut (end_of end) faults faults_after → (after ≡ out) × (faults_after ≡ faults)
+nothing_end end out after faults faults_after early quiet counts = (quiet_of (end_of end) out after early quiet, faults_of (end_of end) faults faults_after early counts)
+
+pub still_end : (end : Result (Unit {0}) Stop) (files after : Files) → IsEarly (end_of end) → StaysStill (end_of end) files after → KeepsFiles files after
+still_end end files after early still = still_of (end_of end) files after early still
 
 -- the format that is asked for is 1 or 2
 a_form : (form : ProofForm) → (format_of form ≡ 1) ⊎ (format_of form ≡ 2)
@@ -258,42 +268,58 @@ pub one_asked : {asked : Result Settings ℕ} {s other : Settings} → asked ≡
 one_asked e f = cc
 
 -- a run ended for the settings and the name that are asked for
-pub ran_asked : {asked : Result Settings ℕ} {s other : Settings} {seed : ℕ} {name model : List ℕ} {before after : Moment} {notes : List Note}
+pub ran_asked : {asked : Result Settings ℕ} {s other : Settings} {seed : ℕ} {name model : List ℕ} {before after : Moment} {notes row_notes : List Note}
     {end : Result (Unit {0}) Stop}
-    → asked ≡ Ok s → asked ≡ Ok other → name ≡ model → Ran s seed name before after notes end → Ran other seed model before after notes end
-ran_asked {asked} {s} {other} {seed} {name} {model} {before} {after} {notes} {end} e f same ran =
-    subst (λ n. Ran other seed n before after notes end) same (subst (λ t. Ran t seed name before after notes end) (one_asked e f) ran)
+    → asked ≡ Ok s → asked ≡ Ok other → name ≡ model → Ran s seed name before after notes row_notes end → Ran other seed model before after notes row_notes end
+ran_asked {asked} {s} {other} {seed} {name} {model} {before} {after} {notes} {row_notes} {end} e f same ran =
+    subst (λ n. Ran other seed n before after notes row_notes end) same (subst (λ t. Ran t seed name before after notes row_notes end) (one_asked e f) ran)
 
-module _ {s : Settings} {seed : ℕ} {name : List ℕ} {start after : Moment} {notes : List Note} {end : Result (Unit {0}) Stop}
-    (ran : Ran s seed name start after notes end) (held : Option (List ℕ)) (at : start.files name ≡ Some held) where
-  -- how it ended, where it is told what stands under the name
-  pub ends_told : Ends s seed held notes start.files after.files start.out after.out end
-  ends_told = subst (λ found. IfSome found (λ h. Ends s seed h notes start.files after.files start.out after.out end)) at ran.ends
-
+module _ {s : Settings} {seed : ℕ} {name : List ℕ} {start after : Moment} {notes row_notes : List Note} {end : Result (Unit {0}) Stop}
+    (ran : Ran s seed name start after notes row_notes end) (held : Option (List ℕ)) (source : RowSource)
+    (at : start.files name ≡ Some held) (rows : row_source s start.files ≡ Some source) where
   -- a run came to its end: what follows for its model
-  whole : (P : ModelView → Type 0) → ((m : ModelView) → RunsModel s seed m start.files after.files start.out after.out (Ok tt) → P m)
+  whole : (P : ModelView → Type 0) → ((m : ModelView) → RunsModel s seed m source row_notes start after (Ok tt) → P m)
       → end_status end ≡ 0 → HasModel (opts_of s) held (λ m noted. P m)
-  whole P says zero = ended (subst (Ends s seed held notes start.files after.files start.out after.out) (zero_is_end end zero) ends_told)
+  whole P says zero = ended (subst (Ends s seed held source notes row_notes start after) (zero_is_end end zero) (ran.ends held source at rows))
     where
-      ended : Ends s seed held notes start.files after.files start.out after.out (Ok tt) → HasModel (opts_of s) held (λ m noted. P m)
+      ended : Ends s seed held source notes row_notes start after (Ok tt) → HasModel (opts_of s) held (λ m noted. P m)
       ended (inl reading) = absurd reading.0
       ended (inr model) = model_then (opts_of s) held _ _ (λ m noted holds. says m holds.1) model
 
-  pub covers_whole : (known : (s.form ≡ 1) ⊎ (s.form ≡ 2)) → end_status end ≡ 0
+  pub covers_whole : (known : (s.form ≡ 1) ⊎ (s.form ≡ 2)) → prints_rows s ≡ true → end_status end ≡ 0
       → HasModel (opts_of s) held (λ m noted. (before : List ℕ) → start.out ≡ Some before
       → IsSomeAnd after.out (PrintsCovering m s.form (told_proof s after.files) before))
-  covers_whole known = whole _ (λ m runs before told. prints_covering s seed m start.files after.files start.out after.out known runs before told)
+  covers_whole known is = whole _ (λ m runs before told. prints_covering s seed m source row_notes start after runs known is before told)
 
-  pub few_whole : end_status end ≡ 0
-      → HasModel (opts_of s) held (λ m noted. (before : List ℕ) → start.out ≡ Some before → IsSomeAnd after.out (PrintsFewRows m before))
-  few_whole = whole _ (λ m runs before told. prints_few_rows s seed m start.files after.files start.out after.out runs before told)
+  pub few_whole : prints_rows s ≡ true → end_status end ≡ 0
+      → HasModel (opts_of s) held (λ m noted. (before : List ℕ) → start.out ≡ Some before → IsSomeAnd after.out (PrintsFewRows m (length (seeds_kept m source)) before))
+  few_whole is = whole _ (λ m runs before told. prints_few_rows s seed m source row_notes start after runs is before told)
+
+  pub seeds_whole : prints_rows s ≡ true → end_status end ≡ 0
+      → HasModel (opts_of s) held (λ m noted. (before : List ℕ) → start.out ≡ Some before → IsSomeAnd after.out (PrintsSeeds m (seeds_kept m source) before))
+  seeds_whole is = whole _ (λ m runs before told. prints_seeds s seed m source row_notes start after runs is before told)
+
+  pub accepted_whole : (known : (s.form ≡ 1) ⊎ (s.form ≡ 2)) → prints_rows s ≡ true → (proof : Option (List ℕ)) → told_proof s after.files ≡ Some proof → end_status end ≡ 0
+      → HasModel (opts_of s) held (λ m noted. (before : List ℕ) → start.out ≡ Some before → IsSomeAnd after.out (PrintsAccepted m s.form proof before))
+  accepted_whole known is proof told = whole _ (λ m runs before out. prints_accepted s seed m source row_notes start after runs known is proof told before out)
 
   pub proof_whole : (known : (s.form ≡ 1) ⊎ (s.form ≡ 2)) (proof : Option (List ℕ)) → told_proof s after.files ≡ Some proof → end_status end ≡ 0
-      → HasModel (opts_of s) held (λ m noted. HoldsWholeProof s seed m proof)
-  proof_whole known proof told = whole _ (λ m runs. holds_whole_proof s seed m start.files after.files start.out after.out known runs proof told)
+      → HasModel (opts_of s) held (λ m noted. HoldsWholeProof s seed m (rows_of_run m source) proof)
+  proof_whole known proof told = whole _ (λ m runs. holds_whole_proof s seed m source row_notes start after runs known proof told)
 
 -- words that have no reading end with another status
 pub asked_or_three : (asked : Result Settings ℕ) (status : ℕ) (P : Settings → Type 0) → ((s : Settings) → asked ≡ Ok s → P s)
     → ((index : ℕ) → asked ≡ Err index → status ≡ 3) → status ≡ 0 → IsOkAnd asked P
 asked_or_three (Ok s) status P holds three zero = holds s refl
 asked_or_three (Err index) status P holds three zero = absurd (omega (arith, zero, three index refl))
+
+-- which files a run reads and writes
+pub read_names : (s : Settings) (name : List ℕ) (kind : FileKind) (P : List ℕ → Type 0) → IsSomeAnd (file_read s name kind) P → P name ⊎ IsSomeAnd (row_file s) P
+read_names s name kinds.Model P holds = inl holds
+read_names s name kinds.Rows P holds = inr holds
+read_names s name kinds.Proof P none = absurd none
+
+pub written_names : (s : Settings) (name : List ℕ) (kind : FileKind) (P : List ℕ → Type 0) → IsSomeAnd (file_written s name kind) P → IsSomeAnd s.proof P
+written_names s name kinds.Model P none = absurd none
+written_names s name kinds.Rows P none = absurd none
+written_names s name kinds.Proof P holds = holds

@@ -1,5 +1,9 @@
+pub mod Ends
+pub mod InMemory
+pub mod Modes
 pub mod Options
 pub mod Ranges
+pub mod RowSources
 pub mod Runs
 pub mod Steps
 pub mod Words

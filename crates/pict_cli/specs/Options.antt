@@ -4,7 +4,10 @@ use Rattle.std.specs.List.{list_any}
 use Rattle.std.specs.Option.{option_map}
 use Rattle.definitions.specs.Settings as defined
 use Rattle.definitions.specs.Words.{Command, is_generating, is_measuring, is_of_a_file, is_faulty, set_by}
+use Rattle.pict_cli.specs.Modes as modes
 use Rattle.pict_cli.specs.declared.kinds.Kinds.{Kinds}
+use Rattle.pict_cli.specs.declared.modes.Mode.{Mode}
+use Rattle.pict_cli.specs.declared.modes.Mode.TheVariants as kinds
 use Rattle.pict_cli.specs.declared.options.Opts.{Opts}
 use Rattle.refutation.specs.Proofs.{format_of}
 use Rattle.command_line.specs.Settings.{order_seen, shuffle_seen}
@@ -28,6 +31,11 @@ settings_seen o = record {
   make = o.make;
   suspect = option_map (λ name. name.now) o.suspect;
 }
+
+-- what the run does
+abbrev pub mode_seen : Mode → modes.Mode
+mode_seen kinds.Report = modes.Report
+mode_seen kinds.Statistics = modes.Statistics
 
 -- the whole command
 abbrev pub command_seen : Opts → Command

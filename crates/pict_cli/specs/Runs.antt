@@ -1,10 +1,9 @@
--- What a run of `pict` does with the bytes of a model file. (PICT's guide for what is printed; the steps,
--- their order and their statuses are this project's rules.)
+-- What a run of `pict` does with the bytes of a model file and of a row file. (PICT's guide for what is printed; the
+-- steps, their order and their statuses are this project's rules.)
 use Rattle.std.specs.List.{Any, list_any}
-use Rattle.std.specs.Prelude.{◌≡◌, true, ℕ, ◌<◌, ◌≤◌, ◌⊎◌, List, [], ◌∷◌, ◌==◌, ◌++◌, length, Option, Some, None, Result, Ok, Err, option_map, IsSomeAnd, IsErrAnd, MatchResult, IfSome, All, unwrap_or, option_and_then, is_none}
-use Rattle.outside_io.specs.declared.answers.WriteAnswer.TheVariants.{Done, Failed}
+use Rattle.std.specs.Prelude.{◌≡◌, true, ℕ, ◌≤◌, ◌⊎◌, List, [], ◌∷◌, ◌==◌, ◌++◌, length, take, map, Option, Some, None, Result, Ok, Err, option_map, IsSomeAnd, IsErrAnd, IfSome, All, unwrap_or, option_and_then}
+use Rattle.std.specs.Option.{option_or}
 use Rattle.outside_io.specs.Files.{Files, HoldsOldOrPrefix, KeepsFiles}
-use Rattle.outside_io.specs.Puts.{Puts}
 use Rattle.cov_model.specs.Sound.{ModelView, IsSound}
 use Rattle.cov_model.specs.Preference.{preference}
 use Rattle.model_lex.specs.declared.options.ModelOpts.{ModelOpts}
@@ -12,27 +11,36 @@ use Rattle.model_lex.specs.declared.options.OrderWord as words
 use Rattle.model_lex.specs.declared.options.OrderWord.TheVariants.{Number, Max}
 use Rattle.model_lex.specs.declared.note.Note.{Note}
 use Rattle.model_lex.specs.declared.fault.ModelFault.{ModelFault}
+use Rattle.cov_model.specs.Rows.{contains}
 use Rattle.cov_model.specs.Valid.{is_valid, serves}
 use Rattle.definitions.specs.Covering.{HasFewRows, IsUnserved}
 use Rattle.definitions.specs.Demand.{demanded_tuples}
 use Rattle.definitions.specs.Growth.{Grown, growth}
 use Rattle.definitions.specs.Limits.{ModelFile, most_bytes}
 use Rattle.definitions.specs.Pairs.{pairs_of}
+use Rattle.definitions.specs.ProofText.{Omission, omissions_of}
 use Rattle.definitions.specs.Report.{report_text}
 use Rattle.definitions.specs.RowFile.{rows_of}
+use Rattle.definitions.specs.RowReading.{Seed}
 use Rattle.definitions.specs.Search.{first_over}
+use Rattle.definitions.specs.Seeds.{kept_seeds}
+use Rattle.definitions.specs.Statistics as told
+use Rattle.definitions.specs.Statistics.{statistics, statistics_text}
 use Rattle.definitions.specs.SuiteLaws.{IsRefutedIn, ListsUnserved}
 use Rattle.definitions.specs.SuiteProof.{IsProofOfSuite}
+use Rattle.definitions.specs.Verdict.{Accepted, verdict}
 use Rattle.definitions.specs.Settings.{OrderWord, OrderOf, OrderMax, Shuffle, NoShuffle, AnyShuffle, ShuffleBy, Settings}
 use Rattle.tuple_index.specs.PlanFault.{limit_passed}
-use Rattle.tuple_index.specs.declared.fault.PlanFault.{PlanFault}
 use Rattle.type_check.specs.ModelOf.{IsModelOf}
 use Rattle.command_line.specs.Loading.{StopsReading}
 use Rattle.command_line.specs.Stops.{NamesView, status_of, stop_of_model, stop_of_plan}
 use Rattle.command_line.specs.Told.{Tells, end_status, told_text}
 use Rattle.command_line.specs.declared.stop.Stop.{Stop}
-use Rattle.command_line.specs.declared.stop.Stop.TheVariants.{OutOfMemory, Spent, CannotWrite, CannotWriteReport}
+use Rattle.command_line.specs.declared.stop.Stop.TheVariants.{OutOfMemory, Spent, CannotRead, CannotWrite, CannotWriteReport}
 use Rattle.command_line.specs.declared.files.FileKind.TheVariants as kinds
+use Rattle.pict_cli.specs.Ends.{CountsReads, CountsWrites, End, Moment, Prints, Unprinted, Unwritten, Whole, end_of}
+use Rattle.pict_cli.specs.Modes.{Mode, Report, RowSource, Statistics, mode_of, row_file}
+use Rattle.pict_cli.specs.RowSources.{dropped_notes, notes_on, read_source, reading_or_none, rows_in, stop_in}
 
 -- how the model file is to be read
 abbrev pub order_word : OrderWord → words.OrderWord
@@ -53,33 +61,59 @@ used_seed NoShuffle seed = None
 used_seed AnyShuffle seed = Some seed
 used_seed (ShuffleBy n) seed = None
 
--- the preference orders, and the growth from no seed rows
+-- the preference orders, and the growth from the seed rows
 abbrev pub orders_of : Settings → ℕ → ModelView → List (List ℕ)
 orders_of s seed m = preference m (shuffled_by s.shuffle seed)
 
-abbrev pub growth_of : Settings → ℕ → ModelView → Grown
-growth_of s seed m = growth m (orders_of s seed m) []
+abbrev pub growth_of : Settings → ℕ → ModelView → List (ℕ × List (Option ℕ)) → Grown
+growth_of s seed m seeds = growth m (orders_of s seed m) seeds
 
--- the text for standard output: the report of the suite
-abbrev pub out_text : Settings → ℕ → ModelView → List ℕ
-out_text s seed m = report_text m (growth_of s seed m).rows
+-- the text for standard output, by what the run does: of these rows with these statistics
+abbrev pub suite_text : Mode → ModelView → List (List (Option ℕ)) → told.Statistics → List ℕ
+suite_text Report m rows numbers = report_text m rows
+suite_text Statistics m rows numbers = statistics_text numbers
+
+-- of the suite
+abbrev pub out_text : Settings → ℕ → ModelView → List (ℕ × List (Option ℕ)) → List ℕ
+out_text s seed m seeds = suite_text (mode_of s) m (growth_of s seed m seeds).rows (statistics m (orders_of s seed m) seeds)
 
 -- the bytes are the proof of the suite, in the format that is asked for
-abbrev pub IsProof : Settings → ℕ → ModelView → List ℕ → Type 0
-IsProof s seed m bytes = IsProofOfSuite m (orders_of s seed m) [] s.form bytes
+abbrev pub IsProof : Settings → ℕ → ModelView → List (ℕ × List (Option ℕ)) → List ℕ → Type 0
+IsProof s seed m seeds bytes = IsProofOfSuite m (orders_of s seed m) seeds s.form bytes
 
 -- the names of the files of a run on a model file of this name
 abbrev pub names_of : List ℕ → Settings → NamesView
-names_of model s = record { model = model; rows = []; proof = unwrap_or s.proof [] }
+names_of model s = record { model = model; rows = unwrap_or (row_file s) []; proof = unwrap_or s.proof [] }
 
 -- the first question of the run whose plain cost is above the budget
-abbrev pub question_over : Settings → ℕ → ModelView → Option (List (Option ℕ))
-question_over s seed m = first_over m (orders_of s seed m) s.budget (growth_of s seed m).asked
+abbrev pub question_over : Settings → ℕ → ModelView → List (ℕ × List (Option ℕ)) → Option (List (Option ℕ))
+question_over s seed m seeds = first_over m (orders_of s seed m) s.budget (growth_of s seed m seeds).asked
 
--- a suite was grown: no limit is passed, and no question is above the budget
-pub record IsGrown (s : Settings) (seed : ℕ) (m : ModelView) : Type 0 where
-  pub within : limit_passed m ≡ None
-  pub answered : question_over s seed m ≡ None
+-- the rows that the run reads, and the notes on their file
+abbrev pub rows_of_run : ModelView → RowSource → List (ℕ × List (Option ℕ))
+rows_of_run m source = rows_in m Seed source
+
+abbrev pub file_notes : ModelView → RowSource → List Note
+file_notes m source = notes_on (reading_or_none (read_source m Seed source))
+
+abbrev pub all_notes : ModelView → RowSource → List Note
+all_notes m source = file_notes m source ++ dropped_notes m (rows_of_run m source)
+
+-- the stop of a question above the budget
+abbrev pub spent_on : Settings → List (Option ℕ) → Stop
+spent_on s question = Spent s.budget (pairs_of question)
+
+-- why a run must stop once its model is read, if it must: by the limit that the demand passes, else at the row file,
+-- else at the first question above the budget
+abbrev pub stop_due : Settings → ℕ → ModelView → RowSource → Option Stop
+stop_due s seed m source =
+    option_or (option_map stop_of_plan (limit_passed m))
+    (option_or (stop_in (read_source m Seed source)) (option_map (spent_on s) (question_over s seed m (rows_of_run m source))))
+
+-- the notes on the row file that are told before such a stop: those of its reading, where that came before
+abbrev pub notes_before : Stop → List Note → List Note
+notes_before (Spent budget question) notes = notes
+notes_before stop notes = []
 
 -- the bytes of a model file are no more than they may be and spell a model, and P holds of it and its notes:
 -- of each that they spell, which is one alone (`FilesHaveOneModel` of `type_check`)
@@ -94,63 +128,58 @@ pub record SpellsModel (opts : ModelOpts) (P : ModelView → List Note → Type 
 abbrev pub HasModel : ModelOpts → Option (List ℕ) → (ModelView → List Note → Type 0) → Type 0
 HasModel opts held P = IsSomeAnd held (SpellsModel opts P)
 
--- why a run may stop once its model is read: for want of memory, by the limit that the demand passes, at the first
--- question above the budget, and, for which a suite was grown, where the proof file or the output failed
-pub data StopsBehind (s : Settings) (seed : ℕ) (m : ModelView) (stop : Stop) : Type 0 where
-  no_memory : stop ≡ OutOfMemory → StopsBehind s seed m stop
-  too_many : (fault : PlanFault) → stop ≡ stop_of_plan fault → limit_passed m ≡ Some fault → StopsBehind s seed m stop
-  is_spent :
-      (question : List (ℕ × ℕ)) → stop ≡ Spent s.budget question → limit_passed m ≡ None
-      → option_map pairs_of (question_over s seed m) ≡ Some question → StopsBehind s seed m stop
-  cannot_write_proof : (name : List ℕ) → stop ≡ (CannotWrite kinds.Proof) → s.proof ≡ Some name → IsGrown s seed m → StopsBehind s seed m stop
-  cannot_write : stop ≡ CannotWriteReport → IsGrown s seed m → StopsBehind s seed m stop
+-- how a run may end once its model is read, and which notes on the row file it tells: it comes to its end; memory is
+-- wanted, and the first of the notes are told; the folder fails to read the row file; it stops as it must; and, where it
+-- needn't stop, the proof file or the output can't be written
+pub data EndsBehind (s : Settings) (seed : ℕ) (m : ModelView) (source : RowSource) (row_notes : List Note) (end : Result (Unit {0}) Stop) : Type 0 where
+  comes_whole : end ≡ Ok tt → stop_due s seed m source ≡ None → row_notes ≡ all_notes m source → EndsBehind s seed m source row_notes end
+  no_memory : (count : ℕ) → end ≡ Err OutOfMemory → row_notes ≡ take count (all_notes m source) → EndsBehind s seed m source row_notes end
+  rows_unread : end ≡ Err (CannotRead kinds.Rows) → limit_passed m ≡ None → row_notes ≡ [] → EndsBehind s seed m source row_notes end
+  must_stop : (stop : Stop) → end ≡ Err stop → stop_due s seed m source ≡ Some stop → row_notes ≡ notes_before stop (file_notes m source)
+      → EndsBehind s seed m source row_notes end
+  cannot_write_proof : (name : List ℕ) → end ≡ Err (CannotWrite kinds.Proof) → s.proof ≡ Some name → stop_due s seed m source ≡ None
+      → row_notes ≡ all_notes m source → EndsBehind s seed m source row_notes end
+  cannot_write : end ≡ Err CannotWriteReport → stop_due s seed m source ≡ None → row_notes ≡ all_notes m source → EndsBehind s seed m source row_notes end
 
--- how a run may end once its model is read
-abbrev pub EndsBehind : Settings → ℕ → ModelView → Result (Unit {0}) Stop → Type 0
-EndsBehind s seed m end = MatchResult end (λ _. IsGrown s seed m) (StopsBehind s seed m)
+-- what is told of the proof file's name after such an end, where that was told before: the file holds the proof once it
+-- was written, a prefix of it or what it held where that failed, and else what it held
+abbrev pub HoldsProof : Settings → ℕ → ModelView → List (ℕ × List (Option ℕ)) → Option (Option (List ℕ)) → Option (Option (List ℕ)) → End → Type 0
+HoldsProof s seed m seeds before after Whole = IfSome after (λ held. IsSomeAnd held (IsProof s seed m seeds))
+HoldsProof s seed m seeds before after Unprinted = IfSome after (λ held. IsSomeAnd held (IsProof s seed m seeds))
+HoldsProof s seed m seeds before after (Unwritten kinds.Proof) =
+    IfSome after (λ held. (proof : List ℕ) × IsProof s seed m seeds proof × HoldsOldOrPrefix before held proof)
+HoldsProof s seed m seeds before after end = after ≡ before
 
--- what the output, which told the first before, tells after a run of this end: all of the text, or after a fault
--- a prefix of it, or nothing more
-abbrev pub Prints : List ℕ → Option (List ℕ) → Option (List ℕ) → Result (Unit {0}) Stop → Type 0
-Prints text before after (Ok done) = Puts Done before after text
-Prints text before after (Err CannotWriteReport) = Puts Failed before after text
-Prints text before after (Err stop) = after ≡ before
+-- what the folder, which told the first files before, tells of the proof file's name after such an end, where the words
+-- ask for one
+abbrev pub WritesProof : Settings → ℕ → ModelView → List (ℕ × List (Option ℕ)) → Files → Files → End → Type 0
+WritesProof s seed m seeds files files_after end = IfSome s.proof (λ name. HoldsProof s seed m seeds (files name) (files_after name) end)
 
--- what is told of the proof file's name after a run of this end, where that was told before: the file holds the proof
--- once it was written, a prefix of it or what it held where that failed, and else what it held
-abbrev pub HoldsProof : Settings → ℕ → ModelView → Option (Option (List ℕ)) → Option (Option (List ℕ)) → Result (Unit {0}) Stop → Type 0
-HoldsProof s seed m before after (Ok done) = IfSome after (λ held. IsSomeAnd held (IsProof s seed m))
-HoldsProof s seed m before after (Err CannotWriteReport) = IfSome after (λ held. IsSomeAnd held (IsProof s seed m))
-HoldsProof s seed m before after (Err (CannotWrite kinds.Proof)) =
-    IfSome after (λ held. (proof : List ℕ) × IsProof s seed m proof × HoldsOldOrPrefix before held proof)
-HoldsProof s seed m before after (Err stop) = after ≡ before
-
--- what the folder, which told the first files before, tells of the proof file's name after a run of this end, where
--- the words ask for one
-abbrev pub WritesProof : Settings → ℕ → ModelView → Files → Files → Result (Unit {0}) Stop → Type 0
-WritesProof s seed m files files_after end = IfSome s.proof (λ name. HoldsProof s seed m (files name) (files_after name) end)
-
--- a run whose model is read: how it may end, what it prints, and what it writes
-pub record RunsModel (s : Settings) (seed : ℕ) (m : ModelView) (files files_after : Files) (before after : Option (List ℕ)) (end : Result (Unit {0}) Stop) : Type 0 where
+-- a run whose model is read: how it may end, what it tells of the row file, what it prints, and what it writes
+pub record RunsModel (s : Settings) (seed : ℕ) (m : ModelView) (source : RowSource) (row_notes : List Note) (before after : Moment) (end : Result (Unit {0}) Stop) : Type 0 where
   pub sound : IsSound m
-  pub ends : EndsBehind s seed m end
-  pub prints : Prints (out_text s seed m) before after end
-  pub writes : WritesProof s seed m files files_after end
+  pub ends : EndsBehind s seed m source row_notes end
+  pub prints : Prints (out_text s seed m (rows_of_run m source)) before.out after.out (end_of end)
+  pub writes : WritesProof s seed m (rows_of_run m source) before.files after.files (end_of end)
 
--- how a run on a model file may end, with which notes, what it prints, and what it writes: the reading stopped, or
--- there is a model
-abbrev pub Ends : Settings → ℕ → Option (List ℕ) → List Note → Files → Files → Option (List ℕ) → Option (List ℕ) → Result (Unit {0}) Stop → Type 0
-Ends s seed held notes files files_after before after end =
-    (IsErrAnd end (StopsReading (opts_of s) held) × (notes ≡ []) × (after ≡ before) × KeepsFiles files files_after)
-    ⊎ HasModel (opts_of s) held (λ m noted. (notes ≡ noted) × RunsModel s seed m files files_after before after end)
+-- how a run on a model file and a row file may end, with which notes, what it prints, and what it writes: the reading of
+-- the model stopped, or there is a model
+abbrev pub Ends : Settings → ℕ → Option (List ℕ) → RowSource → List Note → List Note → Moment → Moment → Result (Unit {0}) Stop → Type 0
+Ends s seed held source notes row_notes before after end =
+    (IsErrAnd end (StopsReading (opts_of s) held) × (notes ≡ []) × (row_notes ≡ []) × (after.out ≡ before.out) × KeepsFiles before.files after.files)
+    ⊎ HasModel (opts_of s) held (λ m noted. (notes ≡ noted) × RunsModel s seed m source row_notes before after end)
 
--- a run on a model file of this name: what it wrote and printed, what it told, and its status
-pub record IsRun (s : Settings) (seed : ℕ) (held : Option (List ℕ)) (name : List ℕ) (files files_after : Files)
-    (before after told_before told_after : Option (List ℕ)) (faults faults_after status : ℕ) : Type 0 where
+-- a run on a model file of this name: what it wrote and printed, whose fault a file that it blames is, what it told, and
+-- its status
+pub record IsRun (s : Settings) (seed : ℕ) (held : Option (List ℕ)) (source : RowSource) (name : List ℕ) (before after : Moment)
+    (told_before told_after : Option (List ℕ)) (faults faults_after status : ℕ) : Type 0 where
   pub notes : List Note
+  pub row_notes : List Note
   pub end : Result (Unit {0}) Stop
-  pub ends : Ends s seed held notes files files_after before after end
-  pub told : Tells told_before told_after faults faults_after (told_text (used_seed s.shuffle seed) notes [] (names_of name s) end)
+  pub ends : Ends s seed held source notes row_notes before after end
+  pub reads : CountsReads s name (end_of end) before.reads after.reads
+  pub writes : CountsWrites s name (end_of end) before.writes after.writes
+  pub told : Tells told_before told_after faults faults_after (told_text (used_seed s.shuffle seed) notes row_notes (names_of name s) end)
   pub ended : status ≡ end_status end
 
 -- what the folder tells of the proof file, where the words ask for one
@@ -168,13 +197,33 @@ pub record CoversOrRefutes (m : ModelView) (format : ℕ) (proof : Option (Optio
 abbrev pub PrintsCovering : ModelView → ℕ → Option (Option (List ℕ)) → List ℕ → List ℕ → Type 0
 PrintsCovering m format proof before after = (added : List ℕ) × (after ≡ before ++ added) × CoversOrRefutes m format proof (rows_of m added)
 
--- what was printed is a report of few rows, each of them once; no seed rows are kept
-abbrev pub PrintsFewRows : ModelView → List ℕ → List ℕ → Type 0
-PrintsFewRows m before after = (added : List ℕ) × (after ≡ before ++ added) × HasFewRows m 0 (rows_of m added)
+-- what was printed is a report of few rows, each of them once, where so many seed rows are kept
+abbrev pub PrintsFewRows : ModelView → ℕ → List ℕ → List ℕ → Type 0
+PrintsFewRows m kept before after = (added : List ℕ) × (after ≡ before ++ added) × HasFewRows m kept (rows_of m added)
+
+-- each of these partial rows is contained in one of the rows
+abbrev pub AreContained : List (List (Option ℕ)) → List (List (Option ℕ)) → Type 0
+AreContained seeds rows = All (λ seed. Any (λ row. contains row seed ≡ true) rows) seeds
+
+-- what was printed is a report of rows that contain these
+abbrev pub PrintsSeeds : ModelView → List (List (Option ℕ)) → List ℕ → List ℕ → Type 0
+PrintsSeeds m seeds before after = (added : List ℕ) × (after ≡ before ++ added) × AreContained seeds (rows_of m added)
+
+-- the proof is read as omissions in this format, and is accepted with the rows, on whatever lines they stand: with
+-- their number and that of the omissions
+pub record IsAcceptedWith (m : ModelView) (format : ℕ) (bytes : List ℕ) (rows : List (List (Option ℕ))) : Type 0 where
+  pub omissions : List Omission
+  pub read : omissions_of m bytes ≡ Ok (format, omissions)
+  pub accepted : (lines : List (ℕ × List (Option ℕ))) → map (λ line. line.1) lines ≡ rows → verdict m lines bytes ≡ Accepted (length lines) (length omissions)
+
+-- what was printed is a report whose rows are accepted with the proof that the file holds
+abbrev pub PrintsAccepted : ModelView → ℕ → Option (List ℕ) → List ℕ → List ℕ → Type 0
+PrintsAccepted m format proof before after =
+    (added : List ℕ) × (after ≡ before ++ added) × IsSomeAnd proof (λ bytes. IsAcceptedWith m format bytes (rows_of m added))
 
 -- the file holds the proof of the suite, which lists exactly the demanded tuples that no row serves, each once
-abbrev pub HoldsWholeProof : Settings → ℕ → ModelView → Option (List ℕ) → Type 0
-HoldsWholeProof s seed m held = IsSomeAnd held (λ bytes. IsProof s seed m bytes × ListsUnserved m s.form bytes)
+abbrev pub HoldsWholeProof : Settings → ℕ → ModelView → List (ℕ × List (Option ℕ)) → Option (List ℕ) → Type 0
+HoldsWholeProof s seed m seeds held = IsSomeAnd held (λ bytes. IsProof s seed m seeds bytes × ListsUnserved m s.form bytes)
 
 -- the status of a refusal
 abbrev pub fault_status : ModelFault → ℕ
@@ -182,4 +231,8 @@ fault_status fault = status_of (stop_of_model fault)
 
 -- the statuses that a run may end with
 abbrev pub IsStatus : ℕ → Type 0
-IsStatus status = list_any (λ s. s == status) (0 ∷ 1 ∷ 2 ∷ 3 ∷ 4 ∷ 5 ∷ 7 ∷ 8 ∷ 9 ∷ []) ≡ true
+IsStatus status = list_any (λ s. s == status) (0 ∷ 1 ∷ 2 ∷ 3 ∷ 4 ∷ 5 ∷ 6 ∷ 7 ∷ 8 ∷ 9 ∷ []) ≡ true
+
+-- the kept seed rows of the run
+abbrev pub seeds_kept : ModelView → RowSource → List (List (Option ℕ))
+seeds_kept m source = kept_seeds m (rows_of_run m source)

@@ -1,66 +1,56 @@
 -- What the steps of a run say of each other. (This project's rules.)
-use Rattle.std.specs.Prelude.{◌≡◌, ◌≢◌, ℕ, ◌≤◌, List, length, map, Option, Some, Result, Ok, Err, IfSome, IsSomeAnd}
-use Rattle.outside_io.specs.Faults.{KeepsCounts, Rose}
-use Rattle.outside_io.specs.Files.{Files, KeepsFiles}
+use Rattle.std.specs.Prelude.{◌≡◌, ℕ, ◌⊎◌, List, ◌++◌, map, take, Option, Some, Result, Ok, Err}
+use Rattle.cov_model.specs.Sound.{ModelView}
+use Rattle.definitions.specs.Pairs.{pairs_of}
+use Rattle.definitions.specs.ProofText.{proof_text}
+use Rattle.definitions.specs.RowReading.{RowMode, RowReading}
 use Rattle.definitions.specs.Settings.{Settings}
 use Rattle.model_lex.specs.declared.note.Note.{Note}
-use Rattle.definitions.specs.ProofText.{proof_text}
 use Rattle.refutation.specs.Proofs.{format_of, omission_meant}
 use Rattle.refutation.specs.declared.omissions.Omission.{Omission}
 use Rattle.refutation.specs.declared.omissions.ProofForm.{ProofForm}
-use Rattle.pict_cli.specs.Runs.{Ends}
-use Rattle.command_line.specs.declared.stop.Stop.{Stop}
-use Rattle.command_line.specs.declared.stop.Stop.TheVariants.{BadWord, BadRows, CannotRead, CannotWrite, CannotWriteReport}
-use Rattle.command_line.specs.declared.files.FileKind.{FileKind}
+use Rattle.row_text.specs.Readings.{HoldsReading}
+use Rattle.row_text.specs.declared.row_file.RowFile.{RowFile}
 use Rattle.command_line.specs.declared.files.FileKind.TheVariants as kinds
-use Rattle.row_text.specs.declared.rows_fault.RowsFault.{RowsFault}
-
--- a stop of a run whose words have a reading: of its files only the model is read, and only the proof is written
-pub record IsOfRun (stop : Stop) : Type 0 where
-  pub words : (index : ℕ) → stop ≢ BadWord index
-  pub rows : (fault : RowsFault) → stop ≢ BadRows fault
-  pub read : (kind : FileKind) → stop ≡ CannotRead kind → kind ≡ kinds.Model
-  pub written : (kind : FileKind) → stop ≡ CannotWrite kind → kind ≡ kinds.Proof
-
--- the count of faults of the output: it rose where the output couldn't be written, and else it stays
-abbrev pub CountsOut : Result (Unit {0}) Stop → ℕ → ℕ → Type 0
-CountsOut (Err CannotWriteReport) before after = Rose before after
-CountsOut end before after = after ≡ before
-
--- the counts of faults of writing files: that of the proof file rose where it couldn't be written, and else all stay
-abbrev pub CountsWrites : Settings → Result (Unit {0}) Stop → (List ℕ → ℕ) → (List ℕ → ℕ) → Type 0
-CountsWrites s (Err (CannotWrite kinds.Proof)) before after = IsSomeAnd s.proof (λ name. Rose (before name) (after name))
-CountsWrites s end before after = KeepsCounts before after
-
--- every name but the proof file's keeps what it holds, and stays told or untold
-abbrev pub KeepsOthers : Option (List ℕ) → Files → Files → Type 0
-KeepsOthers proof files files_after = (name : List ℕ) → proof ≢ Some name → files_after name ≡ files name
-
--- no file changes where a run ends before the proof file is written
-abbrev pub StaysStill : Result (Unit {0}) Stop → Files → Files → Type 0
-StaysStill (Ok done) files files_after = Unit {0}
-StaysStill (Err (CannotWrite kinds.Proof)) files files_after = Unit {0}
-StaysStill (Err CannotWriteReport) files files_after = Unit {0}
-StaysStill (Err stop) files files_after = KeepsFiles files files_after
-
--- the folder and the output at one moment: the files, the counts of faults of reading and of writing them, and what
--- the output tells and counts
-pub record Moment : Type 0 where
-  pub files : Files
-  pub reads : List ℕ → ℕ
-  pub writes : List ℕ → ℕ
-  pub out : Option (List ℕ)
-  pub faults : ℕ
-
--- a run on the model file of this name ended so, from one moment to another
-pub record Ran (s : Settings) (seed : ℕ) (name : List ℕ) (before after : Moment) (notes : List Note) (end : Result (Unit {0}) Stop) : Type 0 where
-  pub ends : IfSome (before.files name) (λ held. Ends s seed held notes before.files after.files before.out after.out end)
-  pub read : end ≡ Err (CannotRead kinds.Model) → Rose (before.reads name) (after.reads name)
-  pub counts : CountsOut end before.faults after.faults
-  pub writes : CountsWrites s end before.writes after.writes
-  pub others : KeepsOthers s.proof before.files after.files
-  pub still : StaysStill end before.files after.files
+use Rattle.command_line.specs.declared.stop.Stop.{Stop}
+use Rattle.command_line.specs.declared.stop.Stop.TheVariants.{OutOfMemory, Spent, CannotRead}
+use Rattle.pict_cli.specs.Ends.{Leaves, Moment, Stopped, end_of}
+use Rattle.pict_cli.specs.Modes.{RowSource, row_source}
+use Rattle.pict_cli.specs.RowSources.{dropped_notes, read_source}
+use Rattle.pict_cli.specs.Runs.{Ends, question_over, spent_on}
 
 -- the text of a proof of this form with these omissions
 abbrev pub written : ProofForm → List Omission → List ℕ
 written form omissions = proof_text (format_of form) (map omission_meant omissions)
+
+-- the row file was read: its rows and notes are those of this reading
+pub record HoldsRows (m : ModelView) (mode : RowMode) (source : RowSource) (file : RowFile) : Type 0 where
+  pub reading : RowReading
+  pub read : read_source m mode source ≡ Ok reading
+  pub holds : HoldsReading file reading
+
+-- why the reading of the row file stops: for want of memory, where the folder failed, and as it must
+pub data StopsRows (m : ModelView) (mode : RowMode) (source : RowSource) (stop : Stop) : Type 0 where
+  no_room : stop ≡ OutOfMemory → StopsRows m mode source stop
+  folder_failed : stop ≡ CannotRead kinds.Rows → StopsRows m mode source stop
+  is_refused : read_source m mode source ≡ Err stop → StopsRows m mode source stop
+
+-- what the reading of a row file may end by
+abbrev pub IsOfRows : Stop → Type 0
+IsOfRows stop = (stop ≡ CannotRead kinds.Rows) ⊎ (end_of (Err stop) ≡ Stopped)
+
+-- a search stopped: for want of memory, or at the first question above the budget
+abbrev pub IsSpentOrNoMemory : ℕ → Option (List (Option ℕ)) → Stop → Type 0
+IsSpentOrNoMemory budget over stop = (stop ≡ OutOfMemory) ⊎ ((question : List (Option ℕ)) × (stop ≡ Spent budget (pairs_of question)) × (over ≡ Some question))
+
+-- a suite stopped: for want of memory, or at the first question above the budget, before which no more notes are told
+pub data StopsSuite (s : Settings) (seed : ℕ) (m : ModelView) (seeds : List (ℕ × List (Option ℕ))) (notes notes_after : List Note) (stop : Stop) : Type 0 where
+  no_memory : (count : ℕ) → stop ≡ OutOfMemory → notes_after ≡ notes ++ take count (dropped_notes m seeds) → StopsSuite s seed m seeds notes notes_after stop
+  is_spent : (question : List (Option ℕ)) → stop ≡ spent_on s question → question_over s seed m seeds ≡ Some question → notes_after ≡ notes
+      → StopsSuite s seed m seeds notes notes_after stop
+
+-- a run on the model file of this name ended so, from one moment to another
+pub record Ran (s : Settings) (seed : ℕ) (name : List ℕ) (before after : Moment) (notes row_notes : List Note) (end : Result (Unit {0}) Stop) : Type 0 where
+  pub ends : (held : Option (List ℕ)) (source : RowSource) → before.files name ≡ Some held → row_source s before.files ≡ Some source
+      → Ends s seed held source notes row_notes before after end
+  pub leaves : Leaves s name before after (end_of end)

@@ -1,7 +1,7 @@
 //! The command line of `pict`: its words, the steps of a run, and what a run prints and tells.
 //!
 //! - `run_pict` is the call that `main` makes, over any folder and sinks. Its clause `headline` is
-//!   what this project is for: after status 0 every printed row is valid, and every demanded tuple
+//!   what this project is for: after status 0 of a run that prints rows every one is valid, and every demanded tuple
 //!   is served by a printed row, or no row serves it, and then the proof, where one is asked for, lists
 //!   it with a tree that refutes it.
 //! - `run_pict_in_memory` is the same on a folder and sinks in memory, where the headline has no
@@ -11,10 +11,15 @@
 //! All memory is taken before the first byte is written.
 #![tactic(auto)]
 
+mod generating;
+mod growing;
 mod in_memory;
 mod kinds;
+mod modes;
 mod options;
+mod printing;
 mod proof;
+mod rows;
 mod run;
 mod suite;
 mod words;

@@ -87,9 +87,13 @@ impl<'w> Opts<'w> {
             Some(name) => name,
             None => "",
         };
+        let rows = match self.seeds {
+            Some(name) => name,
+            None => "",
+        };
         FileNames {
             model: self.model,
-            rows: "",
+            rows,
             proof,
         }
     }

@@ -3,6 +3,7 @@ ghost use Rattle.outside_io.specs.Faults.{KeepsCounts, Rose};
 ghost use Rattle.outside_io.specs.Files.{HoldsOldOrPrefix, KeepsOtherFiles};
 ghost use Rattle.pict_cli.specs.Steps.{written};
 
+use crate::options::Opts;
 use command_line::{FileKind, Stop};
 use outside_io::{Folder, WriteAnswer};
 use refutation::{Omissions, format_len, omission_len, put_format, put_omission};
@@ -29,7 +30,7 @@ fn proof_len(proof: &Omissions) -> Result<u64, NoMemory>
 /// # Errors
 ///
 /// `NoMemory` where there is no room.
-pub(crate) fn proof_text(alloc: Global, proof: &Omissions) -> Result<Vec<u8>, NoMemory>
+fn proof_text(alloc: Global, proof: &Omissions) -> Result<Vec<u8>, NoMemory>
     ensures text { IfOk result (λ bytes. bytes.items ≡ written proof.now.form proof.now.omissions) }
 {
     let count = proof_len(proof)?;
@@ -39,6 +40,21 @@ pub(crate) fn proof_text(alloc: Global, proof: &Omissions) -> Result<Vec<u8>, No
         put_omission(omission, &mut text);
     }
     Ok(text)
+}
+
+/// The text of the proof of a suite, where the options ask for one; else no text.
+///
+/// # Errors
+///
+/// `OutOfMemory` where memory was refused.
+pub(crate) fn text_of(alloc: Global, opts: &Opts<'_>, omitted: &Omissions) -> Result<Vec<u8>, Stop>
+    ensures text { IfOk result (λ text. IfSome opts.now.proof (λ _. text.items ≡ written omitted.now.form omitted.now.omissions)) }
+    ensures stops { IfErr result (λ stop. stop ≡ Stop.OutOfMemory) }
+{
+    if opts.proof.is_none() {
+        return Ok(Vec::new(alloc));
+    }
+    Ok(proof_text(alloc, omitted)?)
 }
 
 /// Writes the text of a proof to the file of this name.

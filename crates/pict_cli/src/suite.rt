@@ -1,219 +1,135 @@
-ghost use Rattle.std.specs.Prelude.{◌≡◌, ◌≢◌, ◌⊎◌, ℕ, true, [], map, None, All, IfOk, IfErr, IfSome, OnOk};
-ghost use Rattle.outside_io.specs.Faults.{KeepsCounts};
-ghost use Rattle.cov_model.specs.Sound.{ModelView};
+ghost use Rattle.std.specs.Prelude.{◌≡◌, ◌≤◌, ◌++◌, ◌+◌, ◌^◌, ℕ, true, length, map, take, sum, All, None, Some, IfOk, IfErr, IfSome, OnOk, option_map, slice_index_or};
+ghost use Rattle.cov_model.specs.Fits.{FitsModel};
 ghost use Rattle.cov_model.specs.Valid.{is_row};
-ghost use Rattle.definitions.specs.Report.{report_text};
-ghost use Rattle.definitions.specs.Settings.{Settings};
-ghost use Rattle.definitions.specs.SuiteProof.{AreOmitted};
-ghost use Rattle.ipog_grow.specs.Suites.{EndsBy};
+ghost use Rattle.definitions.specs.Seeds.{dropped_lines};
+ghost use Rattle.definitions.specs.Statistics.{statistics};
+ghost use Rattle.ipog_grow.specs.Suites.{IsSuiteOf};
+ghost use Rattle.row_text.specs.RowFiles.{seeds_seen};
+ghost use Rattle.row_text.specs.Told.{statistics_seen};
 ghost use Rattle.row_text.specs.Turns.{AreMadeFor};
+ghost use Rattle.tuple_index.specs.Kept.{IsKept};
 ghost use Rattle.tuple_index.specs.Plan.{plan_of};
 ghost use Rattle.tuple_index.specs.PlanFault.{limit_passed};
-ghost use Rattle.command_line.specs.Settings.{shuffle_seen};
+ghost use Rattle.pict_cli.specs.Ends.{Stopped, end_of};
 ghost use Rattle.pict_cli.specs.Options.{settings_seen};
 ghost use Rattle.pict_cli.specs.Ranges.{AreFit};
-ghost use Rattle.refutation.specs.Proofs.{format_of, omission_meant};
-ghost use Rattle.pict_cli.specs.Runs.{IsGrown, IsProof, Prints, RunsModel, StopsBehind, WritesProof, growth_of, orders_of, question_over, shuffled_by};
-ghost use Rattle.pict_cli.specs.Steps.{CountsOut, CountsWrites, KeepsOthers, StaysStill};
+ghost use Rattle.pict_cli.specs.RowSources.{dropped_note};
+ghost use Rattle.pict_cli.specs.Runs.{IsProof, growth_of, orders_of, question_over};
+ghost use Rattle.pict_cli.specs.Steps.{StopsSuite};
 
+use crate::growing::grow;
 use crate::options::Opts;
-use crate::proof::{proof_text, write_proof};
-use command_line::{FileKind, Shuffle, Stop};
-use cov_model::{Prefs, Rows, TestModel};
-use feasibility::SearchFault;
-use ipog_grow::{GrowOpts, Suite, generate};
-use outside_io::{Folder, OpenGate, Sink, WriteAnswer};
-use refutation::Omissions;
-use row_text::{RowFile, Turns, put_report};
+use crate::proof::text_of;
+use command_line::Stop;
+use cov_model::{Rows, TestModel};
+use ipog_grow::Suite;
+use model_lex::{Note, NoteCode, NoteList};
+use row_text::{RowFile, Stats, Turns};
 use std::alloc::Global;
 use std::thread::Threads;
 use tuple_index::Plan;
-use value_text::OwnedList;
+use value_text::NoMemory;
 
-/// The number that values are shuffled by, where they are; `seed_word` where no word gives one.
-fn shuffle_number(shuffle: Shuffle, seed_word: u64) -> Option<u64>
-    ensures { result ≡ shuffled_by (shuffle_seen shuffle) seed_word }
+/// A suite with all that its printing takes.
+#[derive(Drop)]
+pub(crate) struct ReadySuite {
+    /// Its rows.
+    pub rows: Rows,
+    /// Its statistics.
+    pub stats: Stats,
+    /// The text of its proof, where one is asked for; else no text.
+    pub proof: Vec<u8>,
+    /// What the printing of a report takes.
+    pub turns: Turns,
+}
+
+/// The number of demanded tuples of a plan.
+fn tuple_count(plan: &Plan) -> u64
+    ensures { result ≡ sum plan.now.sizes }
 {
-    match shuffle {
-        Shuffle::Off => None,
-        Shuffle::Bare => Some(seed_word),
-        Shuffle::Number(number) => Some(number),
+    plan.assert_invariant();
+    let sets = plan.set_count();
+    if sets == 0 {
+        return 0;
+    }
+    let last = sets - 1;
+    u64::from(plan.base(last)) + u64::from(plan.size(last))
+}
+
+/// The statistics of a suite.
+fn stats_of(plan: &Plan, suite: &Suite) -> Stats
+    ensures sets { result.sets ≡ length plan.now.sets }
+    ensures tuples { result.tuples ≡ sum plan.now.sizes }
+    ensures omitted { result.omitted ≡ length suite.now.omitted.omissions }
+    ensures kept { result.kept ≡ suite.now.kept }
+    ensures tests { result.tests ≡ length suite.now.rows }
+{
+    Stats {
+        sets: u64::from(plan.set_count()),
+        tuples: tuple_count(plan),
+        omitted: suite.omitted.len() as u64,
+        kept: u64::from(suite.kept),
+        tests: suite.rows.len() as u64,
     }
 }
 
-/// Why a run stops whose growth ended early.
-fn stop_of_search(fault: SearchFault, budget: u64) -> Stop
-    ensures other { (result ≢ Stop.CannotWriteReport) × (result ≢ Stop.CannotWrite FileKind.Proof) }
-    ensures stops { (s : Settings) (seed : ℕ) (m : ModelView) → budget ≡ s.budget → limit_passed m ≡ None →
-        EndsBy (question_over s seed m) fault → StopsBehind s seed m result }
+/// Adds a note on each seed row that isn't kept.
+///
+/// # Errors
+///
+/// `NoMemory` where there is no room; then the first of the notes stand.
+fn push_dropped(notes: &mut NoteList, lines: &[u32]) -> Result<(), NoMemory>
+    ensures added { OnOk result (notes.new ≡ notes.old ++ map dropped_note lines.now) }
+    ensures refused { IfErr result (λ _. (count : ℕ) × (notes.new ≡ notes.old ++ take count (map dropped_note lines.now))) }
 {
-    match fault {
-        SearchFault::Spent(question) => Stop::Spent(budget, question.cells),
-        SearchFault::NoMemory => Stop::OutOfMemory,
+    for line in lines {
+        notes.push(Note {
+            line: *line,
+            code: NoteCode::RowDropped,
+        })?;
     }
+    Ok(())
 }
 
-/// The suite of a model within its plan, as the options ask for it.
+/// The suite of a model within its plan, from seed rows, ready to be printed. Notes on the seed rows that aren't
+/// kept are added once there is a suite.
 ///
 /// # Errors
 ///
 /// `Spent` where a question costs too much, `OutOfMemory` where memory was refused.
-fn grow<R: Threads + Sync>(
+pub(crate) fn make_suite<R: Threads + Sync>(
     rt: &R,
     alloc: Global,
     model: &TestModel,
     plan: &Plan,
+    seeds: &RowFile,
     opts: &Opts<'_>,
     seed_word: u64,
-) -> Result<Suite, Stop>
+    notes: &mut NoteList,
+) -> Result<ReadySuite, Stop>
     requires plan { plan.now ≡ plan_of model.now }
     requires within { limit_passed model.now ≡ None }
+    requires seeds { All (λ seed. FitsModel model.now seed.cells) seeds.now.rows }
+    requires few { length seeds.now.rows ≤ 2 ^ 20 }
     requires fit { AreFit (settings_seen opts.now) }
-    ensures grown { OnOk result (IsGrown (settings_seen opts.now) seed_word model.now) }
-    ensures rows { IfOk result (λ suite. suite.rows ≡ (growth_of (settings_seen opts.now) seed_word model.now).rows) }
-    ensures form { IfOk result (λ suite. IfSome opts.now.proof (λ _. suite.omitted.form ≡ opts.now.form)) }
-    ensures omitted { IfOk result (λ suite. IfSome opts.now.proof (λ _. AreOmitted model.now (orders_of (settings_seen opts.now) seed_word model.now) []
-        (format_of opts.now.form) (map omission_meant suite.omitted.omissions))) }
-    ensures stops { IfErr result (StopsBehind (settings_seen opts.now) seed_word model.now) }
-    ensures other { IfErr result (λ stop. (stop ≢ Stop.CannotWriteReport) × (stop ≢ Stop.CannotWrite FileKind.Proof)) }
+    ensures rows { IfOk result (λ ready. ready.rows ≡ (growth_of (settings_seen opts.now) seed_word model.now (seeds_seen seeds.now)).rows) }
+    ensures stats { IfOk result (λ ready. statistics_seen ready.stats ≡ statistics model.now (orders_of (settings_seen opts.now) seed_word model.now) (seeds_seen seeds.now)) }
+    ensures proof { IfOk result (λ ready. IfSome opts.now.proof (λ _. IsProof (settings_seen opts.now) seed_word model.now (seeds_seen seeds.now) ready.proof.items)) }
+    ensures turns { IfOk result (λ ready. AreMadeFor model.now ready.turns) }
+    ensures answered { OnOk result (question_over (settings_seen opts.now) seed_word model.now (seeds_seen seeds.now) ≡ None) }
+    ensures notes { OnOk result (notes.new ≡ notes.old ++ map dropped_note (dropped_lines model.now (seeds_seen seeds.now))) }
+    ensures stops { IfErr result (StopsSuite (settings_seen opts.now) seed_word model.now (seeds_seen seeds.now) notes.old notes.new) }
+    ensures early { IfErr result (λ stop. end_of (Err stop) ≡ Stopped) }
 {
-    let number = shuffle_number(opts.shuffle, seed_word);
-    let prefs = Prefs::new(alloc, model, number)?;
-    let seeds = RowFile {
-        rows: OwnedList::new(alloc),
-        notes: OwnedList::new(alloc),
-    };
-    let grow_opts = GrowOpts {
-        budget: opts.budget,
-        workers: opts.workers,
-        proof: opts.proof_form(),
-    };
-    match generate(
-        rt, alloc, model, plan, &prefs, &seeds, &grow_opts, &OpenGate,
-    ) {
-        Ok(suite) => Ok(suite),
-        Err(fault) => Err(stop_of_search(fault, opts.budget)),
-    }
-}
-
-/// The text of the proof of a suite, where the options ask for one; else no text.
-///
-/// # Errors
-///
-/// `OutOfMemory` where memory was refused.
-fn text_of(
-    alloc: Global,
-    model: &TestModel,
-    opts: &Opts<'_>,
-    seed_word: u64,
-    omitted: &Omissions,
-) -> Result<Vec<u8>, Stop>
-    requires within { limit_passed model.now ≡ None }
-    requires form { IfSome opts.now.proof (λ _. omitted.now.form ≡ opts.now.form) }
-    requires omitted { IfSome opts.now.proof (λ _. AreOmitted model.now (orders_of (settings_seen opts.now) seed_word model.now) []
-        (format_of opts.now.form) (map omission_meant omitted.now.omissions)) }
-    ensures proof { IfOk result (λ text. IfSome opts.now.proof (λ _. IsProof (settings_seen opts.now) seed_word model.now text.items)) }
-    ensures stops { IfErr result (λ stop. stop ≡ Stop.OutOfMemory) }
-{
-    if opts.proof.is_none() {
-        return Ok(Vec::new(alloc));
-    }
-    model.assert_invariant();
-    Ok(proof_text(alloc, omitted)?)
-}
-
-/// Writes the report of rows of a model.
-///
-/// # Errors
-///
-/// `CannotWriteReport` where `out` failed.
-fn print<O: Sink>(
-    model: &TestModel,
-    rows: &Rows,
-    turns: &mut Turns,
-    out: &mut O,
-) -> Result<(), Stop>
-    requires rows { All (λ row. is_row model.now row ≡ true) rows.now }
-    requires turns { AreMadeFor model.now turns.old }
-    ensures prints { Prints (report_text model.now rows.now) (O.written out.old) (O.written out.new) result }
-    ensures counts { CountsOut result (O.faults out.old) (O.faults out.new) }
-    ensures stops { IfErr result (λ stop. stop ≡ Stop.CannotWriteReport) }
-{
-    match put_report(model, rows, turns, out) {
-        WriteAnswer::Done => Ok(()),
-        WriteAnswer::Failed => Err(Stop::CannotWriteReport),
-    }
-}
-
-/// Writes the proof of a suite to its file, where the options ask for one, and then the report of its
-/// rows. Takes no memory.
-///
-/// # Errors
-///
-/// `CannotWrite` where the folder failed, `CannotWriteReport` where `out` did.
-fn write_suite<F: Folder, O: Sink>(
-    model: &TestModel,
-    opts: &Opts<'_>,
-    rows: &Rows,
-    proof: &[u8],
-    turns: &mut Turns,
-    files: &mut F,
-    out: &mut O,
-) -> Result<(), Stop>
-    requires rows { All (λ row. is_row model.now row ≡ true) rows.now }
-    requires turns { AreMadeFor model.now turns.old }
-    ensures stops { IfErr result (λ stop. (stop ≡ Stop.CannotWriteReport) ⊎ ((stop ≡ Stop.CannotWrite FileKind.Proof) × ((settings_seen opts.now).proof ≢ None))) }
-    ensures prints { Prints (report_text model.now rows.now) (O.written out.old) (O.written out.new) result }
-    ensures counts { CountsOut result (O.faults out.old) (O.faults out.new) }
-    ensures writes { (seed : ℕ) → (IfSome opts.now.proof (λ _. IsProof (settings_seen opts.now) seed model.now proof.now))
-        → WritesProof (settings_seen opts.now) seed model.now (F.file files.old) (F.file files.new) result }
-    ensures write_faults { CountsWrites (settings_seen opts.now) result (F.write_faults files.old) (F.write_faults files.new) }
-    ensures others { KeepsOthers (settings_seen opts.now).proof (F.file files.old) (F.file files.new) }
-    ensures reads { KeepsCounts (F.read_faults files.old) (F.read_faults files.new) }
-{
-    if let Some(name) = opts.proof {
-        write_proof(name, proof, files)?;
-    }
-    print(model, rows, turns, out)
-}
-
-/// Writes the proof and the report of the suite of a model, as the options ask for it. All memory is
-/// taken before the first byte is written.
-///
-/// # Errors
-///
-/// `TooMany` where the model demands too much, `Spent` where a question costs too much,
-/// `CannotWrite` where the folder failed, `CannotWriteReport` where `out` did, `OutOfMemory` where
-/// memory was refused.
-pub(crate) fn run_model<R: Threads + Sync, F: Folder, O: Sink>(
-    rt: &R,
-    alloc: Global,
-    model: &TestModel,
-    opts: &Opts<'_>,
-    seed_word: u64,
-    files: &mut F,
-    out: &mut O,
-) -> Result<(), Stop>
-    requires { AreFit (settings_seen opts.now) }
-    ensures runs { RunsModel (settings_seen opts.now) seed_word model.now (F.file files.old) (F.file files.new) (O.written out.old) (O.written out.new) result }
-    ensures counts { CountsOut result (O.faults out.old) (O.faults out.new) }
-    ensures write_faults { CountsWrites (settings_seen opts.now) result (F.write_faults files.old) (F.write_faults files.new) }
-    ensures others { KeepsOthers (settings_seen opts.now).proof (F.file files.old) (F.file files.new) }
-    ensures still { StaysStill result (F.file files.old) (F.file files.new) }
-    ensures reads { KeepsCounts (F.read_faults files.old) (F.read_faults files.new) }
-{
-    model.assert_invariant();
-    let plan = Plan::new(alloc, model)?;
-    let suite = grow(rt, alloc, model, &plan, opts, seed_word)?;
-    let proof = text_of(alloc, model, opts, seed_word, &suite.omitted)?;
-    let mut turns = Turns::new(alloc, model)?;
-    write_suite(
-        model,
-        opts,
-        &suite.rows,
-        proof.as_slice(),
-        &mut turns,
-        files,
-        out,
-    )
+    let suite = grow(rt, alloc, model, plan, seeds, opts, seed_word)?;
+    let stats = stats_of(plan, &suite);
+    let proof = text_of(alloc, opts, &suite.omitted)?;
+    let turns = Turns::new(alloc, model)?;
+    push_dropped(notes, suite.dropped.as_slice())?;
+    Ok(ReadySuite {
+        rows: suite.rows,
+        stats,
+        proof,
+        turns,
+    })
 }

@@ -14,4 +14,6 @@ mod language;
 #[cfg(test)]
 mod proofs;
 #[cfg(test)]
+mod seeds;
+#[cfg(test)]
 mod words;

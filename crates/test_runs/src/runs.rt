@@ -9,10 +9,12 @@ use value_text::NoMemory;
 pub struct Given<'a> {
     /// The words behind the program's name.
     pub words: &'a [&'a str],
-    /// The name of the one file.
+    /// The name of the model file.
     pub name: &'a str,
     /// Its bytes.
     pub model: &'a [u8],
+    /// The name of a row file and its bytes, where there is one.
+    pub rows: Option<(&'a str, &'a [u8])>,
     /// The numbers of the calls of the folder that fail, from 1.
     pub fail: &'a [u64],
     /// How many bytes fit into standard output, and into standard error.
@@ -27,6 +29,7 @@ pub fn on_model<'a>(words: &'a [&'a str], model: &'a [u8]) -> Given<'a> {
         words,
         name: "m",
         model,
+        rows: None,
         fail: &[],
         room: (1 << 16, 1 << 10),
         written: "p",
@@ -52,6 +55,9 @@ fn words_of(alloc: Global, words: &[&str]) -> Result<Vec<String>, NoMemory> {
 fn folder_of(alloc: Global, given: &Given) -> Result<MemFolder, NoMemory> {
     let mut folder = MemFolder::new(alloc, calls_of(alloc, given.fail)?);
     folder.add(given.name, given.model)?;
+    if let Some((name, bytes)) = given.rows {
+        folder.add(name, bytes)?;
+    }
     folder.room_for(given.written, 1 << 16)?;
     Ok(folder)
 }

@@ -1,16 +1,38 @@
-use Rattle.std.proofs.Common.{◌^◌, ◌-◌, refl}
+use Rattle.std.proofs.Common.{◌≡◌, ◌^◌, ◌-◌, ℕ, List, Option, None, Some, refl}
 use Rattle.std.specs.Prelude.{min}
+use Rattle.outside_io.specs.MemFolder.{Slot, file_of}
+use Rattle.definitions.specs.Settings.{Settings}
+use Rattle.pict_cli.specs.InMemory.{source_of, source_under}
+use Rattle.pict_cli.specs.Modes.{row_file, row_source, source_in}
 use Rattle.pict_cli.specs.Runs.{opts_of}
 use Rattle.pict_cli.specs.Words.{asked_by, texts}
 use Rattle.pict_cli.proofs.RunEnds.{asked_or_three, model_then}
 use Rattle.pict_cli.proofs.in_memory.run_pict_in_memory.Goals as goal
 
+told : (slots : List Slot) (s : Settings) → row_source s (λ name. Some (file_of slots name)) ≡ Some (source_of slots s)
+told slots s = at (row_file s)
+  where
+    at : (file : Option (List ℕ)) → source_in file (λ name. Some (file_of slots name)) ≡ Some (source_under slots file)
+    at None = refl
+    at (Some name) = refl
+
 pub returns-clause-headline : goal.returns-clause-headline
 returns-clause-headline g c = λ zero.
-    asked_or_three (asked_by (texts c.args.words.now)) c.run_pict.result _ (λ s asked. model_then (opts_of s) _ _ _ (λ m notes holds. holds _ refl) (c.run_pict.ensures.headline zero s _ asked refl))
+    asked_or_three (asked_by (texts c.args.words.now)) c.run_pict.result _
+    (λ s asked is. model_then (opts_of s) _ _ _ (λ m notes holds. holds _ refl)
+    (c.run_pict.ensures.headline zero s _ _ (record { asked = asked; model = refl; rows = told c.args.files.now.slots s }) is))
     (λ index asked. (c.run_pict.ensures.words (min index (2 ^ 32 - 1)) (index, asked, refl)).0) zero
 
 pub returns-clause-few : goal.returns-clause-few
 returns-clause-few g c = λ zero.
-    asked_or_three (asked_by (texts c.args.words.now)) c.run_pict.result _ (λ s asked. model_then (opts_of s) _ _ _ (λ m notes holds. holds _ refl) (c.run_pict.ensures.few zero s _ asked refl))
+    asked_or_three (asked_by (texts c.args.words.now)) c.run_pict.result _
+    (λ s asked is. model_then (opts_of s) _ _ _ (λ m notes holds. holds _ refl)
+    (c.run_pict.ensures.few zero s _ _ (record { asked = asked; model = refl; rows = told c.args.files.now.slots s }) is))
+    (λ index asked. (c.run_pict.ensures.words (min index (2 ^ 32 - 1)) (index, asked, refl)).0) zero
+
+pub returns-clause-seeds : goal.returns-clause-seeds
+returns-clause-seeds g c = λ zero.
+    asked_or_three (asked_by (texts c.args.words.now)) c.run_pict.result _
+    (λ s asked is. model_then (opts_of s) _ _ _ (λ m notes holds. holds _ refl)
+    (c.run_pict.ensures.seeds zero s _ _ (record { asked = asked; model = refl; rows = told c.args.files.now.slots s }) is))
     (λ index asked. (c.run_pict.ensures.words (min index (2 ^ 32 - 1)) (index, asked, refl)).0) zero

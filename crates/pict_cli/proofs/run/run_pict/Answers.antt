@@ -1,41 +1,57 @@
-use Rattle.std.proofs.Common.{[], inl, inr, sym, ap, subst, ◌∙◌}
+use Rattle.std.proofs.Common.{inl, inr, sym, ap, subst, ◌∙◌}
 use Rattle.std.specs.Prelude.{IsSomeAnd}
 use Rattle.outside_io.specs.Faults.{Rose}
+use Rattle.pict_cli.specs.Ends.{CountsOut, CountsReads, CountsWrites, IsQuiet, KeepsOthers}
 use Rattle.pict_cli.specs.Options.{settings_seen}
-use Rattle.pict_cli.specs.Steps.{CountsOut, CountsWrites, KeepsOthers}
-use Rattle.pict_cli.specs.Words.{proof_of}
+use Rattle.pict_cli.specs.Words.{proof_of, rows_of_asked}
 use Rattle.pict_cli.specs.Runs.{IsStatus, names_of, used_seed}
 use Rattle.command_line.specs.Told.{Tells, told_text}
-use Rattle.pict_cli.proofs.Causes.{complete_end, long_end, missing_end, refused_end}
-use Rattle.pict_cli.proofs.RunEnds.{covers_whole, ends_told, eight_is_end, few_whole, form_known, not_three, one_asked, proof_whole, ran_asked, seven_is_end, status_known, still_end, writes_end}
+use Rattle.pict_cli.proofs.Causes.{complete_end, long_end, missing_end, missing_rows_end, refused_end, stopped_end}
+use Rattle.pict_cli.proofs.RunEnds.{accepted_whole, covers_whole, eight_is_end, few_whole, form_known, not_three, nothing_end, one_asked, proof_whole, ran_asked, read_names, seeds_whole, seven_is_end, status_known, still_end, untouched_end, unwritten_end, written_names}
 use Rattle.pict_cli.proofs.run.run_pict.Goals as goal
 
 pub returns-clause-headline : goal.returns-clause-headline
-returns-clause-headline g c = λ zero s held asked at.
-    covers_whole (ran_asked c.in-Ok.ensures.0 asked c.in-Ok.ensures.2 c.run-notes.ensures.ran) held at (form_known c.in-Ok.opts s (one_asked c.in-Ok.ensures.0 asked))
+returns-clause-headline g c = λ zero s held source given is.
+    covers_whole (ran_asked c.in-Ok.ensures.0 given.asked c.in-Ok.ensures.2 c.run-ended.ensures) held source given.model given.rows (form_known c.in-Ok.opts s (one_asked c.in-Ok.ensures.0 given.asked)) is (sym c.status_of.ensures ∙ zero)
+
+pub returns-clause-few : goal.returns-clause-few
+returns-clause-few g c = λ zero s held source given is.
+    few_whole (ran_asked c.in-Ok.ensures.0 given.asked c.in-Ok.ensures.2 c.run-ended.ensures) held source given.model given.rows is (sym c.status_of.ensures ∙ zero)
+
+pub returns-clause-seeds : goal.returns-clause-seeds
+returns-clause-seeds g c = λ zero s held source given is.
+    seeds_whole (ran_asked c.in-Ok.ensures.0 given.asked c.in-Ok.ensures.2 c.run-ended.ensures) held source given.model given.rows is (sym c.status_of.ensures ∙ zero)
+
+pub returns-clause-accepted : goal.returns-clause-accepted
+returns-clause-accepted g c = λ zero s held after source given is told.
+    accepted_whole (ran_asked c.in-Ok.ensures.0 given.asked c.in-Ok.ensures.2 c.run-ended.ensures) held source given.model given.rows (form_known c.in-Ok.opts s (one_asked c.in-Ok.ensures.0 given.asked)) is after told
     (sym c.status_of.ensures ∙ zero)
 
 pub returns-clause-proof : goal.returns-clause-proof
-returns-clause-proof g c = λ zero s held after asked at told.
-    proof_whole (ran_asked c.in-Ok.ensures.0 asked c.in-Ok.ensures.2 c.run-notes.ensures.ran) held at (form_known c.in-Ok.opts s (one_asked c.in-Ok.ensures.0 asked))
-    after told (sym c.status_of.ensures ∙ zero)
-
-pub returns-clause-few : goal.returns-clause-few
-returns-clause-few g c = λ zero s held asked at.
-    few_whole (ran_asked c.in-Ok.ensures.0 asked c.in-Ok.ensures.2 c.run-notes.ensures.ran) held at (sym c.status_of.ensures ∙ zero)
+returns-clause-proof g c = λ zero s held after source given told.
+    proof_whole (ran_asked c.in-Ok.ensures.0 given.asked c.in-Ok.ensures.2 c.run-ended.ensures) held source given.model given.rows (form_known c.in-Ok.opts s (one_asked c.in-Ok.ensures.0 given.asked)) after told
+    (sym c.status_of.ensures ∙ zero)
 
 pub returns-clause-run : goal.returns-clause-run
-returns-clause-run g c = λ s held asked at.
+returns-clause-run g c = λ s held source given.
+    let ran = (ran_asked c.in-Ok.ensures.0 given.asked c.in-Ok.ensures.2 c.run-ended.ensures) in
     let names = c.names.result in
-    let text = ap (λ seed. told_text seed c.as_slice.result.now [] names c.run-notes.result.1) c.told_seed-seed.ensures
-    ∙ ap (λ t. told_text (used_seed t.shuffle c.args.seed_word) c.as_slice.result.now [] names c.run-notes.result.1) (one_asked c.in-Ok.ensures.0 asked)
-    ∙ ap (λ notes. told_text (used_seed s.shuffle c.args.seed_word) notes [] names c.run-notes.result.1) c.as_slice.ensures
-    ∙ ap (λ names. told_text (used_seed s.shuffle c.args.seed_word) c.run-notes.result.0 [] names c.run-notes.result.1)
-    (c.names.ensures ∙ ap (names_of c.in-Ok.opts.model.now) (one_asked c.in-Ok.ensures.0 asked) ∙ ap (λ name. names_of name s) c.in-Ok.ensures.2) in
+    let end = c.run-ended.result.end in
+    let notes = c.as_slice-notes.result.now in
+    let row_notes = c.as_slice-row_notes.result.now in
+    let text = ap (λ seed. told_text seed notes row_notes names end) c.told_seed-seed.ensures
+    ∙ ap (λ t. told_text (used_seed t.shuffle c.args.seed_word) notes row_notes names end) (one_asked c.in-Ok.ensures.0 given.asked)
+    ∙ ap (λ told. told_text (used_seed s.shuffle c.args.seed_word) told row_notes names end) c.as_slice-notes.ensures
+    ∙ ap (λ told. told_text (used_seed s.shuffle c.args.seed_word) c.run-ended.result.notes told names end) c.as_slice-row_notes.ensures
+    ∙ ap (λ names. told_text (used_seed s.shuffle c.args.seed_word) c.run-ended.result.notes c.run-ended.result.row_notes names end)
+    (c.names.ensures ∙ ap (names_of c.in-Ok.opts.model.now) (one_asked c.in-Ok.ensures.0 given.asked) ∙ ap (λ name. names_of name s) c.in-Ok.ensures.2) in
     record {
-      notes = c.run-notes.result.0;
-      end = c.run-notes.result.1;
-      ends = ends_told (ran_asked c.in-Ok.ensures.0 asked c.in-Ok.ensures.2 c.run-notes.ensures.ran) held at;
+      notes = c.run-ended.result.notes;
+      row_notes = c.run-ended.result.row_notes;
+      end = end;
+      ends = ran.ends held source given.model given.rows;
+      reads = ran.leaves.reads;
+      writes = ran.leaves.writes;
       told =
           subst (Tells (g.E.Sink.written c.args.diag.now) (g.E.Sink.written c.tell-2.new.sink)
           (g.E.Sink.faults c.args.diag.now) (g.E.Sink.faults c.tell-2.new.sink)) text
@@ -44,58 +60,85 @@ returns-clause-run g c = λ s held asked at.
     }
 
 pub returns-clause-complete : goal.returns-clause-complete
-returns-clause-complete g c = λ s bytes m notes asked at.
-    complete_end (ran_asked c.in-Ok.ensures.0 asked c.in-Ok.ensures.2 c.run-notes.ensures.ran) c.status_of.result c.status_of.ensures bytes m notes at
+returns-clause-complete g c = λ s source m spelled due.
+    complete_end (ran_asked c.in-Ok.ensures.0 spelled.given.asked c.in-Ok.ensures.2 c.run-ended.ensures) c.status_of.result c.status_of.ensures source spelled.given.rows
+    spelled.bytes m spelled.notes spelled.given.model spelled.within spelled.spelled due
+
+pub returns-clause-stopped : goal.returns-clause-stopped
+returns-clause-stopped g c = λ s source m stop spelled due.
+    stopped_end (ran_asked c.in-Ok.ensures.0 spelled.given.asked c.in-Ok.ensures.2 c.run-ended.ensures) c.status_of.result c.status_of.ensures source spelled.given.rows
+    spelled.bytes m spelled.notes stop spelled.given.model spelled.within spelled.spelled due
+
+pub returns-clause-missing_rows : goal.returns-clause-missing_rows
+returns-clause-missing_rows g c = λ s m spelled within.
+    missing_rows_end (ran_asked c.in-Ok.ensures.0 spelled.given.asked c.in-Ok.ensures.2 c.run-ended.ensures) c.status_of.result c.status_of.ensures spelled.given.rows
+    spelled.bytes m spelled.notes spelled.given.model spelled.within spelled.spelled within
 
 pub returns-clause-refused : goal.returns-clause-refused
-returns-clause-refused g c = λ s bytes fault asked at.
-    refused_end (ran_asked c.in-Ok.ensures.0 asked c.in-Ok.ensures.2 c.run-notes.ensures.ran) c.status_of.result c.status_of.ensures bytes fault at
+returns-clause-refused g c = λ s bytes fault source given.
+    refused_end (ran_asked c.in-Ok.ensures.0 given.asked c.in-Ok.ensures.2 c.run-ended.ensures) c.status_of.result c.status_of.ensures source given.rows bytes fault given.model
 
 pub returns-clause-too_long : goal.returns-clause-too_long
-returns-clause-too_long g c = λ s bytes asked at.
-    long_end (ran_asked c.in-Ok.ensures.0 asked c.in-Ok.ensures.2 c.run-notes.ensures.ran) c.status_of.result c.status_of.ensures bytes at
+returns-clause-too_long g c = λ s bytes source given.
+    long_end (ran_asked c.in-Ok.ensures.0 given.asked c.in-Ok.ensures.2 c.run-ended.ensures) c.status_of.result c.status_of.ensures source given.rows bytes given.model
 
 pub returns-clause-missing : goal.returns-clause-missing
-returns-clause-missing g c = λ s asked at.
-    missing_end (ran_asked c.in-Ok.ensures.0 asked c.in-Ok.ensures.2 c.run-notes.ensures.ran) c.status_of.result c.status_of.ensures at
+returns-clause-missing g c = λ s source given.
+    missing_end (ran_asked c.in-Ok.ensures.0 given.asked c.in-Ok.ensures.2 c.run-ended.ensures) c.status_of.result c.status_of.ensures source given.rows given.model
+
+pub returns-clause-nothing : goal.returns-clause-nothing
+returns-clause-nothing g c = λ zero eight.
+    let left = c.run-ended.ensures.leaves in
+    nothing_end c.run-ended.result.end _ _ _ _ (untouched_end c.run-ended.result.end (λ e. zero (c.status_of.ensures ∙ e)) (λ e. eight (c.status_of.ensures ∙ e)) left.worded) left.quiet left.faults
 
 pub returns-clause-read : goal.returns-clause-read
 returns-clause-read g c = λ seven.
-    (ran_asked c.in-Ok.ensures.0 c.in-Ok.ensures.0 c.in-Ok.ensures.2 c.run-notes.ensures.ran).read
-    (seven_is_end c.run-notes.result.1 c.run-notes.ensures.of_run (sym c.status_of.ensures ∙ seven))
+    let found = seven_is_end c.run-ended.result.end (sym c.status_of.ensures ∙ seven) in
+    let s = settings_seen c.in-Ok.opts in
+    let before = g.F.Folder.read_faults c.args.files.now in
+    let after = g.F.Folder.read_faults c.run-ended.new.files in
+    let name = c.in-Ok.opts.model.now in
+    let rose = subst (λ e. CountsReads s name e before after) found.1 c.run-ended.ensures.leaves.reads in
+    elim (read_names s name found.0 (λ file. Rose (before file) (after file)) rose) [
+      | inl model ↦ inl (subst (λ file. Rose (before file) (after file)) c.in-Ok.ensures.2 model)
+      | inr rows ↦ inr (subst (λ asked. IsSomeAnd (rows_of_asked asked) (λ file. Rose (before file) (after file))) (sym c.in-Ok.ensures.0) rows)
+    ]
 
 pub returns-clause-write : goal.returns-clause-write
 returns-clause-write g c = λ eight.
-    let ran = c.run-notes.ensures.ran in
+    let left = c.run-ended.ensures.leaves in
     let s = settings_seen c.in-Ok.opts in
-    elim (eight_is_end c.run-notes.result.1 c.run-notes.ensures.of_run (sym c.status_of.ensures ∙ eight)) [
-      | inl report ↦ inl (subst (λ e. CountsOut e (g.O.Sink.faults c.args.out.now) (g.O.Sink.faults c.run-notes.new.out)) report ran.counts)
-      | inr proof ↦ inr (
-        c.run-notes.ensures.nothing (λ e. cc) (λ e. cc),
-        subst (λ e. CountsOut e (g.O.Sink.faults c.args.out.now) (g.O.Sink.faults c.run-notes.new.out)) proof ran.counts,
-        subst (λ asked. IsSomeAnd (proof_of asked) (λ name. Rose (g.F.Folder.write_faults c.args.files.now name) (g.F.Folder.write_faults c.run-notes.new.files name)))
-            (sym c.in-Ok.ensures.0)
-            (subst (λ e. CountsWrites s e (g.F.Folder.write_faults c.args.files.now) (g.F.Folder.write_faults c.run-notes.new.files)) proof ran.writes),
+    let name = c.in-Ok.opts.model.now in
+    let before = g.F.Folder.write_faults c.args.files.now in
+    let after = g.F.Folder.write_faults c.run-ended.new.files in
+    elim (eight_is_end c.run-ended.result.end (sym c.status_of.ensures ∙ eight)) [
+      | inl report ↦ inl (subst (λ e. CountsOut e (g.O.Sink.faults c.args.out.now) (g.O.Sink.faults c.run-ended.new.out)) report left.faults)
+      | inr file ↦ inr (
+        subst (λ e. IsQuiet e (g.O.Sink.written c.args.out.now) (g.O.Sink.written c.run-ended.new.out)) file.1 left.quiet,
+        subst (λ e. CountsOut e (g.O.Sink.faults c.args.out.now) (g.O.Sink.faults c.run-ended.new.out)) file.1 left.faults,
+        subst (λ asked. IsSomeAnd (proof_of asked) (λ file. Rose (before file) (after file))) (sym c.in-Ok.ensures.0)
+            (written_names s name file.0 (λ file. Rose (before file) (after file)) (subst (λ e. CountsWrites s name e before after) file.1 left.writes)),
       )
     ]
 
 pub returns-clause-files : goal.returns-clause-files
 returns-clause-files g c =
-    subst (λ asked. KeepsOthers (proof_of asked) (g.F.Folder.file c.args.files.now) (g.F.Folder.file c.run-notes.new.files)) (sym c.in-Ok.ensures.0)
-    c.run-notes.ensures.ran.others
+    subst (λ asked. KeepsOthers (proof_of asked) (g.F.Folder.file c.args.files.now) (g.F.Folder.file c.run-ended.new.files)) (sym c.in-Ok.ensures.0)
+    c.run-ended.ensures.leaves.others
 
 pub returns-clause-unwritten : goal.returns-clause-unwritten
 returns-clause-unwritten g c = λ zero eight.
-    still_end c.run-notes.result.1 (g.F.Folder.file c.args.files.now) (g.F.Folder.file c.run-notes.new.files)
-    (λ e. zero (c.status_of.ensures ∙ e)) (λ e. eight (c.status_of.ensures ∙ e)) c.run-notes.ensures.ran.still
+    let left = c.run-ended.ensures.leaves in
+    still_end c.run-ended.result.end (g.F.Folder.file c.args.files.now) (g.F.Folder.file c.run-ended.new.files)
+    (untouched_end c.run-ended.result.end (λ e. zero (c.status_of.ensures ∙ e)) (λ e. eight (c.status_of.ensures ∙ e)) left.worded) left.still
 
 pub returns-clause-write_faults : goal.returns-clause-write_faults
 returns-clause-write_faults g c = λ eight.
-    writes_end (settings_seen c.in-Ok.opts) c.run-notes.result.1 (g.F.Folder.write_faults c.args.files.now) (g.F.Folder.write_faults c.run-notes.new.files)
-    (λ e. eight (c.status_of.ensures ∙ e)) c.run-notes.ensures.ran.writes
+    unwritten_end (settings_seen c.in-Ok.opts) c.in-Ok.opts.model.now c.run-ended.result.end (g.F.Folder.write_faults c.args.files.now) (g.F.Folder.write_faults c.run-ended.new.files)
+    (λ e. eight (c.status_of.ensures ∙ e)) c.run-ended.ensures.leaves.writes
 
 pub returns-clause-read_words : goal.returns-clause-read_words
-returns-clause-read_words g c = λ s asked three. not_three c.run-notes.result.1 c.run-notes.ensures.of_run (sym c.status_of.ensures ∙ three)
+returns-clause-read_words g c = λ s asked three. not_three c.run-ended.result.end c.run-ended.ensures.leaves.worded (sym c.status_of.ensures ∙ three)
 
 pub returns-clause-statuses : goal.returns-clause-statuses
-returns-clause-statuses g c = subst IsStatus (sym c.status_of.ensures) (status_known c.run-notes.result.1 c.run-notes.ensures.of_run)
+returns-clause-statuses g c = subst IsStatus (sym c.status_of.ensures) (status_known c.run-ended.result.end)

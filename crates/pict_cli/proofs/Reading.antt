@@ -1,0 +1,63 @@
+-- A run whose model file was read, and one whose reading stopped.
+use Rattle.std.proofs.Common.{◌≡◌, ℕ, List, Option, None, Some, Err, Result, inl, inr, sym, ap, subst, ◌∙◌}
+use Rattle.std.specs.Prelude.{◌≢◌, IfSome}
+use Rattle.outside_io.specs.Faults.{KeepsCounts, Rose}
+use Rattle.outside_io.specs.Files.{Files, KeepsFiles}
+use Rattle.cov_model.specs.Sound.{ModelView}
+use Rattle.definitions.specs.Settings.{Settings}
+use Rattle.model_lex.specs.declared.note.Note.{Note}
+use Rattle.command_line.specs.Loading.{IsLoaded, IsOfReading}
+use Rattle.command_line.specs.declared.files.FileKind.TheVariants as kinds
+use Rattle.command_line.specs.declared.stop.Stop.{Stop}
+use Rattle.command_line.specs.declared.stop.Stop.TheVariants.{CannotRead}
+use Rattle.pict_cli.specs.Ends.{CountsReads, IsEarly, Leaves, Moment, Prints, Stopped, Unread, end_of}
+use Rattle.pict_cli.specs.Modes.{RowSource, row_file, row_source, source_in}
+use Rattle.pict_cli.specs.Runs.{Ends, RunsModel, opts_of, out_text, rows_of_run}
+use Rattle.pict_cli.proofs.Early.{leaves_early, proof_from}
+use Rattle.pict_cli.proofs.RunEnds.{ends_loaded, reading_ends}
+
+-- what is said of what is told
+pub at_told : {A : Type 0} (P : A → Type 0) (o : Option A) (x : A) → o ≡ Some x → IfSome o P → P x
+at_told P o x e h = subst (λ found. IfSome found P) e h
+
+-- the row file is told as before
+pub source_kept : (s : Settings) (files loaded : Files) (source : RowSource) → KeepsFiles files loaded → row_source s files ≡ Some source → row_source s loaded ≡ Some source
+source_kept s files loaded source keeps told = at (row_file s) told
+  where
+    at : (file : Option (List ℕ)) → source_in file files ≡ Some source → source_in file loaded ≡ Some source
+    at None e = e
+    at (Some name) e = ap (λ held. source_in (Some name) (λ other. held)) (keeps name) ∙ e
+
+-- the model was read
+pub ends_read : (s : Settings) (seed : ℕ) (held : Option (List ℕ)) (source : RowSource) (m : ModelView) (notes row_notes : List Note) (before loaded after : Moment)
+    (end : Result (Unit {0}) Stop) → KeepsFiles before.files loaded.files → loaded.out ≡ before.out → IsLoaded (opts_of s) held m notes
+    → RunsModel s seed m source row_notes loaded after end → Ends s seed held source notes row_notes before after end
+ends_read s seed held source m notes row_notes before loaded after end keeps quiet read runs =
+    ends_loaded s seed held source m notes row_notes before after end read (record {
+      sound = runs.sound;
+      ends = runs.ends;
+      prints = subst (λ out. Prints (out_text s seed m (rows_of_run m source)) out after.out (end_of end)) quiet runs.prints;
+      writes = proof_from s seed m (rows_of_run m source) before.files loaded.files after.files (end_of end) keeps runs.writes;
+    })
+
+-- the reading stopped
+unread_early : (stop : Stop) → IsOfReading kinds.Model stop → IsEarly (end_of (Err stop))
+unread_early stop of = elim (reading_ends stop of) [
+  | inl is ↦ subst (λ other. IsEarly (end_of (Err other))) (sym is) tt
+  | inr is ↦ subst IsEarly (sym is) tt
+]
+
+unread_counts : (s : Settings) (name : List ℕ) (stop : Stop) (reads after : List ℕ → ℕ) → IsOfReading kinds.Model stop
+    → (stop ≡ (CannotRead kinds.Model) → Rose (reads name) (after name)) → (stop ≢ (CannotRead kinds.Model) → KeepsCounts reads after)
+    → CountsReads s name (end_of (Err stop)) reads after
+unread_counts s name stop reads after of rose keeps = elim (reading_ends stop of) [
+  | inl is ↦ subst (λ other. CountsReads s name (end_of (Err other)) reads after) (sym is) (rose is)
+  | inr is ↦ subst (λ end. CountsReads s name end reads after) (sym is)
+      (keeps (λ e. let other : Unread kinds.Model ≡ Stopped = sym (ap (λ x. end_of (Err x)) e) ∙ is in cc))
+]
+
+pub leaves_unread : (s : Settings) (name : List ℕ) (before after : Moment) (stop : Stop) → IsOfReading kinds.Model stop → KeepsFiles before.files after.files
+    → (stop ≡ (CannotRead kinds.Model) → Rose (before.reads name) (after.reads name)) → (stop ≢ (CannotRead kinds.Model) → KeepsCounts before.reads after.reads)
+    → KeepsCounts before.writes after.writes → after.out ≡ before.out → after.faults ≡ before.faults → Leaves s name before after (end_of (Err stop))
+leaves_unread s name before after stop of keeps rose calm writes quiet faults =
+    leaves_early s name before after (end_of (Err stop)) (unread_early stop of) keeps (unread_counts s name stop before.reads after.reads of rose calm) writes quiet faults

@@ -1,0 +1,62 @@
+-- What a row file gives a run: its rows and the notes on it, or why the run stops at it. (PICT's guide for seed
+-- files; the steps are this project's rules.)
+use Rattle.std.specs.Prelude.{ℕ, List, [], map, length, Option, Some, None, Result, Ok, Err, nat_lt, if◌then◌else◌}
+use Rattle.cov_model.specs.Sound.{ModelView}
+use Rattle.definitions.specs.Limits.{RowFile, most_bytes}
+use Rattle.definitions.specs.RowReading.{RowMode, RowReading, read_rows}
+use Rattle.definitions.specs.RowReading as defined
+use Rattle.definitions.specs.Seeds.{dropped_lines}
+use Rattle.model_lex.specs.declared.note.Note.{Note}
+use Rattle.model_lex.specs.declared.note.NoteCode.TheVariants.{RowDropped}
+use Rattle.row_text.specs.Readings.{note_told}
+use Rattle.row_text.specs.declared.rows_fault.RowsFault.TheVariants.{NoHeader, Twice, Missing, Width}
+use Rattle.command_line.specs.declared.files.FileKind.TheVariants as kinds
+use Rattle.command_line.specs.declared.stop.Quantity.TheVariants as quantities
+use Rattle.command_line.specs.declared.stop.Stop.{Stop}
+use Rattle.command_line.specs.declared.stop.Stop.TheVariants.{BadRows, CannotRead, TooLong, TooMany}
+use Rattle.pict_cli.specs.Modes.{RowSource, NoRowFile, RowsHeld}
+
+-- the stop of a refusal of the row file
+abbrev pub stop_of_rows : defined.RowsFault → Stop
+stop_of_rows defined.NoHeader = BadRows NoHeader
+stop_of_rows (defined.Twice line) = BadRows (Twice line)
+stop_of_rows (defined.Missing parameter) = BadRows (Missing parameter)
+stop_of_rows (defined.TooManyRows count) = TooMany quantities.Rows count
+stop_of_rows (defined.Width line) = BadRows (Width line)
+
+abbrev pub or_stop : Result RowReading defined.RowsFault → Result RowReading Stop
+or_stop (Ok reading) = Ok reading
+or_stop (Err fault) = Err (stop_of_rows fault)
+
+-- without a row file there are no rows
+abbrev pub no_rows : RowReading
+no_rows = record { rows = []; notes = [] }
+
+-- the reading of the row file, or why the run stops, where memory is found and no read fails
+abbrev pub read_source : ModelView → RowMode → RowSource → Result RowReading Stop
+read_source m mode NoRowFile = Ok no_rows
+read_source m mode (RowsHeld None) = Err (CannotRead kinds.Rows)
+read_source m mode (RowsHeld (Some bytes)) =
+    if nat_lt (most_bytes RowFile) (length bytes) then Err (TooLong kinds.Rows) else or_stop (read_rows m mode bytes)
+
+-- the reading, or none of rows where there is none
+abbrev pub reading_or_none : Result RowReading Stop → RowReading
+reading_or_none (Ok reading) = reading
+reading_or_none (Err stop) = no_rows
+
+abbrev pub rows_in : ModelView → RowMode → RowSource → List (ℕ × List (Option ℕ))
+rows_in m mode source = (reading_or_none (read_source m mode source)).rows
+
+-- the notes on the row file, and those on seed rows that aren't kept
+abbrev pub notes_on : RowReading → List Note
+notes_on reading = map note_told reading.notes
+
+abbrev pub dropped_note : ℕ → Note
+dropped_note line = record { line = line; code = RowDropped }
+
+abbrev pub dropped_notes : ModelView → List (ℕ × List (Option ℕ)) → List Note
+dropped_notes m seeds = map dropped_note (dropped_lines m seeds)
+
+abbrev pub stop_in : Result RowReading Stop → Option Stop
+stop_in (Ok reading) = None
+stop_in (Err stop) = Some stop

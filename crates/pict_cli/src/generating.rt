@@ -1,0 +1,58 @@
+ghost use Rattle.std.specs.Prelude.{◌≡◌, ℕ, List, [], Some};
+ghost use Rattle.pict_cli.specs.Ends.{Leaves, end_of, moment};
+ghost use Rattle.pict_cli.specs.Modes.{RowSource, row_source};
+ghost use Rattle.pict_cli.specs.Options.{settings_seen};
+ghost use Rattle.pict_cli.specs.Ranges.{AreFit};
+ghost use Rattle.pict_cli.specs.Runs.{RunsModel};
+
+use crate::options::Opts;
+use crate::printing::write_suite;
+use crate::rows::load_rows;
+use crate::suite::make_suite;
+use command_line::Stop;
+use cov_model::TestModel;
+use model_lex::NoteList;
+use outside_io::{Folder, Sink};
+use row_text::{RowFile, RowMode};
+use std::alloc::Global;
+use std::thread::Threads;
+use tuple_index::Plan;
+use value_text::OwnedList;
+
+/// Generates the suite of a model from the seed rows that the options name, and writes its proof and what is printed
+/// of it, with the notes on the row file. All memory is taken before the first byte is written.
+///
+/// # Errors
+///
+/// `TooMany` where the model demands too much, a stop of the row file, `Spent` where a question costs too much,
+/// `CannotWrite` where the folder failed, `CannotWriteReport` where `out` did, `OutOfMemory` where memory was
+/// refused.
+pub(crate) fn run_model<R: Threads + Sync, F: Folder, O: Sink>(
+    rt: &R,
+    alloc: Global,
+    model: &TestModel,
+    opts: &Opts<'_>,
+    seed_word: u64,
+    files: &mut F,
+    out: &mut O,
+    row_notes: &mut NoteList,
+) -> Result<(), Stop>
+    requires fit { AreFit (settings_seen opts.now) }
+    requires none { row_notes.old ≡ [] }
+    ensures runs { (source : RowSource) → row_source (settings_seen opts.now) (F.file files.old) ≡ Some source → RunsModel (settings_seen opts.now) seed_word model.now source row_notes.new
+        (moment (F.file files.old) (F.read_faults files.old) (F.write_faults files.old) (O.written out.old) (O.faults out.old))
+        (moment (F.file files.new) (F.read_faults files.new) (F.write_faults files.new) (O.written out.new) (O.faults out.new)) result }
+    ensures leaves { (name : List ℕ) → Leaves (settings_seen opts.now) name (moment (F.file files.old) (F.read_faults files.old) (F.write_faults files.old) (O.written out.old) (O.faults out.old))
+        (moment (F.file files.new) (F.read_faults files.new) (F.write_faults files.new) (O.written out.new) (O.faults out.new)) (end_of result) }
+{
+    model.assert_invariant();
+    let plan = Plan::new(alloc, model)?;
+    let file = load_rows(alloc, opts.seeds, RowMode::Seed, model, files)?;
+    let seeds = RowFile {
+        rows: file.rows,
+        notes: OwnedList::new(alloc),
+    };
+    *row_notes = file.notes;
+    let mut ready = make_suite(rt, alloc, model, &plan, &seeds, opts, seed_word, row_notes)?;
+    write_suite(model, opts, &mut ready, files, out)
+}

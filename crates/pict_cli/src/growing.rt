@@ -1,0 +1,82 @@
+ghost use Rattle.std.specs.Prelude.{◌≡◌, ◌≤◌, ◌^◌, ℕ, [], map, length, All, Option, None, Some, Err, List, option_map, IfOk, IfErr, OnOk};
+ghost use Rattle.cov_model.specs.Fits.{FitsModel};
+ghost use Rattle.cov_model.specs.Sound.{ModelView};
+ghost use Rattle.definitions.specs.Settings.{Settings};
+ghost use Rattle.ipog_grow.specs.Suites.{EndsBy, IsSuiteOf};
+ghost use Rattle.row_text.specs.RowFiles.{seeds_seen};
+ghost use Rattle.tuple_index.specs.Plan.{plan_of};
+ghost use Rattle.command_line.specs.Settings.{shuffle_seen};
+ghost use Rattle.pict_cli.specs.Ends.{Stopped, end_of};
+ghost use Rattle.pict_cli.specs.Options.{settings_seen};
+ghost use Rattle.pict_cli.specs.Ranges.{AreFit};
+ghost use Rattle.pict_cli.specs.Runs.{orders_of, question_over, shuffled_by};
+ghost use Rattle.pict_cli.specs.Steps.{IsSpentOrNoMemory};
+
+use crate::options::Opts;
+use command_line::{Shuffle, Stop};
+use cov_model::{Prefs, TestModel};
+use feasibility::SearchFault;
+use ipog_grow::{GrowOpts, Suite, generate};
+use outside_io::OpenGate;
+use row_text::RowFile;
+use std::alloc::Global;
+use std::thread::Threads;
+use tuple_index::Plan;
+
+/// The number that values are shuffled by, where they are; `seed_word` where no word gives one.
+fn shuffle_number(shuffle: Shuffle, seed_word: u64) -> Option<u64>
+    ensures { result ≡ shuffled_by (shuffle_seen shuffle) seed_word }
+{
+    match shuffle {
+        Shuffle::Off => None,
+        Shuffle::Bare => Some(seed_word),
+        Shuffle::Number(number) => Some(number),
+    }
+}
+
+/// Why a run stops whose search ended early.
+pub(crate) fn stop_of_search(fault: SearchFault, budget: u64) -> Stop
+    ensures early { end_of (Err result) ≡ Stopped }
+    ensures stops { (over : Option (List (Option ℕ))) → EndsBy over fault → IsSpentOrNoMemory budget over result }
+{
+    match fault {
+        SearchFault::Spent(question) => Stop::Spent(budget, question.cells),
+        SearchFault::NoMemory => Stop::OutOfMemory,
+    }
+}
+
+/// The suite of a model within its plan, from seed rows, as the options ask for it.
+///
+/// # Errors
+///
+/// `Spent` where a question costs too much, `OutOfMemory` where memory was refused.
+pub(crate) fn grow<R: Threads + Sync>(
+    rt: &R,
+    alloc: Global,
+    model: &TestModel,
+    plan: &Plan,
+    seeds: &RowFile,
+    opts: &Opts<'_>,
+    seed_word: u64,
+) -> Result<Suite, Stop>
+    requires plan { plan.now ≡ plan_of model.now }
+    requires seeds { All (λ seed. FitsModel model.now seed.cells) seeds.now.rows }
+    requires few { length seeds.now.rows ≤ 2 ^ 20 }
+    requires fit { AreFit (settings_seen opts.now) }
+    ensures suite { IfOk result (IsSuiteOf model.now (orders_of (settings_seen opts.now) seed_word model.now) (seeds_seen seeds.now) (option_map (λ _. opts.now.form) opts.now.proof)) }
+    ensures answered { OnOk result (question_over (settings_seen opts.now) seed_word model.now (seeds_seen seeds.now) ≡ None) }
+    ensures stops { IfErr result (IsSpentOrNoMemory opts.now.budget (question_over (settings_seen opts.now) seed_word model.now (seeds_seen seeds.now))) }
+    ensures early { IfErr result (λ stop. end_of (Err stop) ≡ Stopped) }
+{
+    let number = shuffle_number(opts.shuffle, seed_word);
+    let prefs = Prefs::new(alloc, model, number)?;
+    let grow_opts = GrowOpts {
+        budget: opts.budget,
+        workers: opts.workers,
+        proof: opts.proof_form(),
+    };
+    match generate(rt, alloc, model, plan, &prefs, seeds, &grow_opts, &OpenGate) {
+        Ok(suite) => Ok(suite),
+        Err(fault) => Err(stop_of_search(fault, opts.budget)),
+    }
+}

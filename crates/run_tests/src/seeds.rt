@@ -1,0 +1,146 @@
+//! Runs from seed rows, and statistics.
+
+use std::test::Fail;
+use test_models::DISK;
+use test_runs::{Given, ends_as, on_model, run};
+
+const PAIRS: &[u8] = b"A: 1, 2\nB: x, y\n";
+
+const SYSTEMS: &[u8] = b"OS: Win8 | Win10, Linux\nB: 1, 2, 3\n";
+
+const NEGATIVES: &[u8] = b"A: 1, 2\nB: x, ~n\nC: v, ~m\nIF [A] = 2 THEN [C] = \"v\";\n";
+
+const NEGATIVE_SEEDS: &[u8] =
+    b"C\tZ\tA\tB\nv\tq\t2\t\nv\tq\t2\t\n\n~m\tq\t2\t\n~m\tq\t1\t~n\nk\tq\t1\t\n";
+
+const NEGATIVE_REPORT: &str = "A\tB\tC\n2\tx\tv\n1\tx\tv\n1\t~n\tv\n2\t~n\tv\n1\tx\t~m\n";
+
+const NEGATIVE_NOTES: &str = "warning: row file line 1: V2 unknown column\n\
+    warning: row file line 7: V3 unknown value\n\
+    warning: row file line 5: V4 no valid row serves this row\n\
+    warning: row file line 6: V4 no valid row serves this row\n";
+
+// Words, a model, a row file named s, a status, and what standard output and standard error get.
+const SEEDED: &[(&[&str], &[u8], &[u8], u8, &str, &str)] = &[
+    (
+        &["m", "/e:s"],
+        SYSTEMS,
+        b"OS\tB\nWin10\t3\n",
+        0,
+        "OS\tB\nWin8\t3\nWin10\t1\nWin8\t2\nLinux\t1\nLinux\t2\nLinux\t3\n",
+        "",
+    ),
+    (
+        &["m", "/e:s"],
+        NEGATIVES,
+        NEGATIVE_SEEDS,
+        0,
+        NEGATIVE_REPORT,
+        NEGATIVE_NOTES,
+    ),
+    // What is told of the row file once it is read, and once there is a suite.
+    (
+        &["m", "/e:s", "/budget:1"],
+        NEGATIVES,
+        b"A\tQ\n2\t\n",
+        2,
+        "",
+        "warning: row file line 1: V2 unknown column\nerror: search budget 1 spent on 0=1\n",
+    ),
+    (
+        &["m", "/e:s", "/proof:q"],
+        NEGATIVES,
+        NEGATIVE_SEEDS,
+        8,
+        "",
+        "warning: row file line 1: V2 unknown column\n\
+        warning: row file line 7: V3 unknown value\n\
+        warning: row file line 5: V4 no valid row serves this row\n\
+        warning: row file line 6: V4 no valid row serves this row\n\
+        error: cannot write q\n",
+    ),
+    // Row files that are refused.
+    (
+        &["m", "/e:s"],
+        PAIRS,
+        b"\n\n",
+        6,
+        "",
+        "error: row file: F1 no header\n",
+    ),
+    (
+        &["m", "/e:s"],
+        PAIRS,
+        b"A\tB\tA\n",
+        6,
+        "",
+        "error: row file line 1: F2 parameter in two columns\n",
+    ),
+    (
+        &["m", "/e:s"],
+        PAIRS,
+        b"Q\n1\tx\n",
+        6,
+        "",
+        "error: row file line 2: F4 more cells than the header\n",
+    ),
+    (
+        &["m", "/e:t"],
+        PAIRS,
+        b"A\n",
+        7,
+        "",
+        "error: cannot read t\n",
+    ),
+    // Statistics in place of rows.
+    (
+        &["m", "/s"],
+        PAIRS,
+        b"",
+        0,
+        "Demanded sets: 1\nDemanded tuples: 4\nOmitted tuples: 0\nKept seeds: 0\nGenerated tests: 4\n",
+        "",
+    ),
+    (
+        &["m", "/S", "/e:s"],
+        NEGATIVES,
+        b"C\tA\nv\t2\nv\t2\n\t1\n",
+        0,
+        "Demanded sets: 3\nDemanded tuples: 11\nOmitted tuples: 1\nKept seeds: 2\nGenerated tests: 5\n",
+        "",
+    ),
+];
+
+#[test]
+fn grows_from_seed_rows(rt: HostRuntime) -> Result<(), Fail> {
+    for (words, model, rows, status, written, told) in SEEDED {
+        let given = Given {
+            rows: Some(("s", rows)),
+            ..on_model(words, model)
+        };
+        assert!(rt;
+            ends_as(&rt, rt.alloc(), &given, *status, written, told)?,
+            "{words:?} {written} {told}"
+        );
+    }
+    Ok(())
+}
+
+// The statistics of the disk model, but for the number of tests.
+const DISK_NUMBERS: &str =
+    "Demanded sets: 15\nDemanded tuples: 331\nOmitted tuples: 4\nKept seeds: 0\n";
+
+#[test]
+fn counts_what_is_generated(rt: HostRuntime) -> Result<(), Fail> {
+    let words: &[&str] = &["m", "/proof:p", "/s"];
+    let ended = run(&rt, rt.alloc(), &on_model(words, DISK.as_bytes()))?;
+    assert_eq!(rt; ended.status, 0);
+    let text = str::from_utf8(ended.written.bytes())?;
+    assert!(rt; text.starts_with(DISK_NUMBERS), "{text}");
+    assert_eq!(rt; text.lines().count(), 5);
+    let proof = ended.files.held("p").ok_or("no proof file")?;
+    let omitted: &[u8] =
+        b"pict-proof 1\nomit 1=4 3=0 : L1\nomit 1=5 3=0 : L1\nomit 1=6 3=0 : L1\nomit 1=6 3=1 : L2\n";
+    assert!(rt; proof == omitted);
+    Ok(())
+}
