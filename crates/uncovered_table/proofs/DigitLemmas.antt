@@ -5,7 +5,7 @@ use Rattle.std.specs.Option.{option_map_or}
 use Rattle.std.proofs.lemmas.Bool.{and_right, cases_eq, cases_lt, cases_Bool, ne_eqb}
 use Rattle.std.proofs.Math.Nat.{mul-le-mul_right}
 use Rattle.std.proofs.lemmas.Bool.Decides.{nat_tests}
-use Rattle.std.proofs.lemmas.List.{drop_more, length-map}
+use Rattle.std.proofs.lemmas.List.{length-map}
 use Rattle.tuple_index.specs.Places.{RisesFrom, place_of, value_lists, ways}
 use Rattle.tuple_index.proofs.ListingLemmas.{above_test}
 use Rattle.std.proofs.lemmas.Option.{slice_get_within, slice_get-get_or, slice_get-map}
@@ -269,14 +269,6 @@ pub joined-None : (digit : Option ℕ) (w : ℕ) → joined digit w None ≡ Non
 joined-None None w = refl
 joined-None (Some d) w = refl
 
--- a member without a digit leaves no number
-pub no_number : (values : ℕ → List ℕ) (digits : ℕ → Option ℕ) (i : ℕ) (set : List ℕ) → number_of values digits (drop i set) ≡ None
-    → number_of values digits set ≡ None
-no_number values digits zero set none = none
-no_number values digits (suc i) [] none = none
-no_number values digits (suc i) (p ∷ set) none =
-    ap (joined (digits p) (ways values set)) (no_number values digits i set none) ∙ joined-None (digits p) (ways values set)
-
 -- the choices for the members from one on are no more than all
 pub fewer_ways : (values : ℕ → List ℕ) (i : ℕ) (set : List ℕ) → 0 < ways values set → ways values (drop i set) ≤ ways values set
 fewer_ways values zero set some = omega arith
@@ -287,39 +279,3 @@ fewer_ways values (suc i) (p ∷ set) some =
     let one : 0 < length (values p) = pos_left_of_mul (length (values p)) (ways values set) some in
     let most = mul-le-mul_right (ways values set) one in
     omega (arith, rest, most)
-
--- one member more, from the last one back
-pub record OneBack (values : ℕ → List ℕ) (digits : ℕ → Option ℕ) (column i : ℕ) (set : List ℕ) (p d n w s : ℕ) : Type 0 where
-  pub number : number_of values digits (drop i set) ≡ Some (n + d * w)
-  pub weight : ways values (drop i set) ≡ w * length (values p)
-  pub step : step_of values column (drop i set) ≡ (if p == column then w else s)
-  pub below : n + d * w < ways values set
-  pub most : w * length (values p) ≤ ways values set
-
-pub one_back : (values : ℕ → List ℕ) (digits : ℕ → Option ℕ) (column i : ℕ) (set : List ℕ) (p d n w s : ℕ) → AreDigits values digits → i < length set
-    → p ≡ get_or set i p
-    → 0 < ways values set → digits p ≡ Some d → number_of values digits (drop (i + 1) set) ≡ Some n → w ≡ ways values (drop (i + 1) set)
-    → s ≡ step_of values column (drop (i + 1) set) → OneBack values digits column i set p d n w s
-one_back values digits column i set p d n w s below within read some digit number weight step =
-    let opened : drop i set ≡ p ∷ drop (i + 1) set = drop_more set i p within ∙ ap (λ q. q ∷ drop (i + 1) set) (sym read) in
-    let least = fewer_ways values i set some in
-    let product : ways values (drop i set) ≡ w * length (values p) = ap (ways values) opened ∙ ap (λ v. length (values p) * v) (sym weight)
-    ∙ turned (length (values p)) w in
-    let sum : number_of values digits (drop i set) ≡ Some (n + d * w) =
-    ap (number_of values digits) opened ∙ ap (λ o. joined o (ways values (drop (i + 1) set)) (number_of values digits (drop (i + 1) set))) digit
-    ∙ ap (joined (Some d) (ways values (drop (i + 1) set))) number ∙ ap (λ v. Some (d * v + n)) (sym weight) ∙ ap Some (around (d * w) n) in
-    let inside = number_below values digits (drop i set) (n + d * w) below sum in
-    record {
-      number = sum;
-      weight = product;
-      step = ap (step_of values column) opened ∙ ap (λ v. if p == column then v else step_of values column (drop (i + 1) set)) (sym weight)
-          ∙ ap (λ v. if p == column then w else v) (sym step);
-      below = omega (arith, inside, least);
-      most = omega (arith, product, least);
-    }
-  where
-    turned : (a b : ℕ) → a * b ≡ b * a
-    turned a b = grind arith
-
-    around : (a b : ℕ) → a + b ≡ b + a
-    around a b = omega arith

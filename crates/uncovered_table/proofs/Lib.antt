@@ -1,3 +1,4 @@
+pub mod PreparedLemmas
 pub mod ColumnLemmas
 pub mod SliceLemmas
 pub mod HeldLemmas

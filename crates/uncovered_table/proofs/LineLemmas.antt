@@ -1,11 +1,10 @@
 -- Lines: the tuples of a set in play that differ in the digit of the column alone.
-use Rattle.std.proofs.Common.{inl, inr, ◌≡◌, ℕ, ◌+◌, ◌-◌, ◌*◌, ◌^◌, ◌<◌, ◌≤◌, Bool, true, false, ◌||◌, List, [], ◌∷◌, Option, Some, None, drop, length, get_or, ◌∙◌, refl, sym, subst, ap, arith}
+use Rattle.std.proofs.Common.{inl, inr, ◌≡◌, ℕ, ◌+◌, ◌*◌, ◌^◌, ◌<◌, ◌≤◌, Bool, true, false, ◌||◌, List, [], ◌∷◌, Option, Some, None, length, ◌∙◌, refl, sym, subst, ap, arith}
 use Rattle.std.specs.Prelude.{◌==◌, option_map, if◌then◌else◌}
 use Rattle.std.specs.Option.{option_map_or}
 use Rattle.std.specs.List.{filter, last_or}
 use Rattle.std.proofs.lemmas.Bool.{cases_eq, false≢true, cases_Bool}
 use Rattle.std.proofs.lemmas.Bool.Decides.{nat_tests}
-use Rattle.std.proofs.lemmas.List.{drop_more, get_or_default}
 use Rattle.value_text.proofs.ListLemmas.{pos_left_of_mul, pos_right_of_mul}
 use Rattle.cov_model.specs.declared.slice.Slice.{Slice}
 use Rattle.cov_model.specs.Sound.{ModelView}
@@ -16,42 +15,15 @@ use Rattle.tuple_index.specs.Kept.{IsKept}
 use Rattle.tuple_index.specs.Places.{has_part, ways}
 use Rattle.tuple_index.specs.Plan.{plan_of}
 use Rattle.uncovered_table.specs.Bits.{InPlay, first_bit, held_bit, tuple_count}
-use Rattle.uncovered_table.specs.Digits.{cell_digit, joined, number_of, own_values, step_of, with_digit}
+use Rattle.uncovered_table.specs.Digits.{cell_digit, number_of, own_values, step_of, with_digit}
 use Rattle.uncovered_table.specs.Places.{set_at, slice_places}
 use Rattle.uncovered_table.proofs.BitLemmas.{bits_before}
 use Rattle.uncovered_table.proofs.ColumnLemmas.{filter_no, filter_yes}
-use Rattle.uncovered_table.proofs.DigitLemmas.{AreDigits, OneBack, cell_digits, no_number, one_back, stepped_number, with_digits}
+use Rattle.uncovered_table.proofs.DigitLemmas.{cell_digits, stepped_number, with_digits}
 use Rattle.uncovered_table.proofs.GainLemmas.{number_within}
 use Rattle.uncovered_table.proofs.PlaceLemmas.{places_few, set_rises}
 use Rattle.uncovered_table.proofs.SliceLemmas.{length-tuples_in}
 use Rattle.uncovered_table.proofs.TableLemmas.{bits_few}
-
--- one member more, from the last one back
-pub numbers_back : (values : ℕ → List ℕ) (digits : ℕ → Option ℕ) (column left : ℕ) (set : List ℕ) (d n w s : ℕ) → AreDigits values digits → 0 < left
-    → left ≤ length set
-    → 0 < ways values set → digits (get_or set (left - 1) 0) ≡ Some d → number_of values digits (drop left set) ≡ Some n → w ≡ ways values (drop left set)
-    → s ≡ step_of values column (drop left set) → OneBack values digits column (left - 1) set (get_or set (left - 1) 0) d n w s
-numbers_back values digits column left set d n w s below more within some digit number weight step =
-    let i = left - 1 in
-    let next : left ≡ i + 1 = omega (arith, more) in
-    let inside : i < length set = omega (arith, more, within) in
-    one_back values digits column i set (get_or set i 0) d n w s below inside (get_or_default set i 0 (get_or set i 0) inside) some digit
-    (subst (λ k. number_of values digits (drop k set) ≡ Some n) next number) (subst (λ k. w ≡ ways values (drop k set)) next weight)
-    (subst (λ k. s ≡ step_of values column (drop k set)) next step)
-
--- a member without a digit
-pub numbers_none : (values : ℕ → List ℕ) (digits : ℕ → Option ℕ) (left : ℕ) (set : List ℕ) (digit : Option ℕ) → 0 < left → left ≤ length set
-    → digit ≡ digits (get_or set (left - 1) 0)
-    → ((d : ℕ) → digit ≡ Some d → ⊥) → None ≡ number_of values digits set
-numbers_none values digits left set digit more within is none =
-    let i = left - 1 in
-    let inside : i < length set = omega (arith, more, within) in
-    sym (no_number values digits i set (ap (number_of values digits) (drop_more set i 0 inside)
-    ∙ ap (λ o. joined o (ways values (drop (i + 1) set)) (number_of values digits (drop (i + 1) set))) (sym is ∙ empty digit none)))
-  where
-    empty : (o : Option ℕ) → ((d : ℕ) → o ≡ Some d → ⊥) → o ≡ None
-    empty None other = refl
-    empty (Some d) other = absurd (other d refl)
 
 -- the column of a set in play is a member
 last_passes : (f : ℕ → Bool) (d : Option ℕ) (xs : List ℕ) (q : ℕ) → (d ≡ Some q → f q ≡ true) → last_or d (filter f xs) ≡ Some q → f q ≡ true

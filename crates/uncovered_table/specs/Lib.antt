@@ -5,3 +5,4 @@ pub mod Lasts
 pub mod Held
 pub mod Digits
 pub mod Bits
+pub mod Prepared

@@ -3,9 +3,11 @@ ghost use Rattle.definitions.specs.SliceRows.{IsOfSlice};
 ghost use Rattle.uncovered_table.specs.Bits.{InPlay, all_cleared, bit_count, cleared, held_bit, held_count, line_bit, sets_in_play, value_held};
 ghost use Rattle.uncovered_table.specs.Digits.{cell_digit, own_values, with_digit};
 ghost use Rattle.uncovered_table.specs.Places.{slice_places};
+ghost use Rattle.uncovered_table.specs.Prepared.{AreLines, digit_in};
 ghost use Rattle.cov_model.specs.Sound.{param_at};
 
 use crate::block::Line;
+use crate::prepared::{ColumnLines, NO_DIGIT};
 use crate::sets::SliceSets;
 use bit_table::BitTable;
 use cov_model::{Cells, ParamNo, ValueNo};
@@ -44,29 +46,38 @@ fn clear_at(bits: &mut BitTable, bit: Option<u32>)
     }
 }
 
-// The bit of the tuple of a set that cells contain, with this digit in the column.
-fn held_bit(
+// The bit of the tuple of a set in play that cells contain, with this digit in the column, by its prepared
+// line.
+fn prepared_bit(
     sets: &SliceSets<'_>,
+    lines: &ColumnLines,
+    k: usize,
     set: u32,
     cells: &Cells,
+    digits: &[u16],
     column: ParamNo,
     digit: u16,
 ) -> Option<u32>
     requires set { InPlay sets.now.model sets.now.slice column set }
     requires cells { IsOfSlice sets.now.model sets.now.slice cells.now }
+    requires digits { digit_in digits.now ≡ cell_digit (own_values sets.now.model sets.now.slice) cells.now }
+    requires long { length sets.now.model.params ≤ length digits.now }
+    requires k { k < length (sets_in_play sets.now.model sets.now.slice column) }
+    requires own { set ≡ slice_index_or (sets_in_play sets.now.model sets.now.slice column) k 0 }
+    requires lines { AreLines sets.now.model sets.now.slice column (sets_in_play sets.now.model sets.now.slice column) lines.now.lines.items lines.now.parts.items }
     requires digit { digit < length (own_values sets.now.model sets.now.slice column) }
-    ensures value { result ≡ held_bit sets.now.model sets.now.slice
-        (with_digit (cell_digit (own_values sets.now.model sets.now.slice) cells.now) column digit) set }
+    ensures value { result ≡ held_bit sets.now.model sets.now.slice (with_digit (cell_digit (own_values sets.now.model sets.now.slice) cells.now) column digit) set }
     ensures within { IfSome result (λ b. b < length (slice_places sets.now.model sets.now.slice)) }
 {
     sets.assert_invariant();
-    let line = sets.line(set, column, cells)?;
+    let line = sets.prepared_line(lines, k, set, column, cells, digits)?;
     Some(line.first + u32::from(digit) * line.step)
 }
 
 // How many open tuples of the sets in play cells contain, with this digit in the column.
 pub(crate) fn count_held(
     sets: &SliceSets<'_>,
+    lines: &ColumnLines,
     bits: &BitTable,
     cells: &Cells,
     column: ParamNo,
@@ -76,13 +87,19 @@ pub(crate) fn count_held(
     requires column { column < length sets.now.model.params }
     requires digit { digit < length (own_values sets.now.model sets.now.slice column) }
     requires bits { length bits.now ≡ length (slice_places sets.now.model sets.now.slice) }
+    requires lines { AreLines sets.now.model sets.now.slice column (sets_in_play sets.now.model sets.now.slice column) lines.now.lines.items lines.now.parts.items }
     ensures { result ≡ sum_by (held_count sets.now.model sets.now.slice bits.now
         (with_digit (cell_digit (own_values sets.now.model sets.now.slice) cells.now) column digit)) (sets_in_play sets.now.model sets.now.slice column) }
 {
+    sets.assert_invariant();
+    let _ = sets.model().params();
     let in_play = sets.in_play(column);
+    let mut row = [NO_DIGIT; 256];
+    sets.put_digits(cells, &mut row);
     let mut count: u32 = 0;
-    for set in in_play {
-        count += count_at(bits, held_bit(sets, *set, cells, column, digit));
+    for k in 0..in_play.len() {
+        let bit = prepared_bit(sets, lines, k, in_play[k], cells, &row, column, digit);
+        count += count_at(bits, bit);
     }
     count
 }
@@ -90,6 +107,7 @@ pub(crate) fn count_held(
 // Clears the bits of the tuples of the sets in play that cells contain, with this digit in the column.
 pub(crate) fn clear_held(
     sets: &SliceSets<'_>,
+    lines: &ColumnLines,
     bits: &mut BitTable,
     cells: &Cells,
     column: ParamNo,
@@ -99,13 +117,19 @@ pub(crate) fn clear_held(
     requires column { column < length sets.now.model.params }
     requires digit { digit < length (own_values sets.now.model sets.now.slice column) }
     requires bits { length bits.old ≡ length (slice_places sets.now.model sets.now.slice) }
+    requires lines { AreLines sets.now.model sets.now.slice column (sets_in_play sets.now.model sets.now.slice column) lines.now.lines.items lines.now.parts.items }
     ensures { bits.new ≡ all_cleared sets.now.model sets.now.slice
         (with_digit (cell_digit (own_values sets.now.model sets.now.slice) cells.now) column digit) bits.old
         (sets_in_play sets.now.model sets.now.slice column) }
 {
+    sets.assert_invariant();
+    let _ = sets.model().params();
     let in_play = sets.in_play(column);
-    for set in in_play {
-        clear_at(bits, held_bit(sets, *set, cells, column, digit));
+    let mut row = [NO_DIGIT; 256];
+    sets.put_digits(cells, &mut row);
+    for k in 0..in_play.len() {
+        let bit = prepared_bit(sets, lines, k, in_play[k], cells, &row, column, digit);
+        clear_at(bits, bit);
     }
 }
 
@@ -136,9 +160,12 @@ fn from_value(digits: &[Option<u16>], from: ValueNo) -> &[Option<u16>]
 // The values stand in order, from one on.
 fn add_set(
     sets: &SliceSets<'_>,
+    lines: &ColumnLines,
+    k: usize,
     bits: &BitTable,
     set: u32,
     cells: &Cells,
+    row: &[u16],
     column: ParamNo,
     from: ValueNo,
     scores: &mut [u32],
@@ -148,13 +175,18 @@ fn add_set(
     requires column { column < length sets.now.model.params }
     requires values { from + length scores.old ≤ length (param_at sets.now.model.params column).values }
     requires bits { length bits.now ≡ length (slice_places sets.now.model sets.now.slice) }
+    requires row { digit_in row.now ≡ cell_digit (own_values sets.now.model sets.now.slice) cells.now }
+    requires long { length sets.now.model.params ≤ length row.now }
+    requires k { k < length (sets_in_play sets.now.model sets.now.slice column) }
+    requires own { set ≡ slice_index_or (sets_in_play sets.now.model sets.now.slice column) k 0 }
+    requires lines { AreLines sets.now.model sets.now.slice column (sets_in_play sets.now.model sets.now.slice column) lines.now.lines.items lines.now.parts.items }
     requires low { All (λ score. score < 2 ^ 31) scores.old }
     ensures long { length scores.new ≡ length scores.old }
     ensures each { (i : ℕ) → i < length scores.old → slice_index_or scores.new i 0
         ≡ slice_index_or scores.old i 0 + value_held sets.now.model sets.now.slice bits.now cells.now column (from + i) set }
 {
     sets.assert_invariant();
-    if let Some(line) = sets.line(set, column, cells) {
+    if let Some(line) = sets.prepared_line(lines, k, set, column, cells, row) {
         let digits = from_value(sets.digits(column), from);
         add_line(bits, line, digits, scores);
     }
@@ -164,6 +196,7 @@ fn add_set(
 // column.
 pub(crate) fn add_held(
     sets: &SliceSets<'_>,
+    lines: &ColumnLines,
     bits: &BitTable,
     cells: &Cells,
     column: ParamNo,
@@ -174,13 +207,20 @@ pub(crate) fn add_held(
     requires column { column < length sets.now.model.params }
     requires values { from + length scores.old ≤ length (param_at sets.now.model.params column).values }
     requires bits { length bits.now ≡ length (slice_places sets.now.model sets.now.slice) }
+    requires lines { AreLines sets.now.model sets.now.slice column (sets_in_play sets.now.model sets.now.slice column) lines.now.lines.items lines.now.parts.items }
     requires zero { All (λ score. score ≡ 0) scores.old }
     ensures long { length scores.new ≡ length scores.old }
     ensures each { (i : ℕ) → i < length scores.old → slice_index_or scores.new i 0
         ≡ sum_by (value_held sets.now.model sets.now.slice bits.now cells.now column (from + i)) (sets_in_play sets.now.model sets.now.slice column) }
 {
+    sets.assert_invariant();
+    let _ = sets.model().params();
     let in_play = sets.in_play(column);
-    for set in in_play {
-        add_set(sets, bits, *set, cells, column, from, scores);
+    let mut row = [NO_DIGIT; 256];
+    sets.put_digits(cells, &mut row);
+    for k in 0..in_play.len() {
+        add_set(
+            sets, lines, k, bits, in_play[k], cells, &row, column, from, scores,
+        );
     }
 }

@@ -9,6 +9,7 @@ mod block;
 mod held;
 mod next;
 mod part;
+mod prepared;
 mod sets;
 mod table;
 mod tables;

@@ -1,18 +1,16 @@
-ghost use Rattle.std.specs.Prelude.{◌≡◌, ◌+◌, ◌*◌, ◌<◌, ◌≤◌, ◌^◌, ℕ, All, IfOk, IfSome, length, option_map};
+ghost use Rattle.std.specs.Prelude.{◌≡◌, ◌<◌, ◌≤◌, ◌^◌, All, IfOk, length, true};
 ghost use Rattle.std.specs.List.{list_any};
-ghost use Rattle.std.specs.Prelude.{◌==◌, if◌then◌else◌, true};
 ghost use Rattle.cov_model.specs.Sound.{IsSound, param_at};
 ghost use Rattle.definitions.specs.Demand.{demanded_sets};
 ghost use Rattle.definitions.specs.SliceRows.{IsOfSlice, IsSliceOf};
 ghost use Rattle.tuple_index.specs.Kept.{IsKept};
-ghost use Rattle.tuple_index.specs.Places.{ways};
 ghost use Rattle.tuple_index.specs.Plan.{plan_of};
-ghost use Rattle.uncovered_table.specs.Bits.{InPlay, bit_of, held_bit, sets_in_play};
-ghost use Rattle.uncovered_table.specs.Digits.{cell_digit, digit_of, number_of, own_values, step_of, with_digit};
+ghost use Rattle.uncovered_table.specs.Bits.{InPlay, bit_of, sets_in_play};
+ghost use Rattle.uncovered_table.specs.Digits.{cell_digit, digit_of, own_values};
 ghost use Rattle.uncovered_table.specs.Kept.{IsBlock, digits_of};
-ghost use Rattle.uncovered_table.specs.Places.{is_place, set_at, slice_places};
+ghost use Rattle.uncovered_table.specs.Places.{is_place, slice_places};
 
-use crate::block::{Block, Line};
+use crate::block::Block;
 use crate::part::SlicePart;
 use crate::tables::SliceTables;
 use cov_model::{Cells, ParamNo, TestModel, ValueNo};
@@ -24,7 +22,7 @@ use value_text::NoMemory;
 /// column. Contracts see the model and the slice.
 #[derive(Drop)]
 pub(crate) struct SliceSets<'a> {
-    part: SlicePart<'a>,
+    pub(crate) part: SlicePart<'a>,
     tables: SliceTables,
 }
 
@@ -41,13 +39,6 @@ impl<'a> Model for SliceSets<'a> {
     ghost view = { λ a. a.part };
 
     ghost invariant = { λ a. AreTablesOf a.part a.tables.blocks.items (map (λ list. list.items) a.tables.plays.items) (map (λ list. list.items) a.tables.digits.items) };
-}
-
-// The step of a column: the weight of its digit, at the column itself.
-fn step_at(p: ParamNo, column: ParamNo, weight: u32, step: u32) -> u32
-    ensures { result ≡ (if p == column then weight else step) }
-{
-    if p == column { weight } else { step }
 }
 
 impl<'a> SliceSets<'a> {
@@ -144,73 +135,6 @@ impl<'a> SliceSets<'a> {
     {
         match cells.get(p) {
             Some(v) => self.value_digit(p, v),
-            None => None,
-        }
-    }
-
-    // The digit of a member's value, or 0 in the column.
-    fn line_digit(&self, cells: &Cells, column: ParamNo, p: ParamNo) -> Option<u16>
-        requires cells { IsOfSlice self.now.model self.now.slice cells.now }
-        requires param { p < length self.now.model.params }
-        ensures { result ≡ with_digit (cell_digit (own_values self.now.model self.now.slice) cells.now) column 0 p }
-    {
-        if p == column {
-            Some(0)
-        } else {
-            self.cell_digit(cells, p)
-        }
-    }
-
-    // The number of the digits that cells give members, with 0 in the column, and how far it grows from
-    // one digit of the column to the next; none where a member has no digit.
-    fn numbers(&self, members: &[ParamNo], column: ParamNo, cells: &Cells) -> Option<Line>
-        requires cells { IsOfSlice self.now.model self.now.slice cells.now }
-        requires exist { All (λ p. p < length self.now.model.params) members.now }
-        requires own { 0 < length (own_values self.now.model self.now.slice column) }
-        requires some { 0 < ways (own_values self.now.model self.now.slice) members.now }
-        requires few { ways (own_values self.now.model self.now.slice) members.now ≤ 2 ^ 26 }
-        ensures number { option_map (λ line. line.first) result ≡ number_of (own_values self.now.model self.now.slice)
-            (with_digit (cell_digit (own_values self.now.model self.now.slice) cells.now) column 0) members.now }
-        ensures step { IfSome result (λ line. line.step ≡ step_of (own_values self.now.model self.now.slice) column members.now) }
-    {
-        let mut number: u32 = 0;
-        let mut weight: u32 = 1;
-        let mut step: u32 = 0;
-        let mut left = members.len();
-        while left > 0 {
-            left -= 1;
-            let p = members[left];
-            let Some(digit) = self.line_digit(cells, column, p) else {
-                return None;
-            };
-            number += u32::from(digit) * weight;
-            step = step_at(p, column, weight, step);
-            weight *= self.part.value_count(p);
-        }
-        Some(Line {
-            first: number,
-            step,
-        })
-    }
-
-    // The bits of the tuples of a set that cells contain, for the digits of the column.
-    pub(crate) fn line(&self, set: u32, column: ParamNo, cells: &Cells) -> Option<Line>
-        requires set { InPlay self.now.model self.now.slice column set }
-        requires cells { IsOfSlice self.now.model self.now.slice cells.now }
-        ensures value { (d : ℕ) → held_bit self.now.model self.now.slice
-            (with_digit (cell_digit (own_values self.now.model self.now.slice) cells.now) column d) set
-            ≡ option_map (λ line. line.first + d * line.step) result }
-        ensures within { IfSome result (λ line. (d : ℕ) → d < length (own_values self.now.model self.now.slice column) → line.first + d * line.step
-            < length (slice_places self.now.model self.now.slice)) }
-    {
-        self.assert_invariant();
-        let members = self.part.members(set);
-        let first = self.block(set).first;
-        match self.numbers(members, column, cells) {
-            Some(line) => Some(Line {
-                first: first + line.first,
-                step: line.step,
-            }),
             None => None,
         }
     }

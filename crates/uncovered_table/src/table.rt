@@ -11,6 +11,7 @@ ghost use Rattle.uncovered_table.specs.Places.{is_in_play, is_place, slice_place
 use crate::held::{add_held, clear_held, count_held};
 use crate::next::next_of;
 use crate::part::SlicePart;
+use crate::prepared::ColumnLines;
 use crate::sets::SliceSets;
 use bit_table::BitTable;
 use cov_model::{Cells, ParamNo, Slice, TestModel, ValueNo};
@@ -24,6 +25,7 @@ use value_text::NoMemory;
 #[derive(Drop)]
 pub struct Uncovered<'a> {
     sets: SliceSets<'a>,
+    lines: Vec<ColumnLines>,
     bits: BitTable,
 }
 
@@ -32,6 +34,7 @@ impl<'a> Model for Uncovered<'a> {
     ghost use Rattle.cov_model.specs.contracts.model.TestModel as tested;
     ghost use Rattle.std.specs.Prelude.{◌≡◌, length};
     ghost use Rattle.uncovered_table.specs.Bits.{marked};
+    ghost use Rattle.uncovered_table.specs.Prepared.{IsTable};
     ghost use Rattle.uncovered_table.specs.Open.{OpenView};
     ghost use Rattle.uncovered_table.specs.Places.{slice_places};
 
@@ -41,7 +44,7 @@ impl<'a> Model for Uncovered<'a> {
 
     ghost view = { λ a. marked a.sets.model a.sets.slice a.bits };
 
-    ghost invariant = { λ a. length a.bits ≡ length (slice_places a.sets.model a.sets.slice) };
+    ghost invariant = { λ a. IsTable a.sets.model a.sets.slice a.lines.items a.bits };
 }
 
 impl<'a> Uncovered<'a> {
@@ -63,7 +66,8 @@ impl<'a> Uncovered<'a> {
     {
         let sets = SliceSets::new(alloc, SlicePart::new(model, plan, slice))?;
         let bits = BitTable::all_set(alloc, sets.size())?;
-        Ok(Uncovered { sets, bits })
+        let lines = sets.all_lines(alloc)?;
+        Ok(Uncovered { sets, lines, bits })
     }
 
     /// Says again what every table keeps: its model is sound, its slice is one of the model's, and its
@@ -108,7 +112,14 @@ impl<'a> Uncovered<'a> {
     {
         self.sets.assert_invariant();
         match self.sets.cell_digit(cells, column) {
-            Some(digit) => clear_held(&self.sets, &mut self.bits, cells, column, digit),
+            Some(digit) => clear_held(
+                &self.sets,
+                &self.lines[column as usize],
+                &mut self.bits,
+                cells,
+                column,
+                digit,
+            ),
             None => {}
         }
     }
@@ -150,7 +161,14 @@ impl<'a> Uncovered<'a> {
     {
         self.sets.assert_invariant();
         match self.sets.value_digit(column, value) {
-            Some(digit) => count_held(&self.sets, &self.bits, cells, column, digit),
+            Some(digit) => count_held(
+                &self.sets,
+                &self.lines[column as usize],
+                &self.bits,
+                cells,
+                column,
+                digit,
+            ),
             None => 0,
         }
     }
@@ -165,6 +183,14 @@ impl<'a> Uncovered<'a> {
     {
         self.sets.assert_invariant();
         scores.fill(0);
-        add_held(&self.sets, &self.bits, cells, column, from, scores);
+        add_held(
+            &self.sets,
+            &self.lines[column as usize],
+            &self.bits,
+            cells,
+            column,
+            from,
+            scores,
+        );
     }
 }

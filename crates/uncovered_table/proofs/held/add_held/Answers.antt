@@ -8,27 +8,27 @@ use Rattle.uncovered_table.proofs.held.add_held.Goals as goal
 pub add_set-requires-clause-low : goal.add_set-requires-clause-low
 add_set-requires-clause-low c =
     λ k d within.
-    let few = c.loop-set.invariant.few k (omega (arith, within, c.loop-set.invariant.long)) in
-    let same = get_or_default c.loop-set.scores k d 0 within in
-    omega (arith, same, few, c.loop-set-test.true, c.in_play-in_play.ensures.few)
+    let few = c.loop-k.invariant.few k (omega (arith, within, c.loop-k.invariant.long)) in
+    let same = get_or_default c.loop-k.scores k d 0 within in
+    omega (arith, same, few, c.loop-k-test.true, c.in_play-in_play.ensures.few)
 
-pub loop-set-preserved : goal.loop-set-preserved
-loop-set-preserved c =
+pub loop-k-preserved : goal.loop-k-preserved
+loop-k-preserved c =
     let v = c.args.sets.now in
     let f : ℕ → ℕ → ℕ = λ i. value_held v.model v.slice c.args.bits.now c.args.cells.now c.args.column (c.args.from + i) in
     let sets = c.in_play-in_play.result.now in
-    let set = get_or sets c.loop-set.set-index 0 in
+    let set = get_or sets c.loop-k.k 0 in
     record {
-      long = c.add_set.ensures.long ∙ c.loop-set.invariant.long;
-      each = λ i within. c.add_set.ensures.each i (omega (arith, within, c.loop-set.invariant.long))
-          ∙ ap (λ k. k + f i set) (c.loop-set.invariant.each i within)
-          ∙ sym (sum_by_more (f i) sets c.loop-set.set-index 0 c.loop-set-test.true);
+      long = c.add_set.ensures.long ∙ c.loop-k.invariant.long;
+      each = λ i within. c.add_set.ensures.each i (omega (arith, within, c.loop-k.invariant.long))
+          ∙ ap (λ k. k + f i set) (c.loop-k.invariant.each i within)
+          ∙ sym (sum_by_more (f i) sets c.loop-k.k 0 c.loop-k-test.true);
       few = λ i within.
-          let more = c.add_set.ensures.each i (omega (arith, within, c.loop-set.invariant.long)) in
+          let more = c.add_set.ensures.each i (omega (arith, within, c.loop-k.invariant.long)) in
           omega (
             arith,
             more,
-            c.loop-set.invariant.few i within,
+            c.loop-k.invariant.few i within,
             value_most v.model v.slice c.args.bits.now c.args.cells.now c.args.column
                 (c.args.from + i) set,
           );

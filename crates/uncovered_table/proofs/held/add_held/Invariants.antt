@@ -2,10 +2,10 @@ use Rattle.std.proofs.Common.{◌≡◌, ◌+◌, ◌<◌, ◌≤◌, ℕ, get_o
 use Rattle.uncovered_table.specs.Bits.{value_held}
 use Rattle.uncovered_table.proofs.held.add_held.Given as goal
 
-abbrev pub invariant-loop-set : goal.invariant-loop-set
-invariant-loop-set l = record {
+abbrev pub invariant-loop-k : goal.invariant-loop-k
+invariant-loop-k l = record {
   long : length l.scores ≡ length l.fn.scores;
   each : (i : ℕ) → i < length l.fn.scores → get_or l.scores i 0 ≡ sum_by (value_held l.sets.model l.sets.slice l.bits l.cells l.column (l.from + i))
-      (take l.set-index l.in_play);
-  few : (i : ℕ) → i < length l.fn.scores → get_or l.scores i 0 ≤ l.set-index;
+      (take l.k l.in_play);
+  few : (i : ℕ) → i < length l.fn.scores → get_or l.scores i 0 ≤ l.k;
 }

@@ -3,9 +3,9 @@ use Rattle.uncovered_table.specs.Bits.{held_count}
 use Rattle.uncovered_table.specs.Digits.{cell_digit, own_values, with_digit}
 use Rattle.uncovered_table.proofs.held.count_held.Given as goal
 
-abbrev pub invariant-loop-set : goal.invariant-loop-set
-invariant-loop-set l = record {
+abbrev pub invariant-loop-k : goal.invariant-loop-k
+invariant-loop-k l = record {
   counted : l.count ≡ sum_by (held_count l.sets.model l.sets.slice l.bits
-      (with_digit (cell_digit (own_values l.sets.model l.sets.slice) l.cells) l.column l.digit)) (take l.set-index l.in_play);
-  few : l.count ≤ l.set-index;
+      (with_digit (cell_digit (own_values l.sets.model l.sets.slice) l.cells) l.column l.digit)) (take l.k l.in_play);
+  few : l.count ≤ l.k;
 }

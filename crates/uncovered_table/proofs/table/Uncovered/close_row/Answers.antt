@@ -9,11 +9,14 @@ use Rattle.uncovered_table.proofs.table.Uncovered.close_row.Goals as goal
 pub invariant_of-self : goal.invariant_of-self
 invariant_of-self c =
     let v = c.self.inside.sets in
-    ap length c.clear_held.ensures
-    ∙ length-all_cleared v.model v.slice (with_digit (cell_digit (own_values v.model v.slice) c.args.cells.now) c.args.column c.in-Some.digit)
-    c.self.inside.bits
-    (sets_in_play v.model v.slice c.args.column)
-    ∙ c.self.invariant
+    record {
+      long =
+          ap length c.clear_held.ensures
+          ∙ length-all_cleared v.model v.slice (with_digit (cell_digit (own_values v.model v.slice) c.args.cells.now) c.args.column c.in-Some.digit)
+          c.self.inside.bits (sets_in_play v.model v.slice c.args.column)
+          ∙ c.self.invariant.long;
+      lines = c.self.invariant.lines;
+    }
 
 pub returns-in-Some : goal.returns-in-Some
 returns-in-Some c =
@@ -24,7 +27,7 @@ returns-in-Some c =
     ∙ cleared_own v.model v.slice cells bits c.args.column c.in-Some.digit (sets_in_play v.model v.slice c.args.column)
     (sym c.cell_digit.ensures ∙ c.in-Some.is))
     ∙ row_closed_bits v.model v.slice bits cells c.args.column c.assert_invariant.ensures.kept c.assert_invariant.ensures.own
-    (subst (λ table. length cells ≡ length table.model.params) (sym c.self.view_is) c.requires.cells.fits.as_long) c.self.invariant
+    (subst (λ table. length cells ≡ length table.model.params) (sym c.self.view_is) c.requires.cells.fits.as_long) c.self.invariant.long
     ∙ ap (λ table. row_closed table c.args.column cells) c.self.view_is
 
 pub returns-in-None : goal.returns-in-None
@@ -35,5 +38,5 @@ returns-in-None c =
     sym c.self.view_is ∙ ap (marked v.model v.slice) (cleared_none v.model v.slice (cell_digit (own_values v.model v.slice) cells) bits c.args.column
     (sym c.cell_digit.ensures ∙ c.in-None.is))
     ∙ row_closed_bits v.model v.slice bits cells c.args.column c.assert_invariant.ensures.kept c.assert_invariant.ensures.own
-    (subst (λ table. length cells ≡ length table.model.params) (sym c.self.view_is) c.requires.cells.fits.as_long) c.self.invariant
+    (subst (λ table. length cells ≡ length table.model.params) (sym c.self.view_is) c.requires.cells.fits.as_long) c.self.invariant.long
     ∙ ap (λ table. row_closed table c.args.column cells) c.self.view_is

@@ -1,0 +1,7 @@
+use Rattle.std.proofs.Common.{take}
+use Rattle.uncovered_table.specs.Prepared.{AreLines}
+use Rattle.uncovered_table.proofs.sets.SliceSets.column_lines.Given as goal
+
+-- the lines of the sets so far
+abbrev pub invariant-loop-set : goal.invariant-loop-set
+invariant-loop-set l = AreLines l.self.model l.self.slice l.column (take l.set-index l.in_play) l.lines.items l.parts.items

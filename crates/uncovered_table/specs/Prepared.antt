@@ -1,0 +1,59 @@
+-- Lines that were prepared for a column. (This project's rules.)
+use Rattle.std.specs.Prelude.{◌≡◌, ℕ, Bool, ◌+◌, ◌<◌, ◌≤◌, All, length, slice_range, take, drop, ◌++◌, List, [], ◌∷◌, Option, Some, None, ◌==◌, slice_index_or, if◌then◌else◌}
+use Rattle.cov_model.specs.declared.slice.Slice.{Slice}
+use Rattle.cov_model.specs.Sound.{ModelView}
+use Rattle.uncovered_table.specs.declared.prepared.Part.{Part}
+use Rattle.uncovered_table.specs.declared.prepared.Prepared.{Prepared}
+use Rattle.uncovered_table.specs.declared.prepared.ColumnLines.{ColumnLines}
+use Rattle.uncovered_table.specs.Bits.{first_bit, sets_in_play}
+use Rattle.uncovered_table.specs.Digits.{joined, number_of, own_values, step_of, with_digit}
+use Rattle.uncovered_table.specs.Places.{set_at, slice_places}
+
+-- a digit as a plain number, where one number stands for none
+abbrev pub coded : ℕ → Option ℕ
+coded code = if code == 65535 then None else Some code
+
+abbrev pub digit_in : List ℕ → ℕ → Option ℕ
+digit_in digits p = coded (slice_index_or digits p 65535)
+
+-- the digits times their weights, where each is there
+abbrev pub sum_of : (ℕ → Option ℕ) → List Part → Option ℕ
+sum_of digits [] = Some 0
+sum_of digits (part ∷ parts) = joined (digits part.param) part.weight (sum_of digits parts)
+
+-- a prepared line: the set's first bit and step, and its other members by their weights
+pub record IsLineOf (m : ModelView) (slice : Slice) (column set : ℕ) (line : Prepared) (parts : List Part) : Type 0 where
+  pub order : line.begin ≤ line.end
+  pub within : line.end ≤ length parts
+  pub few : line.end ≤ line.begin + 256
+  pub first : line.first ≡ first_bit m slice set
+  pub step : line.step ≡ step_of (own_values m slice) column (set_at m set)
+  pub sums : (digits : ℕ → Option ℕ) → sum_of digits (slice_range parts line.begin line.end) ≡ number_of (own_values m slice) (with_digit digits column 0) (set_at m set)
+
+-- the prepared lines of some sets, in order
+pub record AreLines (m : ModelView) (slice : Slice) (column : ℕ) (sets : List ℕ) (lines : List Prepared) (parts : List Part) : Type 0 where
+  pub many : length lines ≡ length sets
+  pub exist : All (λ part. part.param < length m.params) parts
+  pub each : (k d : ℕ) (other : Prepared) → k < length sets → IsLineOf m slice column (slice_index_or sets k d) (slice_index_or lines k other) parts
+
+-- the parts with one more, unless it is the column
+abbrev pub with_part : ℕ → ℕ → ℕ → List Part → List Part
+with_part p column weight parts = if p == column then parts else parts ++ (record { param = p; weight = weight }) ∷ []
+
+-- the parts of a set stand behind others
+pub record ArePushed (m : ModelView) (slice : Slice) (column set : ℕ) (before parts : List Part) : Type 0 where
+  pub kept : take (length before) parts ≡ before
+  pub least : length before ≤ length parts
+  pub few : length parts ≤ length before + 256
+  pub exist : All (λ part. part.param < length m.params) before → All (λ part. part.param < length m.params) parts
+  pub sums : (digits : ℕ → Option ℕ) → sum_of digits (drop (length before) parts) ≡ number_of (own_values m slice) (with_digit digits column 0) (set_at m set)
+
+-- those of the first columns
+pub record AreColumns (m : ModelView) (slice : Slice) (count : ℕ) (columns : List ColumnLines) : Type 0 where
+  pub many : length columns ≡ count
+  pub each : (p : ℕ) (other : ColumnLines) → p < count → AreLines m slice p (sets_in_play m slice p) (slice_index_or columns p other).lines.items (slice_index_or columns p other).parts.items
+
+-- a table has a bit for each place, and prepared lines for each column
+pub record IsTable (m : ModelView) (slice : Slice) (columns : List ColumnLines) (bits : List Bool) : Type 0 where
+  pub long : length bits ≡ length (slice_places m slice)
+  pub lines : AreColumns m slice (length m.params) columns

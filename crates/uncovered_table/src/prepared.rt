@@ -1,0 +1,202 @@
+ghost use Rattle.std.specs.Prelude.{◌≡◌, ◌+◌, ◌*◌, ◌<◌, ◌≤◌, ◌==◌, ℕ, All, IfOk, IfSome, OnOk, if◌then◌else◌, length, option_map, slice_index_or, slice_range};
+ghost use Rattle.uncovered_table.specs.Prepared.{AreColumns, AreLines, ArePushed, digit_in, sum_of, with_part};
+ghost use Rattle.definitions.specs.SliceRows.{IsOfSlice};
+ghost use Rattle.uncovered_table.specs.Bits.{InPlay, held_bit, sets_in_play};
+ghost use Rattle.uncovered_table.specs.Digits.{cell_digit, own_values, step_of, with_digit};
+ghost use Rattle.uncovered_table.specs.Places.{set_at, slice_places};
+
+use crate::block::Line;
+use crate::sets::SliceSets;
+use cov_model::{Cells, ParamNo};
+use std::alloc::Global;
+use value_text::NoMemory;
+
+// The number that stands for no digit.
+pub(crate) const NO_DIGIT: u16 = u16::MAX;
+
+// A member of a set beside the column, and how far the numbers of its neighbouring digits are apart.
+#[derive(Drop, Clone, Copy)]
+pub(crate) struct Part {
+    pub(crate) param: ParamNo,
+    pub(crate) weight: u32,
+}
+
+// The line of a set in play for a column, without what the row adds: its parts are those from one place
+// to another.
+#[derive(Drop, Clone, Copy)]
+pub(crate) struct Prepared {
+    pub(crate) first: u32,
+    pub(crate) step: u32,
+    pub(crate) begin: usize,
+    pub(crate) end: usize,
+}
+
+// The lines of the sets in play for a column, in order, and their parts one behind another.
+#[derive(Drop)]
+pub(crate) struct ColumnLines {
+    pub(crate) lines: Vec<Prepared>,
+    pub(crate) parts: Vec<Part>,
+}
+
+// The parts between two places.
+#[inline]
+fn between(parts: &[Part], begin: usize, end: usize) -> &[Part]
+    requires order { begin ≤ end }
+    requires within { end ≤ length parts.now }
+    ensures { result.now ≡ slice_range parts.now begin end }
+{
+    &parts[begin..end]
+}
+
+// The number that digits make, where each is there.
+#[inline]
+pub(crate) fn sum_of(parts: &[Part], digits: &[u16]) -> Option<u64>
+    requires within { All (λ part. part.param < length digits.now) parts.now }
+    requires few { length parts.now ≤ 256 }
+    ensures { result ≡ sum_of (digit_in digits.now) parts.now }
+{
+    let mut number: u64 = 0;
+    for part in parts {
+        let digit = digits[part.param as usize];
+        if digit == NO_DIGIT {
+            return None;
+        }
+        number += u64::from(digit) * u64::from(part.weight);
+    }
+    Some(number)
+}
+
+// Puts a member behind other parts, unless it is the column.
+fn push_part(
+    parts: &mut Vec<Part>,
+    p: ParamNo,
+    column: ParamNo,
+    weight: u32,
+) -> Result<(), NoMemory>
+    ensures { OnOk result (parts.new.items ≡ with_part p column weight parts.old.items) }
+{
+    if p != column {
+        parts.push(Part { param: p, weight })?;
+    }
+    Ok(())
+}
+
+// The step of a column: the weight of its digit, at the column itself.
+fn step_at(p: ParamNo, column: ParamNo, weight: u32, step: u32) -> u32
+    ensures { result ≡ (if p == column then weight else step) }
+{
+    if p == column { weight } else { step }
+}
+
+impl<'a> SliceSets<'a> {
+    // Puts the parts of a set in play behind those of others, and gives the step of the column.
+    fn push_parts(&self, set: u32, column: ParamNo, parts: &mut Vec<Part>) -> Result<u32, NoMemory>
+        requires set { InPlay self.now.model self.now.slice column set }
+        ensures step { IfOk result (λ step. step ≡ step_of (own_values self.now.model self.now.slice) column (set_at self.now.model set)) }
+        ensures parts { OnOk result (ArePushed self.now.model self.now.slice column set parts.old.items parts.new.items) }
+    {
+        self.assert_invariant();
+        let members = self.part.members(set);
+        let mut weight: u32 = 1;
+        let mut step: u32 = 0;
+        let mut left = members.len();
+        while left > 0 {
+            left -= 1;
+            let p = members[left];
+            push_part(parts, p, column, weight)?;
+            step = step_at(p, column, weight, step);
+            weight *= self.part.value_count(p);
+        }
+        Ok(step)
+    }
+
+    // The prepared lines of a column.
+    pub(crate) fn column_lines(
+        &self,
+        alloc: Global,
+        column: ParamNo,
+    ) -> Result<ColumnLines, NoMemory>
+        requires { column < length self.now.model.params }
+        ensures { IfOk result (λ made. AreLines self.now.model self.now.slice column (sets_in_play self.now.model self.now.slice column) made.lines.items made.parts.items) }
+    {
+        let mut lines = Vec::new(alloc);
+        let mut parts = Vec::new(alloc);
+        let in_play = self.in_play(column);
+        for set in in_play {
+            let begin = parts.len();
+            let step = self.push_parts(*set, column, &mut parts)?;
+            let line = Prepared {
+                first: self.block(*set).first,
+                step,
+                begin,
+                end: parts.len(),
+            };
+            lines.push(line)?;
+        }
+        Ok(ColumnLines { lines, parts })
+    }
+
+    // The prepared lines of each column.
+    pub(crate) fn all_lines(&self, alloc: Global) -> Result<Vec<ColumnLines>, NoMemory>
+        ensures { IfOk result (λ columns. AreColumns self.now.model self.now.slice (length self.now.model.params) columns.items) }
+    {
+        self.assert_invariant();
+        let mut columns = Vec::new(alloc);
+        for p in 0..self.model().params().len() {
+            let made = self.column_lines(alloc, p as ParamNo)?;
+            columns.push(made)?;
+        }
+        Ok(columns)
+    }
+
+    // Puts the digits of a row's values.
+    pub(crate) fn put_digits(&self, cells: &Cells, into: &mut [u16])
+        requires cells { IsOfSlice self.now.model self.now.slice cells.now }
+        requires none { All (λ digit. digit ≡ 65535) into.old }
+        requires room { length self.now.model.params ≤ length into.old }
+        ensures value { digit_in into.new ≡ cell_digit (own_values self.now.model self.now.slice) cells.now }
+        ensures long { length into.new ≡ length into.old }
+    {
+        self.assert_invariant();
+        let count = cells.len() as ParamNo;
+        for p in 0..count {
+            if let Some(digit) = self.cell_digit(cells, p) {
+                into[p as usize] = digit;
+            }
+        }
+    }
+
+    // The bits of the tuples of a set in play that cells contain, for the digits of the column.
+    #[inline]
+    pub(crate) fn prepared_line(
+        &self,
+        lines: &ColumnLines,
+        k: usize,
+        set: u32,
+        column: ParamNo,
+        cells: &Cells,
+        digits: &[u16],
+    ) -> Option<Line>
+        requires set { InPlay self.now.model self.now.slice column set }
+        requires cells { IsOfSlice self.now.model self.now.slice cells.now }
+        requires digits { digit_in digits.now ≡ cell_digit (own_values self.now.model self.now.slice) cells.now }
+        requires long { length self.now.model.params ≤ length digits.now }
+        requires k { k < length (sets_in_play self.now.model self.now.slice column) }
+        requires own { set ≡ slice_index_or (sets_in_play self.now.model self.now.slice column) k 0 }
+        requires lines { AreLines self.now.model self.now.slice column (sets_in_play self.now.model self.now.slice column) lines.now.lines.items lines.now.parts.items }
+        ensures value { (d : ℕ) → held_bit self.now.model self.now.slice (with_digit (cell_digit (own_values self.now.model self.now.slice) cells.now) column d) set ≡ option_map (λ line. line.first + d * line.step) result }
+        ensures within { IfSome result (λ line. (d : ℕ) → d < length (own_values self.now.model self.now.slice column) → line.first + d * line.step < length (slice_places self.now.model self.now.slice)) }
+    {
+        self.assert_invariant();
+        let _ = cells;
+        let line = lines.lines[k];
+        let parts = between(lines.parts.as_slice(), line.begin, line.end);
+        match sum_of(parts, digits) {
+            Some(sum) => Some(Line {
+                first: line.first + sum as u32,
+                step: line.step,
+            }),
+            None => None,
+        }
+    }
+}
