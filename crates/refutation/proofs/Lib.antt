@@ -1,4 +1,5 @@
 pub mod FileLemmas
+pub mod HolderLemmas
 pub mod LeafLemmas
 pub mod LineLemmas
 pub mod PairLemmas

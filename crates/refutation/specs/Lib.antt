@@ -1,4 +1,5 @@
 pub mod Checking
+pub mod Holders
 pub mod Lines
 pub mod Proofs
 pub mod Reading

@@ -13,6 +13,7 @@
 mod checking;
 mod cutting;
 mod fault;
+mod holders;
 mod numeral;
 mod omissions;
 mod pairs;

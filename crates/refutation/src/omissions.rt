@@ -2,9 +2,11 @@ ghost use Rattle.std.specs.Prelude.{◌≡◌, ◌==◌, ◌^◌, ◌<◌, ◌++
 ghost use Rattle.std.specs.Iterator.Adapters.{IterYieldsInOrder};
 ghost use Rattle.std.specs.Slice.Iter.{iter_rest};
 ghost use Rattle.refutation.specs.declared.omissions.Omission.{Omission};
+ghost use Rattle.refutation.specs.Holders.{ListsHolders, NeverFalls};
 
+use crate::holders::Holders;
 use crate::token::TreeBuf;
-use cov_model::Tuple;
+use cov_model::{ParamNo, Tuple, ValueNo};
 use std::alloc::Global;
 use std::marker::Model;
 use std::slice::Iter;
@@ -42,19 +44,25 @@ pub struct Omission {
     pub tree: TreeBuf,
 }
 
-/// A proof: its format, and the omitted tuples with their trees, in order. Contracts see both.
+/// A proof: its format, and the omitted tuples with their trees, in order. Contracts see both. For each
+/// pair of a parameter and a value it keeps the numbers of the omissions whose tuples have it.
 #[derive(Drop)]
 pub struct Omissions {
+    alloc: Global,
     format: ProofForm,
     listed: Vec<Omission>,
+    holders: Holders,
 }
 
 impl Model for Omissions {
+    ghost use Rattle.refutation.specs.Holders.{AreHolders};
     ghost use Rattle.refutation.specs.Proofs.{ProofView};
 
     ghost Value = { ProofView };
 
     ghost view = { λ a. record { form = a.format; omissions = a.listed.items } };
+
+    ghost invariant = { λ a. AreHolders a.listed.items a.holders };
 }
 
 impl Omissions {
@@ -63,8 +71,10 @@ impl Omissions {
         ensures { result ≡ record { form = form; omissions = [] } }
     {
         Omissions {
+            alloc,
             format: form,
             listed: Vec::new(alloc),
+            holders: Holders::new(alloc),
         }
     }
 
@@ -78,8 +88,10 @@ impl Omissions {
     {
         let listed = Vec::with_capacity(alloc, count)?;
         Ok(Omissions {
+            alloc,
             format: form,
             listed,
+            holders: Holders::new(alloc),
         })
     }
 
@@ -127,15 +139,29 @@ impl Omissions {
         self.listed.iter()
     }
 
+    /// Numbers, counted from 1 and never falling, among which is that of each omission whose tuple has
+    /// the pair. Takes no memory.
+    pub fn numbers_with(&self, p: ParamNo, v: ValueNo) -> &[u32]
+        ensures rising { NeverFalls result.now }
+        ensures each { ListsHolders self.now.omissions p v result.now }
+    {
+        self.holders.list(p, v)
+    }
+
     /// Adds an omission at the end.
     ///
     /// # Errors
     ///
-    /// `NoMemory` where there is no room; the proof is then as before.
+    /// `NoMemory` where there is no room, or no number of 32 bits is left; the proof is then as before.
     pub fn push(&mut self, omission: Omission) -> Result<(), NoMemory>
         ensures ok { OnOk result (self.new ≡ record { form = self.old.form; omissions = self.old.omissions ++ omission ∷ [] }) }
         ensures err { OnErr result (self.new ≡ self.old) }
     {
+        let Ok(number) = u32::try_from(self.listed.len() + 1) else {
+            return Err(NoMemory);
+        };
+        self.holders
+            .add(self.alloc, omission.tuple.as_slice(), number)?;
         self.listed.push(omission)?;
         Ok(())
     }
