@@ -29,7 +29,6 @@ pub mod ParametersRead
 pub mod TokensRead
 pub mod TranslatedTrees
 pub mod RunEnds
-pub mod PutPieces
 pub mod Units
 pub mod Arrows
 pub mod Codes

@@ -15,7 +15,6 @@ mod laws;
 mod line;
 mod name_set;
 mod parameter;
-mod put;
 mod relation;
 mod run;
 mod scope;

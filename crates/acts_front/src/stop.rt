@@ -6,9 +6,8 @@ ghost use Rattle.acts_front.specs.Codes.{acts_code, acts_text};
 ghost use Rattle.acts_front.specs.Stops.{end_status, end_text, line_of, status_of};
 
 use crate::code::{ActsCode, ActsFault};
-use crate::put::put_pieces;
 use itoa::Buffer;
-use outside_io::{Sink, WriteAnswer};
+use outside_io::{Sink, WriteAnswer, put_pieces};
 
 /// The most bytes that the file may have.
 pub(crate) const MOST_MODEL_BYTES: usize = 4_194_304;

@@ -1,5 +1,5 @@
 pub mod Loading
 pub mod PutLines
 pub mod PutPairs
-pub mod PutPieces
+pub mod PieceSums
 pub mod PutTold

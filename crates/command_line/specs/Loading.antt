@@ -1,5 +1,5 @@
 -- Why the reading of a file may stop. (This project's rules.)
-use Rattle.std.specs.Prelude.{◌≡◌, ◌≢◌, ℕ, ◌<◌, ◌≤◌, List, length, Option, Some, IsSomeAnd}
+use Rattle.std.specs.Prelude.{◌≡◌, ◌≢◌, ℕ, ◌<◌, ◌≤◌, List, length, Option, IsSomeAnd}
 use Rattle.cov_model.specs.Sound.{ModelView}
 use Rattle.definitions.specs.Limits.{ModelFile, most_bytes}
 use Rattle.model_lex.specs.declared.note.Note.{Note}

@@ -3,7 +3,7 @@
 //! - `setting_of` says what one word sets.
 //! - `read_whole` reads a file of a kind within its limit of bytes, and `load_model` the model of a model file.
 //! - `Stop` is why a run ended before its output was written whole, with its status and its line.
-//! - `tell` writes what a run tells on standard error, and `put_pieces` and `put_pairs` are its pieces.
+//! - `tell` writes what a run tells on standard error, and `put_pairs` a tuple.
 //!
 //! But for `read_whole` and `load_model`, no call takes memory.
 #![tactic(auto)]
@@ -17,7 +17,7 @@ mod told;
 
 pub use files::{FileKind, FileNames};
 pub use load::{load_model, read_whole};
-pub use put::{put_pairs, put_pieces};
+pub use put::put_pairs;
 pub use setting::{Setting, Shuffle, is_named, setting_of};
 pub use stop::{Quantity, Stop};
 pub use told::tell;

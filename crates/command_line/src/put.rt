@@ -1,26 +1,12 @@
 ghost use Rattle.std.specs.Prelude.{map};
-ghost use Rattle.std.specs.List.{flat_map, join_with_byte};
+ghost use Rattle.std.specs.List.{join_with_byte};
 ghost use Rattle.outside_io.specs.Puts.{Puts, CountsFaults};
 ghost use Rattle.definitions.specs.Pairs.{pair_text, pairs_text};
 ghost use Rattle.command_line.specs.Pieces.{pair_behind};
 
 use cov_model::{ParamNo, ValueNo};
 use itoa::Buffer;
-use outside_io::{Sink, WriteAnswer};
-
-/// Writes pieces one behind another, up to the first fault. Takes no memory.
-pub fn put_pieces<E: Sink>(sink: &mut E, pieces: &[&str]) -> WriteAnswer
-    ensures puts { Puts result (E.written sink.old) (E.written sink.new) (flat_map (λ piece. piece.now) pieces.now) }
-    ensures counts { CountsFaults result (E.faults sink.old) (E.faults sink.new) }
-{
-    for piece in pieces {
-        match sink.put(piece.as_bytes()) {
-            WriteAnswer::Done => {}
-            WriteAnswer::Failed => return WriteAnswer::Failed,
-        }
-    }
-    WriteAnswer::Done
-}
+use outside_io::{Sink, WriteAnswer, put_pieces};
 
 /// Writes the pair at a place of a list, behind a space unless it is the first.
 fn put_pair<E: Sink>(sink: &mut E, place: usize, pair: (ParamNo, ValueNo)) -> WriteAnswer

@@ -7,11 +7,11 @@ ghost use Rattle.command_line.specs.Pieces.{row_line, spent_opening};
 ghost use Rattle.command_line.specs.Stops.{counted, line_of, measured, rows_line, status_of};
 
 use crate::files::{FileKind, FileNames};
-use crate::put::{put_pairs, put_pieces};
+use crate::put::put_pairs;
 use cov_model::{ParamNo, Tuple};
 use itoa::Buffer;
 use model_lex::{Diag, LimitName, ModelFault};
-use outside_io::{Sink, WriteAnswer};
+use outside_io::{Sink, WriteAnswer, put_pieces};
 use row_text::RowsFault;
 use tuple_index::PlanFault;
 use value_text::NoMemory;

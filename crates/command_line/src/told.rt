@@ -6,11 +6,10 @@ ghost use Rattle.command_line.specs.Told.{end_text, line_behind, row_notes_text,
 ghost use Rattle.command_line.specs.Stops.{line_of};
 
 use crate::files::FileNames;
-use crate::put::put_pieces;
 use crate::stop::Stop;
 use itoa::Buffer;
 use model_lex::Note;
-use outside_io::{Sink, WriteAnswer};
+use outside_io::{Sink, WriteAnswer, put_pieces};
 
 /// Writes the line of a seed that no word gave.
 fn put_seed<E: Sink>(seed: Option<u64>, sink: &mut E) -> WriteAnswer

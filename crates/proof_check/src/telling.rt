@@ -6,10 +6,10 @@ ghost use Rattle.definitions.specs.Verdict as defined;
 ghost use Rattle.proof_check.specs.Runs.{answer_status, answer_text};
 
 use crate::verdict::Verdict;
-use command_line::{put_pairs, put_pieces};
+use command_line::put_pairs;
 use cov_model::Tuple;
 use itoa::Buffer;
-use outside_io::{Sink, WriteAnswer};
+use outside_io::{Sink, WriteAnswer, put_pieces};
 
 /// Writes the line of an accepted report and proof.
 fn put_accepted<O: Sink>(rows: u32, omissions: u32, out: &mut O) -> WriteAnswer

@@ -3,7 +3,7 @@ use Rattle.std.specs.Prelude.{slice_index_or}
 use Rattle.model_lex.specs.declared.note.Note.{Note}
 use Rattle.model_lex.specs.declared.note.NoteCode.TheVariants.{RepeatedValueName}
 use Rattle.command_line.specs.Told.{line_behind}
-use Rattle.command_line.proofs.PutPieces.{Puts-failed_at, Puts-piece}
+use Rattle.outside_io.proofs.PieceLemmas.{Puts-failed_at, Puts-piece}
 use Rattle.command_line.proofs.told.put_notes.Goals as goal
 
 abbrev no_note : Note

@@ -1,9 +1,0 @@
-use Rattle.std.proofs.Common.{[]}
-use Rattle.command_line.proofs.PutPieces.{Puts-failed_at}
-use Rattle.command_line.proofs.put.put_pieces.Goals as goal
-
-pub returns-in-Failed-clause-puts : goal.returns-in-Failed-clause-puts
-returns-in-Failed-clause-puts g c =
-    Puts-failed_at (λ piece. piece.now) c.args.pieces.now c.loop-piece.piece-index (record { ref_ptr = (0, 0); now = [] }) c.as_bytes.result.now
-    (g.E.Sink.written c.args.sink.now) (g.E.Sink.written c.loop-piece.sink) (g.E.Sink.written c.put.new.self)
-    c.loop-piece-test.true c.as_bytes.ensures.value c.loop-piece.invariant.puts c.in-Failed.ensures.puts
