@@ -7,3 +7,4 @@ pub mod DemandLemmas
 pub mod LeftLemmas
 pub mod VerdictLemmas
 pub mod FaultLemmas
+pub mod OneCheck
