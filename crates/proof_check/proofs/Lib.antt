@@ -7,8 +7,4 @@ pub mod DemandLemmas
 pub mod LeftLemmas
 pub mod VerdictLemmas
 pub mod FaultLemmas
-pub mod ReadLemmas
-pub mod RunEnds
-pub mod WordLemmas
-pub mod WordOptions
-pub mod WordRanges
+pub mod OneCheck

@@ -1,7 +1,4 @@
 pub mod Faults
 pub mod Checks
 pub mod Left
-pub mod RunSteps
-pub mod Runs
-pub mod WordSteps
-pub mod Words
+pub mod Laws
