@@ -110,7 +110,8 @@ constraint_written tokens constraint is all = by (list_any is_arrow tokens) is
     place : ℕ
     place = position_or_len is_arrow tokens
 
-    premised : (premise pred : Option Pred) → disj_of most_open (before_first is_arrow tokens) ≡ premise → disj_of most_open (after_first is_arrow tokens) ≡ pred → implied premise pred ≡ Some constraint
+    premised : (premise pred : Option Pred) → disj_of most_open (before_first is_arrow tokens) ≡ premise → disj_of most_open (after_first is_arrow tokens) ≡ pred
+        → implied premise pred ≡ Some constraint
         → terms_pass is_all_written constraint ≡ true
     premised None pred one two e = absurd (cc)
     premised (Some premise) None one two e = absurd (cc)

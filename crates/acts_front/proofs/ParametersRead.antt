@@ -182,7 +182,8 @@ text_back text symbolic =
     (record { separators = one (λ n. list_any (is_byte 44) n ≡ false) text (symbolic_lacks text symbolic 44 refl); aliases = one (λ n. list_any (is_byte 124) n ≡ false) text (symbolic_lacks text symbolic 124 refl); weight = refl }))
 
 -- one that isn't known is added
-text_added : (order : OrderWord) (fold : Bool) (line : ℕ) (params : List Param) (known : List (List ℕ)) (values : List Value) (texts : List (List ℕ)) (text : List ℕ) → IsSymbolic text → is_known fold texts text ≡ false
+text_added : (order : OrderWord) (fold : Bool) (line : ℕ) (params : List Param) (known : List (List ℕ)) (values : List Value) (texts : List (List ℕ)) (text : List ℕ)
+    → IsSymbolic text → is_known fold texts text ≡ false
     → add_piece (read_as order fold) line params known (record { values = values; known = texts; notes = [] }) text
     ≡ Ok (record { values = values ++ one_named text ∷ []; known = texts ++ folded fold text ∷ []; notes = [] })
 text_added order fold line params known values texts text symbolic new =
@@ -230,7 +231,8 @@ texts_apart fold Boolean value other one two apart = by (is_same_text fold (trut
     by false is = refl
     by true is = absurd (false≢true (sym apart ∙ truths_same value other one two (truths_apart fold (is_true value) (is_true other) is)))
 
-none_same : (fold : Bool) (kind : Kind) (value : List ℕ) (earlier : List (List ℕ)) → is_value kind value ≡ true → list_all (is_value kind) earlier ≡ true → list_any (is_same_text (folds fold kind) value) earlier ≡ false
+none_same : (fold : Bool) (kind : Kind) (value : List ℕ) (earlier : List (List ℕ)) → is_value kind value ≡ true → list_all (is_value kind) earlier ≡ true
+    → list_any (is_same_text (folds fold kind) value) earlier ≡ false
     → list_any (is_same_text fold (value_text kind value)) (map (value_text kind) earlier) ≡ false
 none_same fold kind value [] one all apart = refl
 none_same fold kind value (other ∷ earlier) one all apart =

@@ -30,7 +30,8 @@ module _ (fold : Bool) (name : List ℕ) where
   abbrev pub place_in : List (ℕ × Parameter) → ℕ
   place_in params = position_or_len is_called params
 
-  pub kind_at : (params : List (ℕ × Parameter)) (kind : Kind) → kind_named (scope_of fold (map declared_as params)) name ≡ Some kind → (get_or params (place_in params) no_found).1.kind ≡ kind
+  pub kind_at : (params : List (ℕ × Parameter)) (kind : Kind) → kind_named (scope_of fold (map declared_as params)) name ≡ Some kind
+      → (get_or params (place_in params) no_found).1.kind ≡ kind
   kind_at [] kind is = absurd (cc)
   kind_at (found ∷ params) kind is = by (is_called found) refl is (kind_at params kind)
     where
@@ -62,7 +63,8 @@ module _ (fold : Bool) (name : List ℕ) where
         as_param = position-map param_is (λ param. is_same_text fold name param.name) params ∙ found;
       }
 
-  pub kind_declared : (params : List (ℕ × Parameter)) (kind : Kind) → kind_named (scope_of fold (map declared_as params)) name ≡ Some kind → is_declared (scope_of fold (map declared_as params)) name ≡ true
+  pub kind_declared : (params : List (ℕ × Parameter)) (kind : Kind) → kind_named (scope_of fold (map declared_as params)) name ≡ Some kind
+      → is_declared (scope_of fold (map declared_as params)) name ≡ true
   kind_declared [] kind is = absurd (cc)
   kind_declared (found ∷ params) kind is = by (is_called found) refl is (kind_declared params kind)
     where

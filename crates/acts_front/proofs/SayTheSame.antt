@@ -70,7 +70,8 @@ with_test any lines = if any then Ok lines else Err (1, A8)
 are_lines : (fold : Bool) (bytes : List ℕ) (lines : List Line) → acts fold bytes ≡ Ok lines → AreLines fold lines
 are_lines fold bytes lines is = by (lines_give Outside (scope_of fold []) (numbered_lines bytes)) refl is
   where
-    tested : (others : List Line) (any : Bool) → list_any is_parameter others ≡ any → with_test any others ≡ Ok lines → lines_give Outside (scope_of fold []) (numbered_lines bytes) ≡ Ok others → AreLines fold lines
+    tested : (others : List Line) (any : Bool) → list_any is_parameter others ≡ any → with_test any others ≡ Ok lines
+        → lines_give Outside (scope_of fold []) (numbered_lines bytes) ≡ Ok others → AreLines fold lines
     tested others false any e found = absurd (cc)
     tested others true any e found =
         let known = lines_given Outside (scope_of fold []) (numbered_lines bytes) others found in
@@ -265,7 +266,8 @@ faithful fold bytes text is = by (acts fold bytes) refl is
     by (Ok lines) declares e = subst (IsFaithful fold bytes) (ok_is e) (record { lines = lines; declares = declares; says = translations_say_the_same fold bytes lines declares })
 
 -- and with what a run wrote
-pub written_faithful : (fold : Bool) (held : Option (List ℕ)) (after : Option (Option (List ℕ))) → IsSomeAnd held (IsTranslated fold (λ text. IfSome after (λ file. file ≡ Some text))) → IsSomeAnd held (λ bytes. IfSome after (λ file. IsSomeAnd file (IsFaithful fold bytes)))
+pub written_faithful : (fold : Bool) (held : Option (List ℕ)) (after : Option (Option (List ℕ)))
+    → IsSomeAnd held (IsTranslated fold (λ text. IfSome after (λ file. file ≡ Some text))) → IsSomeAnd held (λ bytes. IfSome after (λ file. IsSomeAnd file (IsFaithful fold bytes)))
 written_faithful fold None after is = is
 written_faithful fold (Some bytes) None is = tt
 written_faithful fold (Some bytes) (Some file) is = subst (λ f. IsSomeAnd f (IsFaithful fold bytes)) (sym is.holds) (faithful fold bytes is.text is.translated)

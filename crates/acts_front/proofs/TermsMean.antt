@@ -96,7 +96,8 @@ scaled_order one two x y = sym (int_cmp_is (signed one (x * 10 ^ 9)) (signed two
     by Equal is = scaled_same one two x y is
     by Greater is = scaled_less two one y x is
 
-wholes_compared : (rel : Rel) (a b : List ℕ) → is_whole a ≡ true → is_whole b ≡ true → stands_in rel (int_cmp (number_read a) (number_read b)) ≡ stands_in rel (int_cmp (whole_of a) (whole_of b))
+wholes_compared : (rel : Rel) (a b : List ℕ) → is_whole a ≡ true → is_whole b ≡ true
+    → stands_in rel (int_cmp (number_read a) (number_read b)) ≡ stands_in rel (int_cmp (whole_of a) (whole_of b))
 wholes_compared rel a b one two =
     ap (λ n. stands_in rel (int_cmp n (number_read b))) (ap number_in (whole_is_number a one))
     ∙ (ap (λ n. stands_in rel (int_cmp (signed (begins_with 45 a) (digits_value 10 (without_minus a) * 10 ^ 9)) n)) (ap number_in (whole_is_number b two))

@@ -180,7 +180,8 @@ module _ (line : ℕ) where
   Reads token text tail = tokens_in line 0 (text ++ tail) ≡ token_before line (Ok token) (tokens_in line 0 tail)
 
   one_read :
-      (token : RuleToken) (b : ℕ) (more tail : List ℕ) → is_blank b ≡ false → (kind : TokenKind) → first_token (b ∷ (more ++ tail)) ≡ Ok (kind, suc (length more)) → meant kind (b ∷ more) ≡ Ok token
+      (token : RuleToken) (b : ℕ) (more tail : List ℕ) → is_blank b ≡ false → (kind : TokenKind) → first_token (b ∷ (more ++ tail)) ≡ Ok (kind, suc (length more))
+      → meant kind (b ∷ more) ≡ Ok token
       → Reads token (b ∷ more) tail
   one_read token b more tail dense kind first means =
       let step : tokens_in line 0 (b ∷ (more ++ tail)) ≡ token_before line (meant kind (b ∷ take (length more) (more ++ tail))) (tokens_in line (suc (length more) - 1) (more ++ tail)) = rw (dense, first) refl in
@@ -192,7 +193,8 @@ module _ (line : ℕ) where
 
   word_read :
       (token : RuleToken) (b : ℕ) (more tail : List ℕ) → is_blank b ≡ false → first_token (b ∷ (more ++ tail)) ≡ lex.word_token (first_word (b ∷ (more ++ tail)))
-      → list_all is_word_byte (b ∷ more) ≡ true → lex.word_token (b ∷ more) ≡ Ok (kinds.Word, suc (length more)) → meant kinds.Word (b ∷ more) ≡ Ok token → Ends tail → Reads token (b ∷ more) tail
+      → list_all is_word_byte (b ∷ more) ≡ true → lex.word_token (b ∷ more) ≡ Ok (kinds.Word, suc (length more)) → meant kinds.Word (b ∷ more) ≡ Ok token → Ends tail
+      → Reads token (b ∷ more) tail
   word_read token b more tail dense first all known means ends =
       let len : prefix_len is_word_byte (b ∷ (more ++ tail)) ≡ length (b ∷ more) = run_prefix is_word_byte (b ∷ more) tail all (ends_word ends) in
       let run : first_word (b ∷ (more ++ tail)) ≡ b ∷ more = ap (λ n. take n (b ∷ (more ++ tail))) len ∙ take-append_seam (b ∷ more) tail in

@@ -187,11 +187,13 @@ module _ (line : ℕ) where
   abbrev Spells : ℕ → List Token → Pred → Type 0
   Spells room tokens pred = (rest : List LineToken) → IsUnit room (rule_tokens tokens ++ rest) (tree_at line pred) rest
 
-  seam : (front : List Token) (token : Token) (back : List Token) (rest : List LineToken) → rule_tokens (front ++ token ∷ back) ++ rest ≡ rule_tokens front ++ at line (rule_token token) ∷ (rule_tokens back ++ rest)
+  seam : (front : List Token) (token : Token) (back : List Token) (rest : List LineToken)
+      → rule_tokens (front ++ token ∷ back) ++ rest ≡ rule_tokens front ++ at line (rule_token token) ∷ (rule_tokens back ++ rest)
   seam front token back rest =
       ap (λ list. list ++ rest) (map-append (λ t. at line (rule_token t)) front (token ∷ back)) ∙ append_assoc (rule_tokens front) (rule_tokens (token ∷ back)) rest
 
-  operand_spells : (room : ℕ) (name : List ℕ) (rel : Rel) (token : Token) (operand : Operand) → operand_of token ≡ Some operand → Spells room (Name name ∷ Relation rel ∷ token ∷ []) (Compares name rel operand)
+  operand_spells : (room : ℕ) (name : List ℕ) (rel : Rel) (token : Token) (operand : Operand) → operand_of token ≡ Some operand
+      → Spells room (Name name ∷ Relation rel ∷ token ∷ []) (Compares name rel operand)
   operand_spells room name rel (Whole text) operand is rest =
       let same : OfWhole text ≡ operand = same_Some _ _ is in
       subst (λ o. IsUnit room (rule_tokens (Name name ∷ Relation rel ∷ Whole text ∷ []) ++ rest) (tree_at line (Compares name rel o)) rest) same value_is
@@ -219,7 +221,8 @@ module _ (line : ℕ) where
 
   -- conjunctions and disjunctions of what units spell
   module _ (room : ℕ) (read : List Token → Option Pred) (spells : (part : List Token) (pred : Pred) → read part ≡ Some pred → Spells room part pred) where
-    units_spell : (list : List (List Token)) (preds : Preds) → 0 < length list → preds_of (map read list) ≡ Some preds → (rest : List LineToken) → AreUnits room (rule_tokens (glue And list) ++ rest) (trees_at line preds) rest
+    units_spell : (list : List (List Token)) (preds : Preds) → 0 < length list → preds_of (map read list) ≡ Some preds → (rest : List LineToken)
+        → AreUnits room (rule_tokens (glue And list) ++ rest) (trees_at line preds) rest
     units_spell [] preds some is rest = absurd (omega (arith, some))
     units_spell (part ∷ []) preds some is rest =
         let first = spells_first read part [] preds is in
@@ -289,7 +292,8 @@ module _ (line : ℕ) where
         inside : List Token
         inside = take (length tokens - 1) tokens
 
-        by : (closes : Bool) → is_close (slice_index_or tokens (length tokens - 1) Open) ≡ closes → (if closes then disj_in read inside else None) ≡ Some pred → IsUnit (suc room) (rule_tokens (Open ∷ tokens) ++ rest) (tree_at line pred) rest
+        by : (closes : Bool) → is_close (slice_index_or tokens (length tokens - 1) Open) ≡ closes → (if closes then disj_in read inside else None) ≡ Some pred
+            → IsUnit (suc room) (rule_tokens (Open ∷ tokens) ++ rest) (tree_at line pred) rest
         by false closes none = absurd (cc)
         by true closes found =
             let disj = disj_is_read inside pred found in
