@@ -18,3 +18,4 @@ pub mod Paths
 pub mod TuplePairs
 pub mod SolverTrees
 pub mod LeastRules
+pub mod Citing

@@ -1,5 +1,5 @@
 -- What a refutation is given, and the trees that it makes. (This project's rule.)
-use Rattle.std.specs.Prelude.{◌≡◌, ℕ, ◌<◌, ◌≤◌, ◌^◌, Bool, true, false, ◌&&◌, not, List, [], ◌∷◌, ◌++◌, length, map, Option, slice_index_or, if◌then◌else◌}
+use Rattle.std.specs.Prelude.{◌≡◌, ℕ, ◌+◌, ◌<◌, ◌≤◌, ◌^◌, Bool, true, false, ◌&&◌, not, List, [], ◌∷◌, ◌++◌, length, map, Option, Some, None, slice_index_or, if◌then◌else◌}
 use Rattle.std.specs.List.{list_all}
 use Rattle.cov_model.specs.declared.slice.Slice.{Slice}
 use Rattle.cov_model.specs.declared.slice.Slice.TheVariants.{Positive, Negative}
@@ -51,6 +51,11 @@ pub record IsRefuter (r : RefuterView) (slice : Slice) : Type 0 where
 -- an earlier tuple is contained in a path and gives the tuple's negative values
 abbrev pub is_cited : RefuterView → List (Option ℕ) → List (Option ℕ) → Bool
 is_cited r path other = contains path other && list_all (is_assigned other) (negatives r.model r.tuple)
+
+-- the numbers of the earlier tuples that give a parameter the value are among these
+abbrev pub ListsGiving : RefuterView → ℕ → ℕ → List ℕ → Type 0
+ListsGiving r q v numbers =
+    (i : ℕ) → i < length r.earlier → slice_index_or (slice_index_or r.earlier i []) q None ≡ Some v → is_among numbers (i + 1) ≡ true
 
 -- a path of a tree for the tuple, without a negative value outside it
 pub record IsPath (r : RefuterView) (path : List (Option ℕ)) : Type 0 where

@@ -8,9 +8,10 @@ ghost use Rattle.cov_model.specs.Valid.{negatives};
 ghost use Rattle.definitions.specs.Pairs.{cells_of};
 ghost use Rattle.definitions.specs.Refutation.{is_omission_leaf};
 ghost use Rattle.definitions.specs.Search.{constrained_params};
+ghost use Rattle.refutation.specs.Holders.{NeverFalls};
 ghost use Rattle.refutation.specs.Proofs.{format_of};
 ghost use Rattle.feasibility.specs.Live.{AreRules, no_on};
-ghost use Rattle.feasibility.specs.Refuting.{IsRefuter, TriesPositive, earlier_tuples, is_cited};
+ghost use Rattle.feasibility.specs.Refuting.{IsRefuter, ListsGiving, TriesPositive, earlier_tuples, is_cited};
 ghost use Rattle.feasibility.specs.Tree.{ListsValues, constrained_at, undecided};
 
 use crate::contained::{contains_tuple, copy_tuple, gives_param};
@@ -174,6 +175,48 @@ impl<'t> Refuter<'t> {
     {
         let tuple = &self.omissions.as_slice()[i as usize].tuple;
         contains_tuple(cells, tuple) && self.gives_negative(tuple)
+    }
+
+    // Whether the omission of a number is a leaf on the cells, in such a proof.
+    fn is_citation(&self, number: u32, cells: &Cells) -> bool
+        requires form { self.now.format ≡ 2 }
+        requires long { length cells.now ≡ length self.now.model.params }
+        ensures { result ≡ is_omission_leaf self.now.model self.now.format self.now.earlier self.now.tuple cells.now number }
+    {
+        if number == 0 || number as usize > self.omissions.len() {
+            return false;
+        }
+        self.is_cited(number - 1, cells)
+    }
+
+    // The first of these numbers whose omission is a leaf on the cells.
+    pub(crate) fn first_cited_of(&self, numbers: &[u32], cells: &Cells) -> Option<u32>
+        requires form { self.now.format ≡ 2 }
+        requires long { length cells.now ≡ length self.now.model.params }
+        ensures { result ≡ find (is_omission_leaf self.now.model self.now.format self.now.earlier self.now.tuple cells.now) numbers.now }
+    {
+        for number in numbers {
+            if self.is_citation(*number, cells) {
+                return Some(*number);
+            }
+        }
+        None
+    }
+
+    // Numbers that never fall, among which are those of the omissions whose tuples have the pair.
+    pub(crate) fn numbers_with(&self, q: ParamNo, v: ValueNo) -> &'t [u32]
+        requires { q < length self.now.model.params }
+        ensures rising { NeverFalls result.now }
+        ensures each { ListsGiving self.now q v result.now }
+    {
+        self.omissions.numbers_with(q, v)
+    }
+
+    // The form of the proof.
+    pub(crate) fn form(&self) -> ProofForm
+        ensures { self.now.format ≡ format_of result }
+    {
+        self.omissions.form()
     }
 
     // The least number of such an omission.

@@ -1,8 +1,9 @@
-use Rattle.std.proofs.Common.{◌∙◌, None, get_or, set, ap}
-use Rattle.feasibility.proofs.Nodes.{none_of, set_clear}
+use Rattle.std.proofs.Common.{◌∙◌, sym, ap}
+use Rattle.refutation.specs.Proofs.{format_of}
+use Rattle.definitions.specs.Completion.{with_value}
+use Rattle.feasibility.proofs.Paths.{none_cited}
 use Rattle.feasibility.proofs.refuter.Refuter.first_cited_with.Goals as goal
 
-pub returns-clause-same : goal.returns-clause-same
-returns-clause-same c =
-    c.clear_cell.ensures ∙ ap (λ cells. set cells c.args.q None) c.set_cell.ensures
-    ∙ set_clear c.args.cells.now c.args.q c.args.v (none_of (get_or c.args.cells.now c.args.q None) c.requires.free)
+pub returns-in-One-clause-least : goal.returns-in-One-clause-least
+returns-in-One-clause-least c =
+    sym (none_cited c.args.self.now (with_value c.args.cells.now c.args.q c.args.v) (c.form.ensures ∙ ap format_of c.in-One.is))

@@ -1,0 +1,7 @@
+use Rattle.std.proofs.Common.{◌≡◌, None, find, take}
+use Rattle.definitions.specs.Refutation.{is_omission_leaf}
+use Rattle.feasibility.proofs.refuter.Refuter.first_cited_of.Given as goal
+
+-- none of the omissions before this one is a leaf
+abbrev pub invariant-loop-number : goal.invariant-loop-number
+invariant-loop-number l = find (is_omission_leaf l.self.model l.self.format l.self.earlier l.self.tuple l.cells) (take l.number-index l.numbers) ≡ None
