@@ -8,3 +8,8 @@ pub mod LeftLemmas
 pub mod VerdictLemmas
 pub mod FaultLemmas
 pub mod OneCheck
+pub mod ReadLemmas
+pub mod RunEnds
+pub mod WordLemmas
+pub mod WordOptions
+pub mod WordRanges

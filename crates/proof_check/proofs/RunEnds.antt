@@ -24,7 +24,7 @@ use Rattle.row_text.specs.declared.rows_fault.RowsFault.{RowsFault}
 use Rattle.row_text.specs.declared.rows_fault.RowsFault.TheVariants as told_faults
 use Rattle.command_line.specs.Stops.{NamesView, status_of, stop_of_model, stop_of_plan, stop_of_rows}
 use Rattle.command_line.specs.declared.stop.Stop.{Stop}
-use Rattle.command_line.specs.declared.stop.Stop.TheVariants.{OutOfMemory, Spent, BadWord, BadModel, BadConstraint, BadRows, CannotRead, CannotWrite, CannotWriteReport, TooMany, TooLong}
+use Rattle.command_line.specs.declared.stop.Stop.TheVariants.{OutOfMemory, Spent, BadWord, BadModel, BadConstraint, BadRows, NoResult, BadResult, CannotRead, CannotWrite, CannotWriteReport, TooMany, TooLong}
 use Rattle.command_line.specs.declared.files.FileKind.{FileKind}
 use Rattle.proof_check.specs.Checks.{IsCheckOf, Spells, told, report_of}
 use Rattle.proof_check.specs.RunSteps.{CountsOut, StopsBefore, cannot_read, is_before, is_refused, no_memory, stop_of_check}
@@ -95,6 +95,8 @@ stopped_ends opts held out (CannotWrite kind) before why = absurd (false≢true 
 stopped_ends opts held out (BadModel diag) before why = (only_refused (λ e. cc) (λ kind e. cc) why, refl)
 stopped_ends opts held out (BadConstraint diag) before why = (only_refused (λ e. cc) (λ kind e. cc) why, refl)
 stopped_ends opts held out (BadRows fault) before why = (only_refused (λ e. cc) (λ kind e. cc) why, refl)
+stopped_ends opts held out NoResult before why = (only_refused (λ e. cc) (λ kind e. cc) why, refl)
+stopped_ends opts held out (BadResult line) before why = (only_refused (λ e. cc) (λ kind e. cc) why, refl)
 stopped_ends opts held out (TooMany quantity count) before why = (only_refused (λ e. cc) (λ kind e. cc) why, refl)
 stopped_ends opts held out (TooLong kind) before why = (only_refused (λ e. cc) (λ kind e. cc) why, refl)
 
@@ -205,6 +207,8 @@ no_verdict (BadWord index) h = false≢true h
 no_verdict (BadModel diag) h = false≢true h
 no_verdict (BadConstraint diag) h = false≢true h
 no_verdict (BadRows fault) h = false≢true h
+no_verdict NoResult h = false≢true h
+no_verdict (BadResult line) h = false≢true h
 no_verdict (CannotRead kind) h = false≢true h
 no_verdict (CannotWrite kind) h = false≢true h
 no_verdict CannotWriteReport h = false≢true h
@@ -227,6 +231,8 @@ module _ (before after : Option (List ℕ)) where
   eight_is_end (Err (BadModel diag)) of h = absurd (omega (arith, h))
   eight_is_end (Err (BadConstraint diag)) of h = absurd (omega (arith, h))
   eight_is_end (Err (BadRows fault)) of h = absurd (omega (arith, h))
+  eight_is_end (Err NoResult) of h = absurd (omega (arith, h))
+  eight_is_end (Err (BadResult line)) of h = absurd (omega (arith, h))
   eight_is_end (Err (CannotRead kind)) of h = absurd (omega (arith, h))
   eight_is_end (Err (CannotWrite kind)) of h = absurd (false≢true (of (λ e. cc)).0)
   eight_is_end (Err CannotWriteReport) of h = refl
@@ -264,6 +270,8 @@ module _ (opts : ModelOpts) (held : HeldFiles) (before after : Option (List ℕ)
   complete_end (Err (BadModel diag)) read folder out ends = absurd (not_both opts held read ends.0)
   complete_end (Err (BadConstraint diag)) read folder out ends = absurd (not_both opts held read ends.0)
   complete_end (Err (BadRows fault)) read folder out ends = absurd (not_both opts held read ends.0)
+  complete_end (Err NoResult) read folder out ends = absurd (not_both opts held read ends.0)
+  complete_end (Err (BadResult line)) read folder out ends = absurd (not_both opts held read ends.0)
   complete_end (Err (CannotWrite kind)) read folder out ends = absurd (not_both opts held read ends.0)
   complete_end (Err (TooMany quantity count)) read folder out ends = absurd (not_both opts held read ends.0)
   complete_end (Err (TooLong kind)) read folder out ends = absurd (not_both opts held read ends.0)
@@ -280,6 +288,8 @@ module _ (opts : ModelOpts) (held : HeldFiles) (before after : Option (List ℕ)
   refused_end (Err (BadModel diag)) why ends = inl (ap status_of (one_refusal opts held ends.0 why))
   refused_end (Err (BadConstraint diag)) why ends = inl (ap status_of (one_refusal opts held ends.0 why))
   refused_end (Err (BadRows fault)) why ends = inl (ap status_of (one_refusal opts held ends.0 why))
+  refused_end (Err NoResult) why ends = inl (ap status_of (one_refusal opts held ends.0 why))
+  refused_end (Err (BadResult line)) why ends = inl (ap status_of (one_refusal opts held ends.0 why))
   refused_end (Err (CannotWrite kind)) why ends = inl (ap status_of (one_refusal opts held ends.0 why))
   refused_end (Err (TooMany quantity count)) why ends = inl (ap status_of (one_refusal opts held ends.0 why))
   refused_end (Err (TooLong kind)) why ends = inl (ap status_of (one_refusal opts held ends.0 why))
@@ -300,6 +310,8 @@ module _ (opts : ModelOpts) (held : HeldFiles) (before after : Option (List ℕ)
   refusal_has_cause (Err (BadModel diag)) known ends = (BadModel diag, ends.0, refl)
   refusal_has_cause (Err (BadConstraint diag)) known ends = (BadConstraint diag, ends.0, refl)
   refusal_has_cause (Err (BadRows fault)) known ends = (BadRows fault, ends.0, refl)
+  refusal_has_cause (Err NoResult) known ends = (NoResult, ends.0, refl)
+  refusal_has_cause (Err (BadResult line)) known ends = (BadResult line, ends.0, refl)
   refusal_has_cause (Err (TooMany quantity count)) known ends = (TooMany quantity count, ends.0, refl)
   refusal_has_cause (Err (TooLong kind)) known ends = (TooLong kind, ends.0, refl)
 
@@ -317,6 +329,8 @@ module _ (before after : Option (List ℕ)) where
   status_known (Err (BadModel diag)) of = refl
   status_known (Err (BadConstraint diag)) of = refl
   status_known (Err (BadRows fault)) of = refl
+  status_known (Err NoResult) of = refl
+  status_known (Err (BadResult line)) of = refl
   status_known (Err (CannotRead kind)) of = refl
   status_known (Err (CannotWrite kind)) of = refl
   status_known (Err CannotWriteReport) of = refl
@@ -331,6 +345,8 @@ module _ (before after : Option (List ℕ)) where
   not_three (Err (BadModel diag)) of h = omega (arith, h)
   not_three (Err (BadConstraint diag)) of h = omega (arith, h)
   not_three (Err (BadRows fault)) of h = omega (arith, h)
+  not_three (Err NoResult) of h = omega (arith, h)
+  not_three (Err (BadResult line)) of h = omega (arith, h)
   not_three (Err (CannotRead kind)) of h = omega (arith, h)
   not_three (Err (CannotWrite kind)) of h = omega (arith, h)
   not_three (Err CannotWriteReport) of h = omega (arith, h)
@@ -351,6 +367,8 @@ seven_is_end (Err (BadWord index)) h = absurd (omega (arith, h))
 seven_is_end (Err (BadModel diag)) h = absurd (omega (arith, h))
 seven_is_end (Err (BadConstraint diag)) h = absurd (omega (arith, h))
 seven_is_end (Err (BadRows fault)) h = absurd (omega (arith, h))
+seven_is_end (Err NoResult) h = absurd (omega (arith, h))
+seven_is_end (Err (BadResult line)) h = absurd (omega (arith, h))
 seven_is_end (Err (CannotRead kind)) h = (kind, refl)
 seven_is_end (Err (CannotWrite kind)) h = absurd (omega (arith, h))
 seven_is_end (Err CannotWriteReport) h = absurd (omega (arith, h))
@@ -366,6 +384,8 @@ counts_stay (Err (BadWord index)) eight counts = counts
 counts_stay (Err (BadModel diag)) eight counts = counts
 counts_stay (Err (BadConstraint diag)) eight counts = counts
 counts_stay (Err (BadRows fault)) eight counts = counts
+counts_stay (Err NoResult) eight counts = counts
+counts_stay (Err (BadResult line)) eight counts = counts
 counts_stay (Err (CannotRead kind)) eight counts = counts
 counts_stay (Err (CannotWrite kind)) eight counts = counts
 counts_stay (Err CannotWriteReport) eight counts = absurd (eight refl)

@@ -6,7 +6,7 @@ use Rattle.definitions.specs.Verdict.{verdict}
 use Rattle.model_lex.specs.declared.options.ModelOpts.{ModelOpts}
 use Rattle.command_line.specs.Stops.{stop_of_model, stop_of_plan, stop_of_rows}
 use Rattle.command_line.specs.declared.stop.Stop.{Stop}
-use Rattle.command_line.specs.declared.stop.Stop.TheVariants.{OutOfMemory, Spent, BadWord, BadModel, BadConstraint, BadRows, CannotRead, CannotWrite, CannotWriteReport, TooMany, TooLong}
+use Rattle.command_line.specs.declared.stop.Stop.TheVariants.{OutOfMemory, Spent, BadWord, BadModel, BadConstraint, BadRows, NoResult, BadResult, CannotRead, CannotWrite, CannotWriteReport, TooMany, TooLong}
 use Rattle.command_line.specs.declared.files.FileKind.{FileKind}
 use Rattle.proof_check.specs.Checks.{told}
 use Rattle.proof_check.specs.Runs.{HasReadings, HeldFiles, Inputs, IsRefused, inputs_of}
@@ -42,6 +42,8 @@ is_before (BadWord index) = false
 is_before (BadModel diag) = true
 is_before (BadConstraint diag) = true
 is_before (BadRows fault) = true
+is_before NoResult = false
+is_before (BadResult line) = false
 is_before (CannotRead kind) = true
 is_before (CannotWrite kind) = false
 is_before CannotWriteReport = false
