@@ -1,0 +1,121 @@
+//! What runs of these tests share: the three files `m`, `r` and `p` in memory, and what a run leaves.
+
+use outside_io::{Calls, MemFolder, MemSink};
+use proof_check::run_check;
+use std::alloc::Global;
+use std::thread::Threads;
+use value_text::NoMemory;
+
+/// A model whose one constraint leaves three rows.
+pub const MODEL: &[u8] = b"A: 1, 2\nB: x, y\nIF [A] = 1 THEN [B] = \"x\";\n";
+
+/// Its report.
+pub const REPORT: &[u8] = b"A\tB\n1\tx\n2\tx\n2\ty\n";
+
+/// Its proof.
+pub const PROOF: &[u8] = b"pict-proof 1\nomit 0=0 1=1 : L1\n";
+
+/// What is said of them.
+pub const ACCEPTED: &str = "accepted: 3 rows, 1 omissions\n";
+
+/// What a run is given.
+#[derive(Clone, Copy)]
+pub struct Given<'a> {
+    /// The words behind the program's name.
+    pub words: &'a [&'a str],
+    /// The files, each with its name.
+    pub files: &'a [(&'a str, &'a [u8])],
+    /// The numbers of the calls of the folder that fail, from 1.
+    pub fail: &'a [u64],
+    /// How many bytes fit into standard output, and into standard error.
+    pub room: (usize, usize),
+}
+
+/// A run of `m r p` on these files.
+pub fn on_files<'a>(files: &'a [(&'a str, &'a [u8])]) -> Given<'a> {
+    Given {
+        words: &["m", "r", "p"],
+        files,
+        fail: &[],
+        room: (1 << 10, 1 << 10),
+    }
+}
+
+fn calls_of(alloc: Global, numbers: &[u64]) -> Result<Calls, NoMemory> {
+    let mut calls = Calls::new(alloc);
+    for number in numbers {
+        calls.push(*number)?;
+    }
+    Ok(calls)
+}
+
+fn words_of(alloc: Global, words: &[&str]) -> Result<Vec<String>, NoMemory> {
+    let mut all = Vec::new(alloc);
+    for word in words {
+        all.push(String::from_str(alloc, word)?)?;
+    }
+    Ok(all)
+}
+
+fn folder_of(alloc: Global, given: &Given) -> Result<MemFolder, NoMemory> {
+    let mut folder = MemFolder::new(alloc, calls_of(alloc, given.fail)?);
+    for (name, bytes) in given.files {
+        folder.add(name, bytes)?;
+    }
+    Ok(folder)
+}
+
+/// What a run left.
+#[derive(Drop)]
+pub struct Ended {
+    /// Its status.
+    pub status: u8,
+    /// Standard output.
+    pub written: MemSink,
+    /// Standard error.
+    pub told: MemSink,
+}
+
+/// Runs `pictcheck`.
+///
+/// # Errors
+///
+/// `NoMemory` where the words, the folder or the sinks could not be had.
+pub fn run<R: Threads + Sync>(rt: &R, alloc: Global, given: &Given) -> Result<Ended, NoMemory> {
+    let words = words_of(alloc, given.words)?;
+    let mut files = folder_of(alloc, given)?;
+    let mut written = MemSink::up_to(alloc, given.room.0)?;
+    let mut told = MemSink::up_to(alloc, given.room.1)?;
+    let status = run_check(
+        rt,
+        alloc,
+        words.as_slice(),
+        &mut files,
+        &mut written,
+        &mut told,
+    );
+    Ok(Ended {
+        status,
+        written,
+        told,
+    })
+}
+
+/// Whether a run ends with this status, and the two streams get these texts.
+///
+/// # Errors
+///
+/// As from `run`.
+pub fn ends_as<R: Threads + Sync>(
+    rt: &R,
+    alloc: Global,
+    given: &Given,
+    status: u8,
+    written: &str,
+    told: &str,
+) -> Result<bool, NoMemory> {
+    let ended = run(rt, alloc, given)?;
+    let is_written = ended.written.bytes() == written.as_bytes();
+    let is_told = ended.told.bytes() == told.as_bytes();
+    Ok(ended.status == status && is_written && is_told)
+}
