@@ -1,4 +1,0 @@
-pub mod Texts
-pub mod ReadingSteps
-pub mod ReadingWhole
-mod Examples
