@@ -1,0 +1,5 @@
+//! Tests of made models.
+#![tactic(auto)]
+
+#[cfg(test)]
+mod texts;
