@@ -1,0 +1,32 @@
+#!/bin/sh
+# Builds the programs and installs them with their manual pages and guides, or removes them again.
+# Usage: ./install.sh PREFIX            into PREFIX/bin, PREFIX/share/man/man1 and PREFIX/share/doc/jeldroft
+#        ./install.sh --remove PREFIX
+# It wants the kit (rt on the PATH): each program is proved before it is built.
+set -e
+top=$(cd "$(dirname "$0")" && pwd)
+programs="pict pictcheck pictacts pictseq"
+remove=no
+if [ "$1" = --remove ]; then remove=yes; shift; fi
+if [ $# -ne 1 ] || [ -z "$1" ]; then sed -n '2,4s/^# //p' "$0" >&2; exit 2; fi
+prefix=$1
+bin=$prefix/bin
+man=$prefix/share/man/man1
+doc=$prefix/share/doc/jeldroft
+if [ $remove = yes ]; then
+    for program in $programs; do rm -f "$bin/$program" "$man/$program.1"; done
+    rm -rf "$doc"
+    exit 0
+fi
+mkdir -p "$bin" "$man" "$doc"
+for program in $programs; do
+    # rt run builds a program and runs it once: without words, so with status 3
+    (cd "$top/crates/$program" && rt run > /dev/null 2>&1) || true
+    if [ ! -x "$top/crates/$program/out/$program" ]; then
+        echo "install.sh: $program could not be built; (cd crates/$program && rt run) says why" >&2
+        exit 1
+    fi
+    install -m 755 "$top/crates/$program/out/$program" "$bin/$program"
+    install -m 644 "$top/man/$program.1" "$man/$program.1"
+done
+install -m 644 "$top/README.md" "$top"/docs/guide.md "$top"/docs/pictcheck.md "$top"/docs/pictacts.md "$top"/docs/pictseq.md "$doc/"
