@@ -1,6 +1,6 @@
 #!/bin/sh
 # Builds the programs and installs them with their manual pages and guides, or removes them again.
-# Usage: ./install.sh PREFIX            into PREFIX/bin, PREFIX/share/man/man1 and PREFIX/share/doc/jeldroft
+# Usage: ./install.sh PREFIX            into PREFIX/bin and PREFIX/share: manual pages, guides, examples, completion for bash
 #        ./install.sh --remove PREFIX
 # It wants the kit (rt on the PATH): each program is proved before it is built.
 set -e
@@ -13,12 +13,13 @@ prefix=$1
 bin=$prefix/bin
 man=$prefix/share/man/man1
 doc=$prefix/share/doc/jeldroft
+completions=$prefix/share/bash-completion/completions
 if [ $remove = yes ]; then
-    for program in $programs; do rm -f "$bin/$program" "$man/$program.1"; done
+    for program in $programs; do rm -f "$bin/$program" "$man/$program.1" "$completions/$program"; done
     rm -rf "$doc"
     exit 0
 fi
-mkdir -p "$bin" "$man" "$doc"
+mkdir -p "$bin" "$man" "$doc" "$completions"
 for program in $programs; do
     # rt run builds a program and runs it once: without words, so with status 3
     (cd "$top/crates/$program" && rt run > /dev/null 2>&1) || true
@@ -28,5 +29,9 @@ for program in $programs; do
     fi
     install -m 755 "$top/crates/$program/out/$program" "$bin/$program"
     install -m 644 "$top/man/$program.1" "$man/$program.1"
+    install -m 644 "$top/completions/pict.bash" "$completions/$program"
 done
-install -m 644 "$top/README.md" "$top"/docs/guide.md "$top"/docs/pictcheck.md "$top"/docs/pictacts.md "$top"/docs/pictseq.md "$doc/"
+for page in README.md docs/start.md docs/guide.md docs/troubles.md docs/differences.md docs/pictcheck.md docs/pictacts.md docs/pictseq.md; do
+    install -m 644 "$top/$page" "$doc/"
+done
+cp -R "$top/examples" "$doc/"

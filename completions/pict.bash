@@ -1,0 +1,31 @@
+# Completion of the four programs for bash: options by their letters, files behind a colon.
+
+_jeldroft_options() {
+    local word=${COMP_WORDS[COMP_CWORD]} options=$1 files=$2
+    # bash parts words at a colon; what stands before it is the word before
+    if [[ $word == : || ${COMP_WORDS[COMP_CWORD - 1]} == : ]]; then
+        [[ $word == : ]] && word=
+        local option=${COMP_WORDS[COMP_CWORD - 1]}
+        [[ $option == : ]] && option=${COMP_WORDS[COMP_CWORD - 2]}
+        case " $files " in *" $option: "*) COMPREPLY=($(compgen -f -- "$word")) ;; esac
+        return
+    fi
+    if [[ $word == /* && COMP_CWORD -gt 1 ]]; then
+        COMPREPLY=($(compgen -W "$options" -- "$word"))
+        [[ ${COMPREPLY[0]} == *: ]] && compopt -o nospace
+    fi
+    [[ ${#COMPREPLY[@]} -eq 0 ]] && COMPREPLY=($(compgen -f -- "$word"))
+}
+
+_pict() {
+    _jeldroft_options "/o: /o:max /d: /a: /n: /e: /r /r: /c /s /workers: /budget: /proof: /proofformat: /measure: /make: /suspect:" \
+        "/e: /proof: /measure: /suspect:"
+}
+_pictcheck() { _jeldroft_options "/o: /o:max /d: /a: /n: /c /workers:" ""; }
+_pictacts() { _jeldroft_options "/c" ""; }
+_pictseq() { _jeldroft_options "/t:2 /t:3 /check:" "/check:"; }
+
+complete -F _pict pict
+complete -F _pictcheck pictcheck
+complete -F _pictacts pictacts
+complete -F _pictseq pictseq
