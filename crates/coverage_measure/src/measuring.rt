@@ -42,6 +42,13 @@ pub fn measure<R: Threads + Sync, G: Gate + Sync>(
     ensures figures { IfOk result (λ figures. figures_seen figures ≡ defined.figures model.now (suite_seen suite.now)) }
     ensures ends { Ends result (first_measured_over model.now budget) }
 {
-    let _ = (rt, alloc, model, plan, suite, workers, budget, gate);
+    let _ = rt;
+    let _ = alloc;
+    let _ = model;
+    let _ = plan;
+    let _ = suite;
+    let _ = workers;
+    let _ = budget;
+    let _ = gate;
     Err(SearchFault::NoMemory)
 }
