@@ -4,7 +4,6 @@ use Rattle.std.specs.Prelude.{◌≢◌, ◌⊎◌, option_map, IfErr, IsErrAnd,
 use Rattle.std.specs.Option.{option_or}
 use Rattle.std.proofs.Math.Seq.{take-append-add}
 use Rattle.cov_model.specs.Sound.{ModelView}
-use Rattle.definitions.specs.RowReading.{Seed}
 use Rattle.definitions.specs.Settings.{Settings}
 use Rattle.model_lex.specs.declared.note.Note.{Note}
 use Rattle.row_text.specs.RowFiles.{seeds_seen}
@@ -18,11 +17,12 @@ use Rattle.command_line.specs.declared.files.FileKind.TheVariants as kinds
 use Rattle.command_line.specs.declared.stop.Stop.{Stop}
 use Rattle.command_line.specs.declared.stop.Stop.TheVariants.{OutOfMemory, Spent, BadWord, BadModel, BadConstraint, BadRows, NoResult, BadResult, CannotRead, CannotWrite, CannotWriteReport, TooMany, TooLong}
 use Rattle.outside_io.specs.Faults.{KeepsCounts, Rose}
-use Rattle.pict_cli.specs.Ends.{CountsReads, IsEarly, Stopped, Unread, end_of}
-use Rattle.pict_cli.specs.Modes.{RowSource, row_file}
-use Rattle.pict_cli.specs.RowSources.{dropped_notes, notes_on, read_source, reading_or_none, stop_in}
-use Rattle.pict_cli.specs.Runs.{EndsBehind, all_notes, cannot_write, cannot_write_proof, comes_whole, file_notes, must_stop, no_memory, notes_before, question_over, rows_of_run, rows_unread, spent_on, stop_due}
-use Rattle.pict_cli.specs.Steps.{HoldsRows, IsOfRows, StopsRows, StopsSuite}
+use Rattle.outside_io.specs.Files.{Files}
+use Rattle.pict_cli.specs.Ends.{CountsReads, End, IsEarly, Stopped, Unread, end_of}
+use Rattle.pict_cli.specs.Modes.{Mode, RowSource, mode_of, row_file, row_mode}
+use Rattle.pict_cli.specs.RowSources.{later_notes, notes_on, reading_or_none, stop_in}
+use Rattle.pict_cli.specs.Runs.{EndsBehind, WritesProof, all_notes, cannot_write, cannot_write_proof, comes_whole, file_notes, must_stop, no_memory, notes_before, out_text, over_in, question_over, reading_of, rows_of_run, rows_unread, spent_on, stop_due, text_in}
+use Rattle.pict_cli.specs.Steps.{HoldsRows, IsOfRows, StopsRows, StopsWork}
 use Rattle.pict_cli.specs.Steps as steps
 
 pub ends_by : (end : Result (Unit {0}) Stop) (stop : Stop) → IsErrAnd end (λ other. other ≡ stop) → end ≡ Err stop
@@ -70,53 +70,66 @@ pub limited : (s : Settings) (seed : ℕ) (m : ModelView) (source : RowSource) (
 limited s seed m source plan_faults.NoMemory end e is = no_memory 0 e refl
 limited s seed m source (TooManySets count) end e is =
     must_stop (stop_of_plan (TooManySets count)) e
-    (ap (λ l. option_or (option_map stop_of_plan l) (option_or (stop_in (read_source m Seed source)) (option_map (spent_on s) (question_over s seed m (rows_of_run m source))))) is) refl
+    (ap (λ l. option_or (option_map stop_of_plan l) (option_or (stop_in (reading_of s m source)) (option_map (spent_on s) (question_over s seed m (rows_of_run s m source))))) is) refl
 limited s seed m source (TooManyTuples count) end e is =
     must_stop (stop_of_plan (TooManyTuples count)) e
-    (ap (λ l. option_or (option_map stop_of_plan l) (option_or (stop_in (read_source m Seed source)) (option_map (spent_on s) (question_over s seed m (rows_of_run m source))))) is) refl
+    (ap (λ l. option_or (option_map stop_of_plan l) (option_or (stop_in (reading_of s m source)) (option_map (spent_on s) (question_over s seed m (rows_of_run s m source))))) is) refl
 
 -- the row file stops
 pub rows_stopped : (s : Settings) (seed : ℕ) (m : ModelView) (source : RowSource) (stop : Stop) (end : Result (Unit {0}) Stop)
-    → end ≡ Err stop → limit_passed m ≡ None → StopsRows m Seed source stop → EndsBehind s seed m source [] end
+    → end ≡ Err stop → limit_passed m ≡ None → StopsRows m (row_mode (mode_of s)) source stop → EndsBehind s seed m source [] end
 rows_stopped s seed m source stop end e within (steps.no_room is) = no_memory 0 (e ∙ ap Err is) refl
 rows_stopped s seed m source stop end e within (steps.folder_failed is) = rows_unread (e ∙ ap Err is) within refl
 rows_stopped s seed m source stop end e within (steps.is_refused is) =
     must_stop stop e
-    (ap (λ l. option_or (option_map stop_of_plan l) (option_or (stop_in (read_source m Seed source)) (option_map (spent_on s) (question_over s seed m (rows_of_run m source))))) within
-    ∙ ap (λ r. option_or (stop_in r) (option_map (spent_on s) (question_over s seed m (rows_of_run m source)))) is)
+    (ap (λ l. option_or (option_map stop_of_plan l) (option_or (stop_in (reading_of s m source)) (option_map (spent_on s) (question_over s seed m (rows_of_run s m source))))) within
+    ∙ ap (λ r. option_or (stop_in r) (option_map (spent_on s) (question_over s seed m (rows_of_run s m source)))) is)
     (none_before stop ∙ ap (λ r. notes_before stop (notes_on (reading_or_none r))) (sym is))
 
--- the row file was read
-module _ (s : Settings) (seed : ℕ) (m : ModelView) (source : RowSource) (file : RowFile) (within : limit_passed m ≡ None) (read : HoldsRows m Seed source file) where
-  pub rows_same : rows_of_run m source ≡ seeds_seen file
+-- the row file was read, in a run of this mode
+module _ (s : Settings) (seed : ℕ) (m : ModelView) (source : RowSource) (file : RowFile) (within : limit_passed m ≡ None) (mode : Mode) (is : mode_of s ≡ mode)
+    (read : HoldsRows m (row_mode (mode_of s)) source file) where
+  abbrev rows : List (ℕ × List (Option ℕ))
+  rows = seeds_seen file
+
+  rows_same : rows_of_run s m source ≡ rows
   rows_same = ap (λ r. (reading_or_none r).rows) read.read ∙ sym read.holds.rows
 
-  notes_same : file_notes m source ≡ file.notes
+  notes_same : file_notes s m source ≡ file.notes
   notes_same = ap (λ r. notes_on (reading_or_none r)) read.read ∙ sym read.holds.notes
 
-  all_same : all_notes m source ≡ file.notes ++ dropped_notes m (seeds_seen file)
-  all_same = ap (λ notes. notes ++ dropped_notes m (rows_of_run m source)) notes_same ∙ ap (λ rows. file.notes ++ dropped_notes m rows) rows_same
+  all_same : all_notes s m source ≡ file.notes ++ later_notes mode m rows
+  all_same =
+      ap (λ notes. notes ++ later_notes (mode_of s) m (rows_of_run s m source)) notes_same
+      ∙ ap (λ other. file.notes ++ later_notes other m (rows_of_run s m source)) is ∙ ap (λ given. file.notes ++ later_notes mode m given) rows_same
 
-  due_same : stop_due s seed m source ≡ option_map (spent_on s) (question_over s seed m (seeds_seen file))
+  due_same : stop_due s seed m source ≡ option_map (spent_on s) (over_in mode s seed m rows)
   due_same =
-      ap (λ l. option_or (option_map stop_of_plan l) (option_or (stop_in (read_source m Seed source)) (option_map (spent_on s) (question_over s seed m (rows_of_run m source))))) within
-      ∙ ap (λ r. option_or (stop_in r) (option_map (spent_on s) (question_over s seed m (rows_of_run m source)))) read.read
-      ∙ ap (λ rows. option_map (spent_on s) (question_over s seed m rows)) rows_same
+      ap (λ l. option_or (option_map stop_of_plan l) (option_or (stop_in (reading_of s m source)) (option_map (spent_on s) (question_over s seed m (rows_of_run s m source))))) within
+      ∙ ap (λ r. option_or (stop_in r) (option_map (spent_on s) (question_over s seed m (rows_of_run s m source)))) read.read
+      ∙ ap (λ other. option_map (spent_on s) (over_in other s seed m (rows_of_run s m source))) is
+      ∙ ap (λ given. option_map (spent_on s) (over_in mode s seed m given)) rows_same
 
-  -- a suite stopped
-  pub suite_stopped : (stop : Stop) (end : Result (Unit {0}) Stop) (row_notes : List Note) → end ≡ Err stop
-      → StopsSuite s seed m (seeds_seen file) file.notes row_notes stop → EndsBehind s seed m source row_notes end
-  suite_stopped stop end row_notes e (steps.no_memory count is notes) =
-      no_memory (length file.notes + count) (e ∙ ap Err is)
-      (notes ∙ sym (take-append-add file.notes (dropped_notes m (seeds_seen file)) count) ∙ ap (take (length file.notes + count)) (sym all_same))
-  suite_stopped stop end row_notes e (steps.is_spent question is over notes) =
-      must_stop (spent_on s question) (e ∙ ap Err is) (due_same ∙ ap (option_map (spent_on s)) over) (notes ∙ sym notes_same)
+  pub text_same : out_text s seed m (rows_of_run s m source) ≡ text_in mode s seed m rows
+  text_same = ap (λ other. text_in other s seed m (rows_of_run s m source)) is ∙ ap (text_in mode s seed m) rows_same
 
-  -- a suite was written, or not whole
-  pub suite_written : (end : Result (Unit {0}) Stop) (row_notes : List Note) → question_over s seed m (seeds_seen file) ≡ None
-      → row_notes ≡ file.notes ++ dropped_notes m (seeds_seen file)
+  pub proof_same : (files after : Files) (end : End) → WritesProof s seed m rows files after end → WritesProof s seed m (rows_of_run s m source) files after end
+  proof_same files after end writes = subst (λ given. WritesProof s seed m given files after end) (sym rows_same) writes
+
+  -- the work stopped
+  pub work_stopped : (stop : Stop) (end : Result (Unit {0}) Stop) (row_notes : List Note) → end ≡ Err stop
+      → StopsWork s.budget (over_in mode s seed m rows) (later_notes mode m rows) file.notes row_notes stop → EndsBehind s seed m source row_notes end
+  work_stopped stop end row_notes e (steps.no_memory count out notes) =
+      no_memory (length file.notes + count) (e ∙ ap Err out)
+      (notes ∙ sym (take-append-add file.notes (later_notes mode m rows) count) ∙ ap (take (length file.notes + count)) (sym all_same))
+  work_stopped stop end row_notes e (steps.is_spent question spent over notes) =
+      must_stop (spent_on s question) (e ∙ ap Err spent) (due_same ∙ ap (option_map (spent_on s)) over) (notes ∙ sym notes_same)
+
+  -- what was made was written, or not whole
+  pub work_written : (end : Result (Unit {0}) Stop) (row_notes : List Note) → over_in mode s seed m rows ≡ None
+      → row_notes ≡ file.notes ++ later_notes mode m rows
       → IfErr end (λ stop. (stop ≡ CannotWriteReport) ⊎ ((stop ≡ (CannotWrite kinds.Proof)) × (s.proof ≢ None))) → EndsBehind s seed m source row_notes end
-  suite_written end row_notes answered notes stops = written end stops s.proof refl
+  work_written end row_notes answered notes stops = written end stops s.proof refl
     where
       due : stop_due s seed m source ≡ None
       due = due_same ∙ ap (option_map (spent_on s)) answered

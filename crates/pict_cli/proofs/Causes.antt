@@ -6,7 +6,6 @@ use Rattle.std.proofs.lemmas.Option.{none-some, same_Some}
 use Rattle.outside_io.specs.Faults.{Rose}
 use Rattle.cov_model.specs.Sound.{ModelView}
 use Rattle.definitions.specs.Limits.{ModelFile, most_bytes}
-use Rattle.definitions.specs.RowReading.{Seed}
 use Rattle.definitions.specs.Settings.{Settings}
 use Rattle.model_lex.specs.declared.note.Note.{Note}
 use Rattle.model_lex.specs.declared.options.ModelOpts.{ModelOpts}
@@ -22,8 +21,8 @@ use Rattle.command_line.specs.declared.stop.Stop.{Stop}
 use Rattle.command_line.specs.declared.stop.Stop.TheVariants.{CannotRead, CannotWrite, CannotWriteReport}
 use Rattle.pict_cli.specs.Ends.{CountsOut, CountsReads, CountsWrites, Moment, end_of}
 use Rattle.pict_cli.specs.Modes.{RowSource, RowsHeld, row_source}
-use Rattle.pict_cli.specs.Runs.{EndsBehind, cannot_write, cannot_write_proof, comes_whole, fault_status, must_stop, no_memory, opts_of, question_over, rows_of_run, rows_unread, spent_on, stop_due}
-use Rattle.pict_cli.specs.RowSources.{read_source, stop_in}
+use Rattle.pict_cli.specs.Runs.{EndsBehind, cannot_write, cannot_write_proof, comes_whole, fault_status, must_stop, no_memory, opts_of, question_over, reading_of, rows_of_run, rows_unread, spent_on, stop_due}
+use Rattle.pict_cli.specs.RowSources.{stop_in}
 use Rattle.pict_cli.specs.Steps.{Ran}
 use Rattle.pict_cli.specs.Words.{ReadsCalmly, WritesCalmly}
 
@@ -52,7 +51,7 @@ stopped_end_behind s seed m source notes end stop due read (cannot_write e free 
 -- and of one whose row file is missing
 missing_due : (s : Settings) (seed : ℕ) (m : ModelView) → limit_passed m ≡ None → stop_due s seed m (RowsHeld None) ≡ Some (CannotRead kinds.Rows)
 missing_due s seed m within =
-    ap (λ l. option_or (option_map stop_of_plan l) (option_or (stop_in (read_source m Seed (RowsHeld None))) (option_map (spent_on s) (question_over s seed m (rows_of_run m (RowsHeld None)))))) within
+    ap (λ l. option_or (option_map stop_of_plan l) (option_or (stop_in (reading_of s m (RowsHeld None))) (option_map (spent_on s) (question_over s seed m (rows_of_run s m (RowsHeld None)))))) within
 
 missing_end_behind : (s : Settings) (seed : ℕ) (m : ModelView) (notes : List Note) (end : Result (Unit {0}) Stop) → limit_passed m ≡ None
     → EndsBehind s seed m (RowsHeld None) notes end → (end_status end ≡ 7) ⊎ (end_status end ≡ 1)

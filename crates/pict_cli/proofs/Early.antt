@@ -1,12 +1,13 @@
 -- Runs that end before anything is written, and steps that leave the folder as it was.
-use Rattle.std.proofs.Common.{◌≡◌, ℕ, List, Option, None, Some, Result, sym, subst, ◌∙◌}
-use Rattle.std.specs.Prelude.{IfSome, IsSomeAnd}
+use Rattle.std.proofs.Common.{◌≡◌, ℕ, List, Option, None, Some, Ok, Err, Result, sym, ap, subst, ◌∙◌}
+use Rattle.std.specs.Prelude.{IfErr, IfSome, IsSomeAnd}
 use Rattle.outside_io.specs.Files.{Files, KeepsFiles}
 use Rattle.outside_io.specs.Faults.{KeepsCounts, Rose}
 use Rattle.cov_model.specs.Sound.{ModelView, IsSound}
 use Rattle.definitions.specs.Settings.{Settings}
 use Rattle.model_lex.specs.declared.note.Note.{Note}
 use Rattle.command_line.specs.declared.stop.Stop.{Stop}
+use Rattle.command_line.specs.declared.stop.Stop.TheVariants.{CannotWriteReport}
 use Rattle.pict_cli.specs.Ends.{CountsOut, CountsReads, CountsWrites, End, IsEarly, IsQuiet, Leaves, Misworded, Moment, Prints, StaysStill, Stopped, Unprinted, Unread, Unwritten, Whole, end_of, file_read, file_written}
 use Rattle.pict_cli.specs.Modes.{RowSource}
 use Rattle.pict_cli.specs.Runs.{EndsBehind, HoldsProof, RunsModel, WritesProof, out_text, rows_of_run}
@@ -81,8 +82,8 @@ pub runs_early : (s : Settings) (seed : ℕ) (m : ModelView) (source : RowSource
 runs_early s seed m source row_notes before after end sound early keeps quiet ends = record {
   sound = sound;
   ends = ends;
-  prints = prints_early (out_text s seed m (rows_of_run m source)) before.out after.out (end_of end) early quiet;
-  writes = writes_early s seed m (rows_of_run m source) before.files after.files (end_of end) early keeps;
+  prints = prints_early (out_text s seed m (rows_of_run s m source)) before.out after.out (end_of end) early quiet;
+  writes = writes_early s seed m (rows_of_run s m source) before.files after.files (end_of end) early keeps;
 }
 
 -- the counts of faults of reading after a step that ended so
@@ -157,3 +158,27 @@ proof_from s seed m seeds files loaded after end keeps writes = at s.proof write
         → IfSome proof (λ name. HoldsProof s seed m seeds (files name) (after name) end)
     at None holds = tt
     at (Some name) holds = subst (λ held. HoldsProof s seed m seeds held (after name) end) (keeps name) holds
+
+-- what is left where a text was printed, or not whole
+pub leaves_printed : (s : Settings) (name : List ℕ) (before after : Moment) (end : Result (Unit {0}) Stop) → KeepsFiles before.files after.files
+    → KeepsCounts before.reads after.reads → KeepsCounts before.writes after.writes → IfErr end (λ stop. stop ≡ CannotWriteReport)
+    → CountsOut (end_of end) before.faults after.faults → Leaves s name before after (end_of end)
+leaves_printed s name before after (Ok done) keeps reads writes report faults = record {
+  reads = reads;
+  writes = writes;
+  faults = faults;
+  quiet = tt;
+  others = λ file other. keeps file;
+  still = tt;
+  worded = λ e. let none : Whole ≡ Misworded = e in cc;
+}
+leaves_printed s name before after (Err stop) keeps reads writes report faults =
+    subst (λ end. Leaves s name before after end) (sym (ap (λ x. end_of (Err x)) report)) (record {
+      reads = reads;
+      writes = writes;
+      faults = subst (λ x. CountsOut (end_of (Err x)) before.faults after.faults) report faults;
+      quiet = tt;
+      others = λ file other. keeps file;
+      still = tt;
+      worded = λ e. let none : Unprinted ≡ Misworded = e in cc;
+    })

@@ -15,8 +15,6 @@ use Rattle.std.proofs.lemmas.Option.{none-some}
 use Rattle.definitions.specs.Covering.{HasFewRows}
 use Rattle.definitions.specs.Demand.{choices, demanded_tuples}
 use Rattle.definitions.specs.Settings.{Settings}
-use Rattle.definitions.specs.Statistics as told
-use Rattle.definitions.specs.Statistics.{statistics}
 use Rattle.definitions.specs.SuiteLaws.{IsSoundProof}
 use Rattle.definitions.proofs.SuiteLaws.{suite_proofs_are_accepted, suite_proofs_list, suite_proofs_read_back, suites_serve_or_refute}
 use Rattle.tuple_index.specs.PlanFault.{limit_passed}
@@ -33,8 +31,8 @@ use Rattle.model_lex.specs.declared.note.Note.{Note}
 use Rattle.command_line.specs.Stops.{stop_of_plan}
 use Rattle.command_line.specs.declared.stop.Stop.{Stop}
 use Rattle.pict_cli.specs.Ends.{Moment}
-use Rattle.pict_cli.specs.Modes.{Mode, Report, RowSource, Statistics, is_report, mode_of, prints_rows}
-use Rattle.pict_cli.specs.Runs.{AreContained, CoversOrRefutes, EndsBehind, HoldsWholeProof, IsAcceptedWith, IsProof, PrintsAccepted, PrintsCovering, PrintsFewRows, PrintsSeeds, RunsModel, cannot_write, cannot_write_proof, comes_whole, must_stop, no_memory, out_text, rows_of_run, rows_unread, seeds_kept, shuffled_by, stop_due, suite_text, told_proof}
+use Rattle.pict_cli.specs.Modes.{Generate, Measure, Mode, Report, RowSource, Statistics, is_report, mode_of, prints_rows}
+use Rattle.pict_cli.specs.Runs.{AreContained, CoversOrRefutes, EndsBehind, HoldsWholeProof, IsAcceptedWith, IsProof, PrintsAccepted, PrintsCovering, PrintsFewRows, PrintsSeeds, RunsModel, cannot_write, cannot_write_proof, comes_whole, growth_of, must_stop, no_memory, out_text, rows_of_run, rows_unread, seeds_kept, shuffled_by, stop_due, text_in, told_proof}
 
 -- the orders of a run
 are_preferences : (m : ModelView) (shuffle : Option ℕ) → ArePreferences m (preference m shuffle)
@@ -63,9 +61,11 @@ added P m pref seeds before after sound orders holds put =
     (text, refl, subst P (sym (read_suite m pref seeds sound orders)) holds)
 
 -- the text of a run that prints rows
-report_printed : (mode : Mode) (m : ModelView) (rows : List (List (Option ℕ))) (numbers : told.Statistics) → is_report mode ≡ true → suite_text mode m rows numbers ≡ report_text m rows
-report_printed Report m rows numbers is = refl
-report_printed Statistics m rows numbers is = let no : ⊥ = cc in absurd no
+report_printed : (mode : Mode) (s : Settings) (seed : ℕ) (m : ModelView) (rows : List (ℕ × List (Option ℕ))) → is_report mode ≡ true
+    → text_in mode s seed m rows ≡ report_text m (growth_of s seed m rows).rows
+report_printed (Generate Report) s seed m rows is = refl
+report_printed (Generate Statistics) s seed m rows is = let no : ⊥ = cc in absurd no
+report_printed (Measure name) s seed m rows is = let no : ⊥ = cc in absurd no
 
 -- a run that came to its end needn't stop, and so passes no limit
 not_due : (s : Settings) (seed : ℕ) (m : ModelView) (source : RowSource) (notes : List Note) → EndsBehind s seed m source notes (Ok tt) → stop_due s seed m source ≡ None
@@ -92,7 +92,7 @@ module _ (s : Settings) (seed : ℕ) (m : ModelView) (source : RowSource) (notes
   pref = preference m (shuffled_by s.shuffle seed)
 
   abbrev seeds : List (ℕ × List (Option ℕ))
-  seeds = rows_of_run m source
+  seeds = rows_of_run s m source
 
   orders : ArePreferences m pref
   orders = are_preferences m (shuffled_by s.shuffle seed)
@@ -137,7 +137,7 @@ module _ (s : Settings) (seed : ℕ) (m : ModelView) (source : RowSource) (notes
   -- the report was put
   put : prints_rows s ≡ true → (before : List ℕ) → start.out ≡ Some before → Puts Done (Some before) after.out (report_text m (growth m pref seeds).rows)
   put is before out =
-      subst (Puts Done (Some before) after.out) (report_printed (mode_of s) m (growth m pref seeds).rows (statistics m pref seeds) is)
+      subst (Puts Done (Some before) after.out) (report_printed (mode_of s) s seed m seeds is)
       (subst (λ o. Puts Done o after.out (out_text s seed m seeds)) out runs.prints)
 
   pub prints_covering : (s.form ≡ 1) ⊎ (s.form ≡ 2) → prints_rows s ≡ true → (before : List ℕ) → start.out ≡ Some before
@@ -145,13 +145,13 @@ module _ (s : Settings) (seed : ℕ) (m : ModelView) (source : RowSource) (notes
   prints_covering known is before out =
       added (CoversOrRefutes m s.form (told_proof s after.files)) m pref seeds before after.out runs.sound orders (covers (told_proof s after.files) proof_told known) (put is before out)
 
-  pub prints_few_rows : prints_rows s ≡ true → (before : List ℕ) → start.out ≡ Some before → IsSomeAnd after.out (PrintsFewRows m (length (seeds_kept m source)) before)
+  pub prints_few_rows : prints_rows s ≡ true → (before : List ℕ) → start.out ≡ Some before → IsSomeAnd after.out (PrintsFewRows m (length (seeds_kept s m source)) before)
   prints_few_rows is before out =
-      added (HasFewRows m (length (seeds_kept m source))) m pref seeds before after.out runs.sound orders (suites_have_few_rows m pref seeds runs.sound orders) (put is before out)
+      added (HasFewRows m (length (seeds_kept s m source))) m pref seeds before after.out runs.sound orders (suites_have_few_rows m pref seeds runs.sound orders) (put is before out)
 
-  pub prints_seeds : prints_rows s ≡ true → (before : List ℕ) → start.out ≡ Some before → IsSomeAnd after.out (PrintsSeeds m (seeds_kept m source) before)
+  pub prints_seeds : prints_rows s ≡ true → (before : List ℕ) → start.out ≡ Some before → IsSomeAnd after.out (PrintsSeeds m (seeds_kept s m source) before)
   prints_seeds is before out =
-      added (AreContained (seeds_kept m source)) m pref seeds before after.out runs.sound orders (growth_covers m pref seeds runs.sound orders).kept (put is before out)
+      added (AreContained (seeds_kept s m source)) m pref seeds before after.out runs.sound orders (growth_covers m pref seeds runs.sound orders).kept (put is before out)
 
   pub holds_whole_proof : (s.form ≡ 1) ⊎ (s.form ≡ 2) → (proof : Option (List ℕ)) → told_proof s after.files ≡ Some proof → HoldsWholeProof s seed m seeds proof
   holds_whole_proof known proof is = whole proof (subst (λ found. IfSome found (λ held. IsSomeAnd held (IsProof s seed m seeds))) is proof_told)

@@ -29,7 +29,7 @@ abbrev pub clash : Kinds → Kinds → Bool
 clash a b = excludes_by_kinds a b || excludes_by_kinds b a
 
 -- kinds that are joined clash with what one of them clashes with
-or_or : (a b c d : Bool) → ((a || b) || (c || d)) ≡ ((a || c) || (b || d))
+pub or_or : (a b c d : Bool) → ((a || b) || (c || d)) ≡ ((a || c) || (b || d))
 or_or true b c d = refl
 or_or false true true d = refl
 or_or false true false d = refl

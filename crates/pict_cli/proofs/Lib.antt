@@ -1,8 +1,10 @@
+pub mod Alone
 pub mod Behind
 pub mod Causes
 pub mod Early
 pub mod Headline
 pub mod KindLemmas
+pub mod Measured
 pub mod ProofTexts
 pub mod RangeLemmas
 pub mod Reading

@@ -1,6 +1,6 @@
 -- Settings that words give are in their ranges, and the marks differ.
 use Rattle.std.proofs.Common.{◌≡◌, ℕ, ◌+◌, ◌≤◌, ◌^◌, ◌-◌, inl, inr, arith, Bool, true, false, not, ◌&&◌, ◌||◌, cond, if◌then◌else◌, List, [], ◌∷◌, ◌++◌, length, Option, Some, None, refl, sym, ap, subst, ◌∙◌, append_assoc}
-use Rattle.std.specs.Prelude.{option_map, codes, drop, take, slice_index_or, Ok, Err, Result, nat_le}
+use Rattle.std.specs.Prelude.{filter_map, option_map, codes, drop, take, slice_index_or, Ok, Err, Result, nat_le}
 use Rattle.std.specs.List.{list_any, after_first}
 use Rattle.std.specs.Option.{option_or}
 use Rattle.std.proofs.lemmas.Bool.{and_parts, leb-true, false≢true, cases_Bool, or_left, or_parts, or_right}
@@ -13,9 +13,11 @@ use Rattle.value_text.specs.Texts.{is_same_text}
 use Rattle.cov_model.specs.Names.{is_mark}
 use Rattle.definitions.specs.Settings.{OrderWord, OrderOf, OrderMax, Setting, Order, Separator, Alias, Prefix, SeedFile, ShuffleValues, ShuffleBy, AnyShuffle, CaseCounts, Statistics, Workers, Budget, ProofFile, ProofFormat, MeasureFile, Make, SuspectFile, Settings, defaults, set, setting_of, is_named, has_colon, is_colon, valued_setting, bare_setting, mark_of, order_of, file_of}
 use Rattle.definitions.specs.Words.{Command, has_equal_marks, is_mark_word, set_by, is_faulty, first_faulty, missing_name, read_command, read_words}
+use Rattle.pict_cli.specs.Options.{kind_of, kinds_of}
 use Rattle.pict_cli.specs.Ranges.{IsLeast, AreRanged, AreFit, IsInRange}
 use Rattle.pict_cli.specs.Words.{model_name}
-use Rattle.pict_cli.proofs.WordLemmas.{set_by-push, faulty-alone}
+use Rattle.pict_cli.proofs.Alone.{is_torn, joined_whole, one_whole, whole_unproved}
+use Rattle.pict_cli.proofs.WordLemmas.{about-push, set_by-push, faulty-alone, faulty-parts}
 
 -- a test that was met, and one that wasn't
 either : {X : Type 0} (P : Type 0) (b : Bool) (x y : Option X) (s : X) → (x ≡ Some s → P) → (y ≡ Some s → P) → cond b x y ≡ Some s → P
@@ -172,10 +174,12 @@ same_marks s (MeasureFile name) h apart = apart
 same_marks s (Make n) h apart = apart
 same_marks s (SuspectFile name) h apart = apart
 
--- the words before are read: what they set is in range, and the marks differ unless a word for marks follows
+-- the words before are read: what they set is in range, and the marks differ unless a word for marks follows; and it
+-- isn't both about a suite that is given and about one that is generated
 record AreRead (before after : List (List ℕ)) : Type 0 where
   ranged : AreRanged (set_by before)
   apart : list_any is_mark_word after ≡ false → has_equal_marks (set_by before) ≡ false
+  whole : is_torn (kinds_of (filter_map setting_of before)) ≡ false
 
 -- a word that isn't faulty sets something
 setting_read : (before after : List (List ℕ)) (word : List ℕ) → is_faulty before word after ≡ false → (x : Setting) × (setting_of word ≡ Some x)
@@ -202,6 +206,10 @@ read_more before after word good read =
             ∙ same_marks (set_by before) found.0 (sets_no_mark word found.0 other found.1)
             (read.apart (ap (λ b. b || list_any is_mark_word after) other ∙ none))
       ];
+      whole =
+          ap is_torn (about-push before word found.0 found.1)
+          ∙ joined_whole (kinds_of (filter_map setting_of before)) (kind_of found.0) read.whole (one_whole found.0)
+          (or_parts _ _ (sym (faulty-parts before after word found.0 found.1) ∙ good)).0;
     }
 
 unfaulty : (n : ℕ) (bad : Bool) (later : Option ℕ) → (if bad then Some n else later) ≡ None → (bad ≡ false) × (later ≡ None)
@@ -209,7 +217,11 @@ unfaulty n true later h = absurd (none-some n (sym h))
 unfaulty n false later h = (refl, h)
 
 all_read : (n : ℕ) (before after : List (List ℕ)) → first_faulty n before after ≡ None → AreRead before after → AreFit (set_by (before ++ after))
-all_read n before [] good read = subst (λ words. AreFit (set_by words)) (sym (append-nil before)) (record { ranged = read.ranged; apart = read.apart refl })
+all_read n before [] good read = subst (λ words. AreFit (set_by words)) (sym (append-nil before)) (record {
+  ranged = read.ranged;
+  apart = read.apart refl;
+  unproved = whole_unproved (filter_map setting_of before) read.whole;
+})
 all_read n before (word ∷ after) good read =
     let fine = unfaulty n (is_faulty before word after) (first_faulty (n + 1) (before ++ word ∷ []) after) good in
     subst (λ words. AreFit (set_by words)) (append_assoc before (word ∷ []) after)
@@ -221,6 +233,7 @@ no_words after =
     record {
       ranged = record { order = omega arith; separator = refl; alias = refl; prefix = refl; workers = (omega arith, omega arith) };
       apart = λ none. refl;
+      whole = refl;
     }
 
 pub options_fit : (words : List (List ℕ)) → first_faulty 2 [] words ≡ None → AreFit (set_by words)

@@ -36,8 +36,8 @@ ends_read s seed held source m notes row_notes before loaded after end keeps qui
     ends_loaded s seed held source m notes row_notes before after end read (record {
       sound = runs.sound;
       ends = runs.ends;
-      prints = subst (λ out. Prints (out_text s seed m (rows_of_run m source)) out after.out (end_of end)) quiet runs.prints;
-      writes = proof_from s seed m (rows_of_run m source) before.files loaded.files after.files (end_of end) keeps runs.writes;
+      prints = subst (λ out. Prints (out_text s seed m (rows_of_run s m source)) out after.out (end_of end)) quiet runs.prints;
+      writes = proof_from s seed m (rows_of_run s m source) before.files loaded.files after.files (end_of end) keeps runs.writes;
     })
 
 -- the reading stopped

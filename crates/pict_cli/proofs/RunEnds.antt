@@ -292,11 +292,11 @@ module _ {s : Settings} {seed : ℕ} {name : List ℕ} {start after : Moment} {n
   covers_whole known is = whole _ (λ m runs before told. prints_covering s seed m source row_notes start after runs known is before told)
 
   pub few_whole : prints_rows s ≡ true → end_status end ≡ 0
-      → HasModel (opts_of s) held (λ m noted. (before : List ℕ) → start.out ≡ Some before → IsSomeAnd after.out (PrintsFewRows m (length (seeds_kept m source)) before))
+      → HasModel (opts_of s) held (λ m noted. (before : List ℕ) → start.out ≡ Some before → IsSomeAnd after.out (PrintsFewRows m (length (seeds_kept s m source)) before))
   few_whole is = whole _ (λ m runs before told. prints_few_rows s seed m source row_notes start after runs is before told)
 
   pub seeds_whole : prints_rows s ≡ true → end_status end ≡ 0
-      → HasModel (opts_of s) held (λ m noted. (before : List ℕ) → start.out ≡ Some before → IsSomeAnd after.out (PrintsSeeds m (seeds_kept m source) before))
+      → HasModel (opts_of s) held (λ m noted. (before : List ℕ) → start.out ≡ Some before → IsSomeAnd after.out (PrintsSeeds m (seeds_kept s m source) before))
   seeds_whole is = whole _ (λ m runs before told. prints_seeds s seed m source row_notes start after runs is before told)
 
   pub accepted_whole : (known : (s.form ≡ 1) ⊎ (s.form ≡ 2)) → prints_rows s ≡ true → (proof : Option (List ℕ)) → told_proof s after.files ≡ Some proof → end_status end ≡ 0
@@ -304,7 +304,7 @@ module _ {s : Settings} {seed : ℕ} {name : List ℕ} {start after : Moment} {n
   accepted_whole known is proof told = whole _ (λ m runs before out. prints_accepted s seed m source row_notes start after runs known is proof told before out)
 
   pub proof_whole : (known : (s.form ≡ 1) ⊎ (s.form ≡ 2)) (proof : Option (List ℕ)) → told_proof s after.files ≡ Some proof → end_status end ≡ 0
-      → HasModel (opts_of s) held (λ m noted. HoldsWholeProof s seed m (rows_of_run m source) proof)
+      → HasModel (opts_of s) held (λ m noted. HoldsWholeProof s seed m (rows_of_run s m source) proof)
   proof_whole known proof told = whole _ (λ m runs. holds_whole_proof s seed m source row_notes start after runs known proof told)
 
 -- words that have no reading end with another status

@@ -14,13 +14,11 @@ use Rattle.ipog_grow.specs.declared.suite.Suite.{Suite}
 use Rattle.refutation.specs.Proofs.{format_of, omission_meant}
 use Rattle.refutation.specs.declared.omissions.Omission.{Omission}
 use Rattle.refutation.specs.declared.omissions.ProofForm.{ProofForm}
-use Rattle.definitions.specs.Settings.{Settings}
 use Rattle.definitions.specs.Statistics.{Statistics}
 use Rattle.model_lex.specs.declared.note.Note.{Note}
 use Rattle.tuple_index.specs.Plan.{plan_of}
 use Rattle.command_line.specs.declared.stop.Stop.{Stop}
-use Rattle.pict_cli.specs.Runs.{question_over}
-use Rattle.pict_cli.specs.Steps.{IsSpentOrNoMemory, StopsSuite, is_spent, no_memory, written}
+use Rattle.pict_cli.specs.Steps.{IsSpentOrNoMemory, StopsWork, is_spent, no_memory, written}
 
 -- the number of omitted tuples
 pub omitted_count : (m : ModelView) (pref : List (List ℕ)) (seeds : List (ℕ × List (Option ℕ))) (asked : Option ProofForm) (suite : Suite)
@@ -52,11 +50,11 @@ pub if_err_of : {A : Type 0} (P : Stop → Type 0) (result : Result A Stop) (sto
 if_err_of P (Ok value) stop none holds = tt
 if_err_of P (Err other) stop is holds = subst P (sym is) holds
 
--- a suite stops
-pub search_stopped : (s : Settings) (seed : ℕ) (m : ModelView) (seeds : List (ℕ × List (Option ℕ))) (notes : List Note) (stop : Stop)
-    → IsSpentOrNoMemory s.budget (question_over s seed m seeds) stop → StopsSuite s seed m seeds notes notes stop
-search_stopped s seed m seeds notes stop (inl is) = no_memory 0 is (sym (append-nil notes))
-search_stopped s seed m seeds notes stop (inr spent) = is_spent spent.0 spent.1 spent.2 refl
+-- a search stops
+pub search_stopped : (budget : ℕ) (over : Option (List (Option ℕ))) (later notes : List Note) (stop : Stop)
+    → IsSpentOrNoMemory budget over stop → StopsWork budget over later notes notes stop
+search_stopped budget over later notes stop (inl is) = no_memory 0 is (sym (append-nil notes))
+search_stopped budget over later notes stop (inr spent) = is_spent spent.0 spent.1 spent.2 refl
 
 -- the statistics
 pub same_statistics : (a b : Statistics) → a.sets ≡ b.sets → a.tuples ≡ b.tuples → a.omitted ≡ b.omitted → a.kept ≡ b.kept → a.tests ≡ b.tests → a ≡ b

@@ -1,27 +1,56 @@
--- What a run does, by what its words set. (PICT's guide for reports, seed rows and statistics.)
+-- What a run does, by what its words set. (PICT's guide for reports, seed rows and statistics; that a given suite is
+-- measured is this project's rule.)
 use Rattle.std.specs.Prelude.{ℕ, Bool, true, false, List, Option, Some, None, option_map, if◌then◌else◌}
 use Rattle.outside_io.specs.Files.{Files}
+use Rattle.definitions.specs.RowReading.{RowMode, Seed, Suite}
 use Rattle.definitions.specs.Settings.{Settings}
 
--- it generates a suite, and prints its report or its statistics
+-- what is printed of a suite
+pub data Output : Type 0 where
+  Report : Output
+  Statistics : Output
+
+-- it generates a suite, or measures the one of the file of this name
 pub data Mode : Type 0 where
-  Report : Mode
-  Statistics : Mode
+  Generate : Output → Mode
+  Measure : List ℕ → Mode
+
+abbrev pub output_of : Settings → Output
+output_of s = if s.stats then Statistics else Report
+
+abbrev pub mode_in : Option (List ℕ) → Output → Mode
+mode_in (Some name) output = Measure name
+mode_in None output = Generate output
 
 abbrev pub mode_of : Settings → Mode
-mode_of s = if s.stats then Statistics else Report
+mode_of s = mode_in s.measure (output_of s)
+
+-- it generates a suite
+abbrev pub makes_suite : Mode → Bool
+makes_suite (Generate output) = true
+makes_suite (Measure name) = false
 
 -- it prints the rows of a suite
 abbrev pub is_report : Mode → Bool
-is_report Report = true
-is_report Statistics = false
+is_report (Generate Report) = true
+is_report (Generate Statistics) = false
+is_report (Measure name) = false
 
 abbrev pub prints_rows : Settings → Bool
 prints_rows s = is_report (mode_of s)
 
--- the name of its row file, where it has one
+-- how the row file is read
+abbrev pub row_mode : Mode → RowMode
+row_mode (Generate output) = Seed
+row_mode (Measure name) = Suite
+
+-- the name of its row file, where it has one: the file of seed rows, or that of the suite
+abbrev pub row_file_in : Mode → Option (List ℕ) → Option (List ℕ)
+row_file_in (Generate output) seeds = seeds
+row_file_in (Measure name) seeds = Some name
+
 abbrev pub row_file : Settings → Option (List ℕ)
-row_file s = s.seeds
+row_file s = row_file_in (mode_of s) s.seeds
 
 -- what the row file holds, where the words name one: it may not be there
 pub data RowSource : Type 0 where

@@ -8,6 +8,8 @@ use Rattle.pict_cli.specs.Modes as modes
 use Rattle.pict_cli.specs.declared.kinds.Kinds.{Kinds}
 use Rattle.pict_cli.specs.declared.modes.Mode.{Mode}
 use Rattle.pict_cli.specs.declared.modes.Mode.TheVariants as kinds
+use Rattle.pict_cli.specs.declared.modes.Output.{Output}
+use Rattle.pict_cli.specs.declared.modes.Output.TheVariants as outputs
 use Rattle.pict_cli.specs.declared.options.Opts.{Opts}
 use Rattle.refutation.specs.Proofs.{format_of}
 use Rattle.command_line.specs.Settings.{order_seen, shuffle_seen}
@@ -32,10 +34,14 @@ settings_seen o = record {
   suspect = option_map (λ name. name.now) o.suspect;
 }
 
--- what the run does
+-- what the run does, and prints of a suite
+abbrev pub output_seen : Output → modes.Output
+output_seen outputs.Report = modes.Report
+output_seen outputs.Statistics = modes.Statistics
+
 abbrev pub mode_seen : Mode → modes.Mode
-mode_seen kinds.Report = modes.Report
-mode_seen kinds.Statistics = modes.Statistics
+mode_seen (kinds.Generate output) = modes.Generate (output_seen output)
+mode_seen (kinds.Measure name) = modes.Measure name.now
 
 -- the whole command
 abbrev pub command_seen : Opts → Command

@@ -1,9 +1,10 @@
 -- What is known of settings that words have given. (PICT's guide for marks and orders; the ranges are this
 -- project's rules.)
-use Rattle.std.specs.Prelude.{◌≡◌, ℕ, ◌≤◌, true, false}
+use Rattle.std.specs.Prelude.{◌≡◌, ℕ, ◌≤◌, true, false, None}
 use Rattle.cov_model.specs.Names.{is_mark}
 use Rattle.definitions.specs.Settings.{OrderWord, OrderOf, OrderMax, Setting, Order, Separator, Alias, Prefix, SeedFile, ShuffleValues, CaseCounts, Statistics, Workers, Budget, ProofFile, ProofFormat, MeasureFile, Make, SuspectFile, Settings}
 use Rattle.definitions.specs.Words.{has_equal_marks}
+use Rattle.pict_cli.specs.Modes.{makes_suite, mode_of}
 
 -- an order that is a number is at least 1
 abbrev pub IsLeast : OrderWord → Type 0
@@ -22,10 +23,11 @@ pub record AreRanged (s : Settings) : Type 0 where
   pub prefix : is_mark s.prefix ≡ true
   pub workers : AreWorkers s.workers
 
--- and the three marks differ
+-- and the three marks differ, and only a run that generates a suite has a proof file
 pub record AreFit (s : Settings) : Type 0 where
   pub ranged : AreRanged s
   pub apart : has_equal_marks s ≡ false
+  pub unproved : makes_suite (mode_of s) ≡ false → s.proof ≡ None
 
 -- what one word may set is in its range
 abbrev pub IsInRange : Setting → Type 0

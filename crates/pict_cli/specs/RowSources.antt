@@ -14,7 +14,7 @@ use Rattle.command_line.specs.declared.files.FileKind.TheVariants as kinds
 use Rattle.command_line.specs.declared.stop.Quantity.TheVariants as quantities
 use Rattle.command_line.specs.declared.stop.Stop.{Stop}
 use Rattle.command_line.specs.declared.stop.Stop.TheVariants.{BadRows, CannotRead, TooLong, TooMany}
-use Rattle.pict_cli.specs.Modes.{RowSource, NoRowFile, RowsHeld}
+use Rattle.pict_cli.specs.Modes.{Generate, Measure, Mode, NoRowFile, RowSource, RowsHeld}
 
 -- the stop of a refusal of the row file
 abbrev pub stop_of_rows : defined.RowsFault → Stop
@@ -44,18 +44,20 @@ abbrev pub reading_or_none : Result RowReading Stop → RowReading
 reading_or_none (Ok reading) = reading
 reading_or_none (Err stop) = no_rows
 
-abbrev pub rows_in : ModelView → RowMode → RowSource → List (ℕ × List (Option ℕ))
-rows_in m mode source = (reading_or_none (read_source m mode source)).rows
-
--- the notes on the row file, and those on seed rows that aren't kept
+-- the notes on the row file
 abbrev pub notes_on : RowReading → List Note
 notes_on reading = map note_told reading.notes
 
+-- those on seed rows that aren't kept, which come once there is a suite
 abbrev pub dropped_note : ℕ → Note
 dropped_note line = record { line = line; code = RowDropped }
 
 abbrev pub dropped_notes : ModelView → List (ℕ × List (Option ℕ)) → List Note
 dropped_notes m seeds = map dropped_note (dropped_lines m seeds)
+
+abbrev pub later_notes : Mode → ModelView → List (ℕ × List (Option ℕ)) → List Note
+later_notes (Generate output) m rows = dropped_notes m rows
+later_notes (Measure name) m rows = []
 
 abbrev pub stop_in : Result RowReading Stop → Option Stop
 stop_in (Ok reading) = None

@@ -15,17 +15,18 @@ use Rattle.cov_model.specs.Rows.{contains}
 use Rattle.cov_model.specs.Valid.{is_valid, serves}
 use Rattle.definitions.specs.Covering.{HasFewRows, IsUnserved}
 use Rattle.definitions.specs.Demand.{demanded_tuples}
+use Rattle.definitions.specs.Figures.{figures}
 use Rattle.definitions.specs.Growth.{Grown, growth}
 use Rattle.definitions.specs.Limits.{ModelFile, most_bytes}
 use Rattle.definitions.specs.Pairs.{pairs_of}
 use Rattle.definitions.specs.ProofText.{Omission, omissions_of}
 use Rattle.definitions.specs.Report.{report_text}
 use Rattle.definitions.specs.RowFile.{rows_of}
-use Rattle.definitions.specs.RowReading.{Seed}
-use Rattle.definitions.specs.Search.{first_over}
+use Rattle.definitions.specs.RowReading.{RowReading}
+use Rattle.definitions.specs.Search.{first_measured_over, first_over}
 use Rattle.definitions.specs.Seeds.{kept_seeds}
 use Rattle.definitions.specs.Statistics as told
-use Rattle.definitions.specs.Statistics.{statistics, statistics_text}
+use Rattle.definitions.specs.Statistics.{figures_text, statistics, statistics_text}
 use Rattle.definitions.specs.SuiteLaws.{IsRefutedIn, ListsUnserved}
 use Rattle.definitions.specs.SuiteProof.{IsProofOfSuite}
 use Rattle.definitions.specs.Verdict.{Accepted, verdict}
@@ -39,8 +40,8 @@ use Rattle.command_line.specs.declared.stop.Stop.{Stop}
 use Rattle.command_line.specs.declared.stop.Stop.TheVariants.{OutOfMemory, Spent, CannotRead, CannotWrite, CannotWriteReport}
 use Rattle.command_line.specs.declared.files.FileKind.TheVariants as kinds
 use Rattle.pict_cli.specs.Ends.{CountsReads, CountsWrites, End, Moment, Prints, Unprinted, Unwritten, Whole, end_of}
-use Rattle.pict_cli.specs.Modes.{Mode, Report, RowSource, Statistics, mode_of, row_file}
-use Rattle.pict_cli.specs.RowSources.{dropped_notes, notes_on, read_source, reading_or_none, rows_in, stop_in}
+use Rattle.pict_cli.specs.Modes.{Generate, Measure, Mode, Output, Report, RowSource, Statistics, mode_of, row_file, row_mode}
+use Rattle.pict_cli.specs.RowSources.{later_notes, notes_on, read_source, reading_or_none, stop_in}
 
 -- how the model file is to be read
 abbrev pub order_word : OrderWord → words.OrderWord
@@ -68,14 +69,19 @@ orders_of s seed m = preference m (shuffled_by s.shuffle seed)
 abbrev pub growth_of : Settings → ℕ → ModelView → List (ℕ × List (Option ℕ)) → Grown
 growth_of s seed m seeds = growth m (orders_of s seed m) seeds
 
--- the text for standard output, by what the run does: of these rows with these statistics
-abbrev pub suite_text : Mode → ModelView → List (List (Option ℕ)) → told.Statistics → List ℕ
+-- the text of a suite with these rows and these statistics
+abbrev pub suite_text : Output → ModelView → List (List (Option ℕ)) → told.Statistics → List ℕ
 suite_text Report m rows numbers = report_text m rows
 suite_text Statistics m rows numbers = statistics_text numbers
 
--- of the suite
+-- the text for standard output, by what the run does: of the suite that is grown from the rows of the row file, or the
+-- figures of the suite that these are
+abbrev pub text_in : Mode → Settings → ℕ → ModelView → List (ℕ × List (Option ℕ)) → List ℕ
+text_in (Generate output) s seed m rows = suite_text output m (growth_of s seed m rows).rows (statistics m (orders_of s seed m) rows)
+text_in (Measure name) s seed m rows = figures_text (figures m (map (λ row. row.1) rows))
+
 abbrev pub out_text : Settings → ℕ → ModelView → List (ℕ × List (Option ℕ)) → List ℕ
-out_text s seed m seeds = suite_text (mode_of s) m (growth_of s seed m seeds).rows (statistics m (orders_of s seed m) seeds)
+out_text s seed m rows = text_in (mode_of s) s seed m rows
 
 -- the bytes are the proof of the suite, in the format that is asked for
 abbrev pub IsProof : Settings → ℕ → ModelView → List (ℕ × List (Option ℕ)) → List ℕ → Type 0
@@ -85,19 +91,29 @@ IsProof s seed m seeds bytes = IsProofOfSuite m (orders_of s seed m) seeds s.for
 abbrev pub names_of : List ℕ → Settings → NamesView
 names_of model s = record { model = model; rows = unwrap_or (row_file s) []; proof = unwrap_or s.proof [] }
 
--- the first question of the run whose plain cost is above the budget
+-- the first question whose plain cost is above the budget: of growth, and of the run
+abbrev pub growth_over : Settings → ℕ → ModelView → List (ℕ × List (Option ℕ)) → Option (List (Option ℕ))
+growth_over s seed m seeds = first_over m (orders_of s seed m) s.budget (growth_of s seed m seeds).asked
+
+abbrev pub over_in : Mode → Settings → ℕ → ModelView → List (ℕ × List (Option ℕ)) → Option (List (Option ℕ))
+over_in (Generate output) s seed m rows = growth_over s seed m rows
+over_in (Measure name) s seed m rows = first_measured_over m s.budget
+
 abbrev pub question_over : Settings → ℕ → ModelView → List (ℕ × List (Option ℕ)) → Option (List (Option ℕ))
-question_over s seed m seeds = first_over m (orders_of s seed m) s.budget (growth_of s seed m seeds).asked
+question_over s seed m rows = over_in (mode_of s) s seed m rows
 
--- the rows that the run reads, and the notes on their file
-abbrev pub rows_of_run : ModelView → RowSource → List (ℕ × List (Option ℕ))
-rows_of_run m source = rows_in m Seed source
+-- the reading of the row file in the run's mode; the rows that the run reads, and the notes on their file
+abbrev pub reading_of : Settings → ModelView → RowSource → Result RowReading Stop
+reading_of s m source = read_source m (row_mode (mode_of s)) source
 
-abbrev pub file_notes : ModelView → RowSource → List Note
-file_notes m source = notes_on (reading_or_none (read_source m Seed source))
+abbrev pub rows_of_run : Settings → ModelView → RowSource → List (ℕ × List (Option ℕ))
+rows_of_run s m source = (reading_or_none (reading_of s m source)).rows
 
-abbrev pub all_notes : ModelView → RowSource → List Note
-all_notes m source = file_notes m source ++ dropped_notes m (rows_of_run m source)
+abbrev pub file_notes : Settings → ModelView → RowSource → List Note
+file_notes s m source = notes_on (reading_or_none (reading_of s m source))
+
+abbrev pub all_notes : Settings → ModelView → RowSource → List Note
+all_notes s m source = file_notes s m source ++ later_notes (mode_of s) m (rows_of_run s m source)
 
 -- the stop of a question above the budget
 abbrev pub spent_on : Settings → List (Option ℕ) → Stop
@@ -108,7 +124,7 @@ spent_on s question = Spent s.budget (pairs_of question)
 abbrev pub stop_due : Settings → ℕ → ModelView → RowSource → Option Stop
 stop_due s seed m source =
     option_or (option_map stop_of_plan (limit_passed m))
-    (option_or (stop_in (read_source m Seed source)) (option_map (spent_on s) (question_over s seed m (rows_of_run m source))))
+    (option_or (stop_in (reading_of s m source)) (option_map (spent_on s) (question_over s seed m (rows_of_run s m source))))
 
 -- the notes on the row file that are told before such a stop: those of its reading, where that came before
 abbrev pub notes_before : Stop → List Note → List Note
@@ -132,14 +148,14 @@ HasModel opts held P = IsSomeAnd held (SpellsModel opts P)
 -- wanted, and the first of the notes are told; the folder fails to read the row file; it stops as it must; and, where it
 -- needn't stop, the proof file or the output can't be written
 pub data EndsBehind (s : Settings) (seed : ℕ) (m : ModelView) (source : RowSource) (row_notes : List Note) (end : Result (Unit {0}) Stop) : Type 0 where
-  comes_whole : end ≡ Ok tt → stop_due s seed m source ≡ None → row_notes ≡ all_notes m source → EndsBehind s seed m source row_notes end
-  no_memory : (count : ℕ) → end ≡ Err OutOfMemory → row_notes ≡ take count (all_notes m source) → EndsBehind s seed m source row_notes end
+  comes_whole : end ≡ Ok tt → stop_due s seed m source ≡ None → row_notes ≡ all_notes s m source → EndsBehind s seed m source row_notes end
+  no_memory : (count : ℕ) → end ≡ Err OutOfMemory → row_notes ≡ take count (all_notes s m source) → EndsBehind s seed m source row_notes end
   rows_unread : end ≡ Err (CannotRead kinds.Rows) → limit_passed m ≡ None → row_notes ≡ [] → EndsBehind s seed m source row_notes end
-  must_stop : (stop : Stop) → end ≡ Err stop → stop_due s seed m source ≡ Some stop → row_notes ≡ notes_before stop (file_notes m source)
+  must_stop : (stop : Stop) → end ≡ Err stop → stop_due s seed m source ≡ Some stop → row_notes ≡ notes_before stop (file_notes s m source)
       → EndsBehind s seed m source row_notes end
   cannot_write_proof : (name : List ℕ) → end ≡ Err (CannotWrite kinds.Proof) → s.proof ≡ Some name → stop_due s seed m source ≡ None
-      → row_notes ≡ all_notes m source → EndsBehind s seed m source row_notes end
-  cannot_write : end ≡ Err CannotWriteReport → stop_due s seed m source ≡ None → row_notes ≡ all_notes m source → EndsBehind s seed m source row_notes end
+      → row_notes ≡ all_notes s m source → EndsBehind s seed m source row_notes end
+  cannot_write : end ≡ Err CannotWriteReport → stop_due s seed m source ≡ None → row_notes ≡ all_notes s m source → EndsBehind s seed m source row_notes end
 
 -- what is told of the proof file's name after such an end, where that was told before: the file holds the proof once it
 -- was written, a prefix of it or what it held where that failed, and else what it held
@@ -159,8 +175,8 @@ WritesProof s seed m seeds files files_after end = IfSome s.proof (λ name. Hold
 pub record RunsModel (s : Settings) (seed : ℕ) (m : ModelView) (source : RowSource) (row_notes : List Note) (before after : Moment) (end : Result (Unit {0}) Stop) : Type 0 where
   pub sound : IsSound m
   pub ends : EndsBehind s seed m source row_notes end
-  pub prints : Prints (out_text s seed m (rows_of_run m source)) before.out after.out (end_of end)
-  pub writes : WritesProof s seed m (rows_of_run m source) before.files after.files (end_of end)
+  pub prints : Prints (out_text s seed m (rows_of_run s m source)) before.out after.out (end_of end)
+  pub writes : WritesProof s seed m (rows_of_run s m source) before.files after.files (end_of end)
 
 -- how a run on a model file and a row file may end, with which notes, what it prints, and what it writes: the reading of
 -- the model stopped, or there is a model
@@ -234,5 +250,5 @@ abbrev pub IsStatus : ℕ → Type 0
 IsStatus status = list_any (λ s. s == status) (0 ∷ 1 ∷ 2 ∷ 3 ∷ 4 ∷ 5 ∷ 6 ∷ 7 ∷ 8 ∷ 9 ∷ []) ≡ true
 
 -- the kept seed rows of the run
-abbrev pub seeds_kept : ModelView → RowSource → List (List (Option ℕ))
-seeds_kept m source = kept_seeds m (rows_of_run m source)
+abbrev pub seeds_kept : Settings → ModelView → RowSource → List (List (Option ℕ))
+seeds_kept s m source = kept_seeds m (rows_of_run s m source)

@@ -16,8 +16,8 @@ use Rattle.command_line.specs.declared.stop.Stop.{Stop}
 use Rattle.command_line.specs.declared.stop.Stop.TheVariants.{OutOfMemory, Spent, CannotRead}
 use Rattle.pict_cli.specs.Ends.{Leaves, Moment, Stopped, end_of}
 use Rattle.pict_cli.specs.Modes.{RowSource, row_source}
-use Rattle.pict_cli.specs.RowSources.{dropped_notes, read_source}
-use Rattle.pict_cli.specs.Runs.{Ends, question_over, spent_on}
+use Rattle.pict_cli.specs.RowSources.{read_source}
+use Rattle.pict_cli.specs.Runs.{Ends}
 
 -- the text of a proof of this form with these omissions
 abbrev pub written : ProofForm → List Omission → List ℕ
@@ -43,11 +43,12 @@ IsOfRows stop = (stop ≡ CannotRead kinds.Rows) ⊎ (end_of (Err stop) ≡ Stop
 abbrev pub IsSpentOrNoMemory : ℕ → Option (List (Option ℕ)) → Stop → Type 0
 IsSpentOrNoMemory budget over stop = (stop ≡ OutOfMemory) ⊎ ((question : List (Option ℕ)) × (stop ≡ Spent budget (pairs_of question)) × (over ≡ Some question))
 
--- a suite stopped: for want of memory, or at the first question above the budget, before which no more notes are told
-pub data StopsSuite (s : Settings) (seed : ℕ) (m : ModelView) (seeds : List (ℕ × List (Option ℕ))) (notes notes_after : List Note) (stop : Stop) : Type 0 where
-  no_memory : (count : ℕ) → stop ≡ OutOfMemory → notes_after ≡ notes ++ take count (dropped_notes m seeds) → StopsSuite s seed m seeds notes notes_after stop
-  is_spent : (question : List (Option ℕ)) → stop ≡ spent_on s question → question_over s seed m seeds ≡ Some question → notes_after ≡ notes
-      → StopsSuite s seed m seeds notes notes_after stop
+-- the work on the rows stopped: for want of memory, or at the first question above the budget, before which none of the
+-- later notes are told
+pub data StopsWork (budget : ℕ) (over : Option (List (Option ℕ))) (later notes notes_after : List Note) (stop : Stop) : Type 0 where
+  no_memory : (count : ℕ) → stop ≡ OutOfMemory → notes_after ≡ notes ++ take count later → StopsWork budget over later notes notes_after stop
+  is_spent : (question : List (Option ℕ)) → stop ≡ Spent budget (pairs_of question) → over ≡ Some question → notes_after ≡ notes
+      → StopsWork budget over later notes notes_after stop
 
 -- a run on the model file of this name ended so, from one moment to another
 pub record Ran (s : Settings) (seed : ℕ) (name : List ℕ) (before after : Moment) (notes row_notes : List Note) (end : Result (Unit {0}) Stop) : Type 0 where

@@ -32,7 +32,7 @@ is_unbuilt (Workers n) = false
 is_unbuilt (Budget n) = false
 is_unbuilt (ProofFile name) = false
 is_unbuilt (ProofFormat n) = false
-is_unbuilt (MeasureFile name) = true
+is_unbuilt (MeasureFile name) = false
 is_unbuilt (Make n) = true
 is_unbuilt (SuspectFile name) = true
 

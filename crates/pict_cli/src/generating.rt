@@ -1,13 +1,14 @@
 ghost use Rattle.std.specs.Prelude.{◌≡◌, ℕ, List, [], Some};
 ghost use Rattle.pict_cli.specs.Ends.{Leaves, end_of, moment};
-ghost use Rattle.pict_cli.specs.Modes.{RowSource, row_source};
-ghost use Rattle.pict_cli.specs.Options.{settings_seen};
+ghost use Rattle.pict_cli.specs.Modes.{Generate, RowSource, mode_of, row_source};
+ghost use Rattle.pict_cli.specs.Options.{output_seen, settings_seen};
 ghost use Rattle.pict_cli.specs.Ranges.{AreFit};
 ghost use Rattle.pict_cli.specs.Runs.{RunsModel};
 
+use crate::modes::Output;
 use crate::options::Opts;
+use crate::preparing::prepare;
 use crate::printing::write_suite;
-use crate::rows::load_rows;
 use crate::suite::make_suite;
 use command_line::Stop;
 use cov_model::TestModel;
@@ -16,7 +17,6 @@ use outside_io::{Folder, Sink};
 use row_text::{RowFile, RowMode};
 use std::alloc::Global;
 use std::thread::Threads;
-use tuple_index::Plan;
 use value_text::OwnedList;
 
 /// Generates the suite of a model from the seed rows that the options name, and writes its proof and what is printed
@@ -27,17 +27,19 @@ use value_text::OwnedList;
 /// `TooMany` where the model demands too much, a stop of the row file, `Spent` where a question costs too much,
 /// `CannotWrite` where the folder failed, `CannotWriteReport` where `out` did, `OutOfMemory` where memory was
 /// refused.
-pub(crate) fn run_model<R: Threads + Sync, F: Folder, O: Sink>(
+pub(crate) fn run_generating<R: Threads + Sync, F: Folder, O: Sink>(
     rt: &R,
     alloc: Global,
     model: &TestModel,
     opts: &Opts<'_>,
+    output: Output,
     seed_word: u64,
     files: &mut F,
     out: &mut O,
     row_notes: &mut NoteList,
 ) -> Result<(), Stop>
     requires fit { AreFit (settings_seen opts.now) }
+    requires mode { mode_of (settings_seen opts.now) ≡ Generate (output_seen output) }
     requires none { row_notes.old ≡ [] }
     ensures runs { (source : RowSource) → row_source (settings_seen opts.now) (F.file files.old) ≡ Some source → RunsModel (settings_seen opts.now) seed_word model.now source row_notes.new
         (moment (F.file files.old) (F.read_faults files.old) (F.write_faults files.old) (O.written out.old) (O.faults out.old))
@@ -46,13 +48,13 @@ pub(crate) fn run_model<R: Threads + Sync, F: Folder, O: Sink>(
         (moment (F.file files.new) (F.read_faults files.new) (F.write_faults files.new) (O.written out.new) (O.faults out.new)) (end_of result) }
 {
     model.assert_invariant();
-    let plan = Plan::new(alloc, model)?;
-    let file = load_rows(alloc, opts.seeds, RowMode::Seed, model, files)?;
+    let ready = prepare(alloc, model, opts, RowMode::Seed, files)?;
+    let plan = ready.plan;
     let seeds = RowFile {
-        rows: file.rows,
+        rows: ready.file.rows,
         notes: OwnedList::new(alloc),
     };
-    *row_notes = file.notes;
-    let mut ready = make_suite(rt, alloc, model, &plan, &seeds, opts, seed_word, row_notes)?;
-    write_suite(model, opts, &mut ready, files, out)
+    *row_notes = ready.file.notes;
+    let mut suite = make_suite(rt, alloc, model, &plan, &seeds, opts, seed_word, row_notes)?;
+    write_suite(model, opts, output, &mut suite, files, out)
 }

@@ -9,7 +9,7 @@ ghost use Rattle.command_line.specs.Settings.{shuffle_seen};
 ghost use Rattle.pict_cli.specs.Ends.{Stopped, end_of};
 ghost use Rattle.pict_cli.specs.Options.{settings_seen};
 ghost use Rattle.pict_cli.specs.Ranges.{AreFit};
-ghost use Rattle.pict_cli.specs.Runs.{orders_of, question_over, shuffled_by};
+ghost use Rattle.pict_cli.specs.Runs.{orders_of, growth_over, shuffled_by};
 ghost use Rattle.pict_cli.specs.Steps.{IsSpentOrNoMemory};
 
 use crate::options::Opts;
@@ -64,8 +64,8 @@ pub(crate) fn grow<R: Threads + Sync>(
     requires few { length seeds.now.rows ≤ 2 ^ 20 }
     requires fit { AreFit (settings_seen opts.now) }
     ensures suite { IfOk result (IsSuiteOf model.now (orders_of (settings_seen opts.now) seed_word model.now) (seeds_seen seeds.now) (option_map (λ _. opts.now.form) opts.now.proof)) }
-    ensures answered { OnOk result (question_over (settings_seen opts.now) seed_word model.now (seeds_seen seeds.now) ≡ None) }
-    ensures stops { IfErr result (IsSpentOrNoMemory opts.now.budget (question_over (settings_seen opts.now) seed_word model.now (seeds_seen seeds.now))) }
+    ensures answered { OnOk result (growth_over (settings_seen opts.now) seed_word model.now (seeds_seen seeds.now) ≡ None) }
+    ensures stops { IfErr result (IsSpentOrNoMemory opts.now.budget (growth_over (settings_seen opts.now) seed_word model.now (seeds_seen seeds.now))) }
     ensures early { IfErr result (λ stop. end_of (Err stop) ≡ Stopped) }
 {
     let number = shuffle_number(opts.shuffle, seed_word);

@@ -35,10 +35,10 @@ pub fn run_pict_in_memory<R: Threads + Sync>(
     // contained in a row
     ensures few { result ≡ 0 → IsOkAnd (asked_by (texts words.now)) (λ s. prints_rows s ≡ true →
         HasModel (opts_of s) (file_of files.old.slots (model_file words.now)) (λ m notes.
-        PrintsFewRows m (length (seeds_kept m (source_of files.old.slots s))) out.old.bytes out.new.bytes)) }
+        PrintsFewRows m (length (seeds_kept s m (source_of files.old.slots s))) out.old.bytes out.new.bytes)) }
     ensures seeds { result ≡ 0 → IsOkAnd (asked_by (texts words.now)) (λ s. prints_rows s ≡ true →
         HasModel (opts_of s) (file_of files.old.slots (model_file words.now)) (λ m notes.
-        PrintsSeeds m (seeds_kept m (source_of files.old.slots s)) out.old.bytes out.new.bytes)) }
+        PrintsSeeds m (seeds_kept s m (source_of files.old.slots s)) out.old.bytes out.new.bytes)) }
 {
     run_pict(rt, alloc, words, files, out, diag, seed_word)
 }

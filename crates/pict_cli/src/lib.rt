@@ -15,14 +15,17 @@ mod generating;
 mod growing;
 mod in_memory;
 mod kinds;
+mod measuring;
 mod modes;
 mod options;
+mod preparing;
 mod printing;
 mod proof;
 mod rows;
 mod run;
 mod suite;
 mod words;
+mod working;
 
 pub use command_line::Shuffle;
 pub use in_memory::run_pict_in_memory;

@@ -1,27 +1,56 @@
-ghost use Rattle.std.specs.Prelude.{◌≡◌};
-ghost use Rattle.pict_cli.specs.Modes.{mode_of};
-ghost use Rattle.pict_cli.specs.Options.{mode_seen, settings_seen};
+ghost use Rattle.std.specs.Prelude.{◌≡◌, option_map};
+ghost use Rattle.pict_cli.specs.Modes.{mode_of, output_of, row_file};
+ghost use Rattle.pict_cli.specs.Options.{mode_seen, output_seen, settings_seen};
 
 use crate::options::Opts;
 
-/// What a run does, by its words (PICT's guide).
+/// What is printed of a suite that is generated (PICT's guide).
 #[derive(Drop, Clone, Copy)]
-pub(crate) enum Mode {
-    /// It generates a suite and prints its report.
+pub(crate) enum Output {
+    /// Its report.
     Report,
-    /// It generates a suite and prints its statistics.
+    /// Its statistics.
     Statistics,
 }
 
-impl Opts<'_> {
-    /// What the run does.
-    pub(crate) fn mode(&self) -> Mode
-        ensures { mode_seen result ≡ mode_of (settings_seen self.now) }
+/// What a run does, by its words.
+#[derive(Drop, Clone, Copy)]
+pub(crate) enum Mode<'w> {
+    /// It generates a suite.
+    Generate(Output),
+    /// It measures the suite of the file of this name.
+    Measure(&'w str),
+}
+
+impl<'w> Opts<'w> {
+    /// What is printed of a suite.
+    fn output(&self) -> Output
+        ensures { output_seen result ≡ output_of (settings_seen self.now) }
     {
         if self.stats {
-            Mode::Statistics
+            Output::Statistics
         } else {
-            Mode::Report
+            Output::Report
+        }
+    }
+
+    /// What the run does.
+    pub(crate) fn mode(&self) -> Mode<'w>
+        ensures { mode_seen result ≡ mode_of (settings_seen self.now) }
+    {
+        match self.measure {
+            Some(name) => Mode::Measure(name),
+            None => Mode::Generate(self.output()),
+        }
+    }
+
+    /// The name of the row file, where the run has one.
+    pub(crate) fn row_file(&self) -> Option<&'w str>
+        ensures { option_map (λ name. name.now) result ≡ row_file (settings_seen self.now) }
+    {
+        match self.mode() {
+            Mode::Generate(_) => self.seeds,
+            Mode::Measure(name) => Some(name),
         }
     }
 }

@@ -4,11 +4,10 @@ ghost use Rattle.cov_model.specs.Valid.{is_row};
 ghost use Rattle.row_text.specs.Told.{statistics_seen};
 ghost use Rattle.row_text.specs.Turns.{AreMadeFor};
 ghost use Rattle.pict_cli.specs.Ends.{CountsOut, Leaves, Prints, end_of, moment};
-ghost use Rattle.pict_cli.specs.Modes.{mode_of};
-ghost use Rattle.pict_cli.specs.Options.{mode_seen, settings_seen};
+ghost use Rattle.pict_cli.specs.Options.{output_seen, settings_seen};
 ghost use Rattle.pict_cli.specs.Runs.{IsProof, WritesProof, suite_text};
 
-use crate::modes::Mode;
+use crate::modes::Output;
 use crate::options::Opts;
 use crate::proof::write_proof;
 use crate::suite::ReadySuite;
@@ -17,49 +16,49 @@ use cov_model::TestModel;
 use outside_io::{Folder, Sink, WriteAnswer};
 use row_text::{put_report, put_stats};
 
-/// Writes what a run of this mode prints of a suite.
+/// Writes what is printed of a suite.
 fn put_suite<O: Sink>(
     model: &TestModel,
-    mode: Mode,
+    output: Output,
     ready: &mut ReadySuite,
     out: &mut O,
 ) -> WriteAnswer
     requires rows { All (λ row. is_row model.now row ≡ true) ready.old.rows }
     requires turns { AreMadeFor model.now ready.old.turns }
-    ensures puts { Puts result (O.written out.old) (O.written out.new) (suite_text (mode_seen mode) model.now ready.old.rows (statistics_seen ready.old.stats)) }
+    ensures puts { Puts result (O.written out.old) (O.written out.new) (suite_text (output_seen output) model.now ready.old.rows (statistics_seen ready.old.stats)) }
     ensures counts { CountsFaults result (O.faults out.old) (O.faults out.new) }
 {
-    match mode {
-        Mode::Report => put_report(model, &ready.rows, &mut ready.turns, out),
-        Mode::Statistics => put_stats(&ready.stats, out),
+    match output {
+        Output::Report => put_report(model, &ready.rows, &mut ready.turns, out),
+        Output::Statistics => put_stats(&ready.stats, out),
     }
 }
 
-/// Writes what the options ask to be printed of a suite.
+/// Writes what is printed of a suite.
 ///
 /// # Errors
 ///
 /// `CannotWriteReport` where `out` failed.
 fn print<O: Sink>(
     model: &TestModel,
-    opts: &Opts<'_>,
+    output: Output,
     ready: &mut ReadySuite,
     out: &mut O,
 ) -> Result<(), Stop>
     requires rows { All (λ row. is_row model.now row ≡ true) ready.old.rows }
     requires turns { AreMadeFor model.now ready.old.turns }
-    ensures prints { Prints (suite_text (mode_of (settings_seen opts.now)) model.now ready.old.rows (statistics_seen ready.old.stats)) (O.written out.old) (O.written out.new) (end_of result) }
+    ensures prints { Prints (suite_text (output_seen output) model.now ready.old.rows (statistics_seen ready.old.stats)) (O.written out.old) (O.written out.new) (end_of result) }
     ensures faults { CountsOut (end_of result) (O.faults out.old) (O.faults out.new) }
     ensures stops { IfErr result (λ stop. stop ≡ Stop.CannotWriteReport) }
 {
-    match put_suite(model, opts.mode(), ready, out) {
+    match put_suite(model, output, ready, out) {
         WriteAnswer::Done => Ok(()),
         WriteAnswer::Failed => Err(Stop::CannotWriteReport),
     }
 }
 
-/// Writes the proof of a suite to its file, where the options ask for one, and then what they ask to be printed of
-/// it. Takes no memory.
+/// Writes the proof of a suite to its file, where the options ask for one, and then what is printed of it. Takes no
+/// memory.
 ///
 /// # Errors
 ///
@@ -67,6 +66,7 @@ fn print<O: Sink>(
 pub(crate) fn write_suite<F: Folder, O: Sink>(
     model: &TestModel,
     opts: &Opts<'_>,
+    output: Output,
     ready: &mut ReadySuite,
     files: &mut F,
     out: &mut O,
@@ -74,7 +74,7 @@ pub(crate) fn write_suite<F: Folder, O: Sink>(
     requires rows { All (λ row. is_row model.now row ≡ true) ready.old.rows }
     requires turns { AreMadeFor model.now ready.old.turns }
     ensures stops { IfErr result (λ stop. (stop ≡ Stop.CannotWriteReport) ⊎ ((stop ≡ Stop.CannotWrite FileKind.Proof) × ((settings_seen opts.now).proof ≢ None))) }
-    ensures prints { Prints (suite_text (mode_of (settings_seen opts.now)) model.now ready.old.rows (statistics_seen ready.old.stats)) (O.written out.old) (O.written out.new) (end_of result) }
+    ensures prints { Prints (suite_text (output_seen output) model.now ready.old.rows (statistics_seen ready.old.stats)) (O.written out.old) (O.written out.new) (end_of result) }
     ensures writes { (seed : ℕ) (seeds : List (ℕ × List (Option ℕ))) → (IfSome opts.now.proof (λ _. IsProof (settings_seen opts.now) seed model.now seeds ready.old.proof.items))
         → WritesProof (settings_seen opts.now) seed model.now seeds (F.file files.old) (F.file files.new) (end_of result) }
     ensures leaves { (name : List ℕ) → Leaves (settings_seen opts.now) name (moment (F.file files.old) (F.read_faults files.old) (F.write_faults files.old) (O.written out.old) (O.faults out.old))
@@ -83,5 +83,5 @@ pub(crate) fn write_suite<F: Folder, O: Sink>(
     if let Some(name) = opts.proof {
         write_proof(name, ready.proof.as_slice(), files)?;
     }
-    print(model, opts, ready, out)
+    print(model, output, ready, out)
 }

@@ -19,9 +19,9 @@ ghost use Rattle.pict_cli.specs.Runs.{HasModel, HoldsWholeProof, IsRun, IsStatus
 ghost use Rattle.pict_cli.specs.Steps.{Ran};
 ghost use Rattle.pict_cli.specs.Words.{IsGiven, IsSpelled, IsWordFault, ReadsCalmly, WritesCalmly, asked_by, model_file, proof_file, rows_file, texts};
 
-use crate::generating::run_model;
 use crate::options::Opts;
 use crate::words::read_command;
+use crate::working::run_model;
 use command_line::{FileNames, Shuffle, Stop, load_model, tell};
 use model_lex::NoteList;
 use outside_io::{Folder, Sink};
@@ -134,12 +134,12 @@ pub fn run_pict<R: Threads + Sync, F: Folder, O: Sink, E: Sink>(
     // No row is printed twice, and no more rows than there are demanded tuples that some row serves, and kept seeds.
     ensures few { result ≡ 0 → (s : Settings) (held : Option (List ℕ)) (source : RowSource) → IsGiven (texts words.now) (F.file files.old) s held source → prints_rows s ≡ true →
         HasModel (opts_of s) held (λ m notes. (before : List ℕ) → O.written out.old ≡ Some before →
-        IsSomeAnd (O.written out.new) (PrintsFewRows m (length (seeds_kept m source)) before)) }
+        IsSomeAnd (O.written out.new) (PrintsFewRows m (length (seeds_kept s m source)) before)) }
 
     // Each kept seed row is contained in a printed row.
     ensures seeds { result ≡ 0 → (s : Settings) (held : Option (List ℕ)) (source : RowSource) → IsGiven (texts words.now) (F.file files.old) s held source → prints_rows s ≡ true →
         HasModel (opts_of s) held (λ m notes. (before : List ℕ) → O.written out.old ≡ Some before →
-        IsSomeAnd (O.written out.new) (PrintsSeeds m (seeds_kept m source) before)) }
+        IsSomeAnd (O.written out.new) (PrintsSeeds m (seeds_kept s m source) before)) }
 
     // The printed rows and the proof file are accepted, with their numbers of rows and of omissions.
     ensures accepted { result ≡ 0 → (s : Settings) (held after : Option (List ℕ)) (source : RowSource) → IsGiven (texts words.now) (F.file files.old) s held source → prints_rows s ≡ true →
@@ -150,7 +150,7 @@ pub fn run_pict<R: Threads + Sync, F: Folder, O: Sink, E: Sink>(
     // tree; and these are exactly the demanded tuples that no row serves, each once. Premises: the run is given s; the
     // folder tells what its files held, and the proof file's name at the end.
     ensures proof { result ≡ 0 → (s : Settings) (held after : Option (List ℕ)) (source : RowSource) → IsGiven (texts words.now) (F.file files.old) s held source →
-        told_proof s (F.file files.new) ≡ Some after → HasModel (opts_of s) held (λ m notes. HoldsWholeProof s seed_word m (rows_of_run m source) after) }
+        told_proof s (F.file files.new) ≡ Some after → HasModel (opts_of s) held (λ m notes. HoldsWholeProof s seed_word m (rows_of_run s m source) after) }
 
     // What a run does, by what its words ask for: why it ends so, what it prints, writes and tells. Premises: the run is
     // given s, and the folder tells what its files held. And what `out` and `diag` got is said of each that tells what it

@@ -1,7 +1,6 @@
 ghost use Rattle.std.specs.Prelude.{◌≡◌, ◌≤◌, ◌++◌, ◌+◌, ◌^◌, ℕ, true, length, map, take, sum, All, None, Some, IfOk, IfErr, IfSome, OnOk, option_map, slice_index_or};
 ghost use Rattle.cov_model.specs.Fits.{FitsModel};
 ghost use Rattle.cov_model.specs.Valid.{is_row};
-ghost use Rattle.definitions.specs.Seeds.{dropped_lines};
 ghost use Rattle.definitions.specs.Statistics.{statistics};
 ghost use Rattle.ipog_grow.specs.Suites.{IsSuiteOf};
 ghost use Rattle.row_text.specs.RowFiles.{seeds_seen};
@@ -13,9 +12,9 @@ ghost use Rattle.tuple_index.specs.PlanFault.{limit_passed};
 ghost use Rattle.pict_cli.specs.Ends.{Stopped, end_of};
 ghost use Rattle.pict_cli.specs.Options.{settings_seen};
 ghost use Rattle.pict_cli.specs.Ranges.{AreFit};
-ghost use Rattle.pict_cli.specs.RowSources.{dropped_note};
-ghost use Rattle.pict_cli.specs.Runs.{IsProof, growth_of, orders_of, question_over};
-ghost use Rattle.pict_cli.specs.Steps.{StopsSuite};
+ghost use Rattle.pict_cli.specs.RowSources.{dropped_note, dropped_notes};
+ghost use Rattle.pict_cli.specs.Runs.{IsProof, growth_of, orders_of, growth_over};
+ghost use Rattle.pict_cli.specs.Steps.{StopsWork};
 
 use crate::growing::grow;
 use crate::options::Opts;
@@ -116,9 +115,9 @@ pub(crate) fn make_suite<R: Threads + Sync>(
     ensures stats { IfOk result (λ ready. statistics_seen ready.stats ≡ statistics model.now (orders_of (settings_seen opts.now) seed_word model.now) (seeds_seen seeds.now)) }
     ensures proof { IfOk result (λ ready. IfSome opts.now.proof (λ _. IsProof (settings_seen opts.now) seed_word model.now (seeds_seen seeds.now) ready.proof.items)) }
     ensures turns { IfOk result (λ ready. AreMadeFor model.now ready.turns) }
-    ensures answered { OnOk result (question_over (settings_seen opts.now) seed_word model.now (seeds_seen seeds.now) ≡ None) }
-    ensures notes { OnOk result (notes.new ≡ notes.old ++ map dropped_note (dropped_lines model.now (seeds_seen seeds.now))) }
-    ensures stops { IfErr result (StopsSuite (settings_seen opts.now) seed_word model.now (seeds_seen seeds.now) notes.old notes.new) }
+    ensures answered { OnOk result (growth_over (settings_seen opts.now) seed_word model.now (seeds_seen seeds.now) ≡ None) }
+    ensures notes { OnOk result (notes.new ≡ notes.old ++ dropped_notes model.now (seeds_seen seeds.now)) }
+    ensures stops { IfErr result (StopsWork opts.now.budget (growth_over (settings_seen opts.now) seed_word model.now (seeds_seen seeds.now)) (dropped_notes model.now (seeds_seen seeds.now)) notes.old notes.new) }
     ensures early { IfErr result (λ stop. end_of (Err stop) ≡ Stopped) }
 {
     let suite = grow(rt, alloc, model, plan, seeds, opts, seed_word)?;

@@ -8,6 +8,8 @@ mod constraints;
 #[cfg(test)]
 mod disk;
 #[cfg(test)]
+mod given_suites;
+#[cfg(test)]
 mod growth;
 #[cfg(test)]
 mod language;

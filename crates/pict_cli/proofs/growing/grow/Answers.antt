@@ -5,13 +5,13 @@ use Rattle.definitions.specs.Search.{first_over}
 use Rattle.ipog_grow.specs.Suites.{EndsBy}
 use Rattle.row_text.specs.RowFiles.{seeds_seen}
 use Rattle.pict_cli.specs.Options.{settings_seen}
-use Rattle.pict_cli.specs.Runs.{question_over}
+use Rattle.pict_cli.specs.Runs.{growth_over}
 use Rattle.pict_cli.proofs.growing.grow.Goals as goal
 
 pub returns-clause-stops : goal.returns-clause-stops
 returns-clause-stops g c =
     let m = c.args.model.now in
     let seeds = seeds_seen c.args.seeds.now in
-    c.stop_of_search.ensures.stops (question_over (settings_seen c.args.opts.now) c.args.seed_word m seeds)
+    c.stop_of_search.ensures.stops (growth_over (settings_seen c.args.opts.now) c.args.seed_word m seeds)
     (subst (λ pref. EndsBy (first_over m pref c.args.opts.now.budget (growth m pref seeds).asked) c.in-Err.fault)
     (c.in_ok-prefs.ensures.orders ∙ ap (preference m) c.shuffle_number-number.ensures) c.in-Err.ensures.asked)

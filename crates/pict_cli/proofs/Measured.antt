@@ -1,0 +1,33 @@
+-- What a run that measures a suite leaves, and how it ends.
+use Rattle.std.proofs.Common.{◌≡◌, ℕ, List, [], ◌∷◌, map, Option, None, refl, ap, subst, sym}
+use Rattle.std.specs.Prelude.{IfErr, IfSome}
+use Rattle.cov_model.specs.Sound.{ModelView}
+use Rattle.outside_io.specs.Files.{Files}
+use Rattle.definitions.specs.Settings.{Settings}
+use Rattle.feasibility.specs.declared.answer.SearchFault.{SearchFault}
+use Rattle.feasibility.specs.declared.answer.SearchFault.TheVariants.{Spent, NoMemory}
+use Rattle.coverage_measure.specs.Ends as measured
+use Rattle.ipog_grow.specs.Suites.{EndsBy}
+use Rattle.row_text.specs.RowFiles.{row_seen, seeds_seen, suite_seen}
+use Rattle.row_text.specs.declared.row_file.FileRow.{FileRow}
+use Rattle.row_text.specs.declared.row_file.RowFile.{RowFile}
+use Rattle.command_line.specs.declared.files.FileKind.TheVariants as kinds
+use Rattle.command_line.specs.declared.stop.Stop.{Stop}
+use Rattle.command_line.specs.declared.stop.Stop.TheVariants.{CannotWrite, CannotWriteReport}
+use Rattle.pict_cli.specs.Ends.{End}
+use Rattle.pict_cli.specs.Runs.{HoldsProof, WritesProof}
+
+-- the search ends as one of growth does
+pub ends_as_growth : (over : Option (List (Option ℕ))) (fault : SearchFault) → measured.EndsBy over fault → EndsBy over fault
+ends_as_growth over (Spent question) is = is
+ends_as_growth over NoMemory is = is
+
+-- the rows of a file with their lines, as a suite
+pub suite_rows : (rows : List FileRow) → map (λ row. row.1) (map row_seen rows) ≡ map (λ row. row.cells) rows
+suite_rows [] = refl
+suite_rows (row ∷ rows) = ap (λ rest. row.cells ∷ rest) (suite_rows rows)
+
+-- without a proof file none is written
+pub writes_none : (s : Settings) (seed : ℕ) (m : ModelView) (seeds : List (ℕ × List (Option ℕ))) (files after : Files) (end : End) → s.proof ≡ None
+    → WritesProof s seed m seeds files after end
+writes_none s seed m seeds files after end none = subst (λ proof. IfSome proof (λ name. HoldsProof s seed m seeds (files name) (after name) end)) (sym none) tt

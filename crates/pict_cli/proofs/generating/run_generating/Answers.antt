@@ -1,0 +1,94 @@
+use Rattle.std.proofs.Common.{◌≡◌, [], true, ap, refl, subst, sym, ◌∙◌}
+use Rattle.std.specs.Prelude.{All}
+use Rattle.cov_model.specs.Valid.{is_row}
+use Rattle.row_text.specs.RowFiles.{seeds_seen}
+use Rattle.row_text.specs.Told.{statistics_seen}
+use Rattle.pict_cli.specs.Ends.{CountsReads, IsEarly, Prints, end_of}
+use Rattle.pict_cli.specs.Modes.{Generate}
+use Rattle.pict_cli.specs.Options.{output_seen, settings_seen}
+use Rattle.pict_cli.specs.Runs.{EndsBehind, growth_of, rows_of_run, shuffled_by, suite_text}
+use Rattle.pict_cli.proofs.Behind.{ends_by, proof_same, text_same, work_stopped, work_written}
+use Rattle.pict_cli.proofs.Early.{leaves_early, leaves_from, proof_from, reads_stopped, runs_early, stopped_early}
+use Rattle.pict_cli.proofs.Headline.{suite_rows}
+use Rattle.pict_cli.proofs.generating.run_generating.Goals as goal
+
+pub returns-in_err-ready-clause-runs : goal.returns-in_err-ready-clause-runs
+returns-in_err-ready-clause-runs g c = λ source told.
+    let s = settings_seen c.args.opts.now in
+    let m = c.args.model.now in
+    let seed = c.args.seed_word in
+    let end = c.from_residual.result in
+    let e = ends_by end c.in_err-ready.field-0.0 c.from_residual.ensures.1 in
+    runs_early s seed m source c.args.row_notes.now _ _ end c.assert_invariant.ensures
+    (subst (λ x. IsEarly (end_of x)) (sym e) c.in_err-ready.ensures.early) c.prepare.ensures.files refl
+    (subst (λ notes. EndsBehind s seed m source notes end) (sym c.requires.none) (subst (EndsBehind s seed m source []) (sym e) (c.in_err-ready.ensures.stops seed source told)))
+
+pub returns-in_err-ready-clause-leaves : goal.returns-in_err-ready-clause-leaves
+returns-in_err-ready-clause-leaves g c = λ name.
+    let s = settings_seen c.args.opts.now in
+    let end = c.from_residual.result in
+    let e = ends_by end c.in_err-ready.field-0.0 c.from_residual.ensures.1 in
+    leaves_early s name _ _ (end_of end) (subst (λ x. IsEarly (end_of x)) (sym e) c.in_err-ready.ensures.early) c.prepare.ensures.files
+    (subst (λ x. CountsReads s name (end_of x) (g.F.Folder.read_faults c.args.files.now) (g.F.Folder.read_faults c.prepare.new.files)) (sym e) (c.in_err-ready.ensures.reads name))
+    c.prepare.ensures.write_faults refl refl
+
+pub returns-in_err-suite-clause-runs : goal.returns-in_err-suite-clause-runs
+returns-in_err-suite-clause-runs g c = λ source told.
+    let s = settings_seen c.args.opts.now in
+    let m = c.args.model.now in
+    let stop = c.in_err-suite.field-0.0 in
+    let end = c.from_residual-in_err-suite.result in
+    let e = ends_by end stop c.from_residual-in_err-suite.ensures.1 in
+    runs_early s c.args.seed_word m source c.make_suite.new.notes _ _ end c.assert_invariant.ensures
+    (stopped_early (end_of end) (ap end_of e ∙ c.in_err-suite.ensures.early)) c.prepare.ensures.files refl
+    (work_stopped s c.args.seed_word m source c.in_ok-ready.ready.file c.in_ok-ready.ensures.within (Generate (output_seen c.args.output)) c.requires.mode
+    (c.in_ok-ready.ensures.rows source told) stop end c.make_suite.new.notes e c.in_err-suite.ensures.stops)
+
+pub returns-in_err-suite-clause-leaves : goal.returns-in_err-suite-clause-leaves
+returns-in_err-suite-clause-leaves g c = λ name.
+    let s = settings_seen c.args.opts.now in
+    let end = c.from_residual-in_err-suite.result in
+    let stopped = ap end_of (ends_by end c.in_err-suite.field-0.0 c.from_residual-in_err-suite.ensures.1) ∙ c.in_err-suite.ensures.early in
+    leaves_early s name _ _ (end_of end) (stopped_early (end_of end) stopped) c.prepare.ensures.files
+    (reads_stopped s name (end_of end) _ _ stopped c.in_ok-ready.ensures.no_fault) c.prepare.ensures.write_faults refl refl
+
+pub write_suite-requires-clause-rows : goal.write_suite-requires-clause-rows
+write_suite-requires-clause-rows g c =
+    subst (All (λ row. is_row c.args.model.now row ≡ true)) (sym c.in_ok-suite.ensures.rows)
+    (suite_rows c.args.model.now (shuffled_by (settings_seen c.args.opts.now).shuffle c.args.seed_word) (seeds_seen c.in_ok-ready.ready.file) c.assert_invariant.ensures)
+
+pub returns-clause-runs : goal.returns-clause-runs
+returns-clause-runs g c = λ source told.
+    let s = settings_seen c.args.opts.now in
+    let m = c.args.model.now in
+    let seed = c.args.seed_word in
+    let file = c.in_ok-ready.ready.file in
+    let seeds = seeds_seen file in
+    let output = output_seen c.args.output in
+    let within = c.in_ok-ready.ensures.within in
+    let read = c.in_ok-ready.ensures.rows source told in
+    let end = c.write_suite.result in
+    let suite = c.in_ok-suite.suite in
+    let before = g.F.Folder.file c.args.files.now in
+    let loaded = g.F.Folder.file c.prepare.new.files in
+    let after = g.F.Folder.file c.write_suite.new.files in
+    record {
+      sound = c.assert_invariant.ensures;
+      ends =
+          work_written s seed m source file within (Generate output) c.requires.mode read end c.make_suite.new.notes c.in_ok-suite.ensures.answered c.in_ok-suite.ensures.notes
+          c.write_suite.ensures.stops;
+      prints =
+          subst (λ text. Prints text (g.O.Sink.written c.args.out.now) (g.O.Sink.written c.write_suite.new.out) (end_of end))
+          (ap (λ rows. suite_text output m rows (statistics_seen suite.stats)) c.in_ok-suite.ensures.rows
+          ∙ ap (suite_text output m (growth_of s seed m seeds).rows) c.in_ok-suite.ensures.stats ∙ sym (text_same s seed m source file within (Generate output) c.requires.mode read))
+          c.write_suite.ensures.prints;
+      writes =
+          proof_from s seed m (rows_of_run s m source) before loaded after (end_of end) c.prepare.ensures.files
+          (proof_same s seed m source file within (Generate output) c.requires.mode read loaded after (end_of end)
+          (c.write_suite.ensures.writes seed seeds c.in_ok-suite.ensures.proof));
+    }
+
+pub returns-clause-leaves : goal.returns-clause-leaves
+returns-clause-leaves g c = λ name.
+    leaves_from (settings_seen c.args.opts.now) name _ _ _ (end_of c.write_suite.result) c.prepare.ensures.files c.in_ok-ready.ensures.no_fault c.prepare.ensures.write_faults refl refl
+    (c.write_suite.ensures.leaves name)

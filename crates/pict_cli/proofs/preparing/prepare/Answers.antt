@@ -1,0 +1,71 @@
+use Rattle.std.proofs.Common.{◌≡◌, ℕ, List, [], Some, Err, ap, refl, subst, sym}
+use Rattle.std.specs.Prelude.{IsSomeAnd}
+use Rattle.outside_io.specs.Faults.{Rose}
+use Rattle.command_line.specs.Stops.{stop_of_plan}
+use Rattle.command_line.specs.declared.files.FileKind.TheVariants as kinds
+use Rattle.command_line.specs.declared.stop.Stop.{Stop}
+use Rattle.command_line.specs.declared.stop.Stop.TheVariants.{CannotRead}
+use Rattle.pict_cli.specs.Ends.{CountsReads, IsEarly, end_of}
+use Rattle.pict_cli.specs.Modes.{RowSource, row_source, source_in}
+use Rattle.pict_cli.specs.Options.{settings_seen}
+use Rattle.pict_cli.specs.Runs.{EndsBehind}
+use Rattle.pict_cli.specs.Steps.{HoldsRows, StopsRows}
+use Rattle.pict_cli.proofs.Behind.{limited, plan_stopped, rows_counted, rows_early, rows_stopped}
+use Rattle.pict_cli.proofs.Early.{reads_stopped, stopped_early}
+use Rattle.pict_cli.proofs.Suites.{if_err_of}
+use Rattle.pict_cli.proofs.preparing.prepare.Goals as goal
+
+pub returns-in_err-plan-clause-stops : goal.returns-in_err-plan-clause-stops
+returns-in_err-plan-clause-stops g c =
+    let s = settings_seen c.args.opts.now in
+    let m = c.args.model.now in
+    let fault = c.in_err-plan.field-0.0 in
+    if_err_of (λ stop. (seed : ℕ) (source : RowSource) → row_source s (g.F.Folder.file c.args.files.now) ≡ Some source → EndsBehind s seed m source [] (Err stop)) c.from_residual.result
+    (stop_of_plan fault) c.from_residual.ensures.1 (λ seed source told. limited s seed m source fault (Err (stop_of_plan fault)) refl c.in_err-plan.ensures.refused)
+
+pub returns-in_err-plan-clause-early : goal.returns-in_err-plan-clause-early
+returns-in_err-plan-clause-early g c =
+    let fault = c.in_err-plan.field-0.0 in
+    if_err_of (λ stop. IsEarly (end_of (Err stop))) c.from_residual.result (stop_of_plan fault) c.from_residual.ensures.1 (stopped_early (end_of (Err (stop_of_plan fault))) (plan_stopped fault))
+
+pub returns-in_err-plan-clause-reads : goal.returns-in_err-plan-clause-reads
+returns-in_err-plan-clause-reads g c =
+    let s = settings_seen c.args.opts.now in
+    let fault = c.in_err-plan.field-0.0 in
+    let reads = g.F.Folder.read_faults c.args.files.now in
+    if_err_of (λ stop. (name : List ℕ) → CountsReads s name (end_of (Err stop)) reads reads) c.from_residual.result (stop_of_plan fault) c.from_residual.ensures.1
+    (λ name. reads_stopped s name (end_of (Err (stop_of_plan fault))) reads reads (plan_stopped fault) (λ file. refl))
+
+pub returns-in_err-file-clause-stops : goal.returns-in_err-file-clause-stops
+returns-in_err-file-clause-stops g c =
+    let s = settings_seen c.args.opts.now in
+    let m = c.args.model.now in
+    let stop = c.in_err-file.field-0.0 in
+    let files = g.F.Folder.file c.args.files.now in
+    if_err_of (λ other. (seed : ℕ) (source : RowSource) → row_source s files ≡ Some source → EndsBehind s seed m source [] (Err other)) c.from_residual-in_err-file.result
+    stop c.from_residual-in_err-file.ensures.1 (λ seed source told.
+    rows_stopped s seed m source stop (Err stop) refl c.in_ok-plan.ensures.within
+    (subst (λ mode. StopsRows m mode source stop) c.requires.mode
+    (c.in_err-file.ensures.stops source (subst (λ file. source_in file files ≡ Some source) (sym c.row_file.ensures) told))))
+
+pub returns-in_err-file-clause-early : goal.returns-in_err-file-clause-early
+returns-in_err-file-clause-early g c =
+    let stop = c.in_err-file.field-0.0 in
+    if_err_of (λ other. IsEarly (end_of (Err other))) c.from_residual-in_err-file.result stop c.from_residual-in_err-file.ensures.1 (rows_early stop c.in_err-file.ensures.other)
+
+pub returns-in_err-file-clause-reads : goal.returns-in_err-file-clause-reads
+returns-in_err-file-clause-reads g c =
+    let s = settings_seen c.args.opts.now in
+    let stop = c.in_err-file.field-0.0 in
+    let reads = g.F.Folder.read_faults c.args.files.now in
+    let after = g.F.Folder.read_faults c.load_rows.new.files in
+    if_err_of (λ other. (name : List ℕ) → CountsReads s name (end_of (Err other)) reads after) c.from_residual-in_err-file.result stop c.from_residual-in_err-file.ensures.1
+    (λ name. rows_counted s name stop reads after c.in_err-file.ensures.other
+    (λ is. subst (λ file. IsSomeAnd file (λ given. Rose (reads given) (after given))) c.row_file.ensures (c.in_err-file.ensures.cannot_read (ap Err is)))
+    (λ other. c.in_err-file.ensures.no_fault (λ is. other (let same : stop ≡ (CannotRead kinds.Rows) = cc in same))))
+
+pub returns-clause-rows : goal.returns-clause-rows
+returns-clause-rows g c = λ source told.
+    let files = g.F.Folder.file c.args.files.now in
+    subst (λ mode. HoldsRows c.args.model.now mode source c.in_ok-file.file) c.requires.mode
+    (c.in_ok-file.ensures.rows source (subst (λ file. source_in file files ≡ Some source) (sym c.row_file.ensures) told))

@@ -1,0 +1,121 @@
+ghost use Rattle.std.specs.Prelude.{◌≡◌, ◌≤◌, ◌^◌, ℕ, List, [], length, All, Option, Some, None, Err, IfOk, IfErr, OnOk};
+ghost use Rattle.outside_io.specs.Faults.{KeepsCounts};
+ghost use Rattle.cov_model.specs.Fits.{FitsModel};
+ghost use Rattle.definitions.specs.Figures.{figures};
+ghost use Rattle.definitions.specs.Search.{first_measured_over};
+ghost use Rattle.definitions.specs.Statistics.{figures_text};
+ghost use Rattle.row_text.specs.RowFiles.{suite_seen};
+ghost use Rattle.row_text.specs.Told.{figures_seen};
+ghost use Rattle.tuple_index.specs.Plan.{plan_of};
+ghost use Rattle.tuple_index.specs.PlanFault.{limit_passed};
+ghost use Rattle.pict_cli.specs.Ends.{CountsOut, Leaves, Prints, Stopped, end_of, moment};
+ghost use Rattle.pict_cli.specs.Modes.{Measure, RowSource, mode_of, row_source};
+ghost use Rattle.pict_cli.specs.Options.{settings_seen};
+ghost use Rattle.pict_cli.specs.Ranges.{AreFit};
+ghost use Rattle.pict_cli.specs.Runs.{RunsModel};
+ghost use Rattle.pict_cli.specs.Steps.{IsSpentOrNoMemory};
+
+use crate::growing::stop_of_search;
+use crate::options::Opts;
+use crate::preparing::prepare;
+use command_line::Stop;
+use cov_model::TestModel;
+use coverage_measure::measure;
+use model_lex::NoteList;
+use outside_io::{Folder, OpenGate, Sink, WriteAnswer};
+use row_text::{Figures, RowFile, RowMode, put_figures};
+use std::alloc::Global;
+use std::thread::Threads;
+use tuple_index::Plan;
+use value_text::OwnedList;
+
+/// The figures of a suite of a model within its plan (NIST IR 7878).
+///
+/// # Errors
+///
+/// `Spent` where a question costs too much, `OutOfMemory` where memory was refused.
+fn figures_of<R: Threads + Sync>(
+    rt: &R,
+    alloc: Global,
+    model: &TestModel,
+    plan: &Plan,
+    suite: &RowFile,
+    opts: &Opts<'_>,
+) -> Result<Figures, Stop>
+    requires plan { plan.now ≡ plan_of model.now }
+    requires within { limit_passed model.now ≡ None }
+    requires rows { All (λ row. FitsModel model.now row.cells) suite.now.rows }
+    requires few { length suite.now.rows ≤ 2 ^ 20 }
+    requires fit { AreFit (settings_seen opts.now) }
+    ensures figures { IfOk result (λ given. figures_seen given ≡ figures model.now (suite_seen suite.now)) }
+    ensures answered { OnOk result (first_measured_over model.now opts.now.budget ≡ None) }
+    ensures stops { IfErr result (IsSpentOrNoMemory opts.now.budget (first_measured_over model.now opts.now.budget)) }
+    ensures early { IfErr result (λ stop. end_of (Err stop) ≡ Stopped) }
+{
+    match measure(
+        rt,
+        alloc,
+        model,
+        plan,
+        suite,
+        opts.workers,
+        opts.budget,
+        &OpenGate,
+    ) {
+        Ok(figures) => Ok(figures),
+        Err(fault) => Err(stop_of_search(fault, opts.budget)),
+    }
+}
+
+/// Writes figures.
+///
+/// # Errors
+///
+/// `CannotWriteReport` where `out` failed.
+fn print_figures<O: Sink>(figures: &Figures, out: &mut O) -> Result<(), Stop>
+    ensures prints { Prints (figures_text (figures_seen figures.now)) (O.written out.old) (O.written out.new) (end_of result) }
+    ensures faults { CountsOut (end_of result) (O.faults out.old) (O.faults out.new) }
+    ensures stops { IfErr result (λ stop. stop ≡ Stop.CannotWriteReport) }
+{
+    match put_figures(figures, out) {
+        WriteAnswer::Done => Ok(()),
+        WriteAnswer::Failed => Err(Stop::CannotWriteReport),
+    }
+}
+
+/// Measures the suite in the row file of a run, and writes its figures, with the notes on the file. All memory is
+/// taken before the first byte is written.
+///
+/// # Errors
+///
+/// `TooMany` where the model demands too much, a stop of the row file, `Spent` where a question costs too much,
+/// `CannotWriteReport` where `out` failed, `OutOfMemory` where memory was refused.
+pub(crate) fn run_measuring<R: Threads + Sync, F: Folder, O: Sink>(
+    rt: &R,
+    alloc: Global,
+    model: &TestModel,
+    opts: &Opts<'_>,
+    files: &mut F,
+    out: &mut O,
+    row_notes: &mut NoteList,
+) -> Result<(), Stop>
+    requires fit { AreFit (settings_seen opts.now) }
+    requires mode { (name : List ℕ) × (mode_of (settings_seen opts.now) ≡ Measure name) }
+    requires none { row_notes.old ≡ [] }
+    ensures runs { (seed : ℕ) (source : RowSource) → row_source (settings_seen opts.now) (F.file files.old) ≡ Some source → RunsModel (settings_seen opts.now) seed model.now source row_notes.new
+        (moment (F.file files.old) (F.read_faults files.old) (F.write_faults files.old) (O.written out.old) (O.faults out.old))
+        (moment (F.file files.new) (F.read_faults files.new) (F.write_faults files.new) (O.written out.new) (O.faults out.new)) result }
+    ensures leaves { (name : List ℕ) → Leaves (settings_seen opts.now) name (moment (F.file files.old) (F.read_faults files.old) (F.write_faults files.old) (O.written out.old) (O.faults out.old))
+        (moment (F.file files.new) (F.read_faults files.new) (F.write_faults files.new) (O.written out.new) (O.faults out.new)) (end_of result) }
+{
+    model.assert_invariant();
+    let ready = prepare(alloc, model, opts, RowMode::Suite, files)?;
+    let plan = ready.plan;
+    let suite = RowFile {
+        rows: ready.file.rows,
+        notes: OwnedList::new(alloc),
+    };
+    *row_notes = ready.file.notes;
+    let figures = figures_of(rt, alloc, model, &plan, &suite, opts)?;
+    print_figures(&figures, out)
+}

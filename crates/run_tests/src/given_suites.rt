@@ -1,0 +1,86 @@
+//! Runs on a suite that is given: its figures.
+
+use std::test::Fail;
+use test_runs::{Given, ends_as, on_model};
+
+const GUARDED: &[u8] = b"A: 1, 2\nB: x, y\nIF [A] = 1 THEN [B] = \"x\";\n";
+
+// Four rows, of which one is invalid and one is incomplete.
+const SUITE: &[u8] = b"A\tB\n1\tx\n2\tx\n1\ty\n2\t\n";
+
+const FIGURES: &str =
+    "Tests: 2\nIncomplete tests: 1\nInvalid tests: 1\nDemanded sets: 1\nDemanded tuples: 4\n\
+    Covered tuples: 2 of 3\nComplete sets: 0 of 1\nSets at 75 percent: 0 of 1\nSets at 50 percent: 1 of 1\n\
+    Sets at 25 percent: 1 of 1\n";
+
+// Words, a model, a suite in the file t, a status, and what standard output and standard error get.
+const MEASURED: &[(&[&str], &[u8], &[u8], u8, &str, &str)] = &[
+    (&["m", "/measure:t"], GUARDED, SUITE, 0, FIGURES, ""),
+    // The number of workers doesn't matter.
+    (
+        &["m", "/measure:t", "/workers:2"],
+        GUARDED,
+        SUITE,
+        0,
+        FIGURES,
+        "",
+    ),
+    (
+        &["m", "/measure:t", "/workers:7"],
+        GUARDED,
+        SUITE,
+        0,
+        FIGURES,
+        "",
+    ),
+    (
+        &["m", "/measure:t", "/workers:64"],
+        GUARDED,
+        SUITE,
+        0,
+        FIGURES,
+        "",
+    ),
+    // The first demanded tuple that costs too much, and what is told of the file before it.
+    (
+        &["m", "/measure:t", "/o:1", "/budget:1"],
+        GUARDED,
+        b"A\tB\tQ\n1\tz\t\n",
+        2,
+        "",
+        "warning: row file line 1: V2 unknown column\nwarning: row file line 2: V3 unknown value\n\
+        error: search budget 1 spent on 0=0\n",
+    ),
+    // A suite has a column for each parameter.
+    (
+        &["m", "/measure:t"],
+        GUARDED,
+        b"A\n1\n",
+        6,
+        "",
+        "error: row file: F3 no column for parameter 1\n",
+    ),
+    (
+        &["m", "/measure:u"],
+        GUARDED,
+        SUITE,
+        7,
+        "",
+        "error: cannot read u\n",
+    ),
+];
+
+#[test]
+fn measures_a_suite(rt: HostRuntime) -> Result<(), Fail> {
+    for (words, model, suite, status, written, told) in MEASURED {
+        let given = Given {
+            rows: Some(("t", suite)),
+            ..on_model(words, model)
+        };
+        assert!(rt;
+            ends_as(&rt, rt.alloc(), &given, *status, written, told)?,
+            "{words:?} {written} {told}"
+        );
+    }
+    Ok(())
+}
