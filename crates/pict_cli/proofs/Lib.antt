@@ -1,8 +1,10 @@
 pub mod Behind
 pub mod Causes
 pub mod Early
+pub mod FromModel
 pub mod Headline
 pub mod KindLemmas
+pub mod MadeRuns
 pub mod ProofTexts
 pub mod RangeLemmas
 pub mod Reading

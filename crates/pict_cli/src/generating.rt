@@ -47,7 +47,7 @@ pub(crate) fn run_model<R: Threads + Sync, F: Folder, O: Sink>(
 {
     model.assert_invariant();
     let plan = Plan::new(alloc, model)?;
-    let file = load_rows(alloc, opts.seeds, RowMode::Seed, model, files)?;
+    let file = load_rows(alloc, opts.row_file(), RowMode::Seed, model, files)?;
     let seeds = RowFile {
         rows: file.rows,
         notes: OwnedList::new(alloc),

@@ -87,7 +87,7 @@ impl<'w> Opts<'w> {
             Some(name) => name,
             None => "",
         };
-        let rows = match self.seeds {
+        let rows = match self.row_file() {
             Some(name) => name,
             None => "",
         };

@@ -1,12 +1,13 @@
 use Rattle.std.proofs.Common.{◌≡◌, true, Err, ap, refl, sym, subst, ◌∙◌}
-use Rattle.std.specs.Prelude.{All}
+use Rattle.std.specs.Prelude.{All, IsSomeAnd}
+use Rattle.outside_io.specs.Faults.{Rose}
 use Rattle.cov_model.specs.Valid.{is_row}
 use Rattle.row_text.specs.RowFiles.{seeds_seen}
 use Rattle.row_text.specs.Told.{statistics_seen}
 use Rattle.command_line.specs.declared.files.FileKind.TheVariants as kinds
 use Rattle.command_line.specs.declared.stop.Stop.TheVariants.{CannotRead}
 use Rattle.pict_cli.specs.Ends.{CountsReads, IsEarly, Prints, end_of}
-use Rattle.pict_cli.specs.Modes.{mode_of}
+use Rattle.pict_cli.specs.Modes.{mode_of, source_in}
 use Rattle.pict_cli.specs.Options.{settings_seen}
 use Rattle.pict_cli.specs.Runs.{EndsBehind, WritesProof, growth_of, out_text, rows_of_run, shuffled_by, suite_text}
 use Rattle.pict_cli.proofs.Behind.{ends_by, limited, plan_stopped, rows_counted, rows_early, rows_same, rows_stopped, suite_stopped, suite_written}
@@ -42,7 +43,7 @@ returns-in_err-file-clause-runs g c = λ source told.
     runs_early s c.args.seed_word m source c.args.row_notes.now _ _ end c.assert_invariant.ensures
     (subst (λ x. IsEarly (end_of x)) (sym e) (rows_early stop c.in_err-file.ensures.other)) c.load_rows.ensures.files refl
     (subst (λ notes. EndsBehind s c.args.seed_word m source notes end) (sym c.requires.none)
-    (rows_stopped s c.args.seed_word m source stop end e c.in_ok-plan.ensures.within (c.in_err-file.ensures.stops source told)))
+    (rows_stopped s c.args.seed_word m source stop end e c.in_ok-plan.ensures.within (c.in_err-file.ensures.stops source (ap (λ file. source_in file (g.F.Folder.file c.args.files.now)) c.row_file.ensures ∙ told))))
 
 pub returns-in_err-file-clause-leaves : goal.returns-in_err-file-clause-leaves
 returns-in_err-file-clause-leaves g c = λ name.
@@ -54,7 +55,7 @@ returns-in_err-file-clause-leaves g c = λ name.
     let after = g.F.Folder.read_faults c.load_rows.new.files in
     leaves_early s name _ _ (end_of end) (subst (λ x. IsEarly (end_of x)) (sym e) (rows_early stop c.in_err-file.ensures.other)) c.load_rows.ensures.files
     (subst (λ x. CountsReads s name (end_of x) reads after) (sym e)
-    (rows_counted s name stop reads after c.in_err-file.ensures.other (λ is. c.in_err-file.ensures.cannot_read (ap Err is))
+    (rows_counted s name stop reads after c.in_err-file.ensures.other (λ is. subst (λ file. IsSomeAnd file (λ rows. Rose (reads rows) (after rows))) c.row_file.ensures (c.in_err-file.ensures.cannot_read (ap Err is)))
     (λ other. c.in_err-file.ensures.no_fault (λ is. other (let same : stop ≡ (CannotRead kinds.Rows) = cc in same)))))
     c.load_rows.ensures.write_faults refl refl
 
@@ -67,7 +68,7 @@ returns-in_err-ready-clause-runs g c = λ source told.
     let e = ends_by end stop c.from_residual-in_err-ready.ensures.1 in
     runs_early s c.args.seed_word m source c.make_suite.new.notes _ _ end c.assert_invariant.ensures
     (stopped_early (end_of end) (ap end_of e ∙ c.in_err-ready.ensures.early)) c.load_rows.ensures.files refl
-    (suite_stopped s c.args.seed_word m source c.in_ok-file.file c.in_ok-plan.ensures.within (c.in_ok-file.ensures.rows source told) stop end c.make_suite.new.notes e
+    (suite_stopped s c.args.seed_word m source c.in_ok-file.file c.in_ok-plan.ensures.within (c.in_ok-file.ensures.rows source (ap (λ file. source_in file (g.F.Folder.file c.args.files.now)) c.row_file.ensures ∙ told)) stop end c.make_suite.new.notes e
     c.in_err-ready.ensures.stops)
 
 pub returns-in_err-ready-clause-leaves : goal.returns-in_err-ready-clause-leaves
@@ -90,7 +91,7 @@ returns-clause-runs g c = λ source told.
     let seed = c.args.seed_word in
     let file = c.in_ok-file.file in
     let within = c.in_ok-plan.ensures.within in
-    let read = c.in_ok-file.ensures.rows source told in
+    let read = c.in_ok-file.ensures.rows source (ap (λ file. source_in file (g.F.Folder.file c.args.files.now)) c.row_file.ensures ∙ told) in
     let same = rows_same s seed m source file within read in
     let end = c.write_suite.result in
     let ready = c.in_ok-ready.ready in
