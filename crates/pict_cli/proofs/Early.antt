@@ -110,7 +110,7 @@ rose_from : (counts loaded after : List ℕ → ℕ) (file : Option (List ℕ)) 
 rose_from counts loaded after None keeps rose = rose
 rose_from counts loaded after (Some name) keeps rose = subst (λ count. Rose count (after name)) (keeps name) rose
 
-reads_from : (s : Settings) (name : List ℕ) (end : End) (counts loaded after : List ℕ → ℕ) → KeepsCounts counts loaded
+pub reads_from : (s : Settings) (name : List ℕ) (end : End) (counts loaded after : List ℕ → ℕ) → KeepsCounts counts loaded
     → CountsReads s name end loaded after → CountsReads s name end counts after
 reads_from s name Whole counts loaded after keeps same = λ file. same file ∙ keeps file
 reads_from s name (Unread kind) counts loaded after keeps rose = rose_from counts loaded after (file_read s name kind) keeps rose
@@ -119,7 +119,7 @@ reads_from s name Unprinted counts loaded after keeps same = λ file. same file 
 reads_from s name Misworded counts loaded after keeps same = λ file. same file ∙ keeps file
 reads_from s name Stopped counts loaded after keeps same = λ file. same file ∙ keeps file
 
-writes_from : (s : Settings) (name : List ℕ) (end : End) (counts loaded after : List ℕ → ℕ) → KeepsCounts counts loaded
+pub writes_from : (s : Settings) (name : List ℕ) (end : End) (counts loaded after : List ℕ → ℕ) → KeepsCounts counts loaded
     → CountsWrites s name end loaded after → CountsWrites s name end counts after
 writes_from s name Whole counts loaded after keeps same = λ file. same file ∙ keeps file
 writes_from s name (Unread kind) counts loaded after keeps same = λ file. same file ∙ keeps file

@@ -2,8 +2,10 @@ pub mod Alone
 pub mod Behind
 pub mod Causes
 pub mod Early
+pub mod FromModel
 pub mod Headline
 pub mod KindLemmas
+pub mod MadeRuns
 pub mod Measured
 pub mod ProofTexts
 pub mod RangeLemmas

@@ -1,5 +1,5 @@
 -- How a run ends, from how its reading and its work on the model ended.
-use Rattle.std.proofs.Common.{◌≡◌, ℕ, ◌||◌, ◌≤◌, length, List, Option, None, Some, Ok, Err, Result, inl, inr, refl, ap, subst, arith}
+use Rattle.std.proofs.Common.{◌≡◌, ℕ, Bool, false, ◌||◌, ◌≤◌, length, List, Option, None, Some, Ok, Err, Result, inl, inr, refl, ap, subst, ◌∙◌, arith}
 use Rattle.std.specs.Prelude.{◌==◌, ◌≢◌, ◌⊎◌, true, IsSomeAnd, IsOkAnd}
 use Rattle.std.proofs.lemmas.Bool.{eqb-false, or_parts}
 use Rattle.outside_io.specs.Faults.{KeepsCounts}
@@ -25,12 +25,13 @@ use Rattle.command_line.specs.declared.files.FileKind.TheVariants as kinds
 use Rattle.command_line.specs.declared.stop.Stop.{Stop}
 use Rattle.command_line.specs.declared.stop.Stop.TheVariants.{OutOfMemory, Spent, BadWord, BadModel, BadConstraint, BadRows, NoResult, BadResult, CannotRead, CannotWrite, CannotWriteReport, TooMany, TooLong}
 use Rattle.pict_cli.specs.declared.options.Opts.{Opts}
-use Rattle.pict_cli.specs.Ends.{CountsOut, CountsWrites, End, IsEarly, IsQuiet, Misworded, Moment, StaysStill, Stopped, Unprinted, Unread, Unwritten, Whole, end_of, file_read, file_written}
-use Rattle.pict_cli.specs.Modes.{RowSource, prints_rows, row_file, row_source}
+use Rattle.pict_cli.specs.Ends.{CountsOut, CountsWrites, End, IsEarly, IsQuiet, Misworded, Moment, StaysStill, Stopped, Unprinted, Unread, Unwritten, Whole, end_of}
+use Rattle.pict_cli.specs.Modes.{RowSource, model_source, prints_rows, row_source}
 use Rattle.pict_cli.specs.Options.{settings_seen}
 use Rattle.pict_cli.specs.Ranges.{IsLeast, AreFit}
 use Rattle.pict_cli.specs.Runs.{Ends, HasModel, HoldsWholeProof, IsStatus, PrintsAccepted, PrintsCovering, PrintsFewRows, PrintsSeeds, RunsModel, SpellsModel, opts_of, order_word, rows_of_run, seeds_kept, told_proof}
 use Rattle.pict_cli.specs.Steps.{Ran}
+use Rattle.pict_cli.proofs.FromModel.{from_model}
 use Rattle.pict_cli.proofs.Headline.{holds_whole_proof, prints_accepted, prints_covering, prints_few_rows, prints_seeds}
 
 same_order : (order : words.OrderWord) → order ≡ order_word (order_seen order)
@@ -109,7 +110,7 @@ reading_ends (TooMany quantity count) of = inr refl
 reading_ends (TooLong kind) of = inr refl
 
 -- what a status tells of the end
-zero_is_end : (end : Result (Unit {0}) Stop) → end_status end ≡ 0 → end ≡ Ok tt
+pub zero_is_end : (end : Result (Unit {0}) Stop) → end_status end ≡ 0 → end ≡ Ok tt
 zero_is_end (Ok done) h = refl
 zero_is_end (Err OutOfMemory) h = absurd (omega (arith, h))
 zero_is_end (Err (Spent budget question)) h = absurd (omega (arith, h))
@@ -240,7 +241,7 @@ faults_of Unprinted faults after early same = absurd early
 faults_of Misworded faults after early same = absurd early
 faults_of Stopped faults after early same = same
 
-still_of : (end : End) (files after : Files) → IsEarly end → StaysStill end files after → KeepsFiles files after
+pub still_of : (end : End) (files after : Files) → IsEarly end → StaysStill end files after → KeepsFiles files after
 still_of Whole files after early still = absurd early
 still_of (Unread kind) files after early still = still
 still_of (Unwritten kind) files after early still = absurd early
@@ -276,36 +277,42 @@ ran_asked {asked} {s} {other} {seed} {name} {model} {before} {after} {notes} {ro
 
 module _ {s : Settings} {seed : ℕ} {name : List ℕ} {start after : Moment} {notes row_notes : List Note} {end : Result (Unit {0}) Stop}
     (ran : Ran s seed name start after notes row_notes end) (held : Option (List ℕ)) (source : RowSource)
-    (at : start.files name ≡ Some held) (rows : row_source s start.files ≡ Some source) where
-  -- a run came to its end: what follows for its model
-  whole : (P : ModelView → Type 0) → ((m : ModelView) → RunsModel s seed m source row_notes start after (Ok tt) → P m)
+    (at : model_source s name start.files ≡ Some held) (rows : row_source s start.files ≡ Some source) where
+  -- a run came to its end: what follows for its model, from the moment at which the run went on with it
+  whole : (P : ModelView → Type 0) → ((begun : Moment) → begun.out ≡ start.out → (m : ModelView) → RunsModel s seed m source row_notes begun after (Ok tt) → P m)
       → end_status end ≡ 0 → HasModel (opts_of s) held (λ m noted. P m)
-  whole P says zero = ended (subst (Ends s seed held source notes row_notes start after) (zero_is_end end zero) (ran.ends held source at rows))
+  whole P says zero =
+      from_model s.make name (λ begun. Ends s seed held source notes row_notes begun after end) notes row_notes start after end _
+      (λ begun same goes. ended begun same (subst (Ends s seed held source notes row_notes begun after) is goes))
+      (λ memory. let no : ⊥ = cc in absurd no) (λ fault. let no : ⊥ = cc in absurd no) (ran.ends held source at rows)
     where
-      ended : Ends s seed held source notes row_notes start after (Ok tt) → HasModel (opts_of s) held (λ m noted. P m)
-      ended (inl reading) = absurd reading.0
-      ended (inr model) = model_then (opts_of s) held _ _ (λ m noted holds. says m holds.1) model
+      is : end ≡ Ok tt
+      is = zero_is_end end zero
+
+      ended : (begun : Moment) → begun.out ≡ start.out → Ends s seed held source notes row_notes begun after (Ok tt) → HasModel (opts_of s) held (λ m noted. P m)
+      ended begun same (inl reading) = absurd reading.0
+      ended begun same (inr model) = model_then (opts_of s) held _ _ (λ m noted holds. says begun same m holds.1) model
 
   pub covers_whole : (known : (s.form ≡ 1) ⊎ (s.form ≡ 2)) → prints_rows s ≡ true → end_status end ≡ 0
       → HasModel (opts_of s) held (λ m noted. (before : List ℕ) → start.out ≡ Some before
       → IsSomeAnd after.out (PrintsCovering m s.form (told_proof s after.files) before))
-  covers_whole known is = whole _ (λ m runs before told. prints_covering s seed m source row_notes start after runs known is before told)
+  covers_whole known is = whole _ (λ begun same m runs before told. prints_covering s seed m source row_notes begun after runs known is before (same ∙ told))
 
   pub few_whole : prints_rows s ≡ true → end_status end ≡ 0
       → HasModel (opts_of s) held (λ m noted. (before : List ℕ) → start.out ≡ Some before → IsSomeAnd after.out (PrintsFewRows m (length (seeds_kept s m source)) before))
-  few_whole is = whole _ (λ m runs before told. prints_few_rows s seed m source row_notes start after runs is before told)
+  few_whole is = whole _ (λ begun same m runs before told. prints_few_rows s seed m source row_notes begun after runs is before (same ∙ told))
 
   pub seeds_whole : prints_rows s ≡ true → end_status end ≡ 0
       → HasModel (opts_of s) held (λ m noted. (before : List ℕ) → start.out ≡ Some before → IsSomeAnd after.out (PrintsSeeds m (seeds_kept s m source) before))
-  seeds_whole is = whole _ (λ m runs before told. prints_seeds s seed m source row_notes start after runs is before told)
+  seeds_whole is = whole _ (λ begun same m runs before told. prints_seeds s seed m source row_notes begun after runs is before (same ∙ told))
 
   pub accepted_whole : (known : (s.form ≡ 1) ⊎ (s.form ≡ 2)) → prints_rows s ≡ true → (proof : Option (List ℕ)) → told_proof s after.files ≡ Some proof → end_status end ≡ 0
       → HasModel (opts_of s) held (λ m noted. (before : List ℕ) → start.out ≡ Some before → IsSomeAnd after.out (PrintsAccepted m s.form proof before))
-  accepted_whole known is proof told = whole _ (λ m runs before out. prints_accepted s seed m source row_notes start after runs known is proof told before out)
+  accepted_whole known is proof told = whole _ (λ begun same m runs before out. prints_accepted s seed m source row_notes begun after runs known is proof told before (same ∙ out))
 
   pub proof_whole : (known : (s.form ≡ 1) ⊎ (s.form ≡ 2)) (proof : Option (List ℕ)) → told_proof s after.files ≡ Some proof → end_status end ≡ 0
       → HasModel (opts_of s) held (λ m noted. HoldsWholeProof s seed m (rows_of_run s m source) proof)
-  proof_whole known proof told = whole _ (λ m runs. holds_whole_proof s seed m source row_notes start after runs known proof told)
+  proof_whole known proof told = whole _ (λ begun same m runs. holds_whole_proof s seed m source row_notes begun after runs known proof told)
 
 -- words that have no reading end with another status
 pub asked_or_three : (asked : Result Settings ℕ) (status : ℕ) (P : Settings → Type 0) → ((s : Settings) → asked ≡ Ok s → P s)
@@ -313,13 +320,11 @@ pub asked_or_three : (asked : Result Settings ℕ) (status : ℕ) (P : Settings 
 asked_or_three (Ok s) status P holds three zero = holds s refl
 asked_or_three (Err index) status P holds three zero = absurd (omega (arith, zero, three index refl))
 
--- which files a run reads and writes
-pub read_names : (s : Settings) (name : List ℕ) (kind : FileKind) (P : List ℕ → Type 0) → IsSomeAnd (file_read s name kind) P → P name ⊎ IsSomeAnd (row_file s) P
-read_names s name kinds.Model P holds = inl holds
-read_names s name kinds.Rows P holds = inr holds
-read_names s name kinds.Proof P none = absurd none
-
-pub written_names : (s : Settings) (name : List ℕ) (kind : FileKind) (P : List ℕ → Type 0) → IsSomeAnd (file_written s name kind) P → IsSomeAnd s.proof P
-written_names s name kinds.Model P none = absurd none
-written_names s name kinds.Rows P none = absurd none
-written_names s name kinds.Proof P holds = holds
+-- a run prints rows of a model file alone
+pub prints_of_a_file : (s : Settings) → prints_rows s ≡ true → s.make ≡ None
+prints_of_a_file s is = at s.stats s.make refl refl
+  where
+    at : (stats : Bool) (make : Option ℕ) → s.stats ≡ stats → s.make ≡ make → s.make ≡ None
+    at stats None e f = f
+    at true (Some n) e f = let no : ⊥ = cc in absurd no
+    at false (Some n) e f = let no : ⊥ = cc in absurd no

@@ -1,6 +1,6 @@
 -- How a run ends, as far as files and output tell: whole, by a file that couldn't be read or written, by the output
 -- that couldn't, by its words, or by any other stop. (This project's rules.)
-use Rattle.std.specs.Prelude.{◌≡◌, ◌≢◌, ℕ, List, Option, Some, None, Result, Ok, Err, IsSomeAnd}
+use Rattle.std.specs.Prelude.{◌≡◌, ◌≢◌, ℕ, List, Option, Some, None, Result, Ok, Err, IsSomeAnd, option_map}
 use Rattle.outside_io.specs.declared.answers.WriteAnswer.TheVariants.{Done, Failed}
 use Rattle.outside_io.specs.Faults.{KeepsCounts, Rose}
 use Rattle.outside_io.specs.Files.{Files, KeepsFiles}
@@ -34,14 +34,19 @@ IsEarly (Unread kind) = Unit {0}
 IsEarly Stopped = Unit {0}
 IsEarly end = ⊥
 
+-- the name of the model file, where it is read: a run that makes its model writes it
+abbrev pub read_unless_made : Option ℕ → List ℕ → Option (List ℕ)
+read_unless_made None name = Some name
+read_unless_made (Some n) name = None
+
 -- the names of the files that a run on the model file of this name is given to read, and to write
 abbrev pub file_read : Settings → List ℕ → FileKind → Option (List ℕ)
-file_read s name kinds.Model = Some name
+file_read s name kinds.Model = read_unless_made s.make name
 file_read s name kinds.Rows = row_file s
 file_read s name kinds.Proof = None
 
 abbrev pub file_written : Settings → List ℕ → FileKind → Option (List ℕ)
-file_written s name kinds.Model = None
+file_written s name kinds.Model = option_map (λ n. name) s.make
 file_written s name kinds.Rows = None
 file_written s name kinds.Proof = s.proof
 
@@ -77,6 +82,10 @@ CountsWrites s name end before after = KeepsCounts before after
 abbrev pub KeepsOthers : Option (List ℕ) → Files → Files → Type 0
 KeepsOthers written files files_after = (name : List ℕ) → written ≢ Some name → files_after name ≡ files name
 
+-- every name but those of the files that are written keeps what it holds, and stays told or untold
+abbrev pub KeepsUnwritten : (FileKind → Option (List ℕ)) → Files → Files → Type 0
+KeepsUnwritten written files files_after = (name : List ℕ) → ((kind : FileKind) → written kind ≢ Some name) → files_after name ≡ files name
+
 -- no file changes where a run ends before one is written
 abbrev pub StaysStill : End → Files → Files → Type 0
 StaysStill Whole files files_after = Unit {0}
@@ -96,7 +105,7 @@ pub record Moment : Type 0 where
 abbrev pub moment : Files → (List ℕ → ℕ) → (List ℕ → ℕ) → Option (List ℕ) → ℕ → Moment
 moment files reads writes out faults = record { files = files; reads = reads; writes = writes; out = out; faults = faults }
 
--- what a run that ends so leaves of the folder and the output, whether they tell what they hold or not
+-- what a run on a model that ends so leaves of the folder and the output, whether they tell what they hold or not
 pub record Leaves (s : Settings) (name : List ℕ) (before after : Moment) (end : End) : Type 0 where
   pub reads : CountsReads s name end before.reads after.reads
   pub writes : CountsWrites s name end before.writes after.writes
@@ -104,4 +113,14 @@ pub record Leaves (s : Settings) (name : List ℕ) (before after : Moment) (end 
   pub quiet : IsQuiet end before.out after.out
   pub others : KeepsOthers s.proof before.files after.files
   pub still : StaysStill end before.files after.files
+  pub worded : end ≢ Misworded
+
+-- and what a whole run leaves: one that ends before a suite is written has written no file but a made model
+pub record LeavesAll (s : Settings) (name : List ℕ) (before after : Moment) (end : End) : Type 0 where
+  pub reads : CountsReads s name end before.reads after.reads
+  pub writes : CountsWrites s name end before.writes after.writes
+  pub faults : CountsOut end before.faults after.faults
+  pub quiet : IsQuiet end before.out after.out
+  pub others : KeepsUnwritten (file_written s name) before.files after.files
+  pub still : IsEarly end → KeepsOthers (file_written s name kinds.Model) before.files after.files
   pub worded : end ≢ Misworded

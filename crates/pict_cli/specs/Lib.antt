@@ -1,5 +1,6 @@
 pub mod Ends
 pub mod InMemory
+pub mod Making
 pub mod Modes
 pub mod Options
 pub mod Ranges

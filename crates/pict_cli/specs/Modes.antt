@@ -1,7 +1,8 @@
--- What a run does, by what its words set. (PICT's guide for reports, seed rows and statistics; that a given suite is
--- measured is this project's rule.)
-use Rattle.std.specs.Prelude.{ℕ, Bool, true, false, List, Option, Some, None, option_map, if◌then◌else◌}
+-- What a run does, by what its words set. (PICT's guide for reports, seed rows and statistics; that a model is made and a
+-- given suite is measured is this project's rule.)
+use Rattle.std.specs.Prelude.{ℕ, Bool, true, false, ◌||◌, List, Option, Some, None, is_some, option_map, if◌then◌else◌}
 use Rattle.outside_io.specs.Files.{Files}
+use Rattle.made_models.specs.MadeModel.{made_text}
 use Rattle.definitions.specs.RowReading.{RowMode, Seed, Suite}
 use Rattle.definitions.specs.Settings.{Settings}
 
@@ -15,8 +16,9 @@ pub data Mode : Type 0 where
   Generate : Output → Mode
   Measure : List ℕ → Mode
 
+-- a run that makes its model prints statistics
 abbrev pub output_of : Settings → Output
-output_of s = if s.stats then Statistics else Report
+output_of s = if s.stats || is_some s.make then Statistics else Report
 
 abbrev pub mode_in : Option (List ℕ) → Output → Mode
 mode_in (Some name) output = Measure name
@@ -39,18 +41,31 @@ is_report (Measure name) = false
 abbrev pub prints_rows : Settings → Bool
 prints_rows s = is_report (mode_of s)
 
+-- the bytes of its model, where the folder tells what the model file holds so: that, or the made model of a number
+abbrev pub model_from : Option ℕ → Option (Option (List ℕ)) → Option (Option (List ℕ))
+model_from None held = held
+model_from (Some n) held = Some (Some (made_text n))
+
+abbrev pub model_source : Settings → List ℕ → Files → Option (Option (List ℕ))
+model_source s name files = model_from s.make (files name)
+
 -- how the row file is read
 abbrev pub row_mode : Mode → RowMode
 row_mode (Generate output) = Seed
 row_mode (Measure name) = Suite
 
--- the name of its row file, where it has one: the file of seed rows, or that of the suite
+-- the name of the file of seed rows, where there is one: a run that makes its model has none
+abbrev pub rows_beside : Option ℕ → Option (List ℕ) → Option (List ℕ)
+rows_beside None rows = rows
+rows_beside (Some n) rows = None
+
+-- the name of the row file, where the run has one: the file of seed rows, or that of the suite
 abbrev pub row_file_in : Mode → Option (List ℕ) → Option (List ℕ)
 row_file_in (Generate output) seeds = seeds
 row_file_in (Measure name) seeds = Some name
 
 abbrev pub row_file : Settings → Option (List ℕ)
-row_file s = row_file_in (mode_of s) s.seeds
+row_file s = row_file_in (mode_of s) (rows_beside s.make s.seeds)
 
 -- what the row file holds, where the words name one: it may not be there
 pub data RowSource : Type 0 where

@@ -40,6 +40,7 @@ use Rattle.command_line.specs.declared.stop.Stop.{Stop}
 use Rattle.command_line.specs.declared.stop.Stop.TheVariants.{OutOfMemory, Spent, CannotRead, CannotWrite, CannotWriteReport}
 use Rattle.command_line.specs.declared.files.FileKind.TheVariants as kinds
 use Rattle.pict_cli.specs.Ends.{CountsReads, CountsWrites, End, Moment, Prints, Unprinted, Unwritten, Whole, end_of}
+use Rattle.pict_cli.specs.Making.{EndsFrom}
 use Rattle.pict_cli.specs.Modes.{Generate, Measure, Mode, Output, Report, RowSource, Statistics, mode_of, row_file, row_mode}
 use Rattle.pict_cli.specs.RowSources.{later_notes, notes_on, read_source, reading_or_none, stop_in}
 
@@ -185,14 +186,14 @@ Ends s seed held source notes row_notes before after end =
     (IsErrAnd end (StopsReading (opts_of s) held) × (notes ≡ []) × (row_notes ≡ []) × (after.out ≡ before.out) × KeepsFiles before.files after.files)
     ⊎ HasModel (opts_of s) held (λ m noted. (notes ≡ noted) × RunsModel s seed m source row_notes before after end)
 
--- a run on a model file of this name: what it wrote and printed, whose fault a file that it blames is, what it told, and
--- its status
+-- a run on a model file of this name, whose model has these bytes: what it wrote and printed, whose fault a file that it
+-- blames is, what it told, and its status
 pub record IsRun (s : Settings) (seed : ℕ) (held : Option (List ℕ)) (source : RowSource) (name : List ℕ) (before after : Moment)
     (told_before told_after : Option (List ℕ)) (faults faults_after status : ℕ) : Type 0 where
   pub notes : List Note
   pub row_notes : List Note
   pub end : Result (Unit {0}) Stop
-  pub ends : Ends s seed held source notes row_notes before after end
+  pub ends : EndsFrom s.make name (λ start. Ends s seed held source notes row_notes start after end) notes row_notes before after end
   pub reads : CountsReads s name (end_of end) before.reads after.reads
   pub writes : CountsWrites s name (end_of end) before.writes after.writes
   pub told : Tells told_before told_after faults faults_after (told_text (used_seed s.shuffle seed) notes row_notes (names_of name s) end)

@@ -1,5 +1,8 @@
 -- What the steps of a run say of each other. (This project's rules.)
-use Rattle.std.specs.Prelude.{◌≡◌, ℕ, ◌⊎◌, List, ◌++◌, map, take, Option, Some, Result, Ok, Err}
+use Rattle.std.specs.Prelude.{◌≡◌, ◌≢◌, ℕ, ◌⊎◌, List, ◌++◌, map, take, Option, Some, Result, Ok, Err, IfSome}
+use Rattle.outside_io.specs.Faults.{KeepsCounts, Rose}
+use Rattle.outside_io.specs.Files.{Files, HoldsOldOrPrefix, KeepsFiles}
+use Rattle.made_models.specs.MadeModel.{made_text}
 use Rattle.cov_model.specs.Sound.{ModelView}
 use Rattle.definitions.specs.Pairs.{pairs_of}
 use Rattle.definitions.specs.ProofText.{proof_text}
@@ -13,9 +16,11 @@ use Rattle.row_text.specs.Readings.{HoldsReading}
 use Rattle.row_text.specs.declared.row_file.RowFile.{RowFile}
 use Rattle.command_line.specs.declared.files.FileKind.TheVariants as kinds
 use Rattle.command_line.specs.declared.stop.Stop.{Stop}
-use Rattle.command_line.specs.declared.stop.Stop.TheVariants.{OutOfMemory, Spent, CannotRead}
-use Rattle.pict_cli.specs.Ends.{Leaves, Moment, Stopped, end_of}
-use Rattle.pict_cli.specs.Modes.{RowSource, row_source}
+use Rattle.command_line.specs.declared.stop.Stop.TheVariants.{OutOfMemory, Spent, CannotRead, CannotWrite}
+use Rattle.command_line.specs.Told.{end_status}
+use Rattle.pict_cli.specs.Ends.{Leaves, LeavesAll, Moment, Stopped, end_of}
+use Rattle.pict_cli.specs.Making.{EndsFrom}
+use Rattle.pict_cli.specs.Modes.{RowSource, model_source, row_source}
 use Rattle.pict_cli.specs.RowSources.{read_source}
 use Rattle.pict_cli.specs.Runs.{Ends}
 
@@ -50,8 +55,28 @@ pub data StopsWork (budget : ℕ) (over : Option (List (Option ℕ))) (later not
   is_spent : (question : List (Option ℕ)) → stop ≡ Spent budget (pairs_of question) → over ≡ Some question → notes_after ≡ notes
       → StopsWork budget over later notes notes_after stop
 
--- a run on the model file of this name ended so, from one moment to another
-pub record Ran (s : Settings) (seed : ℕ) (name : List ℕ) (before after : Moment) (notes row_notes : List Note) (end : Result (Unit {0}) Stop) : Type 0 where
-  pub ends : (held : Option (List ℕ)) (source : RowSource) → before.files name ≡ Some held → row_source s before.files ≡ Some source
+-- the made model of these bytes isn't written to the file of this name: memory is wanting, and no file changes, or the
+-- folder failed
+pub data StopsMaking (name made : List ℕ) (files files_after : Files) (writes writes_after : List ℕ → ℕ) (stop : Stop) : Type 0 where
+  unmade : stop ≡ OutOfMemory → KeepsFiles files files_after → KeepsCounts writes writes_after → StopsMaking name made files files_after writes writes_after stop
+  write_failed : stop ≡ CannotWrite kinds.Model → IfSome (files_after name) (λ held. HoldsOldOrPrefix (files name) held made) → Rose (writes name) (writes_after name)
+      → StopsMaking name made files files_after writes writes_after stop
+
+-- a run on the bytes of a model that are told so ended so, from one moment to another
+pub record RanOn (bytes : Option (Option (List ℕ))) (s : Settings) (seed : ℕ) (name : List ℕ) (before after : Moment) (notes row_notes : List Note) (end : Result (Unit {0}) Stop) : Type 0 where
+  pub ends : (held : Option (List ℕ)) (source : RowSource) → bytes ≡ Some held → row_source s before.files ≡ Some source
       → Ends s seed held source notes row_notes before after end
   pub leaves : Leaves s name before after (end_of end)
+
+-- what the folder tells of the model file, after a run that made its model: with every status but those of want of memory
+-- and of a fault of writing the file holds the made model, unless the proof was written over it
+abbrev pub HoldsMade : Settings → ℕ → List ℕ → Files → ℕ → Type 0
+HoldsMade s n name files status =
+    status ≢ 1 → status ≢ 8 → (status ≡ 0 → s.proof ≢ Some name) → IfSome (files name) (λ held. held ≡ Some (made_text n))
+
+-- a run on the model file of this name ended so, from one moment to another
+pub record Ran (s : Settings) (seed : ℕ) (name : List ℕ) (before after : Moment) (notes row_notes : List Note) (end : Result (Unit {0}) Stop) : Type 0 where
+  pub ends : (held : Option (List ℕ)) (source : RowSource) → model_source s name before.files ≡ Some held → row_source s before.files ≡ Some source
+      → EndsFrom s.make name (λ start. Ends s seed held source notes row_notes start after end) notes row_notes before after end
+  pub leaves : LeavesAll s name before after (end_of end)
+  pub made : IfSome s.make (λ n. HoldsMade s n name after.files (end_status end))

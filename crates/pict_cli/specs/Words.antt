@@ -14,8 +14,9 @@ use Rattle.outside_io.specs.Faults.{Rose}
 use Rattle.outside_io.specs.Files.{Files}
 use Rattle.type_check.specs.ModelOf.{IsModelOf}
 use Rattle.command_line.specs.declared.files.FileKind.{FileKind}
+use Rattle.command_line.specs.declared.files.FileKind.TheVariants as kinds
 use Rattle.pict_cli.specs.Ends.{file_read, file_written}
-use Rattle.pict_cli.specs.Modes.{RowSource, row_file, row_source}
+use Rattle.pict_cli.specs.Modes.{RowSource, model_source, row_source}
 use Rattle.pict_cli.specs.Runs.{opts_of}
 
 -- what an option sets isn't built yet
@@ -33,7 +34,7 @@ is_unbuilt (Budget n) = false
 is_unbuilt (ProofFile name) = false
 is_unbuilt (ProofFormat n) = false
 is_unbuilt (MeasureFile name) = false
-is_unbuilt (Make n) = true
+is_unbuilt (Make n) = false
 is_unbuilt (SuspectFile name) = true
 
 -- the word asks for what isn't built yet
@@ -74,28 +75,29 @@ texts words = map string_bytes words
 abbrev pub model_file : List (String Global) → List ℕ
 model_file words = model_name (texts words)
 
--- the names of the proof file and of the row file, where the words have a reading and ask for one
-abbrev pub proof_of : Result Settings ℕ → Option (List ℕ)
-proof_of (Ok s) = s.proof
-proof_of (Err index) = None
+-- the names of the files that the words give a run to read, and to write, where they have a reading
+abbrev pub read_of_asked : List ℕ → Result Settings ℕ → FileKind → Option (List ℕ)
+read_of_asked name (Ok s) kind = file_read s name kind
+read_of_asked name (Err index) kind = None
 
-abbrev pub proof_file : List (String Global) → Option (List ℕ)
-proof_file words = proof_of (asked_by (texts words))
+abbrev pub written_of_asked : List ℕ → Result Settings ℕ → FileKind → Option (List ℕ)
+written_of_asked name (Ok s) kind = file_written s name kind
+written_of_asked name (Err index) kind = None
 
-abbrev pub rows_of_asked : Result Settings ℕ → Option (List ℕ)
-rows_of_asked (Ok s) = row_file s
-rows_of_asked (Err index) = None
+abbrev pub file_to_read : List (String Global) → FileKind → Option (List ℕ)
+file_to_read words kind = read_of_asked (model_file words) (asked_by (texts words)) kind
 
-abbrev pub rows_file : List (String Global) → Option (List ℕ)
-rows_file words = rows_of_asked (asked_by (texts words))
+abbrev pub file_to_write : List (String Global) → FileKind → Option (List ℕ)
+file_to_write words kind = written_of_asked (model_file words) (asked_by (texts words)) kind
 
--- what a run is given: what the words ask for, and what the folder tells of the files that the run reads
+-- what a run is given: what the words ask for, the bytes of the model, those of the made model or those that the folder
+-- tells of the model file, and what the folder tells of the row file
 pub record IsGiven (words : List (List ℕ)) (files : Files) (s : Settings) (held : Option (List ℕ)) (source : RowSource) : Type 0 where
   pub asked : asked_by words ≡ Ok s
-  pub model : files (model_name words) ≡ Some held
+  pub model : model_source s (model_name words) files ≡ Some held
   pub rows : row_source s files ≡ Some source
 
--- and the model file is there, has no more bytes than it may, and spells this model
+-- and the model's bytes are there, are no more than a model file may have, and spell this model
 pub record IsSpelled (words : List (List ℕ)) (files : Files) (s : Settings) (source : RowSource) (m : ModelView) : Type 0 where
   pub bytes : List ℕ
   pub notes : List Note
@@ -109,3 +111,10 @@ ReadsCalmly s name before after = (kind : FileKind) → ¬ IsSomeAnd (file_read 
 
 abbrev pub WritesCalmly : Settings → List ℕ → (List ℕ → ℕ) → (List ℕ → ℕ) → Type 0
 WritesCalmly s name before after = (kind : FileKind) → ¬ IsSomeAnd (file_written s name kind) (λ file. Rose (before file) (after file))
+
+-- neither the count of faults of reading the model file rose, where the run is given to read it, nor that of writing it,
+-- where the run is given to write the made model to it
+abbrev pub GetsModelCalmly : Settings → List ℕ → (List ℕ → ℕ) → (List ℕ → ℕ) → (List ℕ → ℕ) → (List ℕ → ℕ) → Type 0
+GetsModelCalmly s name reads reads_after writes writes_after =
+    (¬ IsSomeAnd (file_read s name kinds.Model) (λ file. Rose (reads file) (reads_after file)))
+    × (¬ IsSomeAnd (file_written s name kinds.Model) (λ file. Rose (writes file) (writes_after file)))

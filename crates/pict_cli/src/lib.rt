@@ -15,6 +15,7 @@ mod generating;
 mod growing;
 mod in_memory;
 mod kinds;
+mod making;
 mod measuring;
 mod modes;
 mod options;

@@ -1,5 +1,5 @@
 ghost use Rattle.std.specs.Prelude.{◌≡◌, option_map};
-ghost use Rattle.pict_cli.specs.Modes.{mode_of, output_of, row_file};
+ghost use Rattle.pict_cli.specs.Modes.{mode_of, output_of, row_file, rows_beside};
 ghost use Rattle.pict_cli.specs.Options.{mode_seen, output_seen, settings_seen};
 
 use crate::options::Opts;
@@ -16,7 +16,7 @@ pub(crate) enum Output {
 /// What a run does, by its words.
 #[derive(Drop, Clone, Copy)]
 pub(crate) enum Mode<'w> {
-    /// It generates a suite.
+    /// It generates a suite, of a model file or of a made model.
     Generate(Output),
     /// It measures the suite of the file of this name.
     Measure(&'w str),
@@ -27,7 +27,7 @@ impl<'w> Opts<'w> {
     fn output(&self) -> Output
         ensures { output_seen result ≡ output_of (settings_seen self.now) }
     {
-        if self.stats {
+        if self.stats || self.make.is_some() {
             Output::Statistics
         } else {
             Output::Report
@@ -44,12 +44,22 @@ impl<'w> Opts<'w> {
         }
     }
 
+    /// The name of the file of seed rows, where there is one.
+    fn seed_file(&self) -> Option<&'w str>
+        ensures { option_map (λ name. name.now) result ≡ rows_beside (settings_seen self.now).make (settings_seen self.now).seeds }
+    {
+        match self.make {
+            Some(_) => None,
+            None => self.seeds,
+        }
+    }
+
     /// The name of the row file, where the run has one.
     pub(crate) fn row_file(&self) -> Option<&'w str>
         ensures { option_map (λ name. name.now) result ≡ row_file (settings_seen self.now) }
     {
         match self.mode() {
-            Mode::Generate(_) => self.seeds,
+            Mode::Generate(_) => self.seed_file(),
             Mode::Measure(name) => Some(name),
         }
     }

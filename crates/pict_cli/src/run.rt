@@ -1,6 +1,5 @@
-ghost use Rattle.std.specs.Prelude.{◌≡◌, ◌≢◌, ◌⊎◌, ◌≤◌, ◌<◌, length, true, ℕ, List, Option, Some, None, Ok, Err, IfSome, IsSomeAnd};
+ghost use Rattle.std.specs.Prelude.{◌≡◌, ◌≢◌, ◌⊎◌, ◌≤◌, ◌<◌, length, true, ℕ, List, [], Option, Some, None, Ok, Err, IsSomeAnd};
 ghost use Rattle.outside_io.specs.Faults.{Rose, KeepsCounts};
-ghost use Rattle.outside_io.specs.Files.{KeepsFiles};
 ghost use Rattle.cov_model.specs.Sound.{ModelView};
 ghost use Rattle.definitions.specs.Diagnostics.{word_line};
 ghost use Rattle.definitions.specs.Limits.{ModelFile, most_bytes};
@@ -11,18 +10,20 @@ ghost use Rattle.tuple_index.specs.PlanFault.{limit_passed};
 ghost use Rattle.command_line.specs.Settings.{shuffle_seen};
 ghost use Rattle.command_line.specs.Stops.{status_of};
 ghost use Rattle.command_line.specs.Told.{Tells, end_status};
-ghost use Rattle.pict_cli.specs.Ends.{KeepsOthers, moment};
-ghost use Rattle.pict_cli.specs.Modes.{RowSource, RowsHeld, prints_rows};
+ghost use Rattle.pict_cli.specs.Ends.{KeepsOthers, KeepsUnwritten, Leaves, end_of, moment};
+ghost use Rattle.pict_cli.specs.Modes.{RowSource, RowsHeld, prints_rows, row_source};
 ghost use Rattle.pict_cli.specs.Options.{settings_seen};
 ghost use Rattle.pict_cli.specs.Ranges.{AreFit};
-ghost use Rattle.pict_cli.specs.Runs.{HasModel, HoldsWholeProof, IsRun, IsStatus, PrintsAccepted, PrintsCovering, PrintsFewRows, PrintsSeeds, fault_status, opts_of, rows_of_run, seeds_kept, stop_due, told_proof, used_seed};
-ghost use Rattle.pict_cli.specs.Steps.{Ran};
-ghost use Rattle.pict_cli.specs.Words.{IsGiven, IsSpelled, IsWordFault, ReadsCalmly, WritesCalmly, asked_by, model_file, proof_file, rows_file, texts};
+ghost use Rattle.pict_cli.specs.Runs.{HasModel, HoldsWholeProof, IsRun, IsStatus, PrintsAccepted, PrintsCovering, PrintsFewRows, PrintsSeeds, RunsModel, fault_status, opts_of, rows_of_run, seeds_kept, stop_due, told_proof, used_seed};
+ghost use Rattle.pict_cli.specs.Steps.{HoldsMade, Ran, RanOn};
+ghost use Rattle.pict_cli.specs.Words.{GetsModelCalmly, IsGiven, IsSpelled, IsWordFault, ReadsCalmly, WritesCalmly, asked_by, file_to_read, file_to_write, model_file, texts};
 
+use crate::making::{read_made, write_made};
 use crate::options::Opts;
 use crate::words::read_command;
 use crate::working::run_model;
-use command_line::{FileNames, Shuffle, Stop, load_model, tell};
+use command_line::{FileKind, FileNames, Shuffle, Stop, load_model, tell};
+use cov_model::TestModel;
 use model_lex::NoteList;
 use outside_io::{Folder, Sink};
 use std::alloc::Global;
@@ -60,7 +61,124 @@ struct Ended {
     end: Result<(), Stop>,
 }
 
+impl Ended {
+    /// A run that stopped before it had a model.
+    fn stopped(alloc: Global, stop: Stop) -> Ended
+        ensures notes { result.notes ≡ [] }
+        ensures row_notes { result.row_notes ≡ [] }
+        ensures end { result.end ≡ Err stop }
+    {
+        Ended {
+            notes: OwnedList::new(alloc),
+            row_notes: OwnedList::new(alloc),
+            end: Err(stop),
+        }
+    }
+}
+
+/// Does with a model that was read, with these notes, what the options ask for.
+fn go_on<R: Threads + Sync, F: Folder, O: Sink>(
+    rt: &R,
+    alloc: Global,
+    model: &TestModel,
+    notes: NoteList,
+    opts: &Opts<'_>,
+    files: &mut F,
+    out: &mut O,
+    seed_word: u64,
+) -> Ended
+    requires { AreFit (settings_seen opts.now) }
+    ensures notes { result.notes ≡ notes }
+    ensures runs { (source : RowSource) → row_source (settings_seen opts.now) (F.file files.old) ≡ Some source → RunsModel (settings_seen opts.now) seed_word model.now source result.row_notes
+        (moment (F.file files.old) (F.read_faults files.old) (F.write_faults files.old) (O.written out.old) (O.faults out.old))
+        (moment (F.file files.new) (F.read_faults files.new) (F.write_faults files.new) (O.written out.new) (O.faults out.new)) result.end }
+    ensures leaves { (name : List ℕ) → Leaves (settings_seen opts.now) name (moment (F.file files.old) (F.read_faults files.old) (F.write_faults files.old) (O.written out.old) (O.faults out.old))
+        (moment (F.file files.new) (F.read_faults files.new) (F.write_faults files.new) (O.written out.new) (O.faults out.new)) (end_of result.end) }
+{
+    let mut row_notes = OwnedList::new(alloc);
+    let end = run_model(
+        rt,
+        alloc,
+        model,
+        opts,
+        seed_word,
+        files,
+        out,
+        &mut row_notes,
+    );
+    Ended {
+        notes,
+        row_notes,
+        end,
+    }
+}
+
 /// Reads the model file, and does with its model what the options ask for.
+fn run_on_file<R: Threads + Sync, F: Folder, O: Sink>(
+    rt: &R,
+    alloc: Global,
+    opts: &Opts<'_>,
+    files: &mut F,
+    out: &mut O,
+    seed_word: u64,
+) -> Ended
+    requires fit { AreFit (settings_seen opts.now) }
+    requires unmade { (settings_seen opts.now).make ≡ None }
+    ensures { RanOn (F.file files.old opts.now.model.now) (settings_seen opts.now) seed_word opts.now.model.now
+        (moment (F.file files.old) (F.read_faults files.old) (F.write_faults files.old) (O.written out.old) (O.faults out.old))
+        (moment (F.file files.new) (F.read_faults files.new) (F.write_faults files.new) (O.written out.new) (O.faults out.new)) result.notes result.row_notes result.end }
+{
+    match load_model(alloc, opts.model, &opts.opts, files) {
+        Ok((model, notes)) => go_on(rt, alloc, &model, notes, opts, files, out, seed_word),
+        Err(stop) => Ended::stopped(alloc, stop),
+    }
+}
+
+/// Reads a made model from its text, and does with it what the options ask for.
+fn run_on_text<R: Threads + Sync, F: Folder, O: Sink>(
+    rt: &R,
+    alloc: Global,
+    text: &str,
+    opts: &Opts<'_>,
+    files: &mut F,
+    out: &mut O,
+    seed_word: u64,
+) -> Ended
+    requires fit { AreFit (settings_seen opts.now) }
+    requires within { length text.now ≤ most_bytes ModelFile }
+    ensures { RanOn (Some (Some text.now)) (settings_seen opts.now) seed_word opts.now.model.now
+        (moment (F.file files.old) (F.read_faults files.old) (F.write_faults files.old) (O.written out.old) (O.faults out.old))
+        (moment (F.file files.new) (F.read_faults files.new) (F.write_faults files.new) (O.written out.new) (O.faults out.new)) result.notes result.row_notes result.end }
+{
+    match read_made(alloc, text.as_bytes(), &opts.opts) {
+        Ok((model, notes)) => go_on(rt, alloc, &model, notes, opts, files, out, seed_word),
+        Err(stop) => Ended::stopped(alloc, stop),
+    }
+}
+
+/// Writes the made model of a number to the model file, and does with that model what the options ask for.
+fn run_making<R: Threads + Sync, F: Folder, O: Sink>(
+    rt: &R,
+    alloc: Global,
+    number: u64,
+    opts: &Opts<'_>,
+    files: &mut F,
+    out: &mut O,
+    seed_word: u64,
+) -> Ended
+    requires fit { AreFit (settings_seen opts.now) }
+    requires number { (settings_seen opts.now).make ≡ Some number }
+    ensures { Ran (settings_seen opts.now) seed_word opts.now.model.now
+        (moment (F.file files.old) (F.read_faults files.old) (F.write_faults files.old) (O.written out.old) (O.faults out.old))
+        (moment (F.file files.new) (F.read_faults files.new) (F.write_faults files.new) (O.written out.new) (O.faults out.new)) result.notes result.row_notes result.end }
+{
+    match write_made(alloc, number, opts.model, files) {
+        Ok(text) => run_on_text(rt, alloc, text.as_str(), opts, files, out, seed_word),
+        Err(stop) => Ended::stopped(alloc, stop),
+    }
+}
+
+/// Gets the model, and does with it what the options ask for.
 fn run<R: Threads + Sync, F: Folder, O: Sink>(
     rt: &R,
     alloc: Global,
@@ -70,41 +188,22 @@ fn run<R: Threads + Sync, F: Folder, O: Sink>(
     seed_word: u64,
 ) -> Ended
     requires { AreFit (settings_seen opts.now) }
-    ensures { Ran (settings_seen opts.now) seed_word opts.now.model.now (moment (F.file files.old) (F.read_faults files.old) (F.write_faults files.old) (O.written out.old) (O.faults out.old))
+    ensures { Ran (settings_seen opts.now) seed_word opts.now.model.now
+        (moment (F.file files.old) (F.read_faults files.old) (F.write_faults files.old) (O.written out.old) (O.faults out.old))
         (moment (F.file files.new) (F.read_faults files.new) (F.write_faults files.new) (O.written out.new) (O.faults out.new)) result.notes result.row_notes result.end }
 {
-    let mut row_notes = OwnedList::new(alloc);
-    match load_model(alloc, opts.model, &opts.opts, files) {
-        Ok((model, notes)) => {
-            let end = run_model(
-                rt,
-                alloc,
-                &model,
-                opts,
-                seed_word,
-                files,
-                out,
-                &mut row_notes,
-            );
-            Ended {
-                notes,
-                row_notes,
-                end,
-            }
-        }
-        Err(stop) => Ended {
-            notes: OwnedList::new(alloc),
-            row_notes,
-            end: Err(stop),
-        },
+    match opts.make {
+        Some(number) => run_making(rt, alloc, number, opts, files, out, seed_word),
+        None => run_on_file(rt, alloc, opts, files, out, seed_word),
     }
 }
 
 /// Runs `pict` on its words, those behind the program's name, and gives the exit status.
 ///
 /// The steps come in this order: words, read of the model file, model, limits of the plan, read of the row file, row
-/// file, growth, write of the proof file, write to `out`. All memory is taken before the first byte is written.
-/// `seed_word` is the number of a shuffle that no word gives. Statuses: 0 where the text was written whole, 1 where
+/// file, growth, write of the proof file, write to `out`. A run that makes its model writes it to the model file in place
+/// of reading that, and goes on with the bytes that it wrote. But for the making and the writing of such a model all
+/// memory is taken before the first byte is written. `seed_word` is the number of a shuffle that no word gives. Statuses: 0 where the text was written whole, 1 where
 /// memory was refused, 2 where a question of the search costs more than the budget, 3 where the words have no
 /// reading, 4 and 5 where the model or a constraint of it is refused, 6 where the row file is, 7 where a read of the
 /// folder failed, 8 where a write of the folder or `out` did, 9 where something is above its limit. What is told goes
@@ -153,8 +252,9 @@ pub fn run_pict<R: Threads + Sync, F: Folder, O: Sink, E: Sink>(
         told_proof s (F.file files.new) ≡ Some after → HasModel (opts_of s) held (λ m notes. HoldsWholeProof s seed_word m (rows_of_run s m source) after) }
 
     // What a run does, by what its words ask for: why it ends so, what it prints, writes and tells. Premises: the run is
-    // given s, and the folder tells what its files held. And what `out` and `diag` got is said of each that tells what it
-    // held before, and what the proof file holds where the folder tells it at the end.
+    // given s, and the folder tells what its files held; of the model file a run that makes its model needn't be told. And
+    // what `out` and `diag` got is said of each that tells what it held before, and what the written files hold where the
+    // folder tells it at the end.
     ensures run { (s : Settings) (held : Option (List ℕ)) (source : RowSource) → IsGiven (texts words.now) (F.file files.old) s held source → IsRun s seed_word held source (model_file words.now)
         (moment (F.file files.old) (F.read_faults files.old) (F.write_faults files.old) (O.written out.old) (O.faults out.old))
         (moment (F.file files.new) (F.read_faults files.new) (F.write_faults files.new) (O.written out.new) (O.faults out.new))
@@ -166,12 +266,17 @@ pub fn run_pict<R: Threads + Sync, F: Folder, O: Sink, E: Sink>(
         (result ≡ 3) × Tells (E.written diag.old) (E.written diag.new) (E.faults diag.old) (E.faults diag.new) (word_line index) }
     ensures read_words { (s : Settings) → asked_by (texts words.now) ≡ Ok s → result ≢ 3 }
 
-    // Which status comes where memory is found. Premises: the words ask for s; the folder tells what its files held; and
-    // of all but `missing`: no count of faults of reading rose, of the files that the run reads (of `missing_rows`: that
+    // With every status but 1 and 8 the model file holds the made model at the end, where the words ask for one: unless
+    // the proof was written over it. Premise: the folder tells that name at the end.
+    ensures made { (s : Settings) (n : ℕ) → asked_by (texts words.now) ≡ Ok s → s.make ≡ Some n → HoldsMade s n (model_file words.now) (F.file files.new) result }
+
+    // Which status comes where memory is found. Premises: the words ask for s; the folder tells what its files held, but
+    // for the model file of a run that makes its model; and of all but `missing`: no count of faults of reading rose, of
+    // the files that the run reads, nor that of writing the made model (of `missing_rows`, `refused` and `too_long`: none
     // of the model file).
-    // A model file within its bytes that spells a model, where the run needn't stop: no limit is passed, the row file has
-    // its reading, no question is above the budget; and neither the count of faults of `out` nor that of writing the
-    // proof file rose.
+    // A model within the bytes of a model file that spell it, where the run needn't stop: no limit is passed, the row file
+    // has its reading, no question is above the budget; and neither the count of faults of `out` nor that of writing a
+    // file rose.
     ensures complete { (s : Settings) (source : RowSource) (m : ModelView) → IsSpelled (texts words.now) (F.file files.old) s source m →
         stop_due s seed_word m source ≡ None → ReadsCalmly s (model_file words.now) (F.read_faults files.old) (F.read_faults files.new) →
         WritesCalmly s (model_file words.now) (F.write_faults files.old) (F.write_faults files.new) →
@@ -180,18 +285,20 @@ pub fn run_pict<R: Threads + Sync, F: Folder, O: Sink, E: Sink>(
     // bytes, else at the first question above the budget.
     ensures stopped { (s : Settings) (source : RowSource) (m : ModelView) (stop : Stop) → IsSpelled (texts words.now) (F.file files.old) s source m →
         stop_due s seed_word m source ≡ Some stop → ReadsCalmly s (model_file words.now) (F.read_faults files.old) (F.read_faults files.new) →
+        GetsModelCalmly s (model_file words.now) (F.read_faults files.old) (F.read_faults files.new) (F.write_faults files.old) (F.write_faults files.new) →
         (result ≡ status_of stop) ⊎ (result ≡ 1) }
     // One where the row file is missing, and no limit is passed.
     ensures missing_rows { (s : Settings) (m : ModelView) → IsSpelled (texts words.now) (F.file files.old) s (RowsHeld None) m → limit_passed m ≡ None →
-        ¬ Rose (F.read_faults files.old (model_file words.now)) (F.read_faults files.new (model_file words.now)) → (result ≡ 7) ⊎ (result ≡ 1) }
-    // A model file within its bytes that is refused.
+        GetsModelCalmly s (model_file words.now) (F.read_faults files.old) (F.read_faults files.new) (F.write_faults files.old) (F.write_faults files.new) →
+        (result ≡ 7) ⊎ (result ≡ 1) }
+    // A model within the bytes of a model file that is refused.
     ensures refused { (s : Settings) (bytes : List ℕ) (fault : ModelFault) (source : RowSource) → IsGiven (texts words.now) (F.file files.old) s (Some bytes) source →
         length bytes ≤ most_bytes ModelFile → IsRefusalOf (opts_of s) bytes fault →
-        ¬ Rose (F.read_faults files.old (model_file words.now)) (F.read_faults files.new (model_file words.now)) →
+        GetsModelCalmly s (model_file words.now) (F.read_faults files.old) (F.read_faults files.new) (F.write_faults files.old) (F.write_faults files.new) →
         (result ≡ fault_status fault) ⊎ (result ≡ 1) }
     // A model file with more bytes than it may have.
     ensures too_long { (s : Settings) (bytes : List ℕ) (source : RowSource) → IsGiven (texts words.now) (F.file files.old) s (Some bytes) source → most_bytes ModelFile < length bytes →
-        ¬ Rose (F.read_faults files.old (model_file words.now)) (F.read_faults files.new (model_file words.now)) →
+        GetsModelCalmly s (model_file words.now) (F.read_faults files.old) (F.read_faults files.new) (F.write_faults files.old) (F.write_faults files.new) →
         (result ≡ 9) ⊎ (result ≡ 1) }
     // No model file.
     ensures missing { (s : Settings) (source : RowSource) → IsGiven (texts words.now) (F.file files.old) s None source → (result ≡ 7) ⊎ (result ≡ 1) }
@@ -199,20 +306,20 @@ pub fn run_pict<R: Threads + Sync, F: Folder, O: Sink, E: Sink>(
     // Without such premises: with a status but 0 and 8 `out` gets nothing.
     ensures nothing { result ≢ 0 → result ≢ 8 → (O.written out.new ≡ O.written out.old) × (O.faults out.new ≡ O.faults out.old) }
 
-    // 7 comes only where the folder's count of faults of reading the model file's name or the row file's rose, 8 only where
-    // the count of faults of `out` rose, or that of writing the proof file, and then `out` got nothing; and no status comes
-    // but those named above.
-    ensures read { result ≡ 7 → Rose (F.read_faults files.old (model_file words.now)) (F.read_faults files.new (model_file words.now))
-        ⊎ IsSomeAnd (rows_file words.now) (λ name. Rose (F.read_faults files.old name) (F.read_faults files.new name)) }
+    // 7 comes only where the folder's count of faults of reading a file rose that the words give the run to read, 8 only
+    // where the count of faults of `out` rose, or that of writing a file that they give it to write, and then `out` got
+    // nothing; and no status comes but those named above.
+    ensures read { result ≡ 7 → (kind : FileKind) × IsSomeAnd (file_to_read words.now kind) (λ name. Rose (F.read_faults files.old name) (F.read_faults files.new name)) }
     ensures write { result ≡ 8 → Rose (O.faults out.old) (O.faults out.new)
         ⊎ ((O.written out.new ≡ O.written out.old) × (O.faults out.new ≡ O.faults out.old)
-        × IsSomeAnd (proof_file words.now) (λ name. Rose (F.write_faults files.old name) (F.write_faults files.new name))) }
+        × ((kind : FileKind) × IsSomeAnd (file_to_write words.now kind) (λ name. Rose (F.write_faults files.old name) (F.write_faults files.new name)))) }
     ensures statuses { IsStatus result }
 
-    // No name but the proof file's changes what is told of it, and with a status but 0 and 8 none does: the proof file is
-    // written once there is a suite. The counts of faults of writing change with status 8 alone.
-    ensures files { KeepsOthers (proof_file words.now) (F.file files.old) (F.file files.new) }
-    ensures unwritten { result ≢ 0 → result ≢ 8 → KeepsFiles (F.file files.old) (F.file files.new) }
+    // No name but those of the files that the words give the run to write changes what is told of it, and with a status but
+    // 0 and 8 none but that of the made model does: the proof file is written once there is a suite. The counts of faults
+    // of writing change with status 8 alone.
+    ensures files { KeepsUnwritten (file_to_write words.now) (F.file files.old) (F.file files.new) }
+    ensures unwritten { result ≢ 0 → result ≢ 8 → KeepsOthers (file_to_write words.now FileKind.Model) (F.file files.old) (F.file files.new) }
     ensures write_faults { result ≢ 8 → KeepsCounts (F.write_faults files.old) (F.write_faults files.new) }
 {
     let opts = match read_command(words) {

@@ -14,6 +14,8 @@ mod growth;
 #[cfg(test)]
 mod language;
 #[cfg(test)]
+mod made;
+#[cfg(test)]
 mod proofs;
 #[cfg(test)]
 mod seeds;

@@ -1,12 +1,12 @@
-use Rattle.std.proofs.Common.{◌≡◌, ◌^◌, ◌-◌, ℕ, List, Option, None, Some, refl}
+use Rattle.std.proofs.Common.{◌≡◌, ◌^◌, ◌-◌, ℕ, List, Option, None, Some, true, ap, refl}
 use Rattle.std.specs.Prelude.{min}
 use Rattle.outside_io.specs.MemFolder.{Slot, file_of}
 use Rattle.definitions.specs.Settings.{Settings}
 use Rattle.pict_cli.specs.InMemory.{source_of, source_under}
-use Rattle.pict_cli.specs.Modes.{row_file, row_source, source_in}
+use Rattle.pict_cli.specs.Modes.{model_from, model_source, prints_rows, row_file, row_source, source_in}
 use Rattle.pict_cli.specs.Runs.{opts_of}
-use Rattle.pict_cli.specs.Words.{asked_by, texts}
-use Rattle.pict_cli.proofs.RunEnds.{asked_or_three, model_then}
+use Rattle.pict_cli.specs.Words.{asked_by, model_file, texts}
+use Rattle.pict_cli.proofs.RunEnds.{asked_or_three, model_then, prints_of_a_file}
 use Rattle.pict_cli.proofs.in_memory.run_pict_in_memory.Goals as goal
 
 told : (slots : List Slot) (s : Settings) → row_source s (λ name. Some (file_of slots name)) ≡ Some (source_of slots s)
@@ -16,23 +16,26 @@ told slots s = at (row_file s)
     at None = refl
     at (Some name) = refl
 
+of_a_file : (slots : List Slot) (name : List ℕ) (s : Settings) → prints_rows s ≡ true → model_source s name (λ file. Some (file_of slots file)) ≡ Some (file_of slots name)
+of_a_file slots name s is = ap (λ make. model_from make (Some (file_of slots name))) (prints_of_a_file s is)
+
 pub returns-clause-headline : goal.returns-clause-headline
 returns-clause-headline g c = λ zero.
     asked_or_three (asked_by (texts c.args.words.now)) c.run_pict.result _
     (λ s asked is. model_then (opts_of s) _ _ _ (λ m notes holds. holds _ refl)
-    (c.run_pict.ensures.headline zero s _ _ (record { asked = asked; model = refl; rows = told c.args.files.now.slots s }) is))
+    (c.run_pict.ensures.headline zero s _ _ (record { asked = asked; model = of_a_file c.args.files.now.slots (model_file c.args.words.now) s is; rows = told c.args.files.now.slots s }) is))
     (λ index asked. (c.run_pict.ensures.words (min index (2 ^ 32 - 1)) (index, asked, refl)).0) zero
 
 pub returns-clause-few : goal.returns-clause-few
 returns-clause-few g c = λ zero.
     asked_or_three (asked_by (texts c.args.words.now)) c.run_pict.result _
     (λ s asked is. model_then (opts_of s) _ _ _ (λ m notes holds. holds _ refl)
-    (c.run_pict.ensures.few zero s _ _ (record { asked = asked; model = refl; rows = told c.args.files.now.slots s }) is))
+    (c.run_pict.ensures.few zero s _ _ (record { asked = asked; model = of_a_file c.args.files.now.slots (model_file c.args.words.now) s is; rows = told c.args.files.now.slots s }) is))
     (λ index asked. (c.run_pict.ensures.words (min index (2 ^ 32 - 1)) (index, asked, refl)).0) zero
 
 pub returns-clause-seeds : goal.returns-clause-seeds
 returns-clause-seeds g c = λ zero.
     asked_or_three (asked_by (texts c.args.words.now)) c.run_pict.result _
     (λ s asked is. model_then (opts_of s) _ _ _ (λ m notes holds. holds _ refl)
-    (c.run_pict.ensures.seeds zero s _ _ (record { asked = asked; model = refl; rows = told c.args.files.now.slots s }) is))
+    (c.run_pict.ensures.seeds zero s _ _ (record { asked = asked; model = of_a_file c.args.files.now.slots (model_file c.args.words.now) s is; rows = told c.args.files.now.slots s }) is))
     (λ index asked. (c.run_pict.ensures.words (min index (2 ^ 32 - 1)) (index, asked, refl)).0) zero

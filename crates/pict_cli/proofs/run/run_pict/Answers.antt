@@ -1,13 +1,15 @@
 use Rattle.std.proofs.Common.{inl, inr, sym, ap, subst, ◌∙◌}
-use Rattle.std.specs.Prelude.{IsSomeAnd}
+use Rattle.std.specs.Prelude.{IfSome, IsSomeAnd}
 use Rattle.outside_io.specs.Faults.{Rose}
-use Rattle.pict_cli.specs.Ends.{CountsOut, CountsReads, CountsWrites, IsQuiet, KeepsOthers}
+use Rattle.command_line.specs.declared.files.FileKind.TheVariants as kinds
+use Rattle.pict_cli.specs.Ends.{CountsOut, CountsReads, CountsWrites, IsQuiet, KeepsOthers, KeepsUnwritten}
 use Rattle.pict_cli.specs.Options.{settings_seen}
-use Rattle.pict_cli.specs.Words.{proof_of, rows_of_asked}
+use Rattle.pict_cli.specs.Steps.{HoldsMade}
+use Rattle.pict_cli.specs.Words.{asked_by, model_file, read_of_asked, texts, written_of_asked}
 use Rattle.pict_cli.specs.Runs.{IsStatus, names_of, used_seed}
-use Rattle.command_line.specs.Told.{Tells, told_text}
+use Rattle.command_line.specs.Told.{Tells, end_status, told_text}
 use Rattle.pict_cli.proofs.Causes.{complete_end, long_end, missing_end, missing_rows_end, refused_end, stopped_end}
-use Rattle.pict_cli.proofs.RunEnds.{accepted_whole, covers_whole, eight_is_end, few_whole, form_known, not_three, nothing_end, one_asked, proof_whole, ran_asked, read_names, seeds_whole, seven_is_end, status_known, still_end, untouched_end, unwritten_end, written_names}
+use Rattle.pict_cli.proofs.RunEnds.{accepted_whole, covers_whole, eight_is_end, few_whole, form_known, not_three, nothing_end, one_asked, proof_whole, ran_asked, seeds_whole, seven_is_end, status_known, untouched_end, unwritten_end}
 use Rattle.pict_cli.proofs.run.run_pict.Goals as goal
 
 pub returns-clause-headline : goal.returns-clause-headline
@@ -98,11 +100,11 @@ returns-clause-read g c = λ seven.
     let before = g.F.Folder.read_faults c.args.files.now in
     let after = g.F.Folder.read_faults c.run-ended.new.files in
     let name = c.in-Ok.opts.model.now in
-    let rose = subst (λ e. CountsReads s name e before after) found.1 c.run-ended.ensures.leaves.reads in
-    elim (read_names s name found.0 (λ file. Rose (before file) (after file)) rose) [
-      | inl model ↦ inl (subst (λ file. Rose (before file) (after file)) c.in-Ok.ensures.2 model)
-      | inr rows ↦ inr (subst (λ asked. IsSomeAnd (rows_of_asked asked) (λ file. Rose (before file) (after file))) (sym c.in-Ok.ensures.0) rows)
-    ]
+    let rose = subst (λ e. CountsReads s name e before after) found.1 c.run-ended.ensures.leaves.reads in (
+      found.0,
+      subst (λ file. IsSomeAnd (read_of_asked file (asked_by (texts c.args.words.now)) found.0) (λ file. Rose (before file) (after file))) c.in-Ok.ensures.2
+          (subst (λ asked. IsSomeAnd (read_of_asked name asked found.0) (λ file. Rose (before file) (after file))) (sym c.in-Ok.ensures.0) rose),
+    )
 
 pub returns-clause-write : goal.returns-clause-write
 returns-clause-write g c = λ eight.
@@ -116,21 +118,37 @@ returns-clause-write g c = λ eight.
       | inr file ↦ inr (
         subst (λ e. IsQuiet e (g.O.Sink.written c.args.out.now) (g.O.Sink.written c.run-ended.new.out)) file.1 left.quiet,
         subst (λ e. CountsOut e (g.O.Sink.faults c.args.out.now) (g.O.Sink.faults c.run-ended.new.out)) file.1 left.faults,
-        subst (λ asked. IsSomeAnd (proof_of asked) (λ file. Rose (before file) (after file))) (sym c.in-Ok.ensures.0)
-            (written_names s name file.0 (λ file. Rose (before file) (after file)) (subst (λ e. CountsWrites s name e before after) file.1 left.writes)),
+        (
+          file.0,
+          subst (λ model. IsSomeAnd (written_of_asked model (asked_by (texts c.args.words.now)) file.0) (λ written. Rose (before written) (after written))) c.in-Ok.ensures.2
+              (subst (λ asked. IsSomeAnd (written_of_asked name asked file.0) (λ written. Rose (before written) (after written))) (sym c.in-Ok.ensures.0)
+              (subst (λ e. CountsWrites s name e before after) file.1 left.writes)),
+        ),
       )
     ]
 
 pub returns-clause-files : goal.returns-clause-files
 returns-clause-files g c =
-    subst (λ asked. KeepsOthers (proof_of asked) (g.F.Folder.file c.args.files.now) (g.F.Folder.file c.run-ended.new.files)) (sym c.in-Ok.ensures.0)
-    c.run-ended.ensures.leaves.others
+    let files = g.F.Folder.file c.args.files.now in
+    let after = g.F.Folder.file c.run-ended.new.files in
+    subst (λ name. KeepsUnwritten (written_of_asked name (asked_by (texts c.args.words.now))) files after) c.in-Ok.ensures.2
+    (subst (λ asked. KeepsUnwritten (written_of_asked c.in-Ok.opts.model.now asked) files after) (sym c.in-Ok.ensures.0) c.run-ended.ensures.leaves.others)
 
 pub returns-clause-unwritten : goal.returns-clause-unwritten
 returns-clause-unwritten g c = λ zero eight.
     let left = c.run-ended.ensures.leaves in
-    still_end c.run-ended.result.end (g.F.Folder.file c.args.files.now) (g.F.Folder.file c.run-ended.new.files)
-    (untouched_end c.run-ended.result.end (λ e. zero (c.status_of.ensures ∙ e)) (λ e. eight (c.status_of.ensures ∙ e)) left.worded) left.still
+    let files = g.F.Folder.file c.args.files.now in
+    let after = g.F.Folder.file c.run-ended.new.files in
+    subst (λ name. KeepsOthers (written_of_asked name (asked_by (texts c.args.words.now)) kinds.Model) files after) c.in-Ok.ensures.2
+    (subst (λ asked. KeepsOthers (written_of_asked c.in-Ok.opts.model.now asked kinds.Model) files after) (sym c.in-Ok.ensures.0)
+    (left.still (untouched_end c.run-ended.result.end (λ e. zero (c.status_of.ensures ∙ e)) (λ e. eight (c.status_of.ensures ∙ e)) left.worded)))
+
+pub returns-clause-made : goal.returns-clause-made
+returns-clause-made g c = λ s n asked is.
+    let ran = ran_asked c.in-Ok.ensures.0 asked c.in-Ok.ensures.2 c.run-ended.ensures in
+    let name = model_file c.args.words.now in
+    let after = g.F.Folder.file c.run-ended.new.files in
+    subst (HoldsMade s n name after) (sym c.status_of.ensures) (subst (λ make. IfSome make (λ number. HoldsMade s number name after (end_status c.run-ended.result.end))) is ran.made)
 
 pub returns-clause-write_faults : goal.returns-clause-write_faults
 returns-clause-write_faults g c = λ eight.
