@@ -7,7 +7,7 @@ use std::marker::Model;
 
 /// A line of a row file that has a byte.
 #[derive(Debug, Drop, Clone, Copy)]
-pub(crate) struct FilledLine<'a> {
+pub struct FilledLine<'a> {
     /// The number of the line, counted from 1.
     pub number: u32,
     /// Its bytes without the line end.
@@ -16,7 +16,7 @@ pub(crate) struct FilledLine<'a> {
 
 /// The lines of a row file that are still to be read, without those that have no byte.
 #[derive(Drop)]
-pub(crate) struct FilledLines<'a> {
+pub struct FilledLines<'a> {
     rest: &'a [u8],
     taken: u32,
 }
@@ -53,8 +53,8 @@ fn cut_filled(taken: u32, bytes: &[u8]) -> Option<(FilledLine<'_>, &[u8])>
 }
 
 impl<'a> FilledLines<'a> {
-    /// The lines of a row file.
-    pub(crate) fn new(bytes: &'a [u8]) -> FilledLines<'a>
+    /// The lines of a row file, of at most 2^28 bytes.
+    pub fn new(bytes: &'a [u8]) -> FilledLines<'a>
         requires { length bytes.now ≤ 2 ^ 28 }
         ensures { result ≡ filled_lines bytes.now }
     {
@@ -65,7 +65,7 @@ impl<'a> FilledLines<'a> {
     }
 
     /// The same lines, to be read once more.
-    pub(crate) fn again(&self) -> FilledLines<'a>
+    pub fn again(&self) -> FilledLines<'a>
         ensures { result ≡ self.now }
     {
         FilledLines {
@@ -75,15 +75,15 @@ impl<'a> FilledLines<'a> {
     }
 
     /// Says again what the lines keep: there are few. Does nothing when it runs.
-    pub(crate) fn assert_invariant(&self)
+    pub fn assert_invariant(&self)
         ensures { length self.now < 2 ^ 32 }
     {
         // a use of a field brings into a proof what the type keeps
         let _ = &self.rest;
     }
 
-    /// Takes the next line.
-    pub(crate) fn take_line(&mut self) -> Option<FilledLine<'a>>
+    /// Takes the next line; `None` exactly where there is none. Takes no memory.
+    pub fn take_line(&mut self) -> Option<FilledLine<'a>>
         ensures { MatchOption result (self.old ≡ []) (λ line. self.old ≡ line_seen line ∷ self.new) }
     {
         let (line, rest) = cut_filled(self.taken, self.rest)?;

@@ -5,6 +5,9 @@
 //! - `read_rows` reads a row file, in one of two modes: exactly the partial rows and the notes of its bytes, or
 //!   the first fault. `RowFile` is what it holds: partial rows, each with its line, and notes.
 //!
+//! - `FilledLines` and `LineCells` cut a row file into lines and cells, and `LinesOut` writes short texts; the readers
+//!   and writers here stand on them, and so may others.
+//!
 //! Reports go through a buffer of a fixed size in `Turns`. But for `Turns::new` and `read_rows`, which answer
 //! `NoMemory`, no call takes memory.
 #![tactic(auto)]
@@ -28,7 +31,10 @@ mod text_numbers;
 mod turns;
 
 pub use figures::{Figures, Stats};
-pub use numbers::{put_figures, put_stats};
+pub use filled_lines::{FilledLine, FilledLines};
+pub use line_cells::LineCells;
+pub use lines_out::LinesOut;
+pub use numbers::{put_figures, put_number, put_stats};
 pub use reading::read_rows;
 pub use report::put_report;
 pub use row_file::{FileRow, FileRowList, RowFile, RowMode};

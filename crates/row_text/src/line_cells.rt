@@ -6,7 +6,7 @@ use std::marker::Model;
 
 /// The cells of a line that are still to be read, each without the spaces at its ends.
 #[derive(Drop)]
-pub(crate) struct LineCells<'a> {
+pub struct LineCells<'a> {
     rest: Option<&'a [u8]>,
 }
 
@@ -40,14 +40,14 @@ fn cut_cell(line: &[u8]) -> (&[u8], Option<&[u8]>)
 
 impl<'a> LineCells<'a> {
     /// The cells of a line.
-    pub(crate) fn new(line: &'a [u8]) -> LineCells<'a>
+    pub fn new(line: &'a [u8]) -> LineCells<'a>
         ensures { result ≡ cells_of_line line.now }
     {
         LineCells { rest: Some(line) }
     }
 
-    /// Takes the next cell.
-    pub(crate) fn take_cell(&mut self) -> Option<&'a [u8]>
+    /// Takes the next cell; `None` exactly where there is none. Takes no memory.
+    pub fn take_cell(&mut self) -> Option<&'a [u8]>
         ensures { MatchOption result (self.old ≡ []) (λ cell. self.old ≡ cell.now ∷ self.new) }
     {
         let (cell, rest) = cut_cell(self.rest?);

@@ -7,7 +7,7 @@ use std::marker::Model;
 
 /// Short text on its way to a sink, without a buffer. After a fault nothing more is put.
 #[derive(Drop)]
-pub(crate) struct LinesOut {
+pub struct LinesOut {
     faulty: bool,
 }
 
@@ -22,14 +22,14 @@ impl Model for LinesOut {
 
 impl LinesOut {
     /// No text so far. Takes no memory.
-    pub(crate) fn new() -> LinesOut
+    pub fn new() -> LinesOut
         ensures { result ≡ empty_buffer }
     {
         LinesOut { faulty: false }
     }
 
     /// Writes bytes.
-    pub(crate) fn add<O: Sink>(&mut self, bytes: &[u8], out: &mut O)
+    pub fn add<O: Sink>(&mut self, bytes: &[u8], out: &mut O)
         ensures { Adds self.old (state_of O.written O.room O.faults out.old)
             self.new (state_of O.written O.room O.faults out.new) bytes.now }
     {
@@ -40,7 +40,7 @@ impl LinesOut {
     }
 
     /// Whether all of the text was put.
-    pub(crate) fn answer(&self) -> WriteAnswer
+    pub fn answer(&self) -> WriteAnswer
         ensures { (start now : SinkState) (text : List ℕ) → Holds start self.now now text → PutsText result start now text }
     {
         if self.faulty {

@@ -9,8 +9,8 @@ use crate::lines_out::LinesOut;
 use itoa::Buffer;
 use outside_io::{Sink, WriteAnswer};
 
-/// Writes a line with a label and a number.
-fn put_number<O: Sink>(label: &str, number: u64, lines: &mut LinesOut, out: &mut O)
+/// Writes a line with a label and a number. Takes no memory.
+pub fn put_number<O: Sink>(label: &str, number: u64, lines: &mut LinesOut, out: &mut O)
     ensures { Adds lines.old (state_of O.written O.room O.faults out.old)
         lines.new (state_of O.written O.room O.faults out.new) (number_line label.now number) }
 {
