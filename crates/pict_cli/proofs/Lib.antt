@@ -11,5 +11,6 @@ pub mod Reading
 pub mod RowFiles
 pub mod RunEnds
 pub mod Suites
+pub mod Suspicions
 pub mod Unbuilt
 pub mod WordLemmas

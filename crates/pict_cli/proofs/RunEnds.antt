@@ -1,6 +1,6 @@
 -- How a run ends, from how its reading and its work on the model ended.
 use Rattle.std.proofs.Common.{◌≡◌, ℕ, ◌||◌, ◌≤◌, length, List, Option, None, Some, Ok, Err, Result, inl, inr, refl, ap, subst, arith}
-use Rattle.std.specs.Prelude.{◌==◌, ◌≢◌, ◌⊎◌, true, IsSomeAnd, IsOkAnd}
+use Rattle.std.specs.Prelude.{◌==◌, ◌≢◌, ◌⊎◌, false, true, IsSomeAnd, IsOkAnd}
 use Rattle.std.proofs.lemmas.Bool.{eqb-false, or_parts}
 use Rattle.outside_io.specs.Faults.{KeepsCounts}
 use Rattle.outside_io.specs.Files.{Files, KeepsFiles}
@@ -26,7 +26,7 @@ use Rattle.command_line.specs.declared.stop.Stop.{Stop}
 use Rattle.command_line.specs.declared.stop.Stop.TheVariants.{OutOfMemory, Spent, BadWord, BadModel, BadConstraint, BadRows, NoResult, BadResult, CannotRead, CannotWrite, CannotWriteReport, TooMany, TooLong}
 use Rattle.pict_cli.specs.declared.options.Opts.{Opts}
 use Rattle.pict_cli.specs.Ends.{CountsOut, CountsWrites, End, IsEarly, IsQuiet, Misworded, Moment, StaysStill, Stopped, Unprinted, Unread, Unwritten, Whole, end_of, file_read, file_written}
-use Rattle.pict_cli.specs.Modes.{RowSource, prints_rows, row_file, row_source}
+use Rattle.pict_cli.specs.Modes.{RowSource, makes_suite, mode_of, prints_rows, row_file, row_source}
 use Rattle.pict_cli.specs.Options.{settings_seen}
 use Rattle.pict_cli.specs.Ranges.{IsLeast, AreFit}
 use Rattle.pict_cli.specs.Runs.{Ends, HasModel, HoldsWholeProof, IsStatus, PrintsAccepted, PrintsCovering, PrintsFewRows, PrintsSeeds, RunsModel, SpellsModel, opts_of, order_word, rows_of_run, seeds_kept, told_proof}
@@ -303,9 +303,9 @@ module _ {s : Settings} {seed : ℕ} {name : List ℕ} {start after : Moment} {n
       → HasModel (opts_of s) held (λ m noted. (before : List ℕ) → start.out ≡ Some before → IsSomeAnd after.out (PrintsAccepted m s.form proof before))
   accepted_whole known is proof told = whole _ (λ m runs before out. prints_accepted s seed m source row_notes start after runs known is proof told before out)
 
-  pub proof_whole : (known : (s.form ≡ 1) ⊎ (s.form ≡ 2)) (proof : Option (List ℕ)) → told_proof s after.files ≡ Some proof → end_status end ≡ 0
+  pub proof_whole : (unproved : makes_suite (mode_of s) ≡ false → s.proof ≡ None) (known : (s.form ≡ 1) ⊎ (s.form ≡ 2)) (proof : Option (List ℕ)) → told_proof s after.files ≡ Some proof → end_status end ≡ 0
       → HasModel (opts_of s) held (λ m noted. HoldsWholeProof s seed m (rows_of_run s m source) proof)
-  proof_whole known proof told = whole _ (λ m runs. holds_whole_proof s seed m source row_notes start after runs known proof told)
+  proof_whole unproved known proof told = whole _ (λ m runs. holds_whole_proof s seed m source row_notes start after runs unproved known proof told)
 
 -- words that have no reading end with another status
 pub asked_or_three : (asked : Result Settings ℕ) (status : ℕ) (P : Settings → Type 0) → ((s : Settings) → asked ≡ Ok s → P s)

@@ -34,7 +34,7 @@ is_unbuilt (ProofFile name) = false
 is_unbuilt (ProofFormat n) = false
 is_unbuilt (MeasureFile name) = false
 is_unbuilt (Make n) = true
-is_unbuilt (SuspectFile name) = true
+is_unbuilt (SuspectFile name) = false
 
 -- the word asks for what isn't built yet
 abbrev pub asks_unbuilt : List ℕ → Bool

@@ -13,7 +13,7 @@ fn is_unbuilt(setting: &Setting<'_>) -> bool
     ensures { result ≡ is_unbuilt (setting_seen setting.now) }
 {
     match setting {
-        Setting::Make(_) | Setting::SuspectFile(_) => true,
+        Setting::Make(_) => true,
         _ => false,
     }
 }
