@@ -1,1 +1,5 @@
 pub mod Ends
+pub mod SuiteRows
+pub mod SetFigures
+pub mod Asking
+pub mod Values

@@ -7,6 +7,12 @@
 //!   at the first of them whose plain cost exceeds the budget, and without figures exactly where there is one.
 #![tactic(auto)]
 
+mod asking;
+mod covered;
 mod measuring;
+mod question;
+mod servable;
+mod set_figures;
+mod suite_rows;
 
 pub use measuring::measure;

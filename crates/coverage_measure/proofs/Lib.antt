@@ -1,0 +1,9 @@
+pub mod RowLemmas
+pub mod SetLemmas
+pub mod MarkLemmas
+pub mod ValueLemmas
+pub mod QuestionLemmas
+pub mod EndLemmas
+pub mod CountLemmas
+pub mod AskLemmas
+pub mod FigureLemmas
