@@ -4,3 +4,7 @@ pub mod PartLemmas
 pub mod EdgeLemmas
 pub mod WalkLemmas
 pub mod SetCountLemmas
+pub mod RowListLemmas
+pub mod CountingSteps
+pub mod SetLemmas
+pub mod SearchLemmas
