@@ -1,7 +1,7 @@
 -- The rows of a file of results, counted one after another.
 use Rattle.std.proofs.Common.{◌≡◌, ℕ, ◌+◌, ◌<◌, ◌≤◌, Bool, true, false, cond, List, [], ◌∷◌, ◌++◌, map, filter, take, length, get_or, Option, refl, sym, ap, ◌∙◌, arith, length-append}
 use Rattle.std.specs.Prelude.{◌&&◌, not, zip}
-use Rattle.std.proofs.lemmas.List.{append-nil, get_or-map, length-map, map-append, take_more, take_all, length-take-le}
+use Rattle.std.proofs.lemmas.List.{get_or-map, length-map, take_more, take_all}
 use Rattle.std.proofs.lemmas.List.Elements.{filter-append}
 use Rattle.std.proofs.lemmas.Slice.Zip.{get_or-zip, length-zip}
 use Rattle.cov_model.specs.Rows.{is_complete}

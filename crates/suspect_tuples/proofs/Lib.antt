@@ -8,3 +8,4 @@ pub mod RowListLemmas
 pub mod CountingSteps
 pub mod SetLemmas
 pub mod SearchLemmas
+pub mod ResultSteps

@@ -1,18 +1,12 @@
 -- What holds of the rows of a file of results, and of the number of candidates.
-use Rattle.std.proofs.Common.{◌≡◌, ℕ, ◌+◌, ◌*◌, ◌<◌, ◌≤◌, ◌^◌, Bool, List, [], ◌∷◌, map, filter, length, get_or, All, Option, inl, inr, refl, sym, ap, subst, ◌∙◌, arith}
+use Rattle.std.proofs.Common.{◌≡◌, ℕ, ◌*◌, ◌<◌, ◌^◌, Bool, List, [], ◌∷◌, map, filter, length, All, Option, inl, inr, ap, subst, ◌∙◌, arith}
 use Rattle.std.specs.Prelude.{zip}
-use Rattle.std.specs.List.{range_with_len}
-use Rattle.std.proofs.lemmas.List.FromFn.{length-range_with_len}
 use Rattle.cov_model.specs.Fits.{FitsModel}
 use Rattle.cov_model.specs.Sound.{ModelView, IsSound}
-use Rattle.cov_model.specs.Valid.{param_numbers}
-use Rattle.definitions.proofs.Members.{Has, all_members, has_map, member_of_all, of_filter, of_map}
-use Rattle.row_text.specs.Readings.{IsFileOf}
+use Rattle.definitions.proofs.Members.{Has, all_members, member_of_all, of_filter, of_map}
 use Rattle.row_text.specs.declared.row_file.FileRow.{FileRow}
-use Rattle.row_text.specs.declared.row_file.RowFile.{RowFile}
 use Rattle.tuple_index.specs.PlanFault.{told}
 use Rattle.tuple_index.proofs.ToldLemmas.{told-product}
-use Rattle.suspect_tuples.specs.SetCounts.{ways_up_to}
 use Rattle.suspect_tuples.specs.Sets.{AreWide}
 use Rattle.suspect_tuples.specs.Suspects.{candidate_count, suspect_sets}
 use Rattle.suspect_tuples.proofs.CountingSteps.{cells_seen}

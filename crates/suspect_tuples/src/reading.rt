@@ -1,7 +1,5 @@
-ghost use Rattle.std.specs.Prelude.{◌≡◌, ◌+◌, ◌≤◌, ◌<◌, ◌^◌, Some, None, if◌then◌else◌, codes, drop, false, find, is_none, length, map, position, slice_index_or, unwrap_or, IfOk, IfErr, OnOk};
-ghost use Rattle.std.specs.Option.{option_map};
+ghost use Rattle.std.specs.Prelude.{◌≡◌, ◌+◌, ◌≤◌, ◌<◌, ◌^◌, Some, None, if◌then◌else◌, [], codes, drop, false, find, is_none, length, map, position, slice_index_or, unwrap_or, IfOk, IfErr, IfSome, OnOk};
 ghost use Rattle.definitions.specs.RowFile.{cells_of_line};
-ghost use Rattle.row_text.specs.RowLines.{line_seen};
 ghost use Rattle.suspect_tuples.specs.ResultReading.{has_failed, read_results, result_fault, result_of_line};
 ghost use Rattle.suspect_tuples.specs.Results.{AreResultsOf, ReadsResults, result_fault_of};
 ghost use Rattle.value_text.specs.Texts.{is_same_text};
@@ -30,12 +28,11 @@ fn result_column(header: &[u8], fold: bool) -> Option<usize>
     ensures { result ≡ position (λ cell. is_same_text fold (codes ":result") cell) (cells_of_line header.now) }
 {
     let mut cells = LineCells::new(header);
-    let mut place = 0;
-    while let Some(cell) = cells.take_cell() {
+    for place in 0..header.len() + 1 {
+        let cell = cells.take_cell()?;
         if is_same(b":result", cell, fold) {
             return Some(place);
         }
-        place += 1;
     }
     None
 }
@@ -92,11 +89,12 @@ fn read_failed(
 
 // The notes but the first.
 fn later_notes(alloc: Global, notes: &[Note]) -> Result<NoteList, NoMemory>
+    requires { 1 ≤ length notes.now }
     ensures { IfOk result (λ later. later ≡ drop 1 notes.now) }
 {
     let mut later = NoteList::new(alloc);
-    for at in 1..notes.len() {
-        later.push(notes[at])?;
+    for note in &notes[1..] {
+        later.push(*note)?;
     }
     Ok(later)
 }

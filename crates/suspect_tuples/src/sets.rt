@@ -42,7 +42,16 @@ fn add_sets(
     let last = params.saturating_sub(more - 1) as ParamNo;
     for param in first..last {
         set.push(param)?;
-        add_sets(alloc, model, passing, failing, set, param + 1, more - 1, found)?;
+        add_sets(
+            alloc,
+            model,
+            passing,
+            failing,
+            set,
+            param + 1,
+            more - 1,
+            found,
+        )?;
         take_last(set);
     }
     Ok(())
@@ -66,7 +75,16 @@ pub(crate) fn find_all(
     let mut set = Vec::new(alloc);
     let order = model.demand().order as usize;
     for fewer in 0..order {
-        add_sets(alloc, model, passing, failing, &mut set, 0, fewer + 1, &mut found)?;
+        add_sets(
+            alloc,
+            model,
+            passing,
+            failing,
+            &mut set,
+            0,
+            fewer + 1,
+            &mut found,
+        )?;
     }
     Ok(found)
 }

@@ -1,9 +1,9 @@
-use Rattle.std.proofs.Common.{◌≡◌, ◌-◌, ◌<◌, ◌++◌, [], map, filter, take, drop, length, get_or, ap, sym, subst, ◌∙◌, ◌∷◌, arith}
+use Rattle.std.proofs.Common.{◌≡◌, ◌-◌, ◌++◌, [], map, filter, take, drop, length, get_or, ap, sym, subst, ◌∙◌, ◌∷◌, arith}
 use Rattle.std.proofs.lemmas.List.{append-nil, length-drop, length-take-le}
 use Rattle.std.proofs.lemmas.List.Elements.{All-filter, All-same}
 use Rattle.cov_model.specs.Tuples.{IsRising}
 use Rattle.suspect_tuples.specs.Edges.{edges_behind}
-use Rattle.suspect_tuples.specs.Sets.{HavePlaces, AreWide}
+use Rattle.suspect_tuples.specs.Sets.{HavePlaces}
 use Rattle.suspect_tuples.specs.Suspects.{gives, tuples_on}
 use Rattle.suspect_tuples.specs.Told.{found_seen}
 use Rattle.suspect_tuples.proofs.EdgeLemmas.{edges_of_none}
@@ -47,13 +47,18 @@ giving-requires t c =
 pub add_edges-requires : goal.add_edges-requires
 add_edges-requires t c =
     let m = c.args.model.now in
-    let p = get_or c.args.set.now 0 0 in
-    (omega (arith, c.decreases, c.in-len1-up.len_at_least, length-take-le (length c.args.set.now - 1) (drop 1 c.args.set.now) (omega (arith, length-drop 1 c.args.set.now))),
-    (params_pushed m c.args.before.now.items c.push.new.self.items c.args.set.now c.loop-value.value c.requires.params c.in-len1-up.len_at_least
-    (c.in_ok-push.ensures.items ∙ ap (λ pairs. pairs ++ (p, c.loop-value.value) ∷ []) c.loop-value.invariant.before),
-    (c.requires.passing,
-    All-same (λ row. length row ≡ length m.params) c.in_ok-giving.giving (filter (λ row. gives row (p, c.loop-value.value)) c.args.rows.now) c.in_ok-giving.ensures
-    (All-filter (λ row. gives row (p, c.loop-value.value)) (λ row. length row ≡ length m.params) c.args.rows.now c.requires.rows))))
+    let p = get_or c.args.set.now 0 0 in (
+      omega (arith, c.decreases, c.in-len1-up.len_at_least, length-take-le (length c.args.set.now - 1) (drop 1 c.args.set.now) (omega (arith, length-drop 1 c.args.set.now))),
+      (
+        params_pushed m c.args.before.now.items c.push.new.self.items c.args.set.now c.loop-value.value c.requires.params c.in-len1-up.len_at_least
+            (c.in_ok-push.ensures.items ∙ ap (λ pairs. pairs ++ (p, c.loop-value.value) ∷ []) c.loop-value.invariant.before),
+        (
+          c.requires.passing,
+          All-same (λ row. length row ≡ length m.params) c.in_ok-giving.giving (filter (λ row. gives row (p, c.loop-value.value)) c.args.rows.now) c.in_ok-giving.ensures
+              (All-filter (λ row. gives row (p, c.loop-value.value)) (λ row. length row ≡ length m.params) c.args.rows.now c.requires.rows),
+        ),
+      ),
+    )
 
 pub loop-value-preserved : goal.loop-value-preserved
 loop-value-preserved t c =

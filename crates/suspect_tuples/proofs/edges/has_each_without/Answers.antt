@@ -1,4 +1,4 @@
-use Rattle.std.proofs.Common.{length, sym, ◌∙◌, arith}
+use Rattle.std.proofs.Common.{length, sym, ◌∙◌}
 use Rattle.std.specs.Prelude.{remove}
 use Rattle.suspect_tuples.specs.Edges.{is_had}
 use Rattle.suspect_tuples.proofs.PartLemmas.{others_fail, others_more}

@@ -1,6 +1,5 @@
-use Rattle.std.proofs.Common.{◌≡◌, ◌<◌, ◌≤◌, ◌^◌, ℕ, Bool, List, map, length, All, ap, sym, subst, ◌∙◌, arith}
+use Rattle.std.proofs.Common.{◌≡◌, ◌<◌, ◌^◌, length, All, ap, sym, subst, ◌∙◌, arith}
 use Rattle.std.specs.Prelude.{◌&&◌, not}
-use Rattle.std.specs.List.{range_with_len}
 use Rattle.std.proofs.lemmas.List.FromFn.{length-range_with_len}
 use Rattle.std.proofs.lemmas.List.Elements.{All-same}
 use Rattle.cov_model.specs.Fits.{FitsModel}
@@ -11,7 +10,6 @@ use Rattle.row_text.specs.declared.row_file.FileRow.{FileRow}
 use Rattle.tuple_index.specs.PlanFault.{told}
 use Rattle.suspect_tuples.specs.SetCounts.{ways_up_to}
 use Rattle.suspect_tuples.specs.Suspects.{failing_rows, passing_rows}
-use Rattle.suspect_tuples.specs.Told.{candidates_of}
 use Rattle.suspect_tuples.proofs.CountingSteps.{cells_seen}
 use Rattle.suspect_tuples.proofs.SearchLemmas.{short_rows, told_candidates, wide_kept, wide_rows}
 use Rattle.suspect_tuples.proofs.search.suspects.Goals as goal

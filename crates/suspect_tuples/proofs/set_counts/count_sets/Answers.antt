@@ -11,6 +11,8 @@ loop-counted-init c =
     (counts_begin c.args.most c.in_ok-row.row.items made, omega arith)
 
 pub loop-counted-preserved : goal.loop-counted-preserved
-loop-counted-preserved c =
-    (counts_more c.args.most c.loop-counted.counted c.loop-counted.row.items c.in_ok-row-2.row.items c.loop-counted.invariant.0
-    (c.in_ok-row-2.ensures ∙ ap (λ row. map (next_count row) (range_with_len 0 (length row))) c.deref.ensures.value), omega (arith, c.loop-counted-test.true))
+loop-counted-preserved c = (
+  counts_more c.args.most c.loop-counted.counted c.loop-counted.row.items c.in_ok-row-2.row.items c.loop-counted.invariant.0
+      (c.in_ok-row-2.ensures ∙ ap (λ row. map (next_count row) (range_with_len 0 (length row))) c.deref.ensures.value),
+  omega (arith, c.loop-counted-test.true),
+)

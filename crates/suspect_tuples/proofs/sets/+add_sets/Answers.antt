@@ -6,11 +6,14 @@ use Rattle.suspect_tuples.proofs.sets.+add_sets.Goals as goal
 
 pub add_sets-requires : goal.add_sets-requires
 add_sets-requires t c =
-    let p = c.loop-param.param in
-    (omega (arith, c.decreases, c.if-more-eq0.false),
-    (before_pushed c.args.first p c.args.set.now.items c.push.new.self.items c.requires.set c.loop-param.auto.param
-    (c.in_ok-push.ensures.items ∙ ap (λ set. set ++ p ∷ []) c.loop-param.invariant.set),
-    (omega (arith, c.loop-param-test.true, c.saturating_sub-last.ensures, c.len-params.ensures, ap length c.params.ensures.value), (c.requires.passing, c.requires.failing))))
+    let p = c.loop-param.param in (
+      omega (arith, c.decreases, c.if-more-eq0.false),
+      (
+        before_pushed c.args.first p c.args.set.now.items c.push.new.self.items c.requires.set c.loop-param.auto.param
+            (c.in_ok-push.ensures.items ∙ ap (λ set. set ++ p ∷ []) c.loop-param.invariant.set),
+        (omega (arith, c.loop-param-test.true, c.saturating_sub-last.ensures, c.len-params.ensures, ap length c.params.ensures.value), (c.requires.passing, c.requires.failing)),
+      ),
+    )
 
 pub loop-param-preserved : goal.loop-param-preserved
 loop-param-preserved t c =

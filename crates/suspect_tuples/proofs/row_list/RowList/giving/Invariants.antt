@@ -1,4 +1,4 @@
-use Rattle.std.proofs.Common.{◌≡◌, filter, map, take}
+use Rattle.std.proofs.Common.{◌≡◌, filter, take}
 use Rattle.suspect_tuples.specs.Suspects.{gives}
 use Rattle.suspect_tuples.proofs.row_list.RowList.giving.Given as goal
 
