@@ -7,7 +7,7 @@ use Rattle.definitions.specs.Settings.{Setting, Order, Separator, Alias, Prefix,
 use Rattle.definitions.specs.Words.{is_generating, is_measuring}
 use Rattle.pict_cli.specs.declared.kinds.Kinds.{Kinds}
 use Rattle.pict_cli.specs.Modes.{makes_suite, mode_in, mode_of, output_of}
-use Rattle.pict_cli.specs.Options.{excludes_by_kinds, joined_kinds, kind_of, kinds_of}
+use Rattle.pict_cli.specs.Options.{excludes_by_kinds, is_suspecting, joined_kinds, kind_of, kinds_of}
 use Rattle.pict_cli.proofs.KindLemmas.{clash, or_or}
 
 -- settings are about a suite that is given, and about one that is generated too
@@ -55,7 +55,7 @@ joined_whole a b whole_a whole_b apart =
     ap (λ given. given && (a.generating || b.generating)) (or_or a.measuring b.measuring a.suspecting b.suspecting)
     ∙ together (a.measuring || a.suspecting) (b.measuring || b.suspecting) a.generating b.generating whole_a whole_b (unexcluded a b parts.1) (unexcluded b a parts.0)
 
--- settings that name no suite, and no proof file
+-- settings that name no suite, no results, and no proof file
 same_suite : (s : Settings) (x : Setting) → is_measuring x ≡ false → (set s x).measure ≡ s.measure
 same_suite s (Order order) h = refl
 same_suite s (Separator c) h = refl
@@ -72,6 +72,23 @@ same_suite s (ProofFormat n) h = refl
 same_suite s (MeasureFile name) h = absurd (false≢true (sym h))
 same_suite s (Make n) h = refl
 same_suite s (SuspectFile name) h = refl
+
+same_results : (s : Settings) (x : Setting) → is_suspecting x ≡ false → (set s x).suspect ≡ s.suspect
+same_results s (Order order) h = refl
+same_results s (Separator c) h = refl
+same_results s (Alias c) h = refl
+same_results s (Prefix c) h = refl
+same_results s (SeedFile name) h = refl
+same_results s (ShuffleValues _) h = refl
+same_results s CaseCounts h = refl
+same_results s Statistics h = refl
+same_results s (Workers n) h = refl
+same_results s (Budget n) h = refl
+same_results s (ProofFile name) h = refl
+same_results s (ProofFormat n) h = refl
+same_results s (MeasureFile name) h = refl
+same_results s (Make n) h = refl
+same_results s (SuspectFile name) h = absurd (false≢true (sym h))
 
 same_proof : (s : Settings) (x : Setting) → is_generating x ≡ false → (set s x).proof ≡ s.proof
 same_proof s (Order order) h = refl
@@ -96,6 +113,12 @@ no_suite (x ∷ settings) s none =
     let parts = or_parts (is_measuring x) (list_any is_measuring settings) none in
     no_suite settings (set s x) parts.1 ∙ same_suite s x parts.0
 
+no_results : (settings : List Setting) (s : Settings) → list_any is_suspecting settings ≡ false → (fold set s settings).suspect ≡ s.suspect
+no_results [] s none = refl
+no_results (x ∷ settings) s none =
+    let parts = or_parts (is_suspecting x) (list_any is_suspecting settings) none in
+    no_results settings (set s x) parts.1 ∙ same_results s x parts.0
+
 no_proof : (settings : List Setting) (s : Settings) → list_any is_generating settings ≡ false → (fold set s settings).proof ≡ s.proof
 no_proof [] s none = refl
 no_proof (x ∷ settings) s none =
@@ -106,9 +129,12 @@ no_proof (x ∷ settings) s none =
 pub whole_unproved : (settings : List Setting) → is_torn (kinds_of settings) ≡ false → makes_suite (mode_of (settings_of settings)) ≡ false
     → (settings_of settings).proof ≡ None
 whole_unproved settings whole other =
-    let given = (kinds_of settings).measuring || (kinds_of settings).suspecting in
-    elim (cases_Bool given) [
-      | inl some ↦ no_proof settings defaults (ap (λ b. b && (kinds_of settings).generating) (sym some) ∙ whole)
-      | inr none ↦ absurd (false≢true (sym other
-          ∙ ap (λ suite. makes_suite (mode_in suite (output_of (settings_of settings)))) (no_suite settings defaults (or_parts (kinds_of settings).measuring (kinds_of settings).suspecting none).0)))
+    let about = kinds_of settings in
+    let s = settings_of settings in
+    elim (cases_Bool (about.measuring || about.suspecting)) [
+      | inl some ↦ no_proof settings defaults (ap (λ b. b && about.generating) (sym some) ∙ whole)
+      | inr none ↦
+          let parts = or_parts about.measuring about.suspecting none in
+          absurd (false≢true (sym other ∙ ap (λ results. makes_suite (mode_in results s.measure (output_of s))) (no_results settings defaults parts.1)
+          ∙ ap (λ suite. makes_suite (mode_in None suite (output_of s))) (no_suite settings defaults parts.0)))
     ]

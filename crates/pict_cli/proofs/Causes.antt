@@ -11,7 +11,6 @@ use Rattle.definitions.specs.Settings.{Settings}
 use Rattle.model_lex.specs.declared.note.Note.{Note}
 use Rattle.model_lex.specs.declared.options.ModelOpts.{ModelOpts}
 use Rattle.model_lex.specs.declared.fault.ModelFault.{ModelFault}
-use Rattle.tuple_index.specs.PlanFault.{limit_passed}
 use Rattle.type_check.specs.ModelOf.{IsModelOf, IsRefusalOf}
 use Rattle.type_check.proofs.OneAnswer.{models_are_not_refused, refusals_are_one}
 use Rattle.command_line.specs.Loading.{IsRefused, StopsReading, cannot_read, is_refused, out_of_memory, too_long}
@@ -21,8 +20,8 @@ use Rattle.command_line.specs.declared.files.FileKind.TheVariants as kinds
 use Rattle.command_line.specs.declared.stop.Stop.{Stop}
 use Rattle.command_line.specs.declared.stop.Stop.TheVariants.{CannotRead, CannotWrite, CannotWriteReport}
 use Rattle.pict_cli.specs.Ends.{CountsOut, CountsReads, CountsWrites, Moment, Unwritten, end_of}
-use Rattle.pict_cli.specs.Modes.{RowSource, RowsHeld, model_from, model_source, row_source}
-use Rattle.pict_cli.specs.Runs.{Ends, EndsBehind, cannot_write, cannot_write_proof, comes_whole, fault_status, must_stop, no_memory, opts_of, question_over, reading_of, rows_of_run, rows_unread, spent_on, stop_due}
+use Rattle.pict_cli.specs.Modes.{RowSource, RowsHeld, mode_of, model_from, model_source, row_source}
+use Rattle.pict_cli.specs.Runs.{Ends, EndsBehind, cannot_write, cannot_write_proof, comes_whole, fault_status, given_of, limit_due, must_stop, no_memory, opts_of, reading_of, rows_unread, stop_due, work_in}
 use Rattle.pict_cli.specs.RowSources.{stop_in}
 use Rattle.pict_cli.specs.Steps.{Ran}
 use Rattle.pict_cli.specs.Words.{GetsModelCalmly, ReadsCalmly, WritesCalmly}
@@ -51,11 +50,11 @@ stopped_end_behind s seed m source notes end stop due read (cannot_write_proof n
 stopped_end_behind s seed m source notes end stop due read (cannot_write e free told) = absurd (none-some stop (sym free ∙ due))
 
 -- and of one whose row file is missing
-missing_due : (s : Settings) (seed : ℕ) (m : ModelView) → limit_passed m ≡ None → stop_due s seed m (RowsHeld None) ≡ Some (CannotRead kinds.Rows)
+missing_due : (s : Settings) (seed : ℕ) (m : ModelView) → limit_due s m ≡ None → stop_due s seed m (RowsHeld None) ≡ Some (CannotRead kinds.Rows)
 missing_due s seed m within =
-    ap (λ l. option_or (option_map stop_of_plan l) (option_or (stop_in (reading_of s m (RowsHeld None))) (option_map (spent_on s) (question_over s seed m (rows_of_run s m (RowsHeld None)))))) within
+    ap (λ l. option_or l (option_or (stop_in (reading_of s m (RowsHeld None))) (work_in (mode_of s) s seed m (given_of s m (RowsHeld None))))) within
 
-missing_end_behind : (s : Settings) (seed : ℕ) (m : ModelView) (notes : List Note) (end : Result (Unit {0}) Stop) → limit_passed m ≡ None
+missing_end_behind : (s : Settings) (seed : ℕ) (m : ModelView) (notes : List Note) (end : Result (Unit {0}) Stop) → limit_due s m ≡ None
     → EndsBehind s seed m (RowsHeld None) notes end → (end_status end ≡ 7) ⊎ (end_status end ≡ 1)
 missing_end_behind s seed m notes end within (comes_whole e free told) = absurd (none-some (CannotRead kinds.Rows) (sym free ∙ missing_due s seed m within))
 missing_end_behind s seed m notes end within (no_memory count e told) = inr (ap end_status e)
@@ -169,7 +168,7 @@ module _ {s : Settings} {seed : ℕ} {name : List ℕ} {start after : Moment} {n
 pub missing_rows_end : {s : Settings} {seed : ℕ} {name : List ℕ} {start after : Moment} {notes row_notes : List Note} {end : Result (Unit {0}) Stop}
     (ran : Ran s seed name start after notes row_notes end) (status : ℕ) (is : status ≡ end_status end) → row_source s start.files ≡ Some (RowsHeld None)
     → (bytes : List ℕ) (m : ModelView) (told : List Note) → model_source s name start.files ≡ Some (Some bytes) → length bytes ≤ most_bytes ModelFile
-    → IsModelOf (opts_of s) bytes m told → limit_passed m ≡ None → GetsModelCalmly s name start.reads after.reads start.writes after.writes → (status ≡ 7) ⊎ (status ≡ 1)
+    → IsModelOf (opts_of s) bytes m told → limit_due s m ≡ None → GetsModelCalmly s name start.reads after.reads start.writes after.writes → (status ≡ 7) ⊎ (status ≡ 1)
 missing_rows_end {s} {seed} {name} {start} {after} {notes} {row_notes} {end} ran status is rows bytes m told at short spelled within stays =
     ended ran status is (RowsHeld None) rows (λ n. n ≡ 7) (spelled_end ran status is (RowsHeld None) rows _ bytes m told at short spelled stays
     (missing_end_behind s seed m row_notes end within))

@@ -10,7 +10,7 @@ use Rattle.command_line.specs.declared.stop.Stop.{Stop}
 use Rattle.command_line.specs.declared.stop.Stop.TheVariants.{CannotWriteReport}
 use Rattle.pict_cli.specs.Ends.{CountsOut, CountsReads, CountsWrites, End, IsEarly, IsQuiet, Leaves, Misworded, Moment, Prints, StaysStill, Stopped, Unprinted, Unread, Unwritten, Whole, end_of, file_read, file_written}
 use Rattle.pict_cli.specs.Modes.{RowSource}
-use Rattle.pict_cli.specs.Runs.{EndsBehind, HoldsProof, RunsModel, WritesProof, out_text, rows_of_run}
+use Rattle.pict_cli.specs.Runs.{EndsBehind, HoldsProof, RunsModel, WritesProof, given_of, out_text, rows_of_run}
 
 -- an end is early
 pub stopped_early : (end : End) → end ≡ Stopped → IsEarly end
@@ -82,7 +82,7 @@ pub runs_early : (s : Settings) (seed : ℕ) (m : ModelView) (source : RowSource
 runs_early s seed m source row_notes before after end sound early keeps quiet ends = record {
   sound = sound;
   ends = ends;
-  prints = prints_early (out_text s seed m (rows_of_run s m source)) before.out after.out (end_of end) early quiet;
+  prints = prints_early (out_text s seed m (given_of s m source)) before.out after.out (end_of end) early quiet;
   writes = writes_early s seed m (rows_of_run s m source) before.files after.files (end_of end) early keeps;
 }
 

@@ -1,5 +1,5 @@
 -- What a report that was printed whole holds covers what can be covered.
-use Rattle.std.proofs.Common.{◌≡◌, ℕ, ◌<◌, ◌^◌, ◌⊎◌, true, false, Bool, List, length, ◌++◌, Option, None, Some, Ok, inl, inr, refl, sym, subst, arith}
+use Rattle.std.proofs.Common.{◌≡◌, ℕ, ◌<◌, ◌^◌, ◌⊎◌, true, false, Bool, List, length, ◌++◌, Option, None, Some, Ok, inl, inr, refl, sym, ap, subst, ◌∙◌, arith}
 use Rattle.std.specs.Prelude.{All, ◌&&◌, nat_le, nat_lt, if◌then◌else◌, slice_index_or, option_map, option_and_then, IfSome, IsSomeAnd}
 use Rattle.std.specs.List.{list_all}
 use Rattle.std.specs.Option.{option_or}
@@ -10,13 +10,14 @@ use Rattle.cov_model.specs.Preference.{preference}
 use Rattle.cov_model.specs.Meaning.{body_holds}
 use Rattle.cov_model.specs.Valid.{is_row, is_valid, negatives}
 use Rattle.cov_model.proofs.PreferenceLemmas.{OrdersValues-preference}
-use Rattle.std.proofs.lemmas.Bool.{and_parts, ltb-false}
+use Rattle.std.proofs.lemmas.Bool.{and_parts, cases_Bool, false≢true, ltb-false}
 use Rattle.std.proofs.lemmas.Option.{none-some}
 use Rattle.definitions.specs.Covering.{HasFewRows}
 use Rattle.definitions.specs.Demand.{choices, demanded_tuples}
 use Rattle.definitions.specs.Settings.{Settings}
 use Rattle.definitions.specs.SuiteLaws.{IsSoundProof}
 use Rattle.definitions.proofs.SuiteLaws.{suite_proofs_are_accepted, suite_proofs_list, suite_proofs_read_back, suites_serve_or_refute}
+use Rattle.suspect_tuples.specs.ResultReading.{ResultReading}
 use Rattle.tuple_index.specs.PlanFault.{limit_passed}
 use Rattle.tuple_index.specs.PlanFault as limits
 use Rattle.tuple_index.specs.declared.fault.PlanFault.{PlanFault}
@@ -31,8 +32,8 @@ use Rattle.model_lex.specs.declared.note.Note.{Note}
 use Rattle.command_line.specs.Stops.{stop_of_plan}
 use Rattle.command_line.specs.declared.stop.Stop.{Stop}
 use Rattle.pict_cli.specs.Ends.{Moment}
-use Rattle.pict_cli.specs.Modes.{Generate, Measure, Mode, Report, RowSource, Statistics, is_report, mode_of, prints_rows}
-use Rattle.pict_cli.specs.Runs.{AreContained, CoversOrRefutes, EndsBehind, HoldsWholeProof, IsAcceptedWith, IsProof, PrintsAccepted, PrintsCovering, PrintsFewRows, PrintsSeeds, RunsModel, cannot_write, cannot_write_proof, comes_whole, growth_of, must_stop, no_memory, out_text, rows_of_run, rows_unread, seeds_kept, shuffled_by, stop_due, text_in, told_proof}
+use Rattle.pict_cli.specs.Modes.{Generate, Measure, Mode, Report, RowSource, Statistics, Suspect, is_report, makes_plan, makes_suite, mode_of, prints_rows}
+use Rattle.pict_cli.specs.Runs.{AreContained, CoversOrRefutes, EndsBehind, HoldsWholeProof, IsAcceptedWith, IsProof, PrintsAccepted, PrintsCovering, PrintsFewRows, PrintsSeeds, RunsModel, cannot_write, cannot_write_proof, comes_whole, given_of, growth_of, must_stop, no_memory, out_text, rows_of_run, rows_unread, seeds_kept, shuffled_by, stop_due, text_in, told_proof}
 
 -- the orders of a run
 are_preferences : (m : ModelView) (shuffle : Option ℕ) → ArePreferences m (preference m shuffle)
@@ -61,11 +62,23 @@ added P m pref seeds before after sound orders holds put =
     (text, refl, subst P (sym (read_suite m pref seeds sound orders)) holds)
 
 -- the text of a run that prints rows
-report_printed : (mode : Mode) (s : Settings) (seed : ℕ) (m : ModelView) (rows : List (ℕ × List (Option ℕ))) → is_report mode ≡ true
-    → text_in mode s seed m rows ≡ report_text m (growth_of s seed m rows).rows
-report_printed (Generate Report) s seed m rows is = refl
-report_printed (Generate Statistics) s seed m rows is = let no : ⊥ = cc in absurd no
-report_printed (Measure name) s seed m rows is = let no : ⊥ = cc in absurd no
+report_printed : (mode : Mode) (s : Settings) (seed : ℕ) (m : ModelView) (given : ResultReading) → is_report mode ≡ true
+    → text_in mode s seed m given ≡ report_text m (growth_of s seed m given.rows.rows).rows
+report_printed (Generate Report) s seed m given is = refl
+report_printed (Generate Statistics) s seed m given is = absurd (false≢true is)
+report_printed (Measure name) s seed m given is = absurd (false≢true is)
+report_printed (Suspect name) s seed m given is = absurd (false≢true is)
+
+-- such a run, and any that generates a suite, goes by a plan
+report_plans : (mode : Mode) → is_report mode ≡ true → makes_plan mode ≡ true
+report_plans (Generate output) is = refl
+report_plans (Measure name) is = refl
+report_plans (Suspect name) is = is
+
+suite_plans : (mode : Mode) → makes_suite mode ≡ true → makes_plan mode ≡ true
+suite_plans (Generate output) is = refl
+suite_plans (Measure name) is = refl
+suite_plans (Suspect name) is = is
 
 -- a run that came to its end needn't stop, and so passes no limit
 not_due : (s : Settings) (seed : ℕ) (m : ModelView) (source : RowSource) (notes : List Note) → EndsBehind s seed m source notes (Ok tt) → stop_due s seed m source ≡ None
@@ -76,9 +89,11 @@ not_due s seed m source notes (must_stop stop e due told) = let no : ⊥ = cc in
 not_due s seed m source notes (cannot_write_proof name e asked due told) = let no : ⊥ = cc in absurd no
 not_due s seed m source notes (cannot_write e due told) = let no : ⊥ = cc in absurd no
 
-pub within_limits : (passed : Option PlanFault) (rest : Option Stop) → option_or (option_map stop_of_plan passed) rest ≡ None → passed ≡ None
-within_limits None rest e = refl
-within_limits (Some fault) rest e = absurd (none-some (stop_of_plan fault) (sym e))
+within_limits : (passed : Option PlanFault) (plans : Bool) (rest : Option Stop) → plans ≡ true
+    → option_or (if plans then option_map stop_of_plan passed else None) rest ≡ None → passed ≡ None
+within_limits None plans rest is e = refl
+within_limits (Some fault) true rest is e = absurd (none-some (stop_of_plan fault) (sym e))
+within_limits (Some fault) false rest is e = absurd (false≢true is)
 
 -- the second of two limits isn't passed
 second_false : {X : Type 0} (x y : X) (first second : Bool) → (if first then Some x else if second then Some y else None) ≡ None → second ≡ false
@@ -97,21 +112,22 @@ module _ (s : Settings) (seed : ℕ) (m : ModelView) (source : RowSource) (notes
   orders : ArePreferences m pref
   orders = are_preferences m (shuffled_by s.shuffle seed)
 
-  within : limit_passed m ≡ None
-  within = within_limits (limit_passed m) _ (not_due s seed m source notes runs.ends)
+  within : makes_plan (mode_of s) ≡ true → limit_passed m ≡ None
+  within plans = within_limits (limit_passed m) (makes_plan (mode_of s)) _ plans (not_due s seed m source notes runs.ends)
 
   -- fewer than 2^32 tuples are demanded
-  few_demanded : length (demanded_tuples m) < 2 ^ 32
-  few_demanded =
-      let few = ltb-false (2 ^ 26) (length (demanded_tuples m)) (second_false (TooManySets (limits.told (length (choices m)))) (TooManyTuples (limits.told (length (demanded_tuples m)))) (nat_lt (2 ^ 20) (length (choices m))) (nat_lt (2 ^ 26) (length (demanded_tuples m))) within) in
+  few_demanded : makes_plan (mode_of s) ≡ true → length (demanded_tuples m) < 2 ^ 32
+  few_demanded plans =
+      let few = ltb-false (2 ^ 26) (length (demanded_tuples m)) (second_false (TooManySets (limits.told (length (choices m)))) (TooManyTuples (limits.told (length (demanded_tuples m)))) (nat_lt (2 ^ 20) (length (choices m))) (nat_lt (2 ^ 26) (length (demanded_tuples m))) (within plans)) in
       omega (arith, few)
 
-  abbrev sound_proof : (s.form ≡ 1) ⊎ (s.form ≡ 2) → (bytes : List ℕ) → IsProof s seed m seeds bytes → IsSoundProof m pref seeds s.form bytes
-  sound_proof known bytes is = record {
+  abbrev sound_proof : makes_plan (mode_of s) ≡ true → (s.form ≡ 1) ⊎ (s.form ≡ 2) → (bytes : List ℕ) → IsProof s seed m seeds bytes
+      → IsSoundProof m pref seeds s.form bytes
+  sound_proof plans known bytes is = record {
     sound = runs.sound;
     orders = orders;
     known = known;
-    few = few_demanded;
+    few = few_demanded plans;
     proof = is;
   }
 
@@ -124,26 +140,26 @@ module _ (s : Settings) (seed : ℕ) (m : ModelView) (source : RowSource) (notes
       at None holds = tt
       at (Some name) holds = holds
 
-  covers : (proof : Option (Option (List ℕ))) → IfSome proof (λ held. IsSomeAnd held (IsProof s seed m seeds)) → (s.form ≡ 1) ⊎ (s.form ≡ 2)
+  covers : makes_plan (mode_of s) ≡ true → (proof : Option (Option (List ℕ))) → IfSome proof (λ held. IsSomeAnd held (IsProof s seed m seeds)) → (s.form ≡ 1) ⊎ (s.form ≡ 2)
       → CoversOrRefutes m s.form proof (growth m pref seeds).rows
-  covers None holds known =
+  covers plans None holds known =
       let plain = suites_cover m pref seeds runs.sound orders in
       record { valid = plain.valid; served = λ k d inside. elim (plain.served k d inside) [ inl some ↦ inl some | inr none ↦ inr (none, tt) ] }
-  covers (Some None) holds known = absurd holds
-  covers (Some (Some bytes)) holds known =
+  covers plans (Some None) holds known = absurd holds
+  covers plans (Some (Some bytes)) holds known =
       let plain = suites_cover m pref seeds runs.sound orders in
-      record { valid = plain.valid; served = suites_serve_or_refute m pref seeds s.form bytes (sound_proof known bytes holds) }
+      record { valid = plain.valid; served = suites_serve_or_refute m pref seeds s.form bytes (sound_proof plans known bytes holds) }
 
   -- the report was put
   put : prints_rows s ≡ true → (before : List ℕ) → start.out ≡ Some before → Puts Done (Some before) after.out (report_text m (growth m pref seeds).rows)
   put is before out =
-      subst (Puts Done (Some before) after.out) (report_printed (mode_of s) s seed m seeds is)
-      (subst (λ o. Puts Done o after.out (out_text s seed m seeds)) out runs.prints)
+      subst (Puts Done (Some before) after.out) (report_printed (mode_of s) s seed m (given_of s m source) is)
+      (subst (λ o. Puts Done o after.out (out_text s seed m (given_of s m source))) out runs.prints)
 
   pub prints_covering : (s.form ≡ 1) ⊎ (s.form ≡ 2) → prints_rows s ≡ true → (before : List ℕ) → start.out ≡ Some before
       → IsSomeAnd after.out (PrintsCovering m s.form (told_proof s after.files) before)
   prints_covering known is before out =
-      added (CoversOrRefutes m s.form (told_proof s after.files)) m pref seeds before after.out runs.sound orders (covers (told_proof s after.files) proof_told known) (put is before out)
+      added (CoversOrRefutes m s.form (told_proof s after.files)) m pref seeds before after.out runs.sound orders (covers (report_plans (mode_of s) is) (told_proof s after.files) proof_told known) (put is before out)
 
   pub prints_few_rows : prints_rows s ≡ true → (before : List ℕ) → start.out ≡ Some before → IsSomeAnd after.out (PrintsFewRows m (length (seeds_kept s m source)) before)
   prints_few_rows is before out =
@@ -153,12 +169,20 @@ module _ (s : Settings) (seed : ℕ) (m : ModelView) (source : RowSource) (notes
   prints_seeds is before out =
       added (AreContained (seeds_kept s m source)) m pref seeds before after.out runs.sound orders (growth_covers m pref seeds runs.sound orders).kept (put is before out)
 
-  pub holds_whole_proof : (s.form ≡ 1) ⊎ (s.form ≡ 2) → (proof : Option (List ℕ)) → told_proof s after.files ≡ Some proof → HoldsWholeProof s seed m seeds proof
-  holds_whole_proof known proof is = whole proof (subst (λ found. IfSome found (λ held. IsSomeAnd held (IsProof s seed m seeds))) is proof_told)
+  -- one with a proof file goes by a plan
+  proof_plans : (makes_suite (mode_of s) ≡ false → s.proof ≡ None) → (proof : Option (List ℕ)) → told_proof s after.files ≡ Some proof → makes_plan (mode_of s) ≡ true
+  proof_plans unproved proof is = elim (cases_Bool (makes_suite (mode_of s))) [
+    | inl suite ↦ suite_plans (mode_of s) suite
+    | inr other ↦ absurd (none-some proof (sym (ap (option_and_then after.files) (unproved other)) ∙ is))
+  ]
+
+  pub holds_whole_proof : (makes_suite (mode_of s) ≡ false → s.proof ≡ None) → (s.form ≡ 1) ⊎ (s.form ≡ 2) → (proof : Option (List ℕ)) → told_proof s after.files ≡ Some proof
+      → HoldsWholeProof s seed m seeds proof
+  holds_whole_proof unproved known proof is_told = whole proof (subst (λ found. IfSome found (λ held. IsSomeAnd held (IsProof s seed m seeds))) is_told proof_told)
     where
       whole : (held : Option (List ℕ)) → IsSomeAnd held (IsProof s seed m seeds) → HoldsWholeProof s seed m seeds held
       whole None none = absurd none
-      whole (Some bytes) is = (is, suite_proofs_list m pref seeds s.form bytes (sound_proof known bytes is))
+      whole (Some bytes) is = (is, suite_proofs_list m pref seeds s.form bytes (sound_proof (proof_plans unproved proof is_told) known bytes is))
 
   pub prints_accepted : (s.form ≡ 1) ⊎ (s.form ≡ 2) → prints_rows s ≡ true → (proof : Option (List ℕ)) → told_proof s after.files ≡ Some proof → (before : List ℕ)
       → start.out ≡ Some before → IsSomeAnd after.out (PrintsAccepted m s.form proof before)
@@ -170,8 +194,8 @@ module _ (s : Settings) (seed : ℕ) (m : ModelView) (source : RowSource) (notes
       accepted None none = absurd none
       accepted (Some bytes) is = record {
         omissions = is.omissions;
-        read = suite_proofs_read_back m pref seeds s.form bytes (sound_proof known bytes is);
-        accepted = λ lines same. suite_proofs_are_accepted m pref seeds s.form bytes lines (sound_proof known bytes is) same;
+        read = suite_proofs_read_back m pref seeds s.form bytes (sound_proof (report_plans (mode_of s) rows) known bytes is);
+        accepted = λ lines same. suite_proofs_are_accepted m pref seeds s.form bytes lines (sound_proof (report_plans (mode_of s) rows) known bytes is) same;
       }
 
 -- the rows of a suite are rows

@@ -13,5 +13,5 @@ pub mod Reading
 pub mod RowFiles
 pub mod RunEnds
 pub mod Suites
-pub mod Unbuilt
+pub mod Suspicions
 pub mod WordLemmas

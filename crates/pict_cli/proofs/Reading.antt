@@ -13,7 +13,7 @@ use Rattle.command_line.specs.declared.stop.Stop.{Stop}
 use Rattle.command_line.specs.declared.stop.Stop.TheVariants.{CannotRead}
 use Rattle.pict_cli.specs.Ends.{CountsReads, IsEarly, Leaves, Moment, Prints, Stopped, Unread, end_of, read_unless_made}
 use Rattle.pict_cli.specs.Modes.{RowSource, row_file, row_source, source_in}
-use Rattle.pict_cli.specs.Runs.{Ends, RunsModel, opts_of, out_text, rows_of_run}
+use Rattle.pict_cli.specs.Runs.{Ends, RunsModel, given_of, opts_of, out_text, rows_of_run}
 use Rattle.pict_cli.specs.Steps.{RanOn}
 use Rattle.pict_cli.proofs.Early.{leaves_early, leaves_from, proof_from}
 use Rattle.pict_cli.proofs.RunEnds.{ends_loaded, reading_ends}
@@ -38,7 +38,7 @@ ends_read s seed held source m notes row_notes before loaded after end keeps qui
     ends_loaded s seed held source m notes row_notes before after end read (record {
       sound = runs.sound;
       ends = runs.ends;
-      prints = subst (λ out. Prints (out_text s seed m (rows_of_run s m source)) out after.out (end_of end)) quiet runs.prints;
+      prints = subst (λ out. Prints (out_text s seed m (given_of s m source)) out after.out (end_of end)) quiet runs.prints;
       writes = proof_from s seed m (rows_of_run s m source) before.files loaded.files after.files (end_of end) keeps runs.writes;
     })
 

@@ -7,7 +7,6 @@ use Rattle.definitions.specs.RowReading.{RowMode}
 use Rattle.row_text.specs.RowFiles.{row_seen}
 use Rattle.row_text.specs.declared.row_file.RowFile.{RowFile}
 use Rattle.pict_cli.specs.Modes.{RowSource, NoRowFile, RowsHeld}
-use Rattle.pict_cli.specs.RowSources.{no_rows}
 use Rattle.pict_cli.specs.Steps.{HoldsRows}
 
 pub source_held : (o : Option (Option (List ℕ))) (source : RowSource) (P : RowSource → Type 0) → option_map RowsHeld o ≡ Some source
@@ -21,7 +20,7 @@ if_err_then (Err fault) then holds = then fault holds
 
 pub no_file : (m : ModelView) (mode : RowMode) (file : RowFile) (source : RowSource) → file.rows ≡ [] → file.notes ≡ [] → Some NoRowFile ≡ Some source → HoldsRows m mode source file
 no_file m mode file source rows notes e = subst (λ other. HoldsRows m mode other file) (same_Some NoRowFile source e) (record {
-  reading = no_rows;
+  reading = record { rows = []; notes = [] };
   read = refl;
   holds = record { rows = ap (map row_seen) rows; notes = notes };
 })

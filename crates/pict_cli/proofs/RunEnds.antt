@@ -26,7 +26,7 @@ use Rattle.command_line.specs.declared.stop.Stop.{Stop}
 use Rattle.command_line.specs.declared.stop.Stop.TheVariants.{OutOfMemory, Spent, BadWord, BadModel, BadConstraint, BadRows, NoResult, BadResult, CannotRead, CannotWrite, CannotWriteReport, TooMany, TooLong}
 use Rattle.pict_cli.specs.declared.options.Opts.{Opts}
 use Rattle.pict_cli.specs.Ends.{CountsOut, CountsWrites, End, IsEarly, IsQuiet, Misworded, Moment, StaysStill, Stopped, Unprinted, Unread, Unwritten, Whole, end_of}
-use Rattle.pict_cli.specs.Modes.{RowSource, model_source, prints_rows, row_source}
+use Rattle.pict_cli.specs.Modes.{RowSource, makes_suite, mode_of, model_source, prints_rows, row_source}
 use Rattle.pict_cli.specs.Options.{settings_seen}
 use Rattle.pict_cli.specs.Ranges.{IsLeast, AreFit}
 use Rattle.pict_cli.specs.Runs.{Ends, HasModel, HoldsWholeProof, IsStatus, PrintsAccepted, PrintsCovering, PrintsFewRows, PrintsSeeds, RunsModel, SpellsModel, opts_of, order_word, rows_of_run, seeds_kept, told_proof}
@@ -310,9 +310,9 @@ module _ {s : Settings} {seed : ℕ} {name : List ℕ} {start after : Moment} {n
       → HasModel (opts_of s) held (λ m noted. (before : List ℕ) → start.out ≡ Some before → IsSomeAnd after.out (PrintsAccepted m s.form proof before))
   accepted_whole known is proof told = whole _ (λ begun same m runs before out. prints_accepted s seed m source row_notes begun after runs known is proof told before (same ∙ out))
 
-  pub proof_whole : (known : (s.form ≡ 1) ⊎ (s.form ≡ 2)) (proof : Option (List ℕ)) → told_proof s after.files ≡ Some proof → end_status end ≡ 0
+  pub proof_whole : (unproved : makes_suite (mode_of s) ≡ false → s.proof ≡ None) (known : (s.form ≡ 1) ⊎ (s.form ≡ 2)) (proof : Option (List ℕ)) → told_proof s after.files ≡ Some proof → end_status end ≡ 0
       → HasModel (opts_of s) held (λ m noted. HoldsWholeProof s seed m (rows_of_run s m source) proof)
-  proof_whole known proof told = whole _ (λ begun same m runs. holds_whole_proof s seed m source row_notes begun after runs known proof told)
+  proof_whole unproved known proof told = whole _ (λ begun same m runs. holds_whole_proof s seed m source row_notes begun after runs unproved known proof told)
 
 -- words that have no reading end with another status
 pub asked_or_three : (asked : Result Settings ℕ) (status : ℕ) (P : Settings → Type 0) → ((s : Settings) → asked ≡ Ok s → P s)

@@ -18,7 +18,8 @@ use Rattle.definitions.specs.Statistics.{Statistics}
 use Rattle.model_lex.specs.declared.note.Note.{Note}
 use Rattle.tuple_index.specs.Plan.{plan_of}
 use Rattle.command_line.specs.declared.stop.Stop.{Stop}
-use Rattle.pict_cli.specs.Steps.{IsSpentOrNoMemory, StopsWork, is_spent, no_memory, written}
+use Rattle.command_line.specs.declared.stop.Stop.TheVariants.{Spent}
+use Rattle.pict_cli.specs.Steps.{IsSpentOrNoMemory, StopsWork, is_due, no_memory, written}
 
 -- the number of omitted tuples
 pub omitted_count : (m : ModelView) (pref : List (List ℕ)) (seeds : List (ℕ × List (Option ℕ))) (asked : Option ProofForm) (suite : Suite)
@@ -52,9 +53,9 @@ if_err_of P (Err other) stop is holds = subst P (sym is) holds
 
 -- a search stops
 pub search_stopped : (budget : ℕ) (over : Option (List (Option ℕ))) (later notes : List Note) (stop : Stop)
-    → IsSpentOrNoMemory budget over stop → StopsWork budget over later notes notes stop
+    → IsSpentOrNoMemory budget over stop → StopsWork (option_map (λ question. Spent budget (pairs_of question)) over) later notes notes stop
 search_stopped budget over later notes stop (inl is) = no_memory 0 is (sym (append-nil notes))
-search_stopped budget over later notes stop (inr spent) = is_spent spent.0 spent.1 spent.2 refl
+search_stopped budget over later notes stop (inr spent) = is_due (ap (option_map (λ question. Spent budget (pairs_of question))) spent.2 ∙ ap Some (sym spent.1)) refl
 
 -- the statistics
 pub same_statistics : (a b : Statistics) → a.sets ≡ b.sets → a.tuples ≡ b.tuples → a.omitted ≡ b.omitted → a.kept ≡ b.kept → a.tests ≡ b.tests → a ≡ b

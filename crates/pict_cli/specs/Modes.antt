@@ -1,5 +1,5 @@
--- What a run does, by what its words set. (PICT's guide for reports, seed rows and statistics; that a model is made and a
--- given suite is measured is this project's rule.)
+-- What a run does, by what its words set. (PICT's guide for reports, seed rows and statistics; that a model is made, and
+-- that a given suite is measured or searched for suspicious tuples, are this project's rules.)
 use Rattle.std.specs.Prelude.{ℕ, Bool, true, false, ◌||◌, List, Option, Some, None, is_some, option_map, if◌then◌else◌}
 use Rattle.outside_io.specs.Files.{Files}
 use Rattle.made_models.specs.MadeModel.{made_text}
@@ -11,32 +11,42 @@ pub data Output : Type 0 where
   Report : Output
   Statistics : Output
 
--- it generates a suite, or measures the one of the file of this name
+-- it generates a suite, or measures the one of the file of this name, or looks for suspicious tuples in its results
 pub data Mode : Type 0 where
   Generate : Output → Mode
   Measure : List ℕ → Mode
+  Suspect : List ℕ → Mode
 
 -- a run that makes its model prints statistics
 abbrev pub output_of : Settings → Output
 output_of s = if s.stats || is_some s.make then Statistics else Report
 
-abbrev pub mode_in : Option (List ℕ) → Output → Mode
-mode_in (Some name) output = Measure name
-mode_in None output = Generate output
+abbrev pub mode_in : Option (List ℕ) → Option (List ℕ) → Output → Mode
+mode_in (Some name) measure output = Suspect name
+mode_in None (Some name) output = Measure name
+mode_in None None output = Generate output
 
 abbrev pub mode_of : Settings → Mode
-mode_of s = mode_in s.measure (output_of s)
+mode_of s = mode_in s.suspect s.measure (output_of s)
 
 -- it generates a suite
 abbrev pub makes_suite : Mode → Bool
 makes_suite (Generate output) = true
 makes_suite (Measure name) = false
+makes_suite (Suspect name) = false
+
+-- it goes by a plan of the demand
+abbrev pub makes_plan : Mode → Bool
+makes_plan (Generate output) = true
+makes_plan (Measure name) = true
+makes_plan (Suspect name) = false
 
 -- it prints the rows of a suite
 abbrev pub is_report : Mode → Bool
 is_report (Generate Report) = true
 is_report (Generate Statistics) = false
 is_report (Measure name) = false
+is_report (Suspect name) = false
 
 abbrev pub prints_rows : Settings → Bool
 prints_rows s = is_report (mode_of s)
@@ -53,6 +63,7 @@ model_source s name files = model_from s.make (files name)
 abbrev pub row_mode : Mode → RowMode
 row_mode (Generate output) = Seed
 row_mode (Measure name) = Suite
+row_mode (Suspect name) = Suite
 
 -- the name of the file of seed rows, where there is one: a run that makes its model has none
 abbrev pub rows_beside : Option ℕ → Option (List ℕ) → Option (List ℕ)
@@ -63,6 +74,7 @@ rows_beside (Some n) rows = None
 abbrev pub row_file_in : Mode → Option (List ℕ) → Option (List ℕ)
 row_file_in (Generate output) seeds = seeds
 row_file_in (Measure name) seeds = Some name
+row_file_in (Suspect name) seeds = Some name
 
 abbrev pub row_file : Settings → Option (List ℕ)
 row_file s = row_file_in (mode_of s) (rows_beside s.make s.seeds)

@@ -42,6 +42,7 @@ output_seen outputs.Statistics = modes.Statistics
 abbrev pub mode_seen : Mode → modes.Mode
 mode_seen (kinds.Generate output) = modes.Generate (output_seen output)
 mode_seen (kinds.Measure name) = modes.Measure name.now
+mode_seen (kinds.Suspect name) = modes.Suspect name.now
 
 -- the whole command
 abbrev pub command_seen : Opts → Command

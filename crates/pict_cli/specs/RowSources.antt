@@ -3,18 +3,20 @@
 use Rattle.std.specs.Prelude.{ℕ, List, [], map, length, Option, Some, None, Result, Ok, Err, nat_lt, if◌then◌else◌}
 use Rattle.cov_model.specs.Sound.{ModelView}
 use Rattle.definitions.specs.Limits.{RowFile, most_bytes}
-use Rattle.definitions.specs.RowReading.{RowMode, RowReading, read_rows}
+use Rattle.definitions.specs.RowReading.{RowMode, RowReading, Seed, Suite, read_rows}
 use Rattle.definitions.specs.RowReading as defined
 use Rattle.definitions.specs.Seeds.{dropped_lines}
 use Rattle.model_lex.specs.declared.note.Note.{Note}
 use Rattle.model_lex.specs.declared.note.NoteCode.TheVariants.{RowDropped}
 use Rattle.row_text.specs.Readings.{note_told}
 use Rattle.row_text.specs.declared.rows_fault.RowsFault.TheVariants.{NoHeader, Twice, Missing, Width}
+use Rattle.suspect_tuples.specs.ResultReading as results
+use Rattle.suspect_tuples.specs.ResultReading.{ResultReading, read_results}
 use Rattle.command_line.specs.declared.files.FileKind.TheVariants as kinds
 use Rattle.command_line.specs.declared.stop.Quantity.TheVariants as quantities
 use Rattle.command_line.specs.declared.stop.Stop.{Stop}
-use Rattle.command_line.specs.declared.stop.Stop.TheVariants.{BadRows, CannotRead, TooLong, TooMany}
-use Rattle.pict_cli.specs.Modes.{Generate, Measure, Mode, NoRowFile, RowSource, RowsHeld}
+use Rattle.command_line.specs.declared.stop.Stop.TheVariants.{BadResult, BadRows, CannotRead, NoResult, TooLong, TooMany}
+use Rattle.pict_cli.specs.Modes.{Generate, Measure, Mode, NoRowFile, RowSource, RowsHeld, Suspect}
 
 -- the stop of a refusal of the row file
 abbrev pub stop_of_rows : defined.RowsFault → Stop
@@ -24,29 +26,54 @@ stop_of_rows (defined.Missing parameter) = BadRows (Missing parameter)
 stop_of_rows (defined.TooManyRows count) = TooMany quantities.Rows count
 stop_of_rows (defined.Width line) = BadRows (Width line)
 
-abbrev pub or_stop : Result RowReading defined.RowsFault → Result RowReading Stop
-or_stop (Ok reading) = Ok reading
+abbrev pub stop_of_results : results.ResultsFault → Stop
+stop_of_results (results.Rows fault) = stop_of_rows fault
+stop_of_results results.NoResult = NoResult
+stop_of_results (results.BadResult line) = BadResult line
+
+-- rows of which no results are told
+abbrev pub without_results : RowReading → ResultReading
+without_results reading = record { rows = reading; failed = [] }
+
+-- what the bytes of a row file give a run, or why it stops
+abbrev pub or_stop : Result RowReading defined.RowsFault → Result ResultReading Stop
+or_stop (Ok reading) = Ok (without_results reading)
 or_stop (Err fault) = Err (stop_of_rows fault)
 
--- without a row file there are no rows
-abbrev pub no_rows : RowReading
-no_rows = record { rows = []; notes = [] }
+abbrev pub or_result_stop : Result ResultReading results.ResultsFault → Result ResultReading Stop
+or_result_stop (Ok reading) = Ok reading
+or_result_stop (Err fault) = Err (stop_of_results fault)
 
--- the reading of the row file, or why the run stops, where memory is found and no read fails
-abbrev pub read_source : ModelView → RowMode → RowSource → Result RowReading Stop
-read_source m mode NoRowFile = Ok no_rows
-read_source m mode (RowsHeld None) = Err (CannotRead kinds.Rows)
-read_source m mode (RowsHeld (Some bytes)) =
-    if nat_lt (most_bytes RowFile) (length bytes) then Err (TooLong kinds.Rows) else or_stop (read_rows m mode bytes)
+abbrev pub read_row_bytes : ModelView → RowMode → List ℕ → Result ResultReading Stop
+read_row_bytes m mode bytes = or_stop (read_rows m mode bytes)
+
+abbrev pub read_result_bytes : ModelView → List ℕ → Result ResultReading Stop
+read_result_bytes m bytes = or_result_stop (read_results m bytes)
+
+-- by what it does: only one that looks for suspicious tuples reads results
+abbrev pub read_bytes : Mode → ModelView → List ℕ → Result ResultReading Stop
+read_bytes (Generate output) m = read_row_bytes m Seed
+read_bytes (Measure name) m = read_row_bytes m Suite
+read_bytes (Suspect name) m = read_result_bytes m
+
+-- without a row file there are no rows
+abbrev pub no_rows : ResultReading
+no_rows = without_results (record { rows = []; notes = [] })
+
+-- what the row file gives, whose bytes are read so, or why the run stops, where memory is found and no read fails
+abbrev pub read_source : (List ℕ → Result ResultReading Stop) → RowSource → Result ResultReading Stop
+read_source read NoRowFile = Ok no_rows
+read_source read (RowsHeld None) = Err (CannotRead kinds.Rows)
+read_source read (RowsHeld (Some bytes)) = if nat_lt (most_bytes RowFile) (length bytes) then Err (TooLong kinds.Rows) else read bytes
 
 -- the reading, or none of rows where there is none
-abbrev pub reading_or_none : Result RowReading Stop → RowReading
+abbrev pub reading_or_none : Result ResultReading Stop → ResultReading
 reading_or_none (Ok reading) = reading
 reading_or_none (Err stop) = no_rows
 
 -- the notes on the row file
-abbrev pub notes_on : RowReading → List Note
-notes_on reading = map note_told reading.notes
+abbrev pub notes_on : ResultReading → List Note
+notes_on reading = map note_told reading.rows.notes
 
 -- those on seed rows that aren't kept, which come once there is a suite
 abbrev pub dropped_note : ℕ → Note
@@ -58,7 +85,8 @@ dropped_notes m seeds = map dropped_note (dropped_lines m seeds)
 abbrev pub later_notes : Mode → ModelView → List (ℕ × List (Option ℕ)) → List Note
 later_notes (Generate output) m rows = dropped_notes m rows
 later_notes (Measure name) m rows = []
+later_notes (Suspect name) m rows = []
 
-abbrev pub stop_in : Result RowReading Stop → Option Stop
+abbrev pub stop_in : Result ResultReading Stop → Option Stop
 stop_in (Ok reading) = None
 stop_in (Err stop) = Some stop

@@ -1,7 +1,7 @@
 -- What a run of `pict` does with the bytes of a model file and of a row file. (PICT's guide for what is printed; the
 -- steps, their order and their statuses are this project's rules.)
 use Rattle.std.specs.List.{Any, list_any}
-use Rattle.std.specs.Prelude.{◌≡◌, true, ℕ, ◌≤◌, ◌⊎◌, List, [], ◌∷◌, ◌==◌, ◌++◌, length, take, map, Option, Some, None, Result, Ok, Err, option_map, IsSomeAnd, IsErrAnd, IfSome, All, unwrap_or, option_and_then}
+use Rattle.std.specs.Prelude.{◌≡◌, true, ℕ, ◌≤◌, ◌⊎◌, List, [], ◌∷◌, ◌==◌, ◌++◌, length, take, map, Option, Some, None, Result, Ok, Err, option_map, IsSomeAnd, IsErrAnd, IfSome, All, unwrap_or, option_and_then, nat_lt, if◌then◌else◌}
 use Rattle.std.specs.Option.{option_or}
 use Rattle.outside_io.specs.Files.{Files, HoldsOldOrPrefix, KeepsFiles}
 use Rattle.cov_model.specs.Sound.{ModelView, IsSound}
@@ -17,12 +17,12 @@ use Rattle.definitions.specs.Covering.{HasFewRows, IsUnserved}
 use Rattle.definitions.specs.Demand.{demanded_tuples}
 use Rattle.definitions.specs.Figures.{figures}
 use Rattle.definitions.specs.Growth.{Grown, growth}
-use Rattle.definitions.specs.Limits.{ModelFile, most_bytes}
+use Rattle.definitions.specs.Limits as limits
+use Rattle.definitions.specs.Limits.{ModelFile, most_bytes, most_counted}
 use Rattle.definitions.specs.Pairs.{pairs_of}
 use Rattle.definitions.specs.ProofText.{Omission, omissions_of}
 use Rattle.definitions.specs.Report.{report_text}
 use Rattle.definitions.specs.RowFile.{rows_of}
-use Rattle.definitions.specs.RowReading.{RowReading}
 use Rattle.definitions.specs.Search.{first_measured_over, first_over}
 use Rattle.definitions.specs.Seeds.{kept_seeds}
 use Rattle.definitions.specs.Statistics as told
@@ -31,18 +31,23 @@ use Rattle.definitions.specs.SuiteLaws.{IsRefutedIn, ListsUnserved}
 use Rattle.definitions.specs.SuiteProof.{IsProofOfSuite}
 use Rattle.definitions.specs.Verdict.{Accepted, verdict}
 use Rattle.definitions.specs.Settings.{OrderWord, OrderOf, OrderMax, Shuffle, NoShuffle, AnyShuffle, ShuffleBy, Settings}
+use Rattle.suspect_tuples.specs.ResultReading.{ResultReading}
+use Rattle.suspect_tuples.specs.Suspects.{candidate_count, failing_rows, suspects}
+use Rattle.suspect_tuples.specs.SuspectsText.{suspects_text}
 use Rattle.tuple_index.specs.PlanFault.{limit_passed}
+use Rattle.tuple_index.specs.PlanFault.{told as limit_told}
 use Rattle.type_check.specs.ModelOf.{IsModelOf}
 use Rattle.command_line.specs.Loading.{StopsReading}
 use Rattle.command_line.specs.Stops.{NamesView, status_of, stop_of_model, stop_of_plan}
 use Rattle.command_line.specs.Told.{Tells, end_status, told_text}
 use Rattle.command_line.specs.declared.stop.Stop.{Stop}
-use Rattle.command_line.specs.declared.stop.Stop.TheVariants.{OutOfMemory, Spent, CannotRead, CannotWrite, CannotWriteReport}
+use Rattle.command_line.specs.declared.stop.Stop.TheVariants.{OutOfMemory, Spent, CannotRead, CannotWrite, CannotWriteReport, TooMany}
+use Rattle.command_line.specs.declared.stop.Quantity.TheVariants.{SuspectCandidates}
 use Rattle.command_line.specs.declared.files.FileKind.TheVariants as kinds
 use Rattle.pict_cli.specs.Ends.{CountsReads, CountsWrites, End, Moment, Prints, Unprinted, Unwritten, Whole, end_of}
 use Rattle.pict_cli.specs.Making.{EndsFrom}
-use Rattle.pict_cli.specs.Modes.{Generate, Measure, Mode, Output, Report, RowSource, Statistics, mode_of, row_file, row_mode}
-use Rattle.pict_cli.specs.RowSources.{later_notes, notes_on, read_source, reading_or_none, stop_in}
+use Rattle.pict_cli.specs.Modes.{Generate, Measure, Mode, Output, Report, RowSource, Statistics, Suspect, makes_plan, mode_of, row_file}
+use Rattle.pict_cli.specs.RowSources.{later_notes, notes_on, read_bytes, read_source, reading_or_none, stop_in}
 
 -- how the model file is to be read
 abbrev pub order_word : OrderWord → words.OrderWord
@@ -75,14 +80,19 @@ abbrev pub suite_text : Output → ModelView → List (List (Option ℕ)) → to
 suite_text Report m rows numbers = report_text m rows
 suite_text Statistics m rows numbers = statistics_text numbers
 
--- the text for standard output, by what the run does: of the suite that is grown from the rows of the row file, or the
--- figures of the suite that these are
-abbrev pub text_in : Mode → Settings → ℕ → ModelView → List (ℕ × List (Option ℕ)) → List ℕ
-text_in (Generate output) s seed m rows = suite_text output m (growth_of s seed m rows).rows (statistics m (orders_of s seed m) rows)
-text_in (Measure name) s seed m rows = figures_text (figures m (map (λ row. row.1) rows))
+-- rows as a suite
+abbrev pub suite_in : ResultReading → List (List (Option ℕ))
+suite_in given = map (λ row. row.1) given.rows.rows
 
-abbrev pub out_text : Settings → ℕ → ModelView → List (ℕ × List (Option ℕ)) → List ℕ
-out_text s seed m rows = text_in (mode_of s) s seed m rows
+-- the text for standard output, by what the run does, from what the row file gives: of the suite that is grown from its
+-- rows, or the figures of the suite that these are, or the suspicious tuples in its results
+abbrev pub text_in : Mode → Settings → ℕ → ModelView → ResultReading → List ℕ
+text_in (Generate output) s seed m given = suite_text output m (growth_of s seed m given.rows.rows).rows (statistics m (orders_of s seed m) given.rows.rows)
+text_in (Measure name) s seed m given = figures_text (figures m (suite_in given))
+text_in (Suspect name) s seed m given = suspects_text (suspects m (suite_in given) given.failed)
+
+abbrev pub out_text : Settings → ℕ → ModelView → ResultReading → List ℕ
+out_text s seed m given = text_in (mode_of s) s seed m given
 
 -- the bytes are the proof of the suite, in the format that is asked for
 abbrev pub IsProof : Settings → ℕ → ModelView → List (ℕ × List (Option ℕ)) → List ℕ → Type 0
@@ -92,45 +102,57 @@ IsProof s seed m seeds bytes = IsProofOfSuite m (orders_of s seed m) seeds s.for
 abbrev pub names_of : List ℕ → Settings → NamesView
 names_of model s = record { model = model; rows = unwrap_or (row_file s) []; proof = unwrap_or s.proof [] }
 
--- the first question whose plain cost is above the budget: of growth, and of the run
+-- the first question of growth whose plain cost is above the budget
 abbrev pub growth_over : Settings → ℕ → ModelView → List (ℕ × List (Option ℕ)) → Option (List (Option ℕ))
 growth_over s seed m seeds = first_over m (orders_of s seed m) s.budget (growth_of s seed m seeds).asked
 
-abbrev pub over_in : Mode → Settings → ℕ → ModelView → List (ℕ × List (Option ℕ)) → Option (List (Option ℕ))
-over_in (Generate output) s seed m rows = growth_over s seed m rows
-over_in (Measure name) s seed m rows = first_measured_over m s.budget
+-- what the row file gives the run: its reading; the rows, and the notes on the file
+abbrev pub reading_of : Settings → ModelView → RowSource → Result ResultReading Stop
+reading_of s m source = read_source (read_bytes (mode_of s) m) source
 
-abbrev pub question_over : Settings → ℕ → ModelView → List (ℕ × List (Option ℕ)) → Option (List (Option ℕ))
-question_over s seed m rows = over_in (mode_of s) s seed m rows
-
--- the reading of the row file in the run's mode; the rows that the run reads, and the notes on their file
-abbrev pub reading_of : Settings → ModelView → RowSource → Result RowReading Stop
-reading_of s m source = read_source m (row_mode (mode_of s)) source
+abbrev pub given_of : Settings → ModelView → RowSource → ResultReading
+given_of s m source = reading_or_none (reading_of s m source)
 
 abbrev pub rows_of_run : Settings → ModelView → RowSource → List (ℕ × List (Option ℕ))
-rows_of_run s m source = (reading_or_none (reading_of s m source)).rows
+rows_of_run s m source = (given_of s m source).rows.rows
 
 abbrev pub file_notes : Settings → ModelView → RowSource → List Note
-file_notes s m source = notes_on (reading_or_none (reading_of s m source))
+file_notes s m source = notes_on (given_of s m source)
 
 abbrev pub all_notes : Settings → ModelView → RowSource → List Note
 all_notes s m source = file_notes s m source ++ later_notes (mode_of s) m (rows_of_run s m source)
 
--- the stop of a question above the budget
+-- the stop of a question above the budget, and that of too many candidates for suspicious tuples
 abbrev pub spent_on : Settings → List (Option ℕ) → Stop
 spent_on s question = Spent s.budget (pairs_of question)
 
+abbrev pub candidates_stop : ℕ → Option Stop
+candidates_stop count = if nat_lt (most_counted limits.SuspectCandidates) count then Some (TooMany SuspectCandidates (limit_told count)) else None
+
+-- the limit that the demand passes, where the run goes by a plan of it
+abbrev pub limit_due : Settings → ModelView → Option Stop
+limit_due s m = if makes_plan (mode_of s) then option_map stop_of_plan (limit_passed m) else None
+
+-- why a run must stop at its work on what the row file gives, if it must: by the first question whose plain cost is above
+-- the budget, where it measures of the demanded tuples, or by the number of candidates
+abbrev pub work_in : Mode → Settings → ℕ → ModelView → ResultReading → Option Stop
+work_in (Generate output) s seed m given = option_map (spent_on s) (growth_over s seed m given.rows.rows)
+work_in (Measure name) s seed m given = option_map (spent_on s) (first_measured_over m s.budget)
+work_in (Suspect name) s seed m given = candidates_stop (candidate_count m (failing_rows (suite_in given) given.failed))
+
 -- why a run must stop once its model is read, if it must: by the limit that the demand passes, else at the row file,
--- else at the first question above the budget
+-- else at its work
 abbrev pub stop_due : Settings → ℕ → ModelView → RowSource → Option Stop
 stop_due s seed m source =
-    option_or (option_map stop_of_plan (limit_passed m))
-    (option_or (stop_in (reading_of s m source)) (option_map (spent_on s) (question_over s seed m (rows_of_run s m source))))
+    option_or (limit_due s m) (option_or (stop_in (reading_of s m source)) (work_in (mode_of s) s seed m (given_of s m source)))
 
--- the notes on the row file that are told before such a stop: those of its reading, where that came before
-abbrev pub notes_before : Stop → List Note → List Note
-notes_before (Spent budget question) notes = notes
-notes_before stop notes = []
+-- the notes on the row file that are told before such a stop: none where the limit comes before the file is read
+abbrev pub notes_behind : Option Stop → List Note → List Note
+notes_behind None notes = notes
+notes_behind (Some stop) notes = []
+
+abbrev pub notes_due : Settings → ModelView → RowSource → List Note
+notes_due s m source = notes_behind (limit_due s m) (file_notes s m source)
 
 -- the bytes of a model file are no more than they may be and spell a model, and P holds of it and its notes:
 -- of each that they spell, which is one alone (`FilesHaveOneModel` of `type_check`)
@@ -151,8 +173,8 @@ HasModel opts held P = IsSomeAnd held (SpellsModel opts P)
 pub data EndsBehind (s : Settings) (seed : ℕ) (m : ModelView) (source : RowSource) (row_notes : List Note) (end : Result (Unit {0}) Stop) : Type 0 where
   comes_whole : end ≡ Ok tt → stop_due s seed m source ≡ None → row_notes ≡ all_notes s m source → EndsBehind s seed m source row_notes end
   no_memory : (count : ℕ) → end ≡ Err OutOfMemory → row_notes ≡ take count (all_notes s m source) → EndsBehind s seed m source row_notes end
-  rows_unread : end ≡ Err (CannotRead kinds.Rows) → limit_passed m ≡ None → row_notes ≡ [] → EndsBehind s seed m source row_notes end
-  must_stop : (stop : Stop) → end ≡ Err stop → stop_due s seed m source ≡ Some stop → row_notes ≡ notes_before stop (file_notes s m source)
+  rows_unread : end ≡ Err (CannotRead kinds.Rows) → limit_due s m ≡ None → row_notes ≡ [] → EndsBehind s seed m source row_notes end
+  must_stop : (stop : Stop) → end ≡ Err stop → stop_due s seed m source ≡ Some stop → row_notes ≡ notes_due s m source
       → EndsBehind s seed m source row_notes end
   cannot_write_proof : (name : List ℕ) → end ≡ Err (CannotWrite kinds.Proof) → s.proof ≡ Some name → stop_due s seed m source ≡ None
       → row_notes ≡ all_notes s m source → EndsBehind s seed m source row_notes end
@@ -176,7 +198,7 @@ WritesProof s seed m seeds files files_after end = IfSome s.proof (λ name. Hold
 pub record RunsModel (s : Settings) (seed : ℕ) (m : ModelView) (source : RowSource) (row_notes : List Note) (before after : Moment) (end : Result (Unit {0}) Stop) : Type 0 where
   pub sound : IsSound m
   pub ends : EndsBehind s seed m source row_notes end
-  pub prints : Prints (out_text s seed m (rows_of_run s m source)) before.out after.out (end_of end)
+  pub prints : Prints (out_text s seed m (given_of s m source)) before.out after.out (end_of end)
   pub writes : WritesProof s seed m (rows_of_run s m source) before.files after.files (end_of end)
 
 -- how a run on a model file and a row file may end, with which notes, what it prints, and what it writes: the reading of

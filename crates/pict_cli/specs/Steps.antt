@@ -14,14 +14,20 @@ use Rattle.refutation.specs.declared.omissions.Omission.{Omission}
 use Rattle.refutation.specs.declared.omissions.ProofForm.{ProofForm}
 use Rattle.row_text.specs.Readings.{HoldsReading}
 use Rattle.row_text.specs.declared.row_file.RowFile.{RowFile}
+use Rattle.suspect_tuples.specs.ResultReading.{ResultReading}
+use Rattle.suspect_tuples.specs.Results.{HoldsResults}
+use Rattle.suspect_tuples.specs.declared.result_file.ResultFile.{ResultFile}
+use Rattle.suspect_tuples.specs.declared.results_fault.ResultsFault.{ResultsFault}
+use Rattle.suspect_tuples.specs.declared.results_fault.ResultsFault.TheVariants as faults
+use Rattle.command_line.specs.Stops.{stop_of_rows}
 use Rattle.command_line.specs.declared.files.FileKind.TheVariants as kinds
 use Rattle.command_line.specs.declared.stop.Stop.{Stop}
-use Rattle.command_line.specs.declared.stop.Stop.TheVariants.{OutOfMemory, Spent, CannotRead, CannotWrite}
+use Rattle.command_line.specs.declared.stop.Stop.TheVariants.{BadResult, CannotRead, CannotWrite, NoResult, OutOfMemory, Spent}
 use Rattle.command_line.specs.Told.{end_status}
 use Rattle.pict_cli.specs.Ends.{Leaves, LeavesAll, Moment, Stopped, end_of}
 use Rattle.pict_cli.specs.Making.{EndsFrom}
 use Rattle.pict_cli.specs.Modes.{RowSource, model_source, row_source}
-use Rattle.pict_cli.specs.RowSources.{read_source}
+use Rattle.pict_cli.specs.RowSources.{read_result_bytes, read_row_bytes, read_source, without_results}
 use Rattle.pict_cli.specs.Runs.{Ends}
 
 -- the text of a proof of this form with these omissions
@@ -31,14 +37,28 @@ written form omissions = proof_text (format_of form) (map omission_meant omissio
 -- the row file was read: its rows and notes are those of this reading
 pub record HoldsRows (m : ModelView) (mode : RowMode) (source : RowSource) (file : RowFile) : Type 0 where
   pub reading : RowReading
-  pub read : read_source m mode source ≡ Ok reading
+  pub read : read_source (read_row_bytes m mode) source ≡ Ok (without_results reading)
   pub holds : HoldsReading file reading
 
--- why the reading of the row file stops: for want of memory, where the folder failed, and as it must
-pub data StopsRows (m : ModelView) (mode : RowMode) (source : RowSource) (stop : Stop) : Type 0 where
-  no_room : stop ≡ OutOfMemory → StopsRows m mode source stop
-  folder_failed : stop ≡ CannotRead kinds.Rows → StopsRows m mode source stop
-  is_refused : read_source m mode source ≡ Err stop → StopsRows m mode source stop
+-- the file of results was read
+pub record HoldsResultsOf (m : ModelView) (source : RowSource) (file : ResultFile) : Type 0 where
+  pub reading : ResultReading
+  pub read : read_source (read_result_bytes m) source ≡ Ok reading
+  pub holds : HoldsResults file reading
+
+-- why the reading of the row file, whose bytes are read so, stops: for want of memory, where the folder failed, and as it
+-- must
+pub data StopsRows (read : List ℕ → Result ResultReading Stop) (source : RowSource) (stop : Stop) : Type 0 where
+  no_room : stop ≡ OutOfMemory → StopsRows read source stop
+  folder_failed : stop ≡ CannotRead kinds.Rows → StopsRows read source stop
+  is_refused : read_source read source ≡ Err stop → StopsRows read source stop
+
+-- the stop of an answer that a file of results isn't read
+abbrev pub stop_of_results_fault : ResultsFault → Stop
+stop_of_results_fault (faults.Rows fault) = stop_of_rows fault
+stop_of_results_fault faults.NoResult = NoResult
+stop_of_results_fault (faults.BadResult line) = BadResult line
+stop_of_results_fault faults.NoMemory = OutOfMemory
 
 -- what the reading of a row file may end by
 abbrev pub IsOfRows : Stop → Type 0
@@ -48,12 +68,15 @@ IsOfRows stop = (stop ≡ CannotRead kinds.Rows) ⊎ (end_of (Err stop) ≡ Stop
 abbrev pub IsSpentOrNoMemory : ℕ → Option (List (Option ℕ)) → Stop → Type 0
 IsSpentOrNoMemory budget over stop = (stop ≡ OutOfMemory) ⊎ ((question : List (Option ℕ)) × (stop ≡ Spent budget (pairs_of question)) × (over ≡ Some question))
 
--- the work on the rows stopped: for want of memory, or at the first question above the budget, before which none of the
--- later notes are told
-pub data StopsWork (budget : ℕ) (over : Option (List (Option ℕ))) (later notes notes_after : List Note) (stop : Stop) : Type 0 where
-  no_memory : (count : ℕ) → stop ≡ OutOfMemory → notes_after ≡ notes ++ take count later → StopsWork budget over later notes notes_after stop
-  is_spent : (question : List (Option ℕ)) → stop ≡ Spent budget (pairs_of question) → over ≡ Some question → notes_after ≡ notes
-      → StopsWork budget over later notes notes_after stop
+-- it stopped for want of memory, or as it must
+abbrev pub IsDueOrNoMemory : Option Stop → Stop → Type 0
+IsDueOrNoMemory due stop = (stop ≡ OutOfMemory) ⊎ (due ≡ Some stop)
+
+-- the work on what the row file gives stopped: for want of memory, or as it must, before which none of the later notes
+-- are told
+pub data StopsWork (due : Option Stop) (later notes notes_after : List Note) (stop : Stop) : Type 0 where
+  no_memory : (count : ℕ) → stop ≡ OutOfMemory → notes_after ≡ notes ++ take count later → StopsWork due later notes notes_after stop
+  is_due : due ≡ Some stop → notes_after ≡ notes → StopsWork due later notes notes_after stop
 
 -- the made model of these bytes isn't written to the file of this name: memory is wanting, and no file changes, or the
 -- folder failed

@@ -22,9 +22,11 @@ mod options;
 mod preparing;
 mod printing;
 mod proof;
+mod results;
 mod rows;
 mod run;
 mod suite;
+mod suspecting;
 mod words;
 mod working;
 

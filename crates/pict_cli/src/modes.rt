@@ -20,6 +20,8 @@ pub(crate) enum Mode<'w> {
     Generate(Output),
     /// It measures the suite of the file of this name.
     Measure(&'w str),
+    /// It looks for suspicious tuples in the results of the file of this name.
+    Suspect(&'w str),
 }
 
 impl<'w> Opts<'w> {
@@ -38,9 +40,10 @@ impl<'w> Opts<'w> {
     pub(crate) fn mode(&self) -> Mode<'w>
         ensures { mode_seen result ≡ mode_of (settings_seen self.now) }
     {
-        match self.measure {
-            Some(name) => Mode::Measure(name),
-            None => Mode::Generate(self.output()),
+        match (self.suspect, self.measure) {
+            (Some(name), _) => Mode::Suspect(name),
+            (None, Some(name)) => Mode::Measure(name),
+            (None, None) => Mode::Generate(self.output()),
         }
     }
 
@@ -60,7 +63,7 @@ impl<'w> Opts<'w> {
     {
         match self.mode() {
             Mode::Generate(_) => self.seed_file(),
-            Mode::Measure(name) => Some(name),
+            Mode::Measure(name) | Mode::Suspect(name) => Some(name),
         }
     }
 }

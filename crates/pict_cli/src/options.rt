@@ -167,7 +167,7 @@ fn is_last_mark(words: &[String], place: usize) -> bool
 }
 
 /// The fault of the option of this number from 0, of which the first is the second word.
-pub(crate) fn fault_at(place: usize) -> WordFault
+fn fault_at(place: usize) -> WordFault
     ensures { result.index ≡ min (place + 2) (2 ^ 32 - 1) }
 {
     WordFault {

@@ -1,4 +1,4 @@
-ghost use Rattle.std.specs.Prelude.{◌≡◌, ◌≤◌, ◌^◌, ℕ, List, [], All, Some, None, Err, length, IfOk, IfErr, OnOk};
+ghost use Rattle.std.specs.Prelude.{◌≡◌, ◌≤◌, ◌^◌, true, ℕ, List, [], All, Some, None, Err, length, IfOk, IfErr, OnOk};
 ghost use Rattle.outside_io.specs.Faults.{KeepsCounts};
 ghost use Rattle.outside_io.specs.Files.{KeepsFiles};
 ghost use Rattle.cov_model.specs.Fits.{FitsModel};
@@ -6,7 +6,7 @@ ghost use Rattle.tuple_index.specs.Plan.{plan_of};
 ghost use Rattle.tuple_index.specs.PlanFault.{limit_passed};
 ghost use Rattle.row_text.specs.Readings.{mode_seen};
 ghost use Rattle.pict_cli.specs.Ends.{CountsReads, IsEarly, end_of};
-ghost use Rattle.pict_cli.specs.Modes.{RowSource, mode_of, row_mode, row_source};
+ghost use Rattle.pict_cli.specs.Modes.{RowSource, makes_plan, mode_of, row_mode, row_source};
 ghost use Rattle.pict_cli.specs.Options.{settings_seen};
 ghost use Rattle.pict_cli.specs.Runs.{EndsBehind};
 ghost use Rattle.pict_cli.specs.Steps.{HoldsRows};
@@ -41,6 +41,7 @@ pub(crate) fn prepare<F: Folder>(
     mode: RowMode,
     files: &mut F,
 ) -> Result<Prepared, Stop>
+    requires plans { makes_plan (mode_of (settings_seen opts.now)) ≡ true }
     requires mode { mode_seen mode ≡ row_mode (mode_of (settings_seen opts.now)) }
     ensures plan { IfOk result (λ ready. ready.plan ≡ plan_of model.now) }
     ensures within { OnOk result (limit_passed model.now ≡ None) }

@@ -3,6 +3,7 @@ ghost use Rattle.outside_io.specs.Faults.{Rose, KeepsCounts};
 ghost use Rattle.outside_io.specs.Files.{KeepsFiles};
 ghost use Rattle.row_text.specs.Readings.{IsFileOf, mode_seen};
 ghost use Rattle.pict_cli.specs.Modes.{RowSource, RowsHeld, source_in};
+ghost use Rattle.pict_cli.specs.RowSources.{read_row_bytes};
 ghost use Rattle.pict_cli.specs.Steps.{HoldsRows, IsOfRows, StopsRows};
 
 use command_line::{FileKind, Stop, read_whole};
@@ -27,7 +28,7 @@ fn read_row_file<F: Folder>(
 ) -> Result<RowFile, Stop>
     ensures rows { IfOk result (λ file. (held : Option (List ℕ)) → F.file files.old name.now ≡ Some held → HoldsRows model.now (mode_seen mode) (RowsHeld held) file) }
     ensures fit { IfOk result (IsFileOf model.now) }
-    ensures stops { IfErr result (λ stop. (held : Option (List ℕ)) → F.file files.old name.now ≡ Some held → StopsRows model.now (mode_seen mode) (RowsHeld held) stop) }
+    ensures stops { IfErr result (λ stop. (held : Option (List ℕ)) → F.file files.old name.now ≡ Some held → StopsRows (read_row_bytes model.now (mode_seen mode)) (RowsHeld held) stop) }
     ensures cannot_read { result ≡ Err (Stop.CannotRead FileKind.Rows) → Rose (F.read_faults files.old name.now) (F.read_faults files.new name.now) }
     ensures no_fault { result ≢ Err (Stop.CannotRead FileKind.Rows) → KeepsCounts (F.read_faults files.old) (F.read_faults files.new) }
     ensures other { IfErr result IsOfRows }
@@ -52,7 +53,7 @@ pub(crate) fn load_rows<F: Folder>(
 ) -> Result<RowFile, Stop>
     ensures rows { IfOk result (λ file. (source : RowSource) → source_in (option_map (λ file. file.now) name.entry) (F.file files.old) ≡ Some source → HoldsRows model.now (mode_seen mode) source file) }
     ensures fit { IfOk result (IsFileOf model.now) }
-    ensures stops { IfErr result (λ stop. (source : RowSource) → source_in (option_map (λ file. file.now) name.entry) (F.file files.old) ≡ Some source → StopsRows model.now (mode_seen mode) source stop) }
+    ensures stops { IfErr result (λ stop. (source : RowSource) → source_in (option_map (λ file. file.now) name.entry) (F.file files.old) ≡ Some source → StopsRows (read_row_bytes model.now (mode_seen mode)) source stop) }
     ensures cannot_read { result ≡ Err (Stop.CannotRead FileKind.Rows) → IsSomeAnd (option_map (λ file. file.now) name.entry) (λ file. Rose (F.read_faults files.old file) (F.read_faults files.new file)) }
     ensures no_fault { result ≢ Err (Stop.CannotRead FileKind.Rows) → KeepsCounts (F.read_faults files.old) (F.read_faults files.new) }
     ensures other { IfErr result IsOfRows }

@@ -6,7 +6,6 @@ ghost use Rattle.definitions.specs.Limits.{ModelFile, most_bytes};
 ghost use Rattle.definitions.specs.Settings.{Settings};
 ghost use Rattle.model_lex.specs.declared.fault.ModelFault.{ModelFault};
 ghost use Rattle.type_check.specs.ModelOf.{IsRefusalOf};
-ghost use Rattle.tuple_index.specs.PlanFault.{limit_passed};
 ghost use Rattle.command_line.specs.Settings.{shuffle_seen};
 ghost use Rattle.command_line.specs.Stops.{status_of};
 ghost use Rattle.command_line.specs.Told.{Tells, end_status};
@@ -14,7 +13,7 @@ ghost use Rattle.pict_cli.specs.Ends.{KeepsOthers, KeepsUnwritten, Leaves, end_o
 ghost use Rattle.pict_cli.specs.Modes.{RowSource, RowsHeld, prints_rows, row_source};
 ghost use Rattle.pict_cli.specs.Options.{settings_seen};
 ghost use Rattle.pict_cli.specs.Ranges.{AreFit};
-ghost use Rattle.pict_cli.specs.Runs.{HasModel, HoldsWholeProof, IsRun, IsStatus, PrintsAccepted, PrintsCovering, PrintsFewRows, PrintsSeeds, RunsModel, fault_status, opts_of, rows_of_run, seeds_kept, stop_due, told_proof, used_seed};
+ghost use Rattle.pict_cli.specs.Runs.{HasModel, HoldsWholeProof, IsRun, IsStatus, PrintsAccepted, PrintsCovering, PrintsFewRows, PrintsSeeds, RunsModel, fault_status, limit_due, opts_of, rows_of_run, seeds_kept, stop_due, told_proof, used_seed};
 ghost use Rattle.pict_cli.specs.Steps.{HoldsMade, Ran, RanOn};
 ghost use Rattle.pict_cli.specs.Words.{GetsModelCalmly, IsGiven, IsSpelled, IsWordFault, ReadsCalmly, WritesCalmly, asked_by, file_to_read, file_to_write, model_file, texts};
 
@@ -282,13 +281,13 @@ pub fn run_pict<R: Threads + Sync, F: Folder, O: Sink, E: Sink>(
         WritesCalmly s (model_file words.now) (F.write_faults files.old) (F.write_faults files.new) →
         ¬ Rose (O.faults out.old) (O.faults out.new) → (result ≡ 0) ⊎ (result ≡ 1) }
     // One where the run must stop: by the first limit that is passed, else at the row file that is refused or has too many
-    // bytes, else at the first question above the budget.
+    // bytes, else at the first question above the budget or by too many candidates.
     ensures stopped { (s : Settings) (source : RowSource) (m : ModelView) (stop : Stop) → IsSpelled (texts words.now) (F.file files.old) s source m →
         stop_due s seed_word m source ≡ Some stop → ReadsCalmly s (model_file words.now) (F.read_faults files.old) (F.read_faults files.new) →
         GetsModelCalmly s (model_file words.now) (F.read_faults files.old) (F.read_faults files.new) (F.write_faults files.old) (F.write_faults files.new) →
         (result ≡ status_of stop) ⊎ (result ≡ 1) }
     // One where the row file is missing, and no limit is passed.
-    ensures missing_rows { (s : Settings) (m : ModelView) → IsSpelled (texts words.now) (F.file files.old) s (RowsHeld None) m → limit_passed m ≡ None →
+    ensures missing_rows { (s : Settings) (m : ModelView) → IsSpelled (texts words.now) (F.file files.old) s (RowsHeld None) m → limit_due s m ≡ None →
         GetsModelCalmly s (model_file words.now) (F.read_faults files.old) (F.read_faults files.new) (F.write_faults files.old) (F.write_faults files.new) →
         (result ≡ 7) ⊎ (result ≡ 1) }
     // A model within the bytes of a model file that is refused.

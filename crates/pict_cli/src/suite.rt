@@ -13,7 +13,7 @@ ghost use Rattle.pict_cli.specs.Ends.{Stopped, end_of};
 ghost use Rattle.pict_cli.specs.Options.{settings_seen};
 ghost use Rattle.pict_cli.specs.Ranges.{AreFit};
 ghost use Rattle.pict_cli.specs.RowSources.{dropped_note, dropped_notes};
-ghost use Rattle.pict_cli.specs.Runs.{IsProof, growth_of, orders_of, growth_over};
+ghost use Rattle.pict_cli.specs.Runs.{IsProof, growth_of, orders_of, growth_over, spent_on};
 ghost use Rattle.pict_cli.specs.Steps.{StopsWork};
 
 use crate::growing::grow;
@@ -117,7 +117,7 @@ pub(crate) fn make_suite<R: Threads + Sync>(
     ensures turns { IfOk result (λ ready. AreMadeFor model.now ready.turns) }
     ensures answered { OnOk result (growth_over (settings_seen opts.now) seed_word model.now (seeds_seen seeds.now) ≡ None) }
     ensures notes { OnOk result (notes.new ≡ notes.old ++ dropped_notes model.now (seeds_seen seeds.now)) }
-    ensures stops { IfErr result (StopsWork opts.now.budget (growth_over (settings_seen opts.now) seed_word model.now (seeds_seen seeds.now)) (dropped_notes model.now (seeds_seen seeds.now)) notes.old notes.new) }
+    ensures stops { IfErr result (StopsWork (option_map (spent_on (settings_seen opts.now)) (growth_over (settings_seen opts.now) seed_word model.now (seeds_seen seeds.now))) (dropped_notes model.now (seeds_seen seeds.now)) notes.old notes.new) }
     ensures early { IfErr result (λ stop. end_of (Err stop) ≡ Stopped) }
 {
     let suite = grow(rt, alloc, model, plan, seeds, opts, seed_word)?;

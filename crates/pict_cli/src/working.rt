@@ -9,6 +9,7 @@ use crate::generating::run_generating;
 use crate::measuring::run_measuring;
 use crate::modes::Mode;
 use crate::options::Opts;
+use crate::suspecting::run_suspecting;
 use command_line::Stop;
 use cov_model::TestModel;
 use model_lex::NoteList;
@@ -21,7 +22,7 @@ use std::thread::Threads;
 ///
 /// # Errors
 ///
-/// As from `run_generating` and `run_measuring`.
+/// As from `run_generating`, `run_measuring` and `run_suspecting`.
 pub(crate) fn run_model<R: Threads + Sync, F: Folder, O: Sink>(
     rt: &R,
     alloc: Global,
@@ -45,5 +46,6 @@ pub(crate) fn run_model<R: Threads + Sync, F: Folder, O: Sink>(
             rt, alloc, model, opts, output, seed_word, files, out, row_notes,
         ),
         Mode::Measure(_) => run_measuring(rt, alloc, model, opts, files, out, row_notes),
+        Mode::Suspect(name) => run_suspecting(alloc, model, opts, name, files, out, row_notes),
     }
 }

@@ -1,4 +1,4 @@
-//! Runs on a suite that is given: its figures.
+//! Runs on a suite that is given: its figures, and the suspicious tuples in its results.
 
 use std::test::Fail;
 use test_runs::{Given, ends_as, on_model};
@@ -75,6 +75,87 @@ fn measures_a_suite(rt: HostRuntime) -> Result<(), Fail> {
     for (words, model, suite, status, written, told) in MEASURED {
         let given = Given {
             rows: Some(("t", suite)),
+            ..on_model(words, model)
+        };
+        assert!(rt;
+            ends_as(&rt, rt.alloc(), &given, *status, written, told)?,
+            "{words:?} {written} {told}"
+        );
+    }
+    Ok(())
+}
+
+const TRIPLES: &[u8] = b"A: 1, 2\nB: x, y\nC: u, v\n";
+
+const RESULTS: &[u8] =
+    b"A\tB\tC\t:result\n1\tx\tu\tpass\n1\ty\tv\tfail\n2\tx\tv\tpass\n2\ty\tu\tpass\n";
+
+const SUSPECTS: &str =
+    "Passing tests: 3\nFailing tests: 1\nIncomplete tests: 0\nSuspicious tuples: 3\n\
+    suspect 0=0 1=1 : 1 failing\nsuspect 0=0 2=1 : 1 failing\nsuspect 1=1 2=1 : 1 failing\n";
+
+// Words, a model, results in the file t, a status, and what standard output and standard error get.
+const SUSPECTED: &[(&[&str], &[u8], &[u8], u8, &str, &str)] = &[
+    (&["m", "/suspect:t"], TRIPLES, RESULTS, 0, SUSPECTS, ""),
+    // One more passing test takes the last tuple out.
+    (
+        &["m", "/suspect:t"],
+        TRIPLES,
+        b"A\tB\tC\t:result\n1\tx\tu\tpass\n1\ty\tv\tfail\n2\tx\tv\tpass\n2\ty\tu\tpass\n2\ty\tv\tpass\n",
+        0,
+        "Passing tests: 4\nFailing tests: 1\nIncomplete tests: 0\nSuspicious tuples: 2\n\
+        suspect 0=0 1=1 : 1 failing\nsuspect 0=0 2=1 : 1 failing\n",
+        "",
+    ),
+    // The result column is told by no note, other unknown columns are; the case of results doesn't count.
+    (
+        &["m", "/suspect:t", "/o:1"],
+        TRIPLES,
+        b"A\tB\tQ\tC\t:RESULT\n1\tx\tq\tu\tPASS\n2\tx\t\tz\tfail\n",
+        0,
+        "Passing tests: 1\nFailing tests: 0\nIncomplete tests: 1\nSuspicious tuples: 0\n",
+        "warning: row file line 1: V2 unknown column\nwarning: row file line 3: V3 unknown value\n",
+    ),
+    // Results that are refused, of which no note is told.
+    (
+        &["m", "/suspect:t"],
+        TRIPLES,
+        b"A\tB\tC\tQ\t:result\n1\tx\tu\t\tpass\n1\ty\tv\t\tmaybe\n",
+        6,
+        "",
+        "error: row file line 3: F6 neither pass nor fail\n",
+    ),
+    (
+        &["m", "/suspect:t"],
+        TRIPLES,
+        b"A\tB\tC\n1\tx\tu\n",
+        6,
+        "",
+        "error: row file: F5 no result column\n",
+    ),
+    (
+        &["m", "/suspect:t"],
+        TRIPLES,
+        b"A\tB\t:result\n1\tx\tmaybe\n",
+        6,
+        "",
+        "error: row file: F3 no column for parameter 2\n",
+    ),
+    (
+        &["m", "/suspect:u"],
+        TRIPLES,
+        RESULTS,
+        7,
+        "",
+        "error: cannot read u\n",
+    ),
+];
+
+#[test]
+fn finds_suspicious_tuples(rt: HostRuntime) -> Result<(), Fail> {
+    for (words, model, results, status, written, told) in SUSPECTED {
+        let given = Given {
+            rows: Some(("t", results)),
             ..on_model(words, model)
         };
         assert!(rt;

@@ -4,3 +4,8 @@ pub mod PartLemmas
 pub mod EdgeLemmas
 pub mod WalkLemmas
 pub mod SetCountLemmas
+pub mod RowListLemmas
+pub mod CountingSteps
+pub mod SetLemmas
+pub mod SearchLemmas
+pub mod ResultSteps

@@ -1,8 +1,10 @@
 -- The parts of a tuple: one pair less is enough.
-use Rattle.std.proofs.Common.{◌≡◌, ℕ, zero, suc, ◌-◌, ◌<◌, Bool, true, false, ◌&&◌, ◌||◌, not, List, [], ◌∷◌, map, length, Option, inl, inr, refl, sym, ap, subst, ◌∙◌, arith}
+use Rattle.std.proofs.Common.{◌≡◌, ℕ, zero, suc, ◌-◌, ◌<◌, Bool, true, false, ◌&&◌, ◌||◌, not, List, [], ◌∷◌, map, length, Option, inl, inr, refl, sym, ap, subst, ◌∙◌, arith, zero-add, ◌+◌, ◌≤◌}
 use Rattle.std.specs.Prelude.{remove}
 use Rattle.std.specs.List.{list_all, list_any, range_with_len}
-use Rattle.std.proofs.lemmas.Bool.{false≢true, and_parts, and_from}
+use Rattle.std.proofs.lemmas.Bool.{false≢true, false_from_ne_true, and_parts, and_from}
+use Rattle.std.proofs.lemmas.List.Folds.{list_all-append}
+use Rattle.value_text.proofs.ListLemmas.{range_with_len_more}
 use Rattle.definitions.specs.Demand.{choose}
 use Rattle.definitions.proofs.Members.{Has, has_left, has_right, of_append, has_map, of_map, has_flat, of_flat, any_member, of_any, all_pass, passes_all, has_range, of_range, same_answer}
 use Rattle.suspect_tuples.specs.Suspects.{gives, has_tuple, is_smallest, is_suspicious, proper_parts}
@@ -121,3 +123,20 @@ smallest_are_edges passing failing tuple = at (is_had failing tuple) refl
         ≡ (b && is_edge passing tuple)
     at false had = refl
     at true had = ap (λ b. not (is_had passing tuple) && b) (parts had)
+
+-- the parts of one pair less, one after another
+pub others_more : (f : ℕ → Bool) (i : ℕ) → list_all f (range_with_len 0 i) ≡ true → f i ≡ true → list_all f (range_with_len 0 (i + 1)) ≡ true
+others_more f i before here =
+    ap (list_all f) (range_with_len_more 0 i) ∙ list_all-append f (range_with_len 0 i) ((0 + i) ∷ [])
+    ∙ and_from (list_all f (range_with_len 0 i)) (f (0 + i) && true) before (and_from (f (0 + i)) true (ap f (zero-add i) ∙ here) refl)
+
+pub others_fail : (f : ℕ → Bool) (n i : ℕ) → i < n → f i ≡ false → false ≡ list_all f (range_with_len 0 n)
+others_fail f n i within fails =
+    sym (false_from_ne_true (list_all f (range_with_len 0 n)) (λ all. false≢true (sym fails ∙ passes_all f (range_with_len 0 n) i all (has_range 0 n i (omega arith) (omega (arith, within))))))
+
+-- so a tuple that no passing row has is an edge if each of them is had
+pub edge_from_others : (passing : List (List (Option ℕ))) (tuple : List (ℕ × ℕ)) (had each : Bool) → had ≡ is_had passing tuple → had ≡ false → 2 ≤ length tuple
+    → each ≡ list_all (λ i. is_had passing (remove tuple i)) (range_with_len 0 (length tuple)) → each ≡ is_edge passing tuple
+edge_from_others passing tuple had each is none long others =
+    others ∙ sym (parts_had passing tuple (omega (arith, long)))
+    ∙ ap (λ b. not b && list_all (is_had passing) (proper_parts tuple)) (sym none ∙ is)

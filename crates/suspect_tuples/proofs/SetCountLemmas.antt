@@ -1,10 +1,11 @@
 -- The numbers of sets, by one item more.
-use Rattle.std.proofs.Common.{◌≡◌, ℕ, zero, suc, ◌+◌, ◌-◌, ◌<◌, ◌≤◌, false, List, [], ◌∷◌, map, length, get_or, refl, sym, ap, ◌∙◌, arith, zero-add, length-append}
+use Rattle.std.proofs.Common.{◌≡◌, ℕ, zero, suc, ◌+◌, ◌-◌, ◌<◌, ◌≤◌, false, List, [], ◌∷◌, map, length, get_or, refl, sym, ap, ◌∙◌, arith, zero-add, length-append, ◌++◌}
 use Rattle.std.specs.Prelude.{◌==◌, if◌then◌else◌, replicate}
 use Rattle.std.specs.List.{flat_map, range_with_len}
 use Rattle.std.proofs.lemmas.Bool.Decides.{nat_tests}
-use Rattle.std.proofs.lemmas.List.{length-map, get_or-replicate, length-replicate}
+use Rattle.std.proofs.lemmas.List.{length-map, map-append, get_or-replicate, length-replicate}
 use Rattle.std.proofs.lemmas.List.FromFn.{length-map-range_with_len, get_or-map-range_with_len}
+use Rattle.value_text.proofs.ListLemmas.{range_with_len_more}
 use Rattle.definitions.specs.Demand.{choose}
 use Rattle.tuple_index.specs.PlanFault.{told}
 use Rattle.suspect_tuples.specs.SetCounts.{AreCounts, next_count, ways_up_to}
@@ -67,3 +68,11 @@ counts_more most items row next are made = record {
         let here = are.counts list (suc k) same within in
         ap (λ b. if b then 0 else told (told (get_or row (suc k - 1) 0 + get_or row (suc k) 0) + 1)) test
         ∙ omega (arith, before, here, ways_of_one_more k item list)
+
+-- the next place of a row
+pub counts_push : (row next more : List ℕ) (k : ℕ) → next ≡ map (next_count row) (range_with_len 0 k) → more ≡ next ++ next_count row k ∷ []
+    → more ≡ map (next_count row) (range_with_len 0 (k + 1))
+counts_push row next more k so_far pushed =
+    pushed ∙ ap (λ ns. ns ++ next_count row k ∷ []) so_far
+    ∙ sym (ap (map (next_count row)) (range_with_len_more 0 k) ∙ map-append (next_count row) (range_with_len 0 k) ((0 + k) ∷ [])
+    ∙ ap (λ n. map (next_count row) (range_with_len 0 k) ++ next_count row n ∷ []) (zero-add k))

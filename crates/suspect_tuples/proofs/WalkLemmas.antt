@@ -10,7 +10,7 @@ use Rattle.cov_model.specs.Valid.{param_numbers}
 use Rattle.definitions.specs.Demand.{choose}
 use Rattle.tuple_index.proofs.ChoiceLemmas.{choose_step, choose_end}
 use Rattle.suspect_tuples.specs.Suspects.{gives, tuples_on}
-use Rattle.suspect_tuples.specs.Edges.{edges_behind}
+use Rattle.suspect_tuples.specs.Edges.{edges_behind, tuples_behind}
 use Rattle.suspect_tuples.proofs.EdgeLemmas.{edges_append, edges_narrow}
 
 -- what is found after one list more of a range
@@ -44,10 +44,6 @@ value_step m passing rows kept before longer p v set start found after narrowed 
     ∙ append_assoc start (edges_behind passing rows before (tuples_up_to m p set v)) (edges_behind passing rows before own)
     ∙ ap (λ xs. start ++ xs) (sym (edges_append passing rows before (tuples_up_to m p set v) own))
     ∙ ap (λ ts. start ++ edges_behind passing rows before ts) (sym next)
-
--- the tuples on the sets that begin with these parameters and go on with one of these lists
-abbrev pub tuples_behind : ModelView → List ℕ → List (List ℕ) → List (List (ℕ × ℕ))
-tuples_behind m set lists = flat_map (λ rest. tuples_on m (set ++ rest)) lists
 
 -- a parameter more before what follows
 behind_pushed : (m : ModelView) (set : List ℕ) (p : ℕ) (lists : List (List ℕ))
@@ -94,3 +90,19 @@ pub set_whole : (m : ModelView) (passing failing : List (List (Option ℕ))) (se
     → edges_behind passing failing [] (tuples_on m set) ≡ edges_behind passing failing [] (tuples_behind m set (choose 0 items))
 set_whole m passing failing set items =
     ap (edges_behind passing failing []) (ap (tuples_on m) (sym (append-nil set)) ∙ sym (append-nil (tuples_on m (set ++ []))))
+
+-- the sets of one parameter more
+pub size_step : (m : ModelView) (passing failing : List (List (Option ℕ))) (set : List ℕ) (fewer : ℕ) (found after : List (List (ℕ × ℕ) × ℕ))
+    → found ≡ edges_behind passing failing [] (flat_map (tuples_on m) (flat_map (λ k. choose k (param_numbers m)) (range_with_len 1 fewer))) → set ≡ []
+    → after ≡ found ++ edges_behind passing failing [] (tuples_behind m set (choose (fewer + 1) (drop 0 (param_numbers m))))
+    → after ≡ edges_behind passing failing [] (flat_map (tuples_on m) (flat_map (λ k. choose k (param_numbers m)) (range_with_len 1 (fewer + 1))))
+size_step m passing failing set fewer found after so_far none added =
+    let ways : ℕ → List (List ℕ) = λ k. choose k (param_numbers m) in
+    let before = flat_map ways (range_with_len 1 fewer) in
+    let turned : fewer + 1 ≡ 1 + fewer = omega arith in
+    let next : flat_map ways (range_with_len 1 (fewer + 1)) ≡ before ++ ways (1 + fewer) = range_step ways 1 fewer in
+    added ∙ ap (λ ps. found ++ edges_behind passing failing [] (tuples_behind m ps (ways (fewer + 1)))) none
+    ∙ ap (λ n. found ++ edges_behind passing failing [] (flat_map (tuples_on m) (ways n))) turned
+    ∙ ap (λ xs. xs ++ edges_behind passing failing [] (flat_map (tuples_on m) (ways (1 + fewer)))) so_far
+    ∙ sym (edges_append passing failing [] (flat_map (tuples_on m) before) (flat_map (tuples_on m) (ways (1 + fewer))))
+    ∙ ap (edges_behind passing failing []) (sym (ap (flat_map (tuples_on m)) next ∙ flat_map-append (tuples_on m) before (ways (1 + fewer))))

@@ -1,8 +1,9 @@
 -- Edges, and how they are looked for set by set. (How this program finds the smallest suspicious tuples; no public
 -- clause speaks of it.)
-use Rattle.std.specs.Prelude.{ℕ, Bool, ◌&&◌, not, List, ◌++◌, map, filter, count_by, Option}
+use Rattle.std.specs.Prelude.{ℕ, Bool, ◌&&◌, not, List, ◌++◌, map, filter, flat_map, count_by, Option}
 use Rattle.std.specs.List.{list_all, list_any}
-use Rattle.suspect_tuples.specs.Suspects.{has_tuple, proper_parts}
+use Rattle.cov_model.specs.Sound.{ModelView}
+use Rattle.suspect_tuples.specs.Suspects.{has_tuple, proper_parts, tuples_on}
 
 -- one of the rows contains the tuple
 abbrev pub is_had : List (List (Option ℕ)) → List (ℕ × ℕ) → Bool
@@ -17,3 +18,7 @@ is_edge passing tuple = not (is_had passing tuple) && list_all (is_had passing) 
 abbrev pub edges_behind : List (List (Option ℕ)) → List (List (Option ℕ)) → List (ℕ × ℕ) → List (List (ℕ × ℕ)) → List (List (ℕ × ℕ) × ℕ)
 edges_behind passing rows before tuples =
     map (λ rest. (before ++ rest, count_by (has_tuple rest) rows)) (filter (λ rest. is_had rows rest && is_edge passing (before ++ rest)) tuples)
+
+-- the tuples on the sets that begin with these parameters and go on with one of these lists
+abbrev pub tuples_behind : ModelView → List ℕ → List (List ℕ) → List (List (ℕ × ℕ))
+tuples_behind m set lists = flat_map (λ rest. tuples_on m (set ++ rest)) lists

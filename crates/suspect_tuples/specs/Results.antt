@@ -3,6 +3,8 @@
 use Rattle.std.specs.Prelude.{◌≡◌, length, Option, Some, None, Result, Ok, Err, option_map, IfSome}
 use Rattle.cov_model.specs.Sound.{ModelView}
 use Rattle.row_text.specs.Readings.{HoldsReading, IsFileOf, fault_of}
+use Rattle.row_text.specs.declared.rows_fault.RowsFault.{RowsFault}
+use Rattle.row_text.specs.declared.rows_fault.RowsFault.TheVariants as rows
 use Rattle.suspect_tuples.specs.ResultReading as defined
 use Rattle.suspect_tuples.specs.ResultReading.{ResultReading}
 use Rattle.suspect_tuples.specs.declared.result_file.ResultFile.{ResultFile}
@@ -13,6 +15,15 @@ use Rattle.suspect_tuples.specs.declared.results_fault.ResultsFault.TheVariants.
 pub record HoldsResults (file : ResultFile) (reading : ResultReading) : Type 0 where
   pub rows : HoldsReading file.rows reading.rows
   pub failed : file.failed ≡ reading.failed
+
+-- the fault of a row file as one of a file of results
+abbrev pub refused_as : RowsFault → ResultsFault
+refused_as rows.NoMemory = NoMemory
+refused_as rows.NoHeader = Rows rows.NoHeader
+refused_as (rows.Twice line) = Rows (rows.Twice line)
+refused_as (rows.Missing p) = Rows (rows.Missing p)
+refused_as (rows.TooManyRows count) = Rows (rows.TooManyRows count)
+refused_as (rows.Width line) = Rows (rows.Width line)
 
 -- the fault that an answer tells of a file of results; want of memory tells none
 abbrev pub result_fault_of : ResultsFault → Option defined.ResultsFault

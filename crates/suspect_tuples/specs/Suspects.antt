@@ -17,6 +17,10 @@ passing_rows rows failed = map (λ row. row.0) (filter (λ row. is_complete row.
 abbrev pub failing_rows : List (List (Option ℕ)) → List Bool → List (List (Option ℕ))
 failing_rows rows failed = map (λ row. row.0) (filter (λ row. is_complete row.0 && row.1) (zip rows failed))
 
+-- the rows that don't
+abbrev pub incomplete_rows : List (List (Option ℕ)) → List (List (Option ℕ))
+incomplete_rows rows = filter (λ row. not (is_complete row)) rows
+
 -- a row gives a parameter this value
 abbrev pub gives : List (Option ℕ) → ℕ × ℕ → Bool
 gives row pair = is_assigned row pair.0 && (value_in row pair.0 == pair.1)
@@ -70,6 +74,6 @@ suspects m rows failed =
     record {
       passing = length passing;
       failing = length failing;
-      incomplete = length (filter (λ row. not (is_complete row)) rows);
+      incomplete = length (incomplete_rows rows);
       found = suspect_tuples m passing failing;
     }

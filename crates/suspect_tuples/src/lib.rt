@@ -7,12 +7,18 @@
 //! - `put_suspects` writes their text, and takes no memory.
 #![tactic(auto)]
 
+mod counting;
+mod edges;
 mod reading;
 mod result_file;
 mod results_fault;
+mod row_list;
 mod search;
+mod set_counts;
+mod sets;
 mod suspect_fault;
 mod suspect_list;
+mod take_last;
 mod text;
 
 pub use reading::read_results;

@@ -25,3 +25,20 @@ impl From<NoMemory> for ResultsFault {
         ResultsFault::NoMemory
     }
 }
+
+impl From<RowsFault> for ResultsFault {
+    ghost use Rattle.suspect_tuples.specs.Results.{refused_as};
+
+    ghost from_gives = { λ fault given. given ≡ refused_as fault };
+
+    fn from(fault: RowsFault) -> ResultsFault {
+        match fault {
+            RowsFault::NoMemory => ResultsFault::NoMemory,
+            RowsFault::NoHeader => ResultsFault::Rows(RowsFault::NoHeader),
+            RowsFault::Twice(line) => ResultsFault::Rows(RowsFault::Twice(line)),
+            RowsFault::Missing(param) => ResultsFault::Rows(RowsFault::Missing(param)),
+            RowsFault::TooManyRows(count) => ResultsFault::Rows(RowsFault::TooManyRows(count)),
+            RowsFault::Width(line) => ResultsFault::Rows(RowsFault::Width(line)),
+        }
+    }
+}

@@ -1,13 +1,13 @@
 use Rattle.std.proofs.Common.{◌≡◌, [], true, ap, refl, subst, sym, ◌∙◌}
-use Rattle.std.specs.Prelude.{All}
+use Rattle.std.specs.Prelude.{All, option_map}
 use Rattle.cov_model.specs.Valid.{is_row}
 use Rattle.row_text.specs.RowFiles.{seeds_seen}
 use Rattle.row_text.specs.Told.{statistics_seen}
 use Rattle.pict_cli.specs.Ends.{CountsReads, IsEarly, Prints, end_of}
-use Rattle.pict_cli.specs.Modes.{Generate}
+use Rattle.pict_cli.specs.Modes.{Generate, makes_plan}
 use Rattle.pict_cli.specs.Options.{output_seen, settings_seen}
-use Rattle.pict_cli.specs.Runs.{EndsBehind, growth_of, rows_of_run, shuffled_by, suite_text}
-use Rattle.pict_cli.proofs.Behind.{ends_by, proof_same, text_same, work_stopped, work_written}
+use Rattle.pict_cli.specs.Runs.{EndsBehind, growth_of, rows_of_run, shuffled_by, spent_on, suite_text}
+use Rattle.pict_cli.proofs.Behind.{ends_by, file_read, given_in, proof_same, text_same, within_due, work_stopped, work_written}
 use Rattle.pict_cli.proofs.Early.{leaves_early, leaves_from, proof_from, reads_stopped, runs_early, stopped_early}
 use Rattle.pict_cli.proofs.Headline.{suite_rows}
 use Rattle.pict_cli.proofs.generating.run_generating.Goals as goal
@@ -36,13 +36,16 @@ pub returns-in_err-suite-clause-runs : goal.returns-in_err-suite-clause-runs
 returns-in_err-suite-clause-runs g c = λ source told.
     let s = settings_seen c.args.opts.now in
     let m = c.args.model.now in
+    let file = c.in_ok-ready.ready.file in
+    let plans = ap makes_plan c.requires.mode in
+    let read = c.in_ok-ready.ensures.rows source told in
     let stop = c.in_err-suite.field-0.0 in
     let end = c.from_residual-in_err-suite.result in
     let e = ends_by end stop c.from_residual-in_err-suite.ensures.1 in
     runs_early s c.args.seed_word m source c.make_suite.new.notes _ _ end c.assert_invariant.ensures
     (stopped_early (end_of end) (ap end_of e ∙ c.in_err-suite.ensures.early)) c.prepare.ensures.files refl
-    (work_stopped s c.args.seed_word m source c.in_ok-ready.ready.file c.in_ok-ready.ensures.within (Generate (output_seen c.args.output)) c.requires.mode
-    (c.in_ok-ready.ensures.rows source told) stop end c.make_suite.new.notes e c.in_err-suite.ensures.stops)
+    (work_stopped s c.args.seed_word m source (given_in file read.reading) file.notes (within_due s m plans c.in_ok-ready.ensures.within) (Generate (output_seen c.args.output))
+    c.requires.mode (file_read s m source file plans read) read.holds.notes stop end c.make_suite.new.notes e c.in_err-suite.ensures.stops)
 
 pub returns-in_err-suite-clause-leaves : goal.returns-in_err-suite-clause-leaves
 returns-in_err-suite-clause-leaves g c = λ name.
@@ -65,8 +68,11 @@ returns-clause-runs g c = λ source told.
     let file = c.in_ok-ready.ready.file in
     let seeds = seeds_seen file in
     let output = output_seen c.args.output in
-    let within = c.in_ok-ready.ensures.within in
+    let plans = ap makes_plan c.requires.mode in
+    let within = within_due s m plans c.in_ok-ready.ensures.within in
     let read = c.in_ok-ready.ensures.rows source told in
+    let given = given_in file read.reading in
+    let reads = file_read s m source file plans read in
     let end = c.write_suite.result in
     let suite = c.in_ok-suite.suite in
     let before = g.F.Folder.file c.args.files.now in
@@ -75,16 +81,16 @@ returns-clause-runs g c = λ source told.
     record {
       sound = c.assert_invariant.ensures;
       ends =
-          work_written s seed m source file within (Generate output) c.requires.mode read end c.make_suite.new.notes c.in_ok-suite.ensures.answered c.in_ok-suite.ensures.notes
-          c.write_suite.ensures.stops;
+          work_written s seed m source given file.notes within (Generate output) c.requires.mode reads read.holds.notes end c.make_suite.new.notes
+          (ap (option_map (spent_on s)) c.in_ok-suite.ensures.answered) c.in_ok-suite.ensures.notes c.write_suite.ensures.stops;
       prints =
           subst (λ text. Prints text (g.O.Sink.written c.args.out.now) (g.O.Sink.written c.write_suite.new.out) (end_of end))
           (ap (λ rows. suite_text output m rows (statistics_seen suite.stats)) c.in_ok-suite.ensures.rows
-          ∙ ap (suite_text output m (growth_of s seed m seeds).rows) c.in_ok-suite.ensures.stats ∙ sym (text_same s seed m source file within (Generate output) c.requires.mode read))
+          ∙ ap (suite_text output m (growth_of s seed m seeds).rows) c.in_ok-suite.ensures.stats ∙ sym (text_same s seed m source given file.notes within (Generate output) c.requires.mode reads read.holds.notes))
           c.write_suite.ensures.prints;
       writes =
           proof_from s seed m (rows_of_run s m source) before loaded after (end_of end) c.prepare.ensures.files
-          (proof_same s seed m source file within (Generate output) c.requires.mode read loaded after (end_of end)
+          (proof_same s seed m source given file.notes within (Generate output) c.requires.mode reads read.holds.notes loaded after (end_of end)
           (c.write_suite.ensures.writes seed seeds c.in_ok-suite.ensures.proof));
     }
 
@@ -92,3 +98,6 @@ pub returns-clause-leaves : goal.returns-clause-leaves
 returns-clause-leaves g c = λ name.
     leaves_from (settings_seen c.args.opts.now) name _ _ _ (end_of c.write_suite.result) c.prepare.ensures.files c.in_ok-ready.ensures.no_fault c.prepare.ensures.write_faults refl refl
     (c.write_suite.ensures.leaves name)
+
+pub prepare-requires-clause-plans : goal.prepare-requires-clause-plans
+prepare-requires-clause-plans g c = ap makes_plan c.requires.mode

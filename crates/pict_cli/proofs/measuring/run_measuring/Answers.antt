@@ -1,13 +1,15 @@
 use Rattle.std.proofs.Common.{◌≡◌, [], ap, inl, refl, subst, sym, ◌∙◌}
 use Rattle.std.proofs.lemmas.List.{append-nil}
 use Rattle.definitions.specs.Figures.{figures}
+use Rattle.std.specs.Prelude.{option_map}
+use Rattle.definitions.specs.Search.{first_measured_over}
 use Rattle.definitions.specs.Statistics.{figures_text}
 use Rattle.row_text.specs.RowFiles.{seeds_seen}
 use Rattle.pict_cli.specs.Ends.{CountsReads, IsEarly, Prints, end_of}
-use Rattle.pict_cli.specs.Modes.{Measure, makes_suite}
+use Rattle.pict_cli.specs.Modes.{Measure, makes_plan, makes_suite}
 use Rattle.pict_cli.specs.Options.{settings_seen}
-use Rattle.pict_cli.specs.Runs.{EndsBehind, rows_of_run}
-use Rattle.pict_cli.proofs.Behind.{ends_by, text_same, work_stopped, work_written}
+use Rattle.pict_cli.specs.Runs.{EndsBehind, rows_of_run, spent_on}
+use Rattle.pict_cli.proofs.Behind.{ends_by, file_read, given_in, text_same, within_due, work_stopped, work_written}
 use Rattle.pict_cli.proofs.Early.{leaves_early, leaves_from, leaves_printed, reads_stopped, runs_early, stopped_early}
 use Rattle.pict_cli.proofs.Measured.{suite_rows, writes_none}
 use Rattle.pict_cli.proofs.RowFiles.{if_err_then}
@@ -38,13 +40,15 @@ returns-in_err-figures-clause-runs g c = λ seed source told.
     let s = settings_seen c.args.opts.now in
     let m = c.args.model.now in
     let file = c.in_ok-ready.ready.file in
+    let plans = ap makes_plan c.requires.mode.1 in
+    let read = c.in_ok-ready.ensures.rows source told in
     let stop = c.in_err-figures.field-0.0 in
     let end = c.from_residual-in_err-figures.result in
     let e = ends_by end stop c.from_residual-in_err-figures.ensures.1 in
     runs_early s seed m source file.notes _ _ end c.assert_invariant.ensures
     (stopped_early (end_of end) (ap end_of e ∙ c.in_err-figures.ensures.early)) c.prepare.ensures.files refl
-    (work_stopped s seed m source file c.in_ok-ready.ensures.within (Measure c.requires.mode.0) c.requires.mode.1 (c.in_ok-ready.ensures.rows source told) stop end file.notes e
-    (search_stopped s.budget _ [] file.notes stop c.in_err-figures.ensures.stops))
+    (work_stopped s seed m source (given_in file read.reading) file.notes (within_due s m plans c.in_ok-ready.ensures.within) (Measure c.requires.mode.0) c.requires.mode.1
+    (file_read s m source file plans read) read.holds.notes stop end file.notes e (search_stopped s.budget (first_measured_over m s.budget) [] file.notes stop c.in_err-figures.ensures.stops))
 
 pub returns-in_err-figures-clause-leaves : goal.returns-in_err-figures-clause-leaves
 returns-in_err-figures-clause-leaves g c = λ name.
@@ -60,17 +64,21 @@ returns-clause-runs g c = λ seed source told.
     let m = c.args.model.now in
     let file = c.in_ok-ready.ready.file in
     let mode = Measure c.requires.mode.0 in
-    let within = c.in_ok-ready.ensures.within in
+    let plans = ap makes_plan c.requires.mode.1 in
+    let within = within_due s m plans c.in_ok-ready.ensures.within in
     let read = c.in_ok-ready.ensures.rows source told in
+    let given = given_in file read.reading in
+    let reads = file_read s m source file plans read in
     let end = c.print_figures.result in
     record {
       sound = c.assert_invariant.ensures;
       ends =
-          work_written s seed m source file within mode c.requires.mode.1 read end file.notes c.in_ok-figures.ensures.answered (sym (append-nil file.notes))
+          work_written s seed m source given file.notes within mode c.requires.mode.1 reads read.holds.notes end file.notes
+          (ap (option_map (spent_on s)) c.in_ok-figures.ensures.answered) (sym (append-nil file.notes))
           (if_err_then end (λ stop is. inl is) c.print_figures.ensures.stops);
       prints =
           subst (λ text. Prints text (g.O.Sink.written c.args.out.now) (g.O.Sink.written c.print_figures.new.out) (end_of end))
-          (ap figures_text (c.in_ok-figures.ensures.figures ∙ ap (figures m) (sym (suite_rows file.rows))) ∙ sym (text_same s seed m source file within mode c.requires.mode.1 read))
+          (ap figures_text (c.in_ok-figures.ensures.figures ∙ ap (figures m) (sym (suite_rows file.rows))) ∙ sym (text_same s seed m source given file.notes within mode c.requires.mode.1 reads read.holds.notes))
           c.print_figures.ensures.prints;
       writes = writes_none s seed m (rows_of_run s m source) _ _ (end_of end) (c.requires.fit.unproved (ap makes_suite c.requires.mode.1));
     }
@@ -79,3 +87,6 @@ pub returns-clause-leaves : goal.returns-clause-leaves
 returns-clause-leaves g c = λ name.
     leaves_from (settings_seen c.args.opts.now) name _ _ _ (end_of c.print_figures.result) c.prepare.ensures.files c.in_ok-ready.ensures.no_fault c.prepare.ensures.write_faults refl refl
     (leaves_printed (settings_seen c.args.opts.now) name _ _ c.print_figures.result (λ file. refl) (λ file. refl) (λ file. refl) c.print_figures.ensures.stops c.print_figures.ensures.faults)
+
+pub prepare-requires-clause-plans : goal.prepare-requires-clause-plans
+prepare-requires-clause-plans g c = ap makes_plan c.requires.mode.1

@@ -8,9 +8,10 @@ use Rattle.command_line.specs.declared.stop.Stop.TheVariants.{CannotRead}
 use Rattle.pict_cli.specs.Ends.{CountsReads, IsEarly, end_of}
 use Rattle.pict_cli.specs.Modes.{RowSource, row_source, source_in}
 use Rattle.pict_cli.specs.Options.{settings_seen}
+use Rattle.pict_cli.specs.RowSources.{read_row_bytes}
 use Rattle.pict_cli.specs.Runs.{EndsBehind}
 use Rattle.pict_cli.specs.Steps.{HoldsRows, StopsRows}
-use Rattle.pict_cli.proofs.Behind.{limited, plan_stopped, rows_counted, rows_early, rows_stopped}
+use Rattle.pict_cli.proofs.Behind.{limited, plan_stopped, rows_counted, rows_early, rows_stopped, stops_rows, within_due}
 use Rattle.pict_cli.proofs.Early.{reads_stopped, stopped_early}
 use Rattle.pict_cli.proofs.Suites.{if_err_of}
 use Rattle.pict_cli.proofs.preparing.prepare.Goals as goal
@@ -21,7 +22,7 @@ returns-in_err-plan-clause-stops g c =
     let m = c.args.model.now in
     let fault = c.in_err-plan.field-0.0 in
     if_err_of (λ stop. (seed : ℕ) (source : RowSource) → row_source s (g.F.Folder.file c.args.files.now) ≡ Some source → EndsBehind s seed m source [] (Err stop)) c.from_residual.result
-    (stop_of_plan fault) c.from_residual.ensures.1 (λ seed source told. limited s seed m source fault (Err (stop_of_plan fault)) refl c.in_err-plan.ensures.refused)
+    (stop_of_plan fault) c.from_residual.ensures.1 (λ seed source told. limited s seed m source fault (Err (stop_of_plan fault)) c.requires.plans refl c.in_err-plan.ensures.refused)
 
 pub returns-in_err-plan-clause-early : goal.returns-in_err-plan-clause-early
 returns-in_err-plan-clause-early g c =
@@ -44,9 +45,9 @@ returns-in_err-file-clause-stops g c =
     let files = g.F.Folder.file c.args.files.now in
     if_err_of (λ other. (seed : ℕ) (source : RowSource) → row_source s files ≡ Some source → EndsBehind s seed m source [] (Err other)) c.from_residual-in_err-file.result
     stop c.from_residual-in_err-file.ensures.1 (λ seed source told.
-    rows_stopped s seed m source stop (Err stop) refl c.in_ok-plan.ensures.within
-    (subst (λ mode. StopsRows m mode source stop) c.requires.mode
-    (c.in_err-file.ensures.stops source (subst (λ file. source_in file files ≡ Some source) (sym c.row_file.ensures) told))))
+    rows_stopped s seed m source stop (Err stop) refl (within_due s m c.requires.plans c.in_ok-plan.ensures.within)
+    (stops_rows s m source stop c.requires.plans (subst (λ mode. StopsRows (read_row_bytes m mode) source stop) c.requires.mode
+    (c.in_err-file.ensures.stops source (subst (λ file. source_in file files ≡ Some source) (sym c.row_file.ensures) told)))))
 
 pub returns-in_err-file-clause-early : goal.returns-in_err-file-clause-early
 returns-in_err-file-clause-early g c =

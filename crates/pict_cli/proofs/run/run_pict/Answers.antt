@@ -4,6 +4,7 @@ use Rattle.outside_io.specs.Faults.{Rose}
 use Rattle.command_line.specs.declared.files.FileKind.TheVariants as kinds
 use Rattle.pict_cli.specs.Ends.{CountsOut, CountsReads, CountsWrites, IsQuiet, KeepsOthers, KeepsUnwritten}
 use Rattle.pict_cli.specs.Options.{settings_seen}
+use Rattle.pict_cli.specs.Ranges.{AreFit}
 use Rattle.pict_cli.specs.Steps.{HoldsMade}
 use Rattle.pict_cli.specs.Words.{asked_by, model_file, read_of_asked, texts, written_of_asked}
 use Rattle.pict_cli.specs.Runs.{IsStatus, names_of, used_seed}
@@ -31,7 +32,8 @@ returns-clause-accepted g c = λ zero s held after source given is told.
 
 pub returns-clause-proof : goal.returns-clause-proof
 returns-clause-proof g c = λ zero s held after source given told.
-    proof_whole (ran_asked c.in-Ok.ensures.0 given.asked c.in-Ok.ensures.2 c.run-ended.ensures) held source given.model given.rows (form_known c.in-Ok.opts s (one_asked c.in-Ok.ensures.0 given.asked)) after told
+    proof_whole (ran_asked c.in-Ok.ensures.0 given.asked c.in-Ok.ensures.2 c.run-ended.ensures) held source given.model given.rows
+    (subst AreFit (one_asked c.in-Ok.ensures.0 given.asked) c.in-Ok.ensures.1).unproved (form_known c.in-Ok.opts s (one_asked c.in-Ok.ensures.0 given.asked)) after told
     (sym c.status_of.ensures ∙ zero)
 
 pub returns-clause-run : goal.returns-clause-run

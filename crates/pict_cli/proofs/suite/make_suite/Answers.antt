@@ -1,4 +1,5 @@
 use Rattle.std.proofs.Common.{◌++◌, length, map, sum, take, ap, refl, sym, ◌∙◌}
+use Rattle.std.specs.Prelude.{option_map}
 use Rattle.std.proofs.lemmas.List.{append-nil}
 use Rattle.definitions.specs.Statistics.{statistics}
 use Rattle.row_text.specs.RowFiles.{seeds_seen}
@@ -6,7 +7,7 @@ use Rattle.row_text.specs.Told.{statistics_seen}
 use Rattle.command_line.specs.declared.stop.Stop.TheVariants.{OutOfMemory}
 use Rattle.pict_cli.specs.Options.{settings_seen}
 use Rattle.pict_cli.specs.RowSources.{dropped_note, dropped_notes}
-use Rattle.pict_cli.specs.Runs.{growth_over, orders_of}
+use Rattle.pict_cli.specs.Runs.{growth_over, orders_of, spent_on}
 use Rattle.pict_cli.specs.Steps.{StopsWork, no_memory}
 use Rattle.pict_cli.proofs.Suites.{if_err_of, omitted_count, proof_ready, same_statistics, search_stopped, tuples_counted}
 use Rattle.pict_cli.proofs.suite.make_suite.Goals as goal
@@ -14,31 +15,39 @@ use Rattle.pict_cli.proofs.suite.make_suite.Goals as goal
 pub returns-in_err-suite-clause-stops : goal.returns-in_err-suite-clause-stops
 returns-in_err-suite-clause-stops g c =
     let seeds = seeds_seen c.args.seeds.now in
-    let over = growth_over (settings_seen c.args.opts.now) c.args.seed_word c.args.model.now seeds in
+    let s = settings_seen c.args.opts.now in
+    let over = growth_over s c.args.seed_word c.args.model.now seeds in
+    let due = option_map (spent_on s) over in
     let later = dropped_notes c.args.model.now seeds in
-    if_err_of (StopsWork c.args.opts.now.budget over later c.args.notes.now c.args.notes.now) c.from_residual.result c.in_err-suite.field-0.0 c.from_residual.ensures.1
+    if_err_of (StopsWork due later c.args.notes.now c.args.notes.now) c.from_residual.result c.in_err-suite.field-0.0 c.from_residual.ensures.1
     (search_stopped c.args.opts.now.budget over later c.args.notes.now c.in_err-suite.field-0.0 c.in_err-suite.ensures.stops)
 
 pub returns-in_err-proof-clause-stops : goal.returns-in_err-proof-clause-stops
 returns-in_err-proof-clause-stops g c =
     let seeds = seeds_seen c.args.seeds.now in
-    let over = growth_over (settings_seen c.args.opts.now) c.args.seed_word c.args.model.now seeds in
-    if_err_of (StopsWork c.args.opts.now.budget over (dropped_notes c.args.model.now seeds) c.args.notes.now c.args.notes.now) c.from_residual-in_err-proof.result c.in_err-proof.field-0.0
+    let s = settings_seen c.args.opts.now in
+    let over = growth_over s c.args.seed_word c.args.model.now seeds in
+    let due = option_map (spent_on s) over in
+    if_err_of (StopsWork due (dropped_notes c.args.model.now seeds) c.args.notes.now c.args.notes.now) c.from_residual-in_err-proof.result c.in_err-proof.field-0.0
     c.from_residual-in_err-proof.ensures.1 (no_memory 0 c.in_err-proof.ensures.stops (sym (append-nil c.args.notes.now)))
 
 pub returns-in_err-turns-clause-stops : goal.returns-in_err-turns-clause-stops
 returns-in_err-turns-clause-stops g c =
     let seeds = seeds_seen c.args.seeds.now in
-    let over = growth_over (settings_seen c.args.opts.now) c.args.seed_word c.args.model.now seeds in
-    if_err_of (StopsWork c.args.opts.now.budget over (dropped_notes c.args.model.now seeds) c.args.notes.now c.args.notes.now) c.from_residual-in_err-turns.result OutOfMemory
+    let s = settings_seen c.args.opts.now in
+    let over = growth_over s c.args.seed_word c.args.model.now seeds in
+    let due = option_map (spent_on s) over in
+    if_err_of (StopsWork due (dropped_notes c.args.model.now seeds) c.args.notes.now c.args.notes.now) c.from_residual-in_err-turns.result OutOfMemory
     c.from_residual-in_err-turns.ensures.1 (no_memory 0 refl (sym (append-nil c.args.notes.now)))
 
 pub returns-in_err-push_dropped-clause-stops : goal.returns-in_err-push_dropped-clause-stops
 returns-in_err-push_dropped-clause-stops g c =
     let seeds = seeds_seen c.args.seeds.now in
-    let over = growth_over (settings_seen c.args.opts.now) c.args.seed_word c.args.model.now seeds in
+    let s = settings_seen c.args.opts.now in
+    let over = growth_over s c.args.seed_word c.args.model.now seeds in
+    let due = option_map (spent_on s) over in
     let told = c.in_err-push_dropped.ensures.refused in
-    if_err_of (StopsWork c.args.opts.now.budget over (dropped_notes c.args.model.now seeds) c.args.notes.now c.push_dropped.new.notes) c.from_residual-in_err-push_dropped.result OutOfMemory
+    if_err_of (StopsWork due (dropped_notes c.args.model.now seeds) c.args.notes.now c.push_dropped.new.notes) c.from_residual-in_err-push_dropped.result OutOfMemory
     c.from_residual-in_err-push_dropped.ensures.1
     (no_memory told.0 refl
     (told.1 ∙ ap (λ lines. c.args.notes.now ++ take told.0 (map dropped_note lines)) (c.as_slice.ensures ∙ c.in_ok-suite.ensures.suite.dropped)))

@@ -1,0 +1,41 @@
+-- What holds of the rows of a file of results, and of the number of candidates.
+use Rattle.std.proofs.Common.{◌≡◌, ℕ, ◌*◌, ◌<◌, ◌^◌, Bool, List, [], ◌∷◌, map, filter, length, All, Option, inl, inr, ap, subst, ◌∙◌, arith}
+use Rattle.std.specs.Prelude.{zip}
+use Rattle.cov_model.specs.Fits.{FitsModel}
+use Rattle.cov_model.specs.Sound.{ModelView, IsSound}
+use Rattle.definitions.proofs.Members.{Has, all_members, member_of_all, of_filter, of_map}
+use Rattle.row_text.specs.declared.row_file.FileRow.{FileRow}
+use Rattle.tuple_index.specs.PlanFault.{told}
+use Rattle.tuple_index.proofs.ToldLemmas.{told-product}
+use Rattle.suspect_tuples.specs.Sets.{AreWide}
+use Rattle.suspect_tuples.specs.Suspects.{candidate_count, suspect_sets}
+use Rattle.suspect_tuples.proofs.CountingSteps.{cells_seen}
+
+-- the rows are as long as the list of parameters
+pub wide_rows : (m : ModelView) (rows : List FileRow) → All (λ row. FitsModel m row.cells) rows → AreWide m (cells_seen rows)
+wide_rows m rows fit = all_members (λ cells. length cells ≡ length m.params) (cells_seen rows) (λ cells has.
+    let of = of_map (λ (row : FileRow). row.cells) rows cells has in
+    subst (λ cells. length cells ≡ length m.params) of.2 (member_of_all (λ (row : FileRow). FitsModel m row.cells) rows of.0 fit of.1).as_long)
+
+pub short_rows : (m : ModelView) (rows : List FileRow) → IsSound m → All (λ row. FitsModel m row.cells) rows → All (λ row. length row.cells < 2 ^ 16) rows
+short_rows m rows sound fit = λ k d within. omega (arith, (fit k d within).as_long, sound.few)
+
+-- so are those of them that count
+zip_member : {X Y : Type 0} (xs : List X) (ys : List Y) (pair : X × Y) → Has (zip xs ys) pair → Has xs pair.0
+zip_member [] ys pair has = absurd has
+zip_member (x ∷ xs) [] pair has = absurd has
+zip_member (x ∷ xs) (y ∷ ys) pair (inl is) = inl (ap (λ (p : _ × _). p.0) is)
+zip_member (x ∷ xs) (y ∷ ys) pair (inr has) = inr (zip_member xs ys pair has)
+
+pub wide_kept : (m : ModelView) (rows : List (List (Option ℕ))) (failed : List Bool) (test : List (Option ℕ) × Bool → Bool) → AreWide m rows
+    → AreWide m (map (λ row. row.0) (filter test (zip rows failed)))
+wide_kept m rows failed test wide = all_members (λ cells. length cells ≡ length m.params) (map (λ row. row.0) (filter test (zip rows failed))) (λ cells has.
+    let of = of_map (λ (row : List (Option ℕ) × Bool). row.0) (filter test (zip rows failed)) cells has in
+    let in_rows = zip_member rows failed of.0 (of_filter test (zip rows failed) of.0 of.1).0 in
+    subst (λ cells. length cells ≡ length m.params) of.2 (member_of_all (λ cells. length cells ≡ length m.params) rows of.0.0 wide in_rows))
+
+-- the candidates, told
+pub told_candidates : (m : ModelView) (failing : List (List (Option ℕ))) (rows sets candidates : ℕ) → rows ≡ length failing
+    → sets ≡ told (length (suspect_sets m)) → candidates ≡ told (rows * sets) → candidates ≡ told (candidate_count m failing)
+told_candidates m failing rows sets candidates many counted multiplied =
+    multiplied ∙ ap (λ n. told (n * sets)) many ∙ ap (λ n. told (length failing * n)) counted ∙ told-product (length failing) (length (suspect_sets m))

@@ -1,0 +1,131 @@
+ghost use Rattle.std.specs.Prelude.{◌≡◌, ◌<◌, ◌==◌, ◌++◌, ◌∷◌, [], All, filter, length, remove, slice_index_or, IfOk, OnOk};
+ghost use Rattle.suspect_tuples.specs.Edges.{is_had};
+ghost use Rattle.suspect_tuples.specs.Sets.{HavePlaces};
+ghost use Rattle.suspect_tuples.specs.Suspects.{gives, has_tuple};
+
+use cov_model::{Cells, ParamNo, ValueNo};
+use std::alloc::Global;
+use std::marker::Model;
+use value_text::NoMemory;
+
+// Rows of a file. Contracts see the list of them.
+#[derive(Drop)]
+pub(crate) struct RowList<'a> {
+    rows: Vec<&'a Cells>,
+}
+
+impl<'a> Model for RowList<'a> {
+    ghost use Rattle.std.specs.Prelude.{List, Option, ℕ, map};
+
+    ghost Value = { List (List (Option ℕ)) };
+
+    ghost view = { λ list. map (λ row. row.now) list.rows.items };
+}
+
+// Whether a row gives a parameter this value.
+fn gives(row: &Cells, pair: (ParamNo, ValueNo)) -> bool
+    requires { pair.0 < length row.now }
+    ensures { result ≡ gives row.now pair }
+{
+    match row.get(pair.0) {
+        Some(value) => value == pair.1,
+        None => false,
+    }
+}
+
+// Whether a row gives each of the parameters its value.
+fn gives_all(row: &Cells, pairs: &[(ParamNo, ValueNo)]) -> bool
+    requires { All (λ pair. pair.0 < length row.now) pairs.now }
+    ensures { result ≡ has_tuple pairs.now row.now }
+{
+    pairs.iter().all(|pair| gives(row, *pair))
+}
+
+// Whether a row gives each of the parameters its value, but for the pair at a place.
+fn gives_others(row: &Cells, pairs: &[(ParamNo, ValueNo)], left_out: usize) -> bool
+    requires exists { left_out < length pairs.now }
+    requires places { All (λ pair. pair.0 < length row.now) pairs.now }
+    ensures { result ≡ has_tuple (remove pairs.now left_out) row.now }
+{
+    gives_all(row, &pairs[..left_out]) && gives_all(row, &pairs[left_out + 1..])
+}
+
+impl<'a> RowList<'a> {
+    // No rows. Takes no memory.
+    pub(crate) fn new(alloc: Global) -> RowList<'a>
+        ensures { result ≡ [] }
+    {
+        RowList {
+            rows: Vec::new(alloc),
+        }
+    }
+
+    // The number of rows.
+    pub(crate) fn len(&self) -> usize
+        ensures { result ≡ length self.now }
+    {
+        self.rows.len()
+    }
+
+    // The row at a place.
+    fn row(&self, at: usize) -> &'a Cells
+        requires { at < length self.now }
+        ensures { result.now ≡ slice_index_or self.now at [] }
+    {
+        self.rows[at]
+    }
+
+    // Adds a row at the end.
+    pub(crate) fn push(&mut self, row: &'a Cells) -> Result<(), NoMemory>
+        ensures { OnOk result (self.new ≡ self.old ++ row.now ∷ []) }
+    {
+        self.rows.push(row)?;
+        Ok(())
+    }
+
+    // The rows that give a parameter this value.
+    pub(crate) fn giving(
+        &self,
+        alloc: Global,
+        pair: (ParamNo, ValueNo),
+    ) -> Result<RowList<'a>, NoMemory>
+        requires { All (λ row. pair.0 < length row) self.now }
+        ensures { IfOk result (λ rows. rows ≡ filter (λ row. gives row pair) self.now) }
+    {
+        let mut giving = RowList::new(alloc);
+        for at in 0..self.len() {
+            let row = self.row(at);
+            if gives(row, pair) {
+                giving.push(row)?;
+            }
+        }
+        Ok(giving)
+    }
+
+    // Whether one of the rows contains the tuple.
+    pub(crate) fn has(&self, tuple: &[(ParamNo, ValueNo)]) -> bool
+        requires { HavePlaces tuple.now self.now }
+        ensures { result ≡ is_had self.now tuple.now }
+    {
+        for at in 0..self.len() {
+            if gives_all(self.row(at), tuple) {
+                return true;
+            }
+        }
+        false
+    }
+
+    // Whether one of the rows contains the tuple without the pair at a place.
+    pub(crate) fn has_without(&self, tuple: &[(ParamNo, ValueNo)], left_out: usize) -> bool
+        requires exists { left_out < length tuple.now }
+        requires places { HavePlaces tuple.now self.now }
+        ensures { result ≡ is_had self.now (remove tuple.now left_out) }
+    {
+        for at in 0..self.len() {
+            if gives_others(self.row(at), tuple, left_out) {
+                return true;
+            }
+        }
+        false
+    }
+}
