@@ -1,12 +1,12 @@
 -- Words that name a suite name no proof file.
-use Rattle.std.proofs.Common.{◌≡◌, Bool, true, false, ◌&&◌, ◌||◌, List, [], ◌∷◌, Option, None, inl, inr, refl, sym, ap, ◌∙◌}
+use Rattle.std.proofs.Common.{◌≡◌, ℕ, Some, Bool, true, false, ◌&&◌, ◌||◌, List, [], ◌∷◌, Option, None, inl, inr, refl, sym, ap, ◌∙◌}
 use Rattle.std.specs.Prelude.{fold}
 use Rattle.std.specs.List.{list_any}
 use Rattle.std.proofs.lemmas.Bool.{cases_Bool, false≢true, or_parts}
 use Rattle.definitions.specs.Settings.{Setting, Order, Separator, Alias, Prefix, SeedFile, ShuffleValues, CaseCounts, Statistics, Workers, Budget, ProofFile, ProofFormat, MeasureFile, Make, SuspectFile, Settings, defaults, set, settings_of}
 use Rattle.definitions.specs.Words.{is_generating, is_measuring}
 use Rattle.pict_cli.specs.declared.kinds.Kinds.{Kinds}
-use Rattle.pict_cli.specs.Modes.{makes_suite, mode_in, mode_of, output_of}
+use Rattle.pict_cli.specs.Modes.{Mode, makes_suite, mode_beside, mode_in, mode_of, output_of}
 use Rattle.pict_cli.specs.Options.{excludes_by_kinds, is_suspecting, joined_kinds, kind_of, kinds_of}
 use Rattle.pict_cli.proofs.KindLemmas.{clash, or_or}
 
@@ -125,6 +125,11 @@ no_proof (x ∷ settings) s none =
     let parts = or_parts (is_generating x) (list_any is_generating settings) none in
     no_proof settings (set s x) parts.1 ∙ same_proof s x parts.0
 
+-- a run that generates no suite makes no model
+not_beside : (make : Option ℕ) (mode : Mode) → makes_suite (mode_beside make mode) ≡ false → makes_suite mode ≡ false
+not_beside None mode h = h
+not_beside (Some n) mode h = absurd (false≢true (sym h))
+
 -- settings that aren't torn, for a run that generates no suite, name no proof file
 pub whole_unproved : (settings : List Setting) → is_torn (kinds_of settings) ≡ false → makes_suite (mode_of (settings_of settings)) ≡ false
     → (settings_of settings).proof ≡ None
@@ -135,6 +140,6 @@ whole_unproved settings whole other =
       | inl some ↦ no_proof settings defaults (ap (λ b. b && about.generating) (sym some) ∙ whole)
       | inr none ↦
           let parts = or_parts about.measuring about.suspecting none in
-          absurd (false≢true (sym other ∙ ap (λ results. makes_suite (mode_in results s.measure (output_of s))) (no_results settings defaults parts.1)
+          absurd (false≢true (sym (not_beside s.make (mode_in s.suspect s.measure (output_of s)) other) ∙ ap (λ results. makes_suite (mode_in results s.measure (output_of s))) (no_results settings defaults parts.1)
           ∙ ap (λ suite. makes_suite (mode_in None suite (output_of s))) (no_suite settings defaults parts.0)))
     ]

@@ -12,7 +12,7 @@ use Rattle.command_line.specs.declared.stop.Stop.{Stop}
 use Rattle.command_line.specs.declared.stop.Stop.TheVariants.{OutOfMemory, CannotWrite}
 use Rattle.pict_cli.specs.Ends.{CountsOut, CountsReads, CountsWrites, End, IsEarly, IsQuiet, Leaves, LeavesAll, Moment, Unwritten, end_of, file_written}
 use Rattle.pict_cli.specs.Making.{EndsFrom, Writes, cannot_write_model, goes_on, no_room}
-use Rattle.pict_cli.specs.Modes.{RowSource, model_from, row_source, rows_beside, source_in}
+use Rattle.pict_cli.specs.Modes.{RowSource, mode_beside, mode_in, model_from, output_of, row_file_in, row_source, rows_beside, source_in}
 use Rattle.pict_cli.specs.Runs.{Ends}
 use Rattle.pict_cli.specs.Steps.{HoldsMade, Ran, RanOn, StopsMaking, unmade, write_failed}
 use Rattle.pict_cli.proofs.Early.{leaves_early, reads_from, writes_from}
@@ -59,7 +59,10 @@ module _ (s : Settings) (seed : ℕ) (name : List ℕ) (n : ℕ) (is : s.make �
   apart file other e = other (written_is ∙ ap Some (sym e))
 
   source_kept : (files others : Files) (source : RowSource) → row_source s files ≡ Some source → row_source s others ≡ Some source
-  source_kept files others source told = ap (λ make. source_in (rows_beside make s.seeds) others) is ∙ sym (ap (λ make. source_in (rows_beside make s.seeds) files) is) ∙ told
+  source_kept files others source told = ap (λ make. source_in (rows_of make) others) is ∙ sym (ap (λ make. source_in (rows_of make) files) is) ∙ told
+    where
+      rows_of : Option ℕ → Option (List ℕ)
+      rows_of make = row_file_in (mode_beside make (mode_in s.suspect s.measure (output_of s))) (rows_beside make s.seeds)
 
   from_made : (held : Option (List ℕ)) (source : RowSource) (notes row_notes : List Note) (before after : Moment) (end : Result (Unit {0}) Stop)
       → EndsFrom (Some n) name (λ start. Ends s seed held source notes row_notes start after end) notes row_notes before after end

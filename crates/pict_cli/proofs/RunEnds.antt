@@ -26,7 +26,7 @@ use Rattle.command_line.specs.declared.stop.Stop.{Stop}
 use Rattle.command_line.specs.declared.stop.Stop.TheVariants.{OutOfMemory, Spent, BadWord, BadModel, BadConstraint, BadRows, NoResult, BadResult, CannotRead, CannotWrite, CannotWriteReport, TooMany, TooLong}
 use Rattle.pict_cli.specs.declared.options.Opts.{Opts}
 use Rattle.pict_cli.specs.Ends.{CountsOut, CountsWrites, End, IsEarly, IsQuiet, Misworded, Moment, StaysStill, Stopped, Unprinted, Unread, Unwritten, Whole, end_of}
-use Rattle.pict_cli.specs.Modes.{RowSource, makes_suite, mode_of, model_source, prints_rows, row_source}
+use Rattle.pict_cli.specs.Modes.{RowSource, is_report, makes_suite, mode_beside, mode_in, mode_of, model_source, output_of, prints_rows, row_source}
 use Rattle.pict_cli.specs.Options.{settings_seen}
 use Rattle.pict_cli.specs.Ranges.{IsLeast, AreFit}
 use Rattle.pict_cli.specs.Runs.{Ends, HasModel, HoldsWholeProof, IsStatus, PrintsAccepted, PrintsCovering, PrintsFewRows, PrintsSeeds, RunsModel, SpellsModel, opts_of, order_word, rows_of_run, seeds_kept, told_proof}
@@ -322,9 +322,8 @@ asked_or_three (Err index) status P holds three zero = absurd (omega (arith, zer
 
 -- a run prints rows of a model file alone
 pub prints_of_a_file : (s : Settings) → prints_rows s ≡ true → s.make ≡ None
-prints_of_a_file s is = at s.stats s.make refl refl
+prints_of_a_file s is = at s.make is
   where
-    at : (stats : Bool) (make : Option ℕ) → s.stats ≡ stats → s.make ≡ make → s.make ≡ None
-    at stats None e f = f
-    at true (Some n) e f = let no : ⊥ = cc in absurd no
-    at false (Some n) e f = let no : ⊥ = cc in absurd no
+    at : (make : Option ℕ) → is_report (mode_beside make (mode_in s.suspect s.measure (output_of s))) ≡ true → make ≡ None
+    at None shown = refl
+    at (Some n) shown = let no : ⊥ = cc in absurd no

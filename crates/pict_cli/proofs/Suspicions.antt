@@ -27,7 +27,7 @@ use Rattle.command_line.specs.declared.stop.Stop.{Stop}
 use Rattle.command_line.specs.declared.stop.Stop.TheVariants.{TooLong, TooMany}
 use Rattle.command_line.specs.declared.files.FileKind.TheVariants as kinds
 use Rattle.command_line.specs.declared.stop.Quantity.TheVariants.{SuspectCandidates}
-use Rattle.pict_cli.specs.Modes.{RowSource, RowsHeld, Suspect, makes_plan, mode_of, row_file_in, row_source, source_in}
+use Rattle.pict_cli.specs.Modes.{RowSource, RowsHeld, Suspect, makes_plan, mode_of, row_file_in, row_source, rows_beside, source_in}
 use Rattle.pict_cli.specs.RowSources.{or_result_stop, read_result_bytes, read_source}
 use Rattle.pict_cli.specs.Runs.{candidates_stop, limit_due, suite_in}
 use Rattle.pict_cli.specs.Steps.{HoldsResultsOf, IsDueOrNoMemory, StopsRows, StopsWork, folder_failed, is_due, is_refused, no_memory, no_room, stop_of_results_fault}
@@ -87,4 +87,4 @@ no_limit s m name is = ap (λ mode. if makes_plan mode then option_map stop_of_p
 
 pub named_source : (s : Settings) (name : List ℕ) (files : Files) (source : RowSource) (P : RowSource → Type 0) → mode_of s ≡ Suspect name → row_source s files ≡ Some source
     → ((held : Option (List ℕ)) → files name ≡ Some held → P (RowsHeld held)) → P source
-named_source s name files source P is told holds = source_held (files name) source P (subst (λ mode. source_in (row_file_in mode s.seeds) files ≡ Some source) is told) holds
+named_source s name files source P is told holds = source_held (files name) source P (subst (λ mode. source_in (row_file_in mode (rows_beside s.make s.seeds)) files ≡ Some source) is told) holds

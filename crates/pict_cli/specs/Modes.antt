@@ -1,6 +1,6 @@
 -- What a run does, by what its words set. (PICT's guide for reports, seed rows and statistics; that a model is made, and
 -- that a given suite is measured or searched for suspicious tuples, are this project's rules.)
-use Rattle.std.specs.Prelude.{ℕ, Bool, true, false, ◌||◌, List, Option, Some, None, is_some, option_map, if◌then◌else◌}
+use Rattle.std.specs.Prelude.{ℕ, Bool, true, false, List, Option, Some, None, option_map, if◌then◌else◌}
 use Rattle.outside_io.specs.Files.{Files}
 use Rattle.made_models.specs.MadeModel.{made_text}
 use Rattle.definitions.specs.RowReading.{RowMode, Seed, Suite}
@@ -17,17 +17,21 @@ pub data Mode : Type 0 where
   Measure : List ℕ → Mode
   Suspect : List ℕ → Mode
 
--- a run that makes its model prints statistics
 abbrev pub output_of : Settings → Output
-output_of s = if s.stats || is_some s.make then Statistics else Report
+output_of s = if s.stats then Statistics else Report
 
 abbrev pub mode_in : Option (List ℕ) → Option (List ℕ) → Output → Mode
 mode_in (Some name) measure output = Suspect name
 mode_in None (Some name) output = Measure name
 mode_in None None output = Generate output
 
+-- a run that makes its model generates a suite and prints its statistics
+abbrev pub mode_beside : Option ℕ → Mode → Mode
+mode_beside None mode = mode
+mode_beside (Some n) mode = Generate Statistics
+
 abbrev pub mode_of : Settings → Mode
-mode_of s = mode_in s.suspect s.measure (output_of s)
+mode_of s = mode_beside s.make (mode_in s.suspect s.measure (output_of s))
 
 -- it generates a suite
 abbrev pub makes_suite : Mode → Bool

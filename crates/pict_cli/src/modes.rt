@@ -1,5 +1,5 @@
 ghost use Rattle.std.specs.Prelude.{◌≡◌, option_map};
-ghost use Rattle.pict_cli.specs.Modes.{mode_of, output_of, row_file, rows_beside};
+ghost use Rattle.pict_cli.specs.Modes.{mode_in, mode_of, output_of, row_file, rows_beside};
 ghost use Rattle.pict_cli.specs.Options.{mode_seen, output_seen, settings_seen};
 
 use crate::options::Opts;
@@ -29,21 +29,31 @@ impl<'w> Opts<'w> {
     fn output(&self) -> Output
         ensures { output_seen result ≡ output_of (settings_seen self.now) }
     {
-        if self.stats || self.make.is_some() {
+        if self.stats {
             Output::Statistics
         } else {
             Output::Report
         }
     }
 
-    /// What the run does.
-    pub(crate) fn mode(&self) -> Mode<'w>
-        ensures { mode_seen result ≡ mode_of (settings_seen self.now) }
+    /// What a run on a model file does.
+    fn mode_on_file(&self) -> Mode<'w>
+        ensures { mode_seen result ≡ mode_in (settings_seen self.now).suspect (settings_seen self.now).measure (output_of (settings_seen self.now)) }
     {
         match (self.suspect, self.measure) {
             (Some(name), _) => Mode::Suspect(name),
             (None, Some(name)) => Mode::Measure(name),
             (None, None) => Mode::Generate(self.output()),
+        }
+    }
+
+    /// What the run does: one that makes its model prints statistics.
+    pub(crate) fn mode(&self) -> Mode<'w>
+        ensures { mode_seen result ≡ mode_of (settings_seen self.now) }
+    {
+        match self.make {
+            Some(_) => Mode::Generate(Output::Statistics),
+            None => self.mode_on_file(),
         }
     }
 
