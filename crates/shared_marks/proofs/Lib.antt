@@ -9,3 +9,5 @@ pub mod OwnTupleLemmas
 pub mod PlaceLemmas
 pub mod RowLemmas
 pub mod WorkerLemmas
+pub mod DigitLemmas
+pub mod LineLemmas

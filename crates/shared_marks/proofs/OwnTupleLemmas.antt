@@ -153,11 +153,11 @@ served_is_own m set row tuple of holds = (
       false≢true (sym lacks.2 ∙ sym (of.given lacks.0 within) ∙ (of_serves m row tuple holds).negatives_in lacks.0 lacks.1)),
 )
 
-negatives_listed : (m : ModelView) (p : ℕ) → p < length m.params → get_or (plan_of m).negatives p [] ≡ negative_values m p
+pub negatives_listed : (m : ModelView) (p : ℕ) → p < length m.params → get_or (plan_of m).negatives p [] ≡ negative_values m p
 negatives_listed m p within = get_or-map-range_with_len (negative_values m) 0 (length m.params) p p [] within (zero-add p)
 
 -- a value of a parameter is one of its positive or of its negative ones
-sign_of : (m : ModelView) (p v : ℕ) → p < length m.params → v < length (param_at m.params p).values → is_value (plan_of m) p v ≡ true
+pub sign_of : (m : ModelView) (p v : ℕ) → p < length m.params → v < length (param_at m.params p).values → is_value (plan_of m) p v ≡ true
 sign_of m p v within exists = by_sign (value_at m p v).negative refl
   where
     by_sign : (b : Bool) → (value_at m p v).negative ≡ b → is_value (plan_of m) p v ≡ true
@@ -188,7 +188,7 @@ one_of (n ∷ []) p q few (inl first) (inr none) = absurd none
 one_of (n ∷ []) p q few (inr none) second = absurd none
 one_of (n ∷ k ∷ ns) p q few first second = absurd (omega (arith, few))
 
-own_negative : (m : ModelView) (row : List (Option ℕ)) (p : ℕ) → ValidRow m row → p < length m.params
+pub own_negative : (m : ModelView) (row : List (Option ℕ)) (p : ℕ) → ValidRow m row → p < length m.params
     → is_negative (plan_of m) p (value_in row p) ≡ true → Has (negatives m row) p
 own_negative m row p is within negative =
     let listed = of_among (negative_values m p) (value_in row p) (sym (ap (λ ns. is_among ns (value_in row p)) (negatives_listed m p within)) ∙ negative) in
@@ -269,11 +269,6 @@ no_rank m row set part = record {
       (sym part ∙ (served_is_own m set row tuple (of_set m set tuple (has_place (tuples_of m set) rank tuple here)) holds).1));
 }
 
--- there are no more members of a rising set than numbers
-pub members_few : (set : List ℕ) (p e : ℕ) → RisesFrom p e set → p ≤ e → length set + p ≤ e
-members_few [] p e rises ordered = omega (arith, ordered)
-members_few (q ∷ set) p e rises ordered = let rest = members_few set (q + 1) e rises.2 (omega (arith, rises.1)) in omega (arith, rest, rises.0)
-
 -- the set of a plan of the model, and the values that a row gives its members
 pub record ChosenFrom (m : ModelView) (plan : PlanView) (i : ℕ) (row : List (Option ℕ)) (members : List ℕ) : Type 0 where
   pub planned : plan ≡ plan_of m
@@ -285,37 +280,6 @@ pub chosen_from : (m : ModelView) (plan : PlanView) (i : ℕ) (row : List (Optio
     → i < length (demanded_sets m) → is_valid m row ≡ true → members ≡ set_at plan i → ChosenFrom m plan i row members
 chosen_from m plan i row members planned within valid listed =
     record { planned = planned; within = within; is = of_valid m row valid; listed = listed }
-
-set_rises : (m : ModelView) (plan : PlanView) (i : ℕ) (row : List (Option ℕ)) (members : List ℕ) → ChosenFrom m plan i row members
-    → RisesFrom 0 (length m.params) members
-set_rises m plan i row members from =
-    subst (RisesFrom 0 (length m.params)) (sym (from.listed ∙ ap (λ p. set_at p i) from.planned)) (demanded_rise m i [] from.within)
-
-pub chosen_members : (m : ModelView) (plan : PlanView) (i : ℕ) (row : List (Option ℕ)) (members : List ℕ) → ChosenFrom m plan i row members
-    → length m.params ≤ 256 → All (λ p. p < length row) members × (length members ≤ 256)
-chosen_members m plan i row members from few =
-    let rises = set_rises m plan i row members from in
-    let count = members_few members 0 (length m.params) rises (omega arith) in (
-      subst (λ n. All (λ p. p < n) members) (sym from.is.long) (rises_within members 0 (length m.params) rises),
-      omega (arith, count, few),
-    )
-
-pub chosen_values : (m : ModelView) (plan : PlanView) (i : ℕ) (row : List (Option ℕ)) (members values : List ℕ) → ChosenFrom m plan i row members
-    → values ≡ own_values members row → IsChoice plan (set_at plan i) values
-chosen_values m plan i row members values from given =
-    subst (λ vs. IsChoice plan (set_at plan i) vs) (sym (given ∙ ap (λ ms. own_values ms row) from.listed))
-    (subst (λ p. IsChoice p (set_at p i) (own_values (set_at p i) row)) (sym from.planned)
-    (own_choice m row (set_at (plan_of m) i) from.is (demanded_rise m i [] from.within)))
-
-pub chosen_rank : (m : ModelView) (plan : PlanView) (i rank : ℕ) (row : List (Option ℕ)) (members values : List ℕ) (slice : Slice)
-    → ChosenFrom m plan i row members → values ≡ own_values members row → slice ≡ slice_of m row → has_part members slice ≡ true
-    → slice_get (tuples_of m (set_at plan i)) rank ≡ Some (tuple_cells m (set_at plan i) values)
-    → IsServedRank m (set_at (plan_of m) i) row (Some rank)
-chosen_rank m plan i rank row members values slice from given own part here =
-    let listed = from.listed ∙ ap (λ p. set_at p i) from.planned in
-    own_rank m row i rank from.is from.within (sym (ap (λ ms. has_part ms slice) listed ∙ ap (has_part (set_at (plan_of m) i)) own) ∙ part)
-    (subst (λ p. slice_get (tuples_of m (set_at p i)) rank ≡ Some (own_tuple m (set_at p i) row)) from.planned
-    (here ∙ ap (λ vs. Some (tuple_cells m (set_at plan i) vs)) (given ∙ ap (λ ms. own_values ms row) from.listed)))
 
 pub chosen_none : (m : ModelView) (plan : PlanView) (i : ℕ) (row : List (Option ℕ)) (members : List ℕ) (slice : Slice)
     → ChosenFrom m plan i row members → slice ≡ slice_of m row → has_part members slice ≡ false

@@ -3,7 +3,7 @@ use Rattle.std.proofs.Common.{◌≡◌, ℕ, ◌+◌, ◌*◌, ◌/◌, ◌^◌
 use Rattle.std.specs.Prelude.{◌==◌, All}
 use Rattle.std.specs.List.{list_any}
 use Rattle.std.proofs.Math.Bool.{or-false}
-use Rattle.std.proofs.lemmas.Bool.{eqb-true, or_cases, or_right}
+use Rattle.std.proofs.lemmas.Bool.{cases_eq, eq-eqb, eqb-true, ne_eqb, or_cases, or_right}
 use Rattle.std.proofs.lemmas.Nat.{pow_pos}
 use Rattle.std.proofs.lemmas.List.{length-set}
 use Rattle.std.proofs.lemmas.List.Elements.{All-push, All-set}
@@ -15,7 +15,7 @@ use Rattle.bit_table.proofs.SetLemmas.{marked}
 use Rattle.definitions.specs.Demand.{is_among}
 use Rattle.shared_marks.specs.declared.holding.Holding.{Holding}
 use Rattle.shared_marks.specs.Facts.{IsIdle, IsKept, is_marked, is_seen}
-use Rattle.shared_marks.specs.Seats.{IsWhole, halved, is_held, joined, marking, other_half, spent, testing}
+use Rattle.shared_marks.specs.Seats.{IsWhole, halved, is_held, joined, marking, noting, other_half, spent, testing}
 use Rattle.shared_marks.specs.Steps.{IsTest}
 use Rattle.shared_marks.proofs.BitLemmas.{bit_marked}
 use Rattle.shared_marks.proofs.SeatLemmas.{any_here, any_set, any_joined, any_alone}
@@ -94,6 +94,37 @@ test_keeps count place by words seats held kept here share = by_bit (mark_at wor
                 | inl same ↦ ap (mark_at words) (sym (eqb-true place other same)) ∙ is
                 | inr before ↦ kept.seen other before
               ];
+          shares = shares_kept seats by held after kept.shares here refl refl;
+          idle = All-set IsIdle seats by after (has_share after share) kept.idle;
+        }
+    by_bit false is = record {
+      as_many = kept.as_many;
+      marked = λ other. kept.marked other ∙ sym (any_set (λ h. is_among h.marked other) false seats by held held here refl);
+      seen = λ other saw. kept.seen other (sym (any_set (λ h. is_among h.seen other) false seats by held held here refl) ∙ saw);
+      shares = shares_kept seats by held held kept.shares here refl refl;
+      idle = All-set IsIdle seats by held (has_share held share) kept.idle;
+    }
+
+-- a place whose bit is set, among the marked ones of one more seat
+pub note_keeps : (count place by : ℕ) (words : List ℕ) (seats : List Holding) (held : Holding) → IsKept count words seats
+    → get_elem? seats by ≡ some held → 0 < held.parts → IsKept count words (set seats by (noting place (mark_at words place) held))
+note_keeps count place by words seats held kept here share = by_bit (mark_at words place) refl
+  where
+    again : mark_at words place ≡ true → (other : ℕ) → mark_at words other ≡ (place == other || mark_at words other)
+    again is other = elim (cases_eq place other) [
+      | inl same ↦ ap (mark_at words) (sym same) ∙ is ∙ ap (λ b. b || mark_at words other) (sym (eq-eqb place other same))
+      | inr apart ↦ ap (λ b. b || mark_at words other) (sym (ne_eqb place other apart))
+    ]
+
+    by_bit : (bit : _) → mark_at words place ≡ bit → IsKept count words (set seats by (noting place bit held))
+    by_bit true is =
+        let after = marking place held in
+        record {
+          as_many = kept.as_many;
+          marked = λ other.
+              again is other ∙ ap (λ t. place == other || t) (kept.marked other)
+              ∙ sym (any_set (λ h. is_among h.marked other) (place == other) seats by held after here refl);
+          seen = λ other saw. kept.seen other (sym (any_set (λ h. is_among h.seen other) false seats by held after here refl) ∙ saw);
           shares = shares_kept seats by held after kept.shares here refl refl;
           idle = All-set IsIdle seats by after (has_share after share) kept.idle;
         }

@@ -27,6 +27,10 @@ first_holding = record { marked = []; seen = []; parts = 1; halvings = 0 }
 abbrev pub marking : ℕ → Holding → Holding
 marking place held = record { marked = place ∷ held.marked; seen = held.seen; parts = held.parts; halvings = held.halvings }
 
+-- note: where its bit is set, the place joins the marked ones
+abbrev pub noting : ℕ → Bool → Holding → Holding
+noting place is_set held = if is_set then marking place held else held
+
 -- test: where its bit is set, the place joins the seen ones
 abbrev pub testing : ℕ → Bool → Holding → Holding
 testing place is_set held =

@@ -9,7 +9,9 @@
 //!   demanded tuple has a place, the base of its set plus its rank (`places_are_ranks`).
 #![tactic(auto)]
 
+mod digits;
 mod holding;
+mod lines;
 mod rule;
 mod served;
 mod table;

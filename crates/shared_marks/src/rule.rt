@@ -1,7 +1,7 @@
 ghost use Rattle.std.specs.Prelude.{◌≡◌, ℕ};
 ghost use Rattle.shared_marks.specs.Facts.{IsKept};
-ghost use Rattle.shared_marks.specs.Seats.{first_holding, halved, joined, marking, other_half, spent};
-ghost use Rattle.shared_marks.specs.Steps.{IsTest};
+ghost use Rattle.shared_marks.specs.Seats.{first_holding, halved, joined, marking, noting, other_half, spent};
+ghost use Rattle.shared_marks.specs.Steps.{IsTest, has_bit};
 
 use crate::holding::Holding;
 use atomic_table::{Join, Play, Split, TableRule};
@@ -32,6 +32,15 @@ pub(crate) struct Marking<P: Place> {
 
 impl<P: Place> Play<(), Holding> for Marking<P> {
     ghost then = { λ _ before _ after. after ≡ (marking P.place before.0, before.1) };
+}
+
+// A step that marks a place whose bit is set already.
+pub(crate) struct Noting<P: Place> {
+    of: PhantomData<P>,
+}
+
+impl<P: Place> Play<(), Holding> for Noting<P> {
+    ghost then = { λ _ before word after. after ≡ (noting P.place (has_bit word P.place) before.0, before.1) };
 }
 
 // A step that tests a place.

@@ -1,22 +1,26 @@
-ghost use Rattle.std.specs.Prelude.{◌≡◌, ◌&&◌, ◌+◌, ◌≤◌, ◌<◌, true, All, [], ◌∷◌, length, map, take, slice_range};
+ghost use Rattle.std.specs.Prelude.{◌≡◌, ◌&&◌, ◌+◌, ◌≤◌, ◌<◌, false, true, All, [], ◌∷◌, length, slice_range};
 ghost use Rattle.cov_model.specs.Fits.{FitsModel};
-ghost use Rattle.cov_model.specs.Rows.{is_complete, value_in};
+ghost use Rattle.cov_model.specs.Rows.{is_complete};
 ghost use Rattle.cov_model.specs.Slices.{slice_of};
 ghost use Rattle.cov_model.specs.Valid.{is_valid};
 ghost use Rattle.definitions.specs.Demand.{demanded_sets, demanded_tuples, is_among};
 ghost use Rattle.row_text.specs.RowFiles.{suite_seen};
-ghost use Rattle.tuple_index.specs.Places.{has_part};
-ghost use Rattle.tuple_index.specs.Plan.{plan_of, set_at};
+ghost use Rattle.tuple_index.specs.Places.{IsOwnSlice, has_part, start_of};
+ghost use Rattle.tuple_index.specs.Plan.{PlanView, plan_of, set_at};
 ghost use Rattle.shared_marks.specs.Adding.{Marks};
+ghost use Rattle.shared_marks.specs.Digits.{AreDigits};
+ghost use Rattle.shared_marks.specs.Lines.{AreLines, IsFront, IsLine};
 ghost use Rattle.shared_marks.specs.Served.{IsServedRank, PlacesAreRanks, base_of, is_served_at, served_between};
 
+use crate::digits::{Digit, place_in_slice, put_digits};
+use crate::lines::{Line, front};
 use crate::table::{MarkSeat, SharedMarks};
-use cov_model::{Cells, ParamNo, Slice, TestModel, ValueNo};
+use cov_model::{Cells, ParamNo, Slice, TestModel};
 use row_text::RowFile;
 use tuple_index::Plan;
 
-/// The most members that a set has: as many as a model has parameters.
-const MOST_MEMBERS: usize = 256;
+/// The most parameters that a model has.
+const MOST_PARAMS: usize = 256;
 
 /// The place of a demanded tuple among all of them is the base of its set plus its rank (this project's
 /// rule).
@@ -63,14 +67,16 @@ fn is_member(members: &[ParamNo], q: ParamNo) -> bool
     members.iter().any(|p| *p == q)
 }
 
-// Puts the values that a row gives the members of a set.
-fn put_values(cells: &Cells, members: &[ParamNo], into: &mut [ValueNo])
-    requires exist { All (λ p. p < length cells.now) members.now }
-    requires room { length members.now ≤ length into.old }
-    ensures { take (length members.now) into.new ≡ map (value_in cells.now) members.now }
+// How many tuples of a set stand in the slices before.
+fn first_rank(plan: &Plan, set: u32, slice: Slice) -> u32
+    requires set { set < length plan.now.sets }
+    requires own { IsOwnSlice plan.now slice }
+    requires part { has_part (set_at plan.now set) slice ≡ true }
+    ensures { result ≡ start_of plan.now (set_at plan.now set) slice }
 {
-    for (i, p) in members.iter().enumerate() {
-        into[i] = cells.get(*p).unwrap_or(0);
+    match slice {
+        Slice::Positive => 0,
+        Slice::Negative(_, _) => plan.slice_ranks(set, slice).0,
     }
 }
 
@@ -82,26 +88,122 @@ fn served_rank(
     set: u32,
     cells: &Cells,
     slice: Slice,
-    values: &mut [ValueNo],
+    digits: &[Digit],
 ) -> Option<u32>
     requires plan { plan.now ≡ plan_of model.now }
     requires set { set < length (demanded_sets model.now) }
     requires row { is_valid model.now cells.now ≡ true }
     requires slice { slice ≡ slice_of model.now cells.now }
-    requires room { length values.old ≡ 256 }
+    requires digits { AreDigits model.now cells.now digits.now }
     ensures { IsServedRank model.now (set_at (plan_of model.now) set) cells.now result }
 {
-    model.assert_invariant();
     plan.assert_invariant();
     let members = plan.members(set);
     if !is_part(members, slice) {
         return None;
     }
-    put_values(cells, members, values);
-    Some(plan.rank(set, &values[..members.len()]))
+    Some(first_rank(plan, set, slice) + place_in_slice(model, cells, members, digits))
+}
+
+// The lines that serve for rows of a slice: all for rows without a negative value, else none.
+fn lines_for(lines: &[Line], slice: Slice) -> &[Line]
+    ensures lines { (plan : PlanView) → AreLines plan lines.now → AreLines plan result.now }
+    ensures slice { 0 < length result.now → slice ≡ Slice.Positive }
+{
+    match slice {
+        Slice::Positive => lines,
+        Slice::Negative(_, _) => &[],
+    }
+}
+
+// The place of a valid row's values of all members of a set but the last. It is at hand where the set before
+// begins with the same members.
+fn front_place(
+    model: &TestModel,
+    plan: &Plan,
+    line: Line,
+    set: u32,
+    cells: &Cells,
+    digits: &[Digit],
+    kept: u32,
+) -> u32
+    requires plan { plan.now ≡ plan_of model.now }
+    requires set { set < length (demanded_sets model.now) }
+    requires row { is_valid model.now cells.now ≡ true }
+    requires slice { slice_of model.now cells.now ≡ Slice.Positive }
+    requires digits { AreDigits model.now cells.now digits.now }
+    requires line { IsLine plan.now set line }
+    requires kept { line.is_fresh ≡ false → IsFront model.now cells.now set kept }
+    ensures { IsFront model.now cells.now set result }
+{
+    if !line.is_fresh {
+        return kept;
+    }
+    plan.assert_invariant();
+    place_in_slice(model, cells, front(plan.members(set)), digits)
 }
 
 impl SharedMarks {
+    // Marks the place of the demanded tuple of a set that a test without a negative value serves.
+    fn mark_line(
+        &self,
+        seat: &mut MarkSeat,
+        model: &TestModel,
+        plan: &Plan,
+        line: Line,
+        set: u32,
+        cells: &Cells,
+        digits: &[Digit],
+        number: u32,
+    )
+        requires table { seat.old.table ≡ self.now.table }
+        requires plan { plan.now ≡ plan_of model.now }
+        requires bits { self.now.bits ≡ length (demanded_tuples model.now) }
+        requires set { set < length (demanded_sets model.now) }
+        requires test { (is_complete cells.now && is_valid model.now cells.now) ≡ true }
+        requires slice { slice_of model.now cells.now ≡ Slice.Positive }
+        requires digits { AreDigits model.now cells.now digits.now }
+        requires line { IsLine plan.now set line }
+        requires number { IsFront model.now cells.now set number }
+        ensures { Marks (served_between model.now cells.now (base_of model.now set) (base_of model.now (set + 1))) seat.old seat.new }
+    {
+        let _ = model;
+        let _ = cells;
+        plan.assert_invariant();
+        let digit = digits[line.last as usize];
+        let rank = number * u32::from(digit.radix) + u32::from(digit.place);
+        self.mark_lightly(seat, line.base + rank);
+    }
+
+    // Marks the places of the demanded tuples of the first sets that a test serves, by the lines of these sets.
+    fn mark_lines(
+        &self,
+        seat: &mut MarkSeat,
+        model: &TestModel,
+        plan: &Plan,
+        lines: &[Line],
+        cells: &Cells,
+        digits: &[Digit],
+    )
+        requires table { seat.old.table ≡ self.now.table }
+        requires plan { plan.now ≡ plan_of model.now }
+        requires bits { self.now.bits ≡ length (demanded_tuples model.now) }
+        requires test { (is_complete cells.now && is_valid model.now cells.now) ≡ true }
+        requires lines { AreLines plan.now lines.now }
+        requires slice { 0 < length lines.now → slice_of model.now cells.now ≡ Slice.Positive }
+        requires digits { AreDigits model.now cells.now digits.now }
+        ensures { Marks (served_between model.now cells.now 0 (base_of model.now (length lines.now))) seat.old seat.new }
+    {
+        plan.assert_invariant();
+        let count = lines.len() as u32;
+        let mut number = 0;
+        for set in 0..count {
+            let line = lines[set as usize];
+            number = front_place(model, plan, line, set, cells, digits, number);
+            self.mark_line(seat, model, plan, line, set, cells, digits, number);
+        }
+    }
+
     // Marks the place of the demanded tuple of a set that a test serves, if there is one.
     fn mark_set(
         &self,
@@ -111,7 +213,7 @@ impl SharedMarks {
         set: u32,
         cells: &Cells,
         slice: Slice,
-        values: &mut [ValueNo],
+        digits: &[Digit],
     )
         requires table { seat.old.table ≡ self.now.table }
         requires plan { plan.now ≡ plan_of model.now }
@@ -119,21 +221,29 @@ impl SharedMarks {
         requires set { set < length (demanded_sets model.now) }
         requires test { (is_complete cells.now && is_valid model.now cells.now) ≡ true }
         requires slice { slice ≡ slice_of model.now cells.now }
-        requires room { length values.old ≡ 256 }
+        requires digits { AreDigits model.now cells.now digits.now }
         ensures { Marks (served_between model.now cells.now (base_of model.now set) (base_of model.now (set + 1))) seat.old seat.new }
     {
         plan.assert_invariant();
-        match served_rank(model, plan, set, cells, slice, values) {
-            Some(rank) => self.mark(seat, plan.base(set) + rank),
+        match served_rank(model, plan, set, cells, slice, digits) {
+            Some(rank) => self.mark_lightly(seat, plan.base(set) + rank),
             None => {}
         }
     }
 
     // Marks the place of each demanded tuple that a row serves, if it is a test.
-    fn mark_row(&self, seat: &mut MarkSeat, model: &TestModel, plan: &Plan, cells: &Cells)
+    fn mark_row(
+        &self,
+        seat: &mut MarkSeat,
+        model: &TestModel,
+        plan: &Plan,
+        lines: &[Line],
+        cells: &Cells,
+    )
         requires table { seat.old.table ≡ self.now.table }
         requires plan { plan.now ≡ plan_of model.now }
         requires bits { self.now.bits ≡ length (demanded_tuples model.now) }
+        requires lines { AreLines plan.now lines.now }
         requires fits { FitsModel model.now cells.now }
         ensures { Marks (is_served_at model.now (cells.now ∷ [])) seat.old seat.new }
     {
@@ -141,9 +251,39 @@ impl SharedMarks {
             return;
         }
         let slice = model.slice_of(cells);
-        let mut values = [0; MOST_MEMBERS];
-        for set in 0..plan.set_count() {
-            self.mark_set(seat, model, plan, set, cells, slice, &mut values);
+        let lines = lines_for(lines, slice);
+        plan.assert_invariant();
+        let mut digits = [Digit { place: 0, radix: 0 }; MOST_PARAMS];
+        put_digits(model, plan, cells, slice, &mut digits);
+        self.mark_lines(seat, model, plan, lines, cells, &digits);
+        for set in lines.len() as u32..plan.set_count() {
+            self.mark_set(seat, model, plan, set, cells, slice, &digits);
+        }
+    }
+
+    // Marks what `mark_served` marks, with the lines of the first sets, of which there may be none.
+    pub(crate) fn mark_by_lines(
+        &self,
+        seat: &mut MarkSeat,
+        model: &TestModel,
+        plan: &Plan,
+        lines: &[Line],
+        file: &RowFile,
+        from: u32,
+        to: u32,
+    )
+        requires table { seat.old.table ≡ self.now.table }
+        requires plan { plan.now ≡ plan_of model.now }
+        requires bits { self.now.bits ≡ length (demanded_tuples model.now) }
+        requires lines { AreLines plan.now lines.now }
+        requires fits { All (λ row. FitsModel model.now row.cells) file.now.rows }
+        requires ordered { from ≤ to }
+        requires within { to ≤ length file.now.rows }
+        ensures { Marks (is_served_at model.now (slice_range (suite_seen file.now) from to)) seat.old seat.new }
+    {
+        let part = &file.rows.as_slice()[from as usize..to as usize];
+        for row in part {
+            self.mark_row(seat, model, plan, lines, &row.cells);
         }
     }
 
@@ -169,9 +309,6 @@ impl SharedMarks {
         requires within { to ≤ length file.now.rows }
         ensures { Marks (is_served_at model.now (slice_range (suite_seen file.now) from to)) seat.old seat.new }
     {
-        let part = &file.rows.as_slice()[from as usize..to as usize];
-        for row in part {
-            self.mark_row(seat, model, plan, &row.cells);
-        }
+        self.mark_by_lines(seat, model, plan, &[], file, from, to);
     }
 }

@@ -2,10 +2,11 @@ ghost use Rattle.std.specs.Prelude.{◌≡◌, ◌<◌, ℕ, true, false, length
 ghost use Rattle.std.specs.List.{range_with_len};
 ghost use Rattle.std.specs.Slots.{IsFull, slots_items, slots_len};
 ghost use Rattle.definitions.specs.Demand.{is_among};
-ghost use Rattle.shared_marks.specs.Seats.{IsWhole, first_holding, halved, with_holding, is_held, joined, marking, other_half, testing};
+ghost use Rattle.shared_marks.specs.Seats.{IsWhole, first_holding, halved, with_holding, is_held, joined, marking, noting, other_half, testing};
+ghost use Rattle.shared_marks.specs.Steps.{has_bit};
 
 use crate::holding::Holding;
-use crate::rule::{Halves, MarkRule, Marking, Place, Testing};
+use crate::rule::{Halves, MarkRule, Marking, Noting, Place, Testing};
 use atomic_table::{Closed, Seat, Table};
 use std::alloc::Global;
 use std::marker::{Brand, Model};
@@ -135,6 +136,32 @@ impl SharedMarks {
         Bits { words, size }
     }
 
+    // Marks a place as `mark` does. Where its bit is set already one load is enough, and this is the usual
+    // case where many rows serve a tuple.
+    pub(crate) fn mark_lightly(&self, seat: &mut MarkSeat, place: u32)
+        requires table { seat.old.table ≡ self.now.table }
+        requires place { place < self.now.bits }
+        ensures { seat.new ≡ with_holding seat.old (marking place seat.old.holds) }
+    {
+        if !self.note::<Brand>(seat, place) {
+            self.put::<Brand>(seat, place);
+        }
+    }
+
+    // Marks the place that this step is about if its bit is set already, and tells whether it is.
+    fn note<P: Place>(&self, seat: &mut MarkSeat, place: u32) -> bool
+        requires step { P.place ≡ place }
+        requires table { seat.old.table ≡ self.now.table }
+        requires place { place < self.now.bits }
+        ensures { seat.new ≡ with_holding seat.old (noting place result seat.old.holds) }
+    {
+        let word = self
+            .table
+            .shared
+            .load::<Noting<P>>(&mut seat.seat, place as usize / WORD_BITS);
+        is_set(word, place)
+    }
+
     // Marks the place that this step is about.
     fn put<P: Place>(&self, seat: &mut MarkSeat, place: u32)
         requires step { P.place ≡ place }
@@ -162,8 +189,15 @@ impl SharedMarks {
             .table
             .shared
             .load::<Testing<P>>(&mut seat.seat, place as usize / WORD_BITS);
-        (word >> (place as usize % WORD_BITS)) & 1 == 1
+        is_set(word, place)
     }
+}
+
+// Whether the bit of a place is set in its word.
+fn is_set(word: u64, place: u32) -> bool
+    ensures { result ≡ has_bit word place }
+{
+    (word >> (place as usize % WORD_BITS)) & 1 == 1
 }
 
 // The words of a closed table, in a vector that is as long.

@@ -6,8 +6,10 @@ ghost use Rattle.definitions.specs.Figures.{is_served, tests_of};
 ghost use Rattle.row_text.specs.RowFiles.{suite_seen};
 ghost use Rattle.tuple_index.specs.Plan.{plan_of};
 ghost use Rattle.shared_marks.specs.Adding.{Adds};
+ghost use Rattle.shared_marks.specs.Lines.{AreLines};
 ghost use Rattle.shared_marks.specs.Served.{is_served_at};
 
+use crate::lines::{Line, lines_of};
 use crate::table::{Bits, MarkSeat, SharedMarks};
 use cov_model::TestModel;
 use outside_io::Gate;
@@ -43,9 +45,11 @@ pub fn mark_rows<R: Threads + Sync, G: Gate + Sync>(
     ensures { IfOk result (λ bits. bits ≡ map (is_served model.now (tests_of model.now (suite_seen file.now))) (demanded_tuples model.now)) }
 {
     let (table, seat) = SharedMarks::new(alloc, count_tuples(plan))?;
+    let lines = lines_of(alloc, plan)?;
+    let lines = lines.as_slice();
     let rows = file.rows.len() as u32;
     let seat = mark_range(
-        rt, &table, seat, model, plan, file, 0, rows, 1, workers, gate,
+        rt, &table, seat, model, plan, lines, file, 0, rows, 1, workers, gate,
     );
     Ok(table.close(seat))
 }
@@ -77,6 +81,7 @@ fn mark_range<R: Threads + Sync, G: Gate + Sync>(
     mut seat: MarkSeat,
     model: &TestModel,
     plan: &Plan,
+    lines: &[Line],
     file: &RowFile,
     from: u32,
     to: u32,
@@ -87,6 +92,7 @@ fn mark_range<R: Threads + Sync, G: Gate + Sync>(
     requires table { seat.table ≡ table.now.table }
     requires plan { plan.now ≡ plan_of model.now }
     requires bits { table.now.bits ≡ length (demanded_tuples model.now) }
+    requires lines { AreLines plan.now lines.now }
     requires fits { All (λ row. FitsModel model.now row.cells) file.now.rows }
     requires ordered { from ≤ to }
     requires within { to ≤ length file.now.rows }
@@ -96,7 +102,7 @@ fn mark_range<R: Threads + Sync, G: Gate + Sync>(
 {
     if workers == 1 {
         gate.come(worker);
-        table.mark_served(&mut seat, model, plan, file, from, to);
+        table.mark_by_lines(&mut seat, model, plan, lines, file, from, to);
         return seat;
     }
     let half = workers / 2;
@@ -107,23 +113,23 @@ fn mark_range<R: Threads + Sync, G: Gate + Sync>(
     let (mut seat, other) = join(
         rt,
         move || -> MarkSeat
-            requires { IsSync R.row × IsSync G.row × (seat.table ≡ table.now.table) × (plan.now ≡ plan_of model.now)
+            requires { IsSync R.row × IsSync G.row × (seat.table ≡ table.now.table) × (plan.now ≡ plan_of model.now) × AreLines plan.now lines.now
                 × (table.now.bits ≡ length (demanded_tuples model.now)) × All (λ row. FitsModel model.now row.cells) file.now.rows
                 × (from ≤ middle) × (middle ≤ length file.now.rows) × (0 < half) × (worker + half ≤ 65) }
             ensures { Adds (is_served_at model.entry.now (slice_range (suite_seen file.entry.now) from middle)) seat result }
         {
             mark_range(
-                rt, table, seat, model, plan, file, from, middle, worker, half, gate,
+                rt, table, seat, model, plan, lines, file, from, middle, worker, half, gate,
             )
         },
         move || -> MarkSeat
-            requires { IsSync R.row × IsSync G.row × (other.table ≡ table.now.table) × (plan.now ≡ plan_of model.now)
+            requires { IsSync R.row × IsSync G.row × (other.table ≡ table.now.table) × (plan.now ≡ plan_of model.now) × AreLines plan.now lines.now
                 × (table.now.bits ≡ length (demanded_tuples model.now)) × All (λ row. FitsModel model.now row.cells) file.now.rows
                 × (middle ≤ to) × (to ≤ length file.now.rows) × (0 < rest) × (next + rest ≤ 65) }
             ensures { Adds (is_served_at model.entry.now (slice_range (suite_seen file.entry.now) middle to)) other result }
         {
             mark_range(
-                rt, table, other, model, plan, file, middle, to, next, rest, gate,
+                rt, table, other, model, plan, lines, file, middle, to, next, rest, gate,
             )
         },
     );

@@ -7,8 +7,8 @@ use Rattle.shared_marks.proofs.AddingLemmas.{marks_none, marks_one}
 use Rattle.shared_marks.proofs.PlaceLemmas.{one_set, place_within}
 use Rattle.shared_marks.proofs.table.SharedMarks.mark_set.Goals as goal
 
-pub mark-requires-clause-place : goal.mark-requires-clause-place
-mark-requires-clause-place c =
+pub mark_lightly-requires-clause-place : goal.mark_lightly-requires-clause-place
+mark_lightly-requires-clause-place c =
     let m = c.args.model.now in
     let is = subst (IsServedRank m (set_at (plan_of m) c.args.set) c.args.cells.now) c.in-Some.is c.served_rank.ensures in
     let base : c.base.result ≡ base_of m c.args.set = c.base.ensures ∙ ap (λ p. sum (take c.args.set p.sizes)) c.requires.plan in
@@ -22,7 +22,7 @@ returns-in-Some c =
     let is = subst (IsServedRank m (set_at (plan_of m) c.args.set) row) c.in-Some.is c.served_rank.ensures in
     let base : c.base.result ≡ base_of m c.args.set = c.base.ensures ∙ ap (λ p. sum (take c.args.set p.sizes)) c.requires.plan in
     let adds = served_between m row (base_of m c.args.set) (base_of m (c.args.set + 1)) in
-    subst (Marks adds c.args.seat.now) (sym c.mark.ensures)
+    subst (Marks adds c.args.seat.now) (sym c.mark_lightly.ensures)
     (marks_one adds c.args.seat.now (c.base.result + rank) (λ place.
     one_set m row c.args.set _ c.requires.test c.requires.set is place ∙ ap (λ n. n + rank == place) (sym base)))
 
