@@ -1,11 +1,13 @@
 -- The tuples that cells contain with a value in a column.
-use Rattle.std.proofs.Common.{inl, inr, ◌≡◌, ℕ, ◌+◌, ◌*◌, ◌<◌, ◌≤◌, Bool, true, false, ◌||◌, List, [], ◌∷◌, Option, Some, None, All, drop, length, get_or, sum_by, ◌∙◌, refl, sym, subst, ap, arith, zero-add}
-use Rattle.std.specs.Prelude.{◌==◌, IfSome, option_and_then, option_map, if◌then◌else◌}
-use Rattle.std.proofs.lemmas.Bool.{cases_eq, false≢true}
+use Rattle.std.proofs.Common.{inl, inr, ◌≡◌, ℕ, zero, suc, ◌+◌, ◌-◌, ◌*◌, ◌<◌, ◌≤◌, Bool, true, false, ◌||◌, List, [], ◌∷◌, Option, Some, None, All, drop, length, filter, get_or, sum_by, ◌∙◌, refl, sym, subst, ap, arith, zero-add, add-one}
+use Rattle.std.specs.Prelude.{◌==◌, IfSome, nat_lt, option_and_then, option_map, if◌then◌else◌}
+use Rattle.std.proofs.lemmas.Bool.{cases_Bool, cases_eq, false≢true}
 use Rattle.std.proofs.lemmas.Bool.Decides.{nat_tests}
 use Rattle.std.proofs.lemmas.List.{get_or-drop, get_or-set_same, get_or-set_other, length-set}
 use Rattle.std.proofs.lemmas.List.Elements.{All-drop, All-from_get_or, All-head, All-map, All-tail, All-weaker}
-use Rattle.std.proofs.lemmas.List.FromFn.{get_or-map-range_with_len, length-map-range_with_len}
+use Rattle.std.specs.List.{range_with_len}
+use Rattle.std.proofs.lemmas.List.FromFn.{get_or-map-range_with_len, length-map-range_with_len, length-range_with_len}
+use Rattle.value_text.proofs.ListLemmas.{length-filter-le}
 use Rattle.std.proofs.lemmas.List.Sums.{sum_by-cons}
 use Rattle.cov_model.specs.declared.slice.Slice.{Slice}
 use Rattle.cov_model.specs.Sound.{ModelView, param_at}
@@ -14,14 +16,16 @@ use Rattle.definitions.specs.Completion.{with_value}
 use Rattle.definitions.specs.Demand.{is_among}
 use Rattle.definitions.specs.SliceRows.{IsSliceOf}
 use Rattle.tuple_index.specs.Kept.{IsKept}
-use Rattle.tuple_index.specs.Places.{ways}
+use Rattle.tuple_index.specs.Places.{place_of, ways}
 use Rattle.tuple_index.specs.Plan.{plan_of}
 use Rattle.uncovered_table.specs.declared.block.Line.{Line}
 use Rattle.uncovered_table.specs.Bits.{InPlay, all_cleared, bit_count, cleared, first_bit, held_bit, held_count, line_bit, marked, sets_in_play, value_held}
-use Rattle.uncovered_table.specs.Digits.{cell_digit, digit_of, joined, number_of, own_values, with_digit}
+use Rattle.uncovered_table.specs.Digits.{HasAllValues, cell_digit, digit_of, is_own, joined, number_of, own_values, with_digit}
 use Rattle.uncovered_table.specs.Kept.{digits_of}
 use Rattle.uncovered_table.specs.Open.{gain}
 use Rattle.uncovered_table.specs.Places.{set_at}
+use Rattle.uncovered_table.proofs.ChoiceLemmas.{own_passing}
+use Rattle.uncovered_table.proofs.ColumnLemmas.{filter_no, filter_yes}
 use Rattle.uncovered_table.proofs.DigitLemmas.{digit_below, same_number, joined-None}
 use Rattle.uncovered_table.proofs.GainLemmas.{all_in_play, held_sum}
 use Rattle.uncovered_table.proofs.LineLemmas.{column_among}
@@ -213,3 +217,54 @@ pub value_most : (m : ModelView) (slice : Slice) (bits : List Bool) (cells : Lis
 value_most m slice bits cells column v set =
     count_most bits (option_and_then (λ d. held_bit m slice (with_digit (cell_digit (own_values m slice) cells) column d) set)
     (digit_of (own_values m slice column) v))
+
+-- a parameter with all its values in the slice
+filter_full : (f : ℕ → Bool) (xs : List ℕ) → length (filter f xs) ≡ length xs → filter f xs ≡ xs
+filter_full f [] full = refl
+filter_full f (x ∷ xs) full =
+    elim (cases_Bool (f x)) [
+      | inl passing ↦
+          let opened = filter_yes f x xs passing in
+          opened ∙ ap (λ rest. x ∷ rest) (filter_full f xs (omega (arith, full, ap length opened)))
+      | inr other ↦ let opened = filter_no f x xs other in absurd (omega (arith, full, ap length opened, length-filter-le f xs))
+    ]
+
+place_range : (a n k v : ℕ) → a + k ≡ v → k < n → place_of (range_with_len a n) v ≡ k
+place_range a zero k v at below = absurd (omega (arith, below))
+place_range a (suc n) zero v at below =
+    let test : (a == v) ≡ true = grind (arith, nat_tests) in
+    ap (λ b. if b then 0 else place_of (range_with_len (a + 1) n) v + 1) test
+place_range a (suc n) (suc k) v at below =
+    let rest = place_range (a + 1) n k v (omega (arith, at)) (omega (arith, below)) in
+    let differs : (a == v) ≡ false = grind (arith, nat_tests) in
+    ap (λ b. if b then 0 else place_of (range_with_len (a + 1) n) v + 1) differs ∙ ap (λ j. j + 1) rest ∙ add-one k
+
+pub all_values : (m : ModelView) (slice : Slice) (p : ℕ) → IsSliceOf m slice → p < length m.params
+    → length (own_values m slice p) ≡ length (param_at m.params p).values → HasAllValues m slice p
+all_values m slice p own within full v below =
+    let n = length (param_at m.params p).values in
+    let passing = own_passing m slice p own within in
+    let same : own_values m slice p ≡ range_with_len 0 n =
+    passing ∙ filter_full (is_own m slice p) (range_with_len 0 n) (sym (ap length passing) ∙ full ∙ sym (length-range_with_len 0 n)) in
+    let place = place_range 0 n v v (zero-add v) below in
+    let inside : nat_lt (place_of (range_with_len 0 n) v) (length (range_with_len 0 n)) ≡ true = grind (arith, nat_tests, length-range_with_len 0 n) in
+    ap (λ values. digit_of values v) same ∙ ap (λ b. if b then Some (place_of (range_with_len 0 n) v) else None) inside ∙ ap Some place
+
+-- bits side by side are those of a line whose digit is the last
+pub bits_of_line : (m : ModelView) (slice : Slice) (bits : List Bool) (column from i : ℕ) (line : Line) → HasAllValues m slice column → line.step ≡ 1
+    → from + i < length (param_at m.params column).values
+    → bit_count bits (Some (line.first + from + i)) ≡ bit_count bits (line_bit line (digit_of (own_values m slice column) (from + i)))
+bits_of_line m slice bits column from i line all step below =
+    let place : line.first + from + i ≡ line.first + (from + i) * line.step =
+    (let e : line.first + from + i ≡ line.first + (from + i) * 1 = grind arith in e) ∙ ap (λ k. line.first + (from + i) * k) (sym step) in
+    ap (λ k. bit_count bits (Some k)) place ∙ ap (λ o. bit_count bits (line_bit line o)) (sym (all (from + i) below))
+
+-- they are within the table
+pub bits_fit : (m : ModelView) (slice : Slice) (column from count size : ℕ) (line : Line) → HasAllValues m slice column → line.step ≡ 1
+    → from + count ≤ length (param_at m.params column).values → 0 < count
+    → ((d : ℕ) → d < length (own_values m slice column) → line.first + d * line.step < size) → line.first + from + count ≤ size
+bits_fit m slice column from count size line all step below some within =
+    let last = from + count - 1 in
+    let inside : last < length (own_values m slice column) = digit_below (own_values m slice column) last last (all last (omega (arith, below, some))) in
+    let end : line.first + last * 1 < size = subst (λ k. line.first + last * k < size) step (within last inside) in
+    omega (arith, end, some)

@@ -1,9 +1,9 @@
 -- The tuple of a set that cells contain, as a number in mixed radix: the digits are the places of the
 -- members' values among the values of the slice.
-use Rattle.std.specs.Prelude.{ℕ, Bool, not, ◌+◌, ◌*◌, List, [], ◌∷◌, length, Option, Some, None, ◌==◌, nat_lt, option_and_then, slice_index_or, if◌then◌else◌}
+use Rattle.std.specs.Prelude.{◌≡◌, ◌<◌, ℕ, Bool, not, ◌+◌, ◌*◌, List, [], ◌∷◌, length, Option, Some, None, ◌==◌, nat_lt, option_and_then, slice_index_or, if◌then◌else◌}
 use Rattle.cov_model.specs.declared.slice.Slice.{Slice}
 use Rattle.cov_model.specs.declared.slice.Slice.TheVariants.{Positive, Negative}
-use Rattle.cov_model.specs.Sound.{ModelView}
+use Rattle.cov_model.specs.Sound.{ModelView, param_at}
 use Rattle.cov_model.specs.Meaning.{value_at}
 use Rattle.tuple_index.specs.Plan.{plan_of}
 use Rattle.tuple_index.specs.Places.{place_of, values_in, ways}
@@ -15,6 +15,10 @@ own_values m slice p = values_in (plan_of m) slice p
 -- the digit of a value, where it is one of these values
 abbrev pub digit_of : List ℕ → ℕ → Option ℕ
 digit_of values v = if nat_lt (place_of values v) (length values) then Some (place_of values v) else None
+
+-- each value of a parameter is one of the slice, and so its own digit
+abbrev pub HasAllValues : ModelView → Slice → ℕ → Type 0
+HasAllValues m slice p = (v : ℕ) → v < length (param_at m.params p).values → digit_of (own_values m slice p) v ≡ Some v
 
 -- the digit of the value that cells give a parameter
 abbrev pub cell_digit : (ℕ → List ℕ) → List (Option ℕ) → ℕ → Option ℕ

@@ -1,7 +1,7 @@
-ghost use Rattle.std.specs.Prelude.{◌≡◌, ◌+◌, ◌*◌, ◌<◌, ◌≤◌, ◌^◌, ℕ, All, IfSome, None, drop, length, slice_index_or, sum_by};
+ghost use Rattle.std.specs.Prelude.{◌≡◌, ◌+◌, ◌*◌, ◌<◌, ◌≤◌, ◌^◌, ℕ, All, IfSome, None, Some, drop, length, slice_index_or, sum_by, true};
 ghost use Rattle.definitions.specs.SliceRows.{IsOfSlice};
 ghost use Rattle.uncovered_table.specs.Bits.{InPlay, all_cleared, bit_count, cleared, held_bit, held_count, line_bit, sets_in_play, value_held};
-ghost use Rattle.uncovered_table.specs.Digits.{cell_digit, own_values, with_digit};
+ghost use Rattle.uncovered_table.specs.Digits.{HasAllValues, cell_digit, own_values, with_digit};
 ghost use Rattle.uncovered_table.specs.Places.{slice_places};
 ghost use Rattle.uncovered_table.specs.Prepared.{AreLines, digit_in};
 ghost use Rattle.cov_model.specs.Sound.{param_at};
@@ -148,6 +148,28 @@ fn add_line(bits: &BitTable, line: Line, digits: &[Option<u16>], scores: &mut [u
     }
 }
 
+// Adds 1 to each score whose bit is set. The bits of the values stand side by side, and the scores are
+// those of the values from one on.
+fn add_bits(bits: &BitTable, first: u32, from: ValueNo, scores: &mut [u32])
+    requires within { 0 < length scores.old → first + from + length scores.old ≤ length bits.now }
+    requires few { length bits.now ≤ 2 ^ 26 }
+    requires low { All (λ score. score < 2 ^ 31) scores.old }
+    ensures long { length scores.new ≡ length scores.old }
+    ensures each { (i : ℕ) → i < length scores.old → slice_index_or scores.new i 0 ≡ slice_index_or scores.old i 0 + bit_count bits.now (Some (first + from + i)) }
+{
+    let count = scores.len();
+    if count == 0 {
+        return;
+    }
+    let begin = first + u32::from(from);
+    let end = begin + count as u32;
+    let mut next = begin;
+    while let Some(bit) = bits.next_set(next, end) {
+        scores[(bit - begin) as usize] += 1;
+        next = bit + 1;
+    }
+}
+
 // The digits of the values from one on.
 fn from_value(digits: &[Option<u16>], from: ValueNo) -> &[Option<u16>]
     requires { from ≤ length digits.now }
@@ -157,7 +179,8 @@ fn from_value(digits: &[Option<u16>], from: ValueNo) -> &[Option<u16>]
 }
 
 // Adds to each score whether a tuple of a set is open that cells contain, with its value in the column.
-// The values stand in order, from one on.
+// The values stand in order, from one on. Where all values of the column are in the slice, and its digit is
+// the last one, their bits stand side by side.
 fn add_set(
     sets: &SliceSets<'_>,
     lines: &ColumnLines,
@@ -168,6 +191,7 @@ fn add_set(
     row: &[u16],
     column: ParamNo,
     from: ValueNo,
+    all: bool,
     scores: &mut [u32],
 )
     requires set { InPlay sets.now.model sets.now.slice column set }
@@ -180,6 +204,7 @@ fn add_set(
     requires k { k < length (sets_in_play sets.now.model sets.now.slice column) }
     requires own { set ≡ slice_index_or (sets_in_play sets.now.model sets.now.slice column) k 0 }
     requires lines { AreLines sets.now.model sets.now.slice column (sets_in_play sets.now.model sets.now.slice column) lines.now.lines.items lines.now.parts.items }
+    requires all { all ≡ true → HasAllValues sets.now.model sets.now.slice column }
     requires low { All (λ score. score < 2 ^ 31) scores.old }
     ensures long { length scores.new ≡ length scores.old }
     ensures each { (i : ℕ) → i < length scores.old → slice_index_or scores.new i 0
@@ -187,8 +212,12 @@ fn add_set(
 {
     sets.assert_invariant();
     if let Some(line) = sets.prepared_line(lines, k, set, column, cells, row) {
-        let digits = from_value(sets.digits(column), from);
-        add_line(bits, line, digits, scores);
+        if all && line.step == 1 {
+            add_bits(bits, line.first, from, scores);
+        } else {
+            let digits = from_value(sets.digits(column), from);
+            add_line(bits, line, digits, scores);
+        }
     }
 }
 
@@ -218,9 +247,10 @@ pub(crate) fn add_held(
     let in_play = sets.in_play(column);
     let mut row = [NO_DIGIT; 256];
     sets.put_digits(cells, &mut row);
+    let all = sets.has_all_values(column);
     for k in 0..in_play.len() {
         add_set(
-            sets, lines, k, bits, in_play[k], cells, &row, column, from, scores,
+            sets, lines, k, bits, in_play[k], cells, &row, column, from, all, scores,
         );
     }
 }

@@ -6,7 +6,7 @@ ghost use Rattle.definitions.specs.SliceRows.{IsOfSlice, IsSliceOf};
 ghost use Rattle.tuple_index.specs.Kept.{IsKept};
 ghost use Rattle.tuple_index.specs.Plan.{plan_of};
 ghost use Rattle.uncovered_table.specs.Bits.{InPlay, bit_of, sets_in_play};
-ghost use Rattle.uncovered_table.specs.Digits.{cell_digit, digit_of, own_values};
+ghost use Rattle.uncovered_table.specs.Digits.{HasAllValues, cell_digit, digit_of, own_values};
 ghost use Rattle.uncovered_table.specs.Kept.{IsBlock, digits_of};
 ghost use Rattle.uncovered_table.specs.Places.{is_place, slice_places};
 
@@ -116,6 +116,15 @@ impl<'a> SliceSets<'a> {
         ensures { result.now ≡ digits_of self.now.model self.now.slice p }
     {
         self.tables.digits[p as usize].as_slice()
+    }
+
+    // Whether each value of a parameter is one of the slice, and so its own digit.
+    pub(crate) fn has_all_values(&self, p: ParamNo) -> bool
+        requires { p < length self.now.model.params }
+        ensures { result ≡ true → HasAllValues self.now.model self.now.slice p }
+    {
+        self.assert_invariant();
+        self.part.value_count(p) == u32::from(self.part.all_values(p))
     }
 
     // The digit of a value, where it is one of the slice.

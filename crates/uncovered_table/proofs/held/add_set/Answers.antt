@@ -3,7 +3,7 @@ use Rattle.std.specs.Prelude.{IfSome}
 use Rattle.std.proofs.lemmas.List.{length-drop}
 use Rattle.cov_model.specs.Sound.{param_at}
 use Rattle.uncovered_table.specs.Bits.{bit_count, line_bit}
-use Rattle.uncovered_table.proofs.ValueLemmas.{bits_within, digit_from, digits_long, value_line}
+use Rattle.uncovered_table.proofs.ValueLemmas.{bits_fit, bits_of_line, bits_within, digit_from, digits_long, value_line}
 use Rattle.uncovered_table.proofs.held.add_set.Goals as goal
 
 pub from_value-digits-requires : goal.from_value-digits-requires
@@ -31,8 +31,26 @@ add_line-requires-clause-within c =
     (bits_within v.model v.slice c.args.column c.args.from (length c.args.bits.now) c.in-Some.line
     (λ d below. (let inside = c.in-Some.ensures.within d below in omega (arith, inside, c.requires.bits))))
 
-pub returns-in-Some-clause-each : goal.returns-in-Some-clause-each
-returns-in-Some-clause-each c =
+pub add_bits-requires-clause-within : goal.add_bits-requires-clause-within
+add_bits-requires-clause-within c =
+    let v = c.args.sets.now in
+    λ some.
+    bits_fit v.model v.slice c.args.column c.args.from (length c.args.scores.now) (length c.args.bits.now) c.in-Some.line
+    (c.requires.all c.if-all.true) c.if-line-eq1.true c.requires.values some
+    (λ d below. (let inside = c.in-Some.ensures.within d below in omega (arith, inside, c.requires.bits)))
+
+pub returns-then-line-eq1-clause-each : goal.returns-then-line-eq1-clause-each
+returns-then-line-eq1-clause-each c =
+    let v = c.args.sets.now in
+    λ i within.
+    let inside : c.args.from + i < length (param_at v.model.params c.args.column).values = omega (arith, within, c.requires.values) in
+    c.add_bits.ensures.each i within
+    ∙ ap (λ k. get_or c.args.scores.now i 0 + k)
+    (bits_of_line v.model v.slice c.args.bits.now c.args.column c.args.from i c.in-Some.line (c.requires.all c.if-all.true) c.if-line-eq1.true inside
+    ∙ value_line v.model v.slice c.args.bits.now c.args.cells.now c.args.column (c.args.from + i) c.args.set c.in-Some.line c.in-Some.ensures.value)
+
+pub returns-else-all-clause-each : goal.returns-else-all-clause-each
+returns-else-all-clause-each c =
     let v = c.args.sets.now in
     let same = c.from_value-digits.ensures ∙ ap (drop c.args.from) c.digits.ensures in
     λ i within.
