@@ -1,0 +1,11 @@
+//! Tests of files of results and of the suspicious tuples that are found in them.
+#![tactic(auto)]
+
+#[cfg(test)]
+mod candidates;
+#[cfg(test)]
+mod lists;
+#[cfg(test)]
+mod refusals;
+#[cfg(test)]
+mod results;
