@@ -53,8 +53,10 @@ counted_more rows failed at item flag before after within same so_far adds =
     let read : (row, failed_here) ≡ get_or (zip cells failed) at (row, flag) =
     sym (get_or-zip cells failed at (row, flag) in_cells in_failed ∙ ap (λ c. (c, failed_here)) (here row)) in
     record {
-      passing = kept_more (λ row. row.0) (λ row. is_complete row.0 && not row.1) (zip cells failed) at (row, flag) (row, failed_here) before.passing after.passing in_both read so_far.passing adds.passing;
-      failing = kept_more (λ row. row.0) (λ row. is_complete row.0 && row.1) (zip cells failed) at (row, flag) (row, failed_here) before.failing after.failing in_both read so_far.failing adds.failing;
+      passing = kept_more (λ row. row.0) (λ row. is_complete row.0 && not row.1) (zip cells failed) at (row, flag) (row, failed_here) before.passing after.passing
+          in_both read so_far.passing adds.passing;
+      failing = kept_more (λ row. row.0) (λ row. is_complete row.0 && row.1) (zip cells failed) at (row, flag) (row, failed_here) before.failing after.failing
+          in_both read so_far.failing adds.failing;
       incomplete = adds.incomplete ∙ ap (λ n. n + cond (is_complete row) 0 1) so_far.incomplete ∙ sym (one_more is_complete cells at row in_cells (sym (here row)));
       few = at_most (is_complete row) adds.incomplete;
     }

@@ -1,5 +1,6 @@
 -- How the result column of a row file is read beside its rows.
-use Rattle.std.proofs.Common.{◌≡◌, ℕ, zero, suc, ◌+◌, ◌<◌, ◌≤◌, Bool, true, false, cond, ◌||◌, List, [], ◌∷◌, ◌++◌, map, filter, drop, length, get_or, Option, Some, None, Ok, Err, position, is_none, inl, inr, refl, sym, ap, ◌∙◌, arith}
+use Rattle.std.proofs.Common.{◌≡◌, ℕ, zero, suc, ◌+◌, ◌<◌, ◌≤◌, Bool, true, false, cond, ◌||◌, List, [], ◌∷◌, ◌++◌, map}
+use Rattle.std.proofs.Common.{filter, drop, length, get_or, Option, Some, None, Ok, Err, position, is_none, inl, inr, refl, sym, ap, ◌∙◌, arith}
 use Rattle.std.specs.Prelude.{◌==◌, codes, flat_map, remove, IfSome, Result}
 use Rattle.std.specs.Char.{to_ascii_lowercase}
 use Rattle.std.specs.List.{list_any}
@@ -117,7 +118,9 @@ column_nowhere fold cells left place is_left none before =
 
 -- there are no more cells than bytes, but for one
 pub no_more_cells : (header : List ℕ) (cells : List (List ℕ)) (place : ℕ) → cells ≡ drop place (cells_of_line header) → length header + 1 ≤ place → cells ≡ []
-no_more_cells header cells place is_left past = is_left ∙ none (drop place (cells_of_line header)) (omega (arith, length-drop place (cells_of_line header), length_cells header, tabs_within header, past))
+no_more_cells header cells place is_left past =
+    is_left ∙ none (drop place (cells_of_line header))
+    (omega (arith, length-drop place (cells_of_line header), length_cells header, tabs_within header, past))
   where
     none : {X : Type 0} (xs : List X) → length xs ≡ 0 → xs ≡ []
     none [] few = refl

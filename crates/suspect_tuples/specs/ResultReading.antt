@@ -1,6 +1,7 @@
 -- What a file of results holds, or why it is refused: a row file in the mode of suites, one column of which says
 -- of each row whether its test passed or failed. (This project's rule.)
-use Rattle.std.specs.Prelude.{ℕ, Bool, true, false, List, [], ◌∷◌, ◌++◌, map, flat_map, find, position, remove, Option, Some, None, Result, Ok, Err, is_none, option_map, unwrap_or, slice_index_or, if◌then◌else◌, codes}
+use Rattle.std.specs.Prelude.{ℕ, Bool, true, false, List, [], ◌∷◌, ◌++◌, map, flat_map, find, position}
+use Rattle.std.specs.Prelude.{remove, Option, Some, None, Result, Ok, Err, is_none, option_map, unwrap_or, slice_index_or, if◌then◌else◌, codes}
 use Rattle.value_text.specs.Texts.{is_same_text}
 use Rattle.cov_model.specs.Sound.{ModelView}
 use Rattle.definitions.specs.RowFile.{cells_of_line, filled_lines}

@@ -1,4 +1,5 @@
-ghost use Rattle.std.specs.Prelude.{◌≡◌, ◌+◌, ◌≤◌, ◌<◌, ◌^◌, Some, None, if◌then◌else◌, [], codes, drop, false, find, is_none, length, map, position, slice_index_or, unwrap_or, IfOk, IfErr, IfSome, OnOk};
+ghost use Rattle.std.specs.Prelude.{◌≡◌, ◌+◌, ◌≤◌, ◌<◌, ◌^◌, Some, None, if◌then◌else◌, [], codes, drop};
+ghost use Rattle.std.specs.Prelude.{false, find, is_none, length, map, position, slice_index_or, unwrap_or, IfOk, IfErr, IfSome, OnOk};
 ghost use Rattle.definitions.specs.RowFile.{cells_of_line};
 ghost use Rattle.suspect_tuples.specs.ResultReading.{has_failed, read_results, result_fault, result_of_line};
 ghost use Rattle.suspect_tuples.specs.Results.{AreResultsOf, ReadsResults, result_fault_of};

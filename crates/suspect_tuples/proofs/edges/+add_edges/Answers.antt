@@ -20,12 +20,14 @@ returns-then-len-eq0-clause-found t c =
 
 pub add_edge-requires-clause-rising : goal.add_edge-requires-clause-rising
 add_edge-requires-clause-rising t c =
-    subst IsRising (sym c.deref.ensures.value) (rising_pairs c.args.before.now.items (whole_params c.args.model.now c.args.before.now.items c.args.set.now c.requires.params c.in_default.len_below).rising)
+    let whole = whole_params c.args.model.now c.args.before.now.items c.args.set.now c.requires.params c.in_default.len_below in
+    subst IsRising (sym c.deref.ensures.value) (rising_pairs c.args.before.now.items whole.rising)
 
 pub add_edge-requires-clause-places : goal.add_edge-requires-clause-places
 add_edge-requires-clause-places t c =
+    let whole = whole_params c.args.model.now c.args.before.now.items c.args.set.now c.requires.params c.in_default.len_below in
     subst (λ tuple. HavePlaces tuple c.args.passing.now) (sym c.deref.ensures.value)
-    (have_places c.args.model.now c.args.before.now.items c.args.passing.now (whole_params c.args.model.now c.args.before.now.items c.args.set.now c.requires.params c.in_default.len_below) c.requires.passing)
+    (have_places c.args.model.now c.args.before.now.items c.args.passing.now whole c.requires.passing)
 
 pub bounds-as_slice-param : goal.bounds-as_slice-param
 bounds-as_slice-param t c =
