@@ -18,7 +18,7 @@ use Rattle.tuple_index.specs.declared.fault.PlanFault.TheVariants as plan_faults
 use Rattle.command_line.specs.Stops.{stop_of_plan}
 use Rattle.command_line.specs.declared.files.FileKind.TheVariants as kinds
 use Rattle.command_line.specs.declared.stop.Stop.{Stop}
-use Rattle.command_line.specs.declared.stop.Stop.TheVariants.{OutOfMemory, Spent, BadWord, BadModel, BadConstraint, BadRows, NoResult, BadResult, CannotRead, CannotWrite, CannotWriteReport, TooMany, TooLong}
+use Rattle.command_line.specs.declared.stop.Stop.TheVariants.{CannotRead, CannotWrite, CannotWriteReport}
 use Rattle.outside_io.specs.Faults.{KeepsCounts, Rose}
 use Rattle.outside_io.specs.Files.{Files}
 use Rattle.pict_cli.specs.Ends.{CountsReads, End, IsEarly, Stopped, Unread, end_of}

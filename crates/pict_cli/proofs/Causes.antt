@@ -14,7 +14,7 @@ use Rattle.model_lex.specs.declared.fault.ModelFault.{ModelFault}
 use Rattle.type_check.specs.ModelOf.{IsModelOf, IsRefusalOf}
 use Rattle.type_check.proofs.OneAnswer.{models_are_not_refused, refusals_are_one}
 use Rattle.command_line.specs.Loading.{IsRefused, StopsReading, cannot_read, is_refused, out_of_memory, too_long}
-use Rattle.command_line.specs.Stops.{status_of, stop_of_plan}
+use Rattle.command_line.specs.Stops.{status_of}
 use Rattle.command_line.specs.Told.{end_status}
 use Rattle.command_line.specs.declared.files.FileKind.TheVariants as kinds
 use Rattle.command_line.specs.declared.stop.Stop.{Stop}

@@ -2,7 +2,7 @@
 use Rattle.std.proofs.Common.{◌≡◌, ℕ, List, [], Option, None, Some, Ok, Err, Result, refl, sym, ap, subst, ◌∙◌}
 use Rattle.std.specs.Prelude.{◌≢◌, IfSome, IsSomeAnd, option_map}
 use Rattle.outside_io.specs.Faults.{KeepsCounts, Rose}
-use Rattle.outside_io.specs.Files.{Files, KeepsFiles, KeepsOtherFiles}
+use Rattle.outside_io.specs.Files.{Files, KeepsOtherFiles}
 use Rattle.made_models.specs.MadeModel.{made_text}
 use Rattle.definitions.specs.Settings.{Settings}
 use Rattle.model_lex.specs.declared.note.Note.{Note}
@@ -10,7 +10,7 @@ use Rattle.command_line.specs.Told.{end_status}
 use Rattle.command_line.specs.declared.files.FileKind.TheVariants as kinds
 use Rattle.command_line.specs.declared.stop.Stop.{Stop}
 use Rattle.command_line.specs.declared.stop.Stop.TheVariants.{OutOfMemory, CannotWrite}
-use Rattle.pict_cli.specs.Ends.{CountsOut, CountsReads, CountsWrites, End, IsEarly, IsQuiet, Leaves, LeavesAll, Moment, Unwritten, end_of, file_written}
+use Rattle.pict_cli.specs.Ends.{CountsOut, End, IsQuiet, Leaves, LeavesAll, Moment, end_of, file_written}
 use Rattle.pict_cli.specs.Making.{EndsFrom, Writes, cannot_write_model, goes_on, no_room}
 use Rattle.pict_cli.specs.Modes.{RowSource, mode_beside, mode_in, model_from, output_of, row_file_in, row_source, rows_beside, source_in}
 use Rattle.pict_cli.specs.Runs.{Ends}

@@ -1,6 +1,6 @@
 -- What a run that measures a suite leaves, and how it ends.
 use Rattle.std.proofs.Common.{◌≡◌, ℕ, List, [], ◌∷◌, map, Option, None, refl, ap, subst, sym}
-use Rattle.std.specs.Prelude.{IfErr, IfSome}
+use Rattle.std.specs.Prelude.{IfSome}
 use Rattle.cov_model.specs.Sound.{ModelView}
 use Rattle.outside_io.specs.Files.{Files}
 use Rattle.definitions.specs.Settings.{Settings}
@@ -8,12 +8,8 @@ use Rattle.feasibility.specs.declared.answer.SearchFault.{SearchFault}
 use Rattle.feasibility.specs.declared.answer.SearchFault.TheVariants.{Spent, NoMemory}
 use Rattle.coverage_measure.specs.Ends as measured
 use Rattle.ipog_grow.specs.Suites.{EndsBy}
-use Rattle.row_text.specs.RowFiles.{row_seen, seeds_seen, suite_seen}
+use Rattle.row_text.specs.RowFiles.{row_seen}
 use Rattle.row_text.specs.declared.row_file.FileRow.{FileRow}
-use Rattle.row_text.specs.declared.row_file.RowFile.{RowFile}
-use Rattle.command_line.specs.declared.files.FileKind.TheVariants as kinds
-use Rattle.command_line.specs.declared.stop.Stop.{Stop}
-use Rattle.command_line.specs.declared.stop.Stop.TheVariants.{CannotWrite, CannotWriteReport}
 use Rattle.pict_cli.specs.Ends.{End}
 use Rattle.pict_cli.specs.Runs.{HoldsProof, WritesProof}
 

@@ -1,5 +1,5 @@
 -- How a run ends, from how its reading and its work on the model ended.
-use Rattle.std.proofs.Common.{◌≡◌, ℕ, Bool, false, ◌||◌, ◌≤◌, length, List, Option, None, Some, Ok, Err, Result, inl, inr, refl, ap, subst, ◌∙◌, arith}
+use Rattle.std.proofs.Common.{◌≡◌, ℕ, false, ◌||◌, ◌≤◌, length, List, Option, None, Some, Ok, Err, Result, inl, inr, refl, ap, subst, ◌∙◌, arith}
 use Rattle.std.specs.Prelude.{◌==◌, ◌≢◌, ◌⊎◌, true, IsSomeAnd, IsOkAnd}
 use Rattle.std.proofs.lemmas.Bool.{eqb-false, or_parts}
 use Rattle.outside_io.specs.Faults.{KeepsCounts}

@@ -1,6 +1,6 @@
 -- What a run that looks for suspicious tuples finds in a file of results.
-use Rattle.std.proofs.Common.{◌≡◌, ℕ, ◌<◌, ◌≤◌, true, false, Bool, List, map, length, Option, None, Some, Ok, Err, Result, inl, inr, refl, sym, ap, subst, ◌∙◌}
-use Rattle.std.specs.Prelude.{◌⊎◌, nat_lt, if◌then◌else◌, option_map, IfSome}
+use Rattle.std.proofs.Common.{◌≡◌, ℕ, ◌<◌, ◌≤◌, List, map, length, Option, None, Some, Ok, Err, inl, inr, refl, sym, ap, subst, ◌∙◌}
+use Rattle.std.specs.Prelude.{if◌then◌else◌, option_map, IfSome}
 use Rattle.std.proofs.lemmas.Bool.{le-ltb, lt-ltb}
 use Rattle.std.proofs.lemmas.List.{append-nil}
 use Rattle.cov_model.specs.Sound.{ModelView}
@@ -9,9 +9,7 @@ use Rattle.definitions.specs.Settings.{Settings}
 use Rattle.model_lex.specs.declared.note.Note.{Note}
 use Rattle.definitions.specs.Limits as limits
 use Rattle.definitions.specs.Limits.{RowFile, most_bytes, most_counted}
-use Rattle.row_text.specs.Readings.{fault_of}
 use Rattle.row_text.specs.RowFiles.{suite_seen}
-use Rattle.row_text.specs.declared.rows_fault.RowsFault.{RowsFault}
 use Rattle.row_text.specs.declared.rows_fault.RowsFault.TheVariants as rows_faults
 use Rattle.suspect_tuples.specs.ResultReading.{ResultReading, read_results}
 use Rattle.suspect_tuples.specs.Results.{HoldsResults, result_fault_of}
@@ -30,7 +28,7 @@ use Rattle.command_line.specs.declared.stop.Quantity.TheVariants.{SuspectCandida
 use Rattle.pict_cli.specs.Modes.{RowSource, RowsHeld, Suspect, makes_plan, mode_of, row_file_in, row_source, rows_beside, source_in}
 use Rattle.pict_cli.specs.RowSources.{or_result_stop, read_result_bytes, read_source}
 use Rattle.pict_cli.specs.Runs.{candidates_stop, limit_due, suite_in}
-use Rattle.pict_cli.specs.Steps.{HoldsResultsOf, IsDueOrNoMemory, StopsRows, StopsWork, folder_failed, is_due, is_refused, no_memory, no_room, stop_of_results_fault}
+use Rattle.pict_cli.specs.Steps.{HoldsResultsOf, IsDueOrNoMemory, StopsRows, StopsWork, is_due, is_refused, no_memory, no_room, stop_of_results_fault}
 use Rattle.pict_cli.proofs.Measured.{suite_rows}
 use Rattle.pict_cli.proofs.RowFiles.{source_held}
 

@@ -1,5 +1,5 @@
 -- The words behind the program's name. (PICT's guide.)
-use Rattle.std.specs.Prelude.{◌≡◌, ◌≤◌, length, IsSomeAnd, ℕ, ◌+◌, ◌-◌, ◌^◌, min, Bool, true, false, List, map, drop, Option, Some, None, Result, Ok, Err, option_map, position, slice_index_or, []}
+use Rattle.std.specs.Prelude.{◌≡◌, ◌≤◌, length, IsSomeAnd, ℕ, ◌-◌, ◌^◌, min, List, map, Option, Some, None, Result, Ok, Err, slice_index_or, []}
 use Rattle.std.specs.String.{string_bytes}
 use Rattle.std.specs.declared.string.String.{String}
 use Rattle.std.specs.declared.alloc.Global.{Global}

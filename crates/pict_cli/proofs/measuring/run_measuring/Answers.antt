@@ -1,10 +1,9 @@
-use Rattle.std.proofs.Common.{◌≡◌, [], ap, inl, refl, subst, sym, ◌∙◌}
+use Rattle.std.proofs.Common.{[], ap, inl, refl, subst, sym, ◌∙◌}
 use Rattle.std.proofs.lemmas.List.{append-nil}
 use Rattle.definitions.specs.Figures.{figures}
 use Rattle.std.specs.Prelude.{option_map}
 use Rattle.definitions.specs.Search.{first_measured_over}
 use Rattle.definitions.specs.Statistics.{figures_text}
-use Rattle.row_text.specs.RowFiles.{seeds_seen}
 use Rattle.pict_cli.specs.Ends.{CountsReads, IsEarly, Prints, end_of}
 use Rattle.pict_cli.specs.Modes.{Measure, makes_plan, makes_suite}
 use Rattle.pict_cli.specs.Options.{settings_seen}

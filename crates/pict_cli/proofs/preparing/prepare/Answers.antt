@@ -3,7 +3,6 @@ use Rattle.std.specs.Prelude.{IsSomeAnd}
 use Rattle.outside_io.specs.Faults.{Rose}
 use Rattle.command_line.specs.Stops.{stop_of_plan}
 use Rattle.command_line.specs.declared.files.FileKind.TheVariants as kinds
-use Rattle.command_line.specs.declared.stop.Stop.{Stop}
 use Rattle.command_line.specs.declared.stop.Stop.TheVariants.{CannotRead}
 use Rattle.pict_cli.specs.Ends.{CountsReads, IsEarly, end_of}
 use Rattle.pict_cli.specs.Modes.{RowSource, row_source, source_in}

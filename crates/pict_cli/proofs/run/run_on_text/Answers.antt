@@ -1,4 +1,4 @@
-use Rattle.std.proofs.Common.{Some, ap, refl, subst, sym}
+use Rattle.std.proofs.Common.{Some, refl, subst, sym}
 use Rattle.model_parse.specs.RawModels.{AreOpts}
 use Rattle.command_line.specs.Loading.{IsLoaded, StopsReading}
 use Rattle.pict_cli.specs.Options.{settings_seen}

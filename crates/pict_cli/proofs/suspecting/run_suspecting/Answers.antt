@@ -1,22 +1,20 @@
-use Rattle.std.proofs.Common.{◌≡◌, [], None, Some, Err, Option, List, ℕ, ap, inl, refl, subst, sym, ◌∙◌}
-use Rattle.std.specs.Prelude.{IsSomeAnd, option_map, if◌then◌else◌}
+use Rattle.std.proofs.Common.{◌≡◌, [], None, Err, ap, inl, refl, subst, sym, ◌∙◌}
+use Rattle.std.specs.Prelude.{IsSomeAnd}
 use Rattle.std.proofs.lemmas.List.{append-nil}
 use Rattle.outside_io.specs.Faults.{Rose}
 use Rattle.suspect_tuples.specs.SuspectsText.{suspects_text}
-use Rattle.tuple_index.specs.PlanFault.{limit_passed}
-use Rattle.command_line.specs.Stops.{stop_of_plan}
 use Rattle.command_line.specs.declared.files.FileKind.TheVariants as kinds
 use Rattle.command_line.specs.declared.stop.Stop.TheVariants.{CannotRead}
 use Rattle.pict_cli.specs.Ends.{CountsReads, IsEarly, Prints, end_of}
-use Rattle.pict_cli.specs.Modes.{RowSource, Suspect, makes_plan, makes_suite, row_file_in, row_source, rows_beside, source_in}
+use Rattle.pict_cli.specs.Modes.{Suspect, makes_suite, row_file_in, rows_beside}
 use Rattle.pict_cli.specs.Options.{settings_seen}
 use Rattle.pict_cli.specs.RowSources.{read_bytes, read_result_bytes, read_source}
-use Rattle.pict_cli.specs.Runs.{EndsBehind, candidates_stop, limit_due, reading_of, rows_of_run}
+use Rattle.pict_cli.specs.Runs.{EndsBehind, candidates_stop, rows_of_run}
 use Rattle.pict_cli.specs.Steps.{HoldsResultsOf, IsDueOrNoMemory, StopsRows}
 use Rattle.pict_cli.proofs.Behind.{ends_by, rows_counted, rows_early, rows_stopped, text_same, work_stopped, work_written}
 use Rattle.pict_cli.proofs.Early.{leaves_early, leaves_from, leaves_printed, reads_stopped, runs_early, stopped_early}
 use Rattle.pict_cli.proofs.Measured.{writes_none}
-use Rattle.pict_cli.proofs.RowFiles.{if_err_then, source_held}
+use Rattle.pict_cli.proofs.RowFiles.{if_err_then}
 use Rattle.pict_cli.proofs.Suspicions.{named_source, no_limit, same_candidates, same_suspects, work_due}
 use Rattle.pict_cli.proofs.suspecting.run_suspecting.Goals as goal
 
