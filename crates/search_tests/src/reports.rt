@@ -25,6 +25,47 @@ fn rows_of(alloc: Global, model: &TestModel, table: &[(ValueNo, ValueNo)]) -> Re
     Ok(rows)
 }
 
+// A sink with room for so many bytes. Callers know nothing of it.
+fn sink(alloc: Global, most: usize) -> Result<MemSink, NoMemory> {
+    MemSink::up_to(alloc, most)
+}
+
+// What a sink has when all of it could be put there.
+fn put_whole(answer: WriteAnswer, out: MemSink) -> Option<MemSink> {
+    match answer {
+        WriteAnswer::Done => Some(out),
+        WriteAnswer::Failed => None,
+    }
+}
+
+// The report of a model's rows of these values.
+fn report_of(
+    alloc: Global,
+    text: &str,
+    table: &[(ValueNo, ValueNo)],
+) -> Result<Option<MemSink>, Fail> {
+    let model = model_of(alloc, text)?;
+    let rows = rows_of(alloc, &model, table)?;
+    let mut turns = Turns::new(alloc, &model)?;
+    let mut out = sink(alloc, 100)?;
+    let answer = put_report(&model, &rows, &mut turns, &mut out);
+    Ok(put_whole(answer, out))
+}
+
+// The text of statistics.
+fn text_of_stats(alloc: Global, stats: &Stats) -> Result<Option<MemSink>, NoMemory> {
+    let mut out = sink(alloc, 200)?;
+    let answer = put_stats(stats, &mut out);
+    Ok(put_whole(answer, out))
+}
+
+// The text of figures.
+fn text_of_figures(alloc: Global, figures: &Figures) -> Result<Option<MemSink>, NoMemory> {
+    let mut out = sink(alloc, 400)?;
+    let answer = put_figures(figures, &mut out);
+    Ok(put_whole(answer, out))
+}
+
 // A model, the values of its rows, and their report.
 const REPORTS: &[(&str, &[(ValueNo, ValueNo)], &str)] = &[
     (
@@ -52,11 +93,7 @@ const REPORTS: &[(&str, &[(ValueNo, ValueNo)], &str)] = &[
 #[test]
 fn writes_reports(rt: HostRuntime) -> Result<(), Fail> {
     for (text, table, report) in REPORTS {
-        let model = model_of(rt.alloc(), text)?;
-        let rows = rows_of(rt.alloc(), &model, table)?;
-        let mut turns = Turns::new(rt.alloc(), &model)?;
-        let mut out = MemSink::up_to(rt.alloc(), 100)?;
-        assert!(rt; put_report(&model, &rows, &mut turns, &mut out) == WriteAnswer::Done);
+        let out = report_of(rt.alloc(), text, table)?.ok_or("no room")?;
         assert!(rt; out.bytes() == report.as_bytes(), "{text}");
     }
     Ok(())
@@ -73,8 +110,7 @@ fn writes_statistics(rt: HostRuntime) -> Result<(), Fail> {
     };
     let text =
         "Demanded sets: 15\nDemanded tuples: 331\nOmitted tuples: 4\nKept seeds: 0\nGenerated tests: 70\n";
-    let mut out = MemSink::up_to(rt.alloc(), 200)?;
-    assert!(rt; put_stats(&stats, &mut out) == WriteAnswer::Done);
+    let out = text_of_stats(rt.alloc(), &stats)?.ok_or("no room")?;
     assert!(rt; out.bytes() == text.as_bytes());
     Ok(())
 }
@@ -96,8 +132,7 @@ fn writes_figures(rt: HostRuntime) -> Result<(), Fail> {
     };
     let text =
         "Tests: 2\nIncomplete tests: 1\nInvalid tests: 1\nDemanded sets: 1\nDemanded tuples: 4\nCovered tuples: 2 of 3\nComplete sets: 0 of 1\nSets at 75 percent: 0 of 1\nSets at 50 percent: 1 of 1\nSets at 25 percent: 1 of 1\n";
-    let mut out = MemSink::up_to(rt.alloc(), 400)?;
-    assert!(rt; put_figures(&figures, &mut out) == WriteAnswer::Done);
+    let out = text_of_figures(rt.alloc(), &figures)?.ok_or("no room")?;
     assert!(rt; out.bytes() == text.as_bytes());
     Ok(())
 }
