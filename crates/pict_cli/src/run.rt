@@ -200,13 +200,14 @@ fn run<R: Threads + Sync, F: Folder, O: Sink>(
 /// Runs `pict` on its words, those behind the program's name, and gives the exit status.
 ///
 /// The steps come in this order: words, read of the model file, model, limits of the plan, read of the row file, row
-/// file, growth, write of the proof file, write to `out`. A run that makes its model writes it to the model file in place
-/// of reading that, and goes on with the bytes that it wrote. But for the making and the writing of such a model all
-/// memory is taken before the first byte is written. `seed_word` is the number of a shuffle that no word gives. Statuses: 0 where the text was written whole, 1 where
-/// memory was refused, 2 where a question of the search costs more than the budget, 3 where the words have no
-/// reading, 4 and 5 where the model or a constraint of it is refused, 6 where the row file is, 7 where a read of the
-/// folder failed, 8 where a write of the folder or `out` did, 9 where something is above its limit. What is told goes
-/// to `diag`, whose faults change nothing.
+/// file, growth or measuring, write of the proof file, write to `out`. A run that makes its model writes it to the model
+/// file in place of reading that, and goes on with the bytes that it wrote. One that looks for suspicious tuples makes
+/// no plan: behind its row file comes the limit of candidates. But for the making and the writing of a model all
+/// memory is taken before the first byte is written. `seed_word` is the number of a shuffle that no word gives.
+/// Statuses: 0 where the text was written whole, 1 where memory was refused, 2 where a question of the search costs
+/// more than the budget, 3 where the words have no reading, 4 and 5 where the model or a constraint of it is refused,
+/// 6 where the row file is, 7 where a read of the folder failed, 8 where a write of the folder or `out` did, 9 where
+/// something is above its limit. What is told goes to `diag`, whose faults change nothing.
 ///
 /// A folder tells what a name holds, the bytes of a file or that there is none, and a sink what was
 /// written to it, as those in memory do (`run_pict_in_memory`). Real ones tell nothing, and of them only
