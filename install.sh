@@ -34,4 +34,5 @@ done
 for page in README.md docs/start.md docs/guide.md docs/troubles.md docs/differences.md docs/pictcheck.md docs/pictacts.md docs/pictseq.md; do
     install -m 644 "$top/$page" "$doc/"
 done
+install -m 644 "$top/docs/coverage.svg" "$doc/"
 cp -R "$top/examples" "$doc/"

@@ -1,7 +1,7 @@
 #!/usr/bin/env python3
 """How coverage rises test by test: measures growing parts of a grown suite, and of as many random rows.
 
-    python3 examples/use/coverage.py examples/device.txt > coverage.svg
+    python3 examples/use/coverage.py examples/mixed.txt > coverage.svg
 
 It runs pict on the first 1, 2, 4, .. rows of each suite (/measure) and draws the covered part of the tuples that can
 be covered. Random rows are drawn from the values of the grown suite, invalid ones aside, whether constraints allow
