@@ -22,7 +22,7 @@ use Rattle.model_parse.specs.Pieces.{is_byte, pieces}
 use Rattle.model_parse.specs.Steps.{and_each, and_then, refused_or}
 use Rattle.model_parse.specs.Written.{joined}
 use Rattle.model_parse.proofs.Joining.{AreBlanks, IsWhole, Lacks, after_last_back, before_last_back, joined_back, stands_back}
-use Rattle.model_parse.proofs.WrittenValues.{none_stands}
+use Rattle.model_parse.proofs.WrittenValues.{none_stands, digit_ink}
 use Rattle.constraint_ast.proofs.Digits.{Stops, run_prefix}
 use Rattle.acts_front.specs.Meaning.{number_named}
 use Rattle.acts_front.specs.ParameterLines.{Parameter, is_declared, is_name, is_repeated}
@@ -42,10 +42,7 @@ blank_off text stops = ap (λ n. drop n (32 ∷ text)) (run_prefix is_blank (32 
 
 digit_stops : (digits rest : List ℕ) → 0 < length digits → list_all is_ascii_digit digits ≡ true → Stops is_blank (digits ++ rest)
 digit_stops [] rest some all = absurd (omega (arith, some))
-digit_stops (b ∷ digits) rest some all = dense b (and_parts _ _ all).0
-  where
-    dense : (b : ℕ) → is_ascii_digit b ≡ true → is_blank b ≡ false
-    dense b digit = grind (arith, nat_tests)
+digit_stops (b ∷ digits) rest some all = digit_ink b (and_parts _ _ all).0
 
 module _ (digits inside : List ℕ) (some : 0 < length digits) (all : list_all is_ascii_digit digits ≡ true) where
   abbrev list : List ℕ

@@ -30,15 +30,6 @@ module _ {X : Type 0} (test : X → Bool) (xs : List X) where
       at true e same = cc
       at false e same = find_at test xs ∙ slice_get_past xs (position_or_len test xs) (ltb-false _ _ e)
 
--- whether one passes
-pub any_found : {X : Type 0} (test : X → Bool) (xs : List X) → list_any test xs ≡ is_some (find test xs)
-any_found test [] = refl
-any_found test (x ∷ xs) = at (test x) refl (any_found test xs)
-  where
-    at : (b : Bool) → test x ≡ b → list_any test xs ≡ is_some (find test xs) → list_any test (x ∷ xs) ≡ is_some (find test (x ∷ xs))
-    at true e rest = rw e refl
-    at false e rest = rw e rest
-
 -- the names are kept as the case rule compares them
 module _ {D : Type 0} (seen : D → Declared) (fold : Bool) (name : List ℕ) (items : List D) (names : List (List ℕ)) (kept : names ≡ map (λ d. folded fold (seen d).name) items) where
   pub declares : is_known fold names name ≡ list_any (has_name fold name) (map seen items)

@@ -10,15 +10,11 @@ use Rattle.acts_front.specs.Tokens.{Token}
 use Rattle.acts_front.specs.declared.constraint.Finding.{Finding}
 use Rattle.acts_front.specs.declared.kind.Kind.{Kind}
 use Rattle.acts_front.specs.declared.kind.Kind.TheVariants.{Int}
-use Rattle.acts_front.proofs.Scopes.{any_found}
-
-is_some-map : {X Y : Type 0} (f : X → Y) (o : Option X) → is_some (option_map f o) ≡ is_some o
-is_some-map f (Some x) = refl
-is_some-map f None = refl
+use Rattle.value_text.proofs.ListLemmas.{is_some-map, list_any-find}
 
 -- a parameter is declared where it has a type
 pub declared_is : (scope : Scope) (name : List ℕ) → is_declared scope name ≡ is_some (kind_named scope name)
-declared_is scope name = any_found (has_name scope.fold name) scope.params ∙ sym (is_some-map (λ param. param.kind) _)
+declared_is scope name = list_any-find (has_name scope.fold name) scope.params ∙ sym (is_some-map (λ param. param.kind) _)
 
 operand_is : (scope : Scope) (operand : Operand) → is_operand_known scope operand ≡ is_some (operand_kind scope operand)
 operand_is scope (OfWhole text) = refl

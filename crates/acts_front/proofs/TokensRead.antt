@@ -32,7 +32,7 @@ use Rattle.constraint_ast.specs.declared.token.RuleToken.TheVariants as rule
 use Rattle.constraint_ast.specs.declared.tree.RawLiteral.TheVariants as literals
 use Rattle.constraint_ast.proofs.Digits.{Stops, run_prefix}
 use Rattle.constraint_ast.proofs.Lexing.{rest_skipped}
-use Rattle.constraint_ast.proofs.TokenText.{Ends, ends_at, ends_here, ends_token, ends_word}
+use Rattle.constraint_ast.proofs.TokenText.{Ends, ends_at, ends_here, ends_token, ends_word, ends_number, greater_first, less_first, not_equals, not_greater}
 use Rattle.acts_front.specs.ParameterLines.{are_few_digits, is_name, is_whole, without_minus}
 use Rattle.acts_front.specs.Tokens.{Token, Name, Whole, Words, Truth, Relation, Arrow, Or, And, Not, Open, Close}
 use Rattle.acts_front.specs.Constraints.{is_arrow}
@@ -161,17 +161,6 @@ between mark close text =
     let size : length (mark ∷ (text ++ close ∷ [])) - 2 ≡ length text = omega (arith, length-append text (close ∷ [])) in
     ap (λ n. take n (text ++ close ∷ [])) size ∙ take-append_seam text (close ∷ [])
 
--- what ends a token ends a number, and makes no longer relation
-ends_number : {tail : List ℕ} → Ends tail → Stops is_number_byte tail
-ends_number ends_here = tt
-ends_number (ends_at b tail e) = grind (arith, nat_tests)
-
-not_equals : (b : ℕ) → ends_token b ≡ true → (b == 61) ≡ false
-not_equals b e = grind (arith, nat_tests)
-
-not_greater : (b : ℕ) → ends_token b ≡ true → (b == 62) ≡ false
-not_greater b e = grind (arith, nat_tests)
-
 -- ---- one token
 
 module _ (line : ℕ) where
@@ -253,14 +242,6 @@ module _ (line : ℕ) where
           let cut : without_minus (b ∷ more) ≡ b ∷ more = rw minus refl in
           let digits : list_all is_ascii_digit (b ∷ more) ≡ true = ap (list_all is_ascii_digit) (sym cut) ∙ (and_parts _ _ whole).1 in
           number_at b more tail (digit_begins b (and_parts _ _ digits).0) (all_weaker is_ascii_digit is_number_byte digit_number (b ∷ more) digits) whole ends
-
-  less_first : {tail : List ℕ} → Ends tail → first_token (60 ∷ tail) ≡ Ok (kinds.Relation, 1)
-  less_first ends_here = refl
-  less_first (ends_at b tail e) = rw (not_equals b e, not_greater b e) refl
-
-  greater_first : {tail : List ℕ} → Ends tail → first_token (62 ∷ tail) ≡ Ok (kinds.Relation, 1)
-  greater_first ends_here = refl
-  greater_first (ends_at b tail e) = rw (not_equals b e) refl
 
   relation_read : (rel : Rel) (tail : List ℕ) → Ends tail → Reads (rule.Relation (raw_rel rel)) (rel_text rel) tail
   relation_read Eq tail ends = one_read _ 61 [] tail refl kinds.Relation refl refl

@@ -15,12 +15,6 @@ use Rattle.acts_front.specs.declared.code.ActsFault.TheVariants.{Bad, NoMemory}
 use Rattle.acts_front.specs.declared.section.Section.TheVariants.{Outside}
 use Rattle.acts_front.specs.declared.translator.Translator.{Translator}
 
--- a file without its byte-order mark is no longer
-pub unmarked_within : (bytes : List ℕ) → length (without_mark bytes) ≤ length bytes
-unmarked_within bytes =
-    cond_both (starts_with nat_eq bytes byte_order_mark) (drop 3 bytes) bytes (λ rest. length rest ≤ length bytes)
-    (λ _. omega (arith, length-drop 3 bytes)) (λ _. omega arith)
-
 nothing_before : (given : Result (List Line) (ℕ × ActsCode)) → given ≡ lines_before [] given
 nothing_before (Ok lines) = refl
 nothing_before (Err refused) = refl

@@ -51,15 +51,23 @@ pub ends_word : {tail : List ℕ} → Ends tail → Stops is_word_byte tail
 ends_word ends_here = tt
 ends_word (ends_at b tail e) = grind (arith, nat_tests)
 
-ends_number : {tail : List ℕ} → Ends tail → Stops is_number_byte tail
+pub ends_number : {tail : List ℕ} → Ends tail → Stops is_number_byte tail
 ends_number ends_here = tt
 ends_number (ends_at b tail e) = grind (arith, nat_tests)
 
-not_equals : (b : ℕ) → ends_token b ≡ true → (b == 61) ≡ false
+pub not_equals : (b : ℕ) → ends_token b ≡ true → (b == 61) ≡ false
 not_equals b e = grind (arith, nat_tests)
 
-not_greater : (b : ℕ) → ends_token b ≡ true → (b == 62) ≡ false
+pub not_greater : (b : ℕ) → ends_token b ≡ true → (b == 62) ≡ false
 not_greater b e = grind (arith, nat_tests)
+
+pub less_first : {tail : List ℕ} → Ends tail → first_token (60 ∷ tail) ≡ Ok (kinds.Relation, 1)
+less_first ends_here = refl
+less_first (ends_at b tail e) = rw (not_equals b e, not_greater b e) refl
+
+pub greater_first : {tail : List ℕ} → Ends tail → first_token (62 ∷ tail) ≡ Ok (kinds.Relation, 1)
+greater_first ends_here = refl
+greater_first (ends_at b tail e) = rw (not_equals b e) refl
 
 pub spaced_ends : (tokens : List RuleToken) → Ends (spaced false tokens)
 spaced_ends [] = ends_here
@@ -133,14 +141,6 @@ module _ (line : ℕ) where
           let first : first_token (b ∷ (more ++ tail)) ≡ number_token (length (number_run (b ∷ (more ++ tail)))) (number_of (number_run (b ∷ (more ++ tail)))) = rw (bracket, quote, begins) refl in
           one_read (Literal (Number n)) b more tail dense kinds.Number (first ∙ (ap (λ run. number_token (length run) (number_of run)) run ∙ ap (λ read. number_token (suc (length more)) read) is))
           (ap number_meant is)
-
-  less_first : {tail : List ℕ} → Ends tail → first_token (60 ∷ tail) ≡ Ok (kinds.Relation, 1)
-  less_first ends_here = refl
-  less_first (ends_at b tail e) = rw (not_equals b e, not_greater b e) refl
-
-  greater_first : {tail : List ℕ} → Ends tail → first_token (62 ∷ tail) ≡ Ok (kinds.Relation, 1)
-  greater_first ends_here = refl
-  greater_first (ends_at b tail e) = rw (not_equals b e) refl
 
   relation_read : (rel : RawRel) (tail : List ℕ) → Ends tail → Reads (Relation rel) (relation_text rel) tail
   relation_read Eq tail ends = one_read (Relation Eq) 61 [] tail refl kinds.Relation refl refl

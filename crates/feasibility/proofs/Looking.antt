@@ -19,6 +19,7 @@ use Rattle.feasibility.specs.Tree.{members}
 use Rattle.feasibility.proofs.Broken.{breaks_by, breaks_of, longer_set}
 use Rattle.feasibility.proofs.Growing.{not_no, stays_body, yes_from_yes}
 use Rattle.feasibility.proofs.Local.{agree_set, local_body}
+use Rattle.value_text.proofs.ListLemmas.{and_not-and_not}
 
 -- no constraint
 pub looked_none : (m : ModelView) (cells : List (Option ℕ)) (sets : LiveView) → HasShape m sets.live → EachHasOne m cells sets.live
@@ -41,16 +42,11 @@ looked_append m some others cells old now new first second = record {
   marks = λ q w low inside free.
       second.marks q w low inside free
       ∙ ap (λ (b : Bool). b && not (breaks_one m others (with_value cells q w))) (first.marks q w low inside free)
-      ∙ twice (mark_at old.live q w) (breaks_one m some (with_value cells q w)) (breaks_one m others (with_value cells q w))
+      ∙ and_not-and_not (mark_at old.live q w) (breaks_one m some (with_value cells q w)) (breaks_one m others (with_value cells q w))
       ∙ sym (ap (λ (b : Bool). mark_at old.live q w && not b) (list_any-append (no_on m (with_value cells q w)) some others));
   left = second.left;
   since = since_more old now new first.since second.since;
 }
-  where
-    twice : (a b c : Bool) → ((a && not b) && not c) ≡ (a && not (b || c))
-    twice true true c = refl
-    twice true false c = refl
-    twice false b c = refl
 
 -- a constraint that holds
 pub looked_holds : (m : ModelView) (k : ℕ) (cells : List (Option ℕ)) (sets : LiveView) → HasShape m sets.live → EachHasOne m cells sets.live

@@ -225,7 +225,7 @@ negatives_by m slice cells ps few is = by_list ps few ∙ ap fixed_params is
     by_list (p ∷ []) few = refl
     by_list (p ∷ q ∷ ps) few = absurd (omega arith)
 
-slice_exists : (m : ModelView) (slice : Slice) → IsSliceOf m slice → IsSlice m slice
+pub slice_exists : (m : ModelView) (slice : Slice) → IsSliceOf m slice → IsSlice m slice
 slice_exists m Positive is = tt
 slice_exists m (Negative q v) is = (is.0, is.2)
 

@@ -5,7 +5,7 @@ use Rattle.std.proofs.lemmas.Bool.{false≢true}
 use Rattle.std.proofs.lemmas.List.Folds.{list_any-append}
 use Rattle.std.proofs.Math.Bool.{or-false}
 use Rattle.cov_model.proofs.CellLemmas.{contains-trans}
-use Rattle.value_text.proofs.ListLemmas.{filter_same, filter-filter}
+use Rattle.value_text.proofs.ListLemmas.{filter_same, filter-filter, not_or}
 use Rattle.cov_model.specs.Rows.{contains}
 use Rattle.definitions.specs.Growth.{is_uncovered}
 
@@ -43,9 +43,5 @@ pub open_after : (rows after : List (List (Option ℕ))) (row : List (Option ℕ
     → filter (is_uncovered after) tuples ≡ filter (λ tuple. not (contains row tuple)) (filter (is_uncovered rows) tuples)
 open_after rows after row tuples more =
     filter_same (is_uncovered after) (λ tuple. is_uncovered rows tuple && not (contains row tuple)) tuples
-    (λ tuple. ap not (more tuple) ∙ at (holds rows tuple) (contains row tuple))
+    (λ tuple. ap not (more tuple) ∙ not_or (holds rows tuple) (contains row tuple))
     ∙ sym (filter-filter (λ tuple. not (contains row tuple)) (is_uncovered rows) tuples)
-  where
-    at : (a b : Bool) → not (a || b) ≡ (not a && not b)
-    at true b = refl
-    at false b = refl

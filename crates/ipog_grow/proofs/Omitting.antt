@@ -15,7 +15,8 @@ use Rattle.ipog_grow.specs.Asking.{SearchContext, Grows, columns_grown, extends,
 use Rattle.ipog_grow.specs.Growing.{GrowsIn}
 use Rattle.ipog_grow.specs.Omissions.{IsOmittedIn}
 use Rattle.ipog_grow.proofs.Spending.{find-none}
-use Rattle.ipog_grow.proofs.Tuples.{is_slice-of, tuple-grows}
+use Rattle.ipog_grow.proofs.Tuples.{tuple-grows}
+use Rattle.feasibility.proofs.Paths.{slice_exists}
 
 -- what holds of a tuple that isn't extendable, and was asked within the budget, holds of those that vertical growth
 -- omits
@@ -64,7 +65,7 @@ in_play-grow m slice p is =
     all_members (GrowsIn m slice) (tuples_in_play m slice p)
     (λ tuple has.
     let at = of_flat (λ set. tuples_in m set slice) (sets_in_play m (column_order m slice) p) tuple has in
-    tuple-grows m slice at.0 tuple is (tuple_is m at.0 slice tuple (is_slice-of m slice is) at.2))
+    tuple-grows m slice at.0 tuple is (tuple_is m at.0 slice tuple (slice_exists m slice is) at.2))
 
 -- so what columns omit, where no question exceeded the budget, is omitted in the slice
 pub omitted-in : (context : SearchContext) (params : List ℕ) (rows : List (List (Option ℕ))) → IsSliceOf context.model context.slice

@@ -20,7 +20,8 @@ use Rattle.definitions.proofs.SliceLemmas as slices
 use Rattle.ipog_grow.specs.Asking.{SearchContext, IsSoundContext}
 use Rattle.ipog_grow.specs.Growing.{GrowsIn, HasFixed}
 use Rattle.ipog_grow.specs.Omissions.{IsOmittedIn}
-use Rattle.ipog_grow.proofs.Tuples.{is_slice-of, grows-slice}
+use Rattle.ipog_grow.proofs.Tuples.{grows-slice}
+use Rattle.feasibility.proofs.Paths.{slice_exists}
 
 -- a partial row that grows in a slice belongs to it
 grows-belongs : (m : ModelView) (slice : Slice) (cells : List (Option ℕ)) → GrowsIn m slice cells → InSlice m slice cells
@@ -37,7 +38,7 @@ grows-belongs m slice cells grows = record {
 pub omitted-unserved : (context : SearchContext) (tuple : List (Option ℕ)) → IsSoundContext context → IsOmittedIn context tuple
     → IsUnserved context.model tuple
 omitted-unserved context tuple is omitted row =
-    let own = slice_is context.model context.slice tuple (is_slice-of context.model context.slice is.slice)
+    let own = slice_is context.model context.slice tuple (slice_exists context.model context.slice is.slice)
     (grows-belongs context.model context.slice tuple omitted.grows) in
     false_from_ne_true (serves context.model row tuple)
     (λ holds.

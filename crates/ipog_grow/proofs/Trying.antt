@@ -21,6 +21,7 @@ use Rattle.ipog_grow.specs.Growing.{best}
 use Rattle.ipog_grow.specs.Asking.{SearchContext, IsSoundContext, Grows, extends, first_spent, tried}
 use Rattle.ipog_grow.proofs.Tuples.{grows-with_value}
 use Rattle.ipog_grow.proofs.Falling.{Distinct, IsBest, without, best_is, best_none, falling-best, falling-none, falling-same}
+use Rattle.refutation.proofs.TreeLemmas.{set_clear}
 
 -- a list with the numbers of another order lists none twice, so the preference order of a column does so
 distinct-from : (values : List ℕ) → IsDistinct nat_eq values → Distinct values
@@ -183,14 +184,6 @@ trying-more {context} {order} {p} {v} {row} {start} {scores} trying next within 
 pub trying-falls : (scores : List ℕ) (v : ℕ) → v < length scores → 0 < get_or scores v 0 → sum (set scores v 0) < sum scores
 trying-falls scores v within some = omega (arith, sum_by-set (λ x. x) scores v 0 0 within)
 
--- a value that is taken away again
-cleared : (row : List (Option ℕ)) (p v : ℕ) → is_assigned row p ≡ false → set (with_value row p v) p None ≡ row
-cleared row p v free = set-set row p (Some v) None ∙ by_cell (get_or row p None) free (set-get_or row p None)
-  where
-    by_cell : (cell : Option ℕ) → is_some cell ≡ false → set row p cell ≡ row → set row p None ≡ row
-    by_cell None none same = same
-    by_cell (Some w) given same = absurd (false≢true (sym given))
-
 -- a value that is tried
 pub record Put (context : SearchContext) (order : List ℕ) (p v : ℕ) (row held put : List (Option ℕ)) (start scores : List ℕ) : Type 0 where
   pub is : put ≡ with_value row p v
@@ -212,6 +205,6 @@ trying-put {context} {order} {p} {v} {row} {held} {put} {start} {scores} is insi
       grows = subst (Grows context) (sym whole) (grows-with_value context.model context.slice row p v is.slice grows free
           (listed v (trying.fewer v next.some)));
       more = ap (λ (cells : List (Option ℕ)). contains cells row) whole ∙ with_value-contains row p v free;
-      cleared = ap (λ (cells : List (Option ℕ)). set cells p None) whole ∙ cleared row p v free;
+      cleared = ap (λ (cells : List (Option ℕ)). set cells p None) whole ∙ set_clear row p v free;
       next = next;
     }

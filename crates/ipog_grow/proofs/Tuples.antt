@@ -28,6 +28,7 @@ use Rattle.uncovered_table.specs.Places.{ends_with_column}
 use Rattle.ipog_grow.specs.Growing.{HasFixed, GrowsIn, IsInPlay}
 use Rattle.ipog_grow.proofs.ColumnLemmas.{ends-columns_to}
 use Rattle.ipog_grow.proofs.Falling.{filter-none}
+use Rattle.feasibility.proofs.Paths.{slice_exists}
 
 -- cells of a model's length whose values are of the slice are of it
 pub of_slice : (m : ModelView) (slice : Slice) (cells : List (Option ℕ)) → IsSliceOf m slice → length cells ≡ length m.params
@@ -55,11 +56,6 @@ pub ends-among : (m : ModelView) (slice : Slice) (p : ℕ) (set : List ℕ) → 
 ends-among m slice p set ends =
     last_test (is_among set) None (column_order m slice) p (λ q e. absurd (none-some q e))
     (Some-from_equal (last_or None (filter (is_among set) (column_order m slice))) p ends)
-
--- a slice of the model, and a value that it fixes, as the definitions' lemmas put them
-pub is_slice-of : (m : ModelView) (slice : Slice) → IsSliceOf m slice → IsSlice m slice
-is_slice-of m Positive is = tt
-is_slice-of m (Negative q v) is = (is.0, is.2)
 
 fixed_is : (slice : Slice) (cells : List (Option ℕ)) → slices.HasFixed slice cells → HasFixed slice cells
 fixed_is Positive cells fixed = tt
@@ -96,7 +92,7 @@ tuples_in_play-are m slice p is within =
     (λ tuple has.
     let at = of_flat (λ set. tuples_in m set slice) (filter (ends_with_column m slice p) (demanded_sets m)) tuple has in
     let kept = of_filter (ends_with_column m slice p) (demanded_sets m) at.0 at.1 in
-    in_play-of m slice p at.0 tuple is within kept.1 (tuple_is m at.0 slice tuple (is_slice-of m slice is) at.2))
+    in_play-of m slice p at.0 tuple is within kept.1 (tuple_is m at.0 slice tuple (slice_exists m slice is) at.2))
 
 -- the number in a cell
 abbrev value_of : Option ℕ → ℕ

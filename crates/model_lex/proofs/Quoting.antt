@@ -6,6 +6,7 @@ use Rattle.std.proofs.lemmas.List.{drop_all, drop-drop}
 use Rattle.std.specs.Option.{option_map}
 use Rattle.std.specs.Prelude.{Option, Some, None}
 use Rattle.model_lex.specs.Tokens.{quoted_len, quotes_next}
+use Rattle.value_text.proofs.ListLemmas.{add_zero}
 
 -- the text is searched up to a place
 pub record QuotedFrom (close : ℕ) (text : List ℕ) (at : ℕ) : Type 0 where
@@ -17,11 +18,7 @@ mapped_twice None a b = refl
 mapped_twice (Some n) a b = ap Some (omega arith)
 
 pub at_start : (close : ℕ) (text : List ℕ) → QuotedFrom close text 0
-at_start close text = record { within = omega arith; same = same (quoted_len close text) }
-  where
-    same : (found : Option ℕ) → found ≡ option_map (λ n. 0 + n) found
-    same None = refl
-    same (Some n) = ap Some (omega arith)
+at_start close text = record { within = omega arith; same = add_zero (quoted_len close text) }
 
 -- at the closing mark, at a quoted byte, and at another
 pub closed_here : (close : ℕ) (text : List ℕ) → 0 < length text → get_or text 0 0 ≡ close → quoted_len close text ≡ Some 0

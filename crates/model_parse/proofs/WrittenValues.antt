@@ -39,11 +39,12 @@ pub all_digits : (digits : List ℕ) → All (λ b. is_ascii_digit b ≡ true) d
 all_digits [] each = refl
 all_digits (b ∷ digits) each = and_from _ _ (All-head (λ c. is_ascii_digit c ≡ true) b digits each) (all_digits digits (All-tail (λ c. is_ascii_digit c ≡ true) b digits each))
 
+-- a digit is no blank
+pub digit_ink : (b : ℕ) → is_ascii_digit b ≡ true → is_blank b ≡ false
+digit_ink b digit = grind (arith, nat_tests)
+
 pub digits_whole : (digits : List ℕ) → AreDigits digits → IsWhole digits
-digits_whole digits are = record { some = are.some; first = ink (get_or digits 0 0) (are.each 0 0 are.some); last = ink (get_or digits (length digits - 1) 0) (are.each (length digits - 1) 0 (let some = are.some in omega arith)) }
-  where
-    ink : (b : ℕ) → is_ascii_digit b ≡ true → is_blank b ≡ false
-    ink b digit = grind (arith, nat_tests)
+digits_whole digits are = record { some = are.some; first = digit_ink (get_or digits 0 0) (are.each 0 0 are.some); last = digit_ink (get_or digits (length digits - 1) 0) (are.each (length digits - 1) 0 (let some = are.some in omega arith)) }
 
 -- what marks aren't
 pub mark_blank : (mark : ℕ) → is_mark mark ≡ true → is_blank mark ≡ false

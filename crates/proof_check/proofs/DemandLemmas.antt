@@ -25,7 +25,7 @@ use Rattle.refutation.specs.Checking.{AreOfModel}
 use Rattle.tuple_index.specs.Places.{RisesFrom, tuple_lists}
 use Rattle.tuple_index.specs.Plan.{IsChoice, PlanView, negative_count, plan_of, set_at, tuple_cells, value_given}
 use Rattle.tuple_index.proofs.ChoiceAt.{choice_at}
-use Rattle.tuple_index.proofs.InverseLemmas.{has_place}
+use Rattle.tuple_index.proofs.InverseLemmas.{has_place, tuples_differ, cells_tell}
 use Rattle.tuple_index.proofs.OrderLemmas.{demanded_rise}
 use Rattle.tuple_index.proofs.RankLemmas.{choice_long}
 use Rattle.tuple_index.proofs.TupleLemmas.{tuples_of-lists}
@@ -34,14 +34,6 @@ use Rattle.shared_marks.proofs.PlaceLemmas.{tuple_there}
 use Rattle.proof_check.specs.Left.{IsPlaceOf, LacksPlace}
 use Rattle.proof_check.proofs.PairLemmas.{ArePairs, assigned_is, cells_are, given_at, negatives_counted, params, values, values_exist}
 use Rattle.proof_check.proofs.SetLemmas.{params_rise, same_members}
-
--- what stands at two places of a list without repeats stands at one
-pub one_place : {X : Type 0} (xs : List X) (i j : ℕ) (x : X) → NoRepeats xs → slice_get xs i ≡ Some x → slice_get xs j ≡ Some x → i ≡ j
-one_place [] i j x once here there = absurd (omega (arith, slice_get_within [] i x here))
-one_place (y ∷ xs) zero zero x once here there = refl
-one_place (y ∷ xs) zero (suc j) x once here there = absurd (once.0 (subst (Has xs) (sym (same_Some y x here)) (has_place xs j x there)))
-one_place (y ∷ xs) (suc i) zero x once here there = absurd (once.0 (subst (Has xs) (sym (same_Some y x there)) (has_place xs i x here)))
-one_place (y ∷ xs) (suc i) (suc j) x once here there = ap suc (one_place xs i j x once.1 here there)
 
 -- a member has a place
 place_has : {X : Type 0} (xs : List X) (x : X) → Has xs x → (i : ℕ) × (slice_get xs i ≡ Some x)
@@ -66,16 +58,6 @@ of_set m set tuple has =
 
 rises : (m : ModelView) (set : List ℕ) → Has (demanded_sets m) set → RisesFrom 0 (length m.params) set
 rises m set has = member_of_all (RisesFrom 0 (length m.params)) (demanded_sets m) set (demanded_rise m) has
-
-tuples_differ : (m : ModelView) (set : List ℕ) → NoRepeats (tuples_of m set)
-tuples_differ m set =
-    repeats_flat (tuples_in m set) (slices m) (λ slice has. tuples_once m set slice (is_slice m slice has))
-    (λ first second tuple has_first has_second here there.
-    let one = is_slice m first has_first in
-    let two = is_slice m second has_second in
-    sym (slice_is m first tuple one (tuple_is m set first tuple one here).belongs).is
-    ∙ (slice_is m second tuple two (tuple_is m set second tuple two there).belongs).is)
-    (slices_once m)
 
 -- the demanded tuples are distinct
 pub demanded_once : (m : ModelView) → NoRepeats (demanded_tuples m)
@@ -118,32 +100,6 @@ lacks_set m pairs rising each none place here =
     let at = place_has (demanded_sets m) own.set own.demanded in
     let within = slice_get_within (demanded_sets m) at.0 own.set at.1 in
     none at.0 within (same_Some (set_at (plan_of m) at.0) own.set (sym (slice_get-get_or (demanded_sets m) at.0 [] within) ∙ at.1) ∙ own.is)
-
--- the values of a tuple of a rising set are told by its cells
-values_told : (set first second : List ℕ) (p e : ℕ) → RisesFrom p e set → length first ≡ length set → length second ≡ length set
-    → ((q : ℕ) → p ≤ q → q < e → value_given set first q ≡ value_given set second q) → first ≡ second
-values_told [] [] [] p e rises one two same = refl
-values_told [] (v ∷ first) second p e rises one two same = absurd (omega (arith, one))
-values_told [] [] (w ∷ second) p e rises one two same = absurd (omega (arith, two))
-values_told (r ∷ set) [] second p e rises one two same = absurd (omega (arith, one))
-values_told (r ∷ set) (v ∷ first) [] p e rises one two same = absurd (omega (arith, two))
-values_told (r ∷ set) (v ∷ first) (w ∷ second) p e rises one two same =
-    let here : v ≡ w = same_Some v w (sym (own v first) ∙ same r rises.0 rises.1 ∙ own w second) in
-    let later : first ≡ second = values_told set first second (r + 1) e rises.2 (omega (arith, one)) (omega (arith, two))
-    (λ q least most. sym (past v first q least) ∙ same q (omega (arith, rises.0, least)) most ∙ past w second q least) in
-    ap (λ u. u ∷ first) here ∙ ap (λ us. w ∷ us) later
-  where
-    own : (u : ℕ) (others : List ℕ) → value_given (r ∷ set) (u ∷ others) r ≡ Some u
-    own u others = let test = eq-eqb r r refl in rw test refl
-
-    past : (u : ℕ) (others : List ℕ) (q : ℕ) → r + 1 ≤ q → value_given (r ∷ set) (u ∷ others) q ≡ value_given set others q
-    past u others q least = let test = ne_eqb r q (λ same. omega (arith, least, same)) in rw test refl
-
-cells_tell : (m : ModelView) (set first second : List ℕ) → RisesFrom 0 (length m.params) set → length first ≡ length set → length second ≡ length set
-    → tuple_cells m set first ≡ tuple_cells m set second → first ≡ second
-cells_tell m set first second rising one two same =
-    values_told set first second 0 (length m.params) rising one two
-    (λ q least most. sym (given_at m set first q most) ∙ ap (λ (cells : List (Option ℕ)). get_or cells q None) same ∙ given_at m set second q most)
 
 -- a tuple with several negative values isn't demanded
 pub lacks_sign : (m : ModelView) (pairs : List (ℕ × ℕ)) → IsRising pairs → ArePairs m pairs

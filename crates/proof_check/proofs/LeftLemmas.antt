@@ -14,15 +14,10 @@ use Rattle.definitions.proofs.PartialRowLemmas.{same-refl, same_row_is}
 use Rattle.refutation.specs.Checking.{tuples_of}
 use Rattle.refutation.specs.declared.omissions.Omission.{Omission}
 use Rattle.proof_check.specs.Left.{AreLeft, Clears, IsPlaceOf, LacksPlace}
-use Rattle.proof_check.proofs.DemandLemmas.{demanded_long, demanded_once, one_place}
-
-and_false : (b : Bool) → (b && false) ≡ false
-and_false true = refl
-and_false false = refl
-
-and_true : (b : Bool) → (b && true) ≡ b
-and_true true = refl
-and_true false = refl
+use Rattle.tuple_index.proofs.InverseLemmas.{one_place}
+use Rattle.proof_check.proofs.DemandLemmas.{demanded_long, demanded_once}
+use Rattle.std.proofs.Math.Bool.{and-false, and-true}
+use Rattle.value_text.proofs.ListLemmas.{and_not-or}
 
 -- where there is no omission yet, all are left
 pub all_left : (m : ModelView) (count : ℕ) → count ≡ length (demanded_tuples m) → AreLeft m [] (replicate count true)
@@ -49,12 +44,12 @@ clears_place m cells at before long there as_many = record { as_many = length-se
           ap (λ o. is_same_row o cells) (same_Some other cells (sym here ∙ ap (slice_get (demanded_tuples m)) same ∙ there)) ∙ same-refl cells in
           ap (λ k. get_or (slice_set before at false) k false) same
           ∙ get_or-set_same before at false false (omega (arith, slice_get_within (demanded_tuples m) at cells there, as_many))
-          ∙ sym (ap (λ b. get_or before place false && not b) own ∙ and_false (get_or before place false))
+          ∙ sym (ap (λ b. get_or before place false && not b) own ∙ and-false (get_or before place false))
       | inr apart ↦
           let differs : is_same_row other cells ≡ false =
           false_from_ne_true (is_same_row other cells) (λ same.
           apart (one_place (demanded_tuples m) place at cells (demanded_once m) (same_stands m cells other place long here same) there)) in
-          get_or-set_other before at place false false apart ∙ sym (ap (λ b. get_or before place false && not b) differs ∙ and_true (get_or before place false))
+          get_or-set_other before at place false false apart ∙ sym (ap (λ b. get_or before place false && not b) differs ∙ and-true (get_or before place false))
     ]
 
 -- a tuple that isn't demanded takes none away
@@ -64,7 +59,7 @@ clears_none m cells before long lacks = record {
   marks = λ place other here.
       let differs : is_same_row other cells ≡ false =
       false_from_ne_true (is_same_row other cells) (λ same. lacks place (same_stands m cells other place long here same)) in
-      sym (ap (λ b. get_or before place false && not b) differs ∙ and_true (get_or before place false));
+      sym (ap (λ b. get_or before place false && not b) differs ∙ and-true (get_or before place false));
 }
 
 -- one more omission
@@ -84,11 +79,6 @@ left_more m omissions i omission before after within is left clears = record {
         ap (tuples_of m) (take_more omissions i omission within ∙ ap (λ o. take i omissions ++ o ∷ []) (sym is))
         ∙ map-append (λ (o : Omission). cells_of (length m.params) o.tuple) (take i omissions) (omission ∷ [])
 
-    by_test : (a b : Bool) → (not a && not b) ≡ not (a || (b || false))
-    by_test true b = refl
-    by_test false true = refl
-    by_test false false = refl
-
     joined : (test : List (Option ℕ) → Bool) (tuples : List (List (Option ℕ))) (cells : List (Option ℕ))
         → (not (list_any test tuples) && not (test cells)) ≡ not (list_any test (tuples ++ cells ∷ []))
-    joined test tuples cells = by_test (list_any test tuples) (test cells) ∙ ap not (sym (list_any-append test tuples (cells ∷ [])))
+    joined test tuples cells = and_not-or (list_any test tuples) (test cells) ∙ ap not (sym (list_any-append test tuples (cells ∷ [])))

@@ -44,11 +44,6 @@ holds_after {names = names} keeps holds = record {
   proof = keeps names.proof ∙ holds.proof;
 }
 
--- a stop that goes on
-pub goes_on : {A : Type 0} {result : Result A Stop} {stop : Stop} → IsErrAnd result (λ other. other ≡ stop) → result ≡ Err stop
-goes_on {result = Ok read} is = absurd is
-goes_on {result = Err other} is = ap Err is
-
 -- the bytes of the files one by one
 module _ (held : HeldFiles) where
   pub model_first : (stop : Stop) → bytes_of kinds.Model held.model ≡ Err stop → inputs_of held ≡ Err stop
@@ -72,6 +67,3 @@ module _ (held : HeldFiles) where
   pub all_read : (model report proof : List ℕ) → bytes_of kinds.Model held.model ≡ Ok model → bytes_of kinds.Rows held.report ≡ Ok report
       → bytes_of kinds.Proof held.proof ≡ Ok proof → inputs_of held ≡ Ok (record { model = model; report = report; proof = proof })
   all_read model report proof a b c = behind_two model report a b ∙ ap (join_bytes (Ok model) (Ok report)) c
-
-pub same_stop : {A : Type 0} {result : Result A Stop} {stop other : Stop} → result ≡ Err stop → result ≡ Err other → stop ≡ other
-same_stop e f = cc

@@ -15,10 +15,7 @@ use Rattle.definitions.specs.Pairs.{cells_of}
 use Rattle.definitions.proofs.Members.{Has, of_any, same_answer}
 use Rattle.definitions.proofs.PartialRowLemmas.{with_value-contains}
 use Rattle.refutation.specs.Checking.{AreOfModel, gives, has_param}
-
-pub length-cells_of : (n : ℕ) (pairs : List (ℕ × ℕ)) → length (cells_of n pairs) ≡ n
-length-cells_of n [] = length-replicate n None
-length-cells_of n (pair ∷ pairs) = length-set (cells_of n pairs) pair.0 (Some pair.1) ∙ length-cells_of n pairs
+use Rattle.definitions.proofs.NamedPairs.{length-cells_of, behind_first}
 
 -- no pairs give nothing
 pub none_given : (n q : ℕ) → is_assigned (replicate n None) q ≡ false
@@ -54,10 +51,6 @@ assigned_by n q (pair ∷ pairs) below =
     ]
 
 -- rising parameters
-pub rises_rest : (pair : ℕ × ℕ) (pairs : List (ℕ × ℕ)) → IsRising (pair ∷ pairs) → IsRising pairs
-rises_rest pair [] rises = tt
-rises_rest pair (next ∷ pairs) rises = rises.1
-
 rises_above : (pair other : ℕ × ℕ) (pairs : List (ℕ × ℕ)) → IsRising (pair ∷ pairs) → Has pairs other → pair.0 < other.0
 rises_above pair other [] rises has = absurd has
 rises_above pair other (next ∷ pairs) rises (inl same) = subst (λ (p : ℕ × ℕ). pair.0 < p.0) same rises.0
@@ -81,7 +74,7 @@ given_by n pair (first ∷ pairs) below rises (inl same) =
 given_by n pair (first ∷ pairs) below rises (inr has) =
     let above = rises_above first pair pairs rises has in
     given_other n pair.0 first pairs (λ same. omega (arith, same, above))
-    ∙ given_by n pair pairs (All-tail (λ pair. pair.0 < n) first pairs below) (rises_rest first pairs rises) has
+    ∙ given_by n pair pairs (All-tail (λ pair. pair.0 < n) first pairs below) (behind_first first pairs rises) has
 
 -- a partial row contains that of pairs exactly if it gives each of them
 gives_cell : (cells : List (Option ℕ)) (pair : ℕ × ℕ) → gives cells pair ≡ true → get_or cells pair.0 None ≡ Some pair.1
@@ -125,7 +118,7 @@ contains_pairs n path [] below rises = contains-from path (replicate n None) (λ
 contains_pairs n path (pair ∷ pairs) below rises =
     let others = All-tail (λ pair. pair.0 < n) pair pairs below in
     contains_more n path pair pairs (All-head (λ pair. pair.0 < n) pair pairs below) (assigned_by n pair.0 pairs others ∙ none_again pair pairs rises)
-    ∙ ap (λ (b : Bool). gives path pair && b) (contains_pairs n path pairs others (rises_rest pair pairs rises))
+    ∙ ap (λ (b : Bool). gives path pair && b) (contains_pairs n path pairs others (behind_first pair pairs rises))
 
 -- one more pair behind the others
 cells_of-push : (n : ℕ) (pairs : List (ℕ × ℕ)) (pair : ℕ × ℕ) → IsRising (pairs ++ pair ∷ [])
@@ -133,7 +126,7 @@ cells_of-push : (n : ℕ) (pairs : List (ℕ × ℕ)) (pair : ℕ × ℕ) → Is
 cells_of-push n [] pair rises = refl
 cells_of-push n (first ∷ pairs) pair rises =
     let above = rises_above first pair (pairs ++ pair ∷ []) rises (last pairs) in
-    ap (λ (cells : List (Option ℕ)). with_value cells first.0 first.1) (cells_of-push n pairs pair (rises_rest first (pairs ++ pair ∷ []) rises))
+    ap (λ (cells : List (Option ℕ)). with_value cells first.0 first.1) (cells_of-push n pairs pair (behind_first first (pairs ++ pair ∷ []) rises))
     ∙ set_comm (cells_of n pairs) pair.0 first.0 (Some pair.1) (Some first.1) (λ same. omega (arith, same, above))
   where
     last : (items : List (ℕ × ℕ)) → Has (items ++ pair ∷ []) pair

@@ -16,6 +16,7 @@ use Rattle.refutation.specs.declared.token.TreeToken.TheVariants.{Branch}
 use Rattle.refutation.specs.Checking.{CheckView, are_refuted, BeginsWithTrees, LacksTrees, tuple_in}
 use Rattle.refutation.proofs.LeafLemmas.{negative_leaf-more}
 use Rattle.refutation.proofs.PairLemmas.{FitsModel-with_value}
+use Rattle.value_text.proofs.ListLemmas.{none_of}
 
 -- how many parameters have no value
 abbrev pub free_count : List (Option ℕ) → ℕ
@@ -108,7 +109,3 @@ child_is check path p v outside negative within exists free fits part is own =
 pub set_clear : (cells : List (Option ℕ)) (p v : ℕ) → is_assigned cells p ≡ false → set (with_value cells p v) p None ≡ cells
 set_clear cells p v free =
     set-set cells p (Some v) None ∙ ap (λ (cell : Option ℕ). set cells p cell) (sym (none_of (get_or cells p None) free)) ∙ set-get_or cells p None
-  where
-    none_of : (cell : Option ℕ) → is_some cell ≡ false → cell ≡ None
-    none_of None free = refl
-    none_of (Some w) free = absurd (false≢true (sym free))

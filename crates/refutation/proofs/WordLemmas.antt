@@ -70,10 +70,3 @@ pub rising_last : (pairs : List (ℕ × ℕ)) → length pairs ≤ 1 → is_risi
 rising_last [] few = refl
 rising_last (a ∷ []) few = refl
 rising_last (a ∷ b ∷ pairs) few = absurd (omega arith)
-
-pub rising_is : (pairs : List (ℕ × ℕ)) → is_rising pairs ≡ true → IsRising pairs
-rising_is [] passes = tt
-rising_is (a ∷ []) passes = tt
-rising_is (a ∷ b ∷ pairs) passes =
-    let parts = and_parts (nat_lt a.0 b.0) (is_rising (b ∷ pairs)) passes in
-    (ltb-true a.0 b.0 parts.0, rising_is (b ∷ pairs) parts.1)

@@ -96,11 +96,6 @@ known pairs text n some key = at (bytes_eq text key) refl
     at true e = has_first (number_of pairs key) (Some n) (subst (λ k. is_some (number_of pairs k) ≡ true) ((bytes_eq-Decides text key).0 e) some)
     at false e = or_nothing (number_of pairs key)
 
--- nothing is given
-pub none_from : {X : Type 0} (o : Option X) → is_some o ≡ false → o ≡ None
-none_from None none = refl
-none_from (Some x) none = absurd (true≢false none)
-
 -- two texts of one number, one after the other
 pub or_either : (o : Option ℕ) (a b : Bool) (n : ℕ) → option_or (option_or o (cond a (Some n) None)) (cond b (Some n) None) ≡ option_or o (cond (a || b) (Some n) None)
 or_either (Some x) a b n = refl

@@ -37,12 +37,6 @@ ends lines d line len [] here none =
     ∙ ap (λ last. events_with len d.names d.pairs last) here.last
 ends lines d line len (b ∷ rest) here none = absurd (omega arith)
 
--- a file without its byte-order mark is no longer
-pub unmarked_within : (bytes : List ℕ) → length (without_mark bytes) ≤ length bytes
-unmarked_within bytes =
-    cond_both (starts_with nat_eq bytes byte_order_mark) (drop 3 bytes) bytes (λ rest. length rest ≤ length bytes)
-    (λ _. omega (arith, length-drop 3 bytes)) (λ _. omega arith)
-
 -- a line that is refused, or want of memory
 pub stops : (lines : List (ℕ × List ℕ)) (d : Declared) (line : ℕ) (rest text behind : List ℕ) → SoFar lines d line rest → file_lines rest ≡ text ∷ file_lines behind → length behind < length rest → (len : ℕ) (fault : EventsFault) → Refuses (line + 1) (refusal d.names (line_of text)) fault → Reads (events_in len lines) (Err fault)
 stops lines d line rest text behind here cut shorter len (Bad number code) is = rw is.0 (refuses lines d line rest text behind here cut shorter len code is.1)

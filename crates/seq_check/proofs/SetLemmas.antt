@@ -7,15 +7,7 @@ use Rattle.seq_check.specs.declared.event_set.EventSet.{EventSet}
 use Rattle.std.specs.Int.{bit_at, bit_not, trailing_zeros}
 use Rattle.std.proofs.lemmas.Bool.{cases_eq, cases_lt, eq-eqb, ne_eqb, or_right, cond-true, cond-false}
 use Rattle.std.proofs.lemmas.Nat.Bits.{bit_at-lt, bit_at-zero, bit_at_and, bit_at_or, bit_at_not, bit_at_set_same, bit_at_set_other, bit_at-trailing_zeros}
-
--- a test or one that fails
-pub or_false : (a : Bool) → (a || false) ≡ a
-or_false true = refl
-or_false false = refl
-
-pub and_true : (a : Bool) → (a && true) ≡ a
-and_true true = refl
-and_true false = refl
+use Rattle.std.proofs.Math.Bool.{or-false, and-true}
 
 -- what a bit says
 abbrev pub is_one : ℕ → Bool
@@ -58,7 +50,7 @@ in_with a event other within = elim (cases_eq event other) [
       ∙ sym (or_right (is_one (bit_at a other)) (eqb event other) (eq-eqb event other same))
   | inr apart ↦
       ap is_one (bit_at_set_other w64 a event within other (λ e. apart (sym e)))
-      ∙ sym (ap (λ t. is_one (bit_at a other) || t) (ne_eqb event other apart) ∙ or_false (is_one (bit_at a other)))
+      ∙ sym (ap (λ t. is_one (bit_at a other) || t) (ne_eqb event other apart) ∙ or-false (is_one (bit_at a other)))
 ]
 
 -- the same set at each place
@@ -101,7 +93,7 @@ in_added sets place event old new other k within read more = elim (cases_eq plac
       ∙ ap (λ t. in_set_at sets other k || (t && eqb event k)) (sym (eq-eqb place other same))
   | inr apart ↦
       in_written sets place new other k within ∙ cond-false (eqb place other) (in_set new k) (in_set_at sets other k) (ne_eqb place other apart)
-      ∙ sym (or_false (in_set_at sets other k)) ∙ ap (λ t. in_set_at sets other k || (t && eqb event k)) (sym (ne_eqb place other apart))
+      ∙ sym (or-false (in_set_at sets other k)) ∙ ap (λ t. in_set_at sets other k || (t && eqb event k)) (sym (ne_eqb place other apart))
 ]
 
 pub in_joined : (sets : List EventSet) (place : ℕ) (old new more : EventSet) (other k : ℕ) → place < length sets → old ≡ get_or sets place no_events
@@ -114,7 +106,7 @@ in_joined sets place old new more other k within read both = elim (cases_eq plac
       ∙ ap (λ t. in_set_at sets other k || (t && in_set more k)) (sym (eq-eqb place other same))
   | inr apart ↦
       in_written sets place new other k within ∙ cond-false (eqb place other) (in_set new k) (in_set_at sets other k) (ne_eqb place other apart)
-      ∙ sym (or_false (in_set_at sets other k)) ∙ ap (λ t. in_set_at sets other k || (t && in_set more k)) (sym (ne_eqb place other apart))
+      ∙ sym (or-false (in_set_at sets other k)) ∙ ap (λ t. in_set_at sets other k || (t && in_set more k)) (sym (ne_eqb place other apart))
 ]
 
 pub in_closed : (sets : List EventSet) (place : ℕ) (old new lasts : EventSet) (other k : ℕ) → place < length sets → old ≡ get_or sets place no_events
@@ -127,5 +119,5 @@ in_closed sets place old new lasts other k within read less = elim (cases_eq pla
       ∙ ap (λ t. in_set_at sets other k && not (t && in_set lasts k)) (sym (eq-eqb place other same))
   | inr apart ↦
       in_written sets place new other k within ∙ cond-false (eqb place other) (in_set new k) (in_set_at sets other k) (ne_eqb place other apart)
-      ∙ sym (and_true (in_set_at sets other k)) ∙ ap (λ t. in_set_at sets other k && not (t && in_set lasts k)) (sym (ne_eqb place other apart))
+      ∙ sym (and-true (in_set_at sets other k)) ∙ ap (λ t. in_set_at sets other k && not (t && in_set lasts k)) (sym (ne_eqb place other apart))
 ]

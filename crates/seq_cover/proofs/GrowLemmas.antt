@@ -15,6 +15,7 @@ use Rattle.seq_check.proofs.StepLemmas.{all_kept}
 use Rattle.seq_check.specs.EventSets.{AreBack, AreOf, IsFront, OpenView, Tells, in_set_at, is_open, places, rises}
 use Rattle.seq_check.specs.Orders.{distinct_lists, has, is_arrow, is_had, lengthened, place, sequences, steps}
 use Rattle.seq_check.specs.declared.event_set.EventSet.{EventSet}
+use Rattle.value_text.proofs.ListLemmas.{and_not-or}
 
 either_way : (a b : Bool) → (a || b) ≡ (b || a)
 either_way true true = refl
@@ -34,11 +35,6 @@ back_more sets new pairs a b turned more = λ first second.
     more second first ∙ ap (λ t. t || (eqb b second && eqb a first)) (turned first second) ∙ ap (λ t. is_arrow pairs (first, second) || t) (swapped (eqb b second) (eqb a first))
     ∙ either_way (is_arrow pairs (first, second)) (eqb a first && eqb b second)
 
-not_either : (a b : Bool) → (not a && not b) ≡ not (a || (b || false))
-not_either true b = refl
-not_either false true = refl
-not_either false false = refl
-
 -- a row closes the sequences that it has
 pub row_closes : (o closed : OpenView) (n : ℕ) (rows : List (List ℕ)) (row : List ℕ) → closed.len ≡ o.len → Tells o n (λ s. not (is_had rows s))
     → ((front : List ℕ) (last : ℕ) → IsFront o.len (length (places n row)) front → last < length (places n row) → is_open closed front last ≡ (is_open o front last && not (rises (places n row) (front ++ last ∷ []))))
@@ -50,7 +46,7 @@ row_closes o closed n rows row len tells closes = λ front last f below.
     closes front last (subst (λ k. IsFront o.len k front) (sym long) g) (rw long below)
     ∙ ap (λ t. t && not (rises (places n row) s)) (tells front last g below)
     ∙ ap (λ t. not (is_had rows s) && not t) (all_kept n row (steps s) (steps_exist n s (All-push (λ event. event < n) front last f.exist below)))
-    ∙ not_either (is_had rows s) (has row s)
+    ∙ and_not-or (is_had rows s) (has row s)
     ∙ ap not (sym (list_any-append (λ order. has order s) rows (row ∷ [])))
 
 -- one list of sequences more

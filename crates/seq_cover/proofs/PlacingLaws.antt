@@ -7,7 +7,7 @@ use Rattle.std.proofs.lemmas.List.{length_push}
 use Rattle.std.proofs.lemmas.List.Elements.{All-filter, All-head, All-nil, All-push, All-tail, filter_passes}
 use Rattle.std.proofs.lemmas.List.Folds.{position_or_len_push}
 use Rattle.std.proofs.lemmas.List.Sums.{AllPass-from_list_all, length-filter, list_all-from_AllPass, prefix_len-le-length}
-use Rattle.value_text.proofs.ListLemmas.{Some-unwrap_or, list_any-position}
+use Rattle.value_text.proofs.ListLemmas.{Some-unwrap_or, list_any-position, not_or}
 use Rattle.seq_check.specs.Orders.{has_each, is_among, is_arrow, keeps, place}
 use Rattle.seq_cover.specs.OrderGrowth.{better, built_from, can_be_placed, gain, next_placed, with_next}
 use Rattle.seq_cover.specs.Ways.{leads}
@@ -59,10 +59,6 @@ place_last row x is =
     let here : length row + cond (eqb x x) 0 1 ≡ length row = ap (λ b. length row + cond b 0 1) (eq-eqb x x refl) ∙ (let same : length row + 0 ≡ length row = omega arith in same) in
     position_or_len_push (λ other. eqb other x) row x
     ∙ cond-true (eqb (place row x) (length row)) _ (place row x) (eq-eqb (place row x) (length row) last) ∙ here
-
-neither : (a b : Bool) → not (a || b) ≡ (not a && not b)
-neither true b = refl
-neither false b = refl
 
 -- ---- arrows among n events, without a cycle
 
@@ -166,7 +162,7 @@ module _ (n : ℕ) (pairs : List (ℕ × ℕ)) (exist : ExistBelow n pairs) (rou
       let left : is_among row x ≡ false = false_from_ne_true (is_among row x) (λ is. both_ways (not (is_among row x)) (ap not is) parts.0) in
       let arrows = AllPass-from_list_all (λ arrow. not (eqb arrow.1 x) || is_among row arrow.0) pairs parts.1 in
       let less = among-without (is_left row) n x placeable.0 parts.0 in
-      let same = among-same (is_left (row ++ x ∷ [])) (λ y. is_left row y && not (eqb x y)) n (λ y low. ap not (among_more row x y) ∙ neither (is_among row y) (eqb x y)) in
+      let same = among-same (is_left (row ++ x ∷ [])) (λ y. is_left row y && not (eqb x y)) n (λ y low. ap not (among_more row x y) ∙ not_or (is_among row y) (eqb x y)) in
       let lacks = start.lacks in
       record {
         below = All-push (λ y. y < n) row x start.below placeable.0;

@@ -25,6 +25,7 @@ use Rattle.seq_cover.specs.declared.stop.Stop.{Stop}
 use Rattle.seq_cover.specs.declared.stop.Stop.TheVariants.{OutOfMemory, CannotRead, CannotWrite, TooMany, TooLong}
 use Rattle.seq_cover.specs.declared.stop.Stop.TheVariants as stops
 use Rattle.seq_cover.proofs.AcceptedLaws.{grown_accepted, grown_text_covers}
+use Rattle.value_text.proofs.ListLemmas.{one_ok}
 
 -- ---- what a status tells of the end
 
@@ -60,15 +61,12 @@ seven_is_end (Err (TooLong input)) h = absurd (omega (arith, h))
 
 -- ---- a run ended for what is asked
 
-pub one_asked : {asked : Result Asked ℕ} {one other : Asked} → asked ≡ Ok one → asked ≡ Ok other → one ≡ other
-one_asked e f = cc
-
 pub ran_asked :
     {asked : Result Asked ℕ} {one other : Asked} {files : Files} {reads reads_after : List ℕ → ℕ} {before after : Option (List ℕ)} {faults faults_after : ℕ}
     {end : Result Ended Stop} → asked ≡ Ok one → asked ≡ Ok other → Ran one files reads reads_after before after faults faults_after end
     → Ran other files reads reads_after before after faults faults_after end
 ran_asked {asked} {one} {other} {files} {reads} {reads_after} {before} {after} {faults} {faults_after} {end} e f ran =
-    subst (λ a. Ran a files reads reads_after before after faults faults_after end) (one_asked e f) ran
+    subst (λ a. Ran a files reads reads_after before after faults faults_after end) (one_ok e f) ran
 
 -- ---- bytes that were read, where the folder tells
 

@@ -19,6 +19,7 @@ use Rattle.seq_cover.specs.declared.stop.Input.{Input}
 use Rattle.seq_cover.specs.declared.stop.Input.TheVariants.{EventFile, ReportFile}
 use Rattle.seq_cover.specs.declared.stop.Stop.{Stop}
 use Rattle.seq_cover.specs.declared.stop.Stop.TheVariants.{OutOfMemory, CannotRead, CannotWrite}
+use Rattle.value_text.proofs.ListLemmas.{is_err, one_err}
 
 -- a file of events that was read is refused
 stops_refused : (asked : Asked) (files : Files) (bytes : List ℕ) (stop : Stop) (fault : EventsFault) → stop ≡ stop_of fault → IsRead files asked.file EventFile bytes
@@ -39,13 +40,6 @@ pub no_report_read : {A : Type 0} (asked : Asked) (files : Files) (name : List �
 no_report_read asked files name (Ok read) stop none checked stops = absurd none
 no_report_read asked files name (Err s) stop same checked (inl memory) = no_memory (same ∙ memory)
 no_report_read asked files name (Err s) stop same checked (inr stops) = no_report name checked (subst (StopsReading files name ReportFile) (sym same) stops)
-
-is_err : {A : Type 0} (end : Result A Stop) (stop : Stop) → IsErrAnd end (λ s. s ≡ stop) → end ≡ Err stop
-is_err (Ok x) stop none = absurd none
-is_err (Err s) stop same = ap Err same
-
-stop_is : {A : Type 0} (end : Result A Stop) (stop other : Stop) → end ≡ Err stop → end ≡ Err other → stop ≡ other
-stop_is end stop other e f = cc
 
 -- ---- what the folder tells stays
 
@@ -73,9 +67,9 @@ module _ (asked : Asked) (files later : Files) (keeps : KeepsFiles files later) 
   -- the report that is checked isn't read
   pub ran_behind : (middle : List ℕ → ℕ) (end : Result Ended Stop) (stop : Stop) → IsErrAnd end (λ s. s ≡ stop) → StopsBehind asked later stop → KeepsCounts reads middle
       → (stop ≡ CannotRead ReportFile → IsSomeAnd asked.report (λ name. Rose (middle name) (reads_after name))) → Ran asked files reads reads_after before before faults faults end
-  ran_behind middle end stop same stops stay rose = let is = is_err end stop same in record {
+  ran_behind middle end stop same stops stay rose = let is = is_err same in record {
     ends = behind e read (subst (λ r. IsErrAnd r (StopsBehind asked files)) (sym is) (behind_before files later keeps asked stop stops)) refl;
-    rose = λ input failed. of input (stop_is end stop (CannotRead input) is failed) stops;
+    rose = λ input failed. of input (one_err is failed) stops;
     counts = subst (λ r. CountsOut r faults faults) (sym is) (calm stop stops);
   }
     where

@@ -3,7 +3,7 @@ use Rattle.std.proofs.Common.{◌≡◌, ℕ, ◌+◌, ◌<◌, ◌≤◌, Bool,
 use Rattle.std.proofs.Math.Bool.{and-false}
 use Rattle.std.proofs.lemmas.Bool.{and_parts, cases_eq, eq-eqb, ne_eqb, lt-ltb, le-ltb, ltb-true, cases_lt}
 use Rattle.seq_check.proofs.FindLemmas.{first_number, no_number}
-use Rattle.seq_check.proofs.SetLemmas.{or_false}
+use Rattle.std.proofs.Math.Bool.{or-false}
 use Rattle.seq_check.specs.EventSets.{in_set_at}
 use Rattle.seq_check.specs.Orders.{is_arrow}
 use Rattle.seq_check.specs.declared.event_set.EventSet.{EventSet}
@@ -35,7 +35,7 @@ some_added old a t first event holds = elim (cases_eq first event) [
       ap (λ b. (old || (b && (a && t))) || (eqb event first && t)) (le-ltb first event (omega arith)) ∙ ap (λ b. (old || false) || (b && t)) (eq-eqb event first (sym same)) ∙ two_ors old t
       ∙ sym (ap (λ b. old || (b && (a && t))) (lt-ltb first (event + 1) (omega arith)) ∙ ap (λ b. old || (b && t)) (holds same))
   | inr apart ↦
-      ap (λ b. (old || (nat_lt first event && (a && t))) || (b && t)) (ne_eqb event first (λ e. apart (sym e))) ∙ or_false (old || (nat_lt first event && (a && t)))
+      ap (λ b. (old || (nat_lt first event && (a && t))) || (b && t)) (ne_eqb event first (λ e. apart (sym e))) ∙ or-false (old || (nat_lt first event && (a && t)))
       ∙ ap (λ b. old || (b && (a && t))) (below_same first event apart)
 ]
   where

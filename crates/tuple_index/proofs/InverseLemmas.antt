@@ -28,7 +28,7 @@ has_place (y ∷ xs) zero x here = inl (same_Some y x here)
 has_place (y ∷ xs) (suc i) x here = inr (has_place xs i x here)
 
 -- and stands nowhere else, where no member comes again
-one_place : {X : Type 0} (xs : List X) (i j : ℕ) (x : X) → NoRepeats xs → slice_get xs i ≡ Some x → slice_get xs j ≡ Some x → i ≡ j
+pub one_place : {X : Type 0} (xs : List X) (i j : ℕ) (x : X) → NoRepeats xs → slice_get xs i ≡ Some x → slice_get xs j ≡ Some x → i ≡ j
 one_place [] i j x once here there = absurd (omega (arith, slice_get_within [] i x here))
 one_place (y ∷ xs) zero zero x once here there = refl
 one_place (y ∷ xs) zero (suc j) x once here there = absurd (once.0 (subst (Has xs) (sym (same_Some y x here)) (has_place xs j x there)))
@@ -36,7 +36,7 @@ one_place (y ∷ xs) (suc i) zero x once here there = absurd (once.0 (subst (Has
 one_place (y ∷ xs) (suc i) (suc j) x once here there = ap suc (one_place xs i j x once.1 here there)
 
 -- the demanded tuples of a set are distinct
-tuples_differ : (m : ModelView) (set : List ℕ) → NoRepeats (tuples_of m set)
+pub tuples_differ : (m : ModelView) (set : List ℕ) → NoRepeats (tuples_of m set)
 tuples_differ m set =
     repeats_flat (tuples_in m set) (slices m) (λ slice has. tuples_once m set slice (is_slice m slice has))
     (λ first second tuple has_first has_second here there.
@@ -66,7 +66,7 @@ values_told (r ∷ set) (v ∷ first) (w ∷ second) p e rises one two same =
     past : (u : ℕ) (others : List ℕ) (q : ℕ) → r + 1 ≤ q → value_given (r ∷ set) (u ∷ others) q ≡ value_given set others q
     past u others q least = let test = apart_test r q (omega (arith, least)) in rw test refl
 
-cells_tell : (m : ModelView) (set first second : List ℕ) → RisesFrom 0 (length m.params) set → length first ≡ length set → length second ≡ length set
+pub cells_tell : (m : ModelView) (set first second : List ℕ) → RisesFrom 0 (length m.params) set → length first ≡ length set → length second ≡ length set
     → tuple_cells m set first ≡ tuple_cells m set second → first ≡ second
 cells_tell m set first second rises one two same =
     values_told set first second 0 (length m.params) rises one two

@@ -26,7 +26,7 @@ AreOfSlice plan set chosen p Positive = all_among (values_in plan Positive) set 
 AreOfSlice plan set chosen p (Negative q v) =
     (p ≤ q) × (all_among (values_in plan (Negative q v)) set chosen ≡ true) × (is_among set q ≡ true) × (is_among (negatives_of plan q) v ≡ true)
 
-or_left : (a b : Bool) → b ≡ false → (a || b) ≡ true → a ≡ true
+pub or_left : (a b : Bool) → b ≡ false → (a || b) ≡ true → a ≡ true
 or_left true b off either = refl
 or_left false b off either = absurd (false≢true (sym off ∙ either))
 

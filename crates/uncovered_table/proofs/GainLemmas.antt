@@ -9,7 +9,7 @@ use Rattle.std.proofs.lemmas.List.{get_or-set_same, get_or-set_other, length-set
 use Rattle.std.proofs.lemmas.List.Elements.{All-cons, All-nil, All-same, All-head, All-tail, All-weaker, filter-append}
 use Rattle.std.proofs.lemmas.List.Sums.{sum_by-cons}
 use Rattle.std.proofs.Math.Bool.{and-true, and-false}
-use Rattle.value_text.proofs.ListLemmas.{filter-filter, eqb-add_left}
+use Rattle.value_text.proofs.ListLemmas.{filter-filter, eqb-add_left, and_not-and_not}
 use Rattle.cov_model.specs.declared.slice.Slice.{Slice}
 use Rattle.cov_model.specs.Sound.{ModelView}
 use Rattle.cov_model.specs.Rows.{contains}
@@ -337,12 +337,7 @@ all_cleared_at m slice digits bits (set ∷ sets) k within =
     let o = held_bit m slice digits set in
     let others = list_any (λ set. is_number (held_bit m slice digits set) k) sets in
     all_cleared_at m slice digits (cleared o bits) sets k (omega (arith, within, length-cleared o bits))
-    ∙ ap (λ b. b && not others) (cleared_at o bits k within) ∙ regrouped (get_or bits k false) (is_number o k) others
-  where
-    regrouped : (a b c : Bool) → ((a && not b) && not c) ≡ (a && not (b || c))
-    regrouped true true c = refl
-    regrouped true false c = refl
-    regrouped false b c = refl
+    ∙ ap (λ b. b && not others) (cleared_at o bits k within) ∙ and_not-and_not (get_or bits k false) (is_number o k) others
 
 -- closing the tuples that cells contain clears their bits
 pub row_closed_bits : (m : ModelView) (slice : Slice) (bits : List Bool) (cells : List (Option ℕ)) (column : ℕ) → IsKept (plan_of m) → IsSliceOf m slice

@@ -25,6 +25,7 @@ use Rattle.uncovered_table.specs.declared.prepared.Prepared.{Prepared}
 use Rattle.uncovered_table.specs.declared.prepared.ColumnLines.{ColumnLines}
 use Rattle.uncovered_table.specs.Digits.{cell_digit, joined, number_of, own_values, step_of, with_digit}
 use Rattle.uncovered_table.specs.Prepared.{AreColumns, AreLines, ArePushed, with_part, IsLineOf, coded, digit_in, sum_of}
+use Rattle.value_text.proofs.ListLemmas.{add_zero}
 
 -- the parts that are left decide
 pub record Summing (digits : ℕ → Option ℕ) (parts : List Part) (k n : ℕ) : Type 0 where
@@ -32,11 +33,7 @@ pub record Summing (digits : ℕ → Option ℕ) (parts : List Part) (k n : ℕ)
   pub few : n ≤ k * 2 ^ 48
 
 pub summing-start : (digits : ℕ → Option ℕ) (parts : List Part) → Summing digits parts 0 0
-summing-start digits parts = record { value = at (sum_of digits parts); few = omega arith }
-  where
-    at : (o : Option ℕ) → o ≡ option_map (λ r. 0 + r) o
-    at None = refl
-    at (Some r) = ap (λ (n : ℕ). Some n) (let e : r ≡ 0 + r = omega arith in e)
+summing-start digits parts = record { value = add_zero (sum_of digits parts); few = omega arith }
 
 next : (digits : ℕ → Option ℕ) (parts : List Part) (k : ℕ) (d : Part) → k < length parts
     → sum_of digits (drop k parts) ≡ joined (digits (get_or parts k d).param) (get_or parts k d).weight (sum_of digits (drop (k + 1) parts))

@@ -8,9 +8,10 @@ use Rattle.std.proofs.lemmas.List.FromFn.{map-range_with_len_more, length-map-ra
 use Rattle.std.proofs.lemmas.List.Sums.{length-filter, count_by-le-length, position_or_len_is}
 use Rattle.std.proofs.Math.Bool.{and_comm, or_assoc, or_self}
 use Rattle.std.specs.List.{list_any, position_or_len, range_with_len, prefix_len}
-use Rattle.std.specs.Option.{option_or, option_map_or}
+use Rattle.std.specs.Option.{option_or, option_map_or, option_map}
 use Rattle.std.proofs.lemmas.List.Folds.{fold-map}
 use Rattle.std.specs.Str.{bytes_eq}
+use Rattle.std.specs.Result.{IsErrAnd}
 
 -- ---- tests
 
@@ -18,7 +19,41 @@ use Rattle.std.specs.Str.{bytes_eq}
 pub or_twice : (a b : Bool) → (a || b) ≡ (a || (a || b))
 or_twice a b = ap (λ c. c || b) (sym (or_self a)) ∙ or_assoc a a b
 
+-- neither of two; what two tests take away together
+pub not_or : (a b : Bool) → not (a || b) ≡ (not a && not b)
+not_or true b = refl
+not_or false b = refl
+
+pub and_not-or : (a b : Bool) → (not a && not b) ≡ not (a || (b || false))
+and_not-or true b = refl
+and_not-or false true = refl
+and_not-or false false = refl
+
+pub and_not-and_not : (a b c : Bool) → ((a && not b) && not c) ≡ (a && not (b || c))
+and_not-and_not true true c = refl
+and_not-and_not true false c = refl
+and_not-and_not false b c = refl
+
 -- ---- options and results
+
+-- an option that isn't given is none
+pub none_of : {X : Type 0} (o : Option X) → is_some o ≡ false → o ≡ None
+none_of None absent = refl
+none_of (Some x) absent = absurd (false≢true (sym absent))
+
+-- some item passes where one is found
+pub list_any-find : {X : Type 0} (test : X → Bool) (xs : List X) → list_any test xs ≡ is_some (find test xs)
+list_any-find test [] = refl
+list_any-find test (x ∷ xs) = by_case (test x) (list_any-find test xs)
+  where
+    by_case : (b : Bool) → list_any test xs ≡ is_some (find test xs) → (b || list_any test xs) ≡ is_some (cond b (Some x) (find test xs))
+    by_case true rest = refl
+    by_case false rest = rest
+
+-- a function of what is given gives as often
+pub is_some-map : {X Y : Type 0} (f : X → Y) (o : Option X) → is_some (option_map f o) ≡ is_some o
+is_some-map f (Some x) = refl
+is_some-map f None = refl
 
 -- neither of two options is given
 pub option_or_parts : {X : Type 0} (a b : Option X) → option_or a b ≡ None → (a ≡ None) × (b ≡ None)
@@ -38,6 +73,23 @@ Some-from_equal (Some k) n equal = ap Some (eqb-true k n equal)
 -- a result is not both
 pub ok-err : {T E : Type 0} {r : Result T E} (x : T) (e : E) → r ≡ Ok x → r ≡ Err e → ⊥
 ok-err x e ok err = cc
+
+-- a result has one answer
+pub one_ok : {T E : Type 0} {r : Result T E} {x y : T} → r ≡ Ok x → r ≡ Ok y → x ≡ y
+one_ok e f = cc
+
+pub one_err : {T E : Type 0} {r : Result T E} {x y : E} → r ≡ Err x → r ≡ Err y → x ≡ y
+one_err e f = cc
+
+-- a result that is this error
+pub is_err : {T E : Type 0} {r : Result T E} {e : E} → IsErrAnd r (λ other. other ≡ e) → r ≡ Err e
+is_err {r = Ok x} is = absurd is
+is_err {r = Err other} is = ap Err is
+
+-- nothing is added to what is given
+pub add_zero : (o : Option ℕ) → o ≡ option_map (λ n. 0 + n) o
+add_zero None = refl
+add_zero (Some n) = ap Some (omega arith)
 
 -- ---- filters
 

@@ -1,18 +1,18 @@
 use Rattle.std.proofs.Common.{Err, ap, subst, sym}
 use Rattle.proof_check.specs.Runs.{Ends}
-use Rattle.proof_check.proofs.ReadLemmas.{goes_on, same_stop}
 use Rattle.proof_check.proofs.RunEnds.{printed_ends, stopped_ends}
 use Rattle.proof_check.proofs.run.check.Goals as goal
+use Rattle.value_text.proofs.ListLemmas.{is_err, one_err}
 
 pub returns-in_err-verdict-clause-ends : goal.returns-in_err-verdict-clause-ends
 returns-in_err-verdict-clause-ends g c = λ held holds.
     let out = g.O.Sink.written c.args.out.now in
-    subst (Ends c.args.opts.now.opts held out out) (sym (goes_on c.from_residual.ensures.1))
+    subst (Ends c.args.opts.now.opts held out out) (sym (is_err c.from_residual.ensures.1))
     (stopped_ends c.args.opts.now.opts held out c.in_err-verdict.field-0.0 c.in_err-verdict.ensures.before (c.in_err-verdict.ensures.answers held holds))
 
 pub returns-in_err-verdict-clause-read : goal.returns-in_err-verdict-clause-read
 returns-in_err-verdict-clause-read g c = λ kind e.
-    c.in_err-verdict.ensures.read kind (ap Err (same_stop (goes_on c.from_residual.ensures.1) e))
+    c.in_err-verdict.ensures.read kind (ap Err (one_err (is_err c.from_residual.ensures.1) e))
 
 pub returns-clause-ends : goal.returns-clause-ends
 returns-clause-ends g c = λ held holds.

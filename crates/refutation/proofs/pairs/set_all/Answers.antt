@@ -1,5 +1,6 @@
 use Rattle.std.proofs.Common.{length, get_or, take, set, Some, ◌∙◌, sym, ap, arith}
-use Rattle.refutation.proofs.PairLemmas.{length-cells_of, cells_of-more}
+use Rattle.refutation.proofs.PairLemmas.{cells_of-more}
+use Rattle.definitions.proofs.NamedPairs.{length-cells_of}
 use Rattle.refutation.proofs.pairs.set_all.Goals as goal
 
 pub set_cell-requires : goal.set_cell-requires

@@ -1,8 +1,9 @@
 use Rattle.std.proofs.Common.{subst}
 use Rattle.seq_cover.specs.Stops.{Tells, end_text}
 use Rattle.seq_cover.proofs.Causes.{complete_end, long_end, refused_end, report_long_end}
-use Rattle.seq_cover.proofs.RunEnds.{accepts_end, covers_end, one_asked, ran_asked, read_end, refuses_end}
+use Rattle.seq_cover.proofs.RunEnds.{accepts_end, covers_end, ran_asked, read_end, refuses_end}
 use Rattle.seq_cover.proofs.run.run_seq.Goals as goal
+use Rattle.value_text.proofs.ListLemmas.{one_ok}
 
 pub returns-clause-headline : goal.returns-clause-headline
 returns-clause-headline g c = λ zero asked held before words none at told.
@@ -22,7 +23,7 @@ returns-clause-run g c = λ asked words. record {
   ends = (ran_asked c.in-Ok.ensures words c.run-end.ensures.ran).ends;
   told =
       subst (λ a. Tells (g.E.Sink.written c.args.diag.now) (g.E.Sink.written c.tell.new.diag) (g.E.Sink.faults c.args.diag.now) (g.E.Sink.faults c.tell.new.diag) (end_text a c.run-end.result))
-      (one_asked c.in-Ok.ensures words) c.tell.ensures.told;
+      (one_ok c.in-Ok.ensures words) c.tell.ensures.told;
   ended = c.tell.ensures.status;
 }
 
