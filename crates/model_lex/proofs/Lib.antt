@@ -1,7 +1,7 @@
 pub mod Cutting
 pub mod Forms
 mod LineExamples
-pub mod Marks
+pub mod OrderMark
 pub mod Opening
 pub mod Quoting
 pub mod Runs

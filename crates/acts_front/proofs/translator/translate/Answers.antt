@@ -4,7 +4,7 @@ use Rattle.model_lex.specs.Lines.{numbered_lines, without_mark}
 use Rattle.acts_front.proofs.SayTheSame.{faithful}
 use Rattle.acts_front.proofs.Translating.{begins, ends, goes_on, refused, undeclared}
 use Rattle.acts_front.proofs.translator.translate.Goals as goal
-use Rattle.model_lex.proofs.Marks.{unmarked_within}
+use Rattle.model_lex.proofs.OrderMark.{unmarked_within}
 
 pub loop-rest-init : goal.loop-rest-init
 loop-rest-init c =

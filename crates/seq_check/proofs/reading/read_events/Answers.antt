@@ -3,7 +3,7 @@ use Rattle.std.proofs.lemmas.Bool.{eqb-true}
 use Rattle.model_lex.specs.Lines.{file_lines, without_mark, without_return, numbered_lines}
 use Rattle.seq_check.proofs.ReadingSteps.{begins, reads, stops, ends}
 use Rattle.seq_check.proofs.reading.read_events.Goals as goal
-use Rattle.model_lex.proofs.Marks.{unmarked_within}
+use Rattle.model_lex.proofs.OrderMark.{unmarked_within}
 
 pub loop-rest-init : goal.loop-rest-init
 loop-rest-init c =
