@@ -2,10 +2,11 @@
 
 ghost use Rattle.std.specs.Prelude.{◌≡◌, ◌<◌, length};
 ghost use Rattle.definitions.specs.SliceRows.{IsOfSlice};
+ghost use Rattle.tuple_index.specs.Plan.{plan_of};
 
 use crate::open_list::OpenList;
 use cov_model::{Cells, ParamNo, Slice, TestModel, ValueNo};
-use std::test::Fail;
+use std::alloc::Global;
 use test_models::{DISK, count_values, is_positive_row, model_of};
 use tuple_index::Plan;
 use uncovered_table::Uncovered;
@@ -49,8 +50,53 @@ fn has_gains(
     true
 }
 
-// Whether the gains in a row of this turn are those of the list. Closes what the row with one of the
-// values contains.
+// Whether the gains in a row of this turn, which has no value in the column, are those of the list.
+fn has_gains_in_turn(
+    turn: u32,
+    model: &TestModel,
+    table: &Uncovered,
+    list: &OpenList,
+    row: &mut Cells,
+    column: ParamNo,
+) -> bool
+    requires turn { turn < 10000 }
+    requires model { table.now.model ≡ model.now }
+    requires slice { table.now.slice ≡ Slice.Positive }
+    requires column { column < length model.now.params }
+    requires row { length row.old ≡ length model.now.params }
+    ensures { length row.new ≡ length row.old }
+{
+    put_row(model, turn, column, row);
+    is_positive_row(model, row) && has_gains(model, table, list, row, column)
+}
+
+// Closes what the row with this value in the column contains. Whether as many tuples as in the list are open then.
+fn closes_alike(
+    model: &TestModel,
+    table: &mut Uncovered,
+    list: &mut OpenList,
+    row: &mut Cells,
+    column: ParamNo,
+    value: ValueNo,
+) -> bool
+    requires model { table.old.model ≡ model.now }
+    requires slice { table.old.slice ≡ Slice.Positive }
+    requires column { column < length model.now.params }
+    requires row { column < length row.old }
+    ensures model { table.new.model ≡ model.now }
+    ensures slice { table.new.slice ≡ Slice.Positive }
+{
+    row.set_cell(column, value);
+    if !is_positive_row(model, row) {
+        return false;
+    }
+    table.close_row(row, column);
+    list.close(row, column, value);
+    table.open_count() as usize == list.len()
+}
+
+// Whether the gains in a row of this turn are those of the list, also once what the row with one of the values
+// contains is closed.
 fn has_turn(
     turn: u32,
     model: &TestModel,
@@ -68,18 +114,9 @@ fn has_turn(
     if row.len() != model.params().len() || column as usize >= row.len() {
         return false;
     }
-    put_row(model, turn, column, row);
-    if !is_positive_row(model, row) || !has_gains(model, table, list, row, column) {
-        return false;
-    }
     let value = (turn / 6) as ValueNo % count_values(model, column).max(1);
-    row.set_cell(column, value);
-    if !is_positive_row(model, row) {
-        return false;
-    }
-    table.close_row(row, column);
-    list.close(row, column, value);
-    table.open_count() as usize == list.len()
+    has_gains_in_turn(turn, model, table, list, row, column)
+        && closes_alike(model, table, list, row, column, value)
 }
 
 // Whether each of hundreds of turns is as the list has it.
@@ -95,16 +132,45 @@ fn has_turns(model: &TestModel, table: &mut Uncovered, list: &mut OpenList, row:
     true
 }
 
+// How many tuples of the model's list are open before and after the turns; nothing where a turn isn't as the list has
+// it, or memory was refused.
+fn counts_of(alloc: Global, model: &TestModel, plan: &Plan) -> Option<(usize, usize)>
+    requires { plan.now ≡ plan_of model.now }
+{
+    let Ok(mut table) = Uncovered::new(alloc, model, plan, Slice::Positive) else {
+        return None;
+    };
+    let Ok(mut list) = OpenList::new(alloc, model, plan) else {
+        return None;
+    };
+    let Ok(mut row) = Cells::empty(alloc, 6) else {
+        return None;
+    };
+    let before = list.len();
+    if has_turns(model, &mut table, &mut list, &mut row) {
+        Some((before, list.len()))
+    } else {
+        None
+    }
+}
+
+// The same for the model of a text.
+fn counts_of_text(alloc: Global, text: &str) -> Option<(usize, usize)> {
+    let Ok(model) = model_of(alloc, text) else {
+        return None;
+    };
+    match Plan::new(alloc, &model) {
+        Ok(plan) => counts_of(alloc, &model, &plan),
+        Err(_) => None,
+    }
+}
+
 // Until most tuples of the model are closed.
 #[test]
-fn gains_are_plain_counts(rt: HostRuntime) -> Result<(), Fail> {
-    let model = model_of(rt.alloc(), DISK)?;
-    let plan = Plan::new(rt.alloc(), &model)?;
-    let mut table = Uncovered::new(rt.alloc(), &model, &plan, Slice::Positive)?;
-    let mut list = OpenList::new(rt.alloc(), &model, &plan)?;
-    let mut row = Cells::empty(rt.alloc(), 6)?;
-    assert!(rt; list.len() == 331);
-    assert!(rt; has_turns(&model, &mut table, &mut list, &mut row));
-    assert!(rt; list.len() < 80);
-    Ok(())
+fn gains_are_plain_counts(rt: HostRuntime) {
+    let counts = counts_of_text(rt.alloc(), DISK);
+    assert!(rt;
+        matches!(counts, Some((331, after)) if after < 80),
+        "{counts:?}"
+    );
 }

@@ -1,6 +1,7 @@
 //! The orders in which values are taken, and the faults of rows.
 
 use cov_model::{Cells, Prefs, RowWhy, Tuple, ValueNo};
+use std::alloc::Global;
 use std::test::Fail;
 use test_models::{model_of, row_of};
 
@@ -13,17 +14,32 @@ const ORDERS: &[(Option<u64>, &[ValueNo], &[ValueNo], &[ValueNo])] = &[
     (Some(u64::MAX), &[2, 0, 1], &[0, 1], &[1, 3, 0, 2]),
 ];
 
+// Whether the values of three parameters stand in these orders; `false` too where memory was refused.
+fn are_orders(
+    alloc: Global,
+    number: Option<u64>,
+    first: &[ValueNo],
+    second: &[ValueNo],
+    third: &[ValueNo],
+) -> bool {
+    let Ok(model) = model_of(alloc, "A: 1, 2, 3\nB: 1, 2\nC: 1, 2 (2), 3, 4 (2)\n") else {
+        return false;
+    };
+    let Ok(prefs) = Prefs::new(alloc, &model, number) else {
+        return false;
+    };
+    model.params().len() == 3
+        && prefs.of(0) == first
+        && prefs.of(1) == second
+        && prefs.of(2) == third
+}
+
 #[test]
-fn shuffles_by_a_number(rt: HostRuntime) -> Result<(), Fail> {
-    let model = model_of(rt.alloc(), "A: 1, 2, 3\nB: 1, 2\nC: 1, 2 (2), 3, 4 (2)\n")?;
+fn shuffles_by_a_number(rt: HostRuntime) {
     for (number, first, second, third) in ORDERS {
-        let prefs = Prefs::new(rt.alloc(), &model, *number)?;
-        assert!(rt; model.params().len() == 3);
-        assert!(rt; prefs.of(0) == *first, "{number:?}");
-        assert!(rt; prefs.of(1) == *second, "{number:?}");
-        assert!(rt; prefs.of(2) == *third, "{number:?}");
+        let are_orders = are_orders(rt.alloc(), *number, first, second, third);
+        assert!(rt; are_orders, "{number:?}");
     }
-    Ok(())
 }
 
 const MODEL: &str = "A: 1, 2.50, ~-3\nB: red, ~Green, blue\n[A] < 2 OR [B] = \"red\";\n";
@@ -38,14 +54,25 @@ const FAULTS: &[(ValueNo, ValueNo, Option<RowWhy>)] = &[
     (2, 1, Some(RowWhy::Negatives(0, 1))),
 ];
 
-#[test]
-fn finds_the_fault_of_a_row(rt: HostRuntime) -> Result<(), Fail> {
-    let model = model_of(rt.alloc(), MODEL)?;
-    for (first, second, fault) in FAULTS {
-        let row = row_of(rt.alloc(), &model, *first, *second).ok_or("no row")?;
-        assert!(rt; model.row_fault(&row) == *fault, "{first} {second}");
+// Whether this is the fault of the row of these values; `false` too where memory was refused.
+fn is_fault(alloc: Global, first: ValueNo, second: ValueNo, fault: Option<RowWhy>) -> bool {
+    let Ok(model) = model_of(alloc, MODEL) else {
+        return false;
+    };
+    match row_of(alloc, &model, first, second) {
+        Some(row) => model.row_fault(&row) == fault,
+        None => false,
     }
-    Ok(())
+}
+
+#[test]
+fn finds_the_fault_of_a_row(rt: HostRuntime) {
+    for (first, second, fault) in FAULTS {
+        assert!(rt;
+            is_fault(rt.alloc(), *first, *second, *fault),
+            "{first} {second}"
+        );
+    }
 }
 
 #[test]

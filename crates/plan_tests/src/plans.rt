@@ -4,7 +4,7 @@ ghost use Rattle.std.specs.Prelude.{◌≡◌};
 ghost use Rattle.tuple_index.specs.Plan.{plan_of};
 
 use cov_model::{ParamNo, TestModel, ValueNo};
-use std::test::Fail;
+use std::alloc::Global;
 use test_models::model_of;
 use tuple_index::Plan;
 
@@ -58,14 +58,22 @@ const PLANS: &[(&str, &[Expected<'static>])] = &[
     ),
 ];
 
-#[test]
-fn plans_sub_models_and_relations(rt: HostRuntime) -> Result<(), Fail> {
-    for (text, sets) in PLANS {
-        let model = model_of(rt.alloc(), text)?;
-        let plan = Plan::new(rt.alloc(), &model)?;
-        assert!(rt; are_sets(&plan, sets), "{text}");
+// Whether the demanded sets of the model of a text are these; `false` too where there is no plan.
+fn plans_sets(alloc: Global, text: &str, sets: &[Expected]) -> bool {
+    let Ok(model) = model_of(alloc, text) else {
+        return false;
+    };
+    match Plan::new(alloc, &model) {
+        Ok(plan) => are_sets(&plan, sets),
+        Err(_) => false,
     }
-    Ok(())
+}
+
+#[test]
+fn plans_sub_models_and_relations(rt: HostRuntime) {
+    for (text, sets) in PLANS {
+        assert!(rt; plans_sets(rt.alloc(), text, sets), "{text}");
+    }
 }
 
 // Whether the tuple of this rank of the first set has these values, and they this rank.
@@ -80,15 +88,23 @@ fn has_rank(plan: &Plan, model: &TestModel, rank: u32, expected: [ValueNo; 2]) -
     values == expected && plan.rank(0, &values) == rank
 }
 
+// The same in the plan of a model with a negative value.
+fn is_ranked(alloc: Global, rank: u32, expected: [ValueNo; 2]) -> bool {
+    let Ok(model) = model_of(alloc, "A: ~-1, 0, 1\nB: 0, 1\n[A] < 2;\n") else {
+        return false;
+    };
+    match Plan::new(alloc, &model) {
+        Ok(plan) => has_rank(&plan, &model, rank, expected),
+        Err(_) => false,
+    }
+}
+
 // The tuples of the positive slice come first, then that of the negative value.
 const TUPLES: &[[ValueNo; 2]] = &[[1, 0], [1, 1], [2, 0], [2, 1], [0, 0], [0, 1]];
 
 #[test]
-fn ranks_go_slice_by_slice(rt: HostRuntime) -> Result<(), Fail> {
-    let model = model_of(rt.alloc(), "A: ~-1, 0, 1\nB: 0, 1\n[A] < 2;\n")?;
-    let plan = Plan::new(rt.alloc(), &model)?;
+fn ranks_go_slice_by_slice(rt: HostRuntime) {
     for (rank, tuple) in TUPLES.iter().enumerate() {
-        assert!(rt; has_rank(&plan, &model, rank as u32, *tuple), "{tuple:?}");
+        assert!(rt; is_ranked(rt.alloc(), rank as u32, *tuple), "{tuple:?}");
     }
-    Ok(())
 }

@@ -1,107 +1,97 @@
 //! Workers who score the values of a column at the same time.
 
-ghost use Rattle.std.specs.Prelude.{◌≡◌};
+ghost use Rattle.std.specs.Prelude.{◌≡◌, length};
+ghost use Rattle.tuple_index.specs.Plan.{plan_of};
 
-use cov_model::{Cells, Slice, TestModel, ValueNo};
-use outside_io::Gate;
+use cov_model::{Cells, Slice, TestModel};
 use scoring::score_all;
 use std::alloc::Global;
-use std::sync::atomic::{AtomicBool, Ordering};
-use std::test::Fail;
 use std::thread::Threads;
-use test_models::{count_values, is_positive_row, model_of};
+use test_models::{Meeting, count_values, is_positive_row, model_of};
 use tuple_index::Plan;
 use uncovered_table::Uncovered;
-use value_text::NoMemory;
 
-// A gate at which the first worker turns, though not for ever, until the second has come.
-#[derive(Drop)]
-struct Meeting {
-    second_came: AtomicBool,
-    met: AtomicBool,
-}
-
-impl Meeting {
-    fn await_second(&self) {
-        for _ in 0..1 << 28 {
-            if self.second_came.load(Ordering::SeqCst) {
-                self.met.store(true, Ordering::SeqCst);
-                return;
-            }
-        }
-    }
-}
-
-impl Gate for Meeting {
-    fn come(&self, worker: u32) {
-        if worker == 1 {
-            self.await_second();
-        } else {
-            self.second_came.store(true, Ordering::SeqCst);
-        }
-    }
-}
-
-// The row of these values of A and B, and of this one of C.
-fn row_of(alloc: Global, b: ValueNo, c: Option<ValueNo>) -> Result<Cells, NoMemory> {
-    let mut row = Cells::empty(alloc, 3)?;
+// Closes the row of the first values of A, B and C in column C.
+fn close_first(model: &TestModel, table: &mut Uncovered, row: &mut Cells) -> bool
+    requires model { table.old.model ≡ model.now }
+    requires slice { table.old.slice ≡ Slice.Positive }
+    requires row { length row.old ≡ 3 }
+    ensures model { table.new.model ≡ model.now }
+    ensures slice { table.new.slice ≡ Slice.Positive }
+    ensures row { length row.new ≡ 3 }
+{
     row.set_cell(0, 0);
-    row.set_cell(1, b);
-    match c {
-        Some(value) => row.set_cell(2, value),
-        None => {}
+    row.set_cell(1, 0);
+    row.set_cell(2, 0);
+    if model.params().len() != 3 || !is_positive_row(model, row) {
+        return false;
     }
-    Ok(row)
+    table.close_row(row, 2);
+    true
 }
 
-// Closes the first row in column C, and gives the scores of both its values in the second row by two workers.
+// The scores that two workers give who come to this gate: those of the values of C in the row with the second value
+// of B.
 fn scores_of<R: Threads + Sync>(
     rt: &R,
     model: &TestModel,
-    table: &mut Uncovered,
-    first: &Cells,
-    second: &Cells,
+    table: &Uncovered,
+    row: &mut Cells,
     gate: &Meeting,
 ) -> Option<[u32; 2]>
-    requires model { table.old.model ≡ model.now }
-    requires slice { table.old.slice ≡ Slice.Positive }
+    requires model { table.now.model ≡ model.now }
+    requires slice { table.now.slice ≡ Slice.Positive }
+    requires row { length row.old ≡ 3 }
 {
-    if model.params().len() != 3
-        || count_values(model, 2) != 2
-        || !is_positive_row(model, first)
-        || !is_positive_row(model, second)
-    {
+    row.set_cell(1, 1);
+    row.clear_cell(2);
+    if model.params().len() != 3 || count_values(model, 2) != 2 || !is_positive_row(model, row) {
         return None;
     }
-    table.close_row(first, 2);
     let mut scores = [0, 0];
-    score_all(rt, table, second, 2, &mut scores, 2, gate);
+    score_all(rt, table, row, 2, &mut scores, 2, gate);
     Some(scores)
 }
 
-// The scores that two workers give who come to this gate.
+// The scores that they give once the first row is closed; nothing where memory was refused.
 fn scores_at<R: Threads + Sync>(
     rt: &R,
     alloc: Global,
+    model: &TestModel,
+    plan: &Plan,
     gate: &Meeting,
-) -> Result<Option<[u32; 2]>, Fail> {
-    let model = model_of(alloc, "A: 1, 2\nB: x, y\nC: u, v\n")?;
-    let plan = Plan::new(alloc, &model)?;
-    let mut table = Uncovered::new(alloc, &model, &plan, Slice::Positive)?;
-    let first = row_of(alloc, 0, Some(0))?;
-    let second = row_of(alloc, 1, None)?;
-    Ok(scores_of(rt, &model, &mut table, &first, &second, gate))
+) -> Option<[u32; 2]>
+    requires { plan.now ≡ plan_of model.now }
+{
+    let Ok(mut table) = Uncovered::new(alloc, model, plan, Slice::Positive) else {
+        return None;
+    };
+    let Ok(mut row) = Cells::empty(alloc, 3) else {
+        return None;
+    };
+    if close_first(model, &mut table, &mut row) {
+        scores_of(rt, model, &table, &mut row, gate)
+    } else {
+        None
+    }
+}
+
+// The same for a model of three parameters.
+fn scores_by_two<R: Threads + Sync>(rt: &R, alloc: Global, gate: &Meeting) -> Option<[u32; 2]> {
+    let Ok(model) = model_of(alloc, "A: 1, 2\nB: x, y\nC: u, v\n") else {
+        return None;
+    };
+    match Plan::new(alloc, &model) {
+        Ok(plan) => scores_at(rt, alloc, &model, &plan, gate),
+        Err(_) => None,
+    }
 }
 
 // The second row gains one tuple by the first value of C, and two by the second one. Each is scored by a
 // worker of its own while the other is at work.
 #[test]
-fn two_workers_meet(rt: HostRuntime) -> Result<(), Fail> {
-    let gate = Meeting {
-        second_came: AtomicBool::new(false),
-        met: AtomicBool::new(false),
-    };
-    assert!(rt; scores_at(&rt, rt.alloc(), &gate)? == Some([1, 2]));
-    assert!(rt; gate.met.load(Ordering::SeqCst));
-    Ok(())
+fn two_workers_meet(rt: HostRuntime) {
+    let gate = Meeting::new();
+    assert!(rt; scores_by_two(&rt, rt.alloc(), &gate) == Some([1, 2]));
+    assert!(rt; gate.has_met());
 }

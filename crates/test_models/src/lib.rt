@@ -1,8 +1,11 @@
-//! What crates of tests share: models that are read from their texts, and partial rows that are of them.
+//! What crates of tests share: models that are read from their texts, partial rows that are of them, and a gate of two
+//! workers.
 #![tactic(auto)]
 
+mod meeting;
 mod rows;
 mod texts;
 
+pub use meeting::Meeting;
 pub use rows::{count_values, is_positive_row, row_of};
 pub use texts::{DISK, model_of, options, read};
