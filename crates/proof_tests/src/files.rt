@@ -1,7 +1,7 @@
 //! Proof files that are written and read back, and lines that are none.
 
 use crate::proofs::proof_of;
-use cov_model::{TestModel, Tuple};
+use cov_model::Tuple;
 use refutation::{
     Omission, Omissions, ProofFault, ProofForm, TreeBuf, TreeToken, format_len, omission_len,
     put_format, put_omission, write_omission,
@@ -113,87 +113,131 @@ fn put(alloc: Global, proof: &Omissions) -> Result<Vec<u8>, NoMemory> {
     Ok(text)
 }
 
-// The number of the line that is none.
-fn broken_line(alloc: Global, model: &TestModel, text: &str) -> Option<u32> {
-    match proof_of(alloc, model, text) {
-        Err(ProofFault::Line(line)) => Some(line),
-        Err(ProofFault::NoMemory) | Ok(_) => None,
+// Whether the proof of a text is written as that text, and its omissions as the lines behind the first.
+fn keeps_text(alloc: Global, proof: &Omissions, text: &[u8]) -> bool {
+    let Ok(whole) = written(alloc, proof) else {
+        return false;
+    };
+    let Ok(lines) = put(alloc, proof) else {
+        return false;
+    };
+    let ends = text.ends_with(lines.as_slice()) && proof.is_empty() == lines.is_empty();
+    ends && whole.as_slice() == text
+}
+
+// Whether a text is a proof of the model, and the proof is written as it was read.
+fn is_written_again(alloc: Global, text: &str) -> bool {
+    let Ok(model) = model_of(alloc, MODEL) else {
+        return false;
+    };
+    match proof_of(alloc, &model, text) {
+        Ok(proof) => {
+            proof.iter().count() == proof.len() && keeps_text(alloc, &proof, text.as_bytes())
+        }
+        Err(_) => false,
     }
 }
 
 #[test]
-fn proofs_are_written_as_they_were_read(rt: HostRuntime) -> Result<(), Fail> {
-    let model = model_of(rt.alloc(), MODEL)?;
+fn proofs_are_written_as_they_were_read(rt: HostRuntime) {
     for text in FILES {
-        let proof = proof_of(rt.alloc(), &model, text)?;
-        assert!(rt;
-            written(rt.alloc(), &proof)?.as_slice() == text.as_bytes(),
-            "{text}"
-        );
-        let lines = put(rt.alloc(), &proof)?;
-        assert!(rt; text.as_bytes().ends_with(lines.as_slice()), "{text}");
-        assert!(rt; proof.iter().count() == proof.len());
-        assert!(rt; proof.is_empty() == lines.is_empty());
+        assert!(rt; is_written_again(rt.alloc(), text), "{text}");
     }
-    Ok(())
 }
 
-#[test]
-fn proofs_are_made_by_hand(rt: HostRuntime) -> Result<(), Fail> {
-    let tuple = Tuple::of(rt.alloc(), &[(0, 10), (1, 1)])?;
-    let mut tree = TreeBuf::new(rt.alloc());
-    assert!(rt; tree.is_empty());
+fn tree_by_hand(alloc: Global) -> Result<TreeBuf, NoMemory> {
+    let mut tree = TreeBuf::new(alloc);
     tree.push(TreeToken::Branch(1))?;
     tree.push(TreeToken::ByRule(2))?;
     tree.push(TreeToken::ByNegative)?;
     tree.push(TreeToken::ByOmission(30))?;
+    Ok(tree)
+}
+
+#[test]
+fn trees_are_made_by_hand(rt: HostRuntime) -> Result<(), Fail> {
+    assert!(rt; TreeBuf::new(rt.alloc()).is_empty());
+    let tree = tree_by_hand(rt.alloc())?;
     assert!(rt; tree.len() == 4 && tree.iter().count() == 4);
     assert!(rt; tree.get(2).copied() == Some(TreeToken::ByNegative) && tree.get(4).is_none());
-    let mut proof = Omissions::empty(rt.alloc(), ProofForm::Two);
+    Ok(())
+}
+
+fn proof_by_hand(alloc: Global) -> Result<Omissions, NoMemory> {
+    let tuple = Tuple::of(alloc, &[(0, 10), (1, 1)])?;
+    let tree = tree_by_hand(alloc)?;
+    let mut proof = Omissions::empty(alloc, ProofForm::Two);
     proof.push(Omission { tuple, tree })?;
+    Ok(proof)
+}
+
+#[test]
+fn proofs_are_made_by_hand(rt: HostRuntime) -> Result<(), Fail> {
+    let proof = proof_by_hand(rt.alloc())?;
     assert!(rt; proof.get(0).is_some() && proof.get(1).is_none());
     let text = written(rt.alloc(), &proof)?;
     assert!(rt; text.as_slice() == b"pict-proof 2\nomit 0=10 1=1 : B1 L2 N O30\n".as_slice());
     Ok(())
 }
 
+// The number of the line that is none; nothing where each is one, or memory was refused.
+fn broken_line(alloc: Global, text: &str) -> Option<u32> {
+    let Ok(model) = model_of(alloc, MODEL) else {
+        return None;
+    };
+    match proof_of(alloc, &model, text) {
+        Err(ProofFault::Line(line)) => Some(line),
+        Err(ProofFault::NoMemory) | Ok(_) => None,
+    }
+}
+
 #[test]
-fn files_that_are_no_proofs_are_refused(rt: HostRuntime) -> Result<(), Fail> {
-    let model = model_of(rt.alloc(), MODEL)?;
+fn files_that_are_no_proofs_are_refused(rt: HostRuntime) {
     for (text, line) in BROKEN {
-        assert!(rt;
-            broken_line(rt.alloc(), &model, text) == Some(*line),
-            "{text}"
-        );
+        assert!(rt; broken_line(rt.alloc(), text) == Some(*line), "{text}");
     }
-    Ok(())
+}
+
+// The same for the text with this line at its end.
+fn broken_line_behind(alloc: Global, text: &str, line: &str) -> Option<u32> {
+    match format!(in alloc; "{text}{line}\n") {
+        Ok(file) => broken_line(alloc, file.as_str()),
+        Err(_) => None,
+    }
 }
 
 #[test]
-fn lines_that_are_no_omissions_are_refused(rt: HostRuntime) -> Result<(), Fail> {
-    let model = model_of(rt.alloc(), MODEL)?;
+fn lines_that_are_no_omissions_are_refused(rt: HostRuntime) {
     for line in NO_LINES {
-        let text = format!(in rt.alloc(); "pict-proof 1\nomit 0=1 1=1 : L1\n{line}\n")?;
-        assert!(rt;
-            broken_line(rt.alloc(), &model, text.as_str()) == Some(3),
-            "{line}"
-        );
+        let broken = broken_line_behind(rt.alloc(), "pict-proof 1\nomit 0=1 1=1 : L1\n", line);
+        assert!(rt; broken == Some(3), "{line}");
     }
-    for token in NO_CITATIONS {
-        let text = format!(in rt.alloc(); "pict-proof 2\nomit 0=1 : {token}\n")?;
-        assert!(rt;
-            broken_line(rt.alloc(), &model, text.as_str()) == Some(2),
-            "{token}"
-        );
-    }
-    Ok(())
 }
 
 #[test]
-fn faults_say_what_they_are(rt: HostRuntime) -> Result<(), Fail> {
-    let line = format!(in rt.alloc(); "{}", ProofFault::Line(6))?;
-    assert!(rt; line.as_str() == "line 6 is not a proof line");
-    let memory = format!(in rt.alloc(); "{}", ProofFault::NoMemory)?;
-    assert!(rt; memory.as_str() == "memory was refused");
-    Ok(())
+fn tokens_that_are_no_citations_are_refused(rt: HostRuntime) {
+    for token in NO_CITATIONS {
+        let broken = broken_line_behind(rt.alloc(), "pict-proof 2\nomit 0=1 : ", token);
+        assert!(rt; broken == Some(2), "{token}");
+    }
+}
+
+// Whether a fault is told as this.
+fn is_told_as(alloc: Global, fault: ProofFault, text: &str) -> bool {
+    match format!(in alloc; "{fault}") {
+        Ok(told) => told.as_str() == text,
+        Err(_) => false,
+    }
+}
+
+#[test]
+fn faults_say_what_they_are(rt: HostRuntime) {
+    assert!(rt;
+        is_told_as(
+            rt.alloc(),
+            ProofFault::Line(6),
+            "line 6 is not a proof line"
+        )
+    );
+    assert!(rt; is_told_as(rt.alloc(), ProofFault::NoMemory, "memory was refused"));
 }

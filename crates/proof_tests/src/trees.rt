@@ -6,9 +6,7 @@ use crate::proofs::proof_of;
 use cov_model::{Cells, TestModel};
 use refutation::{Omissions, tree_ok};
 use std::alloc::Global;
-use std::test::Fail;
 use test_models::model_of;
-use value_text::NoMemory;
 
 // No value of C goes with the first value of A.
 const BARRED: &str = "A: 1, 2\nB: x, y\nC: p, q, r\nIF [A] = 1 THEN [C] <> \"p\";\n\
@@ -28,8 +26,9 @@ const NEGATIVE: &str = "A: ~1, ~2\nB: x, y\nC: u, v\n";
 // B and C have a negative value.
 const MIXED: &str = "A: 1, 2\nB: x, ~n\nC: v, ~m\nIF [A] = 2 THEN [C] = \"v\";\n";
 
-// Lines of omissions in format 2, each but the last refuted after those before.
-const CITING: &str = "omit 0=0 1=0 : B2 L2 L1\nomit 0=0 1=1 : B2 L1 L2\nomit 0=0 2=0 : B1 L2 L1\n\
+// A proof file in format 2, each of whose tuples is refuted after those before.
+const CITING: &str =
+    "pict-proof 2\nomit 0=0 1=0 : B2 L2 L1\nomit 0=0 1=1 : B2 L1 L2\nomit 0=0 2=0 : B1 L2 L1\n\
     omit 0=0 2=1 : B1 L1 L2\nomit 0=0 3=0 : B1 O1 O2\n";
 
 // A model, the lines of some omissions, and whether the tree of the last refutes its tuple after those
@@ -74,62 +73,74 @@ const CITED: &[(&str, bool)] = &[
 ];
 
 // Whether the tree of the last omission refutes its tuple after those before it; false where there is
-// no omission.
-fn last_refutes(alloc: Global, model: &TestModel, proof: &Omissions) -> Result<bool, NoMemory>
+// no omission, or memory was refused.
+fn last_refutes(alloc: Global, model: &TestModel, proof: &Omissions) -> bool
     requires of_model { All (λ omission. AreOfModel model.now omission.tuple) proof.now.omissions }
     requires few { length proof.now.omissions ≤ 2 ^ 20 }
 {
     let [front @ .., last] = proof.as_slice() else {
-        return Ok(false);
+        return false;
     };
-    let mut scratch = Cells::empty(alloc, model.params().len())?;
+    let Ok(mut scratch) = Cells::empty(alloc, model.params().len()) else {
+        return false;
+    };
     let before = front.len() as u32;
-    let refutes = tree_ok(
+    tree_ok(
         model,
         &last.tuple,
         last.tree.as_slice(),
         proof,
         before,
         &mut scratch,
-    );
-    Ok(refutes)
+    )
 }
 
-#[test]
-fn trees_refute_their_tuples(rt: HostRuntime) -> Result<(), Fail> {
-    for (text, lines, expected) in TREES {
-        let model = model_of(rt.alloc(), text)?;
-        let text = format!(in rt.alloc(); "pict-proof 1\n{lines}")?;
-        let proof = proof_of(rt.alloc(), &model, text.as_str())?;
-        let refutes = last_refutes(rt.alloc(), &model, &proof)?;
-        assert!(rt; refutes == *expected, "{lines}");
+// The same for the proof of a text with this line at its end; nothing where there is no proof.
+fn line_refutes(alloc: Global, model: &TestModel, text: &str, line: &str) -> Option<bool> {
+    let Ok(file) = format!(in alloc; "{text}{line}") else {
+        return None;
+    };
+    match proof_of(alloc, model, file.as_str()) {
+        Ok(proof) => Some(last_refutes(alloc, model, &proof)),
+        Err(_) => None,
     }
-    Ok(())
+}
+
+// The same for the model of a text.
+fn refutes(alloc: Global, model: &str, text: &str, line: &str) -> Option<bool> {
+    match model_of(alloc, model) {
+        Ok(model) => line_refutes(alloc, &model, text, line),
+        Err(_) => None,
+    }
 }
 
 #[test]
-fn trees_cite_earlier_tuples(rt: HostRuntime) -> Result<(), Fail> {
-    let model = model_of(rt.alloc(), TWIN_AND_ONE)?;
+fn trees_refute_their_tuples(rt: HostRuntime) {
+    for (model, lines, expected) in TREES {
+        let refutes = refutes(rt.alloc(), model, "pict-proof 1\n", lines);
+        assert!(rt; refutes == Some(*expected), "{lines}");
+    }
+}
+
+#[test]
+fn trees_cite_earlier_tuples(rt: HostRuntime) {
     for (line, expected) in CITED {
-        let text = format!(in rt.alloc(); "pict-proof 2\n{CITING}{line}")?;
-        let proof = proof_of(rt.alloc(), &model, text.as_str())?;
-        let refutes = last_refutes(rt.alloc(), &model, &proof)?;
-        assert!(rt; refutes == *expected, "{line}");
+        let refutes = refutes(rt.alloc(), TWIN_AND_ONE, CITING, line);
+        assert!(rt; refutes == Some(*expected), "{line}");
     }
-    Ok(())
 }
 
-// A tuple with a negative value may be omitted where one without it isn't, so it takes more to cite.
+// Lines in format 2. A tuple with a negative value may be omitted where one without it isn't, so it takes more to
+// cite.
+const CITED_NEGATIVES: &[(&str, bool)] = &[
+    ("omit 1=0 2=0 : B0 N N\nomit 0=0 1=0 2=0 : O1\n", false),
+    ("omit 2=0 : N\nomit 1=0 2=0 : B0 O1 O1\n", true),
+];
+
 #[test]
-fn negative_values_have_to_be_cited(rt: HostRuntime) -> Result<(), Fail> {
-    let model = model_of(rt.alloc(), NEGATIVE)?;
-    let first = "pict-proof 2\nomit 1=0 2=0 : B0 N N\nomit 0=0 1=0 2=0 : O1\n";
-    let proof = proof_of(rt.alloc(), &model, first)?;
-    let refutes = last_refutes(rt.alloc(), &model, &proof)?;
-    assert!(rt; !refutes);
-    let second = "pict-proof 2\nomit 2=0 : N\nomit 1=0 2=0 : B0 O1 O1\n";
-    let proof = proof_of(rt.alloc(), &model, second)?;
-    let refutes = last_refutes(rt.alloc(), &model, &proof)?;
-    assert!(rt; refutes);
-    Ok(())
+fn negative_values_have_to_be_cited(rt: HostRuntime) {
+    for (lines, expected) in CITED_NEGATIVES {
+        let refutes = refutes(rt.alloc(), NEGATIVE, "pict-proof 2\n", lines);
+        assert!(rt; refutes == Some(*expected), "{lines}");
+    }
 }
