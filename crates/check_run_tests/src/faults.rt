@@ -1,7 +1,8 @@
 //! Folders and sinks that fail.
 
-use crate::runs::{ACCEPTED, Given, MODEL, PROOF, REPORT, ends_as, on_files};
-use std::test::Fail;
+use crate::runs::{ACCEPTED, FILES, Given, MODEL, PROOF, REPORT, ends_as, on_files};
+use std::alloc::Global;
+use std::thread::Threads;
 
 // The calls of the folder that fail, and the line.
 const READS: &[(&[u64], &str)] = &[
@@ -11,75 +12,65 @@ const READS: &[(&[u64], &str)] = &[
 ];
 
 #[test]
-fn names_the_file_that_cannot_be_read(rt: HostRuntime) -> Result<(), Fail> {
-    let files = [("m", MODEL), ("r", REPORT), ("p", PROOF)];
+fn names_the_file_that_cannot_be_read(rt: HostRuntime) {
     for (fail, line) in READS {
         let given = Given {
             fail,
-            ..on_files(&files)
+            ..on_files(FILES)
         };
-        assert!(rt; ends_as(&rt, rt.alloc(), &given, 7, "", line)?, "{line}");
+        assert!(rt; ends_as(&rt, rt.alloc(), &given, 7, "", line), "{line}");
     }
-    let two = [("m", MODEL), ("r", REPORT)];
-    assert!(rt;
-        ends_as(
-            &rt,
-            rt.alloc(),
-            &on_files(&two),
-            7,
-            "",
-            "error: cannot read p\n"
-        )?
-    );
-    let one = [("r", REPORT), ("p", PROOF)];
-    assert!(rt;
-        ends_as(
-            &rt,
-            rt.alloc(),
-            &on_files(&one),
-            7,
-            "",
-            "error: cannot read m\n"
-        )?
-    );
-    // All three are read before one is parsed.
-    let unread: [(&str, &[u8]); 2] = [("m", b"A 1\n"), ("r", b"")];
-    assert!(rt;
-        ends_as(
-            &rt,
-            rt.alloc(),
-            &on_files(&unread),
-            7,
-            "",
-            "error: cannot read p\n"
-        )?
-    );
-    Ok(())
+}
+
+// The files that there are, and the line. All three are read before one is parsed.
+const ABSENT: &[(&[(&str, &[u8])], &str)] = &[
+    (&[("m", MODEL), ("r", REPORT)], "error: cannot read p\n"),
+    (&[("r", REPORT), ("p", PROOF)], "error: cannot read m\n"),
+    (&[("m", b"A 1\n"), ("r", b"")], "error: cannot read p\n"),
+];
+
+#[test]
+fn names_the_file_that_is_absent(rt: HostRuntime) {
+    for (files, line) in ABSENT {
+        assert!(rt;
+            ends_as(&rt, rt.alloc(), &on_files(files), 7, "", line),
+            "{line}"
+        );
+    }
+}
+
+// Whether a run with room for so many bytes of the verdict keeps them, and tells that it can't write the rest.
+fn keeps<R: Threads + Sync>(rt: &R, alloc: Global, room: usize) -> bool {
+    let given = Given {
+        room: (room, 1 << 10),
+        ..on_files(FILES)
+    };
+    match ACCEPTED.get(..room) {
+        Some(kept) => ends_as(
+            rt,
+            alloc,
+            &given,
+            8,
+            kept,
+            "error: cannot write the report\n",
+        ),
+        None => false,
+    }
 }
 
 #[test]
-fn keeps_what_fits_of_the_verdict(rt: HostRuntime) -> Result<(), Fail> {
-    let files = [("m", MODEL), ("r", REPORT), ("p", PROOF)];
+fn keeps_what_fits_of_the_verdict(rt: HostRuntime) {
     for room in 0..ACCEPTED.len() {
-        let given = Given {
-            room: (room, 1 << 10),
-            ..on_files(&files)
-        };
-        let kept = ACCEPTED.get(..room).ok_or("the line is longer")?;
-        let line = "error: cannot write the report\n";
-        assert!(rt; ends_as(&rt, rt.alloc(), &given, 8, kept, line)?, "{room}");
+        assert!(rt; keeps(&rt, rt.alloc(), room), "{room}");
     }
-    Ok(())
 }
 
 #[test]
-fn a_fault_of_standard_error_changes_nothing(rt: HostRuntime) -> Result<(), Fail> {
-    let files = [("m", MODEL), ("r", REPORT), ("p", PROOF)];
+fn a_fault_of_standard_error_changes_nothing(rt: HostRuntime) {
     let given = Given {
         room: (1 << 10, 11),
         fail: &[2],
-        ..on_files(&files)
+        ..on_files(FILES)
     };
-    assert!(rt; ends_as(&rt, rt.alloc(), &given, 7, "", "error: cann")?);
-    Ok(())
+    assert!(rt; ends_as(&rt, rt.alloc(), &given, 7, "", "error: cann"));
 }

@@ -1,7 +1,6 @@
 //! Files that have no reading.
 
 use crate::runs::{MODEL, PROOF, REPORT, ends_as, on_files};
-use std::test::Fail;
 
 // A model, a report, and the status and the line on standard error.
 const REFUSALS: &[(&[u8], &[u8], u8, &str)] = &[
@@ -35,26 +34,24 @@ const REFUSALS: &[(&[u8], &[u8], u8, &str)] = &[
 ];
 
 #[test]
-fn tells_the_first_cause(rt: HostRuntime) -> Result<(), Fail> {
+fn tells_the_first_cause(rt: HostRuntime) {
     for (model, report, status, line) in REFUSALS {
         let files = [("m", *model), ("r", *report), ("p", PROOF)];
         assert!(rt;
-            ends_as(&rt, rt.alloc(), &on_files(&files), *status, "", line)?,
+            ends_as(&rt, rt.alloc(), &on_files(&files), *status, "", line),
             "{line}"
         );
     }
-    Ok(())
 }
 
 // Notes aren't told: a value name that is dropped, and a column that no parameter has.
 #[test]
-fn tells_no_notes(rt: HostRuntime) -> Result<(), Fail> {
+fn tells_no_notes(rt: HostRuntime) {
     let files: [(&str, &[u8]); 3] = [
         ("m", b"A: 1, 2, 1\nB: x, y\nIF [A] = 1 THEN [B] = \"x\";\n"),
         ("r", b"A\tB\tZ\n1\tx\tq\n2\tx\tq\n2\ty\tq\n"),
         ("p", PROOF),
     ];
     let line = "accepted: 3 rows, 1 omissions\n";
-    assert!(rt; ends_as(&rt, rt.alloc(), &on_files(&files), 0, line, "")?);
-    Ok(())
+    assert!(rt; ends_as(&rt, rt.alloc(), &on_files(&files), 0, line, ""));
 }

@@ -1,9 +1,10 @@
 //! What runs of these tests share: the three files `m`, `r` and `p` in memory, and what a run leaves.
 
-use outside_io::{Calls, MemFolder, MemSink};
+use outside_io::{MemFolder, MemSink};
 use proof_check::run_check;
 use std::alloc::Global;
 use std::thread::Threads;
+use test_runs::{calls_of, words_of};
 use value_text::NoMemory;
 
 /// A model whose one constraint leaves three rows.
@@ -14,6 +15,9 @@ pub const REPORT: &[u8] = b"A\tB\n1\tx\n2\tx\n2\ty\n";
 
 /// Its proof.
 pub const PROOF: &[u8] = b"pict-proof 1\nomit 0=0 1=1 : L1\n";
+
+/// The three in their files.
+pub const FILES: &[(&str, &[u8])] = &[("m", MODEL), ("r", REPORT), ("p", PROOF)];
 
 /// What is said of them.
 pub const ACCEPTED: &str = "accepted: 3 rows, 1 omissions\n";
@@ -41,22 +45,6 @@ pub fn on_files<'a>(files: &'a [(&'a str, &'a [u8])]) -> Given<'a> {
     }
 }
 
-fn calls_of(alloc: Global, numbers: &[u64]) -> Result<Calls, NoMemory> {
-    let mut calls = Calls::new(alloc);
-    for number in numbers {
-        calls.push(*number)?;
-    }
-    Ok(calls)
-}
-
-fn words_of(alloc: Global, words: &[&str]) -> Result<Vec<String>, NoMemory> {
-    let mut all = Vec::new(alloc);
-    for word in words {
-        all.push(String::from_str(alloc, word)?)?;
-    }
-    Ok(all)
-}
-
 fn folder_of(alloc: Global, given: &Given) -> Result<MemFolder, NoMemory> {
     let mut folder = MemFolder::new(alloc, calls_of(alloc, given.fail)?);
     for (name, bytes) in given.files {
@@ -74,6 +62,15 @@ pub struct Ended {
     pub written: MemSink,
     /// Standard error.
     pub told: MemSink,
+}
+
+impl Ended {
+    // Whether the run ended with this status, and the two streams got these texts.
+    fn is(&self, status: u8, written: &str, told: &str) -> bool {
+        let is_written = self.written.bytes() == written.as_bytes();
+        let is_told = self.told.bytes() == told.as_bytes();
+        self.status == status && is_written && is_told
+    }
 }
 
 /// Runs `pictcheck`.
@@ -101,11 +98,8 @@ pub fn run<R: Threads + Sync>(rt: &R, alloc: Global, given: &Given) -> Result<En
     })
 }
 
-/// Whether a run ends with this status, and the two streams get these texts.
-///
-/// # Errors
-///
-/// As from `run`.
+/// Whether a run ends with this status, and the two streams get these texts. `false` too where `run` gives
+/// `NoMemory`.
 pub fn ends_as<R: Threads + Sync>(
     rt: &R,
     alloc: Global,
@@ -113,9 +107,25 @@ pub fn ends_as<R: Threads + Sync>(
     status: u8,
     written: &str,
     told: &str,
-) -> Result<bool, NoMemory> {
-    let ended = run(rt, alloc, given)?;
-    let is_written = ended.written.bytes() == written.as_bytes();
-    let is_told = ended.told.bytes() == told.as_bytes();
-    Ok(ended.status == status && is_written && is_told)
+) -> bool {
+    match run(rt, alloc, given) {
+        Ok(ended) => ended.is(status, written, told),
+        Err(NoMemory) => false,
+    }
+}
+
+/// Whether a run with these words on the model, its report and its proof ends so.
+pub fn ends_on_model<'a, R: Threads + Sync>(
+    rt: &R,
+    alloc: Global,
+    words: &'a [&'a str],
+    status: u8,
+    written: &str,
+    told: &str,
+) -> bool {
+    let given = Given {
+        words,
+        ..on_files(FILES)
+    };
+    ends_as(rt, alloc, &given, status, written, told)
 }

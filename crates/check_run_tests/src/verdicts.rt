@@ -1,7 +1,6 @@
 //! Verdicts on reports and proofs.
 
 use crate::runs::{ACCEPTED, Given, MODEL, PROOF, REPORT, ends_as, on_files};
-use std::test::Fail;
 
 // A model in which the first value of A goes with no row, and a parameter that no constraint names.
 const TWIN: &[u8] = b"A: 1, 2\nB: 1, 2\nC: 1, 2\nD: 1, 2\n\
@@ -10,18 +9,15 @@ const TWIN: &[u8] = b"A: 1, 2\nB: 1, 2\nC: 1, 2\nD: 1, 2\n\
 const TWIN_REPORT: &[u8] =
     b"A\tB\tC\tD\n2\t1\t1\t1\n2\t2\t2\t2\n2\t1\t2\t1\n2\t2\t1\t1\n2\t1\t1\t2\n";
 
-const NO_TREE: &str = "the tree does not refute the tuple\n";
+// A report without the last row of the model's.
+const SHORT_REPORT: &[u8] = b"A\tB\n1\tx\n2\tx\n";
+
+const UNCOVERED: &str = "refused: uncovered 0=1 1=1\n";
 
 // A model, a report, a proof, and the verdict.
 const VERDICTS: &[(&[u8], &[u8], &[u8], u8, &str)] = &[
     (MODEL, REPORT, PROOF, 0, ACCEPTED),
-    (
-        MODEL,
-        b"A\tB\n1\tx\n2\tx\n",
-        PROOF,
-        10,
-        "refused: uncovered 0=1 1=1\n",
-    ),
+    (MODEL, SHORT_REPORT, PROOF, 10, UNCOVERED),
     (
         MODEL,
         b"A\tB\n1\ty\n2\tx\n2\ty\n",
@@ -73,50 +69,51 @@ const VERDICTS: &[(&[u8], &[u8], &[u8], u8, &str)] = &[
         10,
         "refused: proof line 6: not a proof line\n",
     ),
+    // A line cites none behind it.
+    (
+        TWIN,
+        TWIN_REPORT,
+        b"pict-proof 2\nomit 0=0 1=0 : B2 L2 L1\nomit 0=0 1=1 : B2 L1 L2\nomit 0=0 2=0 : B1 L2 L1\n\
+        omit 0=0 2=1 : B1 L1 L2\nomit 0=0 3=0 : B1 O5 O2\nomit 0=0 3=1 : B1 O1 O2\n",
+        10,
+        "refused: proof line 6: the tree does not refute the tuple\n",
+    ),
 ];
 
 #[test]
-fn says_what_is_wrong(rt: HostRuntime) -> Result<(), Fail> {
+fn says_what_is_wrong(rt: HostRuntime) {
     for (model, report, proof, status, line) in VERDICTS {
         let files = [("m", *model), ("r", *report), ("p", *proof)];
         assert!(rt;
-            ends_as(&rt, rt.alloc(), &on_files(&files), *status, line, "")?,
+            ends_as(&rt, rt.alloc(), &on_files(&files), *status, line, ""),
             "{line}"
         );
     }
-    Ok(())
 }
 
-#[test]
-fn a_line_cites_none_behind_it(rt: HostRuntime) -> Result<(), Fail> {
-    let proof =
-        b"pict-proof 2\nomit 0=0 1=0 : B2 L2 L1\nomit 0=0 1=1 : B2 L1 L2\nomit 0=0 2=0 : B1 L2 L1\n\
-        omit 0=0 2=1 : B1 L1 L2\nomit 0=0 3=0 : B1 O5 O2\nomit 0=0 3=1 : B1 O1 O2\n";
-    let files: [(&str, &[u8]); 3] = [("m", TWIN), ("r", TWIN_REPORT), ("p", proof)];
-    let line = format!(in rt.alloc(); "refused: proof line 6: {NO_TREE}")?;
-    assert!(rt; ends_as(&rt, rt.alloc(), &on_files(&files), 10, line.as_str(), "")?);
-    Ok(())
-}
+// A report, its verdict, and the number of workers.
+const WORKERS: &[(&[u8], u8, &str, &str)] = &[
+    (REPORT, 0, ACCEPTED, "/workers:1"),
+    (REPORT, 0, ACCEPTED, "/workers:2"),
+    (REPORT, 0, ACCEPTED, "/WORKERS:7"),
+    (REPORT, 0, ACCEPTED, "/workers:64"),
+    (SHORT_REPORT, 10, UNCOVERED, "/workers:1"),
+    (SHORT_REPORT, 10, UNCOVERED, "/workers:2"),
+    (SHORT_REPORT, 10, UNCOVERED, "/WORKERS:7"),
+    (SHORT_REPORT, 10, UNCOVERED, "/workers:64"),
+];
 
 #[test]
-fn is_the_same_for_any_number_of_workers(rt: HostRuntime) -> Result<(), Fail> {
-    for word in ["/workers:1", "/workers:2", "/WORKERS:7", "/workers:64"] {
-        let files = [("m", MODEL), ("r", REPORT), ("p", PROOF)];
+fn is_the_same_for_any_number_of_workers(rt: HostRuntime) {
+    for (report, status, line, word) in WORKERS {
+        let files = [("m", MODEL), ("r", *report), ("p", PROOF)];
         let given = Given {
             words: &["m", "r", "p", word],
             ..on_files(&files)
         };
         assert!(rt;
-            ends_as(&rt, rt.alloc(), &given, 0, ACCEPTED, "")?,
+            ends_as(&rt, rt.alloc(), &given, *status, line, ""),
             "{word}"
         );
-        let short: [(&str, &[u8]); 3] = [("m", MODEL), ("r", b"A\tB\n1\tx\n2\tx\n"), ("p", PROOF)];
-        let given = Given {
-            words: &["m", "r", "p", word],
-            ..on_files(&short)
-        };
-        let line = "refused: uncovered 0=1 1=1\n";
-        assert!(rt; ends_as(&rt, rt.alloc(), &given, 10, line, "")?, "{word}");
     }
-    Ok(())
 }

@@ -1,43 +1,59 @@
 //! The words of `pictcheck`.
 
-use crate::runs::{ACCEPTED, Given, MODEL, PROOF, REPORT, ends_as, on_files};
-use std::test::Fail;
+use crate::runs::{ACCEPTED, Given, MODEL, PROOF, REPORT, ends_as, ends_on_model, on_files};
 
-// Words that have no reading, and the number of the first that has none.
+// Words that have no reading, and the line on the first that has none.
 const FAULTS: &[(&[&str], &str)] = &[
-    (&[], "1"),
-    (&["m"], "2"),
-    (&["m", "r"], "3"),
-    (&["m", "", "p"], "2"),
-    (&["", "r"], "1"),
-    (&["m", "r", "p", "x"], "4"),
-    (&["m", "r", "p", "/s"], "4"),
-    (&["m", "r", "p", "/c", "/r:7"], "5"),
-    (&["m", "r", "p", "/proof:q"], "4"),
-    (&["m", "r", "p", "/budget:9"], "4"),
-    (&["m", "r", "p", "/o:0"], "4"),
-    (&["m", "r", "p", "/workers:65"], "4"),
-    (&["m", "r", "p", "/d:~"], "4"),
-    (&["m", "r", "p", "/d:~", "/n:zz"], "5"),
-    (&["m", "r", "p", "/d:~", "/q", "/n:!"], "5"),
-    (&["m", "r", "p", "/d"], "4"),
+    (&[], "error: word 1 is not understood\n"),
+    (&["m"], "error: word 2 is not understood\n"),
+    (&["m", "r"], "error: word 3 is not understood\n"),
+    (&["m", "", "p"], "error: word 2 is not understood\n"),
+    (&["", "r"], "error: word 1 is not understood\n"),
+    (&["m", "r", "p", "x"], "error: word 4 is not understood\n"),
+    (&["m", "r", "p", "/s"], "error: word 4 is not understood\n"),
+    (
+        &["m", "r", "p", "/c", "/r:7"],
+        "error: word 5 is not understood\n",
+    ),
+    (
+        &["m", "r", "p", "/proof:q"],
+        "error: word 4 is not understood\n",
+    ),
+    (
+        &["m", "r", "p", "/budget:9"],
+        "error: word 4 is not understood\n",
+    ),
+    (
+        &["m", "r", "p", "/o:0"],
+        "error: word 4 is not understood\n",
+    ),
+    (
+        &["m", "r", "p", "/workers:65"],
+        "error: word 4 is not understood\n",
+    ),
+    (
+        &["m", "r", "p", "/d:~"],
+        "error: word 4 is not understood\n",
+    ),
+    (
+        &["m", "r", "p", "/d:~", "/n:zz"],
+        "error: word 5 is not understood\n",
+    ),
+    (
+        &["m", "r", "p", "/d:~", "/q", "/n:!"],
+        "error: word 5 is not understood\n",
+    ),
+    (&["m", "r", "p", "/d"], "error: word 4 is not understood\n"),
 ];
 
 #[test]
-fn tells_the_first_word_without_a_reading(rt: HostRuntime) -> Result<(), Fail> {
-    let files = [("m", MODEL), ("r", REPORT), ("p", PROOF)];
-    for (words, number) in FAULTS {
-        let given = Given {
-            words,
-            ..on_files(&files)
-        };
-        let line = format!(in rt.alloc(); "error: word {number} is not understood\n")?;
+fn tells_the_first_word_without_a_reading(rt: HostRuntime) {
+    for (words, line) in FAULTS {
         assert!(rt;
-            ends_as(&rt, rt.alloc(), &given, 3, "", line.as_str())?,
-            "{line}"
+            ends_on_model(&rt, rt.alloc(), words, 3, "", line),
+            "{words:?}"
         );
     }
-    Ok(())
 }
 
 // Words that have a reading.
@@ -49,26 +65,22 @@ const WORDS: &[&[&str]] = &[
 ];
 
 #[test]
-fn reads_options(rt: HostRuntime) -> Result<(), Fail> {
-    let files = [("m", MODEL), ("r", REPORT), ("p", PROOF)];
+fn reads_options(rt: HostRuntime) {
     for words in WORDS {
-        let given = Given {
-            words,
-            ..on_files(&files)
-        };
-        assert!(rt; ends_as(&rt, rt.alloc(), &given, 0, ACCEPTED, "")?);
+        assert!(rt;
+            ends_on_model(&rt, rt.alloc(), words, 0, ACCEPTED, ""),
+            "{words:?}"
+        );
     }
-    Ok(())
 }
 
 // The first three words are names, whatever their first character.
 #[test]
-fn a_name_may_look_like_an_option(rt: HostRuntime) -> Result<(), Fail> {
+fn a_name_may_look_like_an_option(rt: HostRuntime) {
     let files = [("/c", MODEL), ("/s", REPORT), ("--help", PROOF)];
     let given = Given {
         words: &["/c", "/s", "--help"],
         ..on_files(&files)
     };
-    assert!(rt; ends_as(&rt, rt.alloc(), &given, 0, ACCEPTED, "")?);
-    Ok(())
+    assert!(rt; ends_as(&rt, rt.alloc(), &given, 0, ACCEPTED, ""));
 }

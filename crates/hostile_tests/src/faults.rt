@@ -4,25 +4,38 @@ use outside_io::{FileHeld, FileList, SureFolder, SureSink};
 use pict_cli::run_pict;
 use std::alloc::Global;
 use std::test::Fail;
-use test_runs::{Given, ends_as, on_model};
+use std::thread::Threads;
+use test_runs::{Given, ends_as, on_model, words_of};
 use value_text::{NoMemory, OwnedList, Text};
 
 const MODEL: &str = "A: 1, 2\nB: x, y\n";
 
 const REPORT: &str = "A\tB\n1\tx\n1\ty\n2\tx\n2\ty\n";
 
-#[test]
-fn keeps_what_fits_of_the_report(rt: HostRuntime) -> Result<(), Fail> {
-    let line = "error: cannot write the report\n";
-    for room in 0..20 {
-        let given = Given {
-            room: (room, 1 << 10),
-            ..on_model(&["m"], MODEL.as_bytes())
-        };
-        let kept = REPORT.get(..room).ok_or("the report has 20 bytes")?;
-        assert!(rt; ends_as(&rt, rt.alloc(), &given, 8, kept, line)?, "{room}");
+// Whether a run with room for so many bytes of the report keeps them, and tells that it can't write the rest.
+fn keeps<R: Threads + Sync>(rt: &R, alloc: Global, room: usize) -> bool {
+    let given = Given {
+        room: (room, 1 << 10),
+        ..on_model(&["m"], MODEL.as_bytes())
+    };
+    match REPORT.get(..room) {
+        Some(kept) => ends_as(
+            rt,
+            alloc,
+            &given,
+            8,
+            kept,
+            "error: cannot write the report\n",
+        ),
+        None => false,
     }
-    Ok(())
+}
+
+#[test]
+fn keeps_what_fits_of_the_report(rt: HostRuntime) {
+    for room in 0..20 {
+        assert!(rt; keeps(&rt, rt.alloc(), room), "{room}");
+    }
 }
 
 // The name of the one file, the calls of the folder that fail, how many bytes fit into standard error,
@@ -55,7 +68,7 @@ const FAULTS: &[(&str, &[u64], usize, &[&str], u8, &str, &str)] = &[
 ];
 
 #[test]
-fn ends_with_the_status_of_a_fault(rt: HostRuntime) -> Result<(), Fail> {
+fn ends_with_the_status_of_a_fault(rt: HostRuntime) {
     for (name, fail, room, words, status, report, line) in FAULTS {
         let given = Given {
             name,
@@ -64,11 +77,10 @@ fn ends_with_the_status_of_a_fault(rt: HostRuntime) -> Result<(), Fail> {
             ..on_model(words, MODEL.as_bytes())
         };
         assert!(rt;
-            ends_as(&rt, rt.alloc(), &given, *status, report, line)?,
+            ends_as(&rt, rt.alloc(), &given, *status, report, line),
             "{status} {line}"
         );
     }
-    Ok(())
 }
 
 // A folder that never fails, with the model in the file `m`.
@@ -88,8 +100,7 @@ fn runs_where_nothing_fails(rt: HostRuntime) -> Result<(), Fail> {
     let mut folder = folder_of(rt.alloc())?;
     let mut out = SureSink::new();
     let mut told = SureSink::new();
-    let mut words = Vec::new(rt.alloc());
-    words.push(String::from_str(rt.alloc(), "m")?)?;
+    let words = words_of(rt.alloc(), &["m"])?;
     let status = run_pict(
         &rt,
         rt.alloc(),

@@ -215,15 +215,14 @@ const REFUSALS: &[(&[u8], u8, &str)] = &[
 ];
 
 #[test]
-fn refuses_model_files(rt: HostRuntime) -> Result<(), Fail> {
+fn refuses_model_files(rt: HostRuntime) {
     for (model, status, line) in REFUSALS {
         let given = on_model(&["m"], model);
         assert!(rt;
-            ends_as(&rt, rt.alloc(), &given, *status, "", line)?,
+            ends_as(&rt, rt.alloc(), &given, *status, "", line),
             "{line}"
         );
     }
-    Ok(())
 }
 
 // A constraint behind 64 times NOT.
@@ -242,7 +241,7 @@ fn refuses_what_is_nested_too_deeply(rt: HostRuntime) -> Result<(), Fail> {
     for last in ["NOT [A] = 1;\n", "[A] NOT IN {1};\n"] {
         let model = nested(rt.alloc(), last)?;
         let given = on_model(&["m"], model.as_bytes());
-        assert!(rt; ends_as(&rt, rt.alloc(), &given, 5, "", line)?, "{last}");
+        assert!(rt; ends_as(&rt, rt.alloc(), &given, 5, "", line), "{last}");
     }
     Ok(())
 }

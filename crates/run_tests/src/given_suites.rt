@@ -1,7 +1,6 @@
 //! Runs on a suite that is given: its figures, and the suspicious tuples in its results.
 
-use std::test::Fail;
-use test_runs::{Given, ends_as, on_model};
+use test_runs::{End, other_end};
 
 const GUARDED: &[u8] = b"A: 1, 2\nB: x, y\nIF [A] = 1 THEN [B] = \"x\";\n";
 
@@ -13,8 +12,8 @@ const FIGURES: &str =
     Covered tuples: 2 of 3\nComplete sets: 0 of 1\nSets at 75 percent: 0 of 1\nSets at 50 percent: 1 of 1\n\
     Sets at 25 percent: 1 of 1\n";
 
-// Words, a model, a suite in the file t, a status, and what standard output and standard error get.
-const MEASURED: &[(&[&str], &[u8], &[u8], u8, &str, &str)] = &[
+// Runs on a suite in the file t.
+const MEASURED: &[End<'static>] = &[
     (&["m", "/measure:t"], GUARDED, SUITE, 0, FIGURES, ""),
     // The number of workers doesn't matter.
     (
@@ -71,18 +70,8 @@ const MEASURED: &[(&[&str], &[u8], &[u8], u8, &str, &str)] = &[
 ];
 
 #[test]
-fn measures_a_suite(rt: HostRuntime) -> Result<(), Fail> {
-    for (words, model, suite, status, written, told) in MEASURED {
-        let given = Given {
-            rows: Some(("t", suite)),
-            ..on_model(words, model)
-        };
-        assert!(rt;
-            ends_as(&rt, rt.alloc(), &given, *status, written, told)?,
-            "{words:?} {written} {told}"
-        );
-    }
-    Ok(())
+fn measures_a_suite(rt: HostRuntime) {
+    assert_eq!(rt; other_end(&rt, rt.alloc(), "t", MEASURED), None);
 }
 
 const TRIPLES: &[u8] = b"A: 1, 2\nB: x, y\nC: u, v\n";
@@ -94,8 +83,8 @@ const SUSPECTS: &str =
     "Passing tests: 3\nFailing tests: 1\nIncomplete tests: 0\nSuspicious tuples: 3\n\
     suspect 0=0 1=1 : 1 failing\nsuspect 0=0 2=1 : 1 failing\nsuspect 1=1 2=1 : 1 failing\n";
 
-// Words, a model, results in the file t, a status, and what standard output and standard error get.
-const SUSPECTED: &[(&[&str], &[u8], &[u8], u8, &str, &str)] = &[
+// Runs on results in the file t.
+const SUSPECTED: &[End<'static>] = &[
     (&["m", "/suspect:t"], TRIPLES, RESULTS, 0, SUSPECTS, ""),
     // One more passing test takes the last tuple out.
     (
@@ -152,16 +141,6 @@ const SUSPECTED: &[(&[&str], &[u8], &[u8], u8, &str, &str)] = &[
 ];
 
 #[test]
-fn finds_suspicious_tuples(rt: HostRuntime) -> Result<(), Fail> {
-    for (words, model, results, status, written, told) in SUSPECTED {
-        let given = Given {
-            rows: Some(("t", results)),
-            ..on_model(words, model)
-        };
-        assert!(rt;
-            ends_as(&rt, rt.alloc(), &given, *status, written, told)?,
-            "{words:?} {written} {told}"
-        );
-    }
-    Ok(())
+fn finds_suspicious_tuples(rt: HostRuntime) {
+    assert_eq!(rt; other_end(&rt, rt.alloc(), "t", SUSPECTED), None);
 }

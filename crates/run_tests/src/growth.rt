@@ -1,7 +1,6 @@
 //! The reports of models.
 
-use std::test::Fail;
-use test_runs::{ends_as, on_model};
+use test_runs::{Report, other_report};
 
 /// A model in which the first value of A goes with no row.
 pub const TWIN: &[u8] = b"A: 1, 2\nB: 1, 2\nC: 1, 2\n\
@@ -15,8 +14,8 @@ pub const NONE_LIVE: &[u8] = b"A: 1, 2\nB: x, y\nC: p, q, r\nIF [A] = 1 THEN [C]
 pub const NONE_LIVE_REPORT: &str =
     "A\tB\tC\n2\tx\tp\n2\ty\tq\n2\tx\tr\n2\tx\tq\n2\ty\tp\n2\ty\tr\n";
 
-// Words, a model, and its report.
-const REPORTS: &[(&[&str], &[u8], &str)] = &[
+// Models, with their reports.
+const REPORTS: &[Report<'static>] = &[
     (
         &["m"],
         b"A: 1, 2\nB: x, y\n",
@@ -69,39 +68,27 @@ const REPORTS: &[(&[&str], &[u8], &str)] = &[
 ];
 
 #[test]
-fn covers_what_can_be_covered(rt: HostRuntime) -> Result<(), Fail> {
-    for (words, model, report) in REPORTS {
-        let given = on_model(words, model);
-        assert!(rt;
-            ends_as(&rt, rt.alloc(), &given, 0, report, "")?,
-            "{report}"
-        );
-    }
-    Ok(())
+fn covers_what_can_be_covered(rt: HostRuntime) {
+    assert_eq!(rt; other_report(&rt, rt.alloc(), REPORTS), None);
 }
 
+const TRIPLES: &[u8] = b"A: 1, 2\nB: x, y\nC: u, v\n";
+
+const TRIPLES_REPORT: &str = "A\tB\tC\n1\tx\tu\n1\ty\tv\n2\tx\tv\n2\ty\tu\n";
+
 // With two workers their shares differ, with seven there are more workers than values.
-const WORKERS: &[&[&str]] = &[
-    &["m", "/workers:1"],
-    &["m", "/workers:2"],
-    &["m", "/workers:7"],
-    &["m", "/workers:64"],
+const WORKERS: &[Report<'static>] = &[
+    (&["m", "/workers:1"], TRIPLES, TRIPLES_REPORT),
+    (&["m", "/workers:2"], TRIPLES, TRIPLES_REPORT),
+    (&["m", "/workers:7"], TRIPLES, TRIPLES_REPORT),
+    (&["m", "/workers:64"], TRIPLES, TRIPLES_REPORT),
+    (&["m", "/workers:1"], NONE_LIVE, NONE_LIVE_REPORT),
+    (&["m", "/workers:2"], NONE_LIVE, NONE_LIVE_REPORT),
+    (&["m", "/workers:7"], NONE_LIVE, NONE_LIVE_REPORT),
+    (&["m", "/workers:64"], NONE_LIVE, NONE_LIVE_REPORT),
 ];
 
 #[test]
-fn rows_are_the_same_for_any_number_of_workers(rt: HostRuntime) -> Result<(), Fail> {
-    let report = "A\tB\tC\n1\tx\tu\n1\ty\tv\n2\tx\tv\n2\ty\tu\n";
-    for words in WORKERS {
-        let given = on_model(words, b"A: 1, 2\nB: x, y\nC: u, v\n");
-        assert!(rt;
-            ends_as(&rt, rt.alloc(), &given, 0, report, "")?,
-            "{words:?}"
-        );
-        let given = on_model(words, NONE_LIVE);
-        assert!(rt;
-            ends_as(&rt, rt.alloc(), &given, 0, NONE_LIVE_REPORT, "")?,
-            "{words:?}"
-        );
-    }
-    Ok(())
+fn rows_are_the_same_for_any_number_of_workers(rt: HostRuntime) {
+    assert_eq!(rt; other_report(&rt, rt.alloc(), WORKERS), None);
 }

@@ -4,7 +4,8 @@
 use std::alloc::Global;
 use std::test::Fail;
 use std::thread::Threads;
-use test_runs::{Given, on_model, run};
+use test_runs::{Ended, Given, on_model, run};
+use value_text::NoMemory;
 
 // What the model file holds before.
 const OLD: &[u8] = &[b'x'; 4096];
@@ -15,7 +16,9 @@ const FIRST_PARAMETER: &str = "P0: v0, v1";
 const LAST_CONSTRAINT: &str = "IF [P19] = \"v4\" THEN [P53] <> \"v2\";\n";
 
 // A number, the number of bytes of its made model, and how the statistics begin.
-const MADE: &[(&str, usize, &str)] = &[
+type Made<'a> = (&'a str, usize, &'a str);
+
+const MADE: &[Made<'static>] = &[
     (
         "/make:1",
         2354,
@@ -38,19 +41,31 @@ const MADE: &[(&str, usize, &str)] = &[
     ),
 ];
 
+// Whether a run ends with status 0 and the statistics of one of these, and leaves its made model in the model file.
+fn is_made(ended: &Ended, made: &Made) -> bool {
+    let (_, count, statistics) = made;
+    let Some(held) = ended.files.held("m") else {
+        return false;
+    };
+    ended.status == 0
+        && ended.told.bytes().is_empty()
+        && ended.written.bytes().starts_with(statistics.as_bytes())
+        && held.len() == *count
+        && held.starts_with(FIRST_PARAMETER.as_bytes())
+}
+
 // Two runs of one of these are alike, and leave the made model in the model file.
-fn makes<R: Threads + Sync>(rt: &R, alloc: Global, place: usize) -> Result<bool, Fail> {
-    let (word, count, statistics) = MADE.get(place).ok_or("no such made model")?;
-    let words = ["m", *word];
+fn makes<R: Threads + Sync>(rt: &R, alloc: Global, place: usize) -> Result<bool, NoMemory> {
+    let Some(made) = MADE.get(place) else {
+        return Ok(false);
+    };
+    let words = ["m", made.0];
     let given = on_model(&words, OLD);
     let first = run(rt, alloc, &given)?;
     let second = run(rt, alloc, &given)?;
-    let ends = first.status == 0 && first.told.bytes().is_empty();
-    let tells = first.written.bytes().starts_with(statistics.as_bytes());
-    let same = first.written.bytes() == second.written.bytes();
-    let held = first.files.held("m").ok_or("the made model isn't written")?;
-    let written = held.len() == *count && held.starts_with(FIRST_PARAMETER.as_bytes());
-    Ok(ends && tells && same && written && second.files.held("m") == Some(held))
+    let same_report = first.written.bytes() == second.written.bytes();
+    let same_model = first.files.held("m") == second.files.held("m");
+    Ok(is_made(&first, made) && same_report && same_model)
 }
 
 #[test]
@@ -77,6 +92,14 @@ fn makes_the_model_of_7(rt: HostRuntime) -> Result<(), Fail> {
     Ok(())
 }
 
+// Whether a run leaves a model file that ends so.
+fn leaves_ending(ended: &Ended, ending: &str) -> bool {
+    match ended.files.held("m") {
+        Some(held) => held.ends_with(ending.as_bytes()),
+        None => false,
+    }
+}
+
 // Nothing is read under the name of the model file.
 #[test]
 fn needs_no_model_file(rt: HostRuntime) -> Result<(), Fail> {
@@ -88,12 +111,7 @@ fn needs_no_model_file(rt: HostRuntime) -> Result<(), Fail> {
     let ended = run(&rt, rt.alloc(), &given)?;
     assert!(rt; ended.status == 0);
     assert!(rt; ended.written.bytes().starts_with(b"Demanded sets: 1770\n"));
-    assert!(rt;
-        ended
-            .files
-            .held("m")
-            .is_some_and(|held| held.ends_with(LAST_CONSTRAINT.as_bytes()))
-    );
+    assert!(rt; leaves_ending(&ended, LAST_CONSTRAINT));
     Ok(())
 }
 
@@ -134,44 +152,42 @@ const ENDS: &[(&[&str], &[u64], usize, u8, &str, &str)] = &[
     ),
 ];
 
+// Whether a run ends with this status and this line, writes no report, and leaves a model file that ends so.
+fn stops<R: Threads + Sync>(
+    rt: &R,
+    alloc: Global,
+    given: &Given,
+    status: u8,
+    line: &str,
+    ending: &str,
+) -> bool {
+    match run(rt, alloc, given) {
+        Ok(ended) => ended.is(status, "", line) && leaves_ending(&ended, ending),
+        Err(NoMemory) => false,
+    }
+}
+
 #[test]
-fn leaves_the_made_model_where_it_stops_later(rt: HostRuntime) -> Result<(), Fail> {
+fn leaves_the_made_model_where_it_stops_later(rt: HostRuntime) {
     for (words, fail, room, status, line, ending) in ENDS {
         let given = Given {
             fail,
             room: (*room, 1 << 10),
             ..on_model(words, OLD)
         };
-        let ended = run(&rt, rt.alloc(), &given)?;
         assert!(rt;
-            ended.status == *status && ended.told.bytes() == line.as_bytes(),
-            "{line}"
-        );
-        assert!(rt; ended.written.bytes().is_empty());
-        assert!(rt;
-            ended
-                .files
-                .held("m")
-                .is_some_and(|held| held.ends_with(ending.as_bytes())),
+            stops(&rt, rt.alloc(), &given, *status, line, ending),
             "{line}"
         );
     }
-    Ok(())
 }
 
 #[test]
 fn the_proof_may_take_the_place_of_the_made_model(rt: HostRuntime) -> Result<(), Fail> {
-    let ended = run(
-        &rt,
-        rt.alloc(),
-        &on_model(&["m", "/make:7", "/proof:m"], OLD),
-    )?;
+    let given = on_model(&["m", "/make:7", "/proof:m"], OLD);
+    let ended = run(&rt, rt.alloc(), &given)?;
     assert!(rt; ended.status == 0);
-    assert!(rt;
-        ended
-            .files
-            .held("m")
-            .is_some_and(|held| held.starts_with(b"pict-proof 1\nomit "))
-    );
+    let held = ended.files.held("m").ok_or("no model file")?;
+    assert!(rt; held.starts_with(b"pict-proof 1\nomit "));
     Ok(())
 }

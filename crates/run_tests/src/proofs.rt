@@ -1,9 +1,12 @@
 //! The proof files of models.
 
 use crate::growth::{NONE_LIVE, NONE_LIVE_REPORT, TWIN};
+use std::alloc::Global;
 use std::test::Fail;
+use std::thread::Threads;
 use test_models::DISK;
-use test_runs::{ends_as, on_model, run, writes};
+use test_runs::{Given, on_model, run, writes};
+use value_text::NoMemory;
 
 // A model in which the first value of A goes with no row, and a parameter that no constraint names.
 const TWIN_AND_ONE: &[u8] = b"A: 1, 2\nB: 1, 2\nC: 1, 2\nD: 1, 2\n\
@@ -76,24 +79,20 @@ const PROOFS: &[(&[&str], &[u8], &str, &str)] = &[
 ];
 
 #[test]
-fn lists_what_no_row_serves(rt: HostRuntime) -> Result<(), Fail> {
+fn lists_what_no_row_serves(rt: HostRuntime) {
     for (words, model, report, proof) in PROOFS {
         let given = on_model(words, model);
-        assert!(rt; writes(&rt, rt.alloc(), &given, report, proof)?, "{proof}");
+        assert!(rt; writes(&rt, rt.alloc(), &given, report, proof), "{proof}");
     }
-    Ok(())
 }
 
 #[test]
 fn lists_four_pairs_of_the_disk_model(rt: HostRuntime) -> Result<(), Fail> {
     let proof =
-        "pict-proof 1\nomit 1=4 3=0 : L1\nomit 1=5 3=0 : L1\nomit 1=6 3=0 : L1\nomit 1=6 3=1 : L2\n";
-    let ended = run(
-        &rt,
-        rt.alloc(),
-        &on_model(&["m", "/proof:p"], DISK.as_bytes()),
-    )?;
-    assert!(rt; ended.status == 0 && ended.files.held("p") == Some(proof.as_bytes()));
+        b"pict-proof 1\nomit 1=4 3=0 : L1\nomit 1=5 3=0 : L1\nomit 1=6 3=0 : L1\nomit 1=6 3=1 : L2\n";
+    let given = on_model(&["m", "/proof:p"], DISK.as_bytes());
+    let ended = run(&rt, rt.alloc(), &given)?;
+    assert!(rt; ended.status == 0 && ended.holds("p", proof));
     Ok(())
 }
 
@@ -109,16 +108,21 @@ const ENDED: &[(&[&str], &str)] = &[
     ),
 ];
 
+// Whether a run ends with status 2 and this line, and leaves neither report nor proof.
+fn ends_early<R: Threads + Sync>(rt: &R, alloc: Global, given: &Given, line: &str) -> bool {
+    match run(rt, alloc, given) {
+        Ok(ended) => ended.is(2, "", line) && ended.files.held("p").is_none(),
+        Err(NoMemory) => false,
+    }
+}
+
 // Then no proof is written.
 #[test]
-fn writes_no_proof_without_a_suite(rt: HostRuntime) -> Result<(), Fail> {
+fn writes_no_proof_without_a_suite(rt: HostRuntime) {
     for (words, line) in ENDED {
         let given = on_model(words, TWIN);
-        assert!(rt; ends_as(&rt, rt.alloc(), &given, 2, "", line)?);
-        let ended = run(&rt, rt.alloc(), &given)?;
-        assert!(rt; ended.files.held("p").is_none());
+        assert!(rt; ends_early(&rt, rt.alloc(), &given, line), "{line}");
     }
-    Ok(())
 }
 
 // The model file was read before.
@@ -127,6 +131,6 @@ fn the_proof_may_take_the_place_of_the_model(rt: HostRuntime) -> Result<(), Fail
     let model = b"A: 1, 2\nB: x, y\nIF [A] = 1 THEN [B] = \"x\";\n";
     let ended = run(&rt, rt.alloc(), &on_model(&["m", "/proof:m"], model))?;
     assert!(rt; ended.status == 0);
-    assert!(rt; ended.files.held("m") == Some(b"pict-proof 1\nomit 0=0 1=1 : L1\n"));
+    assert!(rt; ended.holds("m", b"pict-proof 1\nomit 0=0 1=1 : L1\n"));
     Ok(())
 }

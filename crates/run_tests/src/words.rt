@@ -85,11 +85,16 @@ const FAULTS: &[(&str, u32)] = &[
     ("m /d:;;", 2),
 ];
 
+// The same for the words of a text.
+fn fault_of(alloc: Global, text: &str) -> Result<u32, AllocError> {
+    let words = words_of(alloc, text)?;
+    Ok(fault_in(words.as_slice()))
+}
+
 #[test]
 fn tells_the_first_word_without_a_reading(rt: HostRuntime) -> Result<(), Fail> {
     for (text, index) in FAULTS {
-        let words = words_of(rt.alloc(), text)?;
-        assert!(rt; fault_in(words.as_slice()) == *index, "{text}");
+        assert!(rt; fault_of(rt.alloc(), text)? == *index, "{text}");
     }
     assert!(rt; fault_in(&[]) == 1);
     Ok(())
@@ -110,14 +115,19 @@ fn are_all(opts: &Opts<'_>) -> bool {
         && opts.form == ProofForm::Two
 }
 
+// Whether the words have a reading, and ask for that.
+fn ask_for_all(words: &[String]) -> bool {
+    match read_words(words) {
+        Ok(opts) => are_all(&opts),
+        Err(_) => false,
+    }
+}
+
 #[test]
 fn gives_what_is_asked_for(rt: HostRuntime) -> Result<(), Fail> {
     let text =
         "m /O:MAX /d:; /a:! /N:- /c /e:a:b /R:7 /r:18446744073709551615 /s /workers:64 /budget:9 /Proof:p /proofFormat:2";
     let words = words_of(rt.alloc(), text)?;
-    match read_words(words.as_slice()) {
-        Ok(opts) => assert!(rt; are_all(&opts)),
-        Err(fault) => assert!(rt; false, "{}", fault.index),
-    }
+    assert!(rt; ask_for_all(words.as_slice()));
     Ok(())
 }

@@ -2,5 +2,7 @@
 #![tactic(auto)]
 
 mod runs;
+mod tables;
 
-pub use runs::{Ended, Given, ends_as, on_model, run, writes};
+pub use runs::{Ended, Given, calls_of, ends_as, on_model, run, words_of, writes};
+pub use tables::{End, Report, other_end, other_report};

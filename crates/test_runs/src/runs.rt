@@ -36,7 +36,8 @@ pub fn on_model<'a>(words: &'a [&'a str], model: &'a [u8]) -> Given<'a> {
     }
 }
 
-fn calls_of(alloc: Global, numbers: &[u64]) -> Result<Calls, NoMemory> {
+/// The numbers of calls that fail.
+pub fn calls_of(alloc: Global, numbers: &[u64]) -> Result<Calls, NoMemory> {
     let mut calls = Calls::new(alloc);
     for number in numbers {
         calls.push(*number)?;
@@ -44,7 +45,8 @@ fn calls_of(alloc: Global, numbers: &[u64]) -> Result<Calls, NoMemory> {
     Ok(calls)
 }
 
-fn words_of(alloc: Global, words: &[&str]) -> Result<Vec<String>, NoMemory> {
+/// The words of a command.
+pub fn words_of(alloc: Global, words: &[&str]) -> Result<Vec<String>, NoMemory> {
     let mut all = Vec::new(alloc);
     for word in words {
         all.push(String::from_str(alloc, word)?)?;
@@ -102,11 +104,25 @@ pub fn run<R: Threads + Sync>(rt: &R, alloc: Global, given: &Given) -> Result<En
     })
 }
 
-/// Whether a run ends with this status, and the two streams get these texts.
-///
-/// # Errors
-///
-/// As from `run`.
+impl Ended {
+    /// Whether the run ended with this status, and the two streams got these texts.
+    pub fn is(&self, status: u8, written: &str, told: &str) -> bool {
+        let is_written = self.written.bytes() == written.as_bytes();
+        let is_told = self.told.bytes() == told.as_bytes();
+        self.status == status && is_written && is_told
+    }
+
+    /// Whether there is a file of this name, and it holds these bytes.
+    pub fn holds(&self, name: &str, bytes: &[u8]) -> bool {
+        match self.files.held(name) {
+            Some(held) => held == bytes,
+            None => false,
+        }
+    }
+}
+
+/// Whether a run ends with this status, and the two streams get these texts. `false` too where `run` gives
+/// `NoMemory`.
 pub fn ends_as<R: Threads + Sync>(
     rt: &R,
     alloc: Global,
@@ -114,31 +130,24 @@ pub fn ends_as<R: Threads + Sync>(
     status: u8,
     written: &str,
     told: &str,
-) -> Result<bool, NoMemory> {
-    let ended = run(rt, alloc, given)?;
-    let is_written = ended.written.bytes() == written.as_bytes();
-    let is_told = ended.told.bytes() == told.as_bytes();
-    Ok(ended.status == status && is_written && is_told)
+) -> bool {
+    match run(rt, alloc, given) {
+        Ok(ended) => ended.is(status, written, told),
+        Err(NoMemory) => false,
+    }
 }
 
 /// Whether a run ends with status 0 and this report, tells nothing, and leaves this text in the file that it
-/// may write.
-///
-/// # Errors
-///
-/// As from `run`.
+/// may write. `false` too where `run` gives `NoMemory`.
 pub fn writes<R: Threads + Sync>(
     rt: &R,
     alloc: Global,
     given: &Given,
     report: &str,
     text: &str,
-) -> Result<bool, NoMemory> {
-    let ended = run(rt, alloc, given)?;
-    let is_written = ended.written.bytes() == report.as_bytes();
-    let holds = match ended.files.held(given.written) {
-        Some(bytes) => bytes == text.as_bytes(),
-        None => false,
-    };
-    Ok(ended.status == 0 && is_written && holds && ended.told.bytes().is_empty())
+) -> bool {
+    match run(rt, alloc, given) {
+        Ok(ended) => ended.is(0, report, "") && ended.holds(given.written, text.as_bytes()),
+        Err(NoMemory) => false,
+    }
 }
