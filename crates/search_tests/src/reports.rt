@@ -7,7 +7,6 @@ use cov_model::{Rows, TestModel, ValueNo};
 use outside_io::{MemSink, WriteAnswer};
 use row_text::{Figures, Stats, Turns, put_figures, put_report, put_stats};
 use std::alloc::Global;
-use std::test::Fail;
 use test_models::{model_of, row_of};
 use value_text::NoMemory;
 
@@ -38,32 +37,59 @@ fn put_whole(answer: WriteAnswer, out: MemSink) -> Option<MemSink> {
     }
 }
 
+// The report of rows.
+fn report_of_rows(
+    alloc: Global,
+    model: &TestModel,
+    rows: &Rows,
+) -> Result<Option<MemSink>, NoMemory>
+    requires { All (λ row. is_row model.now row ≡ true) rows.now }
+{
+    let mut turns = Turns::new(alloc, model)?;
+    let mut out = sink(alloc, 100)?;
+    let answer = put_report(model, rows, &mut turns, &mut out);
+    Ok(put_whole(answer, out))
+}
+
 // The report of a model's rows of these values.
 fn report_of(
     alloc: Global,
-    text: &str,
+    model: &TestModel,
     table: &[(ValueNo, ValueNo)],
-) -> Result<Option<MemSink>, Fail> {
-    let model = model_of(alloc, text)?;
-    let rows = rows_of(alloc, &model, table)?;
-    let mut turns = Turns::new(alloc, &model)?;
-    let mut out = sink(alloc, 100)?;
-    let answer = put_report(&model, &rows, &mut turns, &mut out);
-    Ok(put_whole(answer, out))
+) -> Result<Option<MemSink>, NoMemory> {
+    let rows = rows_of(alloc, model, table)?;
+    report_of_rows(alloc, model, &rows)
 }
 
-// The text of statistics.
-fn text_of_stats(alloc: Global, stats: &Stats) -> Result<Option<MemSink>, NoMemory> {
-    let mut out = sink(alloc, 200)?;
-    let answer = put_stats(stats, &mut out);
-    Ok(put_whole(answer, out))
+// Whether the report of rows of these values of a text's model is this; `false` too where memory was refused.
+fn is_report(alloc: Global, text: &str, table: &[(ValueNo, ValueNo)], report: &str) -> bool {
+    let Ok(model) = model_of(alloc, text) else {
+        return false;
+    };
+    match report_of(alloc, &model, table) {
+        Ok(Some(out)) => out.bytes() == report.as_bytes(),
+        Ok(None) | Err(NoMemory) => false,
+    }
 }
 
-// The text of figures.
-fn text_of_figures(alloc: Global, figures: &Figures) -> Result<Option<MemSink>, NoMemory> {
-    let mut out = sink(alloc, 400)?;
-    let answer = put_figures(figures, &mut out);
-    Ok(put_whole(answer, out))
+// Whether statistics are written as this text; `false` too where memory was refused.
+fn are_statistics(alloc: Global, stats: &Stats, text: &str) -> bool {
+    match sink(alloc, 200) {
+        Ok(mut out) => {
+            put_stats(stats, &mut out) == WriteAnswer::Done && out.bytes() == text.as_bytes()
+        }
+        Err(NoMemory) => false,
+    }
+}
+
+// Whether figures are written as this text; `false` too where memory was refused.
+fn are_figures(alloc: Global, figures: &Figures, text: &str) -> bool {
+    match sink(alloc, 400) {
+        Ok(mut out) => {
+            put_figures(figures, &mut out) == WriteAnswer::Done && out.bytes() == text.as_bytes()
+        }
+        Err(NoMemory) => false,
+    }
 }
 
 // A model, the values of its rows, and their report.
@@ -91,16 +117,14 @@ const REPORTS: &[(&str, &[(ValueNo, ValueNo)], &str)] = &[
 ];
 
 #[test]
-fn writes_reports(rt: HostRuntime) -> Result<(), Fail> {
+fn writes_reports(rt: HostRuntime) {
     for (text, table, report) in REPORTS {
-        let out = report_of(rt.alloc(), text, table)?.ok_or("no room")?;
-        assert!(rt; out.bytes() == report.as_bytes(), "{text}");
+        assert!(rt; is_report(rt.alloc(), text, table, report), "{text}");
     }
-    Ok(())
 }
 
 #[test]
-fn writes_statistics(rt: HostRuntime) -> Result<(), Fail> {
+fn writes_statistics(rt: HostRuntime) {
     let stats = Stats {
         sets: 15,
         tuples: 331,
@@ -110,13 +134,11 @@ fn writes_statistics(rt: HostRuntime) -> Result<(), Fail> {
     };
     let text =
         "Demanded sets: 15\nDemanded tuples: 331\nOmitted tuples: 4\nKept seeds: 0\nGenerated tests: 70\n";
-    let out = text_of_stats(rt.alloc(), &stats)?.ok_or("no room")?;
-    assert!(rt; out.bytes() == text.as_bytes());
-    Ok(())
+    assert!(rt; are_statistics(rt.alloc(), &stats, text));
 }
 
 #[test]
-fn writes_figures(rt: HostRuntime) -> Result<(), Fail> {
+fn writes_figures(rt: HostRuntime) {
     let figures = Figures {
         tests: 2,
         incomplete: 1,
@@ -132,7 +154,5 @@ fn writes_figures(rt: HostRuntime) -> Result<(), Fail> {
     };
     let text =
         "Tests: 2\nIncomplete tests: 1\nInvalid tests: 1\nDemanded sets: 1\nDemanded tuples: 4\nCovered tuples: 2 of 3\nComplete sets: 0 of 1\nSets at 75 percent: 0 of 1\nSets at 50 percent: 1 of 1\nSets at 25 percent: 1 of 1\n";
-    let out = text_of_figures(rt.alloc(), &figures)?.ok_or("no room")?;
-    assert!(rt; out.bytes() == text.as_bytes());
-    Ok(())
+    assert!(rt; are_figures(rt.alloc(), &figures, text));
 }
