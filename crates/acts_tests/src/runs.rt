@@ -6,193 +6,106 @@ use std::alloc::Global;
 use std::test::Fail;
 use value_text::NoMemory;
 
-// What a run is given: its words, the bytes of the file `in`, and the number of the call of the folder that
-// fails, from 1; 0 where none does. The file `out` holds `old` and has room for 100 bytes.
-struct Given {
-    words: &'static [&'static str],
-    file: &'static str,
-    fail: u64,
-}
-
-// What it leaves: its status, the file `out`, and standard error.
-struct Left {
-    status: u8,
-    out: &'static str,
-    told: &'static str,
-}
-
 const DEMO: &str =
     "[System]\nName: demo\n[Parameter]\nA (int): 1, 2\nB (enum): x, y\n[Constraint]\nA = 1 => B = \"x\"\n";
 
-const RUNS: &[(Given, Left)] = &[
+// A run of `pictacts`: its words, the bytes of the file `in`, the number of the call of the folder that fails, from 1,
+// or 0 where none does, and what it leaves: its status, the file `out`, and standard error. The file `out` holds `old`
+// before, and has room for 100 bytes.
+type Run<'a> = (&'a [&'a str], &'a str, u64, u8, &'a str, &'a str);
+
+const RUNS: &[Run<'static>] = &[
     (
-        Given {
-            words: &["in", "out"],
-            file: DEMO,
-            fail: 0,
-        },
-        Left {
-            status: 0,
-            out: "\n\n\nA: 1, 2\nB: x, y\n\nIF [A] = 1 THEN [B] = \"x\";\n",
-            told: "",
-        },
+        &["in", "out"],
+        DEMO,
+        0,
+        0,
+        "\n\n\nA: 1, 2\nB: x, y\n\nIF [A] = 1 THEN [B] = \"x\";\n",
+        "",
+    ),
+    (&[], DEMO, 0, 3, "old", "error: word 1 is not understood\n"),
+    (
+        &["", "out"],
+        DEMO,
+        0,
+        3,
+        "old",
+        "error: word 1 is not understood\n",
     ),
     (
-        Given {
-            words: &[],
-            file: DEMO,
-            fail: 0,
-        },
-        Left {
-            status: 3,
-            out: "old",
-            told: "error: word 1 is not understood\n",
-        },
+        &["in"],
+        DEMO,
+        0,
+        3,
+        "old",
+        "error: word 2 is not understood\n",
     ),
     (
-        Given {
-            words: &["", "out"],
-            file: DEMO,
-            fail: 0,
-        },
-        Left {
-            status: 3,
-            out: "old",
-            told: "error: word 1 is not understood\n",
-        },
+        &["in", ""],
+        DEMO,
+        0,
+        3,
+        "old",
+        "error: word 2 is not understood\n",
     ),
     (
-        Given {
-            words: &["in"],
-            file: DEMO,
-            fail: 0,
-        },
-        Left {
-            status: 3,
-            out: "old",
-            told: "error: word 2 is not understood\n",
-        },
+        &["in", "out", "/C", "/s"],
+        DEMO,
+        0,
+        3,
+        "old",
+        "error: word 4 is not understood\n",
     ),
     (
-        Given {
-            words: &["in", ""],
-            file: DEMO,
-            fail: 0,
-        },
-        Left {
-            status: 3,
-            out: "old",
-            told: "error: word 2 is not understood\n",
-        },
+        &["in", "out", "/c"],
+        "[Parameter]\nA (enum): x, X\n",
+        0,
+        0,
+        "\nA: x, X\n",
+        "",
     ),
     (
-        Given {
-            words: &["in", "out", "/C", "/s"],
-            file: DEMO,
-            fail: 0,
-        },
-        Left {
-            status: 3,
-            out: "old",
-            told: "error: word 4 is not understood\n",
-        },
+        &["in", "out"],
+        "[Parameter]\nA (enum): x, X\n",
+        0,
+        4,
+        "old",
+        "error: model line 2: A4 repeated name\n",
     ),
     (
-        Given {
-            words: &["in", "out", "/c"],
-            file: "[Parameter]\nA (enum): x, X\n",
-            fail: 0,
-        },
-        Left {
-            status: 0,
-            out: "\nA: x, X\n",
-            told: "",
-        },
+        &["in", "out"],
+        "[System]\nName: demo\n[Parameter]\nA (int): 1, 2\nB (enum): x, y\n[Constraint]\nA = 1 => B = 2\n",
+        0,
+        5,
+        "old",
+        "error: model line 7: A11 types differ\n",
     ),
     (
-        Given {
-            words: &["in", "out"],
-            file: "[Parameter]\nA (enum): x, X\n",
-            fail: 0,
-        },
-        Left {
-            status: 4,
-            out: "old",
-            told: "error: model line 2: A4 repeated name\n",
-        },
+        &["in", "out"],
+        "",
+        0,
+        4,
+        "old",
+        "error: model line 1: A8 no parameters\n",
     ),
     (
-        Given {
-            words: &["in", "out"],
-            file: "[System]\nName: demo\n[Parameter]\nA (int): 1, 2\nB (enum): x, y\n[Constraint]\nA = 1 => B = 2\n",
-            fail: 0,
-        },
-        Left {
-            status: 5,
-            out: "old",
-            told: "error: model line 7: A11 types differ\n",
-        },
+        &["none", "out"],
+        DEMO,
+        0,
+        7,
+        "old",
+        "error: cannot read none\n",
     ),
+    (&["in", "out"], DEMO, 1, 7, "old", "error: cannot read in\n"),
     (
-        Given {
-            words: &["in", "out"],
-            file: "",
-            fail: 0,
-        },
-        Left {
-            status: 4,
-            out: "old",
-            told: "error: model line 1: A8 no parameters\n",
-        },
+        &["in", "out"],
+        DEMO,
+        2,
+        8,
+        "old",
+        "error: cannot write out\n",
     ),
-    (
-        Given {
-            words: &["none", "out"],
-            file: DEMO,
-            fail: 0,
-        },
-        Left {
-            status: 7,
-            out: "old",
-            told: "error: cannot read none\n",
-        },
-    ),
-    (
-        Given {
-            words: &["in", "out"],
-            file: DEMO,
-            fail: 1,
-        },
-        Left {
-            status: 7,
-            out: "old",
-            told: "error: cannot read in\n",
-        },
-    ),
-    (
-        Given {
-            words: &["in", "out"],
-            file: DEMO,
-            fail: 2,
-        },
-        Left {
-            status: 8,
-            out: "old",
-            told: "error: cannot write out\n",
-        },
-    ),
-    (
-        Given {
-            words: &["in", "/c"],
-            file: DEMO,
-            fail: 0,
-        },
-        Left {
-            status: 8,
-            out: "old",
-            told: "error: cannot write /c\n",
-        },
-    ),
+    (&["in", "/c"], DEMO, 0, 8, "old", "error: cannot write /c\n"),
 ];
 
 fn words_of(alloc: Global, words: &[&str]) -> Result<Vec<String>, NoMemory> {
@@ -203,38 +116,34 @@ fn words_of(alloc: Global, words: &[&str]) -> Result<Vec<String>, NoMemory> {
     Ok(all)
 }
 
-fn folder_of(alloc: Global, given: &Given) -> Result<MemFolder, NoMemory> {
+fn folder_of(alloc: Global, file: &str, call: u64) -> Result<MemFolder, NoMemory> {
     let mut fail = Calls::new(alloc);
-    if given.fail > 0 {
-        fail.push(given.fail)?;
+    if call > 0 {
+        fail.push(call)?;
     }
     let mut folder = MemFolder::new(alloc, fail);
-    folder.add("in", given.file.as_bytes())?;
+    folder.add("in", file.as_bytes())?;
     folder.add("out", b"old")?;
     folder.room_for("out", 100)?;
     Ok(folder)
 }
 
-// Whether a run leaves this.
-fn leaves(alloc: Global, given: &Given, left: &Left) -> Result<bool, NoMemory> {
-    let words = words_of(alloc, given.words)?;
-    let mut files = folder_of(alloc, given)?;
+// Whether a run leaves what it says.
+fn leaves(alloc: Global, run: &Run) -> Result<bool, NoMemory> {
+    let (words, file, fail, status, out, line) = run;
+    let words = words_of(alloc, words)?;
+    let mut files = folder_of(alloc, file, *fail)?;
     let mut told = MemSink::up_to(alloc, 100)?;
-    let status = run_acts(alloc, words.as_slice(), &mut files, &mut told);
-    let is_written = files.held("out") == Some(left.out.as_bytes());
-    let is_told = told.bytes() == left.told.as_bytes();
-    Ok(status == left.status && is_written && is_told)
+    let ended = run_acts(alloc, words.as_slice(), &mut files, &mut told);
+    let is_written = files.held("out") == Some(out.as_bytes());
+    let is_told = told.bytes() == line.as_bytes();
+    Ok(ended == *status && is_written && is_told)
 }
 
 #[test]
 fn runs_leave_what_they_say(rt: HostRuntime) -> Result<(), Fail> {
-    for (given, left) in RUNS {
-        assert!(rt;
-            leaves(rt.alloc(), given, left)?,
-            "{} {}",
-            given.file,
-            left.status
-        );
+    for (place, run) in RUNS.iter().enumerate() {
+        assert!(rt; leaves(rt.alloc(), run)?, "run {place}");
     }
     Ok(())
 }
