@@ -19,19 +19,20 @@ pub fn tuple_of(alloc: Global, pairs: &[(ParamNo, ValueNo)]) -> Result<Tuple, No
     }
 }
 
-// The partial row of a tuple; refused too where it gives a parameter that the model hasn't.
+// The partial row of a tuple of one or two values; refused too where it has more, or gives a parameter that the model
+// hasn't.
 fn row_of_tuple(alloc: Global, model: &TestModel, tuple: &Tuple) -> Result<Cells, NoMemory>
     ensures { IfOk result (λ row. row ≡ cells_of (length model.now.params) tuple.now) }
 {
     let count = model.params().len();
     let mut row = Cells::empty(alloc, count)?;
-    let pairs = tuple.as_slice();
-    for i in (0..pairs.len()).rev() {
-        let (p, v) = pairs[i];
-        if p as usize >= count {
-            return Err(NoMemory);
+    match tuple.as_slice() {
+        [(p, v)] if (*p as usize) < count => row.set_cell(*p, *v),
+        [(p, v), (q, w)] if (*p as usize) < count && (*q as usize) < count => {
+            row.set_cell(*q, *w);
+            row.set_cell(*p, *v);
         }
-        row.set_cell(p, v);
+        _ => return Err(NoMemory),
     }
     Ok(row)
 }

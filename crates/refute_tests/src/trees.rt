@@ -1,10 +1,12 @@
 //! The trees of single tuples, and a proof whose trees cite earlier tuples.
 
+ghost use Rattle.std.specs.Prelude.{◌<◌, ◌^◌, length};
+
 use crate::refuted::{refuted, tuple_of};
-use cov_model::{ParamNo, ValueNo};
+use cov_model::{ParamNo, TestModel, ValueNo};
 use feasibility::RefuteFault;
-use refutation::{Omission, Omissions, ProofForm, TreeToken};
-use std::test::Fail;
+use refutation::{Omission, Omissions, ProofForm, TreeBuf, TreeToken};
+use std::alloc::Global;
 use test_models::{model_of, options, read};
 
 // With the first value of A, B and C have to be equal and to differ.
@@ -69,32 +71,68 @@ const TREES: &[(&str, &[(ParamNo, ValueNo)], &[TreeToken])] = &[
     ),
 ];
 
-#[test]
-fn refutes_by_constraints_and_negative_values(rt: HostRuntime) -> Result<(), Fail> {
-    let none = Omissions::empty(rt.alloc(), ProofForm::One);
-    assert!(rt; none.len() == 0);
-    for (text, pairs, tree) in TREES {
-        let (model, _) = read(rt.alloc(), text, &options(1))?;
-        let tuple = tuple_of(rt.alloc(), pairs)?;
-        let made = refuted(rt.alloc(), &model, &tuple, 3, &none)?;
-        assert!(rt; made.as_slice() == *tree, "{text}");
+// No omissions, for a proof of the first format. Callers know no more of them than that they are few.
+fn no_omissions(alloc: Global) -> Omissions
+    ensures { length result.omissions < 2 ^ 32 }
+{
+    Omissions::empty(alloc, ProofForm::One)
+}
+
+// The model of a text at order 1; nothing where there is none, or memory was refused.
+fn model_at_one(alloc: Global, text: &str) -> Option<TestModel> {
+    match read(alloc, text, &options(1)) {
+        Ok((model, _)) => Some(model),
+        Err(_) => None,
     }
-    Ok(())
+}
+
+// The tree of a tuple of the model of a text, within a budget.
+fn tree_of(
+    alloc: Global,
+    text: &str,
+    pairs: &[(ParamNo, ValueNo)],
+    budget: u64,
+) -> Result<TreeBuf, RefuteFault> {
+    let Some(model) = model_at_one(alloc, text) else {
+        return Err(RefuteFault::NoMemory);
+    };
+    let tuple = tuple_of(alloc, pairs)?;
+    refuted(alloc, &model, &tuple, budget, &no_omissions(alloc))
+}
+
+// Whether that is this tree.
+fn is_tree(
+    alloc: Global,
+    text: &str,
+    pairs: &[(ParamNo, ValueNo)],
+    budget: u64,
+    tree: &[TreeToken],
+) -> bool {
+    match tree_of(alloc, text, pairs, budget) {
+        Ok(made) => made.as_slice() == tree,
+        Err(_) => false,
+    }
+}
+
+#[test]
+fn refutes_by_constraints_and_negative_values(rt: HostRuntime) {
+    for (text, pairs, tree) in TREES {
+        assert!(rt; is_tree(rt.alloc(), text, pairs, 3, tree), "{text}");
+    }
+}
+
+// Whether the tree of a tuple costs more than this budget.
+fn is_spent(alloc: Global, text: &str, pairs: &[(ParamNo, ValueNo)], budget: u64) -> bool {
+    match tree_of(alloc, text, pairs, budget) {
+        Ok(_) => false,
+        Err(fault) => fault == RefuteFault::Spent,
+    }
 }
 
 // The plain cost of the first value of A is 3.
 #[test]
-fn refutes_within_the_budget(rt: HostRuntime) -> Result<(), Fail> {
-    let none = Omissions::empty(rt.alloc(), ProofForm::One);
-    assert!(rt; none.len() == 0);
-    let model = model_of(rt.alloc(), TWINS)?;
-    let tuple = tuple_of(rt.alloc(), &[(0, 0)])?;
-    let spent = match refuted(rt.alloc(), &model, &tuple, 2, &none) {
-        Ok(_) => false,
-        Err(fault) => fault == RefuteFault::Spent,
-    };
-    assert!(rt; spent);
-    Ok(())
+fn refutes_within_the_budget(rt: HostRuntime) {
+    assert!(rt; is_spent(rt.alloc(), TWINS, &[(0, 0)], 2));
 }
 
 // The tuples that are omitted with a further parameter D, in order, and their trees in a proof of the
@@ -150,18 +188,47 @@ const CITING: &[(&[(ParamNo, ValueNo)], &[TreeToken])] = &[
     ),
 ];
 
+// Whether the tree of a tuple behind these omissions is this one. It joins them.
+fn joins(
+    alloc: Global,
+    model: &TestModel,
+    omissions: &mut Omissions,
+    pairs: &[(ParamNo, ValueNo)],
+    tree: &[TreeToken],
+) -> bool {
+    if omissions.len() >= 6 {
+        return false;
+    }
+    let Ok(tuple) = tuple_of(alloc, pairs) else {
+        return false;
+    };
+    let Ok(made) = refuted(alloc, model, &tuple, 3, omissions) else {
+        return false;
+    };
+    let is_tree = made.as_slice() == tree;
+    match omissions.push(Omission { tuple, tree: made }) {
+        Ok(()) => is_tree,
+        Err(_) => false,
+    }
+}
+
+// Whether all of them have their trees.
+fn cite(alloc: Global, text: &str) -> bool {
+    let Ok(model) = model_of(alloc, text) else {
+        return false;
+    };
+    let mut omissions = Omissions::empty(alloc, ProofForm::Two);
+    for (pairs, tree) in CITING {
+        if !joins(alloc, &model, &mut omissions, pairs, tree) {
+            return false;
+        }
+    }
+    true
+}
+
 #[test]
-fn cites_earlier_tuples(rt: HostRuntime) -> Result<(), Fail> {
+fn cites_earlier_tuples(rt: HostRuntime) {
     let text = "A: 1, 2\nB: 1, 2\nC: 1, 2\nD: 1, 2\n\
         IF [A] = 1 THEN [B] = [C];\nIF [A] = 1 THEN [B] <> [C];\n";
-    let model = model_of(rt.alloc(), text)?;
-    let mut omissions = Omissions::empty(rt.alloc(), ProofForm::Two);
-    for (pairs, tree) in CITING {
-        let tuple = tuple_of(rt.alloc(), pairs)?;
-        assert!(rt; omissions.len() < 6);
-        let made = refuted(rt.alloc(), &model, &tuple, 3, &omissions)?;
-        assert!(rt; made.as_slice() == *tree);
-        omissions.push(Omission { tuple, tree: made })?;
-    }
-    Ok(())
+    assert!(rt; cite(rt.alloc(), text));
 }
