@@ -20,7 +20,8 @@ use Rattle.compiled_rules.specs.Codes.{is_yes}
 use Rattle.feasibility.specs.Live.{AreRules, breaks_one, no_on, undecided_of}
 use Rattle.feasibility.specs.Tree.{is_named, naming, no_values, undecided}
 use Rattle.feasibility.proofs.Growing.{Longer, no_from_no, not_no, stays_body, yes_from_yes}
-use Rattle.feasibility.proofs.Local.{AgreeOn, agree_each, agree_set, local_body, none_of}
+use Rattle.feasibility.proofs.Local.{AgreeOn, agree_each, agree_set, local_body}
+use Rattle.value_text.proofs.ListLemmas.{none_of}
 
 -- where one is No, it has a number
 pub record IsBroken (m : ModelView) (cells : List (Option ℕ)) : Type 0 where

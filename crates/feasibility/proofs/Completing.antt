@@ -2,23 +2,19 @@
 use Rattle.std.proofs.Common.{◌≡◌, ℕ, zero, suc, ◌<◌, Bool, true, false, ◌&&◌, ◌||◌, ◌==◌, cond, if◌then◌else◌, List, [], ◌∷◌, map, length, Option, Some, None, is_some, unwrap_or, find, get_or, set, ◌⊎◌, ◌∙◌, sym, ap, subst, refl, arith, inl, inr}
 use Rattle.std.specs.Option.{option_or, option_map}
 use Rattle.std.specs.List.{filter, flat_map}
-use Rattle.std.proofs.lemmas.Bool.{false≢true, eqb-true, eq-eqb, or_left, or_right}
+use Rattle.std.proofs.lemmas.Bool.{false≢true, eqb-true, eq-eqb}
 use Rattle.std.proofs.lemmas.List.Folds.{find-append}
+use Rattle.value_text.proofs.ListLemmas.{is_some-map, none_of}
 use Rattle.cov_model.specs.Rows.{contains, is_assigned}
 use Rattle.definitions.specs.Demand.{is_among}
 use Rattle.definitions.specs.Completion.{cell_values, completions}
+use Rattle.definitions.proofs.PartialRowLemmas.{among_head, among_tail}
 use Rattle.feasibility.specs.Path.{filled}
 
 -- the first result, of those of a list of values, that isn't None
 abbrev pub tried : {X : Type 0} → (ℕ → Option X) → List ℕ → Option X
 tried f [] = None
 tried f (v ∷ values) = option_or (f v) (tried f values)
-
-pub among_head : (v : ℕ) (values : List ℕ) → is_among (v ∷ values) v ≡ true
-among_head v values = or_left (v == v) (is_among values v) (eq-eqb v v refl)
-
-pub among_tail : (v w : ℕ) (values : List ℕ) → is_among values w ≡ true → is_among (v ∷ values) w ≡ true
-among_tail v w values listed = or_right (v == w) (is_among values w) listed
 
 pub tried_same : {X : Type 0} (f g : ℕ → Option X) (values : List ℕ) → ((v : ℕ) → is_among values v ≡ true → f v ≡ g v) → tried f values ≡ tried g values
 tried_same f g [] same = refl
@@ -33,12 +29,8 @@ tried_none f (v ∷ values) none =
 
 -- all give a result, or none does
 pub tried_first : {X : Type 0} (f : ℕ → Option X) (v : ℕ) (values : List ℕ) → ((w : ℕ) → is_some (f w) ≡ is_some (f v)) → tried f (v ∷ values) ≡ f v
-tried_first f v values alike = by_case (f v) (tried f values) (λ is. tried_none f values (λ w listed. nothing (f w) (alike w ∙ ap is_some is)))
+tried_first f v values alike = by_case (f v) (tried f values) (λ is. tried_none f values (λ w listed. none_of (f w) (alike w ∙ ap is_some is)))
   where
-    nothing : {X : Type 0} (o : Option X) → is_some o ≡ false → o ≡ None
-    nothing None h = refl
-    nothing (Some x) h = absurd (false≢true (sym h))
-
     by_case : {X : Type 0} (o rest : Option X) → (o ≡ None → rest ≡ None) → option_or o rest ≡ o
     by_case (Some x) rest h = refl
     by_case None rest h = h refl
@@ -116,19 +108,15 @@ first_of-given values rest w cells test = first_of-cons values rest (Some w) cel
 abbrev pub IsFree : (List (Option ℕ) → Bool) → ℕ → Type 0
 IsFree test p = (row : List (Option ℕ)) (a b : Option ℕ) → test (set row p a) ≡ test (set row p b)
 
-is_some-mapped : {X Y : Type 0} (h : X → Y) (o : Option X) → is_some (option_map h o) ≡ is_some o
-is_some-mapped h (Some x) = refl
-is_some-mapped h None = refl
-
 -- where the first parameter has no value and the test doesn't depend on it
 first_of-free : (v : ℕ) (values : List ℕ) (rest : List (List ℕ)) (cells : List (Option ℕ)) (test : List (Option ℕ) → Bool) → IsFree test 0
     → first_of ((v ∷ values) ∷ rest) (None ∷ cells) test ≡ first_with rest cells test v
 first_of-free v values rest cells test free =
     first_of-cons (v ∷ values) rest None cells test
     ∙ tried_first (first_with rest cells test) v values (λ w.
-    is_some-mapped (λ row. Some w ∷ row) (first_of rest cells (λ row. test (Some w ∷ row)))
+    is_some-map (λ row. Some w ∷ row) (first_of rest cells (λ row. test (Some w ∷ row)))
     ∙ ap is_some (find_same (λ row. test (Some w ∷ row)) (λ row. test (Some v ∷ row)) (completions rest cells) (λ row. free (None ∷ row) (Some w) (Some v)))
-    ∙ sym (is_some-mapped (λ row. Some v ∷ row) (first_of rest cells (λ row. test (Some v ∷ row)))))
+    ∙ sym (is_some-map (λ row. Some v ∷ row) (first_of rest cells (λ row. test (Some v ∷ row)))))
 
 -- the parameters before one have values or don't matter
 abbrev pub Decided : (List (Option ℕ) → Bool) → List (Option ℕ) → ℕ → Type 0
@@ -234,7 +222,7 @@ first_of-some [] [] [] test is meets = ap (λ (b : Bool). is_some {T = List (Opt
 first_of-some (values ∷ rest) (cell ∷ cells) (Some v ∷ row) test is meets =
     ap is_some (first_of-cons values rest cell cells test)
     ∙ tried_some (first_with rest cells test) v (cell_values values cell) is.0
-    (is_some-mapped (λ row. Some v ∷ row) (first_of rest cells (λ row. test (Some v ∷ row)))
+    (is_some-map (λ row. Some v ∷ row) (first_of rest cells (λ row. test (Some v ∷ row)))
     ∙ first_of-some rest cells row (λ row. test (Some v ∷ row)) is.1 meets)
 first_of-some [] [] (x ∷ row) test is meets = absurd is
 first_of-some [] (cell ∷ cells) row test is meets = absurd is

@@ -1,6 +1,6 @@
 -- Plain search in a slice of a model.
-use Rattle.std.proofs.Common.{◌≡◌, ℕ, zero, suc, ◌+◌, ◌<◌, ◌≤◌, Bool, true, false, not, ◌||◌, ◌==◌, cond, List, [], ◌∷◌, map, length, Option, Some, None, is_some, find, get_or, ◌∙◌, sym, ap, subst, refl, arith, inl, inr, eq-eqb, zero-add}
-use Rattle.std.specs.List.{filter, list_any, range_with_len}
+use Rattle.std.proofs.Common.{◌≡◌, ℕ, zero, suc, ◌+◌, ◌<◌, ◌≤◌, Bool, true, false, not, ◌||◌, ◌==◌, cond, List, [], ◌∷◌, map, length, Option, Some, None, is_some, get_or, ◌∙◌, sym, ap, subst, refl, arith, inl, inr, eq-eqb, zero-add}
+use Rattle.std.specs.List.{filter, range_with_len}
 use Rattle.std.proofs.lemmas.Bool.{false≢true, cases_lt, cases_eq, eqb-true, false_from_ne_true}
 use Rattle.std.proofs.lemmas.List.{get_or-set_other, get_or-set_same, get_or_past}
 use Rattle.std.proofs.lemmas.List.Folds.{list_any_at}
@@ -20,7 +20,8 @@ use Rattle.definitions.specs.Search.{constrained_params, plain_search, plain_cos
 pub use Rattle.cov_model.proofs.CellLemmas.{length-slice_values}
 use Rattle.definitions.specs.Laws.{ArePreferences}
 use Rattle.definitions.proofs.Members.{same_answer}
-use Rattle.definitions.proofs.PartialRowLemmas.{length-preferred_values}
+pub use Rattle.definitions.proofs.PartialRowLemmas.{get_or-preferred_values}
+use Rattle.definitions.proofs.PartialRowLemmas.{among_tail, length-preferred_values}
 use Rattle.feasibility.specs.Answers.{answer_of}
 use Rattle.feasibility.specs.declared.answer.Answer.{Answer}
 use Rattle.feasibility.specs.declared.answer.Answer.TheVariants.{Yes}
@@ -31,16 +32,9 @@ use Rattle.feasibility.proofs.Visits.{told_yes}
 use Rattle.feasibility.specs.Path.{filled, reached}
 use Rattle.definitions.specs.SliceRows.{IsSliceOf, IsOfSlice}
 use Rattle.feasibility.specs.Laws.{PlainSearchIsExact}
-use Rattle.feasibility.proofs.Completing.{first_of, first_of-none, first_of-some, completion_moves, among_filter, among_tail}
+use Rattle.value_text.proofs.ListLemmas.{list_any-find}
+use Rattle.feasibility.proofs.Completing.{first_of, first_of-none, first_of-some, completion_moves, among_filter}
 use Rattle.feasibility.proofs.Searching.{given_by, visit_gives}
-
-list_any-find : {X : Type 0} (test : X → Bool) (xs : List X) → list_any test xs ≡ is_some (find test xs)
-list_any-find test [] = refl
-list_any-find test (x ∷ xs) = by_case (test x) (list_any-find test xs)
-  where
-    by_case : (b : Bool) → list_any test xs ≡ is_some (find test xs) → (b || list_any test xs) ≡ is_some (cond b (Some x) (find test xs))
-    by_case true rest = refl
-    by_case false rest = rest
 
 is_none : {X : Type 0} (o : Option X) → o ≡ None → is_some o ≡ false
 is_none o is = ap (λ o. is_some o) is
@@ -138,11 +132,6 @@ slice_exist m (Negative q w) p v is within listed =
         by_case : (b : Bool) → (b ≡ true → w ≡ v) → (b || false) ≡ true → w ≡ v
         by_case true same h = same refl
         by_case false same h = absurd (false≢true h)
-
-pub get_or-preferred_values : (m : ModelView) (pref : List (List ℕ)) (slice : Slice) (p : ℕ) → p < length m.params
-    → get_or (preferred_values m pref slice) p [] ≡ filter (is_among (get_or (slice_values m slice) p [])) (get_or pref p [])
-get_or-preferred_values m pref slice p within =
-    get_or-map-range_with_len (λ q. filter (is_among (get_or (slice_values m slice) q [])) (get_or pref q [])) 0 (length m.params) p p [] within (zero-add p)
 
 -- a value that is listed in preference order is one of the slice
 pub preferred_listed : (m : ModelView) (pref : List (List ℕ)) (slice : Slice) (p v : ℕ) → is_among (get_or (preferred_values m pref slice) p []) v ≡ true

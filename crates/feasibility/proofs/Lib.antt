@@ -1,6 +1,7 @@
 pub mod Completing
 pub mod Extendable
 pub mod Local
+pub mod Alike
 pub mod Growing
 pub mod Naming
 pub mod Nodes

@@ -1,5 +1,5 @@
 -- What is known of a constraint, and whether it holds, depends on the parameters that it names.
-use Rattle.std.proofs.Common.{◌≡◌, ℕ, Bool, true, false, not, ◌&&◌, ◌||◌, if◌then◌else◌, ◌==◌, List, [], ◌∷◌, ◌++◌, Option, Some, None, is_some, unwrap_or, get_or, set, ap, sym, ◌∙◌, refl, eq-eqb}
+use Rattle.std.proofs.Common.{◌≡◌, ℕ, Bool, true, false, not, ◌&&◌, ◌||◌, if◌then◌else◌, ◌==◌, List, [], ◌∷◌, ◌++◌, Option, None, is_some, unwrap_or, get_or, set, ap, sym, ◌∙◌, refl, eq-eqb}
 use Rattle.std.specs.List.{list_any}
 use Rattle.std.specs.Ordering.{is_eq}
 use Rattle.std.proofs.lemmas.Bool.{false≢true, or_parts}
@@ -16,7 +16,7 @@ use Rattle.cov_model.specs.Meaning.{value_at, operand_of, literal_order, stands_
 use Rattle.cov_model.specs.Kleene.{known, not_of, and_of, or_of, term_params, term_truth, pred_truth, all_truth, any_truth, body_truth}
 use Rattle.definitions.specs.Demand.{is_among}
 use Rattle.definitions.specs.Search.{pred_params, parts_params, body_params}
-use Rattle.feasibility.proofs.Completing.{among_head, among_tail}
+use Rattle.definitions.proofs.PartialRowLemmas.{among_head, among_tail}
 
 -- the two partial rows give the same at these parameters
 abbrev pub AgreeOn : List ℕ → List (Option ℕ) → List (Option ℕ) → Type 0
@@ -142,8 +142,3 @@ local_body m (IfElse premise pred other) a b agree =
     (pred_holds m premise a) (pred_holds m premise b) (pred_holds m pred a) (pred_holds m pred b) p q)
     (local_or (pred_truth m premise a) (pred_truth m premise b) (pred_truth m other a) (pred_truth m other b)
     (pred_holds m premise a) (pred_holds m premise b) (pred_holds m other a) (pred_holds m other b) p r)
-
--- a cell without a value
-pub none_of : (o : Option ℕ) → is_some o ≡ false → o ≡ None
-none_of None h = refl
-none_of (Some v) h = absurd (false≢true (sym h))

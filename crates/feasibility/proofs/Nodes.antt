@@ -1,14 +1,13 @@
 -- Nodes of a search: what setting, clearing and filling cells gives.
-use Rattle.std.proofs.Common.{◌≡◌, ℕ, zero, suc, ◌+◌, ◌<◌, ◌≤◌, true, ◌==◌, List, [], ◌∷◌, length, Option, Some, None, is_some, unwrap_or, get_or, set, ◌∙◌, sym, ap, subst, refl, arith, inl, inr, eq-eqb}
+use Rattle.std.proofs.Common.{◌≡◌, ℕ, zero, suc, ◌+◌, ◌<◌, ◌≤◌, true, ◌==◌, List, [], ◌∷◌, length, Option, Some, None, get_or, set, ◌∙◌, sym, ap, refl, arith, inl, inr, eq-eqb}
 use Rattle.std.proofs.lemmas.Bool.{cases_eq}
 use Rattle.std.proofs.lemmas.List.{get_or-set_other, get_or-set_same, get_or_default, length-set, same_lists, set-get_or, set-set}
 use Rattle.std.proofs.lemmas.List.Folds.{list_any_at}
-use Rattle.cov_model.specs.Sound.{ModelView, param_at}
-use Rattle.cov_model.specs.Fits.{FitsModel}
 use Rattle.definitions.specs.Completion.{with_value}
 use Rattle.definitions.specs.Demand.{is_among}
 use Rattle.feasibility.specs.Path.{filled, filled_cell}
-pub use Rattle.feasibility.proofs.Local.{none_of}
+pub use Rattle.value_text.proofs.ListLemmas.{none_of}
+pub use Rattle.refutation.proofs.PairLemmas.{FitsModel-with_value}
 
 -- a cell that is set and cleared is as before
 pub set_clear : (cells : List (Option ℕ)) (p v : ℕ) → get_or cells p None ≡ None → set (with_value cells p v) p None ≡ cells
@@ -18,26 +17,6 @@ set_clear cells p v none = set-set cells p (Some v) None ∙ ap (λ (cell : Opti
 pub listed_at : (values list : List ℕ) (i : ℕ) → values ≡ list → i < length values → is_among list (get_or values i 0) ≡ true
 listed_at values list i is within =
     ap (λ (numbers : List ℕ). is_among numbers (get_or values i 0)) (sym is) ∙ list_any_at (λ k. k == get_or values i 0) values i 0 within (eq-eqb _ _ refl)
-
--- cells with one more value that exists fit
-pub FitsModel-with_value : (m : ModelView) (cells : List (Option ℕ)) (p v : ℕ) → FitsModel m cells → p < length m.params
-    → v < length (param_at m.params p).values
-    → FitsModel m (with_value cells p v)
-FitsModel-with_value m cells p v fits within exists = record {
-  as_long = length-set cells p (Some v) ∙ fits.as_long;
-  exist = λ q assigned.
-      elim (cases_eq q p) [
-        | inl same ↦
-            let here : get_or (with_value cells p v) q None ≡ Some v = ap (λ (k : ℕ). get_or (with_value cells p v) k None) same
-            ∙ get_or-set_same cells p (Some v) None (omega (arith, fits.as_long)) in
-            subst (λ (u : ℕ). u < length (param_at m.params q).values) (sym (ap (λ (cell : Option ℕ). unwrap_or cell 0) here))
-            (subst (λ (k : ℕ). v < length (param_at m.params k).values) (sym same) exists)
-        | inr differs ↦
-            let there : get_or (with_value cells p v) q None ≡ get_or cells q None = get_or-set_other cells p q (Some v) None differs in
-            subst (λ (u : ℕ). u < length (param_at m.params q).values) (sym (ap (λ (cell : Option ℕ). unwrap_or cell 0) there))
-            (fits.exist q (sym (ap (λ (cell : Option ℕ). is_some cell) there) ∙ assigned))
-      ];
-}
 
 pub length-filled : (lists : List (List ℕ)) (cells : List (Option ℕ)) → length (filled lists cells) ≡ length cells
 length-filled lists [] = refl

@@ -17,10 +17,11 @@ use Rattle.cov_model.specs.Meaning.{body_holds}
 use Rattle.cov_model.specs.Kleene.{known, body_truth}
 use Rattle.cov_model.specs.Valid.{param_numbers, is_row, has_value}
 use Rattle.cov_model.proofs.KnownLemmas.{no_stays, rows_are_known}
-use Rattle.cov_model.proofs.CellLemmas.{assigned_within, contains-from, contains-get_or}
+use Rattle.cov_model.proofs.CellLemmas.{contains-get_or}
 use Rattle.definitions.specs.Demand.{is_among}
 use Rattle.definitions.specs.Completion.{with_value, meets_rules}
 use Rattle.definitions.specs.Search.{Outcome, body_params, breaks_a_rule, is_no, is_stuck, is_failing, try_values, visit}
+pub use Rattle.definitions.proofs.Refuted.{contains-with as contains-with_value}
 use Rattle.feasibility.specs.Tree.{ListsValues, IsListed, is_named}
 use Rattle.feasibility.specs.Path.{filled, reached, reached_by}
 use Rattle.feasibility.proofs.Completing.{tried, tried_same, first_of, IsFree, Decided, first_of-branch, IsCompletion, first_of-none, CanBeFilled, filled_is_completion, first_of-filled, completion_contains, completion_length, completion_gives}
@@ -39,21 +40,6 @@ broken_fails m (rule ∷ rules) cells row contained broken =
     by_case No is h later = ap (λ (b : Bool). b && list_all (λ rule. body_holds m rule.body row) rules) (no_stays m rule.body cells row contained is)
     by_case Yes is h later = and_right (body_holds m rule.body row) (list_all (λ rule. body_holds m rule.body row) rules) (later h)
     by_case Unknown is h later = and_right (body_holds m rule.body row) (list_all (λ rule. body_holds m rule.body row) rules) (later h)
-
--- a row contains the partial row with one of its own values put in
-pub contains-with_value : (row cells : List (Option ℕ)) (p v : ℕ) → contains row cells ≡ true → get_or row p None ≡ Some v
-    → contains row (with_value cells p v) ≡ true
-contains-with_value row cells p v contained gives = contains-from row (with_value cells p v) (λ q assigned.
-    elim (cases_eq q p) [
-      | inl same ↦
-          let within : p < length cells = subst (λ (k : ℕ). k < length cells) same
-          (omega (arith, assigned_within (with_value cells p v) q assigned, length-set cells p (Some v))) in
-          ap (λ (k : ℕ). get_or row k None) same ∙ gives ∙ sym (ap (λ (k : ℕ). get_or (with_value cells p v) k None) same
-          ∙ get_or-set_same cells p (Some v) None within)
-      | inr differs ↦
-          let there = get_or-set_other cells p q (Some v) None differs in
-          contains-get_or row cells q contained (ap is_some (sym there) ∙ assigned) ∙ sym there
-    ])
 
 -- if no value passes the test's contrary, each passes the test
 none_differs : (test : ℕ → Bool) (values : List ℕ) (v : ℕ) → list_any (λ w. not (test w)) values ≡ false → is_among values v ≡ true → test v ≡ true

@@ -5,3 +5,4 @@ pub mod Solving
 pub mod Tree
 pub mod Live
 pub mod Refuting
+pub mod Ends

@@ -2,6 +2,7 @@
 //!
 //! - `Solver` asks and completes; `SearchTree` has the search, whose nodes, answers and rows are those
 //!   of the definition of plain search.
+//! - `over_budget` tells a run's caller of a question whose plain cost exceeds the budget.
 //! - `Solver::refute` gives a tree that refutes a tuple which no row serves.
 //! - That a search succeeds exactly on what is extendable, and reaches the first completion, is a law
 //!   over plain lists: `plain_search_is_exact`.
@@ -15,6 +16,7 @@ mod laws;
 mod members;
 mod named;
 mod narrowing;
+mod question;
 mod refuter;
 mod refuting;
 mod solver;
@@ -24,4 +26,6 @@ mod visiting;
 
 pub use answer::{Answer, Question, RefuteFault, SearchFault};
 pub use laws::plain_search_is_exact;
+pub use question::{over_budget, tuple_of};
 pub use solver::Solver;
+pub use values::slice_lists;

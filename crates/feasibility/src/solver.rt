@@ -1,13 +1,14 @@
 ghost use Rattle.std.specs.Prelude.{◌≡◌, ◌≢◌, Some, length, IfOk};
 ghost use Rattle.cov_model.specs.Preference.{OrdersValues};
 ghost use Rattle.definitions.specs.Completion.{first_completion, is_extendable};
-ghost use Rattle.definitions.specs.Search.{plain_cost};
+ghost use Rattle.definitions.specs.Demand.{is_among};
+ghost use Rattle.definitions.specs.Search.{constrained_params, plain_cost};
 ghost use Rattle.feasibility.specs.Answers.{answer_of};
 ghost use Rattle.definitions.specs.SliceRows.{IsOfSlice, IsSliceOf};
 
 use crate::answer::Answer;
 use crate::tree::SearchTree;
-use cov_model::{Cells, Prefs, Slice, TestModel};
+use cov_model::{Cells, ParamNo, Prefs, Slice, TestModel};
 use live_sets::LiveSets;
 use std::alloc::Global;
 use std::marker::Model;
@@ -71,6 +72,13 @@ impl<'a> Solver<'a> {
             sets,
             fails,
         })
+    }
+
+    /// Whether a constraint of the model names a parameter. Takes no memory.
+    pub fn is_constrained(&self, p: ParamNo) -> bool
+        ensures { result ≡ is_among (constrained_params self.now.model) p }
+    {
+        self.tree.is_constrained(p)
     }
 
     /// Whether a partial row of the slice is extendable there. `Spent` exactly where the plain cost

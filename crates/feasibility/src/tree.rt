@@ -4,6 +4,7 @@ ghost use Rattle.cov_model.specs.Kleene.{body_truth};
 ghost use Rattle.cov_model.specs.Preference.{OrdersValues};
 ghost use Rattle.cov_model.specs.Sound.{IsSound, param_at, rule_at};
 ghost use Rattle.definitions.specs.Completion.{preferred_values};
+ghost use Rattle.definitions.specs.Demand.{is_among};
 ghost use Rattle.definitions.specs.Search.{constrained_params};
 ghost use Rattle.definitions.specs.SliceRows.{IsSliceOf};
 ghost use Rattle.feasibility.specs.Tree.{ListsValues, constrained_at, members, undecided, undecided_by};
@@ -130,6 +131,20 @@ impl<'a> SearchTree<'a> {
         ensures { result.now ≡ undecided_by self.now.model (constrained_at self.now.model i) }
     {
         &self.constrained[i]
+    }
+
+    // Whether a constraint names a parameter.
+    pub(crate) fn is_constrained(&self, q: ParamNo) -> bool
+        ensures { result ≡ is_among (constrained_params self.now.model) q }
+    {
+        let count = self.constrained_len();
+        for i in 0..count {
+            let named = self.constrained_at(i);
+            if named.param == q {
+                return true;
+            }
+        }
+        false
     }
 
     // The constraints that this value of a parameter leaves undecided, of those that name the

@@ -1,6 +1,6 @@
-ghost use Rattle.std.specs.Prelude.{◌≡◌, ◌<◌, [], length, slice_index_or, not, IfOk};
+ghost use Rattle.std.specs.Prelude.{◌≡◌, ◌<◌, [], ◌∷◌, length, slice_index_or, not, IfOk};
 ghost use Rattle.cov_model.specs.Preference.{OrdersValues};
-ghost use Rattle.cov_model.specs.Slices.{slice_values};
+ghost use Rattle.cov_model.specs.Slices.{positive_values, slice_values};
 ghost use Rattle.cov_model.specs.Sound.{param_at};
 ghost use Rattle.cov_model.specs.Meaning.{value_at};
 ghost use Rattle.definitions.specs.Completion.{preferred_values};
@@ -78,6 +78,68 @@ pub(crate) fn preferred_lists(
     let mut lists = PackedLists::new(alloc);
     for p in 0..count {
         let list = preferred(alloc, model, prefs, slice, p as ParamNo)?;
+        lists.push(list.as_slice())?;
+    }
+    Ok(lists)
+}
+
+// The values of a parameter that aren't negative, in declared order.
+fn positives(alloc: Global, model: &TestModel, p: ParamNo) -> Result<Vec<ValueNo>, NoMemory>
+    requires { p < length model.now.params }
+    ensures { IfOk result (λ list. list.items ≡ positive_values model.now p) }
+{
+    let count = model.params().as_slice()[p as usize].values.len() as ValueNo;
+    let mut list = Vec::new(alloc);
+    for v in 0..count {
+        if is_positive(model, p, v) {
+            list.push(v)?;
+        }
+    }
+    Ok(list)
+}
+
+// One value.
+fn one_value(alloc: Global, v: ValueNo) -> Result<Vec<ValueNo>, NoMemory>
+    ensures { IfOk result (λ list. list.items ≡ v ∷ []) }
+{
+    let mut list = Vec::new(alloc);
+    list.push(v)?;
+    Ok(list)
+}
+
+// A parameter's values in the slice, in declared order.
+fn declared(
+    alloc: Global,
+    model: &TestModel,
+    slice: Slice,
+    p: ParamNo,
+) -> Result<Vec<ValueNo>, NoMemory>
+    requires { p < length model.now.params }
+    ensures { IfOk result (λ list. list.items ≡ slice_index_or (slice_values model.now slice) p []) }
+{
+    match slice {
+        Slice::Positive => positives(alloc, model, p),
+        Slice::Negative(fixed, w) => {
+            if fixed == p {
+                return one_value(alloc, w);
+            }
+            positives(alloc, model, p)
+        }
+    }
+}
+
+/// Each parameter's values in a slice of the model, in declared order.
+///
+/// # Errors
+///
+/// `NoMemory` where there is no room.
+pub fn slice_lists(alloc: Global, model: &TestModel, slice: Slice) -> Result<PackedLists, NoMemory>
+    ensures { IfOk result (λ lists. lists ≡ slice_values model.now slice) }
+{
+    let count = model.params().len();
+    let mut lists = PackedLists::new(alloc);
+    for p in 0..count {
+        let list = declared(alloc, model, slice, p as ParamNo)?;
         lists.push(list.as_slice())?;
     }
     Ok(lists)
