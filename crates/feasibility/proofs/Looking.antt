@@ -2,7 +2,7 @@
 use Rattle.std.proofs.Common.{◌≡◌, ◌≢◌, ℕ, ◌<◌, ◌≤◌, Bool, true, false, not, ◌&&◌, ◌||◌, ◌==◌, List, [], ◌∷◌, ◌++◌, length, Option, Some, get_or, ◌∙◌, sym, ap, subst, refl, arith, inl, inr}
 use Rattle.std.specs.List.{count_by, range_with_len}
 use Rattle.std.proofs.Math.Bool.{and-true}
-use Rattle.std.proofs.lemmas.Bool.{false≢true, cases_Bool, cases_eq, and_left, or_from, eq-eqb, false_from_ne_true, ne_eqb}
+use Rattle.std.proofs.lemmas.Bool.{false≢true, cases_Bool, cases_eq, and_left, or_from, false_from_ne_true, ne_eqb}
 use Rattle.std.proofs.lemmas.List.Folds.{list_any-append}
 use Rattle.cov_model.specs.Sound.{ModelView, param_at, rule_at}
 use Rattle.cov_model.specs.Kleene.{body_truth}
@@ -16,6 +16,7 @@ use Rattle.live_sets.specs.Trail.{LiveView, mark_at, IsSince}
 use Rattle.live_sets.proofs.TrailLemmas.{since_self, since_more}
 use Rattle.feasibility.specs.Live.{AreRules, EachHasOne, HasShape, LookedAt, Narrowed, Stops, breaks_one, no_on}
 use Rattle.feasibility.specs.Tree.{members}
+use Rattle.refutation.proofs.HolderLemmas.{among_last}
 use Rattle.feasibility.proofs.Broken.{breaks_by, breaks_of, longer_set}
 use Rattle.feasibility.proofs.Growing.{not_no, stays_body, yes_from_yes}
 use Rattle.feasibility.proofs.Local.{agree_set, local_body}
@@ -85,13 +86,6 @@ among_other done q s differs = among_push done q s ∙ ap (λ (b : Bool). is_amo
     or_false true = refl
     or_false false = refl
 
-among_this : (done : List ℕ) (q : ℕ) → is_among (done ++ q ∷ []) q ≡ true
-among_this done q = among_push done q q ∙ ap (λ (b : Bool). is_among done q || (b || false)) (eq-eqb q q refl) ∙ or_true (is_among done q)
-  where
-    or_true : (b : Bool) → (b || (true || false)) ≡ true
-    or_true true = refl
-    or_true false = refl
-
 -- one with a value
 pub ahead_skip : (m : ModelView) (k : ℕ) (cells : List (Option ℕ)) (done : List ℕ) (q : ℕ) (old new : LiveView) → AheadTo m k cells done old new
     → is_assigned cells q ≡ true
@@ -119,7 +113,7 @@ ahead_more m k cells done q old now new to within unset narrowed some = record {
         ap (λ (p : ℕ). mark_at new.live p w) same ∙ narrowed.below w here
         ∙ ap (λ (b : Bool). b && not (no_on m (with_value cells q w) k)) (to.marks q w within here unset)
         ∙ again (mark_at old.live q w) (is_among done q) (no_on m (with_value cells q w) k)
-        ∙ sym (ap (λ (b : Bool). mark_at old.live q w && not (b && no_on m (with_value cells q w) k)) (among_this done q))
+        ∙ sym (ap (λ (b : Bool). mark_at old.live q w && not (b && no_on m (with_value cells q w) k)) (among_last done q))
         ∙ ap (λ (p : ℕ). mark_at old.live p w && not (is_among (done ++ q ∷ []) p && no_on m (with_value cells p w) k)) (sym same)
     | inr differs ↦
         ap (λ (list : List Bool). get_or list w false) (narrowed.others s differs) ∙ to.marks s w low inside free
