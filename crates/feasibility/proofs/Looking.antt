@@ -17,6 +17,7 @@ use Rattle.live_sets.specs.Trail.{LiveView, mark_at, IsSince}
 use Rattle.live_sets.proofs.TrailLemmas.{since_self, since_more}
 use Rattle.feasibility.specs.Live.{AreRules, EachHasOne, HasShape, LookedAt, Narrowed, Stops, breaks_one, no_on}
 use Rattle.feasibility.specs.Tree.{members}
+use Rattle.refutation.proofs.HolderLemmas.{among_last}
 use Rattle.feasibility.proofs.Broken.{breaks_by, breaks_of, longer_set}
 use Rattle.feasibility.proofs.Growing.{not_no, stays_body, yes_from_yes}
 use Rattle.feasibility.proofs.Local.{agree_set, local_body}

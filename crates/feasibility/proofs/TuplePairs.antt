@@ -5,23 +5,21 @@ use Rattle.std.specs.List.{list_any}
 use Rattle.std.specs.Option.{option_eq}
 use Rattle.std.proofs.lemmas.Bool.{false≢true, cases_eq, cases_lt, eq-eqb, eqb-true, ne_eqb, or_parts, false_from_ne_true, and_parts, and_from}
 use Rattle.std.proofs.lemmas.Option.{none-some, same_Some}
-use Rattle.std.proofs.lemmas.List.{drop_more, get_or-set_other, get_or-set_same, length-replicate, length-set, set_past}
+use Rattle.std.proofs.lemmas.List.{drop_more, get_or-set_other, get_or-set_same, length-replicate, set_past}
 use Rattle.cov_model.specs.Rows.{contains, is_assigned}
 use Rattle.cov_model.specs.Tuples.{IsRising}
 use Rattle.cov_model.proofs.CellLemmas.{contains-from, contains-get_or, contains-trans}
 use Rattle.definitions.specs.Completion.{with_value}
 use Rattle.definitions.specs.Pairs.{cells_of}
 use Rattle.definitions.proofs.Members.{same_answer}
+use Rattle.definitions.proofs.NamedPairs.{length-cells_of, behind_first}
+use Rattle.refutation.proofs.PairLemmas.{none_again}
 use Rattle.feasibility.proofs.Broken.{longer_none, longer_set, longer_with, none_at}
 use Rattle.feasibility.proofs.Searching.{contains-with_value}
 
 -- one of the pairs is of the parameter
 abbrev pub has_param : List (ℕ × ℕ) → ℕ → Bool
 has_param pairs p = list_any (λ pair. pair.0 == p) pairs
-
-pub length-cells_of : (n : ℕ) (pairs : List (ℕ × ℕ)) → length (cells_of n pairs) ≡ n
-length-cells_of n [] = length-replicate n None
-length-cells_of n (pair ∷ pairs) = length-set (cells_of n pairs) pair.0 (Some pair.1) ∙ length-cells_of n pairs
 
 -- the parameters of the pairs have values, and no others
 pub gives_pair : (n : ℕ) (pairs : List (ℕ × ℕ)) (p : ℕ) → p < n → is_assigned (cells_of n pairs) p ≡ has_param pairs p
@@ -44,21 +42,6 @@ free_pair n (pair ∷ pairs) p none =
     (get_or-set_other (cells_of n pairs) pair.0 p (Some pair.1) None (λ same. false≢true (sym parts.0 ∙ eq-eqb pair.0 p (sym same))))
     ∙ free_pair n pairs p parts.1
 
--- of rising pairs none is of a parameter below the first
-rises_above : (p : ℕ) (pair : ℕ × ℕ) (pairs : List (ℕ × ℕ)) → p < pair.0 → IsRising (pair ∷ pairs) → has_param (pair ∷ pairs) p ≡ false
-rises_above p pair [] less rising = ap (λ (b : Bool). b || false) (ne_eqb pair.0 p (λ same. omega (arith, same, less)))
-rises_above p pair (next ∷ pairs) less rising =
-    ap (λ (b : Bool). b || has_param (next ∷ pairs) p) (ne_eqb pair.0 p (λ same. omega (arith, same, less)))
-    ∙ rises_above p next pairs (omega (arith, less, rising.0)) rising.1
-
-others_free : (pair : ℕ × ℕ) (pairs : List (ℕ × ℕ)) → IsRising (pair ∷ pairs) → has_param pairs pair.0 ≡ false
-others_free pair [] rising = refl
-others_free pair (next ∷ pairs) rising = rises_above pair.0 next pairs rising.0 rising.1
-
-pub rising_tail : (pair : ℕ × ℕ) (pairs : List (ℕ × ℕ)) → IsRising (pair ∷ pairs) → IsRising pairs
-rising_tail pair [] rising = tt
-rising_tail pair (next ∷ pairs) rising = rising.1
-
 -- the cells contain rising pairs exactly if they contain the first by itself and the others
 pub contains-pair : (cells : List (Option ℕ)) (n : ℕ) (pair : ℕ × ℕ) (pairs : List (ℕ × ℕ)) → IsRising (pair ∷ pairs)
     → contains cells (cells_of n (pair ∷ pairs)) ≡ (contains cells (cells_of n (pair ∷ [])) && contains cells (cells_of n pairs))
@@ -74,7 +57,7 @@ contains-pair cells n pair pairs rising =
         (longer_none n (cells_of n pairs)))))
         (contains-trans cells (cells_of n (pair ∷ pairs)) (cells_of n pairs) whole
         (contains-from (cells_of n (pair ∷ pairs)) (cells_of n pairs)
-        (longer_set (cells_of n pairs) pair.0 pair.1 (free_pair n pairs pair.0 (others_free pair pairs rising)))))
+        (longer_set (cells_of n pairs) pair.0 pair.1 (free_pair n pairs pair.0 (none_again pair pairs rising)))))
 
     backward : (contains cells (cells_of n (pair ∷ [])) && contains cells (cells_of n pairs)) ≡ true → contains cells (cells_of n (pair ∷ pairs)) ≡ true
     backward both =
@@ -134,7 +117,7 @@ pair_at cells n pairs i within rising =
     let cut = drop_more pairs i (0, 0) within in
     let rises = subst IsRising cut rising in
     record {
-      rising = rising_tail (get_or pairs i (0, 0)) (drop (i + 1) pairs) rises;
+      rising = behind_first (get_or pairs i (0, 0)) (drop (i + 1) pairs) rises;
       splits = ap (λ (list : List (ℕ × ℕ)). contains cells (cells_of n list)) cut
           ∙ contains-pair cells n (get_or pairs i (0, 0)) (drop (i + 1) pairs) rises;
     }

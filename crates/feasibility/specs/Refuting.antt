@@ -1,5 +1,5 @@
 -- What a refutation is given, and the trees that it makes. (This project's rule.)
-use Rattle.std.specs.Prelude.{◌≡◌, ℕ, ◌+◌, ◌<◌, ◌≤◌, ◌^◌, Bool, true, false, ◌&&◌, not, List, [], ◌∷◌, ◌++◌, length, map, Option, Some, None, slice_index_or, if◌then◌else◌}
+use Rattle.std.specs.Prelude.{◌≡◌, ℕ, ◌<◌, ◌≤◌, ◌^◌, Bool, true, false, ◌&&◌, not, List, [], ◌∷◌, ◌++◌, length, map, nat_lt, Option, Some, None, slice_index_or, ◌⊎◌, if◌then◌else◌}
 use Rattle.std.specs.List.{list_all}
 use Rattle.cov_model.specs.declared.slice.Slice.{Slice}
 use Rattle.cov_model.specs.declared.slice.Slice.TheVariants.{Positive, Negative}
@@ -52,10 +52,16 @@ pub record IsRefuter (r : RefuterView) (slice : Slice) : Type 0 where
 abbrev pub is_cited : RefuterView → List (Option ℕ) → List (Option ℕ) → Bool
 is_cited r path other = contains path other && list_all (is_assigned other) (negatives r.model r.tuple)
 
--- the numbers of the earlier tuples that give a parameter the value are among these
-abbrev pub ListsGiving : RefuterView → ℕ → ℕ → List ℕ → Type 0
-ListsGiving r q v numbers =
-    (i : ℕ) → i < length r.earlier → slice_index_or (slice_index_or r.earlier i []) q None ≡ Some v → is_among numbers (i + 1) ≡ true
+-- a number is less than another, if there is another
+abbrev pub is_less : ℕ → Option ℕ → Bool
+is_less n None = true
+is_less n (Some k) = nat_lt n k
+
+-- of a number, if there is one, and those of a list that pass a test the least is the new one
+pub record Lowers (test : ℕ → Bool) (numbers : List ℕ) (old new : Option ℕ) : Type 0 where
+  pub passes : (k : ℕ) → new ≡ Some k → (test k ≡ true) ⊎ (old ≡ Some k)
+  pub kept : (j : ℕ) → is_less j old ≡ false → is_less j new ≡ false
+  pub below : (j : ℕ) → is_among numbers j ≡ true → test j ≡ true → is_less j new ≡ false
 
 -- a path of a tree for the tuple, without a negative value outside it
 pub record IsPath (r : RefuterView) (path : List (Option ℕ)) : Type 0 where

@@ -18,7 +18,7 @@ use crate::answer::{Answer, RefuteFault};
 use crate::refuter::Refuter;
 use cov_model::{Cells, ParamNo, ValueNo};
 use live_sets::LiveSets;
-use refutation::{ProofForm, TreeBuf, TreeToken};
+use refutation::{TreeBuf, TreeToken};
 use value_text::NoMemory;
 
 impl<'t> Refuter<'t> {
@@ -41,37 +41,18 @@ impl<'t> Refuter<'t> {
         rule
     }
 
-    // The least number of an omission that is a leaf with this value of a parameter, where without it
-    // no leaf is possible: its tuple has the value. The proof's form has such leaves.
-    fn first_contained_with(&self, q: ParamNo, v: ValueNo, cells: &mut Cells) -> Option<u32>
-        requires form { self.now.format ≡ 2 }
-        requires parameter { q < length self.now.model.params }
-        requires free { is_assigned cells.old q ≡ false }
-        requires path { IsPath self.now cells.old }
-        requires leafless { HasNoLeaf self.now cells.old }
-        ensures least { result ≡ find (is_omission_leaf self.now.model self.now.format self.now.earlier self.now.tuple (with_value cells.old q v)) (range_with_len 1 (length self.now.earlier)) }
-        ensures same { cells.new ≡ cells.old }
-    {
-        let numbers = self.numbers_with(q, v);
-        cells.set_cell(q, v);
-        let number = self.first_cited_of(numbers, cells);
-        cells.clear_cell(q);
-        number
-    }
-
-    // The same in a proof of any form.
+    // The least number of an omission that is a leaf with this value of a parameter.
     fn first_cited_with(&self, q: ParamNo, v: ValueNo, cells: &mut Cells) -> Option<u32>
         requires parameter { q < length self.now.model.params }
         requires free { is_assigned cells.old q ≡ false }
         requires path { IsPath self.now cells.old }
-        requires leafless { HasNoLeaf self.now cells.old }
         ensures least { result ≡ find (is_omission_leaf self.now.model self.now.format self.now.earlier self.now.tuple (with_value cells.old q v)) (range_with_len 1 (length self.now.earlier)) }
         ensures same { cells.new ≡ cells.old }
     {
-        match self.form() {
-            ProofForm::One => None,
-            ProofForm::Two => self.first_contained_with(q, v, cells),
-        }
+        cells.set_cell(q, v);
+        let number = self.first_cited(cells);
+        cells.clear_cell(q);
+        number
     }
 
     // Puts the leaf of a value that isn't live: it is negative, or a constraint is No with it.

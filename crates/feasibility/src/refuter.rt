@@ -1,4 +1,4 @@
-ghost use Rattle.std.specs.Prelude.{◌≡◌, ◌+◌, ◌<◌, ◌≤◌, [], length, find, slice_index_or};
+ghost use Rattle.std.specs.Prelude.{◌≡◌, ◌+◌, ◌<◌, ◌≤◌, [], All, length, find, slice_index_or};
 ghost use Rattle.std.specs.List.{list_all, range_with_len};
 ghost use Rattle.cov_model.specs.Fits.{FitsModel};
 ghost use Rattle.cov_model.specs.Rows.{is_assigned};
@@ -8,10 +8,10 @@ ghost use Rattle.cov_model.specs.Valid.{negatives};
 ghost use Rattle.definitions.specs.Pairs.{cells_of};
 ghost use Rattle.definitions.specs.Refutation.{is_omission_leaf};
 ghost use Rattle.definitions.specs.Search.{constrained_params};
-ghost use Rattle.refutation.specs.Holders.{NeverFalls};
+ghost use Rattle.refutation.specs.Holders.{EndsWithin, NeverFalls};
 ghost use Rattle.refutation.specs.Proofs.{format_of};
 ghost use Rattle.feasibility.specs.Live.{AreRules, no_on};
-ghost use Rattle.feasibility.specs.Refuting.{IsRefuter, ListsGiving, TriesPositive, earlier_tuples, is_cited};
+ghost use Rattle.feasibility.specs.Refuting.{IsRefuter, Lowers, TriesPositive, earlier_tuples, is_cited, is_less};
 ghost use Rattle.feasibility.specs.Tree.{ListsValues, constrained_at, undecided};
 
 use crate::contained::{contains_tuple, copy_tuple, gives_param};
@@ -46,6 +46,16 @@ impl<'t> Model for Refuter<'t> {
     ghost view = { λ a. record { model = a.tree.now.model; lists = a.tree.now.values; format = format_of a.omissions.now.form; earlier = earlier_tuples a.tree.now.model a.omissions.now; tuple = cells_of (length a.tree.now.model.params) a.tuple.now } };
 
     ghost invariant = { λ a. IsRefuter (record { model = a.tree.now.model; lists = a.tree.now.values; format = format_of a.omissions.now.form; earlier = earlier_tuples a.tree.now.model a.omissions.now; tuple = cells_of (length a.tree.now.model.params) a.tuple.now }) a.slice };
+}
+
+// Whether a number is less than another, if there is another.
+fn is_less(number: u32, other: Option<u32>) -> bool
+    ensures { result ≡ is_less number other }
+{
+    match other {
+        Some(most) => number < most,
+        None => true,
+    }
 }
 
 impl<'t> Refuter<'t> {
@@ -189,38 +199,55 @@ impl<'t> Refuter<'t> {
         self.is_cited(number - 1, cells)
     }
 
-    // The first of these numbers whose omission is a leaf on the cells.
-    pub(crate) fn first_cited_of(&self, numbers: &[u32], cells: &Cells) -> Option<u32>
+    // The lesser of a number, if there is one, and of the first of a list whose omission is a leaf on
+    // the cells. The numbers of the list never fall.
+    fn lesser_citation(&self, numbers: &[u32], least: Option<u32>, cells: &Cells) -> Option<u32>
         requires form { self.now.format ≡ 2 }
         requires long { length cells.now ≡ length self.now.model.params }
-        ensures { result ≡ find (is_omission_leaf self.now.model self.now.format self.now.earlier self.now.tuple cells.now) numbers.now }
+        requires rising { NeverFalls numbers.now }
+        ensures { Lowers (is_omission_leaf self.now.model self.now.format self.now.earlier self.now.tuple cells.now) numbers.now least result }
     {
         for number in numbers {
+            if !is_less(*number, least) {
+                return least;
+            }
             if self.is_citation(*number, cells) {
                 return Some(*number);
             }
         }
-        None
+        least
     }
 
-    // Numbers that never fall, among which are those of the omissions whose tuples have the pair.
-    pub(crate) fn numbers_with(&self, q: ParamNo, v: ValueNo) -> &'t [u32]
-        requires { q < length self.now.model.params }
-        ensures rising { NeverFalls result.now }
-        ensures each { ListsGiving self.now q v result.now }
+    // The omissions that stand before the tree.
+    fn omissions(&self) -> &'t Omissions
+        ensures format { self.now.format ≡ format_of result.now.form }
+        ensures earlier { self.now.earlier ≡ earlier_tuples self.now.model result.now }
     {
-        self.omissions.numbers_with(q, v)
+        self.omissions
     }
 
-    // The form of the proof.
-    pub(crate) fn form(&self) -> ProofForm
-        ensures { self.now.format ≡ format_of result }
+    // The least number of an omission that is a leaf on the cells, in such a proof: an omission's tuple
+    // that the cells contain ends with one of their pairs, if its parameters are of the model.
+    fn first_ending(&self, omissions: &Omissions, cells: &Cells) -> Option<u32>
+        requires form { self.now.format ≡ 2 }
+        requires long { length cells.now ≡ length self.now.model.params }
+        requires earlier { self.now.earlier ≡ earlier_tuples self.now.model omissions.now }
+        requires within { All (λ omission. EndsWithin (length self.now.model.params) omission.tuple) omissions.now.omissions }
+        ensures { result ≡ find (is_omission_leaf self.now.model self.now.format self.now.earlier self.now.tuple cells.now) (range_with_len 1 (length self.now.earlier)) }
     {
-        self.omissions.form()
+        self.assert_invariant();
+        let count = cells.len() as ParamNo;
+        let mut least = None;
+        for p in 0..count {
+            if let Some(v) = cells.get(p) {
+                least = self.lesser_citation(omissions.numbers_ending(p, v), least, cells);
+            }
+        }
+        least
     }
 
-    // The least number of such an omission.
-    fn first_contained(&self, cells: &Cells) -> Option<u32>
+    // The same, whatever the tuples are.
+    fn first_of_all(&self, cells: &Cells) -> Option<u32>
         requires form { self.now.format ≡ 2 }
         requires long { length cells.now ≡ length self.now.model.params }
         ensures { result ≡ find (is_omission_leaf self.now.model self.now.format self.now.earlier self.now.tuple cells.now) (range_with_len 1 (length self.now.earlier)) }
@@ -234,12 +261,28 @@ impl<'t> Refuter<'t> {
         None
     }
 
+    // The same, looked for where it can be.
+    fn first_contained(&self, cells: &Cells) -> Option<u32>
+        requires form { self.now.format ≡ 2 }
+        requires long { length cells.now ≡ length self.now.model.params }
+        ensures { result ≡ find (is_omission_leaf self.now.model self.now.format self.now.earlier self.now.tuple cells.now) (range_with_len 1 (length self.now.earlier)) }
+    {
+        self.assert_invariant();
+        let omissions = self.omissions();
+        let count = cells.len() as ParamNo;
+        if omissions.are_within(count) {
+            self.first_ending(omissions, cells)
+        } else {
+            self.first_of_all(cells)
+        }
+    }
+
     // The least number of an omission that is a leaf on the cells.
     pub(crate) fn first_cited(&self, cells: &Cells) -> Option<u32>
         requires { length cells.now ≡ length self.now.model.params }
         ensures { result ≡ find (is_omission_leaf self.now.model self.now.format self.now.earlier self.now.tuple cells.now) (range_with_len 1 (length self.now.earlier)) }
     {
-        match self.omissions.form() {
+        match self.omissions().form() {
             ProofForm::One => None,
             ProofForm::Two => self.first_contained(cells),
         }

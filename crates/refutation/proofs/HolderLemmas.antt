@@ -1,11 +1,14 @@
 -- Lists of numbers by pair, to which numbers are added.
-use Rattle.std.proofs.Common.{◌≡◌, ◌≢◌, ℕ, zero, suc, ◌+◌, ◌<◌, ◌≤◌, Bool, true, false, ◌&&◌, ◌||◌, ◌==◌, List, [], ◌∷◌, ◌++◌, length, take, get_or, set, inl, inr, ◌⊎◌, ◌∙◌, sym, ap, subst, refl, arith, eq-eqb}
-use Rattle.std.proofs.lemmas.Bool.{false≢true, cases_eq, eqb-true, and_parts, or_cases, or_left, or_right}
-use Rattle.std.proofs.lemmas.List.{take_more, get_or-set_other, get_or-set_same}
-use Rattle.std.specs.List.{list_any}
+use Rattle.std.proofs.Common.{◌≡◌, ◌≢◌, ℕ, zero, suc, ◌+◌, ◌<◌, ◌≤◌, true, ◌==◌, List, [], ◌∷◌, ◌++◌, ◌^◌, max, All, Some, length, get_or, set, inl, inr, ◌⊎◌, ◌∙◌, sym, ap, subst, refl, arith, eq-eqb}
+use Rattle.std.proofs.lemmas.Bool.{false≢true, cases_eq, cases_lt, or_left, or_right}
+use Rattle.std.proofs.Math.Nat.{le-max_left, le-max_right}
+use Rattle.std.proofs.Math.Seq.{get_or-append_seam}
+use Rattle.std.proofs.lemmas.List.{get_or_append_left, get_or-set_other, get_or-set_same, length-append}
+use Rattle.std.proofs.lemmas.List.Elements.{All-append}
 use Rattle.definitions.specs.Demand.{is_among}
-use Rattle.definitions.proofs.Members.{Has, among_has, of_among, of_append, has_left, has_right, any_member, of_any}
-use Rattle.refutation.specs.Holders.{Adds, EndsBelow, NeverFalls, has_pair, numbers_at}
+use Rattle.definitions.proofs.Members.{among_has, of_among, of_append, has_left, has_right}
+use Rattle.refutation.specs.declared.omissions.Omission.{Omission}
+use Rattle.refutation.specs.Holders.{Adds, AreHolders, EndsBelow, EndsWithin, NeverFalls, last_pair, numbers_at}
 
 -- a number behind the others
 among_more : (numbers : List ℕ) (n k : ℕ) → is_among (numbers ++ n ∷ []) k ≡ true → (is_among numbers k ≡ true) ⊎ (n ≡ k)
@@ -94,23 +97,51 @@ module _ (n p v : ℕ) (old now : List (List (List ℕ))) (values : List (List �
         | inr apart ↦ inl (ap (λ (lists : List (List ℕ)). get_or lists w []) (get_or-set_other now p q values [] apart) ∙ before q w)
       ]
 
--- pairs up to a place
-pub pair_more : (pairs : List (ℕ × ℕ)) (i p v : ℕ) (d : ℕ × ℕ) → i < length pairs → has_pair (take (i + 1) pairs) p v ≡ true
-    → (has_pair (take i pairs) p v ≡ true) ⊎ (((get_or pairs i d).0 ≡ p) × ((get_or pairs i d).1 ≡ v))
-pair_more pairs i p v d within has =
-    let test = λ (pair : ℕ × ℕ). (pair.0 == p) && (pair.1 == v) in
-    let found = of_any test (take (i + 1) pairs) has in
-    elim (of_append (take i pairs) (get_or pairs i d ∷ []) found.0 (subst (λ (list : List (ℕ × ℕ)). Has list found.0) (take_more pairs i d within) found.1)) [
-      | inl before ↦ inl (any_member test (take i pairs) found.0 before found.2)
-      | inr (inl same) ↦
-          let parts = and_parts (found.0.0 == p) (found.0.1 == v) found.2 in
-          inr (ap (λ (pair : ℕ × ℕ). pair.0) same ∙ eqb-true found.0.0 p parts.0, ap (λ (pair : ℕ × ℕ). pair.1) same ∙ eqb-true found.0.1 v parts.1)
-      | inr (inr none) ↦ absurd none
-    ]
-
 -- one more default behind a list is read as before
 pub default_more : {X : Type 0} (xs : List X) (d : X) (i : ℕ) → get_or (xs ++ d ∷ []) i d ≡ get_or xs i d
 default_more [] d zero = refl
 default_more [] d (suc i) = refl
 default_more (x ∷ xs) d zero = refl
 default_more (x ∷ xs) d (suc i) = default_more xs d i
+
+-- ---- the omissions of a proof
+
+-- a number more, for whose omission there was no room
+pub holders_kept : (omissions : List Omission) (old new : List (List (List ℕ))) (width n : ℕ) → AreHolders omissions old width → n ≡ length omissions + 1
+    → Adds n old new → AreHolders omissions new width
+holders_kept omissions old new width n are next adds = record {
+  ends = λ p v. subst (λ (k : ℕ). EndsBelow k (numbers_at new p v)) next
+      (adds.ends p v (subst (λ (k : ℕ). EndsBelow k (numbers_at old p v)) (sym next) (are.ends p v)));
+  each = λ p v i d within is. adds.kept p v (i + 1) (are.each p v i d within is);
+  within = are.within;
+}
+
+-- an omission more
+pub holders_more : (omissions : List Omission) (own : Omission) (old new : List (List (List ℕ))) (width least n : ℕ) → AreHolders omissions old width
+    → n ≡ length omissions + 1 → Adds n old new → ((p v : ℕ) → last_pair own.tuple ≡ Some (p, v) → is_among (numbers_at new p v) n ≡ true)
+    → ((k : ℕ) → k < 2 ^ 16 → least ≤ k → EndsWithin k own.tuple) → AreHolders (omissions ++ own ∷ []) new (max width least)
+holders_more omissions own old new width least n are next adds listed wide = record {
+  ends = λ p v.
+      let kept = (holders_kept omissions old new width n are next adds).ends p v in
+      ends_later (numbers_at new p v) (length omissions + 1) (length (omissions ++ own ∷ []) + 1) (omega (arith, length-append omissions (own ∷ []))) kept;
+  each = λ p v i d within is. elim (cases_lt i (length omissions)) [
+    | inl before ↦
+        adds.kept p v (i + 1) (are.each p v i d before
+        (ap (λ (omission : Omission). last_pair omission.tuple) (sym (get_or_append_left omissions (own ∷ []) d i before)) ∙ is))
+    | inr past ↦
+        let last : i ≡ length omissions = omega (arith, past, within, length-append omissions (own ∷ [])) in
+        let read : get_or (omissions ++ own ∷ []) i d ≡ own =
+        ap (λ (k : ℕ). get_or (omissions ++ own ∷ []) k d) last ∙ get_or-append_seam omissions own [] d in
+        let number : n ≡ i + 1 = omega (arith, next, last) in
+        ap (is_among (numbers_at new p v)) (sym number) ∙ listed p v (ap (λ (omission : Omission). last_pair omission.tuple) (sym read) ∙ is)
+  ];
+  within = λ k few most.
+      let first : width ≤ k = omega (arith, le-max_left width least, most) in
+      let second : least ≤ k = omega (arith, le-max_right width least, most) in
+      All-append (λ (omission : Omission). EndsWithin k omission.tuple) omissions (own ∷ []) (are.within k few first)
+      (All-one k (wide k few second));
+}
+  where
+    All-one : (k : ℕ) → EndsWithin k own.tuple → All (λ (omission : Omission). EndsWithin k omission.tuple) (own ∷ [])
+    All-one k ends zero d within = ends
+    All-one k ends (suc i) d within = absurd (omega (arith, within))

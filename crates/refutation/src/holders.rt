@@ -1,8 +1,8 @@
-ghost use Rattle.std.specs.Prelude.{◌≡◌, ◌≢◌, ℕ, ◌<◌, ◌++◌, ◌∷◌, [], true, length, slice_index_or, OnOk, OnErr};
+ghost use Rattle.std.specs.Prelude.{◌≡◌, ◌≢◌, ℕ, ◌^◌, ◌<◌, ◌≤◌, ◌++◌, ◌∷◌, [], Some, true, length, slice_index_or, OnOk, OnErr};
 ghost use Rattle.definitions.specs.Demand.{is_among};
-ghost use Rattle.refutation.specs.Holders.{Adds, has_pair, numbers_at};
+ghost use Rattle.refutation.specs.Holders.{Adds, EndsWithin, last_pair, numbers_at};
 
-use cov_model::{ParamNo, ValueNo};
+use cov_model::{ParamNo, Tuple, ValueNo};
 use std::alloc::Global;
 use std::marker::Model;
 use value_text::{NoMemory, OwnedList};
@@ -125,7 +125,7 @@ impl Holders {
         Ok(())
     }
 
-    // Adds a number to those of each of the pairs.
+    // Adds a number to those of the last of the pairs, if there is one.
     pub(crate) fn add(
         &mut self,
         alloc: Global,
@@ -133,11 +133,22 @@ impl Holders {
         number: u32,
     ) -> Result<(), NoMemory>
         ensures adds { Adds number self.old self.new }
-        ensures listed { OnOk result ((p v : ℕ) → has_pair pairs.now p v ≡ true → is_among (numbers_at self.new p v) number ≡ true) }
+        ensures listed { OnOk result ((p v : ℕ) → last_pair pairs.now ≡ Some (p, v) → is_among (numbers_at self.new p v) number ≡ true) }
     {
-        for pair in pairs {
-            self.push(alloc, pair.0, pair.1, number)?;
+        match pairs.last() {
+            Some(pair) => self.push(alloc, pair.0, pair.1, number),
+            None => Ok(()),
         }
-        Ok(())
+    }
+}
+
+// How many parameters a model has at least that has those of the tuple; more than any has where the
+// tuple has no pair.
+pub(crate) fn least_width(tuple: &Tuple) -> u32
+    ensures { (n : ℕ) → n < 2 ^ 16 → result ≤ n → EndsWithin n tuple.now }
+{
+    match tuple.as_slice().last() {
+        Some(pair) => pair.0 as u32 + 1,
+        None => u32::MAX,
     }
 }

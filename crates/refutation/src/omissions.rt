@@ -1,10 +1,10 @@
-ghost use Rattle.std.specs.Prelude.{◌≡◌, ◌==◌, ◌^◌, ◌<◌, ◌++◌, ◌∷◌, [], length, slice_get, option_copied, IfOk, OnOk, OnErr};
+ghost use Rattle.std.specs.Prelude.{◌≡◌, ◌==◌, ◌^◌, ◌<◌, ◌++◌, ◌∷◌, [], true, All, length, slice_get, option_copied, IfOk, OnOk, OnErr};
 ghost use Rattle.std.specs.Iterator.Adapters.{IterYieldsInOrder};
 ghost use Rattle.std.specs.Slice.Iter.{iter_rest};
 ghost use Rattle.refutation.specs.declared.omissions.Omission.{Omission};
-ghost use Rattle.refutation.specs.Holders.{ListsHolders, NeverFalls};
+ghost use Rattle.refutation.specs.Holders.{EndsWithin, ListsEnding, NeverFalls};
 
-use crate::holders::Holders;
+use crate::holders::{Holders, least_width};
 use crate::token::TreeBuf;
 use cov_model::{ParamNo, Tuple, ValueNo};
 use std::alloc::Global;
@@ -45,13 +45,15 @@ pub struct Omission {
 }
 
 /// A proof: its format, and the omitted tuples with their trees, in order. Contracts see both. For each
-/// pair of a parameter and a value it keeps the numbers of the omissions whose tuples have it.
+/// pair of a parameter and a value it keeps the numbers of the omissions whose tuples end with it, and
+/// for all tuples how many parameters a model has at least that has theirs.
 #[derive(Drop)]
 pub struct Omissions {
     alloc: Global,
     format: ProofForm,
     listed: Vec<Omission>,
     holders: Holders,
+    width: u32,
 }
 
 impl Model for Omissions {
@@ -62,7 +64,7 @@ impl Model for Omissions {
 
     ghost view = { λ a. record { form = a.format; omissions = a.listed.items } };
 
-    ghost invariant = { λ a. AreHolders a.listed.items a.holders };
+    ghost invariant = { λ a. AreHolders a.listed.items a.holders a.width };
 }
 
 impl Omissions {
@@ -75,6 +77,7 @@ impl Omissions {
             format: form,
             listed: Vec::new(alloc),
             holders: Holders::new(alloc),
+            width: 0,
         }
     }
 
@@ -92,6 +95,7 @@ impl Omissions {
             format: form,
             listed,
             holders: Holders::new(alloc),
+            width: 0,
         })
     }
 
@@ -139,13 +143,21 @@ impl Omissions {
         self.listed.iter()
     }
 
-    /// Numbers, counted from 1 and never falling, among which is that of each omission whose tuple has
-    /// the pair. Takes no memory.
-    pub fn numbers_with(&self, p: ParamNo, v: ValueNo) -> &[u32]
+    /// Numbers, counted from 1 and never falling, among which is that of each omission whose tuple ends
+    /// with the pair. Takes no memory.
+    pub fn numbers_ending(&self, p: ParamNo, v: ValueNo) -> &[u32]
         ensures rising { NeverFalls result.now }
-        ensures each { ListsHolders self.now.omissions p v result.now }
+        ensures each { ListsEnding self.now.omissions p v result.now }
     {
         self.holders.list(p, v)
+    }
+
+    /// Whether each tuple is known to have a pair, and no parameter but the first `count`. Takes no
+    /// memory.
+    pub fn are_within(&self, count: ParamNo) -> bool
+        ensures { result ≡ true → All (λ omission. EndsWithin count omission.tuple) self.now.omissions }
+    {
+        self.width <= count as u32
     }
 
     /// Adds an omission at the end.
@@ -160,9 +172,11 @@ impl Omissions {
         let Ok(number) = u32::try_from(self.listed.len() + 1) else {
             return Err(NoMemory);
         };
+        let width = self.width.max(least_width(&omission.tuple));
         self.holders
             .add(self.alloc, omission.tuple.as_slice(), number)?;
         self.listed.push(omission)?;
+        self.width = width;
         Ok(())
     }
 }

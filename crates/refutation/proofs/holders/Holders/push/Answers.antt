@@ -1,4 +1,4 @@
-use Rattle.std.proofs.Common.{◌≡◌, ◌<◌, ℕ, [], ◌∷◌, ◌++◌, List, length, get_or, ◌∙◌, sym, ap, subst, arith, rules, inr}
+use Rattle.std.proofs.Common.{◌≡◌, ◌<◌, ℕ, [], ◌∷◌, ◌++◌, List, length, get_or, ◌∙◌, ap, rules, inr}
 use Rattle.std.proofs.lemmas.List.{get_or_read}
 use Rattle.refutation.proofs.HolderLemmas.{adds_one}
 use Rattle.refutation.proofs.holders.Holders.push.Goals as goal

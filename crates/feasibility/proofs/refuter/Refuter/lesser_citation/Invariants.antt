@@ -1,6 +1,6 @@
 use Rattle.std.proofs.Common.{◌≡◌, None, find, take}
 use Rattle.definitions.specs.Refutation.{is_omission_leaf}
-use Rattle.feasibility.proofs.refuter.Refuter.first_cited_of.Given as goal
+use Rattle.feasibility.proofs.refuter.Refuter.lesser_citation.Given as goal
 
 -- none of the omissions before this one is a leaf
 abbrev pub invariant-loop-number : goal.invariant-loop-number
