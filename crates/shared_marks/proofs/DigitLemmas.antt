@@ -8,7 +8,7 @@ use Rattle.std.proofs.lemmas.Option.{slice_get_within}
 use Rattle.std.proofs.lemmas.List.{drop_all, get_or_default, get_or-set_other, get_or-set_same, length-set}
 use Rattle.std.proofs.lemmas.List.Elements.{filter-append}
 use Rattle.std.proofs.lemmas.List.FromFn.{get_or-map-range_with_len, length-map-range_with_len, length-range_with_len}
-use Rattle.value_text.proofs.ListLemmas.{length-filter-le, range_with_len_more}
+use Rattle.value_text.proofs.ListLemmas.{length-filter-le, pos_right_of_mul, range_with_len_more}
 use Rattle.cov_model.specs.declared.slice.Slice.{Slice}
 use Rattle.cov_model.specs.declared.slice.Slice.TheVariants.{Positive, Negative}
 use Rattle.cov_model.specs.Sound.{IsSound, ModelView, no_param, param_at}
@@ -20,14 +20,14 @@ use Rattle.cov_model.proofs.RowLemmas.{row_has_value, row_is_assigned}
 use Rattle.definitions.specs.Demand.{demanded_sets, is_among, tuples_of}
 use Rattle.definitions.proofs.Members.{Has, among_has, has_filter, of_among, same_answer}
 use Rattle.definitions.proofs.Serving.{value_of}
-use Rattle.definitions.proofs.SliceLemmas.{has_negatives, has_numbers, negative_exists, of_negatives, slice_of_is, IsSlice}
+use Rattle.definitions.proofs.SliceLemmas.{has_negatives, has_numbers, negative_exists, of_negatives}
 use Rattle.tuple_index.specs.Kept.{IsKept}
 use Rattle.tuple_index.specs.Places.{IsOwnSlice, RisesFrom, has_part, place, place_of, rank_of, slice_given, start_of, values_in, ways}
 use Rattle.tuple_index.specs.Plan.{PlanView, is_negative, is_value, plan_of, set_at}
 use Rattle.tuple_index.proofs.LoopLemmas.{rises_within}
 use Rattle.tuple_index.proofs.OrderLemmas.{demanded_rise}
 use Rattle.tuple_index.proofs.PlaceLemmas.{slice_get-place_of}
-use Rattle.tuple_index.proofs.RankLemmas.{rank_within, slice_get-rank_of, slice_get-tuples_of}
+use Rattle.tuple_index.proofs.RankLemmas.{or_left, rank_within, slice_get-rank_of, slice_get-tuples_of}
 use Rattle.shared_marks.specs.declared.digits.Digit.{Digit}
 use Rattle.shared_marks.specs.Digits.{AreDigits, ArePut, IsDigit, IsPlacing, is_fixed, own_slice}
 use Rattle.shared_marks.specs.Served.{IsServedRank}
@@ -199,11 +199,7 @@ placing_more values row members i number p place_there radix within is there man
 some_left : (values : ℕ → List ℕ) (members : List ℕ) (i : ℕ) → 0 < ways values members → 0 < ways values (drop i members)
 some_left values members zero some = some
 some_left values [] (suc i) some = some
-some_left values (p ∷ members) (suc i) some = some_left values members i (later (length (values p)) (ways values members) some)
-  where
-    later : (a b : ℕ) → 0 < a * b → 0 < b
-    later a zero some = absurd (omega (arith, some))
-    later a (suc b) some = omega arith
+some_left values (p ∷ members) (suc i) some = some_left values members i (pos_right_of_mul (length (values p)) (ways values members) some)
 
 pub placing_within : (values : ℕ → List ℕ) (row : List (Option ℕ)) (members : List ℕ) (i number : ℕ) → 0 < ways values members
     → IsPlacing values row members i number → number ≤ place values members (map (value_in row) members)
@@ -235,13 +231,9 @@ own_among m row p is within =
     positives : List ℕ
     positives = get_or plan.positives p []
 
-    plain : (own negative : Bool) → negative ≡ false → (own || negative) ≡ true → own ≡ true
-    plain true negative off either = refl
-    plain false negative off either = absurd (false≢true (sym off ∙ either))
-
     by_slice : (ns : List ℕ) → length ns ≤ 1 → is_negative plan p v ≡ is_among ns p → is_value plan p v ≡ true
         → is_among (values_in plan (slice_by row ns) p) v ≡ true
-    by_slice [] few sign value = plain (is_among positives v) (is_negative plan p v) sign value
+    by_slice [] few sign value = or_left (is_among positives v) (is_negative plan p v) sign value
     by_slice (q ∷ r ∷ ns) few sign value = absurd (omega (arith, few))
     by_slice (q ∷ []) few sign value =
         elim (cases_eq p q) [
@@ -250,7 +242,7 @@ own_among m row p is within =
               ∙ ap (λ b. b || false) (eq-eqb (value_in row q) v (ap (value_in row) (sym same)))
           | inr apart ↦
               ap (λ b. is_among (cond b (value_in row q ∷ []) positives) v) (ne_eqb p q apart)
-              ∙ plain (is_among positives v) (is_negative plan p v) (sign ∙ ap (λ b. b || false) (ne_eqb q p (λ same. apart (sym same)))) value
+              ∙ or_left (is_among positives v) (is_negative plan p v) (sign ∙ ap (λ b. b || false) (ne_eqb q p (λ same. apart (sym same)))) value
         ]
 
 -- so there are choices in its slice

@@ -11,3 +11,4 @@ pub mod RowLemmas
 pub mod WorkerLemmas
 pub mod DigitLemmas
 pub mod LineLemmas
+pub mod OpenLemmas

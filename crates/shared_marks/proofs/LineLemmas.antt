@@ -1,9 +1,9 @@
 -- The places that lines of sets give.
-use Rattle.std.proofs.Common.{◌≡◌, ℕ, ◌+◌, ◌-◌, ◌*◌, ◌^◌, ◌<◌, ◌≤◌, true, false, List, [], ◌∷◌, ◌++◌, map, take, drop, length, get_or, inl, inr, All, Option, Some, ◌∙◌, refl, sym, ap, subst, arith}
-use Rattle.std.proofs.lemmas.Bool.{cases_eq}
-use Rattle.std.proofs.lemmas.List.{get_or_append_left, take-append-drop}
+use Rattle.std.proofs.Common.{◌≡◌, ℕ, ◌+◌, ◌-◌, ◌*◌, ◌^◌, ◌<◌, true, false, List, [], ◌∷◌, ◌++◌, map, take, drop, length, get_or, All, Option, Some, ◌∙◌, refl, sym, ap, subst, arith}
+use Rattle.std.proofs.Math.Nat.{mul_assoc}
+use Rattle.std.proofs.lemmas.List.{get_or_default, take-append-drop}
 use Rattle.std.proofs.lemmas.List.Elements.{All-take}
-use Rattle.std.proofs.Math.Seq.{get_or-append_seam}
+use Rattle.value_text.proofs.ListLemmas.{pos_left_of_mul}
 use Rattle.cov_model.specs.declared.slice.Slice.TheVariants.{Positive}
 use Rattle.cov_model.specs.Sound.{ModelView}
 use Rattle.cov_model.specs.Rows.{value_in}
@@ -24,10 +24,7 @@ use Rattle.shared_marks.proofs.DigitLemmas.{IsJoined, OwnPlace, joined, own_plac
 ways_append : (values : ℕ → List ℕ) (xs ys : List ℕ) → ways values (xs ++ ys) ≡ ways values xs * ways values ys
 ways_append values [] ys = omega arith
 ways_append values (x ∷ xs) ys =
-    ap (λ n. length (values x) * n) (ways_append values xs ys) ∙ three (length (values x)) (ways values xs) (ways values ys)
-  where
-    three : (a b c : ℕ) → a * (b * c) ≡ a * b * c
-    three a b c = grind arith
+    ap (λ n. length (values x) * n) (ways_append values xs ys) ∙ sym (mul_assoc (length (values x)) (ways values xs) (ways values ys))
 
 place_append : (values : ℕ → List ℕ) (row : List (Option ℕ)) (xs ys : List ℕ) → place values (xs ++ ys) (map (value_in row) (xs ++ ys))
     ≡ place values xs (map (value_in row) xs) * ways values ys + place values ys (map (value_in row) ys)
@@ -62,7 +59,7 @@ front_known : (m : ModelView) (i : ℕ) (row : List (Option ℕ)) → IsKept (pl
     → slice_of m row ≡ Positive → FrontKnown m row (front (set_at (plan_of m) i))
 front_known m i row kept within valid positive = record {
   exist = All-take (λ p. p < length m.params) k set own.exist;
-  some = first (ways (own_slice m row) (take k set)) (ways (own_slice m row) (drop k set))
+  some = pos_left_of_mul (ways (own_slice m row) (take k set)) (ways (own_slice m row) (drop k set))
       (subst (λ n. 0 < n) (ap (ways (own_slice m row)) (sym (take-append-drop k set)) ∙ ways_append (own_slice m row) (take k set) (drop k set)) own.some);
   few = let most = placing_within (own_slice m row) row set k (place (own_slice m row) (take k set) (map (value_in row) (take k set))) own.some
       (front_placing (own_slice m row) row set k _ refl) in omega (arith, most, own.few);
@@ -77,50 +74,59 @@ front_known m i row kept within valid positive = record {
     own : OwnPlace m i row (plan_of m) set Positive
     own = own_of m i row kept within valid positive
 
-    first : (a b : ℕ) → 0 < a * b → 0 < a
-    first a b some = grind arith
-
 -- the same of a plan of the model
 pub front_of : (m : ModelView) (plan : PlanView) (i : ℕ) (row : List (Option ℕ)) (members : List ℕ) → plan ≡ plan_of m → IsKept plan
     → i < length (demanded_sets m) → is_valid m row ≡ true → slice_of m row ≡ Positive → members ≡ front (set_at plan i) → FrontKnown m row members
 front_of m plan i row members planned kept within valid positive are =
     subst (FrontKnown m row) (sym (are ∙ ap (λ p. front (set_at p i)) planned)) (front_known m i row (subst IsKept planned kept) within valid positive)
 
--- the front of a set that begins as the one before
-pub front_kept : (m : ModelView) (plan : PlanView) (i number : ℕ) (row : List (Option ℕ)) (line : Line) → plan ≡ plan_of m → IsLine plan i line
-    → (0 < i → IsFront m row (i - 1) number) → line.is_fresh ≡ false → IsFront m row i number
-front_kept m plan i number row line planned is before stale =
-    let same = is.same stale in
-    before same.0
-    ∙ ap (λ set. place (own_slice m row) set (map (value_in row) set))
-    (sym (ap (λ p. front (set_at p i)) (sym planned) ∙ same.1 ∙ ap (λ p. front (set_at p (i - 1))) planned))
+-- the front of a set that begins as another
+pub front_kept : (m : ModelView) (plan : PlanView) (i before number : ℕ) (row : List (Option ℕ)) → plan ≡ plan_of m
+    → front (set_at plan i) ≡ front (set_at plan before) → IsFront m row before number → IsFront m row i number
+front_kept m plan i before number row planned same is =
+    is ∙ sym (ap (λ set. place (own_slice m row) set (map (value_in row) set))
+    (ap (λ p. front (set_at p i)) (sym planned) ∙ same ∙ ap (λ p. front (set_at p before)) planned))
+
+-- the front at a line that isn't fresh, and the front before the next line
+pub front_at : (m : ModelView) (plan : PlanView) (row : List (Option ℕ)) (lines : List Line) (i number : ℕ) (d : Line) → plan ≡ plan_of m
+    → AreLines plan lines → i < length lines → (0 < i → (other : Line) → IsFront m row (get_or lines (i - 1) other).set number)
+    → (get_or lines i d).is_fresh ≡ false → IsFront m row (get_or lines i d).set number
+front_at m plan row lines i number d planned are within before stale =
+    let same = are.same i d within stale in
+    front_kept m plan (get_or lines i d).set (get_or lines (i - 1) d).set number row planned same.1 (before same.0 d)
+
+pub front_next : (m : ModelView) (row : List (Option ℕ)) (lines : List Line) (i number : ℕ) (d : Line) → i < length lines
+    → IsFront m row (get_or lines i d).set number → (other : Line) → IsFront m row (get_or lines (i + 1 - 1) other).set number
+front_next m row lines i number d within is other =
+    let at : i + 1 - 1 ≡ i = omega arith in
+    subst (λ (line : Line). IsFront m row line.set number) (sym (ap (λ n. get_or lines n other) at ∙ get_or_default lines i other d within)) is
 
 -- the rank that a line gives
 pub record LineKnown (m : ModelView) (i : ℕ) (row : List (Option ℕ)) (number radix there : ℕ) : Type 0 where
   pub few : number * radix + there < 2 ^ 26
   pub is : IsServedRank m (set_at (plan_of m) i) row (Some (number * radix + there))
 
-pub line_known : (m : ModelView) (plan : PlanView) (i : ℕ) (row : List (Option ℕ)) (line : Line) (digits : List Digit) (other : Digit)
-    (number radix there : ℕ) → plan ≡ plan_of m → IsKept plan → i < length (demanded_sets m) → is_valid m row ≡ true → slice_of m row ≡ Positive
-    → AreDigits m row digits → IsLine plan i line → IsFront m row i number → radix ≡ (get_or digits line.last other).radix
-    → there ≡ (get_or digits line.last other).place → LineKnown m i row number radix there
-line_known m plan i row line digits other number radix there planned kept within valid positive are is front_is many at =
+pub line_known : (m : ModelView) (plan : PlanView) (row : List (Option ℕ)) (line : Line) (digits : List Digit) (other : Digit)
+    (number radix there : ℕ) → plan ≡ plan_of m → IsKept plan → is_valid m row ≡ true → slice_of m row ≡ Positive
+    → AreDigits m row digits → IsLine plan line → IsFront m row line.set number → radix ≡ (get_or digits line.last other).radix
+    → there ≡ (get_or digits line.last other).place → LineKnown m line.set row number radix there
+line_known m plan row line digits other number radix there planned kept valid positive are is front_is many at =
     record {
       few = next.few;
       is = subst (λ rank. IsServedRank m set row (Some rank)) (sym end) own.is;
     }
   where
     set : List ℕ
-    set = set_at (plan_of m) i
+    set = set_at (plan_of m) line.set
 
     k : ℕ
     k = length set - 1
 
-    line_is : IsLine (plan_of m) i line
-    line_is = subst (λ p. IsLine p i line) planned is
+    line_is : IsLine (plan_of m) line
+    line_is = subst (λ p. IsLine p line) planned is
 
-    own : OwnPlace m i row (plan_of m) set Positive
-    own = own_of m i row (subst IsKept planned kept) within valid positive
+    own : OwnPlace m line.set row (plan_of m) set Positive
+    own = own_of m line.set row (subst IsKept planned kept) line_is.there valid positive
 
     inside : k < length set
     inside = omega (arith, line_is.some)
@@ -137,10 +143,10 @@ line_known m plan i row line digits other number radix there planned kept within
     end = let last = placing_end (own_slice m row) row set (k + 1) (number * radix + there) (omega (arith, inside)) next.placing in omega (arith, last)
 
 -- the last member of a line exists
-pub last_exists : (m : ModelView) (plan : PlanView) (i : ℕ) (row : List (Option ℕ)) (line : Line) → plan ≡ plan_of m → IsKept plan
-    → i < length (demanded_sets m) → is_valid m row ≡ true → slice_of m row ≡ Positive → IsLine plan i line → line.last < length m.params
-last_exists m plan i row line planned kept within valid positive is =
-    let line_is = subst (λ p. IsLine p i line) planned is in
-    let own = own_of m i row (subst IsKept planned kept) within valid positive in
-    let exists = own.exist (length (set_at (plan_of m) i) - 1) 0 (omega (arith, line_is.some)) in
+pub last_exists : (m : ModelView) (plan : PlanView) (row : List (Option ℕ)) (line : Line) → plan ≡ plan_of m → IsKept plan → is_valid m row ≡ true
+    → slice_of m row ≡ Positive → IsLine plan line → line.last < length m.params
+last_exists m plan row line planned kept valid positive is =
+    let line_is = subst (λ p. IsLine p line) planned is in
+    let own = own_of m line.set row (subst IsKept planned kept) line_is.there valid positive in
+    let exists = own.exist (length (set_at (plan_of m) line.set) - 1) 0 (omega (arith, line_is.some)) in
     omega (arith, exists, line_is.last)

@@ -1,6 +1,6 @@
 -- The one tuple of a set that a valid row serves: that of its own values.
-use Rattle.std.proofs.Common.{inl, inr, ◌≡◌, ℕ, ◌+◌, ◌<◌, ◌≤◌, Bool, true, false, ◌&&◌, ◌||◌, not, cond, List, [], ◌∷◌, map, length, get_or, Option, Some, None, is_some, unwrap_or, ◌∙◌, refl, sym, ap, subst, arith, zero-add}
-use Rattle.std.specs.Prelude.{◌==◌, All, slice_get, nat_le}
+use Rattle.std.proofs.Common.{inl, inr, ◌≡◌, ℕ, ◌+◌, ◌<◌, ◌≤◌, Bool, true, false, ◌&&◌, ◌||◌, not, cond, List, [], ◌∷◌, map, length, get_or, Option, Some, None, is_some, unwrap_or, ◌∙◌, refl, sym, ap, arith, zero-add}
+use Rattle.std.specs.Prelude.{◌==◌, slice_get, nat_le}
 use Rattle.std.specs.List.{list_all}
 use Rattle.std.proofs.lemmas.Bool.{and_from, and_parts, eq-eqb, eqb-true, false_from_ne_true, false≢true, leb-true, not_from_false, or_left, or_right, true_from_ne_false}
 use Rattle.std.proofs.lemmas.Option.{same_Some, slice_get_within}
@@ -22,7 +22,6 @@ use Rattle.definitions.proofs.SliceLemmas.{has_negatives, has_numbers, is_slice,
 use Rattle.tuple_index.specs.Places.{RisesFrom, has_part}
 use Rattle.tuple_index.specs.Plan.{IsChoice, PlanView, are_values, is_negative, is_value, negative_count, plan_of, set_at, tuple_cells, value_given}
 use Rattle.tuple_index.proofs.InverseLemmas.{has_place, ranks_are_inverse}
-use Rattle.tuple_index.proofs.LoopLemmas.{rises_within}
 use Rattle.tuple_index.proofs.OrderLemmas.{demanded_rise}
 use Rattle.shared_marks.specs.Served.{IsServedRank}
 

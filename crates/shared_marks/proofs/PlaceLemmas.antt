@@ -127,22 +127,31 @@ pub one_set : (m : ModelView) (row : List (Option ℕ)) (i : ℕ) (found : Optio
 one_set m row i found test within is place =
     ap (λ end. served_between m row (base_of m i) end place) (base_more m i within) ∙ between_is m row i found test within is place
 
--- places up to another are those up to one between, and those from there on
-pub between_more : (m : ModelView) (row : List (Option ℕ)) (middle to place : ℕ) → middle ≤ to
-    → (served_between m row 0 middle place || served_between m row middle to place) ≡ served_between m row 0 to place
-between_more m row middle to place ordered =
+-- places of a range are those up to one between, and those from there on
+pub between_more : (m : ModelView) (row : List (Option ℕ)) (from middle to place : ℕ) → from ≤ middle → middle ≤ to
+    → (served_between m row from middle place || served_between m row middle to place) ≡ served_between m row from to place
+between_more m row from middle to place first second =
     elim (cases_lt place middle) [
       | inl before ↦
           let low = lt-ltb place middle before in
           let high = lt-leb middle place before in
-          let below = lt-ltb place to (omega (arith, before, ordered)) in
-          rw (low, high, below) (or-false ((nat_le 0 place && true) && is_served_at m (row ∷ []) place))
-      | inr from ↦
-          let zeroth = le-leb 0 place (omega arith) in
-          let low = le-ltb place middle from in
-          let high = le-leb middle place from in
-          rw (zeroth, low, high) refl
+          let below = lt-ltb place to (omega (arith, before, second)) in
+          rw (low, high, below) (or-false ((nat_le from place && true) && is_served_at m (row ∷ []) place))
+      | inr past ↦
+          let least = le-leb from place (omega (arith, past, first)) in
+          let low = le-ltb place middle past in
+          let high = le-leb middle place past in
+          rw (least, low, high) refl
     ]
+
+-- an empty range has no place
+pub between_none : (m : ModelView) (row : List (Option ℕ)) (at place : ℕ) → served_between m row at at place ≡ false
+between_none m row at place =
+    and_left (nat_le at place && nat_lt place at) (is_served_at m (row ∷ []) place)
+    (elim (cases_lt place at) [
+      | inl before ↦ and_left (nat_le at place) (nat_lt place at) (lt-leb at place before)
+      | inr past ↦ and_right (nat_le at place) (nat_lt place at) (le-ltb place at past)
+    ])
 
 -- all places are those of the demanded tuples
 pub between_all : (m : ModelView) (row : List (Option ℕ)) (place : ℕ)

@@ -1,6 +1,7 @@
 -- Shares that add up to 1 at a common power of two.
 use Rattle.std.proofs.Common.{◌≡◌, ℕ, ◌+◌, ◌*◌, ◌-◌, ◌^◌, ◌<◌, ◌≤◌, List, [], ◌∷◌, ◌++◌, get_or, set, ◌∙◌, sym, ap, subst, arith}
 use Rattle.std.specs.Prelude.{All, sum_by}
+use Rattle.std.proofs.Math.Nat.{mul_assoc}
 use Rattle.std.proofs.lemmas.Nat.{pow-add, pow_pos}
 use Rattle.atomic_table.proofs.Lists.{set_else}
 use Rattle.std.proofs.lemmas.List.Elements.{All-from_get_or, All-get_or, All-head, All-push, All-set, All-tail, All-weaker}
@@ -21,10 +22,7 @@ power_more depth more halvings enough =
 parts_more : (depth more : ℕ) (held : Holding) → held.halvings ≤ depth → parts_at (depth + more) held ≡ parts_at depth held * 2 ^ more
 parts_more depth more held enough =
     let power = power_more depth more held.halvings enough in
-    ap (λ n. held.parts * n) power ∙ grouped held.parts (2 ^ (depth - held.halvings)) (2 ^ more)
-  where
-    grouped : (a b c : ℕ) → a * (b * c) ≡ a * b * c
-    grouped a b c = grind arith
+    ap (λ n. held.parts * n) power ∙ sym (mul_assoc held.parts (2 ^ (depth - held.halvings)) (2 ^ more))
 
 sum_more : (depth more : ℕ) (seats : List Holding) → All (λ held. held.halvings ≤ depth) seats
     → sum_by (parts_at (depth + more)) seats ≡ sum_by (parts_at depth) seats * 2 ^ more

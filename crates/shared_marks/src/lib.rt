@@ -17,6 +17,6 @@ mod served;
 mod table;
 mod workers;
 
-pub use served::places_are_ranks;
+pub use served::{count_tuples, places_are_ranks};
 pub use table::{Bits, MarkSeat, SharedMarks};
 pub use workers::mark_rows;

@@ -1,19 +1,30 @@
-ghost use Rattle.std.specs.Prelude.{◌≡◌, ◌-◌, ◌<◌, false, true, IfOk, length};
+ghost use Rattle.std.specs.Prelude.{◌≡◌, ◌-◌, ◌<◌, [], false, true, IfOk, OnOk, length, slice_index_or, sum};
 ghost use Rattle.tuple_index.specs.Plan.{set_at};
-ghost use Rattle.shared_marks.specs.Lines.{AreLines, IsLine, front};
+ghost use Rattle.shared_marks.specs.declared.lines.Line.{Line};
+ghost use Rattle.shared_marks.specs.Adding.{Adds, nothing};
+ghost use Rattle.shared_marks.specs.Lines.{AreLines, AreOpen, IsLine, front};
 
+use crate::table::{MarkSeat, SharedMarks};
 use cov_model::ParamNo;
 use std::alloc::Global;
 use tuple_index::Plan;
 use value_text::NoMemory;
 
-// The line of a demanded set: how many demanded tuples the sets before it have, its last member, and whether
-// it begins with other members than the set before.
+// The line of a demanded set: its number, how many demanded tuples the sets before it have, its last member,
+// and whether it begins with other members than the set of the line before.
 #[derive(Drop, Clone, Copy)]
 pub(crate) struct Line {
+    pub(crate) set: u32,
     pub(crate) base: u32,
     pub(crate) last: ParamNo,
     pub(crate) is_fresh: bool,
+}
+
+// The sets whose tuples aren't all marked yet: those of the lines, and all sets from number `upto` on.
+#[derive(Drop)]
+pub(crate) struct OpenSets {
+    pub(crate) lines: Vec<Line>,
+    pub(crate) upto: u32,
 }
 
 // The members of a set but the last.
@@ -39,46 +50,73 @@ fn are_same(one: &[ParamNo], other: &[ParamNo]) -> bool
     true
 }
 
-// Whether a set begins with other members than the set before.
-fn is_fresh(plan: &Plan, set: u32) -> bool
+// Whether a set begins with other members than the set of the last line.
+fn is_fresh(plan: &Plan, lines: &[Line], set: u32) -> bool
+    requires lines { AreLines plan.now lines.now }
     requires set { set < length plan.now.sets }
     requires some { 0 < length (set_at plan.now set) }
-    ensures { result ≡ false → (0 < set) × (front (set_at plan.now set) ≡ front (set_at plan.now (set - 1))) }
+    ensures { result ≡ false → (0 < length lines.now)
+        × ((other : Line) → front (set_at plan.now set) ≡ front (set_at plan.now (slice_index_or lines.now (length lines.now - 1) other).set)) }
 {
-    if set == 0 {
+    if lines.is_empty() {
         return true;
     }
-    let before = plan.members(set - 1);
-    if before.is_empty() {
-        return true;
-    }
-    !are_same(front(plan.members(set)), front(before))
+    let before = lines[lines.len() - 1].set;
+    !are_same(front(plan.members(set)), front(plan.members(before)))
 }
 
-// The line of a set that has members.
-fn line_of(plan: &Plan, set: u32) -> Line
+// The line of a set that has members, after these lines.
+fn line_of(plan: &Plan, lines: &[Line], set: u32) -> Line
+    requires lines { AreLines plan.now lines.now }
     requires set { set < length plan.now.sets }
     requires some { 0 < length (set_at plan.now set) }
-    ensures { IsLine plan.now set result }
+    ensures number { result.set ≡ set }
+    ensures line { IsLine plan.now result }
+    ensures same { result.is_fresh ≡ false → (0 < length lines.now)
+        × ((other : Line) → front (set_at plan.now set) ≡ front (set_at plan.now (slice_index_or lines.now (length lines.now - 1) other).set)) }
 {
     let members = plan.members(set);
     Line {
+        set,
         base: plan.base(set),
         last: members[members.len() - 1],
-        is_fresh: is_fresh(plan, set),
+        is_fresh: is_fresh(plan, lines, set),
     }
 }
 
-// The lines of the sets, up to one without a member.
-pub(crate) fn lines_of(alloc: Global, plan: &Plan) -> Result<Vec<Line>, NoMemory>
-    ensures { IfOk result (λ lines. AreLines plan.now lines.items) }
-{
-    let mut lines = Vec::new(alloc);
-    for set in 0..plan.set_count() {
-        if plan.members(set).is_empty() {
-            return Ok(lines);
+impl OpenSets {
+    // The sets without those whose places the table has all marked, which the seat then has seen. Sets from
+    // the first one without a member on stay.
+    pub(crate) fn find(
+        alloc: Global,
+        table: &SharedMarks,
+        seat: &mut MarkSeat,
+        plan: &Plan,
+    ) -> Result<OpenSets, NoMemory>
+        requires table { seat.old.table ≡ table.now.table }
+        requires bits { table.now.bits ≡ sum plan.now.sizes }
+        ensures in_play { IfOk result (λ sets. AreOpen plan.now sets.lines.items sets.upto seat.new.holds) }
+        ensures seat { OnOk result (Adds nothing seat.old seat.new) }
+    {
+        let count = plan.set_count();
+        let mut lines = Vec::new(alloc);
+        for set in 0..count {
+            if plan.members(set).is_empty() {
+                return Ok(OpenSets { lines, upto: set });
+            }
+            let base = plan.base(set);
+            if !table.are_marked(seat, base, base + plan.size(set)) {
+                let line = line_of(plan, lines.as_slice(), set);
+                lines.push(line)?;
+            }
         }
-        lines.push(line_of(plan, set))?;
+        Ok(OpenSets { lines, upto: count })
     }
-    Ok(lines)
+
+    // Whether no set is left.
+    pub(crate) fn are_none(&self, plan: &Plan) -> bool
+        ensures { result ≡ true → (self.now.lines.items ≡ []) × (self.now.upto ≡ length plan.now.sets) }
+    {
+        self.lines.is_empty() && self.upto == plan.set_count()
+    }
 }

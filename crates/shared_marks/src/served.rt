@@ -1,4 +1,4 @@
-ghost use Rattle.std.specs.Prelude.{◌≡◌, ◌&&◌, ◌+◌, ◌≤◌, ◌<◌, false, true, All, [], ◌∷◌, length, slice_range};
+ghost use Rattle.std.specs.Prelude.{◌≡◌, ◌&&◌, ◌+◌, ◌≤◌, ◌<◌, false, true, All, [], ◌∷◌, length, slice_range, sum};
 ghost use Rattle.cov_model.specs.Fits.{FitsModel};
 ghost use Rattle.cov_model.specs.Rows.{is_complete};
 ghost use Rattle.cov_model.specs.Slices.{slice_of};
@@ -7,13 +7,13 @@ ghost use Rattle.definitions.specs.Demand.{demanded_sets, demanded_tuples, is_am
 ghost use Rattle.row_text.specs.RowFiles.{suite_seen};
 ghost use Rattle.tuple_index.specs.Places.{IsOwnSlice, has_part, start_of};
 ghost use Rattle.tuple_index.specs.Plan.{PlanView, plan_of, set_at};
-ghost use Rattle.shared_marks.specs.Adding.{Marks};
+ghost use Rattle.shared_marks.specs.Adding.{Adds, Marks};
 ghost use Rattle.shared_marks.specs.Digits.{AreDigits};
-ghost use Rattle.shared_marks.specs.Lines.{AreLines, IsFront, IsLine};
+ghost use Rattle.shared_marks.specs.Lines.{AreLines, AreOpen, IsFront, IsLine, is_of_some};
 ghost use Rattle.shared_marks.specs.Served.{IsServedRank, PlacesAreRanks, base_of, is_served_at, served_between};
 
 use crate::digits::{Digit, place_in_slice, put_digits};
-use crate::lines::{Line, front};
+use crate::lines::{Line, OpenSets, front};
 use crate::table::{MarkSeat, SharedMarks};
 use cov_model::{Cells, ParamNo, Slice, TestModel};
 use row_text::RowFile;
@@ -27,6 +27,17 @@ const MOST_PARAMS: usize = 256;
 pub fn places_are_ranks()
     ensures { PlacesAreRanks }
 {}
+
+/// The number of demanded tuples of a plan. Takes no memory.
+pub fn count_tuples(plan: &Plan) -> u32
+    ensures { result ≡ sum plan.now.sizes }
+{
+    let sets = plan.set_count();
+    if sets == 0 {
+        return 0;
+    }
+    plan.base(sets - 1) + plan.size(sets - 1)
+}
 
 // Whether a row of a file is a test: it is complete and valid.
 fn is_test(model: &TestModel, cells: &Cells) -> bool
@@ -105,53 +116,39 @@ fn served_rank(
     Some(first_rank(plan, set, slice) + place_in_slice(model, cells, members, digits))
 }
 
-// The lines that serve for rows of a slice: all for rows without a negative value, else none.
-fn lines_for(lines: &[Line], slice: Slice) -> &[Line]
-    ensures lines { (plan : PlanView) → AreLines plan lines.now → AreLines plan result.now }
-    ensures slice { 0 < length result.now → slice ≡ Slice.Positive }
-{
-    match slice {
-        Slice::Positive => lines,
-        Slice::Negative(_, _) => &[],
-    }
-}
-
-// The place of a valid row's values of all members of a set but the last. It is at hand where the set before
-// begins with the same members.
+// The place of a valid row's values of all members of a line's set but the last. It is at hand where the line
+// before begins with the same members.
 fn front_place(
     model: &TestModel,
     plan: &Plan,
     line: Line,
-    set: u32,
     cells: &Cells,
     digits: &[Digit],
     kept: u32,
 ) -> u32
     requires plan { plan.now ≡ plan_of model.now }
-    requires set { set < length (demanded_sets model.now) }
     requires row { is_valid model.now cells.now ≡ true }
     requires slice { slice_of model.now cells.now ≡ Slice.Positive }
     requires digits { AreDigits model.now cells.now digits.now }
-    requires line { IsLine plan.now set line }
-    requires kept { line.is_fresh ≡ false → IsFront model.now cells.now set kept }
-    ensures { IsFront model.now cells.now set result }
+    requires line { IsLine plan.now line }
+    requires kept { line.is_fresh ≡ false → IsFront model.now cells.now line.set kept }
+    ensures { IsFront model.now cells.now line.set result }
 {
     if !line.is_fresh {
         return kept;
     }
     plan.assert_invariant();
-    place_in_slice(model, cells, front(plan.members(set)), digits)
+    place_in_slice(model, cells, front(plan.members(line.set)), digits)
 }
 
 impl SharedMarks {
-    // Marks the place of the demanded tuple of a set that a test without a negative value serves.
+    // Marks the place of the demanded tuple of a line's set that a test without a negative value serves.
     fn mark_line(
         &self,
         seat: &mut MarkSeat,
         model: &TestModel,
         plan: &Plan,
         line: Line,
-        set: u32,
         cells: &Cells,
         digits: &[Digit],
         number: u32,
@@ -159,13 +156,12 @@ impl SharedMarks {
         requires table { seat.old.table ≡ self.now.table }
         requires plan { plan.now ≡ plan_of model.now }
         requires bits { self.now.bits ≡ length (demanded_tuples model.now) }
-        requires set { set < length (demanded_sets model.now) }
         requires test { (is_complete cells.now && is_valid model.now cells.now) ≡ true }
         requires slice { slice_of model.now cells.now ≡ Slice.Positive }
         requires digits { AreDigits model.now cells.now digits.now }
-        requires line { IsLine plan.now set line }
-        requires number { IsFront model.now cells.now set number }
-        ensures { Marks (served_between model.now cells.now (base_of model.now set) (base_of model.now (set + 1))) seat.old seat.new }
+        requires line { IsLine plan.now line }
+        requires number { IsFront model.now cells.now line.set number }
+        ensures { Marks (served_between model.now cells.now (base_of model.now line.set) (base_of model.now (line.set + 1))) seat.old seat.new }
     {
         let _ = model;
         let _ = cells;
@@ -175,7 +171,7 @@ impl SharedMarks {
         self.mark_lightly(seat, line.base + rank);
     }
 
-    // Marks the places of the demanded tuples of the first sets that a test serves, by the lines of these sets.
+    // Marks the places of the demanded tuples of the lines' sets that a test without a negative value serves.
     fn mark_lines(
         &self,
         seat: &mut MarkSeat,
@@ -189,18 +185,15 @@ impl SharedMarks {
         requires plan { plan.now ≡ plan_of model.now }
         requires bits { self.now.bits ≡ length (demanded_tuples model.now) }
         requires test { (is_complete cells.now && is_valid model.now cells.now) ≡ true }
+        requires slice { slice_of model.now cells.now ≡ Slice.Positive }
         requires lines { AreLines plan.now lines.now }
-        requires slice { 0 < length lines.now → slice_of model.now cells.now ≡ Slice.Positive }
         requires digits { AreDigits model.now cells.now digits.now }
-        ensures { Marks (served_between model.now cells.now 0 (base_of model.now (length lines.now))) seat.old seat.new }
+        ensures { Marks (λ place. is_of_some plan.now lines.now place && is_served_at model.now (cells.now ∷ []) place) seat.old seat.new }
     {
-        plan.assert_invariant();
-        let count = lines.len() as u32;
         let mut number = 0;
-        for set in 0..count {
-            let line = lines[set as usize];
-            number = front_place(model, plan, line, set, cells, digits, number);
-            self.mark_line(seat, model, plan, line, set, cells, digits, number);
+        for line in lines {
+            number = front_place(model, plan, *line, cells, digits, number);
+            self.mark_line(seat, model, plan, *line, cells, digits, number);
         }
     }
 
@@ -231,19 +224,36 @@ impl SharedMarks {
         }
     }
 
-    // Marks the place of each demanded tuple that a row serves, if it is a test.
-    fn mark_row(
+    // Marks the places of the demanded tuples of the sets from one on that a test serves.
+    fn mark_sets(
         &self,
         seat: &mut MarkSeat,
         model: &TestModel,
         plan: &Plan,
-        lines: &[Line],
+        from: u32,
         cells: &Cells,
+        slice: Slice,
+        digits: &[Digit],
     )
         requires table { seat.old.table ≡ self.now.table }
         requires plan { plan.now ≡ plan_of model.now }
         requires bits { self.now.bits ≡ length (demanded_tuples model.now) }
-        requires lines { AreLines plan.now lines.now }
+        requires from { from ≤ length (demanded_sets model.now) }
+        requires test { (is_complete cells.now && is_valid model.now cells.now) ≡ true }
+        requires slice { slice ≡ slice_of model.now cells.now }
+        requires digits { AreDigits model.now cells.now digits.now }
+        ensures { Marks (served_between model.now cells.now (base_of model.now from) (length (demanded_tuples model.now))) seat.old seat.new }
+    {
+        for set in from..plan.set_count() {
+            self.mark_set(seat, model, plan, set, cells, slice, digits);
+        }
+    }
+
+    // Marks the place of each demanded tuple that a row serves, if it is a test.
+    fn mark_row(&self, seat: &mut MarkSeat, model: &TestModel, plan: &Plan, cells: &Cells)
+        requires table { seat.old.table ≡ self.now.table }
+        requires plan { plan.now ≡ plan_of model.now }
+        requires bits { self.now.bits ≡ length (demanded_tuples model.now) }
         requires fits { FitsModel model.now cells.now }
         ensures { Marks (is_served_at model.now (cells.now ∷ [])) seat.old seat.new }
     {
@@ -251,23 +261,70 @@ impl SharedMarks {
             return;
         }
         let slice = model.slice_of(cells);
-        let lines = lines_for(lines, slice);
-        plan.assert_invariant();
         let mut digits = [Digit { place: 0, radix: 0 }; MOST_PARAMS];
         put_digits(model, plan, cells, slice, &mut digits);
-        self.mark_lines(seat, model, plan, lines, cells, &digits);
-        for set in lines.len() as u32..plan.set_count() {
-            self.mark_set(seat, model, plan, set, cells, slice, &digits);
-        }
+        self.mark_sets(seat, model, plan, 0, cells, slice, &digits);
     }
 
-    // Marks what `mark_served` marks, with the lines of the first sets, of which there may be none.
-    pub(crate) fn mark_by_lines(
+    // Marks the place of each demanded tuple of the open sets that a test without a negative value serves; the
+    // seat holds those of the other sets.
+    fn mark_open_sets(
         &self,
         seat: &mut MarkSeat,
         model: &TestModel,
         plan: &Plan,
-        lines: &[Line],
+        in_play: &OpenSets,
+        cells: &Cells,
+    )
+        requires table { seat.old.table ≡ self.now.table }
+        requires plan { plan.now ≡ plan_of model.now }
+        requires bits { self.now.bits ≡ length (demanded_tuples model.now) }
+        requires in_play { AreOpen plan.now in_play.now.lines.items in_play.now.upto seat.old.holds }
+        requires test { (is_complete cells.now && is_valid model.now cells.now) ≡ true }
+        requires slice { slice_of model.now cells.now ≡ Slice.Positive }
+        ensures { Adds (is_served_at model.now (cells.now ∷ [])) seat.old seat.new }
+    {
+        let slice = Slice::Positive;
+        let mut digits = [Digit { place: 0, radix: 0 }; MOST_PARAMS];
+        put_digits(model, plan, cells, slice, &mut digits);
+        self.mark_lines(seat, model, plan, in_play.lines.as_slice(), cells, &digits);
+        self.mark_sets(seat, model, plan, in_play.upto, cells, slice, &digits);
+    }
+
+    // Marks the place of each demanded tuple that a row serves, if it is a test and the seat doesn't hold the
+    // place.
+    fn mark_open_row(
+        &self,
+        seat: &mut MarkSeat,
+        model: &TestModel,
+        plan: &Plan,
+        in_play: &OpenSets,
+        cells: &Cells,
+    )
+        requires table { seat.old.table ≡ self.now.table }
+        requires plan { plan.now ≡ plan_of model.now }
+        requires bits { self.now.bits ≡ length (demanded_tuples model.now) }
+        requires in_play { AreOpen plan.now in_play.now.lines.items in_play.now.upto seat.old.holds }
+        requires fits { FitsModel model.now cells.now }
+        ensures { Adds (is_served_at model.now (cells.now ∷ [])) seat.old seat.new }
+    {
+        match model.slice_of(cells) {
+            Slice::Negative(_, _) => self.mark_row(seat, model, plan, cells),
+            Slice::Positive => {
+                if !in_play.are_none(plan) && is_test(model, cells) {
+                    self.mark_open_sets(seat, model, plan, in_play, cells);
+                }
+            }
+        }
+    }
+
+    // Marks what `mark_served` marks, but for places that the seat holds, by the sets that are open.
+    pub(crate) fn mark_open(
+        &self,
+        seat: &mut MarkSeat,
+        model: &TestModel,
+        plan: &Plan,
+        in_play: &OpenSets,
         file: &RowFile,
         from: u32,
         to: u32,
@@ -275,15 +332,15 @@ impl SharedMarks {
         requires table { seat.old.table ≡ self.now.table }
         requires plan { plan.now ≡ plan_of model.now }
         requires bits { self.now.bits ≡ length (demanded_tuples model.now) }
-        requires lines { AreLines plan.now lines.now }
+        requires in_play { AreOpen plan.now in_play.now.lines.items in_play.now.upto seat.old.holds }
         requires fits { All (λ row. FitsModel model.now row.cells) file.now.rows }
         requires ordered { from ≤ to }
         requires within { to ≤ length file.now.rows }
-        ensures { Marks (is_served_at model.now (slice_range (suite_seen file.now) from to)) seat.old seat.new }
+        ensures { Adds (is_served_at model.now (slice_range (suite_seen file.now) from to)) seat.old seat.new }
     {
         let part = &file.rows.as_slice()[from as usize..to as usize];
         for row in part {
-            self.mark_row(seat, model, plan, lines, &row.cells);
+            self.mark_open_row(seat, model, plan, in_play, &row.cells);
         }
     }
 
@@ -309,6 +366,9 @@ impl SharedMarks {
         requires within { to ≤ length file.now.rows }
         ensures { Marks (is_served_at model.now (slice_range (suite_seen file.now) from to)) seat.old seat.new }
     {
-        self.mark_by_lines(seat, model, plan, &[], file, from, to);
+        let part = &file.rows.as_slice()[from as usize..to as usize];
+        for row in part {
+            self.mark_row(seat, model, plan, &row.cells);
+        }
     }
 }

@@ -1,7 +1,8 @@
-ghost use Rattle.std.specs.Prelude.{◌≡◌, ◌<◌, ℕ, true, false, length, map, slice_index_or, IfOk};
+ghost use Rattle.std.specs.Prelude.{◌≡◌, ◌<◌, ◌≤◌, ℕ, true, false, length, map, slice_index_or, IfOk};
 ghost use Rattle.std.specs.List.{range_with_len};
 ghost use Rattle.std.specs.Slots.{IsFull, slots_items, slots_len};
 ghost use Rattle.definitions.specs.Demand.{is_among};
+ghost use Rattle.shared_marks.specs.Adding.{Adds, nothing};
 ghost use Rattle.shared_marks.specs.Seats.{IsWhole, first_holding, halved, with_holding, is_held, joined, marking, noting, other_half, testing};
 ghost use Rattle.shared_marks.specs.Steps.{has_bit};
 
@@ -146,6 +147,21 @@ impl SharedMarks {
         if !self.note::<Brand>(seat, place) {
             self.put::<Brand>(seat, place);
         }
+    }
+
+    // Whether all places of a range are marked; then the seat has seen them.
+    pub(crate) fn are_marked(&self, seat: &mut MarkSeat, from: u32, to: u32) -> bool
+        requires table { seat.old.table ≡ self.now.table }
+        requires within { to ≤ self.now.bits }
+        ensures seat { Adds nothing seat.old seat.new }
+        ensures held { result ≡ true → (place : ℕ) → from ≤ place → place < to → is_held seat.new.holds place ≡ true }
+    {
+        for place in from..to {
+            if !self.is_marked(seat, place) {
+                return false;
+            }
+        }
+        true
     }
 
     // Marks the place that this step is about if its bit is set already, and tells whether it is.

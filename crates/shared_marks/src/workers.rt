@@ -1,4 +1,4 @@
-ghost use Rattle.std.specs.Prelude.{◌≡◌, ◌+◌, ◌^◌, ◌<◌, ◌≤◌, All, IfOk, length, map, slice_range, sum};
+ghost use Rattle.std.specs.Prelude.{◌≡◌, ◌+◌, ◌^◌, ◌<◌, ◌≤◌, All, IfOk, length, map, slice_range};
 ghost use Rattle.std.specs.Thread.{IsSync};
 ghost use Rattle.cov_model.specs.Fits.{FitsModel};
 ghost use Rattle.definitions.specs.Demand.{demanded_tuples};
@@ -6,10 +6,11 @@ ghost use Rattle.definitions.specs.Figures.{is_served, tests_of};
 ghost use Rattle.row_text.specs.RowFiles.{suite_seen};
 ghost use Rattle.tuple_index.specs.Plan.{plan_of};
 ghost use Rattle.shared_marks.specs.Adding.{Adds};
-ghost use Rattle.shared_marks.specs.Lines.{AreLines};
+ghost use Rattle.shared_marks.specs.Lines.{AreOpen};
 ghost use Rattle.shared_marks.specs.Served.{is_served_at};
 
-use crate::lines::{Line, lines_of};
+use crate::lines::OpenSets;
+use crate::served::count_tuples;
 use crate::table::{Bits, MarkSeat, SharedMarks};
 use cov_model::TestModel;
 use outside_io::Gate;
@@ -18,6 +19,9 @@ use std::alloc::Global;
 use std::thread::{Threads, join};
 use tuple_index::Plan;
 use value_text::NoMemory;
+
+/// How many rows are marked before sets that are complete leave.
+const FIRST_ROUND: u32 = 1 << 10;
 
 /// The marks of the demanded tuples that some test of a file serves, put by workers numbered from 1. Each
 /// worker comes to the gate and then marks, with a seat of its own, what its share of the rows serves; with
@@ -45,24 +49,43 @@ pub fn mark_rows<R: Threads + Sync, G: Gate + Sync>(
     ensures { IfOk result (λ bits. bits ≡ map (is_served model.now (tests_of model.now (suite_seen file.now))) (demanded_tuples model.now)) }
 {
     let (table, seat) = SharedMarks::new(alloc, count_tuples(plan))?;
-    let lines = lines_of(alloc, plan)?;
-    let lines = lines.as_slice();
-    let rows = file.rows.len() as u32;
-    let seat = mark_range(
-        rt, &table, seat, model, plan, lines, file, 0, rows, 1, workers, gate,
-    );
+    let seat = mark_rounds(rt, alloc, &table, seat, model, plan, file, workers, gate)?;
     Ok(table.close(seat))
 }
 
-// The number of demanded tuples.
-fn count_tuples(plan: &Plan) -> u32
-    ensures { result ≡ sum plan.now.sizes }
+// Marks what the tests of a file serve, in rounds of rows, each round as long as all rounds before it. Between
+// rounds the sets that are complete leave. The seat comes back with all that was marked, and with its share.
+fn mark_rounds<R: Threads + Sync, G: Gate + Sync>(
+    rt: &R,
+    alloc: Global,
+    table: &SharedMarks,
+    mut seat: MarkSeat,
+    model: &TestModel,
+    plan: &Plan,
+    file: &RowFile,
+    workers: u32,
+    gate: &G,
+) -> Result<MarkSeat, NoMemory>
+    requires table { seat.table ≡ table.now.table }
+    requires plan { plan.now ≡ plan_of model.now }
+    requires bits { table.now.bits ≡ length (demanded_tuples model.now) }
+    requires fits { All (λ row. FitsModel model.now row.cells) file.now.rows }
+    requires few { length file.now.rows ≤ 2 ^ 20 }
+    requires least { 1 ≤ workers }
+    requires most { workers ≤ 64 }
+    ensures { IfOk result (λ after. Adds (is_served_at model.now (suite_seen file.now)) seat after) }
 {
-    let sets = plan.set_count();
-    if sets == 0 {
-        return 0;
+    let count = file.rows.len() as u32;
+    let mut from = 0;
+    while from < count {
+        let in_play = OpenSets::find(alloc, table, &mut seat, plan)?;
+        let to = count.min(from + from.max(FIRST_ROUND));
+        seat = mark_range(
+            rt, table, seat, model, plan, &in_play, file, from, to, 1, workers, gate,
+        );
+        from = to;
     }
-    plan.base(sets - 1) + plan.size(sets - 1)
+    Ok(seat)
 }
 
 // How many of the rows the first of the workers take.
@@ -81,7 +104,7 @@ fn mark_range<R: Threads + Sync, G: Gate + Sync>(
     mut seat: MarkSeat,
     model: &TestModel,
     plan: &Plan,
-    lines: &[Line],
+    in_play: &OpenSets,
     file: &RowFile,
     from: u32,
     to: u32,
@@ -92,7 +115,7 @@ fn mark_range<R: Threads + Sync, G: Gate + Sync>(
     requires table { seat.table ≡ table.now.table }
     requires plan { plan.now ≡ plan_of model.now }
     requires bits { table.now.bits ≡ length (demanded_tuples model.now) }
-    requires lines { AreLines plan.now lines.now }
+    requires in_play { AreOpen plan.now in_play.now.lines.items in_play.now.upto seat.holds }
     requires fits { All (λ row. FitsModel model.now row.cells) file.now.rows }
     requires ordered { from ≤ to }
     requires within { to ≤ length file.now.rows }
@@ -102,7 +125,7 @@ fn mark_range<R: Threads + Sync, G: Gate + Sync>(
 {
     if workers == 1 {
         gate.come(worker);
-        table.mark_by_lines(&mut seat, model, plan, lines, file, from, to);
+        table.mark_open(&mut seat, model, plan, in_play, file, from, to);
         return seat;
     }
     let half = workers / 2;
@@ -113,23 +136,23 @@ fn mark_range<R: Threads + Sync, G: Gate + Sync>(
     let (mut seat, other) = join(
         rt,
         move || -> MarkSeat
-            requires { IsSync R.row × IsSync G.row × (seat.table ≡ table.now.table) × (plan.now ≡ plan_of model.now) × AreLines plan.now lines.now
+            requires { IsSync R.row × IsSync G.row × (seat.table ≡ table.now.table) × (plan.now ≡ plan_of model.now) × AreOpen plan.now in_play.now.lines.items in_play.now.upto seat.holds
                 × (table.now.bits ≡ length (demanded_tuples model.now)) × All (λ row. FitsModel model.now row.cells) file.now.rows
                 × (from ≤ middle) × (middle ≤ length file.now.rows) × (0 < half) × (worker + half ≤ 65) }
             ensures { Adds (is_served_at model.entry.now (slice_range (suite_seen file.entry.now) from middle)) seat result }
         {
             mark_range(
-                rt, table, seat, model, plan, lines, file, from, middle, worker, half, gate,
+                rt, table, seat, model, plan, in_play, file, from, middle, worker, half, gate,
             )
         },
         move || -> MarkSeat
-            requires { IsSync R.row × IsSync G.row × (other.table ≡ table.now.table) × (plan.now ≡ plan_of model.now) × AreLines plan.now lines.now
+            requires { IsSync R.row × IsSync G.row × (other.table ≡ table.now.table) × (plan.now ≡ plan_of model.now) × AreOpen plan.now in_play.now.lines.items in_play.now.upto other.holds
                 × (table.now.bits ≡ length (demanded_tuples model.now)) × All (λ row. FitsModel model.now row.cells) file.now.rows
                 × (middle ≤ to) × (to ≤ length file.now.rows) × (0 < rest) × (next + rest ≤ 65) }
             ensures { Adds (is_served_at model.entry.now (slice_range (suite_seen file.entry.now) middle to)) other result }
         {
             mark_range(
-                rt, table, other, model, plan, lines, file, middle, to, next, rest, gate,
+                rt, table, other, model, plan, in_play, file, middle, to, next, rest, gate,
             )
         },
     );

@@ -6,7 +6,7 @@ use Rattle.std.specs.Char.{to_ascii_lowercase}
 use Rattle.std.specs.List.{list_any}
 use Rattle.std.proofs.lemmas.Bool.{cases_lt, false≢true, false_from_ne_true}
 use Rattle.std.proofs.lemmas.Bool.Decides.{nat_tests}
-use Rattle.std.proofs.lemmas.List.{get_or_default, length-drop, length-map}
+use Rattle.std.proofs.lemmas.List.{get_or_default, length-drop, length-map, nil_from_length}
 use Rattle.std.proofs.lemmas.List.Quantifiers.{position-Some}
 use Rattle.std.proofs.lemmas.Slice.Eq.{bytes_eq-Decides}
 use Rattle.value_text.proofs.ListLemmas.{position_is}
@@ -119,12 +119,8 @@ column_nowhere fold cells left place is_left none before =
 -- there are no more cells than bytes, but for one
 pub no_more_cells : (header : List ℕ) (cells : List (List ℕ)) (place : ℕ) → cells ≡ drop place (cells_of_line header) → length header + 1 ≤ place → cells ≡ []
 no_more_cells header cells place is_left past =
-    is_left ∙ none (drop place (cells_of_line header))
+    is_left ∙ nil_from_length (drop place (cells_of_line header))
     (omega (arith, length-drop place (cells_of_line header), length_cells header, tabs_within header, past))
-  where
-    none : {X : Type 0} (xs : List X) → length xs ≡ 0 → xs ≡ []
-    none [] few = refl
-    none (x ∷ xs) few = absurd (omega (arith, few))
 
 -- the faults of the lines under a header
 pub bad_told : (told : Option defined.ResultsFault) (found : Option defined.ResultsFault) (reading : ResultReading) (whole : Result ResultReading defined.ResultsFault)

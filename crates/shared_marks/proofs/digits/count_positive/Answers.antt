@@ -1,4 +1,4 @@
-use Rattle.std.proofs.Common.{◌≡◌, ◌∙◌, ℕ, Bool, true, false, not, get_or, arith, sym, ap}
+use Rattle.std.proofs.Common.{◌≡◌, ◌∙◌, ℕ, Bool, true, false, not, get_or, arith, ap}
 use Rattle.std.proofs.lemmas.List.{get_or_default}
 use Rattle.cov_model.specs.Meaning.{no_value}
 use Rattle.cov_model.specs.declared.parameter.Value.{Value}

@@ -1,9 +1,8 @@
-use Rattle.std.proofs.Common.{◌≡◌, ◌<◌, ◌∙◌, ap, arith, length, sym}
+use Rattle.std.proofs.Common.{◌≡◌, ◌∙◌, ap, arith, length, sym}
 use Rattle.cov_model.specs.Meaning.{value_at}
 use Rattle.cov_model.specs.Rows.{value_in}
-use Rattle.cov_model.specs.Slices.{slice_of}
 use Rattle.tuple_index.specs.Places.{place_of}
-use Rattle.shared_marks.specs.Digits.{IsDigit, is_fixed}
+use Rattle.shared_marks.specs.Digits.{is_fixed}
 use Rattle.shared_marks.proofs.DigitLemmas.{fixed_digit, own_exists, plain_digit}
 use Rattle.shared_marks.proofs.OwnTupleLemmas.{of_valid}
 use Rattle.shared_marks.proofs.digits.digit_of.Goals as goal

@@ -1,4 +1,4 @@
-use Rattle.std.proofs.Common.{◌≡◌, ◌<◌, ◌*◌, ◌+◌, ◌∙◌, ap, arith, get_or, length, refl, sym}
+use Rattle.std.proofs.Common.{arith, refl}
 use Rattle.shared_marks.specs.Digits.{own_slice}
 use Rattle.shared_marks.proofs.DigitLemmas.{joined, placing_end}
 use Rattle.shared_marks.proofs.digits.place_in_slice.Goals as goal

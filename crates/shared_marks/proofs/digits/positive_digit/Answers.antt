@@ -1,4 +1,4 @@
-use Rattle.std.proofs.Common.{◌≡◌, ◌<◌, ◌∙◌, ap, arith, length, sym, get_or, not, ℕ, List}
+use Rattle.std.proofs.Common.{◌∙◌, ap, arith, length, get_or, not, List}
 use Rattle.std.proofs.lemmas.List.FromFn.{length-map-range_with_len}
 use Rattle.std.specs.List.{filter, range_with_len}
 use Rattle.cov_model.specs.Meaning.{no_value}

@@ -1,4 +1,4 @@
-use Rattle.std.proofs.Common.{◌≡◌, ◌+◌, ◌<◌, ◌∙◌, Some, sym, ap, arith, subst}
+use Rattle.std.proofs.Common.{◌+◌, ◌∙◌, Some, sym, ap, arith, subst}
 use Rattle.tuple_index.specs.Plan.{plan_of, set_at}
 use Rattle.tuple_index.specs.Places.{start_of}
 use Rattle.shared_marks.specs.Served.{IsServedRank}

@@ -3,7 +3,6 @@ use Rattle.std.specs.Prelude.{◌==◌, sum, take}
 use Rattle.std.proofs.lemmas.Bool.{and_parts}
 use Rattle.cov_model.specs.Rows.{is_complete}
 use Rattle.cov_model.specs.Valid.{is_valid}
-use Rattle.definitions.specs.Demand.{demanded_tuples}
 use Rattle.tuple_index.specs.Plan.{plan_of}
 use Rattle.shared_marks.specs.Adding.{Marks}
 use Rattle.shared_marks.specs.Served.{base_of, served_between}
@@ -16,7 +15,7 @@ pub bounds-digits-line : goal.bounds-digits-line
 bounds-digits-line c =
     let m = c.args.model.now in
     let valid = (and_parts (is_complete c.args.cells.now) (is_valid m c.args.cells.now) c.requires.test).1 in
-    let exists = last_exists m c.args.plan.now c.args.set c.args.cells.now c.args.line c.requires.plan c.assert_invariant.ensures c.requires.set valid c.requires.slice c.requires.line in
+    let exists = last_exists m c.args.plan.now c.args.cells.now c.args.line c.requires.plan c.assert_invariant.ensures valid c.requires.slice c.requires.line in
     omega (arith, exists, c.requires.digits.0.room, c.requires.digits.1)
 
 pub overflow_mul-rank : goal.overflow_mul-rank
@@ -24,8 +23,8 @@ overflow_mul-rank c =
     let m = c.args.model.now in
     let valid = (and_parts (is_complete c.args.cells.now) (is_valid m c.args.cells.now) c.requires.test).1 in
     let known =
-    line_known m c.args.plan.now c.args.set c.args.cells.now c.args.line c.args.digits.now _ c.args.number c.from.result _ c.requires.plan
-    c.assert_invariant.ensures c.requires.set valid c.requires.slice c.requires.digits c.requires.line c.requires.number c.from.ensures refl in
+    line_known m c.args.plan.now c.args.cells.now c.args.line c.args.digits.now _ c.args.number c.from.result _ c.requires.plan
+    c.assert_invariant.ensures valid c.requires.slice c.requires.digits c.requires.line c.requires.number c.from.ensures refl in
     omega (arith, known.few)
 
 pub overflow_add-rank : goal.overflow_add-rank
@@ -33,8 +32,8 @@ overflow_add-rank c =
     let m = c.args.model.now in
     let valid = (and_parts (is_complete c.args.cells.now) (is_valid m c.args.cells.now) c.requires.test).1 in
     let known =
-    line_known m c.args.plan.now c.args.set c.args.cells.now c.args.line c.args.digits.now _ c.args.number c.from.result c.from-2.result c.requires.plan
-    c.assert_invariant.ensures c.requires.set valid c.requires.slice c.requires.digits c.requires.line c.requires.number c.from.ensures c.from-2.ensures in
+    line_known m c.args.plan.now c.args.cells.now c.args.line c.args.digits.now _ c.args.number c.from.result c.from-2.result c.requires.plan
+    c.assert_invariant.ensures valid c.requires.slice c.requires.digits c.requires.line c.requires.number c.from.ensures c.from-2.ensures in
     omega (arith, known.few)
 
 pub overflow_add-line : goal.overflow_add-line
@@ -42,21 +41,23 @@ overflow_add-line c =
     let m = c.args.model.now in
     let valid = (and_parts (is_complete c.args.cells.now) (is_valid m c.args.cells.now) c.requires.test).1 in
     let known =
-    line_known m c.args.plan.now c.args.set c.args.cells.now c.args.line c.args.digits.now _ c.args.number c.from.result c.from-2.result c.requires.plan
-    c.assert_invariant.ensures c.requires.set valid c.requires.slice c.requires.digits c.requires.line c.requires.number c.from.ensures c.from-2.ensures in
-    let base : c.args.line.base ≡ base_of m c.args.set = c.requires.line.base ∙ ap (λ p. sum (take c.args.set p.sizes)) c.requires.plan in
+    line_known m c.args.plan.now c.args.cells.now c.args.line c.args.digits.now _ c.args.number c.from.result c.from-2.result c.requires.plan
+    c.assert_invariant.ensures valid c.requires.slice c.requires.digits c.requires.line c.requires.number c.from.ensures c.from-2.ensures in
+    let there = subst (λ p. c.args.line.set < length p.sets) c.requires.plan c.requires.line.there in
+    let base : c.args.line.base ≡ base_of m c.args.line.set = c.requires.line.base ∙ ap (λ p. sum (take c.args.line.set p.sizes)) c.requires.plan in
     let few : sum (plan_of m).sizes ≤ 2 ^ 26 = subst (λ p. sum p.sizes ≤ 2 ^ 26) c.requires.plan c.assert_invariant.ensures.within in
-    omega (arith, place_within m c.args.set (c.args.number * c.from.result + c.from-2.result) c.requires.set known.is.within, base, few, all_places m)
+    omega (arith, place_within m c.args.line.set (c.args.number * c.from.result + c.from-2.result) there known.is.within, base, few, all_places m)
 
 pub mark_lightly-requires-clause-place : goal.mark_lightly-requires-clause-place
 mark_lightly-requires-clause-place c =
     let m = c.args.model.now in
     let valid = (and_parts (is_complete c.args.cells.now) (is_valid m c.args.cells.now) c.requires.test).1 in
     let known =
-    line_known m c.args.plan.now c.args.set c.args.cells.now c.args.line c.args.digits.now _ c.args.number c.from.result c.from-2.result c.requires.plan
-    c.assert_invariant.ensures c.requires.set valid c.requires.slice c.requires.digits c.requires.line c.requires.number c.from.ensures c.from-2.ensures in
-    let base : c.args.line.base ≡ base_of m c.args.set = c.requires.line.base ∙ ap (λ p. sum (take c.args.set p.sizes)) c.requires.plan in
-    omega (arith, place_within m c.args.set (c.args.number * c.from.result + c.from-2.result) c.requires.set known.is.within, base, c.requires.bits)
+    line_known m c.args.plan.now c.args.cells.now c.args.line c.args.digits.now _ c.args.number c.from.result c.from-2.result c.requires.plan
+    c.assert_invariant.ensures valid c.requires.slice c.requires.digits c.requires.line c.requires.number c.from.ensures c.from-2.ensures in
+    let there = subst (λ p. c.args.line.set < length p.sets) c.requires.plan c.requires.line.there in
+    let base : c.args.line.base ≡ base_of m c.args.line.set = c.requires.line.base ∙ ap (λ p. sum (take c.args.line.set p.sizes)) c.requires.plan in
+    omega (arith, place_within m c.args.line.set (c.args.number * c.from.result + c.from-2.result) there known.is.within, base, c.requires.bits)
 
 pub returns : goal.returns
 returns c =
@@ -65,10 +66,11 @@ returns c =
     let rank = c.args.number * c.from.result + c.from-2.result in
     let valid = (and_parts (is_complete row) (is_valid m row) c.requires.test).1 in
     let known =
-    line_known m c.args.plan.now c.args.set row c.args.line c.args.digits.now _ c.args.number c.from.result c.from-2.result c.requires.plan
-    c.assert_invariant.ensures c.requires.set valid c.requires.slice c.requires.digits c.requires.line c.requires.number c.from.ensures c.from-2.ensures in
-    let base : c.args.line.base ≡ base_of m c.args.set = c.requires.line.base ∙ ap (λ p. sum (take c.args.set p.sizes)) c.requires.plan in
-    let adds = served_between m row (base_of m c.args.set) (base_of m (c.args.set + 1)) in
+    line_known m c.args.plan.now row c.args.line c.args.digits.now _ c.args.number c.from.result c.from-2.result c.requires.plan
+    c.assert_invariant.ensures valid c.requires.slice c.requires.digits c.requires.line c.requires.number c.from.ensures c.from-2.ensures in
+    let there = subst (λ p. c.args.line.set < length p.sets) c.requires.plan c.requires.line.there in
+    let base : c.args.line.base ≡ base_of m c.args.line.set = c.requires.line.base ∙ ap (λ p. sum (take c.args.line.set p.sizes)) c.requires.plan in
+    let adds = served_between m row (base_of m c.args.line.set) (base_of m (c.args.line.set + 1)) in
     subst (Marks adds c.args.seat.now) (sym c.mark_lightly.ensures)
     (marks_one adds c.args.seat.now (c.args.line.base + rank) (λ place.
-    one_set m row c.args.set _ c.requires.test c.requires.set known.is place ∙ ap (λ n. n + rank == place) (sym base)))
+    one_set m row c.args.line.set _ c.requires.test there known.is place ∙ ap (λ n. n + rank == place) (sym base)))

@@ -1,9 +1,11 @@
-use Rattle.std.proofs.Common.{◌-◌, ◌<◌}
+use Rattle.std.proofs.Common.{◌-◌, ◌<◌, ◌&&◌, take, get_or, [], ◌∷◌}
+use Rattle.shared_marks.specs.declared.lines.Line.{Line}
 use Rattle.shared_marks.specs.Adding.{Marks}
-use Rattle.shared_marks.specs.Lines.{IsFront}
-use Rattle.shared_marks.specs.Served.{base_of, served_between}
+use Rattle.shared_marks.specs.Lines.{IsFront, is_of_some}
+use Rattle.shared_marks.specs.Served.{is_served_at}
 use Rattle.shared_marks.proofs.table.SharedMarks.mark_lines.Given as goal
 
-abbrev pub invariant-loop-set : goal.invariant-loop-set
-invariant-loop-set l =
-    Marks (served_between l.model l.cells 0 (base_of l.model l.set)) l.fn.seat l.seat × (0 < l.set → IsFront l.model l.cells (l.set - 1) l.number)
+abbrev pub invariant-loop-line : goal.invariant-loop-line
+invariant-loop-line l =
+    Marks (λ place. is_of_some l.plan (take l.line-index l.lines) place && is_served_at l.model (l.cells ∷ []) place) l.fn.seat l.seat
+    × (0 < l.line-index → (other : Line) → IsFront l.model l.cells (get_or l.lines (l.line-index - 1) other).set l.number)

@@ -1,23 +1,6 @@
-use Rattle.std.proofs.Common.{◌≡◌, ◌+◌, length, ◌∙◌, ap, arith}
-use Rattle.definitions.specs.Demand.{demanded_sets}
-use Rattle.shared_marks.specs.Served.{base_of, served_between}
-use Rattle.shared_marks.proofs.AddingLemmas.{marks_same, marks_then}
-use Rattle.shared_marks.proofs.PlaceLemmas.{base_end, base_more, between_all, between_more}
+use Rattle.shared_marks.proofs.AddingLemmas.{marks_same}
+use Rattle.shared_marks.proofs.PlaceLemmas.{between_all}
 use Rattle.shared_marks.proofs.table.SharedMarks.mark_row.Goals as goal
 
-pub loop-set-preserved : goal.loop-set-preserved
-loop-set-preserved c =
-    let m = c.args.model.now in
-    let i = c.loop-set.set in
-    let sets : c.set_count-set-end.result ≡ length (demanded_sets m) = c.set_count-set-end.ensures.value ∙ ap (λ p. length p.sets) c.requires.plan in
-    let next = base_more m i (omega (arith, sets)) in
-    marks_then _ _ _ _ _ _ c.loop-set.invariant c.mark_set.ensures
-    (λ place. between_more m c.args.cells.now (base_of m i) (base_of m (i + 1)) place (omega (arith, next)))
-
 pub returns : goal.returns
-returns c =
-    let m = c.args.model.now in
-    let i = c.loop-set.set in
-    let sets : c.set_count-set-end.result ≡ length (demanded_sets m) = c.set_count-set-end.ensures.value ∙ ap (λ p. length p.sets) c.requires.plan in
-    marks_same _ _ _ _ c.loop-set.invariant (λ place.
-    ap (λ end. served_between m c.args.cells.now 0 end place) (base_end m i (omega (arith, sets))) ∙ between_all m c.args.cells.now place)
+returns c = marks_same _ _ _ _ c.mark_sets.ensures (between_all c.args.model.now c.args.cells.now)

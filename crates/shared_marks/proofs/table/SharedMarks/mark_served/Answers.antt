@@ -6,7 +6,7 @@ use Rattle.shared_marks.specs.Served.{is_served_at}
 use Rattle.shared_marks.proofs.AddingLemmas.{marks_same, marks_then}
 use Rattle.shared_marks.proofs.PlaceLemmas.{served_append}
 use Rattle.shared_marks.proofs.RowLemmas.{range_map}
-use Rattle.shared_marks.proofs.table.SharedMarks.mark_by_lines.Goals as goal
+use Rattle.shared_marks.proofs.table.SharedMarks.mark_served.Goals as goal
 
 pub loop-row-preserved : goal.loop-row-preserved
 loop-row-preserved c =

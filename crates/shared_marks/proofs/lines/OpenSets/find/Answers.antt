@@ -1,0 +1,27 @@
+use Rattle.std.proofs.Common.{◌≡◌, ◌+◌, ◌-◌, ◌<◌, ◌++◌, ◌∷◌, [], false, ap, arith, get_or, length, rules, subst, sym}
+use Rattle.tuple_index.specs.Plan.{set_at}
+use Rattle.shared_marks.specs.declared.lines.Line.{Line}
+use Rattle.shared_marks.specs.Lines.{front}
+use Rattle.shared_marks.proofs.OpenLemmas.{IsFound, found_complete, found_open}
+use Rattle.shared_marks.proofs.lines.OpenSets.find.Goals.{then-not-are_marked+in_ok-push, else-not-are_marked}
+use Rattle.shared_marks.proofs.lines.OpenSets.find.Goals as goal
+
+pub loop-set-preserved : goal.loop-set-preserved
+loop-set-preserved c =
+    let plan = c.args.plan.now in
+    let set = c.loop-set.set in
+    elim c.if-not-are_marked.branch [
+      | then-not-are_marked+in_ok-push w ↦
+          let pushed : c.if-not-are_marked.lines.items ≡ c.loop-set.lines.items ++ w.line_of-line.result ∷ [] = search rules in
+          subst (λ lines. IsFound plan lines (set + 1) c.args.seat.now c.are_marked.new.seat) (sym pushed)
+          (found_open plan c.loop-set.lines.items set w.line_of-line.result c.args.seat.now c.loop-set.seat c.are_marked.new.seat c.loop-set.invariant
+          (omega arith) c.are_marked.ensures.seat w.line_of-line.ensures.number w.line_of-line.ensures.line
+          (subst (λ lines. w.line_of-line.result.is_fresh ≡ false → (0 < length lines)
+          × ((other : Line) → front (set_at plan set) ≡ front (set_at plan (get_or lines (length lines - 1) other).set))) w.as_slice.ensures.value
+          w.line_of-line.ensures.same))
+      | else-not-are_marked w ↦
+          subst (λ lines. IsFound plan lines (set + 1) c.args.seat.now c.are_marked.new.seat) (sym (ap (λ list. list.items) w.lines-is))
+          (found_complete plan c.loop-set.lines.items set c.base-base.result c.size.result c.are_marked.result c.args.seat.now c.loop-set.seat
+          c.are_marked.new.seat c.loop-set.invariant (omega arith) c.set_count-count.ensures.kept.as_many c.base-base.ensures c.size.ensures
+          c.are_marked.ensures.seat c.are_marked.ensures.held w.if-not-are_marked.false)
+    ]
