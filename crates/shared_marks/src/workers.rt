@@ -23,10 +23,10 @@ use value_text::NoMemory;
 /// How many rows are marked before sets that are complete leave.
 const FIRST_ROUND: u32 = 1 << 10;
 
-/// The marks of the demanded tuples that some test of a file serves, put by workers numbered from 1. Each
-/// worker comes to the gate and then marks, with a seat of its own, what its share of the rows serves; with
-/// more workers than rows some shares are empty. The marks are the same for every number of workers from 1
-/// to 64. A test is a complete and valid row, and the place of a tuple is the base of its set plus its rank.
+/// The marks of the demanded tuples that some test of a file serves, put by workers numbered from 1. The rows
+/// go in rounds, one at least; in each round each worker comes to the gate and then marks, with a seat of its
+/// own, what its share of the round's rows serves. With more workers than rows some shares are empty. The
+/// marks are the same for every number of workers from 1 to 64. A test is a complete and valid row, and the place of a tuple is the base of its set plus its rank.
 /// Plan and file have to be the model's; a file has at most 2^20 rows.
 ///
 /// # Errors
@@ -54,7 +54,8 @@ pub fn mark_rows<R: Threads + Sync, G: Gate + Sync>(
 }
 
 // Marks what the tests of a file serve, in rounds of rows, each round as long as all rounds before it. Between
-// rounds the sets that are complete leave. The seat comes back with all that was marked, and with its share.
+// rounds the sets that are complete leave. There is a round even where there are no rows, so that each worker
+// comes to the gate. The seat comes back with all that was marked, and with its share.
 fn mark_rounds<R: Threads + Sync, G: Gate + Sync>(
     rt: &R,
     alloc: Global,
@@ -77,15 +78,17 @@ fn mark_rounds<R: Threads + Sync, G: Gate + Sync>(
 {
     let count = file.rows.len() as u32;
     let mut from = 0;
-    while from < count {
+    loop {
         let in_play = OpenSets::find(alloc, table, &mut seat, plan)?;
         let to = count.min(from + from.max(FIRST_ROUND));
         seat = mark_range(
             rt, table, seat, model, plan, &in_play, file, from, to, 1, workers, gate,
         );
+        if to == count {
+            return Ok(seat);
+        }
         from = to;
     }
-    Ok(seat)
 }
 
 // How many of the rows the first of the workers take.

@@ -5,8 +5,8 @@ use Rattle.shared_marks.specs.Adding.{Adds}
 use Rattle.shared_marks.specs.Served.{is_served_at}
 use Rattle.shared_marks.proofs.workers.mark_rounds.Given as goal
 
-abbrev pub invariant-loop-from : goal.invariant-loop-from
-invariant-loop-from g l = (l.from ≤ l.count) × Adds (is_served_at l.model (slice_range (suite_seen l.file) 0 l.from)) l.initial.seat l.seat
+abbrev pub invariant-loop-seat : goal.invariant-loop-seat
+invariant-loop-seat g l = (l.from ≤ l.count) × Adds (is_served_at l.model (slice_range (suite_seen l.file) 0 l.from)) l.initial.seat l.seat
 
-abbrev pub decreases-loop-from : goal.decreases-loop-from
-decreases-loop-from g l = l.count - l.from
+abbrev pub decreases-loop-seat : goal.decreases-loop-seat
+decreases-loop-seat g l = l.count - l.from
