@@ -20,7 +20,7 @@ mod words;
 pub use files::{FileKind, FileNames};
 pub use load::{load_model, read_whole};
 pub use put::put_pairs;
-pub use setting::{Setting, Shuffle, is_named, setting_of};
+pub use setting::{Setting, Shuffle, setting_of};
 pub use stop::{Quantity, Stop};
 pub use told::tell;
 pub use words::{default_opts, has_equal_marks, is_last_mark, word_number};
