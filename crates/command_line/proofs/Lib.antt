@@ -3,3 +3,6 @@ pub mod PutLines
 pub mod PutPairs
 pub mod PieceSums
 pub mod PutTold
+pub mod OptsLemmas
+pub mod RangeLemmas
+pub mod WordLemmas

@@ -61,7 +61,7 @@ pub enum Setting<'w> {
 }
 
 /// Whether a word has a name before its first colon, in letters of either case.
-pub fn is_named(word: &str, name: &str) -> bool
+pub(crate) fn is_named(word: &str, name: &str) -> bool
     ensures { result ≡ defined.is_named word.now name.now }
 {
     match word.split_once(':') {

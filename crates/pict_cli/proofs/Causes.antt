@@ -21,9 +21,10 @@ use Rattle.command_line.specs.declared.stop.Stop.{Stop}
 use Rattle.command_line.specs.declared.stop.Stop.TheVariants.{CannotRead, CannotWrite, CannotWriteReport}
 use Rattle.pict_cli.specs.Ends.{CountsOut, CountsReads, CountsWrites, Moment, Unwritten, end_of}
 use Rattle.pict_cli.specs.Modes.{RowSource, RowsHeld, mode_of, model_from, model_source, row_source}
-use Rattle.pict_cli.specs.Runs.{Ends, EndsBehind, cannot_write, cannot_write_proof, comes_whole, fault_status, given_of, limit_due, must_stop, no_memory, opts_of, reading_of, rows_unread, stop_due, work_in}
+use Rattle.pict_cli.specs.Runs.{Ends, EndsBehind, cannot_write, cannot_write_proof, comes_whole, fault_status, given_of, limit_due, must_stop, no_memory, reading_of, rows_unread, stop_due, work_in}
 use Rattle.pict_cli.specs.RowSources.{stop_in}
 use Rattle.pict_cli.specs.Steps.{Ran}
+use Rattle.command_line.specs.Words.{opts_of}
 use Rattle.pict_cli.specs.Words.{GetsModelCalmly, ReadsCalmly, WritesCalmly}
 use Rattle.pict_cli.proofs.FromModel.{from_model}
 

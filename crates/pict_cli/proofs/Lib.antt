@@ -1,6 +1,7 @@
 pub mod Alone
 pub mod Behind
 pub mod Causes
+pub mod CommandLemmas
 pub mod Early
 pub mod FromModel
 pub mod Headline
@@ -8,7 +9,6 @@ pub mod KindLemmas
 pub mod MadeRuns
 pub mod Measured
 pub mod ProofTexts
-pub mod RangeLemmas
 pub mod Reading
 pub mod RowFiles
 pub mod RunEnds

@@ -13,7 +13,8 @@ use Rattle.command_line.specs.declared.stop.Stop.{Stop}
 use Rattle.command_line.specs.declared.stop.Stop.TheVariants.{CannotRead}
 use Rattle.pict_cli.specs.Ends.{CountsReads, IsEarly, Leaves, Moment, Prints, Stopped, Unread, end_of, read_unless_made}
 use Rattle.pict_cli.specs.Modes.{RowSource, row_file, row_source, source_in}
-use Rattle.pict_cli.specs.Runs.{Ends, RunsModel, given_of, opts_of, out_text, rows_of_run}
+use Rattle.command_line.specs.Words.{opts_of}
+use Rattle.pict_cli.specs.Runs.{Ends, RunsModel, given_of, out_text, rows_of_run}
 use Rattle.pict_cli.specs.Steps.{RanOn}
 use Rattle.pict_cli.proofs.Early.{leaves_early, leaves_from, proof_from}
 use Rattle.pict_cli.proofs.RunEnds.{ends_loaded, reading_ends}

@@ -1,25 +1,22 @@
 -- How a run ends, from how its reading and its work on the model ended.
-use Rattle.std.proofs.Common.{◌≡◌, ℕ, false, ◌||◌, ◌≤◌, length, List, Option, None, Some, Ok, Err, Result, inl, inr, refl, ap, subst, ◌∙◌, arith}
-use Rattle.std.specs.Prelude.{◌==◌, ◌≢◌, ◌⊎◌, true, IsSomeAnd, IsOkAnd}
-use Rattle.std.proofs.lemmas.Bool.{eqb-false, or_parts}
+use Rattle.std.proofs.Common.{◌≡◌, ℕ, false, ◌≤◌, length, List, Option, None, Some, Ok, Err, Result, inl, inr, refl, ap, subst, ◌∙◌, arith}
+use Rattle.std.specs.Prelude.{◌≢◌, ◌⊎◌, true, IsSomeAnd, IsOkAnd}
+use Rattle.value_text.proofs.ListLemmas.{one_ok}
 use Rattle.outside_io.specs.Faults.{KeepsCounts}
 use Rattle.outside_io.specs.Files.{Files, KeepsFiles}
 use Rattle.cov_model.specs.Sound.{ModelView}
 use Rattle.definitions.specs.Limits.{ModelFile, most_bytes}
-use Rattle.definitions.specs.Settings.{OrderWord, OrderOf, OrderMax, Settings}
+use Rattle.definitions.specs.Settings.{Settings}
 use Rattle.model_lex.specs.declared.note.Note.{Note}
 use Rattle.model_lex.specs.declared.options.ModelOpts.{ModelOpts}
-use Rattle.model_lex.specs.declared.options.OrderWord as words
-use Rattle.model_lex.specs.declared.options.OrderWord.TheVariants.{Number, Max}
-use Rattle.model_parse.specs.RawModels.{AreOpts, IsOrder}
 use Rattle.refutation.specs.Proofs.{format_of}
 use Rattle.refutation.specs.declared.omissions.ProofForm.{ProofForm}
 use Rattle.refutation.specs.declared.omissions.ProofForm.TheVariants.{One, Two}
 use Rattle.type_check.specs.ModelOf.{IsModelOf}
 use Rattle.type_check.proofs.OneAnswer.{files_have_one_model}
 use Rattle.command_line.specs.Loading.{IsLoaded, IsOfReading}
-use Rattle.command_line.specs.Settings.{order_seen}
 use Rattle.command_line.specs.Told.{end_status}
+use Rattle.command_line.specs.Words.{opts_of}
 use Rattle.command_line.specs.declared.files.FileKind.{FileKind}
 use Rattle.command_line.specs.declared.files.FileKind.TheVariants as kinds
 use Rattle.command_line.specs.declared.stop.Stop.{Stop}
@@ -28,38 +25,10 @@ use Rattle.pict_cli.specs.declared.options.Opts.{Opts}
 use Rattle.pict_cli.specs.Ends.{CountsOut, CountsWrites, End, IsEarly, IsQuiet, Misworded, Moment, StaysStill, Stopped, Unprinted, Unread, Unwritten, Whole, end_of}
 use Rattle.pict_cli.specs.Modes.{RowSource, is_report, makes_suite, mode_beside, mode_in, mode_of, model_source, output_of, prints_rows, row_source}
 use Rattle.pict_cli.specs.Options.{settings_seen}
-use Rattle.pict_cli.specs.Ranges.{IsLeast, AreFit}
-use Rattle.pict_cli.specs.Runs.{Ends, HasModel, HoldsWholeProof, IsStatus, PrintsAccepted, PrintsCovering, PrintsFewRows, PrintsSeeds, RunsModel, SpellsModel, opts_of, order_word, rows_of_run, seeds_kept, told_proof}
+use Rattle.pict_cli.specs.Runs.{Ends, HasModel, HoldsWholeProof, IsStatus, PrintsAccepted, PrintsCovering, PrintsFewRows, PrintsSeeds, RunsModel, SpellsModel, rows_of_run, seeds_kept, told_proof}
 use Rattle.pict_cli.specs.Steps.{Ran}
 use Rattle.pict_cli.proofs.FromModel.{from_model}
 use Rattle.pict_cli.proofs.Headline.{holds_whole_proof, prints_accepted, prints_covering, prints_few_rows, prints_seeds}
-
-same_order : (order : words.OrderWord) → order ≡ order_word (order_seen order)
-same_order (Number n) = refl
-same_order Max = refl
-
-pub same_opts : (o : Opts) → o.opts ≡ opts_of (settings_seen o)
-same_opts o = ap (λ order. record { order = order; marks = o.opts.marks; fold = o.opts.fold }) (same_order o.opts.order)
-
-is_order : (order : OrderWord) → IsLeast order → IsOrder (order_word order)
-is_order (OrderOf n) h = h
-is_order OrderMax h = tt
-
-pub are_opts : (s : Settings) → AreFit s → AreOpts (opts_of s)
-are_opts s fit =
-    let both = or_parts ((s.separator == s.alias) || (s.separator == s.prefix)) (s.alias == s.prefix) fit.apart in
-    let first = or_parts (s.separator == s.alias) (s.separator == s.prefix) both.0 in
-    record {
-      marks = record {
-        separator = fit.ranged.separator;
-        alias = fit.ranged.alias;
-        prefix = fit.ranged.prefix;
-        separator_alias = eqb-false s.separator s.alias first.0;
-        separator_prefix = eqb-false s.separator s.prefix first.1;
-        alias_prefix = eqb-false s.alias s.prefix both.1;
-      };
-      order = is_order s.order fit.ranged.order;
-    }
 
 -- what holds of one model that the bytes spell holds of each
 pub spells_model : (opts : ModelOpts) (P : ModelView → List Note → Type 0) (bytes : List ℕ) (m : ModelView) (notes : List Note)
@@ -264,16 +233,12 @@ a_form Two = inr refl
 pub form_known : (o : Opts) (s : Settings) → settings_seen o ≡ s → (s.form ≡ 1) ⊎ (s.form ≡ 2)
 form_known o s same = subst (λ t. (t.form ≡ 1) ⊎ (t.form ≡ 2)) same (a_form o.form)
 
--- words ask for one thing
-pub one_asked : {asked : Result Settings ℕ} {s other : Settings} → asked ≡ Ok s → asked ≡ Ok other → s ≡ other
-one_asked e f = cc
-
 -- a run ended for the settings and the name that are asked for
 pub ran_asked : {asked : Result Settings ℕ} {s other : Settings} {seed : ℕ} {name model : List ℕ} {before after : Moment} {notes row_notes : List Note}
     {end : Result (Unit {0}) Stop}
     → asked ≡ Ok s → asked ≡ Ok other → name ≡ model → Ran s seed name before after notes row_notes end → Ran other seed model before after notes row_notes end
 ran_asked {asked} {s} {other} {seed} {name} {model} {before} {after} {notes} {row_notes} {end} e f same ran =
-    subst (λ n. Ran other seed n before after notes row_notes end) same (subst (λ t. Ran t seed name before after notes row_notes end) (one_asked e f) ran)
+    subst (λ n. Ran other seed n before after notes row_notes end) same (subst (λ t. Ran t seed name before after notes row_notes end) (one_ok e f) ran)
 
 module _ {s : Settings} {seed : ℕ} {name : List ℕ} {start after : Moment} {notes row_notes : List Note} {end : Result (Unit {0}) Stop}
     (ran : Ran s seed name start after notes row_notes end) (held : Option (List ℕ)) (source : RowSource)

@@ -1,11 +1,8 @@
 -- What a suite is ready with: its statistics, and its proof.
-use Rattle.std.proofs.Common.{◌≡◌, ℕ, List, [], ◌∷◌, map, length, sum, Option, None, Some, Ok, Err, Result, inl, inr, refl, sym, ap, subst, ◌∙◌}
+use Rattle.std.proofs.Common.{◌≡◌, ℕ, List, [], ◌∷◌, map, length, Option, None, Some, Ok, Err, Result, inl, inr, refl, sym, ap, subst, ◌∙◌}
 use Rattle.std.specs.Prelude.{IfSome, IfErr, IsErrAnd, option_map}
 use Rattle.std.proofs.lemmas.List.{append-nil, length-map}
-use Rattle.std.proofs.lemmas.List.Sums.{sum-map}
-use Rattle.std.proofs.lemmas.List.Concat.{length-flat_map}
 use Rattle.cov_model.specs.Sound.{ModelView}
-use Rattle.definitions.specs.Demand.{demanded_sets, demanded_tuples, tuples_of}
 use Rattle.definitions.specs.Growth.{growth}
 use Rattle.definitions.specs.Pairs.{pairs_of}
 use Rattle.definitions.specs.SuiteProof.{IsProofOfSuite}
@@ -16,7 +13,6 @@ use Rattle.refutation.specs.declared.omissions.Omission.{Omission}
 use Rattle.refutation.specs.declared.omissions.ProofForm.{ProofForm}
 use Rattle.definitions.specs.Statistics.{Statistics}
 use Rattle.model_lex.specs.declared.note.Note.{Note}
-use Rattle.tuple_index.specs.Plan.{plan_of}
 use Rattle.command_line.specs.declared.stop.Stop.{Stop}
 use Rattle.command_line.specs.declared.stop.Stop.TheVariants.{Spent}
 use Rattle.pict_cli.specs.Steps.{IsSpentOrNoMemory, StopsWork, is_due, no_memory, written}
@@ -65,6 +61,3 @@ same_statistics a b sets tuples omitted kept tests =
     ∙ ap (λ n. record { sets = b.sets; tuples = b.tuples; omitted = n; kept = a.kept; tests = a.tests }) omitted
     ∙ ap (λ n. record { sets = b.sets; tuples = b.tuples; omitted = b.omitted; kept = n; tests = a.tests }) kept
     ∙ ap (λ n. record { sets = b.sets; tuples = b.tuples; omitted = b.omitted; kept = b.kept; tests = n }) tests
-
-pub tuples_counted : (m : ModelView) → sum (plan_of m).sizes ≡ length (demanded_tuples m)
-tuples_counted m = sum-map (λ set. length (tuples_of m set)) (demanded_sets m) ∙ sym (length-flat_map (tuples_of m) (demanded_sets m))

@@ -1,40 +1,21 @@
 -- When a word has no reading between the others, and what the words so far set.
-use Rattle.std.proofs.Common.{◌≡◌, ℕ, ◌+◌, ◌<◌, Bool, true, not, ◌&&◌, ◌||◌, if◌then◌else◌, List, [], ◌∷◌, ◌++◌, take, drop, length, get_or, Some, None, sym, ap, ◌∙◌}
+use Rattle.std.proofs.Common.{◌≡◌, ℕ, ◌+◌, ◌<◌, Bool, true, not, ◌&&◌, ◌||◌, if◌then◌else◌, List, [], ◌∷◌, ◌++◌, take, drop, length, Some, sym, ap, ◌∙◌}
 use Rattle.std.specs.Prelude.{filter_map}
-use Rattle.std.specs.List.{list_any, cons_option}
-use Rattle.std.specs.String.{string_bytes}
-use Rattle.std.specs.declared.string.String.{String}
-use Rattle.std.specs.declared.alloc.Global.{Global}
+use Rattle.std.specs.List.{list_any}
 use Rattle.std.specs.Option.{option_map_or}
-use Rattle.std.proofs.lemmas.List.{take_more, drop_more, get_or-map}
-use Rattle.std.proofs.lemmas.List.Elements.{filter_map-append}
-use Rattle.std.proofs.lemmas.List.Sums.{fold-append}
-use Rattle.definitions.specs.Settings.{Setting, defaults, set, setting_of, settings_of}
+use Rattle.std.proofs.lemmas.List.{take_more, drop_more}
+use Rattle.definitions.specs.Settings.{Setting, set, setting_of}
 use Rattle.definitions.specs.Words.{exclude_each_other, is_mark_word, has_equal_marks, set_by, is_faulty, first_faulty}
+use Rattle.command_line.proofs.WordLemmas.{set_by-push, settings-push}
 use Rattle.pict_cli.specs.Options.{kind_of, kinds_of, joined_kinds, is_faulty_at}
-use Rattle.pict_cli.specs.Words.{texts}
 use Rattle.pict_cli.proofs.KindLemmas.{clash, excluded-kinds, kinds_of-push}
 
--- what the words so far set, and one more
-settings-push : (before : List (List ℕ)) (word : List ℕ) (setting : Setting) → setting_of word ≡ Some setting
-    → filter_map setting_of (before ++ word ∷ []) ≡ filter_map setting_of before ++ setting ∷ []
-settings-push before word setting e = filter_map-append setting_of before (word ∷ []) ∙ ap (λ o. filter_map setting_of before ++ cons_option o []) e
-
-pub set_by-push : (before : List (List ℕ)) (word : List ℕ) (setting : Setting) → setting_of word ≡ Some setting
-    → set_by (before ++ word ∷ []) ≡ set (set_by before) setting
-set_by-push before word setting e =
-    ap settings_of (settings-push before word setting e) ∙ fold-append set defaults (filter_map setting_of before) (setting ∷ [])
-
+-- what the words so far are about, and one more
 pub about-push : (before : List (List ℕ)) (word : List ℕ) (setting : Setting) → setting_of word ≡ Some setting
     → kinds_of (filter_map setting_of (before ++ word ∷ [])) ≡ joined_kinds (kinds_of (filter_map setting_of before)) (kind_of setting)
 about-push before word setting e = ap kinds_of (settings-push before word setting e) ∙ kinds_of-push (filter_map setting_of before) setting
 
 -- what is asked of a word
-pub faulty-alone : (before after : List (List ℕ)) (word : List ℕ) → setting_of word ≡ None → is_faulty before word after ≡ true
-faulty-alone before after word e =
-    ap (λ o. option_map_or (λ setting. list_any (exclude_each_other setting) (filter_map setting_of before)) o true
-    || (is_mark_word word && not (list_any is_mark_word after) && has_equal_marks (set_by (before ++ word ∷ [])))) e
-
 pub faulty-parts : (before after : List (List ℕ)) (word : List ℕ) (setting : Setting) → setting_of word ≡ Some setting
     → is_faulty before word after ≡
     (clash (kind_of setting) (kinds_of (filter_map setting_of before))
@@ -55,11 +36,6 @@ faulty-by before after word setting excluded last equal e clashes lasts equals =
     faulty-parts before after word setting e
     ∙ ap (λ b. b || ((is_mark_word word && not (list_any is_mark_word after)) && has_equal_marks (set (set_by before) setting))) clashes
     ∙ ap (λ b. excluded || (b && has_equal_marks (set (set_by before) setting))) lasts ∙ ap (λ b. excluded || (last && b)) equals
-
--- a word as it is passed
-pub word_at : (words : List (String Global)) (place : ℕ) (item : String Global) (text : List ℕ) → place < length words → item ≡ get_or words place item
-    → text ≡ string_bytes item → text ≡ get_or (texts words) place []
-word_at words place item text inside is e = e ∙ ap string_bytes is ∙ sym (get_or-map string_bytes words place item [] inside)
 
 -- the first fault is at this word or behind it
 pub first_faulty-step : (n : ℕ) (words : List (List ℕ)) (place : ℕ) → place < length words

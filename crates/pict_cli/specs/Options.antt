@@ -1,5 +1,5 @@
 -- The settings of a command as the program has them, and as definitions name them.
-use Rattle.std.specs.Prelude.{◌≡◌, ℕ, ◌+◌, ◌-◌, ◌^◌, min, Bool, true, false, ◌&&◌, ◌||◌, List, [], ◌∷◌, filter_map, take, drop, slice_index_or, Option, Some}
+use Rattle.std.specs.Prelude.{◌≡◌, ℕ, ◌+◌, Bool, true, false, ◌&&◌, ◌||◌, List, [], ◌∷◌, filter_map, take, drop, slice_index_or}
 use Rattle.std.specs.List.{list_any}
 use Rattle.std.specs.Option.{option_map}
 use Rattle.definitions.specs.Settings as defined
@@ -91,7 +91,3 @@ pub record IsReading (opts : Opts) (about : Kinds) (words : List (List ℕ)) : T
 -- the word of this place, from 0, has no reading between the others
 abbrev pub is_faulty_at : List (List ℕ) → ℕ → Bool
 is_faulty_at words place = is_faulty (take place words) (slice_index_or words place []) (drop (place + 1) words)
-
--- there is a fault, and it is told by its number, or by 2^32 - 1 where it is greater
-abbrev pub HasFault : Option ℕ → ℕ → Type 0
-HasFault fault index = (n : ℕ) × (fault ≡ Some n) × (index ≡ min n (2 ^ 32 - 1))

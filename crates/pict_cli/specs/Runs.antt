@@ -7,8 +7,6 @@ use Rattle.outside_io.specs.Files.{Files, HoldsOldOrPrefix, KeepsFiles}
 use Rattle.cov_model.specs.Sound.{ModelView, IsSound}
 use Rattle.cov_model.specs.Preference.{preference}
 use Rattle.model_lex.specs.declared.options.ModelOpts.{ModelOpts}
-use Rattle.model_lex.specs.declared.options.OrderWord as words
-use Rattle.model_lex.specs.declared.options.OrderWord.TheVariants.{Number, Max}
 use Rattle.model_lex.specs.declared.note.Note.{Note}
 use Rattle.model_lex.specs.declared.fault.ModelFault.{ModelFault}
 use Rattle.cov_model.specs.Rows.{contains}
@@ -30,7 +28,7 @@ use Rattle.definitions.specs.Statistics.{figures_text, statistics, statistics_te
 use Rattle.definitions.specs.SuiteLaws.{IsRefutedIn, ListsUnserved}
 use Rattle.definitions.specs.SuiteProof.{IsProofOfSuite}
 use Rattle.definitions.specs.Verdict.{Accepted, verdict}
-use Rattle.definitions.specs.Settings.{OrderWord, OrderOf, OrderMax, Shuffle, NoShuffle, AnyShuffle, ShuffleBy, Settings}
+use Rattle.definitions.specs.Settings.{Shuffle, NoShuffle, AnyShuffle, ShuffleBy, Settings}
 use Rattle.suspect_tuples.specs.ResultReading.{ResultReading}
 use Rattle.suspect_tuples.specs.Suspects.{candidate_count, failing_rows, suspects}
 use Rattle.suspect_tuples.specs.SuspectsText.{suspects_text}
@@ -40,6 +38,7 @@ use Rattle.type_check.specs.ModelOf.{IsModelOf}
 use Rattle.command_line.specs.Loading.{StopsReading}
 use Rattle.command_line.specs.Stops.{NamesView, status_of, stop_of_model, stop_of_plan}
 use Rattle.command_line.specs.Told.{Tells, end_status, told_text}
+use Rattle.command_line.specs.Words.{opts_of}
 use Rattle.command_line.specs.declared.stop.Stop.{Stop}
 use Rattle.command_line.specs.declared.stop.Stop.TheVariants.{OutOfMemory, Spent, CannotRead, CannotWrite, CannotWriteReport, TooMany}
 use Rattle.command_line.specs.declared.stop.Quantity.TheVariants.{SuspectCandidates}
@@ -48,14 +47,6 @@ use Rattle.pict_cli.specs.Ends.{CountsReads, CountsWrites, End, Moment, Prints, 
 use Rattle.pict_cli.specs.Making.{EndsFrom}
 use Rattle.pict_cli.specs.Modes.{Generate, Measure, Mode, Output, Report, RowSource, Statistics, Suspect, makes_plan, mode_of, row_file}
 use Rattle.pict_cli.specs.RowSources.{later_notes, notes_on, read_bytes, read_source, reading_or_none, stop_in}
-
--- how the model file is to be read
-abbrev pub order_word : OrderWord → words.OrderWord
-order_word (OrderOf n) = Number n
-order_word OrderMax = Max
-
-abbrev pub opts_of : Settings → ModelOpts
-opts_of s = record { order = order_word s.order; marks = record { separator = s.separator; alias = s.alias; prefix = s.prefix }; fold = s.fold_case }
 
 -- what the values are shuffled by, where they are, and the seed that is told since no word gave it
 abbrev pub shuffled_by : Shuffle → ℕ → Option ℕ

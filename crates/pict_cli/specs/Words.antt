@@ -1,43 +1,30 @@
--- The words behind the program's name. (PICT's guide.)
-use Rattle.std.specs.Prelude.{◌≡◌, ◌≤◌, length, IsSomeAnd, ℕ, ◌-◌, ◌^◌, min, List, map, Option, Some, None, Result, Ok, Err, slice_index_or, []}
-use Rattle.std.specs.String.{string_bytes}
+-- What the words behind the program's name ask for, and which files they name. (PICT's guide.)
+use Rattle.std.specs.Prelude.{◌≡◌, ◌≤◌, length, IsSomeAnd, ℕ, List, Option, Some, None, Result, Ok, Err, slice_index_or, []}
 use Rattle.std.specs.declared.string.String.{String}
 use Rattle.std.specs.declared.alloc.Global.{Global}
 use Rattle.definitions.specs.Settings.{Settings}
 use Rattle.definitions.specs.Limits.{ModelFile, most_bytes}
-use Rattle.definitions.specs.Words.{Command, read_words}
+use Rattle.definitions.specs.Words.{read_words}
 use Rattle.cov_model.specs.Sound.{ModelView}
 use Rattle.model_lex.specs.declared.note.Note.{Note}
 use Rattle.outside_io.specs.Faults.{Rose}
 use Rattle.outside_io.specs.Files.{Files}
 use Rattle.type_check.specs.ModelOf.{IsModelOf}
+use Rattle.command_line.specs.Words.{TellsFault, opts_of, settings_in, texts}
 use Rattle.command_line.specs.declared.files.FileKind.{FileKind}
 use Rattle.command_line.specs.declared.files.FileKind.TheVariants as kinds
 use Rattle.pict_cli.specs.Ends.{file_read, file_written}
 use Rattle.pict_cli.specs.Modes.{RowSource, model_source, row_source}
-use Rattle.pict_cli.specs.Runs.{opts_of}
-
--- what words ask for beside the model file, or the number of the first that has no reading
-abbrev pub settings_in : Result Command ℕ → Result Settings ℕ
-settings_in (Ok command) = Ok command.settings
-settings_in (Err index) = Err index
 
 abbrev pub asked_by : List (List ℕ) → Result Settings ℕ
 asked_by words = settings_in (read_words words)
 
--- words have no reading, and the number of the first that has none is told, or 2^32 - 1 where it is greater
-abbrev pub TellsFault : {A : Type 0} → Result A ℕ → ℕ → Type 0
-TellsFault reading index = (n : ℕ) × (reading ≡ Err n) × (index ≡ min n (2 ^ 32 - 1))
-
 abbrev pub IsWordFault : List (List ℕ) → ℕ → Type 0
 IsWordFault words index = TellsFault (asked_by words) index
 
--- the name of the model file, and the words as they are passed, as texts
+-- the name of the model file
 abbrev pub model_name : List (List ℕ) → List ℕ
 model_name words = slice_index_or words 0 []
-
-abbrev pub texts : List (String Global) → List (List ℕ)
-texts words = map string_bytes words
 
 abbrev pub model_file : List (String Global) → List ℕ
 model_file words = model_name (texts words)

@@ -2,7 +2,7 @@ ghost use Rattle.std.specs.Prelude.{◌≡◌, ℕ, List, [], Some};
 ghost use Rattle.pict_cli.specs.Ends.{Leaves, end_of, moment};
 ghost use Rattle.pict_cli.specs.Modes.{Generate, RowSource, mode_of, row_source};
 ghost use Rattle.pict_cli.specs.Options.{output_seen, settings_seen};
-ghost use Rattle.pict_cli.specs.Ranges.{AreFit};
+ghost use Rattle.pict_cli.specs.Ranges.{FitRun};
 ghost use Rattle.pict_cli.specs.Runs.{RunsModel};
 
 use crate::modes::Output;
@@ -38,7 +38,7 @@ pub(crate) fn run_generating<R: Threads + Sync, F: Folder, O: Sink>(
     out: &mut O,
     row_notes: &mut NoteList,
 ) -> Result<(), Stop>
-    requires fit { AreFit (settings_seen opts.now) }
+    requires fit { FitRun (settings_seen opts.now) }
     requires mode { mode_of (settings_seen opts.now) ≡ Generate (output_seen output) }
     requires none { row_notes.old ≡ [] }
     ensures runs { (source : RowSource) → row_source (settings_seen opts.now) (F.file files.old) ≡ Some source → RunsModel (settings_seen opts.now) seed_word model.now source row_notes.new

@@ -8,7 +8,7 @@ ghost use Rattle.tuple_index.specs.Plan.{plan_of};
 ghost use Rattle.command_line.specs.Settings.{shuffle_seen};
 ghost use Rattle.pict_cli.specs.Ends.{Stopped, end_of};
 ghost use Rattle.pict_cli.specs.Options.{settings_seen};
-ghost use Rattle.pict_cli.specs.Ranges.{AreFit};
+ghost use Rattle.pict_cli.specs.Ranges.{FitRun};
 ghost use Rattle.pict_cli.specs.Runs.{orders_of, growth_over, shuffled_by};
 ghost use Rattle.pict_cli.specs.Steps.{IsSpentOrNoMemory};
 
@@ -62,7 +62,7 @@ pub(crate) fn grow<R: Threads + Sync>(
     requires plan { plan.now ≡ plan_of model.now }
     requires seeds { All (λ seed. FitsModel model.now seed.cells) seeds.now.rows }
     requires few { length seeds.now.rows ≤ 2 ^ 20 }
-    requires fit { AreFit (settings_seen opts.now) }
+    requires fit { FitRun (settings_seen opts.now) }
     ensures suite { IfOk result (IsSuiteOf model.now (orders_of (settings_seen opts.now) seed_word model.now) (seeds_seen seeds.now) (option_map (λ _. opts.now.form) opts.now.proof)) }
     ensures answered { OnOk result (growth_over (settings_seen opts.now) seed_word model.now (seeds_seen seeds.now) ≡ None) }
     ensures stops { IfErr result (IsSpentOrNoMemory opts.now.budget (growth_over (settings_seen opts.now) seed_word model.now (seeds_seen seeds.now))) }

@@ -2,8 +2,9 @@ ghost use Rattle.std.specs.Prelude.{◌≡◌, true, length, IsOkAnd, option_map
 ghost use Rattle.outside_io.specs.MemFolder.{file_of};
 ghost use Rattle.pict_cli.specs.InMemory.{source_of};
 ghost use Rattle.pict_cli.specs.Modes.{prints_rows};
-ghost use Rattle.pict_cli.specs.Runs.{HasModel, PrintsCovering, PrintsFewRows, PrintsSeeds, opts_of, seeds_kept};
-ghost use Rattle.pict_cli.specs.Words.{asked_by, model_file, texts};
+ghost use Rattle.pict_cli.specs.Runs.{HasModel, PrintsCovering, PrintsFewRows, PrintsSeeds, seeds_kept};
+ghost use Rattle.command_line.specs.Words.{opts_of, texts};
+ghost use Rattle.pict_cli.specs.Words.{asked_by, model_file};
 
 use crate::run::run_pict;
 use outside_io::{MemFolder, MemSink};

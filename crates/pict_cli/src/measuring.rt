@@ -11,7 +11,7 @@ ghost use Rattle.tuple_index.specs.PlanFault.{limit_passed};
 ghost use Rattle.pict_cli.specs.Ends.{CountsOut, Leaves, Prints, Stopped, end_of, moment};
 ghost use Rattle.pict_cli.specs.Modes.{Measure, RowSource, mode_of, row_source};
 ghost use Rattle.pict_cli.specs.Options.{settings_seen};
-ghost use Rattle.pict_cli.specs.Ranges.{AreFit};
+ghost use Rattle.pict_cli.specs.Ranges.{FitRun};
 ghost use Rattle.pict_cli.specs.Runs.{RunsModel};
 ghost use Rattle.pict_cli.specs.Steps.{IsSpentOrNoMemory};
 
@@ -46,7 +46,7 @@ fn figures_of<R: Threads + Sync>(
     requires within { limit_passed model.now ≡ None }
     requires rows { All (λ row. FitsModel model.now row.cells) suite.now.rows }
     requires few { length suite.now.rows ≤ 2 ^ 20 }
-    requires fit { AreFit (settings_seen opts.now) }
+    requires fit { FitRun (settings_seen opts.now) }
     ensures figures { IfOk result (λ given. figures_seen given ≡ figures model.now (suite_seen suite.now)) }
     ensures answered { OnOk result (first_measured_over model.now opts.now.budget ≡ None) }
     ensures stops { IfErr result (IsSpentOrNoMemory opts.now.budget (first_measured_over model.now opts.now.budget)) }
@@ -99,7 +99,7 @@ pub(crate) fn run_measuring<R: Threads + Sync, F: Folder, O: Sink>(
     out: &mut O,
     row_notes: &mut NoteList,
 ) -> Result<(), Stop>
-    requires fit { AreFit (settings_seen opts.now) }
+    requires fit { FitRun (settings_seen opts.now) }
     requires mode { (name : List ℕ) × (mode_of (settings_seen opts.now) ≡ Measure name) }
     requires none { row_notes.old ≡ [] }
     ensures runs { (seed : ℕ) (source : RowSource) → row_source (settings_seen opts.now) (F.file files.old) ≡ Some source → RunsModel (settings_seen opts.now) seed model.now source row_notes.new

@@ -1,16 +1,17 @@
-ghost use Rattle.std.specs.Prelude.{◌≡◌, ◌-◌, ◌+◌, ◌^◌, ◌<◌, ◌&&◌, ◌||◌, ℕ, List, [], ◌∷◌, true, not, length, map, take, drop, min, slice_index_or, Ok, Err, MatchResult, IfSome, Option, Some, None, is_none, option_map};
-ghost use Rattle.std.specs.List.{list_any};
-ghost use Rattle.std.specs.String.{string_bytes};
+ghost use Rattle.std.specs.Prelude.{◌≡◌, ◌+◌, ◌<◌, [], length, take, Ok, MatchResult, IfSome, None, is_none, option_map};
 ghost use Rattle.definitions.specs.Settings as defined;
 ghost use Rattle.definitions.specs.Words as reading;
 ghost use Rattle.command_line.specs.Settings.{setting_seen};
-ghost use Rattle.pict_cli.specs.Options.{settings_seen, command_seen, IsReading, is_faulty_at, HasFault};
+ghost use Rattle.command_line.specs.Words.{HasFault, TellsFault, texts};
+ghost use Rattle.pict_cli.specs.Options.{settings_seen, command_seen, IsReading, is_faulty_at};
 ghost use Rattle.pict_cli.specs.Runs.{names_of};
-ghost use Rattle.pict_cli.specs.Words.{TellsFault, texts};
 
 use crate::kinds::Kinds;
-use command_line::{FileNames, Setting, Shuffle, is_named, setting_of};
-use model_lex::{Marks, ModelOpts, OrderWord};
+use command_line::{
+    FileNames, Setting, Shuffle, default_opts, has_equal_marks, is_last_mark, setting_of,
+    word_number,
+};
+use model_lex::ModelOpts;
 use refutation::ProofForm;
 
 /// What the words of a command ask for (PICT's guide; this project's rules). It borrows the words.
@@ -57,15 +58,7 @@ impl<'w> Opts<'w> {
     {
         Opts {
             model,
-            opts: ModelOpts {
-                order: OrderWord::Number(2),
-                marks: Marks {
-                    separator: b',',
-                    alias: b'|',
-                    prefix: b'~',
-                },
-                fold: true,
-            },
+            opts: default_opts(),
             seeds: None,
             shuffle: Shuffle::Off,
             stats: false,
@@ -131,48 +124,6 @@ impl<'w> Opts<'w> {
             Setting::SuspectFile(name) => self.suspect = Some(name),
         }
     }
-
-    /// Whether two of the three marks are equal.
-    fn has_equal_marks(&self) -> bool
-        ensures { result ≡ reading.has_equal_marks (settings_seen self.now) }
-    {
-        let marks = self.opts.marks;
-        marks.separator == marks.alias
-            || marks.separator == marks.prefix
-            || marks.alias == marks.prefix
-    }
-}
-
-/// Whether a word sets a mark, even if its value is no mark.
-fn is_mark_word(word: &str) -> bool
-    ensures { result ≡ reading.is_mark_word word.now }
-{
-    is_named(word, "/d") || is_named(word, "/a") || is_named(word, "/n")
-}
-
-/// Whether one of the words sets a mark.
-fn has_mark_word(words: &[String]) -> bool
-    ensures { result ≡ list_any (λ word. reading.is_mark_word (string_bytes word)) words.now }
-{
-    words.iter().any(|word| is_mark_word(word.as_str()))
-}
-
-/// Whether a word sets a mark, and none behind it does.
-fn is_last_mark(words: &[String], place: usize) -> bool
-    requires { place < length words.now }
-    ensures { result ≡ (reading.is_mark_word (slice_index_or (texts words.now) place [])
-        && not (list_any reading.is_mark_word (drop (place + 1) (texts words.now)))) }
-{
-    is_mark_word(words[place].as_str()) && !has_mark_word(&words[place + 1..])
-}
-
-/// The fault of the option of this number from 0, of which the first is the second word.
-fn fault_at(place: usize) -> WordFault
-    ensures { result.index ≡ min (place + 2) (2 ^ 32 - 1) }
-{
-    WordFault {
-        index: u32::try_from(place.saturating_add(2)).unwrap_or(u32::MAX),
-    }
 }
 
 /// What the options so far ask for, and what they are about.
@@ -202,7 +153,7 @@ impl<'w> Reading<'w> {
         }
         let mut opts = self.opts;
         opts.set(setting);
-        if is_last_mark(options, place) && opts.has_equal_marks() {
+        if is_last_mark(options, place) && has_equal_marks(opts.opts.marks) {
             return None;
         }
         Some(Reading {
@@ -212,7 +163,7 @@ impl<'w> Reading<'w> {
     }
 }
 
-/// What options ask for, of this model file.
+/// What options ask for, of this model file; the first of them is the second word.
 fn read_options<'w>(model: &'w str, options: &'w [String]) -> Result<Opts<'w>, WordFault>
     ensures { MatchResult result
         (λ opts. (reading.first_faulty 2 [] (texts options.now) ≡ None) × (opts.model.now ≡ model.now)
@@ -225,7 +176,9 @@ fn read_options<'w>(model: &'w str, options: &'w [String]) -> Result<Opts<'w>, W
     };
     for place in 0..options.len() {
         let Some(more) = reading.with_option(options, place) else {
-            return Err(fault_at(place));
+            return Err(WordFault {
+                index: word_number(place.saturating_add(1)),
+            });
         };
         reading = more;
     }

@@ -9,13 +9,14 @@ ghost use Rattle.type_check.specs.ModelOf.{IsRefusalOf};
 ghost use Rattle.command_line.specs.Settings.{shuffle_seen};
 ghost use Rattle.command_line.specs.Stops.{status_of};
 ghost use Rattle.command_line.specs.Told.{Tells, end_status};
+ghost use Rattle.command_line.specs.Words.{opts_of, texts};
 ghost use Rattle.pict_cli.specs.Ends.{KeepsOthers, KeepsUnwritten, Leaves, end_of, moment};
 ghost use Rattle.pict_cli.specs.Modes.{RowSource, RowsHeld, prints_rows, row_source};
 ghost use Rattle.pict_cli.specs.Options.{settings_seen};
-ghost use Rattle.pict_cli.specs.Ranges.{AreFit};
-ghost use Rattle.pict_cli.specs.Runs.{HasModel, HoldsWholeProof, IsRun, IsStatus, PrintsAccepted, PrintsCovering, PrintsFewRows, PrintsSeeds, RunsModel, fault_status, limit_due, opts_of, rows_of_run, seeds_kept, stop_due, told_proof, used_seed};
+ghost use Rattle.pict_cli.specs.Ranges.{FitRun};
+ghost use Rattle.pict_cli.specs.Runs.{HasModel, HoldsWholeProof, IsRun, IsStatus, PrintsAccepted, PrintsCovering, PrintsFewRows, PrintsSeeds, RunsModel, fault_status, limit_due, rows_of_run, seeds_kept, stop_due, told_proof, used_seed};
 ghost use Rattle.pict_cli.specs.Steps.{HoldsMade, Ran, RanOn};
-ghost use Rattle.pict_cli.specs.Words.{GetsModelCalmly, IsGiven, IsSpelled, IsWordFault, ReadsCalmly, WritesCalmly, asked_by, file_to_read, file_to_write, model_file, texts};
+ghost use Rattle.pict_cli.specs.Words.{GetsModelCalmly, IsGiven, IsSpelled, IsWordFault, ReadsCalmly, WritesCalmly, asked_by, file_to_read, file_to_write, model_file};
 
 use crate::making::{read_made, write_made};
 use crate::options::Opts;
@@ -86,7 +87,7 @@ fn go_on<R: Threads + Sync, F: Folder, O: Sink>(
     out: &mut O,
     seed_word: u64,
 ) -> Ended
-    requires { AreFit (settings_seen opts.now) }
+    requires { FitRun (settings_seen opts.now) }
     ensures notes { result.notes ≡ notes }
     ensures runs { (source : RowSource) → row_source (settings_seen opts.now) (F.file files.old) ≡ Some source → RunsModel (settings_seen opts.now) seed_word model.now source result.row_notes
         (moment (F.file files.old) (F.read_faults files.old) (F.write_faults files.old) (O.written out.old) (O.faults out.old))
@@ -121,7 +122,7 @@ fn run_on_file<R: Threads + Sync, F: Folder, O: Sink>(
     out: &mut O,
     seed_word: u64,
 ) -> Ended
-    requires fit { AreFit (settings_seen opts.now) }
+    requires fit { FitRun (settings_seen opts.now) }
     requires unmade { (settings_seen opts.now).make ≡ None }
     ensures { RanOn (F.file files.old opts.now.model.now) (settings_seen opts.now) seed_word opts.now.model.now
         (moment (F.file files.old) (F.read_faults files.old) (F.write_faults files.old) (O.written out.old) (O.faults out.old))
@@ -143,7 +144,7 @@ fn run_on_text<R: Threads + Sync, F: Folder, O: Sink>(
     out: &mut O,
     seed_word: u64,
 ) -> Ended
-    requires fit { AreFit (settings_seen opts.now) }
+    requires fit { FitRun (settings_seen opts.now) }
     requires within { length text.now ≤ most_bytes ModelFile }
     ensures { RanOn (Some (Some text.now)) (settings_seen opts.now) seed_word opts.now.model.now
         (moment (F.file files.old) (F.read_faults files.old) (F.write_faults files.old) (O.written out.old) (O.faults out.old))
@@ -165,7 +166,7 @@ fn run_making<R: Threads + Sync, F: Folder, O: Sink>(
     out: &mut O,
     seed_word: u64,
 ) -> Ended
-    requires fit { AreFit (settings_seen opts.now) }
+    requires fit { FitRun (settings_seen opts.now) }
     requires number { (settings_seen opts.now).make ≡ Some number }
     ensures { Ran (settings_seen opts.now) seed_word opts.now.model.now
         (moment (F.file files.old) (F.read_faults files.old) (F.write_faults files.old) (O.written out.old) (O.faults out.old))
@@ -186,7 +187,7 @@ fn run<R: Threads + Sync, F: Folder, O: Sink>(
     out: &mut O,
     seed_word: u64,
 ) -> Ended
-    requires { AreFit (settings_seen opts.now) }
+    requires { FitRun (settings_seen opts.now) }
     ensures { Ran (settings_seen opts.now) seed_word opts.now.model.now
         (moment (F.file files.old) (F.read_faults files.old) (F.write_faults files.old) (O.written out.old) (O.faults out.old))
         (moment (F.file files.new) (F.read_faults files.new) (F.write_faults files.new) (O.written out.new) (O.faults out.new)) result.notes result.row_notes result.end }

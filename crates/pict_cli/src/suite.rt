@@ -11,7 +11,7 @@ ghost use Rattle.tuple_index.specs.Plan.{plan_of};
 ghost use Rattle.tuple_index.specs.PlanFault.{limit_passed};
 ghost use Rattle.pict_cli.specs.Ends.{Stopped, end_of};
 ghost use Rattle.pict_cli.specs.Options.{settings_seen};
-ghost use Rattle.pict_cli.specs.Ranges.{AreFit};
+ghost use Rattle.pict_cli.specs.Ranges.{FitRun};
 ghost use Rattle.pict_cli.specs.RowSources.{dropped_note, dropped_notes};
 ghost use Rattle.pict_cli.specs.Runs.{IsProof, growth_of, orders_of, growth_over, spent_on};
 ghost use Rattle.pict_cli.specs.Steps.{StopsWork};
@@ -110,7 +110,7 @@ pub(crate) fn make_suite<R: Threads + Sync>(
     requires within { limit_passed model.now ≡ None }
     requires seeds { All (λ seed. FitsModel model.now seed.cells) seeds.now.rows }
     requires few { length seeds.now.rows ≤ 2 ^ 20 }
-    requires fit { AreFit (settings_seen opts.now) }
+    requires fit { FitRun (settings_seen opts.now) }
     ensures rows { IfOk result (λ ready. ready.rows ≡ (growth_of (settings_seen opts.now) seed_word model.now (seeds_seen seeds.now)).rows) }
     ensures stats { IfOk result (λ ready. statistics_seen ready.stats ≡ statistics model.now (orders_of (settings_seen opts.now) seed_word model.now) (seeds_seen seeds.now)) }
     ensures proof { IfOk result (λ ready. IfSome opts.now.proof (λ _. IsProof (settings_seen opts.now) seed_word model.now (seeds_seen seeds.now) ready.proof.items)) }

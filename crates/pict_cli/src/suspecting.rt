@@ -5,7 +5,7 @@ ghost use Rattle.suspect_tuples.specs.Told.{candidates_of, suspects_of, suspects
 ghost use Rattle.pict_cli.specs.Ends.{CountsOut, Leaves, Prints, Stopped, end_of, moment};
 ghost use Rattle.pict_cli.specs.Modes.{RowSource, Suspect, mode_of, row_source};
 ghost use Rattle.pict_cli.specs.Options.{settings_seen};
-ghost use Rattle.pict_cli.specs.Ranges.{AreFit};
+ghost use Rattle.pict_cli.specs.Ranges.{FitRun};
 ghost use Rattle.pict_cli.specs.Runs.{RunsModel, candidates_stop};
 ghost use Rattle.pict_cli.specs.Steps.{IsDueOrNoMemory};
 
@@ -69,7 +69,7 @@ pub(crate) fn run_suspecting<F: Folder, O: Sink>(
     out: &mut O,
     row_notes: &mut NoteList,
 ) -> Result<(), Stop>
-    requires fit { AreFit (settings_seen opts.now) }
+    requires fit { FitRun (settings_seen opts.now) }
     requires mode { mode_of (settings_seen opts.now) ≡ Suspect name.now }
     requires none { row_notes.old ≡ [] }
     ensures runs { (seed : ℕ) (source : RowSource) → row_source (settings_seen opts.now) (F.file files.old) ≡ Some source → RunsModel (settings_seen opts.now) seed model.now source row_notes.new

@@ -1,7 +1,8 @@
 ghost use Rattle.std.specs.Prelude.{◌≡◌, Ok, MatchResult};
 ghost use Rattle.pict_cli.specs.Options.{settings_seen};
-ghost use Rattle.pict_cli.specs.Ranges.{AreFit};
-ghost use Rattle.pict_cli.specs.Words.{IsWordFault, asked_by, model_file, texts};
+ghost use Rattle.pict_cli.specs.Ranges.{FitRun};
+ghost use Rattle.command_line.specs.Words.{texts};
+ghost use Rattle.pict_cli.specs.Words.{IsWordFault, asked_by, model_file};
 
 use crate::options::{Opts, WordFault, read_words};
 
@@ -12,7 +13,7 @@ use crate::options::{Opts, WordFault, read_words};
 /// The first word that has no reading.
 pub(crate) fn read_command<'w>(words: &'w [String]) -> Result<Opts<'w>, WordFault>
     ensures { MatchResult result
-        (λ opts. (asked_by (texts words.now) ≡ Ok (settings_seen opts)) × AreFit (settings_seen opts) × (opts.model.now ≡ model_file words.now))
+        (λ opts. (asked_by (texts words.now) ≡ Ok (settings_seen opts)) × FitRun (settings_seen opts) × (opts.model.now ≡ model_file words.now))
         (λ fault. IsWordFault (texts words.now) fault.index) }
 {
     let opts = read_words(words)?;

@@ -2,7 +2,7 @@ ghost use Rattle.std.specs.Prelude.{◌≡◌, ℕ, List, [], Some};
 ghost use Rattle.pict_cli.specs.Ends.{Leaves, end_of, moment};
 ghost use Rattle.pict_cli.specs.Modes.{RowSource, row_source};
 ghost use Rattle.pict_cli.specs.Options.{settings_seen};
-ghost use Rattle.pict_cli.specs.Ranges.{AreFit};
+ghost use Rattle.pict_cli.specs.Ranges.{FitRun};
 ghost use Rattle.pict_cli.specs.Runs.{RunsModel};
 
 use crate::generating::run_generating;
@@ -33,7 +33,7 @@ pub(crate) fn run_model<R: Threads + Sync, F: Folder, O: Sink>(
     out: &mut O,
     row_notes: &mut NoteList,
 ) -> Result<(), Stop>
-    requires fit { AreFit (settings_seen opts.now) }
+    requires fit { FitRun (settings_seen opts.now) }
     requires none { row_notes.old ≡ [] }
     ensures runs { (source : RowSource) → row_source (settings_seen opts.now) (F.file files.old) ≡ Some source → RunsModel (settings_seen opts.now) seed_word model.now source row_notes.new
         (moment (F.file files.old) (F.read_faults files.old) (F.write_faults files.old) (O.written out.old) (O.faults out.old))

@@ -11,5 +11,3 @@ pub mod OneCheck
 pub mod ReadLemmas
 pub mod RunEnds
 pub mod WordLemmas
-pub mod WordOptions
-pub mod WordRanges

@@ -1,19 +1,20 @@
 -- Tuples as pairs, as values of a set, and as partial rows.
-use Rattle.std.proofs.Common.{◌≡◌, ℕ, ◌+◌, ◌<◌, Bool, true, false, ◌||◌, not, cond, List, [], ◌∷◌, map, length, get_or, replicate, Option, Some, None, is_some, inl, inr, ◌∙◌, refl, sym, ap, arith, zero-add}
+use Rattle.std.proofs.Common.{◌≡◌, ℕ, ◌+◌, ◌<◌, Bool, true, false, ◌||◌, cond, List, [], ◌∷◌, map, length, get_or, replicate, Option, Some, None, is_some, inl, inr, ◌∙◌, refl, sym, ap, arith, zero-add}
 use Rattle.std.specs.Prelude.{◌==◌}
 use Rattle.std.specs.List.{count_by}
-use Rattle.std.proofs.lemmas.Bool.{and_from, cases_eq, cases_lt, eq-eqb, ne_eqb, not_from_false, or_left, or_right}
+use Rattle.std.proofs.lemmas.Bool.{and_from, cases_eq, cases_lt, eq-eqb, ne_eqb}
 use Rattle.std.proofs.lemmas.List.{get_or-replicate, get_or-set_other, get_or-set_same, get_or_past, get_or_default, length-replicate, length-set, same_lists}
 use Rattle.std.proofs.lemmas.List.FromFn.{get_or-map-range_with_len, length-map-range_with_len}
 use Rattle.std.proofs.lemmas.List.Sums.{sum_by-cons}
 use Rattle.cov_model.specs.Meaning.{value_at}
-use Rattle.cov_model.specs.Slices.{negative_values, positive_values, value_numbers}
+use Rattle.cov_model.specs.Slices.{negative_values, value_numbers}
 use Rattle.cov_model.specs.Sound.{ModelView, param_at}
 use Rattle.definitions.specs.Demand.{is_among}
 use Rattle.definitions.specs.Pairs.{cells_of}
 use Rattle.definitions.proofs.Members.{Has, among_has, has_filter, of_among, of_filter, same_answer}
 use Rattle.definitions.proofs.SliceLemmas.{has_numbers}
 use Rattle.tuple_index.specs.Plan.{are_values, is_negative, is_value, negative_count, plan_of, tuple_cells, value_given}
+use Rattle.shared_marks.proofs.OwnTupleLemmas.{negatives_listed, sign_of}
 
 -- the parameters and the values of pairs
 abbrev pub params : List (ℕ × ℕ) → List ℕ
@@ -70,10 +71,7 @@ assigned_among (pair ∷ pairs) p = by_test (pair.0 == p) (assigned_among pairs 
 pub assigned_is : (n : ℕ) (pairs : List (ℕ × ℕ)) (p : ℕ) → p < n → is_some (get_or (cells_of n pairs) p None) ≡ is_among (params pairs) p
 assigned_is n pairs p within = ap is_some (pair_given n pairs p within) ∙ assigned_among pairs p
 
--- the signs of a plan are those of the model
-negatives_listed : (m : ModelView) (p : ℕ) → p < length m.params → get_or (plan_of m).negatives p [] ≡ negative_values m p
-negatives_listed m p within = get_or-map-range_with_len (negative_values m) 0 (length m.params) p p [] within (zero-add p)
-
+-- the negative values of a plan are those of the model
 negative_is : (m : ModelView) (p v : ℕ) → p < length m.params → v < length (param_at m.params p).values
     → is_negative (plan_of m) p v ≡ (value_at m p v).negative
 negative_is m p v within exists =
@@ -81,18 +79,6 @@ negative_is m p v within exists =
     ∙ same_answer (is_among (negative_values m p) v) (value_at m p v).negative
     (λ listed. (of_filter (λ w. (value_at m p w).negative) (value_numbers m p) v (of_among (negative_values m p) v listed)).1)
     (λ negative. among_has (negative_values m p) v (has_filter (λ w. (value_at m p w).negative) (value_numbers m p) v (has_numbers m p v exists) negative))
-
-value_is : (m : ModelView) (p v : ℕ) → p < length m.params → v < length (param_at m.params p).values → is_value (plan_of m) p v ≡ true
-value_is m p v within exists = by_sign (value_at m p v).negative refl
-  where
-    by_sign : (b : Bool) → (value_at m p v).negative ≡ b → is_value (plan_of m) p v ≡ true
-    by_sign true is =
-        or_right (is_among (get_or (plan_of m).positives p []) v) (is_negative (plan_of m) p v) (negative_is m p v within exists ∙ is)
-    by_sign false is =
-        or_left (is_among (get_or (plan_of m).positives p []) v) (is_negative (plan_of m) p v)
-        (ap (λ ns. is_among ns v) (get_or-map-range_with_len (positive_values m) 0 (length m.params) p p [] within (zero-add p))
-        ∙ among_has (positive_values m p) v
-        (has_filter (λ w. not (value_at m p w).negative) (value_numbers m p) v (has_numbers m p v exists) (not_from_false (value_at m p v).negative is)))
 
 -- each pair is one of the model
 abbrev pub ArePairs : ModelView → List (ℕ × ℕ) → Type 0
@@ -102,7 +88,7 @@ pub values_exist : (m : ModelView) (pairs : List (ℕ × ℕ)) → ArePairs m pa
 values_exist m [] each = refl
 values_exist m (pair ∷ pairs) each =
     and_from (is_value (plan_of m) pair.0 pair.1) (are_values (plan_of m) (params pairs) (values pairs))
-    (value_is m pair.0 pair.1 (each pair (inl refl)).0 (each pair (inl refl)).1) (values_exist m pairs (λ other has. each other (inr has)))
+    (sign_of m pair.0 pair.1 (each pair (inl refl)).0 (each pair (inl refl)).1) (values_exist m pairs (λ other has. each other (inr has)))
 
 pub negatives_counted : (m : ModelView) (pairs : List (ℕ × ℕ)) → ArePairs m pairs
     → negative_count (plan_of m) (params pairs) (values pairs) ≡ count_by (λ pair. (value_at m pair.0 pair.1).negative) pairs

@@ -1,6 +1,6 @@
 -- How a run of the checker ends, and what its status tells of its end.
-use Rattle.std.proofs.Common.{◌≡◌, ℕ, Bool, true, false, List, [], ◌∷◌, Option, None, Some, Ok, Err, Result, inl, inr, refl, sym, ap, subst, ◌∙◌, arith}
-use Rattle.std.specs.Prelude.{◌==◌, ◌≢◌, ◌⊎◌, IfErr, IfOk, IsOkAnd, MatchResult, drop, take}
+use Rattle.std.proofs.Common.{◌≡◌, ℕ, true, false, List, [], ◌∷◌, Option, None, Some, Ok, Err, Result, inl, inr, refl, sym, ap, subst, ◌∙◌, arith}
+use Rattle.std.specs.Prelude.{◌≢◌, ◌⊎◌, IfErr, IfOk, IsOkAnd, MatchResult, drop, take}
 use Rattle.std.proofs.lemmas.Bool.{false≢true}
 use Rattle.std.proofs.lemmas.Option.{none-some, same_Some}
 use Rattle.outside_io.specs.declared.answers.WriteAnswer.TheVariants.{Done, Failed}
@@ -8,35 +8,36 @@ use Rattle.outside_io.specs.Puts.{Puts}
 use Rattle.cov_model.specs.Sound.{ModelView}
 use Rattle.definitions.specs.Laws.{IsCertified}
 use Rattle.definitions.specs.RowReading as readings
-use Rattle.definitions.specs.Settings.{Settings, defaults}
+use Rattle.definitions.specs.Settings.{Settings}
 use Rattle.definitions.specs.Verdict as defined
-use Rattle.definitions.specs.Verdict.{IsAccepted, verdict, verdict_text}
-use Rattle.definitions.specs.Words.{Command, first_faulty_for_checker, missing_name, read_check_words, read_command}
+use Rattle.definitions.specs.Verdict.{verdict, verdict_text}
+use Rattle.definitions.specs.Words.{Command, first_faulty_for_checker, missing_name, read_check_words}
 use Rattle.std.specs.Option.{option_or}
 use Rattle.definitions.proofs.Certified.{certified}
 use Rattle.model_lex.specs.declared.options.ModelOpts.{ModelOpts}
 use Rattle.model_lex.specs.declared.fault.ModelFault.{ModelFault}
-use Rattle.type_check.specs.ModelOf.{IsModelOf, IsRefusalOf}
+use Rattle.type_check.specs.ModelOf.{IsRefusalOf}
 use Rattle.type_check.proofs.OneAnswer.{files_have_one_model, models_are_not_refused, refusals_are_one}
 use Rattle.tuple_index.specs.PlanFault.{limit_passed}
 use Rattle.row_text.specs.Readings.{fault_of}
 use Rattle.row_text.specs.declared.rows_fault.RowsFault.{RowsFault}
 use Rattle.row_text.specs.declared.rows_fault.RowsFault.TheVariants as told_faults
 use Rattle.command_line.specs.Stops.{NamesView, status_of, stop_of_model, stop_of_plan, stop_of_rows}
+use Rattle.command_line.specs.Words.{opts_of, settings_in}
 use Rattle.command_line.specs.declared.stop.Stop.{Stop}
 use Rattle.command_line.specs.declared.stop.Stop.TheVariants.{OutOfMemory, Spent, BadWord, BadModel, BadConstraint, BadRows, NoResult, BadResult, CannotRead, CannotWrite, CannotWriteReport, TooMany, TooLong}
 use Rattle.command_line.specs.declared.files.FileKind.{FileKind}
 use Rattle.proof_check.specs.Checks.{IsCheckOf, Spells, told, report_of}
 use Rattle.proof_check.specs.RunSteps.{CountsOut, StopsBefore, cannot_read, is_before, is_refused, no_memory, stop_of_check}
-use Rattle.outside_io.specs.Faults.{Rose}
 use Rattle.proof_check.specs.Runs.{AreRead, Ends, HasReadings, HasVerdict, HeldFiles, Inputs, IsRefusal, IsRefused, IsStatus, IsTold, answer_status, answer_text, bad_model, bad_report, end_status, inputs_of, stop_of_report, too_many, unread, verdict_status}
-use Rattle.proof_check.specs.Words.{asked_by, command_seen, names_in, names_seen, opts_of, settings_in, settings_seen}
+use Rattle.proof_check.specs.Words.{asked_by, command_seen, names_in, names_seen, settings_seen}
 use Rattle.proof_check.specs.declared.verdict.Verdict.{Verdict}
 use Rattle.proof_check.specs.declared.verdict.Verdict.TheVariants.{Accepted, BadRow, BadProof, BadOmission, Uncovered}
 use Rattle.proof_check.specs.declared.verdict.CheckFault.{CheckFault}
 use Rattle.proof_check.specs.declared.verdict.CheckFault.TheVariants as check_faults
 use Rattle.proof_check.specs.declared.words.CheckOpts.{CheckOpts}
-use Rattle.proof_check.proofs.WordOptions.{same_opts}
+use Rattle.command_line.proofs.OptsLemmas.{same_opts}
+use Rattle.command_line.proofs.WordLemmas.{command_read}
 
 -- a verdict as the program has it, and as it is defined
 text_told : (v : defined.Verdict) → answer_text (told v) ≡ verdict_text v
@@ -400,14 +401,6 @@ verdict_is_end (Err stop) P known holds = absurd (no_verdict stop known)
 settings_given : (words : List (List ℕ)) (o : CheckOpts) {s : Settings} → read_check_words words ≡ Ok (command_seen o) → asked_by words ≡ Ok s → settings_seen o ≡ s
 settings_given words o e asked = let moved : asked_by words ≡ Ok (settings_seen o) = ap settings_in e in cc
 
-given_names : (fault : Option ℕ) (words : List (List ℕ)) (command : Command) → read_command 3 fault words ≡ Ok command → command.names ≡ take 3 words
-given_names None words command h = ap names_of (sym h)
-  where
-    names_of : Result Command ℕ → List (List ℕ)
-    names_of (Ok command) = command.names
-    names_of (Err index) = []
-given_names (Some index) words command h = absurd cc
-
 first_three : (words : List (List ℕ)) → names_in words ≡ names_in (take 3 words)
 first_three [] = refl
 first_three (x ∷ []) = refl
@@ -416,14 +409,14 @@ first_three (x ∷ y ∷ z ∷ rest) = refl
 
 pub names_given : (words : List (List ℕ)) (o : CheckOpts) → read_check_words words ≡ Ok (command_seen o) → names_seen o ≡ names_in words
 names_given words o e =
-    ap names_in (given_names (option_or (missing_name 3 words) (first_faulty_for_checker 4 [] (drop 3 words))) words (command_seen o) e) ∙ sym (first_three words)
+    ap names_in (command_read 3 (option_or (missing_name 3 words) (first_faulty_for_checker 4 [] (drop 3 words))) words (command_seen o) e).1 ∙ sym (first_three words)
 
 -- what is said of the options and the names as they are read is said of those that the words ask for
 pub for_asked : (words : List (List ℕ)) (o : CheckOpts) {s : Settings} (P : ModelOpts → NamesView → Type 0) → read_check_words words ≡ Ok (command_seen o)
     → asked_by words ≡ Ok s → P o.opts (names_seen o) → P (opts_of s) (names_in words)
 for_asked words o {s} P e asked holds =
     subst (λ names. P (opts_of s) names) (names_given words o e)
-    (subst (λ opts. P opts (names_seen o)) (same_opts o ∙ ap opts_of (settings_given words o e asked)) holds)
+    (subst (λ opts. P opts (names_seen o)) (same_opts o.opts ∙ ap opts_of (settings_given words o e asked)) holds)
 
 -- words have a reading, unless the status is 3
 pub asked_or_three : (reading : Result Command ℕ) (status : ℕ) (Q : Settings → Type 0) → ((s : Settings) → settings_in reading ≡ Ok s → Q s)

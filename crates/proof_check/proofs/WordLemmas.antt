@@ -1,31 +1,21 @@
 -- When a word of the checker has no reading between the others, and what the words so far set.
-use Rattle.std.proofs.Common.{◌≡◌, ℕ, ◌+◌, ◌<◌, Bool, true, false, not, ◌&&◌, ◌||◌, if◌then◌else◌, List, [], ◌∷◌, ◌++◌, take, drop, length, get_or, Option, Some, None, inl, inr, refl, sym, ap, ap₂, subst, ◌∙◌, arith}
+use Rattle.std.proofs.Common.{◌≡◌, ℕ, ◌+◌, ◌<◌, Bool, true, false, not, ◌&&◌, ◌||◌, if◌then◌else◌, List, [], ◌∷◌, ◌++◌, take, drop, length, get_or, Ok, Option, Some, None, inl, inr, refl, sym, ap, ap₂, subst, ◌∙◌, arith}
 use Rattle.std.specs.Prelude.{All, filter_map, ◌==◌, option_map}
-use Rattle.std.specs.List.{list_any, cons_option}
-use Rattle.std.specs.String.{string_bytes}
-use Rattle.std.specs.declared.string.String.{String}
-use Rattle.std.specs.declared.alloc.Global.{Global}
-use Rattle.std.specs.Option.{option_map_or}
-use Rattle.std.proofs.lemmas.Bool.{cases_Bool, false≢true}
-use Rattle.std.proofs.lemmas.List.{take_more, drop_more, get_or-map}
-use Rattle.std.proofs.lemmas.List.Elements.{filter_map-append, All-cons, All-nil, All-append}
+use Rattle.std.specs.List.{list_any}
+use Rattle.std.specs.Option.{option_map_or, option_or}
+use Rattle.std.proofs.lemmas.Bool.{cases_Bool, false≢true, or_parts}
+use Rattle.std.proofs.lemmas.List.{take_more, drop_more}
+use Rattle.std.proofs.lemmas.List.Elements.{All-cons, All-nil, All-append}
 use Rattle.std.proofs.lemmas.List.Folds.{list_any_none}
-use Rattle.std.proofs.lemmas.List.Sums.{fold-append}
-use Rattle.definitions.specs.Settings.{Setting, Order, Separator, Alias, Prefix, SeedFile, ShuffleValues, CaseCounts, Statistics, Workers, Budget, ProofFile, ProofFormat, MeasureFile, Make, SuspectFile, defaults, set, setting_of, settings_of}
-use Rattle.definitions.specs.Words.{excludes, exclude_each_other, is_mark_word, has_equal_marks, set_by, is_faulty, is_faulty_for_checker, is_of_checker, first_faulty_for_checker, missing_name}
+use Rattle.value_text.proofs.ListLemmas.{option_or_parts}
+use Rattle.definitions.specs.Settings.{Setting, Order, Separator, Alias, Prefix, SeedFile, ShuffleValues, CaseCounts, Statistics, Workers, Budget, ProofFile, ProofFormat, MeasureFile, Make, SuspectFile, set, setting_of}
+use Rattle.definitions.specs.Words.{Command, excludes, exclude_each_other, is_mark_word, has_equal_marks, set_by, is_faulty, is_faulty_for_checker, is_of_checker, first_faulty, first_faulty_for_checker, missing_name, read_check_words}
+use Rattle.command_line.specs.Ranges.{AreFit}
+use Rattle.command_line.proofs.RangeLemmas.{words_fit}
+use Rattle.command_line.proofs.WordLemmas.{command_read, set_by-push, settings-push, unfaulty}
 use Rattle.proof_check.specs.WordSteps.{is_faulty_at}
-use Rattle.proof_check.specs.Words.{texts}
 
--- what the words so far set, and one more
-settings-push : (before : List (List ℕ)) (word : List ℕ) (setting : Setting) → setting_of word ≡ Some setting
-    → filter_map setting_of (before ++ word ∷ []) ≡ filter_map setting_of before ++ setting ∷ []
-settings-push before word setting e = filter_map-append setting_of before (word ∷ []) ∙ ap (λ o. filter_map setting_of before ++ cons_option o []) e
-
-pub set_by-push : (before : List (List ℕ)) (word : List ℕ) (setting : Setting) → setting_of word ≡ Some setting
-    → set_by (before ++ word ∷ []) ≡ set (set_by before) setting
-set_by-push before word setting e =
-    ap settings_of (settings-push before word setting e) ∙ fold-append set defaults (filter_map setting_of before) (setting ∷ [])
-
+-- what each of the words so far sets, and one more
 pub known-push : (before : List (List ℕ)) (word : List ℕ) (setting : Setting) → setting_of word ≡ Some setting → is_of_checker setting ≡ true
     → All (λ s. is_of_checker s ≡ true) (filter_map setting_of before) → All (λ s. is_of_checker s ≡ true) (filter_map setting_of (before ++ word ∷ []))
 known-push before word setting e known all =
@@ -57,11 +47,6 @@ none_excluded setting taken known all =
     ap₂ (λ a b. a || b) (none_excluded_by setting (get_or taken k d) known) (none_excluded_by (get_or taken k d) setting (all k d inside)))
 
 -- what is asked of a word
-pub faulty-alone : (before after : List (List ℕ)) (word : List ℕ) → setting_of word ≡ None → is_faulty_for_checker before word after ≡ true
-faulty-alone before after word e =
-    ap (λ o. not (option_map_or is_of_checker o true) || (option_map_or (λ setting. list_any (exclude_each_other setting) (filter_map setting_of before)) o true
-    || (is_mark_word word && not (list_any is_mark_word after) && has_equal_marks (set_by (before ++ word ∷ []))))) e
-
 pub faulty-unknown : (before after : List (List ℕ)) (word : List ℕ) (setting : Setting) → setting_of word ≡ Some setting → is_of_checker setting ≡ false
     → is_faulty_for_checker before word after ≡ true
 faulty-unknown before after word setting e unknown =
@@ -80,11 +65,6 @@ faulty-by before after word setting last equal e known all lasts equals =
     (none_excluded setting (filter_map setting_of before) known all)
     ∙ ap (λ s. is_mark_word word && not (list_any is_mark_word after) && has_equal_marks s) (set_by-push before word setting e)
     ∙ ap₂ (λ a b. a && b) lasts equals
-
--- a word as it is passed
-pub word_at : (words : List (String Global)) (place : ℕ) (item : String Global) (text : List ℕ) → place < length words → item ≡ get_or words place item
-    → text ≡ string_bytes item → text ≡ get_or (texts words) place []
-word_at words place item text inside is e = e ∙ ap string_bytes is ∙ sym (get_or-map string_bytes words place item [] inside)
 
 -- the first fault is at this word or behind it
 pub first_faulty-step : (n : ℕ) (words : List (List ℕ)) (place : ℕ) → place < length words
@@ -132,3 +112,18 @@ missing_by (x ∷ y ∷ z ∷ rest) = elim (cases_Bool (length x == 0)) [
     ]
   ]
 ]
+
+-- words without a fault for the checker have none for the generator
+unfaulty_too : (n : ℕ) (before after : List (List ℕ)) → first_faulty_for_checker n before after ≡ None → first_faulty n before after ≡ None
+unfaulty_too n before [] good = refl
+unfaulty_too n before (word ∷ after) good =
+    let fine = unfaulty n (is_faulty_for_checker before word after) (first_faulty_for_checker (n + 1) (before ++ word ∷ []) after) good in
+    let alone = (or_parts (not (option_map_or is_of_checker (setting_of word) true)) (is_faulty before word after) fine.0).1 in
+    ap (λ bad. if bad then Some n else first_faulty (n + 1) (before ++ word ∷ []) after) alone ∙ unfaulty_too (n + 1) (before ++ word ∷ []) after fine.1
+
+-- so what they set is fit for a run
+pub command_fits : (words : List (List ℕ)) (command : Command) → read_check_words words ≡ Ok command → AreFit command.settings
+command_fits words command h =
+    let fault = first_faulty_for_checker 4 [] (drop 3 words) in
+    let read = command_read 3 (option_or (missing_name 3 words) fault) words command h in
+    subst AreFit (sym read.2) (words_fit 4 (drop 3 words) (unfaulty_too 4 [] (drop 3 words) (option_or_parts (missing_name 3 words) fault read.0).1))

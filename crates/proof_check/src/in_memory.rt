@@ -1,8 +1,9 @@
 ghost use Rattle.std.specs.Prelude.{◌≡◌, ◌++◌, IsOkAnd};
 ghost use Rattle.definitions.specs.Laws.{IsCertified};
 ghost use Rattle.definitions.specs.Verdict.{verdict, verdict_text};
+ghost use Rattle.command_line.specs.Words.{opts_of, texts};
 ghost use Rattle.proof_check.specs.Runs.{HasReadings, HasVerdict, held_in, verdict_status};
-ghost use Rattle.proof_check.specs.Words.{asked_by, names_in, opts_of, texts};
+ghost use Rattle.proof_check.specs.Words.{asked_by, names_in};
 
 use crate::run::run_check;
 use outside_io::{MemFolder, MemSink};

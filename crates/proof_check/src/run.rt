@@ -9,13 +9,14 @@ ghost use Rattle.definitions.specs.Limits.{most_bytes};
 ghost use Rattle.definitions.specs.Settings.{Settings};
 ghost use Rattle.definitions.specs.Verdict.{verdict, verdict_text};
 ghost use Rattle.command_line.specs.Loading.{IsUnread};
+ghost use Rattle.command_line.specs.Ranges.{AreFit};
 ghost use Rattle.command_line.specs.Stops.{measured, name_of};
 ghost use Rattle.command_line.specs.Stops as stops;
 ghost use Rattle.command_line.specs.Told.{Tells};
+ghost use Rattle.command_line.specs.Words.{opts_of, texts};
 ghost use Rattle.proof_check.specs.RunSteps.{Answers, CountsOut, FitLimits, Reads, is_before, stop_of_check};
 ghost use Rattle.proof_check.specs.Runs.{AreRead, Ends, HasReadings, HasVerdict, HeldFiles, Holds, IsRefusal, IsRefused, IsRun, IsStatus, IsTold, ReadFaults, ReadsRose, answer_text, end_status, end_text, inputs_of, verdict_status};
-ghost use Rattle.proof_check.specs.WordSteps.{AreFit};
-ghost use Rattle.proof_check.specs.Words.{IsWordFault, asked_by, names_in, names_seen, opts_of, settings_seen, texts};
+ghost use Rattle.proof_check.specs.Words.{IsWordFault, asked_by, names_in, names_seen, settings_seen};
 
 use crate::check::check_bytes;
 use crate::verdict::{CheckFault, Verdict};

@@ -1,14 +1,15 @@
-ghost use Rattle.std.specs.Prelude.{◌≡◌, ◌==◌, ◌-◌, ◌+◌, ◌^◌, ◌<◌, ◌&&◌, ℕ, List, [], ◌∷◌, true, not, length, map, take, drop, min, slice_index_or, Ok, Err, MatchResult, IfSome, None, is_none, option_map};
-ghost use Rattle.std.specs.List.{list_any};
-ghost use Rattle.std.specs.String.{string_bytes};
+ghost use Rattle.std.specs.Prelude.{◌≡◌, ◌==◌, ◌+◌, ◌<◌, [], true, length, take, slice_index_or, Ok, MatchResult, IfSome, None, is_none, option_map};
 ghost use Rattle.definitions.specs.Settings as defined;
 ghost use Rattle.definitions.specs.Words as reading;
 ghost use Rattle.command_line.specs.Settings.{setting_seen};
-ghost use Rattle.proof_check.specs.Words.{TellsFault, command_seen, names_seen, settings_seen, texts};
-ghost use Rattle.proof_check.specs.WordSteps.{HasFault, IsReading, is_faulty_at};
+ghost use Rattle.command_line.specs.Words.{HasFault, TellsFault, texts};
+ghost use Rattle.proof_check.specs.Words.{command_seen, names_seen, settings_seen};
+ghost use Rattle.proof_check.specs.WordSteps.{IsReading, is_faulty_at};
 
-use command_line::{FileNames, Setting, is_named, setting_of};
-use model_lex::{Marks, ModelOpts, OrderWord};
+use command_line::{
+    FileNames, Setting, default_opts, has_equal_marks, is_last_mark, setting_of, word_number,
+};
+use model_lex::ModelOpts;
 
 /// What the words of the checker ask for (PICT's guide; this project's rules). It borrows the words.
 #[derive(Drop, Clone, Copy)]
@@ -42,15 +43,7 @@ impl<'w> CheckOpts<'w> {
             model,
             report,
             proof,
-            opts: ModelOpts {
-                order: OrderWord::Number(2),
-                marks: Marks {
-                    separator: b',',
-                    alias: b'|',
-                    prefix: b'~',
-                },
-                fold: true,
-            },
+            opts: default_opts(),
             workers: 1,
         }
     }
@@ -92,16 +85,6 @@ impl<'w> CheckOpts<'w> {
         true
     }
 
-    /// Whether two of the three marks are equal.
-    fn has_equal_marks(&self) -> bool
-        ensures { result ≡ reading.has_equal_marks (settings_seen self.now) }
-    {
-        let marks = self.opts.marks;
-        marks.separator == marks.alias
-            || marks.separator == marks.prefix
-            || marks.alias == marks.prefix
-    }
-
     /// The options with that of this number from 0 behind those so far; `None` exactly where this one has no reading.
     fn with_option(self, options: &'w [String], place: usize) -> Option<CheckOpts<'w>>
         requires place { place < length options.now }
@@ -118,42 +101,10 @@ impl<'w> CheckOpts<'w> {
         if !opts.set(setting) {
             return None;
         }
-        if is_last_mark(options, place) && opts.has_equal_marks() {
+        if is_last_mark(options, place) && has_equal_marks(opts.opts.marks) {
             return None;
         }
         Some(opts)
-    }
-}
-
-/// Whether a word sets a mark, even if its value is no mark.
-fn is_mark_word(word: &str) -> bool
-    ensures { result ≡ reading.is_mark_word word.now }
-{
-    is_named(word, "/d") || is_named(word, "/a") || is_named(word, "/n")
-}
-
-/// Whether one of the words sets a mark.
-fn has_mark_word(words: &[String]) -> bool
-    ensures { result ≡ list_any (λ word. reading.is_mark_word (string_bytes word)) words.now }
-{
-    words.iter().any(|word| is_mark_word(word.as_str()))
-}
-
-/// Whether a word sets a mark, and none behind it does.
-fn is_last_mark(words: &[String], place: usize) -> bool
-    requires { place < length words.now }
-    ensures { result ≡ (reading.is_mark_word (slice_index_or (texts words.now) place [])
-        && not (list_any reading.is_mark_word (drop (place + 1) (texts words.now)))) }
-{
-    is_mark_word(words[place].as_str()) && !has_mark_word(&words[place + 1..])
-}
-
-/// The fault of the word of this number from 0.
-fn fault_at(place: usize) -> WordFault
-    ensures { result.index ≡ min (place + 1) (2 ^ 32 - 1) }
-{
-    WordFault {
-        index: u32::try_from(place.saturating_add(1)).unwrap_or(u32::MAX),
     }
 }
 
@@ -168,7 +119,9 @@ fn read_options<'w>(names: CheckOpts<'w>, options: &'w [String]) -> Result<Check
     let mut opts = names;
     for place in 0..options.len() {
         let Some(more) = opts.with_option(options, place) else {
-            return Err(fault_at(place.saturating_add(3)));
+            return Err(WordFault {
+                index: word_number(place.saturating_add(3)),
+            });
         };
         opts = more;
     }
@@ -212,7 +165,9 @@ pub fn read_check_words<'w>(words: &'w [String]) -> Result<CheckOpts<'w>, WordFa
         (λ fault. TellsFault (reading.read_check_words (texts words.now)) fault.index) }
 {
     if let Some(place) = missing_name(words) {
-        return Err(fault_at(place));
+        return Err(WordFault {
+            index: word_number(place),
+        });
     }
     let names = CheckOpts::of(words[0].as_str(), words[1].as_str(), words[2].as_str());
     read_options(names, &words[3..])

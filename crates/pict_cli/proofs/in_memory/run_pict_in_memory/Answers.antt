@@ -4,8 +4,8 @@ use Rattle.outside_io.specs.MemFolder.{Slot, file_of}
 use Rattle.definitions.specs.Settings.{Settings}
 use Rattle.pict_cli.specs.InMemory.{source_of, source_under}
 use Rattle.pict_cli.specs.Modes.{model_from, model_source, prints_rows, row_file, row_source, source_in}
-use Rattle.pict_cli.specs.Runs.{opts_of}
-use Rattle.pict_cli.specs.Words.{asked_by, model_file, texts}
+use Rattle.command_line.specs.Words.{opts_of, texts}
+use Rattle.pict_cli.specs.Words.{asked_by, model_file}
 use Rattle.pict_cli.proofs.RunEnds.{asked_or_three, model_then, prints_of_a_file}
 use Rattle.pict_cli.proofs.in_memory.run_pict_in_memory.Goals as goal
 

@@ -4,17 +4,17 @@ use Rattle.command_line.specs.declared.files.FileKind.TheVariants as kinds
 use Rattle.command_line.specs.declared.stop.Stop.TheVariants.{CannotRead}
 use Rattle.pict_cli.specs.Options.{settings_seen}
 use Rattle.pict_cli.proofs.Reading.{leaves_unread, ran_loaded, ran_unread}
-use Rattle.pict_cli.proofs.RunEnds.{are_opts, same_opts}
+use Rattle.command_line.proofs.OptsLemmas.{same_opts}
 use Rattle.pict_cli.proofs.run.run_on_file.Goals as goal
 
 pub load_model-requires : goal.load_model-requires
-load_model-requires g c = subst AreOpts (sym (same_opts c.args.opts.now)) (are_opts (settings_seen c.args.opts.now) c.requires.fit)
+load_model-requires g c = subst AreOpts (sym (same_opts c.args.opts.now.opts)) c.requires.fit.fit.opts
 
 pub returns-in-Ok : goal.returns-in-Ok
 returns-in-Ok g c =
     let name = c.args.opts.now.model.now in
     ran_loaded (g.F.Folder.file c.args.files.now name) c.args.opts.now.opts (settings_seen c.args.opts.now) c.args.seed_word name c.in-Ok.model c.in-Ok.notes _ _ _ _ _ _
-    (same_opts c.args.opts.now) c.go_on.ensures.notes c.load_model.ensures.files (c.in-Ok.ensures.no_fault (λ is. cc)) c.load_model.ensures.write_faults refl refl
+    (same_opts c.args.opts.now.opts) c.go_on.ensures.notes c.load_model.ensures.files (c.in-Ok.ensures.no_fault (λ is. cc)) c.load_model.ensures.write_faults refl refl
     c.in-Ok.ensures.model.1 c.go_on.ensures.runs (c.go_on.ensures.leaves name)
 
 pub returns-in-Err : goal.returns-in-Err
@@ -24,6 +24,6 @@ returns-in-Err g c =
     let stop = c.in-Err.stop in
     let keeps = c.load_model.ensures.files in
     ran_unread (g.F.Folder.file c.args.files.now name) c.args.opts.now.opts s c.args.seed_word name _ _ _ _ _ stop
-    (same_opts c.args.opts.now) c.stopped.ensures.end c.stopped.ensures.notes c.stopped.ensures.row_notes refl keeps c.in-Err.ensures.stops
+    (same_opts c.args.opts.now.opts) c.stopped.ensures.end c.stopped.ensures.notes c.stopped.ensures.row_notes refl keeps c.in-Err.ensures.stops
     (leaves_unread s name _ _ stop c.requires.unmade c.in-Err.ensures.other keeps (λ is. c.in-Err.ensures.cannot_read (ap Err is))
     (λ other. c.in-Err.ensures.no_fault (λ is. other (let same : stop ≡ (CannotRead kinds.Model) = cc in same))) c.load_model.ensures.write_faults refl refl)

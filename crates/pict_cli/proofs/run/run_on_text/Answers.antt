@@ -4,11 +4,11 @@ use Rattle.command_line.specs.Loading.{IsLoaded, StopsReading}
 use Rattle.pict_cli.specs.Options.{settings_seen}
 use Rattle.pict_cli.proofs.Early.{leaves_early, reads_stopped, stopped_early}
 use Rattle.pict_cli.proofs.Reading.{ran_loaded, ran_unread}
-use Rattle.pict_cli.proofs.RunEnds.{are_opts, same_opts}
+use Rattle.command_line.proofs.OptsLemmas.{same_opts}
 use Rattle.pict_cli.proofs.run.run_on_text.Goals as goal
 
 pub read_made-requires-clause-opts : goal.read_made-requires-clause-opts
-read_made-requires-clause-opts g c = subst AreOpts (sym (same_opts c.args.opts.now)) (are_opts (settings_seen c.args.opts.now) c.requires.fit)
+read_made-requires-clause-opts g c = subst AreOpts (sym (same_opts c.args.opts.now.opts)) c.requires.fit.fit.opts
 
 pub returns-in-Ok : goal.returns-in-Ok
 returns-in-Ok g c =
@@ -17,7 +17,7 @@ returns-in-Ok g c =
     let model = c.in-Ok.model in
     let notes = c.in-Ok.notes in
     ran_loaded (Some (Some c.args.text.now)) opts (settings_seen c.args.opts.now) c.args.seed_word name model notes _ _ _ _ _ _
-    (same_opts c.args.opts.now) c.go_on.ensures.notes (λ file. refl) (λ file. refl) (λ file. refl) refl refl
+    (same_opts c.args.opts.now.opts) c.go_on.ensures.notes (λ file. refl) (λ file. refl) (λ file. refl) refl refl
     (subst (λ bytes. IsLoaded opts (Some bytes) model notes) c.as_bytes.ensures.value c.in-Ok.ensures.model.1) c.go_on.ensures.runs (c.go_on.ensures.leaves name)
 
 pub returns-in-Err : goal.returns-in-Err
@@ -27,6 +27,6 @@ returns-in-Err g c =
     let opts = c.args.opts.now.opts in
     let stop = c.in-Err.stop in
     ran_unread (Some (Some c.args.text.now)) opts s c.args.seed_word name _ _ _ _ _ stop
-    (same_opts c.args.opts.now) c.stopped.ensures.end c.stopped.ensures.notes c.stopped.ensures.row_notes refl (λ file. refl)
+    (same_opts c.args.opts.now.opts) c.stopped.ensures.end c.stopped.ensures.notes c.stopped.ensures.row_notes refl (λ file. refl)
     (subst (λ bytes. StopsReading opts (Some bytes) stop) c.as_bytes.ensures.value c.in-Err.ensures.stops)
     (leaves_early s name _ _ _ (stopped_early _ c.in-Err.ensures.early) (λ file. refl) (reads_stopped s name _ _ _ c.in-Err.ensures.early (λ file. refl)) (λ file. refl) refl refl)

@@ -1,21 +1,23 @@
 use Rattle.std.proofs.Common.{inl, inr, sym, ap, subst, ◌∙◌}
 use Rattle.std.specs.Prelude.{IfSome, IsSomeAnd}
+use Rattle.value_text.proofs.ListLemmas.{one_ok}
 use Rattle.outside_io.specs.Faults.{Rose}
 use Rattle.command_line.specs.declared.files.FileKind.TheVariants as kinds
 use Rattle.pict_cli.specs.Ends.{CountsOut, CountsReads, CountsWrites, IsQuiet, KeepsOthers, KeepsUnwritten}
 use Rattle.pict_cli.specs.Options.{settings_seen}
-use Rattle.pict_cli.specs.Ranges.{AreFit}
+use Rattle.pict_cli.specs.Ranges.{FitRun}
 use Rattle.pict_cli.specs.Steps.{HoldsMade}
-use Rattle.pict_cli.specs.Words.{asked_by, model_file, read_of_asked, texts, written_of_asked}
+use Rattle.pict_cli.specs.Words.{asked_by, model_file, read_of_asked, written_of_asked}
 use Rattle.pict_cli.specs.Runs.{IsStatus, names_of, used_seed}
 use Rattle.command_line.specs.Told.{Tells, end_status, told_text}
+use Rattle.command_line.specs.Words.{texts}
 use Rattle.pict_cli.proofs.Causes.{complete_end, long_end, missing_end, missing_rows_end, refused_end, stopped_end}
-use Rattle.pict_cli.proofs.RunEnds.{accepted_whole, covers_whole, eight_is_end, few_whole, form_known, not_three, nothing_end, one_asked, proof_whole, ran_asked, seeds_whole, seven_is_end, status_known, untouched_end, unwritten_end}
+use Rattle.pict_cli.proofs.RunEnds.{accepted_whole, covers_whole, eight_is_end, few_whole, form_known, not_three, nothing_end, proof_whole, ran_asked, seeds_whole, seven_is_end, status_known, untouched_end, unwritten_end}
 use Rattle.pict_cli.proofs.run.run_pict.Goals as goal
 
 pub returns-clause-headline : goal.returns-clause-headline
 returns-clause-headline g c = λ zero s held source given is.
-    covers_whole (ran_asked c.in-Ok.ensures.0 given.asked c.in-Ok.ensures.2 c.run-ended.ensures) held source given.model given.rows (form_known c.in-Ok.opts s (one_asked c.in-Ok.ensures.0 given.asked)) is (sym c.status_of.ensures ∙ zero)
+    covers_whole (ran_asked c.in-Ok.ensures.0 given.asked c.in-Ok.ensures.2 c.run-ended.ensures) held source given.model given.rows (form_known c.in-Ok.opts s (one_ok c.in-Ok.ensures.0 given.asked)) is (sym c.status_of.ensures ∙ zero)
 
 pub returns-clause-few : goal.returns-clause-few
 returns-clause-few g c = λ zero s held source given is.
@@ -27,13 +29,13 @@ returns-clause-seeds g c = λ zero s held source given is.
 
 pub returns-clause-accepted : goal.returns-clause-accepted
 returns-clause-accepted g c = λ zero s held after source given is told.
-    accepted_whole (ran_asked c.in-Ok.ensures.0 given.asked c.in-Ok.ensures.2 c.run-ended.ensures) held source given.model given.rows (form_known c.in-Ok.opts s (one_asked c.in-Ok.ensures.0 given.asked)) is after told
+    accepted_whole (ran_asked c.in-Ok.ensures.0 given.asked c.in-Ok.ensures.2 c.run-ended.ensures) held source given.model given.rows (form_known c.in-Ok.opts s (one_ok c.in-Ok.ensures.0 given.asked)) is after told
     (sym c.status_of.ensures ∙ zero)
 
 pub returns-clause-proof : goal.returns-clause-proof
 returns-clause-proof g c = λ zero s held after source given told.
     proof_whole (ran_asked c.in-Ok.ensures.0 given.asked c.in-Ok.ensures.2 c.run-ended.ensures) held source given.model given.rows
-    (subst AreFit (one_asked c.in-Ok.ensures.0 given.asked) c.in-Ok.ensures.1).unproved (form_known c.in-Ok.opts s (one_asked c.in-Ok.ensures.0 given.asked)) after told
+    (subst FitRun (one_ok c.in-Ok.ensures.0 given.asked) c.in-Ok.ensures.1).unproved (form_known c.in-Ok.opts s (one_ok c.in-Ok.ensures.0 given.asked)) after told
     (sym c.status_of.ensures ∙ zero)
 
 pub returns-clause-run : goal.returns-clause-run
@@ -44,11 +46,11 @@ returns-clause-run g c = λ s held source given.
     let notes = c.as_slice-notes.result.now in
     let row_notes = c.as_slice-row_notes.result.now in
     let text = ap (λ seed. told_text seed notes row_notes names end) c.told_seed-seed.ensures
-    ∙ ap (λ t. told_text (used_seed t.shuffle c.args.seed_word) notes row_notes names end) (one_asked c.in-Ok.ensures.0 given.asked)
+    ∙ ap (λ t. told_text (used_seed t.shuffle c.args.seed_word) notes row_notes names end) (one_ok c.in-Ok.ensures.0 given.asked)
     ∙ ap (λ told. told_text (used_seed s.shuffle c.args.seed_word) told row_notes names end) c.as_slice-notes.ensures
     ∙ ap (λ told. told_text (used_seed s.shuffle c.args.seed_word) c.run-ended.result.notes told names end) c.as_slice-row_notes.ensures
     ∙ ap (λ names. told_text (used_seed s.shuffle c.args.seed_word) c.run-ended.result.notes c.run-ended.result.row_notes names end)
-    (c.names.ensures ∙ ap (names_of c.in-Ok.opts.model.now) (one_asked c.in-Ok.ensures.0 given.asked) ∙ ap (λ name. names_of name s) c.in-Ok.ensures.2) in
+    (c.names.ensures ∙ ap (names_of c.in-Ok.opts.model.now) (one_ok c.in-Ok.ensures.0 given.asked) ∙ ap (λ name. names_of name s) c.in-Ok.ensures.2) in
     record {
       notes = c.run-ended.result.notes;
       row_notes = c.run-ended.result.row_notes;

@@ -1,7 +1,8 @@
-use Rattle.std.proofs.Common.{◌++◌, length, map, sum, take, ap, refl, sym, ◌∙◌}
+use Rattle.std.proofs.Common.{◌++◌, length, map, take, ap, refl, sym, ◌∙◌}
 use Rattle.std.specs.Prelude.{option_map}
 use Rattle.std.proofs.lemmas.List.{append-nil}
 use Rattle.definitions.specs.Statistics.{statistics}
+use Rattle.coverage_measure.proofs.FigureLemmas.{tuples_are}
 use Rattle.row_text.specs.RowFiles.{seeds_seen}
 use Rattle.row_text.specs.Told.{statistics_seen}
 use Rattle.command_line.specs.declared.stop.Stop.TheVariants.{OutOfMemory}
@@ -9,7 +10,7 @@ use Rattle.pict_cli.specs.Options.{settings_seen}
 use Rattle.pict_cli.specs.RowSources.{dropped_note, dropped_notes}
 use Rattle.pict_cli.specs.Runs.{growth_over, orders_of, spent_on}
 use Rattle.pict_cli.specs.Steps.{StopsWork, no_memory}
-use Rattle.pict_cli.proofs.Suites.{if_err_of, omitted_count, proof_ready, same_statistics, search_stopped, tuples_counted}
+use Rattle.pict_cli.proofs.Suites.{if_err_of, omitted_count, proof_ready, same_statistics, search_stopped}
 use Rattle.pict_cli.proofs.suite.make_suite.Goals as goal
 
 pub returns-in_err-suite-clause-stops : goal.returns-in_err-suite-clause-stops
@@ -61,7 +62,7 @@ returns-clause-stats g c =
     let is = c.in_ok-suite.ensures.suite in
     let told = c.stats_of-stats.ensures in
     same_statistics (statistics_seen c.stats_of-stats.result) (statistics m pref seeds) (told.sets ∙ ap (λ plan. length plan.sets) c.requires.plan)
-    (told.tuples ∙ ap (λ plan. sum plan.sizes) c.requires.plan ∙ tuples_counted m) (told.omitted ∙ omitted_count m pref seeds _ c.in_ok-suite.suite is) (told.kept ∙ is.kept)
+    (told.tuples ∙ tuples_are m c.args.plan.now c.requires.plan) (told.omitted ∙ omitted_count m pref seeds _ c.in_ok-suite.suite is) (told.kept ∙ is.kept)
     (told.tests ∙ ap length is.rows)
 
 pub returns-clause-proof : goal.returns-clause-proof

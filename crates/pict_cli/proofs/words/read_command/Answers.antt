@@ -1,7 +1,7 @@
 use Rattle.std.proofs.Common.{ap}
 use Rattle.pict_cli.specs.Options.{command_seen}
-use Rattle.pict_cli.specs.Words.{settings_in, texts}
-use Rattle.pict_cli.proofs.RangeLemmas.{command_fits, model_named}
+use Rattle.command_line.specs.Words.{settings_in, texts}
+use Rattle.pict_cli.proofs.CommandLemmas.{command_fits, model_named}
 use Rattle.pict_cli.proofs.words.read_command.Goals as goal
 
 pub returns : goal.returns

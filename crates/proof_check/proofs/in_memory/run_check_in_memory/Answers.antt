@@ -1,12 +1,12 @@
-use Rattle.std.proofs.Common.{◌^◌, ◌-◌, ◌∙◌, ◌++◌, refl, sym, arith}
+use Rattle.std.proofs.Common.{◌^◌, ◌-◌, ◌++◌, refl, arith}
 use Rattle.std.specs.Prelude.{min}
-use Rattle.std.proofs.lemmas.Bool.{false≢true}
 use Rattle.std.proofs.lemmas.Option.{same_Some}
 use Rattle.definitions.specs.Laws.{IsCertified}
 use Rattle.definitions.specs.Verdict.{verdict, verdict_text}
 use Rattle.definitions.specs.Words.{read_check_words}
-use Rattle.proof_check.specs.Runs.{HasReadings, HasVerdict, held_in}
-use Rattle.proof_check.specs.Words.{names_in, opts_of, texts}
+use Rattle.command_line.specs.Words.{opts_of, texts}
+use Rattle.proof_check.specs.Runs.{HasReadings, held_in}
+use Rattle.proof_check.specs.Words.{names_in}
 use Rattle.proof_check.proofs.RunEnds.{asked_or_three, readings_then, three_is_none}
 use Rattle.proof_check.proofs.in_memory.run_check_in_memory.Goals as goal
 

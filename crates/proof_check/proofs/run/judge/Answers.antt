@@ -1,12 +1,13 @@
 use Rattle.std.proofs.Common.{◌≡◌, Err, ap, subst, sym, ◌∙◌}
+use Rattle.model_parse.specs.RawModels.{AreOpts}
+use Rattle.command_line.proofs.OptsLemmas.{same_opts}
 use Rattle.proof_check.specs.Checks.{IsCheckOf}
 use Rattle.proof_check.specs.Runs.{Inputs}
 use Rattle.proof_check.proofs.RunEnds.{check_stops}
-use Rattle.proof_check.proofs.WordOptions.{opts_fit}
 use Rattle.proof_check.proofs.run.judge.Goals as goal
 
 pub check_bytes-requires-clause-opts : goal.check_bytes-requires-clause-opts
-check_bytes-requires-clause-opts g c = λ _ _. opts_fit c.args.opts.now (record { ranged = c.requires.fit.ranged; apart = c.requires.fit.apart })
+check_bytes-requires-clause-opts g c = λ _ _. subst AreOpts (sym (same_opts c.args.opts.now.opts)) c.requires.fit.opts
 
 pub returns-in-Err-clause-answers : goal.returns-in-Err-clause-answers
 returns-in-Err-clause-answers g c = λ held read.

@@ -1,4 +1,4 @@
-use Rattle.std.proofs.Common.{◌≡◌, Err, Ok, inl, inr, refl, sym, ap, subst, ◌∙◌}
+use Rattle.std.proofs.Common.{◌≡◌, Err, inl, inr, sym, ap, subst, ◌∙◌}
 use Rattle.std.specs.Prelude.{◌⊎◌}
 use Rattle.outside_io.specs.Faults.{Rose}
 use Rattle.outside_io.specs.Puts.{Puts}
@@ -8,11 +8,12 @@ use Rattle.definitions.specs.Verdict.{verdict, verdict_text}
 use Rattle.command_line.specs.Stops.{status_of}
 use Rattle.command_line.specs.declared.stop.Stop.{Stop}
 use Rattle.command_line.specs.declared.stop.Stop.TheVariants.{CannotRead}
+use Rattle.command_line.specs.Words.{texts}
 use Rattle.proof_check.specs.RunSteps.{CountsOut}
 use Rattle.proof_check.specs.Runs.{AreRead, HasReadings, HasVerdict, Holds, IsRefusal, IsRefused, IsRun, IsStatus, IsTold, ReadsRose, end_status, end_text, inputs_of, unread, verdict_status}
-use Rattle.proof_check.specs.Words.{command_seen, texts}
+use Rattle.proof_check.specs.Words.{command_seen}
 use Rattle.proof_check.proofs.RunEnds.{accepted_told, broken_told, complete_end, counts_stay, eight_is_end, for_asked, names_given, not_three, nothing_written, refusal_has_cause, refused_end, seven_is_end, status_known, verdict_is_end, verdict_told}
-use Rattle.proof_check.proofs.WordRanges.{command_fits}
+use Rattle.proof_check.proofs.WordLemmas.{command_fits}
 use Rattle.proof_check.proofs.run.run_check.Goals as goal
 
 pub check-end-requires-after_bounds : goal.check-end-requires-after_bounds

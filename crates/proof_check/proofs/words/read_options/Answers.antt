@@ -1,7 +1,7 @@
 use Rattle.std.proofs.Common.{◌<◌, length, ◌∙◌, arith}
 use Rattle.std.specs.String.{string_bytes}
 use Rattle.std.proofs.lemmas.List.{length-map}
-use Rattle.proof_check.specs.Words.{texts}
+use Rattle.command_line.specs.Words.{texts}
 use Rattle.proof_check.proofs.WordLemmas.{one_more}
 use Rattle.proof_check.proofs.words.read_options.Goals as goal
 

@@ -1,7 +1,8 @@
 use Rattle.std.proofs.Common.{◌≡◌, ◌+◌, [], take, drop}
 use Rattle.definitions.specs.Words.{first_faulty_for_checker}
+use Rattle.command_line.specs.Words.{texts}
 use Rattle.proof_check.specs.WordSteps.{IsReading}
-use Rattle.proof_check.specs.Words.{names_seen, texts}
+use Rattle.proof_check.specs.Words.{names_seen}
 use Rattle.proof_check.proofs.words.read_options.Given as goal
 
 abbrev pub invariant-loop-place : goal.invariant-loop-place

@@ -6,9 +6,10 @@ use Rattle.definitions.specs.Settings.{set, setting_of}
 use Rattle.definitions.specs.Words.{has_equal_marks, set_by}
 use Rattle.command_line.specs.Settings.{setting_seen}
 use Rattle.pict_cli.specs.Options.{kind_of, kinds_of, joined_kinds}
-use Rattle.pict_cli.specs.Words.{texts}
+use Rattle.command_line.specs.Words.{texts}
+use Rattle.command_line.proofs.WordLemmas.{set_by-push, word_at}
 use Rattle.pict_cli.proofs.KindLemmas.{clash}
-use Rattle.pict_cli.proofs.WordLemmas.{faulty-by, word_at, set_by-push, about-push}
+use Rattle.pict_cli.proofs.WordLemmas.{faulty-by, about-push}
 use Rattle.pict_cli.proofs.options.Reading.with_option.Goals as goal
 use Rattle.pict_cli.proofs.options.Reading.with_option.Goals.{else-is_last_mark-via-then-is_last_mark+else-has_equal_marks, else-is_last_mark-via-else-is_last_mark}
 

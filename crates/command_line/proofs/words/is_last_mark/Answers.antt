@@ -4,8 +4,8 @@ use Rattle.std.specs.String.{string_bytes}
 use Rattle.std.proofs.lemmas.List.{get_or-map, drop-map, take_rest}
 use Rattle.value_text.proofs.ListLemmas.{list_any-map}
 use Rattle.definitions.specs.Words as reading
-use Rattle.proof_check.specs.Words.{texts}
-use Rattle.proof_check.proofs.words.is_last_mark.Goals as goal
+use Rattle.command_line.specs.Words.{texts}
+use Rattle.command_line.proofs.words.is_last_mark.Goals as goal
 
 pub returns-then-is_mark_word : goal.returns-then-is_mark_word
 returns-then-is_mark_word c =

@@ -1,28 +1,27 @@
--- Settings that the checker's words give are in their ranges, and the marks differ.
-use Rattle.std.proofs.Common.{◌≡◌, ℕ, ◌+◌, ◌≤◌, ◌^◌, ◌-◌, inl, inr, arith, Bool, true, false, not, ◌&&◌, ◌||◌, cond, if◌then◌else◌, List, [], ◌∷◌, ◌++◌, length, Option, Some, None, refl, sym, ap, subst, ◌∙◌, append_assoc}
-use Rattle.std.specs.Prelude.{option_map, codes, drop, take, slice_index_or, Ok, Err, Result, nat_le}
+-- What words set is in its ranges, and the marks differ.
+use Rattle.std.proofs.Common.{◌≡◌, ℕ, ◌+◌, ◌≤◌, ◌^◌, ◌-◌, inl, inr, arith, Bool, true, false, not, ◌&&◌, ◌||◌, cond, if◌then◌else◌, List, [], ◌∷◌, ◌++◌, length, Option, Some, None, refl, sym, ap, subst, ◌∙◌}
+use Rattle.std.specs.Prelude.{option_map, codes, nat_le, ◌==◌}
 use Rattle.std.specs.List.{list_any, after_first}
-use Rattle.std.specs.Option.{option_or, option_map_or}
-use Rattle.std.proofs.lemmas.Bool.{and_parts, leb-true, false≢true, cases_Bool, or_left, or_parts, or_right}
-use Rattle.std.proofs.lemmas.List.{append-nil}
+use Rattle.std.proofs.lemmas.Bool.{and_parts, eqb-false, leb-true, false≢true, cases_Bool, or_left, or_parts, or_right}
 use Rattle.std.proofs.lemmas.Option.{none-some, same_Some}
 use Rattle.std.specs.Str.Parse.{digits_value}
-use Rattle.value_text.proofs.ListLemmas.{option_or_parts}
 use Rattle.value_text.specs.Numbers.{count_of, is_digits}
 use Rattle.value_text.specs.Texts.{is_same_text}
 use Rattle.cov_model.specs.Names.{is_mark}
-use Rattle.definitions.specs.Settings.{OrderWord, OrderOf, OrderMax, Setting, Order, Separator, Alias, Prefix, SeedFile, ShuffleValues, ShuffleBy, AnyShuffle, CaseCounts, Statistics, Workers, Budget, ProofFile, ProofFormat, MeasureFile, Make, SuspectFile, Settings, defaults, set, setting_of, is_named, has_colon, is_colon, valued_setting, bare_setting, mark_of, order_of, file_of}
-use Rattle.definitions.specs.Words.{Command, has_equal_marks, is_mark_word, set_by, is_faulty, is_faulty_for_checker, is_of_checker, first_faulty_for_checker, missing_name, read_command, read_check_words}
-use Rattle.proof_check.specs.WordSteps.{IsLeast, AreRanged, AreFit}
-use Rattle.proof_check.proofs.WordLemmas.{set_by-push, faulty-alone}
+use Rattle.definitions.specs.Settings.{OrderWord, OrderOf, OrderMax, Setting, Order, Separator, Alias, Prefix, SeedFile, ShuffleValues, ShuffleBy, AnyShuffle, CaseCounts, Statistics, Workers, Budget, ProofFile, ProofFormat, MeasureFile, Make, SuspectFile, Settings, set, setting_of, is_named, has_colon, is_colon, valued_setting, bare_setting, mark_of, order_of, file_of}
+use Rattle.definitions.specs.Words.{has_equal_marks, is_mark_word, set_by, is_faulty, first_faulty}
+use Rattle.model_parse.specs.RawModels.{AreMarks, IsOrder}
+use Rattle.command_line.specs.Ranges.{AreFit, AreWorkers}
+use Rattle.command_line.specs.Words.{opts_of, order_word}
+use Rattle.command_line.proofs.WordLemmas.{by_words, set_by-push}
 
 -- what one word may set is in its range
 abbrev IsInRange : Setting → Type 0
-IsInRange (Order order) = IsLeast order
+IsInRange (Order order) = IsOrder (order_word order)
 IsInRange (Separator c) = is_mark c ≡ true
 IsInRange (Alias c) = is_mark c ≡ true
 IsInRange (Prefix c) = is_mark c ≡ true
-IsInRange (Workers n) = (1 ≤ n) × (n ≤ 64)
+IsInRange (Workers n) = AreWorkers n
 IsInRange (SeedFile name) = Unit {0}
 IsInRange (ShuffleValues _) = Unit {0}
 IsInRange CaseCounts = Unit {0}
@@ -33,6 +32,14 @@ IsInRange (ProofFormat n) = Unit {0}
 IsInRange (MeasureFile name) = Unit {0}
 IsInRange (Make n) = Unit {0}
 IsInRange (SuspectFile name) = Unit {0}
+
+-- marks are marks, and the order and the workers are in their ranges
+record AreRanged (s : Settings) : Type 0 where
+  order : IsOrder (order_word s.order)
+  separator : is_mark s.separator ≡ true
+  alias : is_mark s.alias ≡ true
+  prefix : is_mark s.prefix ≡ true
+  workers : AreWorkers s.workers
 
 -- a test that was met, and one that wasn't
 either : {X : Type 0} (P : Type 0) (b : Bool) (x y : Option X) (s : X) → (x ≡ Some s → P) → (y ≡ Some s → P) → cond b x y ≡ Some s → P
@@ -67,19 +74,19 @@ is_mark_of (d ∷ []) c h = decide (is_mark d) refl
     decide false t = absurd (none-some c (sym (ap (λ b. if b then Some d else None) t) ∙ h))
 is_mark_of (d ∷ e ∷ rest) c h = absurd (none-some c h)
 
-is_least : (value : List ℕ) (order : OrderWord) → order_of value ≡ Some order → IsLeast order
-is_least value order h =
-    either (IsLeast order) (is_same_text true value (codes "max")) (Some OrderMax) (option_map OrderOf (count_of value 1 256)) order
-    (λ e. subst IsLeast (same_Some OrderMax order e) tt) (number (count_of value 1 256) refl) h
+is_order : (value : List ℕ) (order : OrderWord) → order_of value ≡ Some order → IsOrder (order_word order)
+is_order value order h =
+    either (IsOrder (order_word order)) (is_same_text true value (codes "max")) (Some OrderMax) (option_map OrderOf (count_of value 1 256)) order
+    (λ e. subst (λ o. IsOrder (order_word o)) (same_Some OrderMax order e) tt) (number (count_of value 1 256) refl) h
   where
-    number : (o : Option ℕ) → count_of value 1 256 ≡ o → option_map OrderOf o ≡ Some order → IsLeast order
+    number : (o : Option ℕ) → count_of value 1 256 ≡ o → option_map OrderOf o ≡ Some order → IsOrder (order_word order)
     number None e k = absurd (none-some order k)
-    number (Some n) e k = subst IsLeast (same_Some (OrderOf n) order k) (within value 1 256 n e).0
+    number (Some n) e k = subst (λ o. IsOrder (order_word o)) (same_Some (OrderOf n) order k) (within value 1 256 n e).0
 
 valued : (word value : List ℕ) (s : Setting) → valued_setting word value ≡ Some s → IsInRange s
 valued word value s h =
     let P = IsInRange s in
-    either P (is_named word (codes "/o")) _ _ s (read Order (order_of value) s (is_least value))
+    either P (is_named word (codes "/o")) _ _ s (read Order (order_of value) s (is_order value))
     (either P (is_named word (codes "/d")) _ _ s (read Separator (mark_of value) s (is_mark_of value))
     (either P (is_named word (codes "/a")) _ _ s (read Alias (mark_of value) s (is_mark_of value))
     (either P (is_named word (codes "/n")) _ _ s (read Prefix (mark_of value) s (is_mark_of value))
@@ -107,21 +114,21 @@ in_range word s h =
 
 -- one setting more
 set_ranged : (s : Settings) (x : Setting) → AreRanged s → IsInRange x → AreRanged (set s x)
-set_ranged s (Order order) r h = record { order = h; separator = r.separator; alias = r.alias; prefix = r.prefix; least = r.least; most = r.most }
-set_ranged s (Separator c) r h = record { order = r.order; separator = h; alias = r.alias; prefix = r.prefix; least = r.least; most = r.most }
-set_ranged s (Alias c) r h = record { order = r.order; separator = r.separator; alias = h; prefix = r.prefix; least = r.least; most = r.most }
-set_ranged s (Prefix c) r h = record { order = r.order; separator = r.separator; alias = r.alias; prefix = h; least = r.least; most = r.most }
-set_ranged s (Workers n) r h = record { order = r.order; separator = r.separator; alias = r.alias; prefix = r.prefix; least = h.0; most = h.1 }
-set_ranged s (SeedFile name) r h = record { order = r.order; separator = r.separator; alias = r.alias; prefix = r.prefix; least = r.least; most = r.most }
-set_ranged s (ShuffleValues _) r h = record { order = r.order; separator = r.separator; alias = r.alias; prefix = r.prefix; least = r.least; most = r.most }
-set_ranged s CaseCounts r h = record { order = r.order; separator = r.separator; alias = r.alias; prefix = r.prefix; least = r.least; most = r.most }
-set_ranged s Statistics r h = record { order = r.order; separator = r.separator; alias = r.alias; prefix = r.prefix; least = r.least; most = r.most }
-set_ranged s (Budget n) r h = record { order = r.order; separator = r.separator; alias = r.alias; prefix = r.prefix; least = r.least; most = r.most }
-set_ranged s (ProofFile name) r h = record { order = r.order; separator = r.separator; alias = r.alias; prefix = r.prefix; least = r.least; most = r.most }
-set_ranged s (ProofFormat n) r h = record { order = r.order; separator = r.separator; alias = r.alias; prefix = r.prefix; least = r.least; most = r.most }
-set_ranged s (MeasureFile name) r h = record { order = r.order; separator = r.separator; alias = r.alias; prefix = r.prefix; least = r.least; most = r.most }
-set_ranged s (Make n) r h = record { order = r.order; separator = r.separator; alias = r.alias; prefix = r.prefix; least = r.least; most = r.most }
-set_ranged s (SuspectFile name) r h = record { order = r.order; separator = r.separator; alias = r.alias; prefix = r.prefix; least = r.least; most = r.most }
+set_ranged s (Order order) r h = record { order = h; separator = r.separator; alias = r.alias; prefix = r.prefix; workers = r.workers }
+set_ranged s (Separator c) r h = record { order = r.order; separator = h; alias = r.alias; prefix = r.prefix; workers = r.workers }
+set_ranged s (Alias c) r h = record { order = r.order; separator = r.separator; alias = h; prefix = r.prefix; workers = r.workers }
+set_ranged s (Prefix c) r h = record { order = r.order; separator = r.separator; alias = r.alias; prefix = h; workers = r.workers }
+set_ranged s (Workers n) r h = record { order = r.order; separator = r.separator; alias = r.alias; prefix = r.prefix; workers = h }
+set_ranged s (SeedFile name) r h = record { order = r.order; separator = r.separator; alias = r.alias; prefix = r.prefix; workers = r.workers }
+set_ranged s (ShuffleValues _) r h = record { order = r.order; separator = r.separator; alias = r.alias; prefix = r.prefix; workers = r.workers }
+set_ranged s CaseCounts r h = record { order = r.order; separator = r.separator; alias = r.alias; prefix = r.prefix; workers = r.workers }
+set_ranged s Statistics r h = record { order = r.order; separator = r.separator; alias = r.alias; prefix = r.prefix; workers = r.workers }
+set_ranged s (Budget n) r h = record { order = r.order; separator = r.separator; alias = r.alias; prefix = r.prefix; workers = r.workers }
+set_ranged s (ProofFile name) r h = record { order = r.order; separator = r.separator; alias = r.alias; prefix = r.prefix; workers = r.workers }
+set_ranged s (ProofFormat n) r h = record { order = r.order; separator = r.separator; alias = r.alias; prefix = r.prefix; workers = r.workers }
+set_ranged s (MeasureFile name) r h = record { order = r.order; separator = r.separator; alias = r.alias; prefix = r.prefix; workers = r.workers }
+set_ranged s (Make n) r h = record { order = r.order; separator = r.separator; alias = r.alias; prefix = r.prefix; workers = r.workers }
+set_ranged s (SuspectFile name) r h = record { order = r.order; separator = r.separator; alias = r.alias; prefix = r.prefix; workers = r.workers }
 
 -- whether a setting is one of a mark
 abbrev is_of_marks : Setting → Bool
@@ -194,71 +201,51 @@ record AreRead (before after : List (List ℕ)) : Type 0 where
   ranged : AreRanged (set_by before)
   apart : list_any is_mark_word after ≡ false → has_equal_marks (set_by before) ≡ false
 
--- a word that isn't faulty sets something
-setting_read : (before after : List (List ℕ)) (word : List ℕ) → is_faulty_for_checker before word after ≡ false → (x : Setting) × (setting_of word ≡ Some x)
-setting_read before after word h = found (setting_of word) refl
-  where
-    found : (o : Option Setting) → setting_of word ≡ o → (x : Setting) × (setting_of word ≡ Some x)
-    found None e = absurd (false≢true (sym h ∙ faulty-alone before after word e))
-    found (Some x) e = (x, e)
-
 -- one word more
-read_more : (before after : List (List ℕ)) (word : List ℕ) → is_faulty_for_checker before word after ≡ false → AreRead before (word ∷ after)
-    → AreRead (before ++ word ∷ []) after
-read_more before after word good read =
-    let found = setting_read before after word good in
-    let more = set_by-push before word found.0 found.1 in
-    let alone = (or_parts (not (option_map_or is_of_checker (setting_of word) true)) (is_faulty before word after) good).1 in
-    let last = (or_parts _ (is_mark_word word && not (list_any is_mark_word after) && has_equal_marks (set_by (before ++ word ∷ []))) alone).1 in
+read_more : (before after : List (List ℕ)) (word : List ℕ) (setting : Setting) → setting_of word ≡ Some setting → is_faulty before word after ≡ false
+    → AreRead before (word ∷ after) → AreRead (before ++ word ∷ []) after
+read_more before after word setting is good read =
+    let more = set_by-push before word setting is in
+    let last = (or_parts _ (is_mark_word word && not (list_any is_mark_word after) && has_equal_marks (set_by (before ++ word ∷ []))) good).1 in
     record {
-      ranged = subst AreRanged (sym more) (set_ranged (set_by before) found.0 read.ranged (in_range word found.0 found.1));
+      ranged = subst AreRanged (sym more) (set_ranged (set_by before) setting read.ranged (in_range word setting is));
       apart = λ none. elim (cases_Bool (is_mark_word word)) [
         | inl marks ↦
             let equal = has_equal_marks (set_by (before ++ word ∷ [])) in
             sym (ap (λ b. b && not (list_any is_mark_word after) && equal) marks ∙ ap (λ b. not b && equal) none) ∙ last
         | inr other ↦ ap has_equal_marks more
-            ∙ same_marks (set_by before) found.0 (sets_no_mark word found.0 other found.1)
+            ∙ same_marks (set_by before) setting (sets_no_mark word setting other is)
             (read.apart (ap (λ b. b || list_any is_mark_word after) other ∙ none))
       ];
     }
-
-unfaulty : (n : ℕ) (bad : Bool) (later : Option ℕ) → (if bad then Some n else later) ≡ None → (bad ≡ false) × (later ≡ None)
-unfaulty n true later h = absurd (none-some n (sym h))
-unfaulty n false later h = (refl, h)
-
-all_read : (n : ℕ) (before after : List (List ℕ)) → first_faulty_for_checker n before after ≡ None → AreRead before after → AreFit (set_by (before ++ after))
-all_read n before [] good read = subst (λ words. AreFit (set_by words)) (sym (append-nil before)) (record { ranged = read.ranged; apart = read.apart refl })
-all_read n before (word ∷ after) good read =
-    let fine = unfaulty n (is_faulty_for_checker before word after) (first_faulty_for_checker (n + 1) (before ++ word ∷ []) after) good in
-    subst (λ words. AreFit (set_by words)) (append_assoc before (word ∷ []) after)
-    (all_read (n + 1) (before ++ word ∷ []) after fine.1 (read_more before after word fine.0 read))
 
 -- what no words set
 no_words : (after : List (List ℕ)) → AreRead [] after
 no_words after =
     record {
-      ranged = record { order = omega arith; separator = refl; alias = refl; prefix = refl; least = omega arith; most = omega arith };
+      ranged = record { order = omega arith; separator = refl; alias = refl; prefix = refl; workers = (omega arith, omega arith) };
       apart = λ none. refl;
     }
 
-pub options_fit : (words : List (List ℕ)) → first_faulty_for_checker 4 [] words ≡ None → AreFit (set_by words)
-options_fit words good = all_read 4 [] words good (no_words words)
+-- a model file can be read so
+are_marks : (s : Settings) → AreRanged s → has_equal_marks s ≡ false → AreMarks (opts_of s).marks
+are_marks s ranged apart =
+    let both = or_parts ((s.separator == s.alias) || (s.separator == s.prefix)) (s.alias == s.prefix) apart in
+    let first = or_parts (s.separator == s.alias) (s.separator == s.prefix) both.0 in
+    record {
+      separator = ranged.separator;
+      alias = ranged.alias;
+      prefix = ranged.prefix;
+      separator_alias = eqb-false s.separator s.alias first.0;
+      separator_prefix = eqb-false s.separator s.prefix first.1;
+      alias_prefix = eqb-false s.alias s.prefix both.1;
+    }
 
--- so is what the words of the checker give
-abbrev settings_given : Result Command ℕ → Settings
-settings_given (Ok command) = command.settings
-settings_given (Err index) = defaults
-
-abbrev is_read : Result Command ℕ → Bool
-is_read (Ok command) = true
-is_read (Err index) = false
-
-no_fault : (fault : Option ℕ) (words : List (List ℕ)) (command : Command) → read_command 3 fault words ≡ Ok command
-    → (fault ≡ None) × (command.settings ≡ set_by (drop 3 words))
-no_fault None words command h = (refl, ap settings_given (sym h))
-no_fault (Some index) words command h = absurd (false≢true (ap is_read h))
-
-pub command_fits : (words : List (List ℕ)) (command : Command) → read_check_words words ≡ Ok command → AreFit command.settings
-command_fits words command h =
-    let fine = no_fault (option_or (missing_name 3 words) (first_faulty_for_checker 4 [] (drop 3 words))) words command h in
-    subst AreFit (sym fine.1) (options_fit (drop 3 words) (option_or_parts (missing_name 3 words) (first_faulty_for_checker 4 [] (drop 3 words)) fine.0).1)
+-- so what words without a fault set is fit for a run
+pub words_fit : (n : ℕ) (words : List (List ℕ)) → first_faulty n [] words ≡ None → AreFit (set_by words)
+words_fit n words good =
+    let read = by_words AreRead read_more n [] words good (no_words words) in
+    record {
+      opts = record { marks = are_marks (set_by words) read.ranged (read.apart refl); order = read.ranged.order };
+      workers = read.ranged.workers;
+    }
