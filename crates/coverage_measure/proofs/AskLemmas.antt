@@ -1,12 +1,17 @@
 -- Solvers that are kept, and what one answers.
-use Rattle.std.proofs.Common.{◌≡◌, ℕ, List, [], ◌∷◌, ◌++◌, map, length, take, All, Some, ◌∙◌, sym, ap, subst, arith}
+use Rattle.std.proofs.Common.{◌≡◌, ℕ, List, [], ◌∷◌, ◌++◌, map, length, take, All, Some, Bool, true, false, cond, Option, refl, ◌∙◌, sym, ap, subst, arith}
 use Rattle.std.specs.Prelude.{slice_get, option_map}
 use Rattle.std.proofs.lemmas.List.Elements.{All-append, All-cons, All-nil, All-take}
 use Rattle.std.proofs.lemmas.Option.{slice_get-map}
-use Rattle.cov_model.specs.Sound.{ModelView}
+use Rattle.cov_model.specs.Preference.{OrdersValues}
+use Rattle.cov_model.specs.Sound.{IsSound, ModelView}
 use Rattle.cov_model.specs.declared.slice.Slice.{Slice}
+use Rattle.definitions.specs.Completion.{is_extendable}
+use Rattle.definitions.specs.SliceRows.{IsOfSlice}
+use Rattle.feasibility.specs.Solving.{SolverView}
+use Rattle.feasibility.proofs.Extendable.{plain_search_is_exact}
 use Rattle.tuple_index.proofs.PlaceLemmas.{slice_get-append_right}
-use Rattle.coverage_measure.specs.Asking.{IsFor}
+use Rattle.coverage_measure.specs.Asking.{IsFor, is_found, tally}
 use Rattle.coverage_measure.specs.declared.asking.KeptSolver.{KeptSolver}
 
 -- one more solver behind some of those that are kept
@@ -26,3 +31,16 @@ last_place part after one place last is =
   where
     slice : KeptSolver → Slice
     slice one = one.slice
+
+-- what an answer tells of a partial row of the slice
+pub row_told : (m : ModelView) (pref : List (List ℕ)) (one : KeptSolver) (solver : SolverView) (cells : List (Option ℕ)) (found : Bool) → IsSound m → OrdersValues m pref
+    → IsFor m pref one → IsOfSlice m one.slice cells → solver ≡ one.solver → is_extendable solver.model solver.slice cells ≡ found
+    → cond found 1 0 ≡ tally (is_found m pref one.slice) (cells ∷ [])
+row_told m pref one solver cells found sound orders is of same told =
+    sym (ap (λ passes. length (cond passes (cells ∷ []) []))
+    ((plain_search_is_exact m pref one.slice cells sound (orders.as_many, orders.each) is.slice of).0
+    ∙ sym (ap (λ (s : SolverView). is_extendable s.model s.slice cells) (same ∙ is.solver)) ∙ told) ∙ by_found found)
+  where
+    by_found : (b : Bool) → length (cond b (cells ∷ []) []) ≡ cond b 1 0
+    by_found true = refl
+    by_found false = refl

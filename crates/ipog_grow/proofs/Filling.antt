@@ -14,7 +14,8 @@ use Rattle.cov_model.specs.Slices.{slice_values}
 use Rattle.definitions.specs.Demand.{is_among}
 use Rattle.definitions.specs.Completion.{falling, with_value, preferred_values}
 use Rattle.definitions.specs.Growth.{first_extendable, is_uncovered}
-use Rattle.feasibility.proofs.Extendable.{get_or-preferred_values, preferred_listed, slice_exist}
+use Rattle.definitions.proofs.PartialRowLemmas.{get_or-preferred_values}
+use Rattle.feasibility.proofs.Extendable.{preferred_listed, slice_exist}
 use Rattle.uncovered_table.specs.Open.{OpenView, gain}
 use Rattle.ipog_grow.specs.Growing.{IsInPlay, open_tuples}
 use Rattle.ipog_grow.specs.Asking.{SearchContext, IsSoundContext, extends, tried, filled, Grows}

@@ -9,7 +9,7 @@ use Rattle.definitions.specs.Pairs.{pairs_of}
 use Rattle.definitions.specs.Search.{first_over, question_cost}
 use Rattle.feasibility.specs.declared.answer.SearchFault.{SearchFault}
 use Rattle.feasibility.specs.declared.answer.SearchFault.TheVariants.{Spent, NoMemory}
-use Rattle.ipog_grow.specs.Suites.{EndsBy}
+use Rattle.feasibility.specs.Ends.{EndsBy}
 use Rattle.ipog_grow.proofs.Spending.{find-later, find-earlier}
 
 -- a run ends as its part does, where the part's first question above the budget is the run's

@@ -1,13 +1,11 @@
--- When a suite is the one that growth gives, and how a run of questions ends. (This project's rules.)
-use Rattle.std.specs.Prelude.{◌≡◌, ℕ, [], List, map, length, Option, Some, None, Result, Ok, Err, All, option_map, unwrap_or}
+-- When a suite is the one that growth gives, and where a run of questions stopped. (This project's rules.)
+use Rattle.std.specs.Prelude.{◌≡◌, ℕ, [], List, map, length, Option, Some, None, All, unwrap_or}
 use Rattle.cov_model.specs.Sound.{ModelView}
 use Rattle.definitions.specs.Growth.{growth}
 use Rattle.definitions.specs.Pairs.{cells_of, pairs_of}
 use Rattle.definitions.specs.Seeds.{kept_seeds, dropped_lines}
 use Rattle.definitions.specs.SuiteProof.{AreEagerTrees}
 use Rattle.definitions.specs.Verdict.{as_cells}
-use Rattle.feasibility.specs.declared.answer.SearchFault.{SearchFault}
-use Rattle.feasibility.specs.declared.answer.SearchFault.TheVariants.{Spent, NoMemory}
 use Rattle.refutation.specs.Proofs.{format_of, omission_meant}
 use Rattle.refutation.specs.declared.omissions.Omission.{Omission}
 use Rattle.refutation.specs.declared.omissions.ProofForm.{ProofForm}
@@ -39,16 +37,6 @@ pub record IsSuiteOf (m : ModelView) (pref : List (List ℕ)) (seeds : List (ℕ
   pub trees : HasTrees m pref proof suite.omitted.omissions
   pub kept : suite.kept ≡ length (kept_seeds m seeds)
   pub dropped : suite.dropped ≡ dropped_lines m seeds
-
--- a run ends by the first of its questions whose cost is above the budget, or for want of memory
-abbrev pub EndsBy : Option (List (Option ℕ)) → SearchFault → Type 0
-EndsBy over (Spent question) = option_map pairs_of over ≡ Some question.cells
-EndsBy over NoMemory = Unit {0}
-
--- a run without a fault asked no question whose cost is above the budget
-abbrev pub Ends : {A : Type 0} → Result A SearchFault → Option (List (Option ℕ)) → Type 0
-Ends (Ok value) over = over ≡ None
-Ends (Err fault) over = EndsBy over fault
 
 -- a run stopped at this question, the first whose cost is above the budget, or for want of memory
 abbrev pub IsStopped : Stop → List (Option ℕ) → Option (List (Option ℕ)) → Type 0

@@ -5,13 +5,13 @@ ghost use Rattle.feasibility.specs.Refuting.{earlier_tuples};
 ghost use Rattle.ipog_grow.specs.Asking.{Grows, first_spent};
 ghost use Rattle.ipog_grow.specs.Completing.{completed};
 ghost use Rattle.ipog_grow.specs.Omissions.{AreOmissionsOf, IsOmittedIn, IsTreeOf};
-ghost use Rattle.ipog_grow.specs.Suites.{Ends};
+ghost use Rattle.feasibility.specs.Ends.{Ends};
 
 use crate::asker::Asker;
 use crate::completing::complete_rows;
-use crate::question::{fault_of, tuple_of};
+use crate::question::fault_of;
 use cov_model::{Cells, Rows, Tuple};
-use feasibility::SearchFault;
+use feasibility::{SearchFault, tuple_of};
 use refutation::{Omission, Omissions, ProofForm, TreeBuf};
 use std::alloc::Global;
 use value_text::NoMemory;

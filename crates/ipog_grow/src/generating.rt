@@ -10,7 +10,8 @@ ghost use Rattle.row_text.specs.RowFiles.{seeds_seen};
 ghost use Rattle.tuple_index.specs.Plan.{plan_of};
 ghost use Rattle.ipog_grow.specs.Inputs.{IsSoundInput};
 ghost use Rattle.ipog_grow.specs.Omissions.{AreOmissionsOf, met_count};
-ghost use Rattle.ipog_grow.specs.Suites.{Ends, IsSuiteOf};
+ghost use Rattle.feasibility.specs.Ends.{Ends};
+ghost use Rattle.ipog_grow.specs.Suites.{IsSuiteOf};
 
 use crate::input::GrowInput;
 use crate::seeds::sort_seeds;

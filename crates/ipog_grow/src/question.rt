@@ -1,38 +1,11 @@
-ghost use Rattle.std.specs.Prelude.{◌≡◌, ◌<◌, ◌^◌, Option, Some, List, ℕ, length, IfOk};
-ghost use Rattle.definitions.specs.Pairs.{pairs_of};
-ghost use Rattle.ipog_grow.specs.Suites.{EndsBy, IsStopped};
+ghost use Rattle.std.specs.Prelude.{◌<◌, ◌^◌, Option, List, ℕ, length};
+ghost use Rattle.feasibility.specs.Ends.{EndsBy};
+ghost use Rattle.ipog_grow.specs.Suites.{IsStopped};
 
 use crate::stop::Stop;
-use cov_model::{Cells, ParamNo, Tuple};
-use feasibility::{Question, SearchFault};
+use cov_model::Cells;
+use feasibility::{SearchFault, over_budget};
 use std::alloc::Global;
-use value_text::NoMemory;
-
-// The pairs of the parameters that have a value and their values.
-pub(crate) fn tuple_of(alloc: Global, cells: &Cells) -> Result<Tuple, NoMemory>
-    requires { length cells.now < 2 ^ 16 }
-    ensures { IfOk result (λ tuple. tuple ≡ pairs_of cells.now) }
-{
-    let mut pairs = Vec::new(alloc);
-    let count = cells.len() as ParamNo;
-    for p in 0..count {
-        if let Some(v) = cells.get(p) {
-            pairs.push((p, v))?;
-        }
-    }
-    Tuple::of(alloc, pairs.as_slice())
-}
-
-// The fault of a question whose cost exceeds the budget.
-pub(crate) fn over_budget(alloc: Global, cells: &Cells) -> SearchFault
-    requires { length cells.now < 2 ^ 16 }
-    ensures { EndsBy (Some cells.now) result }
-{
-    match tuple_of(alloc, cells) {
-        Ok(cells) => SearchFault::Spent(Question { cells }),
-        Err(_) => SearchFault::NoMemory,
-    }
-}
 
 // The fault of a run that stopped, at this question where its cost exceeds the budget.
 pub(crate) fn fault_of(alloc: Global, stop: Stop, question: &Cells) -> SearchFault

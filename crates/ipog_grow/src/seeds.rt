@@ -11,13 +11,12 @@ ghost use Rattle.definitions.specs.Seeds.{asked_seeds, dropped_lines, kept_seeds
 ghost use Rattle.definitions.specs.Growth.{is_of_slice};
 ghost use Rattle.row_text.specs.RowFiles.{row_seen, seeds_seen};
 ghost use Rattle.ipog_grow.specs.Rows.{with_row, with_seed};
-ghost use Rattle.ipog_grow.specs.Suites.{Ends};
+ghost use Rattle.feasibility.specs.Ends.{Ends};
 
 use crate::distinct::{RowSet, copy_of, push_copy};
-use crate::question::over_budget;
 use crate::suite::LineList;
 use cov_model::{Cells, ParamNo, Prefs, Rows, Slice, TestModel};
-use feasibility::{Answer, SearchFault, Solver};
+use feasibility::{Answer, SearchFault, Solver, over_budget};
 use row_text::{FileRow, FileRowList, RowFile};
 use std::alloc::Global;
 use value_text::NoMemory;

@@ -7,7 +7,7 @@ ghost use Rattle.ipog_grow.specs.Asking.{first_spent};
 ghost use Rattle.ipog_grow.specs.Inputs.{IsSoundInput, context_in};
 ghost use Rattle.ipog_grow.specs.Omissions.{AreOmissionsOf, met_count};
 ghost use Rattle.ipog_grow.specs.SliceGrowing.{grown_from};
-ghost use Rattle.ipog_grow.specs.Suites.{Ends};
+ghost use Rattle.feasibility.specs.Ends.{Ends};
 
 use crate::finish::finish_slice;
 use crate::input::GrowInput;

@@ -115,19 +115,24 @@ member_lists m set rises q among =
     ∙ sym (map_flat_map (tuple_cells m set) (λ v. value_lists (values_in (plan_of m) (Negative q v)) set) (negative_values m q))
     ∙ ap (λ vs. map (tuple_cells m set) (flat_map (λ v. value_lists (values_in (plan_of m) (Negative q v)) set) vs)) (sym own)
 
--- the demanded tuples of a rising set are those of its plan, as cells
+-- the demanded tuples of a rising set: those in the positive slice, then those with a negative value, member by member
+pub tuples_by_member : (m : ModelView) (set : List ℕ) → RisesFrom 0 (length m.params) set
+    → tuples_of m set ≡ tuples_in m set Positive ++ flat_map (λ q. flat_map (tuples_in m set) (map (λ v. Negative q v) (negative_values m q))) set
+tuples_by_member m set rises =
+    ap (λ ts. tuples_in m set Positive ++ ts)
+    (flat_map_flat (tuples_in m set) (λ q. map (λ v. Negative q v) (negative_values m q)) (param_numbers m)
+    ∙ flat_map_members (λ q. flat_map (tuples_in m set) (map (λ v. Negative q v) (negative_values m q))) (length m.params) 0 (length m.params) set
+    (sym (zero-add _)) rises (λ q le among. none_of m set q (negative_values m q) among))
+
+-- they are those of its plan, as cells
 pub tuples_of-lists : (m : ModelView) (set : List ℕ) → RisesFrom 0 (length m.params) set
     → tuples_of m set ≡ map (tuple_cells m set) (tuple_lists (plan_of m) set)
 tuples_of-lists m set rises =
     let cells = map (tuple_cells m set) in
-    let by_parameter : flat_map (tuples_in m set) (flat_map (λ p. map (λ v. Negative p v) (negative_values m p)) (param_numbers m))
-    ≡ flat_map (λ p. flat_map (tuples_in m set) (map (λ v. Negative p v) (negative_values m p))) (param_numbers m)
-    = flat_map_flat (tuples_in m set) (λ p. map (λ v. Negative p v) (negative_values m p)) (param_numbers m) in
-    let by_member = flat_map_members (λ p. flat_map (tuples_in m set) (map (λ v. Negative p v) (negative_values m p))) (length m.params) 0 (length m.params) set
-    (sym (zero-add _)) rises (λ q le among. none_of m set q (negative_values m q) among) in
     let as_lists = flat_map_among (λ p. flat_map (tuples_in m set) (map (λ v. Negative p v) (negative_values m p)))
     (λ p. cells (negative_lists (plan_of m) set p)) set (member_lists m set rises) in
-    ap (λ ts. ts ++ flat_map (tuples_in m set) (flat_map (λ p. map (λ v. Negative p v) (negative_values m p)) (param_numbers m))) (positive_lists m set rises)
+    tuples_by_member m set rises
+    ∙ ap (λ ts. ts ++ flat_map (λ p. flat_map (tuples_in m set) (map (λ v. Negative p v) (negative_values m p))) set) (positive_lists m set rises)
     ∙ ap (λ ts. cells (value_lists (values_in (plan_of m) Positive) set) ++ ts)
-    (by_parameter ∙ by_member ∙ as_lists ∙ sym (map_flat_map (tuple_cells m set) (negative_lists (plan_of m) set) set))
+    (as_lists ∙ sym (map_flat_map (tuple_cells m set) (negative_lists (plan_of m) set) set))
     ∙ sym (map-append (tuple_cells m set) (value_lists (values_in (plan_of m) Positive) set) (flat_map (negative_lists (plan_of m) set) set))

@@ -6,7 +6,7 @@ use Rattle.definitions.specs.Search.{question_cost}
 use Rattle.ipog_grow.specs.Asking.{SearchContext, Grows, Told, columns_grown, first_spent}
 use Rattle.ipog_grow.specs.Inputs.{context_in}
 use Rattle.ipog_grow.specs.Omissions.{IsOmittedIn}
-use Rattle.ipog_grow.specs.Suites.{Ends}
+use Rattle.feasibility.specs.Ends.{Ends}
 use Rattle.ipog_grow.proofs.Omitting.{omitted-in, omitted-few}
 use Rattle.ipog_grow.proofs.Slicing.{seeds_grow, stopped-in}
 use Rattle.ipog_grow.proofs.Spending.{find-later, find-earlier}
