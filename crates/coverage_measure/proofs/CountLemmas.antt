@@ -1,10 +1,11 @@
 -- Counts over items one after another: of a parameter's values, of its negative values, and of a set's members.
 use Rattle.std.proofs.Common.{◌≡◌, ℕ, ◌+◌, ◌*◌, ◌^◌, ◌<◌, ◌≤◌, Bool, true, false, cond, List, [], ◌∷◌, ◌++◌, map, length, get_or, take, drop, find, sum_by, min}
-use Rattle.std.proofs.Common.{Option, Some, None, refl, ◌∙◌, sym, ap, subst, arith, length-append}
-use Rattle.std.specs.Prelude.{nat_lt, sum}
+use Rattle.std.proofs.Common.{Option, None, refl, ◌∙◌, sym, ap, subst, arith, length-append}
+use Rattle.std.specs.Prelude.{◌==◌, nat_lt, sum}
 use Rattle.std.specs.List.{filter, flat_map}
 use Rattle.std.proofs.Math.Nat.{mul-add, mul-le-mul_left}
-use Rattle.std.proofs.lemmas.List.{drop_more, get_or-map, length-take-le, take_all}
+use Rattle.std.proofs.lemmas.Bool.{eq-eqb, or_left}
+use Rattle.std.proofs.lemmas.List.{drop_more, get_or-map, get_or-take, get_or_default, length-take-le, take_all}
 use Rattle.std.proofs.lemmas.List.Elements.{All-get_or}
 use Rattle.std.proofs.lemmas.List.Folds.{flat_map-map}
 use Rattle.std.proofs.lemmas.List.Sums.{get_or-le-sum_by, sum_by_more, sum_by_more_le}
@@ -17,10 +18,13 @@ use Rattle.definitions.specs.Completion.{preferred_values, with_value}
 use Rattle.definitions.specs.Demand.{demanded_sets, is_among, tuples_in, tuples_of}
 use Rattle.definitions.specs.Search.{Outcome, constrained_params, question_cost}
 use Rattle.definitions.proofs.Members.{of_among}
+use Rattle.definitions.specs.SliceRows.{IsSliceOf}
 use Rattle.definitions.proofs.Totals.{count_flat}
 use Rattle.feasibility.specs.declared.answer.SearchFault.{SearchFault}
 use Rattle.feasibility.specs.Ends.{EndsBy}
+use Rattle.feasibility.specs.Solving.{SolverView}
 use Rattle.feasibility.proofs.Alike.{visit_alike}
+use Rattle.feasibility.proofs.Nodes.{listed_at}
 use Rattle.tuple_index.specs.Kept.{IsKept}
 use Rattle.tuple_index.specs.Places.{RisesFrom}
 use Rattle.tuple_index.specs.Plan.{PlanView, plan_of, set_at}
@@ -28,9 +32,11 @@ use Rattle.tuple_index.proofs.ListingLemmas.{flat_map_same}
 use Rattle.tuple_index.proofs.OrderLemmas.{demanded_rise}
 use Rattle.tuple_index.proofs.TupleLemmas.{tuples_by_member}
 use Rattle.value_text.proofs.ListLemmas.{length-filter-le}
-use Rattle.coverage_measure.specs.Asking.{IsBefore, is_above, is_found, tally, with_values}
+use Rattle.coverage_measure.specs.Asking.{IsBefore, IsFor, is_above, is_found, tally, with_values}
+use Rattle.coverage_measure.specs.declared.asking.KeptSolver.{KeptSolver}
 use Rattle.coverage_measure.proofs.EndLemmas.{ends_item, none_more}
 use Rattle.coverage_measure.proofs.QuestionLemmas.{part_few}
+use Rattle.coverage_measure.proofs.ValueLemmas.{before_more}
 use Rattle.coverage_measure.proofs.StandsLemmas.{IsSameOnAlike, StandFor, ends_tried, none_stands, stand_for}
 
 -- the plain cost of a question is above the budget
@@ -105,6 +111,13 @@ pub before_here : (m : ModelView) (slice : Slice) (members : List ℕ) (place : 
     → IsBefore m slice (drop place members) cells → IsBefore m slice (get_or members place 0 ∷ drop (place + 1) members) cells
 before_here m slice members place cells within before = subst (λ params. IsBefore m slice params cells) (drop_more members place 0 within) before
 
+-- and has no value yet
+pub free_here : (m : ModelView) (slice : Slice) (members : List ℕ) (place : ℕ) (cells : List (Option ℕ)) → place < length members
+    → IsBefore m slice (drop place members) cells → get_or cells (get_or members place 0) None ≡ None
+free_here m slice members place cells within before =
+    let p = get_or members place 0 in
+    (before_here m slice members place cells within before).free p (or_left (p == p) (is_among (drop (place + 1) members) p) (eq-eqb p p refl))
+
 -- the outcome of a search is the same on alike rows
 found_alike : (m : ModelView) (pref : List (List ℕ)) (slice : Slice) → IsSameOnAlike m (is_found m pref slice)
 found_alike m pref slice a b alike = ap (λ (o : Outcome). o.found) (visit_alike m (preferred_values m pref slice) (constrained_params m) a b alike)
@@ -129,6 +142,33 @@ are_tried m pref slice budget members place cells named tried each within is tri
       (above_alike m pref slice budget) within is tried_is each_is;
 }
 
+-- as a solver that is kept has them
+pub member_tried : (m : ModelView) (pref : List (List ℕ)) (budget : ℕ) (one : KeptSolver) (members : List ℕ) (place : ℕ) (cells : List (Option ℕ)) (tried each : ℕ)
+    → IsFor m pref one → get_or members place 0 < length m.params
+    → tried ≡ cond (is_among (constrained_params one.solver.model) (get_or members place 0)) (length (get_or one.values (get_or members place 0) []))
+    (min (length (get_or one.values (get_or members place 0) [])) 1)
+    → each ≡ cond (is_among (constrained_params one.solver.model) (get_or members place 0)) 1 (length (get_or one.values (get_or members place 0) []))
+    → AreTried m pref one.slice budget members place cells tried each
+member_tried m pref budget one members place cells tried each is within tried_is each_is =
+    let p = get_or members place 0 in
+    let named : is_among (constrained_params one.solver.model) p ≡ is_among (constrained_params m) p =
+    ap (λ (s : SolverView). is_among (constrained_params s.model) p) is.solver in
+    let count : length (get_or one.values p []) ≡ length (values_of m one.slice members place) = ap (λ lists. length (get_or lists p [])) is.values in
+    are_tried m pref one.slice budget members place cells (is_among (constrained_params m) p) tried each within refl
+    (tried_is ∙ ap (λ b. cond b (length (get_or one.values p [])) (min (length (get_or one.values p [])) 1)) named
+    ∙ ap (λ n. cond (is_among (constrained_params m) p) n (min n 1)) count)
+    (each_is ∙ ap (λ b. cond b 1 (length (get_or one.values p []))) named ∙ ap (λ n. cond (is_among (constrained_params m) p) 1 n) count)
+
+-- and these are for no more than all the rows
+pub tried_few : (m : ModelView) (pref : List (List ℕ)) (slice : Slice) (budget : ℕ) (members : List ℕ) (place : ℕ) (cells : List (Option ℕ)) (tried each : ℕ)
+    → place < length members → AreTried m pref slice budget members place cells tried each
+    → each * sum_by (λ v. tally (is_found m pref slice) (rows_with m slice members place cells v)) (take tried (values_of m slice members place))
+    ≤ length (with_values (slice_values m slice) (drop place members) cells)
+tried_few m pref slice budget members place cells tried each within are =
+    let rows = rows_with m slice members place cells in
+    let values = values_of m slice members place in
+    omega (arith, are.found.whole, length-filter-le (is_found m pref slice) (flat_map rows values), ap length (rows_split m slice members place cells within))
+
 -- those that are tried before a number of them are counted
 abbrev pub IsCountedTo : ModelView → List (List ℕ) → Slice → ℕ → List ℕ → ℕ → List (Option ℕ) → ℕ → ℕ → ℕ → ℕ → Type 0
 IsCountedTo m pref slice budget members place cells tried each i count =
@@ -138,7 +178,79 @@ IsCountedTo m pref slice budget members place cells tried each i count =
 pub record IsTriedAt (m : ModelView) (slice : Slice) (members : List ℕ) (place tried i v : ℕ) : Type 0 where
   pub within : i < length (take tried (values_of m slice members place))
   pub is : v ≡ get_or (take tried (values_of m slice members place)) i v
-  pub few : i < length (values_of m slice members place)
+  pub listed : is_among (values_of m slice members place) v ≡ true
+
+pub tried_at : (m : ModelView) (slice : Slice) (members : List ℕ) (place tried i v : ℕ) → tried ≤ length (values_of m slice members place) → i < tried
+    → v ≡ get_or (values_of m slice members place) i 0 → IsTriedAt m slice members place tried i v
+tried_at m slice members place tried i v some below is =
+    let values = values_of m slice members place in
+    let inside : i < length values = omega (arith, some, below) in
+    record {
+      within = omega (arith, below, length-take-le tried values some);
+      is = is ∙ get_or_default values i 0 v inside ∙ sym (get_or-take tried values i v below);
+      listed = ap (is_among values) is ∙ listed_at values values i refl inside;
+    }
+
+-- with it, the next member is asked, of no more rows
+pub before_next : (m : ModelView) (slice : Slice) (members : List ℕ) (place tried i v : ℕ) (cells : List (Option ℕ)) → IsSliceOf m slice → place < length members
+    → IsBefore m slice (drop place members) cells → IsTriedAt m slice members place tried i v
+    → IsBefore m slice (drop (place + 1) members) (with_value cells (get_or members place 0) v)
+before_next m slice members place tried i v cells own within before at =
+    before_more m slice (get_or members place 0) (drop (place + 1) members) cells v own (before_here m slice members place cells within before) at.listed
+
+pub next_few : (m : ModelView) (slice : Slice) (members : List ℕ) (place tried i v : ℕ) (cells : List (Option ℕ)) → place < length members
+    → IsTriedAt m slice members place tried i v
+    → length (rows_with m slice members place cells v) ≤ length (with_values (slice_values m slice) (drop place members) cells)
+next_few m slice members place tried i v cells within at =
+    omega (
+      arith,
+      part_few (rows_with m slice members place cells) (values_of m slice members place) v (of_among (values_of m slice members place) v at.listed),
+      ap length (rows_split m slice members place cells within),
+    )
+
+-- a step of the loop over those that are tried: the solver, the cells and the values are the first ones, and the cells get the value
+pub record IsStep (m : ModelView) (pref : List (List ℕ)) (slice : Slice) (budget : ℕ) (members : List ℕ) (place : ℕ) (cells row : List (Option ℕ)) (tried each i v : ℕ) : Type 0 where
+  pub within : place < length members
+  pub are : AreTried m pref slice budget members place cells tried each
+  pub at : IsTriedAt m slice members place tried i v
+  pub given : row ≡ with_value cells (get_or members place 0) v
+
+pub is_step : (m : ModelView) (pref : List (List ℕ)) (budget : ℕ) (one now : KeptSolver) (members : List ℕ) (place : ℕ) (cells here row : List (Option ℕ)) (values : List ℕ)
+    (tried each i : ℕ) → IsFor m pref one → IsBefore m one.slice (drop place members) cells → place < length members
+    → tried ≡ cond (is_among (constrained_params one.solver.model) (get_or members place 0)) (length (get_or one.values (get_or members place 0) []))
+    (min (length (get_or one.values (get_or members place 0) [])) 1)
+    → each ≡ cond (is_among (constrained_params one.solver.model) (get_or members place 0)) 1 (length (get_or one.values (get_or members place 0) []))
+    → i < tried → now ≡ one → here ≡ cells → values ≡ get_or now.values (get_or members place 0) [] → row ≡ with_value here (get_or members place 0) (get_or values i 0)
+    → IsStep m pref one.slice budget members place cells row tried each i (get_or values i 0)
+is_step m pref budget one now members place cells here row values tried each i is before within tried_is each_is below same_one same_cells values_are row_is =
+    let p = get_or members place 0 in
+    let are = member_tried m pref budget one members place cells tried each is (before_here m one.slice members place cells within before).rising.1 tried_is each_is in
+    let all : values ≡ values_of m one.slice members place =
+    values_are ∙ ap (λ (solver : KeptSolver). get_or solver.values p []) same_one ∙ ap (λ lists. get_or lists p []) is.values in
+    record {
+      within = within;
+      are = are;
+      at = tried_at m one.slice members place tried i (get_or values i 0) are.found.some below (ap (λ list. get_or list i 0) all);
+      given = row_is ∙ ap (λ start. with_value start p (get_or values i 0)) same_cells;
+    }
+
+-- what is asked then
+pub step_asks : {A : Type 0} (told : Slice → List (List (Option ℕ)) → A) (m : ModelView) (one now : KeptSolver) (members : List ℕ) (place : ℕ) (cells row : List (Option ℕ)) (v : ℕ)
+    → now ≡ one → row ≡ with_value cells (get_or members place 0) v
+    → told now.slice (with_values (slice_values m now.slice) (drop (place + 1) members) row) ≡ told one.slice (rows_with m one.slice members place cells v)
+step_asks told m one now members place cells row v same row_is =
+    ap (λ (solver : KeptSolver). told solver.slice (with_values (slice_values m solver.slice) (drop (place + 1) members) row)) same
+    ∙ ap (λ start. told one.slice (with_values (slice_values m one.slice) (drop (place + 1) members) start)) row_is
+
+-- the count with it is no more than all the rows
+pub step_few : (m : ModelView) (pref : List (List ℕ)) (slice : Slice) (budget : ℕ) (members : List ℕ) (place : ℕ) (cells row : List (Option ℕ)) (tried each i v count inner : ℕ)
+    → IsStep m pref slice budget members place cells row tried each i v → IsCountedTo m pref slice budget members place cells tried each i count
+    → inner ≡ tally (is_found m pref slice) (rows_with m slice members place cells v)
+    → count + each * inner ≤ length (with_values (slice_values m slice) (drop place members) cells)
+step_few m pref slice budget members place cells row tried each i v count inner step so_far inner_is =
+    counted_within (is_found m pref slice) (is_above m pref slice budget) (rows_with m slice members place cells) (take tried (values_of m slice members place)) each i count inner
+    (length (with_values (slice_values m slice) (drop place members) cells)) v step.at.within step.at.is so_far inner_is
+    (tried_few m pref slice budget members place cells tried each step.within step.are)
 
 -- all that are tried
 pub record AreCounted (m : ModelView) (pref : List (List ℕ)) (slice : Slice) (budget : ℕ) (params : List ℕ) (cells : List (Option ℕ)) (count : ℕ) : Type 0 where

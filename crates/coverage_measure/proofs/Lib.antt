@@ -6,5 +6,6 @@ pub mod ValueLemmas
 pub mod QuestionLemmas
 pub mod StandsLemmas
 pub mod CountLemmas
+pub mod SliceCounts
 pub mod AskLemmas
 pub mod FigureLemmas

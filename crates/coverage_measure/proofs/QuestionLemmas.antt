@@ -1,5 +1,5 @@
 -- The demanded tuples of a set in a slice as questions.
-use Rattle.std.proofs.Common.{◌≡◌, ℕ, ◌<◌, ◌≤◌, Bool, true, false, cond, List, [], ◌∷◌, ◌++◌, length, get_or, find, Option, Some, None, inl, inr, refl, ◌∙◌, sym, ap, subst, arith, length-append}
+use Rattle.std.proofs.Common.{◌≡◌, ℕ, ◌<◌, ◌≤◌, Bool, true, cond, List, [], ◌∷◌, length, get_or, find, Option, Some, inl, inr, refl, ◌∙◌, sym, ap, arith, length-append}
 use Rattle.std.specs.List.{filter, flat_map}
 use Rattle.std.specs.Prelude.{nat_lt}
 use Rattle.cov_model.specs.declared.slice.Slice.{Slice}

@@ -9,12 +9,12 @@ use Rattle.std.proofs.lemmas.List.{append_assoc, get_or-set_other, get_or-set_sa
 use Rattle.cov_model.specs.declared.slice.Slice.{Slice}
 use Rattle.cov_model.specs.declared.slice.Slice.TheVariants.{Positive, Negative}
 use Rattle.cov_model.specs.Sound.{ModelView}
-use Rattle.cov_model.specs.Rows.{is_assigned, value_in}
+use Rattle.cov_model.specs.Rows.{is_assigned}
 use Rattle.cov_model.specs.Slices.{slice_values}
 use Rattle.cov_model.proofs.CellLemmas.{length-slice_values}
 use Rattle.definitions.specs.Completion.{with_value}
 use Rattle.definitions.specs.Demand.{is_among, tuples_in, value_choices}
-use Rattle.definitions.specs.SliceRows.{IsOfSlice, IsSliceOf}
+use Rattle.definitions.specs.SliceRows.{IsSliceOf}
 use Rattle.definitions.proofs.Members.{of_among}
 use Rattle.definitions.proofs.SliceLemmas.{value_exists}
 use Rattle.feasibility.specs.Tree.{no_values}

@@ -1,6 +1,6 @@
 -- What is asked of the demanded tuples: solvers that are kept, each for a slice, and the partial rows that are asked.
 -- (This project's rule.)
-use Rattle.std.specs.Prelude.{◌≡◌, ℕ, Bool, true, List, [], ◌∷◌, length, Option, None, find, nat_lt, slice_index_or}
+use Rattle.std.specs.Prelude.{◌≡◌, ℕ, Bool, true, List, [], ◌∷◌, length, Option, None, nat_lt, slice_index_or}
 use Rattle.std.specs.List.{filter, flat_map}
 use Rattle.cov_model.specs.declared.slice.Slice.{Slice}
 use Rattle.cov_model.specs.Slices.{slice_values}

@@ -1,49 +1,169 @@
-use Rattle.std.proofs.Common.{rules, ◌≡◌, ◌<◌, ◌≤◌, ◌^◌, true, [], All, IfOk, drop, find, length, min, slice_index_or, if◌then◌else◌, ℕ, ◌+◌, ◌-◌, ◌*◌, ◌/◌, ◌%◌, Bool, false, nat_eq, nat_lt, List, ◌∷◌, ◌++◌, slice_set, bit_and, bit_or, Fits, w8, w32, w64, Bor, MutBor}
-use Rattle.std.specs.List.{flat_map}
-use Rattle.cov_model.specs.Meaning.{value_at}
-use Rattle.cov_model.specs.Preference.{OrdersValues}
-use Rattle.cov_model.specs.Slices.{negative_values, slice_values}
-use Rattle.cov_model.specs.Sound.{param_at}
-use Rattle.cov_model.specs.declared.slice.Slice.TheVariants.{Negative}
-use Rattle.definitions.specs.Demand.{is_among, tuples_in, tuples_of}
-use Rattle.definitions.specs.Figures.{all_rows, is_served, servable}
-use Rattle.definitions.specs.Search.{constrained_params, first_over}
-use Rattle.definitions.specs.SliceRows.{IsSliceOf}
-use Rattle.feasibility.specs.Ends.{Ends}
-use Rattle.feasibility.specs.Tree.{no_values}
-use Rattle.tuple_index.specs.Places.{RisesFrom, has_part}
-use Rattle.tuple_index.specs.Plan.{plan_of, set_at}
-use Rattle.coverage_measure.specs.Asking.{IsBefore, IsFor, is_above, is_found, tally, with_values}
+use Rattle.std.proofs.Common.{◌<◌, ◌+◌, length, get_or, set, take, drop, find, None, refl, ◌∙◌, sym, ap, subst, arith}
+use Rattle.std.proofs.lemmas.Result.{err_from_is_err_and}
+use Rattle.cov_model.specs.Sound.{ModelView}
+use Rattle.cov_model.proofs.CellLemmas.{length-slice_values}
+use Rattle.feasibility.specs.Ends.{EndsBy}
+use Rattle.feasibility.proofs.Nodes.{set_clear}
+use Rattle.coverage_measure.specs.Asking.{IsBefore, IsFor, is_above, is_found, tally}
+use Rattle.coverage_measure.specs.declared.asking.KeptSolver.{KeptSolver}
+use Rattle.coverage_measure.proofs.CountLemmas.{before_here, before_next, counted_more, free_here, is_step, member_tried, next_few, rows_with, step_asks, step_few, tried_all, tried_ends, values_of}
 use Rattle.coverage_measure.proofs.asking.Asking.+count_from.Goals as goal
 
--- src/servable.rt:73:29
 pub values_tried-tried-requires : goal.values_tried-tried-requires
-values_tried-tried-requires t c = ? -- before_here, its .rising.1, and length-slice_values
+values_tried-tried-requires t c =
+    let m : ModelView = c.args.self.now.model.now in
+    let within : c.args.place < length c.args.members.now = omega arith in
+    omega (
+      arith,
+      (before_here m c.args.kept.now.slice c.args.members.now c.args.place c.args.cells.now within c.requires.before).rising.1,
+      ap length c.requires.kept.values,
+      length-slice_values m c.args.kept.now.slice,
+    )
 
--- src/servable.rt:78:29
 pub count_from-requires : goal.count_from-requires
-count_from-requires t c = ? -- before_here and before_more; part_few over rows_split
+count_from-requires t c =
+    let m : ModelView = c.args.self.now.model.now in
+    let one : KeptSolver = c.args.kept.now in
+    let members = c.args.members.now in
+    let place = c.args.place in
+    let cells = c.args.cells.now in
+    let tried = c.values_tried-tried.result.0 in
+    let v = get_or c.list.result.now c.loop-i.i 0 in
+    let within : place < length members = omega arith in
+    let step = is_step m c.args.self.now.prefs.now c.args.self.now.budget one c.loop-i.kept members place cells c.loop-i.cells c.set_cell.new.self c.list.result.now tried
+    c.values_tried-tried.result.1 c.loop-i.i c.requires.kept c.requires.before within c.values_tried-tried.ensures.tried c.values_tried-tried.ensures.each
+    c.loop-i-test.true c.loop-i.invariant.0 c.loop-i.invariant.1 c.list.ensures c.set_cell.ensures in (
+      omega (arith, within),
+      (
+        c.requires.orders,
+        (
+          subst (IsFor m c.args.self.now.prefs.now) (sym c.loop-i.invariant.0) c.requires.kept,
+          (
+            omega (arith, within),
+            (
+              subst (λ (now : KeptSolver). IsBefore m now.slice (drop (place + 1) members) c.set_cell.new.self) (sym c.loop-i.invariant.0)
+                  (subst (IsBefore m one.slice (drop (place + 1) members)) (sym step.given)
+                  (before_next m one.slice members place tried c.loop-i.i v cells c.requires.kept.slice within c.requires.before step.at)),
+              omega (
+                arith,
+                next_few m one.slice members place tried c.loop-i.i v cells within step.at,
+                step_asks (λ slice rows. length rows) m one c.loop-i.kept members place cells c.set_cell.new.self v c.loop-i.invariant.0 step.given,
+                c.requires.few,
+              ),
+            ),
+          ),
+        ),
+      ),
+    )
 
--- src/servable.rt:78:29
 pub returns-in_err-count-clause-ends : goal.returns-in_err-count-clause-ends
-returns-in_err-count-clause-ends t c = ? -- tried_ends
+returns-in_err-count-clause-ends t c =
+    let told = err_from_is_err_and c.from_residual.result c.from_residual.ensures.1 in
+    let m : ModelView = c.args.self.now.model.now in
+    let pref = c.args.self.now.prefs.now in
+    let budget = c.args.self.now.budget in
+    let one : KeptSolver = c.args.kept.now in
+    let members = c.args.members.now in
+    let place = c.args.place in
+    let cells = c.args.cells.now in
+    let tried = c.values_tried-tried.result.0 in
+    let each = c.values_tried-tried.result.1 in
+    let v = get_or c.list.result.now c.loop-i.i 0 in
+    let step = is_step m pref budget one c.loop-i.kept members place cells c.loop-i.cells c.set_cell.new.self c.list.result.now tried each c.loop-i.i c.requires.kept
+    c.requires.before (omega arith) c.values_tried-tried.ensures.tried c.values_tried-tried.ensures.each c.loop-i-test.true c.loop-i.invariant.0 c.loop-i.invariant.1
+    c.list.ensures c.set_cell.ensures in
+    rw (told.1, told.2)
+    (tried_ends m pref one.slice budget members place cells tried each c.loop-i.i c.loop-i.count v c.in_err-count.field-0.0 step.within step.at c.loop-i.invariant.2
+    (subst (λ over. EndsBy over c.in_err-count.field-0.0)
+    (step_asks (λ slice rows. find (is_above m pref slice budget) rows) m one c.loop-i.kept members place cells c.set_cell.new.self v c.loop-i.invariant.0 step.given)
+    c.in_err-count.ensures.ends))
 
--- src/servable.rt:78:22
 pub overflow_mul-count : goal.overflow_mul-count
-overflow_mul-count t c = ? -- counted_within, with are_tried's found.whole and length-filter-le
+overflow_mul-count t c =
+    let m : ModelView = c.args.self.now.model.now in
+    let pref = c.args.self.now.prefs.now in
+    let budget = c.args.self.now.budget in
+    let one : KeptSolver = c.args.kept.now in
+    let members = c.args.members.now in
+    let place = c.args.place in
+    let cells = c.args.cells.now in
+    let tried = c.values_tried-tried.result.0 in
+    let each = c.values_tried-tried.result.1 in
+    let v = get_or c.list.result.now c.loop-i.i 0 in
+    let step = is_step m pref budget one c.loop-i.kept members place cells c.loop-i.cells c.set_cell.new.self c.list.result.now tried each c.loop-i.i c.requires.kept
+    c.requires.before (omega arith) c.values_tried-tried.ensures.tried c.values_tried-tried.ensures.each c.loop-i-test.true c.loop-i.invariant.0 c.loop-i.invariant.1
+    c.list.ensures c.set_cell.ensures in
+    let few = step_few m pref one.slice budget members place cells c.set_cell.new.self tried each c.loop-i.i v c.loop-i.count c.in_ok-count.field-0 step c.loop-i.invariant.2
+    (c.in_ok-count.ensures.count ∙ step_asks (λ slice rows. tally (is_found m pref slice) rows) m one c.loop-i.kept members place cells c.set_cell.new.self v c.loop-i.invariant.0 step.given) in
+    omega (arith, few, c.requires.few)
 
--- src/servable.rt:78:13
 pub overflow_add-count : goal.overflow_add-count
-overflow_add-count t c = ? -- the same
+overflow_add-count t c =
+    let m : ModelView = c.args.self.now.model.now in
+    let pref = c.args.self.now.prefs.now in
+    let budget = c.args.self.now.budget in
+    let one : KeptSolver = c.args.kept.now in
+    let members = c.args.members.now in
+    let place = c.args.place in
+    let cells = c.args.cells.now in
+    let tried = c.values_tried-tried.result.0 in
+    let each = c.values_tried-tried.result.1 in
+    let v = get_or c.list.result.now c.loop-i.i 0 in
+    let step = is_step m pref budget one c.loop-i.kept members place cells c.loop-i.cells c.set_cell.new.self c.list.result.now tried each c.loop-i.i c.requires.kept
+    c.requires.before (omega arith) c.values_tried-tried.ensures.tried c.values_tried-tried.ensures.each c.loop-i-test.true c.loop-i.invariant.0 c.loop-i.invariant.1
+    c.list.ensures c.set_cell.ensures in
+    let few = step_few m pref one.slice budget members place cells c.set_cell.new.self tried each c.loop-i.i v c.loop-i.count c.in_ok-count.field-0 step c.loop-i.invariant.2
+    (c.in_ok-count.ensures.count ∙ step_asks (λ slice rows. tally (is_found m pref slice) rows) m one c.loop-i.kept members place cells c.set_cell.new.self v c.loop-i.invariant.0 step.given) in
+    omega (arith, few, c.requires.few)
 
--- src/servable.rt:75:9
 pub loop-i-preserved : goal.loop-i-preserved
-loop-i-preserved t c = ? -- set_clear and counted_more
+loop-i-preserved t c =
+    let m : ModelView = c.args.self.now.model.now in
+    let pref = c.args.self.now.prefs.now in
+    let budget = c.args.self.now.budget in
+    let one : KeptSolver = c.args.kept.now in
+    let members = c.args.members.now in
+    let place = c.args.place in
+    let cells = c.args.cells.now in
+    let p = get_or members place 0 in
+    let tried = c.values_tried-tried.result.0 in
+    let each = c.values_tried-tried.result.1 in
+    let v = get_or c.list.result.now c.loop-i.i 0 in
+    let step = is_step m pref budget one c.loop-i.kept members place cells c.loop-i.cells c.set_cell.new.self c.list.result.now tried each c.loop-i.i c.requires.kept
+    c.requires.before (omega arith) c.values_tried-tried.ensures.tried c.values_tried-tried.ensures.each c.loop-i-test.true c.loop-i.invariant.0 c.loop-i.invariant.1
+    c.list.ensures c.set_cell.ensures in (
+      c.count_from.ensures.kept ∙ c.loop-i.invariant.0,
+      c.clear_cell.ensures ∙ ap (λ row. set row p None) (c.in_ok-count.ensures.cells ∙ step.given)
+          ∙ set_clear cells p v (free_here m one.slice members place cells step.within c.requires.before),
+      counted_more (is_found m pref one.slice) (is_above m pref one.slice budget) (rows_with m one.slice members place cells) (take tried (values_of m one.slice members place)) each
+          c.loop-i.i c.loop-i.count c.in_ok-count.field-0 _ v step.at.within step.at.is c.loop-i.invariant.2
+          (c.in_ok-count.ensures.count ∙ step_asks (λ slice rows. tally (is_found m pref slice) rows) m one c.loop-i.kept members place cells c.set_cell.new.self v c.loop-i.invariant.0
+          step.given)
+          (sym (step_asks (λ slice rows. find (is_above m pref slice budget) rows) m one c.loop-i.kept members place cells c.set_cell.new.self v c.loop-i.invariant.0 step.given)
+          ∙ c.in_ok-count.ensures.ends)
+          refl,
+    )
 
--- src/servable.rt:50:5
 pub returns-clause-count : goal.returns-clause-count
-returns-clause-count t c = ? -- tried_all, its .counted
+returns-clause-count t c =
+    let m : ModelView = c.args.self.now.model.now in
+    let one : KeptSolver = c.args.kept.now in
+    let members = c.args.members.now in
+    let within : c.args.place < length members = omega arith in
+    let are = member_tried m c.args.self.now.prefs.now c.args.self.now.budget one members c.args.place c.args.cells.now c.values_tried-tried.result.0
+    c.values_tried-tried.result.1 c.requires.kept (before_here m one.slice members c.args.place c.args.cells.now within c.requires.before).rising.1
+    c.values_tried-tried.ensures.tried c.values_tried-tried.ensures.each in
+    (tried_all m c.args.self.now.prefs.now one.slice c.args.self.now.budget members c.args.place c.args.cells.now c.values_tried-tried.result.0
+    c.values_tried-tried.result.1 c.loop-i.i c.loop-i.count within (omega (arith, c.loop-i-test.false)) are c.loop-i.invariant.2).counted
 
--- src/servable.rt:50:5
 pub returns-clause-ends : goal.returns-clause-ends
-returns-clause-ends t c = ? -- tried_all, its .none
+returns-clause-ends t c =
+    let m : ModelView = c.args.self.now.model.now in
+    let one : KeptSolver = c.args.kept.now in
+    let members = c.args.members.now in
+    let within : c.args.place < length members = omega arith in
+    let are = member_tried m c.args.self.now.prefs.now c.args.self.now.budget one members c.args.place c.args.cells.now c.values_tried-tried.result.0
+    c.values_tried-tried.result.1 c.requires.kept (before_here m one.slice members c.args.place c.args.cells.now within c.requires.before).rising.1
+    c.values_tried-tried.ensures.tried c.values_tried-tried.ensures.each in
+    (tried_all m c.args.self.now.prefs.now one.slice c.args.self.now.budget members c.args.place c.args.cells.now c.values_tried-tried.result.0
+    c.values_tried-tried.result.1 c.loop-i.i c.loop-i.count within (omega (arith, c.loop-i-test.false)) are c.loop-i.invariant.2).none

@@ -1,6 +1,5 @@
-use Rattle.std.proofs.Common.{◌≡◌, All, length}
+use Rattle.std.proofs.Common.{◌≡◌, All}
 use Rattle.cov_model.specs.Slices.{value_numbers}
-use Rattle.cov_model.specs.Sound.{param_at}
 use Rattle.definitions.specs.Figures.{all_rows, is_served}
 use Rattle.feasibility.specs.Tree.{no_values}
 use Rattle.coverage_measure.specs.Asking.{IsFor}
