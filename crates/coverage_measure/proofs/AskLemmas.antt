@@ -1,12 +1,26 @@
 -- Solvers that are kept, and what one answers.
-use Rattle.std.proofs.Common.{◌≡◌, ℕ, List, [], ◌∷◌, ◌++◌, map, length, take, All, Some, ◌∙◌, sym, ap, subst, arith}
+use Rattle.std.proofs.Common.{◌≡◌, ℕ, List, [], ◌∷◌, ◌++◌, map, length, take, get_or, find, All, Some, Bool, true, false, cond, Option, refl, ◌∙◌, sym, ap, subst, arith}
 use Rattle.std.specs.Prelude.{slice_get, option_map}
 use Rattle.std.proofs.lemmas.List.Elements.{All-append, All-cons, All-nil, All-take}
-use Rattle.std.proofs.lemmas.Option.{slice_get-map}
-use Rattle.cov_model.specs.Sound.{ModelView}
+use Rattle.std.proofs.Math.ListN.{get_or-map}
+use Rattle.std.proofs.lemmas.Option.{get_or_from_slice_get, slice_get-map}
+use Rattle.cov_model.specs.Preference.{OrdersValues}
+use Rattle.cov_model.specs.Sound.{IsSound, ModelView}
 use Rattle.cov_model.specs.declared.slice.Slice.{Slice}
+use Rattle.definitions.specs.Completion.{is_extendable}
+use Rattle.cov_model.specs.Slices.{slice_values}
+use Rattle.definitions.specs.Demand.{tuples_in}
+use Rattle.definitions.specs.Figures.{all_rows, is_served}
+use Rattle.definitions.specs.Search.{first_over}
+use Rattle.definitions.specs.SliceRows.{IsOfSlice, IsSliceOf}
+use Rattle.feasibility.specs.Tree.{no_values}
+use Rattle.tuple_index.specs.Places.{RisesFrom, has_part}
+use Rattle.feasibility.specs.Solving.{SolverView}
+use Rattle.feasibility.proofs.Extendable.{plain_search_is_exact}
 use Rattle.tuple_index.proofs.PlaceLemmas.{slice_get-append_right}
-use Rattle.coverage_measure.specs.Asking.{IsFor}
+use Rattle.coverage_measure.specs.Asking.{IsFor, is_above, is_found, tally, with_values}
+use Rattle.coverage_measure.proofs.QuestionLemmas.{above_are_over, found_are_served}
+use Rattle.coverage_measure.proofs.ValueLemmas.{values_lead}
 use Rattle.coverage_measure.specs.declared.asking.KeptSolver.{KeptSolver}
 
 -- one more solver behind some of those that are kept
@@ -26,3 +40,47 @@ last_place part after one place last is =
   where
     slice : KeptSolver → Slice
     slice one = one.slice
+
+-- and the solver at a slice's place is for the slice
+pub slice_at : (kept : List KeptSolver) (slice : Slice) (place : ℕ) (one : KeptSolver) → slice_get (map (λ one. one.slice) kept) place ≡ Some slice
+    → one ≡ get_or kept place one → one.slice ≡ slice
+slice_at kept slice place one is here =
+    ap slice_for here ∙ sym (get_or-map slice_for kept place one) ∙ get_or_from_slice_get (map slice_for kept) place slice (slice_for one) is
+  where
+    slice_for : KeptSolver → Slice
+    slice_for one = one.slice
+
+-- what it is asked of: the tuples of the set in the slice
+pub record AreTuples (m : ModelView) (pref : List (List ℕ)) (budget : ℕ) (set : List ℕ) (slice own : Slice) (cells : List (Option ℕ)) : Type 0 where
+  pub rows : with_values (slice_values m own) set cells ≡ tuples_in m set slice
+  pub count : tally (is_found m pref own) (with_values (slice_values m own) set cells) ≡ tally (is_served m (all_rows m)) (tuples_in m set slice)
+  pub over : find (is_above m pref own budget) (with_values (slice_values m own) set cells) ≡ first_over m pref budget (tuples_in m set slice)
+
+pub are_tuples : (m : ModelView) (pref : List (List ℕ)) (budget : ℕ) (set : List ℕ) (slice own : Slice) (cells : List (Option ℕ)) → IsSound m → OrdersValues m pref
+    → IsSliceOf m slice → RisesFrom 0 (length m.params) set → has_part set slice ≡ true → own ≡ slice → cells ≡ no_values m
+    → AreTuples m pref budget set slice own cells
+are_tuples m pref budget set slice own cells sound orders is rises part same none =
+    let rows : with_values (slice_values m own) set cells ≡ tuples_in m set slice =
+    ap (λ s. with_values (slice_values m s) set cells) same ∙ ap (with_values (slice_values m slice) set) none ∙ values_lead m set slice rises part in
+    record {
+      rows = rows;
+      count =
+          ap (λ s. tally (is_found m pref s) (with_values (slice_values m own) set cells)) same ∙ ap (tally (is_found m pref slice)) rows
+          ∙ found_are_served m pref set slice sound orders is;
+      over =
+          ap (λ s. find (is_above m pref s budget) (with_values (slice_values m own) set cells)) same ∙ ap (find (is_above m pref slice budget)) rows
+          ∙ above_are_over m pref set slice budget sound orders is;
+    }
+
+-- what an answer tells of a partial row of the slice
+pub row_told : (m : ModelView) (pref : List (List ℕ)) (one : KeptSolver) (solver : SolverView) (cells : List (Option ℕ)) (found : Bool) → IsSound m → OrdersValues m pref
+    → IsFor m pref one → IsOfSlice m one.slice cells → solver ≡ one.solver → is_extendable solver.model solver.slice cells ≡ found
+    → cond found 1 0 ≡ tally (is_found m pref one.slice) (cells ∷ [])
+row_told m pref one solver cells found sound orders is of same told =
+    sym (ap (λ passes. length (cond passes (cells ∷ []) []))
+    ((plain_search_is_exact m pref one.slice cells sound (orders.as_many, orders.each) is.slice of).0
+    ∙ sym (ap (λ (s : SolverView). is_extendable s.model s.slice cells) (same ∙ is.solver)) ∙ told) ∙ by_found found)
+  where
+    by_found : (b : Bool) → length (cond b (cells ∷ []) []) ≡ cond b 1 0
+    by_found true = refl
+    by_found false = refl

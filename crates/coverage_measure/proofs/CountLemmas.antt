@@ -1,42 +1,327 @@
--- The tuples of a set are asked and counted one after another.
-use Rattle.std.proofs.Common.{◌≡◌, ℕ, ◌+◌, ◌<◌, ◌≤◌, Bool, true, false, cond, List, [], ◌∷◌, ◌++◌, map, length, get_or, take, drop, find, Option, Some, None, ◌∙◌, sym, ap, subst, arith}
-use Rattle.std.specs.Prelude.{nat_lt, slice_get}
-use Rattle.std.specs.List.{filter, range_with_len}
-use Rattle.std.specs.Option.{option_or}
-use Rattle.std.proofs.lemmas.List.{drop_more, get_or-map, take-append-drop, take_all, take_more}
+-- Counts over items one after another: of a parameter's values, of its negative values, and of a set's members.
+use Rattle.std.proofs.Common.{◌≡◌, ℕ, ◌+◌, ◌*◌, ◌^◌, ◌<◌, ◌≤◌, Bool, true, false, cond, List, [], ◌∷◌, ◌++◌, map, length, get_or, take, drop, find, sum_by, min}
+use Rattle.std.proofs.Common.{Option, None, refl, ◌∙◌, sym, ap, subst, arith, length-append}
+use Rattle.std.specs.Prelude.{◌==◌, nat_lt, sum}
+use Rattle.std.specs.List.{filter, flat_map}
+use Rattle.std.proofs.Math.Nat.{mul-add, mul-le-mul_left}
+use Rattle.std.proofs.lemmas.Bool.{eq-eqb, or_left}
+use Rattle.std.proofs.lemmas.List.{drop_more, get_or-map, get_or-take, get_or_default, length-take-le, take_all}
 use Rattle.std.proofs.lemmas.List.Elements.{All-get_or}
-use Rattle.std.proofs.lemmas.List.Filters.{length-filter_more}
-use Rattle.std.proofs.lemmas.List.Folds.{find-append}
-use Rattle.std.proofs.lemmas.Option.{get_or_from_slice_get, slice_get_within}
-use Rattle.cov_model.specs.Sound.{ModelView, IsSound}
-use Rattle.cov_model.specs.Slices.{slice_of}
-use Rattle.definitions.specs.Completion.{is_extendable}
-use Rattle.definitions.specs.Demand.{demanded_sets, tuples_of}
-use Rattle.definitions.specs.Figures.{all_rows, is_served, servable}
-use Rattle.definitions.specs.Search.{first_over, question_cost}
-use Rattle.definitions.proofs.Serving.{servable_are_extendable}
+use Rattle.std.proofs.lemmas.List.Folds.{flat_map-map}
+use Rattle.std.proofs.lemmas.List.Sums.{get_or-le-sum_by, sum_by_more, sum_by_more_le}
+use Rattle.cov_model.specs.declared.slice.Slice.{Slice}
+use Rattle.cov_model.specs.declared.slice.Slice.TheVariants.{Negative, Positive}
+use Rattle.cov_model.specs.Meaning.{value_at}
+use Rattle.cov_model.specs.Sound.{ModelView}
+use Rattle.cov_model.specs.Slices.{negative_values, slice_values, value_numbers}
+use Rattle.definitions.specs.Completion.{preferred_values, with_value}
+use Rattle.definitions.specs.Demand.{demanded_sets, is_among, tuples_in, tuples_of}
+use Rattle.definitions.specs.Search.{Outcome, constrained_params, question_cost}
+use Rattle.definitions.proofs.Members.{of_among}
+use Rattle.definitions.specs.SliceRows.{IsSliceOf}
+use Rattle.definitions.proofs.Totals.{count_flat}
 use Rattle.feasibility.specs.declared.answer.SearchFault.{SearchFault}
+use Rattle.feasibility.specs.Ends.{EndsBy}
+use Rattle.feasibility.specs.Solving.{SolverView}
+use Rattle.feasibility.proofs.Alike.{visit_alike}
+use Rattle.feasibility.proofs.Nodes.{listed_at}
+use Rattle.tuple_index.specs.Kept.{IsKept}
 use Rattle.tuple_index.specs.Places.{RisesFrom}
-use Rattle.tuple_index.specs.Plan.{PlanView, plan_of, set_at, tuple_cells, value_given}
-use Rattle.tuple_index.proofs.InverseLemmas.{has_place}
+use Rattle.tuple_index.specs.Plan.{PlanView, plan_of, set_at}
+use Rattle.tuple_index.proofs.ListingLemmas.{flat_map_same}
 use Rattle.tuple_index.proofs.OrderLemmas.{demanded_rise}
-use Rattle.coverage_measure.specs.Ends.{EndsBy}
-use Rattle.coverage_measure.specs.Values.{AreOnlyOf}
-use Rattle.coverage_measure.proofs.EndLemmas.{ends_whole}
-use Rattle.coverage_measure.proofs.QuestionLemmas.{IsQuestion, is_question}
+use Rattle.tuple_index.proofs.TupleLemmas.{tuples_by_member}
+use Rattle.value_text.proofs.ListLemmas.{length-filter-le}
+use Rattle.coverage_measure.specs.Asking.{IsBefore, IsFor, is_above, is_found, tally, with_values}
+use Rattle.coverage_measure.specs.declared.asking.KeptSolver.{KeptSolver}
+use Rattle.coverage_measure.proofs.EndLemmas.{ends_item, none_more}
+use Rattle.coverage_measure.proofs.QuestionLemmas.{part_few}
+use Rattle.coverage_measure.proofs.ValueLemmas.{before_more}
+use Rattle.coverage_measure.proofs.StandsLemmas.{IsSameOnAlike, StandFor, ends_tried, none_stands, stand_for}
 
 -- the plain cost of a question is above the budget
 abbrev pub is_over : ModelView → List (List ℕ) → ℕ → List (Option ℕ) → Bool
 is_over m pref budget cells = nat_lt budget (question_cost m pref cells)
 
--- of the tuples of a set before this rank so many are served by some row of the model, and none is above the budget;
--- the cells have values at the set's members alone
-pub record IsCounted (m : ModelView) (pref : List (List ℕ)) (budget : ℕ) (set : List ℕ) (rank count : ℕ) (cells : List (Option ℕ)) : Type 0 where
-  pub size : length cells ≡ length m.params
-  pub only : AreOnlyOf set cells
-  pub few : count ≤ rank
-  pub counted : count ≡ length (filter (is_served m (all_rows m)) (take rank (tuples_of m set)))
-  pub none : first_over m pref budget (take rank (tuples_of m set)) ≡ None
+-- the rows of so many of the items are counted, each row that passes for so many, and none of them is above the budget
+pub record IsCounted {X : Type 0} (passes above : List (Option ℕ) → Bool) (rows : X → List (List (Option ℕ))) (items : List X) (each i count : ℕ) : Type 0 where
+  pub counted : count ≡ each * sum_by (λ x. tally passes (rows x)) (take i items)
+  pub none : find above (flat_map rows (take i items)) ≡ None
+
+pub counted_none : {X : Type 0} (passes above : List (Option ℕ) → Bool) (rows : X → List (List (Option ℕ))) (items : List X) (each : ℕ)
+    → IsCounted passes above rows items each 0 0
+counted_none passes above rows items each = let times : each * 0 ≡ 0 = omega arith in record { counted = sym times; none = refl }
+
+-- one more item
+pub counted_more : {X : Type 0} (passes above : List (Option ℕ) → Bool) (rows : X → List (List (Option ℕ))) (items : List X) (each i count inner next : ℕ) (x : X)
+    → i < length items → x ≡ get_or items i x → IsCounted passes above rows items each i count → inner ≡ tally passes (rows x) → find above (rows x) ≡ None
+    → next ≡ count + each * inner → IsCounted passes above rows items each (i + 1) next
+counted_more passes above rows items each i count inner next x within is so_far inner_is none next_is = record {
+  counted =
+      next_is ∙ ap (λ n. n + each * inner) so_far.counted
+      ∙ ap (λ n. each * sum_by (λ y. tally passes (rows y)) (take i items) + each * n) (inner_is ∙ ap (λ y. tally passes (rows y)) is)
+      ∙ sym (mul-add each (sum_by (λ y. tally passes (rows y)) (take i items)) (tally passes (rows (get_or items i x))))
+      ∙ ap (λ n. each * n) (sym (sum_by_more (λ y. tally passes (rows y)) items i x within));
+  none = none_more above rows items i x within so_far.none (ap (λ y. find above (rows y)) (sym is) ∙ none);
+}
+
+-- which is no more than all have
+pub counted_within : {X : Type 0} (passes above : List (Option ℕ) → Bool) (rows : X → List (List (Option ℕ))) (items : List X) (each i count inner most : ℕ) (x : X)
+    → i < length items → x ≡ get_or items i x → IsCounted passes above rows items each i count → inner ≡ tally passes (rows x)
+    → each * sum_by (λ y. tally passes (rows y)) items ≤ most → count + each * inner ≤ most
+counted_within passes above rows items each i count inner most x within is so_far inner_is few =
+    let sums : sum_by (λ y. tally passes (rows y)) (take i items) + tally passes (rows (get_or items i x)) ≤ sum_by (λ y. tally passes (rows y)) items =
+    sum_by_more_le (λ y. tally passes (rows y)) items i x within in
+    let times = mul-le-mul_left each sums in
+    let parts = mul-add each (sum_by (λ y. tally passes (rows y)) (take i items)) (tally passes (rows (get_or items i x))) in
+    let here : each * inner ≡ each * tally passes (rows (get_or items i x)) = ap (λ n. each * n) (inner_is ∙ ap (λ y. tally passes (rows y)) is) in
+    omega (arith, times, parts, here, so_far.counted, few)
+
+-- the rows of all items
+pub counted_all : {X : Type 0} (passes above : List (Option ℕ) → Bool) (rows : X → List (List (Option ℕ))) (items : List X) (each i count : ℕ)
+    → length items ≤ i → IsCounted passes above rows items each i count
+    → (count ≡ each * sum_by (λ x. tally passes (rows x)) items) × (find above (flat_map rows items) ≡ None)
+counted_all passes above rows items each i count past so_far =
+    let all = take_all i items past in (
+      so_far.counted ∙ ap (λ part. each * sum_by (λ x. tally passes (rows x)) part) all,
+      ap (λ part. find above (flat_map rows part)) (sym all) ∙ so_far.none,
+    )
+
+-- each item for itself
+pub sum_few : {X : Type 0} (passes : List (Option ℕ) → Bool) (rows : X → List (List (Option ℕ))) (items : List X)
+    → (1 * sum_by (λ x. tally passes (rows x)) items ≡ tally passes (flat_map rows items)) × (tally passes (flat_map rows items) ≤ length (flat_map rows items))
+sum_few passes rows items =
+    let sums : ℕ = sum_by (λ x. tally passes (rows x)) items in
+    let once : 1 * sums ≡ sums = omega arith in
+    (once ∙ sym (count_flat passes rows items), length-filter-le passes (flat_map rows items))
+
+-- what the cells lead to with a value of the member at a place, and then of those behind it
+abbrev pub rows_with : ModelView → Slice → List ℕ → ℕ → List (Option ℕ) → ℕ → List (List (Option ℕ))
+rows_with m slice members place cells v = with_values (slice_values m slice) (drop (place + 1) members) (with_value cells (get_or members place 0) v)
+
+abbrev pub values_of : ModelView → Slice → List ℕ → ℕ → List ℕ
+values_of m slice members place = get_or (slice_values m slice) (get_or members place 0) []
+
+pub rows_split : (m : ModelView) (slice : Slice) (members : List ℕ) (place : ℕ) (cells : List (Option ℕ)) → place < length members
+    → with_values (slice_values m slice) (drop place members) cells ≡ flat_map (rows_with m slice members place cells) (values_of m slice members place)
+rows_split m slice members place cells within = ap (λ params. with_values (slice_values m slice) params cells) (drop_more members place 0 within)
+
+-- the member at a place is the first of those from there on
+pub before_here : (m : ModelView) (slice : Slice) (members : List ℕ) (place : ℕ) (cells : List (Option ℕ)) → place < length members
+    → IsBefore m slice (drop place members) cells → IsBefore m slice (get_or members place 0 ∷ drop (place + 1) members) cells
+before_here m slice members place cells within before = subst (λ params. IsBefore m slice params cells) (drop_more members place 0 within) before
+
+-- and has no value yet
+pub free_here : (m : ModelView) (slice : Slice) (members : List ℕ) (place : ℕ) (cells : List (Option ℕ)) → place < length members
+    → IsBefore m slice (drop place members) cells → get_or cells (get_or members place 0) None ≡ None
+free_here m slice members place cells within before =
+    let p = get_or members place 0 in
+    (before_here m slice members place cells within before).free p (or_left (p == p) (is_among (drop (place + 1) members) p) (eq-eqb p p refl))
+
+-- the outcome of a search is the same on alike rows
+found_alike : (m : ModelView) (pref : List (List ℕ)) (slice : Slice) → IsSameOnAlike m (is_found m pref slice)
+found_alike m pref slice a b alike = ap (λ (o : Outcome). o.found) (visit_alike m (preferred_values m pref slice) (constrained_params m) a b alike)
+
+above_alike : (m : ModelView) (pref : List (List ℕ)) (slice : Slice) (budget : ℕ) → IsSameOnAlike m (is_above m pref slice budget)
+above_alike m pref slice budget a b alike =
+    ap (λ (o : Outcome). nat_lt budget o.cost) (visit_alike m (preferred_values m pref slice) (constrained_params m) a b alike)
+
+-- the first of a member's values are tried, each for so many
+pub record AreTried (m : ModelView) (pref : List (List ℕ)) (slice : Slice) (budget : ℕ) (members : List ℕ) (place : ℕ) (cells : List (Option ℕ)) (tried each : ℕ) : Type 0 where
+  pub found : StandFor (is_found m pref slice) (rows_with m slice members place cells) (values_of m slice members place) tried each
+  pub above : StandFor (is_above m pref slice budget) (rows_with m slice members place cells) (values_of m slice members place) tried each
+
+pub are_tried : (m : ModelView) (pref : List (List ℕ)) (slice : Slice) (budget : ℕ) (members : List ℕ) (place : ℕ) (cells : List (Option ℕ)) (named : Bool) (tried each : ℕ)
+    → get_or members place 0 < length m.params → is_among (constrained_params m) (get_or members place 0) ≡ named
+    → tried ≡ cond named (length (values_of m slice members place)) (min (length (values_of m slice members place)) 1)
+    → each ≡ cond named 1 (length (values_of m slice members place)) → AreTried m pref slice budget members place cells tried each
+are_tried m pref slice budget members place cells named tried each within is tried_is each_is = record {
+  found = stand_for m (is_found m pref slice) (slice_values m slice) (get_or members place 0) (drop (place + 1) members) cells named tried each
+      (found_alike m pref slice) within is tried_is each_is;
+  above = stand_for m (is_above m pref slice budget) (slice_values m slice) (get_or members place 0) (drop (place + 1) members) cells named tried each
+      (above_alike m pref slice budget) within is tried_is each_is;
+}
+
+-- as a solver that is kept has them
+pub member_tried : (m : ModelView) (pref : List (List ℕ)) (budget : ℕ) (one : KeptSolver) (members : List ℕ) (place : ℕ) (cells : List (Option ℕ)) (tried each : ℕ)
+    → IsFor m pref one → get_or members place 0 < length m.params
+    → tried ≡ cond (is_among (constrained_params one.solver.model) (get_or members place 0)) (length (get_or one.values (get_or members place 0) []))
+    (min (length (get_or one.values (get_or members place 0) [])) 1)
+    → each ≡ cond (is_among (constrained_params one.solver.model) (get_or members place 0)) 1 (length (get_or one.values (get_or members place 0) []))
+    → AreTried m pref one.slice budget members place cells tried each
+member_tried m pref budget one members place cells tried each is within tried_is each_is =
+    let p = get_or members place 0 in
+    let named : is_among (constrained_params one.solver.model) p ≡ is_among (constrained_params m) p =
+    ap (λ (s : SolverView). is_among (constrained_params s.model) p) is.solver in
+    let count : length (get_or one.values p []) ≡ length (values_of m one.slice members place) = ap (λ lists. length (get_or lists p [])) is.values in
+    are_tried m pref one.slice budget members place cells (is_among (constrained_params m) p) tried each within refl
+    (tried_is ∙ ap (λ b. cond b (length (get_or one.values p [])) (min (length (get_or one.values p [])) 1)) named
+    ∙ ap (λ n. cond (is_among (constrained_params m) p) n (min n 1)) count)
+    (each_is ∙ ap (λ b. cond b 1 (length (get_or one.values p []))) named ∙ ap (λ n. cond (is_among (constrained_params m) p) 1 n) count)
+
+-- and these are for no more than all the rows
+pub tried_few : (m : ModelView) (pref : List (List ℕ)) (slice : Slice) (budget : ℕ) (members : List ℕ) (place : ℕ) (cells : List (Option ℕ)) (tried each : ℕ)
+    → place < length members → AreTried m pref slice budget members place cells tried each
+    → each * sum_by (λ v. tally (is_found m pref slice) (rows_with m slice members place cells v)) (take tried (values_of m slice members place))
+    ≤ length (with_values (slice_values m slice) (drop place members) cells)
+tried_few m pref slice budget members place cells tried each within are =
+    let rows = rows_with m slice members place cells in
+    let values = values_of m slice members place in
+    omega (arith, are.found.whole, length-filter-le (is_found m pref slice) (flat_map rows values), ap length (rows_split m slice members place cells within))
+
+-- those that are tried before a number of them are counted
+abbrev pub IsCountedTo : ModelView → List (List ℕ) → Slice → ℕ → List ℕ → ℕ → List (Option ℕ) → ℕ → ℕ → ℕ → ℕ → Type 0
+IsCountedTo m pref slice budget members place cells tried each i count =
+    IsCounted (is_found m pref slice) (is_above m pref slice budget) (rows_with m slice members place cells) (take tried (values_of m slice members place)) each i count
+
+-- one that is tried is a value of the member
+pub record IsTriedAt (m : ModelView) (slice : Slice) (members : List ℕ) (place tried i v : ℕ) : Type 0 where
+  pub within : i < length (take tried (values_of m slice members place))
+  pub is : v ≡ get_or (take tried (values_of m slice members place)) i v
+  pub listed : is_among (values_of m slice members place) v ≡ true
+
+pub tried_at : (m : ModelView) (slice : Slice) (members : List ℕ) (place tried i v : ℕ) → tried ≤ length (values_of m slice members place) → i < tried
+    → v ≡ get_or (values_of m slice members place) i 0 → IsTriedAt m slice members place tried i v
+tried_at m slice members place tried i v some below is =
+    let values = values_of m slice members place in
+    let inside : i < length values = omega (arith, some, below) in
+    record {
+      within = omega (arith, below, length-take-le tried values some);
+      is = is ∙ get_or_default values i 0 v inside ∙ sym (get_or-take tried values i v below);
+      listed = ap (is_among values) is ∙ listed_at values values i refl inside;
+    }
+
+-- with it, the next member is asked, of no more rows
+pub before_next : (m : ModelView) (slice : Slice) (members : List ℕ) (place tried i v : ℕ) (cells : List (Option ℕ)) → IsSliceOf m slice → place < length members
+    → IsBefore m slice (drop place members) cells → IsTriedAt m slice members place tried i v
+    → IsBefore m slice (drop (place + 1) members) (with_value cells (get_or members place 0) v)
+before_next m slice members place tried i v cells own within before at =
+    before_more m slice (get_or members place 0) (drop (place + 1) members) cells v own (before_here m slice members place cells within before) at.listed
+
+pub next_few : (m : ModelView) (slice : Slice) (members : List ℕ) (place tried i v : ℕ) (cells : List (Option ℕ)) → place < length members
+    → IsTriedAt m slice members place tried i v
+    → length (rows_with m slice members place cells v) ≤ length (with_values (slice_values m slice) (drop place members) cells)
+next_few m slice members place tried i v cells within at =
+    omega (
+      arith,
+      part_few (rows_with m slice members place cells) (values_of m slice members place) v (of_among (values_of m slice members place) v at.listed),
+      ap length (rows_split m slice members place cells within),
+    )
+
+-- a step of the loop over those that are tried: the solver, the cells and the values are the first ones, and the cells get the value
+pub record IsStep (m : ModelView) (pref : List (List ℕ)) (slice : Slice) (budget : ℕ) (members : List ℕ) (place : ℕ) (cells row : List (Option ℕ)) (tried each i v : ℕ) : Type 0 where
+  pub within : place < length members
+  pub are : AreTried m pref slice budget members place cells tried each
+  pub at : IsTriedAt m slice members place tried i v
+  pub given : row ≡ with_value cells (get_or members place 0) v
+
+pub is_step : (m : ModelView) (pref : List (List ℕ)) (budget : ℕ) (one now : KeptSolver) (members : List ℕ) (place : ℕ) (cells here row : List (Option ℕ)) (values : List ℕ)
+    (tried each i : ℕ) → IsFor m pref one → IsBefore m one.slice (drop place members) cells → place < length members
+    → tried ≡ cond (is_among (constrained_params one.solver.model) (get_or members place 0)) (length (get_or one.values (get_or members place 0) []))
+    (min (length (get_or one.values (get_or members place 0) [])) 1)
+    → each ≡ cond (is_among (constrained_params one.solver.model) (get_or members place 0)) 1 (length (get_or one.values (get_or members place 0) []))
+    → i < tried → now ≡ one → here ≡ cells → values ≡ get_or now.values (get_or members place 0) [] → row ≡ with_value here (get_or members place 0) (get_or values i 0)
+    → IsStep m pref one.slice budget members place cells row tried each i (get_or values i 0)
+is_step m pref budget one now members place cells here row values tried each i is before within tried_is each_is below same_one same_cells values_are row_is =
+    let p = get_or members place 0 in
+    let are = member_tried m pref budget one members place cells tried each is (before_here m one.slice members place cells within before).rising.1 tried_is each_is in
+    let all : values ≡ values_of m one.slice members place =
+    values_are ∙ ap (λ (solver : KeptSolver). get_or solver.values p []) same_one ∙ ap (λ lists. get_or lists p []) is.values in
+    record {
+      within = within;
+      are = are;
+      at = tried_at m one.slice members place tried i (get_or values i 0) are.found.some below (ap (λ list. get_or list i 0) all);
+      given = row_is ∙ ap (λ start. with_value start p (get_or values i 0)) same_cells;
+    }
+
+-- what is asked then
+pub step_asks : {A : Type 0} (told : Slice → List (List (Option ℕ)) → A) (m : ModelView) (one now : KeptSolver) (members : List ℕ) (place : ℕ) (cells row : List (Option ℕ)) (v : ℕ)
+    → now ≡ one → row ≡ with_value cells (get_or members place 0) v
+    → told now.slice (with_values (slice_values m now.slice) (drop (place + 1) members) row) ≡ told one.slice (rows_with m one.slice members place cells v)
+step_asks told m one now members place cells row v same row_is =
+    ap (λ (solver : KeptSolver). told solver.slice (with_values (slice_values m solver.slice) (drop (place + 1) members) row)) same
+    ∙ ap (λ start. told one.slice (with_values (slice_values m one.slice) (drop (place + 1) members) start)) row_is
+
+-- the count with it is no more than all the rows
+pub step_few : (m : ModelView) (pref : List (List ℕ)) (slice : Slice) (budget : ℕ) (members : List ℕ) (place : ℕ) (cells row : List (Option ℕ)) (tried each i v count inner : ℕ)
+    → IsStep m pref slice budget members place cells row tried each i v → IsCountedTo m pref slice budget members place cells tried each i count
+    → inner ≡ tally (is_found m pref slice) (rows_with m slice members place cells v)
+    → count + each * inner ≤ length (with_values (slice_values m slice) (drop place members) cells)
+step_few m pref slice budget members place cells row tried each i v count inner step so_far inner_is =
+    counted_within (is_found m pref slice) (is_above m pref slice budget) (rows_with m slice members place cells) (take tried (values_of m slice members place)) each i count inner
+    (length (with_values (slice_values m slice) (drop place members) cells)) v step.at.within step.at.is so_far inner_is
+    (tried_few m pref slice budget members place cells tried each step.within step.are)
+
+-- all that are tried
+pub record AreCounted (m : ModelView) (pref : List (List ℕ)) (slice : Slice) (budget : ℕ) (params : List ℕ) (cells : List (Option ℕ)) (count : ℕ) : Type 0 where
+  pub counted : count ≡ tally (is_found m pref slice) (with_values (slice_values m slice) params cells)
+  pub none : find (is_above m pref slice budget) (with_values (slice_values m slice) params cells) ≡ None
+
+pub tried_all : (m : ModelView) (pref : List (List ℕ)) (slice : Slice) (budget : ℕ) (members : List ℕ) (place : ℕ) (cells : List (Option ℕ)) (tried each i count : ℕ)
+    → place < length members → tried ≤ i → AreTried m pref slice budget members place cells tried each
+    → IsCountedTo m pref slice budget members place cells tried each i count → AreCounted m pref slice budget (drop place members) cells count
+tried_all m pref slice budget members place cells tried each i count within past are so_far =
+    let rows = rows_with m slice members place cells in
+    let values = values_of m slice members place in
+    let split = rows_split m slice members place cells within in
+    let all = counted_all (is_found m pref slice) (is_above m pref slice budget) rows (take tried values) each i count
+    (omega (arith, past, length-take-le tried values are.found.some)) so_far in
+    record {
+      counted = all.0 ∙ are.found.whole ∙ ap (tally (is_found m pref slice)) (sym split);
+      none = ap (find (is_above m pref slice budget)) split ∙ none_stands (is_above m pref slice budget) rows values tried each are.above all.1;
+    }
+
+-- or the first above the budget is among those that a value that is tried leads to
+pub tried_ends : (m : ModelView) (pref : List (List ℕ)) (slice : Slice) (budget : ℕ) (members : List ℕ) (place : ℕ) (cells : List (Option ℕ)) (tried each i count v : ℕ)
+    (fault : SearchFault) → place < length members → IsTriedAt m slice members place tried i v
+    → IsCountedTo m pref slice budget members place cells tried each i count
+    → EndsBy (find (is_above m pref slice budget) (rows_with m slice members place cells v)) fault
+    → EndsBy (find (is_above m pref slice budget) (with_values (slice_values m slice) (drop place members) cells)) fault
+tried_ends m pref slice budget members place cells tried each i count v fault within at so_far ends =
+    let rows = rows_with m slice members place cells in
+    let values = values_of m slice members place in
+    subst (λ all. EndsBy (find (is_above m pref slice budget) all) fault) (sym (rows_split m slice members place cells within))
+    (ends_tried (is_above m pref slice budget) rows values tried fault
+    (ends_item (is_above m pref slice budget) rows (take tried values) i v fault at.within so_far.none
+    (subst (λ w. EndsBy (find (is_above m pref slice budget) (rows w)) fault) at.is ends)))
+
+-- the tuples of a set with a value of a member, if it is a negative one
+abbrev pub tuples_with : ModelView → List ℕ → ℕ → ℕ → List (List (Option ℕ))
+tuples_with m set q v = cond (value_at m q v).negative (tuples_in m set (Negative q v)) []
+
+-- all its negative values
+abbrev pub negative_tuples : ModelView → List ℕ → ℕ → List (List (Option ℕ))
+negative_tuples m set q = flat_map (λ v. tuples_in m set (Negative q v)) (negative_values m q)
+
+flat_filter : (test : ℕ → Bool) (rows : ℕ → List (List (Option ℕ))) (values : List ℕ) → flat_map rows (filter test values) ≡ flat_map (λ v. cond (test v) (rows v) []) values
+flat_filter test rows [] = refl
+flat_filter test rows (v ∷ values) = by_test (test v) (flat_filter test rows values)
+  where
+    by_test : (b : Bool) → flat_map rows (filter test values) ≡ flat_map (λ w. cond (test w) (rows w) []) values
+        → flat_map rows (cond b (v ∷ filter test values) (filter test values)) ≡ cond b (rows v) [] ++ flat_map (λ w. cond (test w) (rows w) []) values
+    by_test true later = ap (λ rest. rows v ++ rest) later
+    by_test false later = later
+
+pub negative_by_value : (m : ModelView) (set : List ℕ) (q : ℕ) → negative_tuples m set q ≡ flat_map (tuples_with m set q) (value_numbers m q)
+negative_by_value m set q = flat_filter (λ v. (value_at m q v).negative) (λ v. tuples_in m set (Negative q v)) (value_numbers m q)
+
+pub tuples_by_slice : (m : ModelView) (set : List ℕ) → RisesFrom 0 (length m.params) set
+    → tuples_of m set ≡ tuples_in m set Positive ++ flat_map (negative_tuples m set) set
+tuples_by_slice m set rises =
+    tuples_by_member m set rises
+    ∙ ap (λ rest. tuples_in m set Positive ++ rest) (flat_map_same (λ q. flat_map (tuples_in m set) (map (λ v. Negative q v) (negative_values m q))) (negative_tuples m set)
+    set (λ q. flat_map-map (tuples_in m set) (λ v. Negative q v) (negative_values m q)))
+
+-- a member has no more of them than the set has tuples
+pub negative_few : (m : ModelView) (set : List ℕ) (q : ℕ) → RisesFrom 0 (length m.params) set → is_among set q ≡ true
+    → length (negative_tuples m set q) ≤ length (tuples_of m set)
+negative_few m set q rises among =
+    omega (
+      arith,
+      part_few (negative_tuples m set) set q (of_among set q among),
+      ap length (tuples_by_slice m set rises),
+      length-append (tuples_in m set Positive) (flat_map (negative_tuples m set) set),
+    )
 
 -- the members of a demanded set rise
 pub members_rise : (m : ModelView) (plan : PlanView) (set : ℕ) → plan ≡ plan_of m → set < length plan.sets → RisesFrom 0 (length m.params) (set_at plan set)
@@ -44,80 +329,16 @@ members_rise m plan set same within =
     subst (λ (p : PlanView). set < length p.sets → RisesFrom 0 (length m.params) (set_at p set)) (sym same)
     (λ inside. All-get_or (RisesFrom 0 (length m.params)) (demanded_sets m) set [] inside (demanded_rise m)) within
 
--- and they are no more than the model's parameters
-pub members_few : (set : List ℕ) (p e : ℕ) → p ≤ e → RisesFrom p e set → p + length set ≤ e
-members_few [] p e less rises = omega (arith, less)
-members_few (q ∷ set) p e less rises = let rest = members_few set (q + 1) e (omega (arith, rises.1)) rises.2 in omega (arith, rest, rises.0)
-
--- how many tuples a set of a plan has
-pub size_is : (m : ModelView) (plan : PlanView) (set : ℕ) → plan ≡ plan_of m → set < length plan.sets → get_or plan.sizes set 0 ≡ length (tuples_of m (set_at plan set))
-size_is m plan set same within =
-    subst (λ (p : PlanView). set < length p.sets → get_or p.sizes set 0 ≡ length (tuples_of m (set_at p set))) (sym same)
-    (λ inside. get_or-map (λ set. length (tuples_of m set)) (demanded_sets m) set [] 0 inside) within
-
--- the cells that have the values of a rank are the tuple of this rank
-pub tuple_put : (m : ModelView) (set members values : List ℕ) (rank : ℕ) (before cells : List (Option ℕ)) → members ≡ set → length before ≡ length m.params
-    → slice_get (tuples_of m set) rank ≡ Some (tuple_cells m set values) → cells ≡ map (value_given members values) (range_with_len 0 (length before))
-    → slice_get (tuples_of m set) rank ≡ Some cells
-tuple_put m set members values rank before cells same long there put =
-    there ∙ ap Some (sym (put ∙ ap (λ n. map (value_given members values) (range_with_len 0 n)) long
-    ∙ ap (λ s. map (value_given s values) (range_with_len 0 (length m.params))) same))
-
--- it is a question of its slice
-pub question_at : (m : ModelView) (set : List ℕ) (rank : ℕ) (cells : List (Option ℕ)) → slice_get (tuples_of m set) rank ≡ Some cells → IsQuestion m set cells
-question_at m set rank cells there = is_question m set cells (has_place (tuples_of m set) rank cells there)
-
--- one more tuple
-pub counted_more : (m : ModelView) (pref : List (List ℕ)) (budget : ℕ) (set : List ℕ) (rank count next : ℕ) (served : Bool) (before cells : List (Option ℕ))
-    → IsSound m → IsCounted m pref budget set rank count before → slice_get (tuples_of m set) rank ≡ Some cells
-    → served ≡ is_extendable m (slice_of m cells) cells → first_over m pref budget (cells ∷ []) ≡ None → next ≡ count + cond served 1 0
-    → IsCounted m pref budget set (rank + 1) next cells
-counted_more m pref budget set rank count next served before cells sound so_far there served_is none_here next_is =
-    let within = slice_get_within (tuples_of m set) rank cells there in
-    let is = get_or_from_slice_get (tuples_of m set) rank cells [] there in
-    let question = question_at m set rank cells there in
-    let tuples : List (List (Option ℕ)) = tuples_of m set in
-    record {
-      size = question.of.fits.as_long;
-      only = question.only;
-      few = omega (arith, so_far.few, one_more served, next_is);
-      counted =
-          next_is ∙ ap (λ n. n + cond served 1 0) so_far.counted
-          ∙ ap (λ b. length (filter (is_served m (all_rows m)) (take rank tuples)) + cond b 1 0)
-          (served_is ∙ sym (servable_are_extendable m cells sound question.few) ∙ ap (is_served m (all_rows m)) (sym is))
-          ∙ sym (length-filter_more (is_served m (all_rows m)) tuples rank [] within);
-      none =
-          ap (first_over m pref budget) (take_more tuples rank [] within ∙ ap (λ tuple. take rank tuples ++ tuple ∷ []) is)
-          ∙ find-append (is_over m pref budget) (take rank tuples) (cells ∷ [])
-          ∙ ap (λ found. option_or found (first_over m pref budget (cells ∷ []))) so_far.none ∙ none_here;
-    }
-  where
-    one_more : (b : Bool) → cond b 1 0 ≤ 1
-    one_more true = omega arith
-    one_more false = omega arith
-
--- all tuples of the set
-pub record AreCounted (m : ModelView) (pref : List (List ℕ)) (budget : ℕ) (set : List ℕ) (count : ℕ) : Type 0 where
-  pub counted : count ≡ servable m set
-  pub none : first_over m pref budget (tuples_of m set) ≡ None
-
-pub counted_all : (m : ModelView) (pref : List (List ℕ)) (budget : ℕ) (set : List ℕ) (rank count : ℕ) (cells : List (Option ℕ))
-    → IsCounted m pref budget set rank count cells → length (tuples_of m set) ≤ rank → AreCounted m pref budget set count
-counted_all m pref budget set rank count cells so_far past =
-    let all = take_all rank (tuples_of m set) past in
-    record {
-      counted = so_far.counted ∙ ap (λ tuples. length (filter (is_served m (all_rows m)) tuples)) all;
-      none = ap (first_over m pref budget) (sym all) ∙ so_far.none;
-    }
-
--- a tuple above the budget is the first one of the set
-pub ends_at : (test : List (Option ℕ) → Bool) (tuples : List (List (Option ℕ))) (rank : ℕ) (cells : List (Option ℕ)) (fault : SearchFault)
-    → slice_get tuples rank ≡ Some cells → find test (take rank tuples) ≡ None → EndsBy (find test (cells ∷ [])) fault → EndsBy (find test tuples) fault
-ends_at test tuples rank cells fault there none ends =
-    subst (λ all. EndsBy (find test all) fault) (sym parts) (ends_whole test (take rank tuples) (cells ∷ []) (drop (rank + 1) tuples) fault none ends)
-  where
-    parts : tuples ≡ take rank tuples ++ (cells ∷ drop (rank + 1) tuples)
-    parts =
-        sym (take-append-drop rank tuples)
-        ∙ ap (λ rest. take rank tuples ++ rest) (drop_more tuples rank [] (slice_get_within tuples rank cells there)
-        ∙ ap (λ tuple. tuple ∷ drop (rank + 1) tuples) (get_or_from_slice_get tuples rank cells [] there))
+-- and it has few tuples
+pub tuples_few : (m : ModelView) (plan : PlanView) (set : ℕ) → plan ≡ plan_of m → IsKept plan → set < length plan.sets
+    → length (tuples_of m (set_at plan set)) ≤ 2 ^ 26
+tuples_few m plan set same kept within =
+    subst (λ (p : PlanView). IsKept p → set < length p.sets → length (tuples_of m (set_at p set)) ≤ 2 ^ 26) (sym same)
+    (λ (kept : IsKept (plan_of m)) inside.
+    let least : get_or (plan_of m).sizes set 0 ≤ sum (plan_of m).sizes = get_or-le-sum_by (λ n. n) (plan_of m).sizes set 0 (omega (arith, inside, kept.as_many)) in
+    omega (
+      arith,
+      least,
+      get_or-map (λ (members : List ℕ). length (tuples_of m members)) (demanded_sets m) set [] 0 inside,
+      kept.within,
+    )) kept within

@@ -10,7 +10,7 @@ use Rattle.std.proofs.lemmas.List.Folds.{find-append}
 use Rattle.definitions.specs.Pairs.{pairs_of}
 use Rattle.feasibility.specs.declared.answer.SearchFault.{SearchFault}
 use Rattle.feasibility.specs.declared.answer.SearchFault.TheVariants.{Spent, NoMemory}
-use Rattle.coverage_measure.specs.Ends.{EndsBy}
+use Rattle.feasibility.specs.Ends.{EndsBy}
 
 -- a run whose questions stand behind others of which none is above the budget, and before more
 pub ends_whole : (test : List (Option ℕ) → Bool) (before here after : List (List (Option ℕ))) (fault : SearchFault) → find test before ≡ None

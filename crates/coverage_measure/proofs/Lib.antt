@@ -1,9 +1,11 @@
 pub mod RowLemmas
 pub mod SetLemmas
 pub mod MarkLemmas
+pub mod EndLemmas
 pub mod ValueLemmas
 pub mod QuestionLemmas
-pub mod EndLemmas
+pub mod StandsLemmas
 pub mod CountLemmas
+pub mod SliceCounts
 pub mod AskLemmas
 pub mod FigureLemmas

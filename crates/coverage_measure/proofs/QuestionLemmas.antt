@@ -1,38 +1,33 @@
--- The demanded tuples of a set as questions, each of its own slice.
-use Rattle.std.proofs.Common.{◌≡◌, ℕ, ◌<◌, true, false, List, [], length, get_or, Option, Some, None, is_some, inl, inr, refl, ◌∙◌, sym, ap, subst, arith, zero-add}
-use Rattle.std.proofs.lemmas.Bool.{cases_lt, false≢true}
-use Rattle.std.proofs.lemmas.List.{get_or_past}
+-- The demanded tuples of a set in a slice as questions.
+use Rattle.std.proofs.Common.{◌≡◌, ℕ, ◌<◌, ◌≤◌, Bool, true, cond, List, [], ◌∷◌, length, get_or, find, Option, Some, inl, inr, refl, ◌∙◌, sym, ap, arith, length-append}
+use Rattle.std.specs.List.{filter, flat_map}
+use Rattle.std.specs.Prelude.{nat_lt}
 use Rattle.cov_model.specs.declared.slice.Slice.{Slice}
-use Rattle.cov_model.specs.declared.slice.Slice.TheVariants.{Positive, Negative}
-use Rattle.cov_model.specs.Sound.{ModelView}
+use Rattle.cov_model.specs.Preference.{OrdersValues}
+use Rattle.cov_model.specs.Sound.{ModelView, IsSound}
 use Rattle.cov_model.specs.Rows.{is_assigned, value_in}
 use Rattle.cov_model.specs.Slices.{slice_of, slice_values, slices}
 use Rattle.cov_model.proofs.CellLemmas.{assigned_within, length-slice_values}
-use Rattle.definitions.specs.Completion.{has_slice}
-use Rattle.definitions.specs.Demand.{is_among, tuples_in, tuples_of}
+use Rattle.definitions.specs.Completion.{is_extendable}
+use Rattle.definitions.specs.Demand.{tuples_in, tuples_of}
+use Rattle.definitions.specs.Figures.{all_rows, is_served}
+use Rattle.definitions.specs.Search.{first_over, plain_cost}
 use Rattle.definitions.specs.SliceRows.{IsOfSlice, IsSliceOf}
 use Rattle.definitions.proofs.InPlay.{IsTupleOf, tuple_is}
-use Rattle.definitions.proofs.Members.{Has, among_has, of_flat}
-use Rattle.definitions.proofs.SliceLemmas.{IsSlice, is_slice, negative_exists, slice_is, value_exists}
-use Rattle.coverage_measure.specs.Values.{AreOnlyOf}
+use Rattle.definitions.proofs.Members.{Has, among_has}
+use Rattle.definitions.proofs.Serving.{servable_are_extendable}
+use Rattle.definitions.proofs.SliceLemmas.{has_slices, slice_is, value_exists}
+use Rattle.feasibility.proofs.Extendable.{plain_search_is_exact}
+use Rattle.feasibility.proofs.Paths.{slice_exists}
+use Rattle.coverage_measure.specs.Asking.{is_above, is_found, tally}
 
--- a tuple of a set is of its slice, which is one of the model's, has at most one negative value, and gives no
--- other parameter a value
-pub record IsQuestion (m : ModelView) (set : List ℕ) (tuple : List (Option ℕ)) : Type 0 where
-  pub own : IsSliceOf m (slice_of m tuple)
-  pub of : IsOfSlice m (slice_of m tuple) tuple
-  pub few : has_slice m tuple ≡ true
-  pub only : AreOnlyOf set tuple
-
-own_slice : (m : ModelView) (slice : Slice) → IsSlice m slice → IsSliceOf m slice
-own_slice m Positive is = tt
-own_slice m (Negative q v) is = (is.0, negative_exists m q v is.1, is.1)
-
-in_slice : (m : ModelView) (set : List ℕ) (slice : Slice) (tuple : List (Option ℕ)) → IsSlice m slice → IsTupleOf m set slice tuple → IsOfSlice m slice tuple
-in_slice m set slice tuple is of = record {
+-- a tuple of a set in a slice is a partial row of the slice
+in_slice : (m : ModelView) (set : List ℕ) (slice : Slice) (tuple : List (Option ℕ)) → IsSliceOf m slice → IsTupleOf m set slice tuple → IsOfSlice m slice tuple
+in_slice m set slice tuple own of = record {
   fits = record {
     as_long = of.choice.long ∙ length-slice_values m slice;
-    exist = λ p has. value_exists m slice p (value_in tuple p) is (omega (arith, inside p has, length-slice_values m slice)) (of.choice.listed p (inside p has) has);
+    exist = λ p has. value_exists m slice p (value_in tuple p) (slice_exists m slice own) (omega (arith, inside p has, length-slice_values m slice))
+        (of.choice.listed p (inside p has) has);
   };
   listed = λ p has. among_has (get_or (slice_values m slice) p []) (value_in tuple p) (of.choice.listed p (inside p has) has);
 }
@@ -40,26 +35,54 @@ in_slice m set slice tuple is of = record {
     inside : (p : ℕ) → is_assigned tuple p ≡ true → p < length (slice_values m slice)
     inside p has = omega (arith, assigned_within tuple p has, of.choice.long)
 
-only_members : (m : ModelView) (set : List ℕ) (slice : Slice) (tuple : List (Option ℕ)) → IsTupleOf m set slice tuple → AreOnlyOf set tuple
-only_members m set slice tuple of p not_among = elim (cases_lt p (length tuple)) [
-  | inl within ↦ none (get_or tuple p None) (of.choice.given p (omega (arith, within, of.choice.long)) ∙ ap (is_among set) (zero-add p) ∙ not_among)
-  | inr past ↦ get_or_past tuple p None past
-]
-  where
-    none : (cell : Option ℕ) → is_some cell ≡ false → cell ≡ None
-    none None is = refl
-    none (Some v) is = absurd (false≢true (sym is))
+-- some row of the model serves it exactly if a search from it succeeds, and its own slice is this one
+pub record IsQuestion (m : ModelView) (pref : List (List ℕ)) (slice : Slice) (tuple : List (Option ℕ)) : Type 0 where
+  pub served : is_found m pref slice tuple ≡ is_served m (all_rows m) tuple
+  pub own : slice_of m tuple ≡ slice
 
-pub is_question : (m : ModelView) (set : List ℕ) (tuple : List (Option ℕ)) → Has (tuples_of m set) tuple → IsQuestion m set tuple
-is_question m set tuple has =
-    let found = of_flat (tuples_in m set) (slices m) tuple has in
-    let slice = found.0 in
-    let is = is_slice m slice found.1 in
-    let of = tuple_is m set slice tuple is found.2 in
-    let own = slice_is m slice tuple is of.belongs in
+is_question : (m : ModelView) (pref : List (List ℕ)) (set : List ℕ) (slice : Slice) (tuple : List (Option ℕ)) → IsSound m → OrdersValues m pref
+    → IsSliceOf m slice → Has (tuples_in m set slice) tuple → IsQuestion m pref slice tuple
+is_question m pref set slice tuple sound orders is has =
+    let of = tuple_is m set slice tuple (slice_exists m slice is) has in
+    let own = slice_is m slice tuple (slice_exists m slice is) of.belongs in
     record {
-      own = subst (IsSliceOf m) (sym own.is) (own_slice m slice is);
-      of = subst (λ s. IsOfSlice m s tuple) (sym own.is) (in_slice m set slice tuple is of);
-      few = own.few;
-      only = only_members m set slice tuple of;
+      served =
+          (plain_search_is_exact m pref slice tuple sound (orders.as_many, orders.each) is (in_slice m set slice tuple is of)).0
+          ∙ ap (λ s. is_extendable m s tuple) (sym own.is) ∙ sym (servable_are_extendable m tuple sound own.few);
+      own = own.is;
     }
+
+-- tests that agree on the members
+filter_agree : (f g : List (Option ℕ) → Bool) (rows : List (List (Option ℕ))) → ((row : List (Option ℕ)) → Has rows row → f row ≡ g row) → filter f rows ≡ filter g rows
+filter_agree f g [] same = refl
+filter_agree f g (row ∷ rows) same =
+    ap (λ b. cond b (row ∷ filter f rows) (filter f rows)) (same row (inl refl))
+    ∙ ap (λ kept. cond (g row) (row ∷ kept) kept) (filter_agree f g rows (λ r has. same r (inr has)))
+
+find_agree : (f g : List (Option ℕ) → Bool) (rows : List (List (Option ℕ))) → ((row : List (Option ℕ)) → Has rows row → f row ≡ g row) → find f rows ≡ find g rows
+find_agree f g [] same = refl
+find_agree f g (row ∷ rows) same =
+    ap (λ b. cond b (Some row) (find f rows)) (same row (inl refl)) ∙ ap (λ found. cond (g row) (Some row) found) (find_agree f g rows (λ r has. same r (inr has)))
+
+-- so many of them are served, and this is the first above the budget
+pub found_are_served : (m : ModelView) (pref : List (List ℕ)) (set : List ℕ) (slice : Slice) → IsSound m → OrdersValues m pref → IsSliceOf m slice
+    → tally (is_found m pref slice) (tuples_in m set slice) ≡ tally (is_served m (all_rows m)) (tuples_in m set slice)
+found_are_served m pref set slice sound orders is =
+    ap (λ rows. length rows) (filter_agree (is_found m pref slice) (is_served m (all_rows m)) (tuples_in m set slice)
+    (λ tuple has. (is_question m pref set slice tuple sound orders is has).served))
+
+pub above_are_over : (m : ModelView) (pref : List (List ℕ)) (set : List ℕ) (slice : Slice) (budget : ℕ) → IsSound m → OrdersValues m pref → IsSliceOf m slice
+    → find (is_above m pref slice budget) (tuples_in m set slice) ≡ first_over m pref budget (tuples_in m set slice)
+above_are_over m pref set slice budget sound orders is =
+    find_agree (is_above m pref slice budget) (λ tuple. nat_lt budget (plain_cost m pref (slice_of m tuple) tuple)) (tuples_in m set slice)
+    (λ tuple has. ap (λ s. nat_lt budget (plain_cost m pref s tuple)) (sym (is_question m pref set slice tuple sound orders is has).own))
+
+-- an item has no more than all have
+pub part_few : {X Y : Type 0} (f : X → List Y) (xs : List X) (x : X) → Has xs x → length (f x) ≤ length (flat_map f xs)
+part_few f [] x has = absurd has
+part_few f (y ∷ xs) x (inl same) = let here = ap (λ z. length (f z)) same in omega (arith, here, length-append (f y) (flat_map f xs))
+part_few f (y ∷ xs) x (inr later) = omega (arith, part_few f xs x later, length-append (f y) (flat_map f xs))
+
+-- the tuples in a slice are no more than all of the set
+pub slice_few : (m : ModelView) (set : List ℕ) (slice : Slice) → IsSliceOf m slice → length (tuples_in m set slice) ≤ length (tuples_of m set)
+slice_few m set slice is = part_few (tuples_in m set) (slices m) slice (has_slices m slice (slice_exists m slice is))

@@ -1,5 +1,3 @@
-pub mod Ends
 pub mod SuiteRows
 pub mod SetFigures
 pub mod Asking
-pub mod Values

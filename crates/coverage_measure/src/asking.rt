@@ -1,26 +1,24 @@
-ghost use Rattle.std.specs.Prelude.{◌≡◌, [], ◌∷◌, ◌≤◌, All, Some, IfOk, IfSome, length, map, slice_get};
+ghost use Rattle.std.specs.Prelude.{◌≡◌, [], ◌∷◌, All, Some, IfOk, IfSome, find, map, slice_get};
 ghost use Rattle.cov_model.specs.Preference.{OrdersValues};
-ghost use Rattle.cov_model.specs.Slices.{slice_of};
-ghost use Rattle.definitions.specs.Completion.{is_extendable};
-ghost use Rattle.definitions.specs.Search.{first_over};
 ghost use Rattle.definitions.specs.SliceRows.{IsOfSlice, IsSliceOf};
-ghost use Rattle.coverage_measure.specs.Asking.{IsFor};
-ghost use Rattle.coverage_measure.specs.Ends.{Ends};
+ghost use Rattle.feasibility.specs.Ends.{Ends};
+ghost use Rattle.coverage_measure.specs.Asking.{IsFor, is_above, is_found, tally};
 
-use crate::question::over_budget;
 use cov_model::{Cells, Prefs, Slice, TestModel};
-use feasibility::{Answer, SearchFault, Solver};
+use feasibility::{Answer, SearchFault, Solver, over_budget, slice_lists};
+use packed_lists::PackedLists;
 use std::alloc::Global;
 use value_text::NoMemory;
 
 /// The most solvers that are kept at a time: a model may have more slices than there is room for solvers.
 const MOST_KEPT: usize = 64;
 
-// A solver, and the slice that it is for.
+// A solver, the slice that it is for, and each parameter's values there in declared order.
 #[derive(Drop)]
 pub(crate) struct KeptSolver<'a> {
     pub(crate) slice: Slice,
     pub(crate) solver: Solver<'a>,
+    pub(crate) values: PackedLists,
 }
 
 // What is asked of: a model and its preferences, with a budget for each question.
@@ -47,7 +45,11 @@ fn find_solver(kept: &[KeptSolver<'_>], slice: Slice) -> Option<usize>
 impl<'a> Asking<'a> {
     // The place of the solver of a slice, which is made where it isn't kept. Where too many would be kept, the
     // last one makes way.
-    fn place_of(&self, kept: &mut Vec<KeptSolver<'a>>, slice: Slice) -> Result<usize, NoMemory>
+    pub(crate) fn place_of(
+        &self,
+        kept: &mut Vec<KeptSolver<'a>>,
+        slice: Slice,
+    ) -> Result<usize, NoMemory>
         requires orders { OrdersValues self.now.model.now self.now.prefs.now }
         requires kept { All (IsFor self.now.model.now self.now.prefs.now) kept.old.items }
         requires slice { IsSliceOf self.now.model.now slice }
@@ -58,33 +60,35 @@ impl<'a> Asking<'a> {
             return Ok(place);
         }
         let solver = Solver::new(self.alloc, self.model, self.prefs, slice)?;
+        let values = slice_lists(self.alloc, self.model, slice)?;
         kept.truncate(MOST_KEPT - 1);
         let place = kept.len();
-        kept.push(KeptSolver { slice, solver })?;
+        kept.push(KeptSolver {
+            slice,
+            solver,
+            values,
+        })?;
         Ok(place)
     }
 
-    // Whether a partial row of a slice is extendable there. Spent where the plain cost of the question exceeds
-    // the budget. The solvers of slices are kept as they are needed.
-    pub(crate) fn ask(
+    // One if the partial row is extendable in the solver's slice, and else none. Spent where the plain cost of
+    // the question exceeds the budget.
+    pub(crate) fn count_row(
         &self,
-        kept: &mut Vec<KeptSolver<'a>>,
+        kept: &mut KeptSolver<'a>,
         cells: &Cells,
-    ) -> Result<bool, SearchFault>
+    ) -> Result<u64, SearchFault>
         requires orders { OrdersValues self.now.model.now self.now.prefs.now }
-        requires kept { All (IsFor self.now.model.now self.now.prefs.now) kept.old.items }
-        requires own { IsSliceOf self.now.model.now (slice_of self.now.model.now cells.now) }
-        requires of { IsOfSlice self.now.model.now (slice_of self.now.model.now cells.now) cells.now }
-        requires few { length cells.now ≤ 256 }
-        ensures answer { IfOk result (λ served. served ≡ is_extendable self.now.model.now (slice_of self.now.model.now cells.now) cells.now) }
-        ensures ends { Ends result (first_over self.now.model.now self.now.prefs.now self.now.budget (cells.now ∷ [])) }
-        ensures kept { All (IsFor self.now.model.now self.now.prefs.now) kept.new.items }
+        requires kept { IsFor self.now.model.now self.now.prefs.now kept.old }
+        requires of { IsOfSlice self.now.model.now kept.old.slice cells.now }
+        ensures count { IfOk result (λ count. count ≡ tally (is_found self.now.model.now self.now.prefs.now kept.old.slice) (cells.now ∷ [])) }
+        ensures ends { Ends result (find (is_above self.now.model.now self.now.prefs.now kept.old.slice self.now.budget) (cells.now ∷ [])) }
+        ensures kept { kept.new ≡ kept.old }
     {
-        let slice = self.model.slice_of(cells);
-        let place = self.place_of(kept, slice)?;
-        match kept[place].solver.ask(cells, self.budget) {
-            Answer::Yes => Ok(true),
-            Answer::No => Ok(false),
+        self.model.assert_invariant();
+        match kept.solver.ask(cells, self.budget) {
+            Answer::Yes => Ok(1),
+            Answer::No => Ok(0),
             Answer::Spent => Err(over_budget(self.alloc, cells)),
         }
     }

@@ -10,7 +10,6 @@
 mod asking;
 mod covered;
 mod measuring;
-mod question;
 mod servable;
 mod set_figures;
 mod suite_rows;

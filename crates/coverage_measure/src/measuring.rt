@@ -7,7 +7,7 @@ ghost use Rattle.definitions.specs.Search.{first_measured_over, first_over};
 ghost use Rattle.row_text.specs.RowFiles.{suite_seen};
 ghost use Rattle.row_text.specs.Told.{figures_seen};
 ghost use Rattle.tuple_index.specs.Plan.{plan_of};
-ghost use Rattle.coverage_measure.specs.Ends.{Ends};
+ghost use Rattle.feasibility.specs.Ends.{Ends};
 ghost use Rattle.coverage_measure.specs.SetFigures.{set_figures};
 
 use crate::asking::Asking;

@@ -4,19 +4,10 @@ use Rattle.std.specs.Prelude.{IfSome}
 use Rattle.cov_model.specs.Sound.{ModelView}
 use Rattle.outside_io.specs.Files.{Files}
 use Rattle.definitions.specs.Settings.{Settings}
-use Rattle.feasibility.specs.declared.answer.SearchFault.{SearchFault}
-use Rattle.feasibility.specs.declared.answer.SearchFault.TheVariants.{Spent, NoMemory}
-use Rattle.coverage_measure.specs.Ends as measured
-use Rattle.ipog_grow.specs.Suites.{EndsBy}
 use Rattle.row_text.specs.RowFiles.{row_seen}
 use Rattle.row_text.specs.declared.row_file.FileRow.{FileRow}
 use Rattle.pict_cli.specs.Ends.{End}
 use Rattle.pict_cli.specs.Runs.{HoldsProof, WritesProof}
-
--- the search ends as one of growth does
-pub ends_as_growth : (over : Option (List (Option ℕ))) (fault : SearchFault) → measured.EndsBy over fault → EndsBy over fault
-ends_as_growth over (Spent question) is = is
-ends_as_growth over NoMemory is = is
 
 -- the rows of a file with their lines, as a suite
 pub suite_rows : (rows : List FileRow) → map (λ row. row.1) (map row_seen rows) ≡ map (λ row. row.cells) rows

@@ -2,7 +2,8 @@ ghost use Rattle.std.specs.Prelude.{◌≡◌, ◌≤◌, ◌^◌, ℕ, [], map,
 ghost use Rattle.cov_model.specs.Fits.{FitsModel};
 ghost use Rattle.cov_model.specs.Sound.{ModelView};
 ghost use Rattle.definitions.specs.Settings.{Settings};
-ghost use Rattle.ipog_grow.specs.Suites.{EndsBy, IsSuiteOf};
+ghost use Rattle.feasibility.specs.Ends.{EndsBy};
+ghost use Rattle.ipog_grow.specs.Suites.{IsSuiteOf};
 ghost use Rattle.row_text.specs.RowFiles.{seeds_seen};
 ghost use Rattle.tuple_index.specs.Plan.{plan_of};
 ghost use Rattle.command_line.specs.Settings.{shuffle_seen};

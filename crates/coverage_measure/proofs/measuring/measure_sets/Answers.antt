@@ -4,7 +4,7 @@ use Rattle.cov_model.specs.Sound.{ModelView}
 use Rattle.definitions.specs.Demand.{demanded_sets, tuples_of}
 use Rattle.definitions.specs.Search.{first_over}
 use Rattle.tuple_index.specs.Plan.{PlanView, set_at}
-use Rattle.coverage_measure.specs.Ends.{EndsBy}
+use Rattle.feasibility.specs.Ends.{EndsBy}
 use Rattle.coverage_measure.specs.SetFigures.{IsWithin}
 use Rattle.coverage_measure.proofs.CountLemmas.{is_over}
 use Rattle.coverage_measure.proofs.EndLemmas.{ends_item, none_more}

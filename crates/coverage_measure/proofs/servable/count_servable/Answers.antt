@@ -1,72 +1,143 @@
-use Rattle.std.proofs.Common.{◌≡◌, ◌+◌, ℕ, length, cond, ◌∙◌, sym, ap, subst, arith}
+use Rattle.std.proofs.Common.{◌<◌, ◌^◌, ℕ, List, length, get_or, refl, ◌∙◌, sym, ap, subst, arith}
+use Rattle.std.proofs.lemmas.List.{get_or_default}
 use Rattle.std.proofs.lemmas.Result.{err_from_is_err_and}
 use Rattle.cov_model.specs.Sound.{ModelView}
-use Rattle.definitions.specs.Demand.{tuples_of}
+use Rattle.cov_model.specs.declared.slice.Slice.TheVariants.{Positive}
+use Rattle.definitions.specs.Demand.{tuples_in, tuples_of}
+use Rattle.definitions.specs.Figures.{all_rows, is_served}
+use Rattle.definitions.specs.Search.{first_over}
+use Rattle.feasibility.specs.Ends.{EndsBy}
 use Rattle.tuple_index.specs.Places.{RisesFrom}
 use Rattle.tuple_index.specs.Plan.{set_at}
-use Rattle.coverage_measure.proofs.CountLemmas.{counted_all, counted_more, ends_at, is_over, members_few, members_rise, question_at, size_is}
-use Rattle.coverage_measure.proofs.RowLemmas.{plus_none}
+use Rattle.coverage_measure.specs.Asking.{tally}
+use Rattle.coverage_measure.proofs.CountLemmas.{members_rise, negative_tuples, tuples_few}
+use Rattle.coverage_measure.proofs.SliceCounts.{member_ends, negative_part, positive_ends, served_few, served_more, set_counted}
 use Rattle.coverage_measure.proofs.servable.count_servable.Goals as goal
-use Rattle.coverage_measure.proofs.servable.count_servable.Goals.{then-branch, else-branch}
 
-pub put_tuple-requires-clause-few : goal.put_tuple-requires-clause-few
-put_tuple-requires-clause-few c =
+pub count_in-requires-clause-rising : goal.count_in-requires-clause-rising
+count_in-requires-clause-rising c =
     let m : ModelView = c.args.asking.now.model.now in
-    let few = members_few (set_at c.args.plan.now c.args.set) 0 (length m.params) (omega arith) (members_rise m c.args.plan.now c.args.set c.requires.plan c.requires.set) in
-    omega (arith, few, c.assert_invariant.ensures.few)
+    subst (RisesFrom 0 (length m.params)) (sym c.members-members.ensures) (members_rise m c.args.plan.now c.args.set c.requires.plan c.requires.set)
 
-pub put_tuple-requires-clause-rising : goal.put_tuple-requires-clause-rising
-put_tuple-requires-clause-rising c =
-    subst (λ (n : ℕ). RisesFrom 0 n (set_at c.args.plan.now c.args.set)) (sym c.loop-rank.invariant.1.size)
-    (members_rise c.args.asking.now.model.now c.args.plan.now c.args.set c.requires.plan c.requires.set)
-
-pub ask-requires-clause-own : goal.ask-requires-clause-own
-ask-requires-clause-own c =
+pub count_in-requires-clause-few : goal.count_in-requires-clause-few
+count_in-requires-clause-few c =
     let m : ModelView = c.args.asking.now.model.now in
-    (question_at m (set_at c.args.plan.now c.args.set) c.loop-rank.rank c.put_tuple.new.into (c.put_tuple.ensures m c.requires.plan c.loop-rank.invariant.1.size)).own
+    let few : length (tuples_of m (set_at c.args.plan.now c.args.set)) < 2 ^ 32 =
+    omega (arith, tuples_few m c.args.plan.now c.args.set c.requires.plan c.assert_invariant-2.ensures c.requires.set) in
+    subst (λ set. length (tuples_of m set) < 2 ^ 32) (sym c.members-members.ensures) few
 
-pub ask-requires-clause-of : goal.ask-requires-clause-of
-ask-requires-clause-of c =
+pub returns-in_err-positive-clause-ends : goal.returns-in_err-positive-clause-ends
+returns-in_err-positive-clause-ends c =
+    let told = err_from_is_err_and c.from_residual-in_err-positive.result c.from_residual-in_err-positive.ensures.1 in
     let m : ModelView = c.args.asking.now.model.now in
-    (question_at m (set_at c.args.plan.now c.args.set) c.loop-rank.rank c.put_tuple.new.into (c.put_tuple.ensures m c.requires.plan c.loop-rank.invariant.1.size)).of
+    let pref : List (List ℕ) = c.args.asking.now.prefs.now in
+    let budget : ℕ = c.args.asking.now.budget in
+    rw (told.1, told.2)
+    (positive_ends m pref budget (set_at c.args.plan.now c.args.set) c.in_err-positive.field-0.0 (members_rise m c.args.plan.now c.args.set c.requires.plan c.requires.set)
+    (subst (λ set. EndsBy (first_over m pref budget (tuples_in m set Positive)) c.in_err-positive.field-0.0) c.members-members.ensures c.in_err-positive.ensures.ends))
 
-pub ask-requires-clause-few : goal.ask-requires-clause-few
-ask-requires-clause-few c =
+pub count_negative-requires-clause-rising : goal.count_negative-requires-clause-rising
+count_negative-requires-clause-rising c =
     let m : ModelView = c.args.asking.now.model.now in
-    let question = question_at m (set_at c.args.plan.now c.args.set) c.loop-rank.rank c.put_tuple.new.into (c.put_tuple.ensures m c.requires.plan c.loop-rank.invariant.1.size) in
-    omega (arith, question.of.fits.as_long, c.assert_invariant.ensures.few)
+    subst (RisesFrom 0 (length m.params)) (sym c.members-members.ensures) (members_rise m c.args.plan.now c.args.set c.requires.plan c.requires.set)
 
-pub returns-in_err-ask-clause-ends : goal.returns-in_err-ask-clause-ends
-returns-in_err-ask-clause-ends c =
-    let p = err_from_is_err_and c.from_residual-in_err-ask.result c.from_residual-in_err-ask.ensures.1 in
+pub count_negative-requires-clause-few : goal.count_negative-requires-clause-few
+count_negative-requires-clause-few c =
     let m : ModelView = c.args.asking.now.model.now in
-    rw (p.1, p.2)
-    (ends_at (is_over m c.args.asking.now.prefs.now c.args.asking.now.budget) (tuples_of m (set_at c.args.plan.now c.args.set)) c.loop-rank.rank c.put_tuple.new.into
-    c.in_err-ask.field-0.0 (c.put_tuple.ensures m c.requires.plan c.loop-rank.invariant.1.size) c.loop-rank.invariant.1.none c.in_err-ask.ensures.ends)
+    let few : length (tuples_of m (set_at c.args.plan.now c.args.set)) < 2 ^ 32 =
+    omega (arith, tuples_few m c.args.plan.now c.args.set c.requires.plan c.assert_invariant-2.ensures c.requires.set) in
+    subst (λ set. length (tuples_of m set) < 2 ^ 32) (sym c.members-members.ensures) few
 
-pub loop-rank-preserved : goal.loop-rank-preserved
-loop-rank-preserved c =
+pub returns-in_err-negative-clause-ends : goal.returns-in_err-negative-clause-ends
+returns-in_err-negative-clause-ends c =
+    let told = err_from_is_err_and c.from_residual-in_err-negative.result c.from_residual-in_err-negative.ensures.1 in
     let m : ModelView = c.args.asking.now.model.now in
-    let next : c.if-branch.count ≡ c.loop-rank.count + cond c.in_ok-ask.field-0 1 0 = elim c.if-branch.branch [
-      | then-branch w ↦ w.count-is ∙ ap (λ b. c.loop-rank.count + cond b 1 0) (sym w.if-branch.true)
-      | else-branch w ↦ w.count-is ∙ sym (plus_none c.loop-rank.count) ∙ ap (λ b. c.loop-rank.count + cond b 1 0) (sym w.if-branch.false)
-    ] in (
-      c.in_ok-ask.ensures.kept,
-      counted_more m c.args.asking.now.prefs.now c.args.asking.now.budget (set_at c.args.plan.now c.args.set) c.loop-rank.rank c.loop-rank.count c.if-branch.count c.in_ok-ask.field-0
-          c.loop-rank.cells c.put_tuple.new.into c.assert_invariant.ensures c.loop-rank.invariant.1 (c.put_tuple.ensures m c.requires.plan c.loop-rank.invariant.1.size)
-          c.in_ok-ask.ensures.answer c.in_ok-ask.ensures.ends next,
+    let pref : List (List ℕ) = c.args.asking.now.prefs.now in
+    let budget : ℕ = c.args.asking.now.budget in
+    let same = c.members-members.ensures in
+    rw (told.1, told.2)
+    (member_ends m pref budget (set_at c.args.plan.now c.args.set) c.loop-q.q-index 0 c.loop-q.negative c.in_err-negative.field-0.0
+    (members_rise m c.args.plan.now c.args.set c.requires.plan c.requires.set) (omega (arith, c.loop-q-test.true, ap length same))
+    (ap (λ set. first_over m pref budget (tuples_in m set Positive)) (sym same) ∙ c.in_ok-positive.ensures.ends) c.loop-q.invariant.2
+    (subst (λ set. EndsBy (first_over m pref budget (negative_tuples m set (get_or set c.loop-q.q-index 0))) c.in_err-negative.field-0.0) same
+    c.in_err-negative.ensures.ends))
+
+pub overflow_add-negative : goal.overflow_add-negative
+overflow_add-negative c =
+    let m : ModelView = c.args.asking.now.model.now in
+    let set = set_at c.args.plan.now c.args.set in
+    let same = c.members-members.ensures in
+    let within : c.loop-q.q-index < length set = omega (arith, c.loop-q-test.true, ap length same) in
+    let q = get_or set c.loop-q.q-index 0 in
+    let few = served_few m c.args.asking.now.prefs.now c.args.asking.now.budget (negative_tuples m set) set c.loop-q.q-index c.loop-q.negative c.in_ok-negative.field-0 q within
+    (get_or_default set c.loop-q.q-index 0 q within) c.loop-q.invariant.2
+    (c.in_ok-negative.ensures.count ∙ ap (λ set. tally (is_served m (all_rows m)) (negative_tuples m set (get_or set c.loop-q.q-index 0))) same) in
+    omega (
+      arith,
+      few,
+      negative_part m set (members_rise m c.args.plan.now c.args.set c.requires.plan c.requires.set),
+      tuples_few m c.args.plan.now c.args.set c.requires.plan c.assert_invariant-2.ensures c.requires.set,
     )
+
+pub loop-q-preserved : goal.loop-q-preserved
+loop-q-preserved c =
+    let m : ModelView = c.args.asking.now.model.now in
+    let pref : List (List ℕ) = c.args.asking.now.prefs.now in
+    let budget : ℕ = c.args.asking.now.budget in
+    let set = set_at c.args.plan.now c.args.set in
+    let same = c.members-members.ensures in
+    let within : c.loop-q.q-index < length set = omega (arith, c.loop-q-test.true, ap length same) in
+    let q = get_or set c.loop-q.q-index 0 in (
+      c.in_ok-negative.ensures.cells ∙ c.loop-q.invariant.0,
+      c.in_ok-negative.ensures.kept,
+      served_more m pref budget (negative_tuples m set) set c.loop-q.q-index c.loop-q.negative c.in_ok-negative.field-0 _ q within
+          (get_or_default set c.loop-q.q-index 0 q within) c.loop-q.invariant.2
+          (c.in_ok-negative.ensures.count ∙ ap (λ set. tally (is_served m (all_rows m)) (negative_tuples m set (get_or set c.loop-q.q-index 0))) same)
+          (ap (λ set. first_over m pref budget (negative_tuples m set (get_or set c.loop-q.q-index 0))) (sym same) ∙ c.in_ok-negative.ensures.ends) refl,
+    )
+
+pub overflow_add-result : goal.overflow_add-result
+overflow_add-result c =
+    let m : ModelView = c.args.asking.now.model.now in
+    let pref : List (List ℕ) = c.args.asking.now.prefs.now in
+    let budget : ℕ = c.args.asking.now.budget in
+    let same = c.members-members.ensures in
+    let counted = set_counted m pref budget (set_at c.args.plan.now c.args.set) c.loop-q.q-index c.in_ok-positive.positive c.loop-q.negative
+    (members_rise m c.args.plan.now c.args.set c.requires.plan c.requires.set) (omega (arith, c.loop-q-test.false, ap length same))
+    (c.in_ok-positive.ensures.count ∙ ap (λ set. tally (is_served m (all_rows m)) (tuples_in m set Positive)) same)
+    (ap (λ set. first_over m pref budget (tuples_in m set Positive)) (sym same) ∙ c.in_ok-positive.ensures.ends) c.loop-q.invariant.2 in
+    omega (arith, counted.few, tuples_few m c.args.plan.now c.args.set c.requires.plan c.assert_invariant-2.ensures c.requires.set)
+
+pub overflow_cast-result : goal.overflow_cast-result
+overflow_cast-result c =
+    let m : ModelView = c.args.asking.now.model.now in
+    let pref : List (List ℕ) = c.args.asking.now.prefs.now in
+    let budget : ℕ = c.args.asking.now.budget in
+    let same = c.members-members.ensures in
+    let counted = set_counted m pref budget (set_at c.args.plan.now c.args.set) c.loop-q.q-index c.in_ok-positive.positive c.loop-q.negative
+    (members_rise m c.args.plan.now c.args.set c.requires.plan c.requires.set) (omega (arith, c.loop-q-test.false, ap length same))
+    (c.in_ok-positive.ensures.count ∙ ap (λ set. tally (is_served m (all_rows m)) (tuples_in m set Positive)) same)
+    (ap (λ set. first_over m pref budget (tuples_in m set Positive)) (sym same) ∙ c.in_ok-positive.ensures.ends) c.loop-q.invariant.2 in
+    omega (arith, counted.few, tuples_few m c.args.plan.now c.args.set c.requires.plan c.assert_invariant-2.ensures c.requires.set)
 
 pub returns-clause-count : goal.returns-clause-count
 returns-clause-count c =
     let m : ModelView = c.args.asking.now.model.now in
-    let size = size_is m c.args.plan.now c.args.set c.requires.plan c.requires.set in
-    (counted_all m c.args.asking.now.prefs.now c.args.asking.now.budget (set_at c.args.plan.now c.args.set) c.loop-rank.rank c.loop-rank.count c.loop-rank.cells c.loop-rank.invariant.1
-    (omega (arith, c.loop-rank-test.false, c.size-rank-end.ensures, size))).counted
+    let pref : List (List ℕ) = c.args.asking.now.prefs.now in
+    let budget : ℕ = c.args.asking.now.budget in
+    let same = c.members-members.ensures in
+    (set_counted m pref budget (set_at c.args.plan.now c.args.set) c.loop-q.q-index c.in_ok-positive.positive c.loop-q.negative
+    (members_rise m c.args.plan.now c.args.set c.requires.plan c.requires.set) (omega (arith, c.loop-q-test.false, ap length same))
+    (c.in_ok-positive.ensures.count ∙ ap (λ set. tally (is_served m (all_rows m)) (tuples_in m set Positive)) same)
+    (ap (λ set. first_over m pref budget (tuples_in m set Positive)) (sym same) ∙ c.in_ok-positive.ensures.ends) c.loop-q.invariant.2).count
 
 pub returns-clause-ends : goal.returns-clause-ends
 returns-clause-ends c =
     let m : ModelView = c.args.asking.now.model.now in
-    let size = size_is m c.args.plan.now c.args.set c.requires.plan c.requires.set in
-    (counted_all m c.args.asking.now.prefs.now c.args.asking.now.budget (set_at c.args.plan.now c.args.set) c.loop-rank.rank c.loop-rank.count c.loop-rank.cells c.loop-rank.invariant.1
-    (omega (arith, c.loop-rank-test.false, c.size-rank-end.ensures, size))).none
+    let pref : List (List ℕ) = c.args.asking.now.prefs.now in
+    let budget : ℕ = c.args.asking.now.budget in
+    let same = c.members-members.ensures in
+    (set_counted m pref budget (set_at c.args.plan.now c.args.set) c.loop-q.q-index c.in_ok-positive.positive c.loop-q.negative
+    (members_rise m c.args.plan.now c.args.set c.requires.plan c.requires.set) (omega (arith, c.loop-q-test.false, ap length same))
+    (c.in_ok-positive.ensures.count ∙ ap (λ set. tally (is_served m (all_rows m)) (tuples_in m set Positive)) same)
+    (ap (λ set. first_over m pref budget (tuples_in m set Positive)) (sym same) ∙ c.in_ok-positive.ensures.ends) c.loop-q.invariant.2).none

@@ -1,11 +1,14 @@
-use Rattle.std.proofs.Common.{All}
+use Rattle.std.proofs.Common.{◌≡◌, All}
+use Rattle.definitions.specs.Figures.{all_rows, is_served}
+use Rattle.feasibility.specs.Tree.{no_values}
 use Rattle.tuple_index.specs.Plan.{set_at}
 use Rattle.coverage_measure.specs.Asking.{IsFor}
-use Rattle.coverage_measure.proofs.CountLemmas.{IsCounted}
+use Rattle.coverage_measure.proofs.CountLemmas.{IsCounted, is_over, negative_tuples}
 use Rattle.coverage_measure.proofs.servable.count_servable.Given as goal
 
--- the tuples before this rank are counted
-abbrev pub invariant-loop-rank : goal.invariant-loop-rank
-invariant-loop-rank l =
-    All (IsFor l.asking.model.now l.asking.prefs.now) l.kept.items
-    × IsCounted l.asking.model.now l.asking.prefs.now l.asking.budget (set_at l.plan l.set) l.rank l.count l.cells
+-- the tuples with a negative value of a member before this one are counted
+abbrev pub invariant-loop-q : goal.invariant-loop-q
+invariant-loop-q l =
+    (l.cells ≡ no_values l.asking.model.now) × All (IsFor l.asking.model.now l.asking.prefs.now) l.kept.items
+    × IsCounted (is_served l.asking.model.now (all_rows l.asking.model.now)) (is_over l.asking.model.now l.asking.prefs.now l.asking.budget)
+    (negative_tuples l.asking.model.now (set_at l.plan l.set)) (set_at l.plan l.set) 1 l.q-index l.negative

@@ -2,7 +2,7 @@ use Rattle.std.proofs.Common.{ap, subst, ◌∙◌}
 use Rattle.cov_model.specs.Preference.{preference}
 use Rattle.definitions.specs.Growth.{growth}
 use Rattle.definitions.specs.Search.{first_over}
-use Rattle.ipog_grow.specs.Suites.{EndsBy}
+use Rattle.feasibility.specs.Ends.{EndsBy}
 use Rattle.row_text.specs.RowFiles.{seeds_seen}
 use Rattle.pict_cli.specs.Options.{settings_seen}
 use Rattle.pict_cli.specs.Runs.{growth_over}

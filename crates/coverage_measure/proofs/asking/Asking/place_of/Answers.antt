@@ -6,14 +6,14 @@ use Rattle.coverage_measure.proofs.asking.Asking.place_of.Goals as goal
 
 pub returns-clause-place : goal.returns-clause-place
 returns-clause-place c =
-    let one : KeptSolver = record { slice = c.args.slice; solver = c.in_ok-solver.solver } in
+    let one : KeptSolver = record { slice = c.args.slice; solver = c.in_ok-solver.solver; values = c.in_ok-values.values } in
     let pushed : c.push.new.self.items ≡ c.truncate.new.self.items ++ one ∷ [] = grind (arith, common_steps) in
     let last : c.len-place.result ≡ length c.truncate.new.self.items = grind (arith, common_steps) in
     last_place c.truncate.new.self.items c.push.new.self.items one c.len-place.result last pushed
 
 pub returns-clause-kept : goal.returns-clause-kept
 returns-clause-kept c =
-    let one : KeptSolver = record { slice = c.args.slice; solver = c.in_ok-solver.solver } in
+    let one : KeptSolver = record { slice = c.args.slice; solver = c.in_ok-solver.solver; values = c.in_ok-values.values } in
     let pushed : c.push.new.self.items ≡ c.truncate.new.self.items ++ one ∷ [] = grind (arith, common_steps) in
     kept_more c.args.self.now.model.now c.args.self.now.prefs.now 63 c.args.kept.now.items c.truncate.new.self.items c.push.new.self.items one c.requires.kept c.truncate.ensures.items
-    c.in_ok-solver.ensures pushed
+    (record { slice = c.requires.slice; solver = c.in_ok-solver.ensures; values = c.in_ok-values.ensures }) pushed
