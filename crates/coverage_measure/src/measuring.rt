@@ -19,21 +19,10 @@ use cov_model::{Prefs, TestModel};
 use feasibility::SearchFault;
 use outside_io::Gate;
 use row_text::{Figures, RowFile};
-use shared_marks::{Bits, mark_rows};
+use shared_marks::{Bits, count_tuples, mark_rows};
 use std::alloc::Global;
 use std::thread::Threads;
 use tuple_index::Plan;
-
-// The number of demanded tuples.
-fn count_tuples(plan: &Plan) -> u32
-    ensures { result ≡ sum plan.now.sizes }
-{
-    let sets = plan.set_count();
-    if sets == 0 {
-        return 0;
-    }
-    plan.base(sets - 1) + plan.size(sets - 1)
-}
 
 // The figures of the demanded sets. Marked are the demanded tuples that tests of a suite serve.
 fn measure_sets(asking: &Asking<'_>, plan: &Plan, marks: &Bits) -> Result<SetFigures, SearchFault>

@@ -24,6 +24,7 @@ use cov_model::{Rows, TestModel};
 use ipog_grow::Suite;
 use model_lex::{Note, NoteCode, NoteList};
 use row_text::{RowFile, Stats, Turns};
+use shared_marks::count_tuples;
 use std::alloc::Global;
 use std::thread::Threads;
 use tuple_index::Plan;
@@ -42,19 +43,6 @@ pub(crate) struct ReadySuite {
     pub turns: Turns,
 }
 
-/// The number of demanded tuples of a plan.
-fn tuple_count(plan: &Plan) -> u64
-    ensures { result ≡ sum plan.now.sizes }
-{
-    plan.assert_invariant();
-    let sets = plan.set_count();
-    if sets == 0 {
-        return 0;
-    }
-    let last = sets - 1;
-    u64::from(plan.base(last)) + u64::from(plan.size(last))
-}
-
 /// The statistics of a suite.
 fn stats_of(plan: &Plan, suite: &Suite) -> Stats
     ensures sets { result.sets ≡ length plan.now.sets }
@@ -65,7 +53,7 @@ fn stats_of(plan: &Plan, suite: &Suite) -> Stats
 {
     Stats {
         sets: u64::from(plan.set_count()),
-        tuples: tuple_count(plan),
+        tuples: u64::from(count_tuples(plan)),
         omitted: suite.omitted.len() as u64,
         kept: u64::from(suite.kept),
         tests: suite.rows.len() as u64,

@@ -1,4 +1,4 @@
-ghost use Rattle.std.specs.Prelude.{◌≡◌, ◌≢◌, ◌<◌, ◌≤◌, ℕ, All, IfOk, OnOk, MatchOption, length, map, sum};
+ghost use Rattle.std.specs.Prelude.{◌≡◌, ◌≢◌, ◌<◌, ◌≤◌, ℕ, All, IfOk, OnOk, MatchOption, length, map};
 ghost use Rattle.std.specs.List.{count_by};
 ghost use Rattle.std.specs.List.Sorted.{IsStrictlySortedBy};
 ghost use Rattle.std.specs.Ordering.{nat_cmp};
@@ -14,6 +14,7 @@ ghost use Rattle.proof_check.specs.Left.{AreLeft, Clears, IsPlaceOf, LacksPlace}
 use bit_table::BitTable;
 use cov_model::{ParamNo, TestModel, Tuple, ValueNo};
 use refutation::Omissions;
+use shared_marks::count_tuples;
 use std::alloc::Global;
 use std::cmp::Ordering;
 use tuple_index::Plan;
@@ -151,15 +152,4 @@ pub fn mark_unlisted(
         clear_one(alloc, model, plan, &omission.tuple, &mut left)?;
     }
     Ok(left)
-}
-
-// The number of demanded tuples.
-fn count_tuples(plan: &Plan) -> u32
-    ensures { result ≡ sum plan.now.sizes }
-{
-    let sets = plan.set_count();
-    if sets == 0 {
-        return 0;
-    }
-    plan.base(sets - 1) + plan.size(sets - 1)
 }
