@@ -34,27 +34,13 @@ use Rattle.shared_marks.proofs.PlaceLemmas.{tuple_there}
 use Rattle.proof_check.specs.Left.{IsPlaceOf, LacksPlace}
 use Rattle.proof_check.proofs.PairLemmas.{ArePairs, assigned_is, cells_are, given_at, negatives_counted, params, values, values_exist}
 use Rattle.proof_check.proofs.SetLemmas.{params_rise, same_members}
+use Rattle.shared_marks.proofs.OwnTupleLemmas.{of_set}
 
 -- a member has a place
 place_has : {X : Type 0} (xs : List X) (x : X) → Has xs x → (i : ℕ) × (slice_get xs i ≡ Some x)
 place_has [] x has = absurd has
 place_has (y ∷ xs) x (inl same) = (0, ap Some same)
 place_has (y ∷ xs) x (inr later) = let found = place_has xs x later in (suc found.0, found.1)
-
--- a tuple of a set has values at the members of the set alone
-pub record IsOf (m : ModelView) (set : List ℕ) (tuple : List (Option ℕ)) : Type 0 where
-  pub long : length tuple ≡ length m.params
-  pub given : (p : ℕ) → p < length m.params → is_assigned tuple p ≡ is_among set p
-
-of_set : (m : ModelView) (set : List ℕ) (tuple : List (Option ℕ)) → Has (tuples_of m set) tuple → IsOf m set tuple
-of_set m set tuple has =
-    let part = of_flat (tuples_in m set) (slices m) tuple has in
-    let choice = (tuple_is m set part.0 tuple (is_slice m part.0 part.1) part.2).choice in
-    let lists = length-slice_values m part.0 in
-    record {
-      long = choice.long ∙ lists;
-      given = λ p within. choice.given p (omega (arith, within, lists)) ∙ ap (is_among set) (zero-add p);
-    }
 
 rises : (m : ModelView) (set : List ℕ) → Has (demanded_sets m) set → RisesFrom 0 (length m.params) set
 rises m set has = member_of_all (RisesFrom 0 (length m.params)) (demanded_sets m) set (demanded_rise m) has

@@ -97,7 +97,7 @@ pub record IsOf (m : ModelView) (set : List ℕ) (tuple : List (Option ℕ)) : T
   pub long : length tuple ≡ length m.params
   pub given : (p : ℕ) → p < length m.params → is_assigned tuple p ≡ is_among set p
 
-of_set : (m : ModelView) (set : List ℕ) (tuple : List (Option ℕ)) → Has (tuples_of m set) tuple → IsOf m set tuple
+pub of_set : (m : ModelView) (set : List ℕ) (tuple : List (Option ℕ)) → Has (tuples_of m set) tuple → IsOf m set tuple
 of_set m set tuple has =
     let part = of_flat (tuples_in m set) (slices m) tuple has in
     let choice = (tuple_is m set part.0 tuple (is_slice m part.0 part.1) part.2).choice in
