@@ -15,6 +15,7 @@ use Rattle.definitions.proofs.Members.{Has, among_has, has_filter, of_among, of_
 use Rattle.definitions.proofs.SliceLemmas.{has_numbers}
 use Rattle.tuple_index.specs.Plan.{are_values, is_negative, is_value, negative_count, plan_of, tuple_cells, value_given}
 use Rattle.shared_marks.proofs.OwnTupleLemmas.{negatives_listed, sign_of}
+use Rattle.definitions.proofs.NamedPairs.{length-cells_of}
 
 -- the parameters and the values of pairs
 abbrev pub params : List (ℕ × ℕ) → List ℕ
@@ -28,10 +29,6 @@ none_at n p = elim (cases_lt p n) [
   | inl within ↦ get_or-replicate n p None None within
   | inr past ↦ get_or_past (replicate n None) p None (omega (arith, past, length-replicate {A = Option ℕ} n None))
 ]
-
-pub length-cells_of : (n : ℕ) (pairs : List (ℕ × ℕ)) → length (cells_of n pairs) ≡ n
-length-cells_of n [] = length-replicate n None
-length-cells_of n (pair ∷ pairs) = length-set (cells_of n pairs) pair.0 (Some pair.1) ∙ length-cells_of n pairs
 
 pair_given : (n : ℕ) (pairs : List (ℕ × ℕ)) (p : ℕ) → p < n → get_or (cells_of n pairs) p None ≡ value_given (params pairs) (values pairs) p
 pair_given n [] p within = none_at n p

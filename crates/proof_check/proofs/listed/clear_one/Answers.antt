@@ -3,7 +3,7 @@ use Rattle.std.specs.Prelude.{MatchOption}
 use Rattle.definitions.specs.Pairs.{cells_of}
 use Rattle.proof_check.specs.Left.{Clears, IsPlaceOf, LacksPlace}
 use Rattle.proof_check.proofs.LeftLemmas.{clears_none, clears_place}
-use Rattle.proof_check.proofs.PairLemmas.{length-cells_of}
+use Rattle.definitions.proofs.NamedPairs.{length-cells_of}
 use Rattle.proof_check.proofs.listed.clear_one.Goals as goal
 
 pub returns-in-Some : goal.returns-in-Some
