@@ -1,5 +1,6 @@
 -- Solvers that are kept, and what one answers.
-use Rattle.std.proofs.Common.{◌≡◌, ℕ, List, [], ◌∷◌, ◌++◌, map, length, take, get_or, find, All, Some, Bool, true, false, cond, Option, refl, ◌∙◌, sym, ap, subst, arith}
+use Rattle.std.proofs.Common.{◌≡◌, ℕ, List, [], ◌∷◌, ◌++◌, map, length, take, get_or, find, All, Some, Bool, true, false, cond, Option, refl, ◌∙◌}
+use Rattle.std.proofs.Common.{sym, ap, subst, arith}
 use Rattle.std.specs.Prelude.{slice_get, option_map}
 use Rattle.std.proofs.lemmas.List.Elements.{All-append, All-cons, All-nil, All-take}
 use Rattle.std.proofs.Math.ListN.{get_or-map}
@@ -56,7 +57,8 @@ pub record AreTuples (m : ModelView) (pref : List (List ℕ)) (budget : ℕ) (se
   pub count : tally (is_found m pref own) (with_values (slice_values m own) set cells) ≡ tally (is_served m (all_rows m)) (tuples_in m set slice)
   pub over : find (is_above m pref own budget) (with_values (slice_values m own) set cells) ≡ first_over m pref budget (tuples_in m set slice)
 
-pub are_tuples : (m : ModelView) (pref : List (List ℕ)) (budget : ℕ) (set : List ℕ) (slice own : Slice) (cells : List (Option ℕ)) → IsSound m → OrdersValues m pref
+pub are_tuples : (m : ModelView) (pref : List (List ℕ)) (budget : ℕ) (set : List ℕ) (slice own : Slice) (cells : List (Option ℕ)) → IsSound m
+    → OrdersValues m pref
     → IsSliceOf m slice → RisesFrom 0 (length m.params) set → has_part set slice ≡ true → own ≡ slice → cells ≡ no_values m
     → AreTuples m pref budget set slice own cells
 are_tuples m pref budget set slice own cells sound orders is rises part same none =
@@ -73,7 +75,8 @@ are_tuples m pref budget set slice own cells sound orders is rises part same non
     }
 
 -- what an answer tells of a partial row of the slice
-pub row_told : (m : ModelView) (pref : List (List ℕ)) (one : KeptSolver) (solver : SolverView) (cells : List (Option ℕ)) (found : Bool) → IsSound m → OrdersValues m pref
+pub row_told : (m : ModelView) (pref : List (List ℕ)) (one : KeptSolver) (solver : SolverView) (cells : List (Option ℕ)) (found : Bool) → IsSound m
+    → OrdersValues m pref
     → IsFor m pref one → IsOfSlice m one.slice cells → solver ≡ one.solver → is_extendable solver.model solver.slice cells ≡ found
     → cond found 1 0 ≡ tally (is_found m pref one.slice) (cells ∷ [])
 row_told m pref one solver cells found sound orders is of same told =

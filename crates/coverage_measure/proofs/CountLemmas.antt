@@ -53,7 +53,8 @@ pub counted_none : {X : Type 0} (passes above : List (Option ℕ) → Bool) (row
 counted_none passes above rows items each = let times : each * 0 ≡ 0 = omega arith in record { counted = sym times; none = refl }
 
 -- one more item
-pub counted_more : {X : Type 0} (passes above : List (Option ℕ) → Bool) (rows : X → List (List (Option ℕ))) (items : List X) (each i count inner next : ℕ) (x : X)
+pub counted_more : {X : Type 0} (passes above : List (Option ℕ) → Bool) (rows : X → List (List (Option ℕ))) (items : List X)
+    (each i count inner next : ℕ) (x : X)
     → i < length items → x ≡ get_or items i x → IsCounted passes above rows items each i count → inner ≡ tally passes (rows x) → find above (rows x) ≡ None
     → next ≡ count + each * inner → IsCounted passes above rows items each (i + 1) next
 counted_more passes above rows items each i count inner next x within is so_far inner_is none next_is = record {
@@ -66,7 +67,8 @@ counted_more passes above rows items each i count inner next x within is so_far 
 }
 
 -- which is no more than all have
-pub counted_within : {X : Type 0} (passes above : List (Option ℕ) → Bool) (rows : X → List (List (Option ℕ))) (items : List X) (each i count inner most : ℕ) (x : X)
+pub counted_within : {X : Type 0} (passes above : List (Option ℕ) → Bool) (rows : X → List (List (Option ℕ))) (items : List X)
+    (each i count inner most : ℕ) (x : X)
     → i < length items → x ≡ get_or items i x → IsCounted passes above rows items each i count → inner ≡ tally passes (rows x)
     → each * sum_by (λ y. tally passes (rows y)) items ≤ most → count + each * inner ≤ most
 counted_within passes above rows items each i count inner most x within is so_far inner_is few =
@@ -127,11 +129,13 @@ above_alike m pref slice budget a b alike =
     ap (λ (o : Outcome). nat_lt budget o.cost) (visit_alike m (preferred_values m pref slice) (constrained_params m) a b alike)
 
 -- the first of a member's values are tried, each for so many
-pub record AreTried (m : ModelView) (pref : List (List ℕ)) (slice : Slice) (budget : ℕ) (members : List ℕ) (place : ℕ) (cells : List (Option ℕ)) (tried each : ℕ) : Type 0 where
+pub record AreTried (m : ModelView) (pref : List (List ℕ)) (slice : Slice) (budget : ℕ) (members : List ℕ) (place : ℕ) (cells : List (Option ℕ))
+    (tried each : ℕ) : Type 0 where
   pub found : StandFor (is_found m pref slice) (rows_with m slice members place cells) (values_of m slice members place) tried each
   pub above : StandFor (is_above m pref slice budget) (rows_with m slice members place cells) (values_of m slice members place) tried each
 
-pub are_tried : (m : ModelView) (pref : List (List ℕ)) (slice : Slice) (budget : ℕ) (members : List ℕ) (place : ℕ) (cells : List (Option ℕ)) (named : Bool) (tried each : ℕ)
+pub are_tried : (m : ModelView) (pref : List (List ℕ)) (slice : Slice) (budget : ℕ) (members : List ℕ) (place : ℕ) (cells : List (Option ℕ)) (named : Bool)
+    (tried each : ℕ)
     → get_or members place 0 < length m.params → is_among (constrained_params m) (get_or members place 0) ≡ named
     → tried ≡ cond named (length (values_of m slice members place)) (min (length (values_of m slice members place)) 1)
     → each ≡ cond named 1 (length (values_of m slice members place)) → AreTried m pref slice budget members place cells tried each
@@ -143,7 +147,8 @@ are_tried m pref slice budget members place cells named tried each within is tri
 }
 
 -- as a solver that is kept has them
-pub member_tried : (m : ModelView) (pref : List (List ℕ)) (budget : ℕ) (one : KeptSolver) (members : List ℕ) (place : ℕ) (cells : List (Option ℕ)) (tried each : ℕ)
+pub member_tried : (m : ModelView) (pref : List (List ℕ)) (budget : ℕ) (one : KeptSolver) (members : List ℕ) (place : ℕ) (cells : List (Option ℕ))
+    (tried each : ℕ)
     → IsFor m pref one → get_or members place 0 < length m.params
     → tried ≡ cond (is_among (constrained_params one.solver.model) (get_or members place 0)) (length (get_or one.values (get_or members place 0) []))
     (min (length (get_or one.values (get_or members place 0) [])) 1)
@@ -172,7 +177,8 @@ tried_few m pref slice budget members place cells tried each within are =
 -- those that are tried before a number of them are counted
 abbrev pub IsCountedTo : ModelView → List (List ℕ) → Slice → ℕ → List ℕ → ℕ → List (Option ℕ) → ℕ → ℕ → ℕ → ℕ → Type 0
 IsCountedTo m pref slice budget members place cells tried each i count =
-    IsCounted (is_found m pref slice) (is_above m pref slice budget) (rows_with m slice members place cells) (take tried (values_of m slice members place)) each i count
+    IsCounted (is_found m pref slice) (is_above m pref slice budget) (rows_with m slice members place cells)
+    (take tried (values_of m slice members place)) each i count
 
 -- one that is tried is a value of the member
 pub record IsTriedAt (m : ModelView) (slice : Slice) (members : List ℕ) (place tried i v : ℕ) : Type 0 where
@@ -192,7 +198,8 @@ tried_at m slice members place tried i v some below is =
     }
 
 -- with it, the next member is asked, of no more rows
-pub before_next : (m : ModelView) (slice : Slice) (members : List ℕ) (place tried i v : ℕ) (cells : List (Option ℕ)) → IsSliceOf m slice → place < length members
+pub before_next : (m : ModelView) (slice : Slice) (members : List ℕ) (place tried i v : ℕ) (cells : List (Option ℕ)) → IsSliceOf m slice
+    → place < length members
     → IsBefore m slice (drop place members) cells → IsTriedAt m slice members place tried i v
     → IsBefore m slice (drop (place + 1) members) (with_value cells (get_or members place 0) v)
 before_next m slice members place tried i v cells own within before at =
@@ -209,22 +216,26 @@ next_few m slice members place tried i v cells within at =
     )
 
 -- a step of the loop over those that are tried: the solver, the cells and the values are the first ones, and the cells get the value
-pub record IsStep (m : ModelView) (pref : List (List ℕ)) (slice : Slice) (budget : ℕ) (members : List ℕ) (place : ℕ) (cells row : List (Option ℕ)) (tried each i v : ℕ) : Type 0 where
+pub record IsStep (m : ModelView) (pref : List (List ℕ)) (slice : Slice) (budget : ℕ) (members : List ℕ) (place : ℕ) (cells row : List (Option ℕ))
+    (tried each i v : ℕ) : Type 0 where
   pub within : place < length members
   pub are : AreTried m pref slice budget members place cells tried each
   pub at : IsTriedAt m slice members place tried i v
   pub given : row ≡ with_value cells (get_or members place 0) v
 
-pub is_step : (m : ModelView) (pref : List (List ℕ)) (budget : ℕ) (one now : KeptSolver) (members : List ℕ) (place : ℕ) (cells here row : List (Option ℕ)) (values : List ℕ)
+pub is_step : (m : ModelView) (pref : List (List ℕ)) (budget : ℕ) (one now : KeptSolver) (members : List ℕ) (place : ℕ) (cells here row : List (Option ℕ))
+    (values : List ℕ)
     (tried each i : ℕ) → IsFor m pref one → IsBefore m one.slice (drop place members) cells → place < length members
     → tried ≡ cond (is_among (constrained_params one.solver.model) (get_or members place 0)) (length (get_or one.values (get_or members place 0) []))
     (min (length (get_or one.values (get_or members place 0) [])) 1)
     → each ≡ cond (is_among (constrained_params one.solver.model) (get_or members place 0)) 1 (length (get_or one.values (get_or members place 0) []))
-    → i < tried → now ≡ one → here ≡ cells → values ≡ get_or now.values (get_or members place 0) [] → row ≡ with_value here (get_or members place 0) (get_or values i 0)
+    → i < tried → now ≡ one → here ≡ cells → values ≡ get_or now.values (get_or members place 0) []
+    → row ≡ with_value here (get_or members place 0) (get_or values i 0)
     → IsStep m pref one.slice budget members place cells row tried each i (get_or values i 0)
 is_step m pref budget one now members place cells here row values tried each i is before within tried_is each_is below same_one same_cells values_are row_is =
     let p = get_or members place 0 in
-    let are = member_tried m pref budget one members place cells tried each is (before_here m one.slice members place cells within before).rising.1 tried_is each_is in
+    let are = member_tried m pref budget one members place cells tried each is (before_here m one.slice members place cells within before).rising.1 tried_is
+    each_is in
     let all : values ≡ values_of m one.slice members place =
     values_are ∙ ap (λ (solver : KeptSolver). get_or solver.values p []) same_one ∙ ap (λ lists. get_or lists p []) is.values in
     record {
@@ -235,7 +246,8 @@ is_step m pref budget one now members place cells here row values tried each i i
     }
 
 -- what is asked then
-pub step_asks : {A : Type 0} (told : Slice → List (List (Option ℕ)) → A) (m : ModelView) (one now : KeptSolver) (members : List ℕ) (place : ℕ) (cells row : List (Option ℕ)) (v : ℕ)
+pub step_asks : {A : Type 0} (told : Slice → List (List (Option ℕ)) → A) (m : ModelView) (one now : KeptSolver) (members : List ℕ) (place : ℕ)
+    (cells row : List (Option ℕ)) (v : ℕ)
     → now ≡ one → row ≡ with_value cells (get_or members place 0) v
     → told now.slice (with_values (slice_values m now.slice) (drop (place + 1) members) row) ≡ told one.slice (rows_with m one.slice members place cells v)
 step_asks told m one now members place cells row v same row_is =
@@ -243,12 +255,14 @@ step_asks told m one now members place cells row v same row_is =
     ∙ ap (λ start. told one.slice (with_values (slice_values m one.slice) (drop (place + 1) members) start)) row_is
 
 -- the count with it is no more than all the rows
-pub step_few : (m : ModelView) (pref : List (List ℕ)) (slice : Slice) (budget : ℕ) (members : List ℕ) (place : ℕ) (cells row : List (Option ℕ)) (tried each i v count inner : ℕ)
+pub step_few : (m : ModelView) (pref : List (List ℕ)) (slice : Slice) (budget : ℕ) (members : List ℕ) (place : ℕ) (cells row : List (Option ℕ))
+    (tried each i v count inner : ℕ)
     → IsStep m pref slice budget members place cells row tried each i v → IsCountedTo m pref slice budget members place cells tried each i count
     → inner ≡ tally (is_found m pref slice) (rows_with m slice members place cells v)
     → count + each * inner ≤ length (with_values (slice_values m slice) (drop place members) cells)
 step_few m pref slice budget members place cells row tried each i v count inner step so_far inner_is =
-    counted_within (is_found m pref slice) (is_above m pref slice budget) (rows_with m slice members place cells) (take tried (values_of m slice members place)) each i count inner
+    counted_within (is_found m pref slice) (is_above m pref slice budget) (rows_with m slice members place cells)
+    (take tried (values_of m slice members place)) each i count inner
     (length (with_values (slice_values m slice) (drop place members) cells)) v step.at.within step.at.is so_far inner_is
     (tried_few m pref slice budget members place cells tried each step.within step.are)
 
@@ -257,7 +271,8 @@ pub record AreCounted (m : ModelView) (pref : List (List ℕ)) (slice : Slice) (
   pub counted : count ≡ tally (is_found m pref slice) (with_values (slice_values m slice) params cells)
   pub none : find (is_above m pref slice budget) (with_values (slice_values m slice) params cells) ≡ None
 
-pub tried_all : (m : ModelView) (pref : List (List ℕ)) (slice : Slice) (budget : ℕ) (members : List ℕ) (place : ℕ) (cells : List (Option ℕ)) (tried each i count : ℕ)
+pub tried_all : (m : ModelView) (pref : List (List ℕ)) (slice : Slice) (budget : ℕ) (members : List ℕ) (place : ℕ) (cells : List (Option ℕ))
+    (tried each i count : ℕ)
     → place < length members → tried ≤ i → AreTried m pref slice budget members place cells tried each
     → IsCountedTo m pref slice budget members place cells tried each i count → AreCounted m pref slice budget (drop place members) cells count
 tried_all m pref slice budget members place cells tried each i count within past are so_far =
@@ -272,7 +287,8 @@ tried_all m pref slice budget members place cells tried each i count within past
     }
 
 -- or the first above the budget is among those that a value that is tried leads to
-pub tried_ends : (m : ModelView) (pref : List (List ℕ)) (slice : Slice) (budget : ℕ) (members : List ℕ) (place : ℕ) (cells : List (Option ℕ)) (tried each i count v : ℕ)
+pub tried_ends : (m : ModelView) (pref : List (List ℕ)) (slice : Slice) (budget : ℕ) (members : List ℕ) (place : ℕ) (cells : List (Option ℕ))
+    (tried each i count v : ℕ)
     (fault : SearchFault) → place < length members → IsTriedAt m slice members place tried i v
     → IsCountedTo m pref slice budget members place cells tried each i count
     → EndsBy (find (is_above m pref slice budget) (rows_with m slice members place cells v)) fault
@@ -293,7 +309,8 @@ tuples_with m set q v = cond (value_at m q v).negative (tuples_in m set (Negativ
 abbrev pub negative_tuples : ModelView → List ℕ → ℕ → List (List (Option ℕ))
 negative_tuples m set q = flat_map (λ v. tuples_in m set (Negative q v)) (negative_values m q)
 
-flat_filter : (test : ℕ → Bool) (rows : ℕ → List (List (Option ℕ))) (values : List ℕ) → flat_map rows (filter test values) ≡ flat_map (λ v. cond (test v) (rows v) []) values
+flat_filter : (test : ℕ → Bool) (rows : ℕ → List (List (Option ℕ))) (values : List ℕ) → flat_map rows (filter test values)
+    ≡ flat_map (λ v. cond (test v) (rows v) []) values
 flat_filter test rows [] = refl
 flat_filter test rows (v ∷ values) = by_test (test v) (flat_filter test rows values)
   where
@@ -309,7 +326,8 @@ pub tuples_by_slice : (m : ModelView) (set : List ℕ) → RisesFrom 0 (length m
     → tuples_of m set ≡ tuples_in m set Positive ++ flat_map (negative_tuples m set) set
 tuples_by_slice m set rises =
     tuples_by_member m set rises
-    ∙ ap (λ rest. tuples_in m set Positive ++ rest) (flat_map_same (λ q. flat_map (tuples_in m set) (map (λ v. Negative q v) (negative_values m q))) (negative_tuples m set)
+    ∙ ap (λ rest. tuples_in m set Positive ++ rest) (flat_map_same (λ q. flat_map (tuples_in m set) (map (λ v. Negative q v) (negative_values m q)))
+    (negative_tuples m set)
     set (λ q. flat_map-map (tuples_in m set) (λ v. Negative q v) (negative_values m q)))
 
 -- a member has no more of them than the set has tuples
@@ -335,7 +353,8 @@ pub tuples_few : (m : ModelView) (plan : PlanView) (set : ℕ) → plan ≡ plan
 tuples_few m plan set same kept within =
     subst (λ (p : PlanView). IsKept p → set < length p.sets → length (tuples_of m (set_at p set)) ≤ 2 ^ 26) (sym same)
     (λ (kept : IsKept (plan_of m)) inside.
-    let least : get_or (plan_of m).sizes set 0 ≤ sum (plan_of m).sizes = get_or-le-sum_by (λ n. n) (plan_of m).sizes set 0 (omega (arith, inside, kept.as_many)) in
+    let least : get_or (plan_of m).sizes set 0 ≤ sum (plan_of m).sizes = get_or-le-sum_by (λ n. n) (plan_of m).sizes set 0
+    (omega (arith, inside, kept.as_many)) in
     omega (
       arith,
       least,

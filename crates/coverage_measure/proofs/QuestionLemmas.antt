@@ -1,5 +1,6 @@
 -- The demanded tuples of a set in a slice as questions.
-use Rattle.std.proofs.Common.{◌≡◌, ℕ, ◌<◌, ◌≤◌, Bool, true, cond, List, [], ◌∷◌, length, get_or, find, Option, Some, inl, inr, refl, ◌∙◌, sym, ap, arith, length-append}
+use Rattle.std.proofs.Common.{◌≡◌, ℕ, ◌<◌, ◌≤◌, Bool, true, cond, List, [], ◌∷◌, length, get_or, find, Option, Some, inl, inr, refl, ◌∙◌, sym, ap}
+use Rattle.std.proofs.Common.{arith, length-append}
 use Rattle.std.specs.List.{filter, flat_map}
 use Rattle.std.specs.Prelude.{nat_lt}
 use Rattle.cov_model.specs.declared.slice.Slice.{Slice}
@@ -53,16 +54,19 @@ is_question m pref set slice tuple sound orders is has =
     }
 
 -- tests that agree on the members
-filter_agree : (f g : List (Option ℕ) → Bool) (rows : List (List (Option ℕ))) → ((row : List (Option ℕ)) → Has rows row → f row ≡ g row) → filter f rows ≡ filter g rows
+filter_agree : (f g : List (Option ℕ) → Bool) (rows : List (List (Option ℕ))) → ((row : List (Option ℕ)) → Has rows row → f row ≡ g row) → filter f rows
+    ≡ filter g rows
 filter_agree f g [] same = refl
 filter_agree f g (row ∷ rows) same =
     ap (λ b. cond b (row ∷ filter f rows) (filter f rows)) (same row (inl refl))
     ∙ ap (λ kept. cond (g row) (row ∷ kept) kept) (filter_agree f g rows (λ r has. same r (inr has)))
 
-find_agree : (f g : List (Option ℕ) → Bool) (rows : List (List (Option ℕ))) → ((row : List (Option ℕ)) → Has rows row → f row ≡ g row) → find f rows ≡ find g rows
+find_agree : (f g : List (Option ℕ) → Bool) (rows : List (List (Option ℕ))) → ((row : List (Option ℕ)) → Has rows row → f row ≡ g row) → find f rows
+    ≡ find g rows
 find_agree f g [] same = refl
 find_agree f g (row ∷ rows) same =
-    ap (λ b. cond b (Some row) (find f rows)) (same row (inl refl)) ∙ ap (λ found. cond (g row) (Some row) found) (find_agree f g rows (λ r has. same r (inr has)))
+    ap (λ b. cond b (Some row) (find f rows)) (same row (inl refl)) ∙ ap (λ found. cond (g row) (Some row) found)
+    (find_agree f g rows (λ r has. same r (inr has)))
 
 -- so many of them are served, and this is the first above the budget
 pub found_are_served : (m : ModelView) (pref : List (List ℕ)) (set : List ℕ) (slice : Slice) → IsSound m → OrdersValues m pref → IsSliceOf m slice

@@ -20,25 +20,29 @@ use Rattle.feasibility.specs.Ends.{EndsBy}
 use Rattle.tuple_index.specs.Places.{RisesFrom}
 use Rattle.value_text.proofs.ListLemmas.{length-filter-le}
 use Rattle.coverage_measure.specs.Asking.{tally}
-use Rattle.coverage_measure.proofs.CountLemmas.{IsCounted, counted_all, counted_more, counted_within, is_over, negative_by_value, negative_tuples, sum_few, tuples_by_slice, tuples_with}
+use Rattle.coverage_measure.proofs.CountLemmas.{IsCounted, counted_all, counted_more, counted_within, is_over, negative_by_value, negative_tuples}
+use Rattle.coverage_measure.proofs.CountLemmas.{sum_few, tuples_by_slice, tuples_with}
 use Rattle.coverage_measure.proofs.EndLemmas.{ends_item, ends_whole}
 
 -- each tuple of so many of the items is counted for itself, where some row of the model serves it
 abbrev pub AreServed : {X : Type 0} → ModelView → List (List ℕ) → ℕ → (X → List (List (Option ℕ))) → List X → ℕ → ℕ → Type 0
 AreServed m pref budget rows items i count = IsCounted (is_served m (all_rows m)) (is_over m pref budget) rows items 1 i count
 
-pub served_more : {X : Type 0} (m : ModelView) (pref : List (List ℕ)) (budget : ℕ) (rows : X → List (List (Option ℕ))) (items : List X) (i count inner next : ℕ) (x : X)
+pub served_more : {X : Type 0} (m : ModelView) (pref : List (List ℕ)) (budget : ℕ) (rows : X → List (List (Option ℕ))) (items : List X)
+    (i count inner next : ℕ) (x : X)
     → i < length items → x ≡ get_or items i x → AreServed m pref budget rows items i count → inner ≡ tally (is_served m (all_rows m)) (rows x)
     → first_over m pref budget (rows x) ≡ None → next ≡ count + inner → AreServed m pref budget rows items (i + 1) next
 served_more m pref budget rows items i count inner next x within is so_far inner_is none next_is =
     counted_more (is_served m (all_rows m)) (is_over m pref budget) rows items 1 i count inner next x within is so_far inner_is none (omega (arith, next_is))
 
-pub served_few : {X : Type 0} (m : ModelView) (pref : List (List ℕ)) (budget : ℕ) (rows : X → List (List (Option ℕ))) (items : List X) (i count inner : ℕ) (x : X)
+pub served_few : {X : Type 0} (m : ModelView) (pref : List (List ℕ)) (budget : ℕ) (rows : X → List (List (Option ℕ))) (items : List X) (i count inner : ℕ)
+    (x : X)
     → i < length items → x ≡ get_or items i x → AreServed m pref budget rows items i count → inner ≡ tally (is_served m (all_rows m)) (rows x)
     → count + inner ≤ length (flat_map rows items)
 served_few m pref budget rows items i count inner x within is so_far inner_is =
     let few = sum_few (is_served m (all_rows m)) rows items in
-    let all = counted_within (is_served m (all_rows m)) (is_over m pref budget) rows items 1 i count inner (length (flat_map rows items)) x within is so_far inner_is
+    let all = counted_within (is_served m (all_rows m)) (is_over m pref budget) rows items 1 i count inner
+    (length (flat_map rows items)) x within is so_far inner_is
     (omega (arith, few.0, few.1)) in
     omega (arith, all)
 
@@ -76,7 +80,8 @@ pub with_positive : (m : ModelView) (set : List ℕ) (q v : ℕ) → (value_at m
 with_positive m set q v positive = ap (λ b. cond b (tuples_in m set (Negative q v)) []) positive
 
 -- a run over a member's negative values ends as over the tuples with one of them
-pub negative_ends : (m : ModelView) (pref : List (List ℕ)) (budget : ℕ) (set : List ℕ) (q v count : ℕ) (fault : SearchFault) → v < length (param_at m.params q).values
+pub negative_ends : (m : ModelView) (pref : List (List ℕ)) (budget : ℕ) (set : List ℕ) (q v count : ℕ) (fault : SearchFault)
+    → v < length (param_at m.params q).values
     → (value_at m q v).negative ≡ true → AreServed m pref budget (tuples_with m set q) (value_numbers m q) v count
     → EndsBy (first_over m pref budget (tuples_in m set (Negative q v))) fault → EndsBy (first_over m pref budget (negative_tuples m set q)) fault
 negative_ends m pref budget set q v count fault within negative so_far ends =
@@ -111,7 +116,8 @@ pub record IsSetCounted (m : ModelView) (pref : List (List ℕ)) (budget : ℕ) 
   pub none : first_over m pref budget (tuples_of m set) ≡ None
 
 -- those with a negative value are no more than all of the set
-pub negative_part : (m : ModelView) (set : List ℕ) → RisesFrom 0 (length m.params) set → length (flat_map (negative_tuples m set) set) ≤ length (tuples_of m set)
+pub negative_part : (m : ModelView) (set : List ℕ) → RisesFrom 0 (length m.params) set → length (flat_map (negative_tuples m set) set)
+    ≤ length (tuples_of m set)
 negative_part m set rises =
     omega (arith, ap length (tuples_by_slice m set rises), length-append (tuples_in m set Positive) (flat_map (negative_tuples m set) set))
 
@@ -123,7 +129,8 @@ tally_parts m set rises =
     ∙ ap length (filter-append served (tuples_in m set Positive) (flat_map (negative_tuples m set) set))
     ∙ length-append (filter served (tuples_in m set Positive)) (filter served (flat_map (negative_tuples m set) set))
 
-pub set_counted : (m : ModelView) (pref : List (List ℕ)) (budget : ℕ) (set : List ℕ) (i positive negative : ℕ) → RisesFrom 0 (length m.params) set → length set ≤ i
+pub set_counted : (m : ModelView) (pref : List (List ℕ)) (budget : ℕ) (set : List ℕ) (i positive negative : ℕ) → RisesFrom 0 (length m.params) set
+    → length set ≤ i
     → positive ≡ tally (is_served m (all_rows m)) (tuples_in m set Positive) → first_over m pref budget (tuples_in m set Positive) ≡ None
     → AreServed m pref budget (negative_tuples m set) set i negative → IsSetCounted m pref budget set positive negative
 set_counted m pref budget set i positive negative rises past positive_is none so_far =

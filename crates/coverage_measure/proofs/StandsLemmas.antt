@@ -134,4 +134,5 @@ pub ends_tried : (test : List (Option ℕ) → Bool) (rows : ℕ → List (List 
 ends_tried test rows values tried fault ends =
     let parts : flat_map rows values ≡ flat_map rows (take tried values) ++ flat_map rows (drop tried values) =
     ap (flat_map rows) (sym (take-append-drop tried values)) ∙ flat_map-append rows (take tried values) (drop tried values) in
-    subst (λ all. EndsBy (find test all) fault) (sym parts) (ends_whole test [] (flat_map rows (take tried values)) (flat_map rows (drop tried values)) fault refl ends)
+    subst (λ all. EndsBy (find test all) fault) (sym parts) (ends_whole test [] (flat_map rows (take tried values))
+    (flat_map rows (drop tried values)) fault refl ends)

@@ -64,11 +64,14 @@ before_more m slice p params cells v own before is_value = record {
 }
   where
     here : (q : ℕ) → q ≡ p → get_or (with_value cells p v) q None ≡ Some v
-    here q same = ap (λ k. get_or (with_value cells p v) k None) same ∙ get_or-set_same cells p (Some v) None (omega (arith, before.rising.1, before.of.fits.as_long))
+    here q same =
+        ap (λ k. get_or (with_value cells p v) k None) same
+        ∙ get_or-set_same cells p (Some v) None (omega (arith, before.rising.1, before.of.fits.as_long))
 
 -- the parameter behind some cells gets no value
 choices_none : (lists rest : List (List ℕ)) (set params values : List ℕ) (before : List (Option ℕ)) (p : ℕ) → is_among set p ≡ false
-    → with_values lists params ((before ++ None ∷ []) ++ replicate (length rest) None) ≡ map (λ cells. (before ++ None ∷ []) ++ cells) (value_choices set (p + 1) rest)
+    → with_values lists params ((before ++ None ∷ []) ++ replicate (length rest) None) ≡ map (λ cells. (before ++ None ∷ []) ++ cells)
+    (value_choices set (p + 1) rest)
     → with_values lists params (before ++ None ∷ replicate (length rest) None) ≡ map (λ cells. before ++ cells) (value_choices set p (values ∷ rest))
 choices_none lists rest set params values before p none later =
     let choices = value_choices set (p + 1) rest in
@@ -87,7 +90,8 @@ choices_some : (lists rest : List (List ℕ)) (set params values : List ℕ) (be
 choices_some lists rest set params values before p long among own later =
     let left : value_choices set p (values ∷ rest) ≡ flat_map (λ v. map (λ cells. Some v ∷ cells) choices) values = rw among refl in
     ap (flat_map (λ v. with_values lists params (with_value row p v))) own
-    ∙ flat_map_same (λ v. with_values lists params (with_value row p v)) (λ v. map (λ cells. before ++ cells) (map (λ cells. Some v ∷ cells) choices)) values each
+    ∙ flat_map_same (λ v. with_values lists params (with_value row p v)) (λ v. map (λ cells. before ++ cells) (map (λ cells. Some v ∷ cells) choices))
+    values each
     ∙ sym (map_flat_map (λ cells. before ++ cells) (λ v. map (λ cells. Some v ∷ cells) choices) values) ∙ ap (map (λ cells. before ++ cells)) (sym left)
   where
     choices : List (List (Option ℕ))
@@ -129,16 +133,19 @@ choices_behind lists (values ∷ rest) set (q ∷ params) before p e long end ri
     elim (cases_eq q p) [
       | inl here ↦
           let first : is_among (q ∷ params) p ≡ true = or_left (q == p) (is_among params p) (eq-eqb q p here) in
-          subst (λ r. with_values lists (r ∷ params) (before ++ None ∷ replicate (length rest) None) ≡ map (λ cells. before ++ cells) (value_choices set p (values ∷ rest)))
+          subst (λ r. with_values lists (r ∷ params) (before ++ None ∷ replicate (length rest) None)
+          ≡ map (λ cells. before ++ cells) (value_choices set p (values ∷ rest)))
           (sym here)
           (choices_some lists rest set params values before p long (same p (omega arith) ∙ first) (ap (λ k. get_or lists k []) at ∙ own 0 (omega arith))
-          (λ v. choices_behind lists rest set params (before ++ Some v ∷ []) (p + 1) e (omega (arith, length-append before (Some v ∷ []), long)) (omega (arith, end))
+          (λ v. choices_behind lists rest set params (before ++ Some v ∷ []) (p + 1) e (omega (arith, length-append before (Some v ∷ []), long))
+          (omega (arith, end))
           (subst (λ r. RisesFrom (r + 1) e params) here rises.2)
           (λ r above. same r (omega (arith, above)) ∙ ap (λ b. b || is_among params r) (apart_test q r (omega (arith, here, above)))) next))
       | inr apart ↦
           let above : RisesFrom (p + 1) e (q ∷ params) = (omega (arith, rises.0, apart), rises.1, rises.2) in
           choices_none lists rest set (q ∷ params) values before p (same p (omega arith) ∙ not_among_before (q ∷ params) p e above)
-          (choices_behind lists rest set (q ∷ params) (before ++ None ∷ []) (p + 1) e (omega (arith, length-append before (None ∷ []), long)) (omega (arith, end)) above
+          (choices_behind lists rest set (q ∷ params) (before ++ None ∷ []) (p + 1) e (omega (arith, length-append before (None ∷ []), long))
+          (omega (arith, end)) above
           (λ r higher. same r (omega (arith, higher))) next)
     ]
 

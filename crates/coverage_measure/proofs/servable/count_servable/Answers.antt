@@ -33,8 +33,10 @@ returns-in_err-positive-clause-ends c =
     let pref : List (List ℕ) = c.args.asking.now.prefs.now in
     let budget : ℕ = c.args.asking.now.budget in
     rw (told.1, told.2)
-    (positive_ends m pref budget (set_at c.args.plan.now c.args.set) c.in_err-positive.field-0.0 (members_rise m c.args.plan.now c.args.set c.requires.plan c.requires.set)
-    (subst (λ set. EndsBy (first_over m pref budget (tuples_in m set Positive)) c.in_err-positive.field-0.0) c.members-members.ensures c.in_err-positive.ensures.ends))
+    (positive_ends m pref budget (set_at c.args.plan.now c.args.set) c.in_err-positive.field-0.0
+    (members_rise m c.args.plan.now c.args.set c.requires.plan c.requires.set)
+    (subst (λ set. EndsBy (first_over m pref budget (tuples_in m set Positive)) c.in_err-positive.field-0.0) c.members-members.ensures
+    c.in_err-positive.ensures.ends))
 
 pub count_negative-requires-clause-rising : goal.count_negative-requires-clause-rising
 count_negative-requires-clause-rising c =
@@ -69,7 +71,8 @@ overflow_add-negative c =
     let same = c.members-members.ensures in
     let within : c.loop-q.q-index < length set = omega (arith, c.loop-q-test.true, ap length same) in
     let q = get_or set c.loop-q.q-index 0 in
-    let few = served_few m c.args.asking.now.prefs.now c.args.asking.now.budget (negative_tuples m set) set c.loop-q.q-index c.loop-q.negative c.in_ok-negative.field-0 q within
+    let few = served_few m c.args.asking.now.prefs.now c.args.asking.now.budget (negative_tuples m set) set c.loop-q.q-index c.loop-q.negative
+    c.in_ok-negative.field-0 q within
     (get_or_default set c.loop-q.q-index 0 q within) c.loop-q.invariant.2
     (c.in_ok-negative.ensures.count ∙ ap (λ set. tally (is_served m (all_rows m)) (negative_tuples m set (get_or set c.loop-q.q-index 0))) same) in
     omega (

@@ -6,7 +6,8 @@ use Rattle.feasibility.specs.Ends.{EndsBy}
 use Rattle.feasibility.proofs.Nodes.{set_clear}
 use Rattle.coverage_measure.specs.Asking.{IsBefore, IsFor, is_above, is_found, tally}
 use Rattle.coverage_measure.specs.declared.asking.KeptSolver.{KeptSolver}
-use Rattle.coverage_measure.proofs.CountLemmas.{before_here, before_next, counted_more, free_here, is_step, member_tried, next_few, rows_with, step_asks, step_few, tried_all, tried_ends, values_of}
+use Rattle.coverage_measure.proofs.CountLemmas.{before_here, before_next, counted_more, free_here, is_step, member_tried, next_few, rows_with}
+use Rattle.coverage_measure.proofs.CountLemmas.{step_asks, step_few, tried_all, tried_ends, values_of}
 use Rattle.coverage_measure.proofs.asking.Asking.+count_from.Goals as goal
 
 pub values_tried-tried-requires : goal.values_tried-tried-requires
@@ -30,7 +31,8 @@ count_from-requires t c =
     let tried = c.values_tried-tried.result.0 in
     let v = get_or c.list.result.now c.loop-i.i 0 in
     let within : place < length members = omega arith in
-    let step = is_step m c.args.self.now.prefs.now c.args.self.now.budget one c.loop-i.kept members place cells c.loop-i.cells c.set_cell.new.self c.list.result.now tried
+    let step = is_step m c.args.self.now.prefs.now c.args.self.now.budget one c.loop-i.kept members place cells c.loop-i.cells c.set_cell.new.self
+    c.list.result.now tried
     c.values_tried-tried.result.1 c.loop-i.i c.requires.kept c.requires.before within c.values_tried-tried.ensures.tried c.values_tried-tried.ensures.each
     c.loop-i-test.true c.loop-i.invariant.0 c.loop-i.invariant.1 c.list.ensures c.set_cell.ensures in (
       omega (arith, within),
@@ -69,13 +71,15 @@ returns-in_err-count-clause-ends t c =
     let tried = c.values_tried-tried.result.0 in
     let each = c.values_tried-tried.result.1 in
     let v = get_or c.list.result.now c.loop-i.i 0 in
-    let step = is_step m pref budget one c.loop-i.kept members place cells c.loop-i.cells c.set_cell.new.self c.list.result.now tried each c.loop-i.i c.requires.kept
-    c.requires.before (omega arith) c.values_tried-tried.ensures.tried c.values_tried-tried.ensures.each c.loop-i-test.true c.loop-i.invariant.0 c.loop-i.invariant.1
-    c.list.ensures c.set_cell.ensures in
+    let step = is_step m pref budget one c.loop-i.kept members place cells c.loop-i.cells c.set_cell.new.self c.list.result.now tried each c.loop-i.i
+    c.requires.kept c.requires.before (omega arith) c.values_tried-tried.ensures.tried c.values_tried-tried.ensures.each c.loop-i-test.true
+    c.loop-i.invariant.0 c.loop-i.invariant.1 c.list.ensures c.set_cell.ensures in
     rw (told.1, told.2)
-    (tried_ends m pref one.slice budget members place cells tried each c.loop-i.i c.loop-i.count v c.in_err-count.field-0.0 step.within step.at c.loop-i.invariant.2
+    (tried_ends m pref one.slice budget members place cells tried each c.loop-i.i c.loop-i.count v c.in_err-count.field-0.0 step.within step.at
+    c.loop-i.invariant.2
     (subst (λ over. EndsBy over c.in_err-count.field-0.0)
-    (step_asks (λ slice rows. find (is_above m pref slice budget) rows) m one c.loop-i.kept members place cells c.set_cell.new.self v c.loop-i.invariant.0 step.given)
+    (step_asks (λ slice rows. find (is_above m pref slice budget) rows) m one c.loop-i.kept members place cells c.set_cell.new.self v c.loop-i.invariant.0
+    step.given)
     c.in_err-count.ensures.ends))
 
 pub overflow_mul-count : goal.overflow_mul-count
@@ -90,11 +94,13 @@ overflow_mul-count t c =
     let tried = c.values_tried-tried.result.0 in
     let each = c.values_tried-tried.result.1 in
     let v = get_or c.list.result.now c.loop-i.i 0 in
-    let step = is_step m pref budget one c.loop-i.kept members place cells c.loop-i.cells c.set_cell.new.self c.list.result.now tried each c.loop-i.i c.requires.kept
-    c.requires.before (omega arith) c.values_tried-tried.ensures.tried c.values_tried-tried.ensures.each c.loop-i-test.true c.loop-i.invariant.0 c.loop-i.invariant.1
-    c.list.ensures c.set_cell.ensures in
-    let few = step_few m pref one.slice budget members place cells c.set_cell.new.self tried each c.loop-i.i v c.loop-i.count c.in_ok-count.field-0 step c.loop-i.invariant.2
-    (c.in_ok-count.ensures.count ∙ step_asks (λ slice rows. tally (is_found m pref slice) rows) m one c.loop-i.kept members place cells c.set_cell.new.self v c.loop-i.invariant.0 step.given) in
+    let step = is_step m pref budget one c.loop-i.kept members place cells c.loop-i.cells c.set_cell.new.self c.list.result.now tried each c.loop-i.i
+    c.requires.kept c.requires.before (omega arith) c.values_tried-tried.ensures.tried c.values_tried-tried.ensures.each c.loop-i-test.true
+    c.loop-i.invariant.0 c.loop-i.invariant.1 c.list.ensures c.set_cell.ensures in
+    let few = step_few m pref one.slice budget members place cells c.set_cell.new.self tried each c.loop-i.i v c.loop-i.count c.in_ok-count.field-0 step
+    c.loop-i.invariant.2
+    (c.in_ok-count.ensures.count ∙ step_asks (λ slice rows. tally (is_found m pref slice) rows) m one c.loop-i.kept members place cells c.set_cell.new.self v
+    c.loop-i.invariant.0 step.given) in
     omega (arith, few, c.requires.few)
 
 pub overflow_add-count : goal.overflow_add-count
@@ -109,11 +115,13 @@ overflow_add-count t c =
     let tried = c.values_tried-tried.result.0 in
     let each = c.values_tried-tried.result.1 in
     let v = get_or c.list.result.now c.loop-i.i 0 in
-    let step = is_step m pref budget one c.loop-i.kept members place cells c.loop-i.cells c.set_cell.new.self c.list.result.now tried each c.loop-i.i c.requires.kept
-    c.requires.before (omega arith) c.values_tried-tried.ensures.tried c.values_tried-tried.ensures.each c.loop-i-test.true c.loop-i.invariant.0 c.loop-i.invariant.1
-    c.list.ensures c.set_cell.ensures in
-    let few = step_few m pref one.slice budget members place cells c.set_cell.new.self tried each c.loop-i.i v c.loop-i.count c.in_ok-count.field-0 step c.loop-i.invariant.2
-    (c.in_ok-count.ensures.count ∙ step_asks (λ slice rows. tally (is_found m pref slice) rows) m one c.loop-i.kept members place cells c.set_cell.new.self v c.loop-i.invariant.0 step.given) in
+    let step = is_step m pref budget one c.loop-i.kept members place cells c.loop-i.cells c.set_cell.new.self c.list.result.now tried each c.loop-i.i
+    c.requires.kept c.requires.before (omega arith) c.values_tried-tried.ensures.tried c.values_tried-tried.ensures.each c.loop-i-test.true
+    c.loop-i.invariant.0 c.loop-i.invariant.1 c.list.ensures c.set_cell.ensures in
+    let few = step_few m pref one.slice budget members place cells c.set_cell.new.self tried each c.loop-i.i v c.loop-i.count c.in_ok-count.field-0 step
+    c.loop-i.invariant.2
+    (c.in_ok-count.ensures.count ∙ step_asks (λ slice rows. tally (is_found m pref slice) rows) m one c.loop-i.kept members place cells c.set_cell.new.self v
+    c.loop-i.invariant.0 step.given) in
     omega (arith, few, c.requires.few)
 
 pub loop-i-preserved : goal.loop-i-preserved
@@ -129,17 +137,20 @@ loop-i-preserved t c =
     let tried = c.values_tried-tried.result.0 in
     let each = c.values_tried-tried.result.1 in
     let v = get_or c.list.result.now c.loop-i.i 0 in
-    let step = is_step m pref budget one c.loop-i.kept members place cells c.loop-i.cells c.set_cell.new.self c.list.result.now tried each c.loop-i.i c.requires.kept
-    c.requires.before (omega arith) c.values_tried-tried.ensures.tried c.values_tried-tried.ensures.each c.loop-i-test.true c.loop-i.invariant.0 c.loop-i.invariant.1
-    c.list.ensures c.set_cell.ensures in (
+    let step = is_step m pref budget one c.loop-i.kept members place cells c.loop-i.cells c.set_cell.new.self c.list.result.now tried each c.loop-i.i
+    c.requires.kept c.requires.before (omega arith) c.values_tried-tried.ensures.tried c.values_tried-tried.ensures.each c.loop-i-test.true
+    c.loop-i.invariant.0 c.loop-i.invariant.1 c.list.ensures c.set_cell.ensures in (
       c.count_from.ensures.kept ∙ c.loop-i.invariant.0,
       c.clear_cell.ensures ∙ ap (λ row. set row p None) (c.in_ok-count.ensures.cells ∙ step.given)
           ∙ set_clear cells p v (free_here m one.slice members place cells step.within c.requires.before),
-      counted_more (is_found m pref one.slice) (is_above m pref one.slice budget) (rows_with m one.slice members place cells) (take tried (values_of m one.slice members place)) each
+      counted_more (is_found m pref one.slice) (is_above m pref one.slice budget) (rows_with m one.slice members place cells)
+          (take tried (values_of m one.slice members place)) each
           c.loop-i.i c.loop-i.count c.in_ok-count.field-0 _ v step.at.within step.at.is c.loop-i.invariant.2
-          (c.in_ok-count.ensures.count ∙ step_asks (λ slice rows. tally (is_found m pref slice) rows) m one c.loop-i.kept members place cells c.set_cell.new.self v c.loop-i.invariant.0
+          (c.in_ok-count.ensures.count ∙ step_asks (λ slice rows. tally (is_found m pref slice) rows) m one c.loop-i.kept members place cells
+          c.set_cell.new.self v c.loop-i.invariant.0
           step.given)
-          (sym (step_asks (λ slice rows. find (is_above m pref slice budget) rows) m one c.loop-i.kept members place cells c.set_cell.new.self v c.loop-i.invariant.0 step.given)
+          (sym (step_asks (λ slice rows. find (is_above m pref slice budget) rows) m one c.loop-i.kept members place cells c.set_cell.new.self v
+          c.loop-i.invariant.0 step.given)
           ∙ c.in_ok-count.ensures.ends)
           refl,
     )

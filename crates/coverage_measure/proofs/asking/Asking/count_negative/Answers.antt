@@ -9,7 +9,8 @@ use Rattle.feasibility.specs.Tree.{no_values}
 use Rattle.tuple_index.proofs.TupleLemmas.{among_below}
 use Rattle.coverage_measure.specs.Asking.{IsFor, tally}
 use Rattle.coverage_measure.proofs.CountLemmas.{negative_by_value, negative_few, tuples_with}
-use Rattle.coverage_measure.proofs.SliceCounts.{AreServed, negative_ends, served_all, served_few, served_more, value_number, values_are, with_negative, with_positive}
+use Rattle.coverage_measure.proofs.SliceCounts.{AreServed, negative_ends, served_all, served_few, served_more, value_number, values_are}
+use Rattle.coverage_measure.proofs.SliceCounts.{with_negative, with_positive}
 use Rattle.coverage_measure.proofs.asking.Asking.count_negative.Goals as goal
 use Rattle.coverage_measure.proofs.asking.Asking.count_negative.Goals.{then-is_negative+in_ok-count, else-is_negative}
 
@@ -58,9 +59,11 @@ overflow_add-count c =
     let low = among_below members 0 (length m.params) q c.requires.rising c.requires.member in
     let count = values_are m q c.as_slice.result.now c.index-as_slice-q.result low (c.as_slice.ensures ∙ c.params.ensures.value) in
     let at = value_number m q c.loop-v.v (omega (arith, count, c.len-values.ensures, c.loop-v-test.true)) in
-    let few = served_few m c.args.self.now.prefs.now c.args.self.now.budget (tuples_with m members q) (value_numbers m q) c.loop-v.v c.loop-v.count c.in_ok-count.field-0 c.loop-v.v
+    let few = served_few m c.args.self.now.prefs.now c.args.self.now.budget (tuples_with m members q)
+    (value_numbers m q) c.loop-v.v c.loop-v.count c.in_ok-count.field-0 c.loop-v.v
     at.within at.is c.loop-v.invariant.2
-    (c.in_ok-count.ensures.count ∙ sym (ap (tally (is_served m (all_rows m))) (with_negative m members q c.loop-v.v (sym c.is_negative.ensures ∙ c.if-is_negative.true)))) in
+    (c.in_ok-count.ensures.count ∙ sym (ap (tally (is_served m (all_rows m))) (with_negative m members q c.loop-v.v
+    (sym c.is_negative.ensures ∙ c.if-is_negative.true)))) in
     omega (arith, few, ap length (negative_by_value m members q), negative_few m members q c.requires.rising c.requires.member, c.requires.few)
 
 pub loop-v-preserved : goal.loop-v-preserved
@@ -87,7 +90,8 @@ loop-v-preserved c =
     let counted : AreServed m pref budget rows (value_numbers m q) (v + 1) c.if-is_negative.count = elim c.if-is_negative.branch [
       | then-is_negative+in_ok-count w ↦
           let with_it = with_negative m members q v (sym c.is_negative.ensures ∙ w.if-is_negative.true) in
-          served_more m pref budget rows (value_numbers m q) v c.loop-v.count w.in_ok-count.field-0 c.if-is_negative.count v at.within at.is c.loop-v.invariant.2
+          served_more m pref budget rows (value_numbers m q) v c.loop-v.count w.in_ok-count.field-0 c.if-is_negative.count v at.within at.is
+          c.loop-v.invariant.2
           (w.in_ok-count.ensures.count ∙ sym (ap (tally served) with_it)) (ap (first_over m pref budget) with_it ∙ w.in_ok-count.ensures.ends) w.count-is
       | else-is_negative w ↦
           let without = with_positive m members q v (sym c.is_negative.ensures ∙ w.if-is_negative.false) in
@@ -102,8 +106,16 @@ returns-clause-count c =
     let q = c.args.q in
     let low = among_below c.args.members.now 0 (length m.params) q c.requires.rising c.requires.member in
     let count = values_are m q c.as_slice.result.now c.index-as_slice-q.result low (c.as_slice.ensures ∙ c.params.ensures.value) in
-    let past : length (value_numbers m q) ≤ c.loop-v.v = omega (arith, count, c.len-values.ensures, c.loop-v-test.false, length-range_with_len 0 (length (param_at m.params q).values)) in
-    (served_all m c.args.self.now.prefs.now c.args.self.now.budget (tuples_with m c.args.members.now q) (value_numbers m q) c.loop-v.v c.loop-v.count past c.loop-v.invariant.2).0
+    let past : length (value_numbers m q) ≤ c.loop-v.v = omega (
+      arith,
+      count,
+      c.len-values.ensures,
+      c.loop-v-test.false,
+      length-range_with_len 0
+          (length (param_at m.params q).values),
+    ) in
+    (served_all m c.args.self.now.prefs.now c.args.self.now.budget (tuples_with m c.args.members.now q)
+    (value_numbers m q) c.loop-v.v c.loop-v.count past c.loop-v.invariant.2).0
     ∙ ap (tally (is_served m (all_rows m))) (sym (negative_by_value m c.args.members.now q))
 
 pub returns-clause-ends : goal.returns-clause-ends
@@ -112,6 +124,14 @@ returns-clause-ends c =
     let q = c.args.q in
     let low = among_below c.args.members.now 0 (length m.params) q c.requires.rising c.requires.member in
     let count = values_are m q c.as_slice.result.now c.index-as_slice-q.result low (c.as_slice.ensures ∙ c.params.ensures.value) in
-    let past : length (value_numbers m q) ≤ c.loop-v.v = omega (arith, count, c.len-values.ensures, c.loop-v-test.false, length-range_with_len 0 (length (param_at m.params q).values)) in
+    let past : length (value_numbers m q) ≤ c.loop-v.v = omega (
+      arith,
+      count,
+      c.len-values.ensures,
+      c.loop-v-test.false,
+      length-range_with_len 0
+          (length (param_at m.params q).values),
+    ) in
     ap (first_over m c.args.self.now.prefs.now c.args.self.now.budget) (negative_by_value m c.args.members.now q)
-    ∙ (served_all m c.args.self.now.prefs.now c.args.self.now.budget (tuples_with m c.args.members.now q) (value_numbers m q) c.loop-v.v c.loop-v.count past c.loop-v.invariant.2).1
+    ∙ (served_all m c.args.self.now.prefs.now c.args.self.now.budget (tuples_with m c.args.members.now q)
+    (value_numbers m q) c.loop-v.v c.loop-v.count past c.loop-v.invariant.2).1
