@@ -5,6 +5,8 @@ pub mod EdgeLemmas
 pub mod WalkLemmas
 pub mod SetCountLemmas
 pub mod RowListLemmas
+pub mod RowSetLemmas
+pub mod RowBitLemmas
 pub mod CountingSteps
 pub mod SetLemmas
 pub mod SearchLemmas

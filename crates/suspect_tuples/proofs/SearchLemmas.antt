@@ -11,11 +11,14 @@ use Rattle.suspect_tuples.specs.Sets.{AreWide}
 use Rattle.suspect_tuples.specs.Suspects.{candidate_count, suspect_sets}
 use Rattle.suspect_tuples.proofs.CountingSteps.{cells_seen}
 
--- the rows are as long as the list of parameters
-pub wide_rows : (m : ModelView) (rows : List FileRow) → All (λ row. FitsModel m row.cells) rows → AreWide m (cells_seen rows)
-wide_rows m rows fit = all_members (λ cells. length cells ≡ length m.params) (cells_seen rows) (λ cells has.
+-- the rows fit the model, and are as long as the list of parameters
+pub fit_rows : (m : ModelView) (rows : List FileRow) → All (λ row. FitsModel m row.cells) rows → All (λ row. FitsModel m row) (cells_seen rows)
+fit_rows m rows fit = all_members (λ cells. FitsModel m cells) (cells_seen rows) (λ cells has.
     let of = of_map (λ (row : FileRow). row.cells) rows cells has in
-    subst (λ cells. length cells ≡ length m.params) of.2 (member_of_all (λ (row : FileRow). FitsModel m row.cells) rows of.0 fit of.1).as_long)
+    subst (FitsModel m) of.2 (member_of_all (λ (row : FileRow). FitsModel m row.cells) rows of.0 fit of.1))
+
+pub wide_rows : (m : ModelView) (rows : List (List (Option ℕ))) → All (λ row. FitsModel m row) rows → AreWide m rows
+wide_rows m rows fit = λ k d within. (fit k d within).as_long
 
 pub short_rows : (m : ModelView) (rows : List FileRow) → IsSound m → All (λ row. FitsModel m row.cells) rows → All (λ row. length row.cells < 2 ^ 16) rows
 short_rows m rows sound fit = λ k d within. omega (arith, (fit k d within).as_long, sound.few)
@@ -27,12 +30,12 @@ zip_member (x ∷ xs) [] pair has = absurd has
 zip_member (x ∷ xs) (y ∷ ys) pair (inl is) = inl (ap (λ (p : _ × _). p.0) is)
 zip_member (x ∷ xs) (y ∷ ys) pair (inr has) = inr (zip_member xs ys pair has)
 
-pub wide_kept : (m : ModelView) (rows : List (List (Option ℕ))) (failed : List Bool) (test : List (Option ℕ) × Bool → Bool) → AreWide m rows
-    → AreWide m (map (λ row. row.0) (filter test (zip rows failed)))
-wide_kept m rows failed test wide = all_members (λ cells. length cells ≡ length m.params) (map (λ row. row.0) (filter test (zip rows failed))) (λ cells has.
+pub fit_kept : (m : ModelView) (rows : List (List (Option ℕ))) (failed : List Bool) (test : List (Option ℕ) × Bool → Bool) → All (λ row. FitsModel m row) rows
+    → All (λ row. FitsModel m row) (map (λ row. row.0) (filter test (zip rows failed)))
+fit_kept m rows failed test fit = all_members (λ cells. FitsModel m cells) (map (λ row. row.0) (filter test (zip rows failed))) (λ cells has.
     let of = of_map (λ (row : List (Option ℕ) × Bool). row.0) (filter test (zip rows failed)) cells has in
     let in_rows = zip_member rows failed of.0 (of_filter test (zip rows failed) of.0 of.1).0 in
-    subst (λ cells. length cells ≡ length m.params) of.2 (member_of_all (λ cells. length cells ≡ length m.params) rows of.0.0 wide in_rows))
+    subst (FitsModel m) of.2 (member_of_all (λ cells. FitsModel m cells) rows of.0.0 fit in_rows))
 
 -- the candidates, told
 pub told_candidates : (m : ModelView) (failing : List (List (Option ℕ))) (rows sets candidates : ℕ) → rows ≡ length failing

@@ -6,3 +6,4 @@ pub mod Told
 pub mod Edges
 pub mod SetCounts
 pub mod Sets
+pub mod RowBits

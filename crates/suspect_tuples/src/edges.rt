@@ -6,6 +6,7 @@ ghost use Rattle.suspect_tuples.specs.Sets.{AreParams, AreWide, HavePlaces};
 ghost use Rattle.suspect_tuples.specs.Suspects.{tuples_on};
 ghost use Rattle.suspect_tuples.specs.Told.{found_seen};
 
+use crate::row_bits::RowBits;
 use crate::row_list::RowList;
 use crate::suspect_list::{Found, FoundList};
 use crate::take_last::take_last;
@@ -14,7 +15,7 @@ use std::alloc::Global;
 use value_text::NoMemory;
 
 // Whether one of the rows contains the tuple without its pair at any one place.
-fn has_each_without(rows: &RowList<'_>, tuple: &[(ParamNo, ValueNo)]) -> bool
+fn has_each_without(rows: &RowBits<'_, '_>, tuple: &[(ParamNo, ValueNo)]) -> bool
     requires { HavePlaces tuple.now rows.now }
     ensures { result ≡ list_all (λ i. is_had rows.now (remove tuple.now i)) (range_with_len 0 (length tuple.now)) }
 {
@@ -28,7 +29,7 @@ fn has_each_without(rows: &RowList<'_>, tuple: &[(ParamNo, ValueNo)]) -> bool
 
 // Whether no passing row contains the tuple, while one contains each proper part of it. Parts of one pair less are
 // enough, since a row that contains a tuple contains its parts.
-fn is_edge(passing: &RowList<'_>, tuple: &[(ParamNo, ValueNo)]) -> bool
+fn is_edge(passing: &RowBits<'_, '_>, tuple: &[(ParamNo, ValueNo)]) -> bool
     requires { HavePlaces tuple.now passing.now }
     ensures { result ≡ is_edge passing.now tuple.now }
 {
@@ -41,7 +42,7 @@ fn is_edge(passing: &RowList<'_>, tuple: &[(ParamNo, ValueNo)]) -> bool
 // Adds a tuple, if it is an edge, with the number of these rows, which are all those that contain it.
 fn add_edge(
     alloc: Global,
-    passing: &RowList<'_>,
+    passing: &RowBits<'_, '_>,
     rows: &RowList<'_>,
     tuple: &[(ParamNo, ValueNo)],
     found: &mut FoundList,
@@ -66,7 +67,7 @@ fn add_edge(
 pub(crate) fn add_edges(
     alloc: Global,
     model: &TestModel,
-    passing: &RowList<'_>,
+    passing: &RowBits<'_, '_>,
     rows: &RowList<'_>,
     before: &mut Vec<(ParamNo, ValueNo)>,
     set: &[ParamNo],

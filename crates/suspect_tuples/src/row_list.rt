@@ -1,6 +1,4 @@
-ghost use Rattle.std.specs.Prelude.{◌≡◌, ◌<◌, ◌==◌, ◌++◌, ◌∷◌, [], All, filter, length, remove, slice_index_or, IfOk, OnOk};
-ghost use Rattle.suspect_tuples.specs.Edges.{is_had};
-ghost use Rattle.suspect_tuples.specs.Sets.{HavePlaces};
+ghost use Rattle.std.specs.Prelude.{◌≡◌, ◌<◌, ◌==◌, ◌++◌, ◌∷◌, [], All, filter, length, slice_index_or, IfOk, OnOk};
 ghost use Rattle.suspect_tuples.specs.Suspects.{gives, has_tuple};
 
 use cov_model::{Cells, ParamNo, ValueNo};
@@ -34,20 +32,11 @@ fn gives(row: &Cells, pair: (ParamNo, ValueNo)) -> bool
 }
 
 // Whether a row gives each of the parameters its value.
-fn gives_all(row: &Cells, pairs: &[(ParamNo, ValueNo)]) -> bool
+pub(crate) fn gives_all(row: &Cells, pairs: &[(ParamNo, ValueNo)]) -> bool
     requires { All (λ pair. pair.0 < length row.now) pairs.now }
     ensures { result ≡ has_tuple pairs.now row.now }
 {
     pairs.iter().all(|pair| gives(row, *pair))
-}
-
-// Whether a row gives each of the parameters its value, but for the pair at a place.
-fn gives_others(row: &Cells, pairs: &[(ParamNo, ValueNo)], left_out: usize) -> bool
-    requires exists { left_out < length pairs.now }
-    requires places { All (λ pair. pair.0 < length row.now) pairs.now }
-    ensures { result ≡ has_tuple (remove pairs.now left_out) row.now }
-{
-    gives_all(row, &pairs[..left_out]) && gives_all(row, &pairs[left_out + 1..])
 }
 
 impl<'a> RowList<'a> {
@@ -68,7 +57,7 @@ impl<'a> RowList<'a> {
     }
 
     // The row at a place.
-    fn row(&self, at: usize) -> &'a Cells
+    pub(crate) fn row(&self, at: usize) -> &'a Cells
         requires { at < length self.now }
         ensures { result.now ≡ slice_index_or self.now at [] }
     {
@@ -100,32 +89,5 @@ impl<'a> RowList<'a> {
             }
         }
         Ok(giving)
-    }
-
-    // Whether one of the rows contains the tuple.
-    pub(crate) fn has(&self, tuple: &[(ParamNo, ValueNo)]) -> bool
-        requires { HavePlaces tuple.now self.now }
-        ensures { result ≡ is_had self.now tuple.now }
-    {
-        for at in 0..self.len() {
-            if gives_all(self.row(at), tuple) {
-                return true;
-            }
-        }
-        false
-    }
-
-    // Whether one of the rows contains the tuple without the pair at a place.
-    pub(crate) fn has_without(&self, tuple: &[(ParamNo, ValueNo)], left_out: usize) -> bool
-        requires exists { left_out < length tuple.now }
-        requires places { HavePlaces tuple.now self.now }
-        ensures { result ≡ is_had self.now (remove tuple.now left_out) }
-    {
-        for at in 0..self.len() {
-            if gives_others(self.row(at), tuple, left_out) {
-                return true;
-            }
-        }
-        false
     }
 }

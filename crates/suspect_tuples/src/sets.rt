@@ -1,4 +1,5 @@
-ghost use Rattle.std.specs.Prelude.{◌≡◌, ◌≤◌, ◌++◌, [], drop, length, map, IfOk, OnOk};
+ghost use Rattle.std.specs.Prelude.{◌≡◌, ◌≤◌, ◌++◌, [], All, drop, length, map, IfOk, OnOk};
+ghost use Rattle.cov_model.specs.Fits.{FitsModel};
 ghost use Rattle.cov_model.specs.Valid.{param_numbers};
 ghost use Rattle.definitions.specs.Demand.{choose};
 ghost use Rattle.suspect_tuples.specs.Edges.{edges_behind, tuples_behind};
@@ -7,6 +8,7 @@ ghost use Rattle.suspect_tuples.specs.Suspects.{suspect_tuples};
 ghost use Rattle.suspect_tuples.specs.Told.{found_seen};
 
 use crate::edges::add_edges;
+use crate::row_bits::RowBits;
 use crate::row_list::RowList;
 use crate::suspect_list::FoundList;
 use crate::take_last::take_last;
@@ -19,7 +21,7 @@ use value_text::NoMemory;
 fn add_sets(
     alloc: Global,
     model: &TestModel,
-    passing: &RowList<'_>,
+    passing: &RowBits<'_, '_>,
     failing: &RowList<'_>,
     set: &mut Vec<ParamNo>,
     first: ParamNo,
@@ -64,7 +66,7 @@ pub(crate) fn find_all(
     passing: &RowList<'_>,
     failing: &RowList<'_>,
 ) -> Result<FoundList, NoMemory>
-    requires passing { AreWide model.now passing.now }
+    requires passing { All (λ row. FitsModel model.now row) passing.now }
     requires failing { AreWide model.now failing.now }
     ensures { IfOk result (λ found. map found_seen found ≡ suspect_tuples model.now passing.now failing.now) }
 {
@@ -72,13 +74,14 @@ pub(crate) fn find_all(
     if failing.len() == 0 {
         return Ok(found);
     }
+    let bits = RowBits::new(alloc, model, passing)?;
     let mut set = Vec::new(alloc);
     let order = model.demand().order as usize;
     for fewer in 0..order {
         add_sets(
             alloc,
             model,
-            passing,
+            &bits,
             failing,
             &mut set,
             0,

@@ -11,7 +11,7 @@ use Rattle.tuple_index.specs.PlanFault.{told}
 use Rattle.suspect_tuples.specs.SetCounts.{ways_up_to}
 use Rattle.suspect_tuples.specs.Suspects.{failing_rows, passing_rows}
 use Rattle.suspect_tuples.proofs.CountingSteps.{cells_seen}
-use Rattle.suspect_tuples.proofs.SearchLemmas.{short_rows, told_candidates, wide_kept, wide_rows}
+use Rattle.suspect_tuples.proofs.SearchLemmas.{fit_kept, fit_rows, short_rows, told_candidates, wide_rows}
 use Rattle.suspect_tuples.proofs.search.suspects.Goals as goal
 
 pub counted_rows-requires-clause-short : goal.counted_rows-requires-clause-short
@@ -37,8 +37,8 @@ find_all-requires-clause-passing c =
     let m = c.args.model.now in
     let rows = c.as_slice-rows.result.now in
     let fit : All (λ row. FitsModel m row.cells) rows = subst (λ rows. All (λ (row : FileRow). FitsModel m row.cells) rows) (sym c.as_slice-rows.ensures) c.requires.rows.fit in
-    All-same (λ row. length row ≡ length m.params) c.in_ok-counted.counted.passing (passing_rows (cells_seen rows) c.as_slice.result.now) c.in_ok-counted.ensures.passing
-    (wide_kept m (cells_seen rows) c.as_slice.result.now (λ row. is_complete row.0 && not row.1) (wide_rows m rows fit))
+    All-same (λ row. FitsModel m row) c.in_ok-counted.counted.passing (passing_rows (cells_seen rows) c.as_slice.result.now) c.in_ok-counted.ensures.passing
+    (fit_kept m (cells_seen rows) c.as_slice.result.now (λ row. is_complete row.0 && not row.1) (fit_rows m rows fit))
 
 pub find_all-requires-clause-failing : goal.find_all-requires-clause-failing
 find_all-requires-clause-failing c =
@@ -46,7 +46,7 @@ find_all-requires-clause-failing c =
     let rows = c.as_slice-rows.result.now in
     let fit : All (λ row. FitsModel m row.cells) rows = subst (λ rows. All (λ (row : FileRow). FitsModel m row.cells) rows) (sym c.as_slice-rows.ensures) c.requires.rows.fit in
     All-same (λ row. length row ≡ length m.params) c.in_ok-counted.counted.failing (failing_rows (cells_seen rows) c.as_slice.result.now) c.in_ok-counted.ensures.failing
-    (wide_kept m (cells_seen rows) c.as_slice.result.now (λ row. is_complete row.0 && row.1) (wide_rows m rows fit))
+    (wide_rows m _ (fit_kept m (cells_seen rows) c.as_slice.result.now (λ row. is_complete row.0 && row.1) (fit_rows m rows fit)))
 
 pub returns-clause-within : goal.returns-clause-within
 returns-clause-within c =

@@ -1,12 +1,14 @@
-use Rattle.std.proofs.Common.{◌≡◌, [], map, ap, sym, ◌∙◌, arith}
+use Rattle.std.proofs.Common.{◌≡◌, ◌+◌, ◌++◌, [], length, map, ap, sym, ◌∙◌, arith}
 use Rattle.std.specs.List.{flat_map, range_with_len}
+use Rattle.std.proofs.lemmas.List.Elements.{All-same}
 use Rattle.cov_model.specs.Valid.{param_numbers}
 use Rattle.cov_model.specs.declared.demand.Demand.{Demand}
 use Rattle.definitions.specs.Demand.{choose}
-use Rattle.suspect_tuples.specs.Edges.{edges_behind}
+use Rattle.suspect_tuples.specs.Edges.{edges_behind, tuples_behind}
 use Rattle.suspect_tuples.specs.Suspects.{suspect_sets, tuples_on}
 use Rattle.suspect_tuples.specs.Told.{found_seen}
 use Rattle.suspect_tuples.proofs.EdgeLemmas.{edges_are_smallest, edges_of_none}
+use Rattle.suspect_tuples.proofs.SearchLemmas.{wide_rows}
 use Rattle.suspect_tuples.proofs.SetLemmas.{no_items}
 use Rattle.suspect_tuples.proofs.WalkLemmas.{size_step}
 use Rattle.suspect_tuples.proofs.sets.find_all.Goals as goal
@@ -20,12 +22,24 @@ returns-then-len-eq0 c =
     ap (map found_seen) c.new-found.ensures ∙ sym (edges_of_none passing [] tuples) ∙ ap (λ failing. edges_behind passing failing [] tuples) (sym none)
     ∙ edges_are_smallest passing c.args.failing.now tuples
 
+pub add_sets-requires-clause-passing : goal.add_sets-requires-clause-passing
+add_sets-requires-clause-passing c =
+    All-same (λ row. length row ≡ length c.args.model.now.params) c.in_ok-bits.bits c.args.passing.now c.in_ok-bits.ensures
+    (wide_rows c.args.model.now c.args.passing.now c.requires.passing)
+
 pub loop-fewer-preserved : goal.loop-fewer-preserved
-loop-fewer-preserved c = record {
-  found = size_step c.args.model.now c.args.passing.now c.args.failing.now c.loop-fewer.set.items c.loop-fewer.fewer (map found_seen c.loop-fewer.found) (map found_seen c.add_sets.new.found)
-      c.loop-fewer.invariant.found c.loop-fewer.invariant.set c.in_ok-add_sets.ensures.found;
-  set = c.in_ok-add_sets.ensures.set ∙ c.loop-fewer.invariant.set;
-}
+loop-fewer-preserved c =
+    let m = c.args.model.now in
+    let failing = c.args.failing.now in
+    let set = c.loop-fewer.set.items in
+    let fewer = c.loop-fewer.fewer in
+    record {
+      found = size_step m c.args.passing.now failing set fewer (map found_seen c.loop-fewer.found) (map found_seen c.add_sets.new.found)
+          c.loop-fewer.invariant.found c.loop-fewer.invariant.set
+          (c.in_ok-add_sets.ensures.found
+          ∙ ap (λ passing. map found_seen c.loop-fewer.found ++ edges_behind passing failing [] (tuples_behind m set (choose (fewer + 1) (param_numbers m)))) c.in_ok-bits.ensures);
+      set = c.in_ok-add_sets.ensures.set ∙ c.loop-fewer.invariant.set;
+    }
 
 pub returns : goal.returns
 returns c =

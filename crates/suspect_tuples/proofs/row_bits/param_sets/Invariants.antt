@@ -1,0 +1,5 @@
+use Rattle.suspect_tuples.specs.RowBits.{AreParamSets}
+use Rattle.suspect_tuples.proofs.row_bits.param_sets.Given as goal
+
+abbrev pub invariant-loop-param : goal.invariant-loop-param
+invariant-loop-param l = AreParamSets l.model l.rows l.param l.sets
