@@ -48,10 +48,6 @@ pub record IsCounted {X : Type 0} (passes above : List (Option ℕ) → Bool) (r
   pub counted : count ≡ each * sum_by (λ x. tally passes (rows x)) (take i items)
   pub none : find above (flat_map rows (take i items)) ≡ None
 
-pub counted_none : {X : Type 0} (passes above : List (Option ℕ) → Bool) (rows : X → List (List (Option ℕ))) (items : List X) (each : ℕ)
-    → IsCounted passes above rows items each 0 0
-counted_none passes above rows items each = let times : each * 0 ≡ 0 = omega arith in record { counted = sym times; none = refl }
-
 -- one more item
 pub counted_more : {X : Type 0} (passes above : List (Option ℕ) → Bool) (rows : X → List (List (Option ℕ))) (items : List X)
     (each i count inner next : ℕ) (x : X)

@@ -5,11 +5,10 @@ use Rattle.std.specs.Prelude.{◌==◌}
 use Rattle.std.specs.List.{flat_map}
 use Rattle.std.proofs.Math.Seq.{set-append_seam}
 use Rattle.std.proofs.lemmas.Bool.{cases_eq, eq-eqb, false≢true, or_left}
-use Rattle.std.proofs.lemmas.List.{append_assoc, get_or-set_other, get_or-set_same, length-replicate, map-id}
+use Rattle.std.proofs.lemmas.List.{append_assoc, get_or-set_other, get_or-set_same, map-id}
 use Rattle.cov_model.specs.declared.slice.Slice.{Slice}
 use Rattle.cov_model.specs.declared.slice.Slice.TheVariants.{Positive, Negative}
 use Rattle.cov_model.specs.Sound.{ModelView}
-use Rattle.cov_model.specs.Rows.{is_assigned}
 use Rattle.cov_model.specs.Slices.{slice_values}
 use Rattle.cov_model.proofs.CellLemmas.{length-slice_values}
 use Rattle.definitions.specs.Completion.{with_value}
@@ -18,27 +17,12 @@ use Rattle.definitions.specs.SliceRows.{IsSliceOf}
 use Rattle.definitions.proofs.Members.{of_among}
 use Rattle.definitions.proofs.SliceLemmas.{value_exists}
 use Rattle.feasibility.specs.Tree.{no_values}
-use Rattle.feasibility.proofs.Broken.{none_at}
 use Rattle.feasibility.proofs.Nodes.{FitsModel-with_value}
 use Rattle.feasibility.proofs.Paths.{slice_exists}
 use Rattle.tuple_index.specs.Places.{RisesFrom, has_part}
 use Rattle.tuple_index.proofs.ListingLemmas.{apart_test, flat_map_same, map_flat_map, map_map, map_same, not_among_before, rises_lower}
 use Rattle.tuple_index.proofs.TupleLemmas.{among_more}
 use Rattle.coverage_measure.specs.Asking.{IsBefore, with_values}
-
--- no parameter has a value at first
-none_given : (m : ModelView) (p : ℕ) → is_assigned (no_values m) p ≡ true → ⊥
-none_given m p given = false≢true (sym (ap is_some (none_at (length m.params) p)) ∙ given)
-
-pub before_first : (m : ModelView) (slice : Slice) (set : List ℕ) → RisesFrom 0 (length m.params) set → IsBefore m slice set (no_values m)
-before_first m slice set rises = record {
-  of = record {
-    fits = record { as_long = length-replicate {A = Option ℕ} (length m.params) None; exist = λ p given. absurd (none_given m p given) };
-    listed = λ p given. absurd (none_given m p given);
-  };
-  rising = rises;
-  free = λ p listed. none_at (length m.params) p;
-}
 
 -- and then the first of the parameters has one of the slice
 pub before_more : (m : ModelView) (slice : Slice) (p : ℕ) (params : List ℕ) (cells : List (Option ℕ)) (v : ℕ) → IsSliceOf m slice
