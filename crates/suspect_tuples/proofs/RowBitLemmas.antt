@@ -49,10 +49,12 @@ params_more m rows p sets last are lasts = record {
 
 pub pair_places : (param v : ℕ) (rows : List (List (Option ℕ))) → All (λ row. param < length row) rows → HavePlaces ((param, v) ∷ []) rows
 pair_places param v rows wide = λ k d within.
-    All-cons (λ (pair : ℕ × ℕ). pair.0 < length (get_or rows k d)) (param, v) [] (wide k d within) (All-nil (λ (pair : ℕ × ℕ). pair.0 < length (get_or rows k d)))
+    All-cons (λ (pair : ℕ × ℕ). pair.0 < length (get_or rows k d)) (param, v) [] (wide k d within)
+    (All-nil (λ (pair : ℕ × ℕ). pair.0 < length (get_or rows k d)))
 
 -- a value that a parameter of the model doesn't have is given by no row
-gives_not : (m : ModelView) (row : List (Option ℕ)) (pair : ℕ × ℕ) → FitsModel m row → length (param_at m.params pair.0).values ≤ pair.1 → gives row pair ≡ false
+gives_not : (m : ModelView) (row : List (Option ℕ)) (pair : ℕ × ℕ) → FitsModel m row → length (param_at m.params pair.0).values ≤ pair.1
+    → gives row pair ≡ false
 gives_not m row pair fits past = at (is_assigned row pair.0) refl
   where
     at : (b : Bool) → is_assigned row pair.0 ≡ b → (b && eqb (value_in row pair.0) pair.1) ≡ false
@@ -111,13 +113,14 @@ and_bits a b i = ap (λ bit. eqb bit 1) (bit_at_and a b i) ∙ both (bit_at a i)
           ]
     ]
 
-has_both_at : (rows : List (List (Option ℕ))) (first second : List (ℕ × ℕ)) (at : ℕ) → has_at rows (first ++ second) at ≡ (has_at rows first at && has_at rows second at)
+has_both_at : (rows : List (List (Option ℕ))) (first second : List (ℕ × ℕ)) (at : ℕ)
+    → has_at rows (first ++ second) at ≡ (has_at rows first at && has_at rows second at)
 has_both_at [] first second at = refl
 has_both_at (row ∷ rows) first second zero = list_all-append (gives row) first second
 has_both_at (row ∷ rows) first second (suc at) = has_both_at rows first second at
 
-pub both_marked : (rows : List (List (Option ℕ))) (first second : List (ℕ × ℕ)) (k word other : ℕ) → MarksHaving rows first k word → MarksHaving rows second k other
-    → MarksHaving rows (first ++ second) k (bit_and word other)
+pub both_marked : (rows : List (List (Option ℕ))) (first second : List (ℕ × ℕ)) (k word other : ℕ) → MarksHaving rows first k word
+    → MarksHaving rows second k other → MarksHaving rows (first ++ second) k (bit_and word other)
 both_marked rows first second k word other marks others i small =
     and_bits word other i ∙ ap (λ b. b && eqb (bit_at other i) 1) (marks i small) ∙ ap (λ b. has_at rows first (64 * k + i) && b) (others i small)
     ∙ sym (has_both_at rows first second (64 * k + i))

@@ -49,7 +49,8 @@ mark_elsewhere words place word other inside read apart = elim (cases_lt (other 
       mark_after words place word other inside read within ∙ get_or-set_other (marks_of words size) place other true false apart
       ∙ mark_is words size other false (omega (arith, within))
   | inr past ↦
-      unmarked_past (marked words place word) other (omega (arith, length-set words (place / 64) (with_bit word place), past)) ∙ sym (unmarked_past words other past)
+      unmarked_past (marked words place word) other (omega (arith, length-set words (place / 64) (with_bit word place), past))
+      ∙ sym (unmarked_past words other past)
 ]
 
 -- whether a row contains the tuple

@@ -1,14 +1,14 @@
 -- Parameters of sets, as they are walked.
 use Rattle.std.proofs.Common.{◌≡◌, ℕ, suc, ◌+◌, ◌-◌, ◌<◌, ◌≤◌, List, [], ◌∷◌, ◌++◌, map, take, drop}
 use Rattle.std.proofs.Common.{length, get_or, All, AllPairs, Option, inl, refl, sym, ap, subst, ◌∙◌, arith, append_assoc, length-append}
-use Rattle.std.proofs.lemmas.List.{append-nil, get_or-map, get_or_default, length-map, map-append, take-append-le, take_all}
+use Rattle.std.proofs.lemmas.List.{append-nil, get_or_default, map-append, take-append-le, take_all}
 use Rattle.std.proofs.lemmas.List.Elements.{All-cons, All-nil}
 use Rattle.std.proofs.lemmas.List.Quantifiers.{all_pairs_push}
 use Rattle.cov_model.specs.Sound.{ModelView, IsSound, no_param, param_at}
 use Rattle.cov_model.specs.declared.parameter.Param.{Param}
 use Rattle.cov_model.specs.Tuples.{IsRising}
 use Rattle.definitions.proofs.Members.{has_right, member_of_all}
-use Rattle.suspect_tuples.specs.Sets.{AreBefore, AreParams, AreWide, HavePlaces}
+use Rattle.suspect_tuples.specs.Sets.{AreBefore, AreParams, AreWide}
 use Rattle.suspect_tuples.specs.Suspects.{tuples_on}
 use Rattle.suspect_tuples.proofs.WalkLemmas.{tuples_up_to}
 
@@ -55,11 +55,6 @@ rising_pairs [] rising = tt
 rising_pairs (a ∷ []) rising = tt
 rising_pairs (a ∷ b ∷ pairs) rising =
     (rising 0 1 0 (omega arith) (omega arith), rising_pairs (b ∷ pairs) (λ i j d before within. rising (suc i) (suc j) d (omega (arith, before)) (omega (arith, within))))
-
-pub have_places : (m : ModelView) (pairs : List (ℕ × ℕ)) (rows : List (List (Option ℕ))) → AreParams m (map (λ pair. pair.0) pairs) → AreWide m rows → HavePlaces pairs rows
-have_places m pairs rows are wide = λ k row within i pair inside.
-    let at = are.exist i pair.0 (omega (arith, length-map pairs (λ (pair : ℕ × ℕ). pair.0), inside)) in
-    omega (arith, at, get_or-map (λ (pair : ℕ × ℕ). pair.0) pairs i pair pair.0 inside, wide k row within)
 
 pub wide_for : (m : ModelView) (p : ℕ) (rows : List (List (Option ℕ))) → p < length m.params → AreWide m rows → All (λ row. p < length row) rows
 wide_for m p rows exists wide = λ k d within. omega (arith, exists, wide k d within)

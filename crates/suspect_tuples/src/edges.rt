@@ -2,7 +2,7 @@ ghost use Rattle.std.specs.Prelude.{◌≡◌, ◌<◌, ◌++◌, ◌∷◌, [],
 ghost use Rattle.std.specs.List.{list_all, range_with_len};
 ghost use Rattle.cov_model.specs.Tuples.{IsRising};
 ghost use Rattle.suspect_tuples.specs.Edges.{edges_behind, is_edge, is_had};
-ghost use Rattle.suspect_tuples.specs.Sets.{AreParams, AreWide, HavePlaces};
+ghost use Rattle.suspect_tuples.specs.Sets.{AreParams, AreWide};
 ghost use Rattle.suspect_tuples.specs.Suspects.{tuples_on};
 ghost use Rattle.suspect_tuples.specs.Told.{found_seen};
 
@@ -16,7 +16,6 @@ use value_text::NoMemory;
 
 // Whether one of the rows contains the tuple without its pair at any one place.
 fn has_each_without(rows: &RowBits<'_, '_>, tuple: &[(ParamNo, ValueNo)]) -> bool
-    requires { HavePlaces tuple.now rows.now }
     ensures { result ≡ list_all (λ i. is_had rows.now (remove tuple.now i)) (range_with_len 0 (length tuple.now)) }
 {
     for left_out in 0..tuple.len() {
@@ -30,7 +29,6 @@ fn has_each_without(rows: &RowBits<'_, '_>, tuple: &[(ParamNo, ValueNo)]) -> boo
 // Whether no passing row contains the tuple, while one contains each proper part of it. Parts of one pair less are
 // enough, since a row that contains a tuple contains its parts.
 fn is_edge(passing: &RowBits<'_, '_>, tuple: &[(ParamNo, ValueNo)]) -> bool
-    requires { HavePlaces tuple.now passing.now }
     ensures { result ≡ is_edge passing.now tuple.now }
 {
     if passing.has(tuple) {
@@ -49,7 +47,6 @@ fn add_edge(
 ) -> Result<(), NoMemory>
     requires some { 0 < length rows.now }
     requires rising { IsRising tuple.now }
-    requires places { HavePlaces tuple.now passing.now }
     ensures { OnOk result (map found_seen found.new ≡ map found_seen found.old ++ edges_behind passing.now rows.now tuple.now ([] ∷ [])) }
 {
     if !is_edge(passing, tuple) {
@@ -74,7 +71,6 @@ pub(crate) fn add_edges(
     found: &mut FoundList,
 ) -> Result<(), NoMemory>
     requires params { AreParams model.now (map (λ pair. pair.0) before.old.items ++ set.now) }
-    requires passing { AreWide model.now passing.now }
     requires rows { AreWide model.now rows.now }
     ensures found { OnOk result (map found_seen found.new ≡ map found_seen found.old ++ edges_behind passing.now rows.now before.old.items (tuples_on model.now set.now)) }
     ensures before { OnOk result (before.new.items ≡ before.old.items) }

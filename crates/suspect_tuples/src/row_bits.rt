@@ -2,7 +2,7 @@ ghost use Rattle.std.specs.Prelude.{◌≡◌, ◌<◌, ◌++◌, ◌∷◌, [],
 ghost use Rattle.cov_model.specs.Fits.{FitsModel};
 ghost use Rattle.suspect_tuples.specs.Edges.{is_had};
 ghost use Rattle.suspect_tuples.specs.RowBits.{AreParamSets, AreValueSets, MarksHaving, words_of};
-ghost use Rattle.suspect_tuples.specs.Sets.{AreWide, HavePlaces};
+ghost use Rattle.suspect_tuples.specs.Sets.{AreWide};
 
 use crate::row_list::RowList;
 use crate::row_set::{RowSet, word_count};
@@ -11,7 +11,8 @@ use std::alloc::Global;
 use std::marker::Model;
 use value_text::{NoMemory, OwnedList};
 
-// Rows of a file, which are looked up by bits: of 64 rows at once. Contracts see the list of the rows.
+// Rows that are looked up 64 at once: for each parameter and each of its values a bit for each row, which is set exactly
+// where the row gives the parameter that value. Contracts see the list of the rows.
 #[derive(Drop)]
 pub(crate) struct RowBits<'r, 'a> {
     rows: &'r RowList<'a>,

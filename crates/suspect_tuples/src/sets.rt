@@ -30,7 +30,6 @@ fn add_sets(
 ) -> Result<(), NoMemory>
     requires set { AreBefore first set.old.items }
     requires first { first ≤ length model.now.params }
-    requires passing { AreWide model.now passing.now }
     requires failing { AreWide model.now failing.now }
     ensures found { OnOk result (map found_seen found.new ≡ map found_seen found.old
         ++ edges_behind passing.now failing.now [] (tuples_behind model.now set.old.items (choose more (drop first (param_numbers model.now))))) }

@@ -3,12 +3,11 @@ use Rattle.std.proofs.lemmas.List.{append-nil, length-drop, length-take-le}
 use Rattle.std.proofs.lemmas.List.Elements.{All-filter, All-same}
 use Rattle.cov_model.specs.Tuples.{IsRising}
 use Rattle.suspect_tuples.specs.Edges.{edges_behind}
-use Rattle.suspect_tuples.specs.Sets.{HavePlaces}
 use Rattle.suspect_tuples.specs.Suspects.{gives, tuples_on}
 use Rattle.suspect_tuples.specs.Told.{found_seen}
 use Rattle.suspect_tuples.proofs.EdgeLemmas.{edges_of_none}
 use Rattle.suspect_tuples.proofs.WalkLemmas.{value_step}
-use Rattle.suspect_tuples.proofs.SetLemmas.{all_values, few_values, have_places, no_items, param_exists, params_pushed, rising_pairs, whole_params, wide_for, without_pushed}
+use Rattle.suspect_tuples.proofs.SetLemmas.{all_values, few_values, no_items, param_exists, params_pushed, rising_pairs, whole_params, wide_for, without_pushed}
 use Rattle.suspect_tuples.proofs.edges.+add_edges.Goals as goal
 
 pub returns-then-len-eq0-clause-found : goal.returns-then-len-eq0-clause-found
@@ -22,12 +21,6 @@ pub add_edge-requires-clause-rising : goal.add_edge-requires-clause-rising
 add_edge-requires-clause-rising t c =
     let whole = whole_params c.args.model.now c.args.before.now.items c.args.set.now c.requires.params c.in_default.len_below in
     subst IsRising (sym c.deref.ensures.value) (rising_pairs c.args.before.now.items whole.rising)
-
-pub add_edge-requires-clause-places : goal.add_edge-requires-clause-places
-add_edge-requires-clause-places t c =
-    let whole = whole_params c.args.model.now c.args.before.now.items c.args.set.now c.requires.params c.in_default.len_below in
-    subst (λ tuple. HavePlaces tuple c.args.passing.now) (sym c.deref.ensures.value)
-    (have_places c.args.model.now c.args.before.now.items c.args.passing.now whole c.requires.passing)
 
 pub bounds-as_slice-param : goal.bounds-as_slice-param
 bounds-as_slice-param t c =
@@ -54,11 +47,8 @@ add_edges-requires t c =
       (
         params_pushed m c.args.before.now.items c.push.new.self.items c.args.set.now c.loop-value.value c.requires.params c.in-len1-up.len_at_least
             (c.in_ok-push.ensures.items ∙ ap (λ pairs. pairs ++ (p, c.loop-value.value) ∷ []) c.loop-value.invariant.before),
-        (
-          c.requires.passing,
-          All-same (λ row. length row ≡ length m.params) c.in_ok-giving.giving (filter (λ row. gives row (p, c.loop-value.value)) c.args.rows.now) c.in_ok-giving.ensures
-              (All-filter (λ row. gives row (p, c.loop-value.value)) (λ row. length row ≡ length m.params) c.args.rows.now c.requires.rows),
-        ),
+        All-same (λ row. length row ≡ length m.params) c.in_ok-giving.giving (filter (λ row. gives row (p, c.loop-value.value)) c.args.rows.now) c.in_ok-giving.ensures
+            (All-filter (λ row. gives row (p, c.loop-value.value)) (λ row. length row ≡ length m.params) c.args.rows.now c.requires.rows),
       ),
     )
 

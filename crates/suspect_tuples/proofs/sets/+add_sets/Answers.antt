@@ -11,7 +11,7 @@ add_sets-requires t c =
       (
         before_pushed c.args.first p c.args.set.now.items c.push.new.self.items c.requires.set c.loop-param.auto.param
             (c.in_ok-push.ensures.items ∙ ap (λ set. set ++ p ∷ []) c.loop-param.invariant.set),
-        (omega (arith, c.loop-param-test.true, c.saturating_sub-last.ensures, c.len-params.ensures, ap length c.params.ensures.value), (c.requires.passing, c.requires.failing)),
+        (omega (arith, c.loop-param-test.true, c.saturating_sub-last.ensures, c.len-params.ensures, ap length c.params.ensures.value), c.requires.failing),
       ),
     )
 

@@ -1,6 +1,5 @@
-use Rattle.std.proofs.Common.{◌≡◌, ◌+◌, ◌++◌, [], length, map, ap, sym, ◌∙◌, arith}
+use Rattle.std.proofs.Common.{◌≡◌, ◌+◌, ◌++◌, [], map, ap, sym, ◌∙◌, arith}
 use Rattle.std.specs.List.{flat_map, range_with_len}
-use Rattle.std.proofs.lemmas.List.Elements.{All-same}
 use Rattle.cov_model.specs.Valid.{param_numbers}
 use Rattle.cov_model.specs.declared.demand.Demand.{Demand}
 use Rattle.definitions.specs.Demand.{choose}
@@ -8,7 +7,6 @@ use Rattle.suspect_tuples.specs.Edges.{edges_behind, tuples_behind}
 use Rattle.suspect_tuples.specs.Suspects.{suspect_sets, tuples_on}
 use Rattle.suspect_tuples.specs.Told.{found_seen}
 use Rattle.suspect_tuples.proofs.EdgeLemmas.{edges_are_smallest, edges_of_none}
-use Rattle.suspect_tuples.proofs.SearchLemmas.{wide_rows}
 use Rattle.suspect_tuples.proofs.SetLemmas.{no_items}
 use Rattle.suspect_tuples.proofs.WalkLemmas.{size_step}
 use Rattle.suspect_tuples.proofs.sets.find_all.Goals as goal
@@ -21,11 +19,6 @@ returns-then-len-eq0 c =
     let none = no_items c.args.failing.now (omega (arith, c.if-len-eq0.true, c.len.ensures)) in
     ap (map found_seen) c.new-found.ensures ∙ sym (edges_of_none passing [] tuples) ∙ ap (λ failing. edges_behind passing failing [] tuples) (sym none)
     ∙ edges_are_smallest passing c.args.failing.now tuples
-
-pub add_sets-requires-clause-passing : goal.add_sets-requires-clause-passing
-add_sets-requires-clause-passing c =
-    All-same (λ row. length row ≡ length c.args.model.now.params) c.in_ok-bits.bits c.args.passing.now c.in_ok-bits.ensures
-    (wide_rows c.args.model.now c.args.passing.now c.requires.passing)
 
 pub loop-fewer-preserved : goal.loop-fewer-preserved
 loop-fewer-preserved c =

@@ -12,7 +12,8 @@ loop-pair-preserved c before marks =
     let pair = get_or tuple at (0, 0) in
     subst (λ whole. MarksHaving rows whole c.args.k (bit_and c.loop-pair.narrowed c.word-narrowed.result))
     (append_assoc before (take at tuple) (pair ∷ []) ∙ ap (λ pairs. before ++ pairs) (sym (take_more tuple at (0, 0) c.loop-pair-test.true)))
-    (both_marked rows (before ++ take at tuple) (pair ∷ []) c.args.k c.loop-pair.narrowed c.word-narrowed.result (c.loop-pair.invariant before marks) c.word-narrowed.ensures)
+    (both_marked rows (before ++ take at tuple) (pair ∷ []) c.args.k c.loop-pair.narrowed c.word-narrowed.result (c.loop-pair.invariant before marks)
+    c.word-narrowed.ensures)
 
 pub returns : goal.returns
 returns c before marks =

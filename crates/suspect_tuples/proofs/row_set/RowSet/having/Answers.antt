@@ -12,7 +12,8 @@ loop-at-preserved c =
     let tuple = c.args.tuple.now in
     let at = c.loop-at.at in
     let within : at < length rows = omega (arith, c.loop-at-test.true, c.len-at-end.ensures) in
-    let has : has_at rows tuple at ≡ c.gives_all.result = has_here rows tuple at [] within ∙ ap (has_tuple tuple) (sym c.row.ensures) ∙ sym c.gives_all.ensures in
+    let has : has_at rows tuple at ≡ c.gives_all.result =
+    has_here rows tuple at [] within ∙ ap (has_tuple tuple) (sym c.row.ensures) ∙ sym c.gives_all.ensures in
     elim c.if-gives_all.branch [
       | then-gives_all w ↦
           subst (λ (words : Vec ℕ Global). MarkBefore rows tuple (at + 1) words.items) (sym w.words-is)
