@@ -26,7 +26,8 @@ module _ {T : Type 0} (seen : T → Token) (scope : Scope) (room : ℕ) (tokens 
       plain_is scope (disj_of room (map seen tokens)) ∙ rw none refl
 
   pub one_arrow : (place : ℕ) → position (λ token. is_arrow (seen token)) tokens ≡ Some place
-      → worse (finding_in scope (disj_of room (map seen (take place tokens)))) (finding_in scope (disj_of room (map seen (drop (place + 1) tokens)))) ≡ finding_of scope (cons_of room (map seen tokens))
+      → worse (finding_in scope (disj_of room (map seen (take place tokens))))
+      (finding_in scope (disj_of room (map seen (drop (place + 1) tokens)))) ≡ finding_of scope (cons_of room (map seen tokens))
   one_arrow place is =
       let there : position is_arrow (map seen tokens) ≡ Some place = position-map seen is_arrow tokens ∙ is in
       let some : list_any is_arrow (map seen tokens) ≡ true = sym (is_some-position is_arrow (map seen tokens)) ∙ ap is_some there in

@@ -58,7 +58,8 @@ module _ (scope : Scope) where
   spelled_refused tokens (Some constraint) code is = ap (λ c. unless_refused c (OfConstraint tokens constraint)) (sym (code_is constraint) ∙ is)
   spelled_refused tokens None code is = let same : Some A9 ≡ Some code = is in cc
 
-  pub spelled_fits : (tokens : List Token) (spelled : Option Constraint) → code_of (finding_of scope spelled) ≡ None → (constraint : Constraint) × (spelled_line scope tokens spelled ≡ Ok (OfConstraint tokens constraint))
+  pub spelled_fits : (tokens : List Token) (spelled : Option Constraint) → code_of (finding_of scope spelled) ≡ None
+      → (constraint : Constraint) × (spelled_line scope tokens spelled ≡ Ok (OfConstraint tokens constraint))
   spelled_fits tokens (Some constraint) is = (constraint, ap (λ c. unless_refused c (OfConstraint tokens constraint)) (sym (code_is constraint) ∙ is))
   spelled_fits tokens None is = absurd (none is)
     where

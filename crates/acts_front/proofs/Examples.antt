@@ -120,7 +120,8 @@ binding : spelled_by (tokens_of (codes "A=1||B=2&&C=3=>D=4||E=5"))
     (Either (More (Compares (codes "D") Eq (OfWhole (codes "4"))) (More (Compares (codes "E") Eq (OfWhole (codes "5"))) End))))
 binding = refl
 
-parentheses : spelled_by (tokens_of (codes "!(A = 1 && (B = \"x\"))")) ≡ Some (Plain (Negated (Each (More (Compares (codes "A") Eq (OfWhole (codes "1"))) (More (Compares (codes "B") Eq (OfText (codes "x"))) End)))))
+parentheses : spelled_by (tokens_of (codes "!(A = 1 && (B = \"x\"))"))
+    ≡ Some (Plain (Negated (Each (More (Compares (codes "A") Eq (OfWhole (codes "1"))) (More (Compares (codes "B") Eq (OfText (codes "x"))) End)))))
 parentheses = refl
 
 not_of_truth : spelled_by (tokens_of (codes "! ! A = False")) ≡ Some (Plain (Negated (Negated (Compares (codes "A") Eq (OfTruth false)))))

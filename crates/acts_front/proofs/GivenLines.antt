@@ -14,7 +14,8 @@ use Rattle.acts_front.specs.RelationLines as relations
 use Rattle.acts_front.specs.RelationLines.{read_relation}
 use Rattle.acts_front.specs.Tokens.{Token, tokens_of}
 use Rattle.acts_front.specs.Constraints.{Constraint, cons_of, constraint_code, most_open}
-use Rattle.acts_front.specs.ActsFiles.{Line, Nothing, OfParameter, OfRelation, OfConstraint, and_line, constraint_line, line_and, line_before, line_gives, line_in, lines_give, parameter_line, relation_line, section_behind, spelled_line, text_gives, unless_refused}
+use Rattle.acts_front.specs.ActsFiles.{Line, Nothing, OfParameter, OfRelation, OfConstraint, and_line, constraint_line, line_and, line_before, line_gives}
+use Rattle.acts_front.specs.ActsFiles.{line_in, lines_give, parameter_line, relation_line, section_behind, spelled_line, text_gives, unless_refused}
 use Rattle.acts_front.specs.declared.code.ActsCode.{ActsCode}
 use Rattle.acts_front.specs.declared.code.ActsCode.TheVariants.{A1, A2}
 use Rattle.acts_front.specs.declared.section.Section.{Section}
@@ -127,7 +128,8 @@ constraints_next : (scope : Scope) (text : List ℕ) (given : Line) → list_all
     → IsNext Constraints Constraints scope given
 constraints_next scope text given allowed = by (tokens_of text) refl
   where
-    fits : (tokens : List Token) (constraint : Constraint) (code : Option ActsCode) → constraint_code scope constraint ≡ code → cons_of most_open tokens ≡ Some constraint → All IsWritten tokens
+    fits : (tokens : List Token) (constraint : Constraint) (code : Option ActsCode)
+        → constraint_code scope constraint ≡ code → cons_of most_open tokens ≡ Some constraint → All IsWritten tokens
         → unless_refused code (OfConstraint tokens constraint) ≡ Ok given → IsNext Constraints Constraints scope given
     fits tokens constraint (Some code) is spelled written e = absurd (cc)
     fits tokens constraint None is spelled written e =
@@ -144,7 +146,8 @@ constraints_next scope text given allowed = by (tokens_of text) refl
     by None is e = absurd (cc)
     by (Some tokens) is e = spells tokens (cons_of most_open tokens) refl (tokens_written 0 text tokens allowed is) e
 
-text_next : (section : Section) (scope : Scope) (text : List ℕ) (given : Line) → list_all is_allowed text ≡ true → line_in section scope text ≡ Ok given → IsNext section section scope given
+text_next : (section : Section) (scope : Scope) (text : List ℕ) (given : Line)
+    → list_all is_allowed text ≡ true → line_in section scope text ≡ Ok given → IsNext section section scope given
 text_next Outside scope text given allowed e = absurd (cc)
 text_next System scope text given allowed e = let same : Nothing ≡ given = ok_is e in nothing System System scope given same (λ before allows. allows)
 text_next Parameters scope text given allowed e = params_next scope text given e
@@ -209,8 +212,10 @@ lines_given section scope [] lines e = subst (AreKnown section scope) (ok_is e) 
 lines_given section scope (line ∷ numbered) lines e =
     by (line_gives section scope line.1) refl (λ given others is. lines_given (section_behind section line.1) (and_line scope given) numbered others is) e
   where
-    behind : (given : Line) (found : Result (List Line) (ℕ × ActsCode)) → lines_give (section_behind section line.1) (and_line scope given) numbered ≡ found → IsNext section (section_behind section line.1) scope given
-        → ((others : List Line) → lines_give (section_behind section line.1) (and_line scope given) numbered ≡ Ok others → AreKnown (section_behind section line.1) (and_line scope given) others)
+    behind : (given : Line) (found : Result (List Line) (ℕ × ActsCode))
+        → lines_give (section_behind section line.1) (and_line scope given) numbered ≡ found → IsNext section (section_behind section line.1) scope given
+        → ((others : List Line) → lines_give (section_behind section line.1) (and_line scope given) numbered ≡ Ok others
+        → AreKnown (section_behind section line.1) (and_line scope given) others)
         → line_and given found ≡ Ok lines → AreKnown section scope lines
     behind given (Err refused) is next later e = absurd (cc)
     behind given (Ok others) is next later e =
@@ -219,7 +224,8 @@ lines_given section scope (line ∷ numbered) lines e =
         (record { given = (next.here, known.given); ordered = λ before allows. next.order before allows others known.ordered })
 
     by : (found : Result Line ActsCode) → line_gives section scope line.1 ≡ found
-        → ((given : Line) (others : List Line) → lines_give (section_behind section line.1) (and_line scope given) numbered ≡ Ok others → AreKnown (section_behind section line.1) (and_line scope given) others)
+        → ((given : Line) (others : List Line) → lines_give (section_behind section line.1) (and_line scope given) numbered ≡ Ok others
+        → AreKnown (section_behind section line.1) (and_line scope given) others)
         → line_before line.0 found (λ given. lines_give (section_behind section line.1) (and_line scope given) numbered) ≡ Ok lines → AreKnown section scope lines
     by (Err code) is later e = absurd (cc)
     by (Ok given) is later e =

@@ -1,5 +1,6 @@
 -- What is known of the tokens of a constraint line.
-use Rattle.std.proofs.Common.{◌≡◌, ℕ, zero, suc, ◌+◌, ◌-◌, Bool, true, false, ◌&&◌, ◌||◌, if◌then◌else◌, List, [], ◌∷◌, length, take, drop, All, Option, Some, None, refl, sym, ap, subst, ◌∙◌, arith, one-add}
+use Rattle.std.proofs.Common.{◌≡◌, ℕ, zero, suc, ◌+◌, ◌-◌, Bool, true, false, ◌&&◌, ◌||◌, if◌then◌else◌, List, [], ◌∷◌}
+use Rattle.std.proofs.Common.{length, take, drop, All, Option, Some, None, refl, sym, ap, subst, ◌∙◌, arith, one-add}
 use Rattle.std.proofs.lemmas.Bool.{and_from, and_parts, cond_both, lt-ltb, not_from_false, or_parts}
 use Rattle.std.proofs.lemmas.List.Elements.{All-cons, All-nil}
 use Rattle.std.proofs.lemmas.List.Sums.{take_while-cons}
@@ -11,7 +12,8 @@ use Rattle.model_lex.specs.Sections.{first_word, is_word_byte}
 use Rattle.model_parse.specs.Pieces.{is_byte}
 use Rattle.acts_front.specs.Lines.{is_allowed}
 use Rattle.acts_front.specs.ParameterLines.{is_false, is_name, is_true, is_whole}
-use Rattle.acts_front.specs.Tokens.{Token, Name, Whole, Words, Truth, Relation, Arrow, Or, And, Not, Open, Close, Found, first_token, mark_token, one_of_two, token_before, tokens_behind, whole_run, whole_token, word_token, words_before, words_token}
+use Rattle.acts_front.specs.Tokens.{Token, Name, Whole, Words, Truth, Relation, Arrow, Or, And, Not, Open, Close, Found, first_token, mark_token}
+use Rattle.acts_front.specs.Tokens.{one_of_two, token_before, tokens_behind, whole_run, whole_token, word_token, words_before, words_token}
 use Rattle.acts_front.proofs.Mapped.{position_is}
 
 -- a text in double quotes has neither these nor a backslash

@@ -35,7 +35,8 @@ module _ (marks : Token → Bool) (mark : Token) (one : (token : Token) → mark
   glued_behind : (opened : ℕ) (tokens : List Token) → glue mark (parts_behind marks opened tokens) ≡ tokens
   glued_behind opened [] = refl
   glued_behind opened (token ∷ tokens) =
-      cond_both ((opened == 0) && marks token) ([] ∷ parts_behind marks 0 tokens) (put_first token (parts_behind marks (open_behind token opened) tokens)) (λ list. glue mark list ≡ token ∷ tokens)
+      cond_both ((opened == 0) && marks token) ([] ∷ parts_behind marks 0 tokens)
+      (put_first token (parts_behind marks (open_behind token opened) tokens)) (λ list. glue mark list ≡ token ∷ tokens)
       (λ e.
       behind_mark (parts_behind marks 0 tokens) (some_parts marks 0 tokens)
       ∙ (ap (λ rest. mark ∷ rest) (glued_behind 0 tokens) ∙ ap (λ first. first ∷ tokens) (sym (one token (and_parts (opened == 0) (marks token) e).1))))
@@ -98,7 +99,8 @@ pub spells_first : (read : List Token → Option Pred) (part : List Token) (othe
     → SpellsFirst read part others preds
 spells_first read part others preds is = by (read part) refl (preds_of (map read others)) refl is
   where
-    by : (found : Option Pred) → read part ≡ found → (later : Option Preds) → preds_of (map read others) ≡ later → more_preds found later ≡ Some preds → SpellsFirst read part others preds
+    by : (found : Option Pred) → read part ≡ found → (later : Option Preds) → preds_of (map read others) ≡ later
+        → more_preds found later ≡ Some preds → SpellsFirst read part others preds
     by None a later b e = absurd (cc)
     by (Some pred) a None b e = absurd (cc)
     by (Some pred) a (Some rest) b e = record { pred = pred; rest = rest; first = a; later = b; are = same_Some _ _ e }

@@ -11,7 +11,8 @@ use Rattle.acts_front.specs.RelationLines.{members_of, relation_of, strength_of}
 use Rattle.acts_front.specs.declared.kind.Kind.{Kind}
 
 pub parameter_is :
-    (text : List ℕ) (kind : Kind) (values : List (List ℕ)) → kind_in text ≡ Some kind → is_name (name_in text) ≡ true → begins_with 58 (behind_kind text) ≡ true → values ≡ values_in text
+    (text : List ℕ) (kind : Kind) (values : List (List ℕ)) → kind_in text ≡ Some kind
+    → is_name (name_in text) ≡ true → begins_with 58 (behind_kind text) ≡ true → values ≡ values_in text
     → (fits : Bool) → list_all (is_value kind) values ≡ fits → parameter_in text ≡ (if fits then Some (record { name = name_in text; kind = kind; values = values }) else None)
 parameter_is text kind values is named colon same fits all = rw (is, named, colon, ← same, all) refl
 

@@ -1,12 +1,15 @@
 -- The whole numbers of a constraint are those of its tokens.
-use Rattle.std.proofs.Common.{◌≡◌, ℕ, zero, suc, ◌+◌, ◌-◌, Bool, true, false, if◌then◌else◌, List, [], ◌∷◌, ◌++◌, length, map, take, All, Some, None, Option, refl, sym, ap, subst, ◌∙◌, arith}
+use Rattle.std.proofs.Common.{◌≡◌, ℕ, zero, suc, ◌+◌, ◌-◌, Bool, true, false, if◌then◌else◌, List, [], ◌∷◌, ◌++◌}
+use Rattle.std.proofs.Common.{length, map, take, All, Some, None, Option, refl, sym, ap, subst, ◌∙◌, arith}
 use Rattle.std.proofs.lemmas.Option.{same_Some}
 use Rattle.std.proofs.lemmas.Bool.{and_from, and_parts}
 use Rattle.std.proofs.lemmas.List.Elements.{All-cons, All-drop, All-head, All-tail, All-take}
 use Rattle.std.specs.List.{after_first, before_first, list_any, position_or_len}
 use Rattle.std.specs.Prelude.{option_map, slice_index_or}
 use Rattle.acts_front.specs.Tokens.{Token, Name, Whole, Words, Truth, Relation, Arrow, Or, And, Not, Open, Close}
-use Rattle.acts_front.specs.Constraints.{Operand, OfWhole, OfText, OfTruth, OfParameter, Pred, Preds, Negated, End, More, Constraint, Plain, Implies, comparison_of, conj_in, cons_of, disj_in, disj_of, each_of, each_term, either_of, enclosed_of, every_term, implied, is_and, is_arrow, is_close, is_or, most_open, operand_of, parts, preds_of, terms_pass, unit_of}
+use Rattle.acts_front.specs.Constraints.{Operand, OfWhole, OfText, OfTruth, OfParameter, Pred, Preds, Negated, End, More, Constraint, Plain, Implies}
+use Rattle.acts_front.specs.Constraints.{comparison_of, conj_in, cons_of, disj_in, disj_of, each_of, each_term, either_of, enclosed_of, every_term}
+use Rattle.acts_front.specs.Constraints.{implied, is_and, is_arrow, is_close, is_or, most_open, operand_of, parts, preds_of, terms_pass, unit_of}
 use Rattle.acts_front.proofs.GivenTokens.{IsWritten}
 use Rattle.acts_front.proofs.Glued.{and_glued, glue, mapped_some, or_glued, spells_first}
 use Rattle.acts_front.proofs.TermsMean.{is_all_written, is_number_written}
@@ -121,7 +124,8 @@ constraint_written tokens constraint is all = by (list_any is_arrow tokens) is
         let back = disj_written (unit_of most_open) (unit_written most_open) (after_first is_arrow tokens) pred two (All-drop IsWritten (place + 1) tokens all) in
         subst (λ c. terms_pass is_all_written c ≡ true) same (and_from _ _ front back)
 
-    by : (any : Bool) → (if any then implied (disj_of most_open (before_first is_arrow tokens)) (disj_of most_open (after_first is_arrow tokens)) else option_map Plain (disj_of most_open tokens)) ≡ Some constraint
+    by : (any : Bool) → (if any then implied (disj_of most_open (before_first is_arrow tokens)) (disj_of most_open (after_first is_arrow tokens))
+        else option_map Plain (disj_of most_open tokens)) ≡ Some constraint
         → terms_pass is_all_written constraint ≡ true
     by true e = premised (disj_of most_open (before_first is_arrow tokens)) (disj_of most_open (after_first is_arrow tokens)) refl refl e
     by false e =

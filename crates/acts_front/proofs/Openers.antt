@@ -1,5 +1,6 @@
 -- A constraint that is written opens the constraints of a model file.
-use Rattle.std.proofs.Common.{◌≡◌, ℕ, zero, suc, ◌<◌, Bool, true, false, if◌then◌else◌, List, [], ◌∷◌, ◌++◌, length, map, drop, codes, Some, None, Option, refl, subst, arith}
+use Rattle.std.proofs.Common.{◌≡◌, ℕ, zero, suc, ◌<◌, Bool, true, false, if◌then◌else◌, List, [], ◌∷◌}
+use Rattle.std.proofs.Common.{◌++◌, length, map, drop, codes, Some, None, Option, refl, subst, arith}
 use Rattle.std.proofs.lemmas.Bool.{cond_both, or_parts}
 use Rattle.std.proofs.lemmas.List.{take-append-drop}
 use Rattle.std.specs.List.{after_first, before_first, list_any, position_or_len}
@@ -8,7 +9,8 @@ use Rattle.model_lex.specs.Sections.{goes_on, is_comment, is_ignored, opens_rule
 use Rattle.model_lex.specs.Blanks.{is_all_blank}
 use Rattle.model_parse.specs.Written.{joined}
 use Rattle.acts_front.specs.Tokens.{Token, Name, Whole, Words, Truth, Relation, Arrow, Or, And, Not, Open, Close}
-use Rattle.acts_front.specs.Constraints.{Constraint, Pred, Preds, Negated, Plain, comparison_of, each_of, either_of, conj_of, cons_of, disj_of, implied, is_and, is_arrow, is_or, most_open, parts, preds_of, unit_of}
+use Rattle.acts_front.specs.Constraints.{Constraint, Pred, Preds, Negated, Plain, comparison_of, each_of, either_of, conj_of}
+use Rattle.acts_front.specs.Constraints.{cons_of, disj_of, implied, is_and, is_arrow, is_or, most_open, parts, preds_of, unit_of}
 use Rattle.acts_front.specs.Translation.{constraint_text, token_text}
 use Rattle.acts_front.proofs.Glued.{and_glued, and_some, glue, mapped_some, or_glued, or_some, spells_first}
 

@@ -1,5 +1,6 @@
 -- The parameter lines of a translation, read again.
-use Rattle.std.proofs.Common.{◌≡◌, ◌≢◌, ℕ, ◌-◌, ◌<◌, Bool, true, false, not, ◌&&◌, ◌||◌, if◌then◌else◌, List, [], ◌∷◌, ◌++◌, length, map, drop, get_or, All, None, Ok, Err, Result, codes, refl, sym, ap, subst, ◌∙◌, arith, append_assoc, append-nil, one-add}
+use Rattle.std.proofs.Common.{◌≡◌, ◌≢◌, ℕ, ◌-◌, ◌<◌, Bool, true, false, not, ◌&&◌, ◌||◌, if◌then◌else◌, List, [], ◌∷◌, ◌++◌, length, map, drop}
+use Rattle.std.proofs.Common.{get_or, All, None, Ok, Err, Result, codes, refl, sym, ap, subst, ◌∙◌, arith, append_assoc, append-nil, one-add}
 use Rattle.std.proofs.lemmas.Bool.{and_from, and_parts, cond-false, cond-true, cond_both, eq-eqb, eqb-true, false≢true, lt-ltb, ltb-true, ne_eqb, not-true, or_parts, not_from_false, true≢false}
 use Rattle.std.proofs.lemmas.Bool.Decides.{nat_tests}
 use Rattle.std.proofs.lemmas.List.{length-map, map-append}
@@ -31,11 +32,12 @@ use Rattle.model_lex.specs.declared.fault.ModelFault.TheVariants.{Limit}
 use Rattle.model_lex.specs.declared.options.Marks.{Marks}
 use Rattle.model_lex.specs.declared.options.ModelOpts.{ModelOpts}
 use Rattle.model_lex.specs.declared.options.OrderWord.{OrderWord}
-use Rattle.model_parse.specs.ParamLines.{add_param, no_params, param_code, line_list, line_name, read_param, read_params, read_values}
+use Rattle.model_parse.specs.ParamLines.{line_name}
+use Rattle.model_parse.specs.ParamSteps.{add_param, no_params, param_code, line_list, read_param, read_params, read_values}
 use Rattle.model_parse.specs.Pieces.{begins_with, ends_with, is_byte, is_unfit, pieces}
 use Rattle.model_parse.specs.RawModels.{AreMarks}
 use Rattle.model_parse.specs.Steps.{and_each, and_then}
-use Rattle.model_parse.specs.Values.{Kept, add_kept, add_piece, add_value, is_known, keep_name}
+use Rattle.model_parse.specs.ValueSteps.{Kept, add_kept, add_piece, add_value, is_known, keep_name}
 use Rattle.model_parse.specs.Written.{joined, written_value, written_names, written_weight}
 use Rattle.model_parse.specs.declared.reading.ParamsRead.{ParamsRead}
 use Rattle.model_parse.specs.declared.reading.Reading.{Reading}
@@ -96,7 +98,8 @@ whole_symbolic : (text : List ℕ) → is_whole text ≡ true → IsSymbolic tex
 whole_symbolic [] whole = absurd (false≢true whole)
 whole_symbolic (b ∷ rest) whole = record { some = omega arith; symbols = by (begins_with 45 (b ∷ rest)) refl (and_parts _ _ whole).1 }
   where
-    by : (minus : Bool) → begins_with 45 (b ∷ rest) ≡ minus → list_all is_ascii_digit (if minus then drop 1 (b ∷ rest) else b ∷ rest) ≡ true → list_all is_symbol_byte (b ∷ rest) ≡ true
+    by : (minus : Bool) → begins_with 45 (b ∷ rest) ≡ minus
+        → list_all is_ascii_digit (if minus then drop 1 (b ∷ rest) else b ∷ rest) ≡ true → list_all is_symbol_byte (b ∷ rest) ≡ true
     by true minus digits =
         let same : b ≡ 45 = eqb-true b 45 (and_parts (nat_lt 0 (length (b ∷ rest))) (b == 45) minus).1 in
         and_from _ _ (ap is_symbol_byte same) (all_weaker is_ascii_digit is_symbol_byte digit_symbol rest digits)
@@ -179,7 +182,11 @@ text_back text symbolic =
     subst (ReadsBack marks (one_named text)) (written_is text symbolic)
     (value_back marks (one_named text) are_marks
     (record { some = omega arith; few = omega arith; named = one (λ n. names.is_name n ≡ true) text (symbolic_named text symbolic); unmarked = one (λ n. slice_index n 0 ≢ 126) text first })
-    (record { separators = one (λ n. list_any (is_byte 44) n ≡ false) text (symbolic_lacks text symbolic 44 refl); aliases = one (λ n. list_any (is_byte 124) n ≡ false) text (symbolic_lacks text symbolic 124 refl); weight = refl }))
+    (record {
+      separators = one (λ n. list_any (is_byte 44) n ≡ false) text (symbolic_lacks text symbolic 44 refl);
+      aliases = one (λ n. list_any (is_byte 124) n ≡ false) text (symbolic_lacks text symbolic 124 refl);
+      weight = refl;
+    }))
 
 -- one that isn't known is added
 text_added : (order : OrderWord) (fold : Bool) (line : ℕ) (params : List Param) (known : List (List ℕ)) (values : List Value) (texts : List (List ℕ)) (text : List ℕ)
@@ -246,7 +253,11 @@ module _ (order : OrderWord) (fold : Bool) (line : ℕ) (params : List Param) (k
   reading values = record { values = map (value_is kind) values; known = map (folded fold) (map (value_text kind) values); notes = [] }
 
   reading_more : (earlier : List (List ℕ)) (value : List ℕ)
-      → let read : Reading = record { values = map (value_is kind) earlier ++ value_is kind value ∷ []; known = map (folded fold) (map (value_text kind) earlier) ++ folded fold (value_text kind value) ∷ []; notes = [] } in read ≡ reading (earlier ++ value ∷ [])
+      → let read : Reading = record {
+        values = map (value_is kind) earlier ++ value_is kind value ∷ [];
+        known = map (folded fold) (map (value_text kind) earlier) ++ folded fold (value_text kind value) ∷ [];
+        notes = [];
+      } in read ≡ reading (earlier ++ value ∷ [])
   reading_more earlier value =
       let values : map (value_is kind) (earlier ++ value ∷ []) ≡ map (value_is kind) earlier ++ value_is kind value ∷ [] = map-append (value_is kind) earlier (value ∷ []) in
       let texts : map (folded fold) (map (value_text kind) (earlier ++ value ∷ [])) ≡ map (folded fold) (map (value_text kind) earlier) ++ folded fold (value_text kind value) ∷ [] =
@@ -262,7 +273,8 @@ module _ (order : OrderWord) (fold : Bool) (line : ℕ) (params : List Param) (k
       let new : is_known fold (map (folded fold) (map (value_text kind) earlier)) (value_text kind value) ≡ false =
       list_any-map (bytes_eq (folded fold (value_text kind value))) (folded fold) (map (value_text kind) earlier) ∙ none_same fold kind value earlier parts.0 before tests.0 in
       let step : add_piece (read_as order fold) line params known (reading earlier) (value_text kind value) ≡ Ok (reading (earlier ++ value ∷ [])) =
-      text_added order fold line params known (map (value_is kind) earlier) (map (folded fold) (map (value_text kind) earlier)) (value_text kind value) (value_symbolic kind value parts.0) new ∙ ap Ok (reading_more earlier value) in
+      text_added order fold line params known (map (value_is kind) earlier) (map (folded fold) (map (value_text kind) earlier))
+      (value_text kind value) (value_symbolic kind value parts.0) new ∙ ap Ok (reading_more earlier value) in
       let more : list_all (is_value kind) (earlier ++ value ∷ []) ≡ true = list_all-append (is_value kind) earlier (value ∷ []) ∙ and_from _ _ before (and_from _ _ parts.0 refl) in
       ap (λ r. and_then r (λ a. and_each (add_piece (read_as order fold) line params known) a (map (value_text kind) rest))) step
       ∙ (values_read (earlier ++ value ∷ []) rest more parts.1 tests.1 ∙ ap (λ list. Ok (reading list)) (append_assoc earlier (value ∷ []) rest))
@@ -305,7 +317,8 @@ numeric_texts Enum (value ∷ values) are some = ap (λ b. b && is_numeric (map 
         let minus : (b == 45) ≡ false = grind (arith, nat_tests) in
         let sign : without_sign (b ∷ rest) ≡ b ∷ rest = rw (plus, minus) refl in
         let front : whole_digits (b ∷ rest) ≡ b ∷ before_first numbers.is_point rest = ap (before_first numbers.is_point) sign ∙ rw (first.1, one-add) refl in
-        let none : is_digits (b ∷ before_first numbers.is_point rest) ≡ false = no_digit (nat_lt 0 (length (b ∷ before_first numbers.is_point rest))) (is_ascii_digit b) (list_all is_ascii_digit (before_first numbers.is_point rest)) first.0 in
+        let none : is_digits (b ∷ before_first numbers.is_point rest) ≡ false =
+        no_digit (nat_lt 0 (length (b ∷ before_first numbers.is_point rest))) (is_ascii_digit b) (list_all is_ascii_digit (before_first numbers.is_point rest)) first.0 in
         let other : is_decimal (b ∷ rest) ≡ false = ap (λ d. d && (not (has_point (b ∷ rest)) || is_digits (decimal_digits (b ∷ rest)))) (ap is_digits front ∙ none) in
         let is_none : number_of (b ∷ rest) ≡ NotNumber = cond-true (not (is_decimal (b ∷ rest))) _ _ (ap not other) in
         rw is_none refl
@@ -331,19 +344,33 @@ module _ (order : OrderWord) (fold : Bool) where
   abbrev opts : ModelOpts
   opts = read_as order fold
 
+  -- the names of these parameters, as they are compared
+  abbrev pub known_of : List (ℕ × Parameter) → List (List ℕ)
+  known_of params = map (λ (found : ℕ × Parameter). folded fold found.1.name) params
+
   -- what is read of these parameters
   abbrev pub params_read : List (ℕ × Parameter) → ParamsRead
-  params_read params = record { params = map param_is params; known = map (λ (found : ℕ × Parameter). folded fold found.1.name) params; notes = [] }
+  params_read params = record { params = map param_is params; known = known_of params; notes = [] }
+
+  -- what is read of them and of one more, whose values are read
+  abbrev with_one : List (ℕ × Parameter) → ℕ → Parameter → Result ParamsRead ModelFault
+  with_one done line param =
+      add_param fold line param.name (map param_is done) (known_of done) (reading order fold line (map param_is done) (known_of done) param.kind param.values)
 
   read_more : (done : List (ℕ × Parameter)) (found : ℕ × Parameter)
-      → let read : ParamsRead = record { params = map param_is done ++ param_is found ∷ []; known = map (λ (f : ℕ × Parameter). folded fold f.1.name) done ++ folded fold found.1.name ∷ []; notes = [] } in read ≡ params_read (done ++ found ∷ [])
+      → let read : ParamsRead = record {
+        params = map param_is done ++ param_is found ∷ [];
+        known = known_of done ++ folded fold found.1.name ∷ [];
+        notes = [];
+      } in read ≡ params_read (done ++ found ∷ [])
   read_more done found =
       let params : map param_is (done ++ found ∷ []) ≡ map param_is done ++ param_is found ∷ [] = map-append param_is done (found ∷ []) in
-      let known : map (λ (f : ℕ × Parameter). folded fold f.1.name) (done ++ found ∷ []) ≡ map (λ (f : ℕ × Parameter). folded fold f.1.name) done ++ folded fold found.1.name ∷ [] =
+      let known : known_of (done ++ found ∷ []) ≡ known_of done ++ folded fold found.1.name ∷ [] =
       map-append (λ (f : ℕ × Parameter). folded fold f.1.name) done (found ∷ []) in
       cc
 
-  unknown : (done : List (ℕ × Parameter)) (name : List ℕ) → is_known fold (map (λ (f : ℕ × Parameter). folded fold f.1.name) done) name ≡ is_declared (scope_of fold (map declared_as done)) name
+  unknown : (done : List (ℕ × Parameter)) (name : List ℕ)
+      → is_known fold (known_of done) name ≡ is_declared (scope_of fold (map declared_as done)) name
   unknown [] name = refl
   unknown (found ∷ done) name = ap (λ b. is_same_text fold name found.1.name || b) (unknown done name)
 
@@ -351,11 +378,12 @@ module _ (order : OrderWord) (fold : Bool) where
       → IsOrLimit (params_read (done ++ found ∷ [])) (read_param opts (params_read done) (found.0, parameter_text found.1))
   line_read done (line, param) is =
       let list = 32 ∷ joined (codes ", ") (map (value_text param.kind) param.values) in
-      let known = map (λ (f : ℕ × Parameter). folded fold f.1.name) done in
+      let known = known_of done in
       let symbolic = name_symbolic param.name is.named in
       let text : parameter_text param ≡ param.name ++ 58 ∷ list = append_assoc param.name (codes ": ") (joined (codes ", ") (map (value_text param.kind) param.values)) in
       let lacks : Lacks 58 param.name = none_stands (is_byte 58) param.name (symbolic_lacks param.name symbolic 58 refl) in
-      let called : line_name (parameter_text param) ≡ param.name = ap line_name text ∙ (ap trimmed (before_first_back 58 param.name list lacks) ∙ trimmed_whole param.name (symbolic_whole param.name symbolic)) in
+      let called : line_name (parameter_text param) ≡ param.name =
+      ap line_name text ∙ (ap trimmed (before_first_back 58 param.name list lacks) ∙ trimmed_whole param.name (symbolic_whole param.name symbolic)) in
       let behind : line_list (parameter_text param) ≡ list = ap line_list text ∙ after_first_back 58 param.name list lacks in
       let fits = named_fit param.name (symbolic_named param.name symbolic) in
       let code : param_code fold known param.name ≡ None =
@@ -366,13 +394,17 @@ module _ (order : OrderWord) (fold : Bool) where
       subst (IsOrLimit (params_read (done ++ (line, param) ∷ []))) (sym goes) (by (nat_lt 4095 (length (map (value_is param.kind) param.values))) refl)
     where
       by : (many : Bool) → nat_lt 4095 (length (map (value_is param.kind) param.values)) ≡ many
-          → IsOrLimit (params_read (done ++ (line, param) ∷ [])) (add_param fold line param.name (map param_is done) (map (λ (f : ℕ × Parameter). folded fold f.1.name) done) (reading order fold line (map param_is done) (map (λ (f : ℕ × Parameter). folded fold f.1.name) done) param.kind param.values))
+          → IsOrLimit (params_read (done ++ (line, param) ∷ [])) (with_one done line param)
       by true many = subst (IsOrLimit _) (sym (cond-true (nat_lt 4095 (length (map (value_is param.kind) param.values))) _ _ many)) (is_limit Values (length (map (value_is param.kind) param.values)))
       by false many =
           let numeric = numeric_texts param.kind param.values is.values is.some in
-          let same : add_param fold line param.name (map param_is done) (map (λ (f : ℕ × Parameter). folded fold f.1.name) done) (reading order fold line (map param_is done) (map (λ (f : ℕ × Parameter). folded fold f.1.name) done) param.kind param.values) ≡ Ok (params_read (done ++ (line, param) ∷ [])) =
+          let same : with_one done line param ≡ Ok (params_read (done ++ (line, param) ∷ [])) =
           cond-false (nat_lt 4095 (length (map (value_is param.kind) param.values))) _ _ many
-          ∙ (ap (λ n. Ok (record { params = map param_is done ++ record { name = param.name; line = line; numeric = n; values = map (value_is param.kind) param.values } ∷ []; known = map (λ (f : ℕ × Parameter). folded fold f.1.name) done ++ folded fold param.name ∷ []; notes = [] })) numeric
+          ∙ (ap (λ n. Ok (record {
+            params = map param_is done ++ record { name = param.name; line = line; numeric = n; values = map (value_is param.kind) param.values } ∷ [];
+            known = known_of done ++ folded fold param.name ∷ [];
+            notes = [];
+          })) numeric
           ∙ ap Ok (read_more done (line, param))) in
           subst (IsOrLimit _) (sym same) is_wanted
 
@@ -390,12 +422,14 @@ module _ (order : OrderWord) (fold : Bool) where
           → IsOrLimit (params_read ((done ++ found ∷ []) ++ rest)) (and_each (read_param opts) (params_read (done ++ found ∷ [])) (map parameter_line rest))
           → IsOrLimit (params_read (done ++ found ∷ rest)) (and_then answer (λ next. and_each (read_param opts) next (map parameter_line rest)))
       by (is_limit limit count) later = is_limit limit count
-      by is_wanted later = subst (λ list. IsOrLimit (params_read list) (and_each (read_param opts) (params_read (done ++ found ∷ [])) (map parameter_line rest))) (append_assoc done (found ∷ []) rest) later
+      by is_wanted later = subst (λ list. IsOrLimit (params_read list) (and_each (read_param opts) (params_read (done ++ found ∷ [])) (map parameter_line rest)))
+          (append_assoc done (found ∷ []) rest) later
 
   -- all lines
   pub parameters_read : (params : List (ℕ × Parameter)) → 0 < length params → AreParameters fold [] params → IsOrLimit (params_read params) (read_params opts (map parameter_line params))
   parameters_read params some are =
       let count = length-map params parameter_line in
       subst (IsOrLimit (params_read params)) (sym (cond-false (length (map parameter_line params) == 0) _ _ (ne_eqb (length (map parameter_line params)) 0 (λ e. omega (arith, count, some)))))
-      (cond_both (nat_lt 256 (length (map parameter_line params))) (Err (Limit Params (length (map parameter_line params)))) (and_each (read_param opts) no_params (map parameter_line params)) (IsOrLimit (params_read params))
+      (cond_both (nat_lt 256 (length (map parameter_line params))) (Err (Limit Params (length (map parameter_line params))))
+      (and_each (read_param opts) no_params (map parameter_line params)) (IsOrLimit (params_read params))
       (λ many. is_limit Params (length (map parameter_line params))) (λ few. lines_read [] params are))

@@ -1,5 +1,6 @@
 -- The parts of a list of tokens.
-use Rattle.std.proofs.Common.{◌≡◌, ℕ, ◌+◌, ◌<◌, ◌≤◌, Bool, true, false, ◌&&◌, List, [], ◌∷◌, ◌++◌, length, map, take, drop, get_or, refl, sym, ap, ◌∙◌, append_assoc, append-nil, drop-cons, add-one, arith}
+use Rattle.std.proofs.Common.{◌≡◌, ℕ, ◌+◌, ◌<◌, ◌≤◌, Bool, true, false, ◌&&◌, List, [], ◌∷◌, ◌++◌, length, map, take}
+use Rattle.std.proofs.Common.{drop, get_or, refl, sym, ap, ◌∙◌, append_assoc, append-nil, drop-cons, add-one, arith}
 use Rattle.std.proofs.lemmas.List.{map-append, take_more, take_all, drop_all}
 use Rattle.std.specs.Prelude.{◌==◌}
 use Rattle.acts_front.specs.Tokens.{Token}
@@ -42,17 +43,21 @@ module _ (mark : Token → Bool) {T : Type 0} (seen : T → Token) (tokens : Lis
     here = rw (drop-cons tokens place d, add-one) refl
 
     -- one stands here
-    pub cut_here : opened ≡ 0 → mark (seen (get_or tokens place d)) ≡ true → parts_behind mark 0 (map seen tokens) ≡ map seen (take place tokens) ∷ parts_behind mark 0 (map seen (drop (place + 1) tokens))
+    pub cut_here : opened ≡ 0 → mark (seen (get_or tokens place d)) ≡ true
+        → parts_behind mark 0 (map seen tokens) ≡ map seen (take place tokens) ∷ parts_behind mark 0 (map seen (drop (place + 1) tokens))
     cut_here outside marks =
         let step : parts_behind mark opened (map seen (drop place tokens)) ≡ [] ∷ parts_behind mark 0 (map seen (drop (place + 1) tokens)) =
         ap (λ left. parts_behind mark opened (map seen left)) here ∙ rw (outside, marks) refl in
-        cut.parts ∙ (ap (front_of (map seen (take place tokens))) step ∙ ap (λ first. first ∷ parts_behind mark 0 (map seen (drop (place + 1) tokens))) (append-nil (map seen (take place tokens))))
+        cut.parts ∙ (ap (front_of (map seen (take place tokens))) step
+        ∙ ap (λ first. first ∷ parts_behind mark 0 (map seen (drop (place + 1) tokens))) (append-nil (map seen (take place tokens))))
 
     -- another token does
-    pub cut_behind : ((opened == 0) && mark (seen (get_or tokens place d))) ≡ false → (more : ℕ) → more ≡ open_behind (seen (get_or tokens place d)) opened → more ≤ opened + 1 → IsCut more (place + 1)
+    pub cut_behind : ((opened == 0) && mark (seen (get_or tokens place d))) ≡ false → (more : ℕ)
+        → more ≡ open_behind (seen (get_or tokens place d)) opened → more ≤ opened + 1 → IsCut more (place + 1)
     cut_behind other more is most =
         let step : parts_behind mark opened (map seen (drop place tokens)) ≡ put_first (seen (get_or tokens place d)) (parts_behind mark more (map seen (drop (place + 1) tokens))) =
-        ap (λ left. parts_behind mark opened (map seen left)) here ∙ (rw other refl ∙ ap (λ n. put_first (seen (get_or tokens place d)) (parts_behind mark n (map seen (drop (place + 1) tokens)))) (sym is)) in
+        ap (λ left. parts_behind mark opened (map seen left)) here
+        ∙ (rw other refl ∙ ap (λ n. put_first (seen (get_or tokens place d)) (parts_behind mark n (map seen (drop (place + 1) tokens)))) (sym is)) in
         let front : map seen (take (place + 1) tokens) ≡ map seen (take place tokens) ++ seen (get_or tokens place d) ∷ [] =
         ap (map seen) (take_more tokens place d within) ∙ map-append seen (take place tokens) (get_or tokens place d ∷ []) in
         record {

@@ -9,7 +9,7 @@ use Rattle.std.specs.Prelude.{find, nat_lt, option_map, position, unwrap_or}
 use Rattle.std.specs.Str.{bytes_eq}
 use Rattle.value_text.specs.Texts.{folded, is_same_text}
 use Rattle.value_text.proofs.ListLemmas.{list_any-map, list_any-position}
-use Rattle.model_parse.specs.Values.{place_of}
+use Rattle.model_parse.specs.ValueSteps.{place_of}
 use Rattle.type_check.specs.Checking.{param_named}
 use Rattle.acts_front.specs.Meaning.{no_parameter, number_named}
 use Rattle.acts_front.specs.ParameterLines.{Parameter, has_name, is_declared, kind_named}

@@ -1,7 +1,7 @@
 -- The relation lines of a translation, read again.
-use Rattle.std.proofs.Common.{◌≡◌, ℕ, ◌<◌, ◌≤◌, Bool, true, false, ◌&&◌, List, [], ◌∷◌, ◌++◌, length, map, take, drop, get_or, All, Some, None, Ok, codes, refl, sym, ap, ◌∙◌, arith, append_assoc, append-nil}
+use Rattle.std.proofs.Common.{◌≡◌, ℕ, ◌<◌, ◌≤◌, Bool, true, false, ◌&&◌, List, [], ◌∷◌, ◌++◌, length, map, take, drop}
+use Rattle.std.proofs.Common.{get_or, All, Some, None, Ok, codes, refl, sym, ap, ◌∙◌, arith, append_assoc, append-nil}
 use Rattle.std.proofs.Math.Seq.{drop-append_seam, take-append_seam}
-use Rattle.std.proofs.lemmas.Bool.Decides.{nat_tests}
 use Rattle.std.proofs.lemmas.List.Folds.{list_all-append}
 use Rattle.std.proofs.lemmas.Bool.{and_from, and_parts, cond-false, cond-true, eqb-true, leb-true, lt-ltb, ne_eqb, or_parts}
 use Rattle.std.proofs.lemmas.List.{length-map, map-append}
@@ -17,7 +17,8 @@ use Rattle.cov_model.specs.declared.demand.Demand.{Demand}
 use Rattle.cov_model.specs.declared.demand.Group.{Group}
 use Rattle.model_lex.specs.Blanks.{is_blank, trimmed, without_first_blanks}
 use Rattle.model_lex.specs.declared.options.OrderWord.{OrderWord}
-use Rattle.model_parse.specs.GroupLines.{add_group, add_member, behind_braces, behind_strength, braced, group_code, group_list, group_order, has_braces, inside_braces, is_relation, member_or, order_text, read_group, strength_text}
+use Rattle.model_parse.specs.GroupLines.{behind_braces, braced, has_braces, inside_braces, is_relation, strength_text}
+use Rattle.model_parse.specs.GroupSteps.{behind_strength, add_group, add_member, group_code, group_list, group_order, member_or, order_text, read_group}
 use Rattle.model_parse.specs.Pieces.{is_byte, pieces}
 use Rattle.model_parse.specs.Steps.{and_each, and_then, refused_or}
 use Rattle.model_parse.specs.Written.{joined}
@@ -131,7 +132,8 @@ module _ (fold : Bool) (params : List (ℕ × Parameter)) (line : ℕ) where
       let parts = and_parts _ _ are in
       let tests = or_parts (list_any (is_same_text fold name) earlier) _ distinct in
       let here = placed fold name params parts.0 in
-      let place : add_member fold known line (map number earlier) name ≡ member_or line (map number earlier) (Some (number name)) = ap (member_or line (map number earlier)) (here.as_read ∙ ap Some (sym here.as_number)) in
+      let place : add_member fold known line (map number earlier) name ≡ member_or line (map number earlier) (Some (number name)) =
+      ap (member_or line (map number earlier)) (here.as_read ∙ ap Some (sym here.as_number)) in
       let step : add_member fold known line (map number earlier) name ≡ Ok (map number (earlier ++ name ∷ [])) =
       place ∙ (cond-false (list_any (λ q. q == number name) (map number earlier)) _ _ (none_equal name earlier parts.0 before tests.0) ∙ ap Ok (sym (map-append number earlier (name ∷ [])))) in
       let more : list_all is_there (earlier ++ name ∷ []) ≡ true = list_all-append is_there earlier (name ∷ []) ∙ and_from _ _ before (and_from _ _ parts.0 refl) in
@@ -180,9 +182,11 @@ module _ (order : OrderWord) (fold : Bool) (params : List (ℕ × Parameter)) (w
       ∙ ap (λ list. Ok (record { order = whole; subs = []; relations = list })) (sym (map-append (λ (f : ℕ × Relation). ours f.1) done ((line, relation) ∷ [])))))))))
 
   pub relations_read : (done rest : List (ℕ × Relation)) → All (λ found. IsRelation (scope_of fold (map declared_as params)) found.1) rest
-      → and_each (read_group (read_as order fold) (known fold params 0)) (demand_read done) (map (λ (found : ℕ × Relation). (found.0, relation_text found.1)) rest) ≡ Ok (demand_read (done ++ rest))
+      → and_each (read_group (read_as order fold) (known fold params 0)) (demand_read done)
+      (map (λ (found : ℕ × Relation). (found.0, relation_text found.1)) rest) ≡ Ok (demand_read (done ++ rest))
   relations_read done [] are = ap (λ list. Ok (demand_read list)) (sym (append-nil done))
   relations_read done (found ∷ rest) are =
       let P = λ (f : ℕ × Relation). IsRelation (scope_of fold (map declared_as params)) f.1 in
-      ap (λ r. and_then r (λ a. and_each (read_group (read_as order fold) (known fold params 0)) a (map (λ (f : ℕ × Relation). (f.0, relation_text f.1)) rest))) (line_read done found (All-head P found rest are))
+      ap (λ r. and_then r (λ a. and_each (read_group (read_as order fold) (known fold params 0)) a (map (λ (f : ℕ × Relation). (f.0, relation_text f.1)) rest)))
+      (line_read done found (All-head P found rest are))
       ∙ (relations_read (done ++ found ∷ []) rest (All-tail P found rest are) ∙ ap (λ list. Ok (demand_read list)) (append_assoc done (found ∷ []) rest))

@@ -1,11 +1,12 @@
 -- Texts that are the same as earlier ones.
-use Rattle.std.proofs.Common.{◌≡◌, ℕ, ◌+◌, ◌<◌, Bool, true, false, ◌||◌, List, [], ◌∷◌, ◌++◌, length, map, take, drop, get_or, refl, sym, ap, ◌∙◌, drop-cons, add-one}
+use Rattle.std.proofs.Common.{◌≡◌, ℕ, ◌+◌, ◌<◌, Bool, true, false, ◌||◌, List, [], ◌∷◌, ◌++◌, length}
+use Rattle.std.proofs.Common.{map, take, drop, get_or, refl, sym, ap, ◌∙◌, drop-cons, add-one}
 use Rattle.std.proofs.lemmas.List.{map-append, take_more}
 use Rattle.std.specs.List.{list_any}
 use Rattle.std.specs.Str.{bytes_eq}
 use Rattle.value_text.specs.Texts.{folded, is_same_text}
 use Rattle.value_text.proofs.ListLemmas.{list_any-map}
-use Rattle.model_parse.specs.Values.{is_known}
+use Rattle.model_parse.specs.ValueSteps.{is_known}
 use Rattle.acts_front.specs.ParameterLines.{is_repeated}
 
 module _ {T : Type 0} (text : T → List ℕ) (fold : Bool) (texts : List T) where
@@ -22,14 +23,16 @@ module _ {T : Type 0} (text : T → List ℕ) (fold : Bool) (texts : List T) whe
     here = rw (drop-cons texts place d, add-one) refl
 
     known : is_known fold names (text (get_or texts place d)) ≡ list_any (is_same_text fold (text (get_or texts place d))) (map text (take place texts))
-    known = ap (list_any (bytes_eq (folded fold (text (get_or texts place d))))) none.kept ∙ list_any-map (bytes_eq (folded fold (text (get_or texts place d)))) (folded fold) (map text (take place texts))
+    known = ap (list_any (bytes_eq (folded fold (text (get_or texts place d))))) none.kept
+        ∙ list_any-map (bytes_eq (folded fold (text (get_or texts place d)))) (folded fold) (map text (take place texts))
 
     pub repeated_here : is_known fold names (text (get_or texts place d)) ≡ true → is_repeated fold [] (map text texts) ≡ true
     repeated_here is =
         none.rest ∙ (ap (λ left. is_repeated fold (map text (take place texts)) (map text left)) here
         ∙ ap (λ b. b || is_repeated fold (map text (take place texts) ++ text (get_or texts place d) ∷ []) (map text (drop (place + 1) texts))) (sym known ∙ is))
 
-    pub none_here : (more : List (List ℕ)) → more ≡ names ++ folded fold (text (get_or texts place d)) ∷ [] → is_known fold names (text (get_or texts place d)) ≡ false → NoneRepeated more (place + 1)
+    pub none_here : (more : List (List ℕ)) → more ≡ names ++ folded fold (text (get_or texts place d)) ∷ []
+        → is_known fold names (text (get_or texts place d)) ≡ false → NoneRepeated more (place + 1)
     none_here more grown is =
         let front : map text (take (place + 1) texts) ≡ map text (take place texts) ++ text (get_or texts place d) ∷ [] =
         ap (map text) (take_more texts place d within) ∙ map-append text (take place texts) (get_or texts place d ∷ []) in

@@ -1,6 +1,7 @@
 -- The translation of a file spells a model that says what the file says, or it is refused by a limit or since the
 -- order is above the number of parameters.
-use Rattle.std.proofs.Common.{◌≡◌, ℕ, ◌+◌, ◌<◌, Bool, true, false, not, if◌then◌else◌, List, [], ◌∷◌, ◌++◌, flat_map, length, map, All, Some, None, Option, Ok, Err, Result, refl, sym, ap, subst, ◌∙◌, arith}
+use Rattle.std.proofs.Common.{◌≡◌, ℕ, ◌+◌, ◌<◌, Bool, true, false, not, if◌then◌else◌, List, [], ◌∷◌, ◌++◌, flat_map}
+use Rattle.std.proofs.Common.{length, map, All, Some, None, Option, Ok, Err, Result, refl, sym, ap, subst, ◌∙◌, arith}
 use Rattle.std.proofs.lemmas.Option.{same_Some}
 use Rattle.std.proofs.lemmas.Bool.{cond_both, false≢true}
 use Rattle.std.proofs.lemmas.List.{length-map}
@@ -21,11 +22,13 @@ use Rattle.model_lex.specs.declared.fault.ModelFault.TheVariants.{Bad, Limit}
 use Rattle.model_lex.specs.declared.line_kind.LineKind.TheVariants.{Param as ParamLine}
 use Rattle.model_lex.specs.declared.options.ModelOpts.{ModelOpts}
 use Rattle.model_lex.specs.declared.options.OrderWord.{OrderWord}
-use Rattle.model_parse.specs.GroupLines.{read_groups}
-use Rattle.model_parse.specs.RawModels.{order_in, raw_model_of, with_demand}
+use Rattle.model_parse.specs.GroupSteps.{read_groups}
+use Rattle.model_parse.specs.RawModels.{order_in, raw_model_of}
+use Rattle.model_parse.specs.ModelSteps.{with_demand}
 use Rattle.model_parse.specs.Steps.{and_then}
 use Rattle.model_parse.specs.declared.raw_model.RawModel.{RawModel}
 use Rattle.model_parse.specs.declared.reading.ParamsRead.{ParamsRead}
+use Rattle.model_parse.proofs.RuledGroups.{raw_ruled}
 use Rattle.constraint_ast.proofs.OneReading.{lines_have_one_reading}
 use Rattle.constraint_ast.specs.Grammar.{next_rule, no_rule}
 use Rattle.constraint_ast.specs.Lexing.{Spell, both_tokens, tokens_of}
@@ -149,7 +152,7 @@ module _ (order : OrderWord) (fold : Bool) (lines : List Line) (are : AreLines f
   raw = record { params = map param_is params; demand = demand; notes = [] }
 
   raw_answer : RawAnswer raw (raw_model_of opts split)
-  raw_answer = by (parameters_read order fold params (some_parameters 1 lines are.some) are_parameters)
+  raw_answer = subst (RawAnswer raw) (raw_ruled opts split) (by (parameters_read order fold params (some_parameters 1 lines are.some) are_parameters))
     where
       groups : read_groups opts (params_read order fold params).known (order_in order (length (map param_is params))) split.groups ≡ Ok demand
       groups = relations_read order fold params (order_in order (length (map param_is params))) [] (relations_from 1 lines) are_relations

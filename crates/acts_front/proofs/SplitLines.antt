@@ -1,5 +1,6 @@
 -- The sections of a translation.
-use Rattle.std.proofs.Common.{◌≡◌, ℕ, ◌+◌, ◌<◌, Bool, true, false, not, ◌||◌, if◌then◌else◌, List, [], ◌∷◌, ◌++◌, length, map, take, drop, get_or, codes, None, Ok, refl, sym, ap, subst, ◌∙◌, arith, append_assoc}
+use Rattle.std.proofs.Common.{◌≡◌, ℕ, ◌+◌, ◌<◌, Bool, true, false, not, ◌||◌, if◌then◌else◌, List, [], ◌∷◌, ◌++◌, length}
+use Rattle.std.proofs.Common.{map, take, drop, get_or, codes, None, Ok, refl, sym, ap, subst, ◌∙◌, arith, append_assoc}
 use Rattle.std.proofs.Math.Seq.{take-append_seam, drop-append_seam}
 use Rattle.std.proofs.lemmas.Bool.{and_parts, and_right, cond-false, cond-true, ltb-true}
 use Rattle.std.proofs.lemmas.Bool.Decides.{nat_tests}
@@ -11,7 +12,8 @@ use Rattle.std.specs.Str.{is_utf8}
 use Rattle.constraint_ast.proofs.Digits.{run_prefix}
 use Rattle.model_lex.proofs.Opening.{StandsBehind, at_other, behind_word}
 use Rattle.model_lex.specs.Blanks.{is_all_blank, is_blank, without_first_blanks}
-use Rattle.model_lex.specs.Sections.{Split, first_word, goes_on, has_colon, is_among, is_ignored, is_opening_mark, is_rule, is_word_byte, kind_of, misplaced, opening_len, opening_words, opens_group, opens_rule, put_before, refusal_of, refused_or, sections_behind, with_line}
+use Rattle.model_lex.specs.Sections.{Split, first_word, goes_on, has_colon, is_among, is_ignored, is_opening_mark, is_rule, is_word_byte, kind_of, misplaced}
+use Rattle.model_lex.specs.Sections.{opening_len, opening_words, opens_group, opens_rule, put_before, refusal_of, refused_or, sections_behind, with_line}
 use Rattle.model_lex.specs.declared.line_kind.LineKind.{LineKind}
 use Rattle.model_lex.specs.declared.line_kind.LineKind.TheVariants.{Param, Group, Rule}
 use Rattle.model_parse.proofs.Joining.{stands_back}
@@ -95,7 +97,8 @@ module _ (b : ℕ) (more rest : List ℕ) (word : list_all is_word_byte (b ∷ m
 -- it begins with a byte of a word
 parameter_sorts : (param : Parameter) → is_name param.name ≡ true → Allowed (parameter_text param)
     → (is_ignored (parameter_text param) ≡ false) × (kind_of Param (parameter_text param) ≡ Param) × (refusal_of Param (parameter_text param) ≡ None)
-parameter_sorts param named allowed = by param.name (and_parts _ _ named).1 (ltb-true 0 (length param.name) (and_parts _ _ (and_parts _ _ named).0).0) joint (allowed_utf8 (parameter_text param) allowed)
+parameter_sorts param named allowed = by param.name (and_parts _ _ named).1
+    (ltb-true 0 (length param.name) (and_parts _ _ (and_parts _ _ named).0).0) joint (allowed_utf8 (parameter_text param) allowed)
   where
     joint : parameter_text param ≡ param.name ++ 58 ∷ 32 ∷ joined (codes ", ") (map (value_text param.kind) param.values)
     joint = append_assoc param.name (codes ": ") (joined (codes ", ") (map (value_text param.kind) param.values))
@@ -133,7 +136,8 @@ constraint_kind before tokens opens = by (is_rule before)
     by true = refl
     by false = rw opens refl
 
-constraint_fine : (before : LineKind) (tokens : List Token) → opens_rule (constraint_text tokens) ≡ true → Allowed (constraint_text tokens) → refusal_of before (constraint_text tokens) ≡ None
+constraint_fine : (before : LineKind) (tokens : List Token) → opens_rule (constraint_text tokens) ≡ true
+    → Allowed (constraint_text tokens) → refusal_of before (constraint_text tokens) ≡ None
 constraint_fine before tokens opens allowed =
     cond-true (is_utf8 (constraint_text tokens)) _ _ (allowed_utf8 (constraint_text tokens) allowed)
     ∙ (ap (λ kind. misplaced before kind (constraint_text tokens)) (constraint_kind before tokens opens) ∙ by before)
@@ -144,7 +148,8 @@ constraint_fine before tokens opens allowed =
     by Rule = refl
 
 -- a line that isn't ignored nor refused goes to its section
-put : (before kind : LineKind) (line : ℕ × List ℕ) (lines : List (ℕ × List ℕ)) (split : Split) → is_ignored line.1 ≡ false → kind_of before line.1 ≡ kind → refusal_of before line.1 ≡ None
+put : (before kind : LineKind) (line : ℕ × List ℕ) (lines : List (ℕ × List ℕ)) (split : Split)
+    → is_ignored line.1 ≡ false → kind_of before line.1 ≡ kind → refusal_of before line.1 ≡ None
     → sections_behind kind lines ≡ Ok split → sections_behind before (line ∷ lines) ≡ Ok (put_before kind line split)
 put before kind line lines split seen is fine rest =
     cond-false (is_ignored line.1) (sections_behind before lines) _ seen

@@ -23,7 +23,8 @@ operand_is scope (OfTruth truth) = refl
 operand_is scope (OfParameter name) = declared_is scope name
 
 by_two : (kind : Option Kind) (rel : Rel) (other : Option Kind)
-    → (if not (is_some kind && is_some other) then UnknownName else if not (is_same_kind kind other && (not (is_order rel) || is_same_kind kind (Some Int))) then TypesDiffer else Fits) ≡ kinds_finding kind rel other
+    → (if not (is_some kind && is_some other) then UnknownName
+    else if not (is_same_kind kind other && (not (is_order rel) || is_same_kind kind (Some Int))) then TypesDiffer else Fits) ≡ kinds_finding kind rel other
 by_two (Some kind) rel (Some other) = at (is_same_kind (Some kind) (Some other) && (not (is_order rel) || is_same_kind (Some kind) (Some Int)))
   where
     at : (b : Bool) → (if not b then TypesDiffer else Fits) ≡ (if b then Fits else TypesDiffer)

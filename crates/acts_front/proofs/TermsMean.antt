@@ -1,5 +1,6 @@
 -- A constraint of a translation means what the constraint of the file means.
-use Rattle.std.proofs.Common.{◌≡◌, ℕ, ◌+◌, ◌*◌, ◌^◌, ◌<◌, pos, neg_ℤ, Bool, true, false, not, ◌&&◌, ◌||◌, List, [], length, map, get_or, All, Some, None, Option, Ok, refl, sym, ap, ◌∙◌, arith, codes}
+use Rattle.std.proofs.Common.{◌≡◌, ℕ, ◌+◌, ◌*◌, ◌^◌, ◌<◌, pos, neg_ℤ, Bool, true, false, not, ◌&&◌, ◌||◌, List, []}
+use Rattle.std.proofs.Common.{length, map, get_or, All, Some, None, Option, Ok, refl, sym, ap, ◌∙◌, arith, codes}
 use Rattle.std.proofs.lemmas.Bool.{and_parts, ltb-true, false≢true}
 use Rattle.std.proofs.lemmas.List.{get_or-map, length-map}
 use Rattle.std.proofs.lemmas.List.FromFn.{get_or-range_with_len, length-range_with_len}
@@ -34,9 +35,10 @@ use Rattle.constraint_ast.specs.declared.tree.RawLiteral.{RawLiteral}
 use Rattle.constraint_ast.specs.declared.tree.RawLiteral.TheVariants as literals
 use Rattle.constraint_ast.specs.declared.tree.RawTerm.TheVariants as raws
 use Rattle.model_lex.specs.declared.diag.DiagCode.TheVariants.{TypeMismatch}
-use Rattle.acts_front.specs.Constraints.{Operand, OfWhole, OfText, OfTruth, OfParameter, Pred, Preds, Compares, Negated, Each, Either, End, More, Constraint, Plain, Implies, each_term, every_term, is_order, is_same_kind, is_typed, terms_pass}
+use Rattle.acts_front.specs.Constraints.{Operand, OfWhole, OfText, OfTruth, OfParameter, Pred, Preds, Compares, Negated, Each, Either, End}
+use Rattle.acts_front.specs.Constraints.{More, Constraint, Plain, Implies, each_term, every_term, is_order, is_same_kind, is_typed, terms_pass}
 use Rattle.acts_front.specs.Meaning as acts
-use Rattle.acts_front.specs.Meaning.{IsInteger, IsText, IsTruth, compare, constraint_holds, content_at, content_of, given, is_as, is_same_truth, no_parameter, number_named, operand_content, whole_of}
+use Rattle.acts_front.specs.Meaning.{compare, constraint_holds, content_at, content_of, given, is_as, is_same_truth, no_parameter, operand_content, whole_of}
 use Rattle.acts_front.specs.ParameterLines.{Parameter, Scope, is_true, is_value, is_whole, kind_named, without_minus}
 use Rattle.acts_front.specs.SameModels.{is_int, param_is, value_is}
 use Rattle.acts_front.specs.Translation.{truth_text, value_text}
@@ -88,7 +90,8 @@ scaled_same true true x y is = same x y is
     same x y is = omega (arith, ints)
 
 scaled_order : (one two : Bool) (x y : ℕ) → int_cmp (signed one (x * 10 ^ 9)) (signed two (y * 10 ^ 9)) ≡ int_cmp (signed one x) (signed two y)
-scaled_order one two x y = sym (int_cmp_is (signed one (x * 10 ^ 9)) (signed two (y * 10 ^ 9)) (int_cmp (signed one x) (signed two y)) (by (int_cmp (signed one x) (signed two y)) (int_ranks (signed one x) (signed two y))))
+scaled_order one two x y = sym (int_cmp_is (signed one (x * 10 ^ 9)) (signed two (y * 10 ^ 9))
+    (int_cmp (signed one x) (signed two y)) (by (int_cmp (signed one x) (signed two y)) (int_ranks (signed one x) (signed two y))))
   where
     by : (o : Ordering) → MatchOrdering o (signed one x <ℤ signed two y) (signed one x ≡ signed two y) (signed two y <ℤ signed one x)
         → MatchOrdering o (signed one (x * 10 ^ 9) <ℤ signed two (y * 10 ^ 9)) (signed one (x * 10 ^ 9) ≡ signed two (y * 10 ^ 9)) (signed two (y * 10 ^ 9) <ℤ signed one (x * 10 ^ 9))
@@ -204,7 +207,8 @@ no_order rel a Boolean kind other is = of_kinds rel Boolean (ap (λ k. not (is_o
 abbrev pub is_all_written : List ℕ → Rel → Operand → Bool
 is_all_written name rel operand = is_number_written operand
 
-module _ (fold : Bool) (params : List (ℕ × Parameter)) (valued : All (λ found. list_all (is_value found.1.kind) found.1.values ≡ true) params) (rules : List RuleView) (demand : Demand) (prefix : ℕ) where
+module _ (fold : Bool) (params : List (ℕ × Parameter)) (valued : All (λ found. list_all (is_value found.1.kind) found.1.values ≡ true) params)
+    (rules : List RuleView) (demand : Demand) (prefix : ℕ) where
   abbrev pub m : ModelView
   m = record { params = map param_is params; rules = rules; demand = demand; prefix = prefix; fold = fold }
 
@@ -231,7 +235,8 @@ module _ (fold : Bool) (params : List (ℕ × Parameter)) (valued : All (λ foun
       let number : get_or range n 0 ≡ n = get_or-range_with_len 0 (length (map param_is params)) n 0 (omega (arith, size, within)) ∙ zero_more n in
       let has : has_value m row n ≡ true = ap (has_value m row) (sym number) ∙ here in
       let below : value_in row n < length (param_at (map param_is params) n).values = ltb-true _ _ (and_parts _ _ has).1 in
-      let same : length (param_at (map param_is params) n).values ≡ length (found_at n).1.values = ap (λ (p : Param). length p.values) (param_is_at n within) ∙ length-map (found_at n).1.values (value_is (found_at n).1.kind) in
+      let same : length (param_at (map param_is params) n).values ≡ length (found_at n).1.values =
+      ap (λ (p : Param). length p.values) (param_is_at n within) ∙ length-map (found_at n).1.values (value_is (found_at n).1.kind) in
       omega (arith, below, same)
     where
       zero_more : (n : ℕ) → 0 + n ≡ n
@@ -245,7 +250,8 @@ module _ (fold : Bool) (params : List (ℕ × Parameter)) (valued : All (λ foun
   operand_seen row n is within =
       let found = found_at n in
       let value : given_value m row n ≡ value_is found.1.kind (text_at row n) =
-      ap (λ (p : Param). slice_index_or p.values (value_in row n) no_value) (param_is_at n within) ∙ get_or-map (value_is found.1.kind) found.1.values (value_in row n) [] no_value (row_within row n is within) in
+      ap (λ (p : Param). slice_index_or p.values (value_in row n) no_value) (param_is_at n within)
+      ∙ get_or-map (value_is found.1.kind) found.1.values (value_in row n) [] no_value (row_within row n is within) in
       ap (λ (p : Param). operand_of p.numeric (first_name (given_value m row n))) (param_is_at n within) ∙ ap (λ v. operand_of (is_int found.1.kind) (first_name v)) value
 
   content_seen : (row : List (Option ℕ)) (n : ℕ) → n < length params → content_at ours row n ≡ content_of (found_at n).1.kind (text_at row n)
@@ -313,7 +319,8 @@ module _ (fold : Bool) (params : List (ℕ × Parameter)) (valued : All (λ foun
       let all = map param_is params in
       let same : is_same_type (numeric_at all n) (numeric_at all k) ≡ true =
       ap (λ x. is_same_type x (numeric_at all k)) (numeric_is name kind one) ∙ (ap (is_same_type (is_int kind)) (numeric_is other kind two) ∙ itself (is_int kind)) in
-      ap (λ o. with_param o (λ p. with_param (param_named fold all other) (λ q. given_that (is_same_type (numeric_at all p) (numeric_at all q)) TypeMismatch (term.ParamIs p (rel_of (raw_rel rel)) q)))) one.place.as_param
+      ap (λ o. with_param o (λ p. with_param (param_named fold all other)
+      (λ q. given_that (is_same_type (numeric_at all p) (numeric_at all q)) TypeMismatch (term.ParamIs p (rel_of (raw_rel rel)) q)))) one.place.as_param
       ∙ (ap (λ o. with_param o (λ q. given_that (is_same_type (numeric_at all n) (numeric_at all q)) TypeMismatch (term.ParamIs n (rel_of (raw_rel rel)) q))) two.place.as_param
       ∙ (ap (λ b. given_that b TypeMismatch (term.ParamIs n (rel_of (raw_rel rel)) k)) same ∙ ap (λ r. Ok (term.ParamIs n r k)) (rel_back rel)))
     where
@@ -337,13 +344,15 @@ module _ (fold : Bool) (params : List (ℕ × Parameter)) (valued : All (λ foun
       let kind = kinds_same (kind_named scope name) Boolean tests.0 in
       let of = no_order rel (kind_named scope name) Boolean kind refl tests.1 in
       let is = typed name Boolean kind in
-      literal_term name rel (OfTruth true) Boolean is (codes "TRUE") of (λ a value. truths_compared fold rel (is_true a) true of) (value_found name rel (literals.Words (truth_text true)) Boolean is refl) (λ row. refl)
+      literal_term name rel (OfTruth true) Boolean is (codes "TRUE") of (λ a value. truths_compared fold rel (is_true a) true of)
+      (value_found name rel (literals.Words (truth_text true)) Boolean is refl) (λ row. refl)
   term_is name rel (OfTruth false) fits written =
       let tests = and_parts _ _ fits in
       let kind = kinds_same (kind_named scope name) Boolean tests.0 in
       let of = no_order rel (kind_named scope name) Boolean kind refl tests.1 in
       let is = typed name Boolean kind in
-      literal_term name rel (OfTruth false) Boolean is (codes "FALSE") of (λ a value. truths_compared fold rel (is_true a) false of) (value_found name rel (literals.Words (truth_text false)) Boolean is refl) (λ row. refl)
+      literal_term name rel (OfTruth false) Boolean is (codes "FALSE") of (λ a value. truths_compared fold rel (is_true a) false of)
+      (value_found name rel (literals.Words (truth_text false)) Boolean is refl) (λ row. refl)
   term_is name rel (OfParameter other) fits written =
       let tests = and_parts _ _ fits in
       let both = same_kinds (kind_named scope name) (kind_named scope other) tests.0 in
@@ -356,7 +365,8 @@ module _ (fold : Bool) (params : List (ℕ × Parameter)) (valued : All (λ foun
         means = λ row r.
             ap (λ o. stands_in rel (literal_order fold o (operand m row (place_in fold other params)))) (operand_is name both.kind one row r)
             ∙ (ap (λ o. stands_in rel (literal_order fold (seen both.kind (text_at row (place_in fold name params))) o)) (operand_is other both.kind two row r)
-            ∙ (values_compared fold rel both.kind (text_at row (place_in fold name params)) (text_at row (place_in fold other params)) of (value_given name both.kind one row r) (value_given other both.kind two row r)
+            ∙ (values_compared fold rel both.kind (text_at row (place_in fold name params))
+            (text_at row (place_in fold other params)) of (value_given name both.kind one row r) (value_given other both.kind two row r)
             ∙ (ap (λ c. compare fold rel c (content_of both.kind (text_at row (place_in fold other params)))) (sym (given_is name both.kind one row))
             ∙ ap (compare fold rel (given fold ours row name)) (sym (given_is other both.kind two row)))));
       }

@@ -1,5 +1,6 @@
 -- The tokens of a text, one after another.
-use Rattle.std.proofs.Common.{◌≡◌, ℕ, zero, suc, ◌+◌, ◌-◌, ◌<◌, Bool, true, false, List, [], ◌∷◌, ◌++◌, length, drop, get_or, Option, Some, None, refl, sym, ap, ◌∙◌, append_assoc, append-nil, arith, add-one, one-add}
+use Rattle.std.proofs.Common.{◌≡◌, ℕ, zero, suc, ◌+◌, ◌-◌, ◌<◌, Bool, true, false, List, [], ◌∷◌, ◌++◌, length, drop, get_or}
+use Rattle.std.proofs.Common.{Option, Some, None, refl, sym, ap, ◌∙◌, append_assoc, append-nil, arith, add-one, one-add}
 use Rattle.model_lex.specs.Blanks.{is_blank, without_first_blanks}
 use Rattle.model_lex.proofs.Opening.{solid}
 use Rattle.acts_front.specs.Tokens.{Token, Found, first_token, len_behind, token_before, tokens_behind}
@@ -18,14 +19,16 @@ blanks_skipped : (text : List ℕ) → tokens_behind 0 (without_first_blanks tex
 blanks_skipped [] = refl
 blanks_skipped (b ∷ text) = at (is_blank b) refl (blanks_skipped text)
   where
-    at : (blank : Bool) → is_blank b ≡ blank → tokens_behind 0 (without_first_blanks text) ≡ tokens_behind 0 text → tokens_behind 0 (without_first_blanks (b ∷ text)) ≡ tokens_behind 0 (b ∷ text)
+    at : (blank : Bool) → is_blank b ≡ blank → tokens_behind 0 (without_first_blanks text) ≡ tokens_behind 0 text
+        → tokens_behind 0 (without_first_blanks (b ∷ text)) ≡ tokens_behind 0 (b ∷ text)
     at true e rest = rw (e, one-add) rest
     at false e rest =
         let same : without_first_blanks (b ∷ text) ≡ b ∷ text = rw e refl in
         ap (tokens_behind 0) same
 
 -- a token behind blanks
-token_here : (text : List ℕ) (found : Found) → 0 < length text → is_blank (get_or text 0 0) ≡ false → first_token text ≡ found → tokens_behind 0 text ≡ token_before found (tokens_behind 0 (drop (len_behind found + 1) text))
+token_here : (text : List ℕ) (found : Found) → 0 < length text → is_blank (get_or text 0 0) ≡ false
+    → first_token text ≡ found → tokens_behind 0 text ≡ token_before found (tokens_behind 0 (drop (len_behind found + 1) text))
 token_here [] found some dense is = absurd (omega arith)
 token_here (b ∷ text) found some dense is =
     let step : tokens_behind 0 (b ∷ text) ≡ token_before (first_token (b ∷ text)) (tokens_behind (len_behind (first_token (b ∷ text))) text) = rw dense refl in
@@ -47,10 +50,12 @@ module _ (whole : Option (List Token)) (read : List Token) (ahead : List ℕ) (h
   none_read some none =
       here ∙ ap (more_tokens read) (sym (blanks_skipped ahead) ∙ token_here (without_first_blanks ahead) None some (solid ahead some) none)
 
-  pub one_read : (token : Token) (len : ℕ) (more : List Token) → 0 < length (without_first_blanks ahead) → first_token (without_first_blanks ahead) ≡ Some (token, len) → 0 < len → more ≡ read ++ token ∷ []
+  pub one_read : (token : Token) (len : ℕ) (more : List Token) → 0 < length (without_first_blanks ahead)
+      → first_token (without_first_blanks ahead) ≡ Some (token, len) → 0 < len → more ≡ read ++ token ∷ []
       → whole ≡ more_tokens more (tokens_behind 0 (drop len (without_first_blanks ahead)))
   one_read token len more some is longer grown =
       let size : len - 1 + 1 ≡ len = omega arith in
       here
-      ∙ (ap (more_tokens read) (sym (blanks_skipped ahead) ∙ (token_here (without_first_blanks ahead) (Some (token, len)) some (solid ahead some) is ∙ ap (λ n. token_before (Some (token, len)) (tokens_behind 0 (drop n (without_first_blanks ahead)))) size))
+      ∙ (ap (more_tokens read) (sym (blanks_skipped ahead) ∙ (token_here (without_first_blanks ahead) (Some (token, len)) some (solid ahead some) is
+      ∙ ap (λ n. token_before (Some (token, len)) (tokens_behind 0 (drop n (without_first_blanks ahead)))) size))
       ∙ (onto read token len (tokens_behind 0 (drop len (without_first_blanks ahead))) ∙ ap (λ list. more_tokens list (tokens_behind 0 (drop len (without_first_blanks ahead)))) (sym grown)))

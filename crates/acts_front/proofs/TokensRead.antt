@@ -1,5 +1,7 @@
 -- The tokens of a translated constraint line, read again.
-use Rattle.std.proofs.Common.{◌≡◌, ℕ, suc, ◌+◌, ◌-◌, ◌*◌, ◌^◌, ◌<◌, ◌≤◌, ℤ, pos, neg_ℤ, Bool, true, false, not, ◌||◌, if◌then◌else◌, List, [], ◌∷◌, ◌++◌, flat_map, length, map, take, drop, get_or, All, Some, Ok, codes, refl, sym, ap, subst, ◌∙◌, arith, append_assoc, append-nil, length-append}
+use Rattle.std.proofs.Common.{◌≡◌, ℕ, suc, ◌+◌, ◌-◌, ◌*◌, ◌^◌, ◌<◌, ◌≤◌, ℤ, pos, neg_ℤ, Bool, true, false, not, ◌||◌}
+use Rattle.std.proofs.Common.{if◌then◌else◌, List, [], ◌∷◌, ◌++◌, flat_map, length, map, take, drop, get_or, All, Some}
+use Rattle.std.proofs.Common.{Ok, codes, refl, sym, ap, subst, ◌∙◌, arith, append_assoc, append-nil, length-append}
 use Rattle.std.proofs.Math.Seq.{drop-append_seam, take-append_seam}
 use Rattle.std.proofs.lemmas.Bool.{and_from, and_parts, cond-false, eq-eqb, eqb-true, false≢true, le-ltb, leb-true, lt-ltb, ltb-true, or_parts}
 use Rattle.std.proofs.lemmas.Bool.Decides.{nat_tests}
@@ -17,7 +19,7 @@ use Rattle.cov_model.specs.declared.constraint.Rel.TheVariants.{Eq, Ne, Gt, Ge, 
 use Rattle.model_lex.specs.Blanks.{is_blank, trimmed}
 use Rattle.model_lex.specs.Sections.{first_word, is_word_byte}
 use Rattle.model_lex.specs.Tokens as lex
-use Rattle.model_lex.specs.Tokens.{begins_number, first_token, is_number_byte, is_quotable, name_between, number_run, quoted_len, quoted_token, unquoted}
+use Rattle.model_lex.specs.Tokens.{begins_number, first_token, is_number_byte, name_between, number_run, quoted_len, quoted_token, unquoted}
 use Rattle.model_lex.specs.declared.diag.DiagCode.{DiagCode}
 use Rattle.model_lex.specs.declared.diag.DiagCode.TheVariants.{NameNotClosed, TextNotClosed}
 use Rattle.model_lex.specs.declared.token.TokenKind.{TokenKind}
@@ -30,9 +32,9 @@ use Rattle.constraint_ast.specs.Lexing.{inside, meant, token_before, tokens_in}
 use Rattle.constraint_ast.specs.declared.token.RuleToken.{RuleToken}
 use Rattle.constraint_ast.specs.declared.token.RuleToken.TheVariants as rule
 use Rattle.constraint_ast.specs.declared.tree.RawLiteral.TheVariants as literals
-use Rattle.constraint_ast.proofs.Digits.{Stops, run_prefix}
+use Rattle.constraint_ast.proofs.Digits.{run_prefix}
 use Rattle.constraint_ast.proofs.Lexing.{rest_skipped}
-use Rattle.constraint_ast.proofs.TokenText.{Ends, ends_at, ends_here, ends_token, ends_word, ends_number, greater_first, less_first, not_equals, not_greater}
+use Rattle.constraint_ast.proofs.TokenText.{Ends, ends_at, ends_word, ends_number, greater_first, less_first}
 use Rattle.acts_front.specs.ParameterLines.{are_few_digits, is_name, is_whole, without_minus}
 use Rattle.acts_front.specs.Tokens.{Token, Name, Whole, Words, Truth, Relation, Arrow, Or, And, Not, Open, Close}
 use Rattle.acts_front.specs.Constraints.{is_arrow}
@@ -115,7 +117,8 @@ whole_is_number text whole =
     let decimal : is_decimal text ≡ true = rw (front, point, counts) refl in
     let short : nat_lt 28 (length digits) ≡ false = le-ltb 28 (length digits) (omega arith) in
     let size : digits_value 10 (whole_digits text ++ decimal_digits text) * 10 ^ (9 - length (decimal_digits text)) ≡ digits_value 10 digits * 10 ^ 9 =
-    ap (λ f. digits_value 10 (f ++ decimal_digits text) * 10 ^ (9 - length (decimal_digits text))) front ∙ (ap (λ d. digits_value 10 (digits ++ d) * 10 ^ (9 - length d)) back ∙ ap (λ d. digits_value 10 d * 10 ^ 9) (append-nil digits)) in
+    ap (λ f. digits_value 10 (f ++ decimal_digits text) * 10 ^ (9 - length (decimal_digits text))) front
+    ∙ (ap (λ d. digits_value 10 (digits ++ d) * 10 ^ (9 - length d)) back ∙ ap (λ d. digits_value 10 d * 10 ^ 9) (append-nil digits)) in
     cond-false (not (is_decimal text)) _ _ (ap not decimal)
     ∙ (cond-false (nat_lt 28 (length (whole_digits text)) || nat_lt 9 (length (decimal_digits text))) _ _ (rw (front, back, short) refl)
     ∙ (ap (λ s. IsNumber (signed (is_minus text) s)) size ∙ ap (λ m. IsNumber (signed m (digits_value 10 digits * 10 ^ 9))) sign.minus))
@@ -173,7 +176,8 @@ module _ (line : ℕ) where
       → meant kind (b ∷ more) ≡ Ok token
       → Reads token (b ∷ more) tail
   one_read token b more tail dense kind first means =
-      let step : tokens_in line 0 (b ∷ (more ++ tail)) ≡ token_before line (meant kind (b ∷ take (length more) (more ++ tail))) (tokens_in line (suc (length more) - 1) (more ++ tail)) = rw (dense, first) refl in
+      let step : tokens_in line 0 (b ∷ (more ++ tail)) ≡ token_before line (meant kind (b ∷ take (length more) (more ++ tail))) (tokens_in line (suc (length more) - 1) (more ++ tail)) =
+      rw (dense, first) refl in
       let one : suc (length more) - 1 ≡ length more = omega arith in
       let rest : tokens_in line (suc (length more) - 1) (more ++ tail) ≡ tokens_in line 0 tail =
       ap (λ n. tokens_in line n (more ++ tail)) one ∙ (rest_skipped line (length more) (more ++ tail) ∙ ap (λ left. tokens_in line 0 left) (drop-append_seam more tail)) in
@@ -193,7 +197,8 @@ module _ (line : ℕ) where
       → quoted_token kind code (quoted_len close ((text ++ close ∷ []) ++ tail)) ≡ Ok (kind, suc (length (text ++ close ∷ [])))
   marked_first kind code close text tail none plain =
       let size : 2 + length text ≡ suc (length (text ++ close ∷ [])) = omega (arith, length-append text (close ∷ [])) in
-      ap (λ t. quoted_token kind code (quoted_len close t)) (append_assoc text (close ∷ []) tail) ∙ (ap (quoted_token kind code) (closes close text tail none plain) ∙ ap (λ n. Ok (kind, n)) size)
+      ap (λ t. quoted_token kind code (quoted_len close t)) (append_assoc text (close ∷ []) tail)
+      ∙ (ap (quoted_token kind code) (closes close text tail none plain) ∙ ap (λ n. Ok (kind, n)) size)
 
   name_read : (name tail : List ℕ) → is_name name ≡ true → Reads (rule.Name name) (91 ∷ (name ++ 93 ∷ [])) tail
   name_read name tail named =
@@ -224,9 +229,11 @@ module _ (line : ℕ) where
       let dense : is_blank b ≡ false = grind (arith, nat_tests) in
       let len : prefix_len is_number_byte (b ∷ (more ++ tail)) ≡ length (b ∷ more) = run_prefix is_number_byte (b ∷ more) tail all (ends_number ends) in
       let run : number_run (b ∷ (more ++ tail)) ≡ b ∷ more = ap (λ n. take n (b ∷ (more ++ tail))) len ∙ take-append_seam (b ∷ more) tail in
-      let first : first_token (b ∷ (more ++ tail)) ≡ lex.number_token (length (number_run (b ∷ (more ++ tail)))) (number_of (number_run (b ∷ (more ++ tail)))) = rw (bracket, quote, begins) refl in
+      let first : first_token (b ∷ (more ++ tail)) ≡ lex.number_token (length (number_run (b ∷ (more ++ tail)))) (number_of (number_run (b ∷ (more ++ tail)))) =
+      rw (bracket, quote, begins) refl in
       let is = whole_is_number (b ∷ more) whole in
-      one_read (rule.Literal (literals.Number (number_read (b ∷ more)))) b more tail dense kinds.Number (first ∙ (ap (λ run. lex.number_token (length run) (number_of run)) run ∙ rw is refl)) (rw is refl)
+      one_read (rule.Literal (literals.Number (number_read (b ∷ more)))) b more tail dense kinds.Number
+      (first ∙ (ap (λ run. lex.number_token (length run) (number_of run)) run ∙ rw is refl)) (rw is refl)
 
   whole_read : (text tail : List ℕ) → is_whole text ≡ true → Ends tail → Reads (rule.Literal (literals.Number (number_read text))) text tail
   whole_read [] tail whole ends = absurd (false≢true whole)
@@ -288,7 +295,8 @@ module _ (line : ℕ) where
       ∙ (token_read token (spaced tokens) (All-head IsWritten token tokens are) (spaced_ends tokens)
       ∙ ap (token_before line (Ok (rule_token token))) (spaced_read tokens (All-tail IsWritten token tokens are)))
 
-  words_in : (tokens : List Token) → All IsWritten tokens → tokens_in line 0 (joined (codes " ") (map token_text tokens) ++ codes ";") ≡ Ok (rule_tokens line tokens ++ at line rule.Semicolon ∷ [])
+  words_in : (tokens : List Token) → All IsWritten tokens
+      → tokens_in line 0 (joined (codes " ") (map token_text tokens) ++ codes ";") ≡ Ok (rule_tokens line tokens ++ at line rule.Semicolon ∷ [])
   words_in [] are = refl
   words_in (token ∷ tokens) are =
       ap (tokens_in line 0) (append_assoc (token_text token) (flat_map (λ next. codes " " ++ next) (map token_text tokens)) (codes ";"))
@@ -301,7 +309,8 @@ module _ (line : ℕ) where
       behind : List ℕ
       behind = joined (codes " ") (map token_text tokens) ++ codes ";"
 
-      by : (any : Bool) → tokens_in line 0 (((if any then codes "IF " else []) ++ joined (codes " ") (map token_text tokens)) ++ codes ";") ≡ Ok ((if any then at line rule.If ∷ [] else []) ++ (rule_tokens line tokens ++ at line rule.Semicolon ∷ []))
+      by : (any : Bool) → tokens_in line 0 (((if any then codes "IF " else []) ++ joined (codes " ") (map token_text tokens)) ++ codes ";") ≡ Ok
+          ((if any then at line rule.If ∷ [] else []) ++ (rule_tokens line tokens ++ at line rule.Semicolon ∷ []))
       by true =
           word_read rule.If 73 (codes "F") (32 ∷ behind) refl refl refl refl refl (ends_at 32 behind refl)
           ∙ ap (token_before line (Ok rule.If)) (words_in tokens are)

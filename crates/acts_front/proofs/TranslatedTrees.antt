@@ -1,5 +1,6 @@
 -- The tokens that a translated constraint has in a model file, and the tree that they spell.
-use Rattle.std.proofs.Common.{◌≡◌, ℕ, zero, suc, ◌-◌, ◌<◌, ℤ, Bool, true, false, if◌then◌else◌, List, [], ◌∷◌, ◌++◌, length, map, take, drop, get_or, Some, None, Option, refl, sym, ap, subst, ◌∙◌, arith, append_assoc, drop-cons}
+use Rattle.std.proofs.Common.{◌≡◌, ℕ, zero, suc, ◌-◌, ◌<◌, ℤ, Bool, true, false, if◌then◌else◌, List, [], ◌∷◌, ◌++◌, length, map}
+use Rattle.std.proofs.Common.{take, drop, get_or, Some, None, Option, refl, sym, ap, subst, ◌∙◌, arith, append_assoc, drop-cons}
 use Rattle.std.proofs.lemmas.Option.{same_Some}
 use Rattle.std.proofs.lemmas.Bool.{not-false, ltb-true}
 use Rattle.std.proofs.lemmas.List.{drop_all, map-append, take-append-drop}
@@ -22,7 +23,8 @@ use Rattle.constraint_ast.specs.declared.tree.RawLiteral.TheVariants as literals
 use Rattle.constraint_ast.specs.declared.tree.RawTerm.{RawTerm}
 use Rattle.constraint_ast.specs.declared.tree.RawTerm.TheVariants as terms
 use Rattle.acts_front.specs.Tokens.{Token, Name, Whole, Words, Truth, Relation, Arrow, Or, And, Not, Open, Close}
-use Rattle.acts_front.specs.Constraints.{Operand, OfWhole, OfText, OfTruth, OfParameter, Pred, Preds, Compares, Negated, Each, Either, End, More, Constraint, Plain, Implies, comparison_of, conj_in, cons_of, disj_in, disj_of, each_of, either_of, enclosed_of, implied, is_and, is_arrow, is_close, is_or, most_open, operand_of, parts, preds_of, unit_of}
+use Rattle.acts_front.specs.Constraints.{Operand, OfWhole, OfText, OfTruth, OfParameter, Pred, Preds, Compares, Negated, Each, Either, End, More, Constraint, Plain, Implies, comparison_of, conj_in}
+use Rattle.acts_front.specs.Constraints.{cons_of, disj_in, disj_of, each_of, either_of, enclosed_of, implied, is_and, is_arrow, is_close, is_or, most_open, operand_of, parts, preds_of, unit_of}
 use Rattle.acts_front.specs.Translation.{truth_text}
 use Rattle.acts_front.proofs.Glued.{and_glued, and_some, glue, mapped_some, or_glued, or_some, spells_first}
 
@@ -122,7 +124,8 @@ last_close (token ∷ more) is = by (token ∷ more) (omega arith) is
         let last = length tokens - 1 in
         let within : last < length tokens = omega arith in
         let one : get_or tokens last Open ≡ Close = one_close (get_or tokens last Open) is in
-        let rest : drop last tokens ≡ Close ∷ [] = drop-cons tokens last Open within ∙ (ap (λ t. t ∷ drop (suc last) tokens) one ∙ ap (λ ts. Close ∷ ts) (drop_all (suc last) tokens (omega arith))) in
+        let rest : drop last tokens ≡ Close ∷ [] =
+        drop-cons tokens last Open within ∙ (ap (λ t. t ∷ drop (suc last) tokens) one ∙ ap (λ ts. Close ∷ ts) (drop_all (suc last) tokens (omega arith))) in
         ap (λ ts. take last tokens ++ ts) (sym rest) ∙ take-append-drop last tokens
 
 pub round_arrow : (tokens : List Token) → list_any is_arrow tokens ≡ true → before_first is_arrow tokens ++ Arrow ∷ after_first is_arrow tokens ≡ tokens
@@ -217,7 +220,8 @@ module _ (line : ℕ) where
   comparison_spells : (room : ℕ) (tokens : List Token) (pred : Pred) → comparison_of tokens ≡ Some pred → Spells room tokens pred
   comparison_spells room tokens pred is =
       let found = comparison_is tokens pred is in
-      subst (λ list. Spells room list pred) found.tokens_are (subst (Spells room (Name found.name ∷ Relation found.rel ∷ found.token ∷ [])) found.pred_is (operand_spells room found.name found.rel found.token found.operand found.operand_is))
+      subst (λ list. Spells room list pred) found.tokens_are
+      (subst (Spells room (Name found.name ∷ Relation found.rel ∷ found.token ∷ [])) found.pred_is (operand_spells room found.name found.rel found.token found.operand found.operand_is))
 
   -- conjunctions and disjunctions of what units spell
   module _ (room : ℕ) (read : List Token → Option Pred) (spells : (part : List Token) (pred : Pred) → read part ≡ Some pred → Spells room part pred) where
@@ -247,7 +251,8 @@ module _ (line : ℕ) where
         record {
           units = found.0;
           conj_is = found.2;
-          conj_spells = λ rest. subst (λ list. AreUnits room (rule_tokens list ++ rest) (trees_at line found.0) rest) (and_glued tokens) (units_spell (parts is_and tokens) found.0 (and_some tokens) found.1 rest);
+          conj_spells = λ rest. subst (λ list. AreUnits room (rule_tokens list ++ rest) (trees_at line found.0) rest)
+              (and_glued tokens) (units_spell (parts is_and tokens) found.0 (and_some tokens) found.1 rest);
         }
 
     conjs_spell : (list : List (List Token)) (preds : Preds) → 0 < length list → preds_of (map (conj_in read) list) ≡ Some preds → (rest : List LineToken)
@@ -282,7 +287,8 @@ module _ (line : ℕ) where
         record {
           conjs = found.0;
           disj_tree = either_tree line found.0 ∙ ap (tree_at line) found.2;
-          disj_spells = λ rest. subst (λ list. AreConjs room (rule_tokens list ++ rest) (trees_at line found.0) rest) (or_glued tokens) (conjs_spell (parts is_or tokens) found.0 (or_some tokens) found.1 rest);
+          disj_spells = λ rest. subst (λ list. AreConjs room (rule_tokens list ++ rest) (trees_at line found.0) rest)
+              (or_glued tokens) (conjs_spell (parts is_or tokens) found.0 (or_some tokens) found.1 rest);
         }
 
     -- a disjunction in parentheses, behind its `(`
@@ -297,9 +303,11 @@ module _ (line : ℕ) where
         by false closes none = absurd (cc)
         by true closes found =
             let disj = disj_is_read inside pred found in
-            let from : rule_tokens inside ++ at line rule.CloseParen ∷ rest ≡ rule_tokens tokens ++ rest = sym (seam inside Close [] rest) ∙ ap (λ list. rule_tokens list ++ rest) (last_close tokens closes) in
+            let from : rule_tokens inside ++ at line rule.CloseParen ∷ rest ≡ rule_tokens tokens ++ rest =
+            sym (seam inside Close [] rest) ∙ ap (λ list. rule_tokens list ++ rest) (last_close tokens closes) in
             subst (λ list. IsUnit (suc room) (at line rule.OpenParen ∷ list) (tree_at line pred) rest) from
-            (subst (λ tree. IsUnit (suc room) (at line rule.OpenParen ∷ (rule_tokens inside ++ at line rule.CloseParen ∷ rest)) tree rest) disj.disj_tree (parens (disj.disj_spells (at line rule.CloseParen ∷ rest))))
+            (subst (λ tree. IsUnit (suc room) (at line rule.OpenParen ∷ (rule_tokens inside ++ at line rule.CloseParen ∷ rest)) tree rest) disj.disj_tree
+            (parens (disj.disj_spells (at line rule.CloseParen ∷ rest))))
 
   unit_spells : (room : ℕ) (tokens : List Token) (pred : Pred) → unit_of room tokens ≡ Some pred → Spells room tokens pred
   unit_spells zero tokens pred is rest = comparison_spells zero tokens pred is rest
@@ -324,7 +332,8 @@ module _ (line : ℕ) where
   plain_spells [] pred is to = absurd (cc)
   plain_spells (token ∷ tokens) pred is to =
       let disj = disj_is_read most_open (unit_of most_open) (unit_spells most_open) (token ∷ tokens) pred is in
-      subst (λ tree. IsRule most_open (rule_tokens (token ∷ tokens) ++ at line rule.Semicolon ∷ to) (record { line = line; body = trees.Plain tree }) to) disj.disj_tree (plain (disj.disj_spells (at line rule.Semicolon ∷ to)))
+      subst (λ tree. IsRule most_open (rule_tokens (token ∷ tokens) ++ at line rule.Semicolon ∷ to) (record { line = line; body = trees.Plain tree }) to) disj.disj_tree
+      (plain (disj.disj_spells (at line rule.Semicolon ∷ to)))
 
   implied_spells : (front back : List Token) (premise pred : Pred) → disj_of most_open front ≡ Some premise → disj_of most_open back ≡ Some pred → (to : List LineToken)
       → IsRule most_open (at line rule.If ∷ (rule_tokens front ++ at line rule.Then ∷ (rule_tokens back ++ at line rule.Semicolon ∷ to))) (rule_at line (Implies premise pred)) to
@@ -347,21 +356,25 @@ module _ (line : ℕ) where
       back : List Token
       back = after_first is_arrow tokens
 
-      premised : (premise pred : Option Pred) → disj_of most_open front ≡ premise → disj_of most_open back ≡ pred → list_any is_arrow tokens ≡ true → implied premise pred ≡ Some constraint
+      premised : (premise pred : Option Pred) → disj_of most_open front ≡ premise
+          → disj_of most_open back ≡ pred → list_any is_arrow tokens ≡ true → implied premise pred ≡ Some constraint
           → IsRule most_open (at line rule.If ∷ ((rule_tokens tokens ++ at line rule.Semicolon ∷ []) ++ to)) (rule_at line constraint) to
       premised None pred one two any e = absurd (cc)
       premised (Some premise) None one two any e = absurd (cc)
       premised (Some premise) (Some pred) one two any e =
           let same : Implies premise pred ≡ constraint = same_Some _ _ e in
           let cut : (rule_tokens tokens ++ at line rule.Semicolon ∷ []) ++ to ≡ rule_tokens front ++ at line rule.Then ∷ (rule_tokens back ++ at line rule.Semicolon ∷ to) =
-          append_assoc (rule_tokens tokens) (at line rule.Semicolon ∷ []) to ∙ (ap (λ list. rule_tokens list ++ at line rule.Semicolon ∷ to) (sym (round_arrow tokens any)) ∙ seam front Arrow back (at line rule.Semicolon ∷ to)) in
+          append_assoc (rule_tokens tokens) (at line rule.Semicolon ∷ []) to
+          ∙ (ap (λ list. rule_tokens list ++ at line rule.Semicolon ∷ to) (sym (round_arrow tokens any)) ∙ seam front Arrow back (at line rule.Semicolon ∷ to)) in
           subst (λ c. IsRule most_open (at line rule.If ∷ ((rule_tokens tokens ++ at line rule.Semicolon ∷ []) ++ to)) (rule_at line c) to) same
           (subst (λ list. IsRule most_open (at line rule.If ∷ list) (rule_at line (Implies premise pred)) to) (sym cut) (implied_spells front back premise pred one two to))
 
-      by : (any : Bool) → list_any is_arrow tokens ≡ any → (if any then implied (disj_of most_open front) (disj_of most_open back) else option_map Plain (disj_of most_open tokens)) ≡ Some constraint
+      by : (any : Bool) → list_any is_arrow tokens ≡ any
+          → (if any then implied (disj_of most_open front) (disj_of most_open back) else option_map Plain (disj_of most_open tokens)) ≡ Some constraint
           → IsRule most_open (((if any then at line rule.If ∷ [] else []) ++ (rule_tokens tokens ++ at line rule.Semicolon ∷ [])) ++ to) (rule_at line constraint) to
       by true any e = premised (disj_of most_open front) (disj_of most_open back) refl refl any e
       by false any e =
           let found = mapped_some Plain (disj_of most_open tokens) constraint e in
           subst (λ c. IsRule most_open ((rule_tokens tokens ++ at line rule.Semicolon ∷ []) ++ to) (rule_at line c) to) found.2
-          (subst (λ list. IsRule most_open list (rule_at line (Plain found.0)) to) (sym (append_assoc (rule_tokens tokens) (at line rule.Semicolon ∷ []) to)) (plain_spells tokens found.0 found.1 to))
+          (subst (λ list. IsRule most_open list (rule_at line (Plain found.0)) to)
+          (sym (append_assoc (rule_tokens tokens) (at line rule.Semicolon ∷ []) to)) (plain_spells tokens found.0 found.1 to))

@@ -1,10 +1,11 @@
 -- How a file is translated line by line.
-use Rattle.std.proofs.Common.{◌≡◌, ℕ, suc, ◌+◌, ◌^◌, ◌<◌, ◌≤◌, Bool, true, false, not, List, [], ◌∷◌, ◌++◌, length, drop, Result, Ok, Err, nat_eq, refl, sym, ap, ◌∙◌, append_assoc, append-nil, arith, length-drop}
-use Rattle.std.proofs.lemmas.Bool.{cond_both, ne_eqb}
+use Rattle.std.proofs.Common.{◌≡◌, ℕ, suc, ◌+◌, ◌^◌, ◌<◌, ◌≤◌, Bool, true, false, not, List, [], ◌∷◌, ◌++◌}
+use Rattle.std.proofs.Common.{length, Result, Ok, Err, refl, sym, ap, ◌∙◌, append_assoc, append-nil, arith}
+use Rattle.std.proofs.lemmas.Bool.{ne_eqb}
 use Rattle.std.proofs.lemmas.Grind.{flat_map-append}
-use Rattle.std.specs.List.{enumerate_from, flat_map, list_any, starts_with}
+use Rattle.std.specs.List.{enumerate_from, flat_map, list_any}
 use Rattle.std.specs.Prelude.{◌==◌, if◌then◌else◌}
-use Rattle.model_lex.specs.Lines.{byte_order_mark, file_lines, without_mark}
+use Rattle.model_lex.specs.Lines.{file_lines}
 use Rattle.acts_front.specs.ActsFiles.{Line, Nothing, OfParameter, OfRelation, OfConstraint, and_line, declared_by, is_parameter, line_before, line_gives, lines_give, section_behind, with_parameters}
 use Rattle.acts_front.specs.Translation.{lines_text, text_given}
 use Rattle.acts_front.specs.Reading.{Adds, SoFar, Translates, ended, lines_before}
@@ -39,8 +40,12 @@ begins fold t rest text scope section few = record {
   few = omega arith;
 }
 
-module _ (lines : List (ℕ × List ℕ)) (fold : Bool) (t : Translator) (number : ℕ) (rest line behind : List ℕ) (here : SoFar lines fold t number rest)
+module _ {lines : List (ℕ × List ℕ)} {fold : Bool} {t : Translator} {number : ℕ} {rest line : List ℕ} (behind : List ℕ) (here : SoFar lines fold t number rest)
     (cut : file_lines rest ≡ line ∷ file_lines behind) (shorter : length behind < length rest) where
+  -- what the lines behind this one give, where it gives a line
+  abbrev lines_behind : Line → Result (List Line) (ℕ × ActsCode)
+  lines_behind given = lines_give (section_behind t.section line) (and_line t.scope given) (enumerate_from (number + 1 + 1) (file_lines behind))
+
   -- one more line is read
   pub goes_on : (given : Result Line ActsCode) (next : Translator) → line_gives t.section t.scope line ≡ given → Adds (number + 1) (section_behind t.section line) ended given t (Ok next)
       → SoFar lines fold next (number + 1) behind
@@ -48,13 +53,15 @@ module _ (lines : List (ℕ × List ℕ)) (fold : Bool) (t : Translator) (number
     given = here.given ++ one ∷ [];
     whole = here.whole
         ∙ (ap (λ list. lines_before here.given (lines_give t.section t.scope (enumerate_from (number + 1) list))) cut
-        ∙ (ap (λ g. lines_before here.given (line_before (number + 1) g (λ line_given. lines_give (section_behind t.section line) (and_line t.scope line_given) (enumerate_from (number + 1 + 1) (file_lines behind))))) is
-        ∙ (one_before here.given (number + 1) one (λ line_given. lines_give (section_behind t.section line) (and_line t.scope line_given) (enumerate_from (number + 1 + 1) (file_lines behind)))
+        ∙ (ap (λ given. lines_before here.given (line_before (number + 1) given lines_behind)) is
+        ∙ (one_before here.given (number + 1) one lines_behind
         ∙ (ap (λ s. lines_before (here.given ++ one ∷ []) (lines_give s (and_line t.scope one) (enumerate_from (number + 1 + 1) (file_lines behind)))) (sym added.stands)
         ∙ ap (λ s. lines_before (here.given ++ one ∷ []) (lines_give next.section s (enumerate_from (number + 1 + 1) (file_lines behind)))) (sym added.declared)))));
-    texts = added.texts ∙ (ap (λ text. text ++ ended one) here.texts ∙ (ap (λ text. lines_text here.given ++ text) (sym (append-nil (ended one))) ∙ sym (flat_map-append ended here.given (one ∷ []))));
+    texts = added.texts ∙ (ap (λ text. text ++ ended one) here.texts
+        ∙ (ap (λ text. lines_text here.given ++ text) (sym (append-nil (ended one))) ∙ sym (flat_map-append ended here.given (one ∷ []))));
     declared = added.declared ∙ (ap (λ s. and_line s one) here.declared
-        ∙ ap (λ params. record { fold = fold; params = params }) (ap (λ more. flat_map declared_by here.given ++ more) (sym (append-nil (declared_by one))) ∙ sym (flat_map-append declared_by here.given (one ∷ []))));
+        ∙ ap (λ params. record { fold = fold; params = params })
+        (ap (λ more. flat_map declared_by here.given ++ more) (sym (append-nil (declared_by one))) ∙ sym (flat_map-append declared_by here.given (one ∷ []))));
     few = omega (arith, here.few);
   }
   goes_on (Err code) next is added = absurd added
@@ -65,7 +72,7 @@ module _ (lines : List (ℕ × List ℕ)) (fold : Bool) (t : Translator) (number
   refused given (Bad other code) is told =
       let stops : lines_give t.section t.scope (enumerate_from (number + 1) (file_lines rest)) ≡ Err (number + 1, code) =
       ap (λ list. lines_give t.section t.scope (enumerate_from (number + 1) list)) cut
-      ∙ ap (λ g. line_before (number + 1) g (λ line_given. lines_give (section_behind t.section line) (and_line t.scope line_given) (enumerate_from (number + 1 + 1) (file_lines behind)))) (is ∙ told.1) in
+      ∙ ap (λ given. line_before (number + 1) given lines_behind) (is ∙ told.1) in
       ap (λ list. text_given (with_parameters list)) (here.whole ∙ ap (lines_before here.given) stops) ∙ ap (λ n. Err (n, code)) (sym told.0)
   refused given NoMemory is told = tt
 
@@ -77,7 +84,7 @@ some_declared (OfParameter param ∷ lines) = ap (λ b. not b) (sym (ne_eqb (suc
 some_declared (OfRelation relation ∷ lines) = some_declared lines
 some_declared (OfConstraint tokens constraint ∷ lines) = some_declared lines
 
-module _ (lines : List (ℕ × List ℕ)) (fold : Bool) (t : Translator) (number : ℕ) (rest : List ℕ) (here : SoFar lines fold t number rest) (none : length rest ≡ 0) where
+module _ {lines : List (ℕ × List ℕ)} {fold : Bool} {t : Translator} {number : ℕ} {rest : List ℕ} (here : SoFar lines fold t number rest) (none : length rest ≡ 0) where
   all_given : lines_give Outside (record { fold = fold; params = [] }) lines ≡ Ok here.given
   all_given = here.whole ∙ at rest none
     where

@@ -10,13 +10,15 @@ negation : (scope : Scope) (pred : Option Pred) → finding_in scope pred ≡ fi
 negation scope (Some pred) = refl
 negation scope None = refl
 
-pub negated_found : (scope : Scope) (room : ℕ) (tokens unit : List Token) → 0 < room → tokens ≡ Not ∷ unit → finding_in scope (unit_of (room - 1) unit) ≡ finding_in scope (unit_of room tokens)
+pub negated_found : (scope : Scope) (room : ℕ) (tokens unit : List Token) → 0 < room → tokens ≡ Not ∷ unit
+    → finding_in scope (unit_of (room - 1) unit) ≡ finding_in scope (unit_of room tokens)
 negated_found scope zero tokens unit some is = absurd (omega arith)
 negated_found scope (suc room) tokens unit some is =
     let less : suc room - 1 ≡ room = omega arith in
     ap (λ n. finding_in scope (unit_of n unit)) less ∙ (negation scope (unit_of room unit) ∙ ap (λ list. finding_in scope (unit_of (suc room) list)) (sym is))
 
-pub enclosed_found : (scope : Scope) (room : ℕ) (tokens behind : List Token) → 0 < room → tokens ≡ Open ∷ behind → finding_in scope (enclosed_of (disj_of (room - 1)) behind) ≡ finding_in scope (unit_of room tokens)
+pub enclosed_found : (scope : Scope) (room : ℕ) (tokens behind : List Token) → 0 < room → tokens ≡ Open ∷ behind
+    → finding_in scope (enclosed_of (disj_of (room - 1)) behind) ≡ finding_in scope (unit_of room tokens)
 enclosed_found scope zero tokens behind some is = absurd (omega arith)
 enclosed_found scope (suc room) tokens behind some is =
     let less : suc room - 1 ≡ room = omega arith in

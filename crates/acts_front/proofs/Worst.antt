@@ -103,7 +103,8 @@ pub record IsWorst (found : List Token → Finding) (all : List (List Token)) (w
 pub worst_first : (found : List Token → Finding) (all : List (List Token)) → IsWorst found all Fits (Some all)
 worst_first found all = record { is = refl }
 
-before_found : (found : List Token → Finding) (part : List Token) (behind : Option (List (List Token))) → worst_of (map found (part_before part behind)) ≡ worse (found part) (worst_ahead found behind)
+before_found : (found : List Token → Finding) (part : List Token) (behind : Option (List (List Token)))
+    → worst_of (map found (part_before part behind)) ≡ worse (found part) (worst_ahead found behind)
 before_found found part (Some parts) = refl
 before_found found part None = refl
 

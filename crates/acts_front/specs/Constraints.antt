@@ -7,7 +7,8 @@
 --     unit := ! unit | ( disj ) | name rel operand
 --     rel  := = | != | > | >= | < | <=
 --     operand := int | text | TRUE | FALSE | name
-use Rattle.std.specs.Prelude.{ℕ, zero, suc, ◌+◌, ◌-◌, Bool, true, false, not, ◌&&◌, ◌||◌, List, [], ◌∷◌, map, length, take, Option, Some, None, option_map, ◌==◌, slice_index_or, if◌then◌else◌}
+use Rattle.std.specs.Prelude.{ℕ, zero, suc, ◌+◌, ◌-◌, Bool, true, false, not, ◌&&◌, ◌||◌, List, [], ◌∷◌, map}
+use Rattle.std.specs.Prelude.{length, take, Option, Some, None, option_map, ◌==◌, slice_index_or, if◌then◌else◌}
 use Rattle.std.specs.List.{list_any, before_first, after_first}
 use Rattle.cov_model.specs.declared.constraint.Rel.{Rel}
 use Rattle.cov_model.specs.declared.constraint.Rel.TheVariants.{Eq, Ne, Gt, Ge, Lt, Le}

@@ -5,7 +5,6 @@ use Rattle.std.specs.declared.alloc.Global.{Global}
 use Rattle.std.specs.Prelude.{Vec}
 use Rattle.model_lex.specs.Lines.{file_lines}
 use Rattle.acts_front.specs.ParameterLines as parameters
-use Rattle.acts_front.specs.ParameterLines.{Scope}
 use Rattle.acts_front.specs.RelationLines as relations
 use Rattle.acts_front.specs.Tokens as tokens
 use Rattle.acts_front.specs.Constraints.{is_and, is_or}

@@ -1,6 +1,7 @@
 -- The tokens of the constraint lines of a file in the form of ACTS. (The ACTS guide; the details are this
 -- project's rules.)
-use Rattle.std.specs.Prelude.{ℕ, zero, suc, ◌+◌, ◌-◌, Bool, true, false, ◌&&◌, ◌||◌, List, [], ◌∷◌, length, drop, take, Option, Some, None, ◌==◌, slice_index, position, if◌then◌else◌}
+use Rattle.std.specs.Prelude.{ℕ, zero, suc, ◌+◌, ◌-◌, Bool, true, false, ◌&&◌, ◌||◌, List, [], ◌∷◌, length}
+use Rattle.std.specs.Prelude.{drop, take, Option, Some, None, ◌==◌, slice_index, position, if◌then◌else◌}
 use Rattle.std.specs.Char.{is_ascii_digit}
 use Rattle.std.specs.List.{list_any, take_while}
 use Rattle.cov_model.specs.declared.constraint.Rel.{Rel}

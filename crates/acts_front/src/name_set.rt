@@ -1,6 +1,6 @@
 ghost use Rattle.std.specs.Prelude.{◌≡◌, ◌<◌, [], ◌∷◌, ◌++◌, length, false, map, IfOk, IfSome, OnOk};
 ghost use Rattle.value_text.specs.Texts.{folded};
-ghost use Rattle.model_parse.specs.Values.{is_known, place_of};
+ghost use Rattle.model_parse.specs.ValueSteps.{is_known, place_of};
 ghost use Rattle.acts_front.specs.ParameterLines.{is_repeated};
 
 use indexmap::IndexSet;

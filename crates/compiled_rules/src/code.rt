@@ -2,6 +2,7 @@ ghost use Rattle.std.specs.Prelude.{◌≡◌, None, false, slice_index_or};
 ghost use Rattle.cov_model.specs.Kleene.{known};
 ghost use Rattle.compiled_rules.specs.Codes.{all_codes, any_codes, at_truth, body_code_truth, both_truth, code_truth};
 
+use crate::table::TruthTable;
 use cov_model::{Cells, ParamNo, Truth};
 use value_text::OwnedList;
 
@@ -37,13 +38,10 @@ pub(crate) enum BodyCode {
 
 // The truth at a place of the table.
 #[inline]
-fn truth_at(table: &[bool], place: usize) -> Truth
+fn truth_at(table: &TruthTable, place: usize) -> Truth
     ensures { result ≡ known (slice_index_or table.now place false) }
 {
-    match table.get(place) {
-        Some(holds) => Truth::of(*holds),
-        None => Truth::No,
-    }
+    Truth::of(table.holds(place))
 }
 
 // The value of a parameter, if it has one.
@@ -60,7 +58,7 @@ fn value_of(cells: &Cells, p: ParamNo) -> Option<u16>
 
 // What is known of a compiled term of one parameter.
 #[inline]
-fn at_truth(table: &[bool], p: ParamNo, start: u32, cells: &Cells) -> Truth
+fn at_truth(table: &TruthTable, p: ParamNo, start: u32, cells: &Cells) -> Truth
     ensures { result ≡ at_truth table.now p start cells.now }
 {
     match value_of(cells, p) {
@@ -72,7 +70,7 @@ fn at_truth(table: &[bool], p: ParamNo, start: u32, cells: &Cells) -> Truth
 // What is known of a compiled term of two parameters.
 #[inline]
 fn both_truth(
-    table: &[bool],
+    table: &TruthTable,
     p: ParamNo,
     q: ParamNo,
     start: u32,
@@ -94,7 +92,7 @@ fn both_truth(
 
 // What is known of a compiled predicate.
 #[cycle(truths)]
-pub(crate) fn code_truth(table: &[bool], code: &Code, cells: &Cells) -> Truth
+pub(crate) fn code_truth(table: &TruthTable, code: &Code, cells: &Cells) -> Truth
     ensures { result ≡ code_truth table.now code.now cells.now }
 {
     match code {
@@ -108,7 +106,7 @@ pub(crate) fn code_truth(table: &[bool], code: &Code, cells: &Cells) -> Truth
 
 // What is known of a list of compiled predicates: that each holds.
 #[cycle(truths)]
-fn all_codes(table: &[bool], parts: &[Code], cells: &Cells) -> Truth
+fn all_codes(table: &TruthTable, parts: &[Code], cells: &Cells) -> Truth
     ensures { result ≡ all_codes table.now parts.now cells.now }
 {
     let mut so_far = Truth::Yes;
@@ -123,7 +121,7 @@ fn all_codes(table: &[bool], parts: &[Code], cells: &Cells) -> Truth
 
 // What is known of a list of compiled predicates: that some of them holds.
 #[cycle(truths)]
-fn any_codes(table: &[bool], parts: &[Code], cells: &Cells) -> Truth
+fn any_codes(table: &TruthTable, parts: &[Code], cells: &Cells) -> Truth
     ensures { result ≡ any_codes table.now parts.now cells.now }
 {
     let mut so_far = Truth::No;
@@ -137,7 +135,7 @@ fn any_codes(table: &[bool], parts: &[Code], cells: &Cells) -> Truth
 }
 
 // What is known of a compiled constraint.
-pub(crate) fn body_truth(table: &[bool], body: &BodyCode, cells: &Cells) -> Truth
+pub(crate) fn body_truth(table: &TruthTable, body: &BodyCode, cells: &Cells) -> Truth
     ensures { result ≡ body_code_truth table.now body.now cells.now }
 {
     match body {

@@ -6,6 +6,7 @@ ghost use Rattle.cov_model.specs.Kleene.{term_params};
 ghost use Rattle.compiled_rules.specs.Codes.{AreCodesOf, Extends, IsBodyCodeOf, IsCodeOf, is_yes, truths_over, IsNegation};
 
 use crate::code::{BodyCode, Code, CodeList};
+use crate::table::TruthTable;
 use cov_model::{Body, Cells, ParamNo, Pred, Term, TestModel, Truth, ValueNo};
 use std::alloc::Global;
 use value_text::{NoMemory, OwnedList};
@@ -34,12 +35,12 @@ fn push_row(
     term: &Term,
     q: ParamNo,
     room: &mut Cells,
-    table: &mut Vec<bool>,
+    table: &mut TruthTable,
 ) -> Result<(), NoMemory>
     requires sound { IsSoundTerm model.now.params term.now }
     requires within { q < length model.now.params }
     requires fits { FitsModel model.now room.old }
-    ensures row { OnOk result (table.new.items ≡ table.old.items ++ truths_over model.now term.now room.old q) }
+    ensures row { OnOk result (table.new ≡ table.old ++ truths_over model.now term.now room.old q) }
     ensures fits { FitsModel model.now room.new }
 {
     let count = count_of(model, q);
@@ -57,19 +58,17 @@ fn compile_one(
     term: &Term,
     p: ParamNo,
     room: &mut Cells,
-    table: &mut Vec<bool>,
+    table: &mut TruthTable,
 ) -> Result<Code, NoMemory>
     requires sound { IsSoundTerm model.now.params term.now }
     requires within { p < length model.now.params }
     requires named { term_params term.now ≡ p ∷ [] }
     requires fits { FitsModel model.now room.old }
-    ensures grows { IfOk result (λ _. Extends table.new.items table.old.items) }
-    ensures code { IfOk result (IsCodeOf model.now table.new.items (Leaf term.now)) }
+    ensures grows { IfOk result (λ _. Extends table.new table.old) }
+    ensures code { IfOk result (IsCodeOf model.now table.new (Leaf term.now)) }
     ensures fits { FitsModel model.now room.new }
 {
-    let Ok(start) = u32::try_from(table.len()) else {
-        return Err(NoMemory);
-    };
+    let start = table.len();
     push_row(model, term, p, room, table)?;
     Ok(Code::At(p, start))
 }
@@ -81,20 +80,18 @@ fn compile_two(
     p: ParamNo,
     q: ParamNo,
     room: &mut Cells,
-    table: &mut Vec<bool>,
+    table: &mut TruthTable,
 ) -> Result<Code, NoMemory>
     requires sound { IsSoundTerm model.now.params term.now }
     requires first { p < length model.now.params }
     requires second { q < length model.now.params }
     requires named { term_params term.now ≡ p ∷ q ∷ [] }
     requires fits { FitsModel model.now room.old }
-    ensures grows { IfOk result (λ _. Extends table.new.items table.old.items) }
-    ensures code { IfOk result (IsCodeOf model.now table.new.items (Leaf term.now)) }
+    ensures grows { IfOk result (λ _. Extends table.new table.old) }
+    ensures code { IfOk result (IsCodeOf model.now table.new (Leaf term.now)) }
     ensures fits { FitsModel model.now room.new }
 {
-    let Ok(start) = u32::try_from(table.len()) else {
-        return Err(NoMemory);
-    };
+    let start = table.len();
     let width = count_of(model, q);
     let count = count_of(model, p);
     for v in 0..count {
@@ -109,12 +106,12 @@ fn compile_term(
     model: &TestModel,
     term: &Term,
     room: &mut Cells,
-    table: &mut Vec<bool>,
+    table: &mut TruthTable,
 ) -> Result<Code, NoMemory>
     requires sound { IsSoundTerm model.now.params term.now }
     requires fits { FitsModel model.now room.old }
-    ensures grows { IfOk result (λ _. Extends table.new.items table.old.items) }
-    ensures code { IfOk result (IsCodeOf model.now table.new.items (Leaf term.now)) }
+    ensures grows { IfOk result (λ _. Extends table.new table.old) }
+    ensures code { IfOk result (IsCodeOf model.now table.new (Leaf term.now)) }
     ensures fits { FitsModel model.now room.new }
 {
     match term {
@@ -142,12 +139,12 @@ fn compile_pred(
     model: &TestModel,
     pred: &Pred,
     room: &mut Cells,
-    table: &mut Vec<bool>,
+    table: &mut TruthTable,
 ) -> Result<Code, NoMemory>
     requires sound { IsSoundPred model.now.params (pred_view pred.now) }
     requires fits { FitsModel model.now room.old }
-    ensures grows { IfOk result (λ _. Extends table.new.items table.old.items) }
-    ensures code { IfOk result (IsCodeOf model.now table.new.items (pred_view pred.now)) }
+    ensures grows { IfOk result (λ _. Extends table.new table.old) }
+    ensures code { IfOk result (IsCodeOf model.now table.new (pred_view pred.now)) }
     ensures fits { FitsModel model.now room.new }
 {
     match pred {
@@ -174,12 +171,12 @@ fn compile_parts(
     model: &TestModel,
     parts: &[Pred],
     room: &mut Cells,
-    table: &mut Vec<bool>,
+    table: &mut TruthTable,
 ) -> Result<CodeList, NoMemory>
     requires sound { All (λ part. IsSoundPred model.now.params (pred_view part)) parts.now }
     requires fits { FitsModel model.now room.old }
-    ensures grows { IfOk result (λ _. Extends table.new.items table.old.items) }
-    ensures codes { IfOk result (AreCodesOf model.now table.new.items parts.now) }
+    ensures grows { IfOk result (λ _. Extends table.new table.old) }
+    ensures codes { IfOk result (AreCodesOf model.now table.new parts.now) }
     ensures fits { FitsModel model.now room.new }
 {
     let mut codes = OwnedList::new(alloc);
@@ -196,12 +193,12 @@ pub(crate) fn compile_body(
     model: &TestModel,
     body: &Body,
     room: &mut Cells,
-    table: &mut Vec<bool>,
+    table: &mut TruthTable,
 ) -> Result<BodyCode, NoMemory>
     requires sound { IsSoundBody model.now.params (body_view body.now) }
     requires fits { FitsModel model.now room.old }
-    ensures grows { IfOk result (λ _. Extends table.new.items table.old.items) }
-    ensures code { IfOk result (IsBodyCodeOf model.now table.new.items (body_view body.now)) }
+    ensures grows { IfOk result (λ _. Extends table.new table.old) }
+    ensures code { IfOk result (IsBodyCodeOf model.now table.new (body_view body.now)) }
     ensures fits { FitsModel model.now room.new }
 {
     match body {

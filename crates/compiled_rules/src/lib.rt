@@ -4,5 +4,6 @@
 mod code;
 mod compile;
 mod rules;
+mod table;
 
 pub use rules::CompiledRules;

@@ -5,6 +5,7 @@ ghost use Rattle.cov_model.specs.Sound.{IsSound, rule_at};
 
 use crate::code::{BodyCode, body_truth};
 use crate::compile::compile_body;
+use crate::table::TruthTable;
 use cov_model::{Cells, TestModel, Truth};
 use std::alloc::Global;
 use std::marker::Model;
@@ -15,7 +16,7 @@ use value_text::{NoMemory, OwnedList};
 #[derive(Drop)]
 pub struct CompiledRules<'a> {
     model: &'a TestModel,
-    table: Vec<bool>,
+    table: TruthTable,
     bodies: OwnedList<BodyCode>,
 }
 
@@ -32,7 +33,7 @@ impl<'a> Model for CompiledRules<'a> {
 
     ghost view = { λ a. a.model.now };
 
-    ghost invariant = { λ a. AreBodyCodes a.model.now a.table.items (length a.model.now.rules) a.bodies };
+    ghost invariant = { λ a. AreBodyCodes a.model.now a.table (length a.model.now.rules) a.bodies };
 }
 
 impl<'a> CompiledRules<'a> {
@@ -45,7 +46,7 @@ impl<'a> CompiledRules<'a> {
         ensures { IfOk result (λ rules. rules ≡ model.now) }
     {
         let mut room = Cells::empty(alloc, model.params().len())?;
-        let mut table = Vec::new(alloc);
+        let mut table = TruthTable::new(alloc)?;
         let mut bodies = OwnedList::new(alloc);
         for rule in model.rules().as_slice() {
             let code = compile_body(alloc, model, &rule.body, &mut room, &mut table)?;
@@ -76,6 +77,6 @@ impl<'a> CompiledRules<'a> {
         ensures { result ≡ body_truth self.now (rule_at self.now rule).body cells.now }
     {
         let code = &self.bodies.as_slice()[rule as usize - 1];
-        body_truth(self.table.as_slice(), code, cells)
+        body_truth(&self.table, code, cells)
     }
 }

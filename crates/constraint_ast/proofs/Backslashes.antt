@@ -1,5 +1,6 @@
 -- A text with the backslashes that quote, from place to place.
-use Rattle.std.proofs.Common.{◌≡◌, ℕ, ◌+◌, ◌-◌, ◌<◌, ◌≤◌, true, false, List, [], ◌∷◌, ◌++◌, length, take, take_all, drop, get_or, refl, ap, sym, arith, ◌∙◌, append_assoc, append-nil, get_or-drop, length-drop}
+use Rattle.std.proofs.Common.{◌≡◌, ℕ, ◌+◌, ◌-◌, ◌<◌, ◌≤◌, true, false, List, [], ◌∷◌, ◌++◌, length, take, take_all, drop}
+use Rattle.std.proofs.Common.{get_or, refl, ap, sym, arith, ◌∙◌, append_assoc, append-nil, get_or-drop, length-drop}
 use Rattle.std.proofs.lemmas.Bool.Decides.{nat_tests}
 use Rattle.std.proofs.lemmas.List.{drop_all, drop-drop, take_more}
 use Rattle.std.proofs.lemmas.Str.{IsCharBoundary-before_ascii, IsCharBoundary-start}
@@ -48,7 +49,8 @@ module _ (text old now : List ℕ) (start at : ℕ) (here : Quoting text old now
     pub passes : is_quotable (get_or text at 0) ≡ false → Quoting text old now start (at + 1)
     passes other =
         let rest : quoted (drop at text) ≡ get_or text at 0 ∷ quoted (drop (at + 1) text) =
-        plain_here (drop at text) left (ap is_quotable first ∙ other) ∙ (ap (λ byte. byte ∷ quoted (drop 1 (drop at text))) first ∙ ap (λ behind. get_or text at 0 ∷ quoted behind) (drop-drop 1 at text)) in
+        plain_here (drop at text) left (ap is_quotable first ∙ other)
+        ∙ (ap (λ byte. byte ∷ quoted (drop 1 (drop at text))) first ∙ ap (λ behind. get_or text at 0 ∷ quoted behind) (drop-drop 1 at text)) in
         let longer : at + 1 - start ≡ (at - start) + 1 = omega (arith, here.order) in
         let fits : at - start < length (drop start text) = omega (arith, length-drop start text, here.order) in
         let last : get_or (drop start text) (at - start) 0 ≡ get_or text at 0 = get_or-drop start text (at - start) 0 ∙ ap (λ k. get_or text k 0) (omega (arith, here.order)) in
@@ -61,7 +63,8 @@ module _ (text old now : List ℕ) (start at : ℕ) (here : Quoting text old now
           same = here.same
               ∙ ap (λ behind. now ++ behind)
               (ap (λ behind. take (at - start) (drop start text) ++ behind) rest
-              ∙ (sym (append_assoc (take (at - start) (drop start text)) (get_or text at 0 ∷ []) (quoted (drop (at + 1) text))) ∙ ap (λ piece. piece ++ quoted (drop (at + 1) text)) (sym piece)));
+              ∙ (sym (append_assoc (take (at - start) (drop start text)) (get_or text at 0 ∷ []) (quoted (drop (at + 1) text)))
+              ∙ ap (λ piece. piece ++ quoted (drop (at + 1) text)) (sym piece)));
         }
 
     -- the text may be cut before a byte that is quoted
@@ -69,10 +72,12 @@ module _ (text old now : List ℕ) (start at : ℕ) (here : Quoting text old now
     cut_here quotes = IsCharBoundary-before_ascii text at short (ascii_quotable (get_or text at 0) quotes)
 
     -- at such a byte: the piece before it is written, and a backslash
-    pub copies : is_quotable (get_or text at 0) ≡ true → (piece written : List ℕ) → piece ≡ now ++ take (at - start) (drop start text) → written ≡ piece ++ 92 ∷ [] → Quoting text old written at (at + 1)
+    pub copies : is_quotable (get_or text at 0) ≡ true → (piece written : List ℕ)
+        → piece ≡ now ++ take (at - start) (drop start text) → written ≡ piece ++ 92 ∷ [] → Quoting text old written at (at + 1)
     copies quotes piece written is and =
         let rest : quoted (drop at text) ≡ 92 ∷ get_or text at 0 ∷ quoted (drop (at + 1) text) =
-        quoted_here (drop at text) left (ap is_quotable first ∙ quotes) ∙ (ap (λ byte. 92 ∷ byte ∷ quoted (drop 1 (drop at text))) first ∙ ap (λ behind. 92 ∷ get_or text at 0 ∷ quoted behind) (drop-drop 1 at text)) in
+        quoted_here (drop at text) left (ap is_quotable first ∙ quotes)
+        ∙ (ap (λ byte. 92 ∷ byte ∷ quoted (drop 1 (drop at text))) first ∙ ap (λ behind. 92 ∷ get_or text at 0 ∷ quoted behind) (drop-drop 1 at text)) in
         let one : at + 1 - at ≡ 1 = omega arith in
         let byte : take (at + 1 - at) (drop at text) ≡ get_or text at 0 ∷ [] = ap (λ n. take n (drop at text)) one
         ∙ (take_more (drop at text) 0 0 left ∙ ap (λ byte. byte ∷ []) first) in

@@ -4,7 +4,8 @@ use Rattle.std.specs.List.{AllByRecursion}
 use Rattle.std.proofs.lemmas.List.Elements.{All-cons}
 use Rattle.std.specs.Prelude.{All}
 use Rattle.constraint_ast.specs.Trees.{Tree, Trees, Leaf, Negated, Each, Either, End, More, all_of, any_of, RuleTree}
-use Rattle.constraint_ast.specs.Grammar.{AreConjs, AreLiterals, AreRules, AreUnits, IsRule, IsUnit, if_else, if_then, last_conj, last_literal, last_unit, like, negation, next_conj, next_literal, next_rule, next_unit, no_rule, none_of, not_like, one_of, param_is, parens, plain, sign_term, signed, value_is}
+use Rattle.constraint_ast.specs.Grammar.{AreConjs, AreLiterals, AreRules, AreUnits, IsRule, IsUnit, if_else, if_then, last_conj, last_literal, last_unit, like, negation}
+use Rattle.constraint_ast.specs.Grammar.{next_conj, next_literal, next_rule, next_unit, no_rule, none_of, not_like, one_of, param_is, parens, plain, sign_term, signed, value_is}
 use Rattle.constraint_ast.specs.RuleText.{all_has_parens, any_has_parens, body_tokens, in_parens, literals_before, more_before, more_literals, term_before, tree_before, trees_before}
 use Rattle.constraint_ast.specs.declared.token.LineToken.{LineToken}
 use Rattle.constraint_ast.specs.declared.token.RuleToken.{RuleToken}
@@ -132,7 +133,8 @@ module _ (NameIs : List ℕ → Type 0) (LiteralIs : RawLiteral → Type 0) wher
     tree_written place (Either trees) rest is behind =
         parens_written (any_has_parens place) (λ rest. trees_before Or InAny trees rest) rest (λ rest behind. trees_written Or InAny trees rest tt is behind) behind
 
-    trees_written : (word : RuleToken) (place : Place) (trees : Trees) (rest : List RuleToken) → TokenIs word → TreesAre trees → WrittenAre rest → WrittenAre (trees_before word place trees rest)
+    trees_written : (word : RuleToken) (place : Place) (trees : Trees) (rest : List RuleToken)
+        → TokenIs word → TreesAre trees → WrittenAre rest → WrittenAre (trees_before word place trees rest)
     trees_written word place End rest is are behind = behind
     trees_written word place (More tree trees) rest is are behind = tree_written place tree (more_before word place trees rest) are.0 (more_written word place trees rest is are.1 behind)
 

@@ -1,5 +1,6 @@
 -- The decimals of a number, from place to place.
-use Rattle.std.proofs.Common.{◌≡◌, ℕ, zero, suc, ◌+◌, ◌-◌, ◌*◌, ◌/◌, ◌%◌, ◌^◌, ◌<◌, ◌≤◌, List, [], ◌∷◌, ◌++◌, refl, ap, sym, subst, arith, ◌∙◌, append_assoc, append-nil}
+use Rattle.std.proofs.Common.{◌≡◌, ℕ, zero, suc, ◌+◌, ◌-◌, ◌*◌, ◌/◌, ◌%◌, ◌^◌, ◌<◌, ◌≤◌, List, []}
+use Rattle.std.proofs.Common.{◌∷◌, ◌++◌, refl, ap, sym, subst, arith, ◌∙◌, append_assoc, append-nil}
 use Rattle.std.proofs.lemmas.Bool.{ne_eqb}
 use Rattle.std.proofs.Math.Nat.{pow-le-pow_right, pow-suc}
 use Rattle.constraint_ast.specs.RuleText.{decimals}
@@ -48,7 +49,8 @@ next_decimal old now written fraction places left unit here some is digit =
     record {
       few = omega (arith, here.few);
       below = omega (arith, next.rest);
-      same = here.same ∙ (ap (λ tail. now ++ tail) step ∙ (sym (append_assoc now ((48 + left / unit) ∷ []) (decimals places (left % unit))) ∙ ap (λ front. front ++ decimals places (left % unit)) (sym digit)));
+      same = here.same ∙ (ap (λ tail. now ++ tail) step
+          ∙ (sym (append_assoc now ((48 + left / unit) ∷ []) (decimals places (left % unit))) ∙ ap (λ front. front ++ decimals places (left % unit)) (sym digit)));
     }
 
 pub decimal_written :

@@ -3,9 +3,11 @@ use Rattle.std.proofs.Common.{◌≡◌, ℕ, zero, suc, refl}
 use Rattle.model_lex.specs.declared.diag.DiagCode.TheVariants.{TooDeep}
 use Rattle.constraint_ast.specs.Trees.{Tree, Negated}
 use Rattle.constraint_ast.specs.declared.token.RuleToken.{RuleToken}
-use Rattle.constraint_ast.specs.declared.token.RuleToken.TheVariants.{Name, Literal, Relation, If, Then, Else, And, Or, Not, In, Like, Sign, OpenParen, CloseParen, OpenBrace, CloseBrace, Comma, Semicolon}
+use Rattle.constraint_ast.specs.declared.token.RuleToken.TheVariants.{Name, Literal, Relation, If, Then, Else, And, Or, Not, In, Like}
+use Rattle.constraint_ast.specs.declared.token.RuleToken.TheVariants.{Sign, OpenParen, CloseParen, OpenBrace, CloseBrace, Comma, Semicolon}
 use Rattle.constraint_ast.specs.declared.tree.RawLiteral.TheVariants.{Words, Number}
-use Rattle.constraint_ast.specs.Machine.{After, Around, Bad, Between, Done, InElse, InIf, InPlain, InThen, Itemed, Liked, Listed, Named, NamedNot, Need, Next, Opened, Outer, Paren, Part, Related, SignNamed, SignOpened, Signed, Spot, State, Step, Top, Within, begin, close, ended, finished, need, step}
+use Rattle.constraint_ast.specs.Machine.{After, Around, Bad, Between, Done, InElse, InIf, InPlain, InThen, Itemed, Liked, Listed, Named, NamedNot, Need, Next, Opened, Outer}
+use Rattle.constraint_ast.specs.Machine.{Paren, Part, Related, SignNamed, SignOpened, Signed, Spot, State, Step, Top, Within, begin, close, ended, finished, need, step}
 
 abbrev mutual
   pub deeper : Around → Around

@@ -1,5 +1,6 @@
 -- Runs of bytes, and the digits of whole numbers and of decimals.
-use Rattle.std.proofs.Common.{◌≡◌, ℕ, zero, suc, ◌+◌, ◌-◌, ◌*◌, ◌/◌, ◌%◌, ◌^◌, ◌<◌, ◌≤◌, Bool, true, false, List, [], ◌∷◌, ◌++◌, length, refl, ap, sym, subst, arith, ◌∙◌}
+use Rattle.std.proofs.Common.{◌≡◌, ℕ, zero, suc, ◌+◌, ◌-◌, ◌*◌, ◌/◌, ◌%◌, ◌^◌, ◌<◌, ◌≤◌, Bool, true}
+use Rattle.std.proofs.Common.{false, List, [], ◌∷◌, ◌++◌, length, refl, ap, sym, subst, arith, ◌∙◌}
 use Rattle.std.specs.Char.{digit_value, is_ascii_digit}
 use Rattle.std.specs.Int.{IsInRange}
 use Rattle.std.specs.List.{list_all, prefix_len}
@@ -77,7 +78,8 @@ more_decimals k left text below rest =
     record {
       digits = rw (is_digit (48 + left / unit) (omega arith) (omega arith)) rest.digits;
       few = omega (arith, rest.few);
-      value = ap (λ n. digits_value 10 ((48 + left / unit) ∷ text) * 10 ^ n) places ∙ (ap (λ n. n * 10 ^ (k - length text)) sum ∙ (omega (arith, rest.value, ap (λ n. left / unit * n) whole) ∙ parts));
+      value = ap (λ n. digits_value 10 ((48 + left / unit) ∷ text) * 10 ^ n) places
+          ∙ (ap (λ n. n * 10 ^ (k - length text)) sum ∙ (omega (arith, rest.value, ap (λ n. left / unit * n) whole) ∙ parts));
     }
 
 pub decimals_are : (k left : ℕ) → left < 10 ^ k → Decimals k left (decimals k left)

@@ -1,6 +1,6 @@
 -- Each state can be completed.
 use Rattle.std.proofs.Common.{inl, ℕ, List, [], ◌∷◌, ◌++◌, refl}
-use Rattle.constraint_ast.specs.Trees.{Tree, Trees, Leaf, Negated, End, More, added, all_of, any_of, RuleTree, IfThen, IfElse}
+use Rattle.constraint_ast.specs.Trees.{Tree, Leaf, Negated, End, More, added, all_of, any_of, RuleTree, IfThen, IfElse}
 use Rattle.constraint_ast.specs.Trees as trees
 use Rattle.constraint_ast.specs.Grammar.{at, AreConjs, IsUnit, last_conj, last_literal, last_unit, like, no_rule, not_like, param_is, sign_term, signed}
 use Rattle.constraint_ast.specs.declared.token.LineToken.{LineToken}
@@ -8,7 +8,8 @@ use Rattle.constraint_ast.specs.declared.token.RuleToken.TheVariants.{Name, Lite
 use Rattle.constraint_ast.specs.declared.token.Sign.TheVariants.{Positive}
 use Rattle.constraint_ast.specs.declared.tree.RawLiteral.TheVariants.{Words}
 use Rattle.constraint_ast.specs.declared.tree.RawTerm.TheVariants as terms
-use Rattle.constraint_ast.specs.Machine.{After, Around, Between, InElse, InIf, InPlain, InThen, Itemed, Liked, Listed, Named, NamedNot, Need, Opened, Outer, Paren, Part, Related, SignNamed, SignOpened, Signed, Spot, State, Top, Within}
+use Rattle.constraint_ast.specs.Machine.{After, Around, Between, InElse, InIf, InPlain, InThen, Itemed, Liked, Listed, Named, NamedNot}
+use Rattle.constraint_ast.specs.Machine.{Need, Opened, Outer, Paren, Part, Related, SignNamed, SignOpened, Signed, Spot, State, Top, Within}
 use Rattle.constraint_ast.proofs.Sound.{Ends, EndsOuter, EndsRule, EndsSpot, EndsUnit, closes, no_conjs, no_units, opens_list, pattern}
 
 -- the shortest unit before a rest

@@ -1,5 +1,6 @@
 -- The tokens of a line, from place to place.
-use Rattle.std.proofs.Common.{◌≡◌, ℕ, zero, suc, ◌+◌, ◌-◌, ◌<◌, ◌≤◌, Bool, true, false, List, [], ◌∷◌, ◌++◌, length, take, drop, get_or, refl, ap, sym, subst, arith, ◌∙◌, append_assoc, append-nil, get_or-drop, length-drop, one-add}
+use Rattle.std.proofs.Common.{◌≡◌, ℕ, zero, suc, ◌+◌, ◌-◌, ◌<◌, ◌≤◌, Bool, true, false, List, [], ◌∷◌, ◌++◌, length, take, drop}
+use Rattle.std.proofs.Common.{get_or, refl, ap, sym, subst, arith, ◌∙◌, append_assoc, append-nil, get_or-drop, length-drop, one-add}
 use Rattle.std.specs.List.{prefix_len}
 use Rattle.std.specs.Prelude.{Result, Ok, Err, MatchResult, nat_eq}
 use Rattle.std.specs.Result.{IsErrAnd}
@@ -54,7 +55,8 @@ FollowsLexed number text behind (Bad code) = tokens_in number 0 behind ≡ Err (
 
 -- a text that begins with no blank
 first_lexed :
-    (number : ℕ) (text : List ℕ) (start : ℕ) (left : List ℕ) → left ≡ drop start text → 0 < length left → is_blank (get_or left 0 0) ≡ false → (found : Result (TokenKind × ℕ) DiagCode)
+    (number : ℕ) (text : List ℕ) (start : ℕ) (left : List ℕ) → left ≡ drop start text
+    → 0 < length left → is_blank (get_or left 0 0) ≡ false → (found : Result (TokenKind × ℕ) DiagCode)
     → first_token left ≡ found → FollowsLexed number text left (lexed_at start found)
 first_lexed number text start [] place some dense found e = absurd (omega arith)
 first_lexed number text start (b ∷ left) place some dense (Err code) e = rw (dense, e) refl
@@ -67,17 +69,20 @@ first_lexed number text start (b ∷ left) place some dense (Ok (kind, suc len))
     step
     ∙ (ap (λ n. token_before number (meant kind (take (suc len) (b ∷ left))) (tokens_in number n left)) one
     ∙ (ap (λ rest. token_before number (meant kind (take (suc len) (b ∷ left))) rest) (rest_skipped number len left ∙ ap (λ rest. tokens_in number 0 rest) behind)
-    ∙ (ap (λ piece. token_before number (meant kind piece) (tokens_in number 0 (drop (start + suc len) text))) (ap (λ left. take (suc len) left) place ∙ ap (λ n. take n (drop start text)) (sym size)))))
+    ∙ (ap (λ piece. token_before number (meant kind piece) (tokens_in number 0 (drop (start + suc len) text)))
+    (ap (λ left. take (suc len) left) place ∙ ap (λ n. take n (drop start text)) (sym size)))))
 
 left_at : (number : ℕ) (text : List ℕ) (at start : ℕ) → start ≡ at + prefix_len is_blank (drop at text) → drop (prefix_len is_blank (drop at text)) (drop at text) ≡ drop start text
 left_at number text at start place = drop-drop (prefix_len is_blank (drop at text)) at text ∙ ap (λ n. drop n text) (sym place)
 
-moved : (number : ℕ) (text behind other : List ℕ) (found : Lexed) → tokens_in number 0 behind ≡ tokens_in number 0 other → FollowsLexed number text other found → FollowsLexed number text behind found
+moved : (number : ℕ) (text behind other : List ℕ) (found : Lexed) → tokens_in number 0 behind ≡ tokens_in number 0 other
+    → FollowsLexed number text other found → FollowsLexed number text behind found
 moved number text behind other (Found token) same follows = λ longer. same ∙ follows longer
 moved number text behind other End same follows = same ∙ follows
 moved number text behind other (Bad code) same follows = same ∙ follows
 
-pub lexed : (number : ℕ) (text : List ℕ) (at start : ℕ) → at ≤ length text → start ≡ at + prefix_len is_blank (drop at text) → FollowsLexed number text (drop at text) (token_at text at)
+pub lexed : (number : ℕ) (text : List ℕ) (at start : ℕ) → at ≤ length text
+    → start ≡ at + prefix_len is_blank (drop at text) → FollowsLexed number text (drop at text) (token_at text at)
 lexed number text at start within place =
     moved number text (drop at text) (drop start text) (token_at text at)
     (sym (blanks_skipped number (drop at text)) ∙ ap (λ left. tokens_in number 0 left) (left_at number text at start place))
@@ -102,7 +107,8 @@ lexed number text at start within place =
         (first_lexed number text start (drop start text) refl some dense (first_token (drop start text)) refl)
 
 -- the tokens that are read before others
-pub one_token : (line : ℕ) (token : RuleToken) (read : List LineToken) (rest : Result (List LineToken) Diag) → both_tokens (Ok read) (token_before line (Ok token) rest) ≡ both_tokens (Ok (read ++ record { line = line; token = token } ∷ [])) rest
+pub one_token : (line : ℕ) (token : RuleToken) (read : List LineToken) (rest : Result (List LineToken) Diag)
+    → both_tokens (Ok read) (token_before line (Ok token) rest) ≡ both_tokens (Ok (read ++ record { line = line; token = token } ∷ [])) rest
 one_token line token read (Ok tokens) = ap Ok (sym (append_assoc read (record { line = line; token = token } ∷ []) tokens))
 one_token line token read (Err diag) = refl
 
@@ -131,7 +137,8 @@ module _ (number : ℕ) (text : List ℕ) (old tokens : List LineToken) (at : �
   no_token code e = here.reads ∙ ap (λ rest. both_tokens (Ok here.read) rest) (follows (Bad code) e)
 
   module _ (token : Token) (e : token_at text at ≡ Found token) (longer : token.start < token.end) where
-    pub no_meaning : (code : DiagCode) → meant token.kind (take (token.end - token.start) (drop token.start text)) ≡ Err code → tokens_in number 0 text ≡ Err (record { line = number; code = code })
+    pub no_meaning : (code : DiagCode) → meant token.kind (take (token.end - token.start) (drop token.start text)) ≡ Err code
+        → tokens_in number 0 text ≡ Err (record { line = number; code = code })
     no_meaning code none =
         here.reads
         ∙ ap (λ rest. both_tokens (Ok here.read) rest)
@@ -152,7 +159,8 @@ module _ (number : ℕ) (text : List ℕ) (old tokens : List LineToken) (at : �
 -- the marks of a token are those of its text
 slice_between :
     (line : List ℕ) (token : Token) (opening closing : ℕ) → token.end ≤ length line → StandsBetween line token opening closing
-    → StandsBetween (take (token.end - token.start) (drop token.start line)) (record { kind = token.kind; start = 0; end = length (take (token.end - token.start) (drop token.start line)) }) opening closing
+    → StandsBetween (take (token.end - token.start) (drop token.start line))
+    (record { kind = token.kind; start = 0; end = length (take (token.end - token.start) (drop token.start line)) }) opening closing
 slice_between line token opening closing within here =
     let size : length (take (token.end - token.start) (drop token.start line)) ≡ token.end - token.start =
     length-take-le (token.end - token.start) (drop token.start line) (omega (arith, length-drop token.start line, here.both)) in

@@ -1,5 +1,6 @@
 -- What is quoted reads back, and a name between brackets reads back with no blank lost at its ends.
-use Rattle.std.proofs.Common.{◌≡◌, ℕ, zero, suc, ◌+◌, ◌-◌, ◌<◌, ◌≤◌, Bool, true, false, ◌&&◌, List, [], ◌∷◌, ◌++◌, length, take, take_all, drop, reverse, get_or, refl, ap, sym, arith, inl, inr, ◌∙◌}
+use Rattle.std.proofs.Common.{◌≡◌, ℕ, zero, suc, ◌+◌, ◌-◌, ◌<◌, ◌≤◌, Bool, true, false, ◌&&◌, List, [], ◌∷◌, ◌++◌}
+use Rattle.std.proofs.Common.{length, take, take_all, drop, reverse, get_or, refl, ap, sym, arith, inl, inr, ◌∙◌}
 use Rattle.std.specs.List.{prefix_len, suffix_len}
 use Rattle.std.specs.Option.{option_map}
 use Rattle.std.specs.Prelude.{Some, ◌==◌}
@@ -47,7 +48,8 @@ unquoted_quoted (b ∷ text) = by (is_quotable b) refl (unquoted_quoted text)
         ap unquoted here ∙ (unquoted_plain b (quoted text) (no_backslash b e) ∙ ap (λ behind. b ∷ behind) rest)
 
 -- the closing mark is found behind it
-pub quoted_closes : (close : ℕ) → is_quotable close ≡ true → (close == 92) ≡ false → (text tail : List ℕ) → quoted_len close (quoted text ++ close ∷ tail) ≡ Some (length (quoted text))
+pub quoted_closes : (close : ℕ) → is_quotable close ≡ true → (close == 92) ≡ false
+    → (text tail : List ℕ) → quoted_len close (quoted text ++ close ∷ tail) ≡ Some (length (quoted text))
 quoted_closes close quotable mark [] [] = let same : (close == close) ≡ true = grind (arith, nat_tests) in rw same refl
 quoted_closes close quotable mark [] (next ∷ tail) = let same : (close == close) ≡ true = grind (arith, nat_tests) in rw same refl
 quoted_closes close quotable mark (b ∷ text) tail = by (is_quotable b) refl (quoted_closes close quotable mark text tail)
@@ -63,7 +65,8 @@ quoted_closes close quotable mark (b ∷ text) tail = by (is_quotable b) refl (q
         let behind : List ℕ = quoted text ++ close ∷ tail in
         let step : quoted_len close (92 ∷ b ∷ behind) ≡ option_map (λ n. 2 + n) (quoted_len close behind) = rw (backslash, e) refl in
         let size : 2 + length (quoted text) ≡ length (92 ∷ b ∷ quoted text) = omega arith in
-        ap (λ front. quoted_len close (front ++ close ∷ tail)) here ∙ (step ∙ (ap (λ found. option_map (λ n. 2 + n) found) rest ∙ (ap Some size ∙ ap (λ front. Some (length front)) (sym here))))
+        ap (λ front. quoted_len close (front ++ close ∷ tail)) here
+        ∙ (step ∙ (ap (λ found. option_map (λ n. 2 + n) found) rest ∙ (ap Some size ∙ ap (λ front. Some (length front)) (sym here))))
     by false e rest =
         let here : quoted (b ∷ text) ≡ b ∷ quoted text = rw e refl in
         let behind : List ℕ = quoted text ++ close ∷ tail in

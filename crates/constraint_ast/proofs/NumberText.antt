@@ -1,5 +1,6 @@
 -- The text of a number is read as that number.
-use Rattle.std.proofs.Common.{◌≡◌, ℕ, zero, suc, ◌+◌, ◌-◌, ◌*◌, ◌/◌, ◌%◌, ◌^◌, ◌<◌, ◌≤◌, ℤ, pos, negsuc, neg_ℤ, Bool, true, false, not, ◌||◌, List, [], ◌∷◌, ◌++◌, length, take, drop, refl, ap, sym, subst, arith, ◌∙◌}
+use Rattle.std.proofs.Common.{◌≡◌, ℕ, zero, suc, ◌+◌, ◌-◌, ◌*◌, ◌/◌, ◌%◌, ◌^◌, ◌<◌, ◌≤◌, ℤ, pos, negsuc, neg_ℤ, Bool, true}
+use Rattle.std.proofs.Common.{false, not, ◌||◌, List, [], ◌∷◌, ◌++◌, length, take, drop, refl, ap, sym, subst, arith, ◌∙◌}
 use Rattle.std.specs.Char.{is_ascii_digit}
 use Rattle.std.specs.List.{after_first, before_first, list_all, list_any, position_or_len}
 use Rattle.std.specs.Prelude.{decimal, nat_lt, if◌then◌else◌, ◌==◌}
@@ -264,7 +265,8 @@ first_digit (b ∷ text) tail some digits all =
 size_bytes : (size : ℕ) → size < 10 ^ 37 → NumberBytes (size_text size)
 size_bytes size small =
     let digits = (whole_text size small).digits in
-    subst NumberBytes (sym (is_text size small)) (first_digit (decimal (whole size small)) (point_and (decimals 9 (left size small))) (some size small) digits (fraction_bytes (decimals 9 (left size small)) (left_text size small).digits))
+    subst NumberBytes (sym (is_text size small)) (first_digit (decimal (whole size small)) (point_and (decimals 9 (left size small)))
+    (some size small) digits (fraction_bytes (decimals 9 (left size small)) (left_text size small).digits))
 
 pub number_bytes : (n : ℤ) → IsSmall n → NumberBytes (number_text n)
 number_bytes (pos size) small = size_bytes size small

@@ -10,10 +10,12 @@ use Rattle.constraint_ast.specs.Trees.{Tree, RuleTree}
 use Rattle.constraint_ast.specs.Grammar.{at, AreRules, CanBegin, CannotGoOn, CouldDeeper, Could, Expects, Explains, Refused, last_line, refusal_line, most_open}
 use Rattle.constraint_ast.specs.Laws.{GrammarHasOneReading, LinesHaveOneReading, OneRefusal, SomeReading}
 use Rattle.constraint_ast.specs.Lexing.{AreRefused, Spell, tokens_of}
-use Rattle.constraint_ast.specs.Machine.{After, Around, Bad, Between, Done, InElse, InIf, InPlain, InThen, Itemed, Liked, Listed, Named, NamedNot, Need, Next, Opened, Outer, Paren, Related, SignNamed, SignOpened, Signed, Spot, State, Step, Top, begin, ended, finished, go_on, missing, need, run, step, with_rule}
+use Rattle.constraint_ast.specs.Machine.{After, Around, Bad, Between, Done, InElse, InIf, InPlain, InThen, Itemed, Liked, Listed, Named, NamedNot, Need, Next, Opened, Outer}
+use Rattle.constraint_ast.specs.Machine.{Paren, Related, SignNamed, SignOpened, Signed, Spot, State, Step, Top, begin, ended, finished, go_on, missing, need, run, step, with_rule}
 use Rattle.constraint_ast.specs.declared.token.LineToken.{LineToken}
 use Rattle.constraint_ast.specs.declared.token.RuleToken.{RuleToken}
-use Rattle.constraint_ast.specs.declared.token.RuleToken.TheVariants.{Name, Literal, Relation, If, Then, Else, And, Or, Not, In, Like, Sign, OpenParen, CloseParen, OpenBrace, CloseBrace, Comma, Semicolon}
+use Rattle.constraint_ast.specs.declared.token.RuleToken.TheVariants.{Name, Literal, Relation, If, Then, Else, And, Or, Not, In, Like}
+use Rattle.constraint_ast.specs.declared.token.RuleToken.TheVariants.{Sign, OpenParen, CloseParen, OpenBrace, CloseBrace, Comma, Semicolon}
 use Rattle.constraint_ast.specs.declared.token.Sign.TheVariants.{Negative}
 use Rattle.constraint_ast.specs.declared.tree.RawLiteral.TheVariants.{Words, Number}
 use Rattle.constraint_ast.proofs.Complete.{rules_read}
@@ -226,7 +228,8 @@ module _ (room : ℕ) (front : List LineToken) (done : List RuleTree) (state : S
   expected code there = absurd there
 
   -- a code is for want of room, or what is missing
-  told : (rest : List LineToken) (code : DiagCode) → Explains room code front rest → ((code ≡ TooDeep) × CouldDeeper room front rest) ⊎ (¬ (CouldDeeper room front rest) × (missing state ≡ code))
+  told : (rest : List LineToken) (code : DiagCode) → Explains room code front rest
+      → ((code ≡ TooDeep) × CouldDeeper room front rest) ⊎ (¬ (CouldDeeper room front rest) × (missing state ≡ code))
   told rest TooDeep deep = inl (refl, deep)
   told rest code (none, there) = inr (none, expected code there)
 

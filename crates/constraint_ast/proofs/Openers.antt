@@ -7,7 +7,8 @@ use Rattle.std.proofs.lemmas.Bool.Decides.{nat_tests}
 use Rattle.model_lex.specs.Blanks.{is_all_blank, is_blank}
 use Rattle.model_lex.specs.Sections.{first_word, goes_on, is_among, is_opening_mark, is_word_byte, opening_len, opening_words}
 use Rattle.model_lex.proofs.Opening.{goes_on_inside}
-use Rattle.constraint_ast.specs.Grammar.{at, AreConjs, AreRules, AreUnits, IsRule, IsUnit, if_else, if_then, last_conj, last_unit, like, negation, next_conj, next_rule, next_unit, none_of, not_like, one_of, param_is, parens, plain, signed, value_is}
+use Rattle.constraint_ast.specs.Grammar.{at, AreConjs, AreRules, AreUnits, IsRule, IsUnit, if_else, if_then, last_conj, last_unit, like, negation}
+use Rattle.constraint_ast.specs.Grammar.{next_conj, next_rule, next_unit, none_of, not_like, one_of, param_is, parens, plain, signed, value_is}
 use Rattle.constraint_ast.specs.Laws.{RuleTextOpens}
 use Rattle.constraint_ast.specs.RuleText.{body_tokens, spaced, token_text}
 use Rattle.constraint_ast.specs.Trees.{RuleTree, Tree, Trees}
@@ -72,7 +73,8 @@ blank_opens true text = refl
 blank_opens false text = refl
 
 word_opens :
-    (b : ℕ) (more : List ℕ) (rest : List RuleToken) → is_blank b ≡ false → is_opening_mark b ≡ false → list_all is_word_byte (b ∷ more) ≡ true → is_among opening_words (b ∷ more) ≡ true
+    (b : ℕ) (more : List ℕ) (rest : List RuleToken) → is_blank b ≡ false → is_opening_mark b ≡ false
+    → list_all is_word_byte (b ∷ more) ≡ true → is_among opening_words (b ∷ more) ≡ true
     → goes_on 0 (spaced false rest) ≡ true → goes_on 0 (b ∷ (more ++ spaced false rest)) ≡ true
 word_opens b more rest dense mark all known opens =
     let tail : List ℕ = spaced false rest in

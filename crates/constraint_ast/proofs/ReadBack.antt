@@ -2,9 +2,10 @@
 use Rattle.std.proofs.Common.{◌≡◌, ℕ, suc, List, [], ◌∷◌, map, refl, sym, subst, arith}
 use Rattle.std.proofs.lemmas.List.Elements.{All-cons}
 use Rattle.std.specs.Prelude.{All}
-use Rattle.constraint_ast.specs.Trees.{BodyTree, Tree, Trees, Leaf, Negated, Each, Either, End, More, all_of, any_of, RuleTree, IfThen, IfElse}
+use Rattle.constraint_ast.specs.Trees.{Tree, Trees, Leaf, Negated, End, More, all_of, any_of, RuleTree, IfThen, IfElse}
 use Rattle.constraint_ast.specs.Trees as trees
-use Rattle.constraint_ast.specs.Grammar.{at, AreConjs, AreLiterals, AreRules, AreUnits, IsRule, IsUnit, if_else, if_then, last_conj, last_literal, last_unit, like, negation, next_conj, next_literal, next_rule, next_unit, no_rule, none_of, not_like, one_of, param_is, parens, plain, signed, value_is, sign_term}
+use Rattle.constraint_ast.specs.Grammar.{at, AreConjs, AreLiterals, AreRules, AreUnits, IsRule, IsUnit, if_else, if_then, last_conj, last_literal, last_unit, like, negation}
+use Rattle.constraint_ast.specs.Grammar.{next_conj, next_literal, next_rule, next_unit, no_rule, none_of, not_like, one_of, param_is, parens, plain, signed, value_is, sign_term}
 use Rattle.constraint_ast.specs.RuleText.{body_tokens, literals_before, more_before, more_literals, rule_at, tree_at, tree_before, trees_at, trees_before}
 use Rattle.constraint_ast.specs.declared.token.LineToken.{LineToken}
 use Rattle.constraint_ast.specs.declared.token.RuleToken.{RuleToken}
@@ -174,10 +175,12 @@ module _ (l : ℕ) where
         conjs = record { parts = parts; same = refl; reads = any };
       }
 
-  literals_back : {from to : List LineToken} {xs : List RawLiteral} → AreLiterals from xs to → (rest : List RuleToken) → AreLiterals (marked (literals_before xs (CloseBrace ∷ rest))) xs (marked rest)
+  literals_back : {from to : List LineToken} {xs : List RawLiteral} → AreLiterals from xs to
+      → (rest : List RuleToken) → AreLiterals (marked (literals_before xs (CloseBrace ∷ rest))) xs (marked rest)
   literals_back last_literal rest = last_literal
   literals_back (next_literal {x = x} {xs = xs} literals) rest =
-      subst (λ tokens. AreLiterals (marked (Literal x ∷ tokens)) (x ∷ xs) (marked rest)) (sym (more_literals_are xs (CloseBrace ∷ rest) (literals_some literals))) (next_literal (literals_back literals rest))
+      subst (λ tokens. AreLiterals (marked (Literal x ∷ tokens)) (x ∷ xs) (marked rest))
+      (sym (more_literals_are xs (CloseBrace ∷ rest) (literals_some literals))) (next_literal (literals_back literals rest))
 
   signed_back : (room line : ℕ) (sign : signs.Sign) (name : List ℕ) → UnitBack room (Leaf line (sign_term sign name))
   signed_back room line signs_of.Negative name = leaf_back room line (sign_term signs_of.Negative name) (λ rest. signed)
@@ -219,13 +222,15 @@ module _ (l : ℕ) where
         let back = units_back units in
         let behind = conjs_back others in
         either_back room (all_of parts) trees (conjs_more others) (λ rest.
-        subst (λ tokens. AreConjs room (marked (tree_before InAny (all_of parts) tokens)) (trees_at l (More (all_of parts) trees)) (marked rest)) (sym (more_is Or InAny trees rest (conjs_more others)))
+        subst (λ tokens. AreConjs room (marked (tree_before InAny (all_of parts) tokens)) (trees_at l (More (all_of parts) trees)) (marked rest))
+        (sym (more_is Or InAny trees rest (conjs_more others)))
         (subst (λ tree. AreConjs room (marked (tree_before InAny (all_of parts) (Or ∷ trees_before Or InAny trees rest))) (More tree (trees_at l trees)) (marked rest)) back.units.same
         (next_conj (back.units.reads (Or ∷ trees_before Or InAny trees rest)) (behind.any rest))))
 
   -- ---- constraints
 
-  plain_back : (room : ℕ) (tokens : List RuleToken) (parts : Trees) → AreConjs room (marked tokens) parts (at l Semicolon ∷ []) → IsRule room (marked tokens) (record { line = l; body = trees.Plain (any_of parts) }) []
+  plain_back : (room : ℕ) (tokens : List RuleToken) (parts : Trees) → AreConjs room (marked tokens) parts (at l Semicolon ∷ [])
+      → IsRule room (marked tokens) (record { line = l; body = trees.Plain (any_of parts) }) []
   plain_back room [] parts conjs = absurd (conjs_some conjs)
   plain_back room (token ∷ tokens) parts conjs = plain conjs
 
@@ -254,6 +259,8 @@ module _ (l : ℕ) where
       (subst (λ tree. IsRule room (marked body) (record { line = l; body = IfElse (any_of back.parts) (any_of then.parts) tree }) []) else.same
       (if_else (back.reads (Then ∷ tokens)) (then.reads (Else ∷ last)) (else.reads (Semicolon ∷ [])))))
 
-  pub rules_back : {room : ℕ} {tokens : List LineToken} {rules : List RuleTree} → AreRules room tokens rules → All (λ rule. AreRules room (marked (body_tokens rule.body)) (rule_at l rule ∷ [])) rules
+  pub rules_back : {room : ℕ} {tokens : List LineToken} {rules : List RuleTree} → AreRules room tokens rules
+      → All (λ rule. AreRules room (marked (body_tokens rule.body)) (rule_at l rule ∷ [])) rules
   rules_back no_rule = λ k d past. absurd (omega arith)
-  rules_back (next_rule {room = room} {rule = rule} {rules = rules} is rest) = All-cons (λ rule. AreRules room (marked (body_tokens rule.body)) (rule_at l rule ∷ [])) rule rules (next_rule (rule_back is) no_rule) (rules_back rest)
+  rules_back (next_rule {room = room} {rule = rule} {rules = rules} is rest) =
+      All-cons (λ rule. AreRules room (marked (body_tokens rule.body)) (rule_at l rule ∷ [])) rule rules (next_rule (rule_back is) no_rule) (rules_back rest)

@@ -9,10 +9,12 @@ use Rattle.constraint_ast.specs.Trees.{Tree, RuleTree}
 use Rattle.constraint_ast.specs.Grammar.{at, AreRules, no_rule, CanBegin, CouldDeeper, Expects, Explains, Refused, last_line}
 use Rattle.constraint_ast.specs.declared.token.LineToken.{LineToken}
 use Rattle.constraint_ast.specs.declared.token.RuleToken.{RuleToken}
-use Rattle.constraint_ast.specs.declared.token.RuleToken.TheVariants.{Name, Literal, Relation, If, Then, Else, And, Or, Not, In, Like, Sign, OpenParen, CloseParen, OpenBrace, CloseBrace, Comma, Semicolon}
+use Rattle.constraint_ast.specs.declared.token.RuleToken.TheVariants.{Name, Literal, Relation, If, Then, Else, And, Or, Not, In, Like}
+use Rattle.constraint_ast.specs.declared.token.RuleToken.TheVariants.{Sign, OpenParen, CloseParen, OpenBrace, CloseBrace, Comma, Semicolon}
 use Rattle.constraint_ast.specs.declared.token.Sign.TheVariants.{Negative}
 use Rattle.constraint_ast.specs.declared.tree.RawLiteral.TheVariants.{Words, Number}
-use Rattle.constraint_ast.specs.Machine.{After, Around, Bad, Between, Done, InElse, InIf, InPlain, InThen, Itemed, Liked, Listed, Named, NamedNot, Need, Next, Opened, Outer, Paren, Related, SignNamed, SignOpened, Signed, Spot, State, Step, Top, at_end, begin, ended, finished, go_on, missing, need, run, step, with_rule, with_rules}
+use Rattle.constraint_ast.specs.Machine.{After, Around, Bad, Between, Done, InElse, InIf, InPlain, InThen, Itemed, Liked, Listed, Named, NamedNot, Need, Next, Opened, Outer, Paren, Related}
+use Rattle.constraint_ast.specs.Machine.{SignNamed, SignOpened, Signed, Spot, State, Step, Top, at_end, begin, ended, finished, go_on, missing, need, run, step, with_rule, with_rules}
 use Rattle.constraint_ast.proofs.Complete.{rules_read, rules_refused}
 use Rattle.constraint_ast.proofs.Sound.{Ends, EndsStep, led}
 use Rattle.constraint_ast.proofs.Finish.{finishes}
@@ -31,7 +33,8 @@ pub leads_on :
     → step room start token.line token.token ≡ Next next → Leads room front done next state → Leads room (token ∷ front) done start state
 leads_on room token front done start next state e rest = record {
   runs = λ last more. ap (λ to. go_on (run room last (front ++ more)) token.line to) e ∙ rest.runs last more;
-  ends = λ more rules ends. led room (front ++ more) (done ++ rules) start token.line token.token (subst (λ to. EndsStep room to (front ++ more) (done ++ rules)) (sym e) (rest.ends more rules ends));
+  ends = λ more rules ends. led room (front ++ more) (done ++ rules) start token.line token.token
+      (subst (λ to. EndsStep room to (front ++ more) (done ++ rules)) (sym e) (rest.ends more rules ends));
 }
 
 pub leads_past :
@@ -119,7 +122,8 @@ stop room last [] start diag stops = record {
   stops = stops;
 }
 stop room last (token ∷ tokens) start diag stops =
-    stop_on room last token tokens start diag (step room start token.line token.token) refl (step_deeper room start token.line token.token) stops (λ state stops. stop room last tokens state diag stops)
+    stop_on room last token tokens start diag (step room start token.line token.token) refl
+    (step_deeper room start token.line token.token) stops (λ state stops. stop room last tokens state diag stops)
 
 -- what could stand behind some tokens, and what couldn't
 abbrev pub IsGood : Step → Type 0
@@ -182,8 +186,10 @@ expects room front done (SignNamed around line sign name) leads = inl (could roo
 expects room front done (After left anys alls (Paren around)) leads = inl (could room front done (After left anys alls (Paren around)) leads (at 0 CloseParen) tt)
 expects room front done (After left anys alls (Top (InPlain line))) leads = inr (inr (inr (inr (inl (could room front done (After left anys alls (Top (InPlain line))) leads (at 0 Semicolon) tt)))))
 expects room front done (After left anys alls (Top (InIf line))) leads = inr (inr (inr (inl (could room front done (After left anys alls (Top (InIf line))) leads (at 0 Then) tt))))
-expects room front done (After left anys alls (Top (InThen line premise))) leads = inr (inr (inr (inr (inl (could room front done (After left anys alls (Top (InThen line premise))) leads (at 0 Semicolon) tt)))))
-expects room front done (After left anys alls (Top (InElse line premise pred))) leads = inr (inr (inr (inr (inl (could room front done (After left anys alls (Top (InElse line premise pred))) leads (at 0 Semicolon) tt)))))
+expects room front done (After left anys alls (Top (InThen line premise))) leads =
+    inr (inr (inr (inr (inl (could room front done (After left anys alls (Top (InThen line premise))) leads (at 0 Semicolon) tt)))))
+expects room front done (After left anys alls (Top (InElse line premise pred))) leads =
+    inr (inr (inr (inr (inl (could room front done (After left anys alls (Top (InElse line premise pred))) leads (at 0 Semicolon) tt)))))
 
 -- a code that isn't for want of room
 explains : (room : ℕ) (state : State) (front rest : List LineToken) → ¬ (CouldDeeper room front rest) → Expects room (missing state) front → Explains room (missing state) front rest
@@ -278,7 +284,8 @@ step_refusal room (After left anys alls outer) line Or = tt
 step_refusal room (After left anys alls outer) line token = finished_refusal room outer _ token
 
 -- what stops at the end waits for something there, wherever the end is told
-end_waits : (last : ℕ) (state : State) (diag : Diag) → at_end last state ≡ Err diag → (at_end 0 state ≡ Err (record { line = 0; code = missing state })) × (diag ≡ record { line = last; code = missing state })
+end_waits : (last : ℕ) (state : State) (diag : Diag) → at_end last state ≡ Err diag
+    → (at_end 0 state ≡ Err (record { line = 0; code = missing state })) × (diag ≡ record { line = last; code = missing state })
 end_waits last Between diag e = absurd (cc)
 end_waits last (Need left around) diag e = (refl, cc)
 end_waits last (Named left around line name) diag e = (refl, cc)

@@ -234,7 +234,8 @@ odd_read : reads odd_line odd
 odd_read = refl
 
 -- `[ a"\]\\ b ]` is the same name: blanks at its ends go, and a backslash that quotes nothing stays
-odd_name_read : reads (91 ∷ 32 ∷ 97 ∷ 34 ∷ 92 ∷ 93 ∷ 92 ∷ 92 ∷ 32 ∷ 98 ∷ 32 ∷ 93 ∷ (codes " <= " ++ (34 ∷ 32 ∷ 92 ∷ 93 ∷ [])) ++ (93 ∷ 92 ∷ 34 ∷ 32 ∷ 34 ∷ 59 ∷ []))
+odd_name_read : reads (91 ∷ 32 ∷ 97 ∷ 34 ∷ 92 ∷ 93 ∷ 92 ∷ 92 ∷ 32 ∷ 98 ∷ 32 ∷ 93
+    ∷ (codes " <= " ++ (34 ∷ 32 ∷ 92 ∷ 93 ∷ [])) ++ (93 ∷ 92 ∷ 34 ∷ 32 ∷ 34 ∷ 59 ∷ []))
     (rule (Plain (Leaf 1 (terms.ValueIs (97 ∷ 34 ∷ 93 ∷ 92 ∷ 32 ∷ 98 ∷ []) Le (Words (32 ∷ 93 ∷ 93 ∷ 34 ∷ 32 ∷ []))))))
 odd_name_read = refl
 

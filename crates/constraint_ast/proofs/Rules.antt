@@ -32,7 +32,8 @@ plain_refused (Err fault) last tokens some no_if refused = fault_of_plain last t
 abbrev pub ReadsFirst : ℕ → List LineToken → List RawRule → List LineToken → Type 0
 ReadsFirst last from rules ahead = run most_open last from Between ≡ with_rules (map rule_tree rules) (run most_open last ahead Between)
 
-pub refused_later : (last : ℕ) (from : List LineToken) (rules : List RawRule) (ahead : List LineToken) (fault : ModelFault) → ReadsFirst last from rules ahead → RefusesRules last ahead fault → RefusesRules last from fault
+pub refused_later : (last : ℕ) (from : List LineToken) (rules : List RawRule) (ahead : List LineToken) (fault : ModelFault)
+    → ReadsFirst last from rules ahead → RefusesRules last ahead fault → RefusesRules last from fault
 refused_later last from rules ahead (BadRule diag) reads refused = reads ∙ (ap (λ read. with_rules (map rule_tree rules) read) refused ∙ rules_refused (map rule_tree rules) diag)
 refused_later last from rules ahead (Bad diag) reads refused = refused
 refused_later last from rules ahead (Limit limit count) reads refused = refused

@@ -2,16 +2,20 @@
 use Rattle.std.proofs.Common.{◌≡◌, ◌⊎◌, inl, inr, ℕ, zero, suc, List, [], ◌∷◌, ◌++◌, refl, ap, sym, subst, ◌∙◌, append_assoc, append-nil}
 use Rattle.constraint_ast.specs.Trees.{Tree, Trees, Leaf, Negated, End, More, added, all_of, any_of, joined, RuleTree, IfThen, IfElse}
 use Rattle.constraint_ast.specs.Trees as trees
-use Rattle.constraint_ast.specs.Grammar.{at, AreConjs, AreLiterals, AreRules, AreUnits, IsUnit, if_else, if_then, last_conj, last_literal, last_unit, like, negation, next_conj, next_literal, next_rule, next_unit, none_of, not_like, one_of, param_is, parens, plain, sign_term, signed, value_is}
+use Rattle.constraint_ast.specs.Grammar.{at, AreConjs, AreLiterals, AreRules, AreUnits, IsUnit, if_else, if_then, last_conj, last_literal, last_unit, like, negation}
+use Rattle.constraint_ast.specs.Grammar.{next_conj, next_literal, next_rule, next_unit, none_of, not_like, one_of, param_is, parens, plain, sign_term, signed, value_is}
 use Rattle.constraint_ast.specs.declared.token.LineToken.{LineToken}
 use Rattle.constraint_ast.specs.declared.token.RuleToken.{RuleToken}
-use Rattle.constraint_ast.specs.declared.token.RuleToken.TheVariants.{Name, Literal, Relation, If, Then, Else, And, Or, Not, In, Like, Sign, OpenParen, CloseParen, OpenBrace, CloseBrace, Comma, Semicolon}
+use Rattle.constraint_ast.specs.declared.token.RuleToken.TheVariants.{Name, Literal, Relation, If, Then, Else, And, Or, Not, In, Like}
+use Rattle.constraint_ast.specs.declared.token.RuleToken.TheVariants.{Sign, OpenParen, CloseParen, OpenBrace, CloseBrace, Comma, Semicolon}
 use Rattle.constraint_ast.specs.declared.token.Sign as signs
 use Rattle.constraint_ast.specs.declared.tree.RawRel.{RawRel}
 use Rattle.constraint_ast.specs.declared.tree.RawLiteral.{RawLiteral}
 use Rattle.constraint_ast.specs.declared.tree.RawLiteral.TheVariants.{Words, Number}
 use Rattle.constraint_ast.specs.declared.tree.RawTerm.TheVariants as terms
-use Rattle.constraint_ast.specs.Machine.{After, Around, Bad, Between, Done, InElse, InIf, InPlain, InThen, Itemed, Liked, Listed, Named, NamedNot, Need, Next, Opened, Outer, Paren, Part, Related, SignNamed, SignOpened, Signed, Spot, State, Step, Top, Within, after, begin, close, ended, finished, itemed, liked, listed, named, named_not, need, opened, related, sign_named, sign_opened, sign_word, step}
+use Rattle.constraint_ast.specs.Machine.{After, Around, Bad, Between, Done, InElse, InIf, InPlain, InThen, Itemed, Liked, Listed, Named, NamedNot, Need, Next}
+use Rattle.constraint_ast.specs.Machine.{Opened, Outer, Paren, Part, Related, SignNamed, SignOpened, Signed, Spot, State, Step, Top, Within, after, begin, close}
+use Rattle.constraint_ast.specs.Machine.{ended, finished, itemed, liked, listed, named, named_not, need, opened, related, sign_named, sign_opened, sign_word, step}
 use Rattle.constraint_ast.proofs.Complete.{joined_added}
 
 -- more units behind some, and more conjunctions
@@ -88,7 +92,8 @@ EndsSpot room (InElse line premise pred) tree from rules = EndsRule room (record
 -- what completes the surroundings of a unit, and of a predicate
 abbrev mutual
   pub EndsUnit : ℕ → Around → Tree → List LineToken → List RuleTree → Type 0
-  EndsUnit room (Part left anys alls outer) tree from rules = (parts : Trees) × (to : List LineToken) × PredTail left anys (added alls tree) from parts to × EndsOuter room outer (any_of parts) to rules
+  EndsUnit room (Part left anys alls outer) tree from rules = (parts : Trees) × (to : List LineToken)
+      × PredTail left anys (added alls tree) from parts to × EndsOuter room outer (any_of parts) to rules
   EndsUnit room (Within around) tree from rules = EndsUnit room around (Negated tree) from rules
 
   pub EndsOuter : ℕ → Outer → Tree → List LineToken → List RuleTree → Type 0
@@ -116,7 +121,8 @@ Ends room (Related around line name rel) from rules =
     (tree : Tree) × (to : List LineToken) × ((left k : ℕ) → IsUnit left (at line (Name name) ∷ at k (Relation rel) ∷ from) tree to) × EndsUnit room around tree to rules
 Ends room (Listed around line name) from rules = (xs : List RawLiteral) × (to : List LineToken) × OpensList from xs to × EndsUnit room around (Leaf line (terms.OneOf name xs)) to rules
 Ends room (Opened around line name ys) from rules = (xs : List RawLiteral) × (to : List LineToken) × AreLiterals from xs to × EndsUnit room around (Leaf line (terms.OneOf name (ys ++ xs))) to rules
-Ends room (Itemed around line name ys) from rules = (xs : List RawLiteral) × (to : List LineToken) × LiteralsTail from xs to × EndsUnit room around (Leaf line (terms.OneOf name (ys ++ xs))) to rules
+Ends room (Itemed around line name ys) from rules = (xs : List RawLiteral) × (to : List LineToken)
+    × LiteralsTail from xs to × EndsUnit room around (Leaf line (terms.OneOf name (ys ++ xs))) to rules
 Ends room (Liked around line name) from rules = (text : List ℕ) × (to : List LineToken) × PatternTail from text to × EndsUnit room around (Leaf line (terms.Like name text)) to rules
 Ends room (Signed around line sign) from rules =
     (tree : Tree) × (to : List LineToken) × ((left : ℕ) → IsUnit left (at line (Sign sign) ∷ from) tree to) × EndsUnit room around tree to rules
@@ -138,7 +144,8 @@ closed room (Within around) tree from rules ends = closed room around (Negated t
 
 -- a predicate at its beginning
 module _ (room left : ℕ) (outer : Outer) (from : List LineToken) (rules : List RuleTree) where
-  pub whole_pred : Ends room (Need left (Part left End End outer)) from rules → (parts : Trees) × (to : List LineToken) × AreConjs left from parts to × EndsOuter room outer (any_of parts) to rules
+  pub whole_pred : Ends room (Need left (Part left End End outer)) from rules
+      → (parts : Trees) × (to : List LineToken) × AreConjs left from parts to × EndsOuter room outer (any_of parts) to rules
   whole_pred ends = (ends.3.0, ends.3.1, pred_grown ends.2 ends.3.2, ends.3.3)
 
 list_spelled :
@@ -166,7 +173,8 @@ module _ (room : ℕ) (tokens : List LineToken) (rules : List RuleTree) where
   if_spelled : (line : ℕ) → Ends room (Need room (Part room End End (Top (InIf line)))) tokens rules → AreRules room (at line If ∷ tokens) rules
   if_spelled line ends = at_then (whole_pred room room (Top (InIf line)) tokens rules ends)
     where
-      moved : {word : RuleToken} {from : List LineToken} {parts : Trees} {k : ℕ} {next : List LineToken} → from ≡ at k word ∷ next → AreConjs room tokens parts from → AreConjs room tokens parts (at k word ∷ next)
+      moved : {word : RuleToken} {from : List LineToken} {parts : Trees} {k : ℕ} {next : List LineToken}
+          → from ≡ at k word ∷ next → AreConjs room tokens parts from → AreConjs room tokens parts (at k word ∷ next)
       moved {parts = parts} e spelled = subst (λ from. AreConjs room tokens parts from) e spelled
 
       at_end : (premise parts : Trees) (k : ℕ) (next to : List LineToken) → AreConjs room tokens premise (at k Then ∷ next) → AreConjs room next parts to
@@ -180,7 +188,8 @@ module _ (room : ℕ) (tokens : List LineToken) (rules : List RuleTree) where
           (if_else spelled (subst (λ to. AreConjs room next parts to) behind.from_is then) (subst (λ to. AreConjs room behind.next others to) last.from_is behind.spelled))
           last.spelled)
 
-      at_then : ((premise : Trees) × (to : List LineToken) × AreConjs room tokens premise to × EndsOuter room (Top (InIf line)) (any_of premise) to rules) → AreRules room (at line If ∷ tokens) rules
+      at_then : ((premise : Trees) × (to : List LineToken) × AreConjs room tokens premise to × EndsOuter room (Top (InIf line)) (any_of premise) to rules)
+          → AreRules room (at line If ∷ tokens) rules
       at_then (premise, from, spelled, (parts, to, behind, ends)) =
           at_end premise parts behind.line behind.next to (moved {word = Then} behind.from_is spelled) behind.spelled ends
 
@@ -191,7 +200,8 @@ module _ (room : ℕ) (tokens : List LineToken) (rules : List RuleTree) where
       subst (λ rules. AreRules room (first ∷ tokens) rules) (sym last.rules_are)
       (next_rule (plain (subst (λ to. AreConjs room (first ∷ tokens) pred.0 to) last.from_is pred.2)) last.spelled)
 
-  at_need : (left : ℕ) (around : Around) (line : ℕ) (token : RuleToken) → EndsStep room (need left around line token) tokens rules → Ends room (Need left around) (at line token ∷ tokens) rules
+  at_need : (left : ℕ) (around : Around) (line : ℕ) (token : RuleToken)
+      → EndsStep room (need left around line token) tokens rules → Ends room (Need left around) (at line token ∷ tokens) rules
   at_need left around line (Name name) ends = ends
   at_need left around line (Sign sign) ends = (ends.0, ends.1, ends.2 left, ends.3)
   at_need zero around line Not ends = absurd ends
@@ -255,8 +265,13 @@ module _ (room : ℕ) (tokens : List LineToken) (rules : List RuleTree) where
       (around : Around) (at_line : ℕ) (name : List ℕ) (ys : List RawLiteral) (line : ℕ) (token : RuleToken) → EndsStep room (itemed around at_line name ys token) tokens rules
       → Ends room (Itemed around at_line name ys) (at line token ∷ tokens) rules
   at_itemed around at_line name ys line Comma ends = (ends.0, ends.1, goes ends.2, ends.3)
-  at_itemed around at_line name ys line CloseBrace ends =
-      ([], tokens, closes, subst (λ zs. EndsUnit room around (Leaf at_line (terms.OneOf name zs)) tokens rules) (sym (append-nil ys)) (closed room around (Leaf at_line (terms.OneOf name ys)) tokens rules ends))
+  at_itemed around at_line name ys line CloseBrace ends = (
+    [],
+    tokens,
+    closes,
+    subst (λ zs. EndsUnit room around (Leaf at_line (terms.OneOf name zs)) tokens rules)
+        (sym (append-nil ys)) (closed room around (Leaf at_line (terms.OneOf name ys)) tokens rules ends),
+  )
   at_itemed around at_line name ys line token ends = absurd ends
 
   at_liked :
@@ -301,7 +316,8 @@ module _ (room : ℕ) (tokens : List LineToken) (rules : List RuleTree) where
   at_ended (InElse at_line premise pred) tree line Semicolon (rest, are, spelled) = record { line = line; to = tokens; rest = rest; from_is = refl; rules_are = are; spelled = spelled }
   at_ended (InElse at_line premise pred) tree line token ends = absurd ends
 
-  at_finished : (outer : Outer) (tree : Tree) (line : ℕ) (token : RuleToken) → EndsStep room (finished room outer tree token) tokens rules → EndsOuter room outer tree (at line token ∷ tokens) rules
+  at_finished : (outer : Outer) (tree : Tree) (line : ℕ) (token : RuleToken)
+      → EndsStep room (finished room outer tree token) tokens rules → EndsOuter room outer tree (at line token ∷ tokens) rules
   at_finished (Top spot) tree line token ends = at_ended spot tree line token ends
   at_finished (Paren around) tree line CloseParen ends = (line, tokens, refl, closed room around tree tokens rules ends)
   at_finished (Paren around) tree line token ends = absurd ends
@@ -313,8 +329,12 @@ module _ (room : ℕ) (tokens : List LineToken) (rules : List RuleTree) where
       (parts, to, record { units = tail.units; behind = tail.behind; tail = and_units unit tail.tail; conjs = tail.conjs }, ends)
   at_after left anys alls outer line Or (tree, behind, unit, (parts, to, tail, ends)) =
       (parts, to, record { units = alls; behind = at line Or ∷ tokens; tail = no_units; conjs = or_conjs unit tail.tail tail.conjs }, ends)
-  at_after left anys alls outer line token ends =
-      (added anys (all_of alls), at line token ∷ tokens, record { units = alls; behind = at line token ∷ tokens; tail = no_units; conjs = no_conjs }, at_finished outer (any_of (added anys (all_of alls))) line token ends)
+  at_after left anys alls outer line token ends = (
+    added anys (all_of alls),
+    at line token ∷ tokens,
+    record { units = alls; behind = at line token ∷ tokens; tail = no_units; conjs = no_conjs },
+    at_finished outer (any_of (added anys (all_of alls))) line token ends,
+  )
 
   pub led : (state : State) (line : ℕ) (token : RuleToken) → EndsStep room (step room state line token) tokens rules → Ends room state (at line token ∷ tokens) rules
   led Between line token ends = at_begin line token ends

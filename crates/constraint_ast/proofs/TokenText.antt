@@ -1,5 +1,6 @@
 -- The tokens of a written line are the tokens that were written.
-use Rattle.std.proofs.Common.{◌≡◌, ℕ, suc, ◌+◌, ◌-◌, Bool, true, false, ◌||◌, List, [], ◌∷◌, ◌++◌, length, map, take, codes, refl, ap, sym, subst, arith, ◌∙◌, append_assoc, length-append}
+use Rattle.std.proofs.Common.{◌≡◌, ℕ, suc, ◌+◌, ◌-◌, Bool, true, false, ◌||◌, List, [], ◌∷◌, ◌++◌, length}
+use Rattle.std.proofs.Common.{map, take, codes, refl, ap, sym, subst, arith, ◌∙◌, append_assoc, length-append}
 use Rattle.std.specs.List.{list_all, prefix_len}
 use Rattle.std.specs.Prelude.{Ok, Some, ℤ, ◌==◌, if◌then◌else◌}
 use Rattle.std.proofs.Math.Seq.{drop-append_seam, take-append_seam}
@@ -17,7 +18,8 @@ use Rattle.constraint_ast.specs.Grammar.{at}
 use Rattle.constraint_ast.specs.Lexing.{inside, meant, number_meant, token_before, tokens_in}
 use Rattle.constraint_ast.specs.RuleText.{closes, number_text, opens, quoted, relation_text, spaced, token_text}
 use Rattle.constraint_ast.specs.declared.token.RuleToken.{RuleToken}
-use Rattle.constraint_ast.specs.declared.token.RuleToken.TheVariants.{Name, Literal, Relation, If, Then, Else, And, Or, Not, In, Like, Sign, OpenParen, CloseParen, OpenBrace, CloseBrace, Comma, Semicolon}
+use Rattle.constraint_ast.specs.declared.token.RuleToken.TheVariants.{Name, Literal, Relation, If, Then, Else, And, Or, Not, In, Like}
+use Rattle.constraint_ast.specs.declared.token.RuleToken.TheVariants.{Sign, OpenParen, CloseParen, OpenBrace, CloseBrace, Comma, Semicolon}
 use Rattle.constraint_ast.specs.declared.token.Sign.TheVariants.{Negative, Positive}
 use Rattle.constraint_ast.specs.declared.tree.RawLiteral.{RawLiteral}
 use Rattle.constraint_ast.specs.declared.tree.RawLiteral.TheVariants.{Words, Number}
@@ -85,10 +87,12 @@ module _ (line : ℕ) where
   Reads token text tail = tokens_in line 0 (text ++ tail) ≡ token_before line (Ok token) (tokens_in line 0 tail)
 
   one_read :
-      (token : RuleToken) (b : ℕ) (more tail : List ℕ) → is_blank b ≡ false → (kind : TokenKind) → first_token (b ∷ (more ++ tail)) ≡ Ok (kind, suc (length more)) → meant kind (b ∷ more) ≡ Ok token
+      (token : RuleToken) (b : ℕ) (more tail : List ℕ) → is_blank b ≡ false → (kind : TokenKind)
+      → first_token (b ∷ (more ++ tail)) ≡ Ok (kind, suc (length more)) → meant kind (b ∷ more) ≡ Ok token
       → Reads token (b ∷ more) tail
   one_read token b more tail dense kind first means =
-      let step : tokens_in line 0 (b ∷ (more ++ tail)) ≡ token_before line (meant kind (b ∷ take (length more) (more ++ tail))) (tokens_in line (suc (length more) - 1) (more ++ tail)) = rw (dense, first) refl in
+      let step : tokens_in line 0 (b ∷ (more ++ tail)) ≡ token_before line (meant kind (b ∷ take (length more) (more ++ tail))) (tokens_in line (suc (length more) - 1) (more ++ tail)) =
+      rw (dense, first) refl in
       let one : suc (length more) - 1 ≡ length more = omega arith in
       let rest : tokens_in line (suc (length more) - 1) (more ++ tail) ≡ tokens_in line 0 tail =
       ap (λ n. tokens_in line n (more ++ tail)) one ∙ (rest_skipped line (length more) (more ++ tail) ∙ ap (λ left. tokens_in line 0 left) (drop-append_seam more tail)) in
@@ -97,7 +101,8 @@ module _ (line : ℕ) where
 
   word_read :
       (token : RuleToken) (b : ℕ) (more tail : List ℕ) → is_blank b ≡ false → first_token (b ∷ (more ++ tail)) ≡ word_token (first_word (b ∷ (more ++ tail)))
-      → list_all is_word_byte (b ∷ more) ≡ true → word_token (b ∷ more) ≡ Ok (kinds.Word, suc (length more)) → meant kinds.Word (b ∷ more) ≡ Ok token → Ends tail → Reads token (b ∷ more) tail
+      → list_all is_word_byte (b ∷ more) ≡ true → word_token (b ∷ more) ≡ Ok (kinds.Word, suc (length more))
+      → meant kinds.Word (b ∷ more) ≡ Ok token → Ends tail → Reads token (b ∷ more) tail
   word_read token b more tail dense first all known means ends =
       let len : prefix_len is_word_byte (b ∷ (more ++ tail)) ≡ length (b ∷ more) = run_prefix is_word_byte (b ∷ more) tail all (ends_word ends) in
       let run : first_word (b ∷ (more ++ tail)) ≡ b ∷ more = ap (λ n. take n (b ∷ (more ++ tail))) len ∙ take-append_seam (b ∷ more) tail in
@@ -114,7 +119,8 @@ module _ (line : ℕ) where
       → quoted_token kind code (quoted_len close ((quoted text ++ close ∷ []) ++ tail)) ≡ Ok (kind, suc (length (quoted text ++ close ∷ [])))
   marked_first kind code close text tail found =
       let size : 2 + length (quoted text) ≡ suc (length (quoted text ++ close ∷ [])) = omega (arith, length-append (quoted text) (close ∷ [])) in
-      ap (λ text. quoted_token kind code (quoted_len close text)) (append_assoc (quoted text) (close ∷ []) tail) ∙ (ap (λ found. quoted_token kind code found) found ∙ ap (λ n. Ok (kind, n)) size)
+      ap (λ text. quoted_token kind code (quoted_len close text)) (append_assoc (quoted text) (close ∷ []) tail)
+      ∙ (ap (λ found. quoted_token kind code found) found ∙ ap (λ n. Ok (kind, n)) size)
 
   name_read : (name tail : List ℕ) → NameReads name → Reads (Name name) (token_text (Name name)) tail
   name_read name tail is =
@@ -129,17 +135,21 @@ module _ (line : ℕ) where
   number_read : (n : ℤ) (tail : List ℕ) → IsSmall n → Ends tail → Reads (Literal (Number n)) (number_text n) tail
   number_read n tail small ends =
       let bytes = number_bytes n small in
-      subst (λ text. Reads (Literal (Number n)) text tail) (sym bytes.is) (by bytes.first bytes.more bytes.begins (ap (λ text. list_all is_number_byte text) (sym bytes.is) ∙ bytes.all) (ap number_of (sym bytes.is) ∙ small_again n small))
+      subst (λ text. Reads (Literal (Number n)) text tail) (sym bytes.is)
+      (by bytes.first bytes.more bytes.begins (ap (λ text. list_all is_number_byte text) (sym bytes.is) ∙ bytes.all) (ap number_of (sym bytes.is) ∙ small_again n small))
     where
-      by : (b : ℕ) (more : List ℕ) → begins_number b ≡ true → list_all is_number_byte (b ∷ more) ≡ true → number_of (b ∷ more) ≡ IsNumber n → Reads (Literal (Number n)) (b ∷ more) tail
+      by : (b : ℕ) (more : List ℕ) → begins_number b ≡ true → list_all is_number_byte (b ∷ more) ≡ true
+          → number_of (b ∷ more) ≡ IsNumber n → Reads (Literal (Number n)) (b ∷ more) tail
       by b more begins all is =
           let bracket : (b == 91) ≡ false = grind (arith, nat_tests) in
           let quote : (b == 34) ≡ false = grind (arith, nat_tests) in
           let dense : is_blank b ≡ false = grind (arith, nat_tests) in
           let len : prefix_len is_number_byte (b ∷ (more ++ tail)) ≡ length (b ∷ more) = run_prefix is_number_byte (b ∷ more) tail all (ends_number ends) in
           let run : number_run (b ∷ (more ++ tail)) ≡ b ∷ more = ap (λ n. take n (b ∷ (more ++ tail))) len ∙ take-append_seam (b ∷ more) tail in
-          let first : first_token (b ∷ (more ++ tail)) ≡ number_token (length (number_run (b ∷ (more ++ tail)))) (number_of (number_run (b ∷ (more ++ tail)))) = rw (bracket, quote, begins) refl in
-          one_read (Literal (Number n)) b more tail dense kinds.Number (first ∙ (ap (λ run. number_token (length run) (number_of run)) run ∙ ap (λ read. number_token (suc (length more)) read) is))
+          let first : first_token (b ∷ (more ++ tail)) ≡ number_token (length (number_run (b ∷ (more ++ tail)))) (number_of (number_run (b ∷ (more ++ tail)))) =
+          rw (bracket, quote, begins) refl in
+          one_read (Literal (Number n)) b more tail dense kinds.Number
+          (first ∙ (ap (λ run. number_token (length run) (number_of run)) run ∙ ap (λ read. number_token (suc (length more)) read) is))
           (ap number_meant is)
 
   relation_read : (rel : RawRel) (tail : List ℕ) → Ends tail → Reads (Relation rel) (relation_text rel) tail

@@ -1,5 +1,6 @@
 -- A text without the backslashes that quote, from place to place.
-use Rattle.std.proofs.Common.{◌≡◌, ℕ, ◌+◌, ◌-◌, ◌<◌, ◌≤◌, true, false, List, [], ◌∷◌, ◌++◌, length, take, drop, get_or, refl, ap, sym, subst, arith, ◌∙◌, append_assoc, get_or-drop, length-drop}
+use Rattle.std.proofs.Common.{◌≡◌, ℕ, ◌+◌, ◌-◌, ◌<◌, ◌≤◌, true, false, List, [], ◌∷◌, ◌++◌, length, take, drop}
+use Rattle.std.proofs.Common.{get_or, refl, ap, sym, subst, arith, ◌∙◌, append_assoc, get_or-drop, length-drop}
 use Rattle.std.proofs.lemmas.Bool.Decides.{nat_tests}
 use Rattle.std.proofs.lemmas.List.{drop-drop, take_more}
 use Rattle.std.proofs.lemmas.Str.{IsCharBoundary-after_ascii, IsCharBoundary-start}
@@ -44,7 +45,8 @@ module _ (text plain : List ℕ) (start at : ℕ) (here : Unquoting text plain s
   passes quotes =
       let rest : unquoted (drop at text) ≡ get_or text at 0 ∷ unquoted (drop (at + 1) text) =
       plain_here (drop at text) left quotes
-      ∙ (ap (λ byte. byte ∷ unquoted (drop 1 (drop at text))) (place 0 ∙ ap (λ k. get_or text k 0) (omega arith)) ∙ ap (λ behind. get_or text at 0 ∷ unquoted behind) (drop-drop 1 at text)) in
+      ∙ (ap (λ byte. byte ∷ unquoted (drop 1 (drop at text))) (place 0 ∙ ap (λ k. get_or text k 0) (omega arith))
+      ∙ ap (λ behind. get_or text at 0 ∷ unquoted behind) (drop-drop 1 at text)) in
       let longer : at + 1 - start ≡ (at - start) + 1 = omega (arith, here.order) in
       let fits : at - start < length (drop start text) = omega (arith, length-drop start text, here.order) in
       let last : get_or (drop start text) (at - start) 0 ≡ get_or text at 0 = get_or-drop start text (at - start) 0 ∙ ap (λ k. get_or text k 0) (omega (arith, here.order)) in
@@ -58,7 +60,8 @@ module _ (text plain : List ℕ) (start at : ℕ) (here : Unquoting text plain s
         same = here.same
             ∙ ap (λ behind. plain ++ behind)
             (ap (λ behind. take (at - start) (drop start text) ++ behind) rest
-            ∙ (sym (append_assoc (take (at - start) (drop start text)) (get_or text at 0 ∷ []) (unquoted (drop (at + 1) text))) ∙ ap (λ piece. piece ++ unquoted (drop (at + 1) text)) (sym piece)));
+            ∙ (sym (append_assoc (take (at - start) (drop start text)) (get_or text at 0 ∷ []) (unquoted (drop (at + 1) text)))
+            ∙ ap (λ piece. piece ++ unquoted (drop (at + 1) text)) (sym piece)));
       }
 
   -- at a backslash that quotes: the piece before it is copied

@@ -8,7 +8,8 @@ use Rattle.model_lex.specs.declared.diag.DiagCode.TheVariants.{PredicateExpected
 use Rattle.constraint_ast.specs.Trees.{Tree, Trees, Leaf, Negated, End, More, all_of, any_of, Plain, IfThen, IfElse, RuleTree}
 use Rattle.constraint_ast.specs.declared.token.LineToken.{LineToken}
 use Rattle.constraint_ast.specs.declared.token.RuleToken.{RuleToken}
-use Rattle.constraint_ast.specs.declared.token.RuleToken.TheVariants.{Name, Literal, Relation, If, Then, Else, And, Or, Not, In, Like, Sign, OpenParen, CloseParen, OpenBrace, CloseBrace, Comma, Semicolon}
+use Rattle.constraint_ast.specs.declared.token.RuleToken.TheVariants.{Name, Literal, Relation, If, Then, Else, And, Or, Not, In, Like}
+use Rattle.constraint_ast.specs.declared.token.RuleToken.TheVariants.{Sign, OpenParen, CloseParen, OpenBrace, CloseBrace, Comma, Semicolon}
 use Rattle.constraint_ast.specs.declared.token.Sign as signs
 use Rattle.constraint_ast.specs.declared.token.Sign.TheVariants as signs_of
 use Rattle.constraint_ast.specs.declared.tree.RawRel.{RawRel}

@@ -40,7 +40,8 @@ LinesHaveOneReading = (lines : List (ℕ × List ℕ)) → HaveOneReading lines
 
 -- the line of a constraint that some lines spell, read as the only one, spells the constraint again, at this line
 abbrev pub RuleTextReadsBack : Type 0
-RuleTextReadsBack = (lines : List (ℕ × List ℕ)) (rules : List RuleTree) (line : ℕ) → Spell lines rules → All (λ rule. Spell ((line, rule_text rule) ∷ []) (rule_at line rule ∷ [])) rules
+RuleTextReadsBack = (lines : List (ℕ × List ℕ)) (rules : List RuleTree) (line : ℕ)
+    → Spell lines rules → All (λ rule. Spell ((line, rule_text rule) ∷ []) (rule_at line rule ∷ [])) rules
 
 -- and it opens the constraints of a file
 abbrev pub RuleTextOpens : Type 0

@@ -8,7 +8,8 @@ use Rattle.constraint_ast.specs.Trees.{Tree, Trees, Leaf, Negated, End, added, a
 use Rattle.constraint_ast.specs.Grammar.{sign_term}
 use Rattle.constraint_ast.specs.declared.token.LineToken.{LineToken}
 use Rattle.constraint_ast.specs.declared.token.RuleToken.{RuleToken}
-use Rattle.constraint_ast.specs.declared.token.RuleToken.TheVariants.{Name, Literal, Relation, If, Then, Else, And, Or, Not, In, Like, Sign, OpenParen, CloseParen, OpenBrace, CloseBrace, Comma, Semicolon}
+use Rattle.constraint_ast.specs.declared.token.RuleToken.TheVariants.{Name, Literal, Relation, If, Then, Else, And, Or, Not, In, Like}
+use Rattle.constraint_ast.specs.declared.token.RuleToken.TheVariants.{Sign, OpenParen, CloseParen, OpenBrace, CloseBrace, Comma, Semicolon}
 use Rattle.constraint_ast.specs.declared.token.Sign as signs
 use Rattle.constraint_ast.specs.declared.tree.RawRel.{RawRel}
 use Rattle.constraint_ast.specs.declared.tree.RawLiteral.{RawLiteral}

@@ -1,10 +1,12 @@
 -- The line that writes a constraint's tree. (The language is that of PICT's guide; which of its
 -- spellings is written is this project's rule.)
-use Rattle.std.specs.Prelude.{ℕ, zero, suc, ◌+◌, ◌/◌, ◌%◌, ◌^◌, ℤ, pos, negsuc, Bool, true, false, ◌||◌, List, [], ◌∷◌, ◌++◌, ◌==◌, if◌then◌else◌, codes, decimal}
+use Rattle.std.specs.Prelude.{ℕ, zero, suc, ◌+◌, ◌/◌, ◌%◌, ◌^◌, ℤ, pos, negsuc, Bool, true, false}
+use Rattle.std.specs.Prelude.{◌||◌, List, [], ◌∷◌, ◌++◌, ◌==◌, if◌then◌else◌, codes, decimal}
 use Rattle.model_lex.specs.Tokens.{is_quotable}
 use Rattle.constraint_ast.specs.Trees.{Tree, Trees, Leaf, Negated, Each, Either, End, More, BodyTree, Plain, IfThen, IfElse, RuleTree}
 use Rattle.constraint_ast.specs.declared.token.RuleToken.{RuleToken}
-use Rattle.constraint_ast.specs.declared.token.RuleToken.TheVariants.{Name, Literal, Relation, If, Then, Else, And, Or, Not, In, Like, Sign, OpenParen, CloseParen, OpenBrace, CloseBrace, Comma, Semicolon}
+use Rattle.constraint_ast.specs.declared.token.RuleToken.TheVariants.{Name, Literal, Relation, If, Then, Else, And, Or, Not, In, Like}
+use Rattle.constraint_ast.specs.declared.token.RuleToken.TheVariants.{Sign, OpenParen, CloseParen, OpenBrace, CloseBrace, Comma, Semicolon}
 use Rattle.constraint_ast.specs.declared.token.Sign.TheVariants.{Negative, Positive}
 use Rattle.constraint_ast.specs.declared.tree.RawRel.{RawRel}
 use Rattle.constraint_ast.specs.declared.tree.RawRel.TheVariants.{Eq, Ne, Gt, Ge, Lt, Le}

@@ -4,7 +4,8 @@ ghost use Rattle.constraint_ast.specs.Lexing.{AreRefused, Spell};
 ghost use Rattle.constraint_ast.specs.Trees.{RuleTree, tree_of, body_tree, rule_tree, Negated, End};
 ghost use Rattle.constraint_ast.specs.Grammar.{AreRules, Refused, at, last_line, most_open, refusal_line};
 ghost use Rattle.constraint_ast.specs.Machine.{Around, Between, InElse, InIf, InPlain, InThen, Liked, Listed, Named, NamedNot, Need, Opened, Paren, Part, Related, Signed, SignOpened, Top, close, run};
-ghost use Rattle.constraint_ast.specs.Reading.{GoesOnAnd, GoesOnIf, GoesOnOr, IfRefused, ReadsRule, RefusesRules, before_pred, begins_and, begins_if, begins_or, first_line, ReadsBody, ReadsPred, ReadsLiteral, ReadsLiterals, ReadsUnit, ReadsUnits, RefusesBody, RefusesLiteral, RefusesLiterals, RefusesPred, RefusesUnit, RefusesUnits};
+ghost use Rattle.constraint_ast.specs.Reading.{GoesOnAnd, GoesOnIf, GoesOnOr, IfRefused, ReadsRule, RefusesRules, before_pred, begins_and, begins_if, begins_or, first_line, ReadsBody, ReadsPred};
+ghost use Rattle.constraint_ast.specs.Reading.{ReadsLiteral, ReadsLiterals, ReadsUnit, ReadsUnits, RefusesBody, RefusesLiteral, RefusesLiterals, RefusesPred, RefusesUnit, RefusesUnits};
 
 use crate::lexer::read_tokens;
 use crate::token::{LineToken, RuleToken, Sign};
@@ -500,7 +501,8 @@ pub fn parse_rules(alloc: Global, sections: &Sections<'_>) -> Result<RawRuleList
     requires { AreSections sections.now }
     ensures ok { IfOk result (λ rules. Spell (map line_seen sections.now.rules) (map rule_tree rules)) }
     ensures err { IfErr result (λ fault. IfRefused fault (AreRefused (map line_seen sections.now.rules))) }
-    ensures only { (trees : List RuleTree) → Spell (map line_seen sections.now.rules) trees → MatchResult result (λ rules. map rule_tree rules ≡ trees) (λ fault. fault ≡ ModelFault.NoMemory) }
+    ensures only { (trees : List RuleTree) → Spell (map line_seen sections.now.rules) trees →
+        MatchResult result (λ rules. map rule_tree rules ≡ trees) (λ fault. fault ≡ ModelFault.NoMemory) }
 {
     let tokens = read_tokens(alloc, sections.rules.as_slice())?;
     parse_all(alloc, tokens.as_slice())

@@ -4,8 +4,8 @@ ghost use Rattle.cov_model.specs.Rows.{is_complete};
 ghost use Rattle.row_text.specs.RowFiles.{suite_seen};
 ghost use Rattle.coverage_measure.specs.SuiteRows.{kind_of, row_counts, with_kind};
 
-use cov_model::{Cells, ParamNo, TestModel};
-use row_text::RowFile;
+use cov_model::{Cells, TestModel};
+use row_text::{RowFile, is_complete};
 
 // What a row of a suite is.
 #[derive(Drop, Clone, Copy)]
@@ -42,26 +42,13 @@ impl RowCounts {
     }
 }
 
-// Whether a partial row gives every parameter a value.
-fn is_complete(model: &TestModel, cells: &Cells) -> bool
-    requires { FitsModel model.now cells.now }
-    ensures { result ≡ is_complete cells.now }
-{
-    let count = model.params().len() as ParamNo;
-    for p in 0..count {
-        if cells.get(p).is_none() {
-            return false;
-        }
-    }
-    true
-}
-
 // What a row is.
 fn kind_of(model: &TestModel, cells: &Cells) -> RowKind
     requires { FitsModel model.now cells.now }
     ensures { result ≡ kind_of model.now cells.now }
 {
-    if !is_complete(model, cells) {
+    model.assert_invariant();
+    if !is_complete(cells) {
         return RowKind::Incomplete;
     }
     match model.row_fault(cells) {

@@ -1,5 +1,6 @@
 -- Cells put into lines and lines into a text are read back: facts on plain lists.
-use Rattle.std.proofs.Common.{◌≡◌, ℕ, ◌+◌, ◌-◌, ◌<◌, ◌≤◌, ◌≢◌, false, List, [], ◌∷◌, ◌++◌, map, length, get_or, take, ◌==◌, All, sym, refl, ap, ◌∙◌, arith, ne_eqb, eq-eqb, lt-ltb, nat_lt, ◌&&◌, filter, length-append, append_assoc, take_all, flat_map}
+use Rattle.std.proofs.Common.{◌≡◌, ℕ, ◌+◌, ◌-◌, ◌<◌, ◌≤◌, ◌≢◌, false, List, [], ◌∷◌, ◌++◌, map, length, get_or, take, ◌==◌, All, sym, refl}
+use Rattle.std.proofs.Common.{ap, ◌∙◌, arith, ne_eqb, eq-eqb, lt-ltb, nat_lt, ◌&&◌, filter, length-append, append_assoc, take_all, flat_map}
 use Rattle.std.specs.List.{slice_split, join_with_byte, prefix_len, suffix_len, enumerate_from}
 use Rattle.std.proofs.lemmas.List.Splits.{slice_split_none, slice_split_at}
 use Rattle.std.proofs.lemmas.List.Elements.{All-head, All-tail, All-weaker, All-nil, All-cons, All-append, All-map}

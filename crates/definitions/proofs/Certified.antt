@@ -1,5 +1,6 @@
 -- A report and a proof that are accepted certify the covering: the verdict taken apart.
-use Rattle.std.proofs.Common.{◌≡◌, ℕ, Bool, true, false, ◌&&◌, ◌||◌, not, List, [], ◌∷◌, map, length, Option, Some, None, Result, Ok, Err, find, All, ◌⊎◌, inl, inr, ◌∙◌, sym, ap, refl}
+use Rattle.std.proofs.Common.{◌≡◌, ℕ, Bool, true, false, ◌&&◌, ◌||◌, not, List, [], ◌∷◌, map, length, Option}
+use Rattle.std.proofs.Common.{Some, None, Result, Ok, Err, find, All, ◌⊎◌, inl, inr, ◌∙◌, sym, ap, refl}
 use Rattle.std.specs.List.{list_all, list_any, Any}
 use Rattle.std.proofs.lemmas.Bool.{false≢true, false_from_ne_true, and_from}
 use Rattle.std.proofs.lemmas.List.Elements.{All-weaker, All-head, All-tail}

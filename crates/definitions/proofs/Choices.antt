@@ -1,5 +1,6 @@
 -- The completions of a partial row are the choices of values that contain it.
-use Rattle.std.proofs.Common.{◌≡◌, ℕ, zero, suc, ◌<◌, Bool, true, false, cond, List, [], ◌∷◌, map, length, get_or, Option, Some, None, is_some, unwrap_or, inl, inr, ap, subst, refl, arith}
+use Rattle.std.proofs.Common.{◌≡◌, ℕ, zero, suc, ◌<◌, Bool, true, false, cond, List, [], ◌∷◌, map, length}
+use Rattle.std.proofs.Common.{get_or, Option, Some, None, is_some, unwrap_or, inl, inr, ap, subst, refl, arith}
 use Rattle.std.specs.Prelude.{◌==◌}
 use Rattle.std.proofs.lemmas.Bool.{false≢true, and_parts, and_from, eqb-true, eq-eqb}
 use Rattle.cov_model.specs.Rows.{contains, value_in}

@@ -21,10 +21,12 @@ sized-negative_columns : column_order sized (Negative 2 2) ≡ 0 ∷ 1 ∷ 2 ∷
 sized-negative_columns = refl
 
 -- in the order of the list that is handed over, without the values outside the slice
-sized-values : preferred_values sized ((1 ∷ 0 ∷ []) ∷ (0 ∷ []) ∷ (2 ∷ 1 ∷ 0 ∷ []) ∷ (1 ∷ 0 ∷ []) ∷ []) Positive ≡ (1 ∷ 0 ∷ []) ∷ (0 ∷ []) ∷ (1 ∷ 0 ∷ []) ∷ (0 ∷ []) ∷ []
+sized-values : preferred_values sized ((1 ∷ 0 ∷ []) ∷ (0 ∷ []) ∷ (2 ∷ 1 ∷ 0 ∷ []) ∷ (1 ∷ 0 ∷ []) ∷ []) Positive
+    ≡ (1 ∷ 0 ∷ []) ∷ (0 ∷ []) ∷ (1 ∷ 0 ∷ []) ∷ (0 ∷ []) ∷ []
 sized-values = refl
 
-sized-negative_values : preferred_values sized ((1 ∷ 0 ∷ []) ∷ (0 ∷ []) ∷ (2 ∷ 1 ∷ 0 ∷ []) ∷ (1 ∷ 0 ∷ []) ∷ []) (Negative 2 2) ≡ (1 ∷ 0 ∷ []) ∷ (0 ∷ []) ∷ (2 ∷ []) ∷ (0 ∷ []) ∷ []
+sized-negative_values : preferred_values sized ((1 ∷ 0 ∷ []) ∷ (0 ∷ []) ∷ (2 ∷ 1 ∷ 0 ∷ []) ∷ (1 ∷ 0 ∷ []) ∷ []) (Negative 2 2)
+    ≡ (1 ∷ 0 ∷ []) ∷ (0 ∷ []) ∷ (2 ∷ []) ∷ (0 ∷ []) ∷ []
 sized-negative_values = refl
 
 -- a parameter with negative values alone is the last column of the positive slice, where no row stands

@@ -77,7 +77,8 @@ bytes-most = refl
 
 names : Diagnostics.count_limit_line Parameters 257 ++ Diagnostics.count_limit_line Names 65 ++ Diagnostics.count_limit_line Constraints 4097
     ++ Diagnostics.count_limit_line Rows 1048577 ++ Diagnostics.count_limit_line SuspectCandidates 4194305
-    ≡ codes "error: limit: parameters 257 above 256\nerror: limit: names 65 above 64\nerror: limit: constraints 4097 above 4096\nerror: limit: rows 1048577 above 1048576\nerror: limit: suspect candidates 4194305 above 4194304\n"
+    ≡ codes "error: limit: parameters 257 above 256\nerror: limit: names 65 above 64\nerror: limit: constraints 4097 above 4096\n"
+    ++ codes "error: limit: rows 1048577 above 1048576\nerror: limit: suspect candidates 4194305 above 4194304\n"
 unfolding digits
 names = refl
 

@@ -1,5 +1,5 @@
 -- Figures, statistics and their texts, computed on small models.
-use Rattle.std.specs.Prelude.{◌≡◌, [], ◌∷◌, codes, refl}
+use Rattle.std.specs.Prelude.{◌≡◌, [], ◌∷◌, ◌++◌, codes, refl}
 use Rattle.std.specs.Fmt.{digits}
 use Rattle.definitions.specs.Figures.{figures}
 use Rattle.definitions.specs.Statistics.{statistics, statistics_text, figures_text}
@@ -8,7 +8,8 @@ use Rattle.definitions.proofs.Models.{row, table, bound, negative, mixed, barred
 
 -- two tests, a row without a value of B and one that isn't valid; the pair of 1 and y is served by no row
 bound-text : figures_text (figures bound (table (codes "00 10 01 1_")))
-    ≡ codes "Tests: 2\nIncomplete tests: 1\nInvalid tests: 1\nDemanded sets: 1\nDemanded tuples: 4\nCovered tuples: 2 of 3\nComplete sets: 0 of 1\nSets at 75 percent: 0 of 1\nSets at 50 percent: 1 of 1\nSets at 25 percent: 1 of 1\n"
+    ≡ codes "Tests: 2\nIncomplete tests: 1\nInvalid tests: 1\nDemanded sets: 1\nDemanded tuples: 4\nCovered tuples: 2 of 3\n"
+    ++ codes "Complete sets: 0 of 1\nSets at 75 percent: 0 of 1\nSets at 50 percent: 1 of 1\nSets at 25 percent: 1 of 1\n"
 unfolding digits
 bound-text = refl
 

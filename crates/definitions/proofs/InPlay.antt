@@ -1,5 +1,6 @@
 -- The tuples that growth meets in a slice are the demanded tuples of the slice, each for one column.
-use Rattle.std.proofs.Common.{◌≡◌, ℕ, zero, suc, ◌+◌, ◌<◌, ◌≤◌, Bool, true, false, cond, List, [], ◌∷◌, map, length, get_or, sum_by, Option, Some, None, is_some, unwrap_or, inl, inr, ◌∙◌, sym, ap, subst, refl, arith, zero-add}
+use Rattle.std.proofs.Common.{◌≡◌, ℕ, zero, suc, ◌+◌, ◌<◌, ◌≤◌, Bool, true, false, cond, List, [], ◌∷◌, map, length, get_or}
+use Rattle.std.proofs.Common.{sum_by, Option, Some, None, is_some, unwrap_or, inl, inr, ◌∙◌, sym, ap, subst, refl, arith, zero-add}
 use Rattle.std.specs.Prelude.{◌==◌}
 use Rattle.std.specs.List.{filter, flat_map, last_or}
 use Rattle.std.specs.Option.{option_map_or}

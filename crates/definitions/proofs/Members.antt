@@ -1,5 +1,6 @@
 -- The members of a list, by recursion on it.
-use Rattle.std.proofs.Common.{◌≡◌, ℕ, zero, suc, ◌+◌, ◌<◌, ◌≤◌, Bool, true, false, cond, List, [], ◌∷◌, ◌++◌, map, length, get_or, All, Option, Some, None, ◌⊎◌, inl, inr, ◌∙◌, sym, ap, subst, refl, arith}
+use Rattle.std.proofs.Common.{◌≡◌, ℕ, zero, suc, ◌+◌, ◌<◌, ◌≤◌, Bool, true, false, cond, List, [], ◌∷◌, ◌++◌, map}
+use Rattle.std.proofs.Common.{length, get_or, All, Option, Some, None, ◌⊎◌, inl, inr, ◌∙◌, sym, ap, subst, refl, arith}
 use Rattle.std.specs.Prelude.{Contains, ◌==◌, find, filter_map}
 use Rattle.std.specs.List.{cons_option, filter, flat_map, list_any, list_all, range_with_len}
 use Rattle.std.proofs.lemmas.Bool.{false≢true, cases_eq, eq-eqb, eqb-true, and_parts, and_from, or_cases, or_left, or_right}

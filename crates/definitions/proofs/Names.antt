@@ -1,5 +1,6 @@
 -- Names under the case rule: a name is a cell, and printed names differ where the names do.
-use Rattle.std.proofs.Common.{◌≡◌, ℕ, ◌+◌, ◌-◌, ◌<◌, ◌≤◌, ◌≢◌, Bool, true, false, List, [], ◌∷◌, ◌++◌, length, get_or, take, ◌==◌, All, AllPairs, flat_map, sym, refl, subst, subst₂, if◌then◌else◌, arith, ne_eqb, length-take, le_of_lt, ltb-true, eqb-true, nat_eq, suc}
+use Rattle.std.proofs.Common.{◌≡◌, ℕ, ◌+◌, ◌-◌, ◌<◌, ◌≤◌, ◌≢◌, Bool, true, false, List, [], ◌∷◌, ◌++◌, length, get_or, take, ◌==◌, All, AllPairs}
+use Rattle.std.proofs.Common.{flat_map, sym, refl, subst, subst₂, if◌then◌else◌, arith, ne_eqb, length-take, le_of_lt, ltb-true, eqb-true, nat_eq, suc}
 use Rattle.std.proofs.lemmas.Bool.{and_parts, and_left, and_right, not-true, both_ways, false_from_ne_true}
 use Rattle.std.proofs.lemmas.Bool.Decides.{nat_tests}
 use Rattle.std.proofs.lemmas.Slice.Eq.{bytes_eq-Decides}
@@ -70,7 +71,8 @@ apart R f xs u v j k e d pairs before within in_u in_v =
 
 -- the parts of what a name is
 name_parts : (text : List ℕ) → is_name text ≡ true
-    → (0 < length text) × (is_blank (get_or text 0 0) ≡ false) × (is_blank (get_or text (length text - 1) 0) ≡ false) × All (λ byte. is_plain byte ≡ true) text × (list_any (λ c. c == 0xfeff) (chars text) ≡ false)
+    → (0 < length text) × (is_blank (get_or text 0 0) ≡ false) × (is_blank (get_or text (length text - 1) 0) ≡ false)
+    × All (λ byte. is_plain byte ≡ true) text × (list_any (λ c. c == 0xfeff) (chars text) ≡ false)
 name_parts text is =
     let outer = and_parts _ _ is in
     let inner = and_parts _ _ outer.0 in

@@ -1,5 +1,6 @@
 -- The pairs of a partial row: one place after another, that their parameters rise, and that they give it again.
-use Rattle.std.proofs.Common.{◌≡◌, ℕ, zero, suc, set, replicate, zero-add, sym, ◌+◌, ◌<◌, ◌≤◌, List, [], ◌∷◌, ◌++◌, take, length, get_or, Option, Some, None, ◌∙◌, ap, refl, inl, inr, arith}
+use Rattle.std.proofs.Common.{◌≡◌, ℕ, zero, suc, set, replicate, zero-add, sym, ◌+◌, ◌<◌, ◌≤◌, List, [], ◌∷◌}
+use Rattle.std.proofs.Common.{◌++◌, take, length, get_or, Option, Some, None, ◌∙◌, ap, refl, inl, inr, arith}
 use Rattle.std.proofs.lemmas.List.{take_more, length-take-le, replicate_more, append_assoc, append-nil}
 use Rattle.cov_model.specs.Tuples.{IsRising}
 use Rattle.definitions.specs.Pairs.{cells_of, pairs_from, pairs_of}

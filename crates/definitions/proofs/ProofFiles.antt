@@ -1,5 +1,6 @@
 -- Proof files are read back, and each has one text.
-use Rattle.std.proofs.Common.{◌≡◌, ℕ, ◌+◌, ◌<◌, false, List, [], ◌∷◌, ◌++◌, flat_map, length, Option, Some, None, Result, Ok, Err, All, ◌⊎◌, inl, inr, ◌∙◌, sym, ap, subst, refl, arith, append_assoc, eqb-true}
+use Rattle.std.proofs.Common.{◌≡◌, ℕ, ◌+◌, ◌<◌, false, List, [], ◌∷◌, ◌++◌, flat_map, length, Option, Some, None, Result}
+use Rattle.std.proofs.Common.{Ok, Err, All, ◌⊎◌, inl, inr, ◌∙◌, sym, ap, subst, refl, arith, append_assoc, eqb-true}
 use Rattle.std.specs.Prelude.{◌==◌, codes, bytes_eq, option_and_then}
 use Rattle.std.specs.Option.{option_zip}
 use Rattle.std.specs.List.{join_with_byte, slice_split, before_first, after_first}
@@ -10,7 +11,8 @@ use Rattle.std.proofs.lemmas.List.Elements.{All-from_recursion}
 use Rattle.std.proofs.lemmas.List.Splits.{slice_split_at, join_with_byte-slice_split}
 use Rattle.cov_model.specs.Sound.{ModelView, IsSound}
 use Rattle.definitions.specs.Refutation.{Token}
-use Rattle.definitions.specs.ProofText.{Omission, omission_line, format_line, proof_text, read_each, read_pair, read_token, proper, is_colon, read_omission_words, read_omission, before_lines, read_lines, with_format, read_pieces, omissions_of}
+use Rattle.definitions.specs.ProofText.{Omission, omission_line, format_line, proof_text, read_each, read_pair, read_token, proper, is_colon}
+use Rattle.definitions.specs.ProofText.{read_omission_words, read_omission, before_lines, read_lines, with_format, read_pieces, omissions_of}
 use Rattle.definitions.specs.Laws.{IsOmissionOf, ProofsReadBack, ProofsHaveOneText}
 use Rattle.definitions.proofs.Members.{Has, all_members, member_of_all}
 use Rattle.definitions.proofs.ProofLines.{words_of, line_of, line_lacks, omission_reads, words_spell}
@@ -92,9 +94,11 @@ pieces_read m format [] (inl one) =
 pieces_read m format [] (inr two) =
     subst (λ f. read_pieces m ((codes "pict-proof " ++ (48 + f) ∷ []) ∷ pieces_of []) ≡ with_format f (read_lines m f 2 (pieces_of []))) (sym two) refl
 pieces_read m format (omission ∷ omissions) (inl one) =
-    subst (λ f. read_pieces m ((codes "pict-proof " ++ (48 + f) ∷ []) ∷ pieces_of (omission ∷ omissions)) ≡ with_format f (read_lines m f 2 (pieces_of (omission ∷ omissions)))) (sym one) refl
+    subst (λ f. read_pieces m ((codes "pict-proof " ++ (48 + f) ∷ []) ∷ pieces_of (omission ∷ omissions))
+    ≡ with_format f (read_lines m f 2 (pieces_of (omission ∷ omissions)))) (sym one) refl
 pieces_read m format (omission ∷ omissions) (inr two) =
-    subst (λ f. read_pieces m ((codes "pict-proof " ++ (48 + f) ∷ []) ∷ pieces_of (omission ∷ omissions)) ≡ with_format f (read_lines m f 2 (pieces_of (omission ∷ omissions)))) (sym two) refl
+    subst (λ f. read_pieces m ((codes "pict-proof " ++ (48 + f) ∷ []) ∷ pieces_of (omission ∷ omissions))
+    ≡ with_format f (read_lines m f 2 (pieces_of (omission ∷ omissions)))) (sym two) refl
 
 pub proofs_read_back : ProofsReadBack
 proofs_read_back m format omissions sound known are =

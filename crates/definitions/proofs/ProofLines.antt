@@ -1,5 +1,6 @@
 -- The lines of a proof file are read back.
-use Rattle.std.proofs.Common.{◌≡◌, ℕ, ◌<◌, ◌≤◌, Bool, true, false, ◌&&◌, cond, List, [], ◌∷◌, ◌++◌, map, length, get_or, Option, Some, None, All, inl, inr, ◌∙◌, ap, subst, refl, arith, lt-ltb, ne_eqb, length-append}
+use Rattle.std.proofs.Common.{◌≡◌, ℕ, ◌<◌, ◌≤◌, Bool, true, false, ◌&&◌, cond, List, [], ◌∷◌, ◌++◌, map, length, get_or}
+use Rattle.std.proofs.Common.{Option, Some, None, All, inl, inr, ◌∙◌, ap, subst, refl, arith, lt-ltb, ne_eqb, length-append}
 use Rattle.std.specs.Prelude.{◌==◌, nat_lt, decimal, codes, option_map, option_and_then}
 use Rattle.std.specs.Option.{option_zip}
 use Rattle.std.specs.List.{join_with_byte, before_first, after_first}

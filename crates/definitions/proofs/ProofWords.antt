@@ -1,5 +1,6 @@
 -- The pairs and tokens of a proof line are read back.
-use Rattle.std.proofs.Common.{◌≡◌, ℕ, ◌-◌, ◌^◌, ◌<◌, ◌≤◌, Bool, true, false, ◌&&◌, List, [], ◌∷◌, ◌++◌, length, get_or, Option, Some, None, All, inl, inr, ◌∙◌, sym, ap, subst, refl, arith, lt-ltb, le-leb, eq-eqb, ne_eqb}
+use Rattle.std.proofs.Common.{◌≡◌, ℕ, ◌-◌, ◌^◌, ◌<◌, ◌≤◌, Bool, true, false, ◌&&◌, List, [], ◌∷◌, ◌++◌, length, get_or, Option}
+use Rattle.std.proofs.Common.{Some, None, All, inl, inr, ◌∙◌, sym, ap, subst, refl, arith, lt-ltb, le-leb, eq-eqb, ne_eqb}
 use Rattle.std.specs.Prelude.{◌==◌, nat_lt, nat_le, decimal, option_map, option_and_then}
 use Rattle.std.specs.List.{before_first, after_first, list_any}
 use Rattle.std.specs.Int.{IsInRange}

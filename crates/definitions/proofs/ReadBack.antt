@@ -1,5 +1,6 @@
 -- Reading a report gives its rows.
-use Rattle.std.proofs.Common.{◌≡◌, ℕ, ◌+◌, ◌<◌, true, false, List, [], ◌∷◌, ◌++◌, map, filter, length, All, Option, nat_lt, nat_eq, refl, ap, ap₂, ◌∙◌, arith, le-ltb, ◌||◌, not, ◌==◌, Bool, append_assoc, if◌then◌else◌}
+use Rattle.std.proofs.Common.{◌≡◌, ℕ, ◌+◌, ◌<◌, true, false, List, [], ◌∷◌, ◌++◌, map, filter, length, All, Option, nat_lt}
+use Rattle.std.proofs.Common.{nat_eq, refl, ap, ap₂, ◌∙◌, arith, le-ltb, ◌||◌, not, ◌==◌, Bool, append_assoc, if◌then◌else◌}
 use Rattle.std.specs.List.{list_any, enumerate_from, starts_with}
 use Rattle.std.proofs.lemmas.Bool.{cond-false, or_from}
 use Rattle.std.proofs.lemmas.List.{length-map}

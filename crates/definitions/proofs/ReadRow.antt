@@ -1,5 +1,7 @@
 -- Reading the line of a row gives the row.
-use Rattle.std.proofs.Common.{◌≡◌, ℕ, suc, zero, ◌+◌, ◌%◌, ◌<◌, ◌≤◌, Bool, true, false, List, [], ◌∷◌, map, filter, length, get_or, ◌==◌, All, AllPairs, flat_map, Option, Some, None, is_some, position, sym, refl, ap, ap₂, ◌∙◌, subst, ⊎_elim, arith, ne_eqb, eq-eqb, unwrap_or, true≢false, ltb-true, eqb-true, mod-lt, zero-add}
+use Rattle.std.proofs.Common.{◌≡◌, ℕ, suc, zero, ◌+◌, ◌%◌, ◌<◌, ◌≤◌, Bool, true, false, List, [], ◌∷◌, map, filter, length, get_or}
+use Rattle.std.proofs.Common.{◌==◌, All, AllPairs, flat_map, Option, Some, None, is_some, position, sym, refl, ap, ap₂, ◌∙◌}
+use Rattle.std.proofs.Common.{subst, ⊎_elim, arith, ne_eqb, eq-eqb, unwrap_or, true≢false, ltb-true, eqb-true, mod-lt, zero-add}
 use Rattle.std.specs.List.{list_any, range_with_len}
 use Rattle.std.proofs.lemmas.Bool.{and_parts, cond-true, cond-false, cases_eq}
 use Rattle.std.proofs.lemmas.List.{get_or-map, length-map, get_or_default, same_lists}

@@ -1,5 +1,6 @@
 -- A suite that is read without a fault has the rows that its bytes hold.
-use Rattle.std.proofs.Common.{◌≡◌, ℕ, Bool, true, false, ◌&&◌, ◌||◌, not, cond, List, [], ◌∷◌, map, length, Option, Some, None, Result, Ok, Err, find, nat_lt, ◌==◌, ◌∙◌, sym, ap, refl, arith}
+use Rattle.std.proofs.Common.{◌≡◌, ℕ, Bool, true, false, ◌&&◌, ◌||◌, not, cond, List, [], ◌∷◌, map, length}
+use Rattle.std.proofs.Common.{Option, Some, None, Result, Ok, Err, find, nat_lt, ◌==◌, ◌∙◌, sym, ap, refl, arith}
 use Rattle.std.specs.List.{list_all, list_any}
 use Rattle.std.specs.Option.{option_map}
 use Rattle.std.proofs.lemmas.Bool.{false≢true, cond-false, or_from}
@@ -8,7 +9,8 @@ use Rattle.value_text.proofs.ListLemmas.{option_or_parts}
 use Rattle.cov_model.specs.Sound.{ModelView}
 use Rattle.cov_model.specs.Valid.{param_numbers}
 use Rattle.definitions.specs.RowFile.{filled_lines, cells_of_line, is_bad_header, row_of_line, rows_of_lines}
-use Rattle.definitions.specs.RowReading.{RowReading, RowsFault, Missing, Width, Twice, Suite, column_count, twice_fault, missing_fault, count_fault, width_fault, first_fault, read_under, read_numbered, unless_fault}
+use Rattle.definitions.specs.RowReading.{RowReading, RowsFault, Missing, Width, Twice, Suite, column_count, twice_fault, missing_fault}
+use Rattle.definitions.specs.RowReading.{count_fault, width_fault, first_fault, read_under, read_numbered, unless_fault}
 use Rattle.definitions.specs.Laws.{SuitesAreRead}
 use Rattle.definitions.proofs.Nothing.{is_nothing, none_found}
 

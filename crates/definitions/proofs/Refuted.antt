@@ -1,5 +1,6 @@
 -- A tuple that a list of tokens refutes is served by no row: the row's own values lead to a leaf.
-use Rattle.std.proofs.Common.{◌≡◌, ℕ, zero, suc, ◌+◌, ◌<◌, Bool, true, false, ◌&&◌, ◌||◌, not, cond, List, [], ◌∷◌, ◌++◌, map, length, Option, Some, None, is_some, is_none, All, unwrap_or, get_or, nat_eq, nat_lt, filter, ◌∙◌, sym, ap, subst, refl, arith}
+use Rattle.std.proofs.Common.{◌≡◌, ℕ, zero, suc, ◌+◌, ◌<◌, Bool, true, false, ◌&&◌, ◌||◌, not, cond, List, [], ◌∷◌, ◌++◌, map, length, Option}
+use Rattle.std.proofs.Common.{Some, None, is_some, is_none, All, unwrap_or, get_or, nat_eq, nat_lt, filter, ◌∙◌, sym, ap, subst, refl, arith}
 use Rattle.std.specs.List.{list_all, list_any, range_with_len, slice_get}
 use Rattle.std.specs.Option.{option_map_or}
 use Rattle.std.proofs.lemmas.Bool.{false≢true, false_from_ne_true, and_parts, and_from}
@@ -21,7 +22,8 @@ use Rattle.cov_model.proofs.KnownLemmas.{no_stays}
 use Rattle.cov_model.proofs.RowLemmas.{row_has_value}
 use Rattle.definitions.specs.Completion.{with_value}
 use Rattle.definitions.specs.Search.{is_no}
-use Rattle.definitions.specs.Refutation.{Token, Branch, ByRule, ByNegative, ByOmission, is_rule_leaf, is_negative_leaf, is_omission_leaf, earlier_tuple, is_branch, branches, refute_paths, refutes, first_unrefuted}
+use Rattle.definitions.specs.Refutation.{Token, Branch, ByRule, ByNegative, ByOmission, is_rule_leaf, is_negative_leaf}
+use Rattle.definitions.specs.Refutation.{is_omission_leaf, earlier_tuple, is_branch, branches, refute_paths, refutes, first_unrefuted}
 use Rattle.definitions.specs.Laws.{RefutedAreUnserved}
 use Rattle.definitions.proofs.Contained.{left, right}
 
@@ -191,7 +193,8 @@ refuted_paths m format earlier tuple row (path ∷ paths) (ByRule k ∷ tokens) 
     (refuted_paths m format earlier tuple row paths tokens s e (right (is_rule_leaf m path k) _ r))
 refuted_paths m format earlier tuple row (path ∷ paths) (ByNegative ∷ tokens) s e r =
     none_and _ _
-    (false_from_ne_true _ (λ h. none_outside (is_assigned tuple) (is_negative_at m path) (is_negative_at m row) (param_numbers m) (λ p is. negative_row m row path p h is) (right _ _ s) (left (is_negative_leaf m tuple path) _ r)))
+    (false_from_ne_true _ (λ h. none_outside (is_assigned tuple) (is_negative_at m path) (is_negative_at m row)
+    (param_numbers m) (λ p is. negative_row m row path p h is) (right _ _ s) (left (is_negative_leaf m tuple path) _ r)))
     (refuted_paths m format earlier tuple row paths tokens s e (right (is_negative_leaf m tuple path) _ r))
 refuted_paths m format earlier tuple row (path ∷ paths) (ByOmission n ∷ tokens) s e r =
     none_and _ _ (false_from_ne_true _ (λ h. on_omission m format earlier tuple row path n s e h (left (is_omission_leaf m format earlier tuple path n) _ r)))

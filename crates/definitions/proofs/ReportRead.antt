@@ -1,5 +1,6 @@
 -- A report is read as a suite: its rows in order, each on its line, and no note.
-use Rattle.std.proofs.Common.{◌≡◌, ℕ, suc, ◌+◌, ◌<◌, ◌≤◌, true, false, List, [], ◌∷◌, ◌++◌, map, filter, length, get_or, All, Option, None, Ok, is_none, nat_lt, not, ◌==◌, ◌∙◌, sym, ap, ap₂, refl, arith, le-ltb, zero-add}
+use Rattle.std.proofs.Common.{◌≡◌, ℕ, suc, ◌+◌, ◌<◌, ◌≤◌, true, false, List, [], ◌∷◌, ◌++◌, map, filter, length, get_or, All}
+use Rattle.std.proofs.Common.{Option, None, Ok, is_none, nat_lt, not, ◌==◌, ◌∙◌, sym, ap, ap₂, refl, arith, le-ltb, zero-add}
 use Rattle.std.specs.List.{enumerate_from, list_any, range_with_len}
 use Rattle.std.specs.Option.{option_map, option_map_or}
 use Rattle.std.proofs.lemmas.Bool.{cond-false, and_right}
@@ -12,7 +13,8 @@ use Rattle.cov_model.specs.Valid.{is_row, param_numbers}
 use Rattle.definitions.specs.Limits.{Rows, most_counted}
 use Rattle.definitions.specs.Report.{cell_text}
 use Rattle.definitions.specs.RowFile.{cells_of_line, named_param, named_value, row_of_line}
-use Rattle.definitions.specs.RowReading.{RowNote, UnknownColumn, UnknownValue, Missing, Width, Suite, column_count, twice_fault, missing_fault, count_fault, width_fault, first_fault, column_notes, is_unknown, value_notes, notes_under, notes_of_lines, read_under, read_numbered, unless_fault}
+use Rattle.definitions.specs.RowReading.{RowNote, UnknownColumn, UnknownValue, Missing, Width, Suite, column_count, twice_fault, missing_fault, count_fault, width_fault}
+use Rattle.definitions.specs.RowReading.{first_fault, column_notes, is_unknown, value_notes, notes_under, notes_of_lines, read_under, read_numbered, unless_fault}
 use Rattle.definitions.specs.Laws.{ReportsReadBack, ReportsAreRead}
 use Rattle.definitions.proofs.Cells.{joined, cells_of_line-joined}
 use Rattle.definitions.proofs.ReadRow.{header, header_row, columns_of-header, named_param-header, each_param, row_cells, row_cells_row, cell_text_cell, row_given, row_of_line-joined}

@@ -16,7 +16,8 @@ use Rattle.definitions.specs.Figures.{all_rows, is_served}
 use Rattle.definitions.specs.Laws.{SlicesServe, ServableAreExtendable}
 use Rattle.definitions.proofs.Members.{Has, has_contained, contains_member, has_filter, all_pass, passes_all, any_member, of_any, same_answer}
 use Rattle.definitions.proofs.Choices.{IsChoice, choice_from, choice_completes, completion_is}
-use Rattle.definitions.proofs.SliceLemmas.{values_at, is_negative, has_numbers, has_params, IsNegativeAt, of_negatives, has_negatives, IsFixedBy, negative_of, slice_of_is, row_in_slice, choice_is_valid}
+use Rattle.definitions.proofs.SliceLemmas.{values_at, is_negative, has_numbers, has_params, IsNegativeAt, of_negatives}
+use Rattle.definitions.proofs.SliceLemmas.{has_negatives, IsFixedBy, negative_of, slice_of_is, row_in_slice, choice_is_valid}
 
 -- what a row is that serves a tuple
 pub record Serves (m : ModelView) (row tuple : List (Option ℕ)) : Type 0 where

@@ -1,5 +1,6 @@
 -- What growth leaves of the tuples that it met: each is held by a row, or omitted as not extendable.
-use Rattle.std.proofs.Common.{◌≡◌, ℕ, ◌+◌, ◌≤◌, Bool, true, false, ◌||◌, not, cond, List, [], ◌∷◌, ◌++◌, length, Option, inl, inr, ◌∙◌, sym, ap, subst, refl, arith, length-append}
+use Rattle.std.proofs.Common.{◌≡◌, ℕ, ◌+◌, ◌≤◌, Bool, true, false, ◌||◌, not, cond, List, [], ◌∷◌, ◌++◌}
+use Rattle.std.proofs.Common.{length, Option, inl, inr, ◌∙◌, sym, ap, subst, refl, arith, length-append}
 use Rattle.std.specs.List.{filter, flat_map, list_all}
 use Rattle.std.proofs.lemmas.Bool.{false≢true, cases_Bool, or_left, or_right}
 use Rattle.std.proofs.lemmas.List.Elements.{filter-append}
@@ -87,9 +88,11 @@ settle_settles extends closed tuple rows =
       | inr left ↦ elim (cases_Bool (extends tuple)) [
         | inl extendable ↦ rw (left, extendable) (settled_held extends tuple rows (record { rows = rows ++ tuple ∷ []; omitted = []; asked = (join extends tuple rows).asked ++ tuple ∷ [] })
             extendable (keeps_more extends rows tuple extendable)
-            (list_any-append (λ row. contains row tuple) rows (tuple ∷ []) ∙ or_right (is_held rows tuple) (contains tuple tuple || false) (or_left (contains tuple tuple) false (contains-refl tuple)))
+            (list_any-append (λ row. contains row tuple) rows (tuple ∷ [])
+            ∙ or_right (is_held rows tuple) (contains tuple tuple || false) (or_left (contains tuple tuple) false (contains-refl tuple)))
             refl (omega (arith, length-append rows (tuple ∷ []))))
-        | inr failing ↦ rw (left, failing) (settled_omitted extends tuple rows (record { rows = rows; omitted = tuple ∷ []; asked = (join extends tuple rows).asked ++ tuple ∷ [] }) failing refl refl)
+        | inr failing ↦ rw (left, failing)
+            (settled_omitted extends tuple rows (record { rows = rows; omitted = tuple ∷ []; asked = (join extends tuple rows).asked ++ tuple ∷ [] }) failing refl refl)
       ]
     ]
 

@@ -1,5 +1,6 @@
 -- Numbers in decimal, and texts that a byte parts.
-use Rattle.std.proofs.Common.{◌≡◌, ℕ, ◌+◌, ◌^◌, ◌<◌, Bool, true, false, ◌||◌, ◌&&◌, not, cond, List, [], ◌∷◌, ◌++◌, length, get_or, take, drop, Some, None, inl, inr, ◌∙◌, sym, ap, refl, arith, rules, All, lt-ltb, ne_eqb, eq-eqb}
+use Rattle.std.proofs.Common.{◌≡◌, ℕ, ◌+◌, ◌^◌, ◌<◌, Bool, true, false, ◌||◌, ◌&&◌, not, cond, List, [], ◌∷◌, ◌++◌, length, get_or}
+use Rattle.std.proofs.Common.{take, drop, Some, None, inl, inr, ◌∙◌, sym, ap, refl, arith, rules, All, lt-ltb, ne_eqb, eq-eqb}
 use Rattle.std.specs.Prelude.{◌==◌, nat_lt, slice_index, decimal}
 use Rattle.std.specs.List.{list_all, position_or_len, before_first, after_first}
 use Rattle.std.specs.Char.{is_ascii_digit}

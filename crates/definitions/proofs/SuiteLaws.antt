@@ -1,5 +1,6 @@
 -- The laws of the proof of a suite.
-use Rattle.std.proofs.Common.{◌≡◌, ℕ, ◌^◌, ◌<◌, ◌≤◌, Bool, true, false, ◌&&◌, not, List, [], ◌∷◌, map, length, Option, None, is_none, find, All, ◌⊎◌, inl, inr, ◌∙◌, sym, ap, subst, refl, arith}
+use Rattle.std.proofs.Common.{◌≡◌, ℕ, ◌^◌, ◌<◌, ◌≤◌, Bool, true, false, ◌&&◌, not, List, [], ◌∷◌, map, length}
+use Rattle.std.proofs.Common.{Option, None, is_none, find, All, ◌⊎◌, inl, inr, ◌∙◌, sym, ap, subst, refl, arith}
 use Rattle.std.specs.Prelude.{◌↔◌, AllPairs, Contains}
 use Rattle.std.specs.Cmp.{IsEquivalence}
 use Rattle.std.specs.List.{Any, list_any}

@@ -1,5 +1,6 @@
 -- The trees of a proof: that each refutes its tuple, and that its tokens are of the model.
-use Rattle.std.proofs.Common.{◌≡◌, ℕ, zero, suc, ◌+◌, ◌^◌, ◌<◌, ◌≤◌, Bool, true, false, ◌&&◌, cond, List, [], ◌∷◌, ◌++◌, length, Option, Some, None, inl, inr, ◌∙◌, ap, subst, refl, arith, length-append, eqb-true}
+use Rattle.std.proofs.Common.{◌≡◌, ℕ, zero, suc, ◌+◌, ◌^◌, ◌<◌, ◌≤◌, Bool, true, false, ◌&&◌, cond, List, [], ◌∷◌, ◌++◌}
+use Rattle.std.proofs.Common.{length, Option, Some, None, inl, inr, ◌∙◌, ap, subst, refl, arith, length-append, eqb-true}
 use Rattle.std.specs.Prelude.{◌==◌}
 use Rattle.std.specs.List.{list_all, slice_get}
 use Rattle.std.specs.Option.{option_map_or}
@@ -9,7 +10,8 @@ use Rattle.cov_model.specs.Kleene.{body_truth}
 use Rattle.cov_model.specs.Rows.{contains, is_assigned}
 use Rattle.cov_model.specs.Valid.{negatives}
 use Rattle.definitions.specs.Search.{is_no}
-use Rattle.definitions.specs.Refutation.{Token, Branch, ByRule, ByNegative, ByOmission, is_branch, branches, is_rule_leaf, is_negative_leaf, is_omission_leaf, refute_paths, refutes, are_eager, first_unrefuted}
+use Rattle.definitions.specs.Refutation.{Token, Branch, ByRule, ByNegative, ByOmission, is_branch, branches, is_rule_leaf}
+use Rattle.definitions.specs.Refutation.{is_negative_leaf, is_omission_leaf, refute_paths, refutes, are_eager, first_unrefuted}
 use Rattle.definitions.specs.SuiteProof.{IsEagerTree, AreEagerTrees}
 use Rattle.definitions.specs.Laws.{IsTokenOf}
 use Rattle.definitions.proofs.Contained.{left, right}

@@ -1,7 +1,8 @@
 -- What a partial row can become in a slice: the order of the columns and of the values, its completions,
 -- and whether it is extendable. (Lei and others 2007 for columns by falling number of values; the orders
 -- among equals are this project's rules.)
-use Rattle.std.specs.Prelude.{ℕ, zero, suc, Bool, ◌&&◌, List, [], ◌∷◌, ◌++◌, map, length, sum_by, Option, Some, None, ◌==◌, nat_le, slice_index_or, slice_set, if◌then◌else◌, find}
+use Rattle.std.specs.Prelude.{ℕ, zero, suc, Bool, ◌&&◌, List, [], ◌∷◌, ◌++◌, map, length, sum_by, Option}
+use Rattle.std.specs.Prelude.{Some, None, ◌==◌, nat_le, slice_index_or, slice_set, if◌then◌else◌, find}
 use Rattle.std.specs.List.{filter, flat_map, list_all, list_any}
 use Rattle.cov_model.specs.declared.slice.Slice.{Slice}
 use Rattle.cov_model.specs.Sound.{ModelView}

@@ -1,6 +1,7 @@
 -- The lines that a run writes beside its output, each with its line feed. (This project's rules.)
 use Rattle.std.specs.Prelude.{ℕ, List, ◌++◌, Option, codes, decimal}
-use Rattle.definitions.specs.Limits.{Counted, Parameters, Values, Names, Constraints, DemandedSets, DemandedTuples, Rows, SuspectCandidates, most_counted, Measured, ModelFile, RowFile, ProofFile, most_bytes}
+use Rattle.definitions.specs.Limits.{Counted, Parameters, Values, Names, Constraints, DemandedSets, DemandedTuples, Rows}
+use Rattle.definitions.specs.Limits.{SuspectCandidates, most_counted, Measured, ModelFile, RowFile, ProofFile, most_bytes}
 use Rattle.definitions.specs.Pairs.{pairs_of, pairs_text}
 
 -- the seed of a shuffle that no word gives

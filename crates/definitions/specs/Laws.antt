@@ -1,5 +1,6 @@
 -- What holds of the definitions together. (This project's rules.)
-use Rattle.std.specs.Prelude.{◌≡◌, ℕ, ◌+◌, ◌^◌, ◌<◌, ◌≤◌, ◌↔◌, ◌⊎◌, slice_index_or, true, false, not, List, [], map, filter, length, Option, Ok, All, AllPairs, Contains, IsPermutation}
+use Rattle.std.specs.Prelude.{◌≡◌, ℕ, ◌+◌, ◌^◌, ◌<◌, ◌≤◌, ◌↔◌, ◌⊎◌, slice_index_or, true, false, not, List}
+use Rattle.std.specs.Prelude.{[], map, filter, length, Option, Ok, All, AllPairs, Contains, IsPermutation}
 use Rattle.std.specs.List.{Any, list_any, enumerate_from}
 use Rattle.cov_model.specs.declared.slice.Slice.{Slice}
 use Rattle.cov_model.specs.Sound.{ModelView, IsSound, param_at}

@@ -1,5 +1,6 @@
 -- The text of a proof file, and which proof a file holds. (This project's rule.)
-use Rattle.std.specs.Prelude.{ℕ, ◌+◌, ◌-◌, ◌^◌, Bool, true, ◌&&◌, ◌||◌, not, List, [], ◌∷◌, ◌++◌, map, length, Option, Some, None, Result, Ok, Err, option_map, option_and_then, ◌==◌, nat_lt, nat_le, slice_index, if◌then◌else◌, decimal, codes, bytes_eq, flat_map}
+use Rattle.std.specs.Prelude.{ℕ, ◌+◌, ◌-◌, ◌^◌, Bool, true, ◌&&◌, ◌||◌, not, List, [], ◌∷◌, ◌++◌, map, length, Option, Some, None, Result, Ok, Err}
+use Rattle.std.specs.Prelude.{option_map, option_and_then, ◌==◌, nat_lt, nat_le, slice_index, if◌then◌else◌, decimal, codes, bytes_eq, flat_map}
 use Rattle.std.specs.Option.{option_zip}
 use Rattle.std.specs.List.{join_with_byte, slice_split, before_first, after_first, list_any}
 use Rattle.std.specs.Str.Parse.{digits_value}

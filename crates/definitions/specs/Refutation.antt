@@ -2,7 +2,8 @@
 -- its path serves the tuple. (This project's rule; the trees are those of a search, after the proofs of
 -- unsatisfiability that solvers write.)
 -- The crate of trees has an enum of its own for its code; a token of it is meant by the one here.
-use Rattle.std.specs.Prelude.{ℕ, zero, suc, ◌+◌, Bool, true, false, ◌&&◌, not, List, [], ◌∷◌, ◌++◌, map, length, filter, Option, Some, None, is_none, ◌==◌, nat_lt, if◌then◌else◌}
+use Rattle.std.specs.Prelude.{ℕ, zero, suc, ◌+◌, Bool, true, false, ◌&&◌, not, List, [], ◌∷◌, ◌++◌, map}
+use Rattle.std.specs.Prelude.{length, filter, Option, Some, None, is_none, ◌==◌, nat_lt, if◌then◌else◌}
 use Rattle.std.specs.List.{list_all, list_any, range_with_len, slice_get}
 use Rattle.std.specs.Option.{option_map_or}
 use Rattle.cov_model.specs.Sound.{ModelView}

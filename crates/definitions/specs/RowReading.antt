@@ -1,6 +1,7 @@
 -- What a row file holds, or why it is refused: the rows with their lines and notes, in two modes.
 -- (PICT's guide for seed files; the faults and their order are this project's rules.)
-use Rattle.std.specs.Prelude.{ℕ, Bool, false, ◌&&◌, not, List, [], ◌∷◌, ◌++◌, map, filter, flat_map, length, find, Option, Some, None, Result, Ok, Err, is_none, option_map, ◌==◌, nat_lt, slice_index_or, if◌then◌else◌}
+use Rattle.std.specs.Prelude.{ℕ, Bool, false, ◌&&◌, not, List, [], ◌∷◌, ◌++◌, map, filter, flat_map, length, find, Option}
+use Rattle.std.specs.Prelude.{Some, None, Result, Ok, Err, is_none, option_map, ◌==◌, nat_lt, slice_index_or, if◌then◌else◌}
 use Rattle.std.specs.List.{list_any, range_with_len}
 use Rattle.std.specs.Option.{option_or, option_map_or}
 use Rattle.cov_model.specs.Sound.{ModelView}

@@ -1,9 +1,11 @@
 -- Which words of a command have a reading, and what they mean. (PICT's guide; which words exclude each
 -- other, and which fault comes first, are this project's rules.)
-use Rattle.std.specs.Prelude.{ℕ, ◌+◌, Bool, true, false, ◌&&◌, ◌||◌, not, List, [], ◌∷◌, ◌++◌, take, drop, length, filter_map, Option, Some, None, Result, Ok, Err, option_map, ◌==◌, if◌then◌else◌, codes, position}
+use Rattle.std.specs.Prelude.{ℕ, ◌+◌, Bool, true, false, ◌&&◌, ◌||◌, not, List, [], ◌∷◌, ◌++◌, take, drop, length, filter_map}
+use Rattle.std.specs.Prelude.{Option, Some, None, Result, Ok, Err, option_map, ◌==◌, if◌then◌else◌, codes, position}
 use Rattle.std.specs.List.{list_any}
 use Rattle.std.specs.Option.{option_or, option_map_or}
-use Rattle.definitions.specs.Settings.{Setting, Order, Separator, Alias, Prefix, SeedFile, ShuffleValues, CaseCounts, Statistics, Workers, ProofFile, ProofFormat, MeasureFile, Make, SuspectFile, Settings, setting_of, settings_of, is_named}
+use Rattle.definitions.specs.Settings.{Setting, Order, Separator, Alias, Prefix, SeedFile, ShuffleValues, CaseCounts, Statistics, Workers}
+use Rattle.definitions.specs.Settings.{ProofFile, ProofFormat, MeasureFile, Make, SuspectFile, Settings, setting_of, settings_of, is_named}
 
 -- the settings that only a run that generates has
 abbrev pub is_generating : Setting → Bool

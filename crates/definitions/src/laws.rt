@@ -1,7 +1,8 @@
 //! What is proved of the definitions together. A function here does nothing: its contract is a law
 //! that holds of every model, and is proved with the crate.
 
-ghost use Rattle.definitions.specs.Laws.{AcceptedAreCertified, CompletionsAreRows, ExtendableContains, GrowthCovers, ProofsHaveOneText, ProofsReadBack, RefutedAreUnserved, ReportsAreRead, ReportsReadBack, ServableAreExtendable, SlicesServe, SuitesAreRead, SuitesCover, SuitesHaveFewRows};
+ghost use Rattle.definitions.specs.Laws.{AcceptedAreCertified, CompletionsAreRows, ExtendableContains, GrowthCovers, ProofsHaveOneText, ProofsReadBack, RefutedAreUnserved};
+ghost use Rattle.definitions.specs.Laws.{ReportsAreRead, ReportsReadBack, ServableAreExtendable, SlicesServe, SuitesAreRead, SuitesCover, SuitesHaveFewRows};
 ghost use Rattle.definitions.specs.SuiteLaws.{SuiteProofsAreAccepted, SuiteProofsAreOfModels, SuiteProofsList, SuiteProofsReadBack, SuiteProofsRefute, SuitesServeOrRefute};
 
 /// A report holds its rows: the text that is written of any number of rows of a sound model has

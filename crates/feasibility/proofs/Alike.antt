@@ -22,7 +22,7 @@ pub record AreAlike (m : ModelView) (a b : List (Option ℕ)) : Type 0 where
   pub named : (p : ℕ) → is_named m p ≡ true → get_or a p None ≡ get_or b p None
 
 -- so it is with the same value more
-same_with : (a b : List (Option ℕ)) (p q v : ℕ) → length a ≡ length b → p ≡ q
+pub same_with : (a b : List (Option ℕ)) (p q v : ℕ) → length a ≡ length b → p ≡ q
     → get_or (with_value a p v) q None ≡ get_or (with_value b p v) q None
 same_with a b p q v long same =
     ap (λ k. get_or (with_value a p v) k None) (sym same) ∙ at (cases_lt p (length a)) ∙ ap (λ k. get_or (with_value b p v) k None) same
@@ -74,7 +74,7 @@ alike_other m cells p v w unnamed = record {
         ∙ sym (get_or_past (with_value cells p w) p None (omega (arith, past, length-set cells p (Some w)))))
 
 -- the same constraints are No
-breaks_same : (m : ModelView) (rules : List RuleView) (a b : List (Option ℕ))
+pub breaks_same : (m : ModelView) (rules : List RuleView) (a b : List (Option ℕ))
     → ((p : ℕ) → list_any (λ rule. is_among (body_params rule.body) p) rules ≡ true → get_or a p None ≡ get_or b p None)
     → list_any (λ rule. is_no (body_truth m rule.body a)) rules ≡ list_any (λ rule. is_no (body_truth m rule.body b)) rules
 breaks_same m [] a b same = refl
@@ -89,7 +89,7 @@ breaks_alike : (m : ModelView) (a b : List (Option ℕ)) → AreAlike m a b → 
 breaks_alike m a b alike = breaks_same m m.rules a b alike.named
 
 -- the same nodes fail
-any_same : (f g : ℕ → Bool) (xs : List ℕ) → ((x : ℕ) → f x ≡ g x) → list_any f xs ≡ list_any g xs
+pub any_same : (f g : ℕ → Bool) (xs : List ℕ) → ((x : ℕ) → f x ≡ g x) → list_any f xs ≡ list_any g xs
 any_same f g [] same = refl
 any_same f g (x ∷ xs) same = ap (λ found. found || list_any f xs) (same x) ∙ ap (λ later. g x || later) (any_same f g xs same)
 
@@ -105,7 +105,7 @@ fails_alike m lists a b alike =
         (λ v. not (breaks_a_rule m (with_value b p v))) (get_or lists p [])
         (λ v. ap not (breaks_alike m (with_value a p v) (with_value b p v) (alike_with m a b p v alike))))
 
-try_alike : (seen : List (Option ℕ) → Outcome) (a b : List (Option ℕ)) (p : ℕ) (values : List ℕ)
+pub try_alike : (seen : List (Option ℕ) → Outcome) (a b : List (Option ℕ)) (p : ℕ) (values : List ℕ)
     → ((v : ℕ) → seen (with_value a p v) ≡ seen (with_value b p v)) → try_values seen a p values ≡ try_values seen b p values
 try_alike seen a b p [] same = refl
 try_alike seen a b p (v ∷ values) same =
@@ -116,10 +116,10 @@ try_alike seen a b p (v ∷ values) same =
     after first later = cond first.found first (record { found = later.found; cost = first.cost + later.cost })
 
 -- what a visit of a node tells
-abbrev leaf_told : Bool → Outcome
+abbrev pub leaf_told : Bool → Outcome
 leaf_told fails = record { found = not fails; cost = 1 }
 
-abbrev node_told : Bool → Outcome → Bool → Outcome → Outcome
+abbrev pub node_told : Bool → Outcome → Bool → Outcome → Outcome
 node_told given same fails tried =
     cond given same (cond fails (record { found = false; cost = 1 }) (record { found = tried.found; cost = suc tried.cost }))
 

@@ -6,3 +6,4 @@ pub mod Tree
 pub mod Live
 pub mod Refuting
 pub mod Ends
+pub mod Refusals

@@ -10,11 +10,13 @@ ghost use Rattle.definitions.specs.Refutation.{is_omission_leaf};
 ghost use Rattle.definitions.specs.Search.{breaks_a_rule, constrained_params, is_failing, visit};
 ghost use Rattle.live_sets.specs.Trail.{IsSince};
 ghost use Rattle.feasibility.specs.Live.{HasShape, HasUnmarked, ShowsFailure, ShowsLive, no_on};
+ghost use Rattle.feasibility.specs.Refusals.{IsRefused};
 ghost use Rattle.feasibility.specs.Refuting.{Closes, HasNoLeaf, IsPath, value_cost};
 ghost use Rattle.feasibility.specs.Solving.{IsReady};
 ghost use Rattle.feasibility.specs.Tree.{IsListed, constrained_at, constrained_from, no_values};
 
 use crate::answer::{Answer, RefuteFault};
+use crate::refused::Refused;
 use crate::refuter::Refuter;
 use cov_model::{Cells, ParamNo, ValueNo};
 use live_sets::LiveSets;
@@ -225,7 +227,31 @@ impl<'t> Refuter<'t> {
         self.close_stuck(cells, sets, tokens)
     }
 
-    // Puts the tree of the tuple, on which no leaf is possible. Values were taken away then.
+    // Puts the tree of a path whose node fails, as the sets show: a leaf if one is possible, else a branch
+    // on a parameter without a live value.
+    fn close_failing(
+        &self,
+        cells: &mut Cells,
+        sets: &LiveSets,
+        tokens: &mut TreeBuf,
+    ) -> Result<(), NoMemory>
+        requires path { IsPath self.now cells.old }
+        requires why { ShowsFailure self.now.model self.now.lists cells.old sets.now }
+        ensures closes { OnOk result (Closes self.now (cells.old ∷ []) 1 tokens.old tokens.new) }
+        ensures same { cells.new ≡ cells.old }
+    {
+        self.assert_invariant();
+        if let Some(rule) = self.first_no(cells) {
+            return tokens.push(TreeToken::ByRule(rule));
+        }
+        if let Some(number) = self.first_cited(cells) {
+            return tokens.push(TreeToken::ByOmission(number));
+        }
+        self.close_stuck(cells, sets, tokens)
+    }
+
+    // Puts the tree of the tuple, given that the node without values doesn't fail. Values were taken away
+    // then.
     fn close_started(
         &self,
         cells: &mut Cells,
@@ -233,8 +259,6 @@ impl<'t> Refuter<'t> {
         tokens: &mut TreeBuf,
     ) -> Result<(), NoMemory>
         requires path { IsPath self.now cells.old }
-        requires unbroken { breaks_a_rule self.now.model cells.old ≡ false }
-        requires leafless { HasNoLeaf self.now cells.old }
         requires node { is_failing self.now.model self.now.lists (no_values self.now.model) ≡ false }
         requires live { ShowsLive self.now.model self.now.lists (no_values self.now.model) sets.old }
         requires unfound { (visit self.now.model self.now.lists (constrained_params self.now.model) cells.old).found ≡ false }
@@ -243,10 +267,13 @@ impl<'t> Refuter<'t> {
         ensures since { IsSince sets.old sets.new }
     {
         self.assert_invariant();
-        if self.tree().start(cells, sets) {
-            return self.close_node(0, cells, sets, tokens);
+        if !self.tree().start(cells, sets) {
+            return self.close_failing(cells, sets, tokens);
         }
-        self.close_stuck(cells, sets, tokens)
+        if let Some(number) = self.first_cited(cells) {
+            return tokens.push(TreeToken::ByOmission(number));
+        }
+        self.close_node(0, cells, sets, tokens)
     }
 
     // Puts the tree of the tuple, given whether the node without values fails. A search of the tuple
@@ -267,14 +294,8 @@ impl<'t> Refuter<'t> {
         ensures sets { sets.new ≡ sets.old }
     {
         self.assert_invariant();
-        if let Some(rule) = self.first_no(cells) {
-            return tokens.push(TreeToken::ByRule(rule));
-        }
-        if let Some(number) = self.first_cited(cells) {
-            return tokens.push(TreeToken::ByOmission(number));
-        }
         if fails {
-            return self.close_stuck(cells, sets, tokens);
+            return self.close_failing(cells, sets, tokens);
         }
         let len = sets.trail_len();
         let closed = self.close_started(cells, sets, tokens);
@@ -289,21 +310,24 @@ impl<'t> Refuter<'t> {
         budget: u64,
         cells: &mut Cells,
         sets: &mut LiveSets,
+        refused: &mut Refused,
         tokens: &mut TreeBuf,
     ) -> Result<(), RefuteFault>
         requires long { length cells.old ≡ length self.now.model.params }
         requires fits { FitsModel self.now.model self.now.tuple }
         requires listed { IsListed self.now.lists self.now.tuple }
         requires ready { IsReady self.now.model self.now.lists fails sets.old }
+        requires kept { IsRefused self.now.model self.now.lists refused.old }
         requires unfound { (visit self.now.model self.now.lists (constrained_params self.now.model) self.now.tuple).found ≡ false }
         ensures closes { OnOk result (Closes self.now (self.now.tuple ∷ []) (visit self.now.model self.now.lists (constrained_params self.now.model) self.now.tuple).cost tokens.old tokens.new) }
         ensures within { OnOk result ((visit self.now.model self.now.lists (constrained_params self.now.model) self.now.tuple).cost ≤ budget) }
         ensures spent { result ≡ Err RefuteFault.Spent → budget < (visit self.now.model self.now.lists (constrained_params self.now.model) self.now.tuple).cost }
         ensures long { length cells.new ≡ length cells.old }
         ensures sets { sets.new ≡ sets.old }
+        ensures kept { IsRefused self.now.model self.now.lists refused.new }
     {
         self.begin(cells);
-        match self.tree().search_from(fails, cells, sets, budget) {
+        match self.tree().search_from(fails, cells, sets, refused, budget) {
             Answer::Spent => Err(RefuteFault::Spent),
             Answer::Yes | Answer::No => {
                 self.close_tuple(fails, cells, sets, tokens)?;

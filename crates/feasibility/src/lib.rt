@@ -17,6 +17,7 @@ mod members;
 mod named;
 mod narrowing;
 mod question;
+mod refused;
 mod refuter;
 mod refuting;
 mod solver;

@@ -53,6 +53,7 @@ impl<'a> Solver<'a> {
             budget,
             &mut self.room,
             &mut self.sets,
+            &mut self.refused,
             &mut tokens,
         )?;
         *into = tokens;

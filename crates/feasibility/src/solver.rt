@@ -7,6 +7,7 @@ ghost use Rattle.feasibility.specs.Answers.{answer_of};
 ghost use Rattle.definitions.specs.SliceRows.{IsOfSlice, IsSliceOf};
 
 use crate::answer::Answer;
+use crate::refused::Refused;
 use crate::tree::SearchTree;
 use cov_model::{Cells, ParamNo, Prefs, Slice, TestModel};
 use live_sets::LiveSets;
@@ -26,11 +27,13 @@ pub struct Solver<'a> {
     pub(crate) room: Cells,
     pub(crate) sets: LiveSets,
     pub(crate) fails: bool,
+    pub(crate) refused: Refused,
 }
 
 impl<'a> Model for Solver<'a> {
     ghost use Rattle.std.specs.Coded.{codes};
     ghost use Rattle.cov_model.specs.contracts.model.TestModel as tested;
+    ghost use Rattle.feasibility.specs.Refusals.{IsRefused};
     ghost use Rattle.feasibility.specs.Solving.{IsSolver, SolverView};
 
     ghost Value = { SolverView };
@@ -39,7 +42,7 @@ impl<'a> Model for Solver<'a> {
 
     ghost view = { λ a. record { model = a.tree.model; prefs = a.prefs.now; slice = a.slice } };
 
-    ghost invariant = { λ a. IsSolver (record { model = a.tree.model; prefs = a.prefs.now; slice = a.slice }) a.tree.values a.room a.fails a.sets };
+    ghost invariant = { λ a. IsSolver (record { model = a.tree.model; prefs = a.prefs.now; slice = a.slice }) a.tree.values a.room a.fails a.sets × IsRefused a.tree.model a.tree.values a.refused };
 }
 
 impl<'a> Solver<'a> {
@@ -63,6 +66,7 @@ impl<'a> Solver<'a> {
         let mut room = Cells::empty(alloc, model.params().len())?;
         let mut sets = tree.listed_sets(alloc)?;
         let fails = tree.begin(&mut room, &mut sets);
+        let refused = Refused::none(alloc, model.params().len())?;
         Ok(Solver {
             alloc,
             tree,
@@ -71,6 +75,7 @@ impl<'a> Solver<'a> {
             room,
             sets,
             fails,
+            refused,
         })
     }
 
@@ -89,8 +94,14 @@ impl<'a> Solver<'a> {
         ensures answer { result ≡ answer_of (is_extendable self.old.model self.old.slice cells.now) (plain_cost self.old.model self.old.prefs self.old.slice cells.now) budget }
         ensures same { self.new ≡ self.old }
     {
-        self.tree
-            .search(self.fails, cells, &mut self.room, &mut self.sets, budget)
+        self.tree.search(
+            self.fails,
+            cells,
+            &mut self.room,
+            &mut self.sets,
+            &mut self.refused,
+            budget,
+        )
     }
 
     /// Completes a partial row of the slice. After `Yes` the other cells are the first of its
@@ -106,10 +117,14 @@ impl<'a> Solver<'a> {
         ensures long { length into.new ≡ length into.old }
         ensures same { self.new ≡ self.old }
     {
-        match self
-            .tree
-            .search(self.fails, cells, &mut self.room, &mut self.sets, budget)
-        {
+        match self.tree.search(
+            self.fails,
+            cells,
+            &mut self.room,
+            &mut self.sets,
+            &mut self.refused,
+            budget,
+        ) {
             Answer::Yes => {
                 into.copy_from(&self.room);
                 self.tree.fill(into);

@@ -8,10 +8,12 @@ ghost use Rattle.definitions.specs.Search.{constrained_params, is_failing};
 ghost use Rattle.feasibility.specs.Answers.{VisitTells, answer_of, searched};
 ghost use Rattle.feasibility.specs.Live.{ShowsLive};
 ghost use Rattle.feasibility.specs.Path.{filled, filled_cell, reached};
+ghost use Rattle.feasibility.specs.Refusals.{AgreeOnNamed, IsRefused};
 ghost use Rattle.feasibility.specs.Solving.{IsReady};
-ghost use Rattle.feasibility.specs.Tree.{IsListed, constrained_at, constrained_from};
+ghost use Rattle.feasibility.specs.Tree.{IsListed, constrained_at, constrained_from, no_values};
 
 use crate::answer::Answer;
+use crate::refused::Refused;
 use crate::tree::SearchTree;
 use cov_model::{Cells, ParamNo, ValueNo};
 use live_sets::LiveSets;
@@ -139,6 +141,47 @@ impl<'a> SearchTree<'a> {
         answer
     }
 
+    // Whether the cells give each parameter that constraints name what the last question without a
+    // completion gives it, if one is known.
+    fn goes_as(&self, cells: &Cells, refused: &Refused) -> bool
+        requires long { length cells.now ≡ length self.now.model.params }
+        requires also { length refused.now.cells ≡ length self.now.model.params }
+        ensures known { result ≡ true → refused.now.known ≡ true }
+        ensures agree { result ≡ true → AgreeOnNamed self.now.model cells.now refused.now.cells }
+    {
+        if !refused.known {
+            return false;
+        }
+        let count = self.constrained_len();
+        for i in 0..count {
+            let p = self.constrained_at(i).param;
+            if cells.get(p) != refused.cells.get(p) {
+                return false;
+            }
+        }
+        true
+    }
+
+    // Searches for a completion of the cells in the room, given that the node without values doesn't
+    // fail.
+    fn search_anew(&self, room: &mut Cells, sets: &mut LiveSets, left: &mut u64) -> Answer
+        requires fits { FitsModel self.now.model room.old }
+        requires node { is_failing self.now.model self.now.values (no_values self.now.model) ≡ false }
+        requires live { ShowsLive self.now.model self.now.values (no_values self.now.model) sets.old }
+        ensures told { VisitTells self.now (constrained_params self.now.model) room.old room.old room.new left.old left.new result }
+        ensures sets { sets.new ≡ sets.old }
+    {
+        self.assert_invariant();
+        let len = sets.trail_len();
+        if !self.start(room, sets) {
+            sets.undo(len);
+            return visit_failing(left);
+        }
+        let answer = self.visit(0, room, sets, left);
+        sets.undo(len);
+        answer
+    }
+
     // Searches for a completion of the cells, given whether the node without values fails. After Yes
     // the room holds the values of the constrained parameters.
     pub(crate) fn search(
@@ -147,52 +190,59 @@ impl<'a> SearchTree<'a> {
         cells: &Cells,
         room: &mut Cells,
         sets: &mut LiveSets,
+        refused: &mut Refused,
         budget: u64,
     ) -> Answer
         requires fits { FitsModel self.now.model cells.now }
         requires listed { IsListed self.now.values cells.now }
         requires long { length room.old ≡ length cells.now }
         requires ready { IsReady self.now.model self.now.values fails sets.old }
+        requires kept { IsRefused self.now.model self.now.values refused.old }
         ensures answer { result ≡ answer_of (searched self.now cells.now).found (searched self.now cells.now).cost budget }
         ensures yes { result ≡ Answer.Yes → room.new ≡ reached self.now.model self.now.values (constrained_params self.now.model) cells.now }
         ensures long { length room.new ≡ length room.old }
         ensures sound { IsSound self.now.model }
         ensures sets { sets.new ≡ sets.old }
+        ensures kept { IsRefused self.now.model self.now.values refused.new }
     {
         room.copy_from(cells);
-        self.search_from(fails, room, sets, budget)
+        self.search_from(fails, room, sets, refused, budget)
     }
 
-    // The same for the cells in the room, which after No are as before.
+    // The same for the cells in the room, which after No are as before. A question that goes as the
+    // last one without a completion isn't searched again.
     pub(crate) fn search_from(
         &self,
         fails: bool,
         room: &mut Cells,
         sets: &mut LiveSets,
+        refused: &mut Refused,
         budget: u64,
     ) -> Answer
         requires fits { FitsModel self.now.model room.old }
         requires listed { IsListed self.now.values room.old }
         requires ready { IsReady self.now.model self.now.values fails sets.old }
+        requires kept { IsRefused self.now.model self.now.values refused.old }
         ensures answer { result ≡ answer_of (searched self.now room.old).found (searched self.now room.old).cost budget }
         ensures yes { result ≡ Answer.Yes → room.new ≡ reached self.now.model self.now.values (constrained_params self.now.model) room.old }
         ensures no { result ≡ Answer.No → room.new ≡ room.old }
         ensures long { length room.new ≡ length room.old }
         ensures sound { IsSound self.now.model }
         ensures sets { sets.new ≡ sets.old }
+        ensures kept { IsRefused self.now.model self.now.values refused.new }
     {
         self.assert_invariant();
         let mut left = budget;
         if fails {
             return visit_failing(&mut left);
         }
-        let len = sets.trail_len();
-        if !self.start(room, sets) {
-            sets.undo(len);
-            return visit_failing(&mut left);
+        if self.goes_as(room, refused) {
+            return refused.answer(budget);
         }
-        let answer = self.visit(0, room, sets, &mut left);
-        sets.undo(len);
+        let answer = self.search_anew(room, sets, &mut left);
+        if answer == Answer::No {
+            refused.keep(room, budget - left);
+        }
         answer
     }
 }

@@ -4,6 +4,7 @@ use Rattle.std.specs.Prelude.{slice_get, IfSome, is_some}
 use Rattle.std.proofs.lemmas.List.Elements.{All-head, All-tail, All-push, All-filter}
 use Rattle.cov_model.specs.Rows.{contains}
 use Rattle.std.proofs.lemmas.List.{drop_all, take_all, append-nil, get_or_default}
+use Rattle.std.proofs.lemmas.Bool.{false≢true}
 use Rattle.std.proofs.lemmas.Option.{none-some, same_Some}
 use Rattle.ipog_grow.proofs.Spending.{find-later, find-earlier}
 use Rattle.definitions.proofs.PartialRowLemmas.{union-contains_row, union-contains_tuple}
@@ -15,8 +16,10 @@ use Rattle.uncovered_table.specs.Places.{is_behind, is_in_play, is_place, tuple_
 use Rattle.ipog_grow.specs.Growing.{columns_to, IsInPlay, Keeps, Rises, open_places, open_tuples}
 use Rattle.ipog_grow.specs.Asking.{SearchContext, Grows, IsNext, IsPassed, IsUnionAt, extends, first_spent}
 use Rattle.definitions.specs.Demand.{is_among}
-use Rattle.ipog_grow.specs.UnfilledRows.{HasUnfilled}
-use Rattle.ipog_grow.proofs.UnfilledLemmas.{full-differs}
+use Rattle.cov_model.specs.Sound.{param_at}
+use Rattle.tuple_index.specs.Places.{RisesFrom}
+use Rattle.ipog_grow.specs.UnfilledRows.{HasUnfilled, UnfilledLists, candidates}
+use Rattle.ipog_grow.proofs.UnfilledLemmas.{candidates-rise, other-differs, value-within}
 use Rattle.ipog_grow.proofs.HorizontalLemmas.{keeps-row}
 use Rattle.ipog_grow.proofs.Settling.{settle-taken, settle-alone_asked}
 use Rattle.ipog_grow.proofs.Trying.{is_over}
@@ -164,14 +167,33 @@ next-in_play context table p place tuple rows next =
           (subst (All (λ t. is_uncovered rows t ≡ true)) whole next.uncovered),
     )
 
-pub next-may_agree : {context : SearchContext} {table : OpenView} {p : ℕ} {place : ℕ × ℕ} {tuple : List (Option ℕ)} {rows : List (List (Option ℕ))}
-    {columns unfilled : List ℕ}
-    → IsNext context table p place tuple rows → columns ≡ columns_to context.model context.slice p → HasUnfilled columns rows unfilled
-    → (i : ℕ) → i < length rows → is_among unfilled i ≡ false → agrees (get_or rows i []) tuple ≡ false
-next-may_agree {context} {table} {p} {place} {tuple} {rows} {columns} {unfilled} next is are i within other =
-    let own = next-in_play context table p place tuple rows next in
-    full-differs columns rows tuple i within own.1 (own.0.grows.of.fits.as_long ∙ sym (next.grows i [] within).of.fits.as_long)
-    (λ q has. ap (λ list. is_among list q) is ∙ own.0.columns q has) (are.others i within other)
+-- the rows that a tuple may join: their numbers rise, and no other row agrees with it
+pub record Joinable (rows : List (List (Option ℕ))) (tuple : List (Option ℕ)) (numbers : List ℕ) : Type 0 where
+  pub rise : RisesFrom 0 (length rows) numbers
+  pub others : (i : ℕ) → i < length rows → is_among numbers i ≡ false → agrees (get_or rows i []) tuple ≡ false
+
+pub joinable : {context : SearchContext} {table : OpenView} {p : ℕ} {place : ℕ × ℕ} {tuple : List (Option ℕ)} {rows : List (List (Option ℕ))}
+    {columns numbers : List ℕ} {unfilled : UnfilledLists}
+    → IsNext context table p place tuple rows → columns ≡ columns_to context.model context.slice p
+    → HasUnfilled columns p (length (param_at context.model.params p).values) rows unfilled
+    → IfSome (get_or tuple p None) (λ v. numbers ≡ candidates unfilled v) → Joinable rows tuple numbers
+joinable {context} {table} {p} {place} {tuple} {rows} {columns} {numbers} {unfilled} next is are put =
+    by_cell (get_or tuple p None) refl put (value-within context.model tuple p own.0.grows.of.fits)
+  where
+    own : IsInPlay context.model context.slice p tuple × (is_uncovered rows tuple ≡ true)
+    own = next-in_play context table p place tuple rows next
+
+    by_cell : (cell : Option ℕ) → get_or tuple p None ≡ cell → IfSome cell (λ v. numbers ≡ candidates unfilled v)
+        → IfSome cell (λ v. v < length (param_at context.model.params p).values) → Joinable rows tuple numbers
+    by_cell None none _ _ = absurd (false≢true (sym (ap (λ (cell : Option ℕ). is_some cell) none) ∙ own.0.own))
+    by_cell (Some v) has same within = record {
+      rise = subst (RisesFrom 0 (length rows)) (sym same) (candidates-rise v are within);
+      others =
+          λ i below other.
+          other-differs columns p (length (param_at context.model.params p).values) v rows unfilled tuple i are has own.1
+          (own.0.grows.of.fits.as_long ∙ sym (next.grows i [] below).of.fits.as_long)
+          (λ q given. ap (λ list. is_among list q) is ∙ own.0.columns q given) below (sym (ap (λ list. is_among list i) same) ∙ other);
+    }
 
 -- joining asks first
 pub settle-stops : (context : SearchContext) (tuple question : List (Option ℕ)) (rows : List (List (Option ℕ)))

@@ -1,7 +1,10 @@
 -- A tuple offered to the partial rows, one after another.
-use Rattle.std.proofs.Common.{◌≡◌, ℕ, zero, suc, ◌+◌, ◌<◌, ◌≤◌, Bool, true, false, List, [], ◌∷◌, ◌++◌, length, take, drop, Option, Some, None, get_or, set, All, ◌∙◌, sym, ap, subst, refl, arith, inl, inr, add-one, append_assoc}
+use Rattle.std.proofs.Common.{◌≡◌, ℕ, zero, suc, ◌+◌, ◌<◌, ◌≤◌, Bool, true, false, ◌||◌, List, [], ◌∷◌, ◌++◌, length, take, drop, Option, Some, None, nat_eq, get_or, set, All, ◌∙◌, sym, ap, subst, refl, arith, inl, inr, add-one, append_assoc}
+use Rattle.std.specs.Prelude.{slice_get}
 use Rattle.std.proofs.lemmas.Bool.{cases_lt}
-use Rattle.std.proofs.lemmas.List.{get_or_default, get_or_past, drop_all, take_all, take_more, take-set, drop-set, take-append-drop, append-nil, drop_more}
+use Rattle.std.proofs.lemmas.Bool.Decides.{nat_tests}
+use Rattle.std.proofs.lemmas.Option.{none-some, same_Some}
+use Rattle.std.proofs.lemmas.List.{get_or_default, drop_all, take_all, take_more, take-set, drop-set, take-append-drop, append-nil, drop_more}
 use Rattle.std.proofs.lemmas.List.Elements.{All-set}
 use Rattle.ipog_grow.proofs.Asking.{IsAnswered}
 use Rattle.ipog_grow.proofs.Spending.{find-later, find-earlier}
@@ -9,7 +12,6 @@ use Rattle.definitions.specs.Growth.{Joined, agrees, join, union}
 use Rattle.ipog_grow.specs.Asking.{SearchContext, IsSoundContext, Grows, extends, first_spent, IsUnionAt}
 use Rattle.definitions.specs.Demand.{is_among}
 use Rattle.tuple_index.specs.Places.{RisesFrom}
-use Rattle.ipog_grow.proofs.UnfilledLemmas.{after, after-most, between}
 use Rattle.ipog_grow.proofs.Settling.{joined}
 use Rattle.ipog_grow.proofs.Trying.{is_over}
 use Rattle.ipog_grow.proofs.Tuples.{grows-union}
@@ -71,35 +73,89 @@ joining-skip context tuple rows i (suc j) less within joining others =
 abbrev pub MayAgree : List (Option ℕ) → List (List (Option ℕ)) → List ℕ → Type 0
 MayAgree tuple rows candidates = (i : ℕ) → i < length rows → is_among candidates i ≡ false → agrees (get_or rows i []) tuple ≡ false
 
--- so the rows before the next candidate are passed, and those behind the last one
+-- the rows before the first of the candidates that are left are passed, and those behind it may agree only if they are
+-- candidates
+pub record Offering (context : SearchContext) (tuple : List (Option ℕ)) (rows : List (List (Option ℕ))) (candidates : List ℕ) : Type 0 where
+  pub rise : RisesFrom 0 (length rows) candidates
+  pub others : (i : ℕ) → get_or candidates 0 (length rows) ≤ i → i < length rows → is_among candidates i ≡ false → agrees (get_or rows i []) tuple ≡ false
+  pub joining : Joining context tuple rows (get_or candidates 0 (length rows))
 
-joining-to : (context : SearchContext) (tuple : List (Option ℕ)) (rows : List (List (Option ℕ))) (candidates : List ℕ) (k j : ℕ)
-    → RisesFrom 0 (length rows) candidates → MayAgree tuple rows candidates
-    → k ≤ length candidates → Joining context tuple rows (after 0 candidates k) → j ≤ length rows → get_or candidates k (length rows) ≡ j
-    → Joining context tuple rows j
-joining-to context tuple rows candidates k j rises others most joining within next =
-    let least = after-most 0 (length rows) candidates k (omega arith) rises most in
-    joining-skip context tuple rows (after 0 candidates k) j (omega (arith, least, next)) within joining
-    (λ m from to. others m (omega arith) (between 0 (length rows) candidates k m rises most from (omega (arith, next))))
+-- rising numbers don't have one before the first
+below-rises : (lo hi : ℕ) (numbers : List ℕ) (m : ℕ) → RisesFrom lo hi numbers → m < lo → is_among numbers m ≡ false
+below-rises lo hi [] m rises less = refl
+below-rises lo hi (i ∷ numbers) m rises less =
+    let least : lo ≤ i = rises.0 in
+    let other : nat_eq i m ≡ false = grind (arith, nat_tests) in
+    ap (λ (b : Bool). b || is_among numbers m) other ∙ below-rises (i + 1) hi numbers m rises.2 (omega arith)
 
-pub joining-candidate : (context : SearchContext) (tuple : List (Option ℕ)) (rows : List (List (Option ℕ))) (candidates : List ℕ) (k i : ℕ)
-    → RisesFrom 0 (length rows) candidates → MayAgree tuple rows candidates
-    → k < length candidates → Joining context tuple rows (after 0 candidates k) → i ≡ get_or candidates k 0 → i < length rows → Joining context tuple rows i
-joining-candidate context tuple rows candidates k i rises others inside joining is within =
-    joining-to context tuple rows candidates k i rises others (omega arith) joining (omega arith) (get_or_default candidates k (length rows) 0 inside ∙ sym is)
+before-first : (lo hi : ℕ) (numbers : List ℕ) (m : ℕ) → RisesFrom lo hi numbers → m < get_or numbers 0 hi → is_among numbers m ≡ false
+before-first lo hi [] m rises less = refl
+before-first lo hi (i ∷ numbers) m rises less = below-rises i hi (i ∷ numbers) m (omega arith, rises.1, rises.2) less
 
-pub joining-on : (context : SearchContext) (tuple : List (Option ℕ)) (rows : List (List (Option ℕ))) (candidates : List ℕ) (k i : ℕ)
-    → i ≡ get_or candidates k 0 → Joining context tuple rows (i + 1)
-    → Joining context tuple rows (after 0 candidates (k + 1))
-joining-on context tuple rows candidates k i is joining =
-    subst (λ n. Joining context tuple rows (after 0 candidates n)) (sym (add-one k)) (subst (λ n. Joining context tuple rows (n + 1)) is joining)
+first-within : (lo hi : ℕ) (numbers : List ℕ) → RisesFrom lo hi numbers → get_or numbers 0 hi ≤ hi
+first-within lo hi [] rises = omega arith
+first-within lo hi (i ∷ numbers) rises = let within : i < hi = rises.1 in omega arith
 
-pub joining-past : (context : SearchContext) (tuple : List (Option ℕ)) (rows : List (List (Option ℕ))) (candidates : List ℕ) (k : ℕ)
-    → RisesFrom 0 (length rows) candidates → MayAgree tuple rows candidates
-    → k ≡ length candidates → Joining context tuple rows (after 0 candidates k) → Joining context tuple rows (length rows)
-joining-past context tuple rows candidates k rises others past joining =
-    joining-to context tuple rows candidates k (length rows) rises others (omega arith) joining (omega arith)
-    (get_or_past candidates k (length rows) (omega arith))
+first-least : (lo hi : ℕ) (numbers : List ℕ) → lo ≤ hi → RisesFrom lo hi numbers → lo ≤ get_or numbers 0 hi
+first-least lo hi [] less rises = less
+first-least lo hi (i ∷ numbers) less rises = rises.0
+
+lower : (lo hi : ℕ) (numbers : List ℕ) → RisesFrom lo hi numbers → RisesFrom 0 hi numbers
+lower lo hi [] rises = tt
+lower lo hi (i ∷ numbers) rises = (omega arith, rises.1, rises.2)
+
+pub offering-start : {context : SearchContext} {tuple : List (Option ℕ)} {rows : List (List (Option ℕ))} {candidates : List ℕ}
+    → RisesFrom 0 (length rows) candidates → MayAgree tuple rows candidates → Offering context tuple rows candidates
+offering-start {context} {tuple} {rows} {candidates} rises others = record {
+  rise = rises;
+  others = λ i from. others i;
+  joining =
+      joining-skip context tuple rows 0 (get_or candidates 0 (length rows)) (omega arith) (first-within 0 (length rows) candidates rises)
+      (joining-start context tuple rows)
+      (λ m least most. others m (omega (arith, most, first-within 0 (length rows) candidates rises))
+      (before-first 0 (length rows) candidates m rises most));
+}
+
+-- the first candidate is a row, and the rows before it are passed
+pub offering-first : {context : SearchContext} {tuple : List (Option ℕ)} {rows : List (List (Option ℕ))} {i : ℕ} (candidates : List ℕ)
+    → Offering context tuple rows candidates → slice_get candidates 0 ≡ Some i → (i < length rows) × Joining context tuple rows i
+offering-first {context} {tuple} {rows} {i} [] offering first = absurd (none-some i first)
+offering-first {context} {tuple} {rows} {i} (j ∷ candidates) offering first =
+    let same : j ≡ i = same_Some j i first in
+    subst (λ n. (n < length rows) × Joining context tuple rows n) same (offering.rise.1, offering.joining)
+
+-- once it is passed too, the others are left
+offering-on : {context : SearchContext} {tuple : List (Option ℕ)} {rows : List (List (Option ℕ))} {rest : List ℕ} {i : ℕ} (candidates : List ℕ)
+    → Offering context tuple rows candidates → slice_get candidates 0 ≡ Some i → rest ≡ drop 1 candidates → Joining context tuple rows (i + 1)
+    → Offering context tuple rows rest
+offering-on {context} {tuple} {rows} {rest} {i} [] offering first is joining = absurd (none-some i first)
+offering-on {context} {tuple} {rows} {rest} {i} (j ∷ candidates) offering first is joining =
+    let same : i ≡ j = sym (same_Some j i first) in
+    subst (Offering context tuple rows) (sym is) (passing (subst (λ n. Joining context tuple rows (n + 1)) same joining))
+  where
+    others : (m : ℕ) → j < m → m < length rows → is_among candidates m ≡ false → agrees (get_or rows m []) tuple ≡ false
+    others m past within other =
+        let differs : nat_eq j m ≡ false = grind (arith, nat_tests) in
+        offering.others m (omega arith) within (ap (λ (b : Bool). b || is_among candidates m) differs ∙ other)
+
+    passing : Joining context tuple rows (j + 1) → Offering context tuple rows candidates
+    passing passed =
+        let within : j < length rows = offering.rise.1 in
+        let most = first-within (j + 1) (length rows) candidates offering.rise.2 in
+        let least = first-least (j + 1) (length rows) candidates (omega arith) offering.rise.2 in
+        record {
+          rise = lower (j + 1) (length rows) candidates offering.rise.2;
+          others = λ m from. others m (omega (arith, from, least));
+          joining =
+              joining-skip context tuple rows (j + 1) (get_or candidates 0 (length rows)) least most passed
+              (λ m from to. others m (omega arith) (omega (arith, to, most)) (before-first (j + 1) (length rows) candidates m offering.rise.2 to));
+        }
+
+-- no candidate is left
+offering-end : {context : SearchContext} {tuple : List (Option ℕ)} {rows : List (List (Option ℕ))} (candidates : List ℕ)
+    → Offering context tuple rows candidates → slice_get candidates 0 ≡ None → Joining context tuple rows (length rows)
+offering-end {context} {tuple} {rows} [] offering none = offering.joining
+offering-end {context} {tuple} {rows} (j ∷ candidates) offering none = absurd (none-some j (sym none))
 
 -- a row whose union isn't extendable
 pub joining-unable : (context : SearchContext) (tuple : List (Option ℕ)) (rows : List (List (Option ℕ))) (i : ℕ) → i < length rows
@@ -183,19 +239,19 @@ pub record IsOffered (context : SearchContext) (tuple : List (Option ℕ)) (rows
   pub grows : Grows context put
   pub long : length put ≡ length context.model.params
 
-pub offered : {context : SearchContext} {tuple put : List (Option ℕ)} {rows held : List (List (Option ℕ))} {i : ℕ} {found : Bool} (candidates : List ℕ)
-    (k : ℕ) (d e : List (Option ℕ))
-    → IsSoundContext context → Grows context tuple → All (Grows context) rows → RisesFrom 0 (length rows) candidates → MayAgree tuple rows candidates
-    → held ≡ rows → Joining context tuple rows (after 0 candidates k) → k < length candidates → i ≡ get_or candidates k 0 → i < length held
-    → found ≡ agrees (get_or held i d) tuple → found ≡ true → put ≡ union (get_or held i e) tuple → IsOffered context tuple rows i put
-offered {context} {tuple} {put} {rows} {held} {i} {found} candidates k d e is grows all rises others same joining inside at below tested agreed united =
-    let within : i < length rows = omega (arith, below, ap length same) in
-    let whole : put ≡ union (get_or rows i []) tuple = united ∙ ap (λ row. union row tuple) (read_row rows held i e same within) in
-    let both = grows-union context.model context.slice (get_or rows i []) tuple is.slice (all i [] within) grows in
+pub offered : {context : SearchContext} {tuple put : List (Option ℕ)} {rows held : List (List (Option ℕ))} {candidates : List ℕ} {i : ℕ} {found : Bool}
+    (d e : List (Option ℕ))
+    → IsSoundContext context → Grows context tuple → All (Grows context) rows → held ≡ rows → Offering context tuple rows candidates
+    → slice_get candidates 0 ≡ Some i → found ≡ agrees (get_or held i d) tuple → found ≡ true → put ≡ union (get_or held i e) tuple
+    → IsOffered context tuple rows i put
+offered {context} {tuple} {put} {rows} {held} {candidates} {i} {found} d e is grows all same offering first tested agreed united =
+    let row = offering-first candidates offering first in
+    let whole : put ≡ union (get_or rows i []) tuple = united ∙ ap (λ row. union row tuple) (read_row rows held i e same row.0) in
+    let both = grows-union context.model context.slice (get_or rows i []) tuple is.slice (all i [] row.0) grows in
     record {
-      within = within;
-      joining = joining-candidate context tuple rows candidates k i rises others inside joining at within;
-      agree = ap (λ row. agrees row tuple) (sym (read_row rows held i d same within)) ∙ sym tested ∙ agreed;
+      within = row.0;
+      joining = row.1;
+      agree = ap (λ row. agrees row tuple) (sym (read_row rows held i d same row.0)) ∙ sym tested ∙ agreed;
       is = whole;
       grows = subst (Grows context) (sym whole) both;
       long = ap length whole ∙ both.of.fits.as_long;
@@ -223,29 +279,26 @@ takes {context} {tuple} {put} {rows} {held} {after} {i} all same offer answer is
     }
 
 -- or it doesn't, and the next candidate is tried
-pub left : {context : SearchContext} {tuple put : List (Option ℕ)} {rows : List (List (Option ℕ))} {i : ℕ} (candidates : List ℕ) (k : ℕ)
-    → IsOffered context tuple rows i put
-    → IsAnswered context put false → i ≡ get_or candidates k 0 → Joining context tuple rows (after 0 candidates (k + 1))
-left {context} {tuple} {put} {rows} {i} candidates k offer answer at =
-    joining-on context tuple rows candidates k i at
+pub left : {context : SearchContext} {tuple put : List (Option ℕ)} {rows : List (List (Option ℕ))} {candidates rest : List ℕ} {i : ℕ}
+    → Offering context tuple rows candidates → slice_get candidates 0 ≡ Some i → rest ≡ drop 1 candidates
+    → IsOffered context tuple rows i put → IsAnswered context put false → Offering context tuple rows rest
+left {context} {tuple} {put} {rows} {candidates} {rest} {i} offering first is offer answer =
+    offering-on candidates offering first is
     (joining-unable context tuple rows i offer.within offer.joining offer.agree (ap (extends context) (sym offer.is) ∙ sym answer.value)
     (ap (λ (c : List (Option ℕ)). first_spent context (c ∷ [])) (sym offer.is) ∙ answer.unspent))
 
 -- a candidate that doesn't agree
-pub passed_over : {context : SearchContext} {tuple : List (Option ℕ)} {rows held : List (List (Option ℕ))} {i : ℕ} {found : Bool} (candidates : List ℕ)
-    (k : ℕ) (d : List (Option ℕ))
-    → RisesFrom 0 (length rows) candidates → MayAgree tuple rows candidates → held ≡ rows → Joining context tuple rows (after 0 candidates k)
-    → k < length candidates → i ≡ get_or candidates k 0 → i < length held → found ≡ agrees (get_or held i d) tuple → found ≡ false
-    → Joining context tuple rows (after 0 candidates (k + 1))
-passed_over {context} {tuple} {rows} {held} {i} {found} candidates k d rises others same joining inside at below tested differs =
-    let within : i < length rows = omega (arith, below, ap length same) in
-    joining-on context tuple rows candidates k i at
-    (joining-other context tuple rows i within (joining-candidate context tuple rows candidates k i rises others inside joining at within)
-    (ap (λ row. agrees row tuple) (sym (read_row rows held i d same within)) ∙ sym tested ∙ differs))
+pub passed_over : {context : SearchContext} {tuple : List (Option ℕ)} {rows held : List (List (Option ℕ))} {candidates rest : List ℕ} {i : ℕ} {found : Bool}
+    (d : List (Option ℕ))
+    → Offering context tuple rows candidates → slice_get candidates 0 ≡ Some i → rest ≡ drop 1 candidates → held ≡ rows
+    → found ≡ agrees (get_or held i d) tuple → found ≡ false → Offering context tuple rows rest
+passed_over {context} {tuple} {rows} {held} {candidates} {rest} {i} {found} d offering first is same tested differs =
+    let row = offering-first candidates offering first in
+    offering-on candidates offering first is
+    (joining-other context tuple rows i row.0 row.1 (ap (λ row. agrees row tuple) (sym (read_row rows held i d same row.0)) ∙ sym tested ∙ differs))
 
 -- no candidate is left
-pub joining-none : {context : SearchContext} {tuple : List (Option ℕ)} {rows : List (List (Option ℕ))} (candidates : List ℕ) (k : ℕ)
-    → RisesFrom 0 (length rows) candidates
-    → MayAgree tuple rows candidates → Joining context tuple rows (after 0 candidates k) → k ≡ length candidates → Joins context tuple rows rows false
-joining-none {context} {tuple} {rows} candidates k rises others joining past =
-    joining-end context tuple rows (length rows) (omega arith) (joining-past context tuple rows candidates k rises others past joining)
+pub joining-none : {context : SearchContext} {tuple : List (Option ℕ)} {rows : List (List (Option ℕ))} {candidates : List ℕ}
+    → Offering context tuple rows candidates → slice_get candidates 0 ≡ None → Joins context tuple rows rows false
+joining-none {context} {tuple} {rows} {candidates} offering none =
+    joining-end context tuple rows (length rows) (omega arith) (offering-end candidates offering none)

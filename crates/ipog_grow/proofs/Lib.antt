@@ -29,6 +29,7 @@ pub mod Halves
 pub mod Ranking
 pub mod Taking
 pub mod Giving
+pub mod Merging
 pub mod UnfilledLemmas
 pub mod ColumnLemmas
 pub mod Refuting

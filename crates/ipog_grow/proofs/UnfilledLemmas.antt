@@ -1,83 +1,41 @@
--- Partial rows with a gap, and those that can't agree with a tuple.
-use Rattle.std.proofs.Common.{◌≡◌, ℕ, zero, suc, ◌+◌, ◌<◌, ◌≤◌, Bool, true, false, cond, ◌&&◌, ◌||◌, not, List, [], ◌∷◌, ◌++◌, length, take, Option, Some, None, get_or, set, nat_eq, ◌∙◌, sym, ap, subst, refl, arith, inl, inr, length-append}
+-- Partial rows with an empty cell, and those that can't agree with a tuple.
+use Rattle.std.proofs.Common.{◌≡◌, ℕ, zero, suc, ◌+◌, ◌<◌, ◌≤◌, Bool, true, false, cond, ◌&&◌, ◌||◌, not, All, IfSome, List, [], ◌∷◌, ◌++◌, length, take, replicate, Option, Some, None, get_or, set, nat_eq, is_some, unwrap_or, ◌≢◌, ◌⊎◌, ◌∙◌, sym, ap, subst, refl, arith, inl, inr, length-append}
 use Rattle.std.specs.List.{list_all}
-use Rattle.std.proofs.lemmas.Bool.{false≢true, cases_eq, cases_lt, and_parts, or_parts}
+use Rattle.std.specs.Option.{option_map_or}
+use Rattle.std.proofs.lemmas.Bool.{false≢true, cases_eq, cases_lt, and_parts, and_right, or_from, or_parts}
 use Rattle.std.proofs.lemmas.Bool.Decides.{nat_tests}
-use Rattle.std.proofs.lemmas.List.{get_or-set_same, get_or-set_other, length-set, get_or_append_left, take_more, length-take}
+use Rattle.std.proofs.lemmas.List.{get_or-set_same, get_or-set_other, get_or-replicate, length-set, length-replicate, get_or_append_left, take_more, length-take}
+use Rattle.std.proofs.lemmas.List.Elements.{All-set}
+use Rattle.std.proofs.lemmas.Option.{none-some, same_Some}
+use Rattle.std.proofs.Math.Bool.{or-true}
 use Rattle.std.proofs.Math.Seq.{get_or-append_seam}
 use Rattle.std.proofs.lemmas.List.Folds.{list_any-append}
-use Rattle.cov_model.proofs.CellLemmas.{contains-assigned}
+use Rattle.cov_model.proofs.CellLemmas.{contains-assigned, contains-get_or}
 use Rattle.definitions.proofs.PartialRowLemmas.{union-contains_row}
+use Rattle.cov_model.specs.Fits.{FitsModel}
 use Rattle.cov_model.specs.Rows.{contains, is_assigned}
+use Rattle.cov_model.specs.Sound.{ModelView, param_at}
 use Rattle.definitions.specs.Demand.{is_among}
 use Rattle.definitions.specs.Growth.{agrees, union, is_uncovered}
+use Rattle.refutation.proofs.HolderLemmas.{among_last}
 use Rattle.tuple_index.specs.Places.{RisesFrom}
-use Rattle.ipog_grow.specs.UnfilledRows.{HasUnfilled, is_filled, with_unfilled}
+use Rattle.ipog_grow.specs.UnfilledRows.{HasUnfilled, UnfilledLists, candidates, is_candidate, is_filled, may_have, with_number, with_unfilled}
 use Rattle.ipog_grow.proofs.Falling.{among_cases}
 use Rattle.ipog_grow.proofs.Holding.{holds}
+use Rattle.ipog_grow.proofs.Merging.{merged-among, merged-rises}
 
--- rising numbers: none is below the first bound, each is below the second, and more may follow
-below-rises : (lo hi : ℕ) (unfilled : List ℕ) (m : ℕ) → RisesFrom lo hi unfilled → m < lo → is_among unfilled m ≡ false
-below-rises lo hi [] m rises less = refl
-below-rises lo hi (g ∷ unfilled) m rises less =
-    let least : lo ≤ g = rises.0 in
-    let other : nat_eq g m ≡ false = grind (arith, nat_tests) in
-    ap (λ (b : Bool). b || is_among unfilled m) other ∙ below-rises (g + 1) hi unfilled m rises.2 (omega arith)
-
-pub rises-within : (lo hi : ℕ) (unfilled : List ℕ) (k d : ℕ) → RisesFrom lo hi unfilled → k < length unfilled → get_or unfilled k d < hi
-rises-within lo hi [] k d rises within = absurd (omega arith)
-rises-within lo hi (g ∷ unfilled) zero d rises within = rises.1
-rises-within lo hi (g ∷ unfilled) (suc k) d rises within = rises-within (g + 1) hi unfilled k d rises.2 (omega arith)
-
-rises-least : (lo hi : ℕ) (unfilled : List ℕ) (k d : ℕ) → RisesFrom lo hi unfilled → k < length unfilled → lo ≤ get_or unfilled k d
-rises-least lo hi [] k d rises within = absurd (omega arith)
-rises-least lo hi (g ∷ unfilled) zero d rises within = rises.0
-rises-least lo hi (g ∷ unfilled) (suc k) d rises within =
-    let least : lo ≤ g = rises.0 in
-    let more = rises-least (g + 1) hi unfilled k d rises.2 (omega arith) in
-    omega arith
-
-rises-more : (lo hi more : ℕ) (unfilled : List ℕ) → hi ≤ more → RisesFrom lo hi unfilled → RisesFrom lo more unfilled
+-- rising numbers stay so below a greater bound, and with the bound behind them
+rises-more : (lo hi more : ℕ) (numbers : List ℕ) → hi ≤ more → RisesFrom lo hi numbers → RisesFrom lo more numbers
 rises-more lo hi more [] less rises = tt
-rises-more lo hi more (g ∷ unfilled) less rises =
-    let within : g < hi = rises.1 in
-    (rises.0, omega arith, rises-more (g + 1) hi more unfilled less rises.2)
+rises-more lo hi more (i ∷ numbers) less rises =
+    let within : i < hi = rises.1 in
+    (rises.0, omega arith, rises-more (i + 1) hi more numbers less rises.2)
 
-rises-push : (lo hi : ℕ) (unfilled : List ℕ) → lo ≤ hi → RisesFrom lo hi unfilled → RisesFrom lo (hi + 1) (unfilled ++ hi ∷ [])
+rises-push : (lo hi : ℕ) (numbers : List ℕ) → lo ≤ hi → RisesFrom lo hi numbers → RisesFrom lo (hi + 1) (numbers ++ hi ∷ [])
 rises-push lo hi [] least rises = (least, omega arith, tt)
-rises-push lo hi (g ∷ unfilled) least rises =
-    let within : g < hi = rises.1 in
-    (rises.0, omega arith, rises-push (g + 1) hi unfilled (omega arith) rises.2)
-
--- where one goes on behind the first numbers
-abbrev pub after : ℕ → List ℕ → ℕ → ℕ
-after lo unfilled zero = lo
-after lo unfilled (suc k) = get_or unfilled k 0 + 1
-
--- between two of the numbers that follow on one another there is none, nor behind the last
-pub between : (lo hi : ℕ) (unfilled : List ℕ) (k m : ℕ) → RisesFrom lo hi unfilled → k ≤ length unfilled → after lo unfilled k ≤ m → m < get_or unfilled k hi
-    → is_among unfilled m ≡ false
-between lo hi [] k m rises most from to = refl
-between lo hi (g ∷ unfilled) zero m rises most from to =
-    let other : nat_eq g m ≡ false = grind (arith, nat_tests) in
-    ap (λ (b : Bool). b || is_among unfilled m) other ∙ below-rises (g + 1) hi unfilled m rises.2 (omega arith)
-between lo hi (g ∷ unfilled) (suc zero) m rises most from to =
-    let other : nat_eq g m ≡ false = grind (arith, nat_tests) in
-    ap (λ (b : Bool). b || is_among unfilled m) other ∙ between (g + 1) hi unfilled zero m rises.2 (omega arith) from to
-between lo hi (g ∷ unfilled) (suc (suc k)) m rises most from to =
-    let least = rises-least (g + 1) hi unfilled k 0 rises.2 (omega arith) in
-    let past : g < m = omega (arith, from) in
-    let other : nat_eq g m ≡ false = grind (arith, nat_tests) in
-    ap (λ (b : Bool). b || is_among unfilled m) other ∙ between (g + 1) hi unfilled (suc k) m rises.2 (omega arith) from to
-
-pub after-most : (lo hi : ℕ) (unfilled : List ℕ) (k : ℕ) → lo ≤ hi → RisesFrom lo hi unfilled → k ≤ length unfilled → after lo unfilled k ≤ get_or unfilled k hi
-after-most lo hi [] zero less rises most = less
-after-most lo hi [] (suc k) less rises most = absurd (omega arith)
-after-most lo hi (g ∷ unfilled) zero less rises most = rises.0
-after-most lo hi (g ∷ unfilled) (suc zero) less rises most =
-    let within : g < hi = rises.1 in after-most (g + 1) hi unfilled zero (omega arith) rises.2 (omega arith)
-after-most lo hi (g ∷ unfilled) (suc (suc k)) less rises most =
-    let within : g < hi = rises.1 in after-most (g + 1) hi unfilled (suc k) (omega arith) rises.2 (omega arith)
+rises-push lo hi (i ∷ numbers) least rises =
+    let within : i < hi = rises.1 in
+    (rises.0, omega arith, rises-push (i + 1) hi numbers (omega arith) rises.2)
 
 -- what passes a test for each passes it for one, and what passes it passes a weaker one
 pub all-among : (test : ℕ → Bool) (xs : List ℕ) (q : ℕ) → list_all test xs ≡ true → is_among xs q ≡ true → test q ≡ true
@@ -121,7 +79,7 @@ open-not (row ∷ rows) tuple (suc i) within free = open-not rows tuple i (omega
     at false b h = h
 
 -- a full row doesn't agree with an open tuple that gives these parameters alone values
-pub full-differs : (columns : List ℕ) (rows : List (List (Option ℕ))) (tuple : List (Option ℕ)) (i : ℕ) → i < length rows → is_uncovered rows tuple ≡ true
+full-differs : (columns : List ℕ) (rows : List (List (Option ℕ))) (tuple : List (Option ℕ)) (i : ℕ) → i < length rows → is_uncovered rows tuple ≡ true
     → length tuple ≡ length (get_or rows i []) → ((q : ℕ) → is_assigned tuple q ≡ true → is_among columns q ≡ true) → is_filled columns (get_or rows i [])
     ≡ true
     → agrees (get_or rows i []) tuple ≡ false
@@ -133,78 +91,219 @@ full-differs columns rows tuple i within free long given full = by_case (agrees 
         absurd (false≢true (sym (open-not rows tuple i within free)
         ∙ agrees-contains (get_or rows i []) tuple long is (λ q has. all-among (is_assigned (get_or rows i [])) columns q full (given q has))))
 
+-- a row with another value than the tuple's in a column doesn't agree with it either
+value-differs : (row tuple : List (Option ℕ)) (p v : ℕ) → get_or tuple p None ≡ Some v → may_have p v row ≡ false → agrees row tuple ≡ false
+value-differs [] tuple p v has other = absurd (false≢true (sym other))
+value-differs (given ∷ row) [] p v has other = absurd (none-some v has)
+value-differs (None ∷ row) (cell ∷ tuple) zero v has other = absurd (false≢true (sym other))
+value-differs (Some w ∷ row) (None ∷ tuple) zero v has other = absurd (none-some v has)
+value-differs (Some w ∷ row) (Some u ∷ tuple) zero v has other =
+    ap (λ (n : ℕ). nat_eq w n && agrees row tuple) (same_Some u v has) ∙ ap (λ (b : Bool). b && agrees row tuple) other
+value-differs (None ∷ row) (cell ∷ tuple) (suc p) v has other = value-differs row tuple p v has other
+value-differs (Some w ∷ row) (None ∷ tuple) (suc p) v has other = value-differs row tuple p v has other
+value-differs (Some w ∷ row) (Some u ∷ tuple) (suc p) v has other =
+    and_right (nat_eq w u) (agrees row tuple) (value-differs row tuple p v has other)
+
+-- the candidates rise, and no other row may agree with an open tuple
+pub candidates-rise : {columns : List ℕ} {p count : ℕ} {rows : List (List (Option ℕ))} {unfilled : UnfilledLists} (v : ℕ)
+    → HasUnfilled columns p count rows unfilled → v < count → RisesFrom 0 (length rows) (candidates unfilled v)
+candidates-rise {columns} {p} {count} {rows} {unfilled} v are within =
+    merged-rises 0 (length rows) unfilled.without (get_or unfilled.by_value v []) are.without_rise (are.by_value_rise v [] (omega (arith, within, are.values)))
+
+pub other-differs : (columns : List ℕ) (p count v : ℕ) (rows : List (List (Option ℕ))) (unfilled : UnfilledLists) (tuple : List (Option ℕ)) (i : ℕ)
+    → HasUnfilled columns p count rows unfilled → get_or tuple p None ≡ Some v → is_uncovered rows tuple ≡ true
+    → length tuple ≡ length (get_or rows i []) → ((q : ℕ) → is_assigned tuple q ≡ true → is_among columns q ≡ true)
+    → i < length rows → is_among (candidates unfilled v) i ≡ false → agrees (get_or rows i []) tuple ≡ false
+other-differs columns p count v rows unfilled tuple i are has free long given within other = by_value (may_have p v (get_or rows i [])) refl
+  where
+    by_value : (b : Bool) → may_have p v (get_or rows i []) ≡ b → agrees (get_or rows i []) tuple ≡ false
+    by_value false differs = value-differs (get_or rows i []) tuple p v has differs
+    by_value true may =
+        full-differs columns rows tuple i within free long given
+        (are.others v i within may (sym (merged-among unfilled.without (get_or unfilled.by_value v []) i) ∙ other))
+
+-- a value of a partial row is one of its parameter
+pub value-within : (m : ModelView) (row : List (Option ℕ)) (p : ℕ) → FitsModel m row
+    → IfSome (get_or row p None) (λ v. v < length (param_at m.params p).values)
+value-within m row p fits = by_cell (get_or row p None) refl
+  where
+    by_cell : (cell : Option ℕ) → get_or row p None ≡ cell → IfSome cell (λ v. v < length (param_at m.params p).values)
+    by_cell None is = tt
+    by_cell (Some v) is =
+        subst (λ n. n < length (param_at m.params p).values) (ap (λ (c : Option ℕ). unwrap_or c 0) is)
+        (fits.exist p (ap (λ (c : Option ℕ). is_some c) is))
+
 -- rows keep their values when one becomes a union
-pub unfilled-union : (columns : List ℕ) (rows : List (List (Option ℕ))) (unfilled : List ℕ) (tuple : List (Option ℕ)) (i : ℕ) → i < length rows
-    → HasUnfilled columns rows unfilled
-    → HasUnfilled columns (set rows i (union (get_or rows i []) tuple)) unfilled
-unfilled-union columns rows unfilled tuple i inside are = record {
-  rise = subst (λ n. RisesFrom 0 n unfilled) (sym (length-set rows i (union (get_or rows i []) tuple))) are.rise;
-  others = by_place;
+union-may_have : (row tuple : List (Option ℕ)) (p v : ℕ) → may_have p v (union row tuple) ≡ true → may_have p v row ≡ true
+union-may_have row tuple p v may = by_cell (get_or row p None) refl
+  where
+    by_cell : (cell : Option ℕ) → get_or row p None ≡ cell → may_have p v row ≡ true
+    by_cell None is = ap (λ (c : Option ℕ). option_map_or (λ w. nat_eq w v) c true) is
+    by_cell (Some w) is =
+        let has : is_assigned row p ≡ true = ap (λ (c : Option ℕ). is_some c) is in
+        ap (λ (c : Option ℕ). option_map_or (λ w. nat_eq w v) c true) (sym (contains-get_or (union row tuple) row p (union-contains_row row tuple) has)) ∙ may
+
+union-filled : (columns : List ℕ) (row tuple : List (Option ℕ)) → is_filled columns row ≡ true → is_filled columns (union row tuple) ≡ true
+union-filled columns row tuple filled =
+    all-weaker (is_assigned row) (is_assigned (union row tuple)) columns
+    (λ q has. contains-assigned (union row tuple) row q (union-contains_row row tuple) has) filled
+
+pub unfilled-union : (columns : List ℕ) (p count : ℕ) (rows : List (List (Option ℕ))) (unfilled : UnfilledLists) (tuple : List (Option ℕ)) (i : ℕ)
+    → i < length rows → HasUnfilled columns p count rows unfilled
+    → HasUnfilled columns p count (set rows i (union (get_or rows i []) tuple)) unfilled
+unfilled-union columns p count rows unfilled tuple i inside are = record {
+  values = are.values;
+  without_rise = subst (λ n. RisesFrom 0 n unfilled.without) (sym long) are.without_rise;
+  by_value_rise = subst (λ n. All (RisesFrom 0 n) unfilled.by_value) (sym long) are.by_value_rise;
+  others = λ v j below may other. by_place v j (omega (arith, below, long)) may other (cases_eq j i);
 }
   where
-    by_place : (j : ℕ) → j < length (set rows i (union (get_or rows i []) tuple)) → is_among unfilled j ≡ false
-        → is_filled columns (get_or (set rows i (union (get_or rows i []) tuple)) j []) ≡ true
-    by_place j below other =
-        let within : j < length rows = omega (arith, below, length-set rows i (union (get_or rows i []) tuple)) in
-        elim (cases_eq j i) [
-          | inl same ↦
-              subst (λ (row : List (Option ℕ)). is_filled columns row ≡ true)
-              (sym (ap (λ k. get_or (set rows i (union (get_or rows i []) tuple)) k []) same
-              ∙ get_or-set_same rows i (union (get_or rows i []) tuple) [] inside))
-              (all-weaker (is_assigned (get_or rows i [])) (is_assigned (union (get_or rows i []) tuple)) columns
-              (λ q has. contains-assigned (union (get_or rows i []) tuple) (get_or rows i []) q (union-contains_row (get_or rows i []) tuple) has)
-              (ap (λ k. is_filled columns (get_or rows k [])) (sym same) ∙ are.others j within other))
-          | inr differs ↦
-              ap (is_filled columns) (get_or-set_other rows i j (union (get_or rows i []) tuple) [] differs) ∙ are.others j within other
-        ]
+    grown : List (Option ℕ)
+    grown = union (get_or rows i []) tuple
+
+    long : length (set rows i grown) ≡ length rows
+    long = length-set rows i grown
+
+    by_place : (v j : ℕ) → j < length rows → may_have p v (get_or (set rows i grown) j []) ≡ true → is_candidate unfilled v j ≡ false
+        → (j ≡ i) ⊎ (j ≢ i) → is_filled columns (get_or (set rows i grown) j []) ≡ true
+    by_place v j within may other (inl same) =
+        let put : get_or (set rows i grown) j [] ≡ grown = ap (λ k. get_or (set rows i grown) k []) same ∙ get_or-set_same rows i grown [] inside in
+        let had = union-may_have (get_or rows i []) tuple p v (sym (ap (may_have p v) put) ∙ may) in
+        ap (is_filled columns) put
+        ∙ union-filled columns (get_or rows i []) tuple (are.others v i inside had (ap (is_candidate unfilled v) (sym same) ∙ other))
+    by_place v j within may other (inr differs) =
+        let kept : get_or (set rows i grown) j [] ≡ get_or rows j [] = get_or-set_other rows i j grown [] differs in
+        ap (is_filled columns) kept ∙ are.others v j within (sym (ap (may_have p v) kept) ∙ may) other
+
+-- one more number: the candidates stay, and it is one for the value that its row may have
+append-among : (numbers : List ℕ) (number m : ℕ) → is_among (numbers ++ number ∷ []) m ≡ (is_among numbers m || (nat_eq number m || false))
+append-among numbers number m = list_any-append (λ k. nat_eq k m) numbers (number ∷ [])
+
+number-keeps : (unfilled : UnfilledLists) (cell : Option ℕ) (number v j : ℕ) → IfSome cell (λ w. w < length unfilled.by_value)
+    → is_candidate (with_number cell number unfilled) v j ≡ false → is_candidate unfilled v j ≡ false
+number-keeps unfilled None number v j within other =
+    let parts = or_parts _ _ other in
+    or_from _ _ (or_parts _ _ (sym (append-among unfilled.without number j) ∙ parts.0)).0 parts.1
+number-keeps unfilled (Some w) number v j within other = by_value (cases_eq v w)
+  where
+    list : List ℕ
+    list = get_or unfilled.by_value w []
+
+    by_value : (v ≡ w) ⊎ (v ≢ w) → is_candidate unfilled v j ≡ false
+    by_value (inl same) =
+        let parts = or_parts _ _ other in
+        let read : get_or (set unfilled.by_value w (list ++ number ∷ [])) v [] ≡ list ++ number ∷ [] =
+        ap (λ k. get_or (set unfilled.by_value w (list ++ number ∷ [])) k []) same
+        ∙ get_or-set_same unfilled.by_value w (list ++ number ∷ []) [] within in
+        let none : (is_among list j || (nat_eq number j || false)) ≡ false = sym (ap (λ numbers. is_among numbers j) read ∙ append-among list number j)
+        ∙ parts.1 in
+        or_from _ _ parts.0 (ap (λ k. is_among (get_or unfilled.by_value k []) j) same ∙ (or_parts _ _ none).0)
+    by_value (inr differs) =
+        ap (λ numbers. is_among unfilled.without j || is_among numbers j)
+        (sym (get_or-set_other unfilled.by_value w v (list ++ number ∷ []) [] differs)) ∙ other
+
+number-candidate : (unfilled : UnfilledLists) (cell : Option ℕ) (number v : ℕ) → IfSome cell (λ w. w < length unfilled.by_value)
+    → option_map_or (λ w. nat_eq w v) cell true ≡ true → is_candidate (with_number cell number unfilled) v number ≡ true
+number-candidate unfilled None number v within may =
+    ap (λ (b : Bool). b || is_among (get_or unfilled.by_value v []) number) (among_last unfilled.without number)
+number-candidate unfilled (Some w) number v within may =
+    let same : v ≡ w = grind (arith, nat_tests) in
+    let list = get_or unfilled.by_value w [] in
+    let read : get_or (set unfilled.by_value w (list ++ number ∷ [])) v [] ≡ list ++ number ∷ [] =
+    ap (λ k. get_or (set unfilled.by_value w (list ++ number ∷ [])) k []) same ∙ get_or-set_same unfilled.by_value w (list ++ number ∷ []) [] within in
+    ap (λ (b : Bool). is_among unfilled.without number || b) (ap (λ numbers. is_among numbers number) read ∙ among_last list number)
+    ∙ or-true (is_among unfilled.without number)
+
+number-values : (unfilled : UnfilledLists) (cell : Option ℕ) (number : ℕ)
+    → length (with_number cell number unfilled).by_value ≡ length unfilled.by_value
+number-values unfilled None number = refl
+number-values unfilled (Some w) number = length-set unfilled.by_value w (get_or unfilled.by_value w [] ++ number ∷ [])
 
 -- a row more
-pub unfilled-push : (columns : List ℕ) (rows : List (List (Option ℕ))) (unfilled : List ℕ) (row : List (Option ℕ)) → HasUnfilled columns rows unfilled
-    → HasUnfilled columns (rows ++ row ∷ []) (with_unfilled columns row (length rows) unfilled)
-unfilled-push columns rows unfilled row are = by_full (is_filled columns row) refl
+pub unfilled-push : (columns : List ℕ) (p count : ℕ) (rows : List (List (Option ℕ))) (unfilled : UnfilledLists) (row : List (Option ℕ))
+    → IfSome (get_or row p None) (λ v. v < count) → HasUnfilled columns p count rows unfilled
+    → HasUnfilled columns p count (rows ++ row ∷ []) (with_unfilled columns p row (length rows) unfilled)
+unfilled-push columns p count rows unfilled row value are = by_filled (is_filled columns row) refl
   where
     long : length (rows ++ row ∷ []) ≡ length rows + 1
     long = length-append rows (row ∷ [])
 
-    left_of : (j : ℕ) → j < length rows → is_among unfilled j ≡ false → is_filled columns (get_or (rows ++ row ∷ []) j []) ≡ true
-    left_of j within other = ap (is_filled columns) (get_or_append_left rows (row ∷ []) [] j within) ∙ are.others j within other
+    inside : IfSome (get_or row p None) (λ v. v < length unfilled.by_value)
+    inside = subst (λ n. IfSome (get_or row p None) (λ v. v < n)) (sym are.values) value
 
-    last : get_or (rows ++ row ∷ []) (length rows) [] ≡ row
-    last = get_or-append_seam rows row [] []
+    more : (numbers : List ℕ) → RisesFrom 0 (length rows) numbers → RisesFrom 0 (length (rows ++ row ∷ [])) numbers
+    more numbers rises = rises-more 0 (length rows) (length (rows ++ row ∷ [])) numbers (omega (arith, long)) rises
 
-    by_full : (b : Bool) → is_filled columns row ≡ b → HasUnfilled columns (rows ++ row ∷ []) (cond b unfilled (unfilled ++ length rows ∷ []))
-    by_full true full = record {
-      rise = rises-more 0 (length rows) (length (rows ++ row ∷ [])) unfilled (omega (arith, long)) are.rise;
+    behind : (numbers : List ℕ) → RisesFrom 0 (length rows) numbers → RisesFrom 0 (length (rows ++ row ∷ [])) (numbers ++ length rows ∷ [])
+    behind numbers rises = subst (λ n. RisesFrom 0 n (numbers ++ length rows ∷ [])) (sym long) (rises-push 0 (length rows) numbers (omega arith) rises)
+
+    each_more : All (RisesFrom 0 (length (rows ++ row ∷ []))) unfilled.by_value
+    each_more = λ v d within. more (get_or unfilled.by_value v d) (are.by_value_rise v d within)
+
+    left_of : (v j : ℕ) → j < length rows → may_have p v (get_or (rows ++ row ∷ []) j []) ≡ true → is_candidate unfilled v j ≡ false
+        → is_filled columns (get_or (rows ++ row ∷ []) j []) ≡ true
+    left_of v j within may other =
+        let same : get_or (rows ++ row ∷ []) j [] ≡ get_or rows j [] = get_or_append_left rows (row ∷ []) [] j within in
+        ap (is_filled columns) same ∙ are.others v j within (sym (ap (may_have p v) same) ∙ may) other
+
+    last : (j : ℕ) → j ≡ length rows → get_or (rows ++ row ∷ []) j [] ≡ row
+    last j same = ap (λ k. get_or (rows ++ row ∷ []) k []) same ∙ get_or-append_seam rows row [] []
+
+    without_rises : (cell : Option ℕ) → RisesFrom 0 (length (rows ++ row ∷ [])) (with_number cell (length rows) unfilled).without
+    without_rises None = behind unfilled.without are.without_rise
+    without_rises (Some v) = more unfilled.without are.without_rise
+
+    each_rises : (cell : Option ℕ) → IfSome cell (λ v. v < length unfilled.by_value)
+        → All (RisesFrom 0 (length (rows ++ row ∷ []))) (with_number cell (length rows) unfilled).by_value
+    each_rises None within = each_more
+    each_rises (Some v) within =
+        All-set (RisesFrom 0 (length (rows ++ row ∷ []))) unfilled.by_value v (get_or unfilled.by_value v [] ++ length rows ∷ [])
+        (behind (get_or unfilled.by_value v []) (are.by_value_rise v [] within)) each_more
+
+    by_filled : (b : Bool) → is_filled columns row ≡ b
+        → HasUnfilled columns p count (rows ++ row ∷ []) (cond b unfilled (with_number (get_or row p None) (length rows) unfilled))
+    by_filled true filled = record {
+      values = are.values;
+      without_rise = more unfilled.without are.without_rise;
+      by_value_rise = each_more;
       others =
-          λ j below other.
+          λ v j below may other.
           elim (cases_lt j (length rows)) [
-            | inl within ↦ left_of j within other
-            | inr past ↦ let same : j ≡ length rows = omega (arith, below, long) in ap (is_filled columns) (ap (λ k. get_or (rows ++ row ∷ []) k []) same
-                ∙ last) ∙ full
+            | inl within ↦ left_of v j within may other
+            | inr past ↦ ap (is_filled columns) (last j (omega (arith, below, long))) ∙ filled
           ];
     }
-    by_full false lacks = record {
-      rise = subst (λ n. RisesFrom 0 n (unfilled ++ length rows ∷ [])) (sym long) (rises-push 0 (length rows) unfilled (omega arith) are.rise);
+    by_filled false lacks = record {
+      values = number-values unfilled (get_or row p None) (length rows) ∙ are.values;
+      without_rise = without_rises (get_or row p None);
+      by_value_rise = each_rises (get_or row p None) inside;
       others =
-          λ j below other.
-          let both : (is_among unfilled j || (nat_eq (length rows) j || false)) ≡ false = sym (list_any-append (λ k. nat_eq k j) unfilled (length rows ∷ []))
-          ∙ other in
+          λ v j below may other.
           elim (cases_lt j (length rows)) [
-            | inl within ↦ left_of j within (or_parts _ _ both).0
+            | inl within ↦ left_of v j within may (number-keeps unfilled (get_or row p None) (length rows) v j inside other)
             | inr past ↦
                 let same : j ≡ length rows = omega (arith, below, long) in
-                let equal : nat_eq (length rows) j ≡ true = grind (arith, nat_tests) in
-                absurd (false≢true (sym (or_parts _ _ both).1 ∙ ap (λ (b : Bool). b || false) equal))
+                absurd (false≢true (sym (ap (is_candidate (with_number (get_or row p None) (length rows) unfilled) v) (sym same) ∙ other)
+                ∙ number-candidate unfilled (get_or row p None) (length rows) v inside (sym (ap (may_have p v) (last j same)) ∙ may)))
           ];
     }
 
+-- none of no rows
+pub unfilled-none : (columns : List ℕ) (p count : ℕ) → HasUnfilled columns p count [] (record { without = []; by_value = replicate count [] })
+unfilled-none columns p count = record {
+  values = length-replicate {A = List ℕ} count [];
+  without_rise = tt;
+  by_value_rise = λ v d within. subst (RisesFrom 0 0) (sym (get_or-replicate count v [] d (omega (arith, within, length-replicate {A = List ℕ} count [])))) tt;
+  others = λ v i below may other. absurd (omega arith);
+}
+
 -- the next one of some rows
-pub unfilled-next : (columns : List ℕ) (rows : List (List (Option ℕ))) (unfilled next : List ℕ) (i : ℕ) (row : List (Option ℕ)) → i < length rows
-    → HasUnfilled columns (take i rows) unfilled
-    → row ≡ get_or rows i [] → next ≡ with_unfilled columns row i unfilled → HasUnfilled columns (take (i + 1) rows) next
-unfilled-next columns rows unfilled next i row within are read is =
+pub unfilled-next : (columns : List ℕ) (p count : ℕ) (rows : List (List (Option ℕ))) (unfilled next : UnfilledLists) (i : ℕ) (row : List (Option ℕ))
+    → i < length rows → IfSome (get_or row p None) (λ v. v < count) → HasUnfilled columns p count (take i rows) unfilled
+    → row ≡ get_or rows i [] → next ≡ with_unfilled columns p row i unfilled → HasUnfilled columns p count (take (i + 1) rows) next
+unfilled-next columns p count rows unfilled next i row within value are read is =
     let long : length (take i rows) ≡ i = omega (arith, length-take i rows) in
     let whole : take i rows ++ row ∷ [] ≡ take (i + 1) rows = ap (λ r. take i rows ++ r ∷ []) read ∙ sym (take_more rows i [] within) in
-    subst (HasUnfilled columns (take (i + 1) rows)) (ap (λ n. with_unfilled columns row n unfilled) long ∙ sym is)
-    (subst (λ list. HasUnfilled columns list (with_unfilled columns row (length (take i rows)) unfilled)) whole
-    (unfilled-push columns (take i rows) unfilled row are))
+    subst (HasUnfilled columns p count (take (i + 1) rows)) (ap (λ n. with_unfilled columns p row n unfilled) long ∙ sym is)
+    (subst (λ list. HasUnfilled columns p count list (with_unfilled columns p row (length (take i rows)) unfilled)) whole
+    (unfilled-push columns p count (take i rows) unfilled row value are))

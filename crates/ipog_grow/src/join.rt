@@ -5,25 +5,24 @@ ghost use Rattle.definitions.specs.Growth.{agrees, join, union};
 ghost use Rattle.ipog_grow.specs.Asking.{Grows, Told, IsUnionAt, extends, first_spent};
 
 use crate::asker::Asker;
+use crate::candidates::Candidates;
 use crate::stop::Stop;
-use crate::unfilled::number_at;
 use crate::unions::{agree, put_given_params, unite};
 use cov_model::Cells;
 
 // The first partial row that agrees with a tuple, and whose union with it is extendable, becomes this
-// union; its number, if there is one. The room is for a union. Only the candidates, which are rising
-// numbers of rows, may agree.
+// union; its number, if there is one. The room is for a union. Only the candidates may agree.
 pub(crate) fn join_first(
     asker: &mut Asker,
     tuple: &Cells,
     room: &mut Cells,
     rows: &mut [Cells],
-    candidates: &[usize],
+    mut candidates: Candidates<'_>,
 ) -> Result<Option<usize>, Stop>
     requires tuple { Grows asker.old.context tuple.now }
     requires rows { All (Grows asker.old.context) rows.old }
-    requires candidates { RisesFrom 0 (length rows.old) candidates.now }
-    requires others { (i : ℕ) → i < length rows.old → is_among candidates.now i ≡ false → agrees (slice_index_or rows.old i []) tuple.now ≡ false }
+    requires candidates { RisesFrom 0 (length rows.old) candidates }
+    requires others { (i : ℕ) → i < length rows.old → is_among candidates i ≡ false → agrees (slice_index_or rows.old i []) tuple.now ≡ false }
     requires room { length room.old ≡ length asker.old.context.model.params }
     ensures asked { Told result asker.new.question (first_spent asker.old.context (join (extends asker.old.context) tuple.now rows.old).asked) }
     ensures rows { OnOk result (rows.new ≡ (join (extends asker.old.context) tuple.now rows.old).rows) }
@@ -38,8 +37,7 @@ pub(crate) fn join_first(
     let mut params = [0; 256];
     let count = put_given_params(tuple, &mut params);
     let given = &params[..count];
-    for k in 0..candidates.len() {
-        let i = number_at(candidates, k, rows.len());
+    while let Some(i) = candidates.take_first() {
         if agree(&rows[i], tuple, given) {
             unite(&rows[i], tuple, room);
             if asker.ask(room)? {

@@ -3,6 +3,7 @@
 #![tactic(auto)]
 
 mod asker;
+mod candidates;
 mod completing;
 mod contained;
 mod distinct;

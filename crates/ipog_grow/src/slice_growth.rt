@@ -1,5 +1,6 @@
 ghost use Rattle.std.specs.Prelude.{◌≡◌, ◌++◌, ◌∷◌, ◌<◌, [], All, IfOk, OnOk, length};
 ghost use Rattle.cov_model.specs.Preference.{OrdersValues};
+ghost use Rattle.cov_model.specs.Sound.{param_at};
 ghost use Rattle.definitions.specs.Completion.{column_order};
 ghost use Rattle.definitions.specs.Growth.{down, settle};
 ghost use Rattle.definitions.specs.SliceRows.{IsSliceOf};
@@ -16,7 +17,7 @@ use crate::join::join_first;
 use crate::order::column_order;
 use crate::place_tuple::put_tuple;
 use crate::stop::Stop;
-use crate::unfilled::{push_unfilled, unfilled_rows};
+use crate::unfilled::UnfilledRows;
 use crate::values::no_scores;
 use crate::workers::Workers;
 use cov_model::{Cells, ParamNo, Prefs, Rows, Slice, TestModel};
@@ -79,17 +80,17 @@ impl<'a> SliceGrowth<'a> {
         column: ParamNo,
         place: (u32, u32),
         columns: &[ParamNo],
-        unfilled: &mut Vec<usize>,
+        unfilled: &mut UnfilledRows,
     ) -> Result<(), Stop>
         requires column { column < length self.old.asker.context.model.params }
         requires next { IsNext self.old.asker.context self.old.table column place self.old.tuple self.old.rows.items }
         requires exist { All (λ p. p < length self.old.asker.context.model.params) columns.now }
-        requires unfilled { HasUnfilled columns.now self.old.rows.items unfilled.old.items }
+        requires unfilled { HasUnfilled columns.now column (length (param_at self.old.asker.context.model.params column).values) self.old.rows.items unfilled.old }
         ensures asked { Told result self.new.asker.question (first_spent self.old.asker.context (self.old.tuple ∷ [])) }
         ensures rows { OnOk result (self.new.rows.items ≡ rows_alone self.old.asker.context self.old.tuple self.old.rows.items) }
         ensures omitted { OnOk result (self.new.omitted ≡ self.old.omitted ++ omitted_alone self.old.asker.context self.old.tuple) }
         ensures passed { OnOk result (IsPassed self.old.asker.context self.old.table self.new.table column place self.new.rows.items) }
-        ensures unfilled { OnOk result (HasUnfilled columns.now self.new.rows.items unfilled.new.items) }
+        ensures unfilled { OnOk result (HasUnfilled columns.now column (length (param_at self.old.asker.context.model.params column).values) self.new.rows.items unfilled.new) }
         ensures same { self.new.asker.context ≡ self.old.asker.context }
         ensures tuple { self.new.tuple ≡ self.old.tuple }
         ensures room { self.new.room ≡ self.old.room }
@@ -98,7 +99,7 @@ impl<'a> SliceGrowth<'a> {
         if self.asker.ask(&self.tuple)? {
             let number = self.rows.len();
             push_copy(alloc, &self.tuple, &mut self.rows)?;
-            push_unfilled(unfilled, &self.tuple, columns, number)?;
+            unfilled.push_row(&self.tuple, columns, column, number)?;
             self.table.close_row(&self.tuple, column);
         } else {
             let row = copy_of(alloc, &self.tuple)?;
@@ -117,13 +118,13 @@ impl<'a> SliceGrowth<'a> {
         column: ParamNo,
         place: (u32, u32),
         columns: &[ParamNo],
-        unfilled: &mut Vec<usize>,
+        unfilled: &mut UnfilledRows,
     ) -> Result<(), Stop>
         requires column { column < length self.old.asker.context.model.params }
         requires next { IsNext self.old.asker.context self.old.table column place self.old.tuple self.old.rows.items }
         requires columns { columns.now ≡ columns_to self.old.asker.context.model self.old.asker.context.slice column }
         requires exist { All (λ p. p < length self.old.asker.context.model.params) columns.now }
-        requires unfilled { HasUnfilled columns.now self.old.rows.items unfilled.old.items }
+        requires unfilled { HasUnfilled columns.now column (length (param_at self.old.asker.context.model.params column).values) self.old.rows.items unfilled.old }
         requires room { length self.old.room ≡ length self.old.asker.context.model.params }
         ensures asked { Told result self.new.asker.question
             (first_spent self.old.asker.context (settle (extends self.old.asker.context) self.old.tuple self.old.rows.items).asked) }
@@ -131,7 +132,7 @@ impl<'a> SliceGrowth<'a> {
         ensures omitted { OnOk result (self.new.omitted ≡ self.old.omitted
             ++ (settle (extends self.old.asker.context) self.old.tuple self.old.rows.items).omitted) }
         ensures passed { OnOk result (IsPassed self.old.asker.context self.old.table self.new.table column place self.new.rows.items) }
-        ensures unfilled { OnOk result (HasUnfilled columns.now self.new.rows.items unfilled.new.items) }
+        ensures unfilled { OnOk result (HasUnfilled columns.now column (length (param_at self.old.asker.context.model.params column).values) self.new.rows.items unfilled.new) }
         ensures same { self.new.asker.context ≡ self.old.asker.context }
         ensures tuple { self.new.tuple ≡ self.old.tuple }
         ensures room { length self.new.room ≡ length self.old.room }
@@ -142,7 +143,7 @@ impl<'a> SliceGrowth<'a> {
             &self.tuple,
             &mut self.room,
             self.rows.as_mut_slice(),
-            unfilled.as_slice(),
+            unfilled.candidates(&self.tuple, column),
         )? {
             Some(i) => self.table.close_row(&self.rows[i], column),
             None => self.settle_alone(alloc, column, place, columns, unfilled)?,
@@ -150,17 +151,19 @@ impl<'a> SliceGrowth<'a> {
         Ok(())
     }
 
-    // Vertical growth of a column: the open tuples in play there, in order. The columns are those up to
-    // this one.
+    // Vertical growth of a column, which has this number of values: the open tuples in play there, in
+    // order. The columns are those up to this one.
     fn grow_vertically(
         &mut self,
         alloc: Global,
         plan: &Plan,
         column: ParamNo,
+        count: usize,
         columns: &[ParamNo],
     ) -> Result<(), Stop>
         requires plan { plan.now ≡ plan_of self.old.asker.context.model }
         requires column { column < length self.old.asker.context.model.params }
+        requires count { count ≡ length (param_at self.old.asker.context.model.params column).values }
         requires is_open { IsOpen self.old.asker.context self.old.table column self.old.rows.items }
         requires columns { columns.now ≡ columns_to self.old.asker.context.model self.old.asker.context.slice column }
         requires exist { All (λ p. p < length self.old.asker.context.model.params) columns.now }
@@ -180,7 +183,13 @@ impl<'a> SliceGrowth<'a> {
     {
         self.asker.assert_invariant();
         plan.assert_invariant();
-        let mut unfilled = unfilled_rows(alloc, self.rows.as_slice(), columns)?;
+        let mut unfilled = UnfilledRows::among(
+            alloc,
+            self.rows.as_slice(),
+            columns,
+            column,
+            count,
+        )?;
         let mut from = None;
         while let Some(place) = self.table.next_open(column, from) {
             put_tuple(plan, place, &mut self.tuple);
@@ -232,7 +241,7 @@ impl<'a> SliceGrowth<'a> {
             &mut scores,
             self.rows.as_mut_slice(),
         )?;
-        self.grow_vertically(alloc, plan, column, columns)
+        self.grow_vertically(alloc, plan, column, order.len(), columns)
     }
 
     // The columns in order. The model, the slice and the preferences are those of the slice's questions.

@@ -1,9 +1,9 @@
-ghost use Rattle.std.specs.Prelude.{◌≡◌, ◌+◌, ◌<◌, ◌≤◌, ◌^◌, ◌++◌, length, OnOk};
+ghost use Rattle.std.specs.Prelude.{◌≡◌, ◌+◌, ◌<◌, ◌≤◌, ◌^◌, ◌++◌, [], length, IfOk, OnOk};
 ghost use Rattle.std.specs.List.{filter};
 ghost use Rattle.definitions.specs.Growth.{is_of_slice};
 ghost use Rattle.definitions.specs.SliceRows.{IsSliceOf};
 ghost use Rattle.feasibility.specs.Refuting.{earlier_tuples};
-ghost use Rattle.ipog_grow.specs.Asking.{first_spent};
+ghost use Rattle.ipog_grow.specs.Asking.{IsNew, first_spent};
 ghost use Rattle.ipog_grow.specs.Inputs.{IsSoundInput, context_in};
 ghost use Rattle.ipog_grow.specs.Omissions.{AreOmissionsOf, met_count};
 ghost use Rattle.ipog_grow.specs.SliceGrowing.{grown_from};
@@ -21,6 +21,25 @@ use outside_io::Gate;
 use refutation::Omissions;
 use std::alloc::Global;
 use std::thread::Threads;
+use value_text::NoMemory;
+
+// The growth of a slice from its kept seeds, before its first column.
+fn growth_from_seeds<'a>(
+    alloc: Global,
+    input: &GrowInput<'a>,
+    slice: Slice,
+) -> Result<SliceGrowth<'a>, NoMemory>
+    requires input { IsSoundInput input.now }
+    requires slice { IsSliceOf input.now.model.now slice }
+    ensures context { IfOk result (λ growth. growth.asker.context ≡ context_in input.now slice) }
+    ensures is_new { IfOk result (λ growth. IsNew growth.asker.context growth.table growth.tuple growth.room) }
+    ensures rows { IfOk result (λ growth. growth.rows.items ≡ filter (is_of_slice input.now.model.now slice) input.now.kept.now) }
+    ensures omitted { IfOk result (λ growth. growth.omitted ≡ []) }
+{
+    let (model, prefs, plan) = (input.model, input.prefs, input.plan);
+    let seeds = seeds_of_slice(alloc, model, input.kept, slice)?;
+    SliceGrowth::new(alloc, model, prefs, plan, slice, input.budget, seeds)
+}
 
 // Grows a slice from its kept seeds, and puts its rows and omitted tuples behind those of earlier
 // slices.
@@ -46,28 +65,11 @@ pub(crate) fn grow_slice<R: Threads + Sync, G: Gate + Sync>(
         (grown_from (context_in input.now slice) (filter (is_of_slice input.now.model.now slice) input.now.kept.now)).asked) }
 {
     input.model.assert_invariant();
-    let Ok(seeds) = seeds_of_slice(alloc, input.model, input.kept, slice) else {
+    let Ok(mut growth) = growth_from_seeds(alloc, input, slice) else {
         return Err(SearchFault::NoMemory);
     };
-    let Ok(mut growth) = SliceGrowth::new(
-        alloc,
-        input.model,
-        input.prefs,
-        input.plan,
-        slice,
-        input.budget,
-        seeds,
-    ) else {
-        return Err(SearchFault::NoMemory);
-    };
-    if let Err(stop) = growth.grow_columns(
-        workers,
-        alloc,
-        input.model,
-        input.prefs,
-        input.plan,
-        slice,
-    ) {
+    let (model, prefs, plan) = (input.model, input.prefs, input.plan);
+    if let Err(stop) = growth.grow_columns(workers, alloc, model, prefs, plan, slice) {
         return Err(fault_of(alloc, stop, growth.asker.question()));
     }
     let SliceGrowth {

@@ -60,8 +60,8 @@ pub(crate) fn file_of(
     model: &TestModel,
     rows: &[RowValues],
 ) -> Result<Option<RowFile>, NoMemory>
-    requires { length rows.now < 100 }
-    ensures { IfOk result (λ made. IfSome made (λ file. All (λ row. FitsModel model.now row.cells) file.rows × (length file.rows ≤ 100))) }
+    requires { length rows.now < 2 ^ 12 }
+    ensures { IfOk result (λ made. IfSome made (λ file. All (λ row. FitsModel model.now row.cells) file.rows × (length file.rows ≤ 2 ^ 12))) }
 {
     let mut list = FileRowList::new(alloc);
     for (i, values) in rows.iter().enumerate() {

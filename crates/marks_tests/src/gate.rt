@@ -1,42 +1,12 @@
 //! Two workers, who mark at the same time.
 
 use crate::files::file_of;
-use outside_io::Gate;
 use shared_marks::{Bits, mark_rows};
 use std::alloc::Global;
-use std::sync::atomic::{AtomicBool, Ordering};
 use std::test::Fail;
 use std::thread::Threads;
-use test_models::model_of;
+use test_models::{Meeting, model_of};
 use tuple_index::Plan;
-
-// A gate at which the first worker turns, though not for ever, until the second has come.
-#[derive(Drop)]
-struct Meeting {
-    second_came: AtomicBool,
-    met: AtomicBool,
-}
-
-impl Meeting {
-    fn await_second(&self) {
-        for _ in 0..1 << 28 {
-            if self.second_came.load(Ordering::SeqCst) {
-                self.met.store(true, Ordering::SeqCst);
-                return;
-            }
-        }
-    }
-}
-
-impl Gate for Meeting {
-    fn come(&self, worker: u32) {
-        if worker == 1 {
-            self.await_second();
-        } else {
-            self.second_came.store(true, Ordering::SeqCst);
-        }
-    }
-}
 
 // The marks that two workers put for two rows who come to this gate.
 fn marks_at<R: Threads + Sync>(
@@ -57,13 +27,10 @@ fn marks_at<R: Threads + Sync>(
 // Each row is marked by a worker of its own while the other is at work.
 #[test]
 fn two_workers_meet(rt: HostRuntime) -> Result<(), Fail> {
-    let gate = Meeting {
-        second_came: AtomicBool::new(false),
-        met: AtomicBool::new(false),
-    };
+    let gate = Meeting::new();
     let bits = marks_at(&rt, rt.alloc(), &gate)?.ok_or("no file")?;
     assert!(rt; bits.len() == 4);
     assert!(rt; bits.has(0) && !bits.has(1) && !bits.has(2) && bits.has(3));
-    assert!(rt; gate.met.load(Ordering::SeqCst));
+    assert!(rt; gate.has_met());
     Ok(())
 }

@@ -1,6 +1,6 @@
 //! The demanded tuples that the rows of a file serve, with different numbers of workers.
 
-ghost use Rattle.std.specs.Prelude.{◌<◌, ◌≤◌, length};
+ghost use Rattle.std.specs.Prelude.{◌<◌, ◌≤◌, ◌^◌, length};
 
 use crate::files::{RowValues, file_of};
 use outside_io::OpenGate;
@@ -57,7 +57,7 @@ fn marks_of<R: Threads + Sync>(
     rows: &[RowValues],
     workers: u32,
 ) -> Result<Option<Bits>, Fail>
-    requires rows { length rows.now < 100 }
+    requires rows { length rows.now < 2 ^ 12 }
     requires least { 1 ≤ workers }
     requires most { workers ≤ 64 }
 {
@@ -77,6 +77,20 @@ fn workers_mark_what_is_served(rt: HostRuntime) -> Result<(), Fail> {
             let bits = marks_of(&rt, rt.alloc(), text, rows, *workers)?.ok_or("no file")?;
             assert!(rt; are_marked(&bits, *count, places), "{text} {workers}");
         }
+    }
+    Ok(())
+}
+
+// Of the three sets of two, the one of A and B is complete with the first row, and the last of many rows serves
+// tuples of the other two that no row before serves.
+#[test]
+fn workers_mark_what_a_later_round_serves(rt: HostRuntime) -> Result<(), Fail> {
+    let text = "A: 1\nB: x\nC: u, v, w\n";
+    let mut rows = [[Some(0), Some(0), Some(0)].as_slice(); 1030];
+    rows[1029] = [Some(0), Some(0), Some(2)].as_slice();
+    for workers in WORKERS {
+        let bits = marks_of(&rt, rt.alloc(), text, &rows, *workers)?.ok_or("no file")?;
+        assert!(rt; are_marked(&bits, 7, &[0, 1, 3, 4, 6]), "{workers}");
     }
     Ok(())
 }

@@ -15,7 +15,8 @@ pub one_piece : (text : List ℕ) → length text ≤ position_or_len is_line_fe
 one_piece [] whole = refl
 one_piece (b ∷ text) whole = at (is_line_feed b) refl (one_piece text)
   where
-    at : (ends : Bool) → is_line_feed b ≡ ends → (length text ≤ position_or_len is_line_feed text → slice_split is_line_feed text ≡ text ∷ []) → slice_split is_line_feed (b ∷ text) ≡ (b ∷ text) ∷ []
+    at : (ends : Bool) → is_line_feed b ≡ ends → (length text ≤ position_or_len is_line_feed text → slice_split is_line_feed text ≡ text ∷ [])
+        → slice_split is_line_feed (b ∷ text) ≡ (b ∷ text) ∷ []
     at true e rest = let over : suc (length text) ≤ 0 = rw e at whole in absurd (omega arith)
     at false e rest = let left : suc (length text) ≤ 1 + position_or_len is_line_feed text = rw e at whole in rw (e, rest (omega arith)) refl
 
@@ -32,7 +33,11 @@ first_line text end found = at (nat_lt (position_or_len is_line_feed text) (leng
         → file_lines text ≡ without_return (take end text) ∷ file_lines (drop (end + 1) text)
     at true e is_end =
         let place : position_or_len is_line_feed text ≡ end = cc in
-        rw (← place, slice_split_first is_line_feed text 0 (ltb-true _ _ e), ended_lines-cons (before_first is_line_feed text) (slice_split is_line_feed behind) (omega (arith, length-slice_split is_line_feed behind))) refl
+        rw (
+          ← place,
+          slice_split_first is_line_feed text 0 (ltb-true _ _ e),
+          ended_lines-cons (before_first is_line_feed text) (slice_split is_line_feed behind) (omega (arith, length-slice_split is_line_feed behind)),
+        ) refl
     at false e is_end = cc
 
 -- without a line feed there is one line

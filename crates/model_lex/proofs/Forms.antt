@@ -1,5 +1,6 @@
 -- The form of a token: it isn't empty, it ends with an ASCII byte, and names and texts have their marks.
-use Rattle.std.proofs.Common.{◌≡◌, ℕ, suc, ◌+◌, ◌-◌, ◌<◌, ◌≤◌, Bool, true, false, ◌&&◌, List, [], ◌∷◌, length, drop, get_or, refl, ap, subst, arith, ◌∙◌, sym, get_or-drop, length-drop}
+use Rattle.std.proofs.Common.{◌≡◌, ℕ, suc, ◌+◌, ◌-◌, ◌<◌, ◌≤◌, Bool, true, false, ◌&&◌, List, [], ◌∷◌, length}
+use Rattle.std.proofs.Common.{drop, get_or, refl, ap, subst, arith, ◌∙◌, sym, get_or-drop, length-drop}
 use Rattle.std.proofs.lemmas.Bool.{eqb-true, ne_eqb}
 use Rattle.std.proofs.lemmas.Bool.Decides.{nat_tests}
 use Rattle.std.proofs.lemmas.List.Sums.{prefix_len-le-length, prefix_len_passes}
@@ -15,7 +16,8 @@ use Rattle.value_text.specs.declared.fixed.FixedAnswer.TheVariants.{Number as Is
 use Rattle.model_lex.proofs.Runs.{run_len, ascii_number, ascii_word}
 use Rattle.model_lex.specs.Blanks.{is_blank}
 use Rattle.model_lex.specs.Sections.{first_word, is_among, is_word_byte}
-use Rattle.model_lex.specs.Tokens.{HasMarks, StandsBetween, StandsIn, begins_number, begins_relation, first_token, is_mark, is_number_byte, is_pair, is_quotable, keywords, lexed_at, token_at, number_run, number_token, quoted_len, quoted_token}
+use Rattle.model_lex.specs.Tokens.{HasMarks, StandsBetween, StandsIn, begins_number, begins_relation, first_token, is_mark, is_number_byte}
+use Rattle.model_lex.specs.Tokens.{is_pair, is_quotable, keywords, lexed_at, token_at, number_run, number_token, quoted_len, quoted_token}
 use Rattle.model_lex.specs.declared.diag.DiagCode.{DiagCode}
 use Rattle.model_lex.specs.declared.diag.DiagCode.TheVariants.{NameNotClosed, TextNotClosed, UnknownWord}
 use Rattle.model_lex.specs.declared.token.TokenKind.{TokenKind}
@@ -60,8 +62,10 @@ quoted_len-closes close (b ∷ next ∷ rest) = at (nat_eq b close) refl ((nat_e
         (if closes then Some 0 else if quotes then option_map (λ n. 2 + n) (quoted_len close rest) else option_map (λ n. 1 + n) (quoted_len close (next ∷ rest)))
         (Closes (b ∷ next ∷ rest))
     at true e quotes behind near = (omega arith, eqb-true b close e)
-    at false e true behind near = moved (quoted_len close rest) 2 (Closes rest) (Closes (b ∷ next ∷ rest)) (λ n here. let place : 2 + n ≡ suc (suc n) = omega arith in rw place (omega (arith, here.0), here.1)) behind
-    at false e false behind near = moved (quoted_len close (next ∷ rest)) 1 (Closes (next ∷ rest)) (Closes (b ∷ next ∷ rest)) (λ n here. let place : 1 + n ≡ suc n = omega arith in rw place (omega (arith, here.0), here.1)) near
+    at false e true behind near = moved (quoted_len close rest) 2 (Closes rest) (Closes (b ∷ next ∷ rest))
+        (λ n here. let place : 2 + n ≡ suc (suc n) = omega arith in rw place (omega (arith, here.0), here.1)) behind
+    at false e false behind near = moved (quoted_len close (next ∷ rest)) 1 (Closes (next ∷ rest)) (Closes (b ∷ next ∷ rest))
+        (λ n here. let place : 1 + n ≡ suc n = omega arith in rw place (omega (arith, here.0), here.1)) near
 
 -- a name or a text
 quoted_form :
@@ -129,13 +133,15 @@ number_form text some first NotNumber = tt
 number_form text some first TooWide = tt
 
 -- a word or none
-word_form : (text : List ℕ) → 0 < length text → is_ascii_alphabetic (get_or text 0 0) ≡ true → (known : Bool) → IfOk (if known then Ok (Word, length (first_word text)) else Err UnknownWord) (HasForm text)
+word_form : (text : List ℕ) → 0 < length text → is_ascii_alphabetic (get_or text 0 0) ≡ true → (known : Bool)
+    → IfOk (if known then Ok (Word, length (first_word text)) else Err UnknownWord) (HasForm text)
 word_form text some first true =
     run_form is_word_byte ascii_word text some (grind (arith, nat_tests)) Word (λ e. cc) (λ e. cc) (length (first_word text)) (run_len is_word_byte text)
 word_form text some first false = tt
 
 -- a relation
-relation_form : (text : List ℕ) → 0 < length text → begins_relation (get_or text 0 0) ≡ true → (pair : Bool) → is_pair (get_or text 0 0) (get_or text 1 0) ≡ pair → HasForm text (Relation, if pair then 2 else 1)
+relation_form : (text : List ℕ) → 0 < length text → begins_relation (get_or text 0 0) ≡ true → (pair : Bool)
+    → is_pair (get_or text 0 0) (get_or text 1 0) ≡ pair → HasForm text (Relation, if pair then 2 else 1)
 relation_form [] some first true pair = absurd (omega arith)
 relation_form (b ∷ []) some first true pair = absurd (grind (arith, nat_tests))
 relation_form (b ∷ next ∷ rest) some first true pair = record {
@@ -186,7 +192,8 @@ stands line at start (kind, len) utf8 behind within cut form =
     }
 
 -- the marks at the start of what is left are those in the line
-between : (line : List ℕ) (start len opening closing : ℕ) (kind : TokenKind) → IsBetween (drop start line) len opening closing → StandsBetween line (record { kind = kind; start = start; end = start + len }) opening closing
+between : (line : List ℕ) (start len opening closing : ℕ) (kind : TokenKind) → IsBetween (drop start line) len opening closing
+    → StandsBetween line (record { kind = kind; start = start; end = start + len }) opening closing
 between line start len opening closing kind here =
     let first : start + 0 ≡ start = omega arith in
     let last : start + len - 1 ≡ start + (len - 1) = omega (arith, here.both) in

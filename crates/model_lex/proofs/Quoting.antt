@@ -26,12 +26,14 @@ closed_here close [] some here = absurd (omega arith)
 closed_here close (b ∷ []) some here = rw (eq-eqb b close here) refl
 closed_here close (b ∷ next ∷ rest) some here = rw (eq-eqb b close here) refl
 
-pub quoted_here : (close : ℕ) (text : List ℕ) → (get_or text 0 0 ≡ close → ⊥) → quotes_next text ≡ true → quoted_len close text ≡ option_map (λ n. 2 + n) (quoted_len close (drop 2 text))
+pub quoted_here : (close : ℕ) (text : List ℕ) → (get_or text 0 0 ≡ close → ⊥) → quotes_next text ≡ true
+    → quoted_len close text ≡ option_map (λ n. 2 + n) (quoted_len close (drop 2 text))
 quoted_here close [] open_yet quotes = refl
 quoted_here close (b ∷ []) open_yet quotes = rw (ne_eqb b close open_yet) refl
 quoted_here close (b ∷ next ∷ rest) open_yet quotes = rw (ne_eqb b close open_yet, quotes) refl
 
-pub passed_here : (close : ℕ) (text : List ℕ) → (get_or text 0 0 ≡ close → ⊥) → quotes_next text ≡ false → quoted_len close text ≡ option_map (λ n. 1 + n) (quoted_len close (drop 1 text))
+pub passed_here : (close : ℕ) (text : List ℕ) → (get_or text 0 0 ≡ close → ⊥) → quotes_next text ≡ false
+    → quoted_len close text ≡ option_map (λ n. 1 + n) (quoted_len close (drop 1 text))
 passed_here close [] open_yet quotes = refl
 passed_here close (b ∷ []) open_yet quotes = rw (ne_eqb b close open_yet) refl
 passed_here close (b ∷ next ∷ rest) open_yet quotes = rw (ne_eqb b close open_yet, quotes) refl
@@ -43,9 +45,11 @@ two_bytes (b ∷ next ∷ rest) quotes = omega arith
 
 -- the search stands at a place
 module _ (close : ℕ) (text : List ℕ) (at : ℕ) (here : QuotedFrom close text at) where
-  moved : (k : ℕ) → quoted_len close (drop at text) ≡ option_map (λ n. k + n) (quoted_len close (drop k (drop at text))) → quoted_len close text ≡ option_map (λ n. at + k + n) (quoted_len close (drop (at + k) text))
+  moved : (k : ℕ) → quoted_len close (drop at text) ≡ option_map (λ n. k + n) (quoted_len close (drop k (drop at text)))
+      → quoted_len close text ≡ option_map (λ n. at + k + n) (quoted_len close (drop (at + k) text))
   moved k step =
-      here.same ∙ (ap (λ found. option_map (λ n. at + n) found) step ∙ (mapped_twice (quoted_len close (drop k (drop at text))) at k ∙ ap (λ left. option_map (λ n. at + k + n) (quoted_len close left)) (drop-drop k at text)))
+      here.same ∙ (ap (λ found. option_map (λ n. at + n) found) step
+      ∙ (mapped_twice (quoted_len close (drop k (drop at text))) at k ∙ ap (λ left. option_map (λ n. at + k + n) (quoted_len close left)) (drop-drop k at text)))
 
   here_first : get_or text at 0 ≡ get_or (drop at text) 0 0
   here_first = sym (get_or-drop at text 0 0 ∙ ap (λ k. get_or text k 0) (omega arith))

@@ -40,12 +40,17 @@ pub record Sorting (whole : Result Split Diag) (front : Split) (before : LineKin
 pub begins : (front : Split) (bytes rest : List ℕ) → front ≡ no_lines → length rest ≤ 2 ^ 28 → Sorting (sections_behind Param (enumerate_from 1 (file_lines rest))) front Param 0 rest
 begins front bytes rest none few = record { same = rw none (joined-first (sections_behind Param (enumerate_from 1 (file_lines rest)))); few = omega arith }
 
-module _ (whole : Result Split Diag) (front : Split) (before : LineKind) (line : ℕ) (rest text behind : List ℕ) (here : Sorting whole front before line rest) (cut : file_lines rest ≡ text ∷ file_lines behind) (shorter : length behind < length rest) where
+module _ (whole : Result Split Diag) (front : Split) (before : LineKind) (line : ℕ) (rest text behind : List ℕ)
+    (here : Sorting whole front before line rest) (cut : file_lines rest ≡ text ∷ file_lines behind) (shorter : length behind < length rest) where
   pub skips : is_ignored text ≡ true → Sorting whole front before (line + 1) behind
   skips ignored = record { same = here.same ∙ rw (cut, ignored) refl; few = omega arith }
 
   pub sorts : is_ignored text ≡ false → refusal_of before text ≡ None → Sorting whole (put_behind (kind_of before text) (line + 1, text) front) (kind_of before text) (line + 1) behind
-  sorts seen fine = record { same = here.same ∙ rw (cut, seen, fine) (joined-with front (kind_of before text) (line + 1, text) (sections_behind (kind_of before text) (enumerate_from (line + 1 + 1) (file_lines behind)))); few = omega arith }
+  sorts seen fine = record {
+    same = here.same ∙ rw (cut, seen, fine)
+        (joined-with front (kind_of before text) (line + 1, text) (sections_behind (kind_of before text) (enumerate_from (line + 1 + 1) (file_lines behind))));
+    few = omega arith;
+  }
 
   pub refuses : is_ignored text ≡ false → (code : DiagCode) → refusal_of before text ≡ Some code → whole ≡ Err (record { line = line + 1; code = code })
   refuses seen code fault = here.same ∙ rw (cut, seen, fault) refl

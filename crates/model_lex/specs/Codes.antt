@@ -1,7 +1,10 @@
 -- The codes and texts by which a refusal of a model file and a note are told. (This project's rule.)
 use Rattle.std.specs.Prelude.{ℕ, List, codes}
 use Rattle.model_lex.specs.declared.diag.DiagCode.{DiagCode}
-use Rattle.model_lex.specs.declared.diag.DiagCode.TheVariants.{NotText, LateParameter, NoColon, EmptyParameterName, BadParameterName, RepeatedParameter, EmptyValueName, BadValueName, BadWeight, UnknownReference, GroupNotClosed, UnknownMember, RepeatedMember, BadGroupOrder, TextAfterGroup, RelationNoOrder, NoParameters, OrderTooLarge, StrayCharacter, NameNotClosed, TextNotClosed, BadNumber, NumberTooWide, UnknownWord, PredicateExpected, RelationExpected, OperandExpected, MarkExpected, TooDeep, UnknownParameter, TypeMismatch, LikeNeedsText}
+use Rattle.model_lex.specs.declared.diag.DiagCode.TheVariants.{NotText, LateParameter, NoColon, EmptyParameterName, BadParameterName, RepeatedParameter, EmptyValueName, BadValueName}
+use Rattle.model_lex.specs.declared.diag.DiagCode.TheVariants.{BadWeight, UnknownReference, GroupNotClosed, UnknownMember, RepeatedMember, BadGroupOrder, TextAfterGroup, RelationNoOrder}
+use Rattle.model_lex.specs.declared.diag.DiagCode.TheVariants.{NoParameters, OrderTooLarge, StrayCharacter, NameNotClosed, TextNotClosed, BadNumber, NumberTooWide, UnknownWord}
+use Rattle.model_lex.specs.declared.diag.DiagCode.TheVariants.{PredicateExpected, RelationExpected, OperandExpected, MarkExpected, TooDeep, UnknownParameter, TypeMismatch, LikeNeedsText}
 use Rattle.model_lex.specs.declared.fault.LimitName.{LimitName}
 use Rattle.model_lex.specs.declared.fault.LimitName.TheVariants.{Params, Values, Names, Rules}
 use Rattle.model_lex.specs.declared.note.NoteCode.{NoteCode}

@@ -1,6 +1,7 @@
 -- The sections of a model file: parameter lines, then group lines, then constraint lines. (PICT's
 -- guide for the sections, ACTS guide for relations; the details are this project's rules.)
-use Rattle.std.specs.Prelude.{◌≡◌, ℕ, ◌-◌, ◌^◌, ◌≤◌, Bool, true, false, not, ◌&&◌, ◌||◌, List, [], ◌∷◌, ◌++◌, map, length, Option, Some, None, Result, Ok, Err, ◌==◌, nat_lt, slice_index, if◌then◌else◌, codes, zero, suc}
+use Rattle.std.specs.Prelude.{◌≡◌, ℕ, ◌-◌, ◌^◌, ◌≤◌, Bool, true, false, not, ◌&&◌, ◌||◌, List, [], ◌∷◌, ◌++◌, map, length}
+use Rattle.std.specs.Prelude.{Option, Some, None, Result, Ok, Err, ◌==◌, nat_lt, slice_index, if◌then◌else◌, codes, zero, suc}
 use Rattle.std.specs.Char.{is_ascii_alphanumeric}
 use Rattle.std.specs.List.{list_any, take_while}
 use Rattle.std.specs.Str.{is_utf8, str_eq_ignore_ascii_case}

@@ -54,7 +54,8 @@ pub last_mark : (mark : ℕ) (text : List ℕ) (n : ℕ) → mark < 128 → IsUt
 last_mark mark text n ascii utf8 e some =
     let most : suffix_len (λ x. not (is_byte mark x)) text ≤ length text = suffix_len-le-length (λ x. not (is_byte mark x)) text in
     let within : n < length text = omega (arith, some) in
-    let stops : not (is_byte mark (get_or (reverse text) (suffix_len (λ x. not (is_byte mark x)) text) 0)) ≡ false = prefix_len_stops (λ x. not (is_byte mark x)) (reverse text) 0 (omega (arith, length-reverse text)) in
+    let stops : not (is_byte mark (get_or (reverse text) (suffix_len (λ x. not (is_byte mark x)) text) 0)) ≡ false =
+    prefix_len_stops (λ x. not (is_byte mark x)) (reverse text) 0 (omega (arith, length-reverse text)) in
     let here : get_or (reverse text) n 0 ≡ mark = eqb-true _ _ (rw (← e) at (not-false _ stops)) in
     let at : get_or text (length text - 1 - n) 0 < 128 = rw (← from_end text n within) (rw here ascii) in
     record {

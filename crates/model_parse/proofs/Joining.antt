@@ -45,7 +45,8 @@ trimmed_back front text tail before whole behind =
     let first : get_or (text ++ tail) 0 0 ≡ get_or text 0 0 = get_or_append_left text tail 0 0 whole.some in
     let len : length (text ++ tail) ≡ length text + length tail = length-append text tail in
     let start : without_first_blanks (front ++ (text ++ tail)) ≡ text ++ tail =
-    ap (λ n. drop n (front ++ (text ++ tail))) (prefix_run is_blank front (text ++ tail) before (omega (arith, whole.some)) (ap is_blank first ∙ whole.first)) ∙ drop-append_seam front (text ++ tail) in
+    ap (λ n. drop n (front ++ (text ++ tail))) (prefix_run is_blank front (text ++ tail) before (omega (arith, whole.some)) (ap is_blank first ∙ whole.first))
+    ∙ drop-append_seam front (text ++ tail) in
     let end : length (text ++ tail) - suffix_len is_blank (text ++ tail) ≡ length text = let run = suffix_run is_blank text tail behind whole.some whole.last in omega arith in
     ap without_last_blanks start ∙ ap (λ n. take n (text ++ tail)) end ∙ take-append_seam text tail
 
@@ -57,23 +58,27 @@ module _ (mark : ℕ) (before behind : List ℕ) (blank_before : AreBlanks befor
   more_back : (front tail text : List ℕ) (texts : List (List ℕ)) → AreBlanks front → AreBlanks tail → IsWhole text → Lacks mark text → All IsWhole texts → All (Lacks mark) texts
       → pieces mark (front ++ (text ++ (flat_map (λ next. (before ++ mark ∷ behind) ++ next) texts ++ tail))) ≡ text ∷ texts
   more_back front tail text [] blank_front blank_tail whole lacks wholes all_lack =
-      let none : Lacks mark (front ++ (text ++ tail)) = All-append (λ b. is_byte mark b ≡ false) front _ (lacks_blanks front blank_front) (All-append (λ b. is_byte mark b ≡ false) text tail lacks (lacks_blanks tail blank_tail)) in
+      let none : Lacks mark (front ++ (text ++ tail)) =
+      All-append (λ b. is_byte mark b ≡ false) front _ (lacks_blanks front blank_front) (All-append (λ b. is_byte mark b ≡ false) text tail lacks (lacks_blanks tail blank_tail)) in
       ap (map trimmed) (slice_split_none (is_byte mark) (front ++ (text ++ tail)) none) ∙ ap (λ t. t ∷ []) (trimmed_back front text tail blank_front whole blank_tail)
   more_back front tail text (next ∷ texts) blank_front blank_tail whole lacks wholes all_lack =
       let rest = flat_map (λ other. (before ++ mark ∷ behind) ++ other) texts ++ tail in
       let behind_mark = behind ++ (next ++ rest) in
       let here : front ++ (text ++ (flat_map (λ other. (before ++ mark ∷ behind) ++ other) (next ∷ texts) ++ tail)) ≡ (front ++ (text ++ before)) ++ mark ∷ behind_mark = grind (arith, append_assoc) in
-      let none : Lacks mark (front ++ (text ++ before)) = All-append (λ b. is_byte mark b ≡ false) front _ (lacks_blanks front blank_front) (All-append (λ b. is_byte mark b ≡ false) text before lacks (lacks_blanks before blank_before)) in
+      let none : Lacks mark (front ++ (text ++ before)) =
+      All-append (λ b. is_byte mark b ≡ false) front _ (lacks_blanks front blank_front) (All-append (λ b. is_byte mark b ≡ false) text before lacks (lacks_blanks before blank_before)) in
       ap (pieces mark) here ∙ ap (map trimmed) (slice_split_at (is_byte mark) (front ++ (text ++ before)) mark behind_mark none (eq-eqb mark mark refl))
       ∙ ap (λ t. t ∷ pieces mark behind_mark) (trimmed_back front text before blank_front whole blank_before)
-      ∙ ap (λ ts. text ∷ ts) (more_back behind tail next texts blank_behind blank_tail (All-head IsWhole next texts wholes) (All-head (Lacks mark) next texts all_lack) (All-tail IsWhole next texts wholes) (All-tail (Lacks mark) next texts all_lack))
+      ∙ ap (λ ts. text ∷ ts) (more_back behind tail next texts blank_behind blank_tail (All-head IsWhole next texts wholes) (All-head (Lacks mark) next texts all_lack)
+      (All-tail IsWhole next texts wholes) (All-tail (Lacks mark) next texts all_lack))
 
   pub joined_back : (front tail : List ℕ) (texts : List (List ℕ)) → AreBlanks front → AreBlanks tail → 0 < length texts → All IsWhole texts → All (Lacks mark) texts
       → pieces mark (front ++ (joined (before ++ mark ∷ behind) texts ++ tail)) ≡ texts
   joined_back front tail [] blank_front blank_tail some wholes all_lack = absurd (omega arith)
   joined_back front tail (text ∷ texts) blank_front blank_tail some wholes all_lack =
       ap (λ t. pieces mark (front ++ t)) (append_assoc text (flat_map (λ next. (before ++ mark ∷ behind) ++ next) texts) tail)
-      ∙ more_back front tail text texts blank_front blank_tail (All-head IsWhole text texts wholes) (All-head (Lacks mark) text texts all_lack) (All-tail IsWhole text texts wholes) (All-tail (Lacks mark) text texts all_lack)
+      ∙ more_back front tail text texts blank_front blank_tail (All-head IsWhole text texts wholes) (All-head (Lacks mark) text texts all_lack) (All-tail IsWhole text texts wholes)
+      (All-tail (Lacks mark) text texts all_lack)
 
 -- no byte is the mark where a mark stands nowhere, in the words of what is cut
 others : (mark : ℕ) (text : List ℕ) → Lacks mark text → All (λ b. not (is_byte mark b) ≡ true) text
@@ -89,7 +94,8 @@ before_first_back mark front rest lacks =
 
 pub after_first_back : (mark : ℕ) (front rest : List ℕ) → Lacks mark front → after_first (is_byte mark) (front ++ mark ∷ rest) ≡ rest
 after_first_back mark front rest lacks =
-    ap (λ n. drop (n + 1) (front ++ mark ∷ rest)) (prefix_run (λ x. not (is_byte mark x)) front (mark ∷ rest) (others mark front lacks) (omega arith) (here mark)) ∙ drop-append-add front (mark ∷ rest) 1
+    ap (λ n. drop (n + 1) (front ++ mark ∷ rest)) (prefix_run (λ x. not (is_byte mark x)) front (mark ∷ rest) (others mark front lacks) (omega arith) (here mark))
+    ∙ drop-append-add front (mark ∷ rest) 1
 
 -- and round the last one
 last_run : (mark : ℕ) (front rest : List ℕ) → Lacks mark rest → length (front ++ mark ∷ rest) - suffix_len (λ x. not (is_byte mark x)) (front ++ mark ∷ rest) ≡ length front + 1
@@ -113,7 +119,8 @@ after_last_back mark front rest lacks = ap (λ n. drop n (front ++ mark ∷ rest
 
 pub stands_back : (mark : ℕ) (front rest : List ℕ) → list_any (is_byte mark) (front ++ mark ∷ rest) ≡ true
 stands_back mark front rest =
-    list_any_at (is_byte mark) (front ++ mark ∷ rest) (length front) 0 (omega (arith, length-append front (mark ∷ rest))) (ap (is_byte mark) (get_or-append_seam front mark rest 0) ∙ eq-eqb mark mark refl)
+    list_any_at (is_byte mark) (front ++ mark ∷ rest) (length front) 0 (omega (arith, length-append front (mark ∷ rest)))
+    (ap (is_byte mark) (get_or-append_seam front mark rest 0) ∙ eq-eqb mark mark refl)
 
 -- texts without blanks at their ends, with others between or behind
 pub whole_append : (front text : List ℕ) → IsWhole front → IsWhole text → (between : List ℕ) → IsWhole (front ++ (between ++ text))
@@ -141,4 +148,5 @@ lacks_joined mark between (text ∷ texts) lacks all_lack =
     more : (rest : List (List ℕ)) → All (Lacks mark) rest → Lacks mark (flat_map (λ next. between ++ next) rest)
     more [] all = All-nil (λ b. is_byte mark b ≡ false)
     more (next ∷ rest) all =
-        All-append (λ b. is_byte mark b ≡ false) (between ++ next) _ (All-append (λ b. is_byte mark b ≡ false) between next lacks (All-head (Lacks mark) next rest all)) (more rest (All-tail (Lacks mark) next rest all))
+        All-append (λ b. is_byte mark b ≡ false) (between ++ next) _ (All-append (λ b. is_byte mark b ≡ false) between next lacks (All-head (Lacks mark) next rest all))
+        (more rest (All-tail (Lacks mark) next rest all))

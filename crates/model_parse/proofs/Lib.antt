@@ -6,6 +6,8 @@ pub mod Keeping
 pub mod Names
 pub mod Readings
 pub mod Refusing
+pub mod RuledGroups
+pub mod RuledParams
 pub mod SoundGroups
 pub mod SoundNames
 pub mod SoundParams

@@ -4,7 +4,7 @@ use Rattle.std.proofs.lemmas.List.{map-append}
 use Rattle.std.specs.List.{list_any}
 use Rattle.std.specs.Str.{bytes_eq}
 use Rattle.value_text.specs.Texts.{folded}
-use Rattle.model_parse.specs.Values.{is_known, place_of}
+use Rattle.model_parse.specs.ValueSteps.{is_known, place_of}
 use Rattle.value_text.proofs.ListLemmas.{any_text, place_text}
 
 module _ {K : Type 0} (text : K → List ℕ) (fold : Bool) (name q : List ℕ) (keys : List K) (names : List (List ℕ)) where

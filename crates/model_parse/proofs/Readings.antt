@@ -5,7 +5,8 @@ use Rattle.std.specs.Option.{option_or}
 use Rattle.model_lex.specs.declared.diag.DiagCode.{DiagCode}
 use Rattle.model_lex.specs.declared.fault.ModelFault.{ModelFault}
 use Rattle.model_parse.specs.Steps.{and_then, and_each}
-use Rattle.model_parse.specs.Values.{Kept, name_code, names_code, keep_name, keep_names}
+use Rattle.model_parse.specs.Values.{name_code}
+use Rattle.model_parse.specs.ValueSteps.{Kept, names_code, keep_name, keep_names}
 
 -- the items of a loop, as the definition has them
 module _ {A X Y : Type 0} (step : A → X → Result A ModelFault) (seen : Y → X) (ys : List Y) (start : A) where

@@ -1,5 +1,5 @@
 -- What refuses the lines of parameters and groups is never that memory is wanting.
-use Rattle.std.proofs.Common.{◌≡◌, ◌≢◌, ℕ, List, [], ◌∷◌, Bool, true, false, cond, length, Option, Some, None, Result, Ok, Err, ap}
+use Rattle.std.proofs.Common.{◌≡◌, ◌≢◌, ℕ, List, [], ◌∷◌, Bool, true, false, cond, length, Option, Some, None, Result, Ok, Err, ap, subst}
 use Rattle.model_lex.specs.Sections.{Split}
 use Rattle.model_lex.specs.declared.diag.DiagCode.{DiagCode}
 use Rattle.model_lex.specs.declared.fault.LimitName.{LimitName}
@@ -10,13 +10,18 @@ use Rattle.model_lex.specs.declared.options.ModelOpts.{ModelOpts}
 use Rattle.cov_model.specs.declared.demand.Demand.{Demand}
 use Rattle.cov_model.specs.declared.parameter.Param.{Param}
 use Rattle.cov_model.specs.declared.parameter.Value.{Value}
-use Rattle.model_parse.specs.GroupLines.{add_group, group_code, group_list, group_order, is_relation, member_or, order_text, read_group, read_groups}
-use Rattle.model_parse.specs.ParamLines.{line_list, line_name, param_code, read_param, read_params, read_values}
+use Rattle.model_parse.specs.GroupLines.{is_relation}
+use Rattle.model_parse.specs.GroupSteps.{add_group, group_code, group_list, group_order, member_or, order_text, read_group, read_groups}
+use Rattle.model_parse.specs.ParamLines.{line_name}
+use Rattle.model_parse.specs.ParamSteps.{line_list, param_code, read_param, read_params, read_values}
 use Rattle.model_parse.specs.Pieces.{pieces}
 use Rattle.model_parse.specs.RawModels.{order_in, raw_model_of}
 use Rattle.model_parse.specs.Steps.{and_each, and_then, refused, refused_or}
-use Rattle.model_parse.specs.Values.{Kept, add_kept, add_piece, is_reference, piece_values, place_of, referred, values_at}
+use Rattle.model_parse.specs.Values.{is_reference, referred}
+use Rattle.model_parse.specs.ValueSteps.{Kept, add_kept, add_piece, piece_values, place_of, values_at}
+use Rattle.model_parse.specs.ModelSteps.{read_raw}
 use Rattle.model_parse.specs.declared.reading.ParamsRead.{ParamsRead}
+use Rattle.model_parse.proofs.RuledGroups.{raw_ruled}
 
 -- an answer is no want of memory
 abbrev Told : {A : Type 0} → Result A ModelFault → Type 0
@@ -88,10 +93,13 @@ group_told opts known demand line =
     (pieces opts.marks.separator (group_list line.1)))
     (λ members. added_told line.0 (is_relation line.1) demand members (group_order demand.order (order_text line.1) (length members))))
 
-pub raw_refusal : (opts : ModelOpts) (split : Split) → raw_model_of opts split ≢ Err NoMemory
-raw_refusal opts split =
+raw_told : (opts : ModelOpts) (split : Split) → Told (read_raw opts split)
+raw_told opts split =
     then_told (read_params opts split.params) _ (if_told _ _ _ (line_told _ 1 _)
     (if_told _ _ _ (limit_told _ _ _) (each_told (read_param opts) (param_told opts) _ split.params)))
     (λ read. then_told (read_groups opts read.known (order_in opts.order _) split.groups) _
     (each_told (read_group opts read.known) (group_told opts read.known) _ split.groups)
     (λ demand. if_told _ _ _ (line_told _ _ _) (ok_told _)))
+
+pub raw_refusal : (opts : ModelOpts) (split : Split) → raw_model_of opts split ≢ Err NoMemory
+raw_refusal opts split = subst Told (raw_ruled opts split) (raw_told opts split)

@@ -1,5 +1,5 @@
 -- The demand that the group lines give is sound, and so is the raw model.
-use Rattle.std.proofs.Common.{◌≡◌, ◌≢◌, ℕ, ◌<◌, ◌≤◌, Bool, true, false, ◌&&◌, List, [], ◌∷◌, min, length, All, AllPairs, Option, Some, None, IfOk, position, refl, sym, ◌∙◌, arith, ltb, leb, eqb}
+use Rattle.std.proofs.Common.{◌≡◌, ◌≢◌, ℕ, ◌<◌, ◌≤◌, Bool, true, false, ◌&&◌, List, [], ◌∷◌, min, length, All, AllPairs, Option, Some, None, IfOk, position, refl, sym, ◌∙◌, subst, arith, ltb, leb, eqb}
 use Rattle.std.proofs.lemmas.Bool.{and_parts, true≢false, ltb-false, leb-true, eq-eqb, cond_both}
 use Rattle.std.proofs.lemmas.Option.{cond_some}
 use Rattle.std.proofs.lemmas.List.{length-append}
@@ -17,13 +17,16 @@ use Rattle.model_lex.specs.declared.options.ModelOpts.{ModelOpts}
 use Rattle.model_lex.specs.declared.options.OrderWord.{OrderWord}
 use Rattle.model_lex.specs.declared.options.OrderWord.TheVariants.{Number, Max}
 use Rattle.model_parse.specs.declared.reading.ParamsRead.{ParamsRead}
-use Rattle.model_parse.specs.GroupLines.{member_or, add_member, group_code, group_list, group_order, order_text, is_relation, add_group, read_group, read_groups}
-use Rattle.model_parse.specs.ParamLines.{read_params}
+use Rattle.model_parse.specs.GroupLines.{is_relation}
+use Rattle.model_parse.specs.GroupSteps.{member_or, add_member, group_code, group_list, group_order, order_text, add_group, read_group, read_groups}
+use Rattle.model_parse.specs.ParamSteps.{read_params}
 use Rattle.model_parse.specs.Pieces.{pieces}
-use Rattle.model_parse.specs.RawModels.{AreOpts, IsOrder, IsSoundRaw, order_in, raw_model_of, with_demand}
+use Rattle.model_parse.specs.RawModels.{AreOpts, IsOrder, IsSoundRaw, order_in, raw_model_of}
+use Rattle.model_parse.specs.ModelSteps.{read_raw, with_demand}
 use Rattle.model_parse.specs.Steps.{and_each}
-use Rattle.model_parse.specs.Values.{place_of}
+use Rattle.model_parse.specs.ValueSteps.{place_of}
 use Rattle.model_parse.proofs.Keeping.{then_ok, accepted_ok, each_ok, each_some}
+use Rattle.model_parse.proofs.RuledGroups.{raw_ruled}
 use Rattle.model_parse.proofs.SoundNames.{some_pieces}
 use Rattle.model_parse.proofs.SoundParams.{AreSoundParams, params_ok, numbered, distinct_params}
 
@@ -85,27 +88,31 @@ added_ok count line relation demand members (Some n) is are within = at relation
     at true = record { least = is.least; subs = is.subs; relations = All-push (IsSoundGroup count) demand.relations group is.relations sound }
     at false = record { least = is.least; subs = All-push (IsSoundGroup count) demand.subs group is.subs sound; relations = is.relations }
 
-group_ok : (opts : ModelOpts) (known : List (List ℕ)) (count : ℕ) (demand : Demand) (line : ℕ × List ℕ) → length known ≡ count → IsDemand count demand → IfOk (read_group opts known demand line) (IsDemand count)
+group_ok : (opts : ModelOpts) (known : List (List ℕ)) (count : ℕ) (demand : Demand) (line : ℕ × List ℕ) → length known ≡ count → IsDemand count demand
+    → IfOk (read_group opts known demand line) (IsDemand count)
 group_ok opts known count demand line numbered is =
     let list = pieces opts.marks.separator (group_list line.1) in
     let none : AreMembers count [] = record { exist = All-nil (λ p. p < count); distinct = λ i j d lt within. absurd (omega arith) } in
     accepted_ok (IsDemand count) line.0 (group_code line.1) _ (λ code.
     then_ok (AreSomeMembers count) (IsDemand count) (and_each (add_member opts.fold known line.0) [] list) _
     (each_some (add_member opts.fold known line.0) (AreMembers count) (AreSomeMembers count) (λ _. Unit {0})
-    (λ members piece are _. member_ok count line.0 members known _ numbered are (place_of opts.fold known piece) refl) (λ members s. s.are) list [] (λ i d within. tt) (some_pieces opts.marks.separator (group_list line.1)) none)
+    (λ members piece are _. member_ok count line.0 members known _ numbered are (place_of opts.fold known piece) refl) (λ members s. s.are) list [] (λ i d within. tt)
+    (some_pieces opts.marks.separator (group_list line.1)) none)
     (λ members are. added_ok count line.0 (is_relation line.1) demand members (group_order demand.order (order_text line.1) (length members)) is are
     (λ n e. order_within demand.order (order_text line.1) (length members) n is.least are.some e)))
 
 groups_ok : (opts : ModelOpts) (known : List (List ℕ)) (count order : ℕ) (lines : List (ℕ × List ℕ)) → length known ≡ count → 1 ≤ order → IfOk (read_groups opts known order lines) (IsDemand count)
 groups_ok opts known count order lines numbered least =
-    each_ok (read_group opts known) (IsDemand count) (λ _. Unit {0}) (λ demand line p _. group_ok opts known count demand line numbered p) lines (record { order = order; subs = []; relations = [] }) (λ i d within. tt)
+    each_ok (read_group opts known) (IsDemand count) (λ _. Unit {0}) (λ demand line p _. group_ok opts known count demand line numbered p) lines
+    (record { order = order; subs = []; relations = [] }) (λ i d within. tt)
     (record { least = least; subs = All-nil (IsSoundGroup count); relations = All-nil (IsSoundGroup count) })
 
 least_order : (word : OrderWord) (count : ℕ) → IsOrder word → 0 < count → 1 ≤ order_in word count
 least_order (Number n) count is some = is
 least_order Max count is some = omega arith
 
-demand_ok : (opts : ModelOpts) (lines : List (ℕ × List ℕ)) (read : ParamsRead) (demand : Demand) → AreSoundParams opts read → IsDemand (length read.params) demand → IfOk (with_demand lines read demand) (IsSoundRaw opts)
+demand_ok : (opts : ModelOpts) (lines : List (ℕ × List ℕ)) (read : ParamsRead) (demand : Demand) → AreSoundParams opts read → IsDemand (length read.params) demand
+    → IfOk (with_demand lines read demand) (IsSoundRaw opts)
 demand_ok opts lines read demand are is =
     cond_both (ltb (length read.params) demand.order) _ _ (λ r. IfOk r (IsSoundRaw opts)) (λ large. tt) (λ within. record {
       some = are.some;
@@ -115,10 +122,14 @@ demand_ok opts lines read demand are is =
       demand = record { least = is.least; most = ltb-false (length read.params) demand.order within; subs = is.subs; relations = is.relations };
     })
 
--- what the lines give is sound
-pub raw_ok : (opts : ModelOpts) (split : Split) → AreOpts opts → IfOk (raw_model_of opts split) (IsSoundRaw opts)
-raw_ok opts split is =
+read_ok : (opts : ModelOpts) (split : Split) → AreOpts opts → IfOk (read_raw opts split) (IsSoundRaw opts)
+read_ok opts split is =
     then_ok (AreSoundParams opts) (IsSoundRaw opts) (read_params opts split.params) _ (params_ok opts split.params) (λ read are.
     then_ok (IsDemand (length read.params)) (IsSoundRaw opts) (read_groups opts read.known (order_in opts.order (length read.params)) split.groups) _
-    (groups_ok opts read.known (length read.params) (order_in opts.order (length read.params)) split.groups (numbered opts.marks.prefix opts.fold read are.is) (least_order opts.order (length read.params) is.order are.some))
+    (groups_ok opts read.known (length read.params) (order_in opts.order (length read.params)) split.groups (numbered opts.marks.prefix opts.fold read are.is)
+    (least_order opts.order (length read.params) is.order are.some))
     (λ demand good. demand_ok opts split.params read demand are good))
+
+-- what the lines give is sound
+pub raw_ok : (opts : ModelOpts) (split : Split) → AreOpts opts → IfOk (raw_model_of opts split) (IsSoundRaw opts)
+raw_ok opts split is = subst (λ r. IfOk r (IsSoundRaw opts)) (raw_ruled opts split) (read_ok opts split is)

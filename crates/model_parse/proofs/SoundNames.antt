@@ -12,7 +12,8 @@ use Rattle.value_text.proofs.ListLemmas.{option_or_parts}
 use Rattle.cov_model.specs.Names.{is_name, is_trimmed}
 use Rattle.model_lex.specs.Blanks.{is_blank, trimmed, without_first_blanks}
 use Rattle.model_parse.specs.Pieces.{is_byte, pieces, begins_with, is_unfit}
-use Rattle.model_parse.specs.Values.{without_prefix, name_code, names_code}
+use Rattle.model_parse.specs.Values.{without_prefix, name_code}
+use Rattle.model_parse.specs.ValueSteps.{names_code}
 
 -- what is left of a text without the blanks at its ends has none there
 pub trimmed_is : (text : List ℕ) → 0 < length (trimmed text) → is_trimmed (trimmed text) ≡ true
@@ -82,9 +83,11 @@ coded_names prefix (name ∷ names) cut code =
     All-cons (IsSoundName prefix) name names (coded_name prefix name (All-head IsCut name names cut) codes.0) (coded_names prefix names (All-tail IsCut name names cut) codes.1)
 
 -- so are the parts of a piece's names, where none is refused
-pub part_names : (prefix mark : ℕ) (text : List ℕ) → names_code prefix (map (without_prefix prefix) (pieces mark text)) ≡ None → All (IsSoundName prefix) (map (without_prefix prefix) (pieces mark text))
+pub part_names : (prefix mark : ℕ) (text : List ℕ) → names_code prefix (map (without_prefix prefix) (pieces mark text)) ≡ None
+    → All (IsSoundName prefix) (map (without_prefix prefix) (pieces mark text))
 part_names prefix mark text code =
-    coded_names prefix (map (without_prefix prefix) (pieces mark text)) (All-map IsCut (without_prefix prefix) (pieces mark text) (λ i d within. cut_part prefix _ (cut_pieces mark text i d within))) code
+    coded_names prefix (map (without_prefix prefix) (pieces mark text))
+    (All-map IsCut (without_prefix prefix) (pieces mark text) (λ i d within. cut_part prefix _ (cut_pieces mark text i d within))) code
 
 -- no mark stands in what is trimmed of what stands before the first
 pub none_before : (mark : ℕ) (text : List ℕ) → list_any (is_byte mark) (trimmed (before_first (is_byte mark) text)) ≡ false

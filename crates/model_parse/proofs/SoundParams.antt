@@ -12,10 +12,11 @@ use Rattle.cov_model.specs.declared.parameter.Value.{Value}
 use Rattle.model_lex.specs.declared.options.ModelOpts.{ModelOpts}
 use Rattle.model_parse.specs.declared.reading.ParamsRead.{ParamsRead}
 use Rattle.model_parse.specs.declared.reading.Reading.{Reading}
-use Rattle.model_parse.specs.ParamLines.{line_name, line_list, param_code, read_values, add_param, read_param, read_params, no_params}
+use Rattle.model_parse.specs.ParamLines.{line_name}
+use Rattle.model_parse.specs.ParamSteps.{line_list, param_code, read_values, add_param, read_param, read_params, no_params}
 use Rattle.model_parse.specs.Pieces.{is_byte, is_unfit, pieces}
 use Rattle.model_parse.specs.Steps.{and_each}
-use Rattle.model_parse.specs.Values.{is_known, add_piece}
+use Rattle.model_parse.specs.ValueSteps.{is_known, add_piece}
 use Rattle.model_parse.proofs.Keeping.{then_ok, accepted_ok, any_ok, both_ok, each_ok, each_some, each_counts}
 use Rattle.model_parse.proofs.SoundNames.{fit_name, none_before, some_pieces}
 use Rattle.model_parse.proofs.SoundValues.{AreKnown, known_more, texts_of, IsRead, IsReadSome, add_piece_ok}
@@ -34,13 +35,15 @@ pub numbered : (prefix : ℕ) (fold : Bool) (read : ParamsRead) → AreRead pref
 numbered prefix fold read is = ap length is.are.as_folded ∙ length-map (names_of read.params) (folded fold) ∙ length-map read.params (λ (param : Param). param.name)
 
 -- the values of a line
-values_ok : (opts : ModelOpts) (line : ℕ) (read : ParamsRead) (list : List ℕ) → AreRead opts.marks.prefix opts.fold read → IfOk (read_values opts line read.params read.known read.notes list) (IsReadSome opts.marks.prefix opts.fold)
+values_ok : (opts : ModelOpts) (line : ℕ) (read : ParamsRead) (list : List ℕ) → AreRead opts.marks.prefix opts.fold read
+    → IfOk (read_values opts line read.params read.known read.notes list) (IsReadSome opts.marks.prefix opts.fold)
 values_ok opts line read list is =
     let prefix = opts.marks.prefix in
     let start : Reading = record { values = []; known = []; notes = read.notes } in
     let begins : IsRead prefix opts.fold start = record { values = All-nil (IsSoundValue prefix); are = record { as_folded = refl; distinct = λ i j d lt within. absurd (omega arith) } } in
     each_some (add_piece opts line read.params read.known) (IsRead prefix opts.fold) (IsReadSome prefix opts.fold) (λ _. Unit {0})
-    (λ r piece p _. add_piece_ok opts line read.params read.known r piece is.params (numbered prefix opts.fold read is) p) (λ r s. s.is) (pieces opts.marks.separator list) start (λ i d within. tt) (some_pieces opts.marks.separator list) begins
+    (λ r piece p _. add_piece_ok opts line read.params read.known r piece is.params (numbered prefix opts.fold read is) p) (λ r s. s.is) (pieces opts.marks.separator list) start
+    (λ i d within. tt) (some_pieces opts.marks.separator list) begins
 
 some_values : (fold : Bool) (values : List Value) (known : List (List ℕ)) → AreKnown fold (texts_of values) known → 0 < length known → 0 < length values
 some_values fold [] known are some = let none : length known ≡ 0 = ap length are.as_folded in absurd (omega arith)
@@ -80,7 +83,9 @@ added_ok prefix fold line name read values is new sound =
     } in
     record {
       params = All-push (IsSoundParam prefix fold) read.params param is.params one;
-      are = subst (λ names. AreKnown fold names (read.known ++ folded fold name ∷ [])) (sym (map-append (λ (p : Param). p.name) read.params (param ∷ []))) (known_more fold (names_of read.params) read.known name is.are new.new);
+      are =
+          subst (λ names. AreKnown fold names (read.known ++ folded fold name ∷ [])) (sym (map-append (λ (p : Param). p.name) read.params (param ∷ [])))
+          (known_more fold (names_of read.params) read.known name is.are new.new);
     })
 
 param_ok : (opts : ModelOpts) (read : ParamsRead) (line : ℕ × List ℕ) → AreRead opts.marks.prefix opts.fold read → IfOk (read_param opts read line) (AreRead opts.marks.prefix opts.fold)
@@ -95,7 +100,8 @@ param_more : (opts : ModelOpts) (read : ParamsRead) (line : ℕ × List ℕ) →
 param_more opts read line =
     let more = λ (next : ParamsRead). length next.params ≡ length read.params + 1 in
     accepted_ok more line.0 (param_code opts.fold read.known (line_name line.1)) _ (λ code.
-    then_ok (λ _. Unit {0}) more (read_values opts line.0 read.params read.known read.notes (line_list line.1)) _ (any_ok (read_values opts line.0 read.params read.known read.notes (line_list line.1)))
+    then_ok (λ _. Unit {0}) more (read_values opts line.0 read.params read.known read.notes (line_list line.1)) _
+    (any_ok (read_values opts line.0 read.params read.known read.notes (line_list line.1)))
     (λ values _. cond_both (ltb 4095 (length values.values)) _ _ (λ r. IfOk r more) (λ many. tt) (λ few. length-append read.params _)))
 
 -- the parameters of all lines: 1 to 256, and distinct
@@ -110,7 +116,8 @@ params_ok opts lines =
     cond_both (ltb 256 (length lines)) _ _ (λ r. IfOk r (AreSoundParams opts)) (λ many. tt) (λ few.
     let apart : length lines ≢ 0 = eqb-false (length lines) 0 some in
     let most : length lines ≤ 256 = ltb-false 256 (length lines) few in
-    let begins : AreRead opts.marks.prefix opts.fold no_params = record { params = All-nil (IsSoundParam opts.marks.prefix opts.fold); are = record { as_folded = refl; distinct = λ i j d lt within. absurd (omega arith) } } in
+    let begins : AreRead opts.marks.prefix opts.fold no_params =
+    record { params = All-nil (IsSoundParam opts.marks.prefix opts.fold); are = record { as_folded = refl; distinct = λ i j d lt within. absurd (omega arith) } } in
     both_ok (λ read. length read.params ≡ 0 + length lines) (AreRead opts.marks.prefix opts.fold) (AreSoundParams opts) (and_each (read_param opts) no_params lines)
     (λ read count is. record { some = omega (arith, apart); few = omega arith; is = is })
     (each_counts (read_param opts) (λ (read : ParamsRead). length read.params) (param_more opts) lines no_params)

@@ -17,12 +17,14 @@ use Rattle.model_lex.specs.declared.diag.DiagCode.TheVariants.{BadWeight}
 use Rattle.model_lex.specs.declared.options.ModelOpts.{ModelOpts}
 use Rattle.model_parse.specs.declared.reading.Reading.{Reading}
 use Rattle.model_parse.specs.Pieces.{pieces}
-use Rattle.model_parse.specs.Values.{Kept, is_known, place_of, is_reference, referred, without_prefix, is_weight, weight_of, names_text, names_of, names_code, piece_code, value_of, values_at, piece_values, keep_name, keep_names, add_kept, add_value, add_piece}
+use Rattle.model_parse.specs.Values.{is_reference, referred, without_prefix, weight_of, names_text, names_of, piece_code, value_of}
+use Rattle.model_parse.specs.ValueSteps.{Kept, is_known, place_of, is_weight, names_code, values_at, piece_values, keep_name, keep_names, add_kept, add_value, add_piece}
 use Rattle.model_parse.proofs.Keeping.{then_ok, accepted_ok, each_some}
 use Rattle.model_parse.proofs.SoundNames.{IsSoundName, part_names, some_pieces}
 
 -- a text that isn't known is apart from each known one
-pub unknown_apart : (fold : Bool) (known : List (List ℕ)) (name : List ℕ) → is_known fold known name ≡ false → (i : ℕ) (d : List ℕ) → i < length known → bytes_eq (get_or known i d) (folded fold name) ≡ false
+pub unknown_apart : (fold : Bool) (known : List (List ℕ)) (name : List ℕ) → is_known fold known name ≡ false → (i : ℕ) (d : List ℕ) → i < length known
+    → bytes_eq (get_or known i d) (folded fold name) ≡ false
 unknown_apart fold known name new i d within =
     false_from_ne_true (bytes_eq (get_or known i d) (folded fold name)) (λ same.
     let one : get_or known i d ≡ folded fold name = (bytes_eq-Decides (get_or known i d) (folded fold name)).0 same in
@@ -35,7 +37,8 @@ pub record AreKnown (fold : Bool) (texts known : List (List ℕ)) : Type 0 where
   pub distinct : AllPairs (λ a b. is_same_text fold a b ≡ false) texts
 
 -- one more that isn't known
-pub known_more : (fold : Bool) (texts known : List (List ℕ)) (name : List ℕ) → AreKnown fold texts known → is_known fold known name ≡ false → AreKnown fold (texts ++ name ∷ []) (known ++ folded fold name ∷ [])
+pub known_more : (fold : Bool) (texts known : List (List ℕ)) (name : List ℕ) → AreKnown fold texts known → is_known fold known name ≡ false
+    → AreKnown fold (texts ++ name ∷ []) (known ++ folded fold name ∷ [])
 known_more fold texts known name are new = record {
   as_folded = ap (λ ks. ks ++ folded fold name ∷ []) are.as_folded ∙ sym (map-append (folded fold) texts (name ∷ []));
   distinct = all_pairs_push (λ a b. is_same_text fold a b ≡ false) texts name are.distinct (λ i d within.
@@ -70,7 +73,9 @@ module _ (prefix : ℕ) (fold : Bool) (line : ℕ) (before : List (List ℕ)) wh
       (λ new. record {
         is = record {
           names = All-push (IsSoundName prefix) kept.names name is.names sound;
-          are = subst (λ texts. AreKnown fold texts (kept.known ++ folded fold name ∷ [])) (append_assoc before kept.names (name ∷ [])) (known_more fold (before ++ kept.names) kept.known name is.are new);
+          are =
+              subst (λ texts. AreKnown fold texts (kept.known ++ folded fold name ∷ [])) (append_assoc before kept.names (name ∷ []))
+              (known_more fold (before ++ kept.names) kept.known name is.are new);
         };
         some = omega (arith, length-append kept.known (folded fold name ∷ []));
       })
@@ -80,7 +85,8 @@ module _ (prefix : ℕ) (fold : Bool) (line : ℕ) (before : List (List ℕ)) wh
   keep_more (name ∷ names) kept sound is =
       keep_more names (keep_name fold line kept name) (All-tail (IsSoundName prefix) name names sound) (keep_ok kept name (All-head (IsSoundName prefix) name names sound) is.is)
 
-  keep_some : (names : List (List ℕ)) (kept : Kept) → All (IsSoundName prefix) names → 0 < length names → IsKept prefix fold before kept → IsKeptSome prefix fold before (keep_names fold line kept names)
+  keep_some : (names : List (List ℕ)) (kept : Kept) → All (IsSoundName prefix) names → 0 < length names → IsKept prefix fold before kept
+      → IsKeptSome prefix fold before (keep_names fold line kept names)
   keep_some [] kept sound some is = absurd (omega arith)
   keep_some (name ∷ names) kept sound some is =
       keep_more names (keep_name fold line kept name) (All-tail (IsSoundName prefix) name names sound) (keep_ok kept name (All-head (IsSoundName prefix) name names sound) is)
@@ -100,7 +106,8 @@ record IsAddable (prefix : ℕ) (value : Value) : Type 0 where
   names : All (IsSoundName prefix) value.names
   some : 0 < length value.names
 
-value_kept : (prefix : ℕ) (fold : Bool) (values : List Value) (value : Value) (kept : Kept) → IsKeptSome prefix fold (texts_of values) kept → All (IsSoundValue prefix) values → IfOk (add_kept values value kept) (IsReadSome prefix fold)
+value_kept : (prefix : ℕ) (fold : Bool) (values : List Value) (value : Value) (kept : Kept) → IsKeptSome prefix fold (texts_of values) kept → All (IsSoundValue prefix) values
+    → IfOk (add_kept values value kept) (IsReadSome prefix fold)
 value_kept prefix fold values value kept is sound =
     cond_both (ltb 64 (length kept.names)) _ _ (λ r. IfOk r (IsReadSome prefix fold)) (λ many. tt) (λ few.
     cond_both (eqb (length kept.names) 0) values (values ++ added ∷ []) (λ vs. IsReadSome prefix fold (record { values = vs; known = kept.known; notes = kept.notes }))
@@ -118,7 +125,8 @@ value_kept prefix fold values value kept is sound =
       named = All-weaker (IsSoundName prefix) _ (λ name s. s.named) kept.names is.is.names;
       unmarked = All-weaker (IsSoundName prefix) _ (λ name s. s.unmarked) kept.names is.is.names;
     } in
-    let texts : texts_of (values ++ added ∷ []) ≡ texts_of values ++ kept.names = flat_map-append (λ (v : Value). v.names) values (added ∷ []) ∙ ap (λ ns. texts_of values ++ ns) (append-nil kept.names) in
+    let texts : texts_of (values ++ added ∷ []) ≡ texts_of values ++ kept.names =
+    flat_map-append (λ (v : Value). v.names) values (added ∷ []) ∙ ap (λ ns. texts_of values ++ ns) (append-nil kept.names) in
     record {
       is = record { values = All-push (IsSoundValue prefix) values added sound one; are = subst (λ ts. AreKnown fold ts kept.known) (sym texts) is.is.are };
       some = is.some;
@@ -170,9 +178,11 @@ piece_ok opts line params known piece sound numbered =
     record { all = All-cons (IsAddable prefix) (value_of opts.marks piece) [] one (All-nil (IsAddable prefix)); some = omega arith }))
 
 -- so are the values of each piece, and of a list of pieces
-pub add_piece_ok : (opts : ModelOpts) (line : ℕ) (params : List Param) (known : List (List ℕ)) (read : Reading) (piece : List ℕ) → All (IsSoundParam opts.marks.prefix opts.fold) params → length known ≡ length params
+pub add_piece_ok : (opts : ModelOpts) (line : ℕ) (params : List Param) (known : List (List ℕ)) (read : Reading) (piece : List ℕ) → All (IsSoundParam opts.marks.prefix opts.fold) params
+    → length known ≡ length params
     → IsRead opts.marks.prefix opts.fold read → IfOk (add_piece opts line params known read piece) (IsReadSome opts.marks.prefix opts.fold)
 add_piece_ok opts line params known read piece sound numbered is =
     let prefix = opts.marks.prefix in
     then_ok (AreAddable prefix) (IsReadSome prefix opts.fold) (piece_values opts line params known piece) _ (piece_ok opts line params known piece sound numbered)
-    (λ values are. each_some (add_value opts.fold line) (IsRead prefix opts.fold) (IsReadSome prefix opts.fold) (IsAddable prefix) (λ r v p q. value_ok prefix opts.fold line r v p q) (λ r s. s.is) values read are.all are.some is)
+    (λ values are. each_some (add_value opts.fold line) (IsRead prefix opts.fold) (IsReadSome prefix opts.fold) (IsAddable prefix) (λ r v p q. value_ok prefix opts.fold line r v p q)
+    (λ r s. s.is) values read are.all are.some is)

@@ -15,7 +15,8 @@ use Rattle.cov_model.specs.declared.parameter.Value.{Value}
 use Rattle.model_lex.specs.declared.options.Marks.{Marks}
 use Rattle.model_lex.specs.declared.diag.DiagCode.TheVariants.{BadWeight}
 use Rattle.model_parse.specs.Pieces.{pieces, begins_with}
-use Rattle.model_parse.specs.Values.{weight_of, names_text, without_prefix, value_of, names_code, piece_code}
+use Rattle.model_parse.specs.Values.{weight_of, names_text, without_prefix, value_of, piece_code}
+use Rattle.model_parse.specs.ValueSteps.{names_code}
 
 -- one more digit
 pub weight_more : (text : List ℕ) (i value : ℕ) → list_all is_ascii_digit text ≡ true → i < length text → value ≡ min 4294967296 (digits_value 10 (take i text))
@@ -27,11 +28,13 @@ weight_more text i value are within is =
     omega arith
 
 -- the parts without their marks
-pub without_prefixes : (prefix : ℕ) (parts : List (Bor (List ℕ))) → map (λ (part : Bor (List ℕ)). without_prefix prefix part.now) parts ≡ map (without_prefix prefix) (map (λ (part : Bor (List ℕ)). part.now) parts)
+pub without_prefixes : (prefix : ℕ) (parts : List (Bor (List ℕ)))
+    → map (λ (part : Bor (List ℕ)). without_prefix prefix part.now) parts ≡ map (without_prefix prefix) (map (λ (part : Bor (List ℕ)). part.now) parts)
 without_prefixes prefix [] = refl
 without_prefixes prefix (part ∷ parts) = ap (λ rest. without_prefix prefix part.now ∷ rest) (without_prefixes prefix parts)
 
-pub all_prefixes : (prefix : ℕ) (parts : List (Bor (List ℕ))) (at : ℕ) → length parts ≤ at → map (λ (part : Bor (List ℕ)). without_prefix prefix part.now) (take at parts) ≡ map (without_prefix prefix) (map (λ (part : Bor (List ℕ)). part.now) parts)
+pub all_prefixes : (prefix : ℕ) (parts : List (Bor (List ℕ))) (at : ℕ) → length parts ≤ at
+    → map (λ (part : Bor (List ℕ)). without_prefix prefix part.now) (take at parts) ≡ map (without_prefix prefix) (map (λ (part : Bor (List ℕ)). part.now) parts)
 all_prefixes prefix parts at past = ap (map (λ (part : Bor (List ℕ)). without_prefix prefix part.now)) (take_all at parts past) ∙ without_prefixes prefix parts
 
 -- what a piece spells, where its weight and its names are accepted

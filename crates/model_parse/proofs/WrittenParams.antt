@@ -17,14 +17,16 @@ use Rattle.model_lex.specs.declared.options.Marks.{Marks}
 use Rattle.model_lex.specs.declared.options.ModelOpts.{ModelOpts}
 use Rattle.model_parse.specs.declared.reading.ParamsRead.{ParamsRead}
 use Rattle.model_parse.specs.declared.reading.Reading.{Reading}
-use Rattle.model_parse.specs.ParamLines.{line_name, param_code, read_values, read_param, read_params, no_params}
+use Rattle.model_parse.specs.ParamLines.{line_name}
+use Rattle.model_parse.specs.ParamSteps.{param_code, read_values, read_param, read_params, no_params}
 use Rattle.model_parse.specs.Pieces.{is_byte, pieces, is_unfit}
 use Rattle.model_parse.specs.RawModels.{AreOpts, order_in}
 use Rattle.model_parse.specs.Steps.{and_then, and_each}
-use Rattle.model_parse.specs.Values.{Kept, is_known, keep_name, keep_names, add_kept, add_value, add_piece}
+use Rattle.model_parse.specs.ValueSteps.{Kept, is_known, keep_name, keep_names, add_kept, add_value, add_piece}
 use Rattle.model_parse.specs.Written.{joined, written_value, written_param, written_lines, IsWritable, ParamsReadBack}
 use Rattle.model_parse.proofs.Answering.{read_goes, raw_goes}
 use Rattle.model_parse.proofs.Joining.{IsWhole, AreBlanks, Lacks, trimmed_back, joined_back, before_first_back, after_first_back}
+use Rattle.model_parse.proofs.RuledGroups.{raw_ruled}
 use Rattle.model_parse.proofs.SoundParams.{names_of}
 use Rattle.model_parse.proofs.SoundValues.{texts_of}
 use Rattle.model_parse.proofs.WrittenPieces.{ReadsBack, value_back, values_back}
@@ -45,7 +47,8 @@ unknown fold texts name rest distinct =
     let here : get_or (texts ++ name ∷ rest) i d ≡ get_or texts i d = get_or_append_left texts (name ∷ rest) d i within in
     let there : get_or (texts ++ name ∷ rest) (length texts) d ≡ name = get_or-append_seam texts name rest d in
     let apart = distinct i (length texts) d within (omega (arith, length-append texts (name ∷ rest))) in
-    turned (folded fold (get_or texts i d)) (folded fold name) (subst (λ t. is_same_text fold (get_or texts i d) t ≡ false) there (subst (λ t. is_same_text fold t (get_or (texts ++ name ∷ rest) (length texts) d) ≡ false) here apart))))
+    turned (folded fold (get_or texts i d)) (folded fold name) (subst (λ t. is_same_text fold (get_or texts i d) t ≡ false) there
+    (subst (λ t. is_same_text fold t (get_or (texts ++ name ∷ rest) (length texts) d) ≡ false) here apart))))
 
 known_too : (fold : Bool) (texts known : List (List ℕ)) (name : List ℕ) → known ≡ map (folded fold) texts → known ++ folded fold name ∷ [] ≡ map (folded fold) (texts ++ name ∷ [])
 known_too fold texts known name is = ap (λ ks. ks ++ folded fold name ∷ []) is ∙ sym (map-append (folded fold) texts (name ∷ []))
@@ -53,7 +56,8 @@ known_too fold texts known name is = ap (λ ks. ks ++ folded fold name ∷ []) i
 regrouped : (fold : Bool) (texts : List (List ℕ)) (name : List ℕ) (rest : List (List ℕ)) → Distinct fold (texts ++ name ∷ rest) → Distinct fold ((texts ++ name ∷ []) ++ rest)
 regrouped fold texts name rest distinct = subst (Distinct fold) (sym (append_assoc texts (name ∷ []) rest)) distinct
 
-same_kept : (names names' known known' : List (List ℕ)) (notes : List Note) → names ≡ names' → known ≡ known' → let a : Kept = record { names = names; known = known; notes = notes } in let b : Kept = record { names = names'; known = known'; notes = notes } in a ≡ b
+same_kept : (names names' known known' : List (List ℕ)) (notes : List Note) → names ≡ names' → known ≡ known'
+    → let a : Kept = record { names = names; known = known; notes = notes } in let b : Kept = record { names = names'; known = known'; notes = notes } in a ≡ b
 same_kept names names' known known' notes a b = cc
 
 -- distinct names are all kept
@@ -77,18 +81,23 @@ front_distinct fold texts rest distinct i j d lt within =
     rw (← low, ← high) (distinct i j d lt (omega (arith, length-append texts rest)))
 
 -- one more value
-value_added : (prefix : ℕ) (fold : Bool) (line : ℕ) (texts : List (List ℕ)) (read : Reading) (value : Value) → read.known ≡ map (folded fold) texts → Distinct fold (texts ++ value.names) → IsSoundValue prefix value
+value_added : (prefix : ℕ) (fold : Bool) (line : ℕ) (texts : List (List ℕ)) (read : Reading) (value : Value) → read.known ≡ map (folded fold) texts → Distinct fold (texts ++ value.names)
+    → IsSoundValue prefix value
     → add_value fold line read value ≡ Ok (record { values = read.values ++ value ∷ []; known = map (folded fold) (texts ++ value.names); notes = read.notes })
 value_added prefix fold line texts read value is distinct sound =
     ap (add_kept read.values value) (kept_all fold line read.notes texts read.known [] value.names is distinct)
     ∙ cond-false (ltb 64 (length value.names)) _ _ (le-ltb 64 (length value.names) sound.few)
-    ∙ ap (λ vs. Ok (record { values = vs; known = map (folded fold) (texts ++ value.names); notes = read.notes })) (cond-false (eqb (length value.names) 0) _ _ (ne_eqb (length value.names) 0 (λ e. let some = sound.some in omega arith)))
+    ∙ ap (λ vs. Ok (record { values = vs; known = map (folded fold) (texts ++ value.names); notes = read.notes }))
+    (cond-false (eqb (length value.names) 0) _ _ (ne_eqb (length value.names) 0 (λ e. let some = sound.some in omega arith)))
 
 -- the values of a line, one after another
 values_added : (opts : ModelOpts) (line : ℕ) (params : List Param) (known : List (List ℕ)) (texts : List (List ℕ)) (read : Reading) (values : List Value)
-    → read.known ≡ map (folded opts.fold) texts → Distinct opts.fold (texts ++ texts_of values) → All (IsSoundValue opts.marks.prefix) values → All (λ value. ReadsBack opts.marks value (written_value opts.marks value)) values
-    → and_each (add_piece opts line params known) read (map (written_value opts.marks) values) ≡ Ok (record { values = read.values ++ values; known = map (folded opts.fold) (texts ++ texts_of values); notes = read.notes })
-values_added opts line params known texts read [] is distinct sound backs = ap Ok (same_reading _ _ _ _ read.notes (sym (append-nil read.values)) (is ∙ ap (map (folded opts.fold)) (sym (append-nil texts))))
+    → read.known ≡ map (folded opts.fold) texts → Distinct opts.fold (texts ++ texts_of values) → All (IsSoundValue opts.marks.prefix) values
+    → All (λ value. ReadsBack opts.marks value (written_value opts.marks value)) values
+    → and_each (add_piece opts line params known) read (map (written_value opts.marks) values)
+    ≡ Ok (record { values = read.values ++ values; known = map (folded opts.fold) (texts ++ texts_of values); notes = read.notes })
+values_added opts line params known texts read [] is distinct sound backs =
+    ap Ok (same_reading _ _ _ _ read.notes (sym (append-nil read.values)) (is ∙ ap (map (folded opts.fold)) (sym (append-nil texts))))
   where
     same_reading : (values values' : List Value) (known known' : List (List ℕ)) (notes : List Note) → values ≡ values' → known ≡ known'
         → let a : Reading = record { values = values; known = known; notes = notes } in let b : Reading = record { values = values'; known = known'; notes = notes } in a ≡ b
@@ -99,27 +108,34 @@ values_added opts line params known texts read (value ∷ values) is distinct so
     let next : Reading = record { values = read.values ++ value ∷ []; known = map (folded opts.fold) (texts ++ value.names); notes = read.notes } in
     let apart : Distinct opts.fold ((texts ++ value.names) ++ texts_of values) = subst (Distinct opts.fold) (sym (append_assoc texts value.names (texts_of values))) distinct in
     let one : add_value opts.fold line read value ≡ Ok next =
-    value_added opts.marks.prefix opts.fold line texts read value is (front_distinct opts.fold (texts ++ value.names) (texts_of values) apart) (All-head (IsSoundValue opts.marks.prefix) value values sound) in
+    value_added opts.marks.prefix opts.fold line texts read value is (front_distinct opts.fold (texts ++ value.names) (texts_of values) apart)
+    (All-head (IsSoundValue opts.marks.prefix) value values sound) in
     let step : add_piece opts line params known read piece ≡ Ok next =
-    ap (λ r. and_then r (λ vs. and_each (add_value opts.fold line) read vs)) (values_back opts line params known value piece (All-head back value values backs)) ∙ ap (λ r. and_then r (λ a. Ok a)) one in
+    ap (λ r. and_then r (λ vs. and_each (add_value opts.fold line) read vs)) (values_back opts line params known value piece (All-head back value values backs))
+    ∙ ap (λ r. and_then r (λ a. Ok a)) one in
     ap (λ r. and_then r (λ a. and_each (add_piece opts line params known) a (map (written_value opts.marks) values))) step
     ∙ values_added opts line params known (texts ++ value.names) next values refl apart (All-tail (IsSoundValue opts.marks.prefix) value values sound) (All-tail back value values backs)
     ∙ ap (λ vs. Ok (record { values = vs; known = map (folded opts.fold) (texts ++ value.names ++ texts_of values); notes = read.notes })) (append_assoc read.values (value ∷ []) values)
     ∙ ap (λ ts. Ok (record { values = read.values ++ (value ∷ values); known = map (folded opts.fold) ts; notes = read.notes })) (append_assoc texts value.names (texts_of values))
 
 -- the list of a line
-list_back : (opts : ModelOpts) (line : ℕ) (params : List Param) (known : List (List ℕ)) (notes : List Note) (param : Param) → AreOpts opts → IsSoundParam opts.marks.prefix opts.fold param → All (IsWritable opts.marks) param.values
-    → read_values opts line params known notes (32 ∷ joined (opts.marks.separator ∷ 32 ∷ []) (map (written_value opts.marks) param.values)) ≡ Ok (record { values = param.values; known = map (folded opts.fold) (texts_of param.values); notes = notes })
+list_back : (opts : ModelOpts) (line : ℕ) (params : List Param) (known : List (List ℕ)) (notes : List Note) (param : Param) → AreOpts opts → IsSoundParam opts.marks.prefix opts.fold param
+    → All (IsWritable opts.marks) param.values
+    → read_values opts line params known notes (32 ∷ joined (opts.marks.separator ∷ 32 ∷ []) (map (written_value opts.marks) param.values))
+    ≡ Ok (record { values = param.values; known = map (folded opts.fold) (texts_of param.values); notes = notes })
 list_back opts line params known notes param are sound writable =
     let marks = opts.marks in
     let blank = λ (b : ℕ). is_blank b ≡ true in
     let gap : AreBlanks (32 ∷ []) = All-cons blank 32 [] refl (All-nil blank) in
     let texts = map (written_value marks) param.values in
-    let backs : All (λ value. ReadsBack marks value (written_value marks value)) param.values = λ i d within. value_back marks (get_or param.values i d) are.marks (sound.values i d within) (writable i d within) in
+    let backs : All (λ value. ReadsBack marks value (written_value marks value)) param.values =
+    λ i d within. value_back marks (get_or param.values i d) are.marks (sound.values i d within) (writable i d within) in
     let cut : pieces marks.separator (32 ∷ joined (marks.separator ∷ 32 ∷ []) texts) ≡ texts =
     ap (λ t. pieces marks.separator (32 ∷ t)) (sym (append-nil (joined (marks.separator ∷ 32 ∷ []) texts)))
-    ∙ joined_back marks.separator [] (32 ∷ []) (All-nil blank) gap (mark_blank marks.separator are.marks.separator) (32 ∷ []) [] texts gap (All-nil blank) (let some = sound.some in omega (arith, length-map param.values (written_value marks)))
-    (All-map IsWhole (written_value marks) param.values (λ i d within. (backs i d within).whole)) (All-map (Lacks marks.separator) (written_value marks) param.values (λ i d within. (backs i d within).lacks)) in
+    ∙ joined_back marks.separator [] (32 ∷ []) (All-nil blank) gap (mark_blank marks.separator are.marks.separator) (32 ∷ []) [] texts gap (All-nil blank)
+    (let some = sound.some in omega (arith, length-map param.values (written_value marks)))
+    (All-map IsWhole (written_value marks) param.values (λ i d within. (backs i d within).whole))
+    (All-map (Lacks marks.separator) (written_value marks) param.values (λ i d within. (backs i d within).lacks)) in
     let start : Reading = record { values = []; known = []; notes = notes } in
     ap (and_each (add_piece opts line params known) start) cut ∙ values_added opts line params known [] start param.values refl sound.distinct sound.values backs
 
@@ -127,7 +143,8 @@ same_param : (param : Param) (numeric : Bool) → param.numeric ≡ numeric → 
 same_param param numeric is = ap (λ b. let other : Param = record { name = param.name; line = param.line; numeric = b; values = param.values } in other) (sym is)
 
 -- a line
-line_back : (opts : ModelOpts) (read : ParamsRead) (param : Param) → AreOpts opts → IsSoundParam opts.marks.prefix opts.fold param → All (IsWritable opts.marks) param.values → is_known opts.fold read.known param.name ≡ false
+line_back : (opts : ModelOpts) (read : ParamsRead) (param : Param) → AreOpts opts → IsSoundParam opts.marks.prefix opts.fold param → All (IsWritable opts.marks) param.values
+    → is_known opts.fold read.known param.name ≡ false
     → read_param opts read (param.line, written_param opts.marks param) ≡ Ok (record { params = read.params ++ param ∷ []; known = read.known ++ folded opts.fold param.name ∷ []; notes = read.notes })
 line_back opts read param are sound writable new =
     let list = 32 ∷ joined (opts.marks.separator ∷ 32 ∷ []) (map (written_value opts.marks) param.values) in
@@ -137,8 +154,10 @@ line_back opts read param are sound writable new =
     let called : line_name (param.name ++ 58 ∷ list) ≡ param.name =
     ap trimmed (before_first_back 58 param.name list lacks) ∙ ap trimmed (sym (append-nil param.name)) ∙ trimmed_back [] param.name [] (All-nil blank) fits.whole (All-nil blank) in
     let code : param_code opts.fold read.known param.name ≡ None =
-    cond-false (eqb (length param.name) 0) _ _ (ne_eqb (length param.name) 0 (λ e. let some = fits.whole.some in omega arith)) ∙ cond-false (is_unfit param.name) _ _ fits.fits ∙ cond-false (is_known opts.fold read.known param.name) _ _ new in
-    read_goes opts read (param.line, written_param opts.marks param) param.name list _ code (sym called) (sym (after_first_back 58 param.name list lacks)) (list_back opts param.line read.params read.known read.notes param are sound writable)
+    cond-false (eqb (length param.name) 0) _ _ (ne_eqb (length param.name) 0 (λ e. let some = fits.whole.some in omega arith)) ∙ cond-false (is_unfit param.name) _ _ fits.fits
+    ∙ cond-false (is_known opts.fold read.known param.name) _ _ new in
+    read_goes opts read (param.line, written_param opts.marks param) param.name list _ code (sym called) (sym (after_first_back 58 param.name list lacks))
+    (list_back opts param.line read.params read.known read.notes param are sound writable)
     ∙ cond-false (ltb 4095 (length param.values)) _ _ (le-ltb 4095 (length param.values) sound.few)
     ∙ ap (λ p. Ok (record { params = read.params ++ p ∷ []; known = read.known ++ folded opts.fold param.name ∷ []; notes = read.notes })) (same_param param (is_numeric param.values) sound.numeric)
 
@@ -146,7 +165,8 @@ line_back opts read param are sound writable new =
 abbrev line_of : Marks → Param → ℕ × List ℕ
 line_of marks param = (param.line, written_param marks param)
 
-lines_back : (opts : ModelOpts) (read : ParamsRead) (texts : List (List ℕ)) (params : List Param) → AreOpts opts → read.known ≡ map (folded opts.fold) texts → Distinct opts.fold (texts ++ names_of params)
+lines_back : (opts : ModelOpts) (read : ParamsRead) (texts : List (List ℕ)) (params : List Param) → AreOpts opts → read.known ≡ map (folded opts.fold) texts
+    → Distinct opts.fold (texts ++ names_of params)
     → All (IsSoundParam opts.marks.prefix opts.fold) params → All (λ param. All (IsWritable opts.marks) param.values) params
     → and_each (read_param opts) read (map (line_of opts.marks) params) ≡ Ok (record { params = read.params ++ params; known = map (folded opts.fold) (texts ++ names_of params); notes = read.notes })
 lines_back opts read texts [] are is distinct sound writable = ap Ok (same_read _ _ _ _ read.notes (sym (append-nil read.params)) (is ∙ ap (map (folded opts.fold)) (sym (append-nil texts))))
@@ -170,9 +190,13 @@ read_back opts params are sound writable =
     let lines = map (line_of opts.marks) params in
     let count : length lines ≡ length params = length-map params (line_of opts.marks) in
     let name = λ (p : Param). p.name in
-    let distinct : Distinct opts.fold (names_of params) = λ i j d lt within. rw (get_or-map name params i no_param d (omega (arith, length-map params name)), get_or-map name params j no_param d (omega (arith, length-map params name))) (sound.distinct i j no_param lt (omega (arith, length-map params name))) in
+    let distinct : Distinct opts.fold (names_of params) =
+    λ i j d lt within. rw (get_or-map name params i no_param d (omega (arith, length-map params name)), get_or-map name params j no_param d (omega (arith, length-map params name)))
+    (sound.distinct i j no_param lt (omega (arith, length-map params name))) in
     let read : ParamsRead = record { params = params; known = map (folded opts.fold) (names_of params); notes = [] } in
     let all : read_params opts lines ≡ Ok read =
-    cond-false (eqb (length lines) 0) _ _ (ne_eqb (length lines) 0 (λ e. let some = sound.some in omega arith)) ∙ cond-false (ltb 256 (length lines)) _ _ (le-ltb 256 (length lines) (let few = sound.few in omega arith))
+    cond-false (eqb (length lines) 0) _ _ (ne_eqb (length lines) 0 (λ e. let some = sound.some in omega arith))
+    ∙ cond-false (ltb 256 (length lines)) _ _ (le-ltb 256 (length lines) (let few = sound.few in omega arith))
     ∙ lines_back opts no_params [] params are refl distinct sound.params writable in
-    raw_goes opts (written_lines opts.marks params) lines [] read _ refl refl all refl ∙ cond-false (ltb (length params) (order_in opts.order (length params))) _ _ (le-ltb (length params) (order_in opts.order (length params)) sound.demand.most)
+    sym (raw_ruled opts (written_lines opts.marks params)) ∙ raw_goes opts (written_lines opts.marks params) lines [] read _ refl refl all refl
+    ∙ cond-false (ltb (length params) (order_in opts.order (length params))) _ _ (le-ltb (length params) (order_in opts.order (length params)) sound.demand.most)

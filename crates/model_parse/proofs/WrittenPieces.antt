@@ -21,7 +21,8 @@ use Rattle.model_lex.specs.declared.options.ModelOpts.{ModelOpts}
 use Rattle.model_parse.specs.Pieces.{is_byte, pieces, begins_with, ends_with, before_end}
 use Rattle.model_parse.specs.RawModels.{AreMarks}
 use Rattle.model_parse.specs.Steps.{refused_or}
-use Rattle.model_parse.specs.Values.{weight_text, has_weight, weight_of, is_weight, names_text, without_prefix, names_of, value_of, names_code, piece_code, is_reference, piece_values}
+use Rattle.model_parse.specs.Values.{weight_text, has_weight, weight_of, names_text, without_prefix, names_of, value_of, piece_code, is_reference}
+use Rattle.model_parse.specs.ValueSteps.{is_weight, names_code, piece_values}
 use Rattle.model_parse.specs.Written.{written_names, written_weight, written_value, IsWritable}
 use Rattle.model_parse.proofs.Joining.{IsWhole, AreBlanks, Lacks, trimmed_back, joined_back, before_last_back, after_last_back, stands_back, whole_append}
 use Rattle.model_parse.proofs.Weights.{same_value}
@@ -83,7 +84,10 @@ weighed_piece marks body digits weight mark whole lacks are value =
     let apart = λ (b : ℕ). is_byte marks.separator b ≡ false in
     record {
       whole = whole_append body (41 ∷ []) whole (record { some = omega arith; first = refl; last = refl }) (32 ∷ 40 ∷ digits);
-      lacks = All-append apart body _ lacks (All-cons apart 32 (40 ∷ (digits ++ 41 ∷ [])) parens.0 (All-cons apart 40 (digits ++ 41 ∷ []) parens.1 (All-append apart digits (41 ∷ []) (All-weaker (λ b. is_ascii_digit b ≡ true) apart (λ b digit. mark_digit marks.separator b mark digit) digits are.each) (All-cons apart 41 [] parens.2 (All-nil apart)))));
+      lacks =
+          All-append apart body _ lacks (All-cons apart 32 (40 ∷ (digits ++ 41 ∷ [])) parens.0
+          (All-cons apart 40 (digits ++ 41 ∷ []) parens.1 (All-append apart digits (41 ∷ [])
+          (All-weaker (λ b. is_ascii_digit b ≡ true) apart (λ b digit. mark_digit marks.separator b mark digit) digits are.each) (All-cons apart 41 [] parens.2 (All-nil apart)))));
       plain = and_right _ (ends_with 62 piece) angle;
       tail = 32 ∷ [];
       blanks = All-cons (λ b. is_blank b ≡ true) 32 [] refl (All-nil (λ b. is_blank b ≡ true));
@@ -95,7 +99,8 @@ weighed_piece marks body digits weight mark whole lacks are value =
 weight_in : (weight : ℕ) → leb 1 weight && leb weight 4294967295 ≡ true → weight < 2 ^ 64
 weight_in weight is = let most : weight ≤ 4294967295 = leb-true weight 4294967295 (and_parts (leb 1 weight) (leb weight 4294967295) is).1 in omega arith
 
-written_piece : (marks : Marks) (body : List ℕ) (weight : ℕ) → is_mark marks.separator ≡ true → is_weight weight ≡ true → IsWhole body → Lacks marks.separator body → IsPiece marks body weight (body ++ written_weight body weight)
+written_piece : (marks : Marks) (body : List ℕ) (weight : ℕ) → is_mark marks.separator ≡ true → is_weight weight ≡ true → IsWhole body → Lacks marks.separator body
+    → IsPiece marks body weight (body ++ written_weight body weight)
 written_piece marks body weight mark is whole lacks =
     cond_both (eqb weight 1 && not (ends_with 41 body || ends_with 62 body)) [] (32 ∷ 40 ∷ (decimal weight ++ 41 ∷ [])) (λ text. IsPiece marks body weight (body ++ text))
     (λ plain.
@@ -113,7 +118,8 @@ pub record ReadsBack (marks : Marks) (value : Value) (piece : List ℕ) : Type 0
   pub is : value_of marks piece ≡ value
 
 parted : (marks : Marks) → AreMarks marks → (body : List ℕ) (names : List (List ℕ)) (negative : Bool) (weight : ℕ) (parts : List (List ℕ)) (piece : List ℕ)
-    → AreParts marks body names negative parts → All (IsFit marks.prefix) names → is_weight weight ≡ true → IsPiece marks body weight piece → ReadsBack marks (record { names = names; weight = weight; negative = negative }) piece
+    → AreParts marks body names negative parts → All (IsFit marks.prefix) names → is_weight weight ≡ true → IsPiece marks body weight piece
+    → ReadsBack marks (record { names = names; weight = weight; negative = negative }) piece
 parted marks are body names negative weight parts piece have fits is read =
     let blank = λ (b : ℕ). is_blank b ≡ true in
     let gap : AreBlanks (32 ∷ []) = All-cons blank 32 [] refl (All-nil blank) in
@@ -129,14 +135,16 @@ parted marks are body names negative weight parts piece have fits is read =
       is = same_value _ names _ weight _ negative called read.weighs (ap (λ ps. begins_with marks.prefix (slice_index_or ps 0 [])) cut ∙ have.sign);
     }
 
-named_back : (marks : Marks) → AreMarks marks → (names : List (List ℕ)) (weight : ℕ) (negative : Bool) → 0 < length names → All (IsFit marks.prefix) names → All (Lacks marks.separator) names → All (Lacks marks.alias) names → is_weight weight ≡ true
+named_back : (marks : Marks) → AreMarks marks → (names : List (List ℕ)) (weight : ℕ) (negative : Bool) → 0 < length names → All (IsFit marks.prefix) names → All (Lacks marks.separator) names
+    → All (Lacks marks.alias) names → is_weight weight ≡ true
     → let value : Value = record { names = names; weight = weight; negative = negative } in ReadsBack marks value (written_value marks value)
 named_back marks are [] weight negative some fits separators aliases is = absurd (omega arith)
 named_back marks are (name ∷ names) weight negative some fits separators aliases is =
     let value : Value = record { names = name ∷ names; weight = weight; negative = negative } in
     let body = written_names marks value in
     let parts = parts_of marks are name names negative fits separators aliases in
-    parted marks are body (name ∷ names) negative weight (signed marks negative name ∷ names) (written_value marks value) parts fits is (written_piece marks body weight are.separator is parts.whole parts.lacks)
+    parted marks are body (name ∷ names) negative weight (signed marks negative name ∷ names) (written_value marks value) parts fits is
+    (written_piece marks body weight are.separator is parts.whole parts.lacks)
 
 pub value_back : (marks : Marks) (value : Value) → AreMarks marks → IsSoundValue marks.prefix value → IsWritable marks value → ReadsBack marks value (written_value marks value)
 value_back marks value are sound writable =
@@ -144,6 +152,7 @@ value_back marks value are sound writable =
     (λ i d within. none_stands (is_byte marks.separator) (get_or value.names i d) (writable.separators i d within))
     (λ i d within. none_stands (is_byte marks.alias) (get_or value.names i d) (writable.aliases i d within)) writable.weight
 
-pub values_back : (opts : ModelOpts) (line : ℕ) (params : List Param) (known : List (List ℕ)) (value : Value) (piece : List ℕ) → ReadsBack opts.marks value piece → piece_values opts line params known piece ≡ Ok (value ∷ [])
+pub values_back : (opts : ModelOpts) (line : ℕ) (params : List Param) (known : List (List ℕ)) (value : Value) (piece : List ℕ) → ReadsBack opts.marks value piece
+    → piece_values opts line params known piece ≡ Ok (value ∷ [])
 values_back opts line params known value piece back =
     cond-false (is_reference piece) _ _ back.plain ∙ ap (λ o. refused_or line o (Ok (value_of opts.marks piece ∷ []))) back.code ∙ ap (λ v. Ok (v ∷ [])) back.is

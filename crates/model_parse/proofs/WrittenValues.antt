@@ -16,7 +16,8 @@ use Rattle.model_lex.specs.Blanks.{is_blank, trimmed}
 use Rattle.model_lex.specs.declared.options.Marks.{Marks}
 use Rattle.model_parse.specs.Pieces.{is_byte, begins_with, is_unfit}
 use Rattle.model_parse.specs.RawModels.{AreMarks}
-use Rattle.model_parse.specs.Values.{without_prefix, name_code, names_code}
+use Rattle.model_parse.specs.Values.{without_prefix, name_code}
+use Rattle.model_parse.specs.ValueSteps.{names_code}
 use Rattle.model_parse.specs.Written.{joined}
 use Rattle.model_parse.proofs.Joining.{IsWhole, Lacks, trimmed_back, whole_append, whole_joined, lacks_joined}
 
@@ -44,7 +45,13 @@ pub digit_ink : (b : ℕ) → is_ascii_digit b ≡ true → is_blank b ≡ false
 digit_ink b digit = grind (arith, nat_tests)
 
 pub digits_whole : (digits : List ℕ) → AreDigits digits → IsWhole digits
-digits_whole digits are = record { some = are.some; first = digit_ink (get_or digits 0 0) (are.each 0 0 are.some); last = digit_ink (get_or digits (length digits - 1) 0) (are.each (length digits - 1) 0 (let some = are.some in omega arith)) }
+digits_whole digits are =
+    record {
+      some = are.some;
+      first = digit_ink (get_or digits 0 0) (are.each 0 0 are.some);
+      last = digit_ink (get_or digits (length digits - 1) 0)
+          (are.each (length digits - 1) 0 (let some = are.some in omega arith));
+    }
 
 -- what marks aren't
 pub mark_blank : (mark : ℕ) → is_mark mark ≡ true → is_blank mark ≡ false
@@ -94,7 +101,8 @@ fit prefix name named unmarked =
 
 pub codes_none : (prefix : ℕ) (names : List (List ℕ)) → All (IsFit prefix) names → names_code prefix names ≡ None
 codes_none prefix [] fits = refl
-codes_none prefix (name ∷ names) fits = ap (λ o. option_or o (names_code prefix names)) (All-head (IsFit prefix) name names fits).code ∙ codes_none prefix names (All-tail (IsFit prefix) name names fits)
+codes_none prefix (name ∷ names) fits =
+    ap (λ o. option_or o (names_code prefix names)) (All-head (IsFit prefix) name names fits).code ∙ codes_none prefix names (All-tail (IsFit prefix) name names fits)
 
 -- the parts that the names of a value are read from: the first has the mark of negative values, where the value is negative
 abbrev pub signed : Marks → Bool → List ℕ → List ℕ
@@ -130,7 +138,8 @@ module _ (marks : Marks) (are : AreMarks marks) where
 
   unsigned_first : (negative : Bool) (name : List ℕ) → IsFit marks.prefix name → without_prefix marks.prefix (signed marks negative name) ≡ name
   unsigned_first true name fits =
-      cond-true (begins_with marks.prefix (marks.prefix ∷ name)) (trimmed name) (marks.prefix ∷ name) (and_from _ _ (lt-ltb 0 (length (marks.prefix ∷ name)) (omega arith)) (eq-eqb marks.prefix marks.prefix refl))
+      cond-true (begins_with marks.prefix (marks.prefix ∷ name)) (trimmed name) (marks.prefix ∷ name)
+      (and_from _ _ (lt-ltb 0 (length (marks.prefix ∷ name)) (omega arith)) (eq-eqb marks.prefix marks.prefix refl))
       ∙ ap trimmed (sym (append-nil name)) ∙ trimmed_back [] name [] (All-nil (λ b. is_blank b ≡ true)) fits.whole (All-nil (λ b. is_blank b ≡ true))
   unsigned_first false name fits = cond-false (begins_with marks.prefix name) _ _ fits.unmarked
 
@@ -138,7 +147,8 @@ module _ (marks : Marks) (are : AreMarks marks) where
   sign_is true name fits = and_from _ _ (lt-ltb 0 (length (marks.prefix ∷ name)) (omega arith)) (eq-eqb marks.prefix marks.prefix refl)
   sign_is false name fits = fits.unmarked
 
-  pub parts_of : (name : List ℕ) (names : List (List ℕ)) (negative : Bool) → All (IsFit marks.prefix) (name ∷ names) → All (Lacks marks.separator) (name ∷ names) → All (Lacks marks.alias) (name ∷ names)
+  pub parts_of : (name : List ℕ) (names : List (List ℕ)) (negative : Bool) → All (IsFit marks.prefix) (name ∷ names) → All (Lacks marks.separator) (name ∷ names)
+      → All (Lacks marks.alias) (name ∷ names)
       → AreParts marks (signed marks negative (joined (32 ∷ marks.alias ∷ 32 ∷ []) (name ∷ names))) (name ∷ names) negative (signed marks negative name ∷ names)
   parts_of name names negative fits separators aliases =
       let between = 32 ∷ marks.alias ∷ 32 ∷ [] in
@@ -151,15 +161,21 @@ module _ (marks : Marks) (are : AreMarks marks) where
       let blank = (mark_parens marks.separator are.separator).0 in
       let gap : Lacks marks.separator between =
       All-cons (λ b. is_byte marks.separator b ≡ false) 32 (marks.alias ∷ 32 ∷ []) blank
-      (All-cons (λ b. is_byte marks.separator b ≡ false) marks.alias (32 ∷ []) (ne_eqb marks.alias marks.separator (λ e. are.separator_alias (sym e))) (All-cons (λ b. is_byte marks.separator b ≡ false) 32 [] blank (All-nil (λ b. is_byte marks.separator b ≡ false)))) in
+      (All-cons (λ b. is_byte marks.separator b ≡ false) marks.alias (32 ∷ []) (ne_eqb marks.alias marks.separator (λ e. are.separator_alias (sym e)))
+      (All-cons (λ b. is_byte marks.separator b ≡ false) 32 [] blank (All-nil (λ b. is_byte marks.separator b ≡ false)))) in
       record {
         is = is;
         some = omega arith;
         wholes = All-cons IsWhole part names start rest;
-        aliases = All-cons (Lacks marks.alias) part names (signed_lacks marks.alias are.alias_prefix negative name (All-head (Lacks marks.alias) name names aliases)) (All-tail (Lacks marks.alias) name names aliases);
-        unsigned = ap (λ n. n ∷ map (without_prefix marks.prefix) names) (unsigned_first negative name first) ∙ ap (λ ns. name ∷ ns) (unsigned_rest marks.prefix names (All-tail (IsFit marks.prefix) name names fits));
+        aliases =
+            All-cons (Lacks marks.alias) part names (signed_lacks marks.alias are.alias_prefix negative name (All-head (Lacks marks.alias) name names aliases))
+            (All-tail (Lacks marks.alias) name names aliases);
+        unsigned =
+            ap (λ n. n ∷ map (without_prefix marks.prefix) names) (unsigned_first negative name first)
+            ∙ ap (λ ns. name ∷ ns) (unsigned_rest marks.prefix names (All-tail (IsFit marks.prefix) name names fits));
         sign = sign_is negative name first;
         whole = subst IsWhole (sym is) (whole_joined between part names start rest);
         lacks = subst (Lacks marks.separator) (sym is) (lacks_joined marks.separator between (part ∷ names) gap
-            (All-cons (Lacks marks.separator) part names (signed_lacks marks.separator are.separator_prefix negative name (All-head (Lacks marks.separator) name names separators)) (All-tail (Lacks marks.separator) name names separators)));
+            (All-cons (Lacks marks.separator) part names (signed_lacks marks.separator are.separator_prefix negative name (All-head (Lacks marks.separator) name names separators))
+            (All-tail (Lacks marks.separator) name names separators)));
       }

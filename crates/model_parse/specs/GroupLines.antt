@@ -1,8 +1,9 @@
 -- The group lines of a model file: `{ A, B } @ N` is a sub-model (PICT's guide), `@ N { A, B }` a
 -- relation (the ACTS guide). The order of the refusals is this project's rule.
-use Rattle.std.specs.Prelude.{ℕ, Bool, true, false, not, ◌&&◌, ◌||◌, List, [], ◌∷◌, ◌++◌, length, drop, min, Option, Some, None, Result, Ok, ◌==◌, nat_lt, if◌then◌else◌}
+use Rattle.std.specs.Prelude.{ℕ, Bool, not, ◌&&◌, ◌||◌, List, [], ◌∷◌, ◌++◌, map, flat_map, filter, length, drop, min, Option, Some, None, ◌==◌, nat_lt, if◌then◌else◌, is_some, unwrap_or}
 use Rattle.std.specs.Char.{is_ascii_digit}
 use Rattle.std.specs.List.{list_any, take_while, before_last, after_last}
+use Rattle.std.specs.Option.{option_map, option_map_or, option_to_list}
 use Rattle.value_text.specs.Numbers.{count_of}
 use Rattle.model_lex.specs.Blanks.{trimmed, without_first_blanks}
 use Rattle.model_lex.specs.declared.diag.DiagCode.{DiagCode}
@@ -11,9 +12,10 @@ use Rattle.model_lex.specs.declared.fault.ModelFault.{ModelFault}
 use Rattle.model_lex.specs.declared.options.ModelOpts.{ModelOpts}
 use Rattle.cov_model.specs.declared.demand.Demand.{Demand}
 use Rattle.cov_model.specs.declared.demand.Group.{Group}
+use Rattle.cov_model.specs.declared.parameter.Param.{Param}
 use Rattle.model_parse.specs.Pieces.{is_byte, pieces, begins_with}
-use Rattle.model_parse.specs.Steps.{refused, refused_or, and_then, and_each}
-use Rattle.model_parse.specs.Values.{place_of}
+use Rattle.model_parse.specs.ParamLines.{place_named, is_repeated}
+use Rattle.model_parse.specs.Rules.{with_earlier, first_some, bad_line}
 
 -- a relation begins with `@`
 abbrev pub is_relation : List ℕ → Bool
@@ -23,16 +25,15 @@ is_relation text = begins_with 64 (without_first_blanks text)
 abbrev pub behind_sign : List ℕ → List ℕ
 behind_sign text = drop 1 (without_first_blanks text)
 
--- the digits there, and the list with its braces behind them
+-- the digits there
 abbrev pub strength_text : List ℕ → List ℕ
 strength_text behind = take_while is_ascii_digit (without_first_blanks behind)
 
-abbrev pub behind_strength : List ℕ → List ℕ
-behind_strength behind = without_first_blanks (drop (length (strength_text behind)) (without_first_blanks behind))
-
--- the list of a group with its braces, and what stands behind it
+-- the list of a group with its braces, in a relation behind these digits, and what stands behind the list
 abbrev pub braced : List ℕ → List ℕ
-braced text = if is_relation text then behind_strength (behind_sign text) else without_first_blanks text
+braced text =
+    if is_relation text then without_first_blanks (drop (length (strength_text (behind_sign text))) (without_first_blanks (behind_sign text)))
+    else without_first_blanks text
 
 -- between its first `{` and the last `}`
 abbrev pub has_braces : List ℕ → Bool
@@ -44,59 +45,53 @@ inside_braces text = before_last (is_byte 125) (drop 1 text)
 abbrev pub behind_braces : List ℕ → List ℕ
 behind_braces text = trimmed (after_last (is_byte 125) (drop 1 text))
 
--- why the braces of a group are refused: they are missing, or a text follows that is no order
-abbrev pub braces_code : Bool → List ℕ → Option DiagCode
-braces_code relation text =
-    if not (has_braces text) then Some GroupNotClosed
-    else if nat_lt 0 (length (behind_braces text)) && (relation || not (begins_with 64 (behind_braces text))) then Some TextAfterGroup
+-- why the form of a line is refused: a relation without a strength, braces that are missing, a text behind them that is no order
+abbrev pub form_code : List ℕ → Option DiagCode
+form_code text =
+    if is_relation text && (length (strength_text (behind_sign text)) == 0) then Some RelationNoOrder
+    else if not (has_braces (braced text)) then Some GroupNotClosed
+    else if nat_lt 0 (length (behind_braces (braced text))) && (is_relation text || not (begins_with 64 (behind_braces (braced text)))) then Some TextAfterGroup
     else None
 
--- why a relation is refused, from what stands behind its `@`
-abbrev pub relation_code : List ℕ → Option DiagCode
-relation_code behind = if length (strength_text behind) == 0 then Some RelationNoOrder else braces_code true (behind_strength behind)
-
-abbrev pub group_code : List ℕ → Option DiagCode
-group_code text = if is_relation text then relation_code (behind_sign text) else braces_code false (without_first_blanks text)
-
--- the list of a group's members
-abbrev pub group_list : List ℕ → List ℕ
-group_list text = inside_braces (braced text)
-
--- the text of the order of a sub-model, where one is written
-abbrev pub sub_order : List ℕ → Option (List ℕ)
-sub_order braces = if length (behind_braces braces) == 0 then None else Some (trimmed (drop 1 (behind_braces braces)))
-
 -- the text of a group's order, where one is written
-abbrev pub order_text : List ℕ → Option (List ℕ)
-order_text text = if is_relation text then Some (strength_text (behind_sign text)) else sub_order (without_first_blanks text)
+abbrev pub written_order : List ℕ → Option (List ℕ)
+written_order text =
+    if is_relation text then Some (strength_text (behind_sign text))
+    else if length (behind_braces (braced text)) == 0 then None
+    else Some (trimmed (drop 1 (behind_braces (braced text))))
 
--- one more member
-abbrev pub member_or : ℕ → List ℕ → Option ℕ → Result (List ℕ) ModelFault
-member_or line members None = refused line UnknownMember
-member_or line members (Some p) = if list_any (λ q. q == p) members then refused line RepeatedMember else Ok (members ++ p ∷ [])
+-- the pieces of a group's list, and the places of the parameters that pieces name
+abbrev pub group_pieces : ModelOpts → List ℕ → List (List ℕ)
+group_pieces opts text = pieces opts.marks.separator (inside_braces (braced text))
 
-abbrev pub add_member : Bool → List (List ℕ) → ℕ → List ℕ → List ℕ → Result (List ℕ) ModelFault
-add_member fold known line members piece = member_or line members (place_of fold known piece)
+abbrev pub members_of : Bool → List Param → List (List ℕ) → List ℕ
+members_of fold params pieces = flat_map (λ piece. option_to_list (place_named fold params piece)) pieces
 
--- the order of a group of so many members: a written one is from 1 to their number, without one it
--- is that of the whole, lowered to their number
-abbrev pub group_order : ℕ → Option (List ℕ) → ℕ → Option ℕ
-group_order whole (Some text) count = count_of text 1 count
-group_order whole None count = Some (min whole count)
+-- the order of a group: a written one is from 1 to the number of members, without one it is that of the whole, lowered to this number
+abbrev pub order_of : ModelOpts → List Param → ℕ → List ℕ → Option ℕ
+order_of opts params whole text =
+    let count = length (members_of opts.fold params (group_pieces opts text)) in
+    option_map_or (λ written. count_of written 1 count) (written_order text) (Some (min whole count))
 
--- one more group
-abbrev pub add_group : ℕ → Bool → Demand → List ℕ → Option ℕ → Result Demand ModelFault
-add_group line relation demand members None = refused line BadGroupOrder
-add_group line relation demand members (Some order) =
-    let group : Group = record { order = order; members = members } in
-    Ok (if relation then record demand { relations = demand.relations ++ group ∷ [] } else record demand { subs = demand.subs ++ group ∷ [] })
+-- why a piece is refused behind others of its list: it names no parameter, or one that stood before
+abbrev pub member_code : Bool → List Param → List (List ℕ) × List ℕ → Option DiagCode
+member_code fold params piece =
+    if not (is_some (place_named fold params piece.1)) then Some UnknownMember
+    else if is_repeated fold piece then Some RepeatedMember
+    else None
 
--- one more line, where the parameters have these names
-abbrev pub read_group : ModelOpts → List (List ℕ) → Demand → ℕ × List ℕ → Result Demand ModelFault
-read_group opts known demand line =
-    refused_or line.0 (group_code line.1)
-    (and_then (and_each (add_member opts.fold known line.0) [] (pieces opts.marks.separator (group_list line.1)))
-    (λ members. add_group line.0 (is_relation line.1) demand members (group_order demand.order (order_text line.1) (length members))))
+-- why a line is refused: its form, the first piece that is refused, its order
+abbrev pub group_fault : ModelOpts → List Param → ℕ → ℕ × List ℕ → Option ModelFault
+group_fault opts params whole line =
+    option_map (bad_line line.0) (first_some (form_code line.1 ∷ map (member_code opts.fold params) (with_earlier [] (group_pieces opts line.1))
+    ++ (if is_some (order_of opts params whole line.1) then None else Some BadGroupOrder) ∷ []))
 
-abbrev pub read_groups : ModelOpts → List (List ℕ) → ℕ → List (ℕ × List ℕ) → Result Demand ModelFault
-read_groups opts known order lines = and_each (read_group opts known) (record { order = order; subs = []; relations = [] }) lines
+-- the group of a line
+abbrev pub group_of : ModelOpts → List Param → ℕ → List ℕ → Group
+group_of opts params whole text = record { order = unwrap_or (order_of opts params whole text) 0; members = members_of opts.fold params (group_pieces opts text) }
+
+-- what is demanded, where the whole has this order: the lines of relations begin with `@`
+abbrev pub demand_of : ModelOpts → List Param → ℕ → List (ℕ × List ℕ) → Demand
+demand_of opts params whole lines =
+    let groups = λ (those : List (ℕ × List ℕ)). map (λ line. group_of opts params whole line.1) those in
+    record { order = whole; subs = groups (filter (λ line. not (is_relation line.1)) lines); relations = groups (filter (λ line. is_relation line.1) lines) }

@@ -1,8 +1,8 @@
--- Reading in steps: the first step that is refused refuses the whole.
-use Rattle.std.specs.Prelude.{◌≡◌, ◌≢◌, ℕ, List, [], ◌∷◌, Option, Some, None, Result, Ok, Err, MatchResult}
+-- Working notions: reading in steps, where the first step that is refused refuses the whole.
+use Rattle.std.specs.Prelude.{ℕ, List, [], ◌∷◌, Option, Some, None, Result, Ok, Err}
 use Rattle.model_lex.specs.declared.diag.DiagCode.{DiagCode}
 use Rattle.model_lex.specs.declared.fault.ModelFault.{ModelFault}
-use Rattle.model_lex.specs.declared.fault.ModelFault.TheVariants.{Bad, NoMemory}
+use Rattle.model_lex.specs.declared.fault.ModelFault.TheVariants.{Bad}
 
 -- a line is refused
 abbrev pub refused : {A : Type 0} → ℕ → DiagCode → Result A ModelFault
@@ -22,7 +22,3 @@ and_then (Err fault) next = Err fault
 abbrev pub and_each : {A X : Type 0} → (A → X → Result A ModelFault) → A → List X → Result A ModelFault
 and_each step a [] = Ok a
 and_each step a (x ∷ xs) = and_then (step a x) (λ next. and_each step next xs)
-
--- an answer is what is wanted, or memory was refused
-abbrev pub Gives : {A B : Type 0} → Result A ModelFault → (B → A) → Result B ModelFault → Type 0
-Gives wanted seen result = MatchResult result (λ b. wanted ≡ Ok (seen b)) (λ fault. fault ≢ NoMemory → wanted ≡ Err fault)

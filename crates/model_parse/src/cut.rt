@@ -44,7 +44,8 @@ fn bytes_behind(text: &[u8], mark: u8) -> usize
 /// it stands nowhere.
 pub(crate) fn cut_last(text: &str, mark: u8) -> Option<(&str, &str)>
     requires { mark < 128 }
-    ensures { MatchOption result (list_any (is_byte mark) text.now ≡ false) (λ parts. (list_any (is_byte mark) text.now ≡ true) × (parts.0.now ≡ before_last (is_byte mark) text.now) × (parts.1.now ≡ after_last (is_byte mark) text.now)) }
+    ensures { MatchOption result (list_any (is_byte mark) text.now ≡ false) (λ parts. (list_any (is_byte mark) text.now ≡ true)
+        × (parts.0.now ≡ before_last (is_byte mark) text.now) × (parts.1.now ≡ after_last (is_byte mark) text.now)) }
 {
     let behind = bytes_behind(text.as_bytes(), mark);
     if behind == text.len() {

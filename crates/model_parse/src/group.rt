@@ -7,8 +7,10 @@ ghost use Rattle.cov_model.specs.declared.demand.Group.{Group};
 ghost use Rattle.model_lex.specs.Blanks.{without_first_blanks};
 ghost use Rattle.model_lex.specs.Sections.{line_seen};
 ghost use Rattle.model_parse.specs.Pieces.{pieces};
-ghost use Rattle.model_parse.specs.Steps.{Gives, and_each};
-ghost use Rattle.model_parse.specs.GroupLines.{add_group, add_member, behind_strength, braces_code, group_code, group_list, group_order, has_braces, inside_braces, behind_braces, is_relation, order_text, read_group, read_groups, relation_code, strength_text, sub_order};
+ghost use Rattle.model_parse.specs.Rules.{Gives};
+ghost use Rattle.model_parse.specs.Steps.{and_each};
+ghost use Rattle.model_parse.specs.GroupLines.{has_braces, inside_braces, behind_braces, is_relation, strength_text};
+ghost use Rattle.model_parse.specs.GroupSteps.{behind_strength, add_group, add_member, braces_code, group_code, group_list, group_order, order_text, read_group, read_groups, relation_code, sub_order};
 
 use crate::cut::{begins_with, behind_mark, cut_last, pieces};
 use crate::fault::bad;
@@ -53,7 +55,9 @@ fn cut_braces(text: &str) -> Option<(&str, &str)>
 
 // A relation, from what stands behind its `@`.
 fn cut_relation(text: &str) -> Result<Spelled<'_>, DiagCode>
-    ensures { MatchResult result (λ group. (relation_code text.now ≡ None) × (group.relation ≡ true) × (group.list.now ≡ inside_braces (behind_strength text.now)) × (option_map (λ order. order.now) group.order ≡ Some (strength_text text.now))) (λ code. relation_code text.now ≡ Some code) }
+    ensures { MatchResult result (λ group. (relation_code text.now ≡ None) × (group.relation ≡ true)
+        × (group.list.now ≡ inside_braces (behind_strength text.now)) × (option_map (λ order. order.now) group.order ≡ Some (strength_text text.now)))
+        (λ code. relation_code text.now ≡ Some code) }
 {
     let (digits, behind) = cut_digits(without_first_blanks(text));
     if digits.is_empty() {
@@ -74,7 +78,9 @@ fn cut_relation(text: &str) -> Result<Spelled<'_>, DiagCode>
 
 // A sub-model, from its first brace on.
 fn cut_sub(text: &str) -> Result<Spelled<'_>, DiagCode>
-    ensures { MatchResult result (λ group. (braces_code false text.now ≡ None) × (group.relation ≡ false) × (group.list.now ≡ inside_braces text.now) × (option_map (λ order. order.now) group.order ≡ sub_order text.now)) (λ code. braces_code false text.now ≡ Some code) }
+    ensures { MatchResult result (λ group. (braces_code false text.now ≡ None) × (group.relation ≡ false)
+        × (group.list.now ≡ inside_braces text.now) × (option_map (λ order. order.now) group.order ≡ sub_order text.now))
+        (λ code. braces_code false text.now ≡ Some code) }
 {
     let Some((list, behind)) = cut_braces(text) else {
         return Err(DiagCode::GroupNotClosed);
@@ -100,7 +106,9 @@ fn cut_sub(text: &str) -> Result<Spelled<'_>, DiagCode>
 
 // A group, as its line spells it.
 fn cut_group(text: &str) -> Result<Spelled<'_>, DiagCode>
-    ensures { MatchResult result (λ group. (group_code text.now ≡ None) × (group.relation ≡ is_relation text.now) × (group.list.now ≡ group_list text.now) × (option_map (λ order. order.now) group.order ≡ order_text text.now)) (λ code. group_code text.now ≡ Some code) }
+    ensures { MatchResult result (λ group. (group_code text.now ≡ None) × (group.relation ≡ is_relation text.now)
+        × (group.list.now ≡ group_list text.now) × (option_map (λ order. order.now) group.order ≡ order_text text.now))
+        (λ code. group_code text.now ≡ Some code) }
 {
     let text = without_first_blanks(text);
     match behind_mark(text, b'@') {

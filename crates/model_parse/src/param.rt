@@ -4,9 +4,10 @@ ghost use Rattle.std.specs.List.{list_all};
 ghost use Rattle.value_text.specs.Numbers.{is_number};
 ghost use Rattle.cov_model.specs.Sound.{first_name, is_numeric};
 ghost use Rattle.model_lex.specs.Sections.{line_seen};
-ghost use Rattle.model_parse.specs.Steps.{Gives, and_each};
-ghost use Rattle.model_parse.specs.Values.{is_known, add_piece};
-ghost use Rattle.model_parse.specs.ParamLines.{Counts, IsOneMore, param_code, read_values, add_param, read_param, read_params, no_params};
+ghost use Rattle.model_parse.specs.Rules.{Gives};
+ghost use Rattle.model_parse.specs.Steps.{and_each};
+ghost use Rattle.model_parse.specs.ValueSteps.{is_known, add_piece};
+ghost use Rattle.model_parse.specs.ParamSteps.{Counts, IsOneMore, param_code, read_values, add_param, read_param, read_params, no_params};
 
 use crate::cut::{cut_colon, is_unfit, pieces};
 use crate::fault::bad;

@@ -6,8 +6,10 @@ ghost use Rattle.std.specs.Str.Parse.{digits_value};
 ghost use Rattle.value_text.specs.Numbers.{is_digits};
 ghost use Rattle.cov_model.specs.Sound.{param_at};
 ghost use Rattle.model_parse.specs.Pieces.{begins_with};
-ghost use Rattle.model_parse.specs.Steps.{Gives, and_each, and_then, refused_or};
-ghost use Rattle.model_parse.specs.Values.{has_weight, weight_of, weight_text, names_text, without_prefix, names_of, value_of, name_code, names_code, piece_code, is_reference, referred, is_known, place_of, piece_values, keep_name, keep_names, add_value, add_piece};
+ghost use Rattle.model_parse.specs.Rules.{Gives};
+ghost use Rattle.model_parse.specs.Steps.{and_each, and_then, refused_or};
+ghost use Rattle.model_parse.specs.Values.{has_weight, weight_of, weight_text, names_text, without_prefix, names_of, value_of, name_code, piece_code, is_reference, referred};
+ghost use Rattle.model_parse.specs.ValueSteps.{names_code, is_known, place_of, piece_values, keep_name, keep_names, add_value, add_piece};
 
 use crate::cut::{before_mark, begins_with, behind_mark, cut_last, is_unfit, pieces};
 use crate::fault::bad;
@@ -158,7 +160,8 @@ fn keep_names(
     known: &mut NameSet,
     notes: &mut NoteList,
 ) -> Result<TextList, NoMemory>
-    ensures { IfOk result (λ own. keep_names fold line (record { names = []; known = known.old; notes = notes.old }) (map (λ name. name.now) names.now) ≡ record { names = own; known = known.new; notes = notes.new }) }
+    ensures { IfOk result (λ own. keep_names fold line (record { names = []; known = known.old; notes = notes.old }) (map (λ name. name.now) names.now)
+        ≡ record { names = own; known = known.new; notes = notes.new }) }
 {
     let mut own = OwnedList::new(alloc);
     for name in names {

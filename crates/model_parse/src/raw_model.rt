@@ -1,8 +1,9 @@
 ghost use Rattle.std.specs.Prelude.{◌≡◌, ◌<◌, ◌≤◌, length, map, IfOk};
 ghost use Rattle.model_lex.specs.Sections.{line_seen, split_seen};
-ghost use Rattle.model_parse.specs.Steps.{Gives};
-ghost use Rattle.model_parse.specs.RawModels.{AreOpts, IsSoundRaw, order_in, raw_model_of, with_demand};
-ghost use Rattle.model_parse.specs.GroupLines.{read_groups};
+ghost use Rattle.model_parse.specs.Rules.{Gives};
+ghost use Rattle.model_parse.specs.RawModels.{AreOpts, IsSoundRaw, order_in, raw_model_of};
+ghost use Rattle.model_parse.specs.ModelSteps.{with_demand};
+ghost use Rattle.model_parse.specs.GroupSteps.{read_groups};
 ghost use Rattle.model_parse.specs.Written.{ParamsReadBack};
 
 use crate::fault::bad;

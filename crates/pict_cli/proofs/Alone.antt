@@ -3,7 +3,8 @@ use Rattle.std.proofs.Common.{◌≡◌, ℕ, Some, Bool, true, false, ◌&&◌,
 use Rattle.std.specs.Prelude.{fold}
 use Rattle.std.specs.List.{list_any}
 use Rattle.std.proofs.lemmas.Bool.{cases_Bool, false≢true, or_parts}
-use Rattle.definitions.specs.Settings.{Setting, Order, Separator, Alias, Prefix, SeedFile, ShuffleValues, CaseCounts, Statistics, Workers, Budget, ProofFile, ProofFormat, MeasureFile, Make, SuspectFile, Settings, defaults, set, settings_of}
+use Rattle.definitions.specs.Settings.{Setting, Order, Separator, Alias, Prefix, SeedFile, ShuffleValues, CaseCounts, Statistics, Workers}
+use Rattle.definitions.specs.Settings.{Budget, ProofFile, ProofFormat, MeasureFile, Make, SuspectFile, Settings, defaults, set, settings_of}
 use Rattle.definitions.specs.Words.{is_generating, is_measuring}
 use Rattle.pict_cli.specs.declared.kinds.Kinds.{Kinds}
 use Rattle.pict_cli.specs.Modes.{Mode, makes_suite, mode_beside, mode_in, mode_of, output_of}
@@ -140,6 +141,7 @@ whole_unproved settings whole other =
       | inl some ↦ no_proof settings defaults (ap (λ b. b && about.generating) (sym some) ∙ whole)
       | inr none ↦
           let parts = or_parts about.measuring about.suspecting none in
-          absurd (false≢true (sym (not_beside s.make (mode_in s.suspect s.measure (output_of s)) other) ∙ ap (λ results. makes_suite (mode_in results s.measure (output_of s))) (no_results settings defaults parts.1)
+          absurd (false≢true (sym (not_beside s.make (mode_in s.suspect s.measure (output_of s)) other)
+          ∙ ap (λ results. makes_suite (mode_in results s.measure (output_of s))) (no_results settings defaults parts.1)
           ∙ ap (λ suite. makes_suite (mode_in None suite (output_of s))) (no_suite settings defaults parts.0)))
     ]

@@ -24,7 +24,8 @@ use Rattle.outside_io.specs.Files.{Files}
 use Rattle.pict_cli.specs.Ends.{CountsReads, End, IsEarly, Stopped, Unread, end_of}
 use Rattle.pict_cli.specs.Modes.{Generate, Measure, Mode, RowSource, Suspect, makes_plan, mode_of, row_file, row_mode}
 use Rattle.pict_cli.specs.RowSources.{later_notes, notes_on, read_bytes, read_row_bytes, read_source, reading_or_none, stop_in, without_results}
-use Rattle.pict_cli.specs.Runs.{EndsBehind, WritesProof, all_notes, cannot_write, cannot_write_proof, comes_whole, file_notes, given_of, limit_due, must_stop, no_memory, notes_behind, out_text, reading_of, rows_of_run, rows_unread, stop_due, text_in, work_in}
+use Rattle.pict_cli.specs.Runs.{EndsBehind, WritesProof, all_notes, cannot_write, cannot_write_proof, comes_whole, file_notes, given_of, limit_due}
+use Rattle.pict_cli.specs.Runs.{must_stop, no_memory, notes_behind, out_text, reading_of, rows_of_run, rows_unread, stop_due, text_in, work_in}
 use Rattle.pict_cli.specs.Steps.{HoldsRows, IsOfRows, StopsRows, StopsWork}
 use Rattle.pict_cli.specs.Steps as steps
 

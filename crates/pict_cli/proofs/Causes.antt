@@ -121,10 +121,11 @@ module _ {s : Settings} {seed : ℕ} {name : List ℕ} {start after : Moment} {n
 
   -- no file
   pub missing_end : model_source s name start.files ≡ Some None → (status ≡ 7) ⊎ (status ≡ 1)
-  missing_end at = ended (λ n. n ≡ 7) (from_begun None _ at (λ e. unmade s.make refl at (subst (λ x. CountsWrites s name (end_of x) start.writes after.writes) e ran.leaves.writes)) (λ begun ends. elim ends [
-    | inl reading ↦ missing end reading.0
-    | inr none ↦ absurd none
-  ]))
+  missing_end at = ended (λ n. n ≡ 7)
+      (from_begun None _ at (λ e. unmade s.make refl at (subst (λ x. CountsWrites s name (end_of x) start.writes after.writes) e ran.leaves.writes)) (λ begun ends. elim ends [
+        | inl reading ↦ missing end reading.0
+        | inr none ↦ absurd none
+      ]))
     where
       unmade : (make : Option ℕ) → s.make ≡ make → model_from make (start.files name) ≡ Some None → ¬ CountsWrites s name (Unwritten kinds.Model) start.writes after.writes
       unmade None e told rose = subst (λ made. IsSomeAnd (option_map (λ n. name) made) (λ file. Rose (start.writes file) (after.writes file))) e rose

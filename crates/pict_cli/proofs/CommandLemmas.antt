@@ -1,10 +1,8 @@
 -- What is known of a command that has a reading.
-use Rattle.std.proofs.Common.{◌≡◌, ◌+◌, ℕ, false, ◌&&◌, not, List, [], ◌∷◌, ◌++◌, Ok, Some, None, refl, sym, ap, subst, ◌∙◌}
+use Rattle.std.proofs.Common.{◌≡◌, ℕ, false, List, [], ◌∷◌, ◌++◌, Ok, Some, None, refl, sym, ap, subst, ◌∙◌}
 use Rattle.std.specs.Prelude.{filter_map, drop, take, slice_index_or}
-use Rattle.std.specs.List.{list_any}
 use Rattle.std.specs.Option.{option_or}
 use Rattle.std.proofs.lemmas.Bool.{or_parts}
-use Rattle.std.proofs.lemmas.List.{append-nil}
 use Rattle.value_text.proofs.ListLemmas.{option_or_parts}
 use Rattle.definitions.specs.Settings.{Setting, setting_of}
 use Rattle.definitions.specs.Words.{Command, first_faulty, is_faulty, missing_name, read_words, set_by}

@@ -8,7 +8,8 @@ use Rattle.definitions.specs.Settings.{Settings}
 use Rattle.model_lex.specs.declared.note.Note.{Note}
 use Rattle.command_line.specs.declared.stop.Stop.{Stop}
 use Rattle.command_line.specs.declared.stop.Stop.TheVariants.{CannotWriteReport}
-use Rattle.pict_cli.specs.Ends.{CountsOut, CountsReads, CountsWrites, End, IsEarly, IsQuiet, Leaves, Misworded, Moment, Prints, StaysStill, Stopped, Unprinted, Unread, Unwritten, Whole, end_of, file_read, file_written}
+use Rattle.pict_cli.specs.Ends.{CountsOut, CountsReads, CountsWrites, End, IsEarly, IsQuiet, Leaves, Misworded, Moment, Prints}
+use Rattle.pict_cli.specs.Ends.{StaysStill, Stopped, Unprinted, Unread, Unwritten, Whole, end_of, file_read, file_written}
 use Rattle.pict_cli.specs.Modes.{RowSource}
 use Rattle.pict_cli.specs.Runs.{EndsBehind, HoldsProof, RunsModel, WritesProof, given_of, out_text, rows_of_run}
 

@@ -33,7 +33,9 @@ use Rattle.command_line.specs.Stops.{stop_of_plan}
 use Rattle.command_line.specs.declared.stop.Stop.{Stop}
 use Rattle.pict_cli.specs.Ends.{Moment}
 use Rattle.pict_cli.specs.Modes.{Generate, Measure, Mode, Report, RowSource, Statistics, Suspect, is_report, makes_plan, makes_suite, mode_of, prints_rows}
-use Rattle.pict_cli.specs.Runs.{AreContained, CoversOrRefutes, EndsBehind, HoldsWholeProof, IsAcceptedWith, IsProof, PrintsAccepted, PrintsCovering, PrintsFewRows, PrintsSeeds, RunsModel, cannot_write, cannot_write_proof, comes_whole, given_of, growth_of, must_stop, no_memory, out_text, rows_of_run, rows_unread, seeds_kept, shuffled_by, stop_due, text_in, told_proof}
+use Rattle.pict_cli.specs.Runs.{AreContained, CoversOrRefutes, EndsBehind, HoldsWholeProof, IsAcceptedWith, IsProof, PrintsAccepted, PrintsCovering}
+use Rattle.pict_cli.specs.Runs.{PrintsFewRows, PrintsSeeds, RunsModel, cannot_write, cannot_write_proof, comes_whole, given_of, growth_of}
+use Rattle.pict_cli.specs.Runs.{must_stop, no_memory, out_text, rows_of_run, rows_unread, seeds_kept, shuffled_by, stop_due, text_in, told_proof}
 
 -- the orders of a run
 are_preferences : (m : ModelView) (shuffle : Option ℕ) → ArePreferences m (preference m shuffle)
@@ -118,7 +120,9 @@ module _ (s : Settings) (seed : ℕ) (m : ModelView) (source : RowSource) (notes
   -- fewer than 2^32 tuples are demanded
   few_demanded : makes_plan (mode_of s) ≡ true → length (demanded_tuples m) < 2 ^ 32
   few_demanded plans =
-      let few = ltb-false (2 ^ 26) (length (demanded_tuples m)) (second_false (TooManySets (limits.told (length (choices m)))) (TooManyTuples (limits.told (length (demanded_tuples m)))) (nat_lt (2 ^ 20) (length (choices m))) (nat_lt (2 ^ 26) (length (demanded_tuples m))) (within plans)) in
+      let few = ltb-false (2 ^ 26) (length (demanded_tuples m))
+      (second_false (TooManySets (limits.told (length (choices m)))) (TooManyTuples (limits.told (length (demanded_tuples m))))
+      (nat_lt (2 ^ 20) (length (choices m))) (nat_lt (2 ^ 26) (length (demanded_tuples m))) (within plans)) in
       omega (arith, few)
 
   abbrev sound_proof : makes_plan (mode_of s) ≡ true → (s.form ≡ 1) ⊎ (s.form ≡ 2) → (bytes : List ℕ) → IsProof s seed m seeds bytes
@@ -159,7 +163,8 @@ module _ (s : Settings) (seed : ℕ) (m : ModelView) (source : RowSource) (notes
   pub prints_covering : (s.form ≡ 1) ⊎ (s.form ≡ 2) → prints_rows s ≡ true → (before : List ℕ) → start.out ≡ Some before
       → IsSomeAnd after.out (PrintsCovering m s.form (told_proof s after.files) before)
   prints_covering known is before out =
-      added (CoversOrRefutes m s.form (told_proof s after.files)) m pref seeds before after.out runs.sound orders (covers (report_plans (mode_of s) is) (told_proof s after.files) proof_told known) (put is before out)
+      added (CoversOrRefutes m s.form (told_proof s after.files)) m pref seeds before after.out runs.sound orders
+      (covers (report_plans (mode_of s) is) (told_proof s after.files) proof_told known) (put is before out)
 
   pub prints_few_rows : prints_rows s ≡ true → (before : List ℕ) → start.out ≡ Some before → IsSomeAnd after.out (PrintsFewRows m (length (seeds_kept s m source)) before)
   prints_few_rows is before out =

@@ -67,7 +67,8 @@ module _ (s : Settings) (seed : ℕ) (name : List ℕ) (n : ℕ) (is : s.make �
   from_made : (held : Option (List ℕ)) (source : RowSource) (notes row_notes : List Note) (before after : Moment) (end : Result (Unit {0}) Stop)
       → EndsFrom (Some n) name (λ start. Ends s seed held source notes row_notes start after end) notes row_notes before after end
       → EndsFrom s.make name (λ start. Ends s seed held source notes row_notes start after end) notes row_notes before after end
-  from_made held source notes row_notes before after end = subst (λ make. EndsFrom make name (λ start. Ends s seed held source notes row_notes start after end) notes row_notes before after end) (sym is)
+  from_made held source notes row_notes before after end =
+      subst (λ make. EndsFrom make name (λ start. Ends s seed held source notes row_notes start after end) notes row_notes before after end) (sym is)
 
   leaves_written : (before start after : Moment) (end : End) → Writes name (made_text n) before start → Leaves s name start after end → LeavesAll s name before after end
   leaves_written before start after end written left = record {

@@ -1,5 +1,6 @@
 -- The text of a proof, omission by omission.
-use Rattle.std.proofs.Common.{◌≡◌, ℕ, ◌+◌, ◌^◌, ◌<◌, ◌≤◌, List, [], ◌∷◌, ◌++◌, map, length, get_or, take, drop, ◌∙◌, sym, ap, arith, append_assoc, length-append}
+use Rattle.std.proofs.Common.{◌≡◌, ℕ, ◌+◌, ◌^◌, ◌<◌, ◌≤◌, List, [], ◌∷◌, ◌++◌, map, length, get_or}
+use Rattle.std.proofs.Common.{take, drop, ◌∙◌, sym, ap, arith, append_assoc, length-append}
 use Rattle.std.specs.List.{flat_map}
 use Rattle.std.proofs.lemmas.List.{append-nil, map-append, take-append-drop, take_more}
 use Rattle.std.proofs.lemmas.List.Concat.{flat_map-append}
@@ -19,7 +20,8 @@ written-more form omissions i d within =
     let split : map omission_meant (take (i + 1) omissions) ≡ before ++ last ∷ [] =
     ap (map omission_meant) (take_more omissions i d within) ∙ map-append omission_meant (take i omissions) (get_or omissions i d ∷ []) in
     ap (λ os. format_line (format_of form) ++ flat_map omission_line os) split
-    ∙ ap (λ text. format_line (format_of form) ++ text) (flat_map-append omission_line before (last ∷ []) ∙ ap (λ text. flat_map omission_line before ++ text) (append-nil (omission_line last)))
+    ∙ ap (λ text. format_line (format_of form) ++ text)
+    (flat_map-append omission_line before (last ∷ []) ∙ ap (λ text. flat_map omission_line before ++ text) (append-nil (omission_line last)))
     ∙ sym (append_assoc (format_line (format_of form)) (flat_map omission_line before) (omission_line last))
 
 -- it has a byte

@@ -20,7 +20,8 @@ use Rattle.command_line.specs.Words.{opts_of}
 use Rattle.command_line.specs.declared.files.FileKind.{FileKind}
 use Rattle.command_line.specs.declared.files.FileKind.TheVariants as kinds
 use Rattle.command_line.specs.declared.stop.Stop.{Stop}
-use Rattle.command_line.specs.declared.stop.Stop.TheVariants.{OutOfMemory, Spent, BadWord, BadModel, BadConstraint, BadRows, NoResult, BadResult, CannotRead, CannotWrite, CannotWriteReport, TooMany, TooLong}
+use Rattle.command_line.specs.declared.stop.Stop.TheVariants.{OutOfMemory, Spent, BadWord, BadModel, BadConstraint, BadRows, NoResult}
+use Rattle.command_line.specs.declared.stop.Stop.TheVariants.{BadResult, CannotRead, CannotWrite, CannotWriteReport, TooMany, TooLong}
 use Rattle.pict_cli.specs.declared.options.Opts.{Opts}
 use Rattle.pict_cli.specs.Ends.{CountsOut, CountsWrites, End, IsEarly, IsQuiet, Misworded, Moment, StaysStill, Stopped, Unprinted, Unread, Unwritten, Whole, end_of}
 use Rattle.pict_cli.specs.Modes.{RowSource, is_report, makes_suite, mode_beside, mode_in, mode_of, model_source, output_of, prints_rows, row_source}
@@ -275,7 +276,8 @@ module _ {s : Settings} {seed : ℕ} {name : List ℕ} {start after : Moment} {n
       → HasModel (opts_of s) held (λ m noted. (before : List ℕ) → start.out ≡ Some before → IsSomeAnd after.out (PrintsAccepted m s.form proof before))
   accepted_whole known is proof told = whole _ (λ begun same m runs before out. prints_accepted s seed m source row_notes begun after runs known is proof told before (same ∙ out))
 
-  pub proof_whole : (unproved : makes_suite (mode_of s) ≡ false → s.proof ≡ None) (known : (s.form ≡ 1) ⊎ (s.form ≡ 2)) (proof : Option (List ℕ)) → told_proof s after.files ≡ Some proof → end_status end ≡ 0
+  pub proof_whole : (unproved : makes_suite (mode_of s) ≡ false → s.proof ≡ None) (known : (s.form ≡ 1) ⊎ (s.form ≡ 2)) (proof : Option (List ℕ))
+      → told_proof s after.files ≡ Some proof → end_status end ≡ 0
       → HasModel (opts_of s) held (λ m noted. HoldsWholeProof s seed m (rows_of_run s m source) proof)
   proof_whole unproved known proof told = whole _ (λ begun same m runs. holds_whole_proof s seed m source row_notes begun after runs unproved known proof told)
 

@@ -75,7 +75,8 @@ results_refused m bytes (faults.Rows (rows_faults.Missing p)) short is = is_refu
 results_refused m bytes (faults.Rows (rows_faults.TooManyRows count)) short is = is_refused (read_within m bytes short ∙ ap or_result_stop is)
 results_refused m bytes (faults.Rows (rows_faults.Width line)) short is = is_refused (read_within m bytes short ∙ ap or_result_stop is)
 
-pub results_read : (m : ModelView) (bytes : List ℕ) (file : ResultFile) → length bytes ≤ most_bytes RowFile → (read : ResultReading) → read_results m bytes ≡ Ok read → HoldsResults file read
+pub results_read : (m : ModelView) (bytes : List ℕ) (file : ResultFile) → length bytes ≤ most_bytes RowFile
+    → (read : ResultReading) → read_results m bytes ≡ Ok read → HoldsResults file read
     → HoldsResultsOf m (RowsHeld (Some bytes)) file
 results_read m bytes file short read is holds = record { reading = read; read = read_within m bytes short ∙ ap or_result_stop is; holds = holds }
 

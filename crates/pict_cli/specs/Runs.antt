@@ -1,7 +1,8 @@
 -- What a run of `pict` does with the bytes of a model file and of a row file. (PICT's guide for what is printed; the
 -- steps, their order and their statuses are this project's rules.)
 use Rattle.std.specs.List.{Any, list_any}
-use Rattle.std.specs.Prelude.{◌≡◌, true, ℕ, ◌≤◌, ◌⊎◌, List, [], ◌∷◌, ◌==◌, ◌++◌, length, take, map, Option, Some, None, Result, Ok, Err, option_map, IsSomeAnd, IsErrAnd, IfSome, All, unwrap_or, option_and_then, nat_lt, if◌then◌else◌}
+use Rattle.std.specs.Prelude.{◌≡◌, true, ℕ, ◌≤◌, ◌⊎◌, List, [], ◌∷◌, ◌==◌, ◌++◌, length, take, map, Option, Some, None, Result, Ok}
+use Rattle.std.specs.Prelude.{Err, option_map, IsSomeAnd, IsErrAnd, IfSome, All, unwrap_or, option_and_then, nat_lt, if◌then◌else◌}
 use Rattle.std.specs.Option.{option_or}
 use Rattle.outside_io.specs.Files.{Files, HoldsOldOrPrefix, KeepsFiles}
 use Rattle.cov_model.specs.Sound.{ModelView, IsSound}

@@ -51,10 +51,13 @@ pub(crate) fn load_rows<F: Folder>(
     model: &TestModel,
     files: &mut F,
 ) -> Result<RowFile, Stop>
-    ensures rows { IfOk result (λ file. (source : RowSource) → source_in (option_map (λ file. file.now) name.entry) (F.file files.old) ≡ Some source → HoldsRows model.now (mode_seen mode) source file) }
+    ensures rows { IfOk result (λ file. (source : RowSource) → source_in (option_map (λ file. file.now) name.entry) (F.file files.old) ≡ Some source →
+        HoldsRows model.now (mode_seen mode) source file) }
     ensures fit { IfOk result (IsFileOf model.now) }
-    ensures stops { IfErr result (λ stop. (source : RowSource) → source_in (option_map (λ file. file.now) name.entry) (F.file files.old) ≡ Some source → StopsRows (read_row_bytes model.now (mode_seen mode)) source stop) }
-    ensures cannot_read { result ≡ Err (Stop.CannotRead FileKind.Rows) → IsSomeAnd (option_map (λ file. file.now) name.entry) (λ file. Rose (F.read_faults files.old file) (F.read_faults files.new file)) }
+    ensures stops { IfErr result (λ stop. (source : RowSource) → source_in (option_map (λ file. file.now) name.entry) (F.file files.old) ≡ Some source →
+        StopsRows (read_row_bytes model.now (mode_seen mode)) source stop) }
+    ensures cannot_read { result ≡ Err (Stop.CannotRead FileKind.Rows) →
+        IsSomeAnd (option_map (λ file. file.now) name.entry) (λ file. Rose (F.read_faults files.old file) (F.read_faults files.new file)) }
     ensures no_fault { result ≢ Err (Stop.CannotRead FileKind.Rows) → KeepsCounts (F.read_faults files.old) (F.read_faults files.new) }
     ensures other { IfErr result IsOfRows }
     ensures files { KeepsFiles (F.file files.old) (F.file files.new) }

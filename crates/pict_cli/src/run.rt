@@ -14,7 +14,8 @@ ghost use Rattle.pict_cli.specs.Ends.{KeepsOthers, KeepsUnwritten, Leaves, end_o
 ghost use Rattle.pict_cli.specs.Modes.{RowSource, RowsHeld, prints_rows, row_source};
 ghost use Rattle.pict_cli.specs.Options.{settings_seen};
 ghost use Rattle.pict_cli.specs.Ranges.{FitRun};
-ghost use Rattle.pict_cli.specs.Runs.{HasModel, HoldsWholeProof, IsRun, IsStatus, PrintsAccepted, PrintsCovering, PrintsFewRows, PrintsSeeds, RunsModel, fault_status, limit_due, rows_of_run, seeds_kept, stop_due, told_proof, used_seed};
+ghost use Rattle.pict_cli.specs.Runs.{HasModel, HoldsWholeProof, IsRun, IsStatus, PrintsAccepted, PrintsCovering, PrintsFewRows, PrintsSeeds};
+ghost use Rattle.pict_cli.specs.Runs.{RunsModel, fault_status, limit_due, rows_of_run, seeds_kept, stop_due, told_proof, used_seed};
 ghost use Rattle.pict_cli.specs.Steps.{HoldsMade, Ran, RanOn};
 ghost use Rattle.pict_cli.specs.Words.{GetsModelCalmly, IsGiven, IsSpelled, IsWordFault, ReadsCalmly, WritesCalmly, asked_by, file_to_read, file_to_write, model_file};
 
@@ -242,7 +243,8 @@ pub fn run_pict<R: Threads + Sync, F: Folder, O: Sink, E: Sink>(
         IsSomeAnd (O.written out.new) (PrintsSeeds m (seeds_kept s m source) before)) }
 
     // The printed rows and the proof file are accepted, with their numbers of rows and of omissions.
-    ensures accepted { result ≡ 0 → (s : Settings) (held after : Option (List ℕ)) (source : RowSource) → IsGiven (texts words.now) (F.file files.old) s held source → prints_rows s ≡ true →
+    ensures accepted { result ≡ 0 → (s : Settings) (held after : Option (List ℕ)) (source : RowSource) →
+        IsGiven (texts words.now) (F.file files.old) s held source → prints_rows s ≡ true →
         told_proof s (F.file files.new) ≡ Some after → HasModel (opts_of s) held (λ m notes. (before : List ℕ) → O.written out.old ≡ Some before →
         IsSomeAnd (O.written out.new) (PrintsAccepted m s.form after before)) }
 

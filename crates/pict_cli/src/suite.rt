@@ -105,7 +105,9 @@ pub(crate) fn make_suite<R: Threads + Sync>(
     ensures turns { IfOk result (λ ready. AreMadeFor model.now ready.turns) }
     ensures answered { OnOk result (growth_over (settings_seen opts.now) seed_word model.now (seeds_seen seeds.now) ≡ None) }
     ensures notes { OnOk result (notes.new ≡ notes.old ++ dropped_notes model.now (seeds_seen seeds.now)) }
-    ensures stops { IfErr result (StopsWork (option_map (spent_on (settings_seen opts.now)) (growth_over (settings_seen opts.now) seed_word model.now (seeds_seen seeds.now))) (dropped_notes model.now (seeds_seen seeds.now)) notes.old notes.new) }
+    ensures stops { IfErr result (StopsWork
+        (option_map (spent_on (settings_seen opts.now)) (growth_over (settings_seen opts.now) seed_word model.now (seeds_seen seeds.now)))
+        (dropped_notes model.now (seeds_seen seeds.now)) notes.old notes.new) }
     ensures early { IfErr result (λ stop. end_of (Err stop) ≡ Stopped) }
 {
     let suite = grow(rt, alloc, model, plan, seeds, opts, seed_word)?;

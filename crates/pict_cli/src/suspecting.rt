@@ -72,7 +72,8 @@ pub(crate) fn run_suspecting<F: Folder, O: Sink>(
     requires fit { FitRun (settings_seen opts.now) }
     requires mode { mode_of (settings_seen opts.now) ≡ Suspect name.now }
     requires none { row_notes.old ≡ [] }
-    ensures runs { (seed : ℕ) (source : RowSource) → row_source (settings_seen opts.now) (F.file files.old) ≡ Some source → RunsModel (settings_seen opts.now) seed model.now source row_notes.new
+    ensures runs { (seed : ℕ) (source : RowSource) → row_source (settings_seen opts.now) (F.file files.old) ≡ Some source →
+        RunsModel (settings_seen opts.now) seed model.now source row_notes.new
         (moment (F.file files.old) (F.read_faults files.old) (F.write_faults files.old) (O.written out.old) (O.faults out.old))
         (moment (F.file files.new) (F.read_faults files.new) (F.write_faults files.new) (O.written out.new) (O.faults out.new)) result }
     ensures leaves { (name : List ℕ) → Leaves (settings_seen opts.now) name (moment (F.file files.old) (F.read_faults files.old) (F.write_faults files.old) (O.written out.old) (O.faults out.old))

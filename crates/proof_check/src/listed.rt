@@ -15,16 +15,24 @@ use bit_table::BitTable;
 use cov_model::{ParamNo, TestModel, Tuple, ValueNo};
 use refutation::Omissions;
 use shared_marks::count_tuples;
+use smallvec::SmallVec;
 use std::alloc::Global;
 use std::cmp::Ordering;
 use tuple_index::Plan;
 use value_text::NoMemory;
 
+/// Where a demanded tuple stands: the number of its set, and its place among all demanded tuples.
+#[derive(Drop, Clone, Copy)]
+struct DemandedPlace {
+    set: u32,
+    place: u32,
+}
+
 // The parameters of a tuple.
-fn params_of(alloc: Global, tuple: &Tuple) -> Result<Vec<ParamNo>, NoMemory>
+fn params_of(alloc: Global, tuple: &Tuple) -> Result<SmallVec<ParamNo, 8>, NoMemory>
     ensures { IfOk result (λ params. params.items ≡ map (λ pair. pair.0) tuple.now) }
 {
-    let mut params = Vec::new(alloc);
+    let mut params = SmallVec::new(alloc);
     for pair in tuple.as_slice() {
         params.push(pair.0)?;
     }
@@ -32,10 +40,10 @@ fn params_of(alloc: Global, tuple: &Tuple) -> Result<Vec<ParamNo>, NoMemory>
 }
 
 // Their values.
-fn values_of(alloc: Global, tuple: &Tuple) -> Result<Vec<ValueNo>, NoMemory>
+fn values_of(alloc: Global, tuple: &Tuple) -> Result<SmallVec<ValueNo, 8>, NoMemory>
     ensures { IfOk result (λ values. values.items ≡ map (λ pair. pair.1) tuple.now) }
 {
-    let mut values = Vec::new(alloc);
+    let mut values = SmallVec::new(alloc);
     for pair in tuple.as_slice() {
         values.push(pair.1)?;
     }
@@ -85,50 +93,67 @@ fn find_set(plan: &Plan, params: &[ParamNo]) -> Option<u32>
     None
 }
 
+// The same, which is looked for first at the number of a set that may be it.
+fn find_near(plan: &Plan, params: &[ParamNo], near: u32) -> Option<u32>
+    requires { IsStrictlySortedBy (slice_cmp nat_cmp) plan.now.sets }
+    ensures { MatchOption result ((set : ℕ) → set < length plan.now.sets → set_at plan.now set ≢ params.now)
+        (λ set. (set < length plan.now.sets) × (set_at plan.now set ≡ params.now)) }
+{
+    if near < plan.set_count() && plan.members(near) == params {
+        return Some(near);
+    }
+    find_set(plan, params)
+}
+
 // The place of a tuple among the demanded ones, if it is one of them. A demanded tuple has at most one
-// negative value.
+// negative value. Its set is looked for near the one of this number.
 fn place_of(
     alloc: Global,
     model: &TestModel,
     plan: &Plan,
     tuple: &Tuple,
-) -> Result<Option<u32>, NoMemory>
+    near: u32,
+) -> Result<Option<DemandedPlace>, NoMemory>
     requires plan { plan.now ≡ plan_of model.now }
     requires of_model { AreOfModel model.now tuple.now }
     ensures { IfOk result (λ found. MatchOption found (LacksPlace model.now (cells_of (length model.now.params) tuple.now))
-        (IsPlaceOf model.now (cells_of (length model.now.params) tuple.now))) }
+        (λ at. IsPlaceOf model.now (cells_of (length model.now.params) tuple.now) at.place)) }
 {
     plan.assert_invariant();
     // brings into the proof that the parameters rise
     let _pairs = tuple.as_slice();
     let params = params_of(alloc, tuple)?;
-    let Some(set) = find_set(plan, &params) else {
+    let Some(set) = find_near(plan, params.as_slice(), near) else {
         return Ok(None);
     };
     if count_negatives(model, tuple) > 1 {
         return Ok(None);
     }
     let values = values_of(alloc, tuple)?;
-    Ok(Some(plan.base(set) + plan.rank(set, &values)))
+    let place = plan.base(set) + plan.rank(set, values.as_slice());
+    Ok(Some(DemandedPlace { set, place }))
 }
 
-// Takes away the mark of an omitted tuple, if it is demanded.
+// Takes away the mark of an omitted tuple, if it is demanded. Its set is looked for near the one of this
+// number; the answer is its own number, near which the next one may be.
 fn clear_one(
     alloc: Global,
     model: &TestModel,
     plan: &Plan,
     tuple: &Tuple,
+    near: u32,
     left: &mut BitTable,
-) -> Result<(), NoMemory>
+) -> Result<u32, NoMemory>
     requires plan { plan.now ≡ plan_of model.now }
     requires of_model { AreOfModel model.now tuple.now }
     requires long { length left.old ≡ length (demanded_tuples model.now) }
     ensures { OnOk result (Clears model.now (cells_of (length model.now.params) tuple.now) left.old left.new) }
 {
-    if let Some(place) = place_of(alloc, model, plan, tuple)? {
-        left.clear(place);
-    }
-    Ok(())
+    let Some(found) = place_of(alloc, model, plan, tuple, near)? else {
+        return Ok(near);
+    };
+    left.clear(found.place);
+    Ok(found.set)
 }
 
 /// Marks on the demanded tuples, at the place of each that no omission of a proof lists. The place of a tuple
@@ -148,8 +173,10 @@ pub fn mark_unlisted(
     ensures { IfOk result (AreLeft model.now proof.now.omissions) }
 {
     let mut left = BitTable::all_set(alloc, count_tuples(plan))?;
+    // the omissions of a set mostly stand one after another
+    let mut near = 0;
     for omission in proof.as_slice() {
-        clear_one(alloc, model, plan, &omission.tuple, &mut left)?;
+        near = clear_one(alloc, model, plan, &omission.tuple, near, &mut left)?;
     }
     Ok(left)
 }

@@ -6,7 +6,7 @@ ghost use Rattle.refutation.specs.Proofs.{format_of};
 ghost use Rattle.refutation.specs.Reading.{omissions_meant};
 
 use cov_model::{Cells, TestModel};
-use refutation::{Omissions, tree_ok};
+use refutation::{Omissions, TreeChecker};
 use std::alloc::Global;
 use value_text::NoMemory;
 
@@ -15,7 +15,7 @@ use value_text::NoMemory;
 ///
 /// # Errors
 ///
-/// `NoMemory` where there is no room for one row.
+/// `NoMemory` where there is no room for one row, or for what the trees are checked with.
 pub fn first_bad_tree(
     alloc: Global,
     model: &TestModel,
@@ -25,11 +25,11 @@ pub fn first_bad_tree(
     requires few { length proof.now.omissions ≤ 2 ^ 28 }
     ensures { IfOk result (λ found. found ≡ first_unrefuted model.now (format_of proof.now.form) [] 2 (as_cells model.now (omissions_meant proof.now.omissions))) }
 {
+    let checker = TreeChecker::new(alloc, model, proof)?;
     let mut scratch = Cells::empty(alloc, model.params().len())?;
     for (i, omission) in proof.as_slice().iter().enumerate() {
         let before = i as u32;
-        if !tree_ok(
-            model,
+        if !checker.refutes(
             &omission.tuple,
             omission.tree.as_slice(),
             proof,

@@ -4,7 +4,7 @@ ghost use Rattle.refutation.specs.Checking.{AreOfModel};
 
 use crate::proofs::proof_of;
 use cov_model::{Cells, TestModel};
-use refutation::{Omissions, tree_ok};
+use refutation::{Omissions, TreeChecker, tree_ok};
 use std::alloc::Global;
 use test_models::model_of;
 
@@ -142,5 +142,62 @@ fn negative_values_have_to_be_cited(rt: HostRuntime) {
     for (lines, expected) in CITED_NEGATIVES {
         let refutes = refutes(rt.alloc(), NEGATIVE, "pict-proof 2\n", lines);
         assert!(rt; refutes == Some(*expected), "{lines}");
+    }
+}
+
+// Lines for the first model with fifteen leaves by constraints. Its terms have as many truths at their values, so a
+// checker has the constraints compiled.
+const FIFTEEN_LEAVES: &str =
+    "pict-proof 1\nomit 0=0 1=0 : B2 L1 L2 L3\nomit 0=0 1=0 : B2 L1 L2 L3\n\
+    omit 0=0 1=0 : B2 L1 L2 L3\nomit 0=0 1=1 : B2 L1 L2 L3\nomit 0=0 1=1 : B2 L1 L2 L3\n";
+
+// Whether a checker says that the tree of the last omission refutes its tuple after those before it; nothing where
+// there is no omission, or memory was refused.
+fn checker_says(alloc: Global, model: &TestModel, proof: &Omissions) -> Option<bool>
+    requires of_model { All (λ omission. AreOfModel model.now omission.tuple) proof.now.omissions }
+    requires few { length proof.now.omissions ≤ 2 ^ 20 }
+{
+    let [front @ .., last] = proof.as_slice() else {
+        return None;
+    };
+    let Ok(checker) = TreeChecker::new(alloc, model, proof) else {
+        return None;
+    };
+    let Ok(mut scratch) = Cells::empty(alloc, model.params().len()) else {
+        return None;
+    };
+    let before = front.len() as u32;
+    Some(checker.refutes(
+        &last.tuple,
+        last.tree.as_slice(),
+        proof,
+        before,
+        &mut scratch,
+    ))
+}
+
+// The same of a line for the first model, behind others.
+fn checker_says_behind(alloc: Global, text: &str, line: &str) -> Option<bool> {
+    let Ok(model) = model_of(alloc, BARRED) else {
+        return None;
+    };
+    let Ok(file) = format!(in alloc; "{text}{line}") else {
+        return None;
+    };
+    match proof_of(alloc, &model, file.as_str()) {
+        Ok(proof) => checker_says(alloc, &model, &proof),
+        Err(_) => None,
+    }
+}
+
+#[test]
+fn a_checker_says_the_same(rt: HostRuntime) {
+    for (model, line, expected) in TREES {
+        if *model == BARRED {
+            let plain = checker_says_behind(rt.alloc(), "pict-proof 1\n", line);
+            assert!(rt; plain == Some(*expected), "{line}");
+            let compiled = checker_says_behind(rt.alloc(), FIFTEEN_LEAVES, line);
+            assert!(rt; compiled == Some(*expected), "{line}");
+        }
     }
 }

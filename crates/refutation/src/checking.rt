@@ -8,6 +8,7 @@ ghost use Rattle.definitions.specs.Refutation.{is_negative_leaf, refutes};
 ghost use Rattle.refutation.specs.Checking.{AreOfModel, BeginsWithTrees, LacksTrees, tuple_in, tuples_of};
 ghost use Rattle.refutation.specs.Proofs.{format_of, meant};
 
+use crate::checker::TreeChecker;
 use crate::omissions::Omissions;
 use crate::pairs::{clear, set_all};
 use crate::token::TreeToken;
@@ -116,9 +117,37 @@ impl<'a> TreeCheck<'a> {
     }
 }
 
-/// Whether the tokens of a tree refute a tuple after the first `before` omissions of a proof, in its
-/// format (this project's rule; the trees are those of a search). The tuples have to be of the model,
-/// and the scratch cells as many as its parameters; of the tokens nothing is asked. Takes no memory.
+impl<'a> TreeChecker<'a> {
+    /// Whether the tokens of a tree refute a tuple after the first `before` omissions of a proof, in its
+    /// format (this project's rule; the trees are those of a search). The tuples have to be of the model,
+    /// and the scratch cells as many as its parameters; of the tokens nothing is asked. Takes no memory.
+    pub fn refutes(
+        &self,
+        tuple: &Tuple,
+        tree: &[TreeToken],
+        earlier: &Omissions,
+        before: u32,
+        scratch: &mut Cells,
+    ) -> bool
+        requires within { before ≤ length earlier.now.omissions }
+        requires tuple { AreOfModel self.now tuple.now }
+        requires earlier { All (λ omission. AreOfModel self.now omission.tuple) earlier.now.omissions }
+        requires long { length scratch.old ≡ length self.now.params }
+        ensures refutes { result ≡ refutes self.now (format_of earlier.now.form) (tuples_of self.now (take before earlier.now.omissions))
+            (cells_of (length self.now.params) tuple.now) (map meant tree.now) }
+        ensures long { length scratch.new ≡ length scratch.old }
+    {
+        let check = TreeCheck::new(self, tuple, earlier, before);
+        check.begin(scratch);
+        match check.after_tree(tree, scratch, false) {
+            Some(rest) => rest.is_empty(),
+            None => false,
+        }
+    }
+}
+
+/// Whether the tokens of a tree refute a tuple after the first `before` omissions of a proof, as
+/// `TreeChecker::refutes` tells. Takes no memory.
 pub fn tree_ok(
     model: &TestModel,
     tuple: &Tuple,
@@ -135,10 +164,5 @@ pub fn tree_ok(
         (cells_of (length model.now.params) tuple.now) (map meant tree.now) }
     ensures long { length scratch.new ≡ length scratch.old }
 {
-    let check = TreeCheck::new(model, tuple, earlier, before);
-    check.begin(scratch);
-    match check.after_tree(tree, scratch, false) {
-        Some(rest) => rest.is_empty(),
-        None => false,
-    }
+    TreeChecker::plain(model).refutes(tuple, tree, earlier, before, scratch)
 }

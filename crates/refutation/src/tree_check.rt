@@ -12,16 +12,17 @@ ghost use Rattle.definitions.specs.Search.{is_no};
 ghost use Rattle.refutation.specs.Checking.{AreOfModel, earlier_in, has_param, has_rule, tuple_in, tuples_of};
 ghost use Rattle.refutation.specs.Proofs.{format_of};
 
+use crate::checker::TreeChecker;
 use crate::omissions::{Omission, Omissions, ProofForm};
 use crate::pairs::{gives_all, has_param};
-use cov_model::{Cells, ParamNo, TestModel, Truth, Tuple, ValueNo};
+use cov_model::{Cells, ParamNo, TestModel, Tuple, ValueNo};
 use std::marker::Model;
 
 /// What a tree is checked against: a model, the format of the proof, the omissions that may be cited,
 /// and the tuple that the tree has to refute.
 #[derive(Drop)]
 pub(crate) struct TreeCheck<'a> {
-    model: &'a TestModel,
+    checker: &'a TreeChecker<'a>,
     form: ProofForm,
     earlier: &'a [Omission],
     tuple: &'a Tuple,
@@ -36,9 +37,9 @@ impl<'a> Model for TreeCheck<'a> {
 
     ghost coded = { Prim.hlevel (codes, tested.the_row.coded) };
 
-    ghost view = { λ a. record { model = a.model.now; form = a.form; earlier = a.earlier.now; tuple = a.tuple.now } };
+    ghost view = { λ a. record { model = a.checker.now; form = a.form; earlier = a.earlier.now; tuple = a.tuple.now } };
 
-    ghost invariant = { λ a. IsCheck (record { model = a.model.now; form = a.form; earlier = a.earlier.now; tuple = a.tuple.now }) };
+    ghost invariant = { λ a. IsCheck (record { model = a.checker.now; form = a.form; earlier = a.earlier.now; tuple = a.tuple.now }) };
 }
 
 // Whether there is a constraint of this number.
@@ -67,18 +68,18 @@ fn cited(omissions: &[Omission], number: u32) -> Option<&Tuple>
 impl<'a> TreeCheck<'a> {
     // What a tree for the tuple is checked against, behind the first `before` of the earlier omissions.
     pub(crate) fn new(
-        model: &'a TestModel,
+        checker: &'a TreeChecker<'a>,
         tuple: &'a Tuple,
         earlier: &'a Omissions,
         before: u32,
     ) -> TreeCheck<'a>
         requires within { before ≤ length earlier.now.omissions }
-        requires tuple { AreOfModel model.now tuple.now }
-        requires earlier { All (λ omission. AreOfModel model.now omission.tuple) earlier.now.omissions }
-        ensures { result ≡ record { model = model.now; form = earlier.now.form; earlier = take before earlier.now.omissions; tuple = tuple.now } }
+        requires tuple { AreOfModel checker.now tuple.now }
+        requires earlier { All (λ omission. AreOfModel checker.now omission.tuple) earlier.now.omissions }
+        ensures { result ≡ record { model = checker.now; form = earlier.now.form; earlier = take before earlier.now.omissions; tuple = tuple.now } }
     {
         TreeCheck {
-            model,
+            checker,
             form: earlier.form(),
             earlier: &earlier.as_slice()[..before as usize],
             tuple,
@@ -89,7 +90,7 @@ impl<'a> TreeCheck<'a> {
     pub(crate) fn model(&self) -> &'a TestModel
         ensures { result.now ≡ self.now.model }
     {
-        self.model
+        self.checker.model()
     }
 
     // The format of the proof.
@@ -148,7 +149,7 @@ impl<'a> TreeCheck<'a> {
         requires fits { FitsModel self.now.model path.now }
         ensures { result ≡ is_no (body_truth self.now.model (rule_at self.now.model rule).body path.now) }
     {
-        self.model().eval(rule, path) == Truth::No
+        self.checker.is_no(rule, path)
     }
 
     // Whether the constraint of this number exists and is No on the path.

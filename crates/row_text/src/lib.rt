@@ -5,6 +5,7 @@
 //! - `read_rows` reads a row file, in one of two modes: exactly the partial rows and the notes of its bytes, or
 //!   the first fault. `RowFile` is what it holds: partial rows, each with its line, and notes.
 //!
+//! - `is_complete` tells whether a partial row gives every parameter a value.
 //! - `FilledLines` and `LineCells` cut a row file into lines and cells, and `LinesOut` writes short texts; the readers
 //!   and writers here stand on them, and so may others.
 //!
@@ -12,6 +13,7 @@
 //! `NoMemory`, no call takes memory.
 #![tactic(auto)]
 
+mod complete;
 mod cuts;
 mod figures;
 mod file_rows;
@@ -30,6 +32,7 @@ mod rows_fault;
 mod text_numbers;
 mod turns;
 
+pub use complete::is_complete;
 pub use figures::{Figures, Stats};
 pub use filled_lines::{FilledLine, FilledLines};
 pub use line_cells::LineCells;

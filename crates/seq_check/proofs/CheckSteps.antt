@@ -1,5 +1,6 @@
 -- The steps of the check of a report.
-use Rattle.std.proofs.Common.{◌≡◌, ℕ, ◌+◌, ◌^◌, ◌<◌, ◌≤◌, Bool, true, false, not, ◌&&◌, ◌||◌, List, [], ◌∷◌, ◌++◌, length, map, Option, Some, None, position, cond, nat_lt, All, refl, sym, ap, subst, ◌∙◌, arith, append_assoc, length-append}
+use Rattle.std.proofs.Common.{◌≡◌, ℕ, ◌+◌, ◌^◌, ◌<◌, ◌≤◌, Bool, true, false, not, ◌&&◌, ◌||◌, List, [], ◌∷◌, ◌++◌, length, map, Option}
+use Rattle.std.proofs.Common.{Some, None, position, cond, nat_lt, All, refl, sym, ap, subst, ◌∙◌, arith, append_assoc, length-append}
 use Rattle.std.specs.List.{find, list_any, position_or_len}
 use Rattle.std.specs.Str.{bytes_eq}
 use Rattle.std.proofs.lemmas.Bool.{and_parts, eqb-true, lt-ltb, le-ltb, ltb-true}
@@ -35,13 +36,15 @@ closed_never false false false = refl
 pub left_by_row : (lines : List ReportLine) (order sequence : List ℕ) → is_left (lines ++ Row order ∷ []) sequence ≡ (is_left lines sequence && not (has order sequence))
 left_by_row lines order sequence =
     ap (λ rows. not (is_had rows sequence) && not (list_any (bytes_eq sequence) (nevers_in (lines ++ Row order ∷ [])))) (filter_map-append row_named lines (Row order ∷ []))
-    ∙ ap (λ nevers. not (is_had (rows_in lines ++ order ∷ []) sequence) && not (list_any (bytes_eq sequence) nevers)) (filter_map-append never_named lines (Row order ∷ []) ∙ append-nil (nevers_in lines))
+    ∙ ap (λ nevers. not (is_had (rows_in lines ++ order ∷ []) sequence) && not (list_any (bytes_eq sequence) nevers))
+    (filter_map-append never_named lines (Row order ∷ []) ∙ append-nil (nevers_in lines))
     ∙ ap (λ t. not t && not (list_any (bytes_eq sequence) (nevers_in lines))) (list_any-append (λ o. has o sequence) (rows_in lines) (order ∷ []))
     ∙ closed_row (is_had (rows_in lines) sequence) (list_any (bytes_eq sequence) (nevers_in lines)) (has order sequence)
 
 pub left_by_never : (lines : List ReportLine) (named sequence : List ℕ) → is_left (lines ++ Never named ∷ []) sequence ≡ (is_left lines sequence && not (bytes_eq sequence named))
 left_by_never lines named sequence =
-    ap (λ rows. not (is_had rows sequence) && not (list_any (bytes_eq sequence) (nevers_in (lines ++ Never named ∷ [])))) (filter_map-append row_named lines (Never named ∷ []) ∙ append-nil (rows_in lines))
+    ap (λ rows. not (is_had rows sequence) && not (list_any (bytes_eq sequence) (nevers_in (lines ++ Never named ∷ []))))
+    (filter_map-append row_named lines (Never named ∷ []) ∙ append-nil (rows_in lines))
     ∙ ap (λ nevers. not (is_had (rows_in lines) sequence) && not (list_any (bytes_eq sequence) nevers)) (filter_map-append never_named lines (Never named ∷ []))
     ∙ ap (λ t. not (is_had (rows_in lines) sequence) && not t) (list_any-append (bytes_eq sequence) (nevers_in lines) (named ∷ []))
     ∙ closed_never (is_had (rows_in lines) sequence) (list_any (bytes_eq sequence) (nevers_in lines)) (bytes_eq sequence named)
@@ -95,7 +98,8 @@ module _ (e : EventsView) (report : List ℕ) (kept : AreEvents e) where
     few = omega arith;
   }
 
-  module _ (o : OpenView) (line rows omissions : ℕ) (rest text behind : List ℕ) (here : Checked e report o line rows omissions rest) (cut : report_lines rest ≡ text ∷ report_lines behind) (shorter : length behind < length rest) where
+  module _ {o : OpenView} {line rows omissions : ℕ} {rest text : List ℕ} (behind : List ℕ) (here : Checked e report o line rows omissions rest)
+      (cut : report_lines rest ≡ text ∷ report_lines behind) (shorter : length behind < length rest) where
     joined : map (report_line_of e) (report_lines report) ≡ (here.lines ++ report_line_of e text ∷ []) ++ map (report_line_of e) (report_lines behind)
     joined = here.whole ∙ ap (λ l. here.lines ++ map (report_line_of e) l) cut ∙ sym (append_assoc here.lines (report_line_of e text ∷ []) (map (report_line_of e) (report_lines behind)))
 
@@ -160,15 +164,17 @@ module _ (e : EventsView) (report : List ℕ) (kept : AreEvents e) where
         let whole = joined ∙ ap (λ l. (lines ++ l ∷ []) ++ more) is ∙ append_assoc lines (Wrong ∷ []) more in
         let placed = wrong_at lines (Wrong ∷ more) here.good in
         let numbered = here.numbered in
-        sym (ap (verdict_on e) whole ∙ ap (by_line e (lines ++ Wrong ∷ more)) (position_is (lines ++ Wrong ∷ more) (length lines) (omega (arith, placed)) (omega (arith, length-append lines (Wrong ∷ more))))
+        sym (ap (verdict_on e) whole
+        ∙ ap (by_line e (lines ++ Wrong ∷ more)) (position_is (lines ++ Wrong ∷ more) (length lines) (omega (arith, placed)) (omega (arith, length-append lines (Wrong ∷ more))))
         ∙ ap (λ k. BadLine (k + 1)) (sym numbered))
 
-  pub ended : (o : OpenView) (line rows omissions : ℕ) (rest : List ℕ) (here : Checked e report o line rows omissions rest) → length rest ≡ 0 → (found : Option (List ℕ))
-      → ((test : List ℕ → Bool) → Tells o (length e.names) test → found ≡ find test (sequences e)) → by_sequence here.lines found ≡ verdict e report
-  ended o line rows omissions [] here none found first =
+  pub ended : {o : OpenView} {line rows omissions : ℕ} (rest : List ℕ) (here : Checked e report o line rows omissions rest) → length rest ≡ 0
+      → (found : Option (List ℕ)) → ((test : List ℕ → Bool) → Tells o (length e.names) test → found ≡ find test (sequences e)) → by_sequence here.lines found ≡ verdict e report
+  ended [] here none found first =
       let lines = here.lines in
       let whole = here.whole ∙ append-nil lines in
       let placed = wrong_at lines [] here.good in
+      let end : length lines + 0 ≡ length lines = omega arith in
       ap (by_sequence lines) (first (is_left lines) here.left)
-      ∙ sym (ap (verdict_on e) whole ∙ ap (by_line e lines) (position_none lines (ap (position_or_len is_wrong) (sym (append-nil lines)) ∙ placed ∙ (let same : length lines + 0 ≡ length lines = omega arith in same))))
-  ended o line rows omissions (b ∷ rest) here none found first = absurd (omega arith)
+      ∙ sym (ap (verdict_on e) whole ∙ ap (by_line e lines) (position_none lines (ap (position_or_len is_wrong) (sym (append-nil lines)) ∙ placed ∙ end)))
+  ended (b ∷ rest) here none found first = absurd (omega arith)

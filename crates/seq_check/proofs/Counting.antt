@@ -1,5 +1,6 @@
 -- How many of the numbers below one pass a test.
-use Rattle.std.proofs.Common.{◌≡◌, ℕ, zero, suc, ◌+◌, ◌<◌, ◌≤◌, Bool, true, false, ◌&&◌, not, cond, [], ◌∷◌, ◌++◌, count_by, eqb, All, inl, inr, ◌⊎◌, refl, sym, ap, ◌∙◌, arith, zero-add, add-one}
+use Rattle.std.proofs.Common.{◌≡◌, ℕ, zero, suc, ◌+◌, ◌<◌, ◌≤◌, Bool, true, false, ◌&&◌, not, cond, [], ◌∷◌, ◌++◌}
+use Rattle.std.proofs.Common.{count_by, eqb, All, inl, inr, ◌⊎◌, refl, sym, ap, ◌∙◌, arith, zero-add, add-one}
 use Rattle.std.specs.List.{range_with_len}
 use Rattle.std.proofs.Math.Bool.{and-false, and-true}
 use Rattle.std.proofs.lemmas.Bool.{false≢true, cases_Bool, cases_eq, eq-eqb, false_from_ne_true, ne_eqb}

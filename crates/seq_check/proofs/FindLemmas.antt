@@ -1,5 +1,6 @@
 -- The first sequence that passes a test, among lists that are made by lengthening others.
-use Rattle.std.proofs.Common.{◌≡◌, ℕ, zero, suc, ◌+◌, ◌<◌, ◌≤◌, Bool, true, false, not, ◌&&◌, List, [], ◌∷◌, ◌++◌, length, map, filter, take, drop, get_or, Option, Some, None, IfNone, IfSome, nat_lt, All, refl, sym, ap, subst, ◌∙◌, arith, zero-add, add-one}
+use Rattle.std.proofs.Common.{◌≡◌, ℕ, zero, suc, ◌+◌, ◌<◌, ◌≤◌, Bool, true, false, not, ◌&&◌, List, [], ◌∷◌, ◌++◌, length, map, filter, take}
+use Rattle.std.proofs.Common.{drop, get_or, Option, Some, None, IfNone, IfSome, nat_lt, All, refl, sym, ap, subst, ◌∙◌, arith, zero-add, add-one}
 use Rattle.std.specs.List.{find, flat_map, range_with_len, slice_get}
 use Rattle.std.specs.Option.{option_map, option_or}
 use Rattle.std.proofs.Math.Seq.{take-length}
@@ -65,7 +66,8 @@ module _ (o : OpenView) (n : ℕ) (front : List ℕ) (few : n ≤ 64) (f : IsFro
       → option_map (λ last. front ++ last ∷ []) least ≡ find test (lengthened n front)
   first_lengthened None none some =
       sym (kept test (λ event. front ++ event ∷ []) (λ event. not (is_among front event)) (range_with_len 0 n)
-      ∙ ap (option_map (λ last. front ++ last ∷ [])) (no_number (λ event. not (is_among front event) && test (front ++ event ∷ [])) n (λ event below. passes_as event below ∙ none event (omega arith))))
+      ∙ ap (option_map (λ last. front ++ last ∷ []))
+      (no_number (λ event. not (is_among front event) && test (front ++ event ∷ [])) n (λ event below. passes_as event below ∙ none event (omega arith))))
   first_lengthened (Some k) none some =
       let within : k < n = ltb-true k n (and_parts (nat_lt k n) _ (and_parts (is_open o front k) _ (sym (is k) ∙ some.1)).1).0 in
       sym (kept test (λ event. front ++ event ∷ []) (λ event. not (is_among front event)) (range_with_len 0 n)

@@ -21,7 +21,11 @@ first_line text end found = at (nat_lt (position_or_len is_line_feed text) (leng
         → report_lines text ≡ take end text ∷ report_lines (drop (end + 1) text)
     at true e is_end =
         let place : position_or_len is_line_feed text ≡ end = cc in
-        rw (← place, slice_split_first is_line_feed text 0 (ltb-true _ _ e), ended_lines-cons (before_first is_line_feed text) (slice_split is_line_feed behind) (omega (arith, length-slice_split is_line_feed behind))) refl
+        rw (
+          ← place,
+          slice_split_first is_line_feed text 0 (ltb-true _ _ e),
+          ended_lines-cons (before_first is_line_feed text) (slice_split is_line_feed behind) (omega (arith, length-slice_split is_line_feed behind)),
+        ) refl
     at false e is_end = cc
 
 -- without a line feed there is one line

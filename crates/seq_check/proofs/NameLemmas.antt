@@ -1,5 +1,6 @@
 -- Names of events, as texts and in the keys of a set.
-use Rattle.std.proofs.Common.{◌≡◌, ℕ, ◌<◌, Bool, true, false, ◌||◌, cond, List, [], ◌∷◌, ◌++◌, map, length, Option, Some, None, Result, Ok, Err, IfOk, is_ok, refl, sym, ◌∙◌, ap, position, nat_lt, eqb, arith, get_or, AllPairs, ◌≢◌, length-append}
+use Rattle.std.proofs.Common.{◌≡◌, ℕ, ◌<◌, Bool, true, false, ◌||◌, cond, List, [], ◌∷◌, ◌++◌, map, length, Option, Some, None, Result, Ok}
+use Rattle.std.proofs.Common.{Err, IfOk, is_ok, refl, sym, ◌∙◌, ap, position, nat_lt, eqb, arith, get_or, AllPairs, ◌≢◌, length-append}
 use Rattle.std.proofs.lemmas.Bool.{and_parts, both_ways}
 use Rattle.std.proofs.lemmas.Bool.Decides.{nat_tests}
 use Rattle.std.proofs.lemmas.List.{map-append}
@@ -29,7 +30,8 @@ name_utf8 name is =
     (AllPass-from_list_all (λ b. is_ascii_alphanumeric b || eqb b 95) name (and_parts _ _ is).1)))
 
 module _ {K : Type 0} (text : K → List ℕ) (q : List ℕ) where
-  pub number_is : (name : List ℕ) (keys : List K) (names : List (List ℕ)) (number : Option ℕ) → number ≡ position (λ key. bytes_eq q (text key)) keys → q ≡ name → map text keys ≡ names → number ≡ number_of names name
+  pub number_is : (name : List ℕ) (keys : List K) (names : List (List ℕ)) (number : Option ℕ)
+      → number ≡ position (λ key. bytes_eq q (text key)) keys → q ≡ name → map text keys ≡ names → number ≡ number_of names name
   number_is name keys names number e same views = e ∙ place_text text q keys ∙ ap (λ t. position (bytes_eq t) (map text keys)) same ∙ ap (λ ns. position (bytes_eq name) ns) views
 
 -- a name without a number is none of the names
@@ -57,10 +59,12 @@ on_ok (Err x) P h e = cc
 pub still_distinct : (names : List (List ℕ)) (name : List ℕ) → AllPairs (λ a b. a ≢ b) names → number_of names name ≡ None → AllPairs (λ a b. a ≢ b) (names ++ name ∷ [])
 still_distinct names name apart none =
     all_pairs_push (λ a b. a ≢ b) names name apart
-    (λ k d within same. both_ways (list_any (bytes_eq name) names) (unnumbered names name none) (list_any_at (bytes_eq name) names k d within ((bytes_eq-Decides name (get_or names k d)).1 (sym same))))
+    (λ k d within same. both_ways (list_any (bytes_eq name) names) (unnumbered names name none)
+    (list_any_at (bytes_eq name) names k d within ((bytes_eq-Decides name (get_or names k d)).1 (sym same))))
 
 -- what is known of names stays known with one more
-pub known_more : (d : Declared) (name : List ℕ) (line : ℕ) → AreKnown d → is_name name ≡ true → number_of d.names name ≡ None → AreKnown (record { names = d.names ++ name ∷ []; pairs = d.pairs; last = line })
+pub known_more : (d : Declared) (name : List ℕ) (line : ℕ) → AreKnown d → is_name name ≡ true
+    → number_of d.names name ≡ None → AreKnown (record { names = d.names ++ name ∷ []; pairs = d.pairs; last = line })
 known_more d name line known is none = record {
   named = All-push (λ n. is_name n ≡ true) d.names name known.named is;
   distinct = still_distinct d.names name known.distinct none;

@@ -1,5 +1,6 @@
 -- How many bits of a number are set.
-use Rattle.std.proofs.Common.{◌≡◌, ◌≢◌, ℕ, zero, suc, ◌+◌, ◌*◌, ◌/◌, ◌%◌, ◌^◌, ◌<◌, inl, inr, refl, sym, ap, subst, ◌∙◌, arith, pow_pos, pow-suc, mod-lt, div-lt_iff_lt-mul, div-add-mod'}
+use Rattle.std.proofs.Common.{◌≡◌, ◌≢◌, ℕ, zero, suc, ◌+◌, ◌*◌, ◌/◌, ◌%◌, ◌^◌, ◌<◌, inl, inr, refl, sym, ap}
+use Rattle.std.proofs.Common.{subst, ◌∙◌, arith, pow_pos, pow-suc, mod-lt, div-lt_iff_lt-mul, div-add-mod'}
 use Rattle.std.specs.Int.{bit_at}
 use Rattle.std.specs.Int.RustNames.{count_ones}
 use Rattle.std.proofs.lemmas.Bool.{cases_eq}

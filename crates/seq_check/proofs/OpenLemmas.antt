@@ -1,5 +1,6 @@
 -- Which sequences are open, by the place of their set.
-use Rattle.std.proofs.Common.{◌≡◌, ℕ, ◌+◌, ◌*◌, ◌<◌, ◌≤◌, ◌⊎◌, ◌-◌, Bool, true, false, ◌&&◌, List, [], ◌∷◌, ◌++◌, length, take, get_or, slice_index, nat_lt, eqb, All, inl, inr, refl, sym, ap, subst, ◌∙◌, arith}
+use Rattle.std.proofs.Common.{◌≡◌, ℕ, ◌+◌, ◌*◌, ◌<◌, ◌≤◌, ◌⊎◌, ◌-◌, Bool, true, false, ◌&&◌, List, [], ◌∷◌, ◌++◌, length}
+use Rattle.std.proofs.Common.{take, get_or, slice_index, nat_lt, eqb, All, inl, inr, refl, sym, ap, subst, ◌∙◌, arith}
 use Rattle.std.specs.Bool.{Decides}
 use Rattle.std.specs.Str.{bytes_eq}
 use Rattle.std.proofs.lemmas.Bool.{and_parts, and_from, cases_eq, eq-eqb, eqb-true, ne_eqb, lt-ltb, ltb-true}
@@ -124,7 +125,8 @@ split_last xs some =
     sym (take_more xs (length xs - 1) 0 (omega arith))
     ∙ ap (λ n. take n xs) (let same : length xs - 1 + 1 ≡ length xs = omega arith in same) ∙ take-length xs
 
-pub front_is : (len : ℕ) (sequence : List ℕ) → (len ≡ 2) ⊎ (len ≡ 3) → length sequence ≡ len → All (λ event. event < 64) sequence → IsFront len 64 (take (length sequence - 1) sequence)
+pub front_is : (len : ℕ) (sequence : List ℕ) → (len ≡ 2) ⊎ (len ≡ 3) → length sequence ≡ len
+    → All (λ event. event < 64) sequence → IsFront len 64 (take (length sequence - 1) sequence)
 front_is len sequence of long exist = record {
   long = let some : 0 < len = elim of [ inl e ↦ omega arith | inr e ↦ omega arith ] in omega (arith, length-take-le (length sequence - 1) sequence (omega arith));
   exist = All-take (λ event. event < 64) (length sequence - 1) sequence exist;
@@ -135,8 +137,10 @@ last_below len sequence of long exist =
     let some : 0 < len = elim of [ inl e ↦ omega arith | inr e ↦ omega arith ] in
     exist (length sequence - 1) 0 (omega (arith, long, some))
 
-pub closes_last : (len : ℕ) (sequence front : List ℕ) (last : ℕ) → (len ≡ 2) ⊎ (len ≡ 3) → length sequence ≡ len → All (λ event. event < 64) sequence → IsFront len 64 front → last < 64
-    → (eqb (set_place (take (length sequence - 1) sequence) (get_or sequence (length sequence - 1) 0)) (set_place front last) && eqb (first_of (take (length sequence - 1) sequence)) (first_of front))
+pub closes_last : (len : ℕ) (sequence front : List ℕ) (last : ℕ) → (len ≡ 2) ⊎ (len ≡ 3)
+    → length sequence ≡ len → All (λ event. event < 64) sequence → IsFront len 64 front → last < 64
+    → (eqb (set_place (take (length sequence - 1) sequence) (get_or sequence (length sequence - 1) 0)) (set_place front last)
+    && eqb (first_of (take (length sequence - 1) sequence)) (first_of front))
     ≡ bytes_eq (front ++ last ∷ []) sequence
 closes_last len sequence front last of long exist f low =
     let some : 0 < len = elim of [ inl e ↦ omega arith | inr e ↦ omega arith ] in

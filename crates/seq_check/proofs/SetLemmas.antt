@@ -1,5 +1,6 @@
 -- Sets of events as bits.
-use Rattle.std.proofs.Common.{inl, inr, ◌≡◌, ℕ, ◌*◌, ◌^◌, ◌-◌, ◌%◌, ◌<◌, ◌||◌, ◌&&◌, Bool, true, false, not, cond, eqb, min, max, bit_and, bit_or, w64, ◌∙◌, refl, sym, ap, arith, replicate, get_or, set, length, List}
+use Rattle.std.proofs.Common.{inl, inr, ◌≡◌, ℕ, ◌*◌, ◌^◌, ◌-◌, ◌%◌, ◌<◌, ◌||◌, ◌&&◌, Bool, true, false, not, cond, eqb, min}
+use Rattle.std.proofs.Common.{max, bit_and, bit_or, w64, ◌∙◌, refl, sym, ap, arith, replicate, get_or, set, length, List}
 use Rattle.std.proofs.lemmas.List.{get_or-replicate, get_or_past, length-replicate, get_or-set_other}
 use Rattle.std.proofs.lemmas.Grind.{get_or-set_at}
 use Rattle.seq_check.specs.EventSets.{in_set, in_set_at, no_events}
@@ -65,7 +66,8 @@ in_none set count place event none = elim (cases_lt place count) [
 ]
 
 -- the lowest bit that is set
-pub least_in : (a : ℕ) → 0 < a → a < 2 ^ 64 → (trailing_zeros w64 a < 64) × (is_one (bit_at a (trailing_zeros w64 a)) ≡ true) × ((event : ℕ) → event < trailing_zeros w64 a → is_one (bit_at a event) ≡ false)
+pub least_in : (a : ℕ) → 0 < a → a < 2 ^ 64 → (trailing_zeros w64 a < 64) × (is_one (bit_at a (trailing_zeros w64 a)) ≡ true)
+    × ((event : ℕ) → event < trailing_zeros w64 a → is_one (bit_at a event) ≡ false)
 least_in a some fits =
     let found = bit_at-trailing_zeros w64 a some fits in
     (found.0, ap is_one found.1, λ event below. ap is_one (found.2 event below))

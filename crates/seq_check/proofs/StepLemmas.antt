@@ -1,5 +1,7 @@
 -- Steps of sequences, neighbours in lists, and orders by the places of their events.
-use Rattle.std.proofs.Common.{◌≡◌, ℕ, zero, suc, ◌+◌, ◌-◌, ◌<◌, ◌≤◌, Bool, true, false, not, ◌&&◌, ◌||◌, cond, eqb, List, [], ◌∷◌, ◌++◌, length, map, take, drop, get_or, slice_index, nat_lt, All, refl, sym, ap, ◌∙◌, arith, zero-add, add-one, drop-cons, length-drop, Option, Some, None, is_some, unwrap_or}
+use Rattle.std.proofs.Common.{◌≡◌, ℕ, zero, suc, ◌+◌, ◌-◌, ◌<◌, ◌≤◌, Bool, true, false, not, ◌&&◌, ◌||◌, cond, eqb, List}
+use Rattle.std.proofs.Common.{[], ◌∷◌, ◌++◌, length, map, take, drop, get_or, slice_index, nat_lt, All, refl, sym, ap, ◌∙◌}
+use Rattle.std.proofs.Common.{arith, zero-add, add-one, drop-cons, length-drop, Option, Some, None, is_some, unwrap_or}
 use Rattle.std.specs.List.{list_all, list_any, range_with_len}
 use Rattle.std.proofs.lemmas.Bool.{eq-eqb, ne_eqb}
 use Rattle.std.proofs.lemmas.List.Elements.{All-head, All-tail, All-push}
@@ -14,7 +16,7 @@ use Rattle.std.specs.Str.{bytes_eq}
 use Rattle.seq_check.specs.EventFile.{number_of}
 use Rattle.seq_check.specs.EventSets.{is_lower, places}
 use Rattle.seq_check.specs.OrderReport.{Row, Wrong, has_marks, is_tab, never_in, never_of, numbers_of, row_in, row_of}
-use Rattle.seq_check.specs.Orders.{is_among, is_arrow, is_permitted, keeps, neighbours, place, steps}
+use Rattle.seq_check.specs.Orders.{arrows, is_among, is_arrow, is_cycle, is_permitted, is_sequence, keeps, neighbours, place, steps}
 
 abbrev pub apart : ℕ × ℕ → Bool
 apart step = not (eqb step.0 step.1)
@@ -33,7 +35,8 @@ any_with true p (x ∷ xs) = ap (λ t. p x || t) (any_with true p xs)
 any_with false p [] = refl
 any_with false p (x ∷ xs) = any_with false p xs
 
-pub arrow_step : (xs : List ℕ) (a b : ℕ) → 0 < length xs → is_arrow (steps xs) (a, b) ≡ ((eqb (get_or xs 0 0) a && list_any (λ other. eqb other b) (drop 1 xs)) || is_arrow (steps (drop 1 xs)) (a, b))
+pub arrow_step : (xs : List ℕ) (a b : ℕ) → 0 < length xs
+    → is_arrow (steps xs) (a, b) ≡ ((eqb (get_or xs 0 0) a && list_any (λ other. eqb other b) (drop 1 xs)) || is_arrow (steps (drop 1 xs)) (a, b))
 arrow_step [] a b some = absurd (omega arith)
 arrow_step (x ∷ rest) a b some =
     list_any-append (λ arrow. eqb arrow.0 a && eqb arrow.1 b) (map (λ later. (x, later)) rest) (steps rest)
@@ -46,7 +49,8 @@ next_at : (xs : List ℕ) (i : ℕ) → i < length xs → drop i xs ≡ get_or x
 next_at xs i within = drop-cons xs i 0 within ∙ ap (λ n. get_or xs i 0 ∷ drop n xs) (sym (add-one i))
 
 -- a pair of neighbours
-pub neighbours_step : (p : ℕ × ℕ → Bool) (xs : List ℕ) (i : ℕ) → i + 1 < length xs → list_all p (neighbours (drop i xs)) ≡ (p (get_or xs i 0, get_or xs (i + 1) 0) && list_all p (neighbours (drop (i + 1) xs)))
+pub neighbours_step : (p : ℕ × ℕ → Bool) (xs : List ℕ) (i : ℕ) → i + 1 < length xs
+    → list_all p (neighbours (drop i xs)) ≡ (p (get_or xs i 0, get_or xs (i + 1) 0) && list_all p (neighbours (drop (i + 1) xs)))
 neighbours_step p xs i within =
     let here : drop i xs ≡ get_or xs i 0 ∷ drop (i + 1) xs = next_at xs i (omega arith) in
     let next : drop (i + 1) xs ≡ get_or xs (i + 1) 0 ∷ drop (i + 1 + 1) xs = next_at xs (i + 1) (omega arith) in
@@ -77,7 +81,8 @@ all_placed n order long =
     ∙ all_same (λ event. nat_lt (place order event) n) (is_among order) (range_with_len 0 n)
     (λ k d within. ap (nat_lt (place order (get_or (range_with_len 0 n) k d))) (sym long) ∙ sym (list_any-position (λ other. eqb other (get_or (range_with_len 0 n) k d)) order))
 
-pub all_kept : (n : ℕ) (order : List ℕ) (pairs : List (ℕ × ℕ)) → All (λ pair. (pair.0 < n) × (pair.1 < n)) pairs → list_all (is_lower (places n order)) pairs ≡ list_all (keeps order) pairs
+pub all_kept : (n : ℕ) (order : List ℕ) (pairs : List (ℕ × ℕ)) → All (λ pair. (pair.0 < n) × (pair.1 < n)) pairs
+    → list_all (is_lower (places n order)) pairs ≡ list_all (keeps order) pairs
 all_kept n order pairs exist =
     all_same (is_lower (places n order)) (keeps order) pairs
     (λ k d within.
@@ -93,6 +98,17 @@ permitted_by e order kept long =
     ap (λ t. (t && list_all (is_among order) (range_with_len 0 n)) && list_all (keeps order) e.precedences) (eq-eqb (length order) n long)
     ∙ ap (λ t. t && list_all (keeps order) e.precedences) (sym (all_placed n order long))
     ∙ ap (λ t. list_all (λ at. nat_lt at n) (places n order) && t) (sym (all_kept n order e.precedences kept.exist))
+
+-- what the tests of the places gave
+pub below_is : {most n : ℕ} {read numbers : List ℕ} {t b : Bool} → most ≡ n → read ≡ numbers → t ≡ b
+    → t ≡ list_all (λ number. nat_lt number most) read → list_all (λ number. nat_lt number n) numbers ≡ b
+below_is {n = n} {read = read} is same gives told =
+    sym (told ∙ ap (λ k. list_all (λ number. nat_lt number k) read) is ∙ ap (list_all (λ number. nat_lt number n)) same) ∙ gives
+
+pub lower_is : {read numbers : List ℕ} {listed pairs : List (ℕ × ℕ)} {t b : Bool} → read ≡ numbers → listed ≡ pairs → t ≡ b
+    → t ≡ list_all (is_lower read) listed → list_all (is_lower numbers) pairs ≡ b
+lower_is {numbers = numbers} {listed = listed} same are gives told =
+    sym (told ∙ ap (λ l. list_all (is_lower l) listed) same ∙ ap (list_all (is_lower numbers)) are) ∙ gives
 
 pub not_permitted : (e : EventsView) (order : List ℕ) → (length order ≡ length e.names → ⊥) → is_permitted e order ≡ false
 not_permitted e order other = ap (λ t. (t && list_all (is_among order) (range_with_len 0 (length e.names))) && list_all (keeps order) e.precedences) (ne_eqb (length order) (length e.names) other)
@@ -133,6 +149,12 @@ pub never_when : (e : EventsView) (parts : List (List ℕ)) (sequence cycle : Op
 never_when e parts sequence cycle marks first second =
     ap (λ t. cond t (never_of e (numbers_of e.names (take e.len (drop 1 parts))) (numbers_of e.names (drop (e.len + 2) parts))) Wrong) marks
     ∙ ap (λ s. never_of e s (numbers_of e.names (drop (e.len + 2) parts))) (sym first) ∙ ap (never_of e sequence) (sym second)
+
+-- what the test of the sequence and the cycle gave
+pub good_is : (e : EventsView) {read sequence listed cycle : List ℕ} {t b : Bool} → read ≡ sequence → listed ≡ cycle → t ≡ b
+    → t ≡ (is_sequence e read && is_cycle (arrows e read) listed) → (is_sequence e sequence && is_cycle (arrows e sequence) cycle) ≡ b
+good_is e {sequence = sequence} {listed = listed} same are gives told =
+    sym (told ∙ ap (λ s. is_sequence e s && is_cycle (arrows e s) listed) same ∙ ap (λ l. is_sequence e sequence && is_cycle (arrows e sequence) l) are) ∙ gives
 
 pub never_without : (e : EventsView) (sequence : Option (List ℕ)) → never_of e sequence None ≡ Wrong
 never_without e None = refl

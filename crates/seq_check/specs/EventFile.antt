@@ -1,6 +1,7 @@
 -- The file of events: a line declares an event by its name, or gives a precedence as `name < name`.
 -- (This project's rules.)
-use Rattle.std.specs.Prelude.{ℕ, Bool, ◌&&◌, List, [], ◌∷◌, ◌++◌, drop, length, Option, Some, None, is_some, Result, Ok, Err, ◌==◌, nat_eq, nat_lt, codes, position, if◌then◌else◌}
+use Rattle.std.specs.Prelude.{ℕ, Bool, ◌&&◌, List, [], ◌∷◌, ◌++◌, drop, length, Option, Some, None, is_some}
+use Rattle.std.specs.Prelude.{Result, Ok, Err, ◌==◌, nat_eq, nat_lt, codes, position, if◌then◌else◌}
 use Rattle.std.specs.List.{flat_map, before_first, after_first, starts_with}
 use Rattle.std.specs.Option.{option_map, option_or}
 use Rattle.std.specs.Str.{bytes_eq}

@@ -1,5 +1,6 @@
 -- Sets of events as the bits of a word; arrows, and the sequences that are still open, by such sets.
-use Rattle.std.specs.Prelude.{◌≡◌, ℕ, ◌+◌, ◌*◌, ◌<◌, ◌⊎◌, Bool, true, false, List, [], ◌∷◌, ◌++◌, length, map, ◌==◌, count_by, nat_lt, if◌then◌else◌, slice_index, slice_index_or, All, Vec, Option, Some, None}
+use Rattle.std.specs.Prelude.{◌≡◌, ℕ, ◌+◌, ◌*◌, ◌<◌, ◌⊎◌, Bool, true, false, List, [], ◌∷◌, ◌++◌, length, map, ◌==◌}
+use Rattle.std.specs.Prelude.{count_by, nat_lt, if◌then◌else◌, slice_index, slice_index_or, All, Vec, Option, Some, None}
 use Rattle.std.specs.Int.{bit_at}
 use Rattle.std.specs.List.{list_all, range_with_len}
 use Rattle.seq_check.specs.Events.{EventsView}

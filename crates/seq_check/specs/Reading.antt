@@ -1,5 +1,6 @@
 -- How the reading of a file of events goes on line by line, and what its answer says.
-use Rattle.std.specs.Prelude.{◌≡◌, ◌≢◌, true, AllPairs, ℕ, ◌+◌, ◌<◌, ◌≤◌, ◌^◌, ◌==◌, if◌then◌else◌, List, [], ◌++◌, length, Option, Some, Result, Ok, Err, All}
+use Rattle.std.specs.Prelude.{◌≡◌, ◌≢◌, true, AllPairs, ℕ, ◌+◌, ◌<◌, ◌≤◌, ◌^◌, ◌==◌, if◌then◌else◌}
+use Rattle.std.specs.Prelude.{List, [], ◌++◌, length, Option, Some, Result, Ok, Err, All}
 use Rattle.std.specs.List.{enumerate_from}
 use Rattle.model_lex.specs.Lines.{file_lines}
 use Rattle.seq_check.specs.Events.{EventsView, is_name}

@@ -1,4 +1,5 @@
-ghost use Rattle.std.specs.Prelude.{◌≡◌, ◌≢◌, ◌<◌, ◌≤◌, ◌+◌, ◌*◌, ◌&&◌, ◌||◌, ◌==◌, ◌⊎◌, ◌∷◌, ◌++◌, [], ℕ, List, Bool, true, false, not, All, length, nat_lt, find, option_map, slice_index, IfOk};
+ghost use Rattle.std.specs.Prelude.{◌≡◌, ◌≢◌, ◌<◌, ◌≤◌, ◌+◌, ◌*◌, ◌&&◌, ◌||◌, ◌==◌, ◌⊎◌, ◌∷◌, ◌++◌, [], ℕ, List};
+ghost use Rattle.std.specs.Prelude.{Bool, true, false, not, All, length, nat_lt, find, option_map, slice_index, IfOk};
 ghost use Rattle.std.specs.Str.{bytes_eq};
 ghost use Rattle.seq_check.specs.EventSets.{AreSets, IsFront, OpenView, Tells, first_of, in_set, in_set_at, is_open, rises, second_of, set_count, set_place};
 ghost use Rattle.seq_check.specs.Orders.{distinct_lists, is_among, lengthened};

@@ -1,5 +1,6 @@
 //! The lines of a report.
-ghost use Rattle.std.specs.Prelude.{◌≡◌, ◌≤◌, ◌<◌, ◌==◌, ◌++◌, ℕ, List, not, All, length, map, nat_lt, slice_index_or, take, drop, ◌-◌, true, [], ◌+◌, ◌&&◌, IfOk, IfSome};
+ghost use Rattle.std.specs.Prelude.{◌≡◌, ◌≤◌, ◌<◌, ◌==◌, ◌++◌, ℕ, List, not, All, length, map, nat_lt};
+ghost use Rattle.std.specs.Prelude.{slice_index_or, take, drop, ◌-◌, true, [], ◌+◌, ◌&&◌, IfOk, IfSome};
 ghost use Rattle.std.specs.List.{list_all, list_any, slice_split};
 ghost use Rattle.std.specs.Str.{bytes_eq};
 ghost use Rattle.seq_check.specs.EventFile.{is_space, number_of};

@@ -1,5 +1,6 @@
 -- The report of a suite that covers is accepted, and covers as a text.
-use Rattle.std.proofs.Common.{◌≡◌, ℕ, ◌+◌, ◌<◌, ◌⊎◌, true, false, not, List, [], ◌∷◌, ◌++◌, length, map, get_or, nat_lt, eqb, find, filter_map, position, bytes_eq, Option, Some, None, All, Any, inl, inr, refl, sym, ap, subst, ◌∙◌, arith, length-append, map-id, ◌-◌}
+use Rattle.std.proofs.Common.{◌≡◌, ℕ, ◌+◌, ◌<◌, ◌⊎◌, true, false, not, List, [], ◌∷◌, ◌++◌, length, map, get_or, nat_lt, eqb, find, filter_map}
+use Rattle.std.proofs.Common.{position, bytes_eq, Option, Some, None, All, Any, inl, inr, refl, sym, ap, subst, ◌∙◌, arith, length-append, map-id, ◌-◌}
 use Rattle.std.specs.List.{list_all, list_any, position_or_len}
 use Rattle.std.proofs.lemmas.Bool.{false≢true, and_left, and_parts, and_right, cond-false, eqb-true}
 use Rattle.std.proofs.lemmas.List.{append-nil, get_or-map, get_or-append_right, length-map, map-append}

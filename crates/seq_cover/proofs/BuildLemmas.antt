@@ -1,5 +1,7 @@
 -- A row by the set of its events, one event after another.
-use Rattle.std.proofs.Common.{◌≡◌, ℕ, ◌+◌, ◌-◌, ◌*◌, ◌<◌, ◌≤◌, ◌⊎◌, Bool, true, false, ◌&&◌, ◌||◌, not, List, [], ◌∷◌, ◌++◌, length, count_by, eqb, get_or, set, replicate, slice_index, Option, Some, None, IfSome, IfNone, is_some, All, inl, inr, refl, sym, ap, subst, ◌∙◌, arith}
+use Rattle.std.proofs.Common.{◌≡◌, ℕ, ◌+◌, ◌-◌, ◌*◌, ◌<◌, ◌≤◌, ◌⊎◌, Bool, true, false, ◌&&◌, ◌||◌, not, List, []}
+use Rattle.std.proofs.Common.{◌∷◌, ◌++◌, length, count_by, eqb, get_or, set, replicate, slice_index, Option, Some}
+use Rattle.std.proofs.Common.{None, IfSome, IfNone, is_some, All, inl, inr, refl, sym, ap, subst, ◌∙◌, arith}
 use Rattle.std.specs.List.{list_all, list_any}
 use Rattle.std.proofs.Math.Bool.{and-false, and-true, or-false}
 use Rattle.std.proofs.lemmas.Bool.{and_from, and_left, and_parts, and_right, cases_Bool, cases_eq, eq-eqb, eqb-true, ne_eqb, not-false, not-true, or_left, or_right}
@@ -24,7 +26,8 @@ among_more row x event =
 
 -- ---- which events can be placed
 
-module _ (back : List EventSet) (pairs : List (ℕ × ℕ)) (row : List ℕ) (placed : EventSet) (event : ℕ) (turned : AreBack back pairs) (exist : ExistBelow 64 pairs) (are : ArePlaced placed row) where
+module _ (back : List EventSet) (pairs : List (ℕ × ℕ)) (row : List ℕ) (placed : EventSet) (event : ℕ)
+    (turned : AreBack back pairs) (exist : ExistBelow 64 pairs) (are : ArePlaced placed row) where
   abbrev is_met : ℕ × ℕ → Bool
   is_met arrow = not (eqb arrow.1 event) || is_among row arrow.0
 
@@ -57,7 +60,8 @@ module _ (back : List EventSet) (pairs : List (ℕ × ℕ)) (row : List ℕ) (pl
 -- ---- what is counted along a row
 
 -- the events of a row that pass a test
-pub size_counts : (both : EventSet) (test : ℕ → Bool) (row : List ℕ) (placed : EventSet) → ((event : ℕ) → in_set both event ≡ (test event && in_set placed event)) → ArePlaced placed row → IsOnce row
+pub size_counts : (both : EventSet) (test : ℕ → Bool) (row : List ℕ) (placed : EventSet)
+    → ((event : ℕ) → in_set both event ≡ (test event && in_set placed event)) → ArePlaced placed row → IsOnce row
     → size_of both ≡ count_by test row
 size_counts both test row placed is are once = at 64 refl
   where
@@ -106,13 +110,15 @@ module _ (row : List ℕ) (x : ℕ) (absent : is_among row x ≡ false) (low : x
       ]
 
 -- the set with one event more
-pub placed_more : (placed with : EventSet) (row : List ℕ) (x : ℕ) → ArePlaced placed row → ((event : ℕ) → in_set with event ≡ (in_set placed event || eqb x event)) → ArePlaced with (row ++ x ∷ [])
+pub placed_more : (placed with : EventSet) (row : List ℕ) (x : ℕ) → ArePlaced placed row
+    → ((event : ℕ) → in_set with event ≡ (in_set placed event || eqb x event)) → ArePlaced with (row ++ x ∷ [])
 placed_more placed with row x are is = λ event low. is event ∙ ap (λ b. b || eqb x event) (are event low) ∙ sym (among_more row x event)
 
 -- ---- a row that is built, event by event
 
 -- no event of what waits isn't placed, or one is
-module _ (back : List EventSet) (pairs : List (ℕ × ℕ)) (row : List ℕ) (placed waits : EventSet) (event : ℕ) (is : (other : ℕ) → other < 64 → in_set waits other ≡ (in_set_at back event other && not (in_set placed other))) (none : Bool) where
+module _ (back : List EventSet) (pairs : List (ℕ × ℕ)) (row : List ℕ) (placed waits : EventSet) (event : ℕ)
+    (is : (other : ℕ) → other < 64 → in_set waits other ≡ (in_set_at back event other && not (in_set placed other))) (none : Bool) where
   pub placeable : (found : Option ℕ) → is_some found ≡ not none → IfNone found ((other : ℕ) → other < 64 → in_set waits other ≡ false)
       → IfSome found (λ least. (least < 64) × (in_set waits least ≡ true) × ((other : ℕ) → other < least → in_set waits other ≡ false))
       → AreBack back pairs → ExistBelow 64 pairs → ArePlaced placed row → is_among row event ≡ false → none ≡ can_be_placed pairs row event
@@ -137,7 +143,8 @@ pub no_gain : (o : OpenView) (event : ℕ) → (o.len ≡ 2) ⊎ (o.len ≡ 3) �
 no_gain o event (inl two) = ap (λ k. count_by (λ front. is_open o front event) (choose (k - 1) [])) two
 no_gain o event (inr three) = ap (λ k. count_by (λ front. is_open o front event) (choose (k - 1) [])) three
 
-pub nothing_built : (o : OpenView) (n : ℕ) (placed : EventSet) (gains : List ℕ) → (o.len ≡ 2) ⊎ (o.len ≡ 3) → ((event : ℕ) → in_set placed event ≡ false) → gains ≡ replicate n 0 → IsBuilt o n 0 [] placed gains
+pub nothing_built : (o : OpenView) (n : ℕ) (placed : EventSet) (gains : List ℕ) → (o.len ≡ 2) ⊎ (o.len ≡ 3)
+    → ((event : ℕ) → in_set placed event ≡ false) → gains ≡ replicate n 0 → IsBuilt o n 0 [] placed gains
 nothing_built o n placed gains of none are = record {
   exist = All-nil (λ event. event < n);
   placed_are = λ event low. none event;
@@ -151,7 +158,8 @@ nothing_built o n placed gains of none are = record {
 -- one event more is built
 module _ (o : OpenView) (n turn : ℕ) (row : List ℕ) (placed with : EventSet) (gains raised : List ℕ) (event : ℕ) (few : n ≤ 64)
     (built : IsBuilt o n turn row placed gains) (below : event < n) (left : in_set placed event ≡ false) (long : length raised ≡ length gains)
-    (value : (some : List ℕ) (last : ℕ) → ArePlaced placed some → IsOnce some → last < length gains → slice_index gains last ≡ open_gain o some last → slice_index raised last ≡ open_gain o (some ++ event ∷ []) last)
+    (value : (some : List ℕ) (last : ℕ) → ArePlaced placed some → IsOnce some → last < length gains
+    → slice_index gains last ≡ open_gain o some last → slice_index raised last ≡ open_gain o (some ++ event ∷ []) last)
     (more : (last : ℕ) → last < length gains → slice_index raised last ≤ slice_index gains last + 64)
     (is : (other : ℕ) → in_set with other ≡ (in_set placed other || eqb event other)) where
   pub built_more : IsBuilt o n (turn + 1) (row ++ event ∷ []) with raised
@@ -172,7 +180,8 @@ module _ (o : OpenView) (n turn : ℕ) (row : List ℕ) (placed with : EventSet)
       }
 
 -- the gains that are kept are those of the definition
-pub gains_told : (o : OpenView) (n len turn : ℕ) (rows : List (List ℕ)) (row : List ℕ) (placed : EventSet) (gains now : List ℕ) → IsBuilt o n turn row placed gains → o.len ≡ len → (len ≡ 2) ⊎ (len ≡ 3)
+pub gains_told : (o : OpenView) (n len turn : ℕ) (rows : List (List ℕ)) (row : List ℕ) (placed : EventSet) (gains now : List ℕ)
+    → IsBuilt o n turn row placed gains → o.len ≡ len → (len ≡ 2) ⊎ (len ≡ 3)
     → Tells o n (λ s. not (is_had rows s)) → now ≡ gains → (event : ℕ) → event < length now → slice_index now event ≡ gain len rows row event
 gains_told o n len turn rows row placed gains now built same of tells is event within =
     let long : length now ≡ n = ap length is ∙ built.long in

@@ -6,7 +6,8 @@ use Rattle.outside_io.specs.Files.{Files}
 use Rattle.seq_check.specs.Events.{EventsView}
 use Rattle.seq_check.specs.EventFile.{events_of}
 use Rattle.seq_check.specs.declared.fault.EventsFault.{EventsFault}
-use Rattle.seq_cover.specs.Runs.{AreRead, Ends, HoldsReport, IsRead, IsReportRead, ReadsCalmly, Spells, answer_of, answers, at_file, behind, cannot_read, is_refused, no_memory, no_report, not_read, too_long, wants_memory}
+use Rattle.seq_cover.specs.Runs.{AreRead, Ends, HoldsReport, IsRead, IsReportRead, ReadsCalmly, Spells, answer_of, answers}
+use Rattle.seq_cover.specs.Runs.{at_file, behind, cannot_read, is_refused, no_memory, no_report, not_read, too_long, wants_memory}
 use Rattle.seq_cover.specs.Steps.{CountsOut, Ran, RoseOf}
 use Rattle.seq_cover.specs.Stops.{end_status, ended_status, most_of, status_of, stop_of}
 use Rattle.seq_cover.specs.Words.{Asked}
@@ -31,7 +32,8 @@ module _ {asked : Asked} {files : Files} {reads reads_after : List ℕ → ℕ} 
     answer : (e : EventsView) (report : Option (List ℕ)) → AreRead asked files e → IsReportRead files asked.report report → Q (ended_status (answer_of e report).ended)
     unwritten : (e : EventsView) (report : Option (List ℕ)) → AreRead asked files e → IsReportRead files asked.report report → Rose faults faults_after → Q 8
 
-  ended : (Q : ℕ → Type 0) → Cases Q → (r : Result Ended Stop) → ((input : Input) → r ≡ Err (CannotRead input) → RoseOf asked input reads reads_after) → CountsOut r faults faults_after
+  ended : (Q : ℕ → Type 0) → Cases Q → (r : Result Ended Stop)
+      → ((input : Input) → r ≡ Err (CannotRead input) → RoseOf asked input reads reads_after) → CountsOut r faults faults_after
       → Ends asked files before after r → Q (end_status r) ⊎ (end_status r ≡ 1)
   ended Q cases (Ok x) rose counts (at_file stops stays) = absurd stops
   ended Q cases (Ok x) rose counts (behind e read stops stays) = absurd stops

@@ -1,5 +1,6 @@
 -- What options ask for, one after another.
-use Rattle.std.proofs.Common.{◌≡◌, ℕ, ◌+◌, ◌<◌, ◌≤◌, Bool, true, false, cond, List, [], ◌∷◌, ◌++◌, length, get_or, take, filter_map, Some, None, nat_lt, fold, position, eqb, Err, sym, refl, ap, ◌∙◌, arith}
+use Rattle.std.proofs.Common.{◌≡◌, ℕ, ◌+◌, ◌<◌, ◌≤◌, Bool, true, false, cond, List, [], ◌∷◌, ◌++◌, length, get_or, take}
+use Rattle.std.proofs.Common.{filter_map, Some, None, nat_lt, fold, position, eqb, Err, sym, refl, ap, ◌∙◌, arith}
 use Rattle.std.specs.List.{cons_option}
 use Rattle.std.specs.String.{string_bytes}
 use Rattle.std.specs.declared.string.String.{String}
@@ -11,7 +12,8 @@ use Rattle.std.proofs.lemmas.List.Sums.{fold_push, position_or_len_is}
 use Rattle.seq_cover.specs.Words.{Setting, asked_by, asked_of, set, set_by, setting_of, texts}
 
 -- none passes, by all of them
-pub placed_nowhere : {X : Type 0} (p : X → Bool) (xs : List X) (i : ℕ) (d : X) → length xs ≤ i → i ≤ length xs → ((k : ℕ) → k < i → p (get_or xs k d) ≡ false) → position p xs ≡ None
+pub placed_nowhere : {X : Type 0} (p : X → Bool) (xs : List X) (i : ℕ) (d : X) → length xs ≤ i
+    → i ≤ length xs → ((k : ℕ) → k < i → p (get_or xs k d) ≡ false) → position p xs ≡ None
 placed_nowhere p xs i d past within fails =
     ap (λ n. cond (nat_lt n (length xs)) (Some n) None) (position_or_len_is p xs i d within fails (λ inside. absurd (omega (arith, inside, past))))
     ∙ ap (λ b. cond b (Some i) None) (le-ltb i (length xs) past)

@@ -1,5 +1,6 @@
 -- Growth covers: its rows are permitted orders, and each sequence is had by one of them, or is set aside with a cycle.
-use Rattle.std.proofs.Common.{◌≡◌, ℕ, ◌<◌, ◌⊎◌, true, false, ◌||◌, List, [], ◌∷◌, ◌++◌, length, find, fold, Option, Some, None, All, Any, inl, inr, refl, sym, subst, ◌∙◌, arith, length-append}
+use Rattle.std.proofs.Common.{◌≡◌, ℕ, ◌<◌, ◌⊎◌, true, false, ◌||◌, List, [], ◌∷◌, ◌++◌, length, find, fold}
+use Rattle.std.proofs.Common.{Option, Some, None, All, Any, inl, inr, refl, sym, subst, ◌∙◌, arith, length-append}
 use Rattle.std.specs.List.{list_all, range_with_len}
 use Rattle.std.proofs.lemmas.Bool.{and_from, and_parts, cases_Bool, cond-false, cond-true, or_left, or_right}
 use Rattle.std.proofs.lemmas.List.{get_or_append_left}
@@ -59,7 +60,8 @@ module _ (e : EventsView) (kept : AreEvents e) where
   row_for rows sequence is none =
       let pairs = arrows e sequence in
       let row = built_from count e.len pairs rows count [] in
-      let whole = row_is count pairs (arrows_exist sequence is) (number_fails (λ event. leads pairs event event) count (no_first (find (λ event. leads pairs event event) (range_with_len 0 count)) refl none)) e.len rows in
+      let whole = row_is count pairs (arrows_exist sequence is)
+      (number_fails (λ event. leads pairs event event) count (no_first (find (λ event. leads pairs event event) (range_with_len 0 count)) refl none)) e.len rows in
       let both = and_parts (list_all (keeps row) (steps sequence)) (list_all (keeps row) e.precedences) (sym (list_all-append (keeps row) (steps sequence) e.precedences) ∙ whole.kept) in
       record {
         good = (and_from (has_each count row) (list_all (keeps row) e.precedences) whole.whole both.1, whole.below);

@@ -1,5 +1,6 @@
 -- The cycle that is told is a cycle along the arrows.
-use Rattle.std.proofs.Common.{◌≡◌, ℕ, zero, suc, ◌-◌, ◌<◌, ◌≤◌, ◌⊎◌, Bool, true, false, ◌&&◌, ◌||◌, List, [], ◌∷◌, length, get_or, eqb, nat_lt, find, Option, Some, None, is_some, All, inl, inr, refl, sym, ap, subst, ◌∙◌, arith}
+use Rattle.std.proofs.Common.{◌≡◌, ℕ, zero, suc, ◌-◌, ◌<◌, ◌≤◌, ◌⊎◌, Bool, true, false, ◌&&◌, ◌||◌, List, [], ◌∷◌, length, get_or}
+use Rattle.std.proofs.Common.{eqb, nat_lt, find, Option, Some, None, is_some, All, inl, inr, refl, sym, ap, subst, ◌∙◌, arith}
 use Rattle.std.specs.List.{list_all, range_with_len}
 use Rattle.std.proofs.lemmas.Bool.{false≢true, and_from, and_parts, both_ways, cases_eq, eq-eqb, eqb-true, false_from_ne_true, lt-ltb, or_cases, or_left, or_right}
 use Rattle.std.proofs.lemmas.List.Elements.{All-cons, All-nil, All-head, All-tail}
@@ -139,7 +140,8 @@ way_round n pairs first k way low is =
       exist = All-cons (λ x. x < n) first way low is.exist;
     }
 
-cycle_by_is : (n : ℕ) (pairs : List (ℕ × ℕ)) (first : ℕ) → ExistBelow n pairs → first < n → leads pairs first first ≡ true → IsTold n pairs (cycle_by n pairs first (fewest n pairs first))
+cycle_by_is : (n : ℕ) (pairs : List (ℕ × ℕ)) (first : ℕ) → ExistBelow n pairs → first < n
+    → leads pairs first first ≡ true → IsTold n pairs (cycle_by n pairs first (fewest n pairs first))
 cycle_by_is n pairs first exist low way =
     let ones : All (IsOne n pairs first) pairs = λ k d within. ((exist k d within).1, arrows_are pairs k d within) in
     let reaches = along n pairs first pairs ones first first way (inl refl) in

@@ -1,5 +1,6 @@
 -- Counts of sequences by their events but the last.
-use Rattle.std.proofs.Common.{◌≡◌, ℕ, zero, suc, ◌+◌, ◌-◌, ◌<◌, ◌⊎◌, inl, inr, Bool, cond, not, List, [], ◌∷◌, ◌++◌, length, map, count_by, All, refl, sym, ap, ◌∙◌, arith, zero-add}
+use Rattle.std.proofs.Common.{◌≡◌, ℕ, zero, suc, ◌+◌, ◌-◌, ◌<◌, ◌⊎◌, inl, inr, Bool, cond, not, List, []}
+use Rattle.std.proofs.Common.{◌∷◌, ◌++◌, length, map, count_by, All, refl, sym, ap, ◌∙◌, arith, zero-add}
 use Rattle.seq_check.specs.EventSets.{OpenView, Tells, is_open}
 use Rattle.seq_check.specs.Orders.{is_had}
 use Rattle.std.proofs.lemmas.List.Elements.{All-nil, All-cons, All-append, All-map, All-head, All-tail, All-weaker}
@@ -20,7 +21,8 @@ count_same p q (x ∷ xs) same =
     ∙ sym (sum_by-cons (λ y. cond (q y) 1 0) x xs)
 
 -- the ways to take some of the events, and one more event
-pub count_choose : (k : ℕ) (p : List ℕ → Bool) (xs : List ℕ) (y : ℕ) → count_by p (choose (suc k) (xs ++ y ∷ [])) ≡ count_by p (choose (suc k) xs) + count_by (λ f. p (f ++ y ∷ [])) (choose k xs)
+pub count_choose : (k : ℕ) (p : List ℕ → Bool) (xs : List ℕ) (y : ℕ)
+    → count_by p (choose (suc k) (xs ++ y ∷ [])) ≡ count_by p (choose (suc k) xs) + count_by (λ f. p (f ++ y ∷ [])) (choose k xs)
 count_choose zero p [] y = omega (arith, count_one)
   where
     count_one : count_by p ((y ∷ []) ∷ []) ≡ count_by (λ f. p (f ++ y ∷ [])) ([] ∷ [])

@@ -1,5 +1,6 @@
 -- Growth, sequence by sequence.
-use Rattle.std.proofs.Common.{◌≡◌, ℕ, ◌+◌, ◌<◌, Bool, true, false, ◌&&◌, ◌||◌, not, List, [], ◌∷◌, ◌++◌, length, eqb, refl, sym, ap, subst, ◌∙◌, add-one, take, get_or, fold}
+use Rattle.std.proofs.Common.{◌≡◌, ℕ, ◌+◌, ◌<◌, Bool, true, false, ◌&&◌, ◌||◌, not, List, [], ◌∷◌, ◌++◌}
+use Rattle.std.proofs.Common.{length, eqb, refl, sym, ap, subst, ◌∙◌, add-one, take, get_or, fold}
 use Rattle.std.proofs.lemmas.Grind.{flat_map-append}
 use Rattle.std.proofs.lemmas.List.{append-nil, take_more}
 use Rattle.std.proofs.lemmas.List.Concat.{flat_map-cons}
@@ -37,7 +38,8 @@ back_more sets new pairs a b turned more = λ first second.
 
 -- a row closes the sequences that it has
 pub row_closes : (o closed : OpenView) (n : ℕ) (rows : List (List ℕ)) (row : List ℕ) → closed.len ≡ o.len → Tells o n (λ s. not (is_had rows s))
-    → ((front : List ℕ) (last : ℕ) → IsFront o.len (length (places n row)) front → last < length (places n row) → is_open closed front last ≡ (is_open o front last && not (rises (places n row) (front ++ last ∷ []))))
+    → ((front : List ℕ) (last : ℕ) → IsFront o.len (length (places n row)) front → last < length (places n row)
+    → is_open closed front last ≡ (is_open o front last && not (rises (places n row) (front ++ last ∷ []))))
     → Tells closed n (λ s. not (is_had (rows ++ row ∷ []) s))
 row_closes o closed n rows row len tells closes = λ front last f below.
     let s = front ++ last ∷ [] in
@@ -54,7 +56,8 @@ pub fold_lists : {X Y Z : Type 0} (f : Z → Y → Z) (z : Z) (g : X → List Y)
     → fold f z (flat_map g (take (i + 1) items)) ≡ fold f (fold f z (flat_map g (take i items))) (g (get_or items i d))
 fold_lists f z g items i d within =
     ap (λ l. fold f z (flat_map g l)) (take_more items i d within)
-    ∙ ap (fold f z) (flat_map-append g (take i items) (get_or items i d ∷ []) ∙ ap (λ l. flat_map g (take i items) ++ l) (flat_map-cons g (get_or items i d) [] ∙ append-nil (g (get_or items i d))))
+    ∙ ap (fold f z) (flat_map-append g (take i items) (get_or items i d ∷ [])
+    ∙ ap (λ l. flat_map g (take i items) ++ l) (flat_map-cons g (get_or items i d) [] ∙ append-nil (g (get_or items i d))))
     ∙ fold-append f z (flat_map g (take i items)) (g (get_or items i d))
 
 pub sequences_by : (e : EventsView) (m : ℕ) → m + 1 ≡ e.len → sequences e ≡ flat_map (lengthened (length e.names)) (distinct_lists (length e.names) m)

@@ -1,5 +1,6 @@
 -- Levels of events by their distance to a goal, and the way back along them.
-use Rattle.std.proofs.Common.{◌≡◌, ℕ, zero, suc, ◌+◌, ◌-◌, ◌<◌, ◌≤◌, true, false, ◌&&◌, ◌||◌, List, [], ◌∷◌, ◌++◌, length, eqb, nat_lt, Option, Some, None, is_some, inl, inr, refl, sym, ap, subst, ◌∙◌, arith, add-one, append_assoc}
+use Rattle.std.proofs.Common.{◌≡◌, ℕ, zero, suc, ◌+◌, ◌-◌, ◌<◌, ◌≤◌, true, false, ◌&&◌, ◌||◌, List, [], ◌∷◌, ◌++◌, length, eqb}
+use Rattle.std.proofs.Common.{nat_lt, Option, Some, None, is_some, inl, inr, refl, sym, ap, subst, ◌∙◌, arith, add-one, append_assoc}
 use Rattle.std.proofs.Math.Bool.{and-false}
 use Rattle.std.proofs.lemmas.Bool.{cases_eq, eq-eqb, ne_eqb, lt-ltb}
 use Rattle.std.proofs.lemmas.List.{append-nil, get_or_append_left, get_or_push, length_push}
@@ -37,7 +38,8 @@ module _ (n : ℕ) (pairs : List (ℕ × ℕ)) (goal : ℕ) (near : EventSet) (l
   ]
 
   pub climbs_on : (wider : EventSet) (next : Option ℕ) → next ≡ next_event n pairs goal turn goal → is_some next ≡ false
-      → Holds wider n (λ event. is_within n pairs goal turn event || is_some (next_near n pairs (is_within n pairs goal turn) event)) → Climbs n pairs goal wider (levels ++ near ∷ []) (turn + 1)
+      → Holds wider n (λ event. is_within n pairs goal turn event || is_some (next_near n pairs (is_within n pairs goal turn) event))
+      → Climbs n pairs goal wider (levels ++ near ∷ []) (turn + 1)
   climbs_on wider next is none holds = record {
     near_is = λ event below. holds event below ∙ ap (λ m. nat_lt event n && is_within n pairs goal m event) (sym (add-one turn));
     levels_are = one_level_more;
@@ -54,15 +56,18 @@ module _ (n : ℕ) (pairs : List (ℕ × ℕ)) (goal : ℕ) (near : EventSet) (l
   fewest_nowhere past = no_number (λ k. is_some (next_event n pairs goal k goal)) n (λ k low. here.unmet k (omega arith))
 
 -- one step of the way back
-pub back_step : (n : ℕ) (pairs : List (ℕ × ℕ)) (goal at event : ℕ) → 0 < at → way_back n pairs goal at event ≡ with_rest (next_event n pairs goal (at - 1) event) (way_back n pairs goal (at - 1))
+pub back_step : (n : ℕ) (pairs : List (ℕ × ℕ)) (goal at event : ℕ) → 0 < at
+    → way_back n pairs goal at event ≡ with_rest (next_event n pairs goal (at - 1) event) (way_back n pairs goal (at - 1))
 back_step n pairs goal zero event some = absurd (omega arith)
 back_step n pairs goal (suc at) event some = let same : suc at - 1 ≡ at = omega arith in rw same refl
 
-pub back_ends : (n : ℕ) (pairs : List (ℕ × ℕ)) (goal at event : ℕ) (cycle whole : List ℕ) → 0 < at → whole ≡ cycle ++ way_back n pairs goal at event → None ≡ next_event n pairs goal (at - 1) event → cycle ≡ whole
+pub back_ends : (n : ℕ) (pairs : List (ℕ × ℕ)) (goal at event : ℕ) (cycle whole : List ℕ) → 0 < at
+    → whole ≡ cycle ++ way_back n pairs goal at event → None ≡ next_event n pairs goal (at - 1) event → cycle ≡ whole
 back_ends n pairs goal at event cycle whole some here none =
     sym (here ∙ ap (λ l. cycle ++ l) (back_step n pairs goal at event some) ∙ ap (λ o. cycle ++ with_rest o (way_back n pairs goal (at - 1))) (sym none) ∙ append-nil cycle)
 
-pub back_on : (n : ℕ) (pairs : List (ℕ × ℕ)) (goal at event next : ℕ) (cycle whole : List ℕ) → 0 < at → whole ≡ cycle ++ way_back n pairs goal at event → Some next ≡ next_event n pairs goal (at - 1) event
+pub back_on : (n : ℕ) (pairs : List (ℕ × ℕ)) (goal at event next : ℕ) (cycle whole : List ℕ) → 0 < at
+    → whole ≡ cycle ++ way_back n pairs goal at event → Some next ≡ next_event n pairs goal (at - 1) event
     → whole ≡ (cycle ++ next ∷ []) ++ way_back n pairs goal (at - 1) next
 back_on n pairs goal at event next cycle whole some here is =
     here ∙ ap (λ l. cycle ++ l) (back_step n pairs goal at event some) ∙ ap (λ o. cycle ++ with_rest o (way_back n pairs goal (at - 1))) (sym is)

@@ -1,8 +1,10 @@
 -- A row that is built for arrows without a cycle is an order of all events that keeps the arrows.
-use Rattle.std.proofs.Common.{◌≡◌, ℕ, zero, suc, ◌+◌, ◌<◌, ◌≤◌, Bool, true, false, ◌&&◌, ◌||◌, not, cond, List, [], ◌∷◌, ◌++◌, length, eqb, nat_lt, filter, fold, Option, Some, None, IfSome, is_some, All, get_or, inl, inr, refl, sym, ap, subst, ◌∙◌, arith}
+use Rattle.std.proofs.Common.{◌≡◌, ℕ, zero, suc, ◌+◌, ◌<◌, ◌≤◌, Bool, true, false, ◌&&◌, ◌||◌, not, cond, List, [], ◌∷◌, ◌++◌, length, eqb}
+use Rattle.std.proofs.Common.{nat_lt, filter, fold, Option, Some, None, IfSome, is_some, All, get_or, inl, inr, refl, sym, ap, subst, ◌∙◌, arith}
 use Rattle.std.specs.List.{list_all, range_with_len}
 use Rattle.std.specs.Option.{unwrap_or}
-use Rattle.std.proofs.lemmas.Bool.{false≢true, and_cases, and_from, and_parts, both_ways, cases_Bool, cond_both, cond-false, cond-true, eq-eqb, eqb-true, false_from_ne_true, lt-ltb, ltb-true, ltb-false, ne_eqb, not-false, not_from_false, or_cases, or_parts}
+use Rattle.std.proofs.lemmas.Bool.{false≢true, and_cases, and_from, and_parts, both_ways, cases_Bool, cond_both, cond-false, cond-true, eq-eqb}
+use Rattle.std.proofs.lemmas.Bool.{eqb-true, false_from_ne_true, lt-ltb, ltb-true, ltb-false, ne_eqb, not-false, not_from_false, or_cases, or_parts}
 use Rattle.std.proofs.lemmas.List.{length_push}
 use Rattle.std.proofs.lemmas.List.Elements.{All-filter, All-head, All-nil, All-push, All-tail, filter_passes}
 use Rattle.std.proofs.lemmas.List.Folds.{position_or_len_push}

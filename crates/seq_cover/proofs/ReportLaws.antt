@@ -1,5 +1,6 @@
 -- The lines of a report are read back as what they were written for.
-use Rattle.std.proofs.Common.{◌≡◌, ℕ, ◌+◌, ◌<◌, Bool, true, false, ◌&&◌, ◌||◌, not, cond, List, [], ◌∷◌, ◌++◌, length, map, take, drop, get_or, eqb, nat_lt, codes, bytes_eq, position, Some, None, is_some, All, refl, sym, ap, subst, ◌∙◌, arith, append_assoc, length-append}
+use Rattle.std.proofs.Common.{◌≡◌, ℕ, ◌+◌, ◌<◌, Bool, true, false, ◌&&◌, ◌||◌, not, cond, List, [], ◌∷◌, ◌++◌, length, map, take, drop, get_or, eqb}
+use Rattle.std.proofs.Common.{nat_lt, codes, bytes_eq, position, Some, None, is_some, All, refl, sym, ap, subst, ◌∙◌, arith, append_assoc, length-append}
 use Rattle.std.specs.Char.{is_ascii_alphanumeric}
 use Rattle.std.specs.List.{join_with_byte, list_all, position_or_len, slice_split}
 use Rattle.std.specs.Option.{unwrap_or}
@@ -48,7 +49,8 @@ lines_back [] lacks = refl
 lines_back (line ∷ lines) lacks =
     let rest = text_of_lines lines in
     let joined : text_of_lines (line ∷ lines) ≡ line ++ 10 ∷ rest = append_assoc line (10 ∷ []) rest in
-    let behind : drop (length line + 1) (line ++ 10 ∷ rest) ≡ rest = ap (drop (length line + 1)) (sym (append_assoc line (10 ∷ []) rest)) ∙ drop_at (line ++ 10 ∷ []) rest (length line + 1) (length_push line 10) in
+    let behind : drop (length line + 1) (line ++ 10 ∷ rest) ≡ rest =
+    ap (drop (length line + 1)) (sym (append_assoc line (10 ∷ []) rest)) ∙ drop_at (line ++ 10 ∷ []) rest (length line + 1) (length_push line 10) in
     ap report_lines joined ∙ first_line (line ++ 10 ∷ rest) (length line) (place_of_end line rest (All-head (Lacks 10) line lines lacks))
     ∙ ap (λ l. l ∷ report_lines (drop (length line + 1) (line ++ 10 ∷ rest))) (take_at line (10 ∷ rest) (length line) refl)
     ∙ ap (λ l. line ∷ report_lines l) behind ∙ ap (λ l. line ∷ l) (lines_back lines (All-tail (Lacks 10) line lines lacks))
@@ -106,13 +108,15 @@ module _ (e : EventsView) (kept : AreEvents e) where
   numbers_back : (events : List ℕ) → Exist events → numbers_of e.names (names_of e events) ≡ Some events
   numbers_back events exist =
       let text : ℕ → List ℕ = λ event. get_or e.names event [] in
-      let back : All (λ event. number_of e.names (text event) ≡ Some event) events = All-weaker (λ event. event < length e.names) (λ event. number_of e.names (text event) ≡ Some event) number_back events exist in
+      let back : All (λ event. number_of e.names (text event) ≡ Some event) events =
+      All-weaker (λ event. event < length e.names) (λ event. number_of e.names (text event) ≡ Some event) number_back events exist in
       let known : list_all (λ t. is_some (number_of e.names t)) (map text events) ≡ true =
       list_all-map (λ t. is_some (number_of e.names t)) text events
       ∙ list_all-from_AllPass (λ event. is_some (number_of e.names (text event))) events
       (All-weaker (λ event. number_of e.names (text event) ≡ Some event) (λ event. is_some (number_of e.names (text event)) ≡ true) (λ event is. ap is_some is) events back) in
       let numbers = maps_back (λ t. unwrap_or (number_of e.names t) 0) text events
-      (All-weaker (λ event. number_of e.names (text event) ≡ Some event) (λ event. unwrap_or (number_of e.names (text event)) 0 ≡ event) (λ event is. ap (λ o. unwrap_or o 0) is) events back) in
+      (All-weaker (λ event. number_of e.names (text event) ≡ Some event)
+      (λ event. unwrap_or (number_of e.names (text event)) 0 ≡ event) (λ event is. ap (λ o. unwrap_or o 0) is) events back) in
       cond-true (list_all (λ t. is_some (number_of e.names t)) (map text events)) _ None known ∙ ap Some numbers
 
   names_lack : (c : ℕ) (events : List ℕ) → is_letter c ≡ false → Exist events → All (Lacks c) (names_of e events)
@@ -127,7 +131,8 @@ module _ (e : EventsView) (kept : AreEvents e) where
 
   pub row_back : (order : List ℕ) → Exist order → is_permitted e order ≡ true → 0 < length order → report_line_of e (row_line e order) ≡ Row order
   row_back order exist permitted some =
-      let parts : slice_split is_tab (row_line e order) ≡ names_of e order = split_joined_by 9 (names_of e order) (omega (arith, length-map order (λ event. get_or e.names event []))) (names_lack 9 order refl exist) in
+      let parts : slice_split is_tab (row_line e order) ≡ names_of e order =
+      split_joined_by 9 (names_of e order) (omega (arith, length-map order (λ event. get_or e.names event []))) (names_lack 9 order refl exist) in
       let read : row_in e (row_line e order) ≡ Row order =
       ap (λ texts. row_of e (numbers_of e.names texts)) parts ∙ ap (row_of e) (numbers_back order exist) ∙ cond-true (is_permitted e order) (Row order) Wrong permitted in
       ap (λ line. or_else line (never_in e (slice_split is_space (row_line e order)))) read
@@ -144,10 +149,12 @@ module _ (e : EventsView) (kept : AreEvents e) where
         let one = length-map sequence (λ event. get_or e.names event []) in
         let two = length-map cycle (λ event. get_or e.names event []) in
         let front : join_with_byte 32 parts ≡ codes "never " ++ join_with_byte 32 (names_of e sequence ++ codes ":" ∷ names_of e cycle) =
-        join-append 32 (codes "never" ∷ []) (names_of e sequence ++ codes ":" ∷ names_of e cycle) (omega arith) (omega (arith, one, length-append (names_of e sequence) (codes ":" ∷ names_of e cycle))) in
+        join-append 32 (codes "never" ∷ []) (names_of e sequence ++ codes ":" ∷ names_of e cycle) (omega arith)
+        (omega (arith, one, length-append (names_of e sequence) (codes ":" ∷ names_of e cycle))) in
         let middle = join-append 32 (names_of e sequence) (codes ":" ∷ names_of e cycle) (omega (arith, one)) (omega arith) in
         let back = join-append 32 (codes ":" ∷ []) (names_of e cycle) (omega arith) (omega (arith, two)) in
-        let last : join_with_byte 32 (names_of e sequence) ++ 32 ∷ (codes ":" ++ 32 ∷ join_with_byte 32 (names_of e cycle)) ≡ (join_with_byte 32 (names_of e sequence) ++ codes " : ") ++ join_with_byte 32 (names_of e cycle) =
+        let last : join_with_byte 32 (names_of e sequence) ++ 32 ∷ (codes ":" ++ 32 ∷ join_with_byte 32 (names_of e cycle))
+        ≡ (join_with_byte 32 (names_of e sequence) ++ codes " : ") ++ join_with_byte 32 (names_of e cycle) =
         sym (append_assoc (join_with_byte 32 (names_of e sequence)) (codes " : ") (join_with_byte 32 (names_of e cycle))) in
         sym (front ∙ ap (λ l. codes "never " ++ l) (middle ∙ ap (λ l. join_with_byte 32 (names_of e sequence) ++ 32 ∷ l) back ∙ last))
 

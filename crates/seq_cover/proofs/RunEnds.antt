@@ -121,7 +121,8 @@ refused_by (BadLine line) is = λ none. none
 refused_by (Uncovered sequence) is = λ none. none
 
 -- what is printed covers
-prints_covering : (e : EventsView) (before : List ℕ) (after : Option (List ℕ)) → AreEvents e → Puts Done (Some before) after (report_text e (grown e)) → IsSomeAnd after (PrintsCovering e before)
+prints_covering : (e : EventsView) (before : List ℕ) (after : Option (List ℕ)) → AreEvents e
+    → Puts Done (Some before) after (report_text e (grown e)) → IsSomeAnd after (PrintsCovering e before)
 prints_covering e before after kept puts =
     subst (λ a. IsSomeAnd a (PrintsCovering e before)) (sym puts) (record {
       added = report_text e (grown e);

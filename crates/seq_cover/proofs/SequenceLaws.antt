@@ -1,5 +1,6 @@
 -- The listed sequences are the lists of so many distinct events.
-use Rattle.std.proofs.Common.{◌≡◌, ℕ, zero, suc, ◌<◌, Bool, true, false, ◌&&◌, ◌||◌, not, List, [], ◌∷◌, ◌++◌, length, map, filter, eqb, nat_lt, get_or, All, refl, sym, ap, subst, ◌∙◌, arith, zero-add, length-append}
+use Rattle.std.proofs.Common.{◌≡◌, ℕ, zero, suc, ◌<◌, Bool, true, false, ◌&&◌, ◌||◌, not, List, [], ◌∷◌, ◌++◌, length, map}
+use Rattle.std.proofs.Common.{filter, eqb, nat_lt, get_or, All, refl, sym, ap, subst, ◌∙◌, arith, zero-add, length-append}
 use Rattle.std.specs.List.{flat_map, list_all, range_with_len}
 use Rattle.std.proofs.lemmas.Bool.{and_from, and_parts, both_ways, cond-false, cond-true, eq-eqb, eqb-true, lt-ltb, ltb-true, not-true, not_from_false}
 use Rattle.std.proofs.lemmas.List.Concat.{flat_map-cons}
@@ -108,7 +109,8 @@ ends (x ∷ y ∷ list) some =
     let rest = ends (y ∷ list) (omega arith) in
     record { front = x ∷ rest.front; last = rest.last; is = ap (λ l. x ∷ l) rest.is }
 
-each_list : (n len : ℕ) (P : List ℕ → Type 0) → All P (distinct_lists n len) → (list : List ℕ) → length list ≡ len → All (λ event. event < n) list → list_all apart (steps list) ≡ true → P list
+each_list : (n len : ℕ) (P : List ℕ → Type 0) → All P (distinct_lists n len) → (list : List ℕ)
+    → length list ≡ len → All (λ event. event < n) list → list_all apart (steps list) ≡ true → P list
 each_list n zero P all [] long below distinct = All-head P [] [] all
 each_list n zero P all (x ∷ list) long below distinct = absurd (omega (arith, long))
 each_list n (suc len) P all list long below distinct =

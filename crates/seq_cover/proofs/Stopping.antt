@@ -1,5 +1,5 @@
 -- Why a step of a run stops, by what it was handed.
-use Rattle.std.proofs.Common.{◌≡◌, ℕ, List, Option, Some, None, Result, Ok, Err, inl, inr, ◌⊎◌, refl, sym, ap, subst, ◌∙◌, ◌<◌, length}
+use Rattle.std.proofs.Common.{◌≡◌, ℕ, List, Option, Some, None, Result, Ok, Err, inl, inr, ◌⊎◌, refl, sym, subst, ◌∙◌, ◌<◌, length}
 use Rattle.std.specs.Prelude.{IfErr, IfSome, IsErrAnd, IsSomeAnd}
 use Rattle.outside_io.specs.Faults.{KeepsCounts, Rose}
 use Rattle.outside_io.specs.Files.{Files, KeepsFiles}
@@ -62,7 +62,8 @@ module _ (old new : Files) (keeps : KeepsFiles old new) where
 
 -- ---- the ends of a run whose events are read
 
-module _ (asked : Asked) (files later : Files) (keeps : KeepsFiles files later) (e : EventsView) (read : AreRead asked files e) (reads reads_after : List ℕ → ℕ) (before after : Option (List ℕ))
+module _ (asked : Asked) (files later : Files) (keeps : KeepsFiles files later) (e : EventsView)
+    (read : AreRead asked files e) (reads reads_after : List ℕ → ℕ) (before after : Option (List ℕ))
     (faults faults_after : ℕ) where
   -- the report that is checked isn't read
   pub ran_behind : (middle : List ℕ → ℕ) (end : Result Ended Stop) (stop : Stop) → IsErrAnd end (λ s. s ≡ stop) → StopsBehind asked later stop → KeepsCounts reads middle

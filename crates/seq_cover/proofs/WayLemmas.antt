@@ -1,5 +1,6 @@
 -- Ways as sets of events.
-use Rattle.std.proofs.Common.{◌≡◌, ℕ, ◌+◌, ◌<◌, ◌≤◌, Bool, true, false, ◌&&◌, ◌||◌, List, [], ◌∷◌, length, get_or, eqb, nat_lt, Option, Some, None, IfNone, IfSome, inl, inr, refl, sym, ap, ◌∙◌, arith}
+use Rattle.std.proofs.Common.{◌≡◌, ℕ, ◌+◌, ◌<◌, ◌≤◌, Bool, true, false, ◌&&◌, ◌||◌, List, [], ◌∷◌, length, get_or}
+use Rattle.std.proofs.Common.{eqb, nat_lt, Option, Some, None, IfNone, IfSome, inl, inr, refl, sym, ap, ◌∙◌, arith}
 use Rattle.std.proofs.Math.Bool.{and-false}
 use Rattle.std.proofs.lemmas.Bool.{and_parts, cases_eq, eq-eqb, ne_eqb, lt-ltb, le-ltb, ltb-true, cases_lt}
 use Rattle.seq_check.proofs.FindLemmas.{first_number, no_number}
@@ -9,6 +10,10 @@ use Rattle.seq_check.specs.Orders.{is_arrow}
 use Rattle.seq_check.specs.declared.event_set.EventSet.{EventSet}
 use Rattle.seq_cover.specs.Ways.{leads, next_near}
 use Rattle.seq_cover.specs.Sets.{AreWays}
+
+-- at the place itself nothing is added yet
+pub not_yet : (now old more : Bool) (event : ℕ) → now ≡ (old || (nat_lt event event && more)) → now ≡ old
+not_yet now old more event is = is ∙ ap (λ t. old || (t && more)) (le-ltb event event (omega arith)) ∙ or-false old
 
 -- one place more: nothing is added at it, or all
 pub none_added : (old a t : Bool) (first event : ℕ) → (first ≡ event → a ≡ false) → (old || (nat_lt first event && (a && t))) ≡ (old || (nat_lt first (event + 1) && (a && t)))
@@ -29,7 +34,8 @@ two_ors : (a b : Bool) → ((a || false) || b) ≡ (a || b)
 two_ors true b = refl
 two_ors false b = refl
 
-pub some_added : (old a t : Bool) (first event : ℕ) → (first ≡ event → a ≡ true) → ((old || (nat_lt first event && (a && t))) || (eqb event first && t)) ≡ (old || (nat_lt first (event + 1) && (a && t)))
+pub some_added : (old a t : Bool) (first event : ℕ) → (first ≡ event → a ≡ true)
+    → ((old || (nat_lt first event && (a && t))) || (eqb event first && t)) ≡ (old || (nat_lt first (event + 1) && (a && t)))
 some_added old a t first event holds = elim (cases_eq first event) [
   | inl same ↦
       ap (λ b. (old || (b && (a && t))) || (eqb event first && t)) (le-ltb first event (omega arith)) ∙ ap (λ b. (old || false) || (b && t)) (eq-eqb event first (sym same)) ∙ two_ors old t
@@ -56,8 +62,10 @@ way_more sets new pairs a b ways low_a low_b more = λ from to below.
     ∙ ap (λ t. leads pairs from to || ((eqb from a || leads pairs from a) && (t || eqb b to))) (ways b to low_b)
 
 -- the least near event
-pub first_near : (n : ℕ) (pairs : List (ℕ × ℕ)) (test : ℕ → Bool) (event : ℕ) (member : ℕ → Bool) → n ≤ 64 → ((b : ℕ) → b < 64 → member b ≡ (is_arrow pairs (event, b) && (nat_lt b n && test b)))
-    → (least : Option ℕ) → IfNone least ((b : ℕ) → b < 64 → member b ≡ false) → IfSome least (λ k. (k < 64) × (member k ≡ true) × ((b : ℕ) → b < k → member b ≡ false)) → least ≡ next_near n pairs test event
+pub first_near : (n : ℕ) (pairs : List (ℕ × ℕ)) (test : ℕ → Bool) (event : ℕ) (member : ℕ → Bool)
+    → n ≤ 64 → ((b : ℕ) → b < 64 → member b ≡ (is_arrow pairs (event, b) && (nat_lt b n && test b)))
+    → (least : Option ℕ) → IfNone least ((b : ℕ) → b < 64 → member b ≡ false)
+    → IfSome least (λ k. (k < 64) × (member k ≡ true) × ((b : ℕ) → b < k → member b ≡ false)) → least ≡ next_near n pairs test event
 first_near n pairs test event member few is None none some =
     sym (no_number (λ b. is_arrow pairs (event, b) && test b) n
     (λ b below. ap (λ t. is_arrow pairs (event, b) && (t && test b)) (sym (lt-ltb b n below)) ∙ sym (is b (omega arith)) ∙ none b (omega arith)))

@@ -1,7 +1,8 @@
 -- The growth of rows: for each sequence that no row has, in their order, a row is built that has it, or the
 -- sequence is set aside with a cycle. (Greedy growth of sequence covering arrays follows Kuhn and others 2012;
 -- precedences, cycles and ties are this project's rules.)
-use Rattle.std.specs.Prelude.{ℕ, zero, suc, ◌-◌, Bool, ◌&&◌, ◌||◌, not, List, [], ◌∷◌, ◌++◌, map, length, Option, Some, None, ◌==◌, fold, count_by, nat_lt, if◌then◌else◌}
+use Rattle.std.specs.Prelude.{ℕ, zero, suc, ◌-◌, Bool, ◌&&◌, ◌||◌, not, List, [], ◌∷◌, ◌++◌, map}
+use Rattle.std.specs.Prelude.{length, Option, Some, None, ◌==◌, fold, count_by, nat_lt, if◌then◌else◌}
 use Rattle.std.specs.List.{filter, list_all, range_with_len}
 use Rattle.seq_check.specs.Events.{EventsView}
 use Rattle.seq_check.specs.Orders.{arrows, is_among, is_had, sequences}

@@ -1,6 +1,7 @@
 -- The words behind the name of the program `pictseq`: the name of the file of events, then options. (This
 -- project's rules, which are those of the words of `pict`.)
-use Rattle.std.specs.Prelude.{◌≡◌, ℕ, ◌+◌, ◌-◌, ◌^◌, min, true, List, [], map, drop, fold, filter_map, Option, Some, None, is_none, option_map, Result, Ok, Err, position, slice_index_or, codes, if◌then◌else◌}
+use Rattle.std.specs.Prelude.{◌≡◌, ℕ, ◌+◌, ◌-◌, ◌^◌, min, true, List, [], map, drop, fold, filter_map, Option, Some}
+use Rattle.std.specs.Prelude.{None, is_none, option_map, Result, Ok, Err, position, slice_index_or, codes, if◌then◌else◌}
 use Rattle.std.specs.List.{before_first, after_first}
 use Rattle.std.specs.Option.{option_or}
 use Rattle.std.specs.String.{string_bytes}

@@ -1,5 +1,6 @@
 //! A row of a suite, place by place.
-ghost use Rattle.std.specs.Prelude.{◌≡◌, ◌<◌, ◌≤◌, ◌∷◌, ◌++◌, ◌+◌, ◌*◌, ◌||◌, ◌⊎◌, [], ℕ, List, All, true, false, not, nat_lt, length, is_some, slice_index, IfOk, IfSome};
+ghost use Rattle.std.specs.Prelude.{◌≡◌, ◌<◌, ◌≤◌, ◌∷◌, ◌++◌, ◌+◌, ◌*◌, ◌||◌, ◌⊎◌, [], ℕ, List, All};
+ghost use Rattle.std.specs.Prelude.{true, false, not, nat_lt, length, is_some, slice_index, IfOk, IfSome};
 ghost use Rattle.seq_check.specs.EventSets.{AreBack, Tells, in_set};
 ghost use Rattle.seq_check.specs.Orders.{is_had};
 ghost use Rattle.seq_cover.specs.Building.{ArePlaced, ExistBelow, IsOnce, open_gain};

@@ -100,7 +100,7 @@ digit_is_value m p v exists sign all =
     sym (all_before (λ w. not (value_at m p w).negative) 0 v (length (param_at m.params p).values) (omega (arith, exists)) all)
     ∙ digit_counted m p v exists sign
 
-positives_listed : (m : ModelView) (p : ℕ) → p < length m.params → get_or (plan_of m).positives p [] ≡ positive_values m p
+pub positives_listed : (m : ModelView) (p : ℕ) → p < length m.params → get_or (plan_of m).positives p [] ≡ positive_values m p
 positives_listed m p within = get_or-map-range_with_len (positive_values m) 0 (length m.params) p p [] within (zero-add p)
 
 pub radix_is : (m : ModelView) (plan : PlanView) (p count : ℕ) → plan ≡ plan_of m → p < length m.params → count ≡ length (values_in plan Positive p)
@@ -363,18 +363,24 @@ pub record IsJoined (m : ModelView) (row : List (Option ℕ)) (members : List �
   pub placing : IsPlacing (own_slice m row) row members (i + 1) (number * radix + there)
   pub few : number * radix + there < 2 ^ 26
 
-pub joined : (m : ModelView) (row : List (Option ℕ)) (members : List ℕ) (digits : List Digit) (other : Digit) (i d number radix there : ℕ)
+pub joined : (m : ModelView) (row : List (Option ℕ)) (members : List ℕ) (i d number radix there : ℕ) → radix ≡ length (own_slice m row (get_or members i d))
+    → there ≡ place_of (own_slice m row (get_or members i d)) (value_in row (get_or members i d)) → i < length members
+    → IsPlacing (own_slice m row) row members i number → 0 < ways (own_slice m row) members
+    → place (own_slice m row) members (map (value_in row) members) < 2 ^ 26 → IsJoined m row members i number radix there
+joined m row members i d number radix there many at within placing some few =
+    let more = placing_more (own_slice m row) row members i number (get_or members i d) there radix within (get_or_default members i d 0 within) at many placing in
+    let most = placing_within (own_slice m row) row members (i + 1) (number * radix + there) some more in
+    record { placing = more; few = omega (arith, most, few) }
+
+-- the same by the digits of a row
+pub digit_joined : (m : ModelView) (row : List (Option ℕ)) (members : List ℕ) (digits : List Digit) (other : Digit) (i d number radix there : ℕ)
     → radix ≡ (get_or digits (get_or members i d) other).radix → there ≡ (get_or digits (get_or members i d) other).place
     → All (λ p. p < length m.params) members → AreDigits m row digits → i < length members → IsPlacing (own_slice m row) row members i number
     → 0 < ways (own_slice m row) members → place (own_slice m row) members (map (value_in row) members) < 2 ^ 26
     → IsJoined m row members i number radix there
-joined m row members digits other i d number radix there many at exist are within placing some few =
+digit_joined m row members digits other i d number radix there many at exist are within placing some few =
     let is = are.0.each (get_or members i d) other (exist i d within) in
-    let more =
-    placing_more (own_slice m row) row members i number (get_or members i d) there radix within (get_or_default members i d 0 within) (at ∙ is.place)
-    (many ∙ is.radix) placing in
-    let most = placing_within (own_slice m row) row members (i + 1) (number * radix + there) some more in
-    record { placing = more; few = omega (arith, most, few) }
+    joined m row members i d number radix there (many ∙ is.radix) (at ∙ is.place) within placing some few
 
 -- the same, as a call knows it
 pub own_place_of : (m : ModelView) (plan : PlanView) (i : ℕ) (row : List (Option ℕ)) (members : List ℕ) (slice : Slice) (part : Bool) → plan ≡ plan_of m

@@ -10,5 +10,6 @@ pub mod PlaceLemmas
 pub mod RowLemmas
 pub mod WorkerLemmas
 pub mod DigitLemmas
+pub mod BlockLemmas
 pub mod LineLemmas
 pub mod OpenLemmas

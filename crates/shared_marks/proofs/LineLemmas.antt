@@ -1,24 +1,34 @@
 -- The places that lines of sets give.
-use Rattle.std.proofs.Common.{◌≡◌, ℕ, ◌+◌, ◌-◌, ◌*◌, ◌^◌, ◌<◌, true, false, List, [], ◌∷◌, ◌++◌, map, take, drop, length, get_or, All, Option, Some, ◌∙◌, refl, sym, ap, subst, arith}
+use Rattle.std.proofs.Common.{◌≡◌, ℕ, ◌+◌, ◌-◌, ◌*◌, ◌^◌, ◌<◌, ◌≤◌, true, ◌&&◌, List, [], ◌∷◌, ◌++◌, map, take, drop, length, get_or, All, Option, Some, ◌∙◌, refl, sym, ap, subst, arith}
+use Rattle.std.specs.Prelude.{◌==◌, nat_le, nat_lt, sum}
+use Rattle.std.proofs.Math.Bool.{and-or_distrib_left}
 use Rattle.std.proofs.Math.Nat.{mul_assoc}
-use Rattle.std.proofs.lemmas.List.{get_or_default, take-append-drop}
-use Rattle.std.proofs.lemmas.List.Elements.{All-take}
+use Rattle.std.proofs.lemmas.Bool.{and_right}
+use Rattle.std.proofs.lemmas.List.{get_or-map, take-append-drop, take_all, take_more}
+use Rattle.std.proofs.lemmas.List.Elements.{All-from_get_or, All-take}
 use Rattle.value_text.proofs.ListLemmas.{pos_left_of_mul}
 use Rattle.cov_model.specs.declared.slice.Slice.TheVariants.{Positive}
 use Rattle.cov_model.specs.Sound.{ModelView}
 use Rattle.cov_model.specs.Rows.{value_in}
-use Rattle.cov_model.specs.Slices.{slice_of}
+use Rattle.cov_model.specs.Slices.{positive_values, slice_of}
 use Rattle.cov_model.specs.Valid.{is_valid}
-use Rattle.definitions.specs.Demand.{demanded_sets}
+use Rattle.definitions.specs.Demand.{demanded_sets, demanded_tuples}
 use Rattle.tuple_index.specs.Kept.{IsKept}
 use Rattle.tuple_index.specs.Places.{place, place_of, ways}
 use Rattle.tuple_index.specs.Plan.{PlanView, plan_of, set_at}
-use Rattle.shared_marks.specs.declared.digits.Digit.{Digit}
+use Rattle.tuple_index.proofs.LoopLemmas.{rises_within}
+use Rattle.tuple_index.proofs.OrderLemmas.{demanded_rise}
 use Rattle.shared_marks.specs.declared.lines.Line.{Line}
-use Rattle.shared_marks.specs.Digits.{AreDigits, IsPlacing, own_slice}
-use Rattle.shared_marks.specs.Lines.{AreLines, IsFront, IsLine, front}
-use Rattle.shared_marks.specs.Served.{IsServedRank}
+use Rattle.shared_marks.specs.Blocks.{BlockView, IsBlock, digit_in, place_in}
+use Rattle.shared_marks.specs.Digits.{IsPlacing, own_slice}
+use Rattle.shared_marks.specs.Lines.{IsLine, front}
+use Rattle.shared_marks.specs.Adding.{Marks}
+use Rattle.shared_marks.specs.Seats.{SeatView, marking, with_holding}
+use Rattle.shared_marks.specs.Served.{IsServedRank, base_of, is_served_at, served_between}
+use Rattle.shared_marks.proofs.AddingLemmas.{marks_none, marks_one, marks_then}
+use Rattle.shared_marks.proofs.BlockLemmas.{ArePlaced, PlainTest, column_at, plain_at, plain_slice}
 use Rattle.shared_marks.proofs.DigitLemmas.{IsJoined, OwnPlace, joined, own_place_of, placing_end, placing_within}
+use Rattle.shared_marks.proofs.PlaceLemmas.{none_served, one_set, place_within, served_append}
 
 -- the members of two lists
 ways_append : (values : ℕ → List ℕ) (xs ys : List ℕ) → ways values (xs ++ ys) ≡ ways values xs * ways values ys
@@ -44,73 +54,60 @@ front_placing values row set k number is =
     ap (λ n. n * ways values (drop k set) + place values (drop k set) (map (value_in row) (drop k set))) is
     ∙ sym (place_append values row (take k set) (drop k set)) ∙ ap (λ ms. place values ms (map (value_in row) ms)) (take-append-drop k set)
 
--- the first members of a set, of a row without a negative value
-pub record FrontKnown (m : ModelView) (row : List (Option ℕ)) (members : List ℕ) : Type 0 where
-  pub exist : All (λ p. p < length m.params) members
-  pub some : 0 < ways (own_slice m row) members
-  pub few : place (own_slice m row) members (map (value_in row) members) < 2 ^ 26
+members_exist : (m : ModelView) (i : ℕ) → i < length (demanded_sets m) → All (λ p. p < length m.params) (set_at (plan_of m) i)
+members_exist m i within = rises_within (set_at (plan_of m) i) 0 (length m.params) (demanded_rise m i [] within)
+
+-- the last member of a line exists
+pub last_exists : (m : ModelView) (plan : PlanView) (line : Line) → plan ≡ plan_of m → IsLine plan line → line.last < length m.params
+last_exists m plan line planned is =
+    let line_is = subst (λ p. IsLine p line) planned is in
+    let exists = members_exist m line.set line_is.there (length (set_at (plan_of m) line.set) - 1) 0 (omega (arith, line_is.some)) in
+    omega (arith, exists, line_is.last)
 
 own_of : (m : ModelView) (i : ℕ) (row : List (Option ℕ)) → IsKept (plan_of m) → i < length (demanded_sets m) → is_valid m row ≡ true
     → slice_of m row ≡ Positive → OwnPlace m i row (plan_of m) (set_at (plan_of m) i) Positive
 own_of m i row kept within valid positive =
     own_place_of m (plan_of m) i row (set_at (plan_of m) i) Positive true refl within valid refl kept (sym positive) refl refl
 
-front_known : (m : ModelView) (i : ℕ) (row : List (Option ℕ)) → IsKept (plan_of m) → i < length (demanded_sets m) → is_valid m row ≡ true
-    → slice_of m row ≡ Positive → FrontKnown m row (front (set_at (plan_of m) i))
-front_known m i row kept within valid positive = record {
-  exist = All-take (λ p. p < length m.params) k set own.exist;
-  some = pos_left_of_mul (ways (own_slice m row) (take k set)) (ways (own_slice m row) (drop k set))
-      (subst (λ n. 0 < n) (ap (ways (own_slice m row)) (sym (take-append-drop k set)) ∙ ways_append (own_slice m row) (take k set) (drop k set)) own.some);
-  few = let most = placing_within (own_slice m row) row set k (place (own_slice m row) (take k set) (map (value_in row) (take k set))) own.some
-      (front_placing (own_slice m row) row set k _ refl) in omega (arith, most, own.few);
-}
+-- the first members of its set make places
+pub fronts_placed : (m : ModelView) (plan : PlanView) (block : BlockView) (line : Line) (members : List ℕ) → plan ≡ plan_of m → IsKept plan → IsBlock m block
+    → IsLine plan line → members ≡ front (set_at plan line.set) → ArePlaced m block.tests members
+fronts_placed m plan block line members planned kept is line_is are =
+    subst (ArePlaced m block.tests) (sym (are ∙ ap (λ p. front (set_at p line.set)) planned)) (record {
+      exist = All-take (λ p. p < length m.params) k set (members_exist m line.set within);
+      few = All-from_get_or (λ row. place_in m (take k set) row < 2 ^ 26) block.tests [] (λ at inside.
+          let row = get_or block.tests at [] in
+          let most = placing_within (own_slice m row) row set k (place_in m (take k set) row) (own at inside).some (front_placing (own_slice m row) row set k _ refl) in
+          omega (arith, most, (own at inside).few));
+      some = All-from_get_or (λ row. 0 < ways (own_slice m row) (take k set)) block.tests [] (λ at inside.
+          let row = get_or block.tests at [] in
+          pos_left_of_mul (ways (own_slice m row) (take k set)) (ways (own_slice m row) (drop k set))
+          (subst (λ n. 0 < n) (ap (ways (own_slice m row)) (sym (take-append-drop k set)) ∙ ways_append (own_slice m row) (take k set) (drop k set)) (own at inside).some));
+    })
   where
     set : List ℕ
-    set = set_at (plan_of m) i
+    set = set_at (plan_of m) line.set
 
     k : ℕ
     k = length set - 1
 
-    own : OwnPlace m i row (plan_of m) set Positive
-    own = own_of m i row kept within valid positive
+    within : line.set < length (demanded_sets m)
+    within = (subst (λ p. IsLine p line) planned line_is).there
 
--- the same of a plan of the model
-pub front_of : (m : ModelView) (plan : PlanView) (i : ℕ) (row : List (Option ℕ)) (members : List ℕ) → plan ≡ plan_of m → IsKept plan
-    → i < length (demanded_sets m) → is_valid m row ≡ true → slice_of m row ≡ Positive → members ≡ front (set_at plan i) → FrontKnown m row members
-front_of m plan i row members planned kept within valid positive are =
-    subst (FrontKnown m row) (sym (are ∙ ap (λ p. front (set_at p i)) planned)) (front_known m i row (subst IsKept planned kept) within valid positive)
-
--- the front of a set that begins as another
-pub front_kept : (m : ModelView) (plan : PlanView) (i before number : ℕ) (row : List (Option ℕ)) → plan ≡ plan_of m
-    → front (set_at plan i) ≡ front (set_at plan before) → IsFront m row before number → IsFront m row i number
-front_kept m plan i before number row planned same is =
-    is ∙ sym (ap (λ set. place (own_slice m row) set (map (value_in row) set))
-    (ap (λ p. front (set_at p i)) (sym planned) ∙ same ∙ ap (λ p. front (set_at p before)) planned))
-
--- the front at a line that isn't fresh, and the front before the next line
-pub front_at : (m : ModelView) (plan : PlanView) (row : List (Option ℕ)) (lines : List Line) (i number : ℕ) (d : Line) → plan ≡ plan_of m
-    → AreLines plan lines → i < length lines → (0 < i → (other : Line) → IsFront m row (get_or lines (i - 1) other).set number)
-    → (get_or lines i d).is_fresh ≡ false → IsFront m row (get_or lines i d).set number
-front_at m plan row lines i number d planned are within before stale =
-    let same = are.same i d within stale in
-    front_kept m plan (get_or lines i d).set (get_or lines (i - 1) d).set number row planned same.1 (before same.0 d)
-
-pub front_next : (m : ModelView) (row : List (Option ℕ)) (lines : List Line) (i number : ℕ) (d : Line) → i < length lines
-    → IsFront m row (get_or lines i d).set number → (other : Line) → IsFront m row (get_or lines (i + 1 - 1) other).set number
-front_next m row lines i number d within is other =
-    let at : i + 1 - 1 ≡ i = omega arith in
-    subst (λ (line : Line). IsFront m row line.set number) (sym (ap (λ n. get_or lines n other) at ∙ get_or_default lines i other d within)) is
+    own : (at : ℕ) → at < length block.tests → OwnPlace m line.set (get_or block.tests at []) (plan_of m) set Positive
+    own at inside =
+        let plain = plain_at m block at is inside in
+        own_of m line.set (get_or block.tests at []) (subst IsKept planned kept) within plain.valid plain.positive
 
 -- the rank that a line gives
 pub record LineKnown (m : ModelView) (i : ℕ) (row : List (Option ℕ)) (number radix there : ℕ) : Type 0 where
   pub few : number * radix + there < 2 ^ 26
   pub is : IsServedRank m (set_at (plan_of m) i) row (Some (number * radix + there))
 
-pub line_known : (m : ModelView) (plan : PlanView) (row : List (Option ℕ)) (line : Line) (digits : List Digit) (other : Digit)
-    (number radix there : ℕ) → plan ≡ plan_of m → IsKept plan → is_valid m row ≡ true → slice_of m row ≡ Positive
-    → AreDigits m row digits → IsLine plan line → IsFront m row line.set number → radix ≡ (get_or digits line.last other).radix
-    → there ≡ (get_or digits line.last other).place → LineKnown m line.set row number radix there
-line_known m plan row line digits other number radix there planned kept valid positive are is front_is many at =
+pub line_known : (m : ModelView) (plan : PlanView) (row : List (Option ℕ)) (line : Line) (number radix there : ℕ) → plan ≡ plan_of m → IsKept plan
+    → PlainTest m row → IsLine plan line → number ≡ place_in m (front (set_at plan line.set)) row → radix ≡ length (positive_values m line.last)
+    → there ≡ digit_in m line.last row → LineKnown m line.set row number radix there
+line_known m plan row line number radix there planned kept plain is front_is many at =
     record {
       few = next.few;
       is = subst (λ rank. IsServedRank m set row (Some rank)) (sym end) own.is;
@@ -126,27 +123,79 @@ line_known m plan row line digits other number radix there planned kept valid po
     line_is = subst (λ p. IsLine p line) planned is
 
     own : OwnPlace m line.set row (plan_of m) set Positive
-    own = own_of m line.set row (subst IsKept planned kept) line_is.there valid positive
+    own = own_of m line.set row (subst IsKept planned kept) line_is.there plain.valid plain.positive
 
     inside : k < length set
     inside = omega (arith, line_is.some)
+
+    last : line.last ≡ get_or set k 0
+    last = line_is.last
 
     whole_few : place (own_slice m row) set (map (value_in row) set) < 2 ^ 26
     whole_few = omega (arith, own.few)
 
     next : IsJoined m row set k number radix there
-    next = joined m row set digits other k 0 number radix there (many ∙ ap (λ p. (get_or digits p other).radix) line_is.last)
-        (at ∙ ap (λ p. (get_or digits p other).place) line_is.last) own.exist are inside
-        (front_placing (own_slice m row) row set k number front_is) own.some whole_few
+    next = joined m row set k 0 number radix there
+        (many ∙ ap length (sym (plain_slice m row line.last plain (last_exists m plan line planned is))) ∙ ap (λ p. length (own_slice m row p)) last)
+        (at ∙ ap (λ p. digit_in m p row) last) inside
+        (front_placing (own_slice m row) row set k number (front_is ∙ ap (λ p. place_in m (front (set_at p line.set)) row) planned)) own.some whole_few
 
     end : number * radix + there ≡ 0 + place (own_slice m row) set (map (value_in row) set)
     end = let last = placing_end (own_slice m row) row set (k + 1) (number * radix + there) (omega (arith, inside)) next.placing in omega (arith, last)
 
--- the last member of a line exists
-pub last_exists : (m : ModelView) (plan : PlanView) (row : List (Option ℕ)) (line : Line) → plan ≡ plan_of m → IsKept plan → is_valid m row ≡ true
-    → slice_of m row ≡ Positive → IsLine plan line → line.last < length m.params
-last_exists m plan row line planned kept valid positive is =
-    let line_is = subst (λ p. IsLine p line) planned is in
-    let own = own_of m line.set row (subst IsKept planned kept) line_is.there valid positive in
-    let exists = own.exist (length (set_at (plan_of m) line.set) - 1) 0 (omega (arith, line_is.some)) in
-    omega (arith, exists, line_is.last)
+base_of_line : (m : ModelView) (plan : PlanView) (line : Line) → plan ≡ plan_of m → IsLine plan line → line.base ≡ base_of m line.set
+base_of_line m plan line planned is = is.base ∙ ap (λ p. sum (take line.set p.sizes)) planned
+
+-- the rank of a test of a block
+pub line_at : (m : ModelView) (plan : PlanView) (block : BlockView) (line : Line) (fronts column : List ℕ) (radix at : ℕ) → plan ≡ plan_of m → IsKept plan
+    → IsBlock m block → IsLine plan line → fronts ≡ map (place_in m (front (set_at plan line.set))) block.tests → radix ≡ length (positive_values m line.last)
+    → column ≡ get_or block.columns line.last [] → at < length block.tests
+    → LineKnown m line.set (get_or block.tests at []) (get_or fronts at 0) radix (get_or column at 0)
+line_at m plan block line fronts column radix at planned kept is line_is are many column_is within =
+    line_known m plan (get_or block.tests at []) line (get_or fronts at 0) radix (get_or column at 0) planned kept (plain_at m block at is within) line_is
+    (ap (λ ns. get_or ns at 0) are ∙ get_or-map (place_in m (front (set_at plan line.set))) block.tests at [] 0 within) many
+    (column_at m block line.last at column is (last_exists m plan line planned line_is) within column_is)
+
+-- its place is one of the table
+pub place_of_line : (m : ModelView) (plan : PlanView) (line : Line) (row : List (Option ℕ)) (number radix there : ℕ) → plan ≡ plan_of m → IsLine plan line
+    → LineKnown m line.set row number radix there → line.base + (number * radix + there) < length (demanded_tuples m)
+place_of_line m plan line row number radix there planned line_is known =
+    let within = subst (λ p. line.set < length p.sets) planned line_is.there in
+    omega (arith, place_within m line.set (number * radix + there) within known.is.within, base_of_line m plan line planned line_is)
+
+-- one test more
+pub test_more : (m : ModelView) (plan : PlanView) (block : BlockView) (line : Line) (number radix there at : ℕ) (start seat after : SeatView) → plan ≡ plan_of m
+    → IsBlock m block → IsLine plan line → at < length block.tests → LineKnown m line.set (get_or block.tests at []) number radix there
+    → Marks (served_between m (take at block.tests) (base_of m line.set) (base_of m (line.set + 1))) start seat
+    → after ≡ with_holding seat (marking (line.base + (number * radix + there)) seat.holds)
+    → Marks (served_between m (take (at + 1) block.tests) (base_of m line.set) (base_of m (line.set + 1))) start after
+test_more m plan block line number radix there at start seat after planned is line_is within known so_far next =
+    marks_then (served_between m (take at block.tests) from to) (served_between m (row ∷ []) from to) (served_between m (take (at + 1) block.tests) from to)
+    start seat after so_far
+    (subst (Marks (served_between m (row ∷ []) from to) seat) (sym next)
+    (marks_one (served_between m (row ∷ []) from to) seat (line.base + (number * radix + there)) (λ place.
+    one_set m row line.set _ (plain_at m block at is within).test (subst (λ p. line.set < length p.sets) planned line_is.there) known.is place
+    ∙ ap (λ n. n + (number * radix + there) == place) (sym (base_of_line m plan line planned line_is)))))
+    (λ place.
+    sym (and-or_distrib_left (nat_le from place && nat_lt place to) (is_served_at m (take at block.tests) place) (is_served_at m (row ∷ []) place))
+    ∙ ap (λ t. (nat_le from place && nat_lt place to) && t) (served_append m (take at block.tests) (row ∷ []) place)
+    ∙ ap (λ rows. served_between m rows from to place) (sym (take_more block.tests at [] within)))
+  where
+    row : List (Option ℕ)
+    row = get_or block.tests at []
+
+    from : ℕ
+    from = base_of m line.set
+
+    to : ℕ
+    to = base_of m (line.set + 1)
+
+-- no test
+pub no_test_yet : (m : ModelView) (from to : ℕ) (seat : SeatView) → Marks (served_between m [] from to) seat seat
+no_test_yet m from to seat =
+    marks_none (served_between m [] from to) seat (λ place.
+    and_right (nat_le from place && nat_lt place to) (is_served_at m [] place) (none_served m [] place refl))
+
+pub all_tests : (m : ModelView) (block : BlockView) (from to at : ℕ) (start seat : SeatView) → length block.tests ≤ at
+    → Marks (served_between m (take at block.tests) from to) start seat → Marks (served_between m block.tests from to) start seat
+all_tests m block from to at start seat past = subst (λ rows. Marks (served_between m rows from to) start seat) (take_all at block.tests past)

@@ -1,25 +1,27 @@
 -- Sets in play, by lines, and places that a seat holds.
-use Rattle.std.proofs.Common.{inl, inr, ◌≡◌, ℕ, ◌+◌, ◌-◌, ◌<◌, ◌≤◌, Bool, true, false, ◌&&◌, ◌||◌, cond, List, [], ◌∷◌, ◌++◌, length, get_or, Option, ◌∙◌, refl, sym, ap, subst, arith}
+use Rattle.std.proofs.Common.{inl, inr, ◌≡◌, ℕ, ◌+◌, ◌-◌, ◌<◌, ◌≤◌, Bool, true, false, ◌&&◌, ◌||◌, not, List, [], ◌∷◌, ◌++◌, length, get_or, Option, ◌∙◌, refl, sym, ap, subst, arith}
 use Rattle.std.specs.Prelude.{◌==◌, nat_le, nat_lt}
-use Rattle.std.proofs.Math.Bool.{or-false}
+use Rattle.std.specs.List.{filter}
+use Rattle.std.proofs.Math.Bool.{and-or_distrib_right, or-false, or_comm}
 use Rattle.std.proofs.Math.Seq.{get_or-append_seam}
 use Rattle.std.proofs.lemmas.Bool.{and_from, and_parts, cases_lt, eq-eqb, false≢true, le-leb, lt-ltb, ltb-true, or_cases, or_left, or_right}
 use Rattle.std.proofs.lemmas.List.{get_or_append_left, length_push}
 use Rattle.std.proofs.lemmas.List.Folds.{list_any-append}
 use Rattle.std.proofs.lemmas.List.Sums.{sum_by_more}
+use Rattle.cov_model.specs.Slices.{slice_of}
 use Rattle.cov_model.specs.Sound.{ModelView}
-use Rattle.cov_model.specs.Rows.{is_complete}
-use Rattle.cov_model.specs.Valid.{is_valid}
 use Rattle.definitions.specs.Demand.{demanded_sets, demanded_tuples, is_among}
 use Rattle.tuple_index.specs.Plan.{PlanView, plan_of, set_at}
 use Rattle.shared_marks.specs.declared.holding.Holding.{Holding}
 use Rattle.shared_marks.specs.declared.lines.Line.{Line}
 use Rattle.shared_marks.specs.Adding.{Adds, Marks, nothing}
+use Rattle.shared_marks.specs.Blocks.{is_plain, is_positive}
 use Rattle.shared_marks.specs.Lines.{AreLines, AreOpen, IsLine, front, is_of, is_of_some, tuples_before}
 use Rattle.shared_marks.specs.Seats.{SeatView, is_held, testing, with_holding}
 use Rattle.shared_marks.specs.Served.{base_of, is_served_at, served_between}
-use Rattle.shared_marks.proofs.AddingLemmas.{adds_both, adds_held, adds_then, marks_add, marks_then}
-use Rattle.shared_marks.proofs.PlaceLemmas.{base_end, between_all, none_served}
+use Rattle.shared_marks.proofs.AddingLemmas.{adds_held, adds_then, marks_add, marks_hold, marks_then}
+use Rattle.shared_marks.proofs.BlockLemmas.{served_parts}
+use Rattle.shared_marks.proofs.PlaceLemmas.{base_end, between_all}
 
 -- the tuples before the next set
 pub before_more : (plan : PlanView) (set : ℕ) → set < length plan.sizes → tuples_before plan (set + 1) ≡ tuples_before plan set + get_or plan.sizes set 0
@@ -214,85 +216,69 @@ found_open plan lines set line before between after found within is number line_
     }
 
 -- what one line more marks
-spread : (a r s : Bool) → ((a && s) || (r && s)) ≡ ((a || r) && s)
-spread true true true = refl
-spread true true false = refl
-spread true false s = or-false s
-spread false r s = refl
-
-pub line_more : (m : ModelView) (plan : PlanView) (row : List (Option ℕ)) (lines more : List Line) (line : Line) (seat between after : SeatView)
-    → plan ≡ plan_of m → more ≡ lines ++ line ∷ [] → Marks (λ place. is_of_some plan lines place && is_served_at m (row ∷ []) place) seat between
-    → Marks (served_between m row (base_of m line.set) (base_of m (line.set + 1))) between after
-    → Marks (λ place. is_of_some plan more place && is_served_at m (row ∷ []) place) seat after
-line_more m plan row lines more line seat between after planned are one two =
-    marks_then (λ place. is_of_some plan lines place && is_served_at m (row ∷ []) place)
-    (served_between m row (base_of m line.set) (base_of m (line.set + 1)))
-    (λ place. is_of_some plan more place && is_served_at m (row ∷ []) place) seat between after one two (λ place.
-    let served = is_served_at m (row ∷ []) place in
+pub line_more : (m : ModelView) (plan : PlanView) (rows : List (List (Option ℕ))) (lines more : List Line) (line : Line) (seat between after : SeatView)
+    → plan ≡ plan_of m → more ≡ lines ++ line ∷ [] → Marks (λ place. is_of_some plan lines place && is_served_at m rows place) seat between
+    → Marks (served_between m rows (base_of m line.set) (base_of m (line.set + 1))) between after
+    → Marks (λ place. is_of_some plan more place && is_served_at m rows place) seat after
+line_more m plan rows lines more line seat between after planned are one two =
+    marks_then (λ place. is_of_some plan lines place && is_served_at m rows place)
+    (served_between m rows (base_of m line.set) (base_of m (line.set + 1)))
+    (λ place. is_of_some plan more place && is_served_at m rows place) seat between after one two (λ place.
+    let served = is_served_at m rows place in
     ap (λ (p : PlanView). (is_of_some plan lines place && served) || (is_of p place line && served)) (sym planned)
-    ∙ spread (is_of_some plan lines place) (is_of plan place line) served
+    ∙ sym (and-or_distrib_right (is_of_some plan lines place) (is_of plan place line) served)
     ∙ ap (λ t. t && served)
     (ap (λ t. is_of_some plan lines place || t) (sym (or-false (is_of plan place line))) ∙ sym (list_any-append (is_of plan place) lines (line ∷ []))
     ∙ ap (λ ls. is_of_some plan ls place) (sym are)))
 
--- what a test without a negative value serves, by the sets in play
-pub open_adds : (m : ModelView) (plan : PlanView) (row : List (Option ℕ)) (lines : List Line) (upto : ℕ) (seat between after : SeatView) → plan ≡ plan_of m
-    → AreOpen plan lines upto seat.holds → Marks (λ place. is_of_some plan lines place && is_served_at m (row ∷ []) place) seat between
-    → Marks (served_between m row (base_of m upto) (length (demanded_tuples m))) between after → Adds (is_served_at m (row ∷ [])) seat after
-open_adds m plan row lines upto seat between after planned sets one two =
-    adds_both first second served seat between after (marks_add first seat between one) (marks_add second between after two) ends inside
+-- what rows serve, where all sets but those of the lines are held
+pub lines_add : (m : ModelView) (plan : PlanView) (rows : List (List (Option ℕ))) (lines : List Line) (upto : ℕ) (seat after : SeatView) → plan ≡ plan_of m
+    → AreOpen plan lines upto seat.holds → upto ≡ length plan.sets → Marks (λ place. is_of_some plan lines place && is_served_at m rows place) seat after
+    → Adds (is_served_at m rows) seat after
+lines_add m plan rows lines upto seat after planned sets all marked = record {
+  table = marked.table;
+  held = λ place given. marks_hold listed seat after marked place (covered place given);
+  marked = λ place among. elim (or_cases (is_among seat.holds.marked place) (listed place) (sym (marked.marked place) ∙ among)) [
+    | inl before ↦ or_left (is_among seat.holds.marked place) (served place) before
+    | inr is ↦ or_right (is_among seat.holds.marked place) (served place) (and_parts (is_of_some plan lines place) (served place) is).1
+  ];
+  share = (marks_add listed seat after marked).share;
+}
   where
     served : ℕ → Bool
-    served = is_served_at m (row ∷ [])
+    served = is_served_at m rows
 
-    first : ℕ → Bool
-    first place = is_of_some plan lines place && served place
+    listed : ℕ → Bool
+    listed place = is_of_some plan lines place && served place
 
-    second : ℕ → Bool
-    second = served_between m row (base_of m upto) (length (demanded_tuples m))
-
-    inside : (place : ℕ) → (first place || second place) ≡ true → served place ≡ true
-    inside place either = elim (or_cases (first place) (second place) either) [
-      | inl of_line ↦ (and_parts (is_of_some plan lines place) (served place) of_line).1
-      | inr behind ↦ (and_parts (nat_le (base_of m upto) place && nat_lt place (length (demanded_tuples m))) (served place) behind).1
+    covered : (place : ℕ) → (is_held seat.holds place || served place) ≡ true → (is_held seat.holds place || listed place) ≡ true
+    covered place given = elim (or_cases (is_held seat.holds place) (served place) given) [
+      | inl before ↦ or_left (is_held seat.holds place) (listed place) before
+      | inr is ↦
+          let range =
+          and_parts (nat_le 0 place && nat_lt place (length (demanded_tuples m))) (served place) (between_all m rows place ∙ is) in
+          let below = ltb-true place (length (demanded_tuples m)) (and_parts (nat_le 0 place) (nat_lt place (length (demanded_tuples m))) range.0).1 in
+          let end : tuples_before plan upto ≡ length (demanded_tuples m) =
+          ap (λ n. tuples_before plan n) all ∙ ap (λ (p : PlanView). tuples_before p (length p.sets)) planned
+          ∙ base_end m (length (demanded_sets m)) (omega arith) in
+          elim (or_cases (is_of_some plan lines place) (is_held seat.holds place) (sets.rest place (omega (arith, below, end)))) [
+            | inl of_line ↦ or_right (is_held seat.holds place) (listed place) (and_from (is_of_some plan lines place) (served place) of_line is)
+            | inr already ↦ or_left (is_held seat.holds place) (listed place) already
+          ]
     ]
 
-    ends : (place : ℕ) → served place ≡ true → (is_held seat.holds place || (first place || second place)) ≡ true
-    ends place is =
-        elim (cases_lt place (base_of m upto)) [
-          | inl early ↦
-              elim (or_cases (is_of_some plan lines place) (is_held seat.holds place)
-              (sets.rest place (subst (λ (p : PlanView). place < tuples_before p upto) (sym planned) early))) [
-                | inl of_line ↦
-                    or_right (is_held seat.holds place) (first place || second place)
-                    (or_left (first place) (second place) (and_from (is_of_some plan lines place) (served place) of_line is))
-                | inr already ↦ or_left (is_held seat.holds place) (first place || second place) already
-              ]
-          | inr late ↦
-              let range = and_parts (nat_le 0 place && nat_lt place (length (demanded_tuples m))) (served place) (between_all m row place ∙ is) in
-              let below = (and_parts (nat_le 0 place) (nat_lt place (length (demanded_tuples m))) range.0).1 in
-              or_right (is_held seat.holds place) (first place || second place)
-              (or_right (first place) (second place)
-              (and_from (nat_le (base_of m upto) place && nat_lt place (length (demanded_tuples m))) (served place)
-              (and_from (nat_le (base_of m upto) place) (nat_lt place (length (demanded_tuples m))) (le-leb (base_of m upto) place late) below) is))
-        ]
+-- what rows serve, where those with a negative value are marked first
+pub block_adds : (m : ModelView) (plan : PlanView) (rows tests : List (List (Option ℕ))) (lines : List Line) (upto : ℕ) (start seat after : SeatView)
+    → plan ≡ plan_of m → AreOpen plan lines upto start.holds → upto ≡ length plan.sets → tests ≡ filter (is_plain m) rows
+    → Marks (is_served_at m (filter (λ cells. not (is_positive (slice_of m cells))) rows)) start seat
+    → Marks (λ place. is_of_some plan lines place && is_served_at m tests place) seat after → Adds (is_served_at m rows) start after
+block_adds m plan rows tests lines upto start seat after planned sets all plain first second =
+    adds_then negatives (is_served_at m tests) (is_served_at m rows) start seat after adds
+    (lines_add m plan tests lines upto seat after planned (open_kept plan lines upto negatives start seat adds sets) all second) (λ place.
+    or_comm (negatives place) (is_served_at m tests place) ∙ ap (λ ts. is_served_at m ts place || negatives place) plain ∙ served_parts m rows place)
+  where
+    negatives : ℕ → Bool
+    negatives = is_served_at m (filter (λ cells. not (is_positive (slice_of m cells))) rows)
 
--- where the row is no test
-pub no_test : (m : ModelView) (row : List (Option ℕ)) (seat : SeatView) → (is_complete row && is_valid m row) ≡ false → Adds (is_served_at m (row ∷ [])) seat seat
-no_test m row seat none =
-    adds_held (is_served_at m (row ∷ [])) seat (λ place is.
-    absurd (false≢true (sym (none_served m (row ∷ []) place (ap (λ b. cond b (row ∷ []) []) none)) ∙ is)))
-
--- where no set is in play
-pub none_open : (m : ModelView) (plan : PlanView) (row : List (Option ℕ)) (lines : List Line) (upto : ℕ) (seat : SeatView) → plan ≡ plan_of m
-    → AreOpen plan lines upto seat.holds → lines ≡ [] → upto ≡ length plan.sets → Adds (is_served_at m (row ∷ [])) seat seat
-none_open m plan row lines upto seat planned sets none all =
-    adds_held (is_served_at m (row ∷ [])) seat (λ place is.
-    let range =
-    and_parts (nat_le 0 place && nat_lt place (length (demanded_tuples m))) (is_served_at m (row ∷ []) place) (between_all m row place ∙ is) in
-    let below =
-    ltb-true place (length (demanded_tuples m)) (and_parts (nat_le 0 place) (nat_lt place (length (demanded_tuples m))) range.0).1 in
-    let end : tuples_before plan upto ≡ length (demanded_tuples m) =
-    ap (λ n. tuples_before plan n) all ∙ ap (λ (p : PlanView). tuples_before p (length p.sets)) planned
-    ∙ base_end m (length (demanded_sets m)) (omega arith) in
-    sym (ap (λ ls. is_of_some plan ls place || is_held seat.holds place) none) ∙ sets.rest place (omega (arith, below, end)))
+    adds : Adds negatives start seat
+    adds = marks_add negatives start seat first

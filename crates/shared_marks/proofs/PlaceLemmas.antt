@@ -79,7 +79,7 @@ elsewhere base size place (Some k) within (inr past) = ne_eqb (base + k) place (
 -- of the places of a set it is the one of its rank
 pub between_is : (m : ModelView) (row : List (Option ℕ)) (i : ℕ) (found : Option ℕ) → (is_complete row && is_valid m row) ≡ true
     → i < length (demanded_sets m) → IsServedRank m (set_at (plan_of m) i) row found → (place : ℕ)
-    → served_between m row (base_of m i) (base_of m i + length (tuples_of m (set_at (plan_of m) i))) place
+    → served_between m (row ∷ []) (base_of m i) (base_of m i + length (tuples_of m (set_at (plan_of m) i))) place
     ≡ is_rank (option_map (λ rank. base_of m i + rank) found) place
 between_is m row i found test within is place =
     elim (cases_lt place base) [
@@ -123,20 +123,20 @@ between_is m row i found test within is place =
 -- up to the next set
 pub one_set : (m : ModelView) (row : List (Option ℕ)) (i : ℕ) (found : Option ℕ) → (is_complete row && is_valid m row) ≡ true
     → i < length (demanded_sets m) → IsServedRank m (set_at (plan_of m) i) row found → (place : ℕ)
-    → served_between m row (base_of m i) (base_of m (i + 1)) place ≡ is_rank (option_map (λ rank. base_of m i + rank) found) place
+    → served_between m (row ∷ []) (base_of m i) (base_of m (i + 1)) place ≡ is_rank (option_map (λ rank. base_of m i + rank) found) place
 one_set m row i found test within is place =
-    ap (λ end. served_between m row (base_of m i) end place) (base_more m i within) ∙ between_is m row i found test within is place
+    ap (λ end. served_between m (row ∷ []) (base_of m i) end place) (base_more m i within) ∙ between_is m row i found test within is place
 
 -- places of a range are those up to one between, and those from there on
-pub between_more : (m : ModelView) (row : List (Option ℕ)) (from middle to place : ℕ) → from ≤ middle → middle ≤ to
-    → (served_between m row from middle place || served_between m row middle to place) ≡ served_between m row from to place
-between_more m row from middle to place first second =
+pub between_more : (m : ModelView) (rows : List (List (Option ℕ))) (from middle to place : ℕ) → from ≤ middle → middle ≤ to
+    → (served_between m rows from middle place || served_between m rows middle to place) ≡ served_between m rows from to place
+between_more m rows from middle to place first second =
     elim (cases_lt place middle) [
       | inl before ↦
           let low = lt-ltb place middle before in
           let high = lt-leb middle place before in
           let below = lt-ltb place to (omega (arith, before, second)) in
-          rw (low, high, below) (or-false ((nat_le from place && true) && is_served_at m (row ∷ []) place))
+          rw (low, high, below) (or-false ((nat_le from place && true) && is_served_at m rows place))
       | inr past ↦
           let least = le-leb from place (omega (arith, past, first)) in
           let low = le-ltb place middle past in
@@ -145,25 +145,25 @@ between_more m row from middle to place first second =
     ]
 
 -- an empty range has no place
-pub between_none : (m : ModelView) (row : List (Option ℕ)) (at place : ℕ) → served_between m row at at place ≡ false
-between_none m row at place =
-    and_left (nat_le at place && nat_lt place at) (is_served_at m (row ∷ []) place)
+pub between_none : (m : ModelView) (rows : List (List (Option ℕ))) (at place : ℕ) → served_between m rows at at place ≡ false
+between_none m rows at place =
+    and_left (nat_le at place && nat_lt place at) (is_served_at m rows place)
     (elim (cases_lt place at) [
       | inl before ↦ and_left (nat_le at place) (nat_lt place at) (lt-leb at place before)
       | inr past ↦ and_right (nat_le at place) (nat_lt place at) (le-ltb place at past)
     ])
 
 -- all places are those of the demanded tuples
-pub between_all : (m : ModelView) (row : List (Option ℕ)) (place : ℕ)
-    → served_between m row 0 (length (demanded_tuples m)) place ≡ is_served_at m (row ∷ []) place
-between_all m row place = elim (cases_lt place (length (demanded_tuples m))) [
+pub between_all : (m : ModelView) (rows : List (List (Option ℕ))) (place : ℕ)
+    → served_between m rows 0 (length (demanded_tuples m)) place ≡ is_served_at m rows place
+between_all m rows place = elim (cases_lt place (length (demanded_tuples m))) [
   | inl within ↦
-      ap (λ b. b && is_served_at m (row ∷ []) place)
+      ap (λ b. b && is_served_at m rows place)
       (and_from (nat_le 0 place) (nat_lt place (length (demanded_tuples m))) (le-leb 0 place (omega arith)) (lt-ltb place (length (demanded_tuples m)) within))
   | inr past ↦
-      and_left (nat_le 0 place && nat_lt place (length (demanded_tuples m))) (is_served_at m (row ∷ []) place)
+      and_left (nat_le 0 place && nat_lt place (length (demanded_tuples m))) (is_served_at m rows place)
       (and_right (nat_le 0 place) (nat_lt place (length (demanded_tuples m))) (le-ltb place (length (demanded_tuples m)) past))
-      ∙ sym (ap (λ (t : Option (List (Option ℕ))). option_map_or (is_served m (tests_of m (row ∷ []))) t false)
+      ∙ sym (ap (λ (t : Option (List (Option ℕ))). option_map_or (is_served m (tests_of m rows)) t false)
       (slice_get_past (demanded_tuples m) place past))
 ]
 

@@ -1,16 +1,17 @@
 -- The rows of a file in parts, and which of them are tests.
-use Rattle.std.proofs.Common.{◌≡◌, ℕ, ◌+◌, ◌-◌, ◌<◌, ◌≤◌, true, List, ◌++◌, map, length, take, drop, Option, None, is_some, ◌∙◌, sym, ap, arith}
+use Rattle.std.proofs.Common.{◌≡◌, ℕ, ◌+◌, ◌-◌, ◌<◌, ◌≤◌, Bool, true, List, [], ◌∷◌, ◌++◌, map, length, get_or, take, drop, Option, None, is_some, ◌∙◌, sym, ap, arith}
 use Rattle.std.specs.Prelude.{◌==◌, nat_lt, slice_range}
-use Rattle.std.specs.List.{list_all}
+use Rattle.std.specs.List.{filter, list_all}
 use Rattle.std.proofs.Math.Seq.{take-add}
 use Rattle.std.proofs.lemmas.Bool.{and_from, eq-eqb, lt-ltb}
-use Rattle.std.proofs.lemmas.List.{drop-drop, drop-map, take-map, take_all}
-use Rattle.std.proofs.lemmas.List.Elements.{All-get_or}
+use Rattle.std.proofs.lemmas.List.{drop-drop, drop-map, map-append, take-map, take_all, take_more}
+use Rattle.std.proofs.lemmas.List.Elements.{All-get_or, filter-append}
 use Rattle.std.proofs.lemmas.List.Sums.{AllPass-from_list_all}
 use Rattle.cov_model.specs.Fits.{FitsModel}
 use Rattle.cov_model.specs.Sound.{ModelView, param_at}
 use Rattle.cov_model.specs.Rows.{is_assigned, is_complete, value_in}
 use Rattle.cov_model.specs.Valid.{has_value, is_row, param_numbers}
+use Rattle.row_text.specs.declared.row_file.FileRow.{FileRow}
 use Rattle.definitions.proofs.Members.{all_pass}
 use Rattle.definitions.proofs.SliceLemmas.{of_params}
 
@@ -40,3 +41,11 @@ complete_is_row m cells fits complete =
     let assigned = All-get_or (λ (cell : Option ℕ). is_some cell ≡ true) cells p None within (AllPass-from_list_all (λ cell. is_some cell) cells complete) in
     and_from (is_assigned cells p) (nat_lt (value_in cells p) (length (param_at m.params p).values)) assigned
     (lt-ltb (value_in cells p) (length (param_at m.params p).values) (fits.exist p assigned))))
+
+-- one row of a file more, of those that pass a test
+pub filter_more : (f : List (Option ℕ) → Bool) (rows : List FileRow) (i : ℕ) (d : FileRow) → i < length rows
+    → filter f (map (λ row. row.cells) (take (i + 1) rows)) ≡ filter f (map (λ row. row.cells) (take i rows)) ++ filter f ((get_or rows i d).cells ∷ [])
+filter_more f rows i d within =
+    ap (λ rs. filter f (map (λ (row : FileRow). row.cells) rs)) (take_more rows i d within)
+    ∙ ap (filter f) (map-append (λ (row : FileRow). row.cells) (take i rows) (get_or rows i d ∷ []))
+    ∙ filter-append f (map (λ (row : FileRow). row.cells) (take i rows)) ((get_or rows i d).cells ∷ [])

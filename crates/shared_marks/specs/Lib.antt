@@ -4,4 +4,5 @@ pub mod Steps
 pub mod Served
 pub mod Digits
 pub mod Lines
+pub mod Blocks
 pub mod Adding

@@ -1,12 +1,8 @@
 -- Lines of demanded sets, which are prepared once for many rows. Sets that stand one after another mostly
 -- begin with the same members and differ in the last.
-use Rattle.std.specs.Prelude.{◌≡◌, ℕ, ◌+◌, ◌-◌, ◌<◌, ◌≤◌, Bool, true, false, ◌&&◌, ◌||◌, List, length, map, nat_le, nat_lt, sum, take, Option, slice_index_or}
+use Rattle.std.specs.Prelude.{◌≡◌, ℕ, ◌+◌, ◌-◌, ◌<◌, ◌≤◌, Bool, true, false, ◌&&◌, ◌||◌, List, length, nat_le, nat_lt, sum, take, slice_index_or}
 use Rattle.std.specs.List.{list_any}
-use Rattle.cov_model.specs.Rows.{value_in}
-use Rattle.cov_model.specs.Sound.{ModelView}
-use Rattle.tuple_index.specs.Places.{place}
-use Rattle.tuple_index.specs.Plan.{PlanView, plan_of, set_at}
-use Rattle.shared_marks.specs.Digits.{own_slice}
+use Rattle.tuple_index.specs.Plan.{PlanView, set_at}
 use Rattle.shared_marks.specs.declared.holding.Holding.{Holding}
 use Rattle.shared_marks.specs.declared.lines.Line.{Line}
 use Rattle.shared_marks.specs.Seats.{is_held}
@@ -44,8 +40,3 @@ pub record AreOpen (plan : PlanView) (lines : List Line) (upto : ℕ) (held : Ho
   pub few : upto ≤ length plan.sets
   pub are : AreLines plan lines
   pub rest : (place : ℕ) → place < tuples_before plan upto → (is_of_some plan lines place || is_held held place) ≡ true
-
--- the place of a row's values of all members but the last
-abbrev pub IsFront : ModelView → List (Option ℕ) → ℕ → ℕ → Type 0
-IsFront m row i number =
-    number ≡ place (own_slice m row) (front (set_at (plan_of m) i)) (map (value_in row) (front (set_at (plan_of m) i)))

@@ -1,6 +1,6 @@
 -- Which demanded tuples rows serve, each told by its place among all demanded tuples: the number of those of
 -- the sets before, and its rank. (This project's rule.)
-use Rattle.std.specs.Prelude.{◌≡◌, ℕ, ◌+◌, ◌<◌, Bool, false, ◌&&◌, List, [], ◌∷◌, length, Option, Some, None, ◌==◌, nat_le, nat_lt, slice_get, sum, take, IfSome}
+use Rattle.std.specs.Prelude.{◌≡◌, ℕ, ◌+◌, ◌<◌, Bool, false, ◌&&◌, List, length, Option, Some, None, ◌==◌, nat_le, nat_lt, slice_get, sum, take, IfSome}
 use Rattle.std.specs.Option.{option_map_or}
 use Rattle.cov_model.specs.Sound.{ModelView}
 use Rattle.cov_model.specs.Valid.{serves}
@@ -21,9 +21,9 @@ abbrev pub PlacesAreRanks : Type 0
 PlacesAreRanks = (m : ModelView) (set rank : ℕ) → set < length (demanded_sets m) → rank < length (tuples_of m (set_at (plan_of m) set))
     → slice_get (demanded_tuples m) (base_of m set + rank) ≡ slice_get (tuples_of m (set_at (plan_of m) set)) rank
 
--- whether the place is from one on and before another, and the row serves its tuple
-abbrev pub served_between : ModelView → List (Option ℕ) → ℕ → ℕ → ℕ → Bool
-served_between m row from to place = (nat_le from place && nat_lt place to) && is_served_at m (row ∷ []) place
+-- whether the place is from one on and before another, and the rows serve its tuple
+abbrev pub served_between : ModelView → List (List (Option ℕ)) → ℕ → ℕ → ℕ → Bool
+served_between m rows from to place = (nat_le from place && nat_lt place to) && is_served_at m rows place
 
 -- whether a rank is this one
 abbrev pub is_rank : Option ℕ → ℕ → Bool

@@ -52,6 +52,17 @@ fn values_of(model: &TestModel, p: ParamNo) -> &[Value]
     model.params().as_slice()[p as usize].values.as_slice()
 }
 
+// How many values of a parameter aren't negative.
+pub(crate) fn radix_of(model: &TestModel, plan: &Plan, p: ParamNo) -> u32
+    requires plan { plan.now ≡ plan_of model.now }
+    requires param { p < length model.now.params }
+    ensures value { result ≡ length (positive_values model.now p) }
+    ensures few { result < 2 ^ 12 }
+{
+    model.assert_invariant();
+    plan.value_count(p, Slice::Positive) as u32
+}
+
 // The digit of a value that isn't negative, where its parameter may have any such value.
 fn positive_digit(model: &TestModel, plan: &Plan, p: ParamNo, v: ValueNo) -> Digit
     requires plan { plan.now ≡ plan_of model.now }
@@ -61,9 +72,8 @@ fn positive_digit(model: &TestModel, plan: &Plan, p: ParamNo, v: ValueNo) -> Dig
     ensures place { result.place ≡ place_of (positive_values model.now p) v }
     ensures radix { result.radix ≡ length (positive_values model.now p) }
 {
-    model.assert_invariant();
     let values = values_of(model, p);
-    let radix = plan.value_count(p, Slice::Positive) as u16;
+    let radix = radix_of(model, plan, p) as u16;
     // most parameters have no negative value
     let place = if radix as usize == values.len() {
         v

@@ -9,9 +9,11 @@
 //!   demanded tuple has a place, the base of its set plus its rank (`places_are_ranks`).
 #![tactic(auto)]
 
+mod block;
 mod digits;
 mod holding;
 mod lines;
+mod open;
 mod rule;
 mod served;
 mod table;

@@ -1,4 +1,4 @@
-ghost use Rattle.std.specs.Prelude.{◌≡◌, ◌&&◌, ◌+◌, ◌≤◌, ◌<◌, false, true, All, [], ◌∷◌, length, slice_range, sum};
+ghost use Rattle.std.specs.Prelude.{◌≡◌, ◌&&◌, ◌+◌, ◌≤◌, ◌<◌, true, All, [], ◌∷◌, length, slice_range, sum};
 ghost use Rattle.cov_model.specs.Fits.{FitsModel};
 ghost use Rattle.cov_model.specs.Rows.{is_complete};
 ghost use Rattle.cov_model.specs.Slices.{slice_of};
@@ -6,21 +6,19 @@ ghost use Rattle.cov_model.specs.Valid.{is_valid};
 ghost use Rattle.definitions.specs.Demand.{demanded_sets, demanded_tuples, is_among};
 ghost use Rattle.row_text.specs.RowFiles.{suite_seen};
 ghost use Rattle.tuple_index.specs.Places.{IsOwnSlice, has_part, start_of};
-ghost use Rattle.tuple_index.specs.Plan.{PlanView, plan_of, set_at};
-ghost use Rattle.shared_marks.specs.Adding.{Adds, Marks};
+ghost use Rattle.tuple_index.specs.Plan.{plan_of, set_at};
+ghost use Rattle.shared_marks.specs.Adding.{Marks};
 ghost use Rattle.shared_marks.specs.Digits.{AreDigits};
-ghost use Rattle.shared_marks.specs.Lines.{AreLines, AreOpen, IsFront, IsLine, is_of_some};
 ghost use Rattle.shared_marks.specs.Served.{IsServedRank, PlacesAreRanks, base_of, is_served_at, served_between};
 
 use crate::digits::{Digit, place_in_slice, put_digits};
-use crate::lines::{Line, OpenSets, front};
 use crate::table::{MarkSeat, SharedMarks};
 use cov_model::{Cells, ParamNo, Slice, TestModel};
-use row_text::RowFile;
+use row_text::{RowFile, is_complete};
 use tuple_index::Plan;
 
-/// The most parameters that a model has.
-const MOST_PARAMS: usize = 256;
+// The most parameters that a model has.
+pub(crate) const MOST_PARAMS: usize = 256;
 
 /// The place of a demanded tuple among all of them is the base of its set plus its rank (this project's
 /// rule).
@@ -40,25 +38,12 @@ pub fn count_tuples(plan: &Plan) -> u32
 }
 
 // Whether a row of a file is a test: it is complete and valid.
-fn is_test(model: &TestModel, cells: &Cells) -> bool
+pub(crate) fn is_test(model: &TestModel, cells: &Cells) -> bool
     requires { FitsModel model.now cells.now }
     ensures { result ≡ (is_complete cells.now && is_valid model.now cells.now) }
 {
-    is_complete(model, cells) && model.row_fault(cells).is_none()
-}
-
-// Whether a partial row gives every parameter a value.
-fn is_complete(model: &TestModel, cells: &Cells) -> bool
-    requires { FitsModel model.now cells.now }
-    ensures { result ≡ is_complete cells.now }
-{
-    let count = model.params().len() as ParamNo;
-    for p in 0..count {
-        if cells.get(p).is_none() {
-            return false;
-        }
-    }
-    true
+    model.assert_invariant();
+    is_complete(cells) && model.row_fault(cells).is_none()
 }
 
 // Whether a set has tuples in a slice.
@@ -116,87 +101,7 @@ fn served_rank(
     Some(first_rank(plan, set, slice) + place_in_slice(model, cells, members, digits))
 }
 
-// The place of a valid row's values of all members of a line's set but the last. It is at hand where the line
-// before begins with the same members.
-fn front_place(
-    model: &TestModel,
-    plan: &Plan,
-    line: Line,
-    cells: &Cells,
-    digits: &[Digit],
-    kept: u32,
-) -> u32
-    requires plan { plan.now ≡ plan_of model.now }
-    requires row { is_valid model.now cells.now ≡ true }
-    requires slice { slice_of model.now cells.now ≡ Slice.Positive }
-    requires digits { AreDigits model.now cells.now digits.now }
-    requires line { IsLine plan.now line }
-    requires kept { line.is_fresh ≡ false → IsFront model.now cells.now line.set kept }
-    ensures { IsFront model.now cells.now line.set result }
-{
-    if !line.is_fresh {
-        return kept;
-    }
-    plan.assert_invariant();
-    place_in_slice(model, cells, front(plan.members(line.set)), digits)
-}
-
 impl SharedMarks {
-    // Marks the place of the demanded tuple of a line's set that a test without a negative value serves.
-    fn mark_line(
-        &self,
-        seat: &mut MarkSeat,
-        model: &TestModel,
-        plan: &Plan,
-        line: Line,
-        cells: &Cells,
-        digits: &[Digit],
-        number: u32,
-    )
-        requires table { seat.old.table ≡ self.now.table }
-        requires plan { plan.now ≡ plan_of model.now }
-        requires bits { self.now.bits ≡ length (demanded_tuples model.now) }
-        requires test { (is_complete cells.now && is_valid model.now cells.now) ≡ true }
-        requires slice { slice_of model.now cells.now ≡ Slice.Positive }
-        requires digits { AreDigits model.now cells.now digits.now }
-        requires line { IsLine plan.now line }
-        requires number { IsFront model.now cells.now line.set number }
-        ensures { Marks (served_between model.now cells.now (base_of model.now line.set) (base_of model.now (line.set + 1))) seat.old seat.new }
-    {
-        let _ = model;
-        let _ = cells;
-        plan.assert_invariant();
-        let digit = digits[line.last as usize];
-        let rank = number * u32::from(digit.radix) + u32::from(digit.place);
-        self.mark_lightly(seat, line.base + rank);
-    }
-
-    // Marks the places of the demanded tuples of the lines' sets that a test without a negative value serves.
-    fn mark_lines(
-        &self,
-        seat: &mut MarkSeat,
-        model: &TestModel,
-        plan: &Plan,
-        lines: &[Line],
-        cells: &Cells,
-        digits: &[Digit],
-    )
-        requires table { seat.old.table ≡ self.now.table }
-        requires plan { plan.now ≡ plan_of model.now }
-        requires bits { self.now.bits ≡ length (demanded_tuples model.now) }
-        requires test { (is_complete cells.now && is_valid model.now cells.now) ≡ true }
-        requires slice { slice_of model.now cells.now ≡ Slice.Positive }
-        requires lines { AreLines plan.now lines.now }
-        requires digits { AreDigits model.now cells.now digits.now }
-        ensures { Marks (λ place. is_of_some plan.now lines.now place && is_served_at model.now (cells.now ∷ []) place) seat.old seat.new }
-    {
-        let mut number = 0;
-        for line in lines {
-            number = front_place(model, plan, *line, cells, digits, number);
-            self.mark_line(seat, model, plan, *line, cells, digits, number);
-        }
-    }
-
     // Marks the place of the demanded tuple of a set that a test serves, if there is one.
     fn mark_set(
         &self,
@@ -215,7 +120,7 @@ impl SharedMarks {
         requires test { (is_complete cells.now && is_valid model.now cells.now) ≡ true }
         requires slice { slice ≡ slice_of model.now cells.now }
         requires digits { AreDigits model.now cells.now digits.now }
-        ensures { Marks (served_between model.now cells.now (base_of model.now set) (base_of model.now (set + 1))) seat.old seat.new }
+        ensures { Marks (served_between model.now (cells.now ∷ []) (base_of model.now set) (base_of model.now (set + 1))) seat.old seat.new }
     {
         plan.assert_invariant();
         match served_rank(model, plan, set, cells, slice, digits) {
@@ -242,7 +147,7 @@ impl SharedMarks {
         requires test { (is_complete cells.now && is_valid model.now cells.now) ≡ true }
         requires slice { slice ≡ slice_of model.now cells.now }
         requires digits { AreDigits model.now cells.now digits.now }
-        ensures { Marks (served_between model.now cells.now (base_of model.now from) (length (demanded_tuples model.now))) seat.old seat.new }
+        ensures { Marks (served_between model.now (cells.now ∷ []) (base_of model.now from) (length (demanded_tuples model.now))) seat.old seat.new }
     {
         for set in from..plan.set_count() {
             self.mark_set(seat, model, plan, set, cells, slice, digits);
@@ -250,7 +155,13 @@ impl SharedMarks {
     }
 
     // Marks the place of each demanded tuple that a row serves, if it is a test.
-    fn mark_row(&self, seat: &mut MarkSeat, model: &TestModel, plan: &Plan, cells: &Cells)
+    pub(crate) fn mark_row(
+        &self,
+        seat: &mut MarkSeat,
+        model: &TestModel,
+        plan: &Plan,
+        cells: &Cells,
+    )
         requires table { seat.old.table ≡ self.now.table }
         requires plan { plan.now ≡ plan_of model.now }
         requires bits { self.now.bits ≡ length (demanded_tuples model.now) }
@@ -264,84 +175,6 @@ impl SharedMarks {
         let mut digits = [Digit { place: 0, radix: 0 }; MOST_PARAMS];
         put_digits(model, plan, cells, slice, &mut digits);
         self.mark_sets(seat, model, plan, 0, cells, slice, &digits);
-    }
-
-    // Marks the place of each demanded tuple of the open sets that a test without a negative value serves; the
-    // seat holds those of the other sets.
-    fn mark_open_sets(
-        &self,
-        seat: &mut MarkSeat,
-        model: &TestModel,
-        plan: &Plan,
-        in_play: &OpenSets,
-        cells: &Cells,
-    )
-        requires table { seat.old.table ≡ self.now.table }
-        requires plan { plan.now ≡ plan_of model.now }
-        requires bits { self.now.bits ≡ length (demanded_tuples model.now) }
-        requires in_play { AreOpen plan.now in_play.now.lines.items in_play.now.upto seat.old.holds }
-        requires test { (is_complete cells.now && is_valid model.now cells.now) ≡ true }
-        requires slice { slice_of model.now cells.now ≡ Slice.Positive }
-        ensures { Adds (is_served_at model.now (cells.now ∷ [])) seat.old seat.new }
-    {
-        let slice = Slice::Positive;
-        let mut digits = [Digit { place: 0, radix: 0 }; MOST_PARAMS];
-        put_digits(model, plan, cells, slice, &mut digits);
-        self.mark_lines(seat, model, plan, in_play.lines.as_slice(), cells, &digits);
-        self.mark_sets(seat, model, plan, in_play.upto, cells, slice, &digits);
-    }
-
-    // Marks the place of each demanded tuple that a row serves, if it is a test and the seat doesn't hold the
-    // place.
-    fn mark_open_row(
-        &self,
-        seat: &mut MarkSeat,
-        model: &TestModel,
-        plan: &Plan,
-        in_play: &OpenSets,
-        cells: &Cells,
-    )
-        requires table { seat.old.table ≡ self.now.table }
-        requires plan { plan.now ≡ plan_of model.now }
-        requires bits { self.now.bits ≡ length (demanded_tuples model.now) }
-        requires in_play { AreOpen plan.now in_play.now.lines.items in_play.now.upto seat.old.holds }
-        requires fits { FitsModel model.now cells.now }
-        ensures { Adds (is_served_at model.now (cells.now ∷ [])) seat.old seat.new }
-    {
-        match model.slice_of(cells) {
-            Slice::Negative(_, _) => self.mark_row(seat, model, plan, cells),
-            Slice::Positive => {
-                if !in_play.are_none(plan) && is_test(model, cells) {
-                    self.mark_open_sets(seat, model, plan, in_play, cells);
-                }
-            }
-        }
-    }
-
-    // Marks what `mark_served` marks, but for places that the seat holds, by the sets that are open.
-    pub(crate) fn mark_open(
-        &self,
-        seat: &mut MarkSeat,
-        model: &TestModel,
-        plan: &Plan,
-        in_play: &OpenSets,
-        file: &RowFile,
-        from: u32,
-        to: u32,
-    )
-        requires table { seat.old.table ≡ self.now.table }
-        requires plan { plan.now ≡ plan_of model.now }
-        requires bits { self.now.bits ≡ length (demanded_tuples model.now) }
-        requires in_play { AreOpen plan.now in_play.now.lines.items in_play.now.upto seat.old.holds }
-        requires fits { All (λ row. FitsModel model.now row.cells) file.now.rows }
-        requires ordered { from ≤ to }
-        requires within { to ≤ length file.now.rows }
-        ensures { Adds (is_served_at model.now (slice_range (suite_seen file.now) from to)) seat.old seat.new }
-    {
-        let part = &file.rows.as_slice()[from as usize..to as usize];
-        for row in part {
-            self.mark_open_row(seat, model, plan, in_play, &row.cells);
-        }
     }
 
     /// Marks the place of each demanded tuple that some test serves of the rows from number `from` up to but

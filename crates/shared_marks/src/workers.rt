@@ -82,8 +82,8 @@ fn mark_rounds<R: Threads + Sync, G: Gate + Sync>(
         let in_play = OpenSets::find(alloc, table, &mut seat, plan)?;
         let to = count.min(from + from.max(FIRST_ROUND));
         seat = mark_range(
-            rt, table, seat, model, plan, &in_play, file, from, to, 1, workers, gate,
-        );
+            rt, alloc, table, seat, model, plan, &in_play, file, from, to, 1, workers, gate,
+        )?;
         if to == count {
             return Ok(seat);
         }
@@ -103,6 +103,7 @@ fn share(count: u32, first: u32, workers: u32) -> u32
 // with all that they marked, and with its share.
 fn mark_range<R: Threads + Sync, G: Gate + Sync>(
     rt: &R,
+    alloc: Global,
     table: &SharedMarks,
     mut seat: MarkSeat,
     model: &TestModel,
@@ -114,7 +115,7 @@ fn mark_range<R: Threads + Sync, G: Gate + Sync>(
     worker: u32,
     workers: u32,
     gate: &G,
-) -> MarkSeat
+) -> Result<MarkSeat, NoMemory>
     requires table { seat.table ≡ table.now.table }
     requires plan { plan.now ≡ plan_of model.now }
     requires bits { table.now.bits ≡ length (demanded_tuples model.now) }
@@ -122,43 +123,47 @@ fn mark_range<R: Threads + Sync, G: Gate + Sync>(
     requires fits { All (λ row. FitsModel model.now row.cells) file.now.rows }
     requires ordered { from ≤ to }
     requires within { to ≤ length file.now.rows }
+    requires few { length file.now.rows ≤ 2 ^ 20 }
     requires some { 0 < workers }
     requires last { worker + workers ≤ 65 }
-    ensures { Adds (is_served_at model.now (slice_range (suite_seen file.now) from to)) seat result }
+    ensures { IfOk result (λ after. Adds (is_served_at model.now (slice_range (suite_seen file.now) from to)) seat after) }
 {
     if workers == 1 {
         gate.come(worker);
-        table.mark_open(&mut seat, model, plan, in_play, file, from, to);
-        return seat;
+        table.mark_open(alloc, &mut seat, model, plan, in_play, file, from, to)?;
+        return Ok(seat);
     }
     let half = workers / 2;
     let next = worker + half;
     let rest = workers - half;
     let middle = from + share(to - from, half, workers);
     let other = table.split(&mut seat);
-    let (mut seat, other) = join(
+    let (first, second) = join(
         rt,
-        move || -> MarkSeat
+        move || -> Result<MarkSeat, NoMemory>
             requires { IsSync R.row × IsSync G.row × (seat.table ≡ table.now.table) × (plan.now ≡ plan_of model.now) × AreOpen plan.now in_play.now.lines.items in_play.now.upto seat.holds
                 × (table.now.bits ≡ length (demanded_tuples model.now)) × All (λ row. FitsModel model.now row.cells) file.now.rows
-                × (from ≤ middle) × (middle ≤ length file.now.rows) × (0 < half) × (worker + half ≤ 65) }
-            ensures { Adds (is_served_at model.entry.now (slice_range (suite_seen file.entry.now) from middle)) seat result }
+                × (from ≤ middle) × (middle ≤ length file.now.rows) × (length file.now.rows ≤ 2 ^ 20) × (0 < half) × (worker + half ≤ 65) }
+            ensures { IfOk result (λ after. Adds (is_served_at model.entry.now (slice_range (suite_seen file.entry.now) from middle)) seat after) }
         {
             mark_range(
-                rt, table, seat, model, plan, in_play, file, from, middle, worker, half, gate,
+                rt, alloc, table, seat, model, plan, in_play, file, from, middle, worker, half,
+                gate,
             )
         },
-        move || -> MarkSeat
+        move || -> Result<MarkSeat, NoMemory>
             requires { IsSync R.row × IsSync G.row × (other.table ≡ table.now.table) × (plan.now ≡ plan_of model.now) × AreOpen plan.now in_play.now.lines.items in_play.now.upto other.holds
                 × (table.now.bits ≡ length (demanded_tuples model.now)) × All (λ row. FitsModel model.now row.cells) file.now.rows
-                × (middle ≤ to) × (to ≤ length file.now.rows) × (0 < rest) × (next + rest ≤ 65) }
-            ensures { Adds (is_served_at model.entry.now (slice_range (suite_seen file.entry.now) middle to)) other result }
+                × (middle ≤ to) × (to ≤ length file.now.rows) × (length file.now.rows ≤ 2 ^ 20) × (0 < rest) × (next + rest ≤ 65) }
+            ensures { IfOk result (λ after. Adds (is_served_at model.entry.now (slice_range (suite_seen file.entry.now) middle to)) other after) }
         {
             mark_range(
-                rt, table, other, model, plan, in_play, file, middle, to, next, rest, gate,
+                rt, alloc, table, other, model, plan, in_play, file, middle, to, next, rest, gate,
             )
         },
     );
+    let mut seat = first?;
+    let other = second?;
     table.join(&mut seat, other);
-    seat
+    Ok(seat)
 }

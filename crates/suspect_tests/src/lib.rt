@@ -6,6 +6,8 @@ mod candidates;
 #[cfg(test)]
 mod lists;
 #[cfg(test)]
+mod long_files;
+#[cfg(test)]
 mod refusals;
 #[cfg(test)]
 mod results;

@@ -96,7 +96,7 @@ const TEXTS: &[(&str, u32, &[u8], &str)] = &[
 ];
 
 // The text of the suspicious tuples of a file of results, where nothing is refused.
-fn text_of(alloc: Global, text: &str, order: u32, file: &[u8]) -> Option<MemSink>
+pub(crate) fn text_of(alloc: Global, text: &str, order: u32, file: &[u8]) -> Option<MemSink>
     requires { 1 ≤ order }
 {
     let (model, _) = read(alloc, text, &options(order)).ok()?;

@@ -6,6 +6,7 @@ pub mod WalkLemmas
 pub mod SetCountLemmas
 pub mod RowListLemmas
 pub mod RowSetLemmas
+pub mod ValueRowLemmas
 pub mod RowBitLemmas
 pub mod CountingSteps
 pub mod SetLemmas

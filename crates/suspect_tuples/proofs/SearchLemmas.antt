@@ -1,6 +1,10 @@
 -- What holds of the rows of a file of results, and of the number of candidates.
-use Rattle.std.proofs.Common.{◌≡◌, ℕ, ◌*◌, ◌<◌, ◌^◌, Bool, List, [], ◌∷◌, map, filter, length, All, Option, inl, inr, ap, subst, ◌∙◌, arith}
+use Rattle.std.proofs.Common.{◌≡◌, ℕ, ◌*◌, ◌<◌, ◌≤◌, ◌^◌, Bool, List, [], ◌∷◌, map, filter, length, All, Option, inl, inr, ap, subst, ◌∙◌, arith}
 use Rattle.std.specs.Prelude.{zip}
+use Rattle.std.proofs.Math.Nat.{min-le_left}
+use Rattle.std.proofs.lemmas.List.{length-map}
+use Rattle.std.proofs.lemmas.Slice.Zip.{length-zip}
+use Rattle.value_text.proofs.ListLemmas.{length-filter-le}
 use Rattle.cov_model.specs.Fits.{FitsModel}
 use Rattle.cov_model.specs.Sound.{ModelView, IsSound}
 use Rattle.definitions.proofs.Members.{Has, all_members, member_of_all, of_filter, of_map}
@@ -42,3 +46,9 @@ pub told_candidates : (m : ModelView) (failing : List (List (Option ℕ))) (rows
     → sets ≡ told (length (suspect_sets m)) → candidates ≡ told (rows * sets) → candidates ≡ told (candidate_count m failing)
 told_candidates m failing rows sets candidates many counted multiplied =
     multiplied ∙ ap (λ n. told (n * sets)) many ∙ ap (λ n. told (length failing * n)) counted ∙ told-product (length failing) (length (suspect_sets m))
+
+-- rows that are taken are no more than all
+pub few_kept : (rows : List (List (Option ℕ))) (failed : List Bool) (test : List (Option ℕ) × Bool → Bool)
+    → length (map (λ row. row.0) (filter test (zip rows failed))) ≤ length rows
+few_kept rows failed test =
+    omega (arith, length-map (filter test (zip rows failed)) (λ row. row.0), length-filter-le test (zip rows failed), length-zip rows failed, min-le_left (length rows) (length failed))

@@ -7,3 +7,5 @@ pub mod Edges
 pub mod SetCounts
 pub mod Sets
 pub mod RowBits
+pub mod ValueRows
+pub mod RowTables

@@ -16,7 +16,3 @@ pub record AreBefore (first : ℕ) (set : List ℕ) : Type 0 where
 -- each row has a place for each of the parameters
 abbrev pub AreWide : ModelView → List (List (Option ℕ)) → Type 0
 AreWide m rows = All (λ row. length row ≡ length m.params) rows
-
--- and for each parameter of a tuple
-abbrev pub HavePlaces : List (ℕ × ℕ) → List (List (Option ℕ)) → Type 0
-HavePlaces tuple rows = All (λ row. All (λ pair. pair.0 < length row) tuple) rows

@@ -3,8 +3,8 @@ ghost use Rattle.cov_model.specs.Rows.{is_complete};
 ghost use Rattle.suspect_tuples.specs.Suspects.{failing_rows, incomplete_rows, passing_rows};
 
 use crate::row_list::RowList;
-use cov_model::{Cells, ParamNo};
-use row_text::FileRow;
+use cov_model::Cells;
+use row_text::{FileRow, is_complete};
 use std::alloc::Global;
 use value_text::NoMemory;
 
@@ -14,20 +14,6 @@ pub(crate) struct CountedRows<'a> {
     pub passing: RowList<'a>,
     pub failing: RowList<'a>,
     pub incomplete: u64,
-}
-
-// Whether a partial row gives every parameter a value.
-fn is_complete(cells: &Cells) -> bool
-    requires { length cells.now < 2 ^ 16 }
-    ensures { result ≡ is_complete cells.now }
-{
-    let count = cells.len() as ParamNo;
-    for p in 0..count {
-        if cells.get(p).is_none() {
-            return false;
-        }
-    }
-    true
 }
 
 impl<'a> CountedRows<'a> {

@@ -22,6 +22,7 @@ mod suspect_fault;
 mod suspect_list;
 mod take_last;
 mod text;
+mod value_rows;
 
 pub use reading::read_results;
 pub use result_file::{FlagList, ResultFile};

@@ -1,4 +1,5 @@
 ghost use Rattle.std.specs.Prelude.{◌≡◌, ◌<◌, ◌==◌, ◌++◌, ◌∷◌, [], All, filter, length, slice_index_or, IfOk, OnOk};
+ghost use Rattle.suspect_tuples.specs.RowBits.{has_at};
 ghost use Rattle.suspect_tuples.specs.Suspects.{gives, has_tuple};
 
 use cov_model::{Cells, ParamNo, ValueNo};
@@ -22,9 +23,11 @@ impl<'a> Model for RowList<'a> {
 
 // Whether a row gives a parameter this value.
 fn gives(row: &Cells, pair: (ParamNo, ValueNo)) -> bool
-    requires { pair.0 < length row.now }
     ensures { result ≡ gives row.now pair }
 {
+    if row.len() <= pair.0 as usize {
+        return false;
+    }
     match row.get(pair.0) {
         Some(value) => value == pair.1,
         None => false,
@@ -33,7 +36,6 @@ fn gives(row: &Cells, pair: (ParamNo, ValueNo)) -> bool
 
 // Whether a row gives each of the parameters its value.
 pub(crate) fn gives_all(row: &Cells, pairs: &[(ParamNo, ValueNo)]) -> bool
-    requires { All (λ pair. pair.0 < length row.now) pairs.now }
     ensures { result ≡ has_tuple pairs.now row.now }
 {
     pairs.iter().all(|pair| gives(row, *pair))
@@ -47,6 +49,13 @@ impl<'a> RowList<'a> {
         RowList {
             rows: Vec::new(alloc),
         }
+    }
+
+    // Whether the row at a place contains a tuple; there is none past the last row.
+    pub(crate) fn has_at(&self, at: usize, tuple: &[(ParamNo, ValueNo)]) -> bool
+        ensures { result ≡ has_at self.now tuple.now at }
+    {
+        at < self.len() && gives_all(self.row(at), tuple)
     }
 
     // The number of rows.
@@ -78,7 +87,6 @@ impl<'a> RowList<'a> {
         alloc: Global,
         pair: (ParamNo, ValueNo),
     ) -> Result<RowList<'a>, NoMemory>
-        requires { All (λ row. pair.0 < length row) self.now }
         ensures { IfOk result (λ rows. rows ≡ filter (λ row. gives row pair) self.now) }
     {
         let mut giving = RowList::new(alloc);

@@ -1,9 +1,7 @@
-ghost use Rattle.std.specs.Prelude.{◌≡◌, ◌+◌, ◌/◌, slice_index_or, IfOk};
-ghost use Rattle.suspect_tuples.specs.RowBits.{MarkHaving};
-ghost use Rattle.suspect_tuples.specs.Sets.{HavePlaces};
+ghost use Rattle.std.specs.Prelude.{◌≡◌, ◌+◌, ◌/◌, ◌<◌, ◌==◌, ◌||◌, ℕ, All, length, nat_lt, slice_index_or, IfOk};
+ghost use Rattle.bit_table.specs.Words.{mark_at};
+ghost use Rattle.definitions.specs.Demand.{is_among};
 
-use crate::row_list::{RowList, gives_all};
-use cov_model::{ParamNo, ValueNo};
 use std::alloc::Global;
 use std::marker::Model;
 use value_text::NoMemory;
@@ -32,22 +30,36 @@ pub(crate) fn word_count(rows: usize) -> usize
     rows / WORD_BITS + 1
 }
 
+// Marks a row.
+fn mark(words: &mut [u64], at: usize)
+    requires { at / 64 < length words.old }
+    ensures long { length words.new ≡ length words.old }
+    ensures marks { (other : ℕ) → mark_at words.new other ≡ (mark_at words.old other || at == other) }
+{
+    let word = words[at / WORD_BITS];
+    words[at / WORD_BITS] = word | (1 << (at % WORD_BITS));
+}
+
 impl RowSet {
-    // The rows that contain a tuple.
-    pub(crate) fn having(
-        alloc: Global,
-        rows: &RowList<'_>,
-        tuple: &[(ParamNo, ValueNo)],
-    ) -> Result<RowSet, NoMemory>
-        requires { HavePlaces tuple.now rows.now }
-        ensures { IfOk result (λ set. MarkHaving rows.now tuple.now set) }
+    // The rows of these numbers, of a list of so many rows.
+    pub(crate) fn of(alloc: Global, count: usize, numbers: &[u32]) -> Result<RowSet, NoMemory>
+        requires { All (λ number. number < count) numbers.now }
+        ensures { IfOk result (λ set. (at : ℕ) → mark_at set at ≡ is_among numbers.now at) }
     {
-        let mut words = vec![in alloc; 0u64; word_count(rows.len())]?;
-        for at in 0..rows.len() {
-            if gives_all(rows.row(at), tuple) {
-                let word = words[at / WORD_BITS];
-                words[at / WORD_BITS] = word | (1 << (at % WORD_BITS));
-            }
+        let mut words = vec![in alloc; 0u64; word_count(count)]?;
+        for number in numbers {
+            mark(&mut words, *number as usize);
+        }
+        Ok(RowSet { words })
+    }
+
+    // All rows of a list of so many.
+    pub(crate) fn all(alloc: Global, count: usize) -> Result<RowSet, NoMemory>
+        ensures { IfOk result (λ set. (at : ℕ) → mark_at set at ≡ nat_lt at count) }
+    {
+        let mut words = vec![in alloc; 0u64; word_count(count)]?;
+        for at in 0..count {
+            mark(&mut words, at);
         }
         Ok(RowSet { words })
     }

@@ -1,4 +1,4 @@
-ghost use Rattle.std.specs.Prelude.{◌≡◌, ◌≤◌, ◌++◌, [], All, drop, length, map, IfOk, OnOk};
+ghost use Rattle.std.specs.Prelude.{◌≡◌, ◌≤◌, ◌<◌, ◌^◌, ◌++◌, [], All, drop, length, map, IfOk, OnOk};
 ghost use Rattle.cov_model.specs.Fits.{FitsModel};
 ghost use Rattle.cov_model.specs.Valid.{param_numbers};
 ghost use Rattle.definitions.specs.Demand.{choose};
@@ -66,6 +66,7 @@ pub(crate) fn find_all(
     failing: &RowList<'_>,
 ) -> Result<FoundList, NoMemory>
     requires passing { All (λ row. FitsModel model.now row) passing.now }
+    requires few { length passing.now < 2 ^ 32 }
     requires failing { AreWide model.now failing.now }
     ensures { IfOk result (λ found. map found_seen found ≡ suspect_tuples model.now passing.now failing.now) }
 {

@@ -33,15 +33,18 @@ no_diag diag e = absurd (differ e)
     differ : Some diag ≡ None → ⊥
     differ h = cc
 
-step_none : (line : ℕ) (read : Result terms.Term DiagCode) (front whole rest : Option Diag) → (front ≡ None → whole ≡ rest) → refused_or line read front ≡ None → refused_or line read whole ≡ rest
+step_none : (line : ℕ) (read : Result terms.Term DiagCode) (front whole rest : Option Diag)
+    → (front ≡ None → whole ≡ rest) → refused_or line read front ≡ None → refused_or line read whole ≡ rest
 step_none line (Ok term) front whole rest behind none = behind none
 step_none line (Err code) front whole rest behind none = no_diag (record { line = line; code = code }) none
 
-step_some : (line : ℕ) (read : Result terms.Term DiagCode) (front whole : Option Diag) (diag : Diag) → (front ≡ Some diag → whole ≡ Some diag) → refused_or line read front ≡ Some diag → refused_or line read whole ≡ Some diag
+step_some : (line : ℕ) (read : Result terms.Term DiagCode) (front whole : Option Diag) (diag : Diag)
+    → (front ≡ Some diag → whole ≡ Some diag) → refused_or line read front ≡ Some diag → refused_or line read whole ≡ Some diag
 step_some line (Ok term) front whole diag stays some = stays some
 step_some line (Err code) front whole diag stays some = some
 
-left_none : (line : ℕ) (read : Result terms.Term DiagCode) (whole front : Option Diag) → (whole ≡ None → front ≡ None) → refused_or line read whole ≡ None → refused_or line read front ≡ None
+left_none : (line : ℕ) (read : Result terms.Term DiagCode) (whole front : Option Diag)
+    → (whole ≡ None → front ≡ None) → refused_or line read whole ≡ None → refused_or line read front ≡ None
 left_none line (Ok term) whole front left none = left none
 left_none line (Err code) whole front left none = no_diag (record { line = line; code = code }) none
 
@@ -68,7 +71,8 @@ module _ (fold : Bool) (params : List Param) where
   none_left [] rest none = refl
   none_left (raw ∷ front) rest none = left_none raw.0 (term_of fold params raw.1) (first_refusal fold params (front ++ rest)) (first_refusal fold params front) (none_left front rest) none
 
-  pub none_parts : (front rest : List (ℕ × RawTerm)) → first_refusal fold params (front ++ rest) ≡ None → (first_refusal fold params front ≡ None) × (first_refusal fold params rest ≡ None)
+  pub none_parts : (front rest : List (ℕ × RawTerm)) → first_refusal fold params (front ++ rest) ≡ None
+      → (first_refusal fold params front ≡ None) × (first_refusal fold params rest ≡ None)
   none_parts front rest none = let left = none_left front rest none in (left, sym (behind_none front rest left) ∙ none)
 
   -- the parts of a conjunction or a disjunction
@@ -87,7 +91,8 @@ module _ (fold : Bool) (params : List Param) where
   more_preds [] pred = refl
   more_preds (first ∷ list) pred = ap (λ rest. views.More (pred_view first) rest) (more_preds list pred)
 
-  more_trees : (front : List RawPred) (part : RawPred) → preds_of fold params (trees_in (front ++ part ∷ [])) ≡ joined (preds_of fold params (trees_in front)) (pred_of fold params (tree_of part))
+  more_trees : (front : List RawPred) (part : RawPred)
+      → preds_of fold params (trees_in (front ++ part ∷ [])) ≡ joined (preds_of fold params (trees_in front)) (pred_of fold params (tree_of part))
   more_trees [] part = refl
   more_trees (first ∷ front) part = ap (λ rest. views.More (pred_of fold params (tree_of first)) rest) (more_trees front part)
 
@@ -136,6 +141,7 @@ module _ (fold : Bool) (params : List Param) where
   refused_front front rest fault = refused_also fault (λ diag some. stays front rest diag some)
 
   pub refused_behind :
-      (tree : Tree) (rest : List (ℕ × RawTerm)) (fault : ModelFault) → first_refusal fold params (terms_of tree) ≡ None → IfRefused fault (λ diag. first_refusal fold params rest ≡ Some diag)
+      (tree : Tree) (rest : List (ℕ × RawTerm)) (fault : ModelFault) → first_refusal fold params (terms_of tree) ≡ None
+      → IfRefused fault (λ diag. first_refusal fold params rest ≡ Some diag)
       → IfRefused fault (λ diag. first_refusal fold params (terms_of tree ++ rest) ≡ Some diag)
   refused_behind tree rest fault none = refused_also fault (λ diag some. behind_none (terms_of tree) rest none ∙ some)

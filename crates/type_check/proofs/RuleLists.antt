@@ -1,5 +1,6 @@
 -- Constraints as they are gathered from trees, one after another.
-use Rattle.std.proofs.Common.{◌≡◌, ◌≢◌, ◌<◌, ◌≤◌, ◌+◌, ℕ, suc, Bool, true, false, List, [], ◌∷◌, ◌++◌, Option, Some, None, length, take, drop, map, get_or, if◌then◌else◌, nat_lt, refl, ap, sym, subst, ◌∙◌, arith}
+use Rattle.std.proofs.Common.{◌≡◌, ◌≢◌, ◌<◌, ◌≤◌, ◌+◌, ℕ, suc, Bool, true, false, List, [], ◌∷◌, ◌++◌, Option, Some, None}
+use Rattle.std.proofs.Common.{length, take, drop, map, get_or, if◌then◌else◌, nat_lt, refl, ap, sym, subst, ◌∙◌, arith}
 use Rattle.std.proofs.lemmas.Bool.{cond_both, ltb-false}
 use Rattle.std.proofs.lemmas.List.{length-append, length-map, length-take-le, map-append, take_more}
 use Rattle.std.proofs.lemmas.Grind.{flat_map-append, common_steps}
@@ -33,7 +34,8 @@ module _ (fold : Bool) (params : List Param) where
     pub are : i ≤ 4096 → map rule_view rules ≡ rules_from 1 fold params (map rule_tree (take i raw))
     pub unrefused : first_refusal fold params (rules_terms (map rule_tree (take i raw))) ≡ None
 
-  front_trees : (raw : List RawRule) (i : ℕ) (rule : RawRule) → i < length raw → rule ≡ get_or raw i rule → map rule_tree (take (i + 1) raw) ≡ map rule_tree (take i raw) ++ rule_tree rule ∷ []
+  front_trees : (raw : List RawRule) (i : ℕ) (rule : RawRule) → i < length raw → rule ≡ get_or raw i rule
+      → map rule_tree (take (i + 1) raw) ≡ map rule_tree (take i raw) ++ rule_tree rule ∷ []
   front_trees raw i rule within at =
       ap (λ some. map rule_tree some) (take_more raw i rule within ∙ ap (λ x. take i raw ++ x ∷ []) (sym at)) ∙ map-append rule_tree (take i raw) (rule ∷ [])
 

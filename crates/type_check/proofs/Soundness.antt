@@ -1,5 +1,6 @@
 -- The constraints that trees spell compare like with like, so the model of a file is sound.
-use Rattle.std.proofs.Common.{◌≡◌, ◌<◌, ◌+◌, ℕ, zero, suc, Bool, true, false, not, List, [], ◌∷◌, ◌++◌, Option, Some, None, length, map, get_or, All, refl, ap, sym, subst, ◌∙◌, arith}
+use Rattle.std.proofs.Common.{◌≡◌, ◌<◌, ◌+◌, ℕ, zero, suc, Bool, true, false, not, List, [], ◌∷◌, ◌++◌}
+use Rattle.std.proofs.Common.{Option, Some, None, length, map, get_or, All, refl, ap, sym, subst, ◌∙◌, arith}
 use Rattle.std.specs.Prelude.{Result, Ok, Err}
 use Rattle.std.specs.List.{list_all}
 use Rattle.std.proofs.lemmas.Bool.{not-true}
@@ -21,7 +22,8 @@ use Rattle.constraint_ast.specs.declared.tree.RawLiteral.{RawLiteral}
 use Rattle.constraint_ast.specs.declared.tree.RawLiteral.TheVariants.{Number, Words}
 use Rattle.constraint_ast.specs.declared.tree.RawTerm.{RawTerm}
 use Rattle.constraint_ast.specs.declared.tree.RawTerm.TheVariants.{ValueIs, ParamIs, OneOf, Like, Negative, Positive}
-use Rattle.type_check.specs.Checking.{body_terms, first_refusal, given_that, is_of_type, is_same_type, literal_of, numeric_at, param_named, refused_or, rel_of, rules_terms, term_of, terms_in, terms_of, with_param}
+use Rattle.type_check.specs.Checking.{body_terms, first_refusal, given_that, is_of_type, is_same_type, literal_of, numeric_at}
+use Rattle.type_check.specs.Checking.{param_named, refused_or, rel_of, rules_terms, term_of, terms_in, terms_of, with_param}
 use Rattle.model_lex.specs.declared.options.ModelOpts.{ModelOpts}
 use Rattle.model_parse.specs.RawModels.{AreOpts, IsSoundRaw}
 use Rattle.model_parse.specs.declared.raw_model.RawModel.{RawModel}
@@ -125,7 +127,8 @@ module _ (fold : Bool) (params : List Param) where
   as_many_rules count [] = refl
   as_many_rules count (tree ∷ trees) = ap suc (as_many_rules (count + 1) trees)
 
-  rules_numbered : (count : ℕ) (trees : List RuleTree) (i : ℕ) (d : RuleView) → i < length (rules_from count fold params trees) → (get_or (rules_from count fold params trees) i d).number ≡ i + count
+  rules_numbered : (count : ℕ) (trees : List RuleTree) (i : ℕ) (d : RuleView)
+      → i < length (rules_from count fold params trees) → (get_or (rules_from count fold params trees) i d).number ≡ i + count
   rules_numbered count (tree ∷ trees) zero d inside = omega arith
   rules_numbered count (tree ∷ trees) (suc i) d inside = rules_numbered (count + 1) trees i d (omega (arith, inside)) ∙ omega arith
   rules_numbered count [] i d inside = absurd (omega (arith, inside))

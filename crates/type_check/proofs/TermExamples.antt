@@ -26,7 +26,8 @@ read raw = term_of true sample_params raw
 
 -- each kind of term, with names in another case
 terms_read :
-    (read (ValueIs (codes "a") Ge (Number (pos 5))) ≡ Ok (term.ValueIs 0 rel.Ge (literal.Number (pos 5)))) × (read (ValueIs (codes "b") Ne (Words (codes "z"))) ≡ Ok (term.ValueIs 1 rel.Ne (literal.Words (codes "z"))))
+    (read (ValueIs (codes "a") Ge (Number (pos 5))) ≡ Ok (term.ValueIs 0 rel.Ge (literal.Number (pos 5))))
+    × (read (ValueIs (codes "b") Ne (Words (codes "z"))) ≡ Ok (term.ValueIs 1 rel.Ne (literal.Words (codes "z"))))
     × (read (ParamIs (codes "B") Lt (codes "b")) ≡ Ok (term.ParamIs 1 rel.Lt 1))
     × (read (OneOf (codes "A") (Number (pos 1) ∷ Number (pos 2) ∷ [])) ≡ Ok (term.OneOf 0 (literal.Number (pos 1) ∷ literal.Number (pos 2) ∷ [])))
     × (read (Like (codes "B") (codes "r*")) ≡ Ok (term.Like 1 (codes "r*"))) × (read (Negative (codes "A")) ≡ Ok (term.Negative 0)) × (read (Positive (codes "B")) ≡ Ok (term.Positive 1))
@@ -34,8 +35,10 @@ terms_read = (refl, refl, refl, refl, refl, refl, refl)
 
 -- each relation is the one that is written
 relations :
-    (read (ValueIs (codes "A") Eq (Number (pos 5))) ≡ Ok (term.ValueIs 0 rel.Eq (literal.Number (pos 5)))) × (read (ValueIs (codes "A") Gt (Number (pos 5))) ≡ Ok (term.ValueIs 0 rel.Gt (literal.Number (pos 5))))
-    × (read (ValueIs (codes "A") Lt (Number (pos 5))) ≡ Ok (term.ValueIs 0 rel.Lt (literal.Number (pos 5)))) × (read (ValueIs (codes "A") Le (Number (pos 5))) ≡ Ok (term.ValueIs 0 rel.Le (literal.Number (pos 5))))
+    (read (ValueIs (codes "A") Eq (Number (pos 5))) ≡ Ok (term.ValueIs 0 rel.Eq (literal.Number (pos 5))))
+    × (read (ValueIs (codes "A") Gt (Number (pos 5))) ≡ Ok (term.ValueIs 0 rel.Gt (literal.Number (pos 5))))
+    × (read (ValueIs (codes "A") Lt (Number (pos 5))) ≡ Ok (term.ValueIs 0 rel.Lt (literal.Number (pos 5))))
+    × (read (ValueIs (codes "A") Le (Number (pos 5))) ≡ Ok (term.ValueIs 0 rel.Le (literal.Number (pos 5))))
 relations = (refl, refl, refl, refl)
 
 -- a third parameter, C, that isn't numeric: the names of a comparison keep their places
@@ -47,10 +50,13 @@ compared = (refl, refl)
 
 -- the refusals: the first name, the second, LIKE, and types
 refusals :
-    (read (ValueIs (codes "Z") Eq (Words [])) ≡ Err UnknownParameter) × (read (ParamIs (codes "A") Eq (codes "Z")) ≡ Err UnknownParameter) × (read (ParamIs (codes "A") Eq (codes "B")) ≡ Err TypeMismatch)
-    × (read (Like (codes "A") []) ≡ Err LikeNeedsText) × (read (ValueIs (codes "A") Eq (Words (codes "1"))) ≡ Err TypeMismatch) × (read (ValueIs (codes "B") Eq (Number (pos 1))) ≡ Err TypeMismatch)
+    (read (ValueIs (codes "Z") Eq (Words [])) ≡ Err UnknownParameter)
+    × (read (ParamIs (codes "A") Eq (codes "Z")) ≡ Err UnknownParameter) × (read (ParamIs (codes "A") Eq (codes "B")) ≡ Err TypeMismatch)
+    × (read (Like (codes "A") []) ≡ Err LikeNeedsText) × (read (ValueIs (codes "A") Eq (Words (codes "1"))) ≡ Err TypeMismatch)
+    × (read (ValueIs (codes "B") Eq (Number (pos 1))) ≡ Err TypeMismatch)
     × (read (OneOf (codes "B") (Words [] ∷ Number (pos 1) ∷ [])) ≡ Err TypeMismatch) × (read (Positive []) ≡ Err UnknownParameter)
-    × (read (ParamIs (codes "B") Eq (codes "A")) ≡ Err TypeMismatch) × (read (Like (codes "Z") []) ≡ Err UnknownParameter) × (read (OneOf (codes "A") (Number (pos 1) ∷ Words [] ∷ [])) ≡ Err TypeMismatch)
+    × (read (ParamIs (codes "B") Eq (codes "A")) ≡ Err TypeMismatch) × (read (Like (codes "Z") []) ≡ Err UnknownParameter)
+    × (read (OneOf (codes "A") (Number (pos 1) ∷ Words [] ∷ [])) ≡ Err TypeMismatch)
 refusals = (refl, refl, refl, refl, refl, refl, refl, refl, refl, refl, refl)
 
 -- where case counts, a is no parameter

@@ -12,7 +12,7 @@ use Rattle.std.proofs.lemmas.Option.{slice_get_within, slice_get-get_or, slice_g
 use Rattle.value_text.proofs.ListLemmas.{eqb-add_left, pos_left_of_mul, pos_right_of_mul}
 use Rattle.tuple_index.proofs.SliceLemmas.{mul-add-le}
 use Rattle.tuple_index.proofs.PlaceLemmas.{length-value_lists, slice_get-pieces}
-use Rattle.uncovered_table.specs.Digits.{cell_digit, digit_of, joined, number_of, step_of, with_digit}
+use Rattle.uncovered_table.specs.Digits.{AreDigits, cell_digit, digit_of, joined, number_of, step_of, with_digit}
 use Rattle.uncovered_table.specs.Held.{gives_values, is_value}
 
 -- the number is this one
@@ -60,10 +60,6 @@ value_at_place (u ∷ values) a e w (suc j) rises within =
         let rest = rises_least values (u + 1) e j rises.2 (omega (arith, within)) in
         omega (arith, rest, rises.0)
 
--- each digit is below the number of its parameter's values
-abbrev pub AreDigits : (ℕ → List ℕ) → (ℕ → Option ℕ) → Type 0
-AreDigits values digits = (p d : ℕ) → digits p ≡ Some d → d < length (values p)
-
 pub digit_below : (values : List ℕ) (v d : ℕ) → digit_of values v ≡ Some d → d < length values
 digit_below values v d is =
     elim (cases_Bool (nat_lt (place_of values v) (length values))) [
@@ -97,14 +93,14 @@ with_digits values digits column c below own p d is =
     ]
 
 -- the parts of a number with one more digit
-record Joins (o : Option ℕ) (w : ℕ) (r : Option ℕ) (n : ℕ) : Type 0 where
-  digit : ℕ
-  rest : ℕ
-  first : o ≡ Some digit
-  later : r ≡ Some rest
-  sum : n ≡ digit * w + rest
+pub record Joins (o : Option ℕ) (w : ℕ) (r : Option ℕ) (n : ℕ) : Type 0 where
+  pub digit : ℕ
+  pub rest : ℕ
+  pub first : o ≡ Some digit
+  pub later : r ≡ Some rest
+  pub sum : n ≡ digit * w + rest
 
-joins : (o : Option ℕ) (w : ℕ) (r : Option ℕ) (n : ℕ) → joined o w r ≡ Some n → Joins o w r n
+pub joins : (o : Option ℕ) (w : ℕ) (r : Option ℕ) (n : ℕ) → joined o w r ≡ Some n → Joins o w r n
 joins None w r n is = absurd (cc)
 joins (Some d) w None n is = absurd (cc)
 joins (Some d) w (Some k) n is = let same : d * w + k ≡ n = cc in record { digit = d; rest = k; first = refl; later = refl; sum = sym same }
@@ -123,7 +119,7 @@ number_below values digits (p ∷ set) n below is =
     omega (arith, more, parts.sum)
 
 -- two numbers are equal exactly if their first digits and the rests are
-digit_test : (a b w n r : ℕ) → n < w → r < w → (a * w + n == b * w + r) ≡ ((a == b) && (n == r))
+pub digit_test : (a b w n r : ℕ) → n < w → r < w → (a * w + n == b * w + r) ≡ ((a == b) && (n == r))
 digit_test a b w n r first second =
     elim (cases_eq a b) [
       | inl here ↦

@@ -19,13 +19,13 @@ use Rattle.tuple_index.specs.Kept.{IsKept}
 use Rattle.tuple_index.specs.Places.{has_part, ways}
 use Rattle.tuple_index.specs.Plan.{plan_of}
 use Rattle.uncovered_table.specs.Bits.{InPlay, all_cleared, bit_count, bit_of, cleared, first_bit, held_bit, held_count, is_marked, marked, sets_in_play, tuple_count}
-use Rattle.uncovered_table.specs.Digits.{cell_digit, number_of, own_values}
+use Rattle.uncovered_table.specs.Digits.{AreDigits, cell_digit, number_of, own_values}
 use Rattle.uncovered_table.specs.Open.{is_held, row_closed}
 use Rattle.uncovered_table.specs.Places.{ends_with_column, places_in, set_at, slice_places, slice_start, tuple_at}
 use Rattle.uncovered_table.proofs.BitLemmas.{BitKnown, bits_before}
 use Rattle.uncovered_table.proofs.ChoiceLemmas.{contains_at}
 use Rattle.uncovered_table.proofs.ColumnLemmas.{filter_no, filter_yes}
-use Rattle.uncovered_table.proofs.DigitLemmas.{AreDigits, cell_digits, is_number, number_below}
+use Rattle.uncovered_table.proofs.DigitLemmas.{cell_digits, is_number, number_below}
 use Rattle.uncovered_table.proofs.OpenLemmas.{any_passing, marked_as}
 use Rattle.uncovered_table.proofs.PlaceLemmas.{set_rises}
 use Rattle.uncovered_table.proofs.SliceLemmas.{length-tuples_in}
@@ -197,7 +197,7 @@ in_range a (suc n) v least below =
           ap (λ b. b || is_among (range_with_len (a + 1) n) v) test ∙ in_range (a + 1) n v (omega (arith, least, apart)) (omega (arith, below))
     ]
 
-among_passing : (f : ℕ → Bool) (n v : ℕ) → v < n → is_among (filter f (range_with_len 0 n)) v ≡ f v
+pub among_passing : (f : ℕ → Bool) (n v : ℕ) → v < n → is_among (filter f (range_with_len 0 n)) v ≡ f v
 among_passing f n v below =
     any_passing (λ k. k == v) f (f v) (range_with_len 0 n) (λ k same. let equal : k ≡ v = grind (arith, nat_tests) in ap f equal)
     ∙ ap (λ b. f v && b) (in_range 0 n v (omega arith) (omega (arith, below))) ∙ and-true (f v)

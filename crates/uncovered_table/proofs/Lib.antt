@@ -1,3 +1,7 @@
+pub mod WordLemmas
+pub mod MaskLemmas
+pub mod PairLemmas
+pub mod PartnerLemmas
 pub mod PreparedLemmas
 pub mod ColumnLemmas
 pub mod SliceLemmas

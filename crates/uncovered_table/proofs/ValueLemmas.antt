@@ -31,7 +31,7 @@ use Rattle.uncovered_table.proofs.GainLemmas.{all_in_play, held_sum}
 use Rattle.uncovered_table.proofs.LineLemmas.{column_among}
 
 -- a member without a digit leaves no number
-member_none : (values : ℕ → List ℕ) (digits : ℕ → Option ℕ) (set : List ℕ) (p : ℕ) → is_among set p ≡ true → digits p ≡ None → number_of values digits set
+pub member_none : (values : ℕ → List ℕ) (digits : ℕ → Option ℕ) (set : List ℕ) (p : ℕ) → is_among set p ≡ true → digits p ≡ None → number_of values digits set
     ≡ None
 member_none values digits [] p among none = absurd (false≢true among)
 member_none values digits (q ∷ set) p among none =

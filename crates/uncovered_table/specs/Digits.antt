@@ -48,3 +48,7 @@ step_of values column (p ∷ set) = if p == column then ways values set else ste
 abbrev pub is_own : ModelView → Slice → ℕ → ℕ → Bool
 is_own m Positive p v = not (value_at m p v).negative
 is_own m (Negative q w) p v = if p == q then v == w else not (value_at m p v).negative
+
+-- each digit is below the number of its parameter's values
+abbrev pub AreDigits : (ℕ → List ℕ) → (ℕ → Option ℕ) → Type 0
+AreDigits values digits = (p d : ℕ) → digits p ≡ Some d → d < length (values p)

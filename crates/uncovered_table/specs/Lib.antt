@@ -6,3 +6,7 @@ pub mod Held
 pub mod Digits
 pub mod Bits
 pub mod Prepared
+pub mod Words
+pub mod Masks
+pub mod Pairs
+pub mod Table

@@ -1,5 +1,5 @@
 -- Lines that were prepared for a column. (This project's rules.)
-use Rattle.std.specs.Prelude.{◌≡◌, ℕ, Bool, ◌+◌, ◌<◌, ◌≤◌, All, length, slice_range, take, drop, ◌++◌, List, [], ◌∷◌, Option, Some, None, ◌==◌, slice_index_or, if◌then◌else◌}
+use Rattle.std.specs.Prelude.{◌≡◌, ℕ, ◌+◌, ◌<◌, ◌≤◌, All, length, slice_range, take, drop, ◌++◌, List, [], ◌∷◌, Option, Some, None, ◌==◌, slice_index_or, if◌then◌else◌}
 use Rattle.cov_model.specs.declared.slice.Slice.{Slice}
 use Rattle.cov_model.specs.Sound.{ModelView}
 use Rattle.uncovered_table.specs.declared.prepared.Part.{Part}
@@ -7,7 +7,7 @@ use Rattle.uncovered_table.specs.declared.prepared.Prepared.{Prepared}
 use Rattle.uncovered_table.specs.declared.prepared.ColumnLines.{ColumnLines}
 use Rattle.uncovered_table.specs.Bits.{first_bit, sets_in_play}
 use Rattle.uncovered_table.specs.Digits.{joined, number_of, own_values, step_of, with_digit}
-use Rattle.uncovered_table.specs.Places.{set_at, slice_places}
+use Rattle.uncovered_table.specs.Places.{set_at}
 
 -- a digit as a plain number, where one number stands for none
 abbrev pub coded : ℕ → Option ℕ
@@ -52,8 +52,3 @@ pub record ArePushed (m : ModelView) (slice : Slice) (column set : ℕ) (before 
 pub record AreColumns (m : ModelView) (slice : Slice) (count : ℕ) (columns : List ColumnLines) : Type 0 where
   pub many : length columns ≡ count
   pub each : (p : ℕ) (other : ColumnLines) → p < count → AreLines m slice p (sets_in_play m slice p) (slice_index_or columns p other).lines.items (slice_index_or columns p other).parts.items
-
--- a table has a bit for each place, and prepared lines for each column
-pub record IsTable (m : ModelView) (slice : Slice) (columns : List ColumnLines) (bits : List Bool) : Type 0 where
-  pub long : length bits ≡ length (slice_places m slice)
-  pub lines : AreColumns m slice (length m.params) columns

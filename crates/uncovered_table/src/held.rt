@@ -171,7 +171,7 @@ fn add_bits(bits: &BitTable, first: u32, from: ValueNo, scores: &mut [u32])
 }
 
 // The digits of the values from one on.
-fn from_value(digits: &[Option<u16>], from: ValueNo) -> &[Option<u16>]
+pub(crate) fn from_value(digits: &[Option<u16>], from: ValueNo) -> &[Option<u16>]
     requires { from ≤ length digits.now }
     ensures { result.now ≡ drop from digits.now }
 {

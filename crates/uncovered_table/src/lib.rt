@@ -8,10 +8,12 @@
 mod block;
 mod held;
 mod next;
+mod pairs;
 mod part;
 mod prepared;
 mod sets;
 mod table;
 mod tables;
+mod words;
 
 pub use table::Uncovered;

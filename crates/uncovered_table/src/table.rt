@@ -10,6 +10,7 @@ ghost use Rattle.uncovered_table.specs.Places.{is_in_play, is_place, slice_place
 
 use crate::held::{add_held, clear_held, count_held};
 use crate::next::next_of;
+use crate::pairs::{PairBits, clear_column, forget_pairs, put_pair_counts};
 use crate::part::SlicePart;
 use crate::prepared::ColumnLines;
 use crate::sets::SliceSets;
@@ -26,6 +27,8 @@ use value_text::NoMemory;
 pub struct Uncovered<'a> {
     sets: SliceSets<'a>,
     lines: Vec<ColumnLines>,
+    begins: Vec<u32>,
+    pairs: Vec<Option<PairBits>>,
     bits: BitTable,
 }
 
@@ -34,7 +37,7 @@ impl<'a> Model for Uncovered<'a> {
     ghost use Rattle.cov_model.specs.contracts.model.TestModel as tested;
     ghost use Rattle.std.specs.Prelude.{◌≡◌, length};
     ghost use Rattle.uncovered_table.specs.Bits.{marked};
-    ghost use Rattle.uncovered_table.specs.Prepared.{IsTable};
+    ghost use Rattle.uncovered_table.specs.Table.{IsTable};
     ghost use Rattle.uncovered_table.specs.Open.{OpenView};
     ghost use Rattle.uncovered_table.specs.Places.{slice_places};
 
@@ -44,7 +47,7 @@ impl<'a> Model for Uncovered<'a> {
 
     ghost view = { λ a. marked a.sets.model a.sets.slice a.bits };
 
-    ghost invariant = { λ a. IsTable a.sets.model a.sets.slice a.lines.items a.bits };
+    ghost invariant = { λ a. IsTable a.sets.model a.sets.slice a.lines.items a.begins.items a.pairs.items a.bits };
 }
 
 impl<'a> Uncovered<'a> {
@@ -67,7 +70,15 @@ impl<'a> Uncovered<'a> {
         let sets = SliceSets::new(alloc, SlicePart::new(model, plan, slice))?;
         let bits = BitTable::all_set(alloc, sets.size())?;
         let lines = sets.all_lines(alloc)?;
-        Ok(Uncovered { sets, lines, bits })
+        let begins = sets.begins(alloc)?;
+        let pairs = sets.all_pairs(alloc, lines.as_slice(), begins.as_slice())?;
+        Ok(Uncovered {
+            sets,
+            lines,
+            begins,
+            pairs,
+            bits,
+        })
     }
 
     /// Says again what every table keeps: its model is sound, its slice is one of the model's, and its
@@ -100,6 +111,8 @@ impl<'a> Uncovered<'a> {
         requires { IsPlaceOf self.old (set, rank) }
         ensures { self.new ≡ closed self.old (set, rank) }
     {
+        self.sets.assert_invariant();
+        forget_pairs(&self.sets, &mut self.pairs, set);
         self.bits.clear(self.sets.bit(set, rank));
     }
 
@@ -112,14 +125,25 @@ impl<'a> Uncovered<'a> {
     {
         self.sets.assert_invariant();
         match self.sets.cell_digit(cells, column) {
-            Some(digit) => clear_held(
-                &self.sets,
-                &self.lines[column as usize],
-                &mut self.bits,
-                cells,
-                column,
-                digit,
-            ),
+            Some(digit) => {
+                clear_column(
+                    &self.sets,
+                    &mut self.pairs,
+                    self.begins.as_slice(),
+                    &self.bits,
+                    cells,
+                    column,
+                    digit,
+                );
+                clear_held(
+                    &self.sets,
+                    &self.lines[column as usize],
+                    &mut self.bits,
+                    cells,
+                    column,
+                    digit,
+                );
+            }
             None => {}
         }
     }
@@ -182,15 +206,30 @@ impl<'a> Uncovered<'a> {
         ensures { scores.new ≡ map (gain self.now cells.now column) (range_with_len from (length scores.old)) }
     {
         self.sets.assert_invariant();
-        scores.fill(0);
-        add_held(
-            &self.sets,
-            &self.lines[column as usize],
-            &self.bits,
-            cells,
-            column,
-            from,
-            scores,
-        );
+        let kept = &self.pairs[column as usize];
+        match kept {
+            Some(pairs) => put_pair_counts(
+                &self.sets,
+                pairs,
+                self.begins.as_slice(),
+                &self.bits,
+                cells,
+                column,
+                from,
+                scores,
+            ),
+            None => {
+                scores.fill(0);
+                add_held(
+                    &self.sets,
+                    &self.lines[column as usize],
+                    &self.bits,
+                    cells,
+                    column,
+                    from,
+                    scores,
+                );
+            }
+        }
     }
 }

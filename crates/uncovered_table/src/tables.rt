@@ -72,7 +72,7 @@ impl<'a> SlicePart<'a> {
     }
 
     // The column for which a set is in play, if it has a tuple in the slice.
-    fn play_column(&self, set: u32) -> Option<ParamNo>
+    pub(crate) fn play_column(&self, set: u32) -> Option<ParamNo>
         requires { set < length (demanded_sets self.now.model) }
         ensures value { result ≡ play_column self.now.model self.now.slice set }
         ensures own { IfSome result (λ p. p < length self.now.model.params) }

@@ -1,5 +1,6 @@
 -- The characters of a text in lower case.
-use Rattle.std.proofs.Common.{◌≡◌, ℕ, ◌<◌, ◌≤◌, Bool, true, false, if◌then◌else◌, List, [], ◌∷◌, ◌++◌, map, length, get_or, encode_utf8, encode_utf8_all, chars, IsUtf8, refl, sym, ◌∙◌, ap, inl, inr, suc, append-nil, arith}
+use Rattle.std.proofs.Common.{◌≡◌, ℕ, ◌<◌, ◌≤◌, Bool, true, false, if◌then◌else◌, List, [], ◌∷◌, ◌++◌, map, length, get_or}
+use Rattle.std.proofs.Common.{encode_utf8, encode_utf8_all, chars, IsUtf8, refl, sym, ◌∙◌, ap, inl, inr, suc, append-nil, arith}
 use Rattle.std.proofs.lemmas.Bool.Decides.{nat_tests, leb_tells}
 use Rattle.std.proofs.lemmas.List.{map-append}
 use Rattle.std.proofs.lemmas.Str.{chars-nil, chars-append, chars-encodes, IsUtf8-encode, encode_ascii, inside_one, cons_from_encodes}

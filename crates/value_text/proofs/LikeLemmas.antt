@@ -1,5 +1,6 @@
 -- Why a later `*` makes going back to an earlier one needless, and the steps of a match.
-use Rattle.std.proofs.Common.{◌≡◌, ◌≢◌, ◌⊎◌, ℕ, zero, suc, Bool, true, false, ◌||◌, ◌==◌, if◌then◌else◌, List, [], ◌∷◌, drop, refl, sym, ◌∙◌, ap, inl, inr, true≢false, eq-eqb, ne_eqb}
+use Rattle.std.proofs.Common.{◌≡◌, ◌≢◌, ◌⊎◌, ℕ, zero, suc, Bool, true, false, ◌||◌, ◌==◌, if◌then◌else◌}
+use Rattle.std.proofs.Common.{List, [], ◌∷◌, drop, refl, sym, ◌∙◌, ap, inl, inr, true≢false, eq-eqb, ne_eqb}
 use Rattle.std.proofs.lemmas.Bool.{and_parts, or_left, false_from_ne_true}
 use Rattle.std.proofs.Math.Bool.{or-true}
 use Rattle.std.specs.Cmp.{both_ways}
@@ -62,7 +63,8 @@ step pattern text pattern_rest text_rest behind later x c so_far first letter ma
 pub both_end : (pattern text pattern_rest text_rest : List ℕ) → Continues pattern text pattern_rest text_rest → pattern_rest ≡ [] → text_rest ≡ [] → matches pattern text ≡ true
 both_end pattern text pattern_rest text_rest so_far ends text_ends = so_far.same ∙ rw (ends, text_ends)
 
-pub pattern_ends : (pattern text pattern_rest text_rest later : List ℕ) (c : ℕ) → Continues pattern text pattern_rest text_rest → pattern_rest ≡ [] → text_rest ≡ c ∷ later → matches pattern text ≡ false
+pub pattern_ends : (pattern text pattern_rest text_rest later : List ℕ) (c : ℕ)
+    → Continues pattern text pattern_rest text_rest → pattern_rest ≡ [] → text_rest ≡ c ∷ later → matches pattern text ≡ false
 pattern_ends pattern text pattern_rest text_rest later c so_far ends letter = so_far.same ∙ rw (ends, letter)
 
 -- the search behind the last `*`: what a pattern and a text come to, where a `*` stands before the pattern or not

@@ -1,5 +1,6 @@
 -- Facts of Bool, Option, Result, lists and numbers that several crates need and the standard library has not.
-use Rattle.std.proofs.Common.{◌≡◌, ℕ, zero, suc, ◌+◌, ◌*◌, ◌<◌, ◌≤◌, Bool, true, false, not, cond, ◌&&◌, ◌||◌, ◌==◌, nat_lt, nat_eq, Option, Some, None, is_some, unwrap_or, Result, Ok, Err, List, [], ◌∷◌, ◌++◌, map, filter, length, get_or, All, refl, sym, ◌∙◌, ap, arith, position, find, count_by}
+use Rattle.std.proofs.Common.{◌≡◌, ℕ, zero, suc, ◌+◌, ◌*◌, ◌<◌, ◌≤◌, Bool, true, false, not, cond, ◌&&◌, ◌||◌, ◌==◌, nat_lt, nat_eq, Option, Some, None, is_some}
+use Rattle.std.proofs.Common.{unwrap_or, Result, Ok, Err, List, [], ◌∷◌, ◌++◌, map, filter, length, get_or, All, refl, sym, ◌∙◌, ap, arith, position, find, count_by}
 use Rattle.std.proofs.lemmas.Bool.{false≢true, cond-true, eqb-true, lt-ltb, cond-false}
 use Rattle.std.proofs.lemmas.Bool.Decides.{nat_tests}
 use Rattle.std.proofs.lemmas.List.{map-id, same_lists, get_or_default, length-map}

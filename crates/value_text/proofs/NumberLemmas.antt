@@ -1,5 +1,6 @@
 -- The parts of a decimal number, and the size that they write.
-use Rattle.std.proofs.Common.{◌≡◌, ℕ, ◌+◌, ◌-◌, ◌*◌, ◌^◌, ◌<◌, ◌≤◌, Bool, true, false, ◌&&◌, nat_lt, suc, Some, None, List, ◌++◌, length, length-drop, take, take_all, drop, sym, ◌∙◌, ap, inl, inr, arith}
+use Rattle.std.proofs.Common.{◌≡◌, ℕ, ◌+◌, ◌-◌, ◌*◌, ◌^◌, ◌<◌, ◌≤◌, Bool, true, false, ◌&&◌, nat_lt, suc, Some, None}
+use Rattle.std.proofs.Common.{List, ◌++◌, length, length-drop, take, take_all, drop, sym, ◌∙◌, ap, inl, inr, arith}
 use Rattle.std.proofs.lemmas.Bool.Decides.{nat_tests, leb_tells}
 use Rattle.std.proofs.lemmas.Nat.{pow-add}
 use Rattle.std.proofs.Math.Nat.{pow-le-pow_right, mul-le-mul_right}
@@ -49,7 +50,8 @@ pub record Scales (whole decimals : List ℕ) : Type 0 where
   pub fits : digits_value 10 whole * 1000000000 + digits_value 10 decimals * 10 ^ (9 - length decimals) < 2 ^ 127
   pub size : digits_value 10 whole * 1000000000 + digits_value 10 decimals * 10 ^ (9 - length decimals) ≡ digits_value 10 (whole ++ decimals) * 10 ^ (9 - length decimals)
 
-pub scales : (whole decimals : List ℕ) → list_all is_ascii_digit whole ≡ true → length whole ≤ 28 → list_all is_ascii_digit decimals ≡ true → length decimals ≤ 9 → Scales whole decimals
+pub scales : (whole decimals : List ℕ) → list_all is_ascii_digit whole ≡ true → length whole ≤ 28
+    → list_all is_ascii_digit decimals ≡ true → length decimals ≤ 9 → Scales whole decimals
 scales whole decimals are few are_too few_too =
     let top = value_small whole are in
     let room = pow-le-pow_right {n = 10} (omega arith) few in

@@ -25,7 +25,8 @@ loop-rest-preserved c =
     let rest = c.without_first_blanks-rest.result.now in
     let differs = eqb-false (length rest) 0 (sym c.is_empty.ensures ∙ c.if-is_empty.false) in
     let some : 0 < length rest = omega (arith, differs) in
-    one_read (tokens_of c.args.text.now) (tokens_seen c.loop-rest.tokens.items) c.loop-rest.ahead.now c.loop-rest.invariant (token_seen c.in-Some.token) c.in-Some.len (tokens_seen c.push.new.self.items)
+    one_read (tokens_of c.args.text.now) (tokens_seen c.loop-rest.tokens.items) c.loop-rest.ahead.now c.loop-rest.invariant
+    (token_seen c.in-Some.token) c.in-Some.len (tokens_seen c.push.new.self.items)
     (subst (λ text. 0 < length text) c.without_first_blanks-rest.ensures some)
     (ap first_token (sym c.without_first_blanks-rest.ensures) ∙ sym c.in-Some.ensures.value)
     c.in-Some.ensures.within.0 (ap tokens_seen c.in_ok-push.ensures.items ∙ map-append token_seen c.loop-rest.tokens.items _)

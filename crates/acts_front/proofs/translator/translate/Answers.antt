@@ -1,6 +1,6 @@
 use Rattle.std.proofs.Common.{◌≡◌, ◌∙◌, ◌≤◌, ◌^◌, length, Err, sym, refl, arith, rules}
 use Rattle.std.proofs.lemmas.Bool.{eqb-true}
-use Rattle.model_lex.specs.Lines.{numbered_lines, without_mark}
+use Rattle.model_lex.specs.Lines.{without_mark}
 use Rattle.acts_front.proofs.SayTheSame.{faithful}
 use Rattle.acts_front.proofs.Translating.{begins, ends, goes_on, refused, undeclared}
 use Rattle.acts_front.proofs.translator.translate.Goals as goal
@@ -9,27 +9,26 @@ use Rattle.model_lex.proofs.OrderMark.{unmarked_within}
 pub loop-rest-init : goal.loop-rest-init
 loop-rest-init c =
     let few : length (without_mark c.args.bytes.now) ≤ 2 ^ 28 = omega (arith, unmarked_within c.args.bytes.now) in
-    rw c.without_mark-rest.ensures (begins c.args.fold c.new-translator.result (without_mark c.args.bytes.now) c.new-translator.ensures.text c.new-translator.ensures.scope c.new-translator.ensures.section few)
+    rw c.without_mark-rest.ensures (begins c.args.fold c.new-translator.result
+    (without_mark c.args.bytes.now) c.new-translator.ensures.text c.new-translator.ensures.scope c.new-translator.ensures.section few)
 
 pub loop-rest-preserved : goal.loop-rest-preserved
 loop-rest-preserved c =
-    goes_on (numbered_lines c.args.bytes.now) c.args.fold c.loop-rest.translator c.loop-rest.number c.loop-rest.rest.now c.cut_line.result.0.now c.cut_line.result.1.now c.loop-rest.invariant
-    c.cut_line.ensures.lines c.cut_line.ensures.shorter _ c.in_ok-translator.translator refl c.in_ok-translator.ensures
+    goes_on c.cut_line.result.1.now c.loop-rest.invariant c.cut_line.ensures.lines c.cut_line.ensures.shorter _ c.in_ok-translator.translator refl c.in_ok-translator.ensures
 
 pub returns-in_err-translator-clause-translated : goal.returns-in_err-translator-clause-translated
 returns-in_err-translator-clause-translated c =
     let is : c.from_residual.result ≡ Err c.in_err-translator.field-0.0 = search rules in
     rw is
-    (refused (numbered_lines c.args.bytes.now) c.args.fold c.loop-rest.translator c.loop-rest.number c.loop-rest.rest.now c.cut_line.result.0.now c.cut_line.result.1.now c.loop-rest.invariant
-    c.cut_line.ensures.lines c.cut_line.ensures.shorter _ c.in_err-translator.field-0.0 refl c.in_err-translator.ensures)
+    (refused c.cut_line.result.1.now c.loop-rest.invariant c.cut_line.ensures.lines c.cut_line.ensures.shorter _ c.in_err-translator.field-0.0 refl c.in_err-translator.ensures)
 
 pub returns-then-is_empty-clause-translated : goal.returns-then-is_empty-clause-translated
 returns-then-is_empty-clause-translated c =
     let none = eqb-true _ _ (sym c.is_empty.ensures ∙ c.loop-rest-test.false) in
-    undeclared (numbered_lines c.args.bytes.now) c.args.fold c.loop-rest.translator c.loop-rest.number c.loop-rest.rest.now c.loop-rest.invariant none (sym c.is_empty-2.ensures ∙ c.if-is_empty.true)
+    undeclared c.loop-rest.invariant none (sym c.is_empty-2.ensures ∙ c.if-is_empty.true)
 
 pub returns : goal.returns
 returns c =
     let none = eqb-true _ _ (sym c.is_empty.ensures ∙ c.loop-rest-test.false) in
-    let translated = ends (numbered_lines c.args.bytes.now) c.args.fold c.loop-rest.translator c.loop-rest.number c.loop-rest.rest.now c.loop-rest.invariant none (sym c.is_empty-2.ensures ∙ c.if-is_empty.false) in
+    let translated = ends c.loop-rest.invariant none (sym c.is_empty-2.ensures ∙ c.if-is_empty.false) in
     record { translated = translated; meaning = faithful c.args.fold c.args.bytes.now _ translated }

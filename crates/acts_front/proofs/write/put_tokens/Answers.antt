@@ -11,6 +11,7 @@ use Rattle.acts_front.proofs.write.put_tokens.Goals as goal
 pub returns : goal.returns
 returns c =
     subst (λ items. OnOk c.put_behind_blanks.result (c.put_behind_blanks.new.out.items ≡ items))
-    (all_put (λ token. token_text (token_seen token)) (codes " ") c.args.out.now.items c.args.tokens.now (Name (record { ref_ptr = (0, 0); now = [] })) c.put_token.new.out.items c.in-len1-up.len_at_least c.in_ok-put_token.ensures
+    (all_put (λ token. token_text (token_seen token)) (codes " ") c.args.out.now.items c.args.tokens.now
+    (Name (record { ref_ptr = (0, 0); now = [] })) c.put_token.new.out.items c.in-len1-up.len_at_least c.in_ok-put_token.ensures
     ∙ ap (λ texts. c.args.out.now.items ++ joined (codes " ") texts) (sym (map-map token_text token_seen c.args.tokens.now)))
     c.put_behind_blanks.ensures

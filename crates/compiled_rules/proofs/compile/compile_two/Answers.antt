@@ -13,8 +13,8 @@ loop-v-preserved c =
       count = c.loop-v.invariant.count;
       added = c.loop-v.invariant.added ++ row;
       table = c.in_ok-push_row.ensures.row
-          ∙ ap (λ room. c.loop-v.table.items ++ truths_over c.args.model.now c.args.term.now room c.args.q) c.set_cell.ensures
-          ∙ ap (λ table. table ++ row) c.loop-v.invariant.table ∙ append_assoc c.args.table.now.items c.loop-v.invariant.added row;
+          ∙ ap (λ room. c.loop-v.table ++ truths_over c.args.model.now c.args.term.now room c.args.q) c.set_cell.ensures
+          ∙ ap (λ table. table ++ row) c.loop-v.invariant.table ∙ append_assoc c.args.table.now c.loop-v.invariant.added row;
       pairs = pairs_more c.args.model.now c.args.term.now c.loop-v.room c.args.p c.args.q c.loop-v.v c.loop-v.invariant.added c.requires.named
           c.loop-v.invariant.fits
           c.requires.first c.requires.second c.loop-v.invariant.pairs;
@@ -22,9 +22,9 @@ loop-v-preserved c =
 
 pub returns-clause-code : goal.returns-clause-code
 returns-clause-code c =
-    let start : c.in-Ok.start ≡ length c.args.table.now.items = grind arith in
+    let start : c.len-start.result ≡ length c.args.table.now = grind arith in
     let end : c.loop-v.v ≡ length (param_at c.args.model.now.params c.args.p).values = omega (arith, c.loop-v.invariant.count) in
-    two_is_code c.args.model.now c.args.term.now c.args.p c.args.q c.in-Ok.start c.count_of-width.result c.args.table.now.items c.loop-v.invariant.added
-    c.loop-v.table.items start
+    two_is_code c.args.model.now c.args.term.now c.args.p c.args.q c.len-start.result c.count_of-width.result c.args.table.now c.loop-v.invariant.added
+    c.loop-v.table start
     c.loop-v.invariant.table c.count_of-width.ensures c.requires.named (subst
     (λ n. PairTruths c.args.model.now c.args.term.now c.args.p c.args.q n c.loop-v.invariant.added) end c.loop-v.invariant.pairs)

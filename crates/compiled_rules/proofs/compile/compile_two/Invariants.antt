@@ -9,6 +9,6 @@ invariant-loop-v l = record {
   fits : FitsModel l.model l.room;
   count : l.count ≡ length (param_at l.model.params l.p).values;
   added : List Bool;
-  table : l.table.items ≡ l.initial.table.items ++ added;
+  table : l.table ≡ l.initial.table ++ added;
   pairs : PairTruths l.model l.term l.p l.q l.v added;
 }

@@ -8,7 +8,7 @@ use Rattle.compiled_rules.proofs.compile.push_row.Goals as goal
 
 pub loop-w-preserved : goal.loop-w-preserved
 loop-w-preserved c =
-    let pushed : c.push.new.self.items ≡ c.loop-w.table.items ++ c.is_yes-holds.result ∷ [] = search rules in
+    let pushed : c.push.new.self ≡ c.loop-w.table ++ c.is_yes-holds.result ∷ [] = search rules in
     record {
       fits = subst (FitsModel c.args.model.now) (sym c.set_cell.ensures)
           (FitsModel-set c.args.model.now c.loop-w.room c.args.q c.loop-w.w c.loop-w.invariant.fits c.requires.within
@@ -16,7 +16,7 @@ loop-w-preserved c =
       near = λ v. ap (λ cells. set cells c.args.q (Some v)) c.set_cell.ensures ∙ set-set c.loop-w.room c.args.q (Some c.loop-w.w) (Some v)
           ∙ c.loop-w.invariant.near v;
       count = c.loop-w.invariant.count;
-      table = row_more c.args.model.now c.args.term.now c.args.room.now c.args.q c.loop-w.w c.args.table.now.items c.loop-w.table.items c.push.new.self.items
+      table = row_more c.args.model.now c.args.term.now c.args.room.now c.args.q c.loop-w.w c.args.table.now c.loop-w.table c.push.new.self
           c.is_yes-holds.result
           c.loop-w.invariant.table pushed (c.is_yes-holds.ensures
           ∙ ap is_yes (c.term_truth.ensures ∙ ap (λ cells. term_truth c.args.model.now c.args.term.now cells)

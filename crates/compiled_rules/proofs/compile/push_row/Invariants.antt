@@ -11,5 +11,5 @@ invariant-loop-w l = record {
   fits : FitsModel l.model l.room;
   near : (v : ℕ) → set l.room l.q (Some v) ≡ set l.initial.room l.q (Some v);
   count : l.count ≡ length (param_at l.model.params l.q).values;
-  table : l.table.items ≡ l.initial.table.items ++ map (λ v. is_yes (term_truth l.model l.term (set l.initial.room l.q (Some v)))) (range_with_len 0 l.w);
+  table : l.table ≡ l.initial.table ++ map (λ v. is_yes (term_truth l.model l.term (set l.initial.room l.q (Some v)))) (range_with_len 0 l.w);
 }

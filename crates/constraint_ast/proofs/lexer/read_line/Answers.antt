@@ -21,7 +21,8 @@ rule_token-requires c = slice_marks c.args.text.now c.in-Token.found c.range.res
 
 pub loop-code-preserved : goal.loop-code-preserved
 loop-code-preserved c =
-    next_token c.args.number c.args.text.now c.args.tokens.now c.loop-code.tokens c.loop-code.at c.loop-code.invariant c.in-Token.found (sym c.in-Token.ensures.answer) c.in-Token.ensures.span.not_empty
+    next_token c.args.number c.args.text.now c.args.tokens.now c.loop-code.tokens c.loop-code.at
+    c.loop-code.invariant c.in-Token.found (sym c.in-Token.ensures.answer) c.in-Token.ensures.span.not_empty
     c.in_ok-token-in-Token.token c.push.new.self (ap (λ text. meant c.in-Token.found.kind text) (sym c.range.ensures.value)
     ∙ c.in_ok-token-in-Token.ensures.ok) c.in_ok-push-in-Token.ensures.ok
     c.in-Token.ensures.span.cut_behind

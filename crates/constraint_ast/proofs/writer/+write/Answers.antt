@@ -18,7 +18,9 @@ put_pred-returns-in_ok-put_parts-in-All t c =
     ap (λ tree. line_with old (tree_before c.args.place tree rest)) (ap tree_of c.in-All.is ∙ each_is c.in-All.parts)
     ∙ (ap (λ tokens. line_with old tokens) (parens_are (all_has_parens c.args.place) (λ rest. trees_before And InAllOrNot parts rest) rest)
     ∙ (ap (λ parens. line_with old (opened_if parens (trees_before And InAllOrNot parts (closed_if parens rest)))) (sym c.all_has_parens-parens.ensures)
-    ∙ (c.in_ok-put_open-in-All.ensures (trees_before And InAllOrNot parts (closed_if parens rest)) ∙ (ap (λ list. line_with c.put_open.new.line (trees_before And InAllOrNot (trees_in list) (closed_if parens rest))) (sym c.as_slice.ensures) ∙ c.in_ok-put_parts-in-All.ensures (closed_if parens rest))))))
+    ∙ (c.in_ok-put_open-in-All.ensures (trees_before And InAllOrNot parts (closed_if parens rest))
+    ∙ (ap (λ list. line_with c.put_open.new.line (trees_before And InAllOrNot (trees_in list) (closed_if parens rest))) (sym c.as_slice.ensures)
+    ∙ c.in_ok-put_parts-in-All.ensures (closed_if parens rest))))))
     c.put_close.ensures
 
 pub put_pred-returns-in_ok-put_parts-in-Any : goal.put_pred-returns-in_ok-put_parts-in-Any
@@ -31,5 +33,7 @@ put_pred-returns-in_ok-put_parts-in-Any t c =
     ap (λ tree. line_with old (tree_before c.args.place tree rest)) (ap tree_of c.in-Any.is ∙ either_is c.in-Any.parts)
     ∙ (ap (λ tokens. line_with old tokens) (parens_are (any_has_parens c.args.place) (λ rest. trees_before Or InAny parts rest) rest)
     ∙ (ap (λ parens. line_with old (opened_if parens (trees_before Or InAny parts (closed_if parens rest)))) (sym c.any_has_parens-parens.ensures)
-    ∙ (c.in_ok-put_open-in-Any.ensures (trees_before Or InAny parts (closed_if parens rest)) ∙ (ap (λ list. line_with c.put_open-in-Any.new.line (trees_before Or InAny (trees_in list) (closed_if parens rest))) (sym c.as_slice-in-Any.ensures) ∙ c.in_ok-put_parts-in-Any.ensures (closed_if parens rest))))))
+    ∙ (c.in_ok-put_open-in-Any.ensures (trees_before Or InAny parts (closed_if parens rest))
+    ∙ (ap (λ list. line_with c.put_open-in-Any.new.line (trees_before Or InAny (trees_in list) (closed_if parens rest))) (sym c.as_slice-in-Any.ensures)
+    ∙ c.in_ok-put_parts-in-Any.ensures (closed_if parens rest))))))
     c.put_close-in-Any.ensures

@@ -27,7 +27,8 @@ returns-in_ok-put_literals-in-OneOf c =
     let list = literals_before c.in-OneOf.literals (CloseBrace ∷ rest) in
     ap (λ term. line_with c.args.line.now (term_before term rest)) c.in-OneOf.is
     ∙ (c.in_ok-put_name-in-OneOf.ensures (In ∷ OpenBrace ∷ list) ∙ (c.in_ok-put-in-OneOf.ensures (OpenBrace ∷ list)
-    ∙ (c.in_ok-put-in-OneOf-2.ensures list ∙ (ap (λ xs. line_with c.put-in-OneOf-2.new.line (literals_before xs (CloseBrace ∷ rest))) (sym c.as_slice.ensures) ∙ c.in_ok-put_literals-in-OneOf.ensures (CloseBrace ∷ rest))))))
+    ∙ (c.in_ok-put-in-OneOf-2.ensures list
+    ∙ (ap (λ xs. line_with c.put-in-OneOf-2.new.line (literals_before xs (CloseBrace ∷ rest))) (sym c.as_slice.ensures) ∙ c.in_ok-put_literals-in-OneOf.ensures (CloseBrace ∷ rest))))))
     c.put-in-OneOf-3.ensures
 
 pub returns-in_ok-put-in-Like : goal.returns-in_ok-put-in-Like

@@ -35,9 +35,9 @@ same_omitted now context order grown start before given put same starts none put
 
 pub grow_columns-requires-clause-grows : goal.grow_columns-requires-clause-grows
 grow_columns-requires-clause-grows g c _ _ =
-    subst (λ (w : SearchContext). All (Grows w) c.in-Ok-new.growth.rows.items) (sym c.in-Ok-new.ensures.context)
+    subst (λ (w : SearchContext). All (Grows w) c.in-Ok.growth.rows.items) (sym c.in-Ok.ensures.context)
     (subst (λ (rows : List (List (Option ℕ))). All (Grows (context_in c.args.input.now c.args.slice)) rows)
-    (sym (c.in-Ok-new.ensures.rows ∙ c.in-Ok.ensures))
+    (sym c.in-Ok.ensures.rows)
     (seeds_grow c.args.input.now.model.now c.args.slice c.args.input.now.kept.now c.requires.input.fit c.requires.input.few))
 
 pub returns-in-Err-clause-asked : goal.returns-in-Err-clause-asked
@@ -51,24 +51,24 @@ returns-in-Err-clause-asked g c =
     (λ spent. find-earlier (over context) c.question.result.now grown.asked grown.rows spent)
     (subst (λ (question : List (Option ℕ)). Told {A = Unit {0}} (Err c.in-Err.stop) question (first_spent context grown.asked)) (sym c.question.ensures.value)
     (subst (Told {A = Unit {0}} (Err c.in-Err.stop) c.grow_columns.new.self.asker.question)
-    (same_asked c.in-Ok-new.growth.asker.context context order c.in-Ok-new.growth.rows.items start c.in-Ok-new.ensures.context
-    (c.in-Ok-new.ensures.rows ∙ c.in-Ok.ensures)) c.in-Err.ensures.asked)))
+    (same_asked c.in-Ok.growth.asker.context context order c.in-Ok.growth.rows.items start c.in-Ok.ensures.context
+    c.in-Ok.ensures.rows) c.in-Err.ensures.asked)))
 
 pub finish_slice-requires-clause-omitted : goal.finish_slice-requires-clause-omitted
 finish_slice-requires-clause-omitted g c =
     let context : SearchContext = context_in c.args.input.now c.args.slice in
     let start : List (List (Option ℕ)) = filter (is_of_slice context.model c.args.slice) c.args.input.now.kept.now in
     let order : List ℕ = column_order context.model c.args.slice in
-    let now : SearchContext = c.in-Ok-new.growth.asker.context in
-    let rows : List (List (Option ℕ)) = c.in-Ok-new.growth.rows.items in
-    let same = c.in-Ok-new.ensures.rows ∙ c.in-Ok.ensures in
+    let now : SearchContext = c.in-Ok.growth.asker.context in
+    let rows : List (List (Option ℕ)) = c.in-Ok.growth.rows.items in
+    let same = c.in-Ok.ensures.rows in
     subst (λ (w : SearchContext). All (IsOmittedIn w) c.as_slice-2.result.now)
-    (sym (c.in_default-grow_columns.ensures.same ∙ c.in-Ok-new.ensures.context))
+    (sym (c.in_default-grow_columns.ensures.same ∙ c.in-Ok.ensures.context))
     (subst (λ (tuples : List (List (Option ℕ))). All (IsOmittedIn context) tuples)
-    (sym (same_omitted now context order rows start c.in-Ok-new.growth.omitted c.as_slice-2.result.now c.grow_columns.new.self.omitted
-    c.in-Ok-new.ensures.context same c.in-Ok-new.ensures.omitted c.in_default-grow_columns.ensures.omitted c.as_slice-2.ensures))
+    (sym (same_omitted now context order rows start c.in-Ok.growth.omitted c.as_slice-2.result.now c.grow_columns.new.self.omitted
+    c.in-Ok.ensures.context same c.in-Ok.ensures.omitted c.in_default-grow_columns.ensures.omitted c.as_slice-2.ensures))
     (omitted-in context order start c.requires.slice
-    (sym (same_asked now context order rows start c.in-Ok-new.ensures.context same) ∙ c.in_default-grow_columns.ensures.asked)))
+    (sym (same_asked now context order rows start c.in-Ok.ensures.context same) ∙ c.in_default-grow_columns.ensures.asked)))
 
 pub finish_slice-requires-clause-few : goal.finish_slice-requires-clause-few
 finish_slice-requires-clause-few g c =
@@ -79,9 +79,9 @@ finish_slice-requires-clause-few g c =
       arith,
       c.requires.few,
       omitted-few context order start,
-      ap length (same_omitted c.in-Ok-new.growth.asker.context context order c.in-Ok-new.growth.rows.items start c.in-Ok-new.growth.omitted
-          c.as_slice-2.result.now c.grow_columns.new.self.omitted c.in-Ok-new.ensures.context (c.in-Ok-new.ensures.rows ∙ c.in-Ok.ensures)
-          c.in-Ok-new.ensures.omitted c.in_default-grow_columns.ensures.omitted c.as_slice-2.ensures),
+      ap length (same_omitted c.in-Ok.growth.asker.context context order c.in-Ok.growth.rows.items start c.in-Ok.growth.omitted
+          c.as_slice-2.result.now c.grow_columns.new.self.omitted c.in-Ok.ensures.context c.in-Ok.ensures.rows
+          c.in-Ok.ensures.omitted c.in_default-grow_columns.ensures.omitted c.as_slice-2.ensures),
     )
 
 pub returns-clause-count : goal.returns-clause-count
@@ -90,9 +90,9 @@ returns-clause-count g c =
     let start : List (List (Option ℕ)) = filter (is_of_slice context.model c.args.slice) c.args.input.now.kept.now in
     let order : List ℕ = column_order context.model c.args.slice in
     let few = omitted-few context order start in
-    let put = ap length (same_omitted c.in-Ok-new.growth.asker.context context order c.in-Ok-new.growth.rows.items start c.in-Ok-new.growth.omitted
-    c.as_slice-2.result.now c.grow_columns.new.self.omitted c.in-Ok-new.ensures.context (c.in-Ok-new.ensures.rows ∙ c.in-Ok.ensures)
-    c.in-Ok-new.ensures.omitted c.in_default-grow_columns.ensures.omitted c.as_slice-2.ensures) in
+    let put = ap length (same_omitted c.in-Ok.growth.asker.context context order c.in-Ok.growth.rows.items start c.in-Ok.growth.omitted
+    c.as_slice-2.result.now c.grow_columns.new.self.omitted c.in-Ok.ensures.context c.in-Ok.ensures.rows
+    c.in-Ok.ensures.omitted c.in_default-grow_columns.ensures.omitted c.as_slice-2.ensures) in
     on_ok_weaker c.finish_slice.result
     (λ tuples.
     let count = omissions-count c.grow_columns.new.self.asker.context.model c.args.omissions.now c.finish_slice.new.omissions c.as_slice-2.result.now tuples in
@@ -104,15 +104,15 @@ returns-clause-asked g c =
     let start : List (List (Option ℕ)) = filter (is_of_slice context.model c.args.slice) c.args.input.now.kept.now in
     let order : List ℕ = column_order context.model c.args.slice in
     let grown : Grown = columns_grown context order start in
-    let same = c.in-Ok-new.ensures.rows ∙ c.in-Ok.ensures in
+    let same = c.in-Ok.ensures.rows in
     let rows : c.as_slice.result.now ≡ grown.rows =
     c.as_slice.ensures.value ∙ c.in_default-grow_columns.ensures.rows
-    ∙ ap (λ (g : Grown). g.rows) (same_grown c.in-Ok-new.growth.asker.context context order c.in-Ok-new.growth.rows.items start c.in-Ok-new.ensures.context
+    ∙ ap (λ (g : Grown). g.rows) (same_grown c.in-Ok.growth.asker.context context order c.in-Ok.growth.rows.items start c.in-Ok.ensures.context
     same) in
     subst (Ends c.finish_slice.result)
     (sym (find-later (over context) grown.asked grown.rows
-    (sym (same_asked c.in-Ok-new.growth.asker.context context order c.in-Ok-new.growth.rows.items start c.in-Ok-new.ensures.context same)
+    (sym (same_asked c.in-Ok.growth.asker.context context order c.in-Ok.growth.rows.items start c.in-Ok.ensures.context same)
     ∙ c.in_default-grow_columns.ensures.asked)))
     (subst (Ends c.finish_slice.result)
-    (ap (λ w. first_spent w c.as_slice.result.now) (c.in_default-grow_columns.ensures.same ∙ c.in-Ok-new.ensures.context) ∙ ap (first_spent context) rows)
+    (ap (λ w. first_spent w c.as_slice.result.now) (c.in_default-grow_columns.ensures.same ∙ c.in-Ok.ensures.context) ∙ ap (first_spent context) rows)
     c.finish_slice.ensures.asked)

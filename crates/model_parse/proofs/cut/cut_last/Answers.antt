@@ -7,11 +7,13 @@ use Rattle.model_parse.proofs.cut.cut_last.Goals.{Else-behind-text}
 
 pub returns-then-behind-text : goal.returns-then-behind-text
 returns-then-behind-text c =
-    none_behind (is_byte c.args.mark) c.args.text.now c.bytes_behind-behind.result (c.bytes_behind-behind.ensures ∙ ap (suffix_len (λ x. not (is_byte c.args.mark x))) c.as_bytes.ensures.value) c.if-behind-text.true
+    none_behind (is_byte c.args.mark) c.args.text.now c.bytes_behind-behind.result
+    (c.bytes_behind-behind.ensures ∙ ap (suffix_len (λ x. not (is_byte c.args.mark x))) c.as_bytes.ensures.value) c.if-behind-text.true
 
 found : (c : Else-behind-text) → LastMark c.args.mark c.args.text.now c.bytes_behind-behind.result
 found c =
-    last_mark c.args.mark c.args.text.now c.bytes_behind-behind.result c.requires c.utf8.text (c.bytes_behind-behind.ensures ∙ ap (suffix_len (λ x. not (is_byte c.args.mark x))) c.as_bytes.ensures.value) c.if-behind-text.false
+    last_mark c.args.mark c.args.text.now c.bytes_behind-behind.result c.requires c.utf8.text
+    (c.bytes_behind-behind.ensures ∙ ap (suffix_len (λ x. not (is_byte c.args.mark x))) c.as_bytes.ensures.value) c.if-behind-text.false
 
 pub overflow_sub-end : goal.overflow_sub-end
 overflow_sub-end c = let f = found c in omega (arith, f.within)
@@ -28,5 +30,10 @@ range_from-requires c = λ h. (found (goal.at.range_from-requires c).Else-behind
 pub returns : goal.returns
 returns c =
     let f = found (goal.at.returns c).Else-behind-text in
-    let behind : c.bytes_behind-behind.result ≡ suffix_len (λ x. not (is_byte c.args.mark x)) c.args.text.now = c.bytes_behind-behind.ensures ∙ ap (suffix_len (λ x. not (is_byte c.args.mark x))) c.as_bytes.ensures.value in
-    (f.stands, c.range.ensures.value ∙ front_is c.args.text.now (length c.args.text.now - c.bytes_behind-behind.result - 1) ∙ ap (λ n. take (length c.args.text.now - n - 1) c.args.text.now) behind, c.range_from.ensures.value ∙ ap (λ n. drop (length c.args.text.now - n) c.args.text.now) behind)
+    let behind : c.bytes_behind-behind.result ≡ suffix_len (λ x. not (is_byte c.args.mark x)) c.args.text.now =
+    c.bytes_behind-behind.ensures ∙ ap (suffix_len (λ x. not (is_byte c.args.mark x))) c.as_bytes.ensures.value in (
+      f.stands,
+      c.range.ensures.value ∙ front_is c.args.text.now (length c.args.text.now - c.bytes_behind-behind.result - 1)
+          ∙ ap (λ n. take (length c.args.text.now - n - 1) c.args.text.now) behind,
+      c.range_from.ensures.value ∙ ap (λ n. drop (length c.args.text.now - n) c.args.text.now) behind,
+    )

@@ -1,7 +1,7 @@
 use Rattle.std.proofs.Common.{[]}
 use Rattle.model_lex.specs.Sections.{line_seen}
 use Rattle.model_lex.specs.declared.sections.NumLine.{NumLine}
-use Rattle.model_parse.specs.GroupLines.{read_group}
+use Rattle.model_parse.specs.GroupSteps.{read_group}
 use Rattle.model_parse.proofs.Answering.{gives_fault}
 use Rattle.model_parse.proofs.Readings.{each_stops}
 use Rattle.model_parse.proofs.group.add_groups.Goals as goal

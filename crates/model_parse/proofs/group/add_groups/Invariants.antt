@@ -1,7 +1,7 @@
 use Rattle.std.proofs.Common.{◌≡◌, map, drop}
 use Rattle.model_lex.specs.Sections.{line_seen}
 use Rattle.model_parse.specs.Steps.{and_each}
-use Rattle.model_parse.specs.GroupLines.{read_group}
+use Rattle.model_parse.specs.GroupSteps.{read_group}
 use Rattle.model_parse.proofs.group.add_groups.Given as goal
 
 abbrev pub invariant-loop-line : goal.invariant-loop-line

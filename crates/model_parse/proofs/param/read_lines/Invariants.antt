@@ -1,7 +1,7 @@
 use Rattle.std.proofs.Common.{◌≡◌, map, drop}
 use Rattle.model_lex.specs.Sections.{line_seen}
 use Rattle.model_parse.specs.Steps.{and_each}
-use Rattle.model_parse.specs.ParamLines.{Counts, read_param, no_params}
+use Rattle.model_parse.specs.ParamSteps.{Counts, read_param, no_params}
 use Rattle.model_parse.proofs.param.read_lines.Given as goal
 
 abbrev pub invariant-loop-line : goal.invariant-loop-line

@@ -2,7 +2,7 @@ use Rattle.std.proofs.Common.{◌≡◌, Result, Ok, Err, sym, ◌∙◌, ap}
 use Rattle.model_lex.specs.Blanks.{trimmed}
 use Rattle.model_lex.specs.Sections.{line_seen}
 use Rattle.model_lex.specs.declared.fault.ModelFault.{ModelFault}
-use Rattle.model_parse.specs.ParamLines.{read_values, read_param, add_param}
+use Rattle.model_parse.specs.ParamSteps.{read_values, read_param, add_param}
 use Rattle.model_parse.specs.Steps.{and_then}
 use Rattle.model_parse.specs.declared.reading.Reading.{Reading}
 use Rattle.model_parse.proofs.Answering.{gives_fault, gives_same, read_goes}
@@ -11,7 +11,8 @@ use Rattle.model_parse.proofs.param.read_param.Goals.{After-read_values}
 
 goes : (c : After-read_values) (values : Result Reading ModelFault)
     → read_values c.args.opts.now c.args.line.line c.as_slice.result.now c.args.read.known c.args.read.notes c.cut_colon.result.1.now ≡ values
-    → read_param c.args.opts.now c.args.read (line_seen c.args.line) ≡ and_then values (λ v. add_param c.args.opts.now.fold c.args.line.line c.trimmed-name.result.now c.args.read.params c.args.read.known v)
+    → read_param c.args.opts.now c.args.read (line_seen c.args.line)
+    ≡ and_then values (λ v. add_param c.args.opts.now.fold c.args.line.line c.trimmed-name.result.now c.args.read.params c.args.read.known v)
 goes c values is =
     read_goes c.args.opts.now c.args.read (line_seen c.args.line) c.trimmed-name.result.now c.cut_colon.result.1.now values
     (sym c.in_ok-code.ensures ∙ c.in_default.is)

@@ -1,6 +1,6 @@
 use Rattle.std.proofs.Common.{◌≡◌, map, drop}
 use Rattle.model_parse.specs.Steps.{and_each}
-use Rattle.model_parse.specs.Values.{add_value}
+use Rattle.model_parse.specs.ValueSteps.{add_value}
 use Rattle.model_parse.proofs.piece.add_copies.Given as goal
 
 abbrev pub invariant-loop-value : goal.invariant-loop-value

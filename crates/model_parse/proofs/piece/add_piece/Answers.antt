@@ -1,5 +1,5 @@
 use Rattle.std.proofs.Common.{◌<◌, length, sym, ◌∙◌, ap, arith}
-use Rattle.model_parse.specs.Values.{place_of, add_value}
+use Rattle.model_parse.specs.ValueSteps.{place_of, add_value}
 use Rattle.model_parse.specs.Steps.{and_each}
 use Rattle.model_parse.proofs.Answering.{gives_same, reference_is}
 use Rattle.model_parse.proofs.piece.add_piece.Goals as goal

@@ -2,7 +2,8 @@ use Rattle.std.proofs.Common.{◌≡◌, ℕ, List, [], None, Bor, map, sym, ◌
 use Rattle.std.specs.Prelude.{slice_index_or}
 use Rattle.cov_model.specs.declared.parameter.Value.{Value}
 use Rattle.model_parse.specs.Pieces.{begins_with}
-use Rattle.model_parse.specs.Values.{without_prefix, add_value, piece_code, value_of, names_code}
+use Rattle.model_parse.specs.Values.{without_prefix, piece_code, value_of}
+use Rattle.model_parse.specs.ValueSteps.{add_value, names_code}
 use Rattle.model_parse.proofs.Answering.{gives_same, accepted_is}
 use Rattle.model_parse.proofs.Weights.{Spells, spelled}
 use Rattle.model_parse.proofs.piece.add_spelled.Goals as goal
@@ -22,5 +23,6 @@ returns c =
     (c.in_ok-names.ensures ∙ ap (λ (ps : List (Bor (List ℕ))). map (without_prefix marks.prefix) (seen ps)) c.as_slice.ensures.value) code
     (c.is_negative-negative.ensures ∙ ap (λ (ps : List (Bor (List ℕ))). begins_with marks.prefix (slice_index_or (seen ps) 0 [])) c.as_slice-3.ensures.value) in
     let add = add_value c.args.opts.now.fold c.args.line c.args.read in
-    gives_same (λ next. next) c.add_value.result _ _ (ap (λ (ns : List (Bor (List ℕ))). add (record { names = seen ns; weight = c.read_weight-weight.result.1; negative = c.is_negative-negative.result })) c.as_slice-4.ensures
+    gives_same (λ next. next) c.add_value.result _ _ (ap (λ (ns : List (Bor (List ℕ))). add
+    (record { names = seen ns; weight = c.read_weight-weight.result.1; negative = c.is_negative-negative.result })) c.as_slice-4.ensures
     ∙ accepted_is c.args.line (piece_code marks c.args.piece.now) (value_of marks c.args.piece.now) value add spells.accepted spells.is) c.add_value.ensures

@@ -1,5 +1,5 @@
 use Rattle.std.proofs.Common.{◌≡◌, ℕ, List, Bor, map, drop}
-use Rattle.model_parse.specs.Values.{names_code}
+use Rattle.model_parse.specs.ValueSteps.{names_code}
 use Rattle.model_parse.proofs.piece.names_code.Given as goal
 
 abbrev pub invariant-loop-name : goal.invariant-loop-name

@@ -86,7 +86,8 @@ returns-clause-runs g c = λ source told.
       prints =
           subst (λ text. Prints text (g.O.Sink.written c.args.out.now) (g.O.Sink.written c.write_suite.new.out) (end_of end))
           (ap (λ rows. suite_text output m rows (statistics_seen suite.stats)) c.in_ok-suite.ensures.rows
-          ∙ ap (suite_text output m (growth_of s seed m seeds).rows) c.in_ok-suite.ensures.stats ∙ sym (text_same s seed m source given file.notes within (Generate output) c.requires.mode reads read.holds.notes))
+          ∙ ap (suite_text output m (growth_of s seed m seeds).rows) c.in_ok-suite.ensures.stats
+          ∙ sym (text_same s seed m source given file.notes within (Generate output) c.requires.mode reads read.holds.notes))
           c.write_suite.ensures.prints;
       writes =
           proof_from s seed m (rows_of_run s m source) before loaded after (end_of end) c.prepare.ensures.files

@@ -77,7 +77,8 @@ returns-clause-runs g c = λ seed source told.
           (if_err_then end (λ stop is. inl is) c.print_figures.ensures.stops);
       prints =
           subst (λ text. Prints text (g.O.Sink.written c.args.out.now) (g.O.Sink.written c.print_figures.new.out) (end_of end))
-          (ap figures_text (c.in_ok-figures.ensures.figures ∙ ap (figures m) (sym (suite_rows file.rows))) ∙ sym (text_same s seed m source given file.notes within mode c.requires.mode.1 reads read.holds.notes))
+          (ap figures_text (c.in_ok-figures.ensures.figures ∙ ap (figures m) (sym (suite_rows file.rows)))
+          ∙ sym (text_same s seed m source given file.notes within mode c.requires.mode.1 reads read.holds.notes))
           c.print_figures.ensures.prints;
       writes = writes_none s seed m (rows_of_run s m source) _ _ (end_of end) (c.requires.fit.unproved (ap makes_suite c.requires.mode.1));
     }

@@ -12,12 +12,14 @@ use Rattle.pict_cli.specs.Runs.{IsStatus, names_of, used_seed}
 use Rattle.command_line.specs.Told.{Tells, end_status, told_text}
 use Rattle.command_line.specs.Words.{texts}
 use Rattle.pict_cli.proofs.Causes.{complete_end, long_end, missing_end, missing_rows_end, refused_end, stopped_end}
-use Rattle.pict_cli.proofs.RunEnds.{accepted_whole, covers_whole, eight_is_end, few_whole, form_known, not_three, nothing_end, proof_whole, ran_asked, seeds_whole, seven_is_end, status_known, untouched_end, unwritten_end}
+use Rattle.pict_cli.proofs.RunEnds.{accepted_whole, covers_whole, eight_is_end, few_whole, form_known, not_three, nothing_end}
+use Rattle.pict_cli.proofs.RunEnds.{proof_whole, ran_asked, seeds_whole, seven_is_end, status_known, untouched_end, unwritten_end}
 use Rattle.pict_cli.proofs.run.run_pict.Goals as goal
 
 pub returns-clause-headline : goal.returns-clause-headline
 returns-clause-headline g c = λ zero s held source given is.
-    covers_whole (ran_asked c.in-Ok.ensures.0 given.asked c.in-Ok.ensures.2 c.run-ended.ensures) held source given.model given.rows (form_known c.in-Ok.opts s (one_ok c.in-Ok.ensures.0 given.asked)) is (sym c.status_of.ensures ∙ zero)
+    covers_whole (ran_asked c.in-Ok.ensures.0 given.asked c.in-Ok.ensures.2 c.run-ended.ensures) held source given.model given.rows
+    (form_known c.in-Ok.opts s (one_ok c.in-Ok.ensures.0 given.asked)) is (sym c.status_of.ensures ∙ zero)
 
 pub returns-clause-few : goal.returns-clause-few
 returns-clause-few g c = λ zero s held source given is.
@@ -29,7 +31,8 @@ returns-clause-seeds g c = λ zero s held source given is.
 
 pub returns-clause-accepted : goal.returns-clause-accepted
 returns-clause-accepted g c = λ zero s held after source given is told.
-    accepted_whole (ran_asked c.in-Ok.ensures.0 given.asked c.in-Ok.ensures.2 c.run-ended.ensures) held source given.model given.rows (form_known c.in-Ok.opts s (one_ok c.in-Ok.ensures.0 given.asked)) is after told
+    accepted_whole (ran_asked c.in-Ok.ensures.0 given.asked c.in-Ok.ensures.2 c.run-ended.ensures) held source given.model given.rows
+    (form_known c.in-Ok.opts s (one_ok c.in-Ok.ensures.0 given.asked)) is after told
     (sym c.status_of.ensures ∙ zero)
 
 pub returns-clause-proof : goal.returns-clause-proof
@@ -95,7 +98,8 @@ returns-clause-missing g c = λ s source given.
 pub returns-clause-nothing : goal.returns-clause-nothing
 returns-clause-nothing g c = λ zero eight.
     let left = c.run-ended.ensures.leaves in
-    nothing_end c.run-ended.result.end _ _ _ _ (untouched_end c.run-ended.result.end (λ e. zero (c.status_of.ensures ∙ e)) (λ e. eight (c.status_of.ensures ∙ e)) left.worded) left.quiet left.faults
+    nothing_end c.run-ended.result.end _ _ _ _
+    (untouched_end c.run-ended.result.end (λ e. zero (c.status_of.ensures ∙ e)) (λ e. eight (c.status_of.ensures ∙ e)) left.worded) left.quiet left.faults
 
 pub returns-clause-read : goal.returns-clause-read
 returns-clause-read g c = λ seven.

@@ -43,7 +43,8 @@ returns-in_err-results-clause-leaves g c = λ name.
     leaves_early s name _ _ (end_of end) (subst (λ x. IsEarly (end_of x)) (sym e) (rows_early stop c.in_err-results.ensures.other)) c.load_results.ensures.files
     (subst (λ x. CountsReads s name (end_of x) reads after) (sym e)
     (rows_counted s name stop reads after c.in_err-results.ensures.other
-    (λ is. subst (λ file. IsSomeAnd file (λ given. Rose (reads given) (after given))) (sym (ap (λ mode. row_file_in mode (rows_beside s.make s.seeds)) c.requires.mode)) (c.in_err-results.ensures.cannot_read (ap Err is)))
+    (λ is. subst (λ file. IsSomeAnd file (λ given. Rose (reads given) (after given)))
+    (sym (ap (λ mode. row_file_in mode (rows_beside s.make s.seeds)) c.requires.mode)) (c.in_err-results.ensures.cannot_read (ap Err is)))
     (λ other. c.in_err-results.ensures.no_fault (λ is. other (let same : stop ≡ (CannotRead kinds.Rows) = cc in same)))))
     c.load_results.ensures.write_faults refl refl
 

@@ -22,4 +22,4 @@ loop-omission-preserved c =
     (left_more m c.as_slice-omission-items.result.now i c.omission-item.result c.loop-omission.left c.clear_one.new.left c.loop-omission-test.true
     c.omission-item.is
     (subst (λ (omissions : List Omission). AreLeft m (take i omissions) c.loop-omission.left) (sym same) c.loop-omission.invariant)
-    c.in_ok-clear_one.ensures)
+    c.in_ok-near.ensures)

@@ -1,6 +1,6 @@
 use Rattle.std.proofs.Common.{◌≡◌, ◌∙◌, ◌∷◌, ap, map, sym, arith, rules, ◌≤◌, length, ◌^◌, Err}
 use Rattle.std.proofs.lemmas.Bool.{eqb-true}
-use Rattle.model_lex.specs.Lines.{file_lines, without_mark, without_return, numbered_lines}
+use Rattle.model_lex.specs.Lines.{file_lines, without_mark, without_return}
 use Rattle.seq_check.proofs.ReadingSteps.{begins, reads, stops, ends}
 use Rattle.seq_check.proofs.reading.read_events.Goals as goal
 use Rattle.model_lex.proofs.OrderMark.{unmarked_within}
@@ -15,7 +15,7 @@ loop-rest-preserved c =
     let behind = c.cut_line.result.1.now in
     let cut = ap (map without_return) c.cut_line.ensures.lines ∙ ap (λ text. text ∷ file_lines behind) (sym c.without_return.ensures) in
     rw c.in_ok-reading.ensures.ok.1
-    (reads (numbered_lines c.args.bytes.now) c.loop-rest.reading c.loop-rest.line c.loop-rest.rest.now c.without_return.result.now behind c.loop-rest.invariant cut c.cut_line.ensures.shorter c.in_ok-reading.ensures.ok.0)
+    (reads behind c.loop-rest.invariant cut c.cut_line.ensures.shorter c.in_ok-reading.ensures.ok.0)
 
 pub returns-in_err-reading : goal.returns-in_err-reading
 returns-in_err-reading c =
@@ -23,9 +23,9 @@ returns-in_err-reading c =
     let cut = ap (map without_return) c.cut_line.ensures.lines ∙ ap (λ text. text ∷ file_lines behind) (sym c.without_return.ensures) in
     let is : c.from_residual.result ≡ Err c.in_err-reading.field-0.0 = search rules in
     rw is
-    (stops (numbered_lines c.args.bytes.now) c.loop-rest.reading c.loop-rest.line c.loop-rest.rest.now c.without_return.result.now behind c.loop-rest.invariant cut c.cut_line.ensures.shorter c.args.t c.in_err-reading.field-0.0 c.in_err-reading.ensures.err)
+    (stops behind c.loop-rest.invariant cut c.cut_line.ensures.shorter c.args.t c.in_err-reading.field-0.0 c.in_err-reading.ensures.err)
 
 pub returns : goal.returns
 returns c =
     let none = eqb-true _ _ (sym c.is_empty.ensures ∙ c.loop-rest-test.false) in
-    rw (ends (numbered_lines c.args.bytes.now) c.loop-rest.reading c.loop-rest.line c.args.t c.loop-rest.rest.now c.loop-rest.invariant none) c.finish.ensures
+    rw (ends c.args.t c.loop-rest.rest.now c.loop-rest.invariant none) c.finish.ensures

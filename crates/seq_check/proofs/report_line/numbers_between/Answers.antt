@@ -9,11 +9,13 @@ returns-in-Some-clause-value c =
     let now = λ (b : Bor (List ℕ)). b.now in
     let n = c.args.to - c.args.from in
     let parts = sym (take-map now n (drop c.args.from c.args.parts.now)) ∙ ap (take n) (drop_map now c.args.from c.args.parts.now) in
-    sym c.in-Some.is ∙ c.in_ok-numbers.ensures.value ∙ ap (λ names. numbers_of names (map now (take n (drop c.args.from c.args.parts.now)))) c.names.ensures ∙ ap (numbers_of c.args.events.now.names) parts
+    sym c.in-Some.is ∙ c.in_ok-numbers.ensures.value
+    ∙ ap (λ names. numbers_of names (map now (take n (drop c.args.from c.args.parts.now)))) c.names.ensures ∙ ap (numbers_of c.args.events.now.names) parts
 
 pub returns-in-None-clause-value : goal.returns-in-None-clause-value
 returns-in-None-clause-value c =
     let now = λ (b : Bor (List ℕ)). b.now in
     let n = c.args.to - c.args.from in
     let parts = sym (take-map now n (drop c.args.from c.args.parts.now)) ∙ ap (take n) (drop_map now c.args.from c.args.parts.now) in
-    sym c.in-None.is ∙ c.in_ok-numbers.ensures.value ∙ ap (λ names. numbers_of names (map now (take n (drop c.args.from c.args.parts.now)))) c.names.ensures ∙ ap (numbers_of c.args.events.now.names) parts
+    sym c.in-None.is ∙ c.in_ok-numbers.ensures.value
+    ∙ ap (λ names. numbers_of names (map now (take n (drop c.args.from c.args.parts.now)))) c.names.ensures ∙ ap (numbers_of c.args.events.now.names) parts

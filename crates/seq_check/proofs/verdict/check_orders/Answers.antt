@@ -37,8 +37,8 @@ loop-rest-preserved-in-Row c =
     let o = c.loop-rest.opened in
     let closed = subst (λ at. (front : List ℕ) (last : ℕ) → IsFront o.len (length at) front → last < length at
     → is_open c.close_row.new.self front last ≡ (is_open o front last && not (rises at (front ++ last ∷ [])))) (c.as_slice-in-Row.ensures.value ∙ row.2) c.close_row.ensures.closed in
-    after_row e c.args.report.now c.assert_invariant.ensures o c.loop-rest.line c.loop-rest.rows c.loop-rest.omissions c.loop-rest.rest.now c.cut_line.result.0.now c.cut_line.result.1.now
-    c.loop-rest.invariant c.cut_line.ensures.lines c.cut_line.ensures.shorter c.close_row.new.self row.0 row.1 c.close_row.ensures.len closed
+    after_row e c.args.report.now c.assert_invariant.ensures c.cut_line.result.1.now c.loop-rest.invariant c.cut_line.ensures.lines c.cut_line.ensures.shorter
+    c.close_row.new.self row.0 row.1 c.close_row.ensures.len closed
 
 pub close-requires-clause-long : goal.close-requires-clause-long
 close-requires-clause-long c =
@@ -59,15 +59,14 @@ loop-rest-preserved c =
     let o = c.loop-rest.opened in
     let closed = subst (λ named. (front : List ℕ) (last : ℕ) → IsFront o.len 64 front → last < 64
     → is_open c.close.new.self front last ≡ (is_open o front last && not (bytes_eq (front ++ last ∷ []) named))) c.as_slice-in-Never.ensures c.close.ensures.closed in
-    after_never e c.args.report.now c.assert_invariant.ensures o c.loop-rest.line c.loop-rest.rows c.loop-rest.omissions c.loop-rest.rest.now c.cut_line.result.0.now c.cut_line.result.1.now
-    c.loop-rest.invariant c.cut_line.ensures.lines c.cut_line.ensures.shorter c.close.new.self c.in-Never.sequence never.0 c.close.ensures.len closed
+    after_never e c.args.report.now c.assert_invariant.ensures c.cut_line.result.1.now c.loop-rest.invariant c.cut_line.ensures.lines c.cut_line.ensures.shorter
+    c.close.new.self c.in-Never.sequence never.0 c.close.ensures.len closed
 
 pub returns-in-Wrong : goal.returns-in-Wrong
 returns-in-Wrong c =
     let e = c.args.events.now in
     let wrong = subst (IsLine e (report_line_of e c.cut_line.result.0.now)) c.in-Wrong.is c.in_ok-places.ensures in
-    at_wrong e c.args.report.now c.assert_invariant.ensures c.loop-rest.opened c.loop-rest.line c.loop-rest.rows c.loop-rest.omissions c.loop-rest.rest.now c.cut_line.result.0.now c.cut_line.result.1.now
-    c.loop-rest.invariant c.cut_line.ensures.lines c.cut_line.ensures.shorter wrong
+    at_wrong e c.args.report.now c.assert_invariant.ensures c.cut_line.result.1.now c.loop-rest.invariant c.cut_line.ensures.lines c.cut_line.ensures.shorter wrong
 
 pub returns-in-Some : goal.returns-in-Some
 returns-in-Some c =
@@ -76,7 +75,7 @@ returns-in-Some c =
     let o = c.loop-rest.opened in
     let count_is : c.len.result ≡ n = c.len.ensures ∙ ap length c.names.ensures in
     let none = eqb-true _ _ (sym c.is_empty.ensures ∙ c.loop-rest-test.false) in
-    ended e c.args.report.now c.assert_invariant.ensures o c.loop-rest.line c.loop-rest.rows c.loop-rest.omissions c.loop-rest.rest.now c.loop-rest.invariant none (Some c.in-Some.sequence)
+    ended e c.args.report.now c.assert_invariant.ensures c.loop-rest.rest.now c.loop-rest.invariant none (Some c.in-Some.sequence)
     (λ (test : List ℕ → Bool) (tells : Tells o n test).
     sym c.in-Some.is ∙ c.in_ok-sequence.ensures test (subst (λ k. Tells o k test) (sym count_is) tells)
     ∙ ap (λ k. find test (distinct_lists k o.len)) count_is ∙ ap (λ l. find test (distinct_lists n l)) c.loop-rest.invariant.len)
@@ -90,7 +89,7 @@ returns c =
     let count_is : c.len.result ≡ n = c.len.ensures ∙ ap length c.names.ensures in
     let none = eqb-true _ _ (sym c.is_empty.ensures ∙ c.loop-rest-test.false) in
     ap (λ rows. Accepted rows c.loop-rest.omissions) here.rows_are ∙ ap (λ omissions. Accepted (length (rows_in here.lines)) omissions) here.omissions_are
-    ∙ ended e c.args.report.now c.assert_invariant.ensures o c.loop-rest.line c.loop-rest.rows c.loop-rest.omissions c.loop-rest.rest.now here none None
+    ∙ ended e c.args.report.now c.assert_invariant.ensures c.loop-rest.rest.now here none None
     (λ (test : List ℕ → Bool) (tells : Tells o n test).
     sym c.in-None.is ∙ c.in_ok-sequence.ensures test (subst (λ k. Tells o k test) (sym count_is) tells)
     ∙ ap (λ k. find test (distinct_lists k o.len)) count_is ∙ ap (λ l. find test (distinct_lists n l)) here.len)

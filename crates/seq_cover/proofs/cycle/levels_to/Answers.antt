@@ -44,7 +44,8 @@ loop-turn-preserved c =
           let climbs = c.loop-turn.invariant.1 pairs of in
           let is = c.next_near.ensures.value n pairs (is_within n pairs first turn) c.requires.count of climbs.near_is in
           subst (λ items. Climbs n pairs first c.one_step_more-near.result items (turn + 1)) (sym pushed)
-          (climbs_on n pairs first near levels turn long climbs c.one_step_more-near.result c.next_near.result is unmet (c.one_step_more-near.ensures pairs (is_within n pairs first turn) of climbs.near_is)),
+          (climbs_on n pairs first near levels turn long climbs c.one_step_more-near.result c.next_near.result is unmet
+          (c.one_step_more-near.ensures pairs (is_within n pairs first turn) of climbs.near_is)),
     )
 
 pub returns : goal.returns

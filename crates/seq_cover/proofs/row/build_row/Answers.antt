@@ -12,7 +12,8 @@ loop-turn-init c =
     let empty : c.new-row.result ≡ [] = search rules in
     let whole : c.args.count ≡ c.args.count - 0 = omega arith in
     let of : (c.args.opened.now.len ≡ 2) ⊎ (c.args.opened.now.len ≡ 3) = subst (λ k. (k ≡ 2) ⊎ (k ≡ 3)) (sym c.requires.len) c.requires.lens in
-    let built = nothing_built c.args.opened.now c.args.count c.none-placed.result c.in_ok-gains.gains.items of c.none-placed.ensures (c.in_ok-gains.ensures.items_if_clones_equal (λ y same. same)) in (
+    let built = nothing_built c.args.opened.now c.args.count c.none-placed.result c.in_ok-gains.gains.items of c.none-placed.ensures
+    (c.in_ok-gains.ensures.items_if_clones_equal (λ y same. same)) in (
       subst (λ row. IsBuilt c.args.opened.now c.args.count 0 row c.none-placed.result c.in_ok-gains.gains.items) (sym empty) built,
       λ pairs rows turned exist tells. ap (λ k. built_from c.args.count c.args.len pairs rows k []) whole ∙ ap (built_from c.args.count c.args.len pairs rows (c.args.count - 0)) (sym empty),
     )
@@ -24,7 +25,8 @@ returns-in_default-clause-value c = λ pairs rows turned exist tells.
     let row = c.loop-turn.row in
     let k = n - c.loop-turn.turn in
     let built = c.loop-turn.invariant.0 in
-    let told = gains_told c.args.opened.now n len c.loop-turn.turn rows row c.loop-turn.placed c.loop-turn.gains.items c.as_slice.result.now built c.requires.len c.requires.lens tells c.as_slice.ensures.value in
+    let told = gains_told c.args.opened.now n len c.loop-turn.turn rows row c.loop-turn.placed c.loop-turn.gains.items
+    c.as_slice.result.now built c.requires.len c.requires.lens tells c.as_slice.ensures.value in
     let long : length c.as_slice.result.now ≡ n = ap length c.as_slice.ensures.value ∙ built.long in
     let next : None ≡ next_placed n len pairs rows row =
     sym c.in_default.is ∙ c.next_placed.ensures.value pairs rows row len turned exist built.placed_are told ∙ ap (λ m. next_placed m len pairs rows row) long in

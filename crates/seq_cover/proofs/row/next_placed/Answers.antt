@@ -12,7 +12,8 @@ loop-event-preserved-then-not-can_be_placed c =
       most = before.most;
       best = λ pairs rows row len turned exist are told.
           let best = before.best pairs rows row len turned exist are told in (
-            best_skips (gain len rows row) (can_be_placed pairs row) c.loop-event.event c.loop-event.best 0 0 best.0 (sym (c.can_be_placed.ensures.value pairs row turned exist are) ∙ c.if-not-can_be_placed.true),
+            best_skips (gain len rows row) (can_be_placed pairs row) c.loop-event.event c.loop-event.best 0 0 best.0
+                (sym (c.can_be_placed.ensures.value pairs row turned exist are) ∙ c.if-not-can_be_placed.true),
             best.1,
           );
     }

@@ -11,7 +11,8 @@ returns-in-len2 c = λ pairs ways.
     let b = get_or xs 1 0 in
     let low_a = c.requires.exist 0 0 (omega arith) in
     let low_b = c.requires.exist 1 0 (omega arith) in
-    subst (λ (l : List ℕ). AreWays c.add_way.new.ways (steps l ++ pairs)) (sym (two_items xs (omega arith))) (way_more c.args.ways.now c.add_way.new.ways pairs a b ways low_a low_b c.add_way.ensures)
+    subst (λ (l : List ℕ). AreWays c.add_way.new.ways (steps l ++ pairs)) (sym (two_items xs (omega arith)))
+    (way_more c.args.ways.now c.add_way.new.ways pairs a b ways low_a low_b c.add_way.ensures)
 
 pub returns-in-len3 : goal.returns-in-len3
 returns-in-len3 c = λ pairs ways.

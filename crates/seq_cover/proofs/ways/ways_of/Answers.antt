@@ -11,5 +11,6 @@ loop-at-preserved c =
     let fits = c.requires at (0, 0) (omega arith) in
     let next : suc at ≡ c.loop-at.at = omega arith in
     let split : drop at pairs ≡ pair ∷ drop c.loop-at.at pairs = drop-cons pairs at (0, 0) (omega arith) ∙ ap (λ k. pair ∷ drop k pairs) next in
-    let more : AreWays c.add_way.new.ways (pair ∷ drop c.loop-at.at pairs) = way_more c.loop-at.ways c.add_way.new.ways (drop c.loop-at.at pairs) pair.0 pair.1 c.loop-at.invariant.1 fits.0 fits.1 c.add_way.ensures in
+    let more : AreWays c.add_way.new.ways (pair ∷ drop c.loop-at.at pairs) =
+    way_more c.loop-at.ways c.add_way.new.ways (drop c.loop-at.at pairs) pair.0 pair.1 c.loop-at.invariant.1 fits.0 fits.1 c.add_way.ensures in
     (omega arith, subst (λ (l : List (ℕ × ℕ)). AreWays c.add_way.new.ways l) (sym split) more)

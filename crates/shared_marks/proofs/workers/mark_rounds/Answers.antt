@@ -17,8 +17,8 @@ pub loop-seat-preserved : goal.loop-seat-preserved
 loop-seat-preserved g c = (
   omega (arith, c.min-to.ensures),
   round_adds c.args.model.now (suite_seen c.args.file.now) c.loop-seat.from c.min-to.result c.args.seat c.loop-seat.seat c.find.new.seat
-      c.mark_range-seat.result (omega (arith, c.loop-seat.invariant.0, c.min-to.ensures, c.max.ensures)) c.loop-seat.invariant.1
-      c.in_ok-in_play.ensures.seat c.mark_range-seat.ensures,
+      c.in_ok-seat.seat (omega (arith, c.loop-seat.invariant.0, c.min-to.ensures, c.max.ensures)) c.loop-seat.invariant.1
+      c.in_ok-in_play.ensures.seat c.in_ok-seat.ensures,
 )
 
 pub returns-then-to-count : goal.returns-then-to-count
@@ -27,7 +27,7 @@ returns-then-to-count g c =
     let rows = suite_seen c.args.file.now in
     let whole : c.min-to.result ≡ length rows =
     c.if-to-count.true ∙ c.len-count.ensures ∙ sym (length-map c.args.file.now.rows (λ (row : FileRow). row.cells)) in
-    subst (λ (seen : List (List (Option ℕ))). Adds (is_served_at m seen) c.args.seat c.mark_range-seat.result) (range_all rows c.min-to.result whole)
+    subst (λ (seen : List (List (Option ℕ))). Adds (is_served_at m seen) c.args.seat c.in_ok-seat.seat) (range_all rows c.min-to.result whole)
     (round_adds m rows c.loop-seat.from c.min-to.result c.args.seat c.loop-seat.seat c.find.new.seat
-    c.mark_range-seat.result (omega (arith, c.loop-seat.invariant.0, c.min-to.ensures, c.max.ensures)) c.loop-seat.invariant.1
-    c.in_ok-in_play.ensures.seat c.mark_range-seat.ensures)
+    c.in_ok-seat.seat (omega (arith, c.loop-seat.invariant.0, c.min-to.ensures, c.max.ensures)) c.loop-seat.invariant.1
+    c.in_ok-in_play.ensures.seat c.in_ok-seat.ensures)

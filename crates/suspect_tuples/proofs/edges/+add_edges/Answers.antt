@@ -7,7 +7,7 @@ use Rattle.suspect_tuples.specs.Suspects.{gives, tuples_on}
 use Rattle.suspect_tuples.specs.Told.{found_seen}
 use Rattle.suspect_tuples.proofs.EdgeLemmas.{edges_of_none}
 use Rattle.suspect_tuples.proofs.WalkLemmas.{value_step}
-use Rattle.suspect_tuples.proofs.SetLemmas.{all_values, few_values, no_items, param_exists, params_pushed, rising_pairs, whole_params, wide_for, without_pushed}
+use Rattle.suspect_tuples.proofs.SetLemmas.{all_values, few_values, no_items, param_exists, params_pushed, rising_pairs, whole_params, without_pushed}
 use Rattle.suspect_tuples.proofs.edges.+add_edges.Goals as goal
 
 pub returns-then-len-eq0-clause-found : goal.returns-then-len-eq0-clause-found
@@ -33,11 +33,6 @@ overflow_cast-count t c =
     let few = few_values c.args.model.now (get_or c.args.set.now 0 0) c.len-count.result c.index-as_slice-param.result c.as_slice.result.now c.params.ensures.sound
     (c.as_slice.ensures ∙ c.params.ensures.value) exists c.len-count.ensures in
     omega (arith, few.0)
-
-pub giving-requires : goal.giving-requires
-giving-requires t c =
-    wide_for c.args.model.now (get_or c.args.set.now 0 0) c.args.rows.now
-    (param_exists c.args.model.now (map (λ pair. pair.0) c.args.before.now.items) c.args.set.now c.requires.params c.in-len1-up.len_at_least) c.requires.rows
 
 pub add_edges-requires : goal.add_edges-requires
 add_edges-requires t c =

@@ -1,4 +1,4 @@
-use Rattle.suspect_tuples.specs.RowBits.{AreParamSets}
+use Rattle.suspect_tuples.specs.RowTables.{AreParamSets}
 use Rattle.suspect_tuples.proofs.row_bits.param_sets.Given as goal
 
 abbrev pub invariant-loop-param : goal.invariant-loop-param

@@ -1,5 +1,6 @@
 use Rattle.std.proofs.Common.{◌≡◌, ◌<◌, ◌^◌, length, All, ap, sym, subst, ◌∙◌, arith}
 use Rattle.std.specs.Prelude.{◌&&◌, not}
+use Rattle.std.proofs.lemmas.List.{length-map}
 use Rattle.std.proofs.lemmas.List.FromFn.{length-range_with_len}
 use Rattle.std.proofs.lemmas.List.Elements.{All-same}
 use Rattle.cov_model.specs.Fits.{FitsModel}
@@ -11,7 +12,7 @@ use Rattle.tuple_index.specs.PlanFault.{told}
 use Rattle.suspect_tuples.specs.SetCounts.{ways_up_to}
 use Rattle.suspect_tuples.specs.Suspects.{failing_rows, passing_rows}
 use Rattle.suspect_tuples.proofs.CountingSteps.{cells_seen}
-use Rattle.suspect_tuples.proofs.SearchLemmas.{fit_kept, fit_rows, short_rows, told_candidates, wide_rows}
+use Rattle.suspect_tuples.proofs.SearchLemmas.{few_kept, fit_kept, fit_rows, short_rows, told_candidates, wide_rows}
 use Rattle.suspect_tuples.proofs.search.suspects.Goals as goal
 
 pub counted_rows-requires-clause-short : goal.counted_rows-requires-clause-short
@@ -39,6 +40,19 @@ find_all-requires-clause-passing c =
     let fit : All (λ row. FitsModel m row.cells) rows = subst (λ rows. All (λ (row : FileRow). FitsModel m row.cells) rows) (sym c.as_slice-rows.ensures) c.requires.rows.fit in
     All-same (λ row. FitsModel m row) c.in_ok-counted.counted.passing (passing_rows (cells_seen rows) c.as_slice.result.now) c.in_ok-counted.ensures.passing
     (fit_kept m (cells_seen rows) c.as_slice.result.now (λ row. is_complete row.0 && not row.1) (fit_rows m rows fit))
+
+pub find_all-requires-clause-few : goal.find_all-requires-clause-few
+find_all-requires-clause-few c =
+    let rows = c.as_slice-rows.result.now in
+    let long = ap length c.in_ok-counted.ensures.passing in
+    omega (
+      arith,
+      long,
+      few_kept (cells_seen rows) c.as_slice.result.now (λ row. is_complete row.0 && not row.1),
+      length-map rows (λ (row : FileRow). row.cells),
+      ap length c.as_slice-rows.ensures,
+      c.requires.rows.few,
+    )
 
 pub find_all-requires-clause-failing : goal.find_all-requires-clause-failing
 find_all-requires-clause-failing c =

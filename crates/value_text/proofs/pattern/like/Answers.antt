@@ -9,11 +9,13 @@ returns-in-Whole c =
 
 pub returns-in-TextEnds : goal.returns-in-TextEnds
 returns-in-TextEnds c =
-    sym (c.loop-behind.invariant.left ∙ ends_short c.loop-behind.after_star (folded_chars c.args.fold c.loop-behind.part.now) (folded_chars c.args.fold c.loop-behind.start.now) c.in-TextEnds.ensures)
+    sym (c.loop-behind.invariant.left ∙ ends_short c.loop-behind.after_star (folded_chars c.args.fold c.loop-behind.part.now)
+    (folded_chars c.args.fold c.loop-behind.start.now) c.in-TextEnds.ensures)
 
 pub loop-behind-preserved-in-Star : goal.loop-behind-preserved-in-Star
 loop-behind-preserved-in-Star c = record {
   part_text = search rules;
   start_text = search rules;
-  left = c.loop-behind.invariant.left ∙ next_star c.loop-behind.after_star (folded_chars c.args.fold c.loop-behind.part.now) (folded_chars c.args.fold c.loop-behind.start.now) (folded_chars c.args.fold c.in-Star.behind.now) (folded_chars c.args.fold c.in-Star.rest.now) c.in-Star.ensures.0;
+  left = c.loop-behind.invariant.left ∙ next_star c.loop-behind.after_star (folded_chars c.args.fold c.loop-behind.part.now)
+      (folded_chars c.args.fold c.loop-behind.start.now) (folded_chars c.args.fold c.in-Star.behind.now) (folded_chars c.args.fold c.in-Star.rest.now) c.in-Star.ensures.0;
 }

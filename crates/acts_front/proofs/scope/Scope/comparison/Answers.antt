@@ -22,5 +22,6 @@ returns-in-Truth c =
 
 pub returns-in_ok-other-in-Name : goal.returns-in_ok-other-in-Name
 returns-in_ok-other-in-Name c =
-    compared_is c.args.self.now c.args.name.now c.args.rel (token_seen c.args.operand.now) (OfParameter c.in-Name.other.now) c.in_ok-kind.kind c.in_ok-other-in-Name.other c.kinds_finding-in-Name.result
+    compared_is c.args.self.now c.args.name.now c.args.rel (token_seen c.args.operand.now)
+    (OfParameter c.in-Name.other.now) c.in_ok-kind.kind c.in_ok-other-in-Name.other c.kinds_finding-in-Name.result
     c.kinds_finding-in-Name.ensures c.in_ok-kind.ensures c.in_ok-other-in-Name.ensures (ap (λ token. operand_of (token_seen token)) c.in-Name.is)

@@ -4,4 +4,5 @@ use Rattle.acts_front.proofs.Scopes.{declares}
 use Rattle.acts_front.proofs.scope.Scope.declares.Goals as goal
 
 pub returns : goal.returns
-returns c = c.in_ok-known.ensures ∙ (declares (λ param. record { name = param.0.now; kind = param.1 }) c.self.inside.fold c.args.name.now c.self.inside.declared.items c.self.inside.names c.self.invariant ∙ ap (λ scope. is_declared scope c.args.name.now) c.self.view_is)
+returns c = c.in_ok-known.ensures ∙ (declares (λ param. record { name = param.0.now; kind = param.1 }) c.self.inside.fold c.args.name.now
+    c.self.inside.declared.items c.self.inside.names c.self.invariant ∙ ap (λ scope. is_declared scope c.args.name.now) c.self.view_is)

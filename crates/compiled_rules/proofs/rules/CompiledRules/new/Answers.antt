@@ -21,7 +21,7 @@ loop-rule-preserved c =
     let place : c.loop-rule.rule-index ≡ c.loop-rule.rule-index + 1 - 1 = omega arith in
     record {
       fits = c.in_ok-code.ensures.fits;
-      codes = bodies_more c.args.model.now c.loop-rule.table.items c.compile_body.new.table.items c.loop-rule.rule-index _ c.loop-rule.bodies c.push.new.self
+      codes = bodies_more c.args.model.now c.loop-rule.table c.compile_body.new.table c.loop-rule.rule-index _ c.loop-rule.bodies c.push.new.self
           c.in_ok-code.code
           (ap (λ rule. rule.body) (seen ∙ ap (λ i. get_or c.args.model.now.rules i no_rule) place)) c.loop-rule.invariant.codes c.in_ok-code.ensures.grows
           c.in_ok-code.ensures.code c.in_ok-push.ensures.ok;

@@ -5,5 +5,5 @@ use Rattle.compiled_rules.proofs.rules.CompiledRules.new.Given as goal
 abbrev pub invariant-loop-rule : goal.invariant-loop-rule
 invariant-loop-rule l = record {
   fits : FitsModel l.model l.room;
-  codes : AreBodyCodes l.model l.table.items l.rule-index l.bodies;
+  codes : AreBodyCodes l.model l.table l.rule-index l.bodies;
 }

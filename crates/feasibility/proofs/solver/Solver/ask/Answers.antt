@@ -12,11 +12,11 @@ returns-clause-answer c =
     subst (λ (s : SolverView). c.search.result ≡ answer_of (is_extendable s.model s.slice c.args.cells.now)
     (plain_cost s.model s.prefs s.slice c.args.cells.now) c.args.budget) c.self.view_is
     (solver_asks (record { model = c.self.inside.tree.model; prefs = c.self.inside.prefs.now; slice = c.self.inside.slice }) c.self.inside.tree.values
-    c.self.inside.room c.self.inside.fails c.self.inside.sets c.args.cells.now c.args.budget c.search.result c.self.invariant c.search.ensures.sound
+    c.self.inside.room c.self.inside.fails c.self.inside.sets c.args.cells.now c.args.budget c.search.result c.self.invariant.0 c.search.ensures.sound
     (subst (λ (s : SolverView). IsOfSlice s.model s.slice c.args.cells.now) (sym c.self.view_is) c.requires) c.search.ensures.answer)
 
 pub search-requires-clause-listed : goal.search-requires-clause-listed
 search-requires-clause-listed c =
     solver_lists (record { model = c.self.inside.tree.model; prefs = c.self.inside.prefs.now; slice = c.self.inside.slice }) c.self.inside.tree.values
     c.self.inside.room c.self.inside.fails c.self.inside.sets
-    c.args.cells.now c.self.invariant (subst (λ (s : SolverView). IsOfSlice s.model s.slice c.args.cells.now) (sym c.self.view_is) c.requires)
+    c.args.cells.now c.self.invariant.0 (subst (λ (s : SolverView). IsOfSlice s.model s.slice c.args.cells.now) (sym c.self.view_is) c.requires)

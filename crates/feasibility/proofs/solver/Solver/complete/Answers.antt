@@ -23,7 +23,7 @@ returns-clause-answer c =
     same ∙ subst (λ (s : SolverView). c.search.result ≡ answer_of (is_extendable s.model s.slice c.args.cells.now)
     (plain_cost s.model s.prefs s.slice c.args.cells.now) c.args.budget) c.self.view_is
     (solver_asks (record { model = c.self.inside.tree.model; prefs = c.self.inside.prefs.now; slice = c.self.inside.slice }) c.self.inside.tree.values
-    c.self.inside.room c.self.inside.fails c.self.inside.sets c.args.cells.now c.args.budget c.search.result c.self.invariant c.search.ensures.sound
+    c.self.inside.room c.self.inside.fails c.self.inside.sets c.args.cells.now c.args.budget c.search.result c.self.invariant.0 c.search.ensures.sound
     (subst (λ (s : SolverView). IsOfSlice s.model s.slice c.args.cells.now) (sym c.self.view_is) c.requires.of) c.search.ensures.answer)
 
 no_yes : No ≡ Yes → ⊥
@@ -39,7 +39,7 @@ returns-clause-completed c answers =
       | in-Yes w ↦
           solver_completes (record { model = c.self.inside.tree.model; prefs = c.self.inside.prefs.now; slice = c.self.inside.slice })
           c.self.inside.tree.values c.self.inside.room c.self.inside.fails c.self.inside.sets c.args.cells.now c.match-search.into c.args.budget
-          c.search.result c.self.invariant c.search.ensures.sound
+          c.search.result c.self.invariant.0 c.search.ensures.sound
           (subst (λ (s : SolverView). IsOfSlice s.model s.slice c.args.cells.now) (sym c.self.view_is) c.requires.of) c.search.ensures.answer w.in-Yes.is
           (w.into-is ∙ w.fill.ensures ∙ ap (filled c.self.inside.tree.values) (w.copy_from.ensures ∙ c.search.ensures.yes w.in-Yes.is))
       | in-No w ↦ absurd (no_yes (sym w.result-is ∙ answers))
@@ -50,7 +50,7 @@ pub search-requires-clause-listed : goal.search-requires-clause-listed
 search-requires-clause-listed c =
     solver_lists (record { model = c.self.inside.tree.model; prefs = c.self.inside.prefs.now; slice = c.self.inside.slice }) c.self.inside.tree.values
     c.self.inside.room c.self.inside.fails c.self.inside.sets
-    c.args.cells.now c.self.invariant (subst (λ (s : SolverView). IsOfSlice s.model s.slice c.args.cells.now) (sym c.self.view_is) c.requires.of)
+    c.args.cells.now c.self.invariant.0 (subst (λ (s : SolverView). IsOfSlice s.model s.slice c.args.cells.now) (sym c.self.view_is) c.requires.of)
 
 pub returns-clause-long : goal.returns-clause-long
 returns-clause-long c =
@@ -58,7 +58,7 @@ returns-clause-long c =
       | in-Yes w ↦
           let filled = ap length (w.into-is ∙ w.fill.ensures) ∙ length-filled c.self.inside.tree.values w.copy_from.new.self
           ∙ ap length w.copy_from.ensures in
-          omega (arith, filled, c.search.ensures.long, c.self.invariant.room, c.requires.long, ap (λ (s : SolverView). length s.model.params) c.self.view_is)
+          omega (arith, filled, c.search.ensures.long, c.self.invariant.0.room, c.requires.long, ap (λ (s : SolverView). length s.model.params) c.self.view_is)
       | in-No w ↦ ap length w.into-is
       | in-Spent w ↦ ap length w.into-is
     ]

@@ -22,7 +22,7 @@ new-refuter-requires c =
     let solver : SolverView = record { model = c.self.inside.tree.model; prefs = c.self.inside.prefs.now; slice = c.self.inside.slice } in
     let tuple = cells_of (length solver.model.params) c.args.tuple.now in
     solver_refutes solver c.self.inside.tree.values c.self.inside.room c.self.inside.fails c.self.inside.sets (format_of c.args.earlier.now.form)
-    (earlier_tuples solver.model c.args.earlier.now) tuple c.self.invariant
+    (earlier_tuples solver.model c.args.earlier.now) tuple c.self.invariant.0
     (subst (λ (s : SolverView). IsOfSlice s.model s.slice (cells_of (length s.model.params) c.args.tuple.now)) (sym c.self.view_is) c.requires.of)
     (subst (λ (s : SolverView). slice_of s.model (cells_of (length s.model.params) c.args.tuple.now) ≡ s.slice) (sym c.self.view_is) c.requires.slice)
     (omega (
@@ -36,7 +36,7 @@ make_tree-requires-clause-listed c =
     let solver : SolverView = record { model = c.self.inside.tree.model; prefs = c.self.inside.prefs.now; slice = c.self.inside.slice } in
     subst (λ (r : RefuterView). IsListed r.lists r.tuple) (sym c.new-refuter.ensures)
     (solver_lists solver c.self.inside.tree.values c.self.inside.room c.self.inside.fails c.self.inside.sets
-    (cells_of (length solver.model.params) c.args.tuple.now) c.self.invariant
+    (cells_of (length solver.model.params) c.args.tuple.now) c.self.invariant.0
     (subst (λ (s : SolverView). IsOfSlice s.model s.slice (cells_of (length s.model.params) c.args.tuple.now)) (sym c.self.view_is) c.requires.of))
 
 pub make_tree-requires-clause-unfound : goal.make_tree-requires-clause-unfound
@@ -44,7 +44,7 @@ make_tree-requires-clause-unfound c =
     let solver : SolverView = record { model = c.self.inside.tree.model; prefs = c.self.inside.prefs.now; slice = c.self.inside.slice } in
     ap (λ (r : RefuterView). (visit r.model r.lists (constrained_params r.model) r.tuple).found) c.new-refuter.ensures
     ∙ solver_unfound solver c.self.inside.tree.values c.self.inside.room c.self.inside.fails c.self.inside.sets
-    (cells_of (length solver.model.params) c.args.tuple.now) c.self.invariant c.assert_invariant.ensures.sound
+    (cells_of (length solver.model.params) c.args.tuple.now) c.self.invariant.0 c.assert_invariant.ensures.sound
     (subst (λ (s : SolverView). IsOfSlice s.model s.slice (cells_of (length s.model.params) c.args.tuple.now)) (sym c.self.view_is) c.requires.of)
     (subst (λ (s : SolverView). slice_of s.model (cells_of (length s.model.params) c.args.tuple.now) ≡ s.slice) (sym c.self.view_is) c.requires.slice)
     (subst (λ (s : SolverView). IsUnserved s.model (cells_of (length s.model.params) c.args.tuple.now)) (sym c.self.view_is) c.requires.unserved)

@@ -1,7 +1,8 @@
-use Rattle.std.proofs.Common.{◌≡◌, ◌∙◌, true, refl, sym}
-use Rattle.std.proofs.lemmas.Bool.{not-false}
-use Rattle.definitions.specs.Search.{constrained_params, is_failing}
+use Rattle.std.proofs.Common.{◌∙◌, refl, sym, ap}
+use Rattle.definitions.specs.Search.{Outcome, constrained_params}
+use Rattle.feasibility.specs.Answers.{answer_of}
 use Rattle.feasibility.proofs.Deciding.{fails_stays}
+use Rattle.feasibility.proofs.Refusals.{refused_tells}
 use Rattle.feasibility.proofs.Visits.{told_fails}
 use Rattle.feasibility.proofs.tree.SearchTree.search_from.Goals as goal
 
@@ -13,10 +14,9 @@ returns-then-fails-clause-answer c =
     c.args.room.now c.args.budget c.visit_failing.new.left c.visit_failing.result
     fails c.visit_failing.ensures.answer c.visit_failing.ensures.left refl).answer
 
-pub returns-then-not-start-clause-answer : goal.returns-then-not-start-clause-answer
-returns-then-not-start-clause-answer c =
-    let fails : is_failing c.args.self.now.model c.args.self.now.values c.args.room.now ≡ true =
-    not-false (is_failing c.args.self.now.model c.args.self.now.values c.args.room.now) (sym c.start.ensures.fails ∙ c.if-not-start.true) in
-    (told_fails c.args.self.now.model c.args.self.now.values (constrained_params c.args.self.now.model) c.args.room.now c.args.room.now c.args.room.now
-    c.args.room.now c.args.budget c.visit_failing-then-not-start.new.left c.visit_failing-then-not-start.result
-    fails c.visit_failing-then-not-start.ensures.answer c.visit_failing-then-not-start.ensures.left refl).answer
+pub returns-then-goes_as-clause-answer : goal.returns-then-goes_as-clause-answer
+returns-then-goes_as-clause-answer c =
+    let m = c.args.self.now.model in
+    let tells = refused_tells m c.args.self.now.values c.args.room.now c.args.refused.now c.assert_invariant.ensures.values
+    (sym c.requires.ready.fails ∙ c.if-fails.false) c.requires.kept (c.goes_as.ensures.known c.if-goes_as.true) (c.goes_as.ensures.agree c.if-goes_as.true) in
+    c.answer.ensures ∙ sym (ap (λ (outcome : Outcome). answer_of outcome.found outcome.cost c.args.budget) tells)

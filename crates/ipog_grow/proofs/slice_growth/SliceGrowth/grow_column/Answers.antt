@@ -1,7 +1,7 @@
 use Rattle.std.proofs.Common.{◌≡◌, ◌∙◌, ◌++◌, [], Err, All, List, Option, ℕ, OnOk, take, drop, get_or, length, ap, sym, subst, arith}
 use Rattle.std.proofs.lemmas.Result.{err_from_is_err_and}
 use Rattle.std.proofs.lemmas.List.Elements.{All-filter}
-use Rattle.cov_model.specs.Sound.{ModelView}
+use Rattle.cov_model.specs.Sound.{ModelView, param_at}
 use Rattle.cov_model.specs.declared.slice.Slice.{Slice}
 use Rattle.definitions.specs.Growth.{down, is_uncovered, tuples_in_play}
 use Rattle.ipog_grow.specs.Growing.{IsInPlay, open_tuples}
@@ -49,6 +49,12 @@ returns-in_err-grow_horizontally-clause-asked g c =
     (subst (λ rows. Told {A = Unit {0}} (Err c.in_err-grow_horizontally.field-0.0) c.grow_horizontally.new.asker.question (first_spent context (asked rows)))
     c.as_mut_slice.ensures.value
     (c.in_err-grow_horizontally.ensures.asked tuples moment)))
+
+pub grow_vertically-requires-clause-count : goal.grow_vertically-requires-clause-count
+grow_vertically-requires-clause-count g c =
+    ap length c.of-order.ensures ∙ ap (λ orders. length (get_or orders c.args.column [])) c.requires.prefs
+    ∙ order-long c.args.self.now.asker.context c.args.column c.assert_invariant.ensures.context c.requires.column
+    ∙ ap (λ (w : SearchContext). length (param_at w.model.params c.args.column).values) (sym c.in_ok-grow_horizontally.ensures.same)
 
 pub grow_vertically-requires-clause-is_open : goal.grow_vertically-requires-clause-is_open
 grow_vertically-requires-clause-is_open g c =

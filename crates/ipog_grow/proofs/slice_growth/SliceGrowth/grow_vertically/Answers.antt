@@ -1,16 +1,26 @@
-use Rattle.std.proofs.Common.{◌≡◌, ◌∙◌, ◌++◌, Err, None, true, length, ap, sym, subst}
+use Rattle.std.proofs.Common.{◌≡◌, ◌∙◌, ◌++◌, ℕ, ◌<◌, All, IfSome, Err, None, true, get_or, length, ap, sym, subst}
 use Rattle.std.specs.List.{list_any}
 use Rattle.std.proofs.lemmas.Result.{err_from_is_err_and}
-use Rattle.cov_model.specs.Sound.{ModelView}
+use Rattle.cov_model.specs.Sound.{ModelView, param_at}
 use Rattle.cov_model.specs.declared.slice.Slice.{Slice}
 use Rattle.definitions.specs.Growth.{down, settle}
 use Rattle.uncovered_table.specs.Places.{is_place, slice_places, tuple_at}
 use Rattle.ipog_grow.specs.Growing.{open_tuples}
+use Rattle.ipog_grow.specs.UnfilledRows.{HasUnfilled}
 use Rattle.ipog_grow.specs.Asking.{SearchContext, IsNext, IsPassed, Told, extends, first_spent}
 use Rattle.ipog_grow.proofs.Asking.{told-err}
 use Rattle.ipog_grow.proofs.PlaceTupleLemmas.{placed}
+use Rattle.ipog_grow.proofs.UnfilledLemmas.{value-within}
 use Rattle.ipog_grow.proofs.VerticalLemmas.{downing-next, downing-more, downing-spent, downing-end, downing-falls}
 use Rattle.ipog_grow.proofs.slice_growth.SliceGrowth.grow_vertically.Goals as goal
+
+pub among-requires-clause-values : goal.among-requires-clause-values
+among-requires-clause-values c =
+    let rows = c.args.self.now.rows.items in
+    subst (All (λ row. IfSome (get_or row c.args.column None) (λ v. v < c.args.count))) (sym c.as_slice.ensures.value)
+    (λ i d within.
+    subst (λ n. IfSome (get_or (get_or rows i d) c.args.column None) (λ v. v < n)) (sym c.requires.count)
+    (value-within c.args.self.now.asker.context.model (get_or rows i d) c.args.column (c.requires.is_open.grows i d within).of.fits))
 
 pub put_tuple-requires-clause-set : goal.put_tuple-requires-clause-set
 put_tuple-requires-clause-set c =
@@ -37,6 +47,12 @@ settle-requires-clause-next c =
     (put ∙ ap (λ (m : ModelView). tuple_at m c.in-Some.place) (sym c.loop-place.invariant.downing.is_open.of.0)) in
     subst (λ (w : SearchContext). IsNext w c.loop-place.self.table c.args.column c.in-Some.place c.put_tuple.new.into c.loop-place.self.rows.items)
     (sym c.loop-place.invariant.context) next
+
+pub settle-requires-clause-unfilled : goal.settle-requires-clause-unfilled
+settle-requires-clause-unfilled c =
+    subst (λ (n : ℕ). HasUnfilled c.args.columns.now c.args.column n c.loop-place.self.rows.items c.loop-place.unfilled)
+    (c.requires.count ∙ ap (λ (w : SearchContext). length (param_at w.model.params c.args.column).values) (sym c.loop-place.invariant.context))
+    c.loop-place.invariant.unfilled
 
 pub returns-in_err-settle-clause-asked : goal.returns-in_err-settle-clause-asked
 returns-in_err-settle-clause-asked c =
@@ -73,7 +89,10 @@ loop-place-preserved c =
       context = c.settle.ensures.same ∙ c.loop-place.invariant.context;
       tuple = ap length c.settle.ensures.tuple ∙ c.put_tuple.ensures.long ∙ c.loop-place.invariant.tuple;
       room = c.settle.ensures.room ∙ c.loop-place.invariant.room;
-      unfilled = c.in_ok-settle.ensures.unfilled;
+      unfilled =
+          subst (λ (n : ℕ). HasUnfilled c.args.columns.now c.args.column n c.settle.new.self.rows.items c.settle.new.unfilled)
+          (ap (λ (w : SearchContext). length (param_at w.model.params c.args.column).values) c.loop-place.invariant.context ∙ sym c.requires.count)
+          c.in_ok-settle.ensures.unfilled;
       from =
           subst (λ (m : ModelView). list_any (is_place c.in-Some.place) (slice_places m c.settle.new.self.table.slice) ≡ true) (sym passes.keeps.model)
           (subst (λ (s : Slice). list_any (is_place c.in-Some.place) (slice_places c.loop-place.self.table.model s) ≡ true)

@@ -1,31 +1,45 @@
-use Rattle.std.proofs.Common.{◌≡◌, List, ◌<◌, ◌∙◌, ◌∷◌, ◌++◌, [], ℕ, Err, Option, false, take, drop, length, get_or, ap, sym, subst, arith}
+use Rattle.std.proofs.Common.{◌≡◌, List, ◌<◌, ◌∙◌, ◌∷◌, ◌++◌, [], ℕ, Err, Option, None, IfSome, false, take, drop, length, get_or, ap, sym, subst, arith}
 use Rattle.std.proofs.lemmas.Result.{err_from_is_err_and}
 use Rattle.std.proofs.lemmas.List.{get_or-set_same}
-use Rattle.cov_model.specs.Sound.{ModelView}
+use Rattle.cov_model.specs.Sound.{ModelView, param_at}
 use Rattle.cov_model.specs.declared.slice.Slice.{Slice}
 use Rattle.definitions.specs.Demand.{is_among}
 use Rattle.definitions.specs.SliceRows.{IsOfSlice}
 use Rattle.definitions.specs.Growth.{agrees, join, settle, union}
+use Rattle.tuple_index.specs.Places.{RisesFrom}
 use Rattle.uncovered_table.specs.Open.{row_closed}
 use Rattle.ipog_grow.specs.Asking.{SearchContext, Grows, IsPassed, Told, extends, first_spent, rows_alone}
 use Rattle.ipog_grow.specs.UnfilledRows.{HasUnfilled}
 use Rattle.ipog_grow.proofs.Asking.{told-err}
-use Rattle.ipog_grow.proofs.Closing.{is_alone, next-grows, next-may_agree, passed-union, settle-asks, settle-stops, taken_at, whole_slice}
+use Rattle.ipog_grow.proofs.Closing.{is_alone, joinable, next-grows, passed-union, settle-asks, settle-stops, taken_at, whole_slice}
 use Rattle.ipog_grow.proofs.Settling.{settle-alone_rows}
-use Rattle.ipog_grow.proofs.UnfilledLemmas.{unfilled-union}
+use Rattle.ipog_grow.proofs.UnfilledLemmas.{unfilled-union, value-within}
 use Rattle.ipog_grow.proofs.slice_growth.SliceGrowth.settle.Goals as goal
 
 pub join_first-requires-clause-tuple : goal.join_first-requires-clause-tuple
 join_first-requires-clause-tuple c = next-grows c.requires.next
 
+pub candidates-requires-clause-column : goal.candidates-requires-clause-column
+candidates-requires-clause-column c =
+    let own = next-grows c.requires.next in
+    omega (arith, c.requires.column, own.of.fits.as_long)
+
+pub candidates-requires-clause-value : goal.candidates-requires-clause-value
+candidates-requires-clause-value c =
+    let own = next-grows c.requires.next in
+    subst (λ (n : ℕ). IfSome (get_or c.args.self.now.tuple c.args.column None) (λ v. v < n)) (sym c.requires.unfilled.values)
+    (value-within c.args.self.now.asker.context.model c.args.self.now.tuple c.args.column own.of.fits)
+
+pub join_first-requires-clause-candidates : goal.join_first-requires-clause-candidates
+join_first-requires-clause-candidates c =
+    subst (λ (seen : List (List (Option ℕ))). RisesFrom 0 (length seen) c.candidates.result) (sym c.as_mut_slice.ensures.value)
+    (joinable c.requires.next c.requires.columns c.requires.unfilled c.candidates.ensures).rise
+
 pub join_first-requires-clause-others : goal.join_first-requires-clause-others
 join_first-requires-clause-others c =
-    let rows = c.args.self.now.rows.items in
-    subst (λ (seen : List (List (Option ℕ))). (i : ℕ) → i < length seen → is_among c.as_slice.result.now i ≡ false
+    subst (λ (seen : List (List (Option ℕ))). (i : ℕ) → i < length seen → is_among c.candidates.result i ≡ false
     → agrees (get_or seen i []) c.args.self.now.tuple ≡ false) (sym c.as_mut_slice.ensures.value)
-    (subst (λ (numbers : List ℕ). (i : ℕ) → i < length rows → is_among numbers i ≡ false → agrees (get_or rows i []) c.args.self.now.tuple ≡ false)
-    (sym c.as_slice.ensures.value)
-    (next-may_agree c.requires.next c.requires.columns c.requires.unfilled))
+    (joinable c.requires.next c.requires.columns c.requires.unfilled c.candidates.ensures).others
 
 pub returns-in_err-i-clause-asked : goal.returns-in_err-i-clause-asked
 returns-in_err-i-clause-asked c =
@@ -61,11 +75,13 @@ returns-in-Some-clause-passed c =
 
 pub returns-in-Some-clause-unfilled : goal.returns-in-Some-clause-unfilled
 returns-in-Some-clause-unfilled c =
+    let count = length (param_at c.args.self.now.asker.context.model.params c.args.column).values in
     let size : c.args.self.now.rows.len ≡ length c.args.self.now.rows.items = omega (arith, c.args.self.now.rows.ok.0) in
     let taken = taken_at c.as_mut_slice.ensures.value size c.join_first.auto.rows c.in-Some.is c.in_ok-i.ensures.place c.index.ensures in
-    subst (λ (rows : List (List (Option ℕ))). HasUnfilled c.args.columns.now rows c.args.unfilled.now.items) (sym (taken.whole ∙ taken.union_at.put))
-    (unfilled-union c.args.columns.now c.args.self.now.rows.items c.args.unfilled.now.items c.args.self.now.tuple c.in-Some.i taken.union_at.within
-    c.requires.unfilled)
+    subst (λ (rows : List (List (Option ℕ))). HasUnfilled c.args.columns.now c.args.column count rows c.args.unfilled.now)
+    (sym (taken.whole ∙ taken.union_at.put))
+    (unfilled-union c.args.columns.now c.args.column count c.args.self.now.rows.items c.args.unfilled.now c.args.self.now.tuple c.in-Some.i
+    taken.union_at.within c.requires.unfilled)
 
 pub returns-in_err-settle_alone-in-None-clause-asked : goal.returns-in_err-settle_alone-in-None-clause-asked
 returns-in_err-settle_alone-in-None-clause-asked c =

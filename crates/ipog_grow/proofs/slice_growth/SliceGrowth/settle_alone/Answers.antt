@@ -1,17 +1,28 @@
-use Rattle.std.proofs.Common.{◌≡◌, ◌∙◌, ◌<◌, ℕ, All, length, ap, ◌∷◌, ◌++◌, [], sym, subst, arith}
-use Rattle.cov_model.specs.Sound.{ModelView}
+use Rattle.std.proofs.Common.{◌≡◌, ◌∙◌, ◌<◌, ℕ, All, length, ap, ◌∷◌, ◌++◌, None, IfSome, [], get_or, sym, subst, arith}
+use Rattle.cov_model.specs.Sound.{ModelView, param_at}
 use Rattle.cov_model.specs.declared.slice.Slice.{Slice}
 use Rattle.definitions.specs.SliceRows.{IsOfSlice}
 use Rattle.ipog_grow.specs.Asking.{IsPassed}
 use Rattle.ipog_grow.specs.UnfilledRows.{HasUnfilled, with_unfilled}
 use Rattle.ipog_grow.proofs.Closing.{next-grows, passed-new, passed-omitted}
-use Rattle.ipog_grow.proofs.UnfilledLemmas.{unfilled-push}
+use Rattle.ipog_grow.proofs.UnfilledLemmas.{unfilled-push, value-within}
 use Rattle.ipog_grow.proofs.slice_growth.SliceGrowth.settle_alone.Goals as goal
 
-pub push_unfilled-requires : goal.push_unfilled-requires
-push_unfilled-requires c =
+pub push_row-requires-clause-exist : goal.push_row-requires-clause-exist
+push_row-requires-clause-exist c =
     let own = next-grows c.requires.next in
     subst (λ (n : ℕ). All (λ p. p < n) c.args.columns.now) (sym own.of.fits.as_long) c.requires.exist
+
+pub push_row-requires-clause-column : goal.push_row-requires-clause-column
+push_row-requires-clause-column c =
+    let own = next-grows c.requires.next in
+    omega (arith, c.requires.column, own.of.fits.as_long)
+
+pub push_row-requires-clause-value : goal.push_row-requires-clause-value
+push_row-requires-clause-value c =
+    let own = next-grows c.requires.next in
+    subst (λ (n : ℕ). IfSome (get_or c.args.self.now.tuple c.args.column None) (λ v. v < n)) (sym c.requires.unfilled.values)
+    (value-within c.args.self.now.asker.context.model c.args.self.now.tuple c.args.column own.of.fits)
 
 pub ask-requires : goal.ask-requires
 ask-requires c = next-grows c.requires.next
@@ -22,16 +33,21 @@ close_row-requires-clause-cells c =
     subst (λ (m : ModelView). IsOfSlice m c.args.self.now.table.slice c.args.self.now.tuple) (sym c.requires.next.of.0)
     (subst (λ (s : Slice). IsOfSlice c.args.self.now.asker.context.model s c.args.self.now.tuple) (sym c.requires.next.of.1) own.of)
 
-pub returns-in_ok-push_unfilled-clause-unfilled : goal.returns-in_ok-push_unfilled-clause-unfilled
-returns-in_ok-push_unfilled-clause-unfilled c =
+pub returns-in_ok-push_row-clause-unfilled : goal.returns-in_ok-push_row-clause-unfilled
+returns-in_ok-push_row-clause-unfilled c =
+    let tuple = c.args.self.now.tuple in
+    let columns = c.args.columns.now in
+    let count = length (param_at c.args.self.now.asker.context.model.params c.args.column).values in
+    let own = next-grows c.requires.next in
     let number : c.len-number.result ≡ length c.args.self.now.rows.items = omega (arith, c.args.self.now.rows.ok.0) in
-    subst (λ rows. HasUnfilled c.args.columns.now rows c.push_unfilled.new.unfilled.items) (sym c.in_ok-push_copy.ensures)
-    (subst (HasUnfilled c.args.columns.now (c.args.self.now.rows.items ++ c.args.self.now.tuple ∷ []))
-    (sym (c.in_ok-push_unfilled.ensures ∙ ap (λ n. with_unfilled c.args.columns.now c.args.self.now.tuple n c.args.unfilled.now.items) number))
-    (unfilled-push c.args.columns.now c.args.self.now.rows.items c.args.unfilled.now.items c.args.self.now.tuple c.requires.unfilled))
+    subst (λ rows. HasUnfilled columns c.args.column count rows c.push_row.new.self) (sym c.in_ok-push_copy.ensures)
+    (subst (HasUnfilled columns c.args.column count (c.args.self.now.rows.items ++ tuple ∷ []))
+    (sym (c.in_ok-push_row.ensures ∙ ap (λ n. with_unfilled columns c.args.column tuple n c.args.unfilled.now) number))
+    (unfilled-push columns c.args.column count c.args.self.now.rows.items c.args.unfilled.now tuple
+    (value-within c.args.self.now.asker.context.model tuple c.args.column own.of.fits) c.requires.unfilled))
 
-pub returns-in_ok-push_unfilled-clause-passed : goal.returns-in_ok-push_unfilled-clause-passed
-returns-in_ok-push_unfilled-clause-passed c =
+pub returns-in_ok-push_row-clause-passed : goal.returns-in_ok-push_row-clause-passed
+returns-in_ok-push_row-clause-passed c =
     let own = next-grows c.requires.next in
     subst (IsPassed c.args.self.now.asker.context c.args.self.now.table c.close_row.new.self c.args.column c.args.place) (sym c.in_ok-push_copy.ensures)
     (passed-new

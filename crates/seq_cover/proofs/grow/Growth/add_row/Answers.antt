@@ -28,7 +28,8 @@ returns-clause-rows c =
     let len_is : c.length.result ≡ e.len = c.length.ensures in
     let exist = All-append (λ pair. (pair.0 < 64) × (pair.1 < 64)) (steps sequence) e.precedences
     (steps_exist 64 sequence (All-weaker (λ event. event < n) (λ event. event < 64) (λ event below. omega (arith, below, most)) sequence c.requires.exist))
-    (All-weaker (λ pair. (pair.0 < n) × (pair.1 < n)) (λ pair. (pair.0 < 64) × (pair.1 < 64)) (λ pair below. let first = below.0 in let second = below.1 in (omega (arith, first, most), omega (arith, second, most))) e.precedences c.assert_invariant.ensures.exist) in
+    (All-weaker (λ pair. (pair.0 < n) × (pair.1 < n)) (λ pair. (pair.0 < 64) × (pair.1 < 64))
+    (λ pair below. let first = below.0 in let second = below.1 in (omega (arith, first, most), omega (arith, second, most))) e.precedences c.assert_invariant.ensures.exist) in
     let tells = subst (λ k. Tells c.args.self.now.opened k (λ s. not (is_had rows s))) (sym count_is) c.requires.left.tells in
     let built = c.in_ok-row.ensures.value (arrows e sequence) rows (c.in_ok-back.ensures e.precedences c.requires.fixed.back_are) exist tells in
     let is = built ∙ ap (λ k. built_from k c.length.result (arrows e sequence) rows k []) count_is ∙ ap (λ l. built_from n l (arrows e sequence) rows n []) len_is in

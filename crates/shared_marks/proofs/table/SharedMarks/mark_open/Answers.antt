@@ -1,35 +1,27 @@
-use Rattle.std.proofs.Common.{◌-◌, List, [], ◌∷◌, ◌++◌, map, take, drop, ◌∙◌, sym, ap}
+use Rattle.std.proofs.Common.{◌≡◌, ◌||◌, List, map, ◌∙◌, ap, arith}
 use Rattle.std.specs.Prelude.{slice_range}
-use Rattle.std.proofs.lemmas.List.{map-append, take_all, take_more}
+use Rattle.row_text.specs.RowFiles.{suite_seen}
 use Rattle.row_text.specs.declared.row_file.FileRow.{FileRow}
 use Rattle.shared_marks.specs.Served.{is_served_at}
-use Rattle.shared_marks.proofs.AddingLemmas.{adds_same, adds_then}
-use Rattle.shared_marks.proofs.OpenLemmas.{open_kept}
+use Rattle.shared_marks.proofs.AddingLemmas.{adds_then}
 use Rattle.shared_marks.proofs.PlaceLemmas.{served_append}
-use Rattle.shared_marks.proofs.RowLemmas.{range_map}
+use Rattle.shared_marks.proofs.RowLemmas.{range_joined, range_map}
 use Rattle.shared_marks.proofs.table.SharedMarks.mark_open.Goals as goal
 
-pub loop-row-preserved : goal.loop-row-preserved
-loop-row-preserved c =
+pub loop-marked-preserved : goal.loop-marked-preserved
+loop-marked-preserved c =
     let m = c.args.model.now in
-    let part = take (c.args.to - c.args.from) (drop c.args.from c.as_slice.result.now) in
-    let i = c.loop-row.row-index in
-    let row = c.row-item.result in
-    let more =
-    ap (map (λ (r : FileRow). r.cells)) (take_more part i row c.loop-row-test.true)
-    ∙ map-append (λ (r : FileRow). r.cells) (take i part) (_ ∷ []) ∙ ap (λ (r : FileRow). map (λ (s : FileRow). s.cells) (take i part) ++ r.cells ∷ []) (sym c.row-item.is) in
-    adds_then _ _ _ _ _ _ c.loop-row.invariant c.mark_open_row.ensures (λ place.
-    served_append m (map (λ (r : FileRow). r.cells) (take i part)) (row.cells ∷ []) place ∙ ap (λ rows. is_served_at m rows place) (sym more))
-
-pub returns : goal.returns
-returns c =
-    let m = c.args.model.now in
-    let part = take (c.args.to - c.args.from) (drop c.args.from c.as_slice.result.now) in
-    let whole =
-    ap (map (λ (r : FileRow). r.cells)) (take_all c.loop-row.row-index part c.loop-row-test.false)
-    ∙ range_map (λ (r : FileRow). r.cells) c.as_slice.result.now c.args.from c.args.to
-    ∙ ap (λ (rows : List FileRow). slice_range (map (λ (r : FileRow). r.cells) rows) c.args.from c.args.to) c.as_slice.ensures in
-    adds_same _ _ _ _ c.loop-row.invariant (λ place. ap (λ rows. is_served_at m rows place) whole)
-
-pub mark_open_row-requires-clause-in_play : goal.mark_open_row-requires-clause-in_play
-mark_open_row-requires-clause-in_play c = open_kept _ _ _ _ _ _ c.loop-row.invariant c.requires.in_play
+    let seen = suite_seen c.args.file.now in
+    let from = c.args.from in
+    let marked = c.loop-marked.marked in
+    let next = c.min-next.result in
+    let part : map (λ (row : FileRow). row.cells) (slice_range c.as_slice.result.now marked next) ≡ slice_range seen marked next =
+    range_map (λ (row : FileRow). row.cells) c.as_slice.result.now marked next
+    ∙ ap (λ (rows : List FileRow). slice_range (map (λ (row : FileRow). row.cells) rows) marked next) c.as_slice.ensures in (
+      omega (arith, c.loop-marked.invariant.0, c.min-next.ensures, c.loop-marked-test.true),
+      omega (arith, c.min-next.ensures),
+      adds_then _ _ _ _ _ _ c.loop-marked.invariant.2 c.in_ok-mark_block.ensures (λ place.
+          ap (λ rows. is_served_at m (slice_range seen from marked) place || is_served_at m rows place) part
+          ∙ served_append m (slice_range seen from marked) (slice_range seen marked next) place
+          ∙ ap (λ rows. is_served_at m rows place) (range_joined seen from marked next c.loop-marked.invariant.0 (omega (arith, c.min-next.ensures, c.loop-marked-test.true)))),
+    )

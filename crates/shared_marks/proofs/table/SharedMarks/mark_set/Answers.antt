@@ -1,4 +1,4 @@
-use Rattle.std.proofs.Common.{◌≡◌, ◌+◌, ◌∙◌, sym, ap, subst, arith}
+use Rattle.std.proofs.Common.{◌≡◌, ◌+◌, [], ◌∷◌, ◌∙◌, sym, ap, subst, arith}
 use Rattle.std.specs.Prelude.{◌==◌, sum, take}
 use Rattle.tuple_index.specs.Plan.{plan_of, set_at}
 use Rattle.shared_marks.specs.Adding.{Marks}
@@ -21,7 +21,7 @@ returns-in-Some c =
     let rank = c.in-Some.rank in
     let is = subst (IsServedRank m (set_at (plan_of m) c.args.set) row) c.in-Some.is c.served_rank.ensures in
     let base : c.base.result ≡ base_of m c.args.set = c.base.ensures ∙ ap (λ p. sum (take c.args.set p.sizes)) c.requires.plan in
-    let adds = served_between m row (base_of m c.args.set) (base_of m (c.args.set + 1)) in
+    let adds = served_between m (row ∷ []) (base_of m c.args.set) (base_of m (c.args.set + 1)) in
     subst (Marks adds c.args.seat.now) (sym c.mark_lightly.ensures)
     (marks_one adds c.args.seat.now (c.base.result + rank) (λ place.
     one_set m row c.args.set _ c.requires.test c.requires.set is place ∙ ap (λ n. n + rank == place) (sym base)))
@@ -31,5 +31,5 @@ returns-in-None c =
     let m = c.args.model.now in
     let row = c.args.cells.now in
     let is = subst (IsServedRank m (set_at (plan_of m) c.args.set) row) c.in-None.is c.served_rank.ensures in
-    marks_none (served_between m row (base_of m c.args.set) (base_of m (c.args.set + 1))) c.args.seat.now
+    marks_none (served_between m (row ∷ []) (base_of m c.args.set) (base_of m (c.args.set + 1))) c.args.seat.now
     (one_set m row c.args.set _ c.requires.test c.requires.set is)

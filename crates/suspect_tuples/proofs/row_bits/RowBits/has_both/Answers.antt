@@ -1,29 +1,19 @@
-use Rattle.std.proofs.Common.{◌++◌, [], length, subst, sym, ap, arith}
-use Rattle.suspect_tuples.specs.RowBits.{MarksHaving}
-use Rattle.suspect_tuples.proofs.RowBitLemmas.{had_by_word, none_had, none_more, word_marks}
+use Rattle.std.proofs.Common.{◌∙◌, sym}
+use Rattle.std.proofs.lemmas.Bool.{and_parts}
+use Rattle.suspect_tuples.specs.RowBits.{has_at}
+use Rattle.suspect_tuples.proofs.RowBitLemmas.{has_both_at}
 use Rattle.suspect_tuples.proofs.row_bits.RowBits.has_both.Goals as goal
 
-pub returns-then-narrowed-ne0 : goal.returns-then-narrowed-ne0
-returns-then-narrowed-ne0 c =
-    let bits = c.self.inside in
-    let k = c.loop-k.k in
-    let every : MarksHaving c.args.self.now [] k c.word.result =
-    subst (λ rows. MarksHaving rows [] k c.word.result) c.self.view_is
-    (subst (MarksHaving bits.rows.now [] k) (sym c.word.ensures) (word_marks bits.rows.now [] bits.all k c.self.invariant.every)) in
-    sym (had_by_word c.args.self.now (c.args.first.now ++ c.args.second.now) k c.narrowed.result c.narrowed.type_inv (omega (arith, c.if-narrowed-ne0.true))
-    (c.narrowed.ensures c.args.first.now (c.narrowed-narrowed.ensures [] every)))
+pub has_among-requires : goal.has_among-requires
+has_among-requires c at has =
+    let rows = c.self.inside.rows.now in
+    let first = c.args.first.now in
+    let second = c.args.second.now in
+    c.in-Some.ensures.few rows at c.self.invariant.given (and_parts (has_at rows first at) (has_at rows second at) (sym (has_both_at rows first second at) ∙ has)).0
 
-pub loop-k-preserved : goal.loop-k-preserved
-loop-k-preserved c =
-    let bits = c.self.inside in
-    let k = c.loop-k.k in
-    let every : MarksHaving c.args.self.now [] k c.word.result =
-    subst (λ rows. MarksHaving rows [] k c.word.result) c.self.view_is
-    (subst (MarksHaving bits.rows.now [] k) (sym c.word.ensures) (word_marks bits.rows.now [] bits.all k c.self.invariant.every)) in
-    none_more c.args.self.now (c.args.first.now ++ c.args.second.now) k c.narrowed.result c.if-narrowed-ne0.false
-    (c.narrowed.ensures c.args.first.now (c.narrowed-narrowed.ensures [] every)) c.loop-k.invariant
-
-pub returns : goal.returns
-returns c =
-    sym (none_had c.args.self.now (c.args.first.now ++ c.args.second.now) (λ at within.
-    c.loop-k.invariant at (omega (arith, within, c.loop-k-test.false, c.word_count-k-end.ensures, c.len.ensures, ap length c.self.view_is))))
+pub has_among-requires-in-Some-few_rows : goal.has_among-requires-in-Some-few_rows
+has_among-requires-in-Some-few_rows c at has =
+    let rows = c.self.inside.rows.now in
+    let first = c.args.first.now in
+    let second = c.args.second.now in
+    c.in-Some-few_rows.ensures.few rows at c.self.invariant.given (and_parts (has_at rows first at) (has_at rows second at) (sym (has_both_at rows first second at) ∙ has)).1

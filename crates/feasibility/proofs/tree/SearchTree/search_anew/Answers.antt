@@ -1,0 +1,15 @@
+use Rattle.std.proofs.Common.{◌≡◌, ◌∙◌, true, sym}
+use Rattle.std.proofs.lemmas.Bool.{not-false}
+use Rattle.definitions.specs.Search.{constrained_params, is_failing}
+use Rattle.feasibility.specs.Path.{reached}
+use Rattle.feasibility.proofs.Visits.{told_fails}
+use Rattle.feasibility.proofs.tree.SearchTree.search_anew.Goals as goal
+
+pub returns-then-not-start-clause-told : goal.returns-then-not-start-clause-told
+returns-then-not-start-clause-told c =
+    let m = c.args.self.now.model in
+    let fails : is_failing m c.args.self.now.values c.args.room.now ≡ true =
+    not-false (is_failing m c.args.self.now.values c.args.room.now) (sym c.start.ensures.fails ∙ c.if-not-start.true) in
+    told_fails m c.args.self.now.values (constrained_params m) c.args.room.now (reached m c.args.self.now.values (constrained_params m) c.args.room.now)
+    c.args.room.now c.start.new.cells c.args.left.now c.visit_failing.new.left c.visit_failing.result fails c.visit_failing.ensures.answer
+    c.visit_failing.ensures.left c.start.ensures.same

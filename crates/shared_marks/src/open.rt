@@ -1,0 +1,186 @@
+ghost use Rattle.std.specs.Prelude.{◌≡◌, ◌&&◌, ◌+◌, ◌≤◌, ◌<◌, ◌^◌, ◌∷◌, [], false, true, All, filter, length, map, not, slice_range, OnOk};
+ghost use Rattle.cov_model.specs.Fits.{FitsModel};
+ghost use Rattle.cov_model.specs.Slices.{slice_of};
+ghost use Rattle.definitions.specs.Demand.{demanded_tuples};
+ghost use Rattle.row_text.specs.RowFiles.{suite_seen};
+ghost use Rattle.tuple_index.specs.Plan.{plan_of, set_at};
+ghost use Rattle.shared_marks.specs.Adding.{Adds, Marks};
+ghost use Rattle.shared_marks.specs.Blocks.{IsBlock, is_positive, place_in};
+ghost use Rattle.shared_marks.specs.Lines.{AreLines, AreOpen, IsLine, front, is_of_some};
+ghost use Rattle.shared_marks.specs.Served.{base_of, is_served_at, served_between};
+
+use crate::block::{Block, is_positive, put_places};
+use crate::digits::radix_of;
+use crate::lines::{Line, OpenSets, front};
+use crate::table::{MarkSeat, SharedMarks};
+use cov_model::TestModel;
+use row_text::{FileRow, RowFile};
+use std::alloc::Global;
+use tuple_index::Plan;
+use value_text::NoMemory;
+
+// How many rows are marked together.
+const BLOCK_ROWS: u32 = 1 << 10;
+
+// Puts for each test of a block the place of its values of all members of a line's set but the last. These are there
+// already where the line before begins with the same members.
+fn put_fronts(model: &TestModel, plan: &Plan, line: Line, block: &Block<'_>, places: &mut [u32])
+    requires plan { plan.now ≡ plan_of model.now }
+    requires block { IsBlock model.now block.now }
+    requires line { IsLine plan.now line }
+    requires room { length places.old ≡ length block.now.tests }
+    requires kept { line.is_fresh ≡ false → places.old ≡ map (place_in model.now (front (set_at plan.now line.set))) block.now.tests }
+    ensures { places.new ≡ map (place_in model.now (front (set_at plan.now line.set))) block.now.tests }
+{
+    if line.is_fresh {
+        plan.assert_invariant();
+        put_places(model, plan, front(plan.members(line.set)), block, places);
+    }
+}
+
+impl SharedMarks {
+    // Marks the places of the demanded tuples of a line's set that the tests of a block serve. The places of their
+    // values of all members but the last are at hand.
+    fn mark_line(
+        &self,
+        seat: &mut MarkSeat,
+        model: &TestModel,
+        plan: &Plan,
+        line: Line,
+        block: &Block<'_>,
+        fronts: &[u32],
+    )
+        requires table { seat.old.table ≡ self.now.table }
+        requires plan { plan.now ≡ plan_of model.now }
+        requires bits { self.now.bits ≡ length (demanded_tuples model.now) }
+        requires block { IsBlock model.now block.now }
+        requires line { IsLine plan.now line }
+        requires fronts { fronts.now ≡ map (place_in model.now (front (set_at plan.now line.set))) block.now.tests }
+        ensures { Marks (served_between model.now block.now.tests (base_of model.now line.set) (base_of model.now (line.set + 1))) seat.old seat.new }
+    {
+        plan.assert_invariant();
+        let radix = radix_of(model, plan, line.last);
+        let column = block.column(line.last);
+        for at in 0..fronts.len() {
+            let rank = fronts[at] * radix + u32::from(column[at]);
+            self.mark_lightly(seat, line.base + rank);
+        }
+    }
+
+    // Marks the places of the demanded tuples of the lines' sets that the tests of a block serve. There is a number
+    // for each test, of any value.
+    fn mark_lines(
+        &self,
+        seat: &mut MarkSeat,
+        model: &TestModel,
+        plan: &Plan,
+        lines: &[Line],
+        block: &Block<'_>,
+        fronts: &mut [u32],
+    )
+        requires table { seat.old.table ≡ self.now.table }
+        requires plan { plan.now ≡ plan_of model.now }
+        requires bits { self.now.bits ≡ length (demanded_tuples model.now) }
+        requires block { IsBlock model.now block.now }
+        requires lines { AreLines plan.now lines.now }
+        requires room { length fronts.old ≡ length block.now.tests }
+        ensures { Marks (λ place. is_of_some plan.now lines.now place && is_served_at model.now block.now.tests place) seat.old seat.new }
+    {
+        for line in lines {
+            put_fronts(model, plan, *line, block, fronts);
+            self.mark_line(seat, model, plan, *line, block, fronts);
+        }
+    }
+
+    // Marks the place of each demanded tuple that a row with a negative value serves, if it is a test.
+    fn mark_negative(&self, seat: &mut MarkSeat, model: &TestModel, plan: &Plan, row: &FileRow)
+        requires table { seat.old.table ≡ self.now.table }
+        requires plan { plan.now ≡ plan_of model.now }
+        requires bits { self.now.bits ≡ length (demanded_tuples model.now) }
+        requires fits { FitsModel model.now row.now.cells }
+        ensures { Marks (is_served_at model.now (filter (λ cells. not (is_positive (slice_of model.now cells))) (row.now.cells ∷ []))) seat.old seat.new }
+    {
+        if !is_positive(model, &row.cells) {
+            self.mark_row(seat, model, plan, &row.cells);
+        }
+    }
+
+    // Marks the place of each demanded tuple that a test with a negative value serves among rows.
+    fn mark_negatives(&self, seat: &mut MarkSeat, model: &TestModel, plan: &Plan, rows: &[FileRow])
+        requires table { seat.old.table ≡ self.now.table }
+        requires plan { plan.now ≡ plan_of model.now }
+        requires bits { self.now.bits ≡ length (demanded_tuples model.now) }
+        requires fits { All (λ row. FitsModel model.now row.cells) rows.now }
+        ensures { Marks (is_served_at model.now (filter (λ cells. not (is_positive (slice_of model.now cells))) (map (λ row. row.cells) rows.now))) seat.old seat.new }
+    {
+        for row in rows {
+            self.mark_negative(seat, model, plan, row);
+        }
+    }
+
+    // Marks the place of each demanded tuple that some of these rows serve, but for places that the seat holds, by
+    // the sets that are open.
+    fn mark_block(
+        &self,
+        alloc: Global,
+        seat: &mut MarkSeat,
+        model: &TestModel,
+        plan: &Plan,
+        in_play: &OpenSets,
+        rows: &[FileRow],
+    ) -> Result<(), NoMemory>
+        requires table { seat.old.table ≡ self.now.table }
+        requires plan { plan.now ≡ plan_of model.now }
+        requires bits { self.now.bits ≡ length (demanded_tuples model.now) }
+        requires in_play { AreOpen plan.now in_play.now.lines.items in_play.now.upto seat.old.holds }
+        requires all { in_play.now.upto ≡ length plan.now.sets }
+        requires fits { All (λ row. FitsModel model.now row.cells) rows.now }
+        ensures { OnOk result (Adds (is_served_at model.now (map (λ row. row.cells) rows.now)) seat.old seat.new) }
+    {
+        self.mark_negatives(seat, model, plan, rows);
+        if in_play.are_none(plan) {
+            return Ok(());
+        }
+        let block = Block::of(alloc, model, plan, rows)?;
+        let mut fronts = vec![in alloc; 0; block.len()]?;
+        let lines = in_play.lines.as_slice();
+        self.mark_lines(seat, model, plan, lines, &block, &mut fronts);
+        Ok(())
+    }
+
+    // Marks what `mark_served` marks, but for places that the seat holds, by the sets that are open.
+    pub(crate) fn mark_open(
+        &self,
+        alloc: Global,
+        seat: &mut MarkSeat,
+        model: &TestModel,
+        plan: &Plan,
+        in_play: &OpenSets,
+        file: &RowFile,
+        from: u32,
+        to: u32,
+    ) -> Result<(), NoMemory>
+        requires table { seat.old.table ≡ self.now.table }
+        requires plan { plan.now ≡ plan_of model.now }
+        requires bits { self.now.bits ≡ length (demanded_tuples model.now) }
+        requires in_play { AreOpen plan.now in_play.now.lines.items in_play.now.upto seat.old.holds }
+        requires fits { All (λ row. FitsModel model.now row.cells) file.now.rows }
+        requires ordered { from ≤ to }
+        requires within { to ≤ length file.now.rows }
+        requires few { length file.now.rows ≤ 2 ^ 20 }
+        ensures { OnOk result (Adds (is_served_at model.now (slice_range (suite_seen file.now) from to)) seat.old seat.new) }
+    {
+        if in_play.upto != plan.set_count() {
+            self.mark_served(seat, model, plan, file, from, to);
+            return Ok(());
+        }
+        let mut marked = from;
+        while marked < to {
+            let next = to.min(marked + BLOCK_ROWS);
+            let rows = &file.rows.as_slice()[marked as usize..next as usize];
+            self.mark_block(alloc, seat, model, plan, in_play, rows)?;
+            marked = next;
+        }
+        Ok(())
+    }
+}

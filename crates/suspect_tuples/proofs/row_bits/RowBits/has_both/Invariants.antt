@@ -1,6 +1,0 @@
-use Rattle.std.proofs.Common.{◌++◌}
-use Rattle.suspect_tuples.proofs.RowBitLemmas.{NoneBefore}
-use Rattle.suspect_tuples.proofs.row_bits.RowBits.has_both.Given as goal
-
-abbrev pub invariant-loop-k : goal.invariant-loop-k
-invariant-loop-k l = NoneBefore l.self (l.first ++ l.second) l.k

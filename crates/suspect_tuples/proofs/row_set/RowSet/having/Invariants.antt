@@ -1,5 +1,0 @@
-use Rattle.suspect_tuples.proofs.RowSetLemmas.{MarkBefore}
-use Rattle.suspect_tuples.proofs.row_set.RowSet.having.Given as goal
-
-abbrev pub invariant-loop-at : goal.invariant-loop-at
-invariant-loop-at l = MarkBefore l.rows l.tuple l.at l.words.items

@@ -1,0 +1,488 @@
+-- The pairs of a column at first: the other member of each set in play, and blocks with a bit for each tuple.
+use Rattle.std.proofs.Common.{inl, inr, ◌≡◌, ℕ, zero, suc, ◌+◌, ◌-◌, ◌*◌, ◌/◌, ◌%◌, ◌<◌, ◌≤◌, ◌⊎◌, Bool, true, false, ◌||◌, List, [], ◌∷◌, ◌++◌, Option, Some, None, All, map, length, get_or, sum_by, replicate, take, drop, ◌∙◌, refl, sym, subst, ap, arith, add-one, drop-cons, length-append}
+use Rattle.std.specs.Int.{bit_at}
+use Rattle.std.specs.Option.{option_map_or}
+use Rattle.std.specs.Prelude.{◌==◌, IfSome, min, nat_lt, option_map, slice_range, slice_set, if◌then◌else◌}
+use Rattle.std.proofs.lemmas.Bool.{cases_Bool, cases_eq, cases_lt, eq-eqb, false≢true}
+use Rattle.std.proofs.lemmas.Bool.Decides.{nat_tests}
+use Rattle.std.proofs.lemmas.List.{append-nil, drop_all, get_or_append_left, get_or_default, get_or_past, get_or-replicate, get_or-set_same, get_or-set_other, length-replicate, length-set, take_all, take_more}
+use Rattle.std.proofs.lemmas.List.Elements.{All-cons, All-nil}
+use Rattle.std.proofs.lemmas.Nat.Bits.{bit_at-zero}
+use Rattle.std.proofs.Math.Seq.{get_or-append_seam}
+use Rattle.std.proofs.Math.Bool.{or-true}
+use Rattle.cov_model.specs.declared.slice.Slice.{Slice}
+use Rattle.cov_model.specs.Sound.{ModelView}
+use Rattle.definitions.specs.Demand.{demanded_sets, is_among}
+use Rattle.tuple_index.specs.Kept.{IsKept}
+use Rattle.tuple_index.specs.Places.{RisesFrom, ways}
+use Rattle.tuple_index.specs.Plan.{plan_of}
+use Rattle.uncovered_table.specs.declared.pairs.PairBits.{PairBits}
+use Rattle.uncovered_table.specs.declared.prepared.Part.{Part}
+use Rattle.uncovered_table.specs.declared.prepared.Prepared.{Prepared}
+use Rattle.uncovered_table.specs.Bits.{InPlay, all_cleared, bit_count, first_bit, held_count, sets_in_play, tuple_count, value_held}
+use Rattle.uncovered_table.specs.Kept.{last_column, play_column}
+use Rattle.uncovered_table.specs.Digits.{AreDigits, cell_digit, digit_of, joined, number_of, own_values, with_digit}
+use Rattle.uncovered_table.specs.Masks.{AreAll, AreBegins, IsMask, begin_at}
+use Rattle.uncovered_table.specs.Pairs.{AreKept, ArePairs, ArePartners, HasPairs, IsLonePart, IsPair, IsPartner, Matched, common_count, digit_count}
+use Rattle.uncovered_table.specs.Places.{set_at, slice_places}
+use Rattle.uncovered_table.specs.Prepared.{IsLineOf, sum_of}
+use Rattle.uncovered_table.specs.Words.{bit_in}
+use Rattle.uncovered_table.proofs.BitLemmas.{bits_before}
+use Rattle.uncovered_table.proofs.GainLemmas.{number_within}
+use Rattle.uncovered_table.proofs.LineLemmas.{column_among}
+use Rattle.uncovered_table.proofs.PairLemmas.{AreCleared, matched-weaker, pairs-count, pairs-elsewhere, pairs-single, same_members}
+use Rattle.uncovered_table.proofs.MaskLemmas.{begins-rise}
+use Rattle.uncovered_table.proofs.DigitLemmas.{cell_digits, digit_below}
+use Rattle.uncovered_table.proofs.ValueLemmas.{digit_gain, member_none, no_gain}
+use Rattle.uncovered_table.proofs.WordLemmas.{bit-past, bit-used}
+
+-- each parameter has the digit 0, but for one
+abbrev all_but : ℕ → ℕ → Option ℕ
+all_but q r = if r == q then None else Some 0
+
+abbrev zeros : ℕ → Option ℕ
+zeros r = Some 0
+
+-- the part between two neighbouring places
+one-part : (parts : List Part) (begin end : ℕ) (part : Part) → end ≡ begin + 1 → end ≤ length parts → part ≡ get_or parts begin part
+    → slice_range parts begin end ≡ part ∷ []
+one-part parts begin end part next within read =
+    let one : end - begin ≡ 1 = omega (arith, next) in
+    ap (λ n. take n (drop begin parts)) one ∙ ap (take 1) (drop-cons parts begin part (omega (arith, next, within)))
+    ∙ ap (λ p. p ∷ []) (sym read)
+
+-- the set of a line with one part has the column and the part's parameter
+pub partner-of : (m : ModelView) (slice : Slice) (column set : ℕ) (line : Prepared) (parts : List Part) (part : Part) → InPlay m slice column set
+    → IsLineOf m slice column set line parts → line.end ≡ line.begin + 1 → part ≡ get_or parts line.begin part → part.param < length m.params
+    → IsPartner m slice column set part.param
+partner-of m slice column set line parts part play own next read exists = record {
+  plays = play;
+  exists = exists;
+  apart = λ same. must (λ r among here. here ∙ same);
+  members =
+      λ q.
+      elim (cases_eq q column) [
+        | inl here ↦
+            let test : (q == column) ≡ true = grind (arith, nat_tests) in
+            ap (is_among (set_at m set)) here ∙ column_among m slice column set play ∙ sym (ap (λ b. b || (q == part.param)) test)
+        | inr apart ↦
+            let test : (q == column) ≡ false = grind (arith, nat_tests) in
+            elim (cases_eq q part.param) [
+              | inl here ↦
+                  let own_test : (q == part.param) ≡ true = grind (arith, nat_tests) in
+                  ap (is_among (set_at m set)) here ∙ listed ∙ sym (ap (λ b. b || (q == part.param)) test ∙ own_test)
+              | inr differs ↦
+                  let own_test : (q == part.param) ≡ false = grind (arith, nat_tests) in
+                  others q apart differs ∙ sym (ap (λ b. b || (q == part.param)) test ∙ own_test)
+            ]
+      ];
+}
+  where
+    sums : (digits : ℕ → Option ℕ) → joined (digits part.param) part.weight (Some 0)
+        ≡ number_of (own_values m slice) (with_digit digits column 0) (set_at m set)
+    sums digits = ap (sum_of digits) (sym (one-part parts line.begin line.end part next own.within read)) ∙ own.sums digits
+
+    must : ((r : ℕ) → is_among (set_at m set) r ≡ true → r ≡ part.param → r ≡ column) → ⊥
+    must never =
+        let same : number_of (own_values m slice) (with_digit zeros column 0) (set_at m set)
+        ≡ number_of (own_values m slice) (with_digit (all_but part.param) column 0) (set_at m set) =
+        same_members (own_values m slice) (with_digit zeros column 0) (with_digit (all_but part.param) column 0) (set_at m set)
+        (λ r among.
+        elim (cases_eq r column) [
+          | inl here ↦ let test : (r == column) ≡ true = grind (arith, nat_tests) in
+              ap (λ b. if b then Some 0 else zeros r) test ∙ sym (ap (λ b. if b then Some 0 else all_but part.param r) test)
+          | inr apart ↦
+              elim (cases_eq r part.param) [
+                | inl here ↦ absurd (apart (never r among here))
+                | inr differs ↦
+                    let test : (r == column) ≡ false = grind (arith, nat_tests) in
+                    let other : (r == part.param) ≡ false = grind (arith, nat_tests) in
+                    ap (λ b. if b then Some 0 else zeros r) test
+                    ∙ sym (ap (λ b. if b then Some 0 else all_but part.param r) test ∙ ap (λ b. if b then None else Some 0) other)
+              ]
+        ]) in
+        let none : all_but part.param part.param ≡ None = ap (λ b. if b then None else Some 0) (eq-eqb part.param part.param refl) in
+        let both : Some (0 * part.weight + 0) ≡ None =
+        sums zeros ∙ same ∙ sym (sums (all_but part.param)) ∙ ap (λ o. joined o part.weight (Some 0)) none in
+        cc
+
+    listed : is_among (set_at m set) part.param ≡ true
+    listed = elim (cases_Bool (is_among (set_at m set) part.param)) [
+      | inl among ↦ among
+      | inr other ↦ absurd (must (λ r among here. absurd (false≢true (sym other ∙ ap (is_among (set_at m set)) (sym here) ∙ among))))
+    ]
+
+    others : (q : ℕ) → (q ≡ column → ⊥) → (q ≡ part.param → ⊥) → is_among (set_at m set) q ≡ false
+    others q apart differs = elim (cases_Bool (is_among (set_at m set) q)) [
+      | inr other ↦ other
+      | inl among ↦
+          let test : (q == column) ≡ false = grind (arith, nat_tests) in
+          let hidden : with_digit (all_but q) column 0 q ≡ None =
+          ap (λ b. if b then Some 0 else all_but q q) test ∙ ap (λ b. if b then None else Some 0) (eq-eqb q q refl) in
+          let other : (part.param == q) ≡ false = grind (arith, nat_tests) in
+          let both : Some (0 * part.weight + 0) ≡ None =
+          sym (ap (λ b. joined (if b then None else Some 0) part.weight (Some 0)) other) ∙ sums (all_but q)
+          ∙ member_none (own_values m slice) (with_digit (all_but q) column 0) (set_at m set) q among hidden in
+          absurd (cc)
+    ]
+
+-- one item more
+pub matched-more : (R : ℕ → ℕ → Type 0) (xs ys : List ℕ) (x y : ℕ) → Matched R xs ys → R x y → Matched R (xs ++ x ∷ []) (ys ++ y ∷ [])
+matched-more R [] [] x y all here = (here, tt)
+matched-more R [] (b ∷ ys) x y all here = absurd all
+matched-more R (a ∷ xs) [] x y all here = absurd all
+matched-more R (a ∷ xs) (b ∷ ys) x y all here = (all.0, matched-more R xs ys x y all.1 here)
+
+pub rises-more : (a b p : ℕ) (ps : List ℕ) → a ≤ b → RisesFrom a b ps → b ≤ p → RisesFrom a (p + 1) (ps ++ p ∷ [])
+rises-more a b p [] order rises least = (omega (arith, order, least), omega arith, tt)
+rises-more a b p (q ∷ ps) order rises least =
+    let low = rises.0 in
+    let less = rises.1 in
+    (low, omega (arith, less, least), rises-more (q + 1) b p ps (omega (arith, less)) rises.2 least)
+
+pub rises-wider : (a b e : ℕ) (ps : List ℕ) → b ≤ e → RisesFrom a b ps → RisesFrom a e ps
+rises-wider a b e [] order rises = tt
+rises-wider a b e (p ∷ ps) order rises = let less = rises.1 in (rises.0, omega (arith, less, order), rises-wider (p + 1) b e ps order rises.2)
+
+-- what is known of each item of the second list
+matched-listed : (R : ℕ → ℕ → Type 0) (P : ℕ → Type 0) (xs ys : List ℕ) → Matched R xs ys → ((y : ℕ) → is_among ys y ≡ true → P y)
+    → Matched (λ x y. R x y × P y) xs ys
+matched-listed R P [] [] all each = tt
+matched-listed R P [] (y ∷ ys) all each = absurd all
+matched-listed R P (x ∷ xs) [] all each = absurd all
+matched-listed R P (x ∷ xs) (y ∷ ys) all each = (
+  (all.0, each y (ap (λ b. b || is_among ys y) (eq-eqb y y refl))),
+  matched-listed R P xs ys all.1 (λ z among. each z (ap (λ b. (y == z) || b) among ∙ or-true (y == z))),
+)
+
+-- where each member has a digit there is a number
+record SomeNumber (values : ℕ → List ℕ) (digits : ℕ → Option ℕ) (set : List ℕ) : Type 0 where
+  number : ℕ
+  is : number_of values digits set ≡ Some number
+
+some_number : (values : ℕ → List ℕ) (digits : ℕ → Option ℕ) (set : List ℕ)
+    → ((p : ℕ) → is_among set p ≡ true → (e : ℕ) × (digits p ≡ Some e)) → SomeNumber values digits set
+some_number values digits [] each = record { number = 0; is = refl }
+some_number values digits (p ∷ set) each =
+    let here = each p (ap (λ b. b || is_among set p) (eq-eqb p p refl)) in
+    let rest = some_number values digits set (λ q among. each q (ap (λ b. (p == q) || b) among ∙ or-true (p == q))) in
+    record {
+      number = here.0 * ways values set + rest.number;
+      is = ap (λ o. joined o (ways values set) (number_of values digits set)) here.1 ∙ ap (joined (Some here.0) (ways values set)) rest.is;
+    }
+
+-- at first each tuple of a set is open
+held_open : (m : ModelView) (slice : Slice) (column set p k e : ℕ) (digits : ℕ → Option ℕ) → IsKept (plan_of m) → IsPartner m slice column set p
+    → AreDigits (own_values m slice) digits → digits column ≡ Some k → digits p ≡ Some e
+    → held_count m slice (replicate (length (slice_places m slice)) true) digits set ≡ 1
+held_open m slice column set p k e digits kept partner below first second =
+    let some = some_number (own_values m slice) digits (set_at m set)
+    (λ q among.
+    elim (cases_eq q column) [
+      | inl here ↦ (k, ap digits here ∙ first)
+      | inr apart ↦
+          elim (cases_eq q p) [
+            | inl here ↦ (e, ap digits here ∙ second)
+            | inr differs ↦
+                let a : (q == column) ≡ false = grind (arith, nat_tests) in
+                let b : (q == p) ≡ false = grind (arith, nat_tests) in
+                absurd (false≢true (sym (sym among ∙ partner.members q ∙ ap (λ x. x || (q == p)) a ∙ b)))
+          ]
+    ]) in
+    let within = number_within m slice digits set some.number kept partner.plays.exists partner.plays.some below some.is in
+    let all = bits_before m slice set (length (demanded_sets m)) partner.plays.exists in
+    let bit = first_bit m slice set + some.number in
+    ap (λ o. bit_count (replicate (length (slice_places m slice)) true) (option_map (λ n. first_bit m slice set + n) o)) some.is
+    ∙ ap (λ b. if b then 1 else 0) (get_or-replicate (length (slice_places m slice)) bit true false (omega (arith, within, all)))
+
+-- the pairs of a column at first
+pub pairs-new : (m : ModelView) (slice : Slice) (column count : ℕ) (sets partners block : List ℕ) (blocks : List (List ℕ)) → IsKept (plan_of m)
+    → ArePartners m slice column sets partners → AreAll (digit_count m slice) partners (bit_in block) → length block ≤ 128
+    → begin_at (digit_count m slice) (length m.params) ≤ 64 * 128 → count ≡ digit_count m slice column → blocks ≡ replicate count block
+    → ArePairs m slice column (replicate (length (slice_places m slice)) true) sets partners blocks
+pairs-new m slice column count sets partners block blocks kept are all few fits many made = record {
+  rise = are.rise;
+  pairs =
+      matched-weaker (λ set p. IsPartner m slice column set p × (is_among partners p ≡ true))
+      (IsPair m slice column (replicate (length (slice_places m slice)) true) blocks)
+      (λ set p known. record {
+        partner = known.0;
+        held =
+            λ k e digits below first second.
+            let inside : k < count = (let less = below column k first in omega (arith, less, many)) in
+            at k (begin_at (digit_count m slice) p + e) inside ∙ all.bits p e (below p e second)
+            ∙ ap (λ b. if b then 1 else 0) known.1 ∙ sym (held_open m slice column set p k e digits kept known.0 below first second);
+      })
+      sets partners
+      (matched-listed (IsPartner m slice column) (λ p. is_among partners p ≡ true) sets partners are.each (λ p among. among));
+  enough = ap length made ∙ length-replicate count block ∙ many;
+  short =
+      λ k.
+      elim (cases_lt k count) [
+        | inl less ↦ subst (λ n. n ≤ 128) (sym (ap length (read k less))) few
+        | inr past ↦ subst (λ n. n ≤ 128) (sym (ap length (beyond k past))) (omega arith)
+      ];
+  fits = fits;
+  none =
+      λ k p e other below.
+      elim (cases_lt k count) [
+        | inl less ↦
+            at k (begin_at (digit_count m slice) p + e) less ∙ all.bits p e below ∙ ap (λ b. if b then 1 else 0) other
+        | inr past ↦
+            ap (λ words. bit_in words (begin_at (digit_count m slice) p + e)) (beyond k past)
+            ∙ bit-past [] (begin_at (digit_count m slice) p + e) (omega arith)
+      ];
+}
+  where
+    read : (k : ℕ) → k < count → get_or blocks k [] ≡ block
+    read k less = ap (λ list. get_or list k []) made ∙ get_or-replicate count k block [] less
+
+    beyond : (k : ℕ) → count ≤ k → get_or blocks k [] ≡ []
+    beyond k past = get_or_past blocks k [] (let long = ap length made ∙ length-replicate count block in omega (arith, past, long))
+
+    at : (k i : ℕ) → k < count → bit_in (get_or blocks k []) i ≡ bit_in block i
+    at k i less = ap (λ words. bit_in words i) (read k less)
+
+-- where the bits of one parameter more begin
+pub begins-start : (count : ℕ → ℕ) → AreBegins count 0 (0 ∷ [])
+begins-start count = record {
+  many = refl;
+  each = λ p d within. let first : p ≡ 0 = omega (arith, within) in ap (λ k. get_or (0 ∷ []) k d) first ∙ sym (ap (begin_at count) first);
+}
+
+pub begins-more : (count : ℕ → ℕ) (p begin : ℕ) (begins next : List ℕ) → AreBegins count p begins → begin ≡ begin_at count p + count p
+    → next ≡ begins ++ begin ∷ [] → AreBegins count (p + 1) next
+begins-more count p begin begins next are last put = subst (AreBegins count (p + 1)) (sym put) (record {
+  many = length-append begins (begin ∷ []) ∙ ap (λ n. n + 1) are.many;
+  each =
+      λ q d within.
+      elim (cases_lt p q) [
+        | inr most ↦ get_or_append_left begins (begin ∷ []) d q (omega (arith, most, are.many)) ∙ are.each q d most
+        | inl more ↦
+            let here : q ≡ p + 1 = omega (arith, more, within) in
+            ap (λ n. get_or (begins ++ begin ∷ []) n d) (here ∙ sym are.many) ∙ get_or-append_seam begins begin [] d
+            ∙ last ∙ sym (ap (begin_at count) (here ∙ add-one p))
+      ];
+})
+
+-- the begin of a parameter, and the end of its bits
+pub begin-read : (count : ℕ → ℕ) (params p begin : ℕ) (begins : List ℕ) → AreBegins count params begins → p ≤ params → begin ≡ get_or begins p begin
+    → begin ≡ begin_at count p
+begin-read count params p begin begins are within read = read ∙ are.each p begin within
+
+-- the bits that are used are all
+pub all-used : (count : ℕ → ℕ) (params mask block : List ℕ) (words : ℕ) → AreAll count params (bit_in mask) → words ≤ length mask
+    → ((i : ℕ) → words ≤ i → get_or mask i 0 ≡ 0) → block ≡ take words mask → AreAll count params (bit_in block)
+all-used count params mask block words all within rest cut = record {
+  bits = λ p d below. ap (λ list. bit_in list (begin_at count p + d)) cut ∙ bit-used mask words (begin_at count p + d) within rest ∙ all.bits p d below;
+}
+
+-- a block without the bits of a mask
+pub cleared-blocks : (blocks : List (List ℕ)) (d : ℕ) (block : List ℕ) (mask : ℕ → ℕ) → d < length blocks → length block ≡ length (get_or blocks d [])
+    → ((i : ℕ) → bit_in block i ≡ min (bit_in (get_or blocks d []) i) (1 - mask i)) → AreCleared blocks (slice_set blocks d block) d mask
+cleared-blocks blocks d block mask within long made = record {
+  many = length-set blocks d block;
+  long =
+      λ k.
+      elim (cases_eq k d) [
+        | inl here ↦
+            ap (λ n. length (get_or (slice_set blocks d block) n [])) here ∙ ap length (get_or-set_same blocks d block [] within) ∙ long
+            ∙ ap (λ n. length (get_or blocks n [])) (sym here)
+        | inr apart ↦ ap length (get_or-set_other blocks d k block [] apart)
+      ];
+  bits =
+      λ k i.
+      elim (cases_eq k d) [
+        | inl here ↦
+            let test : (k == d) ≡ true = grind (arith, nat_tests) in
+            ap (λ n. bit_in (get_or (slice_set blocks d block) n []) i) here ∙ ap (λ list. bit_in list i) (get_or-set_same blocks d block [] within) ∙ made i
+            ∙ ap (λ n. min (bit_in (get_or blocks n []) i) (1 - mask i)) (sym here)
+            ∙ sym (ap (λ b. if b then min (bit_in (get_or blocks k []) i) (1 - mask i) else bit_in (get_or blocks k []) i) test)
+        | inr apart ↦
+            let test : (k == d) ≡ false = grind (arith, nat_tests) in
+            ap (λ list. bit_in list i) (get_or-set_other blocks d k block [] apart)
+            ∙ sym (ap (λ b. if b then min (bit_in (get_or blocks k []) i) (1 - mask i) else bit_in (get_or blocks k []) i) test)
+      ];
+}
+
+pub no-bits : (n k : ℕ) → bit_in (replicate n 0) k ≡ 0
+no-bits n k =
+    elim (cases_lt (k / 64) n) [
+      | inl less ↦ ap (λ word. bit_at word (k % 64)) (get_or-replicate n (k / 64) 0 0 less) ∙ bit_at-zero (k % 64)
+      | inr past ↦ bit-past (replicate n 0) k ((let none : ℕ = 0 in let long = length-replicate n none in omega (arith, past, long)))
+    ]
+
+-- the lone part of a line tells the partner
+pub partner-next : (m : ModelView) (slice : Slice) (column set p next : ℕ) (line : Prepared) (parts : List Part) → InPlay m slice column set
+    → IsLineOf m slice column set line parts → IsLonePart line parts next p → All (λ part. part.param < length m.params) parts
+    → IsPartner m slice column set p
+partner-next m slice column set p next line parts play own lone exist =
+    let other : Part = record { param = 0; weight = 0 } in
+    let part = get_or parts line.begin other in
+    let inside : line.begin < length parts = omega (arith, lone.one, own.within) in
+    let read : part ≡ get_or parts line.begin part = get_or_default parts line.begin other part inside in
+    subst (IsPartner m slice column set) (sym (lone.param other)) (partner-of m slice column set line parts part play own lone.one read (exist line.begin other inside))
+
+-- the partners so far
+pub record PartnersTo (m : ModelView) (slice : Slice) (column k next : ℕ) (sets partners : List ℕ) : Type 0 where
+  pub rise : RisesFrom 0 next partners
+  pub few : next ≤ length m.params
+  pub each : Matched (IsPartner m slice column) (take k sets) partners
+
+pub partners-start : (m : ModelView) (slice : Slice) (column : ℕ) (sets : List ℕ) → PartnersTo m slice column 0 0 sets []
+partners-start m slice column sets = record { rise = tt; few = omega arith; each = tt }
+
+pub partners-more : (m : ModelView) (slice : Slice) (column k next p : ℕ) (sets partners pushed : List ℕ) → PartnersTo m slice column k next sets partners
+    → k < length sets → IsPartner m slice column (get_or sets k 0) p → next ≤ p → pushed ≡ partners ++ p ∷ []
+    → PartnersTo m slice column (k + 1) (p + 1) sets pushed
+partners-more m slice column k next p sets partners pushed to within here least put = subst (PartnersTo m slice column (k + 1) (p + 1) sets) (sym put) (record {
+  rise = rises-more 0 next p partners (omega arith) to.rise least;
+  few = let less = here.exists in omega (arith, less);
+  each =
+      subst (λ list. Matched (IsPartner m slice column) list (partners ++ p ∷ [])) (sym (take_more sets k 0 within))
+      (matched-more (IsPartner m slice column) (take k sets) partners (get_or sets k 0) p to.each here);
+})
+
+pub partners-all : (m : ModelView) (slice : Slice) (column k next : ℕ) (sets partners : List ℕ) → PartnersTo m slice column k next sets partners
+    → length sets ≤ k → ArePartners m slice column sets partners
+partners-all m slice column k next sets partners to past = record {
+  rise = rises-wider 0 next (length m.params) partners to.few to.rise;
+  each = subst (λ list. Matched (IsPartner m slice column) list partners) (take_all k sets past) to.each;
+}
+
+pub partners-exist : (P : ℕ → Type 0) (a e : ℕ) (ps : List ℕ) → RisesFrom a e ps → ((p : ℕ) → p < e → P p) → All P ps
+partners-exist P a e [] rises each = All-nil P
+partners-exist P a e (p ∷ ps) rises each = All-cons P p ps (each p rises.1) (partners-exist P (p + 1) e ps rises.2 each)
+
+-- the pairs of one column more
+pub kept-more : (m : ModelView) (slice : Slice) (bits : List Bool) (p : ℕ) (columns next : List (Option PairBits)) (made : Option PairBits)
+    → AreKept m slice bits p columns → next ≡ columns ++ made ∷ [] → IfSome made (HasPairs m slice bits p) → AreKept m slice bits (p + 1) next
+kept-more m slice bits p columns next made are put here = subst (AreKept m slice bits (p + 1)) (sym put) (record {
+  many = length-append columns (made ∷ []) ∙ ap (λ n. n + 1) are.many;
+  each =
+      λ q within.
+      elim (cases_lt q p) [
+        | inl below ↦
+            subst (λ o. IfSome o (HasPairs m slice bits q)) (sym (get_or_append_left columns (made ∷ []) None q (omega (arith, below, are.many))))
+            (are.each q below)
+        | inr past ↦
+            let last : q ≡ p = omega (arith, past, within) in
+            let read : get_or (columns ++ made ∷ []) q None ≡ made =
+            ap (λ n. get_or (columns ++ made ∷ []) n None) (last ∙ sym are.many) ∙ get_or-append_seam columns made [] None in
+            subst (λ o. IfSome o (HasPairs m slice bits q)) (sym read) (subst (λ n. IfSome made (HasPairs m slice bits n)) (sym last) here)
+      ];
+})
+
+-- other columns keep their pairs when a row is closed
+pub kept-closed : (m : ModelView) (slice : Slice) (f : ℕ → Option ℕ) (bits : List Bool) (column : ℕ) (columns : List (Option PairBits)) (made : Option PairBits)
+    → IsKept (plan_of m) → AreDigits (own_values m slice) f → AreKept m slice bits (length m.params) columns
+    → IfSome made (HasPairs m slice (all_cleared m slice f bits (sets_in_play m slice column)) column)
+    → AreKept m slice (all_cleared m slice f bits (sets_in_play m slice column)) (length m.params) (slice_set columns column made)
+kept-closed m slice f bits column columns made kept below are here = record {
+  many = length-set columns column made ∙ are.many;
+  each =
+      λ p within.
+      elim (cases_eq p column) [
+        | inl same ↦
+            let read : get_or (slice_set columns column made) p None ≡ made =
+            ap (λ n. get_or (slice_set columns column made) n None) same
+            ∙ get_or-set_same columns column made None (omega (arith, same, within, are.many)) in
+            subst (λ o. IfSome o (HasPairs m slice (all_cleared m slice f bits (sets_in_play m slice column)) p)) (sym read)
+            (subst (λ n. IfSome made (HasPairs m slice (all_cleared m slice f bits (sets_in_play m slice column)) n)) (sym same) here)
+        | inr apart ↦
+            subst (λ o. IfSome o (HasPairs m slice (all_cleared m slice f bits (sets_in_play m slice column)) p))
+            (sym (get_or-set_other columns column p made None apart)) (other p apart (get_or columns p None) (are.each p within))
+      ];
+}
+  where
+    other : (p : ℕ) → (p ≡ column → ⊥) → (o : Option PairBits) → IfSome o (HasPairs m slice bits p)
+        → IfSome o (HasPairs m slice (all_cleared m slice f bits (sets_in_play m slice column)) p)
+    other p apart None has = tt
+    other p apart (Some pairs) has =
+        pairs-elsewhere m slice f column p bits (sets_in_play m slice p) pairs.partners.items (map (λ block. block.items) pairs.blocks.items) kept below
+        (λ same. apart (sym same)) has
+
+-- a table whose column keeps none stays so
+pub kept-none : (m : ModelView) (slice : Slice) (f : ℕ → Option ℕ) (bits : List Bool) (column : ℕ) (columns : List (Option PairBits))
+    → IsKept (plan_of m) → AreDigits (own_values m slice) f → AreKept m slice bits (length m.params) columns → get_or columns column None ≡ None
+    → AreKept m slice (all_cleared m slice f bits (sets_in_play m slice column)) (length m.params) columns
+kept-none m slice f bits column columns kept below are none =
+    subst (AreKept m slice (all_cleared m slice f bits (sets_in_play m slice column)) (length m.params)) (set_same columns column none)
+    (kept-closed m slice f bits column columns None kept below are tt)
+  where
+    set_same : (xs : List (Option PairBits)) (i : ℕ) → get_or xs i None ≡ None → slice_set xs i None ≡ xs
+    set_same [] i is = refl
+    set_same (x ∷ xs) zero is = ap (λ o. o ∷ xs) (sym is)
+    set_same (x ∷ xs) (suc i) is = ap (λ rest. x ∷ rest) (set_same xs i is)
+
+-- what closing a single tuple leaves
+pub kept-single : (m : ModelView) (slice : Slice) (bits : List Bool) (closed bit : ℕ) (columns next : List (Option PairBits)) → IsKept (plan_of m)
+    → first_bit m slice closed ≤ bit → bit < first_bit m slice closed + tuple_count m slice closed → length next ≡ length columns
+    → ((p : ℕ) → InPlay m slice p closed → get_or next p None ≡ None)
+    → ((p : ℕ) → (get_or next p None ≡ None) ⊎ (get_or next p None ≡ get_or columns p None))
+    → AreKept m slice bits (length m.params) columns → AreKept m slice (slice_set bits bit false) (length m.params) next
+kept-single m slice bits closed bit columns next kept first last long own others are = record {
+  many = long ∙ are.many;
+  each = λ p within. elim (others p) [
+    | inl none ↦ subst (λ o. IfSome o (HasPairs m slice (slice_set bits bit false) p)) (sym none) tt
+    | inr same ↦ by_pairs p (get_or next p None) refl (subst (λ o. IfSome o (HasPairs m slice bits p)) (sym same) (are.each p within))
+  ];
+}
+  where
+    by_pairs : (p : ℕ) (o : Option PairBits) → get_or next p None ≡ o → IfSome o (HasPairs m slice bits p)
+        → IfSome o (HasPairs m slice (slice_set bits bit false) p)
+    by_pairs p None is has = tt
+    by_pairs p (Some pairs) is has =
+        pairs-single m slice p closed bit bits (sets_in_play m slice p) pairs.partners.items (map (λ block. block.items) pairs.blocks.items) kept first last
+        (λ play. let none : None ≡ Some pairs = sym (own p play) ∙ is in absurd (cc)) has
+
+-- a digit has room in a mask
+pub digit-room : (count : ℕ → ℕ) (params p begin len : ℕ) (o : Option ℕ) → ((d : ℕ) → o ≡ Some d → d < count p) → p < params
+    → begin ≡ begin_at count p → begin_at count params ≤ len → IfSome o (λ d. begin + d < len)
+digit-room count params p begin len None below within at fits = tt
+digit-room count params p begin len (Some d) below within at fits =
+    let rise = begins-rise count p params within in
+    let less = below d refl in
+    omega (arith, rise, less, at, fits)
+
+-- the column for which a set is in play
+pub play-own : (m : ModelView) (slice : Slice) (p set : ℕ) → InPlay m slice p set → play_column m slice set ≡ Some p
+play-own m slice p set play =
+    let some = play.some in
+    let test : nat_lt 0 (tuple_count m slice set) ≡ true = grind (arith, nat_tests) in
+    ap (λ b. if b then last_column m slice (set_at m set) else None) test ∙ by_last (last_column m slice (set_at m set)) play.ends
+  where
+    by_last : (o : Option ℕ) → option_map_or (λ q. q == p) o false ≡ true → o ≡ Some p
+    by_last None is = absurd (false≢true is)
+    by_last (Some q) is = let same : q ≡ p = grind (arith, nat_tests) in ap Some same
+
+pub forget-own : (columns : List (Option PairBits)) (p : ℕ) → get_or (slice_set columns p None) p None ≡ None
+forget-own columns p =
+    elim (cases_lt p (length columns)) [
+      | inl within ↦ get_or-set_same columns p None None within
+      | inr past ↦ get_or_past (slice_set columns p None) p None (omega (arith, past, length-set columns p None))
+    ]
+
+-- the gain of a value is what the block of its digit has in common with the row's mask
+pub pairs-gain : (m : ModelView) (slice : Slice) (column v : ℕ) (cells : List (Option ℕ)) (mask : List ℕ) (bits : List Bool) (partners : List ℕ)
+    (blocks : List (List ℕ)) (o : Option ℕ) → digit_of (own_values m slice column) v ≡ o
+    → IsMask (digit_count m slice) (cell_digit (own_values m slice) cells) (length m.params) (bit_in mask)
+    → ArePairs m slice column bits (sets_in_play m slice column) partners blocks
+    → common_count blocks mask o ≡ sum_by (value_held m slice bits cells column v) (sets_in_play m slice column)
+pairs-gain m slice column v cells mask bits partners blocks None is masked are = no_gain m slice bits cells column v (sets_in_play m slice column) is
+pairs-gain m slice column v cells mask bits partners blocks (Some d) is masked are =
+    pairs-count m slice column d (cell_digit (own_values m slice) cells) mask bits (sets_in_play m slice column) partners blocks
+    (cell_digits (own_values m slice) cells) (digit_below (own_values m slice column) v d is) masked are
+    ∙ digit_gain m slice bits cells column v d (sets_in_play m slice column) is
+
+-- a digit has a block
+pub digit-block : (m : ModelView) (slice : Slice) (column v n : ℕ) (o : Option ℕ) → digit_of (own_values m slice column) v ≡ o → n ≡ digit_count m slice column
+    → IfSome o (λ d. d < n)
+digit-block m slice column v n None is many = tt
+digit-block m slice column v n (Some d) is many = let less = digit_below (own_values m slice column) v d is in omega (arith, less, many)
+
+-- a list written over whole
+pub whole-list : (new old : List ℕ) (len : ℕ) → length new ≡ length old → len ≡ length old → take len (new ++ drop (length new) old) ≡ new
+whole-list new old len same long =
+    ap (λ rest. take len (new ++ rest)) (drop_all (length new) old (omega (arith, same))) ∙ ap (take len) (append-nil new)
+    ∙ take_all len new (omega (arith, same, long))

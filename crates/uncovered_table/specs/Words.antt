@@ -1,0 +1,20 @@
+-- Bits of words, 64 to a word.
+use Rattle.std.specs.Prelude.{ℕ, zero, suc, ◌+◌, ◌-◌, ◌/◌, ◌%◌, List, min, slice_index}
+use Rattle.std.specs.Int.{bit_at}
+
+-- a bit: 1 where it is set
+abbrev pub bit_in : List ℕ → ℕ → ℕ
+bit_in words k = bit_at (slice_index words (k / 64)) (k % 64)
+
+-- 1 where both have it
+abbrev pub common : List ℕ → List ℕ → ℕ → ℕ
+common words mask k = min (bit_in words k) (bit_in mask k)
+
+-- 1 where the mask lacks it
+abbrev pub lacking : List ℕ → List ℕ → ℕ → ℕ
+lacking words mask k = min (bit_in words k) (1 - bit_in mask k)
+
+-- the sum of a function over the numbers below one
+abbrev pub sum_to : (ℕ → ℕ) → ℕ → ℕ
+sum_to f zero = 0
+sum_to f (suc n) = sum_to f n + f n

@@ -1,0 +1,387 @@
+ghost use Rattle.std.specs.Prelude.{◌≡◌, ◌==◌, [], Some, if◌then◌else◌, ◌*◌, ◌+◌, ◌<◌, ◌≤◌, ◌⊎◌, ℕ, All, IfOk, IfSome, None, length, map, replicate, slice_index_or, sum_by, take, true};
+ghost use Rattle.cov_model.specs.Sound.{param_at};
+ghost use Rattle.definitions.specs.SliceRows.{IsOfSlice};
+ghost use Rattle.uncovered_table.specs.Bits.{InPlay, all_cleared, held_count, sets_in_play, value_held};
+ghost use Rattle.uncovered_table.specs.Digits.{cell_digit, own_values, with_digit};
+ghost use Rattle.definitions.specs.Demand.{demanded_sets};
+ghost use Rattle.uncovered_table.specs.Masks.{AreAll, AreBegins, IsMask, begin_at};
+ghost use Rattle.uncovered_table.specs.Pairs.{AreKept, ArePartners, HasPairs, IsLonePart, common_count, digit_count};
+ghost use Rattle.uncovered_table.specs.Places.{slice_places};
+ghost use Rattle.uncovered_table.specs.Prepared.{AreColumns, AreLines};
+ghost use Rattle.uncovered_table.specs.Words.{bit_in, lacking};
+
+use crate::held::from_value;
+use crate::prepared::{ColumnLines, Part, Prepared};
+use crate::sets::SliceSets;
+use crate::words::{WORD_BITS, clear_common, count_common, set_bit, set_bits, used};
+use bit_table::BitTable;
+use cov_model::{Cells, ParamNo, ValueNo};
+use std::alloc::Global;
+use value_text::NoMemory;
+
+// The number of words of a mask.
+const MASK_WORDS: usize = 128;
+
+// The most values of a column whose tuples are kept as pairs.
+const MOST_VALUES: u32 = 32;
+
+// The open tuples of the sets in play for a column, where each of these has one other member: a block of
+// bits for each digit of the column, and in it a bit for each digit of each of these members.
+#[derive(Drop)]
+pub(crate) struct PairBits {
+    // The other member of each set in play, in order.
+    pub(crate) partners: Vec<ParamNo>,
+    pub(crate) blocks: Vec<Vec<u64>>,
+}
+
+// The first words.
+fn first_words(words: &[u64], count: usize) -> &[u64]
+    requires { count ≤ length words.now }
+    ensures { result.now ≡ take count words.now }
+{
+    &words[..count]
+}
+
+// As many blocks as this one.
+fn copies(alloc: Global, block: &[u64], count: u32) -> Result<Vec<Vec<u64>>, NoMemory>
+    ensures { IfOk result (λ blocks. map (λ list. list.items) blocks.items ≡ replicate count block.now) }
+{
+    let mut blocks = Vec::new(alloc);
+    for _ in 0..count {
+        let mut copy = Vec::new(alloc);
+        copy.extend_from_slice(block)?;
+        blocks.push(copy)?;
+    }
+    Ok(blocks)
+}
+
+// How many bits the block of a digit has in common with a mask, where there is a digit.
+fn count_pairs(pairs: &PairBits, mask: &[u64], digit: Option<u16>) -> u32
+    requires digit { IfSome digit (λ d. d < length pairs.now.blocks.items) }
+    requires mask { length mask.now ≡ 128 }
+    requires short { (d : ℕ) → length (slice_index_or (map (λ block. block.items) pairs.now.blocks.items) d []) ≤ 128 }
+    ensures { result ≡ common_count (map (λ block. block.items) pairs.now.blocks.items) mask.now digit }
+{
+    match digit {
+        Some(d) => {
+            let block = &pairs.blocks[d as usize];
+            count_common(block.as_slice(), mask)
+        }
+        None => 0,
+    }
+}
+
+// Sets the bit of a digit, where there is one.
+fn put_digit(mask: &mut [u64], begin: u32, digit: Option<u16>)
+    requires { IfSome digit (λ d. begin + d < 64 * length mask.old) }
+    ensures long { length mask.new ≡ length mask.old }
+    ensures none { digit ≡ None → mask.new ≡ mask.old }
+    ensures some { (d : ℕ) → digit ≡ Some d → (k : ℕ) → bit_in mask.new k ≡ (if k == begin + d then 1 else bit_in mask.old k) }
+{
+    if let Some(d) = digit {
+        set_bit(mask, begin as usize + d as usize);
+    }
+}
+
+// The parameter of the one part of a line, where it has one alone and this is not below a number.
+fn lone_part(line: Prepared, parts: &[Part], next: u32) -> Option<ParamNo>
+    requires order { line.begin ≤ line.end }
+    requires within { line.end ≤ length parts.now }
+    ensures { IfSome result (λ p. IsLonePart line parts.now next p) }
+{
+    if line.end - line.begin != 1 {
+        return None;
+    }
+    let p = parts[line.begin].param;
+    if u32::from(p) < next {
+        return None;
+    }
+    Some(p)
+}
+
+impl<'a> SliceSets<'a> {
+    // Where the bits of each parameter begin in a mask, and where those of the last one end.
+    pub(crate) fn begins(&self, alloc: Global) -> Result<Vec<u32>, NoMemory>
+        ensures { IfOk result (λ begins. AreBegins (digit_count self.now.model self.now.slice) (length self.now.model.params) begins.items) }
+    {
+        self.assert_invariant();
+        let mut begins = Vec::new(alloc);
+        let mut begin: u32 = 0;
+        begins.push(begin)?;
+        let count = self.part.param_count();
+        for p in 0..count {
+            begin += self.part.value_count(p as ParamNo);
+            begins.push(begin)?;
+        }
+        Ok(begins)
+    }
+
+    // Puts the mask of a row's digits.
+    fn put_mask(&self, begins: &[u32], cells: &Cells, mask: &mut [u64])
+        requires begins { AreBegins (digit_count self.now.model self.now.slice) (length self.now.model.params) begins.now }
+        requires cells { IsOfSlice self.now.model self.now.slice cells.now }
+        requires fits { begin_at (digit_count self.now.model self.now.slice) (length self.now.model.params) ≤ 64 * length mask.old }
+        requires none { (k : ℕ) → bit_in mask.old k ≡ 0 }
+        ensures long { length mask.new ≡ length mask.old }
+        ensures mask { IsMask (digit_count self.now.model self.now.slice) (cell_digit (own_values self.now.model self.now.slice) cells.now) (length self.now.model.params) (bit_in mask.new) }
+    {
+        self.assert_invariant();
+        let count = cells.len() as ParamNo;
+        for p in 0..count {
+            let begin = begins[p as usize];
+            put_digit(mask, begin, self.cell_digit(cells, p));
+        }
+    }
+
+    // The other member of each set in play for a column, where each has one and they rise.
+    fn partners(
+        &self,
+        alloc: Global,
+        column: ParamNo,
+        lines: &ColumnLines,
+    ) -> Result<Option<Vec<ParamNo>>, NoMemory>
+        requires column { column < length self.now.model.params }
+        requires lines { AreLines self.now.model self.now.slice column (sets_in_play self.now.model self.now.slice column) lines.now.lines.items lines.now.parts.items }
+        ensures { IfOk result (λ found. IfSome found (λ partners. ArePartners self.now.model self.now.slice column (sets_in_play self.now.model self.now.slice column) partners.items)) }
+    {
+        self.assert_invariant();
+        let in_play = self.in_play(column);
+        let mut partners = Vec::new(alloc);
+        let mut next: u32 = 0;
+        for k in 0..in_play.len() {
+            let line = lines.lines[k];
+            let p = match lone_part(line, lines.parts.as_slice(), next) {
+                Some(p) => p,
+                None => return Ok(None),
+            };
+            next = u32::from(p) + 1;
+            partners.push(p)?;
+        }
+        Ok(Some(partners))
+    }
+
+    // Sets the bits of all digits of some parameters.
+    fn put_all(&self, begins: &[u32], params: &[ParamNo], mask: &mut [u64])
+        requires begins { AreBegins (digit_count self.now.model self.now.slice) (length self.now.model.params) begins.now }
+        requires exist { All (λ p. p < length self.now.model.params) params.now }
+        requires fits { begin_at (digit_count self.now.model self.now.slice) (length self.now.model.params) ≤ 64 * length mask.old }
+        requires none { (k : ℕ) → bit_in mask.old k ≡ 0 }
+        ensures long { length mask.new ≡ length mask.old }
+        ensures all { AreAll (digit_count self.now.model self.now.slice) params.now (bit_in mask.new) }
+    {
+        let _ = self;
+        for k in 0..params.len() {
+            let p = params[k];
+            let from = begins[p as usize];
+            let to = begins[p as usize + 1];
+            set_bits(mask, from as usize, to as usize);
+        }
+    }
+
+    // The pairs of a column, where the block of a digit has no more words than there are sets in play.
+    fn column_pairs(
+        &self,
+        alloc: Global,
+        column: ParamNo,
+        lines: &ColumnLines,
+        begins: &[u32],
+    ) -> Result<Option<PairBits>, NoMemory>
+        requires column { column < length self.now.model.params }
+        requires lines { AreLines self.now.model self.now.slice column (sets_in_play self.now.model self.now.slice column) lines.now.lines.items lines.now.parts.items }
+        requires begins { AreBegins (digit_count self.now.model self.now.slice) (length self.now.model.params) begins.now }
+        requires fits { begin_at (digit_count self.now.model self.now.slice) (length self.now.model.params) ≤ 64 * 128 }
+        ensures { IfOk result (λ found. IfSome found (HasPairs self.now.model self.now.slice (replicate (length (slice_places self.now.model self.now.slice)) true) column)) }
+    {
+        self.assert_invariant();
+        let count = self.part.value_count(column);
+        let found = self.partners(alloc, column, lines)?;
+        let partners = match found {
+            Some(partners) => partners,
+            None => return Ok(None),
+        };
+        let mut mask = [0; MASK_WORDS];
+        self.put_all(begins, partners.as_slice(), &mut mask);
+        let words = used(&mask);
+        if count > MOST_VALUES || words > partners.len() {
+            return Ok(None);
+        }
+        let block = first_words(&mask, words);
+        let blocks = copies(alloc, block, count)?;
+        Ok(Some(PairBits { partners, blocks }))
+    }
+
+    // Those pairs, where a mask has room for all digits.
+    fn pairs_if(
+        &self,
+        alloc: Global,
+        end: u32,
+        column: ParamNo,
+        lines: &ColumnLines,
+        begins: &[u32],
+    ) -> Result<Option<PairBits>, NoMemory>
+        requires column { column < length self.now.model.params }
+        requires lines { AreLines self.now.model self.now.slice column (sets_in_play self.now.model self.now.slice column) lines.now.lines.items lines.now.parts.items }
+        requires begins { AreBegins (digit_count self.now.model self.now.slice) (length self.now.model.params) begins.now }
+        requires end { end ≡ begin_at (digit_count self.now.model self.now.slice) (length self.now.model.params) }
+        ensures { IfOk result (λ found. IfSome found (HasPairs self.now.model self.now.slice (replicate (length (slice_places self.now.model self.now.slice)) true) column)) }
+    {
+        if end as usize <= WORD_BITS * MASK_WORDS {
+            self.column_pairs(alloc, column, lines, begins)
+        } else {
+            Ok(None)
+        }
+    }
+
+    // The pairs of each column that keeps some.
+    pub(crate) fn all_pairs(
+        &self,
+        alloc: Global,
+        lines: &[ColumnLines],
+        begins: &[u32],
+    ) -> Result<Vec<Option<PairBits>>, NoMemory>
+        requires lines { AreColumns self.now.model self.now.slice (length self.now.model.params) lines.now }
+        requires begins { AreBegins (digit_count self.now.model self.now.slice) (length self.now.model.params) begins.now }
+        ensures { IfOk result (λ columns. AreKept self.now.model self.now.slice (replicate (length (slice_places self.now.model self.now.slice)) true) (length self.now.model.params) columns.items) }
+    {
+        self.assert_invariant();
+        let count = lines.len();
+        let end = begins[count];
+        let mut columns = Vec::new(alloc);
+        for p in 0..count {
+            let column = &lines[p];
+            let pairs = self.pairs_if(alloc, end, p as ParamNo, column, begins)?;
+            columns.push(pairs)?;
+        }
+        Ok(columns)
+    }
+}
+
+// Puts the counts of open tuples that cells contain with as many values of a column as there are scores,
+// from one value on.
+pub(crate) fn put_pair_counts(
+    sets: &SliceSets<'_>,
+    pairs: &PairBits,
+    begins: &[u32],
+    bits: &BitTable,
+    cells: &Cells,
+    column: ParamNo,
+    from: ValueNo,
+    scores: &mut [u32],
+)
+    requires cells { IsOfSlice sets.now.model sets.now.slice cells.now }
+    requires column { column < length sets.now.model.params }
+    requires values { from + length scores.old ≤ length (param_at sets.now.model.params column).values }
+    requires begins { AreBegins (digit_count sets.now.model sets.now.slice) (length sets.now.model.params) begins.now }
+    requires pairs { HasPairs sets.now.model sets.now.slice bits.now column pairs.now }
+    ensures long { length scores.new ≡ length scores.old }
+    ensures each { (i : ℕ) → i < length scores.old → slice_index_or scores.new i 0
+        ≡ sum_by (value_held sets.now.model sets.now.slice bits.now cells.now column (from + i)) (sets_in_play sets.now.model sets.now.slice column) }
+{
+    sets.assert_invariant();
+    let _ = bits;
+    let mut mask = [0; MASK_WORDS];
+    sets.put_mask(begins, cells, &mut mask);
+    let digits = from_value(sets.digits(column), from);
+    for i in 0..scores.len() {
+        let digit = digits[i];
+        scores[i] = count_pairs(pairs, &mask, digit);
+    }
+}
+
+// Clears the bits that a block has in common with a mask.
+fn clear_block(block: &mut Vec<u64>, mask: &[u64])
+    requires { length block.old.items ≤ length mask.now }
+    ensures long { length block.new.items ≡ length block.old.items }
+    ensures each { (k : ℕ) → bit_in block.new.items k ≡ lacking block.old.items mask.now k }
+{
+    clear_common(block.as_mut_slice(), mask);
+}
+
+// Clears the bits of the tuples that cells contain, with this digit in the column.
+fn clear_pairs(
+    sets: &SliceSets<'_>,
+    pairs: &mut PairBits,
+    begins: &[u32],
+    bits: &BitTable,
+    cells: &Cells,
+    column: ParamNo,
+    digit: u16,
+)
+    requires cells { IsOfSlice sets.now.model sets.now.slice cells.now }
+    requires column { column < length sets.now.model.params }
+    requires digit { digit < length (own_values sets.now.model sets.now.slice column) }
+    requires begins { AreBegins (digit_count sets.now.model sets.now.slice) (length sets.now.model.params) begins.now }
+    requires pairs { HasPairs sets.now.model sets.now.slice bits.now column pairs.old }
+    ensures { HasPairs sets.now.model sets.now.slice (all_cleared sets.now.model sets.now.slice
+        (with_digit (cell_digit (own_values sets.now.model sets.now.slice) cells.now) column digit) bits.now
+        (sets_in_play sets.now.model sets.now.slice column)) column pairs.new }
+{
+    sets.assert_invariant();
+    let _ = bits;
+    let mut mask = [0; MASK_WORDS];
+    sets.put_mask(begins, cells, &mut mask);
+    clear_block(&mut pairs.blocks[digit as usize], &mask);
+}
+
+// Clears those bits where pairs are kept.
+fn clear_kept(
+    sets: &SliceSets<'_>,
+    kept: &mut Option<PairBits>,
+    begins: &[u32],
+    bits: &BitTable,
+    cells: &Cells,
+    column: ParamNo,
+    digit: u16,
+)
+    requires cells { IsOfSlice sets.now.model sets.now.slice cells.now }
+    requires column { column < length sets.now.model.params }
+    requires digit { digit < length (own_values sets.now.model sets.now.slice column) }
+    requires begins { AreBegins (digit_count sets.now.model sets.now.slice) (length sets.now.model.params) begins.now }
+    requires pairs { IfSome kept.old (HasPairs sets.now.model sets.now.slice bits.now column) }
+    ensures { IfSome kept.new (HasPairs sets.now.model sets.now.slice (all_cleared sets.now.model sets.now.slice
+        (with_digit (cell_digit (own_values sets.now.model sets.now.slice) cells.now) column digit) bits.now
+        (sets_in_play sets.now.model sets.now.slice column)) column) }
+{
+    match kept {
+        Some(pairs) => clear_pairs(sets, pairs, begins, bits, cells, column, digit),
+        None => {}
+    }
+}
+
+// Clears those of a column, where it keeps some.
+pub(crate) fn clear_column(
+    sets: &SliceSets<'_>,
+    columns: &mut Vec<Option<PairBits>>,
+    begins: &[u32],
+    bits: &BitTable,
+    cells: &Cells,
+    column: ParamNo,
+    digit: u16,
+)
+    requires cells { IsOfSlice sets.now.model sets.now.slice cells.now }
+    requires column { column < length sets.now.model.params }
+    requires digit { digit < length (own_values sets.now.model sets.now.slice column) }
+    requires begins { AreBegins (digit_count sets.now.model sets.now.slice) (length sets.now.model.params) begins.now }
+    requires kept { AreKept sets.now.model sets.now.slice bits.now (length sets.now.model.params) columns.old.items }
+    ensures { AreKept sets.now.model sets.now.slice (all_cleared sets.now.model sets.now.slice
+        (with_digit (cell_digit (own_values sets.now.model sets.now.slice) cells.now) column digit) bits.now
+        (sets_in_play sets.now.model sets.now.slice column)) (length sets.now.model.params) columns.new.items }
+{
+    sets.assert_invariant();
+    let kept = &mut columns[column as usize];
+    clear_kept(sets, kept, begins, bits, cells, column, digit);
+}
+
+// Forgets the pairs of the column for which a set is in play.
+pub(crate) fn forget_pairs(sets: &SliceSets<'_>, columns: &mut Vec<Option<PairBits>>, set: u32)
+    requires set { set < length (demanded_sets sets.now.model) }
+    requires long { length columns.old.items ≡ length sets.now.model.params }
+    ensures long { length columns.new.items ≡ length columns.old.items }
+    ensures own { (p : ℕ) → InPlay sets.now.model sets.now.slice p set → slice_index_or columns.new.items p None ≡ None }
+    ensures others { (p : ℕ) → (slice_index_or columns.new.items p None ≡ None) ⊎ (slice_index_or columns.new.items p None ≡ slice_index_or columns.old.items p None) }
+{
+    match sets.part.play_column(set) {
+        Some(p) => columns[p as usize] = None,
+        None => {}
+    }
+}

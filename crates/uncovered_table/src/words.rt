@@ -1,0 +1,65 @@
+ghost use Rattle.std.specs.Prelude.{◌≡◌, ◌==◌, ◌<◌, ◌≤◌, ◌^◌, ◌*◌, ℕ, length, slice_index_or, if◌then◌else◌};
+ghost use Rattle.uncovered_table.specs.Words.{bit_in, common, lacking, sum_to};
+
+// The number of bits of a word.
+pub(crate) const WORD_BITS: usize = 64;
+
+// How many bits words have in common with a mask.
+pub(crate) fn count_common(words: &[u64], mask: &[u64]) -> u32
+    requires room { length words.now ≤ length mask.now }
+    requires few { length words.now < 2 ^ 20 }
+    ensures { result ≡ sum_to (common words.now mask.now) (64 * length words.now) }
+{
+    let mut count: u32 = 0;
+    for i in 0..words.len() {
+        count += (words[i] & mask[i]).count_ones();
+    }
+    count
+}
+
+// Clears the bits that words have in common with a mask.
+pub(crate) fn clear_common(words: &mut [u64], mask: &[u64])
+    requires room { length words.old ≤ length mask.now }
+    ensures long { length words.new ≡ length words.old }
+    ensures each { (k : ℕ) → bit_in words.new k ≡ lacking words.old mask.now k }
+{
+    for i in 0..words.len() {
+        words[i] &= !mask[i];
+    }
+}
+
+// Sets a bit.
+#[inline]
+pub(crate) fn set_bit(words: &mut [u64], place: usize)
+    requires { place < 64 * length words.old }
+    ensures long { length words.new ≡ length words.old }
+    ensures each { (k : ℕ) → bit_in words.new k ≡ (if k == place then 1 else bit_in words.old k) }
+{
+    let at = place / WORD_BITS;
+    let word = words[at];
+    words[at] = word | (1 << (place % WORD_BITS));
+}
+
+// How many words there are without those at the end that have no bit.
+pub(crate) fn used(words: &[u64]) -> usize
+    ensures within { result ≤ length words.now }
+    ensures rest { (i : ℕ) → result ≤ i → slice_index_or words.now i 0 ≡ 0 }
+{
+    let mut count = words.len();
+    while count > 0 && words[count - 1] == 0 {
+        count -= 1;
+    }
+    count
+}
+
+// Sets the bits from one on and before another.
+pub(crate) fn set_bits(words: &mut [u64], from: usize, to: usize)
+    requires { to ≤ 64 * length words.old }
+    ensures long { length words.new ≡ length words.old }
+    ensures inside { (k : ℕ) → from ≤ k → k < to → bit_in words.new k ≡ 1 }
+    ensures outside { (k : ℕ) → (from ≤ k → k < to → ⊥) → bit_in words.new k ≡ bit_in words.old k }
+{
+    for place in from..to {
+        set_bit(words, place);
+    }
+}
