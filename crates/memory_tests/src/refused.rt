@@ -9,8 +9,7 @@ const PAIRS: &[u8] = b"A: 1, 2\nB: x, y\nIF [A] = 1 THEN [B] = \"x\";\n";
 
 const NEGATIVES: &[u8] = b"A: 1, 2\nB: x, ~n\nC: v, ~m\nIF [A] = 2 THEN [C] = \"v\";\n";
 
-const SEEDS: &[u8] =
-    b"C\tZ\tA\tB\nv\tq\t2\t\nv\tq\t2\t\n\n~m\tq\t2\t\n~m\tq\t1\t~n\nk\tq\t1\t\n";
+const SEEDS: &[u8] = b"C\tZ\tA\tB\nv\tq\t2\t\nv\tq\t2\t\n\n~m\tq\t2\t\n~m\tq\t1\t~n\nk\tq\t1\t\n";
 
 const FIGURES: &str = "Tests: 2\n\
     Incomplete tests: 1\n\
