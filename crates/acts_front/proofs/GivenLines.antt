@@ -4,7 +4,8 @@ use Rattle.std.proofs.lemmas.Option.{same_Some}
 use Rattle.std.proofs.lemmas.Bool.{and_from, and_parts, cond_both, eqb-true, false≢true}
 use Rattle.std.specs.List.{list_all, prefix_len}
 use Rattle.std.specs.Prelude.{◌==◌, is_some, nat_lt, unwrap_or}
-use Rattle.model_lex.specs.Blanks.{is_blank, trimmed, without_first_blanks}
+use Rattle.model_lex.specs.Blanks.{trimmed, without_first_blanks}
+use Rattle.value_text.specs.Texts.{is_blank}
 use Rattle.model_lex.specs.Sections.{is_rule}
 use Rattle.model_lex.specs.declared.line_kind.LineKind.{LineKind}
 use Rattle.model_lex.specs.declared.line_kind.LineKind.TheVariants.{Param, Group, Rule}

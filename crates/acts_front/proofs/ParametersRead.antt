@@ -16,14 +16,14 @@ use Rattle.std.specs.Str.{bytes_eq, chars, str_to_ascii_lowercase}
 use Rattle.value_text.specs.Numbers as numbers
 use Rattle.value_text.specs.Numbers.{decimal_digits, has_point, is_decimal, is_digits, is_number, number_of, whole_digits, without_sign}
 use Rattle.value_text.specs.declared.fixed.FixedAnswer.TheVariants.{NotNumber}
-use Rattle.value_text.specs.Texts.{folded, is_same_text}
+use Rattle.value_text.specs.Texts.{folded, is_same_text, is_blank}
 use Rattle.value_text.proofs.ListLemmas.{list_any-map}
 use Rattle.cov_model.specs.Names as names
 use Rattle.cov_model.specs.Names.{is_plain}
 use Rattle.cov_model.specs.Sound.{is_numeric}
 use Rattle.cov_model.specs.declared.parameter.Param.{Param}
 use Rattle.cov_model.specs.declared.parameter.Value.{Value}
-use Rattle.model_lex.specs.Blanks.{is_blank, trimmed}
+use Rattle.model_lex.specs.Blanks.{trimmed}
 use Rattle.model_lex.specs.Sections.{is_word_byte}
 use Rattle.model_lex.specs.declared.fault.LimitName.{LimitName}
 use Rattle.model_lex.specs.declared.fault.LimitName.TheVariants.{Params, Values}

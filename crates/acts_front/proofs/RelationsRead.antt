@@ -12,10 +12,10 @@ use Rattle.std.specs.List.{list_all, list_any, prefix_len}
 use Rattle.std.specs.Prelude.{◌==◌}
 use Rattle.std.specs.Str.Parse.{digits_value}
 use Rattle.value_text.specs.Numbers.{count_of}
-use Rattle.value_text.specs.Texts.{folded, is_same_text}
+use Rattle.value_text.specs.Texts.{folded, is_same_text, is_blank}
 use Rattle.cov_model.specs.declared.demand.Demand.{Demand}
 use Rattle.cov_model.specs.declared.demand.Group.{Group}
-use Rattle.model_lex.specs.Blanks.{is_blank, trimmed, without_first_blanks}
+use Rattle.model_lex.specs.Blanks.{trimmed, without_first_blanks}
 use Rattle.model_lex.specs.declared.options.OrderWord.{OrderWord}
 use Rattle.model_parse.specs.GroupLines.{behind_braces, braced, has_braces, inside_braces, is_relation, strength_text}
 use Rattle.model_parse.specs.GroupSteps.{behind_strength, add_group, add_member, group_code, group_list, group_order, member_or, order_text, read_group}

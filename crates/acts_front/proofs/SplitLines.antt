@@ -11,8 +11,9 @@ use Rattle.std.specs.Prelude.{◌==◌}
 use Rattle.std.specs.Str.{is_utf8}
 use Rattle.constraint_ast.proofs.Digits.{run_prefix}
 use Rattle.model_lex.proofs.Opening.{StandsBehind, at_other, behind_word}
-use Rattle.model_lex.specs.Blanks.{is_all_blank, is_blank, without_first_blanks}
-use Rattle.model_lex.specs.Sections.{Split, first_word, goes_on, has_colon, is_among, is_ignored, is_opening_mark, is_rule, is_word_byte, kind_of, misplaced}
+use Rattle.model_lex.specs.Blanks.{is_all_blank, without_first_blanks}
+use Rattle.value_text.specs.Texts.{is_blank}
+use Rattle.model_lex.specs.Sections.{Split, first_word, goes_on, has_colon, is_word_among, is_ignored, is_opening_mark, is_rule, is_word_byte, kind_of, misplaced}
 use Rattle.model_lex.specs.Sections.{opening_len, opening_words, opens_group, opens_rule, put_before, refusal_of, refused_or, sections_behind, with_line}
 use Rattle.model_lex.specs.declared.line_kind.LineKind.{LineKind}
 use Rattle.model_lex.specs.declared.line_kind.LineKind.TheVariants.{Param, Group, Rule}
@@ -67,14 +68,14 @@ module _ (b : ℕ) (more rest : List ℕ) (word : list_all is_word_byte (b ∷ m
   itself = record { same = refl; solid = λ some. dense }
 
   not_opening : goes_on 0 (b ∷ (more ++ 58 ∷ rest)) ≡ false
-  not_opening = by (is_among opening_words (b ∷ more)) refl
+  not_opening = by (is_word_among opening_words (b ∷ more)) refl
     where
-      by : (among : Bool) → is_among opening_words (b ∷ more) ≡ among → goes_on 0 (b ∷ (more ++ 58 ∷ rest)) ≡ false
+      by : (among : Bool) → is_word_among opening_words (b ∷ more) ≡ among → goes_on 0 (b ∷ (more ++ 58 ∷ rest)) ≡ false
       by false e =
-          let none : opening_len (b ∷ (more ++ 58 ∷ rest)) ≡ 0 = ap (λ w. if is_among opening_words w then length w else 0) whole_word ∙ rw e refl in
+          let none : opening_len (b ∷ (more ++ 58 ∷ rest)) ≡ 0 = ap (λ w. if is_word_among opening_words w then length w else 0) whole_word ∙ rw e refl in
           at_other (b ∷ (more ++ 58 ∷ rest)) (b ∷ (more ++ 58 ∷ rest)) itself (omega arith) (word_start b first).2 none
       by true e =
-          let len : length (b ∷ more) ≡ opening_len (b ∷ (more ++ 58 ∷ rest)) = sym (ap (λ w. if is_among opening_words w then length w else 0) whole_word ∙ rw e refl) in
+          let len : length (b ∷ more) ≡ opening_len (b ∷ (more ++ 58 ∷ rest)) = sym (ap (λ w. if is_word_among opening_words w then length w else 0) whole_word ∙ rw e refl) in
           let behind = behind_word (b ∷ (more ++ 58 ∷ rest)) (b ∷ (more ++ 58 ∷ rest)) itself (omega arith) (word_start b first).2 (length (b ∷ more)) len (omega arith) in
           let left : without_first_blanks (drop (length (b ∷ more)) (b ∷ (more ++ 58 ∷ rest))) ≡ 58 ∷ rest = ap without_first_blanks (drop-append_seam (b ∷ more) (58 ∷ rest)) in
           let here = subst (StandsBehind (b ∷ (more ++ 58 ∷ rest))) left behind in

@@ -1,7 +1,8 @@
 -- The tokens of a text, one after another.
 use Rattle.std.proofs.Common.{◌≡◌, ℕ, zero, suc, ◌+◌, ◌-◌, ◌<◌, Bool, true, false, List, [], ◌∷◌, ◌++◌, length, drop, get_or}
 use Rattle.std.proofs.Common.{Option, Some, None, refl, sym, ap, ◌∙◌, append_assoc, append-nil, arith, add-one, one-add}
-use Rattle.model_lex.specs.Blanks.{is_blank, without_first_blanks}
+use Rattle.model_lex.specs.Blanks.{without_first_blanks}
+use Rattle.value_text.specs.Texts.{is_blank}
 use Rattle.model_lex.proofs.Opening.{solid}
 use Rattle.acts_front.specs.Tokens.{Token, Found, first_token, len_behind, token_before, tokens_behind}
 

@@ -16,7 +16,8 @@ use Rattle.value_text.specs.Numbers.{decimal_digits, has_point, is_decimal, is_d
 use Rattle.value_text.specs.declared.fixed.FixedAnswer.TheVariants.{Number as IsNumber}
 use Rattle.cov_model.specs.declared.constraint.Rel.{Rel}
 use Rattle.cov_model.specs.declared.constraint.Rel.TheVariants.{Eq, Ne, Gt, Ge, Lt, Le}
-use Rattle.model_lex.specs.Blanks.{is_blank, trimmed}
+use Rattle.model_lex.specs.Blanks.{trimmed}
+use Rattle.value_text.specs.Texts.{is_blank}
 use Rattle.model_lex.specs.Sections.{first_word, is_word_byte}
 use Rattle.model_lex.specs.Tokens as lex
 use Rattle.model_lex.specs.Tokens.{begins_number, first_token, is_number_byte, name_between, number_run, quoted_len, quoted_token, unquoted}

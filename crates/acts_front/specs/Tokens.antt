@@ -6,7 +6,7 @@ use Rattle.std.specs.Char.{is_ascii_digit}
 use Rattle.std.specs.List.{list_any, take_while}
 use Rattle.cov_model.specs.declared.constraint.Rel.{Rel}
 use Rattle.cov_model.specs.declared.constraint.Rel.TheVariants.{Eq, Ne, Gt, Ge, Lt, Le}
-use Rattle.model_lex.specs.Blanks.{is_blank}
+use Rattle.value_text.specs.Texts.{is_blank}
 use Rattle.model_lex.specs.Sections.{first_word, is_word_byte}
 use Rattle.model_parse.specs.Pieces.{is_byte, begins_with}
 use Rattle.acts_front.specs.ParameterLines.{is_false, is_true, is_whole}

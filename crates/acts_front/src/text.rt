@@ -1,7 +1,8 @@
 //! Texts as bytes: the blanks at their ends, and what stands before and behind marks.
 ghost use Rattle.std.specs.Prelude.{◌≡◌, ◌≤◌, ◌==◌, ◌&&◌, map, length, drop, take, IfOk, MatchOption, false, true, ◌-◌};
 ghost use Rattle.std.specs.List.{after_first, before_first, position, prefix_len, suffix_len};
-ghost use Rattle.model_lex.specs.Blanks.{is_blank, trimmed, without_first_blanks, without_last_blanks};
+ghost use Rattle.model_lex.specs.Blanks.{trimmed, without_first_blanks, without_last_blanks};
+ghost use Rattle.value_text.specs.Texts.{is_blank};
 ghost use Rattle.model_parse.specs.Pieces.{before_end, begins_with, ends_with, is_byte, pieces};
 
 use std::alloc::Global;

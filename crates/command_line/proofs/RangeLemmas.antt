@@ -8,7 +8,8 @@ use Rattle.std.specs.Str.Parse.{digits_value}
 use Rattle.value_text.specs.Numbers.{count_of, is_digits}
 use Rattle.value_text.specs.Texts.{is_same_text}
 use Rattle.cov_model.specs.Names.{is_mark}
-use Rattle.definitions.specs.Settings.{OrderWord, OrderOf, OrderMax, Setting, Order, Separator, Alias, Prefix, SeedFile, ShuffleValues, ShuffleBy, AnyShuffle, CaseCounts, Statistics, Workers, Budget, ProofFile, ProofFormat, MeasureFile, Make, SuspectFile, Settings, set, setting_of, is_named, has_colon, is_colon, valued_setting, bare_setting, mark_of, order_of, file_of}
+use Rattle.model_lex.specs.Sections.{has_colon}
+use Rattle.definitions.specs.Settings.{OrderWord, OrderOf, OrderMax, Setting, Order, Separator, Alias, Prefix, SeedFile, ShuffleValues, ShuffleBy, AnyShuffle, CaseCounts, Statistics, Workers, Budget, ProofFile, ProofFormat, MeasureFile, Make, SuspectFile, Settings, set, setting_of, is_named, is_colon, valued_setting, bare_setting, mark_of, order_word_of, file_of}
 use Rattle.definitions.specs.Words.{has_equal_marks, is_mark_word, set_by, is_faulty, first_faulty}
 use Rattle.model_parse.specs.RawModels.{AreMarks, IsOrder}
 use Rattle.command_line.specs.Ranges.{AreFit, AreWorkers}
@@ -74,7 +75,7 @@ is_mark_of (d ∷ []) c h = decide (is_mark d) refl
     decide false t = absurd (none-some c (sym (ap (λ b. if b then Some d else None) t) ∙ h))
 is_mark_of (d ∷ e ∷ rest) c h = absurd (none-some c h)
 
-is_order : (value : List ℕ) (order : OrderWord) → order_of value ≡ Some order → IsOrder (order_word order)
+is_order : (value : List ℕ) (order : OrderWord) → order_word_of value ≡ Some order → IsOrder (order_word order)
 is_order value order h =
     either (IsOrder (order_word order)) (is_same_text true value (codes "max")) (Some OrderMax) (option_map OrderOf (count_of value 1 256)) order
     (λ e. subst (λ o. IsOrder (order_word o)) (same_Some OrderMax order e) tt) (number (count_of value 1 256) refl) h
@@ -86,7 +87,7 @@ is_order value order h =
 valued : (word value : List ℕ) (s : Setting) → valued_setting word value ≡ Some s → IsInRange s
 valued word value s h =
     let P = IsInRange s in
-    either P (is_named word (codes "/o")) _ _ s (read Order (order_of value) s (is_order value))
+    either P (is_named word (codes "/o")) _ _ s (read Order (order_word_of value) s (is_order value))
     (either P (is_named word (codes "/d")) _ _ s (read Separator (mark_of value) s (is_mark_of value))
     (either P (is_named word (codes "/a")) _ _ s (read Alias (mark_of value) s (is_mark_of value))
     (either P (is_named word (codes "/n")) _ _ s (read Prefix (mark_of value) s (is_mark_of value))
@@ -153,7 +154,7 @@ valued_apart word value s none h =
     let d = is_named word (codes "/d") in
     let a = is_named word (codes "/a") in
     let n = is_named word (codes "/n") in
-    either P (is_named word (codes "/o")) _ _ s (of_kind Order (order_of value) s (λ x. refl))
+    either P (is_named word (codes "/o")) _ _ s (of_kind Order (order_word_of value) s (λ x. refl))
     (either_named P d _ _ s (λ e. absurd (false≢true (sym none ∙ or_left (d || a) n (or_left d a e))))
     (either_named P a _ _ s (λ e. absurd (false≢true (sym none ∙ or_left (d || a) n (or_right d a e))))
     (either_named P n _ _ s (λ e. absurd (false≢true (sym none ∙ or_right (d || a) n e)))

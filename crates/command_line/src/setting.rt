@@ -95,8 +95,8 @@ fn file_of<'w>(value: &'w str) -> Option<&'w str>
 }
 
 /// The order that a value gives.
-fn order_of(value: &str) -> Option<OrderWord>
-    ensures { option_map order_seen result ≡ defined.order_of value.now }
+fn order_word_of(value: &str) -> Option<OrderWord>
+    ensures { option_map order_seen result ≡ defined.order_word_of value.now }
 {
     if same_text(value, "max", true) {
         return Some(OrderWord::Max);
@@ -138,7 +138,7 @@ fn valued_setting<'w>(word: &str, value: &'w str) -> Option<Setting<'w>>
     ensures { option_map setting_seen result ≡ defined.valued_setting word.now value.now }
 {
     if is_named(word, "/o") {
-        Some(Setting::Order(order_of(value)?))
+        Some(Setting::Order(order_word_of(value)?))
     } else if is_named(word, "/d") {
         Some(Setting::Separator(mark_of(value)?))
     } else if is_named(word, "/a") {

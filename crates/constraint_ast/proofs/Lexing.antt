@@ -10,7 +10,7 @@ use Rattle.std.proofs.lemmas.Bool.{eqb-true}
 use Rattle.std.proofs.lemmas.Bool.Decides.{nat_tests}
 use Rattle.std.proofs.lemmas.List.Sums.{prefix_len-le-length}
 use Rattle.std.proofs.lemmas.List.{drop-drop, drop_all, get_or-take, length-take-le}
-use Rattle.model_lex.specs.Blanks.{is_blank}
+use Rattle.value_text.specs.Texts.{is_blank}
 use Rattle.model_lex.specs.Tokens.{HasMarks, StandsBetween, first_token, lexed_at, token_at}
 use Rattle.model_lex.specs.declared.diag.Diag.{Diag}
 use Rattle.model_lex.specs.declared.diag.DiagCode.{DiagCode}

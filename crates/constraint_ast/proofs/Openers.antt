@@ -4,8 +4,9 @@ use Rattle.std.specs.List.{list_all, prefix_len}
 use Rattle.std.specs.Prelude.{if◌then◌else◌}
 use Rattle.std.proofs.Math.Seq.{drop-append_seam, take-append_seam}
 use Rattle.std.proofs.lemmas.Bool.Decides.{nat_tests}
-use Rattle.model_lex.specs.Blanks.{is_all_blank, is_blank}
-use Rattle.model_lex.specs.Sections.{first_word, goes_on, is_among, is_opening_mark, is_word_byte, opening_len, opening_words}
+use Rattle.model_lex.specs.Blanks.{is_all_blank}
+use Rattle.value_text.specs.Texts.{is_blank}
+use Rattle.model_lex.specs.Sections.{first_word, goes_on, is_word_among, is_opening_mark, is_word_byte, opening_len, opening_words}
 use Rattle.model_lex.proofs.Opening.{goes_on_inside}
 use Rattle.constraint_ast.specs.Grammar.{at, AreConjs, AreRules, AreUnits, IsRule, IsUnit, if_else, if_then, last_conj, last_unit, like, negation}
 use Rattle.constraint_ast.specs.Grammar.{next_conj, next_rule, next_unit, none_of, not_like, one_of, param_is, parens, plain, signed, value_is}
@@ -74,13 +75,13 @@ blank_opens false text = refl
 
 word_opens :
     (b : ℕ) (more : List ℕ) (rest : List RuleToken) → is_blank b ≡ false → is_opening_mark b ≡ false
-    → list_all is_word_byte (b ∷ more) ≡ true → is_among opening_words (b ∷ more) ≡ true
+    → list_all is_word_byte (b ∷ more) ≡ true → is_word_among opening_words (b ∷ more) ≡ true
     → goes_on 0 (spaced false rest) ≡ true → goes_on 0 (b ∷ (more ++ spaced false rest)) ≡ true
 word_opens b more rest dense mark all known opens =
     let tail : List ℕ = spaced false rest in
     let len : prefix_len is_word_byte (b ∷ (more ++ tail)) ≡ length (b ∷ more) = run_prefix is_word_byte (b ∷ more) tail all (ends_word (spaced_ends rest)) in
     let run : first_word (b ∷ (more ++ tail)) ≡ b ∷ more = ap (λ n. take n (b ∷ (more ++ tail))) len ∙ take-append_seam (b ∷ more) tail in
-    let size : opening_len (b ∷ (more ++ tail)) ≡ suc (length more) = ap (λ word. if is_among opening_words word then length word else 0) run ∙ rw known refl in
+    let size : opening_len (b ∷ (more ++ tail)) ≡ suc (length more) = ap (λ word. if is_word_among opening_words word then length word else 0) run ∙ rw known refl in
     let some : nat_lt 0 (suc (length more)) ≡ true = grind (arith, nat_tests) in
     let one : suc (length more) - 1 ≡ length more = omega arith in
     let behind : goes_on (suc (length more) - 1) (more ++ tail) ≡ true =

@@ -2,7 +2,7 @@
 use Rattle.std.proofs.Common.{◌≡◌, ℕ, zero, suc, Bool, true, false, List, [], ◌∷◌, ◌++◌, map, refl, ap, subst, ◌∙◌, append-nil, get_or}
 use Rattle.std.specs.Prelude.{Option, Some, None, Result, Ok, Err, ◌==◌, if◌then◌else◌, codes}
 use Rattle.std.specs.Str.{str_eq_ignore_ascii_case}
-use Rattle.model_lex.specs.Blanks.{is_blank}
+use Rattle.value_text.specs.Texts.{is_blank}
 use Rattle.model_lex.specs.Tokens.{first_token}
 use Rattle.model_lex.specs.declared.diag.Diag.{Diag}
 use Rattle.model_lex.specs.declared.diag.DiagCode.{DiagCode}
@@ -14,7 +14,7 @@ use Rattle.value_text.specs.declared.fixed.FixedAnswer.{FixedAnswer}
 use Rattle.value_text.specs.declared.fixed.FixedAnswer.TheVariants.{Number as IsNumber, NotNumber, TooWide}
 use Rattle.constraint_ast.specs.Grammar.{at, AreRules, most_open}
 use Rattle.constraint_ast.specs.Laws.{RuleTextReadsBack}
-use Rattle.constraint_ast.specs.Lexing.{both_tokens, inside, keyword_of, mark_of, meant, number_meant, or_code, relation_meant, relation_of, token_before, token_meant, tokens_in, tokens_of, Spell}
+use Rattle.constraint_ast.specs.Lexing.{both_tokens, inside, keyword_of, punctuation_of, meant, number_meant, or_code, relation_meant, relation_of, token_before, token_meant, tokens_in, tokens_of, Spell}
 use Rattle.constraint_ast.specs.RuleText.{body_tokens, rule_at, rule_text}
 use Rattle.constraint_ast.specs.Trees.{RuleTree}
 use Rattle.constraint_ast.specs.declared.token.LineToken.{LineToken}
@@ -60,7 +60,7 @@ keyword_is word =
     (either (is (codes "OR")) (found Or tt) (either (is (codes "NOT")) (found Not tt) (either (is (codes "IN")) (found In tt) (either (is (codes "LIKE")) (found Like tt)
     (either (is (codes "ISNEGATIVE")) (found (Sign Negative) tt) (either (is (codes "ISPOSITIVE")) (found (Sign Positive) tt) none_found)))))))))
 
-mark_is : (text : List ℕ) → MayBe (mark_of text)
+mark_is : (text : List ℕ) → MayBe (punctuation_of text)
 mark_is [] = none_found
 mark_is (a ∷ []) =
     either (a == 40) (found OpenParen tt) (either (a == 41) (found CloseParen tt) (either (a == 123) (found OpenBrace tt) (either (a == 125) (found CloseBrace tt)
@@ -95,7 +95,7 @@ meant_is kinds.Words text token e = subst IsWritten (same_token _ token e) tt
 meant_is kinds.Number text token e = number_is text (number_of text) token refl e
 meant_is kinds.Word text token e = found_is UnknownWord (keyword_of text) token (keyword_is text) e
 meant_is kinds.Relation text token e = relation_is (relation_of text) token e
-meant_is kinds.Mark text token e = found_is StrayCharacter (mark_of text) token (mark_is text) e
+meant_is kinds.Mark text token e = found_is StrayCharacter (punctuation_of text) token (mark_is text) e
 
 token_is : (text : List ℕ) (first : Result (TokenKind × ℕ) DiagCode) (token : RuleToken) → token_meant text first ≡ Ok token → IsWritten token
 token_is text (Ok (kind, len)) token e = meant_is kind _ token e

@@ -5,7 +5,7 @@ use Rattle.std.specs.List.{list_all, prefix_len}
 use Rattle.std.specs.Prelude.{Ok, Some, ℤ, ◌==◌, if◌then◌else◌}
 use Rattle.std.proofs.Math.Seq.{drop-append_seam, take-append_seam}
 use Rattle.std.proofs.lemmas.Bool.Decides.{nat_tests}
-use Rattle.model_lex.specs.Blanks.{is_blank}
+use Rattle.value_text.specs.Texts.{is_blank}
 use Rattle.model_lex.specs.Sections.{first_word, is_word_byte}
 use Rattle.model_lex.specs.Tokens.{begins_number, first_token, is_number_byte, name_between, number_run, number_token, quoted_len, quoted_token, unquoted, word_token}
 use Rattle.model_lex.specs.declared.diag.DiagCode.{DiagCode}

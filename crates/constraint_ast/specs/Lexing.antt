@@ -5,7 +5,7 @@ use Rattle.std.specs.Str.{str_eq_ignore_ascii_case}
 use Rattle.value_text.specs.Numbers.{number_of}
 use Rattle.value_text.specs.declared.fixed.FixedAnswer.{FixedAnswer}
 use Rattle.value_text.specs.declared.fixed.FixedAnswer.TheVariants.{Number as IsNumber, NotNumber, TooWide}
-use Rattle.model_lex.specs.Blanks.{is_blank}
+use Rattle.value_text.specs.Texts.{is_blank}
 use Rattle.model_lex.specs.Tokens.{first_token, name_between, unquoted}
 use Rattle.model_lex.specs.declared.diag.Diag.{Diag}
 use Rattle.model_lex.specs.declared.diag.DiagCode.{DiagCode}
@@ -49,9 +49,9 @@ relation_of (a ∷ b ∷ []) =
 relation_of (a ∷ b ∷ c ∷ rest) = None
 
 -- `(`, `)`, `{`, `}`, `,`, `;`
-abbrev pub mark_of : List ℕ → Option RuleToken
-mark_of [] = None
-mark_of (a ∷ []) =
+abbrev pub punctuation_of : List ℕ → Option RuleToken
+punctuation_of [] = None
+punctuation_of (a ∷ []) =
     if a == 40 then Some OpenParen
     else if a == 41 then Some CloseParen
     else if a == 123 then Some OpenBrace
@@ -59,7 +59,7 @@ mark_of (a ∷ []) =
     else if a == 44 then Some Comma
     else if a == 59 then Some Semicolon
     else None
-mark_of (a ∷ b ∷ rest) = None
+punctuation_of (a ∷ b ∷ rest) = None
 
 abbrev pub or_code : {A : Type 0} → DiagCode → Option A → Result A DiagCode
 or_code code (Some value) = Ok value
@@ -85,7 +85,7 @@ meant kinds.Words text = Ok (Literal (Words (unquoted (inside text))))
 meant kinds.Number text = number_meant (number_of text)
 meant kinds.Word text = or_code UnknownWord (keyword_of text)
 meant kinds.Relation text = relation_meant (relation_of text)
-meant kinds.Mark text = or_code StrayCharacter (mark_of text)
+meant kinds.Mark text = or_code StrayCharacter (punctuation_of text)
 
 abbrev pub token_meant : List ℕ → Result (TokenKind × ℕ) DiagCode → Result RuleToken DiagCode
 token_meant text (Ok (kind, len)) = meant kind (take len text)

@@ -3,7 +3,7 @@ ghost use Rattle.std.specs.Prelude.{List, ◌≡◌, ◌≤◌, ◌<◌, ◌-◌
 ghost use Rattle.model_lex.specs.Sections.{line_seen};
 ghost use Rattle.model_lex.specs.Tokens.{HasMarks};
 ghost use Rattle.constraint_ast.specs.Reading.{IfRefused};
-ghost use Rattle.constraint_ast.specs.Lexing.{inside, keyword_of, mark_of, meant, relation_of, tokens_in, tokens_of};
+ghost use Rattle.constraint_ast.specs.Lexing.{inside, keyword_of, punctuation_of, meant, relation_of, tokens_in, tokens_of};
 
 use crate::quoting::unquoted;
 use crate::token::{LineToken, LineTokenList, RuleToken, Sign};
@@ -65,7 +65,7 @@ fn relation(text: &[u8]) -> Option<RawRel>
 
 // The mark that a text is.
 fn mark(text: &[u8]) -> Option<RuleToken>
-    ensures { result ≡ mark_of text.now }
+    ensures { result ≡ punctuation_of text.now }
 {
     match text {
         [b'('] => Some(RuleToken::OpenParen),

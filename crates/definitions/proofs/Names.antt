@@ -13,8 +13,8 @@ use Rattle.std.proofs.lemmas.List.Folds.{length-flat_map-take}
 use Rattle.std.proofs.lemmas.List.Sums.{AllPass-from_list_all}
 use Rattle.std.proofs.lemmas.List.{get_or-take, take-take}
 use Rattle.std.specs.Char.{to_ascii_lowercase}
-use Rattle.value_text.specs.Texts.{is_same_text, folded}
-use Rattle.cov_model.specs.Names.{is_name, is_mark, is_plain, is_blank}
+use Rattle.value_text.specs.Texts.{is_same_text, folded, is_blank}
+use Rattle.cov_model.specs.Names.{is_name, is_mark, is_plain}
 use Rattle.definitions.proofs.Cells.{IsCell}
 
 -- a text is one with itself

@@ -11,7 +11,7 @@ use Rattle.std.proofs.lemmas.List.Elements.{All-from_recursion}
 use Rattle.std.proofs.lemmas.List.Splits.{slice_split_at, join_with_byte-slice_split}
 use Rattle.cov_model.specs.Sound.{ModelView, IsSound}
 use Rattle.definitions.specs.Refutation.{Token}
-use Rattle.definitions.specs.ProofText.{Omission, omission_line, format_line, proof_text, read_each, read_pair, read_token, proper, is_colon}
+use Rattle.definitions.specs.ProofText.{Omission, omission_line, format_line, proof_text, read_each, read_pair, read_token, proper, is_colon_word}
 use Rattle.definitions.specs.ProofText.{read_omission_words, read_omission, before_lines, read_lines, with_format, read_pieces, omissions_of}
 use Rattle.definitions.specs.Laws.{IsOmissionOf, ProofsReadBack, ProofsHaveOneText}
 use Rattle.definitions.proofs.Members.{Has, all_members, member_of_all}
@@ -29,8 +29,8 @@ omission_words m format (word ∷ words) omission sound given =
     elim (cases_Bool (bytes_eq word (codes "omit"))) [
       | inl first ↦
           let same : word ≡ codes "omit" = (bytes_eq-Decides word (codes "omit")).0 first in
-          let rest = by_parts (read_each (read_pair m) (before_first is_colon words))
-          (read_each (read_token m format) (after_first is_colon words)) refl refl (rw first at given) in
+          let rest = by_parts (read_each (read_pair m) (before_first is_colon_word words))
+          (read_each (read_token m format) (after_first is_colon_word words)) refl refl (rw first at given) in
           (ap (λ w. w ∷ words) same ∙ rest.0, rest.1)
       | inr other ↦ nothing (rw other at given)
     ]
@@ -38,8 +38,8 @@ omission_words m format (word ∷ words) omission sound given =
     nothing : None ≡ Some omission → (word ∷ words ≡ words_of omission) × IsOmissionOf m format omission
     nothing given = cc
 
-    by_parts : (pairs : Option (List (ℕ × ℕ))) (tokens : Option (List Token)) → read_each (read_pair m) (before_first is_colon words) ≡ pairs
-        → read_each (read_token m format) (after_first is_colon words) ≡ tokens → option_and_then proper (option_zip pairs tokens) ≡ Some omission
+    by_parts : (pairs : Option (List (ℕ × ℕ))) (tokens : Option (List Token)) → read_each (read_pair m) (before_first is_colon_word words) ≡ pairs
+        → read_each (read_token m format) (after_first is_colon_word words) ≡ tokens → option_and_then proper (option_zip pairs tokens) ≡ Some omission
         → (codes "omit" ∷ words ≡ words_of omission) × IsOmissionOf m format omission
     by_parts None tokens first second given = cc
     by_parts (Some pairs) None first second given = cc

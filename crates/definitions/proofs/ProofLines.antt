@@ -12,7 +12,7 @@ use Rattle.cov_model.specs.Sound.{ModelView, IsSound}
 use Rattle.cov_model.specs.Tuples.{IsRising}
 use Rattle.definitions.specs.Pairs.{pair_text}
 use Rattle.definitions.specs.Refutation.{Token}
-use Rattle.definitions.specs.ProofText.{Omission, token_text, read_each, read_pair, read_token, is_rising, proper, is_colon, read_omission_words, read_omission}
+use Rattle.definitions.specs.ProofText.{Omission, token_text, read_each, read_pair, read_token, is_rising, proper, is_colon_word, read_omission_words, read_omission}
 use Rattle.definitions.specs.Laws.{IsTokenOf, IsOmissionOf}
 use Rattle.definitions.proofs.Members.{Has, of_map, all_members, member_of_all}
 use Rattle.definitions.proofs.Cells.{split_joined_by}
@@ -104,9 +104,9 @@ pub line_lacks : (m : ModelView) (format : ℕ) (omission : Omission) → IsSoun
 line_lacks m format omission sound is = joined_lacks 10 32 (words_of omission) refl (word_lacks m format 10 omission sound is (omega arith))
 
 -- no pair is the colon
-pair_no_colon : (pair : ℕ × ℕ) → is_colon (pair_text pair) ≡ false
+pair_no_colon : (pair : ℕ × ℕ) → is_colon_word (pair_text pair) ≡ false
 pair_no_colon pair =
-    false_from_ne_true (is_colon (pair_text pair)) (λ equal.
+    false_from_ne_true (is_colon_word (pair_text pair)) (λ equal.
     let same : pair_text pair ≡ codes ":" = (bytes_eq-Decides (pair_text pair) (codes ":")).0 equal in
     differs (decimal pair.0) (decimal pair.1) same)
   where
@@ -127,19 +127,19 @@ pub omission_reads : (m : ModelView) (format : ℕ) (omission : Omission) → Is
     → read_omission m format (line_of omission) ≡ Some omission
 omission_reads m format omission sound is =
     let words = map pair_text omission.tuple ++ codes ":" ∷ map token_text omission.tree in
-    let parts = parts_at is_colon (map pair_text omission.tuple) (codes ":") (map token_text omission.tree)
-    (all_members (λ word. is_colon word ≡ false) (map pair_text omission.tuple) (λ word has.
+    let parts = parts_at is_colon_word (map pair_text omission.tuple) (codes ":") (map token_text omission.tree)
+    (all_members (λ word. is_colon_word word ≡ false) (map pair_text omission.tuple) (λ word has.
     let pair = of_map pair_text omission.tuple word has in
-    subst (λ w. is_colon w ≡ false) pair.2 (pair_no_colon pair.0))) refl in
-    let pairs : read_each (read_pair m) (before_first is_colon words) ≡ Some omission.tuple =
+    subst (λ w. is_colon_word w ≡ false) pair.2 (pair_no_colon pair.0))) refl in
+    let pairs : read_each (read_pair m) (before_first is_colon_word words) ≡ Some omission.tuple =
     ap (read_each (read_pair m)) parts.before_is
     ∙ each_reads (read_pair m) pair_text omission.tuple (λ pair has. pair_reads m pair sound (member_of_all (IsPair m) omission.tuple pair is.exist has)) in
-    let tokens : read_each (read_token m format) (after_first is_colon words) ≡ Some omission.tree =
+    let tokens : read_each (read_token m format) (after_first is_colon_word words) ≡ Some omission.tree =
     ap (read_each (read_token m format)) parts.after_is
     ∙ each_reads (read_token m format) token_text omission.tree
     (λ token has. token_reads m format token sound (member_of_all (IsTokenOf m format) omission.tree token is.tokens has)) in
     ap (read_omission_words m format) (split_joined_by 32 (words_of omission) (omega arith) (word_lacks m format 32 omission sound is (omega arith)))
-    ∙ ap (λ o. option_and_then proper (option_zip o (read_each (read_token m format) (after_first is_colon words)))) pairs
+    ∙ ap (λ o. option_and_then proper (option_zip o (read_each (read_token m format) (after_first is_colon_word words)))) pairs
     ∙ ap (λ o. option_and_then proper (option_zip (Some omission.tuple) o)) tokens
     ∙ proper_gives m format omission is
 
@@ -148,25 +148,25 @@ abbrev omission_from : List (ℕ × ℕ) → List Token → Omission
 omission_from pairs tokens = record { tuple = pairs; tree = tokens }
 
 pub words_spell : (m : ModelView) (format : ℕ) (words : List (List ℕ)) (pairs : List (ℕ × ℕ)) (tokens : List Token) (omission : Omission) → IsSound m
-    → read_each (read_pair m) (before_first is_colon words) ≡ Some pairs → read_each (read_token m format) (after_first is_colon words) ≡ Some tokens
+    → read_each (read_pair m) (before_first is_colon_word words) ≡ Some pairs → read_each (read_token m format) (after_first is_colon_word words) ≡ Some tokens
     → proper (pairs, tokens) ≡ Some omission → (codes "omit" ∷ words ≡ words_of omission) × IsOmissionOf m format omission
 words_spell m format words pairs tokens omission sound first second given =
     by_test (nat_lt 0 (length pairs) && is_rising pairs && nat_lt 0 (length tokens)) refl given
   where
-    pairs_are : AreTexts pair_text (IsPair m) (before_first is_colon words) pairs
-    pairs_are = each_spells (read_pair m) pair_text (IsPair m) (before_first is_colon words) pairs
+    pairs_are : AreTexts pair_text (IsPair m) (before_first is_colon_word words) pairs
+    pairs_are = each_spells (read_pair m) pair_text (IsPair m) (before_first is_colon_word words) pairs
         (λ text pair read. let spelled = pair_spells m text pair sound read in (spelled.text_is, spelled.is)) first
 
-    tokens_are : AreTexts token_text (IsTokenOf m format) (after_first is_colon words) tokens
-    tokens_are = each_spells (read_token m format) token_text (IsTokenOf m format) (after_first is_colon words) tokens
+    tokens_are : AreTexts token_text (IsTokenOf m format) (after_first is_colon_word words) tokens
+    tokens_are = each_spells (read_token m format) token_text (IsTokenOf m format) (after_first is_colon_word words) tokens
         (λ text token read. let spelled = token_spells m format text token sound read in (spelled.text_is, spelled.is)) second
 
     made : 0 < length tokens → codes "omit" ∷ words ≡ codes "omit" ∷ map pair_text pairs ++ codes ":" ∷ map token_text tokens
     made some =
-        let whole = comes_from is_colon words [] (omega (arith, ap length tokens_are.items_are, some, length-map tokens token_text)) in
+        let whole = comes_from is_colon_word words [] (omega (arith, ap length tokens_are.items_are, some, length-map tokens token_text)) in
         let colon : whole.parting ≡ codes ":" = (bytes_eq-Decides whole.parting (codes ":")).0 whole.passes in
-        ap (λ ws. codes "omit" ∷ ws) (whole.whole_is ∙ ap (λ ws. ws ++ whole.parting ∷ after_first is_colon words) pairs_are.items_are
-        ∙ ap (λ w. map pair_text pairs ++ w ∷ after_first is_colon words) colon ∙ ap (λ ws. map pair_text pairs ++ codes ":" ∷ ws) tokens_are.items_are)
+        ap (λ ws. codes "omit" ∷ ws) (whole.whole_is ∙ ap (λ ws. ws ++ whole.parting ∷ after_first is_colon_word words) pairs_are.items_are
+        ∙ ap (λ w. map pair_text pairs ++ w ∷ after_first is_colon_word words) colon ∙ ap (λ ws. map pair_text pairs ++ codes ":" ∷ ws) tokens_are.items_are)
 
     by_test : (b : Bool) → (nat_lt 0 (length pairs) && is_rising pairs && nat_lt 0 (length tokens)) ≡ b
         → cond b (Some (omission_from pairs tokens)) None ≡ Some omission

@@ -74,15 +74,15 @@ proper both =
     then Some (record { tuple = both.0; tree = both.1 }) else None
 
 -- the word that parts pairs from tokens
-abbrev pub is_colon : List ℕ → Bool
-is_colon word = bytes_eq word (codes ":")
+abbrev pub is_colon_word : List ℕ → Bool
+is_colon_word word = bytes_eq word (codes ":")
 
 -- the omission that the words of a line spell, which single spaces part
 abbrev pub read_omission_words : ModelView → ℕ → List (List ℕ) → Option Omission
 read_omission_words m format [] = None
 read_omission_words m format (word ∷ words) =
     if bytes_eq word (codes "omit")
-    then option_and_then proper (option_zip (read_each (read_pair m) (before_first is_colon words)) (read_each (read_token m format) (after_first is_colon words)))
+    then option_and_then proper (option_zip (read_each (read_pair m) (before_first is_colon_word words)) (read_each (read_token m format) (after_first is_colon_word words)))
     else None
 
 abbrev pub read_omission : ModelView → ℕ → List ℕ → Option Omission

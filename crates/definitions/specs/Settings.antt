@@ -1,10 +1,11 @@
 -- What the words behind the program's name can set. (PICT's guide for /o, /d, /a, /n, /e, /r, /c and /s;
 -- the other words, the defaults and the ranges are this project's rules.)
 use Rattle.std.specs.Prelude.{ℕ, ◌-◌, ◌^◌, Bool, true, false, ◌&&◌, List, [], ◌∷◌, length, Option, Some, None, option_map, ◌==◌, if◌then◌else◌, codes, fold}
-use Rattle.std.specs.List.{before_first, after_first, list_any}
+use Rattle.std.specs.List.{before_first, after_first}
 use Rattle.value_text.specs.Texts.{is_same_text}
 use Rattle.value_text.specs.Numbers.{count_of}
 use Rattle.cov_model.specs.Names.{is_mark}
+use Rattle.model_lex.specs.Sections.{has_colon}
 
 -- the order as it is given: a number, or the number of parameters
 pub data OrderWord : Type 0 where
@@ -35,12 +36,9 @@ pub data Setting : Type 0 where
   Make : ℕ → Setting
   SuspectFile : List ℕ → Setting
 
--- a word's name before its first colon, its value behind it, and whether it has one
+-- a word's name stands before its first colon, its value behind it
 abbrev pub is_colon : ℕ → Bool
 is_colon byte = byte == 58
-
-abbrev pub has_colon : List ℕ → Bool
-has_colon word = list_any is_colon word
 
 -- the word has a colon, and this name in letters of either case
 abbrev pub is_named : List ℕ → List ℕ → Bool
@@ -56,8 +54,8 @@ mark_of [] = None
 mark_of (c ∷ []) = if is_mark c then Some c else None
 mark_of (c ∷ d ∷ rest) = None
 
-abbrev pub order_of : List ℕ → Option OrderWord
-order_of value = if is_same_text true value (codes "max") then Some OrderMax else option_map OrderOf (count_of value 1 256)
+abbrev pub order_word_of : List ℕ → Option OrderWord
+order_word_of value = if is_same_text true value (codes "max") then Some OrderMax else option_map OrderOf (count_of value 1 256)
 
 -- what a word without a colon sets
 abbrev pub bare_setting : List ℕ → Option Setting
@@ -70,7 +68,7 @@ bare_setting word =
 -- what a word with a colon sets, if its value is in range
 abbrev pub valued_setting : List ℕ → List ℕ → Option Setting
 valued_setting word value =
-    if is_named word (codes "/o") then option_map Order (order_of value)
+    if is_named word (codes "/o") then option_map Order (order_word_of value)
     else if is_named word (codes "/d") then option_map Separator (mark_of value)
     else if is_named word (codes "/a") then option_map Alias (mark_of value)
     else if is_named word (codes "/n") then option_map Prefix (mark_of value)

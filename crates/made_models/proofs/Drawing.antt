@@ -8,7 +8,7 @@ use Rattle.value_text.proofs.ListLemmas.{range_with_len_more}
 use Rattle.std.specs.List.{flat_map, range_with_len}
 use Rattle.rand_pcg.specs.Lcg.{Lcg}
 use Rattle.rand_pcg.specs.Pcg.{pcg32}
-use Rattle.made_models.specs.Words.{after_words, generator_of, word_of}
+use Rattle.made_models.specs.Words.{after_words, made_generator, word_of}
 use Rattle.made_models.specs.MadeModel.{Forbidden, constraint_line, constraint_lines, forbidden, forbidden_by, parameter_line, parameter_lines, value_count, value_counts, word}
 
 -- one word more
@@ -65,9 +65,9 @@ text_more f n before now after so_far next =
 pub record PushedParameters (n number : ℕ) (before now : List ℕ) (counts : List ℕ) (words : Lcg) : Type 0 where
   pub counts_so_far : counts ≡ value_counts n number
   pub text_so_far : now ≡ before ++ parameter_lines n number
-  pub words_so_far : words ≡ after_words number (generator_of n)
+  pub words_so_far : words ≡ after_words number (made_generator n)
 
-pub no_parameter : (n : ℕ) (before : List ℕ) (words : Lcg) → words ≡ generator_of n → PushedParameters n 0 before before [] words
+pub no_parameter : (n : ℕ) (before : List ℕ) (words : Lcg) → words ≡ made_generator n → PushedParameters n 0 before before [] words
 unfolding value_counts parameter_lines after_words
 no_parameter n before words start = record { counts_so_far = refl; text_so_far = sym (append-nil before); words_so_far = start }
 
@@ -87,15 +87,15 @@ parameter_more n number w before now after counts counts_after words words_after
       text_so_far =
           text_more (λ i. parameter_line i (value_count n i)) number before now after so_far.text_so_far
           (text ∙ ap (λ count. now ++ parameter_line number count) is_count);
-      words_so_far = ap (λ p. p.1) drawn ∙ ap (λ g. (pcg32 g).1) so_far.words_so_far ∙ after_words-more number (generator_of n);
+      words_so_far = ap (λ p. p.1) drawn ∙ ap (λ g. (pcg32 g).1) so_far.words_so_far ∙ after_words-more number (made_generator n);
     }
 
 -- the constraints one after another
 pub record PushedConstraints (n number : ℕ) (before now : List ℕ) (words : Lcg) : Type 0 where
   pub text_so_far : now ≡ before ++ constraint_lines n number
-  pub words_so_far : words ≡ after_words (60 + 4 * number) (generator_of n)
+  pub words_so_far : words ≡ after_words (60 + 4 * number) (made_generator n)
 
-pub no_constraint : (n : ℕ) (before : List ℕ) (words : Lcg) → words ≡ after_words 60 (generator_of n) → PushedConstraints n 0 before before words
+pub no_constraint : (n : ℕ) (before : List ℕ) (words : Lcg) → words ≡ after_words 60 (made_generator n) → PushedConstraints n 0 before before words
 unfolding constraint_lines
 no_constraint n before words start = record { text_so_far = sym (append-nil before); words_so_far = start }
 
@@ -121,7 +121,7 @@ pub constraint_more : (n number : ℕ) (pair : Forbidden) (before now after coun
 unfolding constraint_lines
 constraint_more n number pair before now after counts words words_after are so_far drawn moved text =
     let at : ℕ = 60 + 4 * number in
-    let start : Lcg = generator_of n in
+    let start : Lcg = made_generator n in
     let moved_by : (j : ℕ) → word_of words j ≡ word n (at + j) =
     λ j. ap (λ g. (pcg32 g).0) (ap (after_words j) so_far.words_so_far ∙ after_words-add j at start) in
     let here : word n (at + 0) ≡ word n at = ap (word n) (omega arith) in

@@ -2,11 +2,11 @@
 -- forbids a pair of values. Each number in it is drawn by a word of its own. (This project's rule.)
 use Rattle.std.specs.Prelude.{ℕ, zero, suc, ◌+◌, ◌*◌, ◌-◌, ◌%◌, List, ◌++◌, map, codes, decimal}
 use Rattle.std.specs.List.{flat_map, range_with_len}
-use Rattle.made_models.specs.Words.{generator_of, word_of}
+use Rattle.made_models.specs.Words.{made_generator, word_of}
 
 -- the word of a number n behind so many others
 abbrev pub word : ℕ → ℕ → ℕ
-word n k = word_of (generator_of n) k
+word n k = word_of (made_generator n) k
 
 -- how many values a word gives a parameter
 abbrev pub count_by_word : ℕ → ℕ

@@ -4,8 +4,8 @@ use Rattle.rand_pcg.specs.Lcg.{Lcg, started, increment_of}
 use Rattle.rand_pcg.specs.Pcg.{pcg32, multiplier_64}
 
 -- the generator that a number starts, with stream 1
-abbrev pub generator_of : ℕ → Lcg
-generator_of n = started 64 multiplier_64 n (increment_of 64 1)
+abbrev pub made_generator : ℕ → Lcg
+made_generator n = started 64 multiplier_64 n (increment_of 64 1)
 
 -- the generator after so many words
 unfoldable pub after_words : ℕ → Lcg → Lcg

@@ -1,6 +1,6 @@
 ghost use Rattle.std.specs.Prelude.{◌≡◌, ◌++◌, IfOk, OnOk};
 ghost use Rattle.std.specs.String.{string_bytes};
-ghost use Rattle.made_models.specs.Words.{after_words, generator_of};
+ghost use Rattle.made_models.specs.Words.{after_words, made_generator};
 ghost use Rattle.made_models.specs.MadeModel.{constraint_lines, made_text, parameter_lines, value_counts};
 
 use crate::forbidden::Forbidden;
@@ -24,10 +24,10 @@ fn push_parameters(
     words: &mut Lcg64Xsh32,
     text: &mut String,
 ) -> Result<Vec<u32>, NoMemory>
-    requires { words.old ≡ generator_of n }
+    requires { words.old ≡ made_generator n }
     ensures counts { IfOk result (λ counts. counts.items ≡ value_counts n parameters) }
     ensures text { OnOk result (string_bytes text.new ≡ string_bytes text.old ++ parameter_lines n parameters) }
-    ensures words { OnOk result (words.new ≡ after_words parameters (generator_of n)) }
+    ensures words { OnOk result (words.new ≡ after_words parameters (made_generator n)) }
 {
     let mut counts = Vec::new(alloc);
     for number in 0..parameters {
@@ -47,7 +47,7 @@ fn push_constraints(
     text: &mut String,
 ) -> Result<(), NoMemory>
     requires counts { counts.now ≡ value_counts n 60 }
-    requires words { words.old ≡ after_words 60 (generator_of n) }
+    requires words { words.old ≡ after_words 60 (made_generator n) }
     ensures { OnOk result (string_bytes text.new ≡ string_bytes text.old ++ constraint_lines n constraints) }
 {
     for number in 0..constraints {

@@ -14,9 +14,9 @@ use Rattle.value_text.specs.Numbers.{number_of}
 use Rattle.value_text.specs.declared.fixed.FixedAnswer.{FixedAnswer}
 use Rattle.value_text.specs.declared.fixed.FixedAnswer.TheVariants.{Number as IsNumber, NotNumber, TooWide}
 use Rattle.model_lex.proofs.Runs.{run_len, ascii_number, ascii_word}
-use Rattle.model_lex.specs.Blanks.{is_blank}
-use Rattle.model_lex.specs.Sections.{first_word, is_among, is_word_byte}
-use Rattle.model_lex.specs.Tokens.{HasMarks, StandsBetween, StandsIn, begins_number, begins_relation, first_token, is_mark, is_number_byte}
+use Rattle.value_text.specs.Texts.{is_blank}
+use Rattle.model_lex.specs.Sections.{first_word, is_word_among, is_word_byte}
+use Rattle.model_lex.specs.Tokens.{HasMarks, StandsBetween, StandsIn, begins_number, begins_relation, first_token, is_punctuation, is_number_byte}
 use Rattle.model_lex.specs.Tokens.{is_pair, is_quotable, keywords, lexed_at, token_at, number_run, number_token, quoted_len, quoted_token}
 use Rattle.model_lex.specs.declared.diag.DiagCode.{DiagCode}
 use Rattle.model_lex.specs.declared.diag.DiagCode.TheVariants.{NameNotClosed, TextNotClosed, UnknownWord}
@@ -164,10 +164,10 @@ form_of text some =
     (λ _. choice (begins_number byte) _ _ (HasForm text)
     (λ e. number_form text some e (number_of (number_run text)))
     (λ _. choice (is_ascii_alphabetic byte) _ _ (HasForm text)
-    (λ e. word_form text some e (is_among keywords (first_word text)))
+    (λ e. word_form text some e (is_word_among keywords (first_word text)))
     (λ _. choice (begins_relation byte) _ _ (HasForm text)
     (λ e. relation_form text some e (is_pair byte (get_or text 1 0)) refl)
-    (λ _. choice (is_mark byte) _ _ (HasForm text)
+    (λ _. choice (is_punctuation byte) _ _ (HasForm text)
     (λ e. byte_form text some (grind (arith, nat_tests)) Mark (λ e. cc) (λ e. cc))
     (λ _. tt))))))
 

@@ -10,7 +10,8 @@ use Rattle.std.proofs.lemmas.Str.{IsCharBoundary-after_ascii, IsCharBoundary-bef
 use Rattle.std.specs.List.{prefix_len, suffix_len, take_while, list_all}
 use Rattle.std.specs.Prelude.{nat_eq}
 use Rattle.std.specs.Str.{IsUtf8, IsCharBoundary}
-use Rattle.model_lex.specs.Blanks.{is_blank, is_all_blank, without_first_blanks}
+use Rattle.model_lex.specs.Blanks.{is_all_blank, without_first_blanks}
+use Rattle.value_text.specs.Texts.{is_blank}
 use Rattle.model_lex.specs.Sections.{is_word_byte}
 use Rattle.model_lex.specs.Tokens.{is_number_byte}
 

@@ -1,10 +1,7 @@
 -- Blanks are spaces and tabs. (This project's rule.)
-use Rattle.std.specs.Prelude.{ℕ, ◌-◌, Bool, ◌||◌, List, length, take, drop, ◌==◌}
+use Rattle.std.specs.Prelude.{ℕ, ◌-◌, Bool, List, length, take, drop}
 use Rattle.std.specs.List.{list_all, prefix_len, suffix_len}
-
--- a space or a tab
-abbrev pub is_blank : ℕ → Bool
-is_blank byte = (byte == 32) || (byte == 9)
+use Rattle.value_text.specs.Texts.{is_blank}
 
 -- blanks alone, or nothing
 abbrev pub is_all_blank : List ℕ → Bool

@@ -5,7 +5,8 @@ use Rattle.std.specs.Prelude.{Option, Some, None, Result, Ok, Err, ◌==◌, nat
 use Rattle.std.specs.Char.{is_ascii_alphanumeric}
 use Rattle.std.specs.List.{list_any, take_while}
 use Rattle.std.specs.Str.{is_utf8, str_eq_ignore_ascii_case}
-use Rattle.model_lex.specs.Blanks.{is_blank, is_all_blank, without_first_blanks}
+use Rattle.model_lex.specs.Blanks.{is_all_blank, without_first_blanks}
+use Rattle.value_text.specs.Texts.{is_blank}
 use Rattle.model_lex.specs.Lines.{numbered_lines}
 use Rattle.model_lex.specs.declared.diag.Diag.{Diag}
 use Rattle.model_lex.specs.declared.diag.DiagCode.{DiagCode}
@@ -32,15 +33,15 @@ abbrev pub first_word : List ℕ → List ℕ
 first_word text = take_while is_word_byte text
 
 -- whether a word is one of these, in any case
-abbrev pub is_among : List (List ℕ) → List ℕ → Bool
-is_among words word = list_any (λ known. str_eq_ignore_ascii_case known word) words
+abbrev pub is_word_among : List (List ℕ) → List ℕ → Bool
+is_word_among words word = list_any (λ known. str_eq_ignore_ascii_case known word) words
 
 -- the words that may open a constraint, and how long such a word is at the start of a text, if it stands there
 abbrev pub opening_words : List (List ℕ)
 opening_words = codes "IF" ∷ codes "NOT" ∷ codes "ISNEGATIVE" ∷ codes "ISPOSITIVE" ∷ []
 
 abbrev pub opening_len : List ℕ → ℕ
-opening_len text = if is_among opening_words (first_word text) then length (first_word text) else 0
+opening_len text = if is_word_among opening_words (first_word text) then length (first_word text) else 0
 
 -- `[` or `(`
 abbrev pub is_opening_mark : ℕ → Bool

@@ -9,8 +9,9 @@ use Rattle.std.specs.Str.{IsCharBoundary}
 use Rattle.value_text.specs.Numbers.{number_of}
 use Rattle.value_text.specs.declared.fixed.FixedAnswer.{FixedAnswer}
 use Rattle.value_text.specs.declared.fixed.FixedAnswer.TheVariants.{Number as IsNumber, NotNumber, TooWide}
-use Rattle.model_lex.specs.Blanks.{is_blank, trimmed}
-use Rattle.model_lex.specs.Sections.{first_word, is_among}
+use Rattle.model_lex.specs.Blanks.{trimmed}
+use Rattle.value_text.specs.Texts.{is_blank}
+use Rattle.model_lex.specs.Sections.{first_word, is_word_among}
 use Rattle.model_lex.specs.declared.diag.DiagCode.{DiagCode}
 use Rattle.model_lex.specs.declared.diag.DiagCode.TheVariants.{StrayCharacter, NameNotClosed, TextNotClosed, BadNumber, NumberTooWide, UnknownWord}
 use Rattle.model_lex.specs.declared.token.TokenKind.{TokenKind}
@@ -73,7 +74,7 @@ keywords =
     ∷ codes "ISNEGATIVE" ∷ codes "ISPOSITIVE" ∷ []
 
 abbrev pub word_token : List ℕ → Result (TokenKind × ℕ) DiagCode
-word_token word = if is_among keywords word then Ok (Word, length word) else Err UnknownWord
+word_token word = if is_word_among keywords word then Ok (Word, length word) else Err UnknownWord
 
 -- `=`, `<>`, `>`, `>=`, `<`, `<=`
 abbrev pub begins_relation : ℕ → Bool
@@ -86,8 +87,8 @@ abbrev pub relation_len : List ℕ → ℕ
 relation_len text = if is_pair (slice_index text 0) (slice_index text 1) then 2 else 1
 
 -- `(`, `)`, `{`, `}`, `,`, `;`
-abbrev pub is_mark : ℕ → Bool
-is_mark byte = list_any (λ mark. mark == byte) (codes "(){},;")
+abbrev pub is_punctuation : ℕ → Bool
+is_punctuation byte = list_any (λ mark. mark == byte) (codes "(){},;")
 
 -- the longest token at the start of a text, as its kind and its length, or why none stands there
 abbrev pub first_token : List ℕ → Result (TokenKind × ℕ) DiagCode
@@ -98,7 +99,7 @@ first_token text =
     else if begins_number byte then number_token (length (number_run text)) (number_of (number_run text))
     else if is_ascii_alphabetic byte then word_token (first_word text)
     else if begins_relation byte then Ok (Relation, relation_len text)
-    else if is_mark byte then Ok (Mark, 1)
+    else if is_punctuation byte then Ok (Mark, 1)
     else Err StrayCharacter
 
 -- a token that begins at a place

@@ -1,6 +1,6 @@
 ghost use Rattle.std.specs.Prelude.{◌≡◌, ◌≤◌, length};
 ghost use Rattle.std.specs.List.{list_any};
-ghost use Rattle.model_lex.specs.Sections.{goes_on, has_colon, is_among, is_ignored, is_opening_mark, kind_of, misplaced, opening_len, opening_words, opens_group, opens_rule};
+ghost use Rattle.model_lex.specs.Sections.{goes_on, has_colon, is_word_among, is_ignored, is_opening_mark, kind_of, misplaced, opening_len, opening_words, opens_group, opens_rule};
 
 use crate::bytes::{first_word, is_word, without_first_blanks};
 use crate::diag::DiagCode;
@@ -108,7 +108,7 @@ fn opening_len(text: &[u8]) -> usize
 
 // Whether a word may open a constraint.
 fn is_opening_word(word: &[u8]) -> bool
-    ensures { result ≡ is_among opening_words word.now }
+    ensures { result ≡ is_word_among opening_words word.now }
 {
     is_word(b"IF", word)
         || is_word(b"NOT", word)

@@ -1,8 +1,8 @@
 ghost use Rattle.std.specs.Prelude.{◌≡◌, ◌<◌, ◌^◌, ◌≤◌, length, drop, IfSome};
 ghost use Rattle.std.specs.List.{prefix_len};
 ghost use Rattle.value_text.specs.Numbers.{number_of};
-ghost use Rattle.model_lex.specs.Sections.{first_word, is_among};
-ghost use Rattle.model_lex.specs.Tokens.{begins_number, begins_relation, first_token, is_mark, is_number_byte, is_quotable, keywords};
+ghost use Rattle.model_lex.specs.Sections.{first_word, is_word_among};
+ghost use Rattle.model_lex.specs.Tokens.{begins_number, begins_relation, first_token, is_punctuation, is_number_byte, is_quotable, keywords};
 ghost use Rattle.model_lex.specs.Tokens.{number_run, number_token, quoted_len, quoted_token, quotes_next, relation_len, word_token};
 
 use crate::bytes::{first_word, is_word};
@@ -27,7 +27,7 @@ pub fn first_token(text: &str) -> Result<(TokenKind, usize), DiagCode>
         word_token(bytes)
     } else if begins_relation(first) {
         Ok((TokenKind::Relation, relation_len(bytes)))
-    } else if is_mark(first) {
+    } else if is_punctuation(first) {
         Ok((TokenKind::Mark, 1))
     } else {
         Err(DiagCode::StrayCharacter)
@@ -119,7 +119,7 @@ fn number_token(text: &str) -> Result<(TokenKind, usize), DiagCode>
 
 // Whether a word is one of those of constraints.
 fn is_keyword(word: &[u8]) -> bool
-    ensures { result ≡ is_among keywords word.now }
+    ensures { result ≡ is_word_among keywords word.now }
 {
     is_word(b"IF", word)
         || is_word(b"THEN", word)
@@ -162,9 +162,9 @@ fn relation_len(text: &[u8]) -> usize
     }
 }
 
-// Whether a byte is a mark.
-fn is_mark(byte: u8) -> bool
-    ensures { result ≡ is_mark byte }
+// Whether a byte is a punctuation mark.
+fn is_punctuation(byte: u8) -> bool
+    ensures { result ≡ is_punctuation byte }
 {
     b"(){},;".contains(&byte)
 }

@@ -8,7 +8,8 @@ use Rattle.std.proofs.lemmas.List.Folds.{list_any_at}
 use Rattle.std.proofs.lemmas.List.Sorted.{IsPermutation-reverse, All-permutation}
 use Rattle.std.proofs.lemmas.List.Splits.{slice_split_none, slice_split_at}
 use Rattle.std.specs.List.{prefix_len, suffix_len, before_first, after_first, before_last, after_last, list_any}
-use Rattle.model_lex.specs.Blanks.{is_blank, trimmed, without_first_blanks, without_last_blanks}
+use Rattle.model_lex.specs.Blanks.{trimmed, without_first_blanks, without_last_blanks}
+use Rattle.value_text.specs.Texts.{is_blank}
 use Rattle.model_parse.specs.Pieces.{is_byte, pieces}
 use Rattle.model_parse.specs.Written.{joined}
 

@@ -24,7 +24,7 @@ use Rattle.model_lex.specs.declared.diag.DiagCode.TheVariants.{BadGroupOrder, No
 use Rattle.model_lex.specs.declared.fault.LimitName.TheVariants.{Params}
 use Rattle.model_lex.specs.declared.options.ModelOpts.{ModelOpts}
 use Rattle.model_parse.specs.declared.raw_model.RawModel.{RawModel}
-use Rattle.model_parse.specs.GroupLines.{behind_sign, demand_of, form_code, group_fault, group_of, group_pieces, is_relation, member_code, members_of, order_of, strength_text, written_order}
+use Rattle.model_parse.specs.GroupLines.{behind_sign, demand_of, form_code, group_fault, group_of, group_pieces, is_relation, member_code, members_of, order_of_group, strength_text, written_order}
 use Rattle.model_parse.specs.ParamLines.{is_repeated, param_of, params_of, place_named}
 use Rattle.model_parse.specs.RawModels.{order_fault, order_in, raw_model_of}
 use Rattle.model_parse.specs.Rules.{above, bad_line, first_some, read_unless, with_earlier}
@@ -167,7 +167,7 @@ module _ (opts : ModelOpts) (params : List Param) (whole : ℕ) where
   more_is before line one is true subs relations = same_demand _ _ _ _ (sym subs) (ap (λ g. map group (filter relation before) ++ g ∷ []) is ∙ sym relations)
   more_is before line one is false subs relations = same_demand _ _ _ _ (ap (λ g. map group (filter sub before) ++ g ∷ []) is ∙ sym subs) (sym relations)
 
-  added_is : (before : List (ℕ × List ℕ)) (line : ℕ × List ℕ) (o : Option ℕ) → order_of opts params whole line.1 ≡ o
+  added_is : (before : List (ℕ × List ℕ)) (line : ℕ × List ℕ) (o : Option ℕ) → order_of_group opts params whole line.1 ≡ o
       → add_group line.0 (is_relation line.1) (groups_at before) (members_of opts.fold params (group_pieces opts line.1)) o
       ≡ read_unless (option_map (bad_line line.0) (cond (is_some o) None (Some BadGroupOrder))) (groups_at (before ++ line ∷ []))
   added_is before line None is = refl
@@ -182,7 +182,7 @@ module _ (opts : ModelOpts) (params : List Param) (whole : ℕ) where
       let pieces = group_pieces opts line.1 in
       let members = members_of opts.fold params pieces in
       let codes = map (member_code opts.fold params) (with_earlier [] pieces) in
-      let order = order_of opts params whole line.1 in
+      let order = order_of_group opts params whole line.1 in
       let code = cond (is_some order) None (Some BadGroupOrder) in
       let bad = λ (o : Option DiagCode). option_map (bad_line line.0) o in
       let next = groups_at (before ++ line ∷ []) in

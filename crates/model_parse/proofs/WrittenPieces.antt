@@ -15,7 +15,8 @@ use Rattle.cov_model.specs.Names.{is_mark}
 use Rattle.cov_model.specs.Sound.{IsSoundValue}
 use Rattle.cov_model.specs.declared.parameter.Param.{Param}
 use Rattle.cov_model.specs.declared.parameter.Value.{Value}
-use Rattle.model_lex.specs.Blanks.{is_blank, trimmed}
+use Rattle.model_lex.specs.Blanks.{trimmed}
+use Rattle.value_text.specs.Texts.{is_blank}
 use Rattle.model_lex.specs.declared.options.Marks.{Marks}
 use Rattle.model_lex.specs.declared.options.ModelOpts.{ModelOpts}
 use Rattle.model_parse.specs.Pieces.{is_byte, pieces, begins_with, ends_with, before_end}

@@ -12,7 +12,8 @@ use Rattle.std.specs.Prelude.{slice_index_or}
 use Rattle.std.specs.Option.{option_or}
 use Rattle.std.specs.Str.Parse.{AllDigits}
 use Rattle.cov_model.specs.Names.{is_name, is_mark}
-use Rattle.model_lex.specs.Blanks.{is_blank, trimmed}
+use Rattle.model_lex.specs.Blanks.{trimmed}
+use Rattle.value_text.specs.Texts.{is_blank}
 use Rattle.model_lex.specs.declared.options.Marks.{Marks}
 use Rattle.model_parse.specs.Pieces.{is_byte, begins_with, is_unfit}
 use Rattle.model_parse.specs.RawModels.{AreMarks}

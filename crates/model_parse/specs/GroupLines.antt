@@ -68,8 +68,8 @@ abbrev pub members_of : Bool → List Param → List (List ℕ) → List ℕ
 members_of fold params pieces = flat_map (λ piece. option_to_list (place_named fold params piece)) pieces
 
 -- the order of a group: a written one is from 1 to the number of members, without one it is that of the whole, lowered to this number
-abbrev pub order_of : ModelOpts → List Param → ℕ → List ℕ → Option ℕ
-order_of opts params whole text =
+abbrev pub order_of_group : ModelOpts → List Param → ℕ → List ℕ → Option ℕ
+order_of_group opts params whole text =
     let count = length (members_of opts.fold params (group_pieces opts text)) in
     option_map_or (λ written. count_of written 1 count) (written_order text) (Some (min whole count))
 
@@ -84,11 +84,11 @@ member_code fold params piece =
 abbrev pub group_fault : ModelOpts → List Param → ℕ → ℕ × List ℕ → Option ModelFault
 group_fault opts params whole line =
     option_map (bad_line line.0) (first_some (form_code line.1 ∷ map (member_code opts.fold params) (with_earlier [] (group_pieces opts line.1))
-    ++ (if is_some (order_of opts params whole line.1) then None else Some BadGroupOrder) ∷ []))
+    ++ (if is_some (order_of_group opts params whole line.1) then None else Some BadGroupOrder) ∷ []))
 
 -- the group of a line
 abbrev pub group_of : ModelOpts → List Param → ℕ → List ℕ → Group
-group_of opts params whole text = record { order = unwrap_or (order_of opts params whole text) 0; members = members_of opts.fold params (group_pieces opts text) }
+group_of opts params whole text = record { order = unwrap_or (order_of_group opts params whole text) 0; members = members_of opts.fold params (group_pieces opts text) }
 
 -- what is demanded, where the whole has this order: the lines of relations begin with `@`
 abbrev pub demand_of : ModelOpts → List Param → ℕ → List (ℕ × List ℕ) → Demand

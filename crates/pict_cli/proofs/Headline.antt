@@ -121,7 +121,7 @@ module _ (s : Settings) (seed : ℕ) (m : ModelView) (source : RowSource) (notes
   few_demanded : makes_plan (mode_of s) ≡ true → length (demanded_tuples m) < 2 ^ 32
   few_demanded plans =
       let few = ltb-false (2 ^ 26) (length (demanded_tuples m))
-      (second_false (TooManySets (limits.told (length (choices m)))) (TooManyTuples (limits.told (length (demanded_tuples m))))
+      (second_false (TooManySets (limits.saturated (length (choices m)))) (TooManyTuples (limits.saturated (length (demanded_tuples m))))
       (nat_lt (2 ^ 20) (length (choices m))) (nat_lt (2 ^ 26) (length (demanded_tuples m))) (within plans)) in
       omega (arith, few)
 

@@ -19,7 +19,7 @@ use Rattle.suspect_tuples.specs.Told.{candidates_of, suspects_of}
 use Rattle.suspect_tuples.specs.declared.result_file.ResultFile.{ResultFile}
 use Rattle.suspect_tuples.specs.declared.results_fault.ResultsFault.{ResultsFault}
 use Rattle.suspect_tuples.specs.declared.results_fault.ResultsFault.TheVariants as faults
-use Rattle.tuple_index.specs.PlanFault.{limit_passed, told}
+use Rattle.tuple_index.specs.PlanFault.{limit_passed, saturated}
 use Rattle.command_line.specs.Stops.{stop_of_plan}
 use Rattle.command_line.specs.declared.stop.Stop.{Stop}
 use Rattle.command_line.specs.declared.stop.Stop.TheVariants.{TooLong, TooMany}
@@ -45,13 +45,13 @@ module _ (m : ModelView) (file : ResultFile) (reading : ResultReading) (holds : 
       ap (λ rows. candidate_count m (failing_rows rows file.failed)) same_suite ∙ ap (λ failed. candidate_count m (failing_rows (suite_in reading) failed)) holds.failed
 
 -- there are too many candidates, or not
-pub too_many : (count n : ℕ) → most_counted limits.SuspectCandidates < count → n ≡ told count → candidates_stop count ≡ Some (TooMany SuspectCandidates n)
+pub too_many : (count n : ℕ) → most_counted limits.SuspectCandidates < count → n ≡ saturated count → candidates_stop count ≡ Some (TooMany SuspectCandidates n)
 too_many count n above is =
-    ap (λ b. if b then Some (TooMany SuspectCandidates (told count)) else None) (lt-ltb (most_counted limits.SuspectCandidates) count above)
+    ap (λ b. if b then Some (TooMany SuspectCandidates (saturated count)) else None) (lt-ltb (most_counted limits.SuspectCandidates) count above)
     ∙ ap (λ k. Some (TooMany SuspectCandidates k)) (sym is)
 
 pub not_many : (count : ℕ) → count ≤ most_counted limits.SuspectCandidates → candidates_stop count ≡ None
-not_many count few = ap (λ b. if b then Some (TooMany SuspectCandidates (told count)) else None) (le-ltb (most_counted limits.SuspectCandidates) count few)
+not_many count few = ap (λ b. if b then Some (TooMany SuspectCandidates (saturated count)) else None) (le-ltb (most_counted limits.SuspectCandidates) count few)
 
 -- the work stops as it is due
 pub work_due : (due : Option Stop) (later notes : List Note) (stop : Stop) → IsDueOrNoMemory due stop → StopsWork due later notes notes stop
@@ -86,4 +86,4 @@ no_limit s m name is = ap (λ mode. if makes_plan mode then option_map stop_of_p
 
 pub named_source : (s : Settings) (name : List ℕ) (files : Files) (source : RowSource) (P : RowSource → Type 0) → mode_of s ≡ Suspect name → row_source s files ≡ Some source
     → ((held : Option (List ℕ)) → files name ≡ Some held → P (RowsHeld held)) → P source
-named_source s name files source P is told holds = source_held (files name) source P (subst (λ mode. source_in (row_file_in mode (rows_beside s.make s.seeds)) files ≡ Some source) is told) holds
+named_source s name files source P is saturated holds = source_held (files name) source P (subst (λ mode. source_in (row_file_in mode (rows_beside s.make s.seeds)) files ≡ Some source) is saturated) holds

@@ -24,7 +24,7 @@ use Rattle.definitions.specs.Report.{report_text}
 use Rattle.definitions.specs.RowFile.{rows_of}
 use Rattle.definitions.specs.Search.{first_measured_over, first_over}
 use Rattle.definitions.specs.Seeds.{kept_seeds}
-use Rattle.definitions.specs.Statistics as told
+use Rattle.definitions.specs.Statistics as printed
 use Rattle.definitions.specs.Statistics.{figures_text, statistics, statistics_text}
 use Rattle.definitions.specs.SuiteLaws.{IsRefutedIn, ListsUnserved}
 use Rattle.definitions.specs.SuiteProof.{IsProofOfSuite}
@@ -34,7 +34,7 @@ use Rattle.suspect_tuples.specs.ResultReading.{ResultReading}
 use Rattle.suspect_tuples.specs.Suspects.{candidate_count, failing_rows, suspects}
 use Rattle.suspect_tuples.specs.SuspectsText.{suspects_text}
 use Rattle.tuple_index.specs.PlanFault.{limit_passed}
-use Rattle.tuple_index.specs.PlanFault.{told as limit_told}
+use Rattle.tuple_index.specs.PlanFault.{saturated}
 use Rattle.type_check.specs.ModelOf.{IsModelOf}
 use Rattle.command_line.specs.Loading.{StopsReading}
 use Rattle.command_line.specs.Stops.{NamesView, status_of, stop_of_model, stop_of_plan}
@@ -68,7 +68,7 @@ abbrev pub growth_of : Settings → ℕ → ModelView → List (ℕ × List (Opt
 growth_of s seed m seeds = growth m (orders_of s seed m) seeds
 
 -- the text of a suite with these rows and these statistics
-abbrev pub suite_text : Output → ModelView → List (List (Option ℕ)) → told.Statistics → List ℕ
+abbrev pub suite_text : Output → ModelView → List (List (Option ℕ)) → printed.Statistics → List ℕ
 suite_text Report m rows numbers = report_text m rows
 suite_text Statistics m rows numbers = statistics_text numbers
 
@@ -91,8 +91,8 @@ abbrev pub IsProof : Settings → ℕ → ModelView → List (ℕ × List (Optio
 IsProof s seed m seeds bytes = IsProofOfSuite m (orders_of s seed m) seeds s.form bytes
 
 -- the names of the files of a run on a model file of this name
-abbrev pub names_of : List ℕ → Settings → NamesView
-names_of model s = record { model = model; rows = unwrap_or (row_file s) []; proof = unwrap_or s.proof [] }
+abbrev pub file_names : List ℕ → Settings → NamesView
+file_names model s = record { model = model; rows = unwrap_or (row_file s) []; proof = unwrap_or s.proof [] }
 
 -- the first question of growth whose plain cost is above the budget
 abbrev pub growth_over : Settings → ℕ → ModelView → List (ℕ × List (Option ℕ)) → Option (List (Option ℕ))
@@ -119,7 +119,7 @@ abbrev pub spent_on : Settings → List (Option ℕ) → Stop
 spent_on s question = Spent s.budget (pairs_of question)
 
 abbrev pub candidates_stop : ℕ → Option Stop
-candidates_stop count = if nat_lt (most_counted limits.SuspectCandidates) count then Some (TooMany SuspectCandidates (limit_told count)) else None
+candidates_stop count = if nat_lt (most_counted limits.SuspectCandidates) count then Some (TooMany SuspectCandidates (saturated count)) else None
 
 -- the limit that the demand passes, where the run goes by a plan of it
 abbrev pub limit_due : Settings → ModelView → Option Stop
@@ -210,7 +210,7 @@ pub record IsRun (s : Settings) (seed : ℕ) (held : Option (List ℕ)) (source 
   pub ends : EndsFrom s.make name (λ start. Ends s seed held source notes row_notes start after end) notes row_notes before after end
   pub reads : CountsReads s name (end_of end) before.reads after.reads
   pub writes : CountsWrites s name (end_of end) before.writes after.writes
-  pub told : Tells told_before told_after faults faults_after (told_text (used_seed s.shuffle seed) notes row_notes (names_of name s) end)
+  pub told : Tells told_before told_after faults faults_after (told_text (used_seed s.shuffle seed) notes row_notes (file_names name s) end)
   pub ended : status ≡ end_status end
 
 -- what the folder tells of the proof file, where the words ask for one

@@ -4,7 +4,7 @@ ghost use Rattle.definitions.specs.Words as reading;
 ghost use Rattle.command_line.specs.Settings.{setting_seen};
 ghost use Rattle.command_line.specs.Words.{HasFault, TellsFault, texts};
 ghost use Rattle.pict_cli.specs.Options.{settings_seen, command_seen, IsReading, is_faulty_at};
-ghost use Rattle.pict_cli.specs.Runs.{names_of};
+ghost use Rattle.pict_cli.specs.Runs.{file_names};
 
 use crate::kinds::Kinds;
 use command_line::{
@@ -74,7 +74,7 @@ impl<'w> Opts<'w> {
 
     /// The names of the files of the run.
     pub(crate) fn names(&self) -> FileNames<'w>
-        ensures { result ≡ names_of self.now.model.now (settings_seen self.now) }
+        ensures { result ≡ file_names self.now.model.now (settings_seen self.now) }
     {
         let proof = match self.proof {
             Some(name) => name,

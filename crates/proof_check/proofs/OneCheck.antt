@@ -14,7 +14,7 @@ use Rattle.tuple_index.specs.PlanFault.{limit_passed}
 use Rattle.tuple_index.specs.declared.fault.PlanFault.{PlanFault}
 use Rattle.type_check.specs.ModelOf.{Answer}
 use Rattle.type_check.proofs.OneAnswer.{files_have_one_answer}
-use Rattle.proof_check.specs.Checks.{IsCheckOf, report_of, told}
+use Rattle.proof_check.specs.Checks.{IsCheckOf, report_of, verdict_given}
 use Rattle.proof_check.specs.Laws.{ChecksHaveOneAnswer}
 use Rattle.proof_check.specs.declared.verdict.Verdict.{Verdict}
 use Rattle.proof_check.specs.declared.verdict.CheckFault.{CheckFault}
@@ -39,7 +39,7 @@ held_is files.NoMemory given is = absurd (false≢true (ap is_some is))
 -- the answer where memory is found, by the answer of the model file
 abbrev by_report : ModelView → Result readings.RowReading readings.RowsFault → List ℕ → Result Verdict CheckFault
 by_report m (Err given) proof = Err (Report (held given))
-by_report m (Ok reading) proof = Ok (told (verdict m reading.rows proof))
+by_report m (Ok reading) proof = Ok (verdict_given (verdict m reading.rows proof))
 
 abbrev by_limit : ModelView → Option PlanFault → List ℕ → List ℕ → Result Verdict CheckFault
 by_limit m (Some fault) report proof = Err (Limits fault)

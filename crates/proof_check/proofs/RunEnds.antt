@@ -27,9 +27,9 @@ use Rattle.command_line.specs.Words.{opts_of, settings_in}
 use Rattle.command_line.specs.declared.stop.Stop.{Stop}
 use Rattle.command_line.specs.declared.stop.Stop.TheVariants.{OutOfMemory, Spent, BadWord, BadModel, BadConstraint, BadRows, NoResult, BadResult, CannotRead, CannotWrite, CannotWriteReport, TooMany, TooLong}
 use Rattle.command_line.specs.declared.files.FileKind.{FileKind}
-use Rattle.proof_check.specs.Checks.{IsCheckOf, Spells, told, report_of}
+use Rattle.proof_check.specs.Checks.{IsCheckOf, Spells, verdict_given, report_of}
 use Rattle.proof_check.specs.RunSteps.{CountsOut, StopsBefore, cannot_read, is_before, is_refused, no_memory, stop_of_check}
-use Rattle.proof_check.specs.Runs.{AreRead, Ends, HasReadings, HasVerdict, HeldFiles, Inputs, IsRefusal, IsRefused, IsStatus, IsTold, answer_status, answer_text, bad_model, bad_report, end_status, inputs_of, stop_of_report, too_many, unread, verdict_status}
+use Rattle.proof_check.specs.Runs.{AreRead, Ends, HasReadings, HasVerdict, HeldFiles, Inputs, IsRefusal, FilesAreRefused, IsStatus, IsTold, answer_status, answer_text, bad_model, bad_report, end_status, inputs_of, stop_of_report, too_many, unread, verdict_status}
 use Rattle.proof_check.specs.Words.{asked_by, command_seen, names_in, names_seen, settings_seen}
 use Rattle.proof_check.specs.declared.verdict.Verdict.{Verdict}
 use Rattle.proof_check.specs.declared.verdict.Verdict.TheVariants.{Accepted, BadRow, BadProof, BadOmission, Uncovered}
@@ -40,14 +40,14 @@ use Rattle.command_line.proofs.OptsLemmas.{same_opts}
 use Rattle.command_line.proofs.WordLemmas.{command_read}
 
 -- a verdict as the program has it, and as it is defined
-text_told : (v : defined.Verdict) → answer_text (told v) ≡ verdict_text v
+text_told : (v : defined.Verdict) → answer_text (verdict_given v) ≡ verdict_text v
 text_told (defined.Accepted rows omissions) = refl
 text_told (defined.BadRow line) = refl
 text_told (defined.BadProof line) = refl
 text_told (defined.BadOmission line) = refl
 text_told (defined.Uncovered tuple) = refl
 
-status_told : (v : defined.Verdict) → answer_status (told v) ≡ verdict_status v
+status_told : (v : defined.Verdict) → answer_status (verdict_given v) ≡ verdict_status v
 status_told (defined.Accepted rows omissions) = refl
 status_told (defined.BadRow line) = refl
 status_told (defined.BadProof line) = refl
@@ -80,7 +80,7 @@ check_stops opts held inputs check_faults.NoMemory stop read nothing is = no_mem
 
 -- a run that stops before anything is written
 only_refused : {opts : ModelOpts} {held : HeldFiles} {stop : Stop} → stop ≢ OutOfMemory → ((kind : FileKind) → stop ≢ CannotRead kind)
-    → StopsBefore opts held stop → IsRefused opts held stop
+    → StopsBefore opts held stop → FilesAreRefused opts held stop
 only_refused room folder (no_memory is) = absurd (room is)
 only_refused room folder (cannot_read kind is) = absurd (folder kind is)
 only_refused room folder (is_refused why) = why
@@ -118,7 +118,7 @@ readings_then then has = record {
 
 -- a verdict's line was written, whole or in part
 pub printed_ends : (opts : ModelOpts) (held : HeldFiles) (before after : Option (List ℕ)) (given : Verdict) (end : Result Verdict Stop)
-    → HasReadings opts (λ m lines proof. given ≡ told (verdict m lines proof)) held
+    → HasReadings opts (λ m lines proof. given ≡ verdict_given (verdict m lines proof)) held
     → MatchResult end (λ same. (same ≡ given) × Puts Done before after (answer_text given))
     (λ stop. (stop ≡ CannotWriteReport) × Puts Failed before after (answer_text given))
     → Ends opts held before after end
@@ -157,7 +157,7 @@ module _ (opts : ModelOpts) (held : HeldFiles) where
   same_reading {a} {b} {m} e f spelled also =
       ap (λ inputs. report_of m inputs.report) (same_inputs held e f) ∙ ap (λ model. report_of model b.report) (same_model e f spelled also)
 
-  pub not_both : {stop : Stop} {P : ModelView → List (ℕ × List (Option ℕ)) → List ℕ → Type 0} → HasReadings opts P held → IsRefused opts held stop → ⊥
+  pub not_both : {stop : Stop} {P : ModelView → List (ℕ × List (Option ℕ)) → List ℕ → Type 0} → HasReadings opts P held → FilesAreRefused opts held stop → ⊥
   not_both has (unread e) = unread_inputs held e has.read
   not_both has (bad_model inputs fault read refusal is) = not_refused has.read read has.spelled refusal
   not_both has (too_many inputs m fault read spelled passed is) = within_passes has.read read has.spelled spelled has.within passed
@@ -165,7 +165,7 @@ module _ (opts : ModelOpts) (held : HeldFiles) where
       let same = same_reading has.read read has.spelled spelled in
       let reported = has.reported in cc
 
-  pub one_refusal : {stop other : Stop} → IsRefused opts held stop → IsRefused opts held other → stop ≡ other
+  pub one_refusal : {stop other : Stop} → FilesAreRefused opts held stop → FilesAreRefused opts held other → stop ≡ other
   one_refusal (unread e) (unread f) = cc
   one_refusal (unread e) (bad_model inputs fault read refusal is) = absurd (unread_inputs held e read)
   one_refusal (unread e) (too_many inputs m fault read spelled passed is) = absurd (unread_inputs held e read)
@@ -278,7 +278,7 @@ module _ (opts : ModelOpts) (held : HeldFiles) (before after : Option (List ℕ)
   complete_end (Err (TooLong kind)) read folder out ends = absurd (not_both opts held read ends.0)
 
   -- files that have none: the status of the first cause, unless memory was wanting or the folder failed
-  pub refused_end : {stop : Stop} (end : Result Verdict Stop) → IsRefused opts held stop → Ends opts held before after end
+  pub refused_end : {stop : Stop} (end : Result Verdict Stop) → FilesAreRefused opts held stop → Ends opts held before after end
       → (end_status end ≡ status_of stop) ⊎ ((end_status end ≡ 1) ⊎ ((kind : FileKind) × (end ≡ Err (CannotRead kind))))
   refused_end (Ok given) why ends = absurd (not_both opts held ends why)
   refused_end (Err OutOfMemory) why ends = inr (inl refl)
@@ -296,7 +296,7 @@ module _ (opts : ModelOpts) (held : HeldFiles) (before after : Option (List ℕ)
   refused_end (Err (TooLong kind)) why ends = inl (ap status_of (one_refusal opts held ends.0 why))
 
   pub refusal_has_cause : (end : Result Verdict Stop) → IsRefusal (end_status end) → Ends opts held before after end
-      → (stop : Stop) × IsRefused opts held stop × (end_status end ≡ status_of stop)
+      → (stop : Stop) × FilesAreRefused opts held stop × (end_status end ≡ status_of stop)
   refusal_has_cause (Ok (Accepted rows omissions)) known ends = absurd (false≢true known)
   refusal_has_cause (Ok (BadRow line)) known ends = absurd (false≢true known)
   refusal_has_cause (Ok (BadProof line)) known ends = absurd (false≢true known)

@@ -16,12 +16,12 @@ use Rattle.proof_check.specs.declared.verdict.CheckFault.{CheckFault}
 use Rattle.proof_check.specs.declared.verdict.CheckFault.TheVariants.{BadModel, Limits, Report, NoMemory}
 
 -- a verdict as the code gives it, a tuple as its pairs
-abbrev pub told : defined.Verdict → Verdict
-told (defined.Accepted rows omissions) = Accepted rows omissions
-told (defined.BadRow line) = BadRow line
-told (defined.BadProof line) = BadProof line
-told (defined.BadOmission line) = BadOmission line
-told (defined.Uncovered tuple) = Uncovered (pairs_of tuple)
+abbrev pub verdict_given : defined.Verdict → Verdict
+verdict_given (defined.Accepted rows omissions) = Accepted rows omissions
+verdict_given (defined.BadRow line) = BadRow line
+verdict_given (defined.BadProof line) = BadProof line
+verdict_given (defined.BadOmission line) = BadOmission line
+verdict_given (defined.Uncovered tuple) = Uncovered (pairs_of tuple)
 
 -- the file of the model spells the model
 abbrev pub Spells : ModelOpts → List ℕ → ModelView → Type 0
@@ -37,7 +37,7 @@ report_of m report = readings.read_rows m readings.Suite report
 abbrev pub IsCheckOf : ModelOpts → List ℕ → List ℕ → List ℕ → Result Verdict CheckFault → Type 0
 IsCheckOf opts model report proof (Ok verdict) =
     (m : ModelView) × Spells opts model m × (limit_passed m ≡ None) × (reading : readings.RowReading) × (report_of m report ≡ Ok reading)
-    × (verdict ≡ told (defined.verdict m reading.rows proof))
+    × (verdict ≡ verdict_given (defined.verdict m reading.rows proof))
 IsCheckOf opts model report proof (Err (BadModel fault)) = IsRefusalOf opts model fault × (fault ≢ models.NoMemory)
 IsCheckOf opts model report proof (Err (Limits fault)) = (m : ModelView) × Spells opts model m × (limit_passed m ≡ Some fault)
 IsCheckOf opts model report proof (Err (Report fault)) =

@@ -8,8 +8,8 @@ use Rattle.command_line.specs.Stops.{stop_of_model, stop_of_plan, stop_of_rows}
 use Rattle.command_line.specs.declared.stop.Stop.{Stop}
 use Rattle.command_line.specs.declared.stop.Stop.TheVariants.{OutOfMemory, Spent, BadWord, BadModel, BadConstraint, BadRows, NoResult, BadResult, CannotRead, CannotWrite, CannotWriteReport, TooMany, TooLong}
 use Rattle.command_line.specs.declared.files.FileKind.{FileKind}
-use Rattle.proof_check.specs.Checks.{told}
-use Rattle.proof_check.specs.Runs.{HasReadings, HeldFiles, Inputs, IsRefused, inputs_of}
+use Rattle.proof_check.specs.Checks.{verdict_given}
+use Rattle.proof_check.specs.Runs.{HasReadings, HeldFiles, Inputs, FilesAreRefused, inputs_of}
 use Rattle.proof_check.specs.declared.verdict.Verdict.{Verdict}
 use Rattle.proof_check.specs.declared.verdict.CheckFault.{CheckFault}
 use Rattle.proof_check.specs.declared.verdict.CheckFault.TheVariants as check_faults
@@ -32,7 +32,7 @@ pub record FitLimits (inputs : Inputs) : Type 0 where
 pub data StopsBefore (opts : ModelOpts) (held : HeldFiles) (stop : Stop) : Type 0 where
   no_memory : stop ≡ OutOfMemory → StopsBefore opts held stop
   cannot_read : (kind : FileKind) → stop ≡ CannotRead kind → StopsBefore opts held stop
-  is_refused : IsRefused opts held stop → StopsBefore opts held stop
+  is_refused : FilesAreRefused opts held stop → StopsBefore opts held stop
 
 -- a stop of the words, of the search or of what is written isn't one of these
 abbrev pub is_before : Stop → Bool
@@ -56,7 +56,7 @@ Reads opts held (Ok inputs) = inputs_of held ≡ Ok inputs
 Reads opts held (Err stop) = StopsBefore opts held stop
 
 abbrev pub Answers : ModelOpts → HeldFiles → Result Verdict Stop → Type 0
-Answers opts held (Ok given) = HasReadings opts (λ m lines proof. given ≡ told (verdict m lines proof)) held
+Answers opts held (Ok given) = HasReadings opts (λ m lines proof. given ≡ verdict_given (verdict m lines proof)) held
 Answers opts held (Err stop) = StopsBefore opts held stop
 
 -- the count of faults of the output: it rose where the output couldn't be written, and else it stays

@@ -26,7 +26,7 @@ use Rattle.command_line.specs.declared.stop.Stop.TheVariants.{OutOfMemory, BadRo
 use Rattle.command_line.specs.declared.stop.Quantity.TheVariants.{Rows}
 use Rattle.command_line.specs.declared.files.FileKind.{FileKind}
 use Rattle.command_line.specs.declared.files.FileKind.TheVariants as kinds
-use Rattle.proof_check.specs.Checks.{Spells, report_of, told}
+use Rattle.proof_check.specs.Checks.{Spells, report_of, verdict_given}
 use Rattle.proof_check.specs.declared.verdict.Verdict.{Verdict}
 use Rattle.proof_check.specs.declared.verdict.Verdict.TheVariants.{Accepted, BadRow, BadProof, BadOmission, Uncovered}
 
@@ -93,17 +93,17 @@ AreRead opts held = HasReadings opts (λ m lines proof. Unit {0}) held
 
 -- why files have no readings, the first cause in the order of a run: one can't be read, the model file is refused, its
 -- model passes a limit, or the report is refused
-pub data IsRefused (opts : ModelOpts) (held : HeldFiles) (stop : Stop) : Type 0 where
-  unread : inputs_of held ≡ Err stop → IsRefused opts held stop
+pub data FilesAreRefused (opts : ModelOpts) (held : HeldFiles) (stop : Stop) : Type 0 where
+  unread : inputs_of held ≡ Err stop → FilesAreRefused opts held stop
   bad_model :
       (inputs : Inputs) (fault : ModelFault) → inputs_of held ≡ Ok inputs → IsRefusalOf opts inputs.model fault
-      → stop ≡ stop_of_model fault → IsRefused opts held stop
+      → stop ≡ stop_of_model fault → FilesAreRefused opts held stop
   too_many :
       (inputs : Inputs) (m : ModelView) (fault : PlanFault) → inputs_of held ≡ Ok inputs → Spells opts inputs.model m
-      → limit_passed m ≡ Some fault → stop ≡ stop_of_plan fault → IsRefused opts held stop
+      → limit_passed m ≡ Some fault → stop ≡ stop_of_plan fault → FilesAreRefused opts held stop
   bad_report :
       (inputs : Inputs) (m : ModelView) (fault : RowsFault) → inputs_of held ≡ Ok inputs → Spells opts inputs.model m
-      → limit_passed m ≡ None → report_of m inputs.report ≡ Err fault → stop ≡ stop_of_report fault → IsRefused opts held stop
+      → limit_passed m ≡ None → report_of m inputs.report ≡ Err fault → stop ≡ stop_of_report fault → FilesAreRefused opts held stop
 
 -- the status of a verdict: 0 where it accepts, 10 where it refuses
 abbrev pub verdict_status : defined.Verdict → ℕ
@@ -133,11 +133,11 @@ answer_text (Uncovered pairs) = codes "refused: uncovered " ++ pairs_text pairs 
 -- the files are refused
 abbrev pub Ends : ModelOpts → HeldFiles → Option (List ℕ) → Option (List ℕ) → Result Verdict Stop → Type 0
 Ends opts held before after (Ok given) =
-    HasReadings opts (λ m lines proof. (given ≡ told (verdict m lines proof)) × Puts Done before after (verdict_text (verdict m lines proof))) held
+    HasReadings opts (λ m lines proof. (given ≡ verdict_given (verdict m lines proof)) × Puts Done before after (verdict_text (verdict m lines proof))) held
 Ends opts held before after (Err CannotWriteReport) = HasReadings opts (λ m lines proof. Puts Failed before after (verdict_text (verdict m lines proof))) held
 Ends opts held before after (Err OutOfMemory) = after ≡ before
 Ends opts held before after (Err (CannotRead kind)) = after ≡ before
-Ends opts held before after (Err stop) = IsRefused opts held stop × (after ≡ before)
+Ends opts held before after (Err stop) = FilesAreRefused opts held stop × (after ≡ before)
 
 -- the status of an end, and the line that tells why a run stopped
 abbrev pub end_status : Result Verdict Stop → ℕ

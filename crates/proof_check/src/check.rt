@@ -9,7 +9,7 @@ ghost use Rattle.refutation.specs.Reading.{omissions_meant};
 ghost use Rattle.row_text.specs.Readings.{IsFileOf};
 ghost use Rattle.row_text.specs.RowFiles.{seeds_seen, suite_seen};
 ghost use Rattle.tuple_index.specs.Plan.{plan_of};
-ghost use Rattle.proof_check.specs.Checks.{IsCheckOf, told};
+ghost use Rattle.proof_check.specs.Checks.{IsCheckOf, verdict_given};
 
 use crate::rows::first_bad_row;
 use crate::trees::first_bad_tree;
@@ -44,7 +44,7 @@ fn judge_proof<R: Threads + Sync, G: Gate + Sync>(
     requires few { length proof.now.omissions ≤ 2 ^ 28 }
     requires least { 1 ≤ workers }
     requires most { workers ≤ 64 }
-    ensures { IfOk result (λ given. given ≡ told (by_omission model.now (suite_seen file.now) (omissions_meant proof.now.omissions)
+    ensures { IfOk result (λ given. given ≡ verdict_given (by_omission model.now (suite_seen file.now) (omissions_meant proof.now.omissions)
         (first_unrefuted model.now (format_of proof.now.form) [] 2 (as_cells model.now (omissions_meant proof.now.omissions))))) }
 {
     if let Some(line) = first_bad_tree(alloc, model, proof)? {
@@ -72,7 +72,7 @@ fn judge<R: Threads + Sync, G: Gate + Sync>(
     requires proof { length proof.now ≤ 2 ^ 28 }
     requires least { 1 ≤ workers }
     requires most { workers ≤ 64 }
-    ensures { IfOk result (λ given. given ≡ told (verdict model.now (seeds_seen file.now) proof.now)) }
+    ensures { IfOk result (λ given. given ≡ verdict_given (verdict model.now (seeds_seen file.now) proof.now)) }
 {
     if let Some(line) = first_bad_row(model, file) {
         return Ok(Verdict::BadRow(line));

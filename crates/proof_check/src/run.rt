@@ -15,7 +15,7 @@ ghost use Rattle.command_line.specs.Stops as stops;
 ghost use Rattle.command_line.specs.Told.{Tells};
 ghost use Rattle.command_line.specs.Words.{opts_of, texts};
 ghost use Rattle.proof_check.specs.RunSteps.{Answers, CountsOut, FitLimits, Reads, is_before, stop_of_check};
-ghost use Rattle.proof_check.specs.Runs.{AreRead, Ends, HasReadings, HasVerdict, HeldFiles, Holds, IsRefusal, IsRefused, IsRun, IsStatus, IsTold, ReadFaults, ReadsRose, answer_text, end_status, end_text, inputs_of, verdict_status};
+ghost use Rattle.proof_check.specs.Runs.{AreRead, Ends, HasReadings, HasVerdict, HeldFiles, Holds, IsRefusal, FilesAreRefused, IsRun, IsStatus, IsTold, ReadFaults, ReadsRose, answer_text, end_status, end_text, inputs_of, verdict_status};
 ghost use Rattle.proof_check.specs.Words.{IsWordFault, asked_by, names_in, names_seen, settings_seen};
 
 use crate::check::check_bytes;
@@ -282,7 +282,7 @@ pub fn run_check<R: Threads + Sync, F: Folder, O: Sink, E: Sink>(
         HasReadings (opts_of s) (λ m lines proof. (result ≡ verdict_status (verdict m lines proof)) ⊎ (result ≡ 1)) held }
     // Files that have none, where no count of faults of reading them rose: the status of the first cause.
     ensures refused { (s : Settings) (held : HeldFiles) (stop : Stop) → asked_by (texts words.now) ≡ Ok s →
-        Holds (F.file files.old) (names_in (texts words.now)) held → IsRefused (opts_of s) held stop →
+        Holds (F.file files.old) (names_in (texts words.now)) held → FilesAreRefused (opts_of s) held stop →
         ¬ ReadsRose (names_in (texts words.now)) (F.read_faults files.old) (F.read_faults files.new) →
         (result ≡ stops.status_of stop) ⊎ (result ≡ 1) }
     // No file.
@@ -293,7 +293,7 @@ pub fn run_check<R: Threads + Sync, F: Folder, O: Sink, E: Sink>(
     // And each of these statuses has its cause. Premises: as of the headline.
     ensures refusal { IsRefusal result → (s : Settings) (held : HeldFiles) → asked_by (texts words.now) ≡ Ok s →
         Holds (F.file files.old) (names_in (texts words.now)) held →
-        (stop : Stop) × IsRefused (opts_of s) held stop × (result ≡ stops.status_of stop) }
+        (stop : Stop) × FilesAreRefused (opts_of s) held stop × (result ≡ stops.status_of stop) }
 
     // What a run does, as far as the folder tells what the files held, and the sinks what was written. Premise: the
     // words ask for s.

@@ -58,15 +58,15 @@ with_omissions front (Err line) = Err line
 
 -- the words are those of pairs, a colon and what is left, and the pairs are a tuple's
 pub record ReadsTuple (m : ModelView) (words left : List (List ℕ)) (pairs : List (ℕ × ℕ)) : Type 0 where
-  pub pairs_are : texts.read_each (texts.read_pair m) (before_first texts.is_colon words) ≡ Some pairs
-  pub left_is : after_first texts.is_colon words ≡ left
+  pub pairs_are : texts.read_each (texts.read_pair m) (before_first texts.is_colon_word words) ≡ Some pairs
+  pub left_is : after_first texts.is_colon_word words ≡ left
   pub some : 0 < length pairs
   pub rising : texts.is_rising pairs ≡ true
 
 -- they aren't, so with no tokens are they an omission's
 abbrev pub LacksTuple : ModelView → List (List ℕ) → Type 0
 LacksTuple m words =
-    (tokens : Option (List Token)) → option_and_then texts.proper (option_zip (texts.read_each (texts.read_pair m) (before_first texts.is_colon words)) tokens) ≡ None
+    (tokens : Option (List Token)) → option_and_then texts.proper (option_zip (texts.read_each (texts.read_pair m) (before_first texts.is_colon_word words)) tokens) ≡ None
 
 -- the words are those of tokens
 pub record ReadsTree (m : ModelView) (format : ℕ) (words : List (List ℕ)) (tokens : List Token) : Type 0 where

@@ -2,7 +2,7 @@ ghost use Rattle.std.specs.Prelude.{◌≡◌, ◌+◌, ◌<◌, ◌≤◌, ◌^
 ghost use Rattle.std.specs.List.{after_first, before_first};
 ghost use Rattle.cov_model.specs.Tuples.{IsRising};
 ghost use Rattle.definitions.specs.Laws.{IsOmissionOf};
-ghost use Rattle.definitions.specs.ProofText.{is_colon, is_rising, omissions_of, read_each, read_format, read_lines, read_omission, read_pair, read_token};
+ghost use Rattle.definitions.specs.ProofText.{is_colon_word, is_rising, omissions_of, read_each, read_format, read_lines, read_omission, read_pair, read_token};
 ghost use Rattle.refutation.specs.Checking.{AreOfModel};
 ghost use Rattle.refutation.specs.Proofs.{format_of, meant, omission_meant};
 ghost use Rattle.refutation.specs.Reading.{Gives, LacksTree, LacksTuple, ReadsTree, ReadsTuple, omissions_meant, pieces, proof_meant};
@@ -29,7 +29,7 @@ fn is_omit(word: &[u8]) -> bool
 
 // Whether a word is the one that parts pairs from tokens.
 fn is_colon(word: &[u8]) -> bool
-    ensures { result ≡ is_colon word.now }
+    ensures { result ≡ is_colon_word word.now }
 {
     word == b":".as_slice()
 }
@@ -68,8 +68,8 @@ impl<'a> Spelling<'a> {
     ) -> Result<bool, NoMemory>
         requires { pairs.old.items ≡ [] }
         ensures { IfOk result (λ read. MatchBool read
-            ((read_each (read_pair self.now.model) (before_first is_colon words.old) ≡ Some pairs.new.items) × (after_first is_colon words.old ≡ words.new))
-            (read_each (read_pair self.now.model) (before_first is_colon words.old) ≡ None)) }
+            ((read_each (read_pair self.now.model) (before_first is_colon_word words.old) ≡ Some pairs.new.items) × (after_first is_colon_word words.old ≡ words.new))
+            (read_each (read_pair self.now.model) (before_first is_colon_word words.old) ≡ None)) }
     {
         while let Some(word) = words.next() {
             if is_colon(word) {

@@ -51,13 +51,13 @@ status_of (TooLong input) = 9
 abbrev pub count_limit_line : EventLimit → ℕ → List ℕ
 count_limit_line limit count = codes "error: limit: " ++ limit_name limit ++ codes " " ++ decimal count ++ codes " above " ++ decimal (most limit) ++ codes "\n"
 
-abbrev pub line_of : Asked → Stop → List ℕ
-line_of asked OutOfMemory = memory_line
-line_of asked (BadLine line code) = model_line line (event_code code) (event_text code)
-line_of asked (CannotRead input) = cannot_read_line (name_of asked input)
-line_of asked CannotWrite = cannot_write_report_line
-line_of asked (TooMany limit count) = count_limit_line limit count
-line_of asked (TooLong input) = bytes_limit_line (measured input)
+abbrev pub stop_line : Asked → Stop → List ℕ
+stop_line asked OutOfMemory = memory_line
+stop_line asked (BadLine line code) = model_line line (event_code code) (event_text code)
+stop_line asked (CannotRead input) = cannot_read_line (name_of asked input)
+stop_line asked CannotWrite = cannot_write_report_line
+stop_line asked (TooMany limit count) = count_limit_line limit count
+stop_line asked (TooLong input) = bytes_limit_line (measured input)
 
 -- the status of a run: 0 where the output was written whole, but 10 where it says that a report is refused
 abbrev pub ended_status : Ended → ℕ
@@ -71,7 +71,7 @@ end_status (Err stop) = status_of stop
 -- what is told of the end: the line of the stop, where there is one
 abbrev pub end_text : Asked → Result Ended Stop → List ℕ
 end_text asked (Ok ended) = []
-end_text asked (Err stop) = line_of asked stop
+end_text asked (Err stop) = stop_line asked stop
 
 -- a sink was asked for a text: it has the whole text, or a prefix of it where its count of faults rose
 abbrev pub Tells : Option (List ℕ) → Option (List ℕ) → ℕ → ℕ → List ℕ → Type 0

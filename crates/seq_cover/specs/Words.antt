@@ -9,7 +9,8 @@ use Rattle.std.specs.declared.string.String.{String}
 use Rattle.std.specs.declared.alloc.Global.{Global}
 use Rattle.value_text.specs.Numbers.{count_of}
 use Rattle.value_text.specs.Texts.{is_same_text}
-use Rattle.definitions.specs.Settings.{file_of, has_colon, is_colon}
+use Rattle.model_lex.specs.Sections.{has_colon}
+use Rattle.definitions.specs.Settings.{file_of, is_colon}
 use Rattle.definitions.specs.Words.{missing_name}
 
 -- what one option sets: the length of the sequences, or the report that is checked

@@ -3,7 +3,7 @@ ghost use Rattle.outside_io.specs.Puts.{CountsFaults, Puts};
 ghost use Rattle.definitions.specs.Diagnostics.{bytes_limit_line, bytes_name, model_line, word_line};
 ghost use Rattle.seq_check.specs.Codes.{event_code, event_text};
 ghost use Rattle.seq_cover.specs.Commands.{asked_seen};
-ghost use Rattle.seq_cover.specs.Stops.{count_limit_line, ended_status, line_of, measured, most_of, name_of, status_of};
+ghost use Rattle.seq_cover.specs.Stops.{count_limit_line, ended_status, stop_line, measured, most_of, name_of, status_of};
 
 use crate::command::Command;
 use itoa::Buffer;
@@ -182,7 +182,7 @@ impl Stop {
 
     /// Writes the line that says why. Takes no memory.
     pub(crate) fn put_line<E: Sink>(self, command: &Command<'_>, diag: &mut E) -> WriteAnswer
-        ensures puts { Puts result (E.written diag.old) (E.written diag.new) (line_of (asked_seen command.now) self) }
+        ensures puts { Puts result (E.written diag.old) (E.written diag.new) (stop_line (asked_seen command.now) self) }
         ensures counts { CountsFaults result (E.faults diag.old) (E.faults diag.new) }
     {
         match self {

@@ -9,8 +9,8 @@ use Rattle.cov_model.specs.Fits.{FitsModel}
 use Rattle.cov_model.specs.Sound.{ModelView, IsSound}
 use Rattle.definitions.proofs.Members.{Has, all_members, member_of_all, of_filter, of_map}
 use Rattle.row_text.specs.declared.row_file.FileRow.{FileRow}
-use Rattle.tuple_index.specs.PlanFault.{told}
-use Rattle.tuple_index.proofs.ToldLemmas.{told-product}
+use Rattle.tuple_index.specs.PlanFault.{saturated}
+use Rattle.tuple_index.proofs.SaturatedLemmas.{saturated-product}
 use Rattle.suspect_tuples.specs.Sets.{AreWide}
 use Rattle.suspect_tuples.specs.Suspects.{candidate_count, suspect_sets}
 use Rattle.suspect_tuples.proofs.CountingSteps.{cells_seen}
@@ -41,11 +41,11 @@ fit_kept m rows failed test fit = all_members (λ cells. FitsModel m cells) (map
     let in_rows = zip_member rows failed of.0 (of_filter test (zip rows failed) of.0 of.1).0 in
     subst (FitsModel m) of.2 (member_of_all (λ cells. FitsModel m cells) rows of.0.0 fit in_rows))
 
--- the candidates, told
+-- the candidates, saturated
 pub told_candidates : (m : ModelView) (failing : List (List (Option ℕ))) (rows sets candidates : ℕ) → rows ≡ length failing
-    → sets ≡ told (length (suspect_sets m)) → candidates ≡ told (rows * sets) → candidates ≡ told (candidate_count m failing)
+    → sets ≡ saturated (length (suspect_sets m)) → candidates ≡ saturated (rows * sets) → candidates ≡ saturated (candidate_count m failing)
 told_candidates m failing rows sets candidates many counted multiplied =
-    multiplied ∙ ap (λ n. told (n * sets)) many ∙ ap (λ n. told (length failing * n)) counted ∙ told-product (length failing) (length (suspect_sets m))
+    multiplied ∙ ap (λ n. saturated (n * sets)) many ∙ ap (λ n. saturated (length failing * n)) counted ∙ saturated-product (length failing) (length (suspect_sets m))
 
 -- rows that are taken are no more than all
 pub few_kept : (rows : List (List (Option ℕ))) (failed : List Bool) (test : List (Option ℕ) × Bool → Bool)

@@ -7,7 +7,7 @@ use Rattle.std.proofs.lemmas.List.{length-map, map-append, get_or-replicate, len
 use Rattle.std.proofs.lemmas.List.FromFn.{length-map-range_with_len, get_or-map-range_with_len}
 use Rattle.value_text.proofs.ListLemmas.{range_with_len_more}
 use Rattle.definitions.specs.Demand.{choose}
-use Rattle.tuple_index.specs.PlanFault.{told}
+use Rattle.tuple_index.specs.PlanFault.{saturated}
 use Rattle.suspect_tuples.specs.SetCounts.{AreCounts, next_count, ways_up_to}
 use Rattle.suspect_tuples.proofs.WalkLemmas.{range_step}
 
@@ -40,7 +40,7 @@ pub counts_begin : (most : ℕ) (row : List ℕ) → row ≡ replicate (most + 1
 counts_begin most row made = record {
   long = ap length made ∙ length-replicate (most + 1) 0;
   counts = λ list k none within.
-      ap (λ r. get_or r k 0) made ∙ get_or-replicate (most + 1) k 0 0 (omega (arith, within)) ∙ sym (ap told (empty list none k));
+      ap (λ r. get_or r k 0) made ∙ get_or-replicate (most + 1) k 0 0 (omega (arith, within)) ∙ sym (ap saturated (empty list none k));
 }
   where
     empty : (list : List ℕ) → length list ≡ 0 → (k : ℕ) → ways_up_to k list ≡ 0
@@ -57,7 +57,7 @@ counts_more most items row next are made = record {
       ap (λ r. get_or r k 0) made ∙ get_or-map-range_with_len (next_count row) 0 (length row) k k 0 inside (zero-add k) ∙ at list k many within;
 }
   where
-    at : (list : List ℕ) (k : ℕ) → length list ≡ items + 1 → k ≤ most → next_count row k ≡ told (ways_up_to k list)
+    at : (list : List ℕ) (k : ℕ) → length list ≡ items + 1 → k ≤ most → next_count row k ≡ saturated (ways_up_to k list)
     at [] k many within = absurd (omega (arith, many))
     at (item ∷ list) zero many within = refl
     at (item ∷ list) (suc k) many within =
@@ -66,7 +66,7 @@ counts_more most items row next are made = record {
         let test : (suc k == 0) ≡ false = grind (arith, nat_tests) in
         let before = ap (λ i. get_or row i 0) less ∙ are.counts list k same (omega (arith, within)) in
         let here = are.counts list (suc k) same within in
-        ap (λ b. if b then 0 else told (told (get_or row (suc k - 1) 0 + get_or row (suc k) 0) + 1)) test
+        ap (λ b. if b then 0 else saturated (saturated (get_or row (suc k - 1) 0 + get_or row (suc k) 0) + 1)) test
         ∙ omega (arith, before, here, ways_of_one_more k item list)
 
 -- the next place of a row

@@ -3,7 +3,7 @@ use Rattle.std.specs.Prelude.{◌≡◌, ℕ, ◌<◌, List, map}
 use Rattle.cov_model.specs.Sound.{ModelView}
 use Rattle.definitions.specs.Limits.{SuspectCandidates, most_counted}
 use Rattle.row_text.specs.RowFiles.{suite_seen}
-use Rattle.tuple_index.specs.PlanFault.{told}
+use Rattle.tuple_index.specs.PlanFault.{saturated}
 use Rattle.suspect_tuples.specs.Suspects as defined
 use Rattle.suspect_tuples.specs.Suspects.{candidate_count, failing_rows}
 use Rattle.suspect_tuples.specs.declared.result_file.ResultFile.{ResultFile}
@@ -30,4 +30,4 @@ candidates_of m file = candidate_count m (failing_rows (suite_seen file.rows) fi
 -- a fault tells that there are more candidates than the limit, 2^22, and their number, or 2^64 - 1 where that is less
 abbrev pub IsSuspectFault : ModelView → ResultFile → SuspectFault → Type 0
 IsSuspectFault m file NoMemory = Unit {0}
-IsSuspectFault m file (TooMany n) = (most_counted SuspectCandidates < candidates_of m file) × (n ≡ told (candidates_of m file))
+IsSuspectFault m file (TooMany n) = (most_counted SuspectCandidates < candidates_of m file) × (n ≡ saturated (candidates_of m file))

@@ -1,7 +1,7 @@
 ghost use Rattle.std.specs.Prelude.{◌≡◌, ◌<◌, ◌^◌, ℕ, List, length, map, IfOk};
 ghost use Rattle.std.specs.List.{range_with_len};
 ghost use Rattle.suspect_tuples.specs.SetCounts.{next_count, ways_up_to};
-ghost use Rattle.tuple_index.specs.PlanFault.{told};
+ghost use Rattle.tuple_index.specs.PlanFault.{saturated};
 
 use std::alloc::Global;
 use value_text::NoMemory;
@@ -31,7 +31,7 @@ fn next_counts(alloc: Global, row: &[u64]) -> Result<Vec<u64>, NoMemory>
 // How many sets of 1 to `most` of so many items there are, or 2^64 - 1 where that is less.
 pub(crate) fn count_sets(alloc: Global, items: usize, most: usize) -> Result<u64, NoMemory>
     requires { most < 2 ^ 16 }
-    ensures { IfOk result (λ count. (list : List ℕ) → length list ≡ items → count ≡ told (ways_up_to most list)) }
+    ensures { IfOk result (λ count. (list : List ℕ) → length list ≡ items → count ≡ saturated (ways_up_to most list)) }
 {
     let mut row = vec![in alloc; 0; most + 1]?;
     let mut counted = 0;

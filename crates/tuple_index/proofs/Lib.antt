@@ -2,7 +2,7 @@ pub mod ListingLemmas
 pub mod TupleLemmas
 pub mod PlaceLemmas
 pub mod RankLemmas
-pub mod ToldLemmas
+pub mod SaturatedLemmas
 pub mod LoopLemmas
 pub mod UnrankLemmas
 pub mod ChoiceLemmas

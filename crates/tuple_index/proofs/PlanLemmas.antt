@@ -15,7 +15,7 @@ use Rattle.tuple_index.specs.declared.fault.PlanFault.TheVariants.{TooManySets, 
 use Rattle.tuple_index.specs.Kept.{IsKept, of_values, with_sets}
 use Rattle.tuple_index.specs.Places.{RisesFrom, tuple_count, tuple_lists}
 use Rattle.tuple_index.specs.Plan.{PlanView, plan_of, tuple_cells}
-use Rattle.tuple_index.specs.PlanFault.{limit_passed, told}
+use Rattle.tuple_index.specs.PlanFault.{limit_passed, saturated}
 use Rattle.tuple_index.specs.Signs.{values_of_sign}
 use Rattle.value_text.proofs.ListLemmas.{map-get_or-range_with_len}
 use Rattle.tuple_index.proofs.ListingLemmas.{map_map}
@@ -70,9 +70,9 @@ tuples_counted m values f sets same listed =
     ∙ sym (length-flat_map (tuples_of m) (demanded_sets m))
 
 pub total_told : {X : Type 0} (m : ModelView) (values : PlanView) (f : X → List ℕ) (sets lent : List X) (n : ℕ) → values ≡ of_values (plan_of m)
-    → map f sets ≡ demanded_sets m → lent ≡ sets → n ≡ told (sum_by (λ set. tuple_count values (f set)) lent) → n ≡ told (length (demanded_tuples m))
+    → map f sets ≡ demanded_sets m → lent ≡ sets → n ≡ saturated (sum_by (λ set. tuple_count values (f set)) lent) → n ≡ saturated (length (demanded_tuples m))
 total_told m values f sets lent n same listed all is =
-    is ∙ ap (λ xs. told (sum_by (λ set. tuple_count values (f set)) xs)) all ∙ ap told (tuples_counted m values f sets same listed)
+    is ∙ ap (λ xs. saturated (sum_by (λ set. tuple_count values (f set)) xs)) all ∙ ap saturated (tuples_counted m values f sets same listed)
 
 -- with the demanded sets it is the plan
 pub made_is : (m : ModelView) (values plan : PlanView) (sets : List (List ℕ)) → values ≡ of_values (plan_of m) → sets ≡ demanded_sets m
@@ -88,19 +88,19 @@ sets_rise m values sets same listed =
     ∙ length-map-range_with_len (positive_values m) 0 (length m.params) in
     subst (λ n. All (RisesFrom 0 n) sets) (sym long) (subst (All (RisesFrom 0 (length m.params))) (sym listed) (demanded_rise m))
 
-pub sets_few : {X : Type 0} (m : ModelView) (f : X → List ℕ) (sets : List X) (n : ℕ) → n ≡ told (length (choices m)) → n ≤ 2 ^ 20
+pub sets_few : {X : Type 0} (m : ModelView) (f : X → List ℕ) (sets : List X) (n : ℕ) → n ≡ saturated (length (choices m)) → n ≤ 2 ^ 20
     → map f sets ≡ demanded_sets m → length sets ≤ 2 ^ 20
 sets_few m f sets n is few listed =
     omega (arith, length-map sets f, ap length listed, few_in_order (map (rising m) (choices m)), length-map (choices m) (rising m), is, few)
 
 -- which limit is passed
-pub sets_passed : (m : ModelView) (n : ℕ) → n ≡ told (length (choices m)) → 2 ^ 20 < n → limit_passed m ≡ Some (TooManySets n)
+pub sets_passed : (m : ModelView) (n : ℕ) → n ≡ saturated (length (choices m)) → 2 ^ 20 < n → limit_passed m ≡ Some (TooManySets n)
 sets_passed m n is over =
     let past : 2 ^ 20 < length (choices m) = omega (arith, is, over) in
     let test : nat_lt (2 ^ 20) (length (choices m)) ≡ true = grind (arith, nat_tests) in
     rw test (ap (λ k. Some (TooManySets k)) (sym is))
 
-pub tuples_passed : (m : ModelView) (n k : ℕ) → n ≡ told (length (choices m)) → n ≤ 2 ^ 20 → k ≡ told (length (demanded_tuples m)) → 2 ^ 26 < k
+pub tuples_passed : (m : ModelView) (n k : ℕ) → n ≡ saturated (length (choices m)) → n ≤ 2 ^ 20 → k ≡ saturated (length (demanded_tuples m)) → 2 ^ 26 < k
     → limit_passed m ≡ Some (TooManyTuples k)
 tuples_passed m n k is few total over =
     let within : length (choices m) ≤ 2 ^ 20 = omega (arith, is, few) in
@@ -109,7 +109,7 @@ tuples_passed m n k is few total over =
     let second : nat_lt (2 ^ 26) (length (demanded_tuples m)) ≡ true = grind (arith, nat_tests) in
     rw (first, second) (ap (λ j. Some (TooManyTuples j)) (sym total))
 
-pub none_passed : (m : ModelView) (n k : ℕ) → n ≡ told (length (choices m)) → n ≤ 2 ^ 20 → k ≡ told (length (demanded_tuples m)) → k ≤ 2 ^ 26
+pub none_passed : (m : ModelView) (n k : ℕ) → n ≡ saturated (length (choices m)) → n ≤ 2 ^ 20 → k ≡ saturated (length (demanded_tuples m)) → k ≤ 2 ^ 26
     → limit_passed m ≡ None
 none_passed m n k is few total most =
     let within : length (choices m) ≤ 2 ^ 20 = omega (arith, is, few) in

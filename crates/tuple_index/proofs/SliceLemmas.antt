@@ -11,7 +11,7 @@ use Rattle.definitions.specs.Demand.{is_among}
 use Rattle.tuple_index.specs.Kept.{IsKept}
 use Rattle.tuple_index.specs.Plan.{PlanView, set_at}
 use Rattle.tuple_index.specs.Places.{IsOwnSlice, has_part, negatives_of, negative_ways, place_of, start_of, tuple_count, values_in, ways, ways_before, ways_in}
-use Rattle.tuple_index.specs.PlanFault.{told}
+use Rattle.tuple_index.specs.PlanFault.{saturated}
 use Rattle.tuple_index.proofs.PlaceLemmas.{slice_get-place_of}
 use Rattle.tuple_index.proofs.RankLemmas.{count_within, ways_negative}
 
@@ -46,7 +46,7 @@ within_count plan set (Negative q v) own part =
     let inside : place * each + each ≤ negative_ways plan set q = mul-add-le place (length (negatives_of plan q)) each below in
     omega (arith, ways_negative plan q v 0 set, before_within plan set q set part, inside)
 
--- so they are few, and their numbers are told exactly
+-- so they are few, and their numbers are counted exactly
 pub record SliceWithin (plan : PlanView) (set : ℕ) (slice : Slice) (start count : ℕ) : Type 0 where
   pub first : start ≡ start_of plan (set_at plan set) slice
   pub many : count ≡ ways_in plan (set_at plan set) slice
@@ -54,8 +54,8 @@ pub record SliceWithin (plan : PlanView) (set : ℕ) (slice : Slice) (start coun
   pub few : start + count ≤ 2 ^ 26
 
 pub slice_within : (plan : PlanView) (set : ℕ) (slice : Slice) (start count : ℕ) → IsKept plan → set < length plan.sets → IsOwnSlice plan slice
-    → has_part (set_at plan set) slice ≡ true → start ≡ told (start_of plan (set_at plan set) slice)
-    → count ≡ told (ways (values_in plan slice) (set_at plan set))
+    → has_part (set_at plan set) slice ≡ true → start ≡ saturated (start_of plan (set_at plan set) slice)
+    → count ≡ saturated (ways (values_in plan slice) (set_at plan set))
     → SliceWithin plan set slice start count
 slice_within plan set slice start count kept exists own part told_start told_count =
     let members = set_at plan set in

@@ -11,11 +11,11 @@ use Rattle.std.proofs.lemmas.Bool.{cases_lt}
 use Rattle.cov_model.specs.declared.slice.Slice.TheVariants.{Positive, Negative}
 use Rattle.tuple_index.specs.Plan.{PlanView}
 use Rattle.tuple_index.specs.Places.{values_in, negatives_of, value_lists, ways, negative_ways, negative_lists, tuple_lists, tuple_count}
-use Rattle.tuple_index.specs.PlanFault.{told}
+use Rattle.tuple_index.specs.PlanFault.{saturated}
 use Rattle.tuple_index.proofs.PlaceLemmas.{length-value_lists, slice_get-pieces, slice_get-append_left, slice_get-append_right}
 use Rattle.tuple_index.proofs.RankLemmas.{length_negative, length-negative_lists}
 
--- a place, parted by a number of ways that is told up to the greatest of 64 bits
+-- a place, parted by a number of ways that is saturated up to the greatest of 64 bits
 pub record Parts (r len w each : ℕ) : Type 0 where
   pub positive : 0 < each
   pub digit : r / each < len
@@ -35,7 +35,7 @@ exact_parts r len (suc w) within =
       whole = omega (arith, whole, turned);
     }
 
-pub parts : (r len w each : ℕ) → r < 2 ^ 26 → r < len * w → each ≡ told w → Parts r len w each
+pub parts : (r len w each : ℕ) → r < 2 ^ 26 → r < len * w → each ≡ saturated w → Parts r len w each
 parts r len w each small within told_ways =
     elim (cases_lt (2 ^ 64 - 1) w) [
       | inr below ↦ let same : each ≡ w = omega (arith, told_ways, below) in
@@ -70,7 +70,7 @@ pub left_within : (values : ℕ → List ℕ) (members into : List ℕ) (i rest 
 left_within values members into i rest place so_far more = subst (λ n. rest < n) (at_drop_more (ways values) members i 0 more) so_far.within
 
 pub put_step : (values : ℕ → List ℕ) (members into : List ℕ) (i rest place each v : ℕ) → PutSoFar values members into i rest place → i < length members
-    → each ≡ told (ways values (drop (i + 1) members)) → slice_get (values (get_or members i 0)) (rest / each) ≡ Some v
+    → each ≡ saturated (ways values (drop (i + 1) members)) → slice_get (values (get_or members i 0)) (rest / each) ≡ Some v
     → PutSoFar values members (slice_set into i v) (i + 1) (rest % each) place
 put_step values members into i rest place each v so_far more told_ways here =
     let own = values (get_or members i 0) in
@@ -103,7 +103,7 @@ put_end values members into i rest place so_far past =
 
 -- the tuple at a place among those with a negative value of a member
 pub negative_at : (plan : PlanView) (set : List ℕ) (q place each v : ℕ) → place < 2 ^ 26 → place < negative_ways plan set q
-    → each ≡ told (ways (values_in plan (Negative q 0)) set)
+    → each ≡ saturated (ways (values_in plan (Negative q 0)) set)
     → v ≡ get_or (negatives_of plan q) (place / each) 0
     → (chosen : List ℕ) → slice_get (value_lists (values_in plan (Negative q v)) set) (place % each) ≡ Some chosen
     → slice_get (negative_lists plan set q) place ≡ Some chosen
@@ -121,7 +121,7 @@ pub record HeldFrom (plan : PlanView) (set : List ℕ) (i place rank : ℕ) : Ty
       ≡ Some chosen
 
 pub held_first : (plan : PlanView) (set : List ℕ) (rank positive : ℕ) → rank < 2 ^ 26 → rank < tuple_count plan set
-    → positive ≡ told (ways (values_in plan Positive) set)
+    → positive ≡ saturated (ways (values_in plan Positive) set)
     → positive ≤ rank → HeldFrom plan set 0 (rank - positive) rank
 held_first plan set rank positive small within told_ways past =
     let exact : positive ≡ ways (values_in plan Positive) set = omega (arith, told_ways, past, small) in
@@ -134,7 +134,7 @@ held_first plan set rank positive small within told_ways past =
     }
 
 pub held_here : (plan : PlanView) (set : List ℕ) (i place rank count : ℕ) → HeldFrom plan set i place rank → i < length set
-    → count ≡ told (negative_ways plan set (get_or set i 0))
+    → count ≡ saturated (negative_ways plan set (get_or set i 0))
     → place < count → (chosen : List ℕ) → slice_get (negative_lists plan set (get_or set i 0)) place ≡ Some chosen → slice_get (tuple_lists plan set) rank
     ≡ Some chosen
 held_here plan set i place rank count held more told_ways below chosen there =
@@ -142,7 +142,7 @@ held_here plan set i place rank count held more told_ways below chosen there =
     ∙ slice_get-append_left (negative_lists plan set (get_or set i 0)) (flat_map (negative_lists plan set) (drop (i + 1) set)) place chosen there)
 
 pub held_step : (plan : PlanView) (set : List ℕ) (i place rank count : ℕ) → HeldFrom plan set i place rank → i < length set
-    → count ≡ told (negative_ways plan set (get_or set i 0))
+    → count ≡ saturated (negative_ways plan set (get_or set i 0))
     → count ≤ place → HeldFrom plan set (i + 1) (place - count) rank
 held_step plan set i place rank count held more told_ways past =
     let exact : count ≡ negative_ways plan set (get_or set i 0) = omega (arith, told_ways, past, held.small) in

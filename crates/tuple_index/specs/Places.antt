@@ -80,9 +80,9 @@ slice_given plan (p ∷ set) [] = Positive
 slice_given plan (p ∷ set) (v ∷ chosen) = if is_negative plan p v then Negative p v else slice_given plan set chosen
 
 -- the parameter of a negative slice exists
-abbrev pub IsSliceOf : PlanView → Slice → Type 0
-IsSliceOf plan Positive = Unit {0}
-IsSliceOf plan (Negative q v) = q < length plan.positives
+abbrev pub IsSliceOfPlan : PlanView → Slice → Type 0
+IsSliceOfPlan plan Positive = Unit {0}
+IsSliceOfPlan plan (Negative q v) = q < length plan.positives
 
 -- so does its value, which is a negative one
 abbrev pub IsOwnSlice : PlanView → Slice → Type 0

@@ -2,7 +2,7 @@ ghost use Rattle.definitions.specs.Demand.{choices, singles};
 ghost use Rattle.std.specs.Prelude.{◌++◌, sum_by, OnOk, ◌≡◌, ◌<◌, [], map, length, IfOk};
 ghost use Rattle.std.specs.List.{range_with_len};
 ghost use Rattle.tuple_index.specs.Counts.{IsRow, group_ways, next_entry, products};
-ghost use Rattle.tuple_index.specs.PlanFault.{told};
+ghost use Rattle.tuple_index.specs.PlanFault.{saturated};
 
 use crate::demand::is_single;
 use cov_model::{Group, TestModel};
@@ -46,7 +46,7 @@ fn first_row(alloc: Global, k: u32) -> Result<Vec<u64>, NoMemory>
 ///
 /// `NoMemory` where there is no room for the sums.
 pub fn sum_of_products(alloc: Global, k: u32, counts: &[u64]) -> Result<u64, NoMemory>
-    ensures { IfOk result (λ sum. sum ≡ told (products k counts.now)) }
+    ensures { IfOk result (λ sum. sum ≡ saturated (products k counts.now)) }
 {
     let mut row = first_row(alloc, k)?;
     let mut left = counts.len();
@@ -64,7 +64,7 @@ pub fn sum_of_products(alloc: Global, k: u32, counts: &[u64]) -> Result<u64, NoM
 ///
 /// `NoMemory` where there is no room for counting them.
 pub fn count_group(alloc: Global, group: &Group) -> Result<u64, NoMemory>
-    ensures { IfOk result (λ count. count ≡ told (group_ways group.now)) }
+    ensures { IfOk result (λ count. count ≡ saturated (group_ways group.now)) }
 {
     let ones = vec![in alloc; 1; group.members.len()]?;
     sum_of_products(alloc, group.order, ones.as_slice())
@@ -85,7 +85,7 @@ fn push_single_counts(model: &TestModel, into: &mut Vec<u64>) -> Result<(), NoMe
 
 // The number of ways of each group.
 fn group_counts(alloc: Global, groups: &[Group]) -> Result<Vec<u64>, NoMemory>
-    ensures { IfOk result (λ counts. counts.items ≡ map (λ group. told (group_ways group)) groups.now) }
+    ensures { IfOk result (λ counts. counts.items ≡ map (λ group. saturated (group_ways group)) groups.now) }
 {
     let mut counts = Vec::new(alloc);
     for group in groups {
@@ -97,7 +97,7 @@ fn group_counts(alloc: Global, groups: &[Group]) -> Result<Vec<u64>, NoMemory>
 
 // The number of subsets of all relations.
 fn count_relations(alloc: Global, relations: &[Group]) -> Result<u64, NoMemory>
-    ensures { IfOk result (λ count. count ≡ told (sum_by group_ways relations.now)) }
+    ensures { IfOk result (λ count. count ≡ saturated (sum_by group_ways relations.now)) }
 {
     let mut count: u64 = 0;
     for relation in relations {
@@ -113,7 +113,7 @@ fn count_relations(alloc: Global, relations: &[Group]) -> Result<u64, NoMemory>
 ///
 /// `NoMemory` where there is no room for counting them.
 pub fn count_choices(alloc: Global, model: &TestModel) -> Result<u64, NoMemory>
-    ensures { IfOk result (λ count. count ≡ told (length (choices model.now))) }
+    ensures { IfOk result (λ count. count ≡ saturated (length (choices model.now))) }
 {
     let demand = model.demand();
     let mut units = group_counts(alloc, demand.subs.as_slice())?;

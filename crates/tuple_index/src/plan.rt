@@ -2,9 +2,9 @@ ghost use Rattle.std.specs.Prelude.{◌≡◌, ◌+◌, true, ◌^◌, ◌<◌, 
 ghost use Rattle.cov_model.specs.Sound.{ModelView};
 ghost use Rattle.definitions.specs.Demand.{is_among, tuples_of};
 ghost use Rattle.tuple_index.specs.Kept.{IsKept, of_values, with_sets};
-ghost use Rattle.tuple_index.specs.Places.{RisesFrom, IsOwnSlice, has_part, ways_in, negative_lists, negative_ways, IsSliceOf, negatives_of, place, place_of, rank_of, slice_given, start_of, tuple_count, tuple_lists, value_lists, values_in, ways, ways_before};
+ghost use Rattle.tuple_index.specs.Places.{RisesFrom, IsOwnSlice, has_part, ways_in, negative_lists, negative_ways, IsSliceOfPlan, negatives_of, place, place_of, rank_of, slice_given, start_of, tuple_count, tuple_lists, value_lists, values_in, ways, ways_before};
 ghost use Rattle.tuple_index.specs.Plan.{IsChoice, is_negative, plan_of, set_at, tuple_cells};
-ghost use Rattle.tuple_index.specs.PlanFault.{IsFaultOf, limit_passed, told};
+ghost use Rattle.tuple_index.specs.PlanFault.{IsFaultOf, limit_passed, saturated};
 
 use crate::bases::bases_of;
 use crate::count::count_choices;
@@ -103,7 +103,7 @@ impl Plan {
     // How many demanded tuples these sets have.
     fn count_all(&self, sets: &[Vec<ParamNo>]) -> u64
         requires { All (RisesFrom 0 (length self.now.positives)) (map (λ set. set.items) sets.now) }
-        ensures { result ≡ told (sum_by (λ set. tuple_count self.now set.items) sets.now) }
+        ensures { result ≡ saturated (sum_by (λ set. tuple_count self.now set.items) sets.now) }
     {
         let mut count: u64 = 0;
         for set in sets {
@@ -274,7 +274,7 @@ impl Plan {
     // How many choices of values a slice has.
     fn ways(&self, members: &[ParamNo], slice: Slice) -> u64
         requires { All (λ p. p < length self.now.positives) members.now }
-        ensures { result ≡ told (ways (values_in self.now slice) members.now) }
+        ensures { result ≡ saturated (ways (values_in self.now slice) members.now) }
     {
         let mut count: u64 = 1;
         for p in members {
@@ -287,7 +287,7 @@ impl Plan {
     fn place(&self, members: &[ParamNo], values: &[ValueNo], slice: Slice) -> u64
         requires exist { All (λ p. p < length self.now.positives) members.now }
         requires as_long { length values.now ≡ length members.now }
-        ensures { result ≡ told (place (values_in self.now slice) members.now values.now) }
+        ensures { result ≡ saturated (place (values_in self.now slice) members.now values.now) }
     {
         let mut count: u64 = 0;
         for (i, p) in members.iter().enumerate() {
@@ -311,7 +311,7 @@ impl Plan {
         requires exist { All (λ p. p < length self.now.positives) members.now }
         requires as_long { length values.now ≡ length members.now }
         ensures value { result ≡ slice_given self.now members.now values.now }
-        ensures own { IsSliceOf self.now result }
+        ensures own { IsSliceOfPlan self.now result }
     {
         for (i, p) in members.iter().enumerate() {
             if self.has_negative(*p, values[i]) {
@@ -325,7 +325,7 @@ impl Plan {
     fn negative_ways(&self, members: &[ParamNo], p: ParamNo) -> u64
         requires exist { All (λ p. p < length self.now.positives) members.now }
         requires own { p < length self.now.positives }
-        ensures { result ≡ told (negative_ways self.now members.now p) }
+        ensures { result ≡ saturated (negative_ways self.now members.now p) }
     {
         let count = self.negatives(p).len() as u64;
         count.saturating_mul(self.ways(members, Slice::Negative(p, 0)))
@@ -334,7 +334,7 @@ impl Plan {
     // How many demanded tuples a set has.
     fn count_tuples(&self, members: &[ParamNo]) -> u64
         requires { All (λ p. p < length self.now.positives) members.now }
-        ensures { result ≡ told (tuple_count self.now members.now) }
+        ensures { result ≡ saturated (tuple_count self.now members.now) }
     {
         let mut count = self.ways(members, Slice::Positive);
         for p in members {
@@ -346,7 +346,7 @@ impl Plan {
     // How many tuples have a negative value of a member before this one.
     fn ways_before(&self, members: &[ParamNo], q: ParamNo) -> u64
         requires { All (λ p. p < length self.now.positives) members.now }
-        ensures { result ≡ told (ways_before self.now members.now q members.now) }
+        ensures { result ≡ saturated (ways_before self.now members.now q members.now) }
     {
         let mut count: u64 = 0;
         for p in members {
@@ -361,8 +361,8 @@ impl Plan {
     // How many tuples of a set stand in the slices before.
     fn start(&self, members: &[ParamNo], slice: Slice) -> u64
         requires exist { All (λ p. p < length self.now.positives) members.now }
-        requires own { IsSliceOf self.now slice }
-        ensures { result ≡ told (start_of self.now members.now slice) }
+        requires own { IsSliceOfPlan self.now slice }
+        ensures { result ≡ saturated (start_of self.now members.now slice) }
     {
         match slice {
             Slice::Positive => 0,
@@ -381,7 +381,7 @@ impl Plan {
     fn place_of_values(&self, members: &[ParamNo], values: &[ValueNo]) -> u64
         requires exist { All (λ p. p < length self.now.positives) members.now }
         requires as_long { length values.now ≡ length members.now }
-        ensures { result ≡ told (rank_of self.now members.now values.now) }
+        ensures { result ≡ saturated (rank_of self.now members.now values.now) }
     {
         let slice = self.given_slice(members, values);
         self.start(members, slice)

@@ -17,7 +17,7 @@ use Rattle.constraint_ast.specs.Reading.{IfRefused}
 use Rattle.constraint_ast.specs.Trees.{Tree, Trees, Each, Either, tree_of, trees_in}
 use Rattle.constraint_ast.specs.declared.tree.RawPred.{RawPred}
 use Rattle.constraint_ast.specs.declared.tree.RawTerm.{RawTerm}
-use Rattle.type_check.specs.Checking.{term_of, terms_of, terms_in, first_refusal, refused_or}
+use Rattle.type_check.specs.Checking.{term_of, terms_of, terms_in, first_refusal, term_refusal_or}
 use Rattle.type_check.specs.Constraints.{pred_of, preds_of}
 
 -- what follows of a refusal
@@ -34,17 +34,17 @@ no_diag diag e = absurd (differ e)
     differ h = cc
 
 step_none : (line : ℕ) (read : Result terms.Term DiagCode) (front whole rest : Option Diag)
-    → (front ≡ None → whole ≡ rest) → refused_or line read front ≡ None → refused_or line read whole ≡ rest
+    → (front ≡ None → whole ≡ rest) → term_refusal_or line read front ≡ None → term_refusal_or line read whole ≡ rest
 step_none line (Ok term) front whole rest behind none = behind none
 step_none line (Err code) front whole rest behind none = no_diag (record { line = line; code = code }) none
 
 step_some : (line : ℕ) (read : Result terms.Term DiagCode) (front whole : Option Diag) (diag : Diag)
-    → (front ≡ Some diag → whole ≡ Some diag) → refused_or line read front ≡ Some diag → refused_or line read whole ≡ Some diag
+    → (front ≡ Some diag → whole ≡ Some diag) → term_refusal_or line read front ≡ Some diag → term_refusal_or line read whole ≡ Some diag
 step_some line (Ok term) front whole diag stays some = stays some
 step_some line (Err code) front whole diag stays some = some
 
 left_none : (line : ℕ) (read : Result terms.Term DiagCode) (whole front : Option Diag)
-    → (whole ≡ None → front ≡ None) → refused_or line read whole ≡ None → refused_or line read front ≡ None
+    → (whole ≡ None → front ≡ None) → term_refusal_or line read whole ≡ None → term_refusal_or line read front ≡ None
 left_none line (Ok term) whole front left none = left none
 left_none line (Err code) whole front left none = no_diag (record { line = line; code = code }) none
 

@@ -23,7 +23,7 @@ use Rattle.constraint_ast.specs.declared.tree.RawLiteral.TheVariants.{Number, Wo
 use Rattle.constraint_ast.specs.declared.tree.RawTerm.{RawTerm}
 use Rattle.constraint_ast.specs.declared.tree.RawTerm.TheVariants.{ValueIs, ParamIs, OneOf, Like, Negative, Positive}
 use Rattle.type_check.specs.Checking.{body_terms, first_refusal, given_that, is_of_type, is_same_type, literal_of, numeric_at}
-use Rattle.type_check.specs.Checking.{param_named, refused_or, rel_of, rules_terms, term_of, terms_in, terms_of, with_param}
+use Rattle.type_check.specs.Checking.{param_named, term_refusal_or, rel_of, rules_terms, term_of, terms_in, terms_of, with_param}
 use Rattle.model_lex.specs.declared.options.ModelOpts.{ModelOpts}
 use Rattle.model_parse.specs.RawModels.{AreOpts, IsSoundRaw}
 use Rattle.model_parse.specs.declared.raw_model.RawModel.{RawModel}
@@ -89,7 +89,7 @@ module _ (fold : Bool) (params : List Param) where
       let at = found_of (param_named fold params name) _ found e in
       subst (IsSoundTerm params) (one_ok (Ok (term.Positive at.0)) (term.Positive at.0) found refl at.2) (within name at.0 at.1)
 
-  leaf_sound : (line : ℕ) (raw : RawTerm) (read : Result terms.Term DiagCode) → term_of fold params raw ≡ read → refused_or line read None ≡ None → IsSoundTerm params (found_term read)
+  leaf_sound : (line : ℕ) (raw : RawTerm) (read : Result terms.Term DiagCode) → term_of fold params raw ≡ read → term_refusal_or line read None ≡ None → IsSoundTerm params (found_term read)
   leaf_sound line raw (Ok found) is none = term_sound raw found is
   leaf_sound line raw (Err code) is none = no_diag (record { line = line; code = code }) none
 

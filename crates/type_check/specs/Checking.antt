@@ -99,11 +99,11 @@ abbrev pub rules_terms : List RuleTree → List (ℕ × RawTerm)
 rules_terms trees = flat_map (λ tree. body_terms tree.body) trees
 
 -- why a term of a line is refused, or else why something else is
-abbrev pub refused_or : ℕ → Result terms.Term DiagCode → Option Diag → Option Diag
-refused_or line (Err code) otherwise = Some (record { line = line; code = code })
-refused_or line (Ok found) otherwise = otherwise
+abbrev pub term_refusal_or : ℕ → Result terms.Term DiagCode → Option Diag → Option Diag
+term_refusal_or line (Err code) otherwise = Some (record { line = line; code = code })
+term_refusal_or line (Ok found) otherwise = otherwise
 
 -- the first refusal among terms
 abbrev pub first_refusal : Bool → List Param → List (ℕ × RawTerm) → Option Diag
 first_refusal fold params [] = None
-first_refusal fold params (raw ∷ rest) = refused_or raw.0 (term_of fold params raw.1) (first_refusal fold params rest)
+first_refusal fold params (raw ∷ rest) = term_refusal_or raw.0 (term_of fold params raw.1) (first_refusal fold params rest)

@@ -1,7 +1,7 @@
 ghost use Rattle.std.specs.Prelude.{◌≡◌, ◌<◌, ◌≤◌, Some, None, Ok, IfOk, IfErr, IfSome, OnErr, length, map};
 ghost use Rattle.std.specs.List.{list_all};
 ghost use Rattle.constraint_ast.specs.Reading.{IfRefused};
-ghost use Rattle.type_check.specs.Checking.{is_of_type, is_same_type, literal_of, numeric_at, param_named, refused_or, rel_of, term_of};
+ghost use Rattle.type_check.specs.Checking.{is_of_type, is_same_type, literal_of, numeric_at, param_named, term_refusal_or, rel_of, term_of};
 
 use crate::fault::refused;
 use constraint_ast::{RawLiteral, RawRel, RawTerm};
@@ -115,7 +115,7 @@ impl Scope<'_> {
     ) -> Result<Term, ModelFault>
         requires { length self.now.params.now ≤ 256 }
         ensures ok { IfOk result (λ term. term_of self.now.fold self.now.params.now (RawTerm.ValueIs name.now rel literal.now) ≡ Ok term) }
-        ensures err { IfErr result (λ fault. IfRefused fault (λ diag. refused_or line (term_of self.now.fold self.now.params.now (RawTerm.ValueIs name.now rel literal.now)) None ≡ Some diag)) }
+        ensures err { IfErr result (λ fault. IfRefused fault (λ diag. term_refusal_or line (term_of self.now.fold self.now.params.now (RawTerm.ValueIs name.now rel literal.now)) None ≡ Some diag)) }
     {
         let p = self.find(line, name)?;
         if !is_of_type(self.is_numeric(p), literal) {
@@ -134,7 +134,7 @@ impl Scope<'_> {
     ) -> Result<Term, ModelFault>
         requires { length self.now.params.now ≤ 256 }
         ensures ok { IfOk result (λ term. term_of self.now.fold self.now.params.now (RawTerm.ParamIs name.now rel other.now) ≡ Ok term) }
-        ensures err { IfErr result (λ fault. IfRefused fault (λ diag. refused_or line (term_of self.now.fold self.now.params.now (RawTerm.ParamIs name.now rel other.now)) None ≡ Some diag)) }
+        ensures err { IfErr result (λ fault. IfRefused fault (λ diag. term_refusal_or line (term_of self.now.fold self.now.params.now (RawTerm.ParamIs name.now rel other.now)) None ≡ Some diag)) }
     {
         let p = self.find(line, name)?;
         let q = self.find(line, other)?;
@@ -154,7 +154,7 @@ impl Scope<'_> {
     ) -> Result<Term, ModelFault>
         requires { length self.now.params.now ≤ 256 }
         ensures ok { IfOk result (λ term. term_of self.now.fold self.now.params.now (RawTerm.OneOf name.now literals.now) ≡ Ok term) }
-        ensures err { IfErr result (λ fault. IfRefused fault (λ diag. refused_or line (term_of self.now.fold self.now.params.now (RawTerm.OneOf name.now literals.now)) None ≡ Some diag)) }
+        ensures err { IfErr result (λ fault. IfRefused fault (λ diag. term_refusal_or line (term_of self.now.fold self.now.params.now (RawTerm.OneOf name.now literals.now)) None ≡ Some diag)) }
     {
         let p = self.find(line, name)?;
         if !are_of_type(self.is_numeric(p), literals) {
@@ -173,7 +173,7 @@ impl Scope<'_> {
     ) -> Result<Term, ModelFault>
         requires { length self.now.params.now ≤ 256 }
         ensures ok { IfOk result (λ term. term_of self.now.fold self.now.params.now (RawTerm.Like name.now pattern.now) ≡ Ok term) }
-        ensures err { IfErr result (λ fault. IfRefused fault (λ diag. refused_or line (term_of self.now.fold self.now.params.now (RawTerm.Like name.now pattern.now)) None ≡ Some diag)) }
+        ensures err { IfErr result (λ fault. IfRefused fault (λ diag. term_refusal_or line (term_of self.now.fold self.now.params.now (RawTerm.Like name.now pattern.now)) None ≡ Some diag)) }
     {
         let p = self.find(line, name)?;
         if self.is_numeric(p) {
@@ -186,7 +186,7 @@ impl Scope<'_> {
     pub(crate) fn term(&self, alloc: Global, line: u32, raw: &RawTerm) -> Result<Term, ModelFault>
         requires { length self.now.params.now ≤ 256 }
         ensures ok { IfOk result (λ term. term_of self.now.fold self.now.params.now raw.now ≡ Ok term) }
-        ensures err { IfErr result (λ fault. IfRefused fault (λ diag. refused_or line (term_of self.now.fold self.now.params.now raw.now) None ≡ Some diag)) }
+        ensures err { IfErr result (λ fault. IfRefused fault (λ diag. term_refusal_or line (term_of self.now.fold self.now.params.now raw.now) None ≡ Some diag)) }
     {
         match raw {
             RawTerm::ValueIs(name, rel, literal) => {

@@ -1,10 +1,14 @@
 -- Texts under the case rule: the bytes are compared, after the ASCII letters are folded to lower
 -- case unless case counts. (PICT's guide; the order by bytes is this project's rule.)
-use Rattle.std.specs.Prelude.{ℕ, Bool, List, if◌then◌else◌}
+use Rattle.std.specs.Prelude.{◌==◌, ◌||◌, ℕ, Bool, List, if◌then◌else◌}
 use Rattle.std.specs.Ordering.{nat_cmp}
 use Rattle.std.specs.declared.cmp.Ordering.{Ordering}
 use Rattle.std.specs.Str.{str_to_ascii_lowercase, bytes_eq}
 use Rattle.std.specs.Cmp.Lexicographic.{slice_cmp}
+
+-- a space or a tab
+abbrev pub is_blank : ℕ → Bool
+is_blank byte = (byte == 32) || (byte == 9)
 
 -- what is compared in place of a text: the text in lower case, or as it is where case counts
 abbrev pub folded : Bool → List ℕ → List ℕ

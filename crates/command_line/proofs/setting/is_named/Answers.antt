@@ -4,7 +4,8 @@ use Rattle.std.proofs.lemmas.Str.Pattern.{split_once_first}
 use Rattle.std.specs.List.{before_first, position_or_len}
 use Rattle.value_text.proofs.ListLemmas.{list_any-position}
 use Rattle.value_text.specs.Texts.{is_same_text}
-use Rattle.definitions.specs.Settings.{has_colon, is_colon}
+use Rattle.model_lex.specs.Sections.{has_colon}
+use Rattle.definitions.specs.Settings.{is_colon}
 use Rattle.command_line.proofs.setting.is_named.Goals as goal
 
 pub returns-in-None : goal.returns-in-None

@@ -8,7 +8,7 @@ use Rattle.pict_cli.specs.Options.{settings_seen}
 use Rattle.pict_cli.specs.Ranges.{FitRun}
 use Rattle.pict_cli.specs.Steps.{HoldsMade}
 use Rattle.pict_cli.specs.Words.{asked_by, model_file, read_of_asked, written_of_asked}
-use Rattle.pict_cli.specs.Runs.{IsStatus, names_of, used_seed}
+use Rattle.pict_cli.specs.Runs.{IsStatus, file_names, used_seed}
 use Rattle.command_line.specs.Told.{Tells, end_status, told_text}
 use Rattle.command_line.specs.Words.{texts}
 use Rattle.pict_cli.proofs.Causes.{complete_end, long_end, missing_end, missing_rows_end, refused_end, stopped_end}
@@ -53,7 +53,7 @@ returns-clause-run g c = λ s held source given.
     ∙ ap (λ told. told_text (used_seed s.shuffle c.args.seed_word) told row_notes names end) c.as_slice-notes.ensures
     ∙ ap (λ told. told_text (used_seed s.shuffle c.args.seed_word) c.run-ended.result.notes told names end) c.as_slice-row_notes.ensures
     ∙ ap (λ names. told_text (used_seed s.shuffle c.args.seed_word) c.run-ended.result.notes c.run-ended.result.row_notes names end)
-    (c.names.ensures ∙ ap (names_of c.in-Ok.opts.model.now) (one_ok c.in-Ok.ensures.0 given.asked) ∙ ap (λ name. names_of name s) c.in-Ok.ensures.2) in
+    (c.names.ensures ∙ ap (file_names c.in-Ok.opts.model.now) (one_ok c.in-Ok.ensures.0 given.asked) ∙ ap (λ name. file_names name s) c.in-Ok.ensures.2) in
     record {
       notes = c.run-ended.result.notes;
       row_notes = c.run-ended.result.row_notes;

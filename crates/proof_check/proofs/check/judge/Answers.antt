@@ -6,7 +6,7 @@ use Rattle.definitions.specs.Verdict.{as_cells, by_omission, verdict}
 use Rattle.refutation.specs.Proofs.{format_of}
 use Rattle.refutation.specs.Reading.{omissions_meant}
 use Rattle.row_text.specs.RowFiles.{seeds_seen, suite_seen}
-use Rattle.proof_check.specs.Checks.{told}
+use Rattle.proof_check.specs.Checks.{verdict_given}
 use Rattle.proof_check.proofs.VerdictLemmas.{judged, none_bad, none_mapped}
 use Rattle.proof_check.proofs.check.judge.Goals as goal
 
@@ -23,8 +23,8 @@ returns-in-Ok g c =
     let none = none_mapped (λ line. line.0) (find (λ line. not (is_valid m line.1)) (seeds_seen file)) c.in_default.ensures in
     IfOk-weaker c.judge_proof.result
     (λ given. given
-    ≡ told (by_omission m (suite_seen file) (omissions_meant proof.omissions)
+    ≡ verdict_given (by_omission m (suite_seen file) (omissions_meant proof.omissions)
     (first_unrefuted m (format_of proof.form) [] 2 (as_cells m (omissions_meant proof.omissions)))))
-    (λ given. given ≡ told (verdict m (seeds_seen file) c.args.proof.now))
-    (λ given is. is ∙ ap told (sym (judged m file c.args.proof.now proof none c.in-Ok.ensures.read)))
+    (λ given. given ≡ verdict_given (verdict m (seeds_seen file) c.args.proof.now))
+    (λ given is. is ∙ ap verdict_given (sym (judged m file c.args.proof.now proof none c.in-Ok.ensures.read)))
     c.judge_proof.ensures

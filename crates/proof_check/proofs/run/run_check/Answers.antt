@@ -10,7 +10,7 @@ use Rattle.command_line.specs.declared.stop.Stop.{Stop}
 use Rattle.command_line.specs.declared.stop.Stop.TheVariants.{CannotRead}
 use Rattle.command_line.specs.Words.{texts}
 use Rattle.proof_check.specs.RunSteps.{CountsOut}
-use Rattle.proof_check.specs.Runs.{AreRead, HasReadings, HasVerdict, Holds, IsRefusal, IsRefused, IsRun, IsStatus, IsTold, ReadsRose, end_status, end_text, inputs_of, unread, verdict_status}
+use Rattle.proof_check.specs.Runs.{AreRead, HasReadings, HasVerdict, Holds, IsRefusal, FilesAreRefused, IsRun, IsStatus, IsTold, ReadsRose, end_status, end_text, inputs_of, unread, verdict_status}
 use Rattle.proof_check.specs.Words.{command_seen}
 use Rattle.proof_check.proofs.RunEnds.{accepted_told, broken_told, complete_end, counts_stay, eight_is_end, for_asked, names_given, not_three, nothing_written, refusal_has_cause, refused_end, seven_is_end, status_known, verdict_is_end, verdict_told}
 use Rattle.proof_check.proofs.WordLemmas.{command_fits}
@@ -54,7 +54,7 @@ returns-clause-complete g c = λ s held asked.
 pub returns-clause-refused : goal.returns-clause-refused
 returns-clause-refused g c = λ s held stop asked.
     for_asked (texts c.args.words.now) c.in-Ok.opts
-    (λ opts names. Holds (g.F.Folder.file c.args.files.now) names held → IsRefused opts held stop
+    (λ opts names. Holds (g.F.Folder.file c.args.files.now) names held → FilesAreRefused opts held stop
     → ¬ ReadsRose names (g.F.Folder.read_faults c.args.files.now) (g.F.Folder.read_faults c.check-end.new.files)
     → (c.status_of.result ≡ status_of stop) ⊎ (c.status_of.result ≡ 1))
     c.in-Ok.ensures asked (λ holds why folder.
@@ -83,7 +83,7 @@ returns-clause-missing g c = λ s held kind asked.
 pub returns-clause-refusal : goal.returns-clause-refusal
 returns-clause-refusal g c = λ known s held asked.
     for_asked (texts c.args.words.now) c.in-Ok.opts
-    (λ opts names. Holds (g.F.Folder.file c.args.files.now) names held → (stop : Stop) × IsRefused opts held stop × (c.status_of.result ≡ status_of stop))
+    (λ opts names. Holds (g.F.Folder.file c.args.files.now) names held → (stop : Stop) × FilesAreRefused opts held stop × (c.status_of.result ≡ status_of stop))
     c.in-Ok.ensures asked (λ holds.
     let why = refusal_has_cause c.in-Ok.opts.opts held (g.O.Sink.written c.args.out.now) (g.O.Sink.written c.check-end.new.out) c.check-end.result (subst IsRefusal c.status_of.ensures known) (c.check-end.ensures.ends held holds) in
     (why.0, why.1, c.status_of.ensures ∙ why.2))

@@ -8,7 +8,7 @@ use Rattle.cov_model.specs.Rows.{is_complete}
 use Rattle.cov_model.specs.Valid.{param_numbers}
 use Rattle.cov_model.specs.declared.demand.Demand.{Demand}
 use Rattle.row_text.specs.declared.row_file.FileRow.{FileRow}
-use Rattle.tuple_index.specs.PlanFault.{told}
+use Rattle.tuple_index.specs.PlanFault.{saturated}
 use Rattle.suspect_tuples.specs.SetCounts.{ways_up_to}
 use Rattle.suspect_tuples.specs.Suspects.{failing_rows, passing_rows}
 use Rattle.suspect_tuples.proofs.CountingSteps.{cells_seen}
@@ -29,7 +29,7 @@ returns-then-candidates-gt-MOST_CANDIDATES-clause-refused c =
     c.len-failing.ensures ∙ ap length (c.in_ok-counted.ensures.failing ∙ ap (λ rows. failing_rows (cells_seen rows) c.as_slice.result.now) c.as_slice-rows.ensures
     ∙ ap (failing_rows (cells_seen results.rows.rows)) c.as_slice.ensures) in
     let sets = c.in_ok-sets.ensures (param_numbers m) (length-range_with_len 0 (length m.params) ∙ sym (c.len-params.ensures ∙ ap length c.params.ensures.value))
-    ∙ ap (λ (demand : Demand). told (ways_up_to demand.order (param_numbers m))) c.demand.ensures.value in
+    ∙ ap (λ (demand : Demand). saturated (ways_up_to demand.order (param_numbers m))) c.demand.ensures.value in
     let told_number = told_candidates m failing c.len-failing.result c.in_ok-sets.sets c.saturating_mul-candidates.result many sets c.saturating_mul-candidates.ensures in
     (omega (arith, c.if-candidates-gt-MOST_CANDIDATES.true, told_number), told_number)
 
@@ -71,6 +71,6 @@ returns-clause-within c =
     c.len-failing.ensures ∙ ap length (c.in_ok-counted.ensures.failing ∙ ap (λ rows. failing_rows (cells_seen rows) c.as_slice.result.now) c.as_slice-rows.ensures
     ∙ ap (failing_rows (cells_seen results.rows.rows)) c.as_slice.ensures) in
     let sets = c.in_ok-sets.ensures (param_numbers m) (length-range_with_len 0 (length m.params) ∙ sym (c.len-params.ensures ∙ ap length c.params.ensures.value))
-    ∙ ap (λ (demand : Demand). told (ways_up_to demand.order (param_numbers m))) c.demand.ensures.value in
+    ∙ ap (λ (demand : Demand). saturated (ways_up_to demand.order (param_numbers m))) c.demand.ensures.value in
     let told_number = told_candidates m failing c.len-failing.result c.in_ok-sets.sets c.saturating_mul-candidates.result many sets c.saturating_mul-candidates.ensures in
     omega (arith, c.if-candidates-gt-MOST_CANDIDATES.false, told_number)

@@ -1,6 +1,6 @@
 use Rattle.std.proofs.Common.{arith, ap, sym, subst, length, ◌∙◌}
 use Rattle.tuple_index.specs.Places.{RisesFrom, tuple_count}
-use Rattle.tuple_index.specs.PlanFault.{told}
+use Rattle.tuple_index.specs.PlanFault.{saturated}
 use Rattle.tuple_index.proofs.LoopLemmas.{rises_within, rising_at, sum_step, sum_end}
 use Rattle.tuple_index.proofs.plan.Plan.count_all.Goals as goal
 
@@ -16,7 +16,7 @@ loop-set-preserved c = (
   sum_step (λ set. tuple_count c.args.self.now set.items) c.args.sets.now c.set-item.result c.loop-set.set-index c.loop-set.count c.count_tuples.result
       c.saturating_add-count.result _
       c.loop-set-test.true (c.count_tuples.ensures
-      ∙ ap (λ set. told (tuple_count c.args.self.now set)) (c.as_slice.ensures.value ∙ ap (λ set. set.items) c.set-item.is))
+      ∙ ap (λ set. saturated (tuple_count c.args.self.now set)) (c.as_slice.ensures.value ∙ ap (λ set. set.items) c.set-item.is))
       c.saturating_add-count.ensures c.loop-set.invariant.1,
 )
 

@@ -1,16 +1,16 @@
 use Rattle.std.proofs.Common.{arith, sum_by, ap, ◌∙◌, ◌+◌}
 use Rattle.cov_model.specs.declared.slice.Slice.TheVariants.{Positive}
 use Rattle.tuple_index.specs.Places.{negative_ways, ways, values_in}
-use Rattle.tuple_index.specs.PlanFault.{told}
-use Rattle.tuple_index.proofs.ToldLemmas.{told-add}
+use Rattle.tuple_index.specs.PlanFault.{saturated}
+use Rattle.tuple_index.proofs.SaturatedLemmas.{saturated-add}
 use Rattle.tuple_index.proofs.LoopLemmas.{sum_step, sum_end}
 use Rattle.tuple_index.proofs.plan.Plan.count_tuples.Goals as goal
 
 pub loop-p-init : goal.loop-p-init
 loop-p-init c = (
   omega (arith, c.ways-count.ensures),
-  ap (λ n. told (n + sum_by (negative_ways c.args.self.now c.args.members.now) c.args.members.now)) c.ways-count.ensures
-      ∙ told-add (ways (values_in c.args.self.now Positive) c.args.members.now) (sum_by (negative_ways c.args.self.now c.args.members.now) c.args.members.now),
+  ap (λ n. saturated (n + sum_by (negative_ways c.args.self.now c.args.members.now) c.args.members.now)) c.ways-count.ensures
+      ∙ saturated-add (ways (values_in c.args.self.now Positive) c.args.members.now) (sum_by (negative_ways c.args.self.now c.args.members.now) c.args.members.now),
 )
 
 pub loop-p-preserved : goal.loop-p-preserved

@@ -1,6 +1,6 @@
 use Rattle.std.proofs.Common.{◌≡◌, ap, length, map, ◌∙◌}
 use Rattle.definitions.specs.Demand.{demanded_sets, demanded_tuples}
-use Rattle.tuple_index.specs.PlanFault.{told}
+use Rattle.tuple_index.specs.PlanFault.{saturated}
 use Rattle.tuple_index.proofs.PlanLemmas.{made_is, none_passed, sets_few, sets_rise, total_told, tuples_passed}
 use Rattle.tuple_index.proofs.plan.Plan.new.Goals as goal
 
@@ -12,7 +12,7 @@ count_all-tuples-requires c =
 
 pub returns-then-tuples-clause-refused : goal.returns-then-tuples-clause-refused
 returns-then-tuples-clause-refused c =
-    let total : c.count_all-tuples.result ≡ told (length (demanded_tuples c.args.model.now)) =
+    let total : c.count_all-tuples.result ≡ saturated (length (demanded_tuples c.args.model.now)) =
     total_told c.args.model.now c.in_ok-values.values (λ set. set.items) c.in_ok-sets.sets.items c.deref.result.now c.count_all-tuples.result
     c.in_ok-values.ensures c.in_ok-sets.ensures c.deref.ensures.value c.count_all-tuples.ensures in
     tuples_passed c.args.model.now c.in_ok-choices.choices c.count_all-tuples.result c.in_ok-choices.ensures c.if-choices.false total c.if-tuples.true
@@ -30,7 +30,7 @@ returns-clause-made c = made_is c.args.model.now c.in_ok-values.values c.in_ok-w
 
 pub returns-clause-within : goal.returns-clause-within
 returns-clause-within c =
-    let total : c.count_all-tuples.result ≡ told (length (demanded_tuples c.args.model.now)) =
+    let total : c.count_all-tuples.result ≡ saturated (length (demanded_tuples c.args.model.now)) =
     total_told c.args.model.now c.in_ok-values.values (λ set. set.items) c.in_ok-sets.sets.items c.deref.result.now c.count_all-tuples.result
     c.in_ok-values.ensures c.in_ok-sets.ensures c.deref.ensures.value c.count_all-tuples.ensures in
     none_passed c.args.model.now c.in_ok-choices.choices c.count_all-tuples.result c.in_ok-choices.ensures c.if-choices.false total c.if-tuples.false

@@ -1,8 +1,8 @@
 use Rattle.std.proofs.Common.{ℕ, ◌+◌, ◌∙◌, ap}
 use Rattle.cov_model.specs.declared.slice.Slice.{Slice}
 use Rattle.tuple_index.specs.Places.{place, start_of, values_in}
-use Rattle.tuple_index.specs.PlanFault.{told}
-use Rattle.tuple_index.proofs.ToldLemmas.{told-both}
+use Rattle.tuple_index.specs.PlanFault.{saturated}
+use Rattle.tuple_index.proofs.SaturatedLemmas.{saturated-both}
 use Rattle.tuple_index.proofs.plan.Plan.place_of_values.Goals as goal
 
 pub returns : goal.returns
@@ -11,7 +11,7 @@ returns c =
     let inside : Slice → ℕ = λ s. place (values_in c.args.self.now s) c.args.members.now c.args.values.now in
     let at : Slice = c.given_slice-slice.result in
     c.saturating_add.ensures
-    ∙ ap (λ n. told (n + c.place.result)) c.start.ensures
-    ∙ ap (λ n. told (told (start at) + n)) c.place.ensures
-    ∙ told-both (start at) (inside at)
-    ∙ ap (λ s. told (start s + inside s)) c.given_slice-slice.ensures.value
+    ∙ ap (λ n. saturated (n + c.place.result)) c.start.ensures
+    ∙ ap (λ n. saturated (saturated (start at) + n)) c.place.ensures
+    ∙ saturated-both (start at) (inside at)
+    ∙ ap (λ s. saturated (start s + inside s)) c.given_slice-slice.ensures.value

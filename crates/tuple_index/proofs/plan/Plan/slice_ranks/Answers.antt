@@ -1,7 +1,7 @@
 use Rattle.std.proofs.Common.{◌≡◌, ◌∙◌, ap, arith, sym, true}
 use Rattle.std.proofs.lemmas.Grind.{common_steps}
 use Rattle.tuple_index.specs.Places.{has_part, start_of, values_in, ways}
-use Rattle.tuple_index.specs.PlanFault.{told}
+use Rattle.tuple_index.specs.PlanFault.{saturated}
 use Rattle.tuple_index.proofs.SliceLemmas.{SliceWithin, slice_within}
 use Rattle.tuple_index.proofs.plan.Plan.slice_ranks.Goals as goal
 
@@ -12,8 +12,8 @@ within c =
     let held : c.is_part.result ≡ true = grind (arith, common_steps) in
     slice_within plan c.args.set c.args.slice c.start-start.result c.ways-count.result c.kept_members-members.ensures.kept c.requires.set c.requires.own
     (ap (λ set. has_part set c.args.slice) (sym same) ∙ sym c.is_part.ensures ∙ held)
-    (c.start-start.ensures ∙ ap (λ set. told (start_of plan set c.args.slice)) same)
-    (c.ways-count.ensures ∙ ap (λ set. told (ways (values_in plan c.args.slice) set)) same)
+    (c.start-start.ensures ∙ ap (λ set. saturated (start_of plan set c.args.slice)) same)
+    (c.ways-count.ensures ∙ ap (λ set. saturated (ways (values_in plan c.args.slice) set)) same)
 
 pub overflow_cast-result : goal.overflow_cast-result
 overflow_cast-result c = omega (arith, (within c).few)
