@@ -86,7 +86,8 @@ impl LiveSets {
         requires parameter { q < length self.now.live }
         requires few { length (slice_index_or self.now.live q []) < 2 ^ 16 }
         requires within { from ≤ length (slice_index_or self.now.live q []) }
-        ensures { MatchOption result (NoneSet (slice_index_or self.now.live q []) from (length (slice_index_or self.now.live q []))) (λ w. IsFirstSet (slice_index_or self.now.live q []) from (length (slice_index_or self.now.live q [])) w) }
+        ensures { MatchOption result (NoneSet (slice_index_or self.now.live q []) from (length (slice_index_or self.now.live q [])))
+            (λ w. IsFirstSet (slice_index_or self.now.live q []) from (length (slice_index_or self.now.live q [])) w) }
     {
         let set = &self.sets[q as usize];
         let end = set.len();

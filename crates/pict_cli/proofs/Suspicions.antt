@@ -86,4 +86,5 @@ no_limit s m name is = ap (λ mode. if makes_plan mode then option_map stop_of_p
 
 pub named_source : (s : Settings) (name : List ℕ) (files : Files) (source : RowSource) (P : RowSource → Type 0) → mode_of s ≡ Suspect name → row_source s files ≡ Some source
     → ((held : Option (List ℕ)) → files name ≡ Some held → P (RowsHeld held)) → P source
-named_source s name files source P is saturated holds = source_held (files name) source P (subst (λ mode. source_in (row_file_in mode (rows_beside s.make s.seeds)) files ≡ Some source) is saturated) holds
+named_source s name files source P is told holds =
+    source_held (files name) source P (subst (λ mode. source_in (row_file_in mode (rows_beside s.make s.seeds)) files ≡ Some source) is told) holds

@@ -51,7 +51,8 @@ first_note m line cell cells = at (is_none (named_param m cell))
     kept : List (List ℕ)
     kept = filter (λ c. is_none (named_param m c)) cells
 
-    at : (b : Bool) → map note_told (map (λ c. (line, UnknownColumn)) (cond b (cell ∷ kept) kept)) ≡ cond b (note_told (line, UnknownColumn) ∷ []) [] ++ map note_told (map (λ c. (line, UnknownColumn)) kept)
+    at : (b : Bool) → map note_told (map (λ c. (line, UnknownColumn)) (cond b (cell ∷ kept) kept))
+        ≡ cond b (note_told (line, UnknownColumn) ∷ []) [] ++ map note_told (map (λ c. (line, UnknownColumn)) kept)
     at true = refl
     at false = refl
 

@@ -152,7 +152,15 @@ fn writes_figures(rt: HostRuntime) {
         at50: 1,
         at25: 1,
     };
-    let text =
-        "Tests: 2\nIncomplete tests: 1\nInvalid tests: 1\nDemanded sets: 1\nDemanded tuples: 4\nCovered tuples: 2 of 3\nComplete sets: 0 of 1\nSets at 75 percent: 0 of 1\nSets at 50 percent: 1 of 1\nSets at 25 percent: 1 of 1\n";
+    let text = "Tests: 2\n\
+        Incomplete tests: 1\n\
+        Invalid tests: 1\n\
+        Demanded sets: 1\n\
+        Demanded tuples: 4\n\
+        Covered tuples: 2 of 3\n\
+        Complete sets: 0 of 1\n\
+        Sets at 75 percent: 0 of 1\n\
+        Sets at 50 percent: 1 of 1\n\
+        Sets at 25 percent: 1 of 1\n";
     assert!(rt; are_figures(rt.alloc(), &figures, text));
 }

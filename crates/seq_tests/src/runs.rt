@@ -110,7 +110,24 @@ const RUNS: &[(&str, &str, &str, u8, &str, &str)] = &[
         "a\nb\nc\nd\na < b\nb < c\n",
         "",
         0,
-        "a\tb\tc\td\na\td\tb\tc\na\tb\td\tc\nd\ta\tb\tc\nnever a c b : b c b\nnever b a c : a b a\nnever b a d : a b a\nnever b c a : a b a\nnever b d a : a b a\nnever c a b : a b c a\nnever c a d : a b c a\nnever c b a : a b a\nnever c b d : b c b\nnever c d a : a b c a\nnever c d b : b c b\nnever d b a : a b a\nnever d c a : a b c a\nnever d c b : b c b\n",
+        "a\tb\tc\td\n\
+        a\td\tb\tc\n\
+        a\tb\td\tc\n\
+        d\ta\tb\tc\n\
+        never a c b : b c b\n\
+        never b a c : a b a\n\
+        never b a d : a b a\n\
+        never b c a : a b a\n\
+        never b d a : a b a\n\
+        never c a b : a b c a\n\
+        never c a d : a b c a\n\
+        never c b a : a b a\n\
+        never c b d : b c b\n\
+        never c d a : a b c a\n\
+        never c d b : b c b\n\
+        never d b a : a b a\n\
+        never d c a : a b c a\n\
+        never d c b : b c b\n",
         "",
     ),
     // Verdicts.

@@ -36,7 +36,8 @@ impl Model for Plan {
 
     ghost view = { λ a. record { sets = a.members_of; sizes = a.counts.items; positives = map (λ s. s.items) a.positive.items; negatives = map (λ s. s.items) a.negative.items } };
 
-    ghost invariant = { λ a. AreBases a.counts.items a.bases.items × IsKept (record { sets = a.members_of; sizes = a.counts.items; positives = map (λ s. s.items) a.positive.items; negatives = map (λ s. s.items) a.negative.items }) };
+    ghost invariant = { λ a. AreBases a.counts.items a.bases.items
+        × IsKept (record { sets = a.members_of; sizes = a.counts.items; positives = map (λ s. s.items) a.positive.items; negatives = map (λ s. s.items) a.negative.items }) };
 }
 
 impl Plan {

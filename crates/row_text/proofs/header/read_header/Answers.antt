@@ -23,15 +23,18 @@ loop-cell-preserved c =
 
 pub returns-clause-columns : goal.returns-clause-columns
 returns-clause-columns c =
-    (header_ends c.args.names.now (cells_of_line c.args.line.text.now) c.loop-cell.cells c.args.line.number c.loop-cell.header.columns c.loop-cell.header.notes c.loop-cell.invariant.so_far c.in_default.ensures).0
+    (header_ends c.args.names.now (cells_of_line c.args.line.text.now) c.loop-cell.cells c.args.line.number
+    c.loop-cell.header.columns c.loop-cell.header.notes c.loop-cell.invariant.so_far c.in_default.ensures).0
 
 pub returns-clause-notes : goal.returns-clause-notes
 returns-clause-notes c =
-    (header_ends c.args.names.now (cells_of_line c.args.line.text.now) c.loop-cell.cells c.args.line.number c.loop-cell.header.columns c.loop-cell.header.notes c.loop-cell.invariant.so_far c.in_default.ensures).1
+    (header_ends c.args.names.now (cells_of_line c.args.line.text.now) c.loop-cell.cells c.args.line.number
+    c.loop-cell.header.columns c.loop-cell.header.notes c.loop-cell.invariant.so_far c.in_default.ensures).1
 
 pub returns-clause-within : goal.returns-clause-within
 returns-clause-within c =
     let m = c.args.names.now in
     let cells = cells_of_line c.args.line.text.now in
-    let columns = (header_ends m cells c.loop-cell.cells c.args.line.number c.loop-cell.header.columns c.loop-cell.header.notes c.loop-cell.invariant.so_far c.in_default.ensures).0 in
+    let columns = (header_ends m cells c.loop-cell.cells c.args.line.number
+    c.loop-cell.header.columns c.loop-cell.header.notes c.loop-cell.invariant.so_far c.in_default.ensures).0 in
     All-same (λ column. IfSome column (λ p. p < length m.params)) c.loop-cell.header.columns (map (named_param m) cells) columns (params_exist m cells)

@@ -14,5 +14,6 @@ returns g c =
     let put : PutsText c.put.result (state c.args.out.now) (state c.put.new.self) c.args.bytes.now =
     record { puts = c.put.ensures.puts; leaves = c.put.ensures.leaves; balances = c.put.ensures.balances; counts = c.put.ensures.counts } in
     subst (λ b. Adds b (state c.args.out.now) (record { held = []; failed = c.is_fault-self-inside.result }) (state c.put.new.self) c.args.bytes.now) c.self.view_is
-    (Adds-put c.put.result (record { held = []; failed = c.self.inside.faulty }) (record { held = []; failed = c.is_fault-self-inside.result }) (state c.args.out.now) (state c.put.new.self) c.args.bytes.now
+    (Adds-put c.put.result (record { held = []; failed = c.self.inside.faulty })
+    (record { held = []; failed = c.is_fault-self-inside.result }) (state c.args.out.now) (state c.put.new.self) c.args.bytes.now
     c.if-self.false c.is_fault-self-inside.ensures refl put)
