@@ -4,16 +4,17 @@ use Rattle.tuple_index.specs.declared.fault.PlanFault.{PlanFault}
 use Rattle.tuple_index.specs.declared.fault.PlanFault.TheVariants.{TooManySets, TooManyTuples, NoMemory}
 use Rattle.cov_model.specs.Sound.{ModelView}
 use Rattle.definitions.specs.Demand.{choices, demanded_tuples}
+use Rattle.definitions.specs.Limits.{DemandedSets, DemandedTuples, most_counted}
 
 -- a number, or the greatest of 64 bits where that is less
 abbrev pub saturated : ℕ → ℕ
 saturated n = min n (2 ^ 64 - 1)
 
--- the limit that a model passes, if any: 2^20 choices of sets, then 2^26 demanded tuples
+-- the limit that a model passes, if any: that of choices of sets, then that of demanded tuples
 abbrev pub limit_passed : ModelView → Option PlanFault
 limit_passed m =
-    if nat_lt (2 ^ 20) (length (choices m)) then Some (TooManySets (saturated (length (choices m))))
-    else if nat_lt (2 ^ 26) (length (demanded_tuples m)) then Some (TooManyTuples (saturated (length (demanded_tuples m))))
+    if nat_lt (most_counted DemandedSets) (length (choices m)) then Some (TooManySets (saturated (length (choices m))))
+    else if nat_lt (most_counted DemandedTuples) (length (demanded_tuples m)) then Some (TooManyTuples (saturated (length (demanded_tuples m))))
     else None
 
 -- a fault of a limit is that of the limit passed
