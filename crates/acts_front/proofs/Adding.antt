@@ -3,7 +3,7 @@ use Rattle.std.proofs.Common.{◌≡◌, ℕ, [], ◌++◌, Result, Ok, Err, sym
 use Rattle.acts_front.specs.ParameterLines.{Scope}
 use Rattle.acts_front.specs.ActsFiles.{Line, and_line, declared_by}
 use Rattle.acts_front.specs.Reading.{Adds, ended}
-use Rattle.acts_front.specs.Translation.{line_text}
+use Rattle.acts_front.specs.Translation.{translated_text}
 use Rattle.acts_front.specs.declared.code.ActsCode.{ActsCode}
 use Rattle.acts_front.specs.declared.section.Section.{Section}
 use Rattle.acts_front.specs.declared.translator.Translator.{Translator}
@@ -13,10 +13,10 @@ pub nothing_declared : (scope : Scope) (line : Line) → declared_by line ≡ []
 nothing_declared scope line none = ap (λ params. record { fold = scope.fold; params = params }) (sym (ap (λ more. scope.params ++ more) none ∙ append-nil scope.params))
 
 -- the same with a line feed behind it
-pub adds_ended : (number : ℕ) (section : Section) (given : Result Line ActsCode) (before after more : Translator) → Adds number section line_text given before (Ok after)
+pub adds_ended : (number : ℕ) (section : Section) (given : Result Line ActsCode) (before after more : Translator) → Adds number section translated_text given before (Ok after)
     → more.text.items ≡ after.text.items ++ codes "\n" → more.scope ≡ after.scope → more.section ≡ after.section → Adds number section ended given before (Ok more)
 adds_ended number section (Ok given) before after more added text scope here = record {
-  texts = text ∙ (ap (λ items. items ++ codes "\n") added.texts ∙ append_assoc before.text.items (line_text given) (codes "\n"));
+  texts = text ∙ (ap (λ items. items ++ codes "\n") added.texts ∙ append_assoc before.text.items (translated_text given) (codes "\n"));
   declared = scope ∙ added.declared;
   stands = here ∙ added.stands;
 }

@@ -15,11 +15,12 @@ use Rattle.model_lex.specs.Sections.{is_word_byte}
 use Rattle.model_parse.specs.Pieces.{begins_with}
 use Rattle.model_parse.specs.Written.{joined}
 use Rattle.acts_front.specs.Lines.{is_allowed}
-use Rattle.acts_front.specs.ParameterLines.{Parameter, Scope, are_few_digits, is_name, is_point, is_true, is_value, is_whole, without_minus}
+use Rattle.acts_front.specs.ParameterLines.{Parameter, Scope, are_few_digits, is_name, is_true, is_value, is_whole, without_minus}
+use Rattle.value_text.specs.Numbers.{is_point}
 use Rattle.acts_front.specs.RelationLines as relations
 use Rattle.acts_front.specs.Tokens.{Token, Name, Whole, Words, Truth, Relation, Arrow, Or, And, Not, Open, Close}
 use Rattle.acts_front.specs.ActsFiles.{Line, Nothing, OfParameter, OfRelation, OfConstraint}
-use Rattle.acts_front.specs.Translation.{constraint_text, line_text, opening, parameter_text, rel_text, relation_text, token_text, truth_text, value_text}
+use Rattle.acts_front.specs.Translation.{constraint_text, translated_text, opening, parameter_text, rel_text, relation_text, token_text, truth_text, value_text}
 use Rattle.acts_front.specs.Constraints.{Constraint, is_arrow}
 use Rattle.acts_front.specs.declared.kind.Kind.{Kind}
 use Rattle.acts_front.specs.declared.kind.Kind.TheVariants.{Int, Enum, Boolean}
@@ -145,7 +146,7 @@ constraint_allowed scope tokens constraint is =
     (appended (opening tokens) _ (opening_allowed tokens) (joined_allowed (codes " ") (map token_text tokens) refl (all_mapped IsWritten token_text token_allowed tokens is.written)))
     refl
 
-pub line_allowed : (scope : Scope) (line : Line) → IsGiven scope line → Allowed (line_text line)
+pub line_allowed : (scope : Scope) (line : Line) → IsGiven scope line → Allowed (translated_text line)
 line_allowed scope Nothing is = refl
 line_allowed scope (OfParameter param) is = parameter_allowed scope param is
 line_allowed scope (OfRelation relation) is = relation_allowed scope relation is

@@ -3,7 +3,7 @@ use Rattle.std.proofs.Common.{◌≡◌, true, false, [], ◌∷◌, codes, None
 use Rattle.cov_model.specs.declared.constraint.Rel.TheVariants.{Eq, Ne, Gt}
 use Rattle.acts_front.specs.Constraints.{Compares, Each, Either, End, Implies, More, Negated, OfText, OfTruth, OfWhole, Plain, cons_of, spelled_by}
 use Rattle.acts_front.specs.Lines.{line_text}
-use Rattle.acts_front.specs.Tokens.{Name, Not, Or, Relation, Truth, Whole, Words, tokens_of}
+use Rattle.acts_front.specs.Tokens.{Name, Not, Or, Relation, Truth, Whole, Words, tokens_found}
 use Rattle.acts_front.specs.Translation.{translation}
 use Rattle.acts_front.specs.declared.code.ActsCode.TheVariants.{A1, A2, A3, A4, A5, A6, A7, A8, A9, A10, A11}
 
@@ -99,47 +99,47 @@ comment = refl
 no_comment : line_text (codes "A - - B -") ≡ codes "A - - B -"
 no_comment = refl
 
-tokens : tokens_of (codes "A1>-02||true!=\"a b\"") ≡ Some (Name (codes "A1") ∷ Relation Gt ∷ Whole (codes "-02") ∷ Or ∷ Truth true ∷ Relation Ne ∷ Words (codes "a b") ∷ [])
+tokens : tokens_found (codes "A1>-02||true!=\"a b\"") ≡ Some (Name (codes "A1") ∷ Relation Gt ∷ Whole (codes "-02") ∷ Or ∷ Truth true ∷ Relation Ne ∷ Words (codes "a b") ∷ [])
 tokens = refl
 
-no_tokens : tokens_of (codes "A = \"a\\b\"") ≡ None
+no_tokens : tokens_found (codes "A = \"a\\b\"") ≡ None
 no_tokens = refl
 
-open_text : tokens_of (codes "A = \"a") ≡ None
+open_text : tokens_found (codes "A = \"a") ≡ None
 open_text = refl
 
-lone_bar : tokens_of (codes "A | B") ≡ None
+lone_bar : tokens_found (codes "A | B") ≡ None
 lone_bar = refl
 
 -- ---- the grammar
 
 -- `&&` binds more than `||`, and `=>` less than both
-binding : spelled_by (tokens_of (codes "A=1||B=2&&C=3=>D=4||E=5"))
+binding : spelled_by (tokens_found (codes "A=1||B=2&&C=3=>D=4||E=5"))
     ≡ Some (Implies
     (Either (More (Compares (codes "A") Eq (OfWhole (codes "1"))) (More (Each (More (Compares (codes "B") Eq (OfWhole (codes "2"))) (More (Compares (codes "C") Eq (OfWhole (codes "3"))) End))) End)))
     (Either (More (Compares (codes "D") Eq (OfWhole (codes "4"))) (More (Compares (codes "E") Eq (OfWhole (codes "5"))) End))))
 binding = refl
 
-parentheses : spelled_by (tokens_of (codes "!(A = 1 && (B = \"x\"))"))
+parentheses : spelled_by (tokens_found (codes "!(A = 1 && (B = \"x\"))"))
     ≡ Some (Plain (Negated (Each (More (Compares (codes "A") Eq (OfWhole (codes "1"))) (More (Compares (codes "B") Eq (OfText (codes "x"))) End)))))
 parentheses = refl
 
-not_of_truth : spelled_by (tokens_of (codes "! ! A = False")) ≡ Some (Plain (Negated (Negated (Compares (codes "A") Eq (OfTruth false)))))
+not_of_truth : spelled_by (tokens_found (codes "! ! A = False")) ≡ Some (Plain (Negated (Negated (Compares (codes "A") Eq (OfTruth false)))))
 not_of_truth = refl
 
-inside_parentheses : spelled_by (tokens_of (codes "(A = 1 => B = 1)")) ≡ None
+inside_parentheses : spelled_by (tokens_found (codes "(A = 1 => B = 1)")) ≡ None
 inside_parentheses = refl
 
-not_closed : spelled_by (tokens_of (codes "(A = 1")) ≡ None
+not_closed : spelled_by (tokens_found (codes "(A = 1")) ≡ None
 not_closed = refl
 
-side_by_side : spelled_by (tokens_of (codes "(A = 1) (B = 1)")) ≡ None
+side_by_side : spelled_by (tokens_found (codes "(A = 1) (B = 1)")) ≡ None
 side_by_side = refl
 
-crossed : spelled_by (tokens_of (codes "A = 1) || (B = 1")) ≡ None
+crossed : spelled_by (tokens_found (codes "A = 1) || (B = 1")) ≡ None
 crossed = refl
 
-truth_is_no_name : spelled_by (tokens_of (codes "TRUE = A")) ≡ None
+truth_is_no_name : spelled_by (tokens_found (codes "TRUE = A")) ≡ None
 truth_is_no_name = refl
 
 -- so many `!` and `(` may be open, and no more

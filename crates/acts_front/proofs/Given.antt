@@ -6,8 +6,8 @@ use Rattle.value_text.specs.Numbers.{count_of}
 use Rattle.model_parse.specs.Pieces.{pieces}
 use Rattle.model_parse.proofs.SoundNames.{some_pieces}
 use Rattle.acts_front.specs.ParameterLines.{Parameter, Scope, are_few_digits, behind_kind, declared_in, folds, is_declared}
-use Rattle.acts_front.specs.ParameterLines.{is_name, is_repeated, is_value, kind_in, parameter_in, parameter_with, read_parameter}
-use Rattle.acts_front.specs.RelationLines.{Relation, parts_in, read_relation, related_in, relation_in, relation_of}
+use Rattle.acts_front.specs.ParameterLines.{is_name, has_repeated, is_value, kind_in, parameter_in, parameter_with, read_parameter}
+use Rattle.acts_front.specs.RelationLines.{Relation, parts_in, read_relation, related_in, relation_in, relation_in_parts}
 use Rattle.acts_front.specs.declared.kind.Kind.{Kind}
 
 -- what an answer holds
@@ -29,7 +29,7 @@ pub record IsParameter (scope : Scope) (param : Parameter) : Type 0 where
   pub some : 0 < length param.values
   pub values : list_all (is_value param.kind) param.values ≡ true
   pub new : is_declared scope param.name ≡ false
-  pub distinct : is_repeated (folds scope.fold param.kind) [] param.values ≡ false
+  pub distinct : has_repeated (folds scope.fold param.kind) [] param.values ≡ false
 
 -- its form
 record HasForm (param : Parameter) : Type 0 where
@@ -64,7 +64,7 @@ pub record IsRelation (scope : Scope) (relation : Relation) : Type 0 where
   pub named : list_all is_name relation.members ≡ true
   pub digits : are_few_digits relation.strength ≡ true
   pub declared : list_all (is_declared scope) relation.members ≡ true
-  pub distinct : is_repeated scope.fold [] relation.members ≡ false
+  pub distinct : has_repeated scope.fold [] relation.members ≡ false
   pub order : ℕ
   pub counts : count_of relation.strength 1 (length relation.members) ≡ Some order
 
@@ -73,7 +73,7 @@ record HasParts (relation : Relation) : Type 0 where
   parts_named : list_all is_name relation.members ≡ true
   parts_digits : are_few_digits relation.strength ≡ true
 
-parted : (parts : List (List ℕ)) (relation : Relation) → relation_of parts ≡ Some relation → HasParts relation
+parted : (parts : List (List ℕ)) (relation : Relation) → relation_in_parts parts ≡ Some relation → HasParts relation
 parted parts relation is =
     let found = taken _ _ relation is in
     let tests = and_parts _ _ found.0 in
@@ -83,7 +83,7 @@ parted parts relation is =
 parted_line : (text : List ℕ) (relation : Relation) → relation_in text ≡ Some relation → HasParts relation
 parted_line text relation is = parted (parts_in text) relation (by _ refl is)
   where
-    by : (b : Bool) → b ≡ b → (if b then relation_of (parts_in text) else None) ≡ Some relation → relation_of (parts_in text) ≡ Some relation
+    by : (b : Bool) → b ≡ b → (if b then relation_in_parts (parts_in text) else None) ≡ Some relation → relation_in_parts (parts_in text) ≡ Some relation
     by true same e = e
     by false same e = absurd (cc)
 

@@ -13,8 +13,9 @@ use Rattle.acts_front.specs.Lines.{before_comment, begun, behind, headed, is_all
 use Rattle.acts_front.specs.ParameterLines.{Parameter, Scope, read_parameter}
 use Rattle.acts_front.specs.RelationLines as relations
 use Rattle.acts_front.specs.RelationLines.{read_relation}
-use Rattle.acts_front.specs.Tokens.{Token, tokens_of}
-use Rattle.acts_front.specs.Constraints.{Constraint, cons_of, constraint_code, most_open}
+use Rattle.acts_front.specs.Tokens.{Token, tokens_found}
+use Rattle.acts_front.specs.Constraints.{Constraint, cons_of, constraint_code}
+use Rattle.constraint_ast.specs.Grammar.{most_open}
 use Rattle.acts_front.specs.ActsFiles.{Line, Nothing, OfParameter, OfRelation, OfConstraint, and_line, constraint_line, line_and, line_before, line_gives}
 use Rattle.acts_front.specs.ActsFiles.{line_in, lines_give, parameter_line, relation_line, section_behind, spelled_line, text_gives, unless_refused}
 use Rattle.acts_front.specs.declared.code.ActsCode.{ActsCode}
@@ -125,9 +126,9 @@ relations_next scope text given = by (read_relation scope text) refl
         subst (IsNext Relations Relations scope) same
         (record { here = relation_given scope text relation is; order = λ before allows others ordered. (allows, ordered Group refl) })
 
-constraints_next : (scope : Scope) (text : List ℕ) (given : Line) → list_all is_allowed text ≡ true → constraint_line scope (tokens_of text) ≡ Ok given
+constraints_next : (scope : Scope) (text : List ℕ) (given : Line) → list_all is_allowed text ≡ true → constraint_line scope (tokens_found text) ≡ Ok given
     → IsNext Constraints Constraints scope given
-constraints_next scope text given allowed = by (tokens_of text) refl
+constraints_next scope text given allowed = by (tokens_found text) refl
   where
     fits : (tokens : List Token) (constraint : Constraint) (code : Option ActsCode)
         → constraint_code scope constraint ≡ code → cons_of most_open tokens ≡ Some constraint → All IsWritten tokens
@@ -143,7 +144,7 @@ constraints_next scope text given allowed = by (tokens_of text) refl
     spells tokens None is written e = absurd (cc)
     spells tokens (Some constraint) is written e = fits tokens constraint (constraint_code scope constraint) refl is written e
 
-    by : (found : Option (List Token)) → tokens_of text ≡ found → constraint_line scope found ≡ Ok given → IsNext Constraints Constraints scope given
+    by : (found : Option (List Token)) → tokens_found text ≡ found → constraint_line scope found ≡ Ok given → IsNext Constraints Constraints scope given
     by None is e = absurd (cc)
     by (Some tokens) is e = spells tokens (cons_of most_open tokens) refl (tokens_written 0 text tokens allowed is) e
 

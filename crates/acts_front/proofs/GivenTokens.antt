@@ -12,8 +12,8 @@ use Rattle.model_lex.specs.Sections.{first_word, is_word_byte}
 use Rattle.model_parse.specs.Pieces.{is_byte}
 use Rattle.acts_front.specs.Lines.{is_allowed}
 use Rattle.acts_front.specs.ParameterLines.{is_false, is_name, is_true, is_whole}
-use Rattle.acts_front.specs.Tokens.{Token, Name, Whole, Words, Truth, Relation, Arrow, Or, And, Not, Open, Close, Found, first_token, mark_token}
-use Rattle.acts_front.specs.Tokens.{one_of_two, token_before, tokens_behind, whole_run, whole_token, word_token, words_before, words_token}
+use Rattle.acts_front.specs.Tokens.{Token, Name, Whole, Words, Truth, Relation, Arrow, Or, And, Not, Open, Close, Found, first_found, mark_token}
+use Rattle.acts_front.specs.Tokens.{one_of_two, before_tokens, tokens_behind, whole_run, whole_token, token_of_word, words_before, words_token}
 use Rattle.acts_front.proofs.Mapped.{position_is}
 
 -- a text in double quotes has neither these nor a backslash
@@ -79,7 +79,7 @@ word_named b rest word digit =
     some : (more : List ℕ) → nat_lt 0 (length (b ∷ more)) ≡ true
     some more = lt-ltb 0 (length (b ∷ more)) (omega arith)
 
-word_fine : (b : ℕ) (rest : List ℕ) → is_word_byte b ≡ true → is_ascii_digit b ≡ false → IsFine (Some (word_token (first_word (b ∷ rest)), length (first_word (b ∷ rest))))
+word_fine : (b : ℕ) (rest : List ℕ) → is_word_byte b ≡ true → is_ascii_digit b ≡ false → IsFine (Some (token_of_word (first_word (b ∷ rest)), length (first_word (b ∷ rest))))
 word_fine b rest word digit =
     let text = first_word (b ∷ rest) in
     cond_both (is_true text) (Truth true) (if is_false text then Truth false else Name text) IsWritten (λ e. tt)
@@ -112,7 +112,7 @@ marks_fine first next =
     cond_both ((first == 38) && (next == 38)) _ _ IsFine (λ e. tt) (λ e.
     cond_both (first == 40) _ _ IsFine (λ e. tt) (λ e. cond_both (first == 41) _ _ IsFine (λ e. tt) (λ e. tt))))))))
 
-first_fine : (b : ℕ) (rest : List ℕ) → list_all is_allowed (b ∷ rest) ≡ true → IsFine (first_token (b ∷ rest))
+first_fine : (b : ℕ) (rest : List ℕ) → list_all is_allowed (b ∷ rest) ≡ true → IsFine (first_found (b ∷ rest))
 first_fine b rest all =
     cond_both (is_ascii_digit b || (b == 45)) _ _ IsFine (λ e. whole_fine (whole_run (b ∷ rest))) (λ other.
     cond_both (is_word_byte b) _ _ IsFine (λ word. word_fine b rest word (or_parts _ _ other).0) (λ e.
@@ -128,9 +128,9 @@ tokens_written n [] tokens all is = let none : [] ≡ tokens = by n is in subst 
     by (suc n) e = cc
 tokens_written (suc n) (b ∷ rest) tokens all is = tokens_written n rest tokens (and_parts _ _ all).1 is
 tokens_written zero (b ∷ rest) tokens all is =
-    by (is_blank b) refl (first_token (b ∷ rest)) refl (first_fine b rest all) (λ n list e. tokens_written n rest list (and_parts _ _ all).1 e)
+    by (is_blank b) refl (first_found (b ∷ rest)) refl (first_fine b rest all) (λ n list e. tokens_written n rest list (and_parts _ _ all).1 e)
   where
-    behind : (token : Token) (others : Option (List Token)) (len : ℕ) → IsWritten token → token_before (Some (token, len)) others ≡ Some tokens
+    behind : (token : Token) (others : Option (List Token)) (len : ℕ) → IsWritten token → before_tokens (Some (token, len)) others ≡ Some tokens
         → ((list : List Token) → others ≡ Some list → All IsWritten list) → All IsWritten tokens
     behind token None len fine e later = absurd (cc)
     behind token (Some list) len fine e later =
@@ -138,7 +138,7 @@ tokens_written zero (b ∷ rest) tokens all is =
         subst (All IsWritten) are (All-cons IsWritten token list fine (later list refl))
 
     by :
-        (blank : Bool) → is_blank b ≡ blank → (found : Found) → first_token (b ∷ rest) ≡ found → IsFine found
+        (blank : Bool) → is_blank b ≡ blank → (found : Found) → first_found (b ∷ rest) ≡ found → IsFine found
         → ((n : ℕ) (list : List Token) → tokens_behind n rest ≡ Some list → All IsWritten list) → All IsWritten tokens
     by true blank found first fine later = later 0 tokens (rw blank at is)
     by false blank None first fine later = let none = rw (blank, first) at is in absurd (cc)

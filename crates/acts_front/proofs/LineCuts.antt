@@ -11,7 +11,7 @@ use Rattle.model_lex.proofs.Cutting.{first_line}
 use Rattle.acts_front.specs.Lines.{is_allowed}
 use Rattle.acts_front.specs.ParameterLines.{Scope}
 use Rattle.acts_front.specs.ActsFiles.{Line, and_line}
-use Rattle.acts_front.specs.Translation.{line_text, lines_text}
+use Rattle.acts_front.specs.Translation.{translated_text, lines_text}
 use Rattle.acts_front.proofs.AllowedTexts.{Allowed, line_allowed}
 use Rattle.acts_front.proofs.GivenLines.{AreGiven}
 
@@ -55,13 +55,13 @@ cut_at text rest all =
     ∙ ap (λ left. text ∷ file_lines left) (drop-append-add text (10 ∷ rest) 1)))
 
 -- all lines
-lines_cut : (scope : Scope) (lines : List Line) → AreGiven scope lines → file_lines (lines_text lines) ≡ map line_text lines
+lines_cut : (scope : Scope) (lines : List Line) → AreGiven scope lines → file_lines (lines_text lines) ≡ map translated_text lines
 lines_cut scope [] given = refl
 lines_cut scope (line ∷ lines) given =
-    let joint : lines_text (line ∷ lines) ≡ line_text line ++ 10 ∷ lines_text lines = append_assoc (line_text line) (codes "\n") (lines_text lines) in
+    let joint : lines_text (line ∷ lines) ≡ translated_text line ++ 10 ∷ lines_text lines = append_assoc (translated_text line) (codes "\n") (lines_text lines) in
     ap file_lines joint
-    ∙ (cut_at (line_text line) (lines_text lines) (line_allowed scope line given.0)
-    ∙ ap (λ others. line_text line ∷ others) (lines_cut (and_line scope line) lines given.1))
+    ∙ (cut_at (translated_text line) (lines_text lines) (line_allowed scope line given.0)
+    ∙ ap (λ others. translated_text line ∷ others) (lines_cut (and_line scope line) lines given.1))
 
 -- no byte-order mark stands first
 no_mark : (b : ℕ) (rest : List ℕ) → (0xef == b) ≡ false → without_mark (b ∷ rest) ≡ b ∷ rest
@@ -77,8 +77,8 @@ unmarked_at (b ∷ text) rest all = no_mark b (text ++ 10 ∷ rest) (other_mark 
 unmarked : (scope : Scope) (lines : List Line) → AreGiven scope lines → without_mark (lines_text lines) ≡ lines_text lines
 unmarked scope [] given = refl
 unmarked scope (line ∷ lines) given =
-    let joint : lines_text (line ∷ lines) ≡ line_text line ++ 10 ∷ lines_text lines = append_assoc (line_text line) (codes "\n") (lines_text lines) in
-    ap without_mark joint ∙ (unmarked_at (line_text line) (lines_text lines) (line_allowed scope line given.0) ∙ sym joint)
+    let joint : lines_text (line ∷ lines) ≡ translated_text line ++ 10 ∷ lines_text lines = append_assoc (translated_text line) (codes "\n") (lines_text lines) in
+    ap without_mark joint ∙ (unmarked_at (translated_text line) (lines_text lines) (line_allowed scope line given.0) ∙ sym joint)
 
-pub lines_back : (scope : Scope) (lines : List Line) → AreGiven scope lines → numbered_lines (lines_text lines) ≡ enumerate_from 1 (map line_text lines)
+pub lines_back : (scope : Scope) (lines : List Line) → AreGiven scope lines → numbered_lines (lines_text lines) ≡ enumerate_from 1 (map translated_text lines)
 lines_back scope lines given = ap (λ bytes. enumerate_from 1 (file_lines bytes)) (unmarked scope lines given) ∙ ap (enumerate_from 1) (lines_cut scope lines given)

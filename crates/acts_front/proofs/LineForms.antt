@@ -7,7 +7,7 @@ use Rattle.std.specs.List.{list_all}
 use Rattle.std.specs.Prelude.{if◌then◌else◌, nat_lt}
 use Rattle.model_parse.specs.Pieces.{begins_with}
 use Rattle.acts_front.specs.ParameterLines.{are_few_digits, behind_kind, is_name, is_value, kind_in, name_in, parameter_in, values_in}
-use Rattle.acts_front.specs.RelationLines.{members_of, relation_of, strength_of}
+use Rattle.acts_front.specs.RelationLines.{member_names, relation_in_parts, strength_of}
 use Rattle.acts_front.specs.declared.kind.Kind.{Kind}
 
 pub parameter_is :
@@ -20,23 +20,23 @@ parameter_is text kind values is named colon same fits all = rw (is, named, colo
 count_is : (parts : List (List ℕ)) (last : List ℕ) → length (parts ++ last ∷ []) - 1 ≡ length parts
 count_is parts last = omega (arith, length-append parts (last ∷ []))
 
-members_are : (parts : List (List ℕ)) (last : List ℕ) → members_of (parts ++ last ∷ []) ≡ parts
+members_are : (parts : List (List ℕ)) (last : List ℕ) → member_names (parts ++ last ∷ []) ≡ parts
 members_are parts last = ap (λ n. take n (parts ++ last ∷ [])) (count_is parts last) ∙ take-append_seam parts (last ∷ [])
 
 strength_is : (parts : List (List ℕ)) (last : List ℕ) → strength_of (parts ++ last ∷ []) ≡ last
 strength_is parts last = ap (λ n. get_or (parts ++ last ∷ []) n []) (count_is parts last) ∙ get_or-append_seam parts last [] []
 
 parts_are : (parts : List (List ℕ)) (last : List ℕ) (fits : Bool) → (nat_lt 0 (length parts) && list_all is_name parts && are_few_digits last) ≡ fits
-    → relation_of (parts ++ last ∷ []) ≡ (if fits then Some (record { members = parts; strength = last }) else None)
+    → relation_in_parts (parts ++ last ∷ []) ≡ (if fits then Some (record { members = parts; strength = last }) else None)
 parts_are parts last fits are = rw (members_are parts last, strength_is parts last, are) refl
 
 -- so it is where the last is taken from a list whose items are seen as texts
 pub parts_popped : {T : Type 0} (text : T → List ℕ) (items members : List T) (strength : T) → items ≡ members ++ strength ∷ []
     → (fits : Bool) → (nat_lt 0 (length members) && list_all (λ member. is_name (text member)) members && are_few_digits (text strength)) ≡ fits
-    → relation_of (map text items) ≡ (if fits then Some (record { members = map text members; strength = text strength }) else None)
+    → relation_in_parts (map text items) ≡ (if fits then Some (record { members = map text members; strength = text strength }) else None)
 parts_popped text items members strength is fits are =
-    ap (λ list. relation_of (map text list)) is
-    ∙ (ap relation_of (map-append text members (strength ∷ []))
+    ap (λ list. relation_in_parts (map text list)) is
+    ∙ (ap relation_in_parts (map-append text members (strength ∷ []))
     ∙ parts_are (map text members) (text strength) fits
     (ap (λ n. nat_lt 0 n && list_all is_name (map text members) && are_few_digits (text strength)) (length-map members text)
     ∙ (ap (λ all. nat_lt 0 (length members) && all && are_few_digits (text strength)) (list_all-map is_name text members) ∙ are)))

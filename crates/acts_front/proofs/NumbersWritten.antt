@@ -9,7 +9,8 @@ use Rattle.std.specs.Prelude.{option_map, slice_index_or}
 use Rattle.acts_front.specs.Tokens.{Token, Name, Whole, Words, Truth, Relation, Arrow, Or, And, Not, Open, Close}
 use Rattle.acts_front.specs.Constraints.{Operand, OfWhole, OfText, OfTruth, OfParameter, Pred, Preds, Negated, End, More, Constraint, Plain, Implies}
 use Rattle.acts_front.specs.Constraints.{comparison_of, conj_in, cons_of, disj_in, disj_of, each_of, each_term, either_of, enclosed_of, every_term}
-use Rattle.acts_front.specs.Constraints.{implied, is_and, is_arrow, is_close, is_or, most_open, operand_of, parts, preds_of, terms_pass, unit_of}
+use Rattle.acts_front.specs.Constraints.{implied, is_and, is_arrow, is_close, is_or, operand_in, parts, preds_of, terms_pass, unit_of}
+use Rattle.constraint_ast.specs.Grammar.{most_open}
 use Rattle.acts_front.proofs.GivenTokens.{IsWritten}
 use Rattle.acts_front.proofs.Glued.{and_glued, glue, mapped_some, or_glued, spells_first}
 use Rattle.acts_front.proofs.TermsMean.{is_all_written, is_number_written}
@@ -18,7 +19,7 @@ use Rattle.acts_front.proofs.TranslatedTrees.{comparison_is}
 abbrev Writes : Pred → Type 0
 Writes pred = each_term is_all_written pred ≡ true
 
-operand_written : (token : Token) (operand : Operand) → operand_of token ≡ Some operand → IsWritten token → is_number_written operand ≡ true
+operand_written : (token : Token) (operand : Operand) → operand_in token ≡ Some operand → IsWritten token → is_number_written operand ≡ true
 operand_written (Whole text) operand is written = let same : OfWhole text ≡ operand = same_Some _ _ is in subst (λ o. is_number_written o ≡ true) same written
 operand_written (Words text) operand is written = let same : OfText text ≡ operand = same_Some _ _ is in subst (λ o. is_number_written o ≡ true) same refl
 operand_written (Truth truth) operand is written = let same : OfTruth truth ≡ operand = same_Some _ _ is in subst (λ o. is_number_written o ≡ true) same refl

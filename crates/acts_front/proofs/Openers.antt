@@ -10,7 +10,8 @@ use Rattle.model_lex.specs.Blanks.{is_all_blank}
 use Rattle.model_parse.specs.Written.{joined}
 use Rattle.acts_front.specs.Tokens.{Token, Name, Whole, Words, Truth, Relation, Arrow, Or, And, Not, Open, Close}
 use Rattle.acts_front.specs.Constraints.{Constraint, Pred, Preds, Negated, Plain, comparison_of, each_of, either_of, conj_of}
-use Rattle.acts_front.specs.Constraints.{cons_of, disj_of, implied, is_and, is_arrow, is_or, most_open, parts, preds_of, unit_of}
+use Rattle.acts_front.specs.Constraints.{cons_of, disj_of, implied, is_and, is_arrow, is_or, parts, preds_of, unit_of}
+use Rattle.constraint_ast.specs.Grammar.{most_open}
 use Rattle.acts_front.specs.Translation.{constraint_text, token_text}
 use Rattle.acts_front.proofs.Glued.{and_glued, and_some, glue, mapped_some, or_glued, or_some, spells_first}
 

@@ -14,7 +14,7 @@ use Rattle.std.specs.List.{before_first, list_all, list_any}
 use Rattle.std.specs.Prelude.{◌==◌, nat_lt, slice_index}
 use Rattle.std.specs.Str.{bytes_eq, chars, str_to_ascii_lowercase}
 use Rattle.value_text.specs.Numbers as numbers
-use Rattle.value_text.specs.Numbers.{decimal_digits, has_point, is_decimal, is_digits, is_number, number_of, whole_digits, without_sign}
+use Rattle.value_text.specs.Numbers.{decimal_digits, has_point, is_decimal, is_digits, is_number, number_of, whole_digits, without_sign, is_point}
 use Rattle.value_text.specs.declared.fixed.FixedAnswer.TheVariants.{NotNumber}
 use Rattle.value_text.specs.Texts.{folded, is_same_text, is_blank}
 use Rattle.value_text.proofs.ListLemmas.{list_any-map}
@@ -45,7 +45,7 @@ use Rattle.model_parse.proofs.Answering.{read_goes}
 use Rattle.model_parse.proofs.Joining.{AreBlanks, IsWhole, Lacks, after_first_back, before_first_back, joined_back}
 use Rattle.model_parse.proofs.WrittenPieces.{ReadsBack, value_back, values_back}
 use Rattle.model_parse.proofs.WrittenValues.{named_fit, none_stands}
-use Rattle.acts_front.specs.ParameterLines.{Parameter, folds, is_declared, is_false, is_name, is_point, is_repeated, is_symbol, is_true, is_value, is_whole}
+use Rattle.acts_front.specs.ParameterLines.{Parameter, folds, is_declared, is_false, is_name, has_repeated, is_symbol, is_true, is_value, is_whole}
 use Rattle.acts_front.specs.SameModels.{is_int, param_is, read_as, value_is}
 use Rattle.acts_front.specs.Translation.{parameter_text, truth_text, value_text}
 use Rattle.acts_front.specs.declared.kind.Kind.{Kind}
@@ -264,7 +264,7 @@ module _ (order : OrderWord) (fold : Bool) (line : ℕ) (params : List Param) (k
       ap (map (folded fold)) (map-append (value_text kind) earlier (value ∷ [])) ∙ map-append (folded fold) (map (value_text kind) earlier) (value_text kind value ∷ []) in
       cc
 
-  values_read : (earlier rest : List (List ℕ)) → list_all (is_value kind) earlier ≡ true → list_all (is_value kind) rest ≡ true → is_repeated (folds fold kind) earlier rest ≡ false
+  values_read : (earlier rest : List (List ℕ)) → list_all (is_value kind) earlier ≡ true → list_all (is_value kind) rest ≡ true → has_repeated (folds fold kind) earlier rest ≡ false
       → and_each (add_piece (read_as order fold) line params known) (reading earlier) (map (value_text kind) rest) ≡ Ok (reading (earlier ++ rest))
   values_read earlier [] before are distinct = ap (λ list. Ok (reading list)) (sym (append-nil earlier))
   values_read earlier (value ∷ rest) before are distinct =
@@ -279,7 +279,7 @@ module _ (order : OrderWord) (fold : Bool) (line : ℕ) (params : List Param) (k
       ap (λ r. and_then r (λ a. and_each (add_piece (read_as order fold) line params known) a (map (value_text kind) rest))) step
       ∙ (values_read (earlier ++ value ∷ []) rest more parts.1 tests.1 ∙ ap (λ list. Ok (reading list)) (append_assoc earlier (value ∷ []) rest))
 
-  list_read : (values : List (List ℕ)) → 0 < length values → list_all (is_value kind) values ≡ true → is_repeated (folds fold kind) [] values ≡ false
+  list_read : (values : List (List ℕ)) → 0 < length values → list_all (is_value kind) values ≡ true → has_repeated (folds fold kind) [] values ≡ false
       → read_values (read_as order fold) line params known [] (32 ∷ joined (codes ", ") (map (value_text kind) values)) ≡ Ok (reading values)
   list_read values some are distinct =
       let blank = λ (b : ℕ). is_blank b ≡ true in

@@ -26,7 +26,7 @@ use Rattle.model_parse.proofs.Joining.{AreBlanks, IsWhole, Lacks, after_last_bac
 use Rattle.model_parse.proofs.WrittenValues.{none_stands, digit_ink}
 use Rattle.constraint_ast.proofs.Digits.{Stops, run_prefix}
 use Rattle.acts_front.specs.Meaning.{number_named}
-use Rattle.acts_front.specs.ParameterLines.{Parameter, is_declared, is_name, is_repeated}
+use Rattle.acts_front.specs.ParameterLines.{Parameter, is_declared, is_name, has_repeated}
 use Rattle.acts_front.specs.RelationLines.{Relation}
 use Rattle.acts_front.specs.SameModels.{group_is, read_as}
 use Rattle.acts_front.specs.Translation.{relation_text}
@@ -125,7 +125,7 @@ module _ (fold : Bool) (params : List (ℕ × Parameter)) (line : ℕ) where
           let equal : is_same_text fold name other ≡ true = (bytes_eq-Decides _ _).1 texts in
           absurd (let clash : false ≡ true = sym apart ∙ equal in cc)
 
-  members_read : (earlier rest : List (List ℕ)) → list_all is_there earlier ≡ true → list_all is_there rest ≡ true → is_repeated fold earlier rest ≡ false
+  members_read : (earlier rest : List (List ℕ)) → list_all is_there earlier ≡ true → list_all is_there rest ≡ true → has_repeated fold earlier rest ≡ false
       → and_each (add_member fold known line) (map number earlier) rest ≡ Ok (map number (earlier ++ rest))
   members_read earlier [] before are distinct = ap (λ list. Ok (map number list)) (sym (append-nil earlier))
   members_read earlier (name ∷ rest) before are distinct =

@@ -23,7 +23,7 @@ use Rattle.acts_front.specs.ParameterLines.{Parameter, Scope, is_name}
 use Rattle.acts_front.specs.RelationLines as relations
 use Rattle.acts_front.specs.Tokens.{Token}
 use Rattle.acts_front.specs.ActsFiles.{Line, Nothing, OfParameter, OfRelation, OfConstraint, and_line, parameters_from, relations_from}
-use Rattle.acts_front.specs.Translation.{constraint_text, line_text, parameter_text, relation_text, value_text}
+use Rattle.acts_front.specs.Translation.{constraint_text, translated_text, parameter_text, relation_text, value_text}
 use Rattle.model_parse.specs.Written.{joined}
 use Rattle.acts_front.proofs.AllowedTexts.{Allowed, each_passes, line_allowed}
 use Rattle.acts_front.proofs.GivenLines.{AreGiven, AreOrdered}
@@ -158,21 +158,21 @@ put before kind line lines split seen is fine rest =
     ∙ (ap (λ k. with_line k line (sections_behind k lines)) is ∙ ap (with_line kind line) rest))
 
 pub sections_are : (scope : Scope) (number : ℕ) (before : LineKind) (lines : List Line) → AreGiven scope lines → AreOrdered before lines
-    → sections_behind before (enumerate_from number (map line_text lines)) ≡ Ok (split_from number lines)
+    → sections_behind before (enumerate_from number (map translated_text lines)) ≡ Ok (split_from number lines)
 sections_are scope number before [] given ordered = refl
 sections_are scope number before (Nothing ∷ lines) given ordered = sections_are (and_line scope Nothing) (number + 1) before lines given.1 ordered
 sections_are scope number before (OfParameter param ∷ lines) given ordered =
     let sorts = parameter_sorts param given.0.named (line_allowed scope (OfParameter param) given.0) in
-    ap (λ kind. sections_behind kind (enumerate_from number (map line_text (OfParameter param ∷ lines)))) ordered.0
-    ∙ put Param Param (number, parameter_text param) (enumerate_from (number + 1) (map line_text lines)) (split_from (number + 1) lines) sorts.0 sorts.1 sorts.2
+    ap (λ kind. sections_behind kind (enumerate_from number (map translated_text (OfParameter param ∷ lines)))) ordered.0
+    ∙ put Param Param (number, parameter_text param) (enumerate_from (number + 1) (map translated_text lines)) (split_from (number + 1) lines) sorts.0 sorts.1 sorts.2
     (sections_are (and_line scope (OfParameter param)) (number + 1) Param lines given.1 ordered.1)
 sections_are scope number before (OfRelation relation ∷ lines) given ordered =
-    put before Group (number, relation_text relation) (enumerate_from (number + 1) (map line_text lines)) (split_from (number + 1) lines)
+    put before Group (number, relation_text relation) (enumerate_from (number + 1) (map translated_text lines)) (split_from (number + 1) lines)
     (relation_ignored relation) (relation_kind before relation ordered.0) (relation_fine before relation ordered.0 (line_allowed scope (OfRelation relation) given.0))
     (sections_are (and_line scope (OfRelation relation)) (number + 1) Group lines given.1 ordered.1)
 sections_are scope number before (OfConstraint tokens constraint ∷ lines) given ordered =
     let opens = constraint_opens tokens constraint given.0.spelled in
-    put before Rule (number, constraint_text tokens) (enumerate_from (number + 1) (map line_text lines)) (split_from (number + 1) lines)
+    put before Rule (number, constraint_text tokens) (enumerate_from (number + 1) (map translated_text lines)) (split_from (number + 1) lines)
     (constraint_ignored tokens constraint given.0.spelled) (constraint_kind before tokens opens)
     (constraint_fine before tokens opens (line_allowed scope (OfConstraint tokens constraint) given.0))
     (sections_are (and_line scope (OfConstraint tokens constraint)) (number + 1) Rule lines given.1 ordered)

@@ -4,7 +4,7 @@ use Rattle.std.specs.Prelude.{is_some, option_map, if◌then◌else◌}
 use Rattle.acts_front.specs.declared.constraint.Finding.TheVariants.{Fits, TypesDiffer, UnknownName}
 use Rattle.cov_model.specs.declared.constraint.Rel.{Rel}
 use Rattle.acts_front.specs.ParameterLines.{Scope, has_name, is_declared, kind_named}
-use Rattle.acts_front.specs.Constraints.{Operand, OfWhole, OfText, OfTruth, OfParameter, Compares, operand_of, is_operand_known, is_order, is_same_kind, is_typed, operand_kind}
+use Rattle.acts_front.specs.Constraints.{Operand, OfWhole, OfText, OfTruth, OfParameter, Compares, operand_in, is_operand_known, is_order, is_same_kind, is_typed, operand_kind}
 use Rattle.acts_front.specs.Findings.{finding_in, kinds_finding, term_finding}
 use Rattle.acts_front.specs.Tokens.{Token}
 use Rattle.acts_front.specs.declared.constraint.Finding.{Finding}
@@ -42,8 +42,8 @@ by_kinds scope name rel operand =
 
 -- so is what is found of a comparison
 pub compared_is : (scope : Scope) (name : List ℕ) (rel : Rel) (token : Token) (operand : Operand) (kind other : Option Kind) (found : Finding)
-    → found ≡ kinds_finding kind rel other → kind ≡ kind_named scope name → other ≡ operand_kind scope operand → operand_of token ≡ Some operand
-    → found ≡ finding_in scope (option_map (λ o. Compares name rel o) (operand_of token))
+    → found ≡ kinds_finding kind rel other → kind ≡ kind_named scope name → other ≡ operand_kind scope operand → operand_in token ≡ Some operand
+    → found ≡ finding_in scope (option_map (λ o. Compares name rel o) (operand_in token))
 compared_is scope name rel token operand kind other found is left right spelled =
     is ∙ (ap (λ k. kinds_finding k rel other) left ∙ (ap (λ k. kinds_finding (kind_named scope name) rel k) right
     ∙ (sym (by_kinds scope name rel operand) ∙ ap (λ o. finding_in scope (option_map (λ o. Compares name rel o) o)) (sym spelled))))

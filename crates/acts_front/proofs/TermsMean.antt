@@ -38,7 +38,7 @@ use Rattle.model_lex.specs.declared.diag.DiagCode.TheVariants.{TypeMismatch}
 use Rattle.acts_front.specs.Constraints.{Operand, OfWhole, OfText, OfTruth, OfParameter, Pred, Preds, Compares, Negated, Each, Either, End}
 use Rattle.acts_front.specs.Constraints.{More, Constraint, Plain, Implies, each_term, every_term, is_order, is_same_kind, is_typed, terms_pass}
 use Rattle.acts_front.specs.Meaning as acts
-use Rattle.acts_front.specs.Meaning.{compare, constraint_holds, content_at, content_of, given, is_as, is_same_truth, no_parameter, operand_content, whole_of}
+use Rattle.acts_front.specs.Meaning.{compare, constraint_holds, content_at, content_of, given_content, is_as, is_same_truth, no_parameter, operand_content, whole_of}
 use Rattle.acts_front.specs.ParameterLines.{Parameter, Scope, is_true, is_value, is_whole, kind_named, without_minus}
 use Rattle.acts_front.specs.SameModels.{is_int, param_is, value_is}
 use Rattle.acts_front.specs.Translation.{truth_text, value_text}
@@ -276,7 +276,7 @@ module _ (fold : Bool) (params : List (ℕ × Parameter)) (valued : All (λ foun
     operand_is : (row : List (Option ℕ)) → is_row m row ≡ true → operand m row (place_in fold name params) ≡ seen kind (text_at row (place_in fold name params))
     operand_is row r = operand_seen row (place_in fold name params) r is.place.within ∙ ap (λ k. seen k (text_at row (place_in fold name params))) is.of_kind
 
-    given_is : (row : List (Option ℕ)) → given fold ours row name ≡ content_of kind (text_at row (place_in fold name params))
+    given_is : (row : List (Option ℕ)) → given_content fold ours row name ≡ content_of kind (text_at row (place_in fold name params))
     given_is row =
         ap (content_at ours row) is.place.as_number ∙ (content_seen row (place_in fold name params) is.place.within ∙ ap (λ k. content_of k (text_at row (place_in fold name params))) is.of_kind)
 
@@ -287,7 +287,7 @@ module _ (fold : Bool) (params : List (ℕ × Parameter)) (valued : All (λ foun
   record TermIs (name : List ℕ) (rel : Rel) (operand : Operand) : Type 0 where
     term : terms.Term
     found : term_of fold (map param_is params) (raw_term name rel operand) ≡ Ok term
-    means : (row : List (Option ℕ)) → is_row m row ≡ true → term_holds m term row ≡ compare fold rel (given fold ours row name) (operand_content fold ours row operand)
+    means : (row : List (Option ℕ)) → is_row m row ≡ true → term_holds m term row ≡ compare fold rel (given_content fold ours row name) (operand_content fold ours row operand)
 
   -- with a literal that stands for a text of the type
   literal_term : (name : List ℕ) (rel : Rel) (operand : Operand) (kind : Kind) (is : IsTyped name kind) (text : List ℕ) → IsOf rel kind
@@ -300,7 +300,7 @@ module _ (fold : Bool) (params : List (ℕ × Parameter)) (valued : All (λ foun
     means = λ row r.
         ap (λ o. stands_in rel (literal_order fold o (seen kind text))) (operand_is name kind is row r)
         ∙ (holds (text_at row (place_in fold name params)) (value_given name kind is row r)
-        ∙ (ap (λ c. compare fold rel c (content_of kind text)) (sym (given_is name kind is row)) ∙ ap (compare fold rel (given fold ours row name)) (sym (contents row))));
+        ∙ (ap (λ c. compare fold rel c (content_of kind text)) (sym (given_is name kind is row)) ∙ ap (compare fold rel (given_content fold ours row name)) (sym (contents row))));
   }
 
   value_found : (name : List ℕ) (rel : Rel) (raw : RawLiteral) (kind : Kind) → IsTyped name kind → is_of_type (is_int kind) raw ≡ true
@@ -368,7 +368,7 @@ module _ (fold : Bool) (params : List (ℕ × Parameter)) (valued : All (λ foun
             ∙ (values_compared fold rel both.kind (text_at row (place_in fold name params))
             (text_at row (place_in fold other params)) of (value_given name both.kind one row r) (value_given other both.kind two row r)
             ∙ (ap (λ c. compare fold rel c (content_of both.kind (text_at row (place_in fold other params)))) (sym (given_is name both.kind one row))
-            ∙ ap (compare fold rel (given fold ours row name)) (sym (given_is other both.kind two row)))));
+            ∙ ap (compare fold rel (given_content fold ours row name)) (sym (given_is other both.kind two row)))));
       }
 
   -- ---- predicates and constraints

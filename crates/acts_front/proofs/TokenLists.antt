@@ -4,7 +4,7 @@ use Rattle.std.proofs.Common.{Option, Some, None, refl, sym, ap, ◌∙◌, appe
 use Rattle.model_lex.specs.Blanks.{without_first_blanks}
 use Rattle.value_text.specs.Texts.{is_blank}
 use Rattle.model_lex.proofs.Opening.{solid}
-use Rattle.acts_front.specs.Tokens.{Token, Found, first_token, len_behind, token_before, tokens_behind}
+use Rattle.acts_front.specs.Tokens.{Token, Found, first_found, len_behind, before_tokens, tokens_behind}
 
 -- tokens before those of a rest
 abbrev pub more_tokens : List Token → Option (List Token) → Option (List Token)
@@ -29,17 +29,17 @@ blanks_skipped (b ∷ text) = at (is_blank b) refl (blanks_skipped text)
 
 -- a token behind blanks
 token_here : (text : List ℕ) (found : Found) → 0 < length text → is_blank (get_or text 0 0) ≡ false
-    → first_token text ≡ found → tokens_behind 0 text ≡ token_before found (tokens_behind 0 (drop (len_behind found + 1) text))
+    → first_found text ≡ found → tokens_behind 0 text ≡ before_tokens found (tokens_behind 0 (drop (len_behind found + 1) text))
 token_here [] found some dense is = absurd (omega arith)
 token_here (b ∷ text) found some dense is =
-    let step : tokens_behind 0 (b ∷ text) ≡ token_before (first_token (b ∷ text)) (tokens_behind (len_behind (first_token (b ∷ text))) text) = rw dense refl in
-    step ∙ (ap (λ f. token_before f (tokens_behind (len_behind f) text)) is ∙ (ap (token_before found) (skipped (len_behind found) text) ∙ (rw add-one refl)))
+    let step : tokens_behind 0 (b ∷ text) ≡ before_tokens (first_found (b ∷ text)) (tokens_behind (len_behind (first_found (b ∷ text))) text) = rw dense refl in
+    step ∙ (ap (λ f. before_tokens f (tokens_behind (len_behind f) text)) is ∙ (ap (before_tokens found) (skipped (len_behind found) text) ∙ (rw add-one refl)))
 
 empty : (read : List Token) (text : List ℕ) → length text ≡ 0 → more_tokens read (tokens_behind 0 text) ≡ Some read
 empty read [] none = ap Some (append-nil read)
 empty read (b ∷ text) none = absurd (omega arith)
 
-onto : (read : List Token) (token : Token) (len : ℕ) (tokens : Option (List Token)) → more_tokens read (token_before (Some (token, len)) tokens) ≡ more_tokens (read ++ token ∷ []) tokens
+onto : (read : List Token) (token : Token) (len : ℕ) (tokens : Option (List Token)) → more_tokens read (before_tokens (Some (token, len)) tokens) ≡ more_tokens (read ++ token ∷ []) tokens
 onto read token len (Some tokens) = ap Some (sym (append_assoc read (token ∷ []) tokens))
 onto read token len None = refl
 
@@ -47,16 +47,16 @@ module _ (whole : Option (List Token)) (read : List Token) (ahead : List ℕ) (h
   pub all_read : length (without_first_blanks ahead) ≡ 0 → whole ≡ Some read
   all_read none = here ∙ (ap (more_tokens read) (sym (blanks_skipped ahead)) ∙ empty read (without_first_blanks ahead) none)
 
-  pub none_read : 0 < length (without_first_blanks ahead) → first_token (without_first_blanks ahead) ≡ None → whole ≡ None
+  pub none_read : 0 < length (without_first_blanks ahead) → first_found (without_first_blanks ahead) ≡ None → whole ≡ None
   none_read some none =
       here ∙ ap (more_tokens read) (sym (blanks_skipped ahead) ∙ token_here (without_first_blanks ahead) None some (solid ahead some) none)
 
   pub one_read : (token : Token) (len : ℕ) (more : List Token) → 0 < length (without_first_blanks ahead)
-      → first_token (without_first_blanks ahead) ≡ Some (token, len) → 0 < len → more ≡ read ++ token ∷ []
+      → first_found (without_first_blanks ahead) ≡ Some (token, len) → 0 < len → more ≡ read ++ token ∷ []
       → whole ≡ more_tokens more (tokens_behind 0 (drop len (without_first_blanks ahead)))
   one_read token len more some is longer grown =
       let size : len - 1 + 1 ≡ len = omega arith in
       here
       ∙ (ap (more_tokens read) (sym (blanks_skipped ahead) ∙ (token_here (without_first_blanks ahead) (Some (token, len)) some (solid ahead some) is
-      ∙ ap (λ n. token_before (Some (token, len)) (tokens_behind 0 (drop n (without_first_blanks ahead)))) size))
+      ∙ ap (λ n. before_tokens (Some (token, len)) (tokens_behind 0 (drop n (without_first_blanks ahead)))) size))
       ∙ (onto read token len (tokens_behind 0 (drop len (without_first_blanks ahead))) ∙ ap (λ list. more_tokens list (tokens_behind 0 (drop len (without_first_blanks ahead)))) (sym grown)))

@@ -13,7 +13,7 @@ use Rattle.cov_model.specs.Meaning.{number_in}
 use Rattle.cov_model.specs.declared.constraint.Rel.{Rel}
 use Rattle.cov_model.specs.declared.constraint.Rel.TheVariants.{Eq, Ne, Gt, Ge, Lt, Le}
 use Rattle.constraint_ast.specs.Trees as trees
-use Rattle.constraint_ast.specs.Grammar.{at, IsUnit, AreUnits, AreConjs, IsRule, negation, parens, value_is, param_is, last_unit, next_unit, last_conj, next_conj, plain, if_then}
+use Rattle.constraint_ast.specs.Grammar.{at, IsUnit, AreUnits, AreConjs, IsRule, negation, parens, value_is, param_is, last_unit, next_unit, last_conj, next_conj, plain, if_then, most_open}
 use Rattle.constraint_ast.specs.declared.token.LineToken.{LineToken}
 use Rattle.constraint_ast.specs.declared.token.RuleToken.{RuleToken}
 use Rattle.constraint_ast.specs.declared.token.RuleToken.TheVariants as rule
@@ -24,7 +24,7 @@ use Rattle.constraint_ast.specs.declared.tree.RawTerm.{RawTerm}
 use Rattle.constraint_ast.specs.declared.tree.RawTerm.TheVariants as terms
 use Rattle.acts_front.specs.Tokens.{Token, Name, Whole, Words, Truth, Relation, Arrow, Or, And, Not, Open, Close}
 use Rattle.acts_front.specs.Constraints.{Operand, OfWhole, OfText, OfTruth, OfParameter, Pred, Preds, Compares, Negated, Each, Either, End, More, Constraint, Plain, Implies, comparison_of, conj_in}
-use Rattle.acts_front.specs.Constraints.{cons_of, disj_in, disj_of, each_of, either_of, enclosed_of, implied, is_and, is_arrow, is_close, is_or, most_open, operand_of, parts, preds_of, unit_of}
+use Rattle.acts_front.specs.Constraints.{cons_of, disj_in, disj_of, each_of, either_of, enclosed_of, implied, is_and, is_arrow, is_close, is_or, operand_in, parts, preds_of, unit_of}
 use Rattle.acts_front.specs.Translation.{truth_text}
 use Rattle.acts_front.proofs.Glued.{and_glued, and_some, glue, mapped_some, or_glued, or_some, spells_first}
 
@@ -142,12 +142,12 @@ pub record IsComparison (tokens : List Token) (pred : Pred) : Type 0 where
   pub token : Token
   pub operand : Operand
   pub tokens_are : Name name ∷ Relation rel ∷ token ∷ [] ≡ tokens
-  pub operand_is : operand_of token ≡ Some operand
+  pub operand_is : operand_in token ≡ Some operand
   pub pred_is : Compares name rel operand ≡ pred
 
 pub comparison_is : (tokens : List Token) (pred : Pred) → comparison_of tokens ≡ Some pred → IsComparison tokens pred
 comparison_is (Name name ∷ Relation rel ∷ token ∷ []) pred is =
-    let found = mapped_some (λ operand. Compares name rel operand) (operand_of token) pred is in
+    let found = mapped_some (λ operand. Compares name rel operand) (operand_in token) pred is in
     record { name = name; rel = rel; token = token; operand = found.0; tokens_are = refl; operand_is = found.1; pred_is = found.2 }
 comparison_is (Name name ∷ Relation rel ∷ token ∷ next ∷ more) pred is = absurd (cc)
 comparison_is (Name name ∷ Relation rel ∷ []) pred is = absurd (cc)
@@ -195,7 +195,7 @@ module _ (line : ℕ) where
   seam front token back rest =
       ap (λ list. list ++ rest) (map-append (λ t. at line (rule_token t)) front (token ∷ back)) ∙ append_assoc (rule_tokens front) (rule_tokens (token ∷ back)) rest
 
-  operand_spells : (room : ℕ) (name : List ℕ) (rel : Rel) (token : Token) (operand : Operand) → operand_of token ≡ Some operand
+  operand_spells : (room : ℕ) (name : List ℕ) (rel : Rel) (token : Token) (operand : Operand) → operand_in token ≡ Some operand
       → Spells room (Name name ∷ Relation rel ∷ token ∷ []) (Compares name rel operand)
   operand_spells room name rel (Whole text) operand is rest =
       let same : OfWhole text ≡ operand = same_Some _ _ is in

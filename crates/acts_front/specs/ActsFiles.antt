@@ -6,8 +6,9 @@ use Rattle.model_lex.specs.Lines.{numbered_lines}
 use Rattle.acts_front.specs.Lines.{begun, is_allowed, is_heading, line_text}
 use Rattle.acts_front.specs.ParameterLines.{Declared, Parameter, Scope, read_parameter}
 use Rattle.acts_front.specs.RelationLines.{Relation, read_relation}
-use Rattle.acts_front.specs.Tokens.{Token, tokens_of}
-use Rattle.acts_front.specs.Constraints.{Constraint, cons_of, constraint_code, most_open}
+use Rattle.acts_front.specs.Tokens.{Token, tokens_found}
+use Rattle.acts_front.specs.Constraints.{Constraint, cons_of, constraint_code}
+use Rattle.constraint_ast.specs.Grammar.{most_open}
 use Rattle.acts_front.specs.declared.code.ActsCode.{ActsCode}
 use Rattle.acts_front.specs.declared.code.ActsCode.TheVariants.{A1, A2, A8, A9}
 use Rattle.acts_front.specs.declared.section.Section.{Section}
@@ -48,7 +49,7 @@ line_in Outside scope text = Err A2
 line_in System scope text = Ok Nothing
 line_in Parameters scope text = parameter_line (read_parameter scope text)
 line_in Relations scope text = relation_line (read_relation scope text)
-line_in Constraints scope text = constraint_line scope (tokens_of text)
+line_in Constraints scope text = constraint_line scope (tokens_found text)
 
 -- what a text gives
 abbrev pub text_gives : Section → Scope → List ℕ → Result Line ActsCode

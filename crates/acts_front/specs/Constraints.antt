@@ -12,6 +12,7 @@ use Rattle.std.specs.Prelude.{length, take, Option, Some, None, option_map, ◌=
 use Rattle.std.specs.List.{list_any, before_first, after_first}
 use Rattle.cov_model.specs.declared.constraint.Rel.{Rel}
 use Rattle.cov_model.specs.declared.constraint.Rel.TheVariants.{Eq, Ne, Gt, Ge, Lt, Le}
+use Rattle.constraint_ast.specs.Grammar.{most_open}
 use Rattle.acts_front.specs.ParameterLines.{Scope, is_declared, kind_named}
 use Rattle.acts_front.specs.Tokens.{Token, Name, Whole, Words, Truth, Relation, Arrow, Or, And, Not, Open, Close}
 use Rattle.acts_front.specs.declared.kind.Kind.{Kind}
@@ -105,16 +106,16 @@ either_of (More pred End) = pred
 either_of (More pred (More next preds)) = Either (More pred (More next preds))
 
 -- operand := int | text | TRUE | FALSE | name
-abbrev pub operand_of : Token → Option Operand
-operand_of (Whole text) = Some (OfWhole text)
-operand_of (Words text) = Some (OfText text)
-operand_of (Truth truth) = Some (OfTruth truth)
-operand_of (Name name) = Some (OfParameter name)
-operand_of token = None
+abbrev pub operand_in : Token → Option Operand
+operand_in (Whole text) = Some (OfWhole text)
+operand_in (Words text) = Some (OfText text)
+operand_in (Truth truth) = Some (OfTruth truth)
+operand_in (Name name) = Some (OfParameter name)
+operand_in token = None
 
 -- name rel operand
 abbrev pub comparison_of : List Token → Option Pred
-comparison_of (Name name ∷ Relation rel ∷ token ∷ []) = option_map (λ operand. Compares name rel operand) (operand_of token)
+comparison_of (Name name ∷ Relation rel ∷ token ∷ []) = option_map (λ operand. Compares name rel operand) (operand_in token)
 comparison_of tokens = None
 
 -- ( disj ), behind its `(`
@@ -157,10 +158,6 @@ abbrev pub cons_of : ℕ → List Token → Option Constraint
 cons_of room tokens =
     if list_any is_arrow tokens then implied (disj_of room (before_first is_arrow tokens)) (disj_of room (after_first is_arrow tokens))
     else option_map Plain (disj_of room tokens)
-
--- how many `(` and `!` may be open at a place
-abbrev pub most_open : ℕ
-most_open = 64
 
 -- ---- what is asked of terms
 

@@ -59,20 +59,20 @@ content_at params row p =
 abbrev pub number_named : Bool → List Parameter → List ℕ → ℕ
 number_named fold params name = unwrap_or (position (λ param. is_same_text fold name param.name) params) 0
 
-abbrev pub given : Bool → List Parameter → List (Option ℕ) → List ℕ → Content
-given fold params row name = content_at params row (number_named fold params name)
+abbrev pub given_content : Bool → List Parameter → List (Option ℕ) → List ℕ → Content
+given_content fold params row name = content_at params row (number_named fold params name)
 
 -- what a parameter is compared with
 abbrev pub operand_content : Bool → List Parameter → List (Option ℕ) → Operand → Content
 operand_content fold params row (OfWhole text) = IsInteger (whole_of text)
 operand_content fold params row (OfText text) = IsText text
 operand_content fold params row (OfTruth truth) = IsTruth truth
-operand_content fold params row (OfParameter name) = given fold params row name
+operand_content fold params row (OfParameter name) = given_content fold params row name
 
 -- whether a predicate holds on a row
 abbrev mutual
   pub pred_holds : Bool → List Parameter → List (Option ℕ) → Pred → Bool
-  pred_holds fold params row (Compares name rel operand) = compare fold rel (given fold params row name) (operand_content fold params row operand)
+  pred_holds fold params row (Compares name rel operand) = compare fold rel (given_content fold params row name) (operand_content fold params row operand)
   pred_holds fold params row (Negated pred) = not (pred_holds fold params row pred)
   pred_holds fold params row (Each preds) = all_hold fold params row preds
   pred_holds fold params row (Either preds) = any_holds fold params row preds

@@ -5,6 +5,7 @@ use Rattle.std.specs.Prelude.{Result, Ok, Err, ◌==◌, nat_le, nat_lt, slice_i
 use Rattle.std.specs.Char.{is_ascii_digit}
 use Rattle.std.specs.List.{list_all, list_any, before_first, after_first}
 use Rattle.std.specs.Str.{str_eq_ignore_ascii_case}
+use Rattle.value_text.specs.Numbers.{is_point}
 use Rattle.value_text.specs.Texts.{is_same_text}
 use Rattle.model_lex.specs.Blanks.{trimmed, without_first_blanks}
 use Rattle.model_lex.specs.Sections.{is_word_byte}
@@ -29,9 +30,6 @@ abbrev pub is_whole : List ℕ → Bool
 is_whole text = are_few_digits (without_minus text)
 
 -- an enum value: a letter or `_`, then letters, digits, `_` and `.`
-abbrev pub is_point : ℕ → Bool
-is_point byte = byte == 46
-
 abbrev pub is_symbol : List ℕ → Bool
 is_symbol text =
     nat_lt 0 (length text) && not (is_ascii_digit (slice_index text 0) || is_point (slice_index text 0))
@@ -51,8 +49,8 @@ is_value Enum text = is_symbol text
 is_value Boolean text = is_true text || is_false text
 
 -- the type of a word, in any case
-abbrev pub kind_of : List ℕ → Option Kind
-kind_of word =
+abbrev pub named_kind : List ℕ → Option Kind
+named_kind word =
     if str_eq_ignore_ascii_case word (codes "int") then Some Int
     else if str_eq_ignore_ascii_case word (codes "enum") then Some Enum
     else if str_eq_ignore_ascii_case word (codes "boolean") then Some Boolean
@@ -76,7 +74,7 @@ abbrev pub name_in : List ℕ → List ℕ
 name_in text = trimmed (before_first (is_byte 40) text)
 
 abbrev pub kind_in : List ℕ → Option Kind
-kind_in text = kind_of (trimmed (before_first (is_byte 41) (behind_name text)))
+kind_in text = named_kind (trimmed (before_first (is_byte 41) (behind_name text)))
 
 abbrev pub values_in : List ℕ → List (List ℕ)
 values_in text = pieces 44 (drop 1 (behind_kind text))
@@ -111,9 +109,9 @@ abbrev pub is_declared : Scope → List ℕ → Bool
 is_declared scope name = list_any (has_name scope.fold name) scope.params
 
 -- one of some texts is the same as an earlier one, or as one of these
-abbrev pub is_repeated : Bool → List (List ℕ) → List (List ℕ) → Bool
-is_repeated fold earlier [] = false
-is_repeated fold earlier (text ∷ texts) = list_any (is_same_text fold text) earlier || is_repeated fold (earlier ++ text ∷ []) texts
+abbrev pub has_repeated : Bool → List (List ℕ) → List (List ℕ) → Bool
+has_repeated fold earlier [] = false
+has_repeated fold earlier (text ∷ texts) = list_any (is_same_text fold text) earlier || has_repeated fold (earlier ++ text ∷ []) texts
 
 -- boolean values are compared in any case
 abbrev pub folds : Bool → Kind → Bool
@@ -124,7 +122,7 @@ folds fold kind = fold
 abbrev pub declared_in : Scope → Option Parameter → Result Parameter ActsCode
 declared_in scope None = Err A3
 declared_in scope (Some param) =
-    if is_declared scope param.name || is_repeated (folds scope.fold param.kind) [] param.values then Err A4 else Ok param
+    if is_declared scope param.name || has_repeated (folds scope.fold param.kind) [] param.values then Err A4 else Ok param
 
 abbrev pub read_parameter : Scope → List ℕ → Result Parameter ActsCode
 read_parameter scope text = declared_in scope (parameter_in text)

@@ -9,7 +9,7 @@ use Rattle.acts_front.specs.RelationLines as relations
 use Rattle.acts_front.specs.Tokens as tokens
 use Rattle.acts_front.specs.Constraints.{is_and, is_or}
 use Rattle.acts_front.specs.ActsFiles.{Line, and_line, declared_by, lines_give}
-use Rattle.acts_front.specs.Translation.{line_text, lines_text}
+use Rattle.acts_front.specs.Translation.{translated_text, lines_text}
 use Rattle.acts_front.specs.declared.code.ActsCode.{ActsCode}
 use Rattle.acts_front.specs.declared.code.ActsFault.{ActsFault}
 use Rattle.acts_front.specs.declared.code.ActsFault.TheVariants.{Bad, NoMemory}
@@ -79,7 +79,7 @@ Adds number section text given before (Err NoMemory) = Unit {0}
 
 -- the text of a line, without and with its line feed
 abbrev pub ended : Line → List ℕ
-ended line = line_text line ++ codes "\n"
+ended line = translated_text line ++ codes "\n"
 
 -- an answer that gives the text, or the refusal
 abbrev pub Translates : Result (List ℕ) (ℕ × ActsCode) → Result (Vec ℕ Global) ActsFault → Type 0

@@ -5,7 +5,7 @@ use Rattle.std.specs.List.{list_all, before_first, after_first}
 use Rattle.value_text.specs.Numbers.{count_of}
 use Rattle.model_lex.specs.Blanks.{trimmed, without_first_blanks}
 use Rattle.model_parse.specs.Pieces.{is_byte, before_end, begins_with, ends_with, pieces}
-use Rattle.acts_front.specs.ParameterLines.{Scope, are_few_digits, is_declared, is_name, is_repeated}
+use Rattle.acts_front.specs.ParameterLines.{Scope, are_few_digits, is_declared, is_name, has_repeated}
 use Rattle.acts_front.specs.declared.code.ActsCode.{ActsCode}
 use Rattle.acts_front.specs.declared.code.ActsCode.TheVariants.{A5, A6, A7}
 
@@ -22,26 +22,26 @@ abbrev pub parts_in : List ℕ → List (List ℕ)
 parts_in text = pieces 44 (before_end (drop 1 (listed text)))
 
 -- the last part is the strength, and those before it, one at least, are members
-abbrev pub members_of : List (List ℕ) → List (List ℕ)
-members_of parts = take (length parts - 1) parts
+abbrev pub member_names : List (List ℕ) → List (List ℕ)
+member_names parts = take (length parts - 1) parts
 
 abbrev pub strength_of : List (List ℕ) → List ℕ
 strength_of parts = slice_index_or parts (length parts - 1) []
 
-abbrev pub relation_of : List (List ℕ) → Option Relation
-relation_of parts =
-    if nat_lt 0 (length (members_of parts)) && list_all is_name (members_of parts) && are_few_digits (strength_of parts)
-    then Some (record { members = members_of parts; strength = strength_of parts }) else None
+abbrev pub relation_in_parts : List (List ℕ) → Option Relation
+relation_in_parts parts =
+    if nat_lt 0 (length (member_names parts)) && list_all is_name (member_names parts) && are_few_digits (strength_of parts)
+    then Some (record { members = member_names parts; strength = strength_of parts }) else None
 
 -- the relation of a line, where the line has the form of one
 abbrev pub relation_in : List ℕ → Option Relation
 relation_in text =
     if is_name (trimmed (before_first (is_byte 58) text)) && (begins_with 40 (listed text) && ends_with 41 (listed text))
-    then relation_of (parts_in text) else None
+    then relation_in_parts (parts_in text) else None
 
 -- the members of a relation are declared, and none is repeated
 abbrev pub are_members : Scope → List (List ℕ) → Bool
-are_members scope names = list_all (is_declared scope) names && not (is_repeated scope.fold [] names)
+are_members scope names = list_all (is_declared scope) names && not (has_repeated scope.fold [] names)
 
 -- the relation of a line behind others, or why the line is refused: its strength is from 1 to the number of its
 -- members

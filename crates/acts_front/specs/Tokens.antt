@@ -31,8 +31,8 @@ abbrev pub Found : Type 0
 Found = Option (Token × ℕ)
 
 -- TRUE and FALSE, in any case, are truth values and no names
-abbrev pub word_token : List ℕ → Token
-word_token word = if is_true word then Truth true else if is_false word then Truth false else Name word
+abbrev pub token_of_word : List ℕ → Token
+token_of_word word = if is_true word then Truth true else if is_false word then Truth false else Name word
 
 -- the digits at the start of a text, with a minus before them if it stands there
 abbrev pub whole_run : List ℕ → List ℕ
@@ -66,19 +66,19 @@ mark_token first next =
     else None
 
 -- the token at the start of a text that isn't empty
-abbrev pub first_token : List ℕ → Found
-first_token text =
+abbrev pub first_found : List ℕ → Found
+first_found text =
     let first = slice_index text 0 in
     if is_ascii_digit first || (first == 45) then whole_token (whole_run text)
-    else if is_word_byte first then Some (word_token (first_word text), length (first_word text))
+    else if is_word_byte first then Some (token_of_word (first_word text), length (first_word text))
     else if first == 34 then words_token (drop 1 text)
     else mark_token first (slice_index text 1)
 
 -- a token before others, and how many bytes of it stand behind its first
-abbrev pub token_before : Found → Option (List Token) → Option (List Token)
-token_before (Some (token, len)) (Some tokens) = Some (token ∷ tokens)
-token_before (Some (token, len)) None = None
-token_before None tokens = None
+abbrev pub before_tokens : Found → Option (List Token) → Option (List Token)
+before_tokens (Some (token, len)) (Some tokens) = Some (token ∷ tokens)
+before_tokens (Some (token, len)) None = None
+before_tokens None tokens = None
 
 abbrev pub len_behind : Found → ℕ
 len_behind (Some (token, len)) = len - 1
@@ -90,7 +90,7 @@ tokens_behind inside [] = Some []
 tokens_behind (suc inside) (byte ∷ rest) = tokens_behind inside rest
 tokens_behind zero (byte ∷ rest) =
     if is_blank byte then tokens_behind 0 rest
-    else token_before (first_token (byte ∷ rest)) (tokens_behind (len_behind (first_token (byte ∷ rest))) rest)
+    else before_tokens (first_found (byte ∷ rest)) (tokens_behind (len_behind (first_found (byte ∷ rest))) rest)
 
-abbrev pub tokens_of : List ℕ → Option (List Token)
-tokens_of text = tokens_behind 0 text
+abbrev pub tokens_found : List ℕ → Option (List Token)
+tokens_found text = tokens_behind 0 text

@@ -61,15 +61,15 @@ abbrev pub constraint_text : List Token → List ℕ
 constraint_text tokens = opening tokens ++ joined (codes " ") (map token_text tokens) ++ codes ";"
 
 -- the line that a line becomes
-abbrev pub line_text : Line → List ℕ
-line_text Nothing = []
-line_text (OfParameter param) = parameter_text param
-line_text (OfRelation relation) = relation_text relation
-line_text (OfConstraint tokens constraint) = constraint_text tokens
+abbrev pub translated_text : Line → List ℕ
+translated_text Nothing = []
+translated_text (OfParameter param) = parameter_text param
+translated_text (OfRelation relation) = relation_text relation
+translated_text (OfConstraint tokens constraint) = constraint_text tokens
 
 -- each line with a line feed
 abbrev pub lines_text : List Line → List ℕ
-lines_text lines = flat_map (λ line. line_text line ++ codes "\n") lines
+lines_text lines = flat_map (λ line. translated_text line ++ codes "\n") lines
 
 abbrev pub text_given : Result (List Line) (ℕ × ActsCode) → Result (List ℕ) (ℕ × ActsCode)
 text_given (Ok lines) = Ok (lines_text lines)

@@ -2,7 +2,8 @@ ghost use Rattle.std.specs.Prelude.{◌≡◌, ◌||◌, map, IfOk};
 ghost use Rattle.std.specs.List.{list_all};
 ghost use Rattle.std.specs.Char.{is_ascii_digit};
 ghost use Rattle.model_lex.specs.Sections.{is_word_byte};
-ghost use Rattle.acts_front.specs.ParameterLines.{are_few_digits, folds, is_false, is_name, is_point, is_symbol, is_true, is_value, is_whole, kind_of, without_minus};
+ghost use Rattle.acts_front.specs.ParameterLines.{are_few_digits, folds, is_false, is_name, is_symbol, is_true, is_value, is_whole, named_kind, without_minus};
+ghost use Rattle.value_text.specs.Numbers.{is_point};
 ghost use Rattle.acts_front.specs.Translation.{value_text};
 
 use crate::write::truth_text;
@@ -103,7 +104,7 @@ pub(crate) fn is_false(text: &[u8]) -> bool
 impl Kind {
     /// The type of a word.
     pub(crate) fn of(word: &[u8]) -> Option<Kind>
-        ensures { result ≡ kind_of word.now }
+        ensures { result ≡ named_kind word.now }
     {
         if word.eq_ignore_ascii_case(b"int") {
             Some(Kind::Int)

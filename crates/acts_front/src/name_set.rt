@@ -1,7 +1,7 @@
 ghost use Rattle.std.specs.Prelude.{◌≡◌, ◌<◌, [], ◌∷◌, ◌++◌, length, false, map, IfOk, IfSome, OnOk};
 ghost use Rattle.value_text.specs.Texts.{folded};
 ghost use Rattle.model_parse.specs.ValueSteps.{is_known, place_of};
-ghost use Rattle.acts_front.specs.ParameterLines.{is_repeated};
+ghost use Rattle.acts_front.specs.ParameterLines.{has_repeated};
 
 use indexmap::IndexSet;
 use std::alloc::Global;
@@ -78,8 +78,8 @@ impl NameSet {
 }
 
 /// Whether one of some texts is the same as an earlier one.
-pub(crate) fn is_repeated(alloc: Global, texts: &[&[u8]], fold: bool) -> Result<bool, NoMemory>
-    ensures { IfOk result (λ repeated. repeated ≡ is_repeated fold [] (map (λ text. text.now) texts.now)) }
+pub(crate) fn has_repeated(alloc: Global, texts: &[&[u8]], fold: bool) -> Result<bool, NoMemory>
+    ensures { IfOk result (λ repeated. repeated ≡ has_repeated fold [] (map (λ text. text.now) texts.now)) }
 {
     let mut earlier = NameSet::new(alloc);
     for text in texts {

@@ -5,7 +5,7 @@ ghost use Rattle.acts_front.specs.Translation.{parameter_text};
 
 use crate::code::{ActsCode, ActsFault};
 use crate::kind::{Kind, is_name};
-use crate::name_set::is_repeated;
+use crate::name_set::has_repeated;
 use crate::scope::Scope;
 use crate::text::{begins_with, cut_first, pieces, trimmed, without_first_blanks};
 use crate::write::put_list;
@@ -79,7 +79,7 @@ impl Scope<'_> {
         };
         let folds = param.kind.folds(self.fold());
         if self.declares(alloc, param.name)?
-            || is_repeated(alloc, param.values.as_slice(), folds)?
+            || has_repeated(alloc, param.values.as_slice(), folds)?
         {
             return Err(ActsFault::Bad(line, ActsCode::A4));
         }

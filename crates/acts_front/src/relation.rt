@@ -3,12 +3,12 @@ ghost use Rattle.std.specs.List.{list_all};
 ghost use Rattle.value_text.specs.Numbers.{count_of};
 ghost use Rattle.acts_front.specs.ParameterLines.{are_few_digits, is_declared, is_name};
 ghost use Rattle.acts_front.specs.Reading.{Reads, relation_seen};
-ghost use Rattle.acts_front.specs.RelationLines.{are_members, read_relation, relation_in, relation_of};
+ghost use Rattle.acts_front.specs.RelationLines.{are_members, read_relation, relation_in, relation_in_parts};
 ghost use Rattle.acts_front.specs.Translation.{relation_text};
 
 use crate::code::{ActsCode, ActsFault};
 use crate::kind::{are_few_digits, is_name};
-use crate::name_set::is_repeated;
+use crate::name_set::has_repeated;
 use crate::scope::Scope;
 use crate::text::{between, cut_first, pieces, trimmed, without_first_blanks};
 use crate::write::put_list;
@@ -42,7 +42,7 @@ fn are_parts(members: &[&[u8]], strength: &[u8]) -> bool
 impl<'a> Relation<'a> {
     // The relation of the parts of its list.
     fn of(mut parts: Vec<&'a [u8]>) -> Option<Relation<'a>>
-        ensures { option_map relation_seen result ≡ relation_of (map (λ part. part.now) parts.entry.items) }
+        ensures { option_map relation_seen result ≡ relation_in_parts (map (λ part. part.now) parts.entry.items) }
     {
         let strength = parts.pop()?;
         if !are_parts(parts.as_slice(), strength) {
@@ -114,7 +114,7 @@ impl Scope<'_> {
         if !self.declares_all(alloc, names)? {
             return Ok(false);
         }
-        let repeated = is_repeated(alloc, names, self.fold())?;
+        let repeated = has_repeated(alloc, names, self.fold())?;
         Ok(!repeated)
     }
 

@@ -4,7 +4,7 @@ ghost use Rattle.std.specs.Char.{is_ascii_digit};
 ghost use Rattle.std.specs.List.{prefix_len};
 ghost use Rattle.model_lex.specs.Sections.{first_word, is_word_byte};
 ghost use Rattle.acts_front.specs.Reading.{found_seen, token_seen, tokens_seen};
-ghost use Rattle.acts_front.specs.Tokens.{first_token, mark_token, tokens_of, whole_run, whole_token, word_token, words_token};
+ghost use Rattle.acts_front.specs.Tokens.{first_found, mark_token, tokens_found, whole_run, whole_token, token_of_word, words_token};
 
 use crate::kind::{is_false, is_true, is_whole, is_word_byte};
 use crate::text::{mark_place, without_first_blanks};
@@ -58,8 +58,8 @@ fn digit_len(text: &[u8]) -> usize
 }
 
 // The word at the start of a text.
-fn word_token(text: &[u8]) -> (Token<'_>, usize)
-    ensures token { token_seen result.0 ≡ word_token (first_word text.now) }
+fn token_of_word(text: &[u8]) -> (Token<'_>, usize)
+    ensures token { token_seen result.0 ≡ token_of_word (first_word text.now) }
     ensures len { result.1 ≡ length (first_word text.now) }
 {
     let len = word_len(text);
@@ -128,16 +128,16 @@ fn mark_token<'a>(text: &[u8]) -> Option<(Token<'a>, usize)>
 }
 
 // The token at the start of a text, with its length.
-fn first_token(text: &[u8]) -> Option<(Token<'_>, usize)>
+fn first_found(text: &[u8]) -> Option<(Token<'_>, usize)>
     requires { 0 < length text.now }
-    ensures value { found_seen result ≡ first_token text.now }
+    ensures value { found_seen result ≡ first_found text.now }
     ensures within { IfSome result (λ found. (0 < found.1) × (found.1 ≤ length text.now)) }
 {
     let first = text[0];
     if first.is_ascii_digit() || first == b'-' {
         whole_token(text)
     } else if is_word_byte(first) {
-        Some(word_token(text))
+        Some(token_of_word(text))
     } else if first == b'"' {
         words_token(&text[1..])
     } else {
@@ -146,8 +146,8 @@ fn first_token(text: &[u8]) -> Option<(Token<'_>, usize)>
 }
 
 /// The tokens of a text, with blanks between them; `None` where a part of it is none.
-pub(crate) fn tokens_of(alloc: Global, text: &[u8]) -> Result<Option<Vec<Token<'_>>>, NoMemory>
-    ensures { IfOk result (λ tokens. option_map (λ list. tokens_seen list.items) tokens ≡ tokens_of text.now) }
+pub(crate) fn tokens_found(alloc: Global, text: &[u8]) -> Result<Option<Vec<Token<'_>>>, NoMemory>
+    ensures { IfOk result (λ tokens. option_map (λ list. tokens_seen list.items) tokens ≡ tokens_found text.now) }
 {
     let mut tokens = Vec::new(alloc);
     let mut ahead = text;
@@ -156,7 +156,7 @@ pub(crate) fn tokens_of(alloc: Global, text: &[u8]) -> Result<Option<Vec<Token<'
         if rest.is_empty() {
             return Ok(Some(tokens));
         }
-        let Some((token, len)) = first_token(rest) else {
+        let Some((token, len)) = first_found(rest) else {
             return Ok(None);
         };
         tokens.push(token)?;

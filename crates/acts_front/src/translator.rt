@@ -4,15 +4,15 @@ ghost use Rattle.acts_front.specs.ParameterLines.{read_parameter};
 ghost use Rattle.acts_front.specs.Reading.{Adds, Translates, ended};
 ghost use Rattle.acts_front.specs.RelationLines.{read_relation};
 ghost use Rattle.acts_front.specs.SameModels.{IsFaithful};
-ghost use Rattle.acts_front.specs.Tokens.{tokens_of};
-ghost use Rattle.acts_front.specs.Translation.{line_text, translation};
+ghost use Rattle.acts_front.specs.Tokens.{tokens_found};
+ghost use Rattle.acts_front.specs.Translation.{translated_text, translation};
 
 use crate::code::{ActsCode, ActsFault};
 use crate::line::{are_allowed, cut_line, line_text, without_mark};
 use crate::scope::Scope;
 use crate::section::Section;
 use crate::text::begins_with;
-use crate::token::tokens_of;
+use crate::token::tokens_found;
 use crate::write::{end_line, put_constraint};
 use std::alloc::Global;
 
@@ -46,7 +46,7 @@ impl<'a> Translator<'a> {
         line: u32,
         text: &'a [u8],
     ) -> Result<Translator<'a>, ActsFault>
-        ensures { Adds line self.entry.section line_text (parameter_line (read_parameter self.entry.scope text.now)) self.entry result }
+        ensures { Adds line self.entry.section translated_text (parameter_line (read_parameter self.entry.scope text.now)) self.entry result }
     {
         let param = self.scope.parameter(alloc, line, text)?;
         param.put(alloc, &mut self.text)?;
@@ -61,7 +61,7 @@ impl<'a> Translator<'a> {
         line: u32,
         text: &[u8],
     ) -> Result<Translator<'a>, ActsFault>
-        ensures { Adds line self.entry.section line_text (relation_line (read_relation self.entry.scope text.now)) self.entry result }
+        ensures { Adds line self.entry.section translated_text (relation_line (read_relation self.entry.scope text.now)) self.entry result }
     {
         let relation = self.scope.relation(alloc, line, text)?;
         relation.put(&mut self.text)?;
@@ -75,9 +75,9 @@ impl<'a> Translator<'a> {
         line: u32,
         text: &[u8],
     ) -> Result<Translator<'a>, ActsFault>
-        ensures { Adds line self.entry.section line_text (constraint_line self.entry.scope (tokens_of text.now)) self.entry result }
+        ensures { Adds line self.entry.section translated_text (constraint_line self.entry.scope (tokens_found text.now)) self.entry result }
     {
-        let Some(tokens) = tokens_of(alloc, text)? else {
+        let Some(tokens) = tokens_found(alloc, text)? else {
             return Err(ActsFault::Bad(line, ActsCode::A9));
         };
         if let Some(code) = self.scope.constraint(alloc, tokens.as_slice())?.code() {
@@ -94,7 +94,7 @@ impl<'a> Translator<'a> {
         line: u32,
         text: &'a [u8],
     ) -> Result<Translator<'a>, ActsFault>
-        ensures { Adds line self.entry.section line_text (line_in self.entry.section self.entry.scope text.now) self.entry result }
+        ensures { Adds line self.entry.section translated_text (line_in self.entry.section self.entry.scope text.now) self.entry result }
     {
         match self.section {
             Section::Outside => Err(ActsFault::Bad(line, ActsCode::A2)),
@@ -107,7 +107,7 @@ impl<'a> Translator<'a> {
 
     // And the text of a line.
     fn add_text(self, alloc: Global, line: u32, text: &'a [u8]) -> Result<Translator<'a>, ActsFault>
-        ensures { Adds line (section_in self.entry.section text.now) line_text (text_gives self.entry.section self.entry.scope text.now) self.entry result }
+        ensures { Adds line (section_in self.entry.section text.now) translated_text (text_gives self.entry.section self.entry.scope text.now) self.entry result }
     {
         if text.is_empty() {
             return Ok(self);

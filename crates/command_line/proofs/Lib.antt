@@ -1,4 +1,5 @@
 pub mod Loading
+pub mod NoFaults
 pub mod PutLines
 pub mod PutPairs
 pub mod PieceSums

@@ -3,5 +3,6 @@ pub mod Pieces
 pub mod Ranges
 pub mod Settings
 pub mod Stops
+pub mod SureFiles
 pub mod Told
 pub mod Words

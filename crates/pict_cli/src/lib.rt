@@ -5,7 +5,8 @@
 //!   is served by a printed row, or no row serves it, and then the proof, where one is asked for, lists
 //!   it with a tree that refutes it.
 //! - `run_pict_in_memory` is the same on a folder and sinks in memory, where the headline has no
-//!   premise but the status.
+//!   premise but the status. `run_pict_without_faults` is the same on a folder and sinks that never fail, where
+//!   completeness has no premise on faults.
 //! - `read_words` is the definition's reading of words.
 //!
 //! All memory is taken before the first byte is written.
@@ -27,6 +28,7 @@ mod rows;
 mod run;
 mod suite;
 mod suspecting;
+mod without_faults;
 mod words;
 mod working;
 
@@ -34,3 +36,4 @@ pub use command_line::Shuffle;
 pub use in_memory::run_pict_in_memory;
 pub use options::{Opts, WordFault, read_words};
 pub use run::run_pict;
+pub use without_faults::run_pict_without_faults;

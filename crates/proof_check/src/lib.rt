@@ -7,6 +7,8 @@
 //!   the checker is for: after status 0 every row of the report is valid, and each demanded tuple is served by one of
 //!   them, or the proof lists it and no row serves it.
 //! - `run_check_in_memory` is the same on a folder and sinks in memory, where this has no premise but the status.
+//!   `run_check_without_faults` is the same on a folder and sinks that never fail, where completeness has no premise on
+//!   faults.
 //! - `read_check_words` is the definition's reading of words.
 #![tactic(auto)]
 
@@ -20,6 +22,7 @@ mod telling;
 mod trees;
 mod uncovered;
 mod verdict;
+mod without_faults;
 mod words;
 
 pub use check::check_bytes;
@@ -27,4 +30,5 @@ pub use in_memory::run_check_in_memory;
 pub use laws::checks_have_one_answer;
 pub use run::run_check;
 pub use verdict::{CheckFault, Verdict};
+pub use without_faults::run_check_without_faults;
 pub use words::{CheckOpts, WordFault, read_check_words};

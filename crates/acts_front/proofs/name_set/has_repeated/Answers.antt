@@ -1,6 +1,6 @@
 use Rattle.std.proofs.Common.{◌∙◌, [], sym}
 use Rattle.acts_front.proofs.Repeated.{none_here, repeated_here}
-use Rattle.acts_front.proofs.name_set.is_repeated.Goals as goal
+use Rattle.acts_front.proofs.name_set.has_repeated.Goals as goal
 
 pub returns-then-branch : goal.returns-then-branch
 returns-then-branch c =
