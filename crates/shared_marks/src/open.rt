@@ -92,8 +92,8 @@ impl SharedMarks {
         self.mark_ranks(seat, line.base, plan.size(line.set), ranks, words);
     }
 
-    // Marks the places of the demanded tuples of the lines' sets that the tests of a block serve. There is a number
-    // for each test, of any value.
+    // Marks the places of the demanded tuples of the lines' sets that the tests of a block serve. There is room for two
+    // numbers for each test, and for words.
     fn mark_lines(
         &self,
         seat: &mut MarkSeat,

@@ -1,4 +1,4 @@
-use Rattle.std.proofs.Common.{◌∙◌, ap, arith, length, sym}
+use Rattle.std.proofs.Common.{◌<◌, ◌∙◌, ap, arith, length, sym}
 use Rattle.std.proofs.lemmas.List.{length-map}
 use Rattle.tuple_index.specs.Plan.{set_at}
 use Rattle.shared_marks.specs.Blocks.{place_in}
@@ -22,11 +22,13 @@ add_digits-requires-clause-long c =
 
 pub add_digits-requires-clause-few : goal.add_digits-requires-clause-few
 add_digits-requires-clause-few c at within =
-    let known =
-    line_at c.args.model.now c.args.plan.now c.args.block.now c.args.line c.copy_from_slice.new.self c.column.result.now c.radix_of.result at c.requires.plan
-    c.assert_invariant.ensures c.requires.block c.requires.line (c.copy_from_slice.ensures.after ∙ c.requires.fronts) c.radix_of.ensures.value c.column.ensures
-    (omega (arith, within, ap length (c.copy_from_slice.ensures.after ∙ c.requires.fronts), length-map c.args.block.now.tests (place_in c.args.model.now (front (set_at c.args.plan.now c.args.line.set))))) in
-    known.few
+    let m = c.args.model.now in
+    let tests = c.args.block.now.tests in
+    let fronts = c.copy_from_slice.ensures.after ∙ c.requires.fronts in
+    let inside : at < length tests =
+    omega (arith, within, ap length fronts, length-map tests (place_in m (front (set_at c.args.plan.now c.args.line.set)))) in
+    (line_at m c.args.plan.now c.args.block.now c.args.line c.copy_from_slice.new.self c.column.result.now c.radix_of.result at c.requires.plan
+    c.assert_invariant.ensures c.requires.block c.requires.line fronts c.radix_of.ensures.value c.column.ensures inside).few
 
 pub returns : goal.returns
 returns c =
