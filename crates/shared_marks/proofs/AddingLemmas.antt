@@ -8,8 +8,10 @@ use Rattle.std.proofs.lemmas.List.Folds.{list_any-append}
 use Rattle.std.proofs.lemmas.Nat.{pow-add, pow_pos}
 use Rattle.definitions.specs.Demand.{is_among}
 use Rattle.shared_marks.specs.declared.holding.Holding.{Holding}
-use Rattle.shared_marks.specs.Adding.{Adds, IsSameShare, Marks}
+use Rattle.shared_marks.specs.Adding.{Adds, IsSameShare, Marks, is_of_word}
 use Rattle.shared_marks.specs.Seats.{IsWhole, SeatView, first_holding, halved, is_held, with_holding, joined, marking, other_half}
+use Rattle.shared_marks.specs.Steps.{marking_all, places_of}
+use Rattle.shared_marks.proofs.BitLemmas.{places_among}
 
 -- none
 pub marks_none : (adds : ℕ → Bool) (seat : SeatView) → ((place : ℕ) → adds place ≡ false) → Marks adds seat seat
@@ -27,6 +29,19 @@ pub marks_one : (adds : ℕ → Bool) (seat : SeatView) (own : ℕ) → ((place 
 marks_one adds seat own is = record {
   table = refl;
   marked = λ place. or_comm (own == place) (is_among seat.holds.marked place) ∙ ap (λ t. is_among seat.holds.marked place || t) (sym (is place));
+  seen = refl;
+  parts = refl;
+  halvings = refl;
+}
+
+-- those of a word
+pub marks_word : (word bits : ℕ) (seat : SeatView) → Marks (is_of_word word bits) seat (with_holding seat (marking_all (places_of word bits) seat.holds))
+marks_word word bits seat = record {
+  table = refl;
+  marked = λ place.
+      list_any-append (λ k. k == place) (places_of word bits) seat.holds.marked
+      ∙ ap (λ t. t || is_among seat.holds.marked place) (places_among word bits place)
+      ∙ or_comm (is_of_word word bits place) (is_among seat.holds.marked place);
   seen = refl;
   parts = refl;
   halvings = refl;

@@ -11,5 +11,6 @@ pub mod RowLemmas
 pub mod WorkerLemmas
 pub mod DigitLemmas
 pub mod BlockLemmas
+pub mod GatherLemmas
 pub mod LineLemmas
 pub mod OpenLemmas

@@ -1,10 +1,10 @@
 -- The places that lines of sets give.
-use Rattle.std.proofs.Common.{◌≡◌, ℕ, ◌+◌, ◌-◌, ◌*◌, ◌^◌, ◌<◌, ◌≤◌, true, ◌&&◌, List, [], ◌∷◌, ◌++◌, map, take, drop, length, get_or, All, Option, Some, ◌∙◌, refl, sym, ap, subst, arith}
-use Rattle.std.specs.Prelude.{◌==◌, nat_le, nat_lt, sum}
+use Rattle.std.proofs.Common.{◌≡◌, ℕ, ◌+◌, ◌-◌, ◌*◌, ◌^◌, ◌<◌, ◌≤◌, suc, true, ◌&&◌, ◌||◌, List, [], ◌∷◌, ◌++◌, map, take, drop, length, get_or, All, Option, Some, ◌∙◌, refl, sym, ap, subst, arith}
+use Rattle.std.specs.Prelude.{nat_le, nat_lt, sum}
 use Rattle.std.proofs.Math.Bool.{and-or_distrib_left}
 use Rattle.std.proofs.Math.Nat.{mul_assoc}
 use Rattle.std.proofs.lemmas.Bool.{and_right}
-use Rattle.std.proofs.lemmas.List.{get_or-map, take-append-drop, take_all, take_more}
+use Rattle.std.proofs.lemmas.List.{get_or-map, length-map, take-append-drop}
 use Rattle.std.proofs.lemmas.List.Elements.{All-from_get_or, All-take}
 use Rattle.value_text.proofs.ListLemmas.{pos_left_of_mul}
 use Rattle.cov_model.specs.declared.slice.Slice.TheVariants.{Positive}
@@ -12,23 +12,21 @@ use Rattle.cov_model.specs.Sound.{ModelView}
 use Rattle.cov_model.specs.Rows.{value_in}
 use Rattle.cov_model.specs.Slices.{positive_values, slice_of}
 use Rattle.cov_model.specs.Valid.{is_valid}
-use Rattle.definitions.specs.Demand.{demanded_sets, demanded_tuples}
+use Rattle.definitions.specs.Demand.{demanded_sets, demanded_tuples, tuples_of}
 use Rattle.tuple_index.specs.Kept.{IsKept}
 use Rattle.tuple_index.specs.Places.{place, place_of, ways}
 use Rattle.tuple_index.specs.Plan.{PlanView, plan_of, set_at}
 use Rattle.tuple_index.proofs.LoopLemmas.{rises_within}
 use Rattle.tuple_index.proofs.OrderLemmas.{demanded_rise}
 use Rattle.shared_marks.specs.declared.lines.Line.{Line}
-use Rattle.shared_marks.specs.Blocks.{BlockView, IsBlock, digit_in, place_in}
+use Rattle.shared_marks.specs.Blocks.{AreRanks, BlockView, IsBlock, digit_in, is_plain, place_in}
 use Rattle.shared_marks.specs.Digits.{IsPlacing, own_slice}
 use Rattle.shared_marks.specs.Lines.{IsLine, front}
-use Rattle.shared_marks.specs.Adding.{Marks}
-use Rattle.shared_marks.specs.Seats.{SeatView, marking, with_holding}
+use Rattle.shared_marks.specs.Adding.{are_behind}
 use Rattle.shared_marks.specs.Served.{IsServedRank, base_of, is_served_at, served_between}
-use Rattle.shared_marks.proofs.AddingLemmas.{marks_none, marks_one, marks_then}
-use Rattle.shared_marks.proofs.BlockLemmas.{ArePlaced, PlainTest, column_at, plain_at, plain_slice}
+use Rattle.shared_marks.proofs.BlockLemmas.{ArePlaced, PlainTest, column_at, plain_at, plain_slice, plain_test}
 use Rattle.shared_marks.proofs.DigitLemmas.{IsJoined, OwnPlace, joined, own_place_of, placing_end, placing_within}
-use Rattle.shared_marks.proofs.PlaceLemmas.{none_served, one_set, place_within, served_append}
+use Rattle.shared_marks.proofs.PlaceLemmas.{none_served, one_set, served_append, set_within}
 
 -- the members of two lists
 ways_append : (values : ℕ → List ℕ) (xs ys : List ℕ) → ways values (xs ++ ys) ≡ ways values xs * ways values ys
@@ -156,46 +154,60 @@ line_at m plan block line fronts column radix at planned kept is line_is are man
     (ap (λ ns. get_or ns at 0) are ∙ get_or-map (place_in m (front (set_at plan line.set))) block.tests at [] 0 within) many
     (column_at m block line.last at column is (last_exists m plan line planned line_is) within column_is)
 
--- its place is one of the table
-pub place_of_line : (m : ModelView) (plan : PlanView) (line : Line) (row : List (Option ℕ)) (number radix there : ℕ) → plan ≡ plan_of m → IsLine plan line
-    → LineKnown m line.set row number radix there → line.base + (number * radix + there) < length (demanded_tuples m)
-place_of_line m plan line row number radix there planned line_is known =
-    let within = subst (λ p. line.set < length p.sets) planned line_is.there in
-    omega (arith, place_within m line.set (number * radix + there) within known.is.within, base_of_line m plan line planned line_is)
-
--- one test more
-pub test_more : (m : ModelView) (plan : PlanView) (block : BlockView) (line : Line) (number radix there at : ℕ) (start seat after : SeatView) → plan ≡ plan_of m
-    → IsBlock m block → IsLine plan line → at < length block.tests → LineKnown m line.set (get_or block.tests at []) number radix there
-    → Marks (served_between m (take at block.tests) (base_of m line.set) (base_of m (line.set + 1))) start seat
-    → after ≡ with_holding seat (marking (line.base + (number * radix + there)) seat.holds)
-    → Marks (served_between m (take (at + 1) block.tests) (base_of m line.set) (base_of m (line.set + 1))) start after
-test_more m plan block line number radix there at start seat after planned is line_is within known so_far next =
-    marks_then (served_between m (take at block.tests) from to) (served_between m (row ∷ []) from to) (served_between m (take (at + 1) block.tests) from to)
-    start seat after so_far
-    (subst (Marks (served_between m (row ∷ []) from to) seat) (sym next)
-    (marks_one (served_between m (row ∷ []) from to) seat (line.base + (number * radix + there)) (λ place.
-    one_set m row line.set _ (plain_at m block at is within).test (subst (λ p. line.set < length p.sets) planned line_is.there) known.is place
-    ∙ ap (λ n. n + (number * radix + there) == place) (sym (base_of_line m plan line planned line_is)))))
-    (λ place.
-    sym (and-or_distrib_left (nat_le from place && nat_lt place to) (is_served_at m (take at block.tests) place) (is_served_at m (row ∷ []) place))
-    ∙ ap (λ t. (nat_le from place && nat_lt place to) && t) (served_append m (take at block.tests) (row ∷ []) place)
-    ∙ ap (λ rows. served_between m rows from to place) (sym (take_more block.tests at [] within)))
+-- the ranks of all tests of a block
+pub ranks_known : (m : ModelView) (plan : PlanView) (block : BlockView) (line : Line) (fronts column ranks : List ℕ) (radix : ℕ) → plan ≡ plan_of m → IsKept plan
+    → IsBlock m block → IsLine plan line → fronts ≡ map (place_in m (front (set_at plan line.set))) block.tests → radix ≡ length (positive_values m line.last)
+    → column ≡ get_or block.columns line.last [] → length ranks ≡ length fronts
+    → ((at : ℕ) → at < length fronts → get_or ranks at 0 ≡ get_or fronts at 0 * radix + get_or column at 0)
+    → AreRanks m (set_at (plan_of m) line.set) block.tests ranks
+ranks_known m plan block line fronts column ranks radix planned kept is line_is are many column_is long each = record {
+  long = long ∙ as_long;
+  each = λ at within.
+      subst (λ rank. IsServedRank m (set_at (plan_of m) line.set) (get_or block.tests at []) (Some rank)) (sym (each at (omega (arith, within, as_long))))
+      (line_at m plan block line fronts column radix at planned kept is line_is are many column_is within).is;
+}
   where
-    row : List (Option ℕ)
-    row = get_or block.tests at []
+    as_long : length fronts ≡ length block.tests
+    as_long = ap length are ∙ length-map block.tests (place_in m (front (set_at plan line.set)))
 
-    from : ℕ
-    from = base_of m line.set
+-- they are ranks of the set
+pub ranks_within : (m : ModelView) (i size : ℕ) (tests : List (List (Option ℕ))) (ranks : List ℕ) → size ≡ length (tuples_of m (set_at (plan_of m) i))
+    → AreRanks m (set_at (plan_of m) i) tests ranks → All (λ rank. rank < size) ranks
+ranks_within m i size tests ranks many are =
+    All-from_get_or (λ rank. rank < size) ranks 0 (λ at within. omega (arith, (are.each at (omega (arith, within, are.long))).within, many))
 
-    to : ℕ
-    to = base_of m (line.set + 1)
+-- the size of the set of a line, and its base
+pub line_size : (m : ModelView) (plan : PlanView) (line : Line) (size : ℕ) → plan ≡ plan_of m → IsLine plan line → size ≡ get_or plan.sizes line.set 0
+    → size ≡ length (tuples_of m (set_at (plan_of m) line.set))
+line_size m plan line size planned is many =
+    many ∙ ap (λ (p : PlanView). get_or p.sizes line.set 0) planned
+    ∙ get_or-map (λ set. length (tuples_of m set)) (demanded_sets m) line.set [] 0 (subst (λ p. IsLine p line) planned is).there
 
--- no test
-pub no_test_yet : (m : ModelView) (from to : ℕ) (seat : SeatView) → Marks (served_between m [] from to) seat seat
-no_test_yet m from to seat =
-    marks_none (served_between m [] from to) seat (λ place.
-    and_right (nat_le from place && nat_lt place to) (is_served_at m [] place) (none_served m [] place refl))
+pub line_within : (m : ModelView) (plan : PlanView) (line : Line) (size : ℕ) → plan ≡ plan_of m → IsLine plan line → size ≡ get_or plan.sizes line.set 0
+    → line.base + size ≤ length (demanded_tuples m)
+line_within m plan line size planned is many =
+    let there = (subst (λ p. IsLine p line) planned is).there in
+    omega (arith, set_within m line.set there, line_size m plan line size planned is many, base_of_line m plan line planned is)
 
-pub all_tests : (m : ModelView) (block : BlockView) (from to at : ℕ) (start seat : SeatView) → length block.tests ≤ at
-    → Marks (served_between m (take at block.tests) from to) start seat → Marks (served_between m block.tests from to) start seat
-all_tests m block from to at start seat past = subst (λ rows. Marks (served_between m rows from to) start seat) (take_all at block.tests past)
+-- the places of these ranks are those that the tests serve
+ranks_serve : (m : ModelView) (i place : ℕ) (tests : List (List (Option ℕ))) (ranks : List ℕ) → i < length (demanded_sets m) → All (λ row. is_plain m row ≡ true) tests
+    → AreRanks m (set_at (plan_of m) i) tests ranks → are_behind (base_of m i) ranks place ≡ served_between m tests (base_of m i) (base_of m (i + 1)) place
+ranks_serve m i place [] [] there plain are =
+    sym (and_right (nat_le (base_of m i) place && nat_lt place (base_of m (i + 1))) (is_served_at m [] place) (none_served m [] place refl))
+ranks_serve m i place [] (rank ∷ ranks) there plain are = absurd (omega (arith, are.long))
+ranks_serve m i place (row ∷ rows) [] there plain are = absurd (omega (arith, are.long))
+ranks_serve m i place (row ∷ rows) (rank ∷ ranks) there plain are =
+    ap (λ t. t || are_behind (base_of m i) ranks place)
+    (sym (one_set m row i (Some rank) (plain_test m row (plain 0 [] (omega arith))).test there (are.each 0 (omega arith)) place))
+    ∙ ap (λ t. served_between m (row ∷ []) (base_of m i) (base_of m (i + 1)) place || t)
+    (ranks_serve m i place rows ranks there (λ at d within. plain (suc at) d (omega (arith, within)))
+    (record { long = omega (arith, are.long); each = λ at within. are.each (suc at) (omega (arith, within)) }))
+    ∙ sym (and-or_distrib_left (nat_le (base_of m i) place && nat_lt place (base_of m (i + 1))) (is_served_at m (row ∷ []) place) (is_served_at m rows place))
+    ∙ ap (λ t. (nat_le (base_of m i) place && nat_lt place (base_of m (i + 1))) && t) (served_append m (row ∷ []) rows place)
+
+pub line_serves : (m : ModelView) (plan : PlanView) (block : BlockView) (line : Line) (ranks : List ℕ) → plan ≡ plan_of m → IsBlock m block → IsLine plan line
+    → AreRanks m (set_at (plan_of m) line.set) block.tests ranks → (place : ℕ)
+    → are_behind line.base ranks place ≡ served_between m block.tests (base_of m line.set) (base_of m (line.set + 1)) place
+line_serves m plan block line ranks planned is line_is are place =
+    ap (λ base. are_behind base ranks place) (base_of_line m plan line planned line_is)
+    ∙ ranks_serve m line.set place block.tests ranks (subst (λ p. IsLine p line) planned line_is).there is.plain are

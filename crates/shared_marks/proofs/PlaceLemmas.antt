@@ -36,12 +36,17 @@ tuple_there m i rank within inside =
     ∙ ap Some (ap (λ n. get_or (demanded_tuples m) (n + rank) []) least ∙ get_or-flat_map (tuples_of m) (demanded_sets m) i rank [] [] within inside)
     ∙ sym (slice_get-get_or (tuples_of m set) rank [] inside)
 
+-- all places of a set are among all places
+pub set_within : (m : ModelView) (i : ℕ) → i < length (demanded_sets m)
+    → base_of m i + length (tuples_of m (set_at (plan_of m) i)) ≤ length (demanded_tuples m)
+set_within m i within =
+    let room = length-flat_map-take (tuples_of m) (demanded_sets m) i [] within in
+    omega (arith, room, base_is m i)
+
 -- it is one of all places
 pub place_within : (m : ModelView) (i rank : ℕ) → i < length (demanded_sets m) → rank < length (tuples_of m (set_at (plan_of m) i))
     → base_of m i + rank < length (demanded_tuples m)
-place_within m i rank within inside =
-    let room = length-flat_map-take (tuples_of m) (demanded_sets m) i [] within in
-    omega (arith, room, base_is m i, inside)
+place_within m i rank within inside = omega (arith, set_within m i within, inside)
 
 -- the base of the next set, and how many places there are
 pub base_more : (m : ModelView) (i : ℕ) → i < length (demanded_sets m) → base_of m (i + 1) ≡ base_of m i + length (tuples_of m (set_at (plan_of m) i))

@@ -1,5 +1,5 @@
 -- Each step keeps the facts of a table.
-use Rattle.std.proofs.Common.{◌≡◌, ℕ, ◌+◌, ◌*◌, ◌/◌, ◌^◌, ◌<◌, ◌++◌, true, false, ◌||◌, List, [], ◌∷◌, length, get_or, set, inl, inr, ◌∙◌, refl, sym, ap, arith}
+use Rattle.std.proofs.Common.{◌≡◌, ℕ, ◌+◌, ◌*◌, ◌/◌, ◌^◌, ◌<◌, ◌++◌, true, false, ◌||◌, List, [], ◌∷◌, length, get_or, set, bit_or, inl, inr, ◌∙◌, refl, sym, ap, arith}
 use Rattle.std.specs.Prelude.{◌==◌, All}
 use Rattle.std.specs.List.{list_any}
 use Rattle.std.proofs.Math.Bool.{or-false}
@@ -14,10 +14,11 @@ use Rattle.bit_table.specs.Words.{mark_at}
 use Rattle.bit_table.proofs.SetLemmas.{marked}
 use Rattle.definitions.specs.Demand.{is_among}
 use Rattle.shared_marks.specs.declared.holding.Holding.{Holding}
+use Rattle.shared_marks.specs.Adding.{is_of_word}
 use Rattle.shared_marks.specs.Facts.{IsIdle, IsKept, is_marked, is_seen}
 use Rattle.shared_marks.specs.Seats.{IsWhole, halved, is_held, joined, marking, noting, other_half, spent, testing}
-use Rattle.shared_marks.specs.Steps.{IsTest}
-use Rattle.shared_marks.proofs.BitLemmas.{bit_marked}
+use Rattle.shared_marks.specs.Steps.{IsTest, marking_all, places_of}
+use Rattle.shared_marks.proofs.BitLemmas.{bit_marked, bits_marked, places_among}
 use Rattle.shared_marks.proofs.SeatLemmas.{any_here, any_set, any_joined, any_alone}
 use Rattle.shared_marks.proofs.ShareLemmas.{others_spent, shares_joined, shares_kept, shares_split}
 
@@ -44,6 +45,34 @@ mark_keeps count place by words seats held kept here share inside =
   where
     within : place / 64 < length words
     within = omega (arith, inside, kept.as_many)
+
+-- marks of a word
+pub word_keeps : (count word bits by : ℕ) (words : List ℕ) (seats : List Holding) (held : Holding) → IsKept count words seats
+    → get_elem? seats by ≡ some held → 0 < held.parts → word < count
+    → IsKept count (set words word (bit_or (get_or words word 0) bits)) (set seats by (marking_all (places_of word bits) held))
+word_keeps count word bits by words seats held kept here share inside =
+    record {
+      as_many = length-set words word _ ∙ kept.as_many;
+      marked = λ other.
+          bits_marked words word bits other within ∙ ap (λ t. is_of_word word bits other || t) (kept.marked other)
+          ∙ sym (any_set (λ h. is_among h.marked other) (is_of_word word bits other) seats by held after here (more other));
+      seen = λ other saw.
+          let before = kept.seen other (sym (any_set (λ h. is_among h.seen other) false seats by held after here refl) ∙ saw) in
+          bits_marked words word bits other within ∙ or_right (is_of_word word bits other) (mark_at words other) before;
+      shares = shares_kept seats by held after kept.shares here refl refl;
+      idle = All-set IsIdle seats by after (has_share after share) kept.idle;
+    }
+  where
+    after : Holding
+    after = marking_all (places_of word bits) held
+
+    within : word < length words
+    within = omega (arith, inside, kept.as_many)
+
+    more : (other : ℕ) → is_among after.marked other ≡ (is_of_word word bits other || is_among held.marked other)
+    more other =
+        list_any-append (λ k. k == other) (places_of word bits) held.marked
+        ∙ ap (λ t. t || is_among held.marked other) (places_among word bits other)
 
 -- a place that a seat holds is marked
 pub held_is_marked : (count place by : ℕ) (words : List ℕ) (seats : List Holding) (held : Holding) → IsKept count words seats

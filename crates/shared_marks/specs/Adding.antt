@@ -1,8 +1,11 @@
 -- What calls add to the marked places of a seat. (This project's rule.)
-use Rattle.std.specs.Prelude.{◌≡◌, ℕ, ◌*◌, ◌^◌, Bool, true, false, ◌||◌}
+use Rattle.std.specs.Prelude.{◌≡◌, ℕ, ◌+◌, ◌-◌, ◌*◌, ◌/◌, ◌^◌, ◌==◌, Bool, true, false, ◌||◌, ◌&&◌, List, nat_le}
+use Rattle.std.specs.List.{list_any}
+use Rattle.bit_table.specs.Words.{mark_at}
 use Rattle.definitions.specs.Demand.{is_among}
 use Rattle.shared_marks.specs.declared.holding.Holding.{Holding}
 use Rattle.shared_marks.specs.Seats.{SeatView, is_held}
+use Rattle.shared_marks.specs.Steps.{has_bit}
 
 -- these places join the marked ones of a seat, and all else that it holds stays
 pub record Marks (adds : ℕ → Bool) (before after : SeatView) : Type 0 where
@@ -23,6 +26,17 @@ pub record Adds (adds : ℕ → Bool) (before after : SeatView) : Type 0 where
   pub held : (place : ℕ) → (is_held before.holds place || adds place) ≡ true → is_held after.holds place ≡ true
   pub marked : (place : ℕ) → is_among after.holds.marked place ≡ true → (is_among before.holds.marked place || adds place) ≡ true
   pub share : IsSameShare before.holds after.holds
+
+-- the place is one of these ranks behind a base
+abbrev pub are_behind : ℕ → List ℕ → ℕ → Bool
+are_behind base ranks place = list_any (λ rank. base + rank == place) ranks
+
+-- the place is one of a word whose bits a number has, or of the words from one on whose bits these words have
+abbrev pub is_of_word : ℕ → ℕ → ℕ → Bool
+is_of_word word bits place = (place / 64 == word) && has_bit bits place
+
+abbrev pub is_in_words : ℕ → List ℕ → ℕ → Bool
+is_in_words first words place = nat_le (64 * first) place && mark_at words (place - 64 * first)
 
 -- no place
 abbrev pub nothing : ℕ → Bool

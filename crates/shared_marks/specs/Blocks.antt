@@ -1,6 +1,6 @@
 -- Tests that are marked together, with the places of their values by columns. (How this program marks rows; no
 -- public clause speaks of it.)
-use Rattle.std.specs.Prelude.{◌≡◌, ℕ, ◌<◌, Bool, true, false, ◌&&◌, List, [], map, length, All, Option, slice_index_or}
+use Rattle.std.specs.Prelude.{◌≡◌, ℕ, ◌<◌, Bool, true, false, ◌&&◌, List, [], map, length, All, Option, Some, slice_index_or}
 use Rattle.cov_model.specs.declared.slice.Slice.{Slice}
 use Rattle.cov_model.specs.declared.slice.Slice.TheVariants.{Positive, Negative}
 use Rattle.cov_model.specs.Rows.{is_complete, value_in}
@@ -9,6 +9,7 @@ use Rattle.cov_model.specs.Sound.{ModelView}
 use Rattle.cov_model.specs.Valid.{is_valid}
 use Rattle.tuple_index.specs.Places.{place, place_of}
 use Rattle.shared_marks.specs.Digits.{own_slice}
+use Rattle.shared_marks.specs.Served.{IsServedRank}
 
 -- rows, and for each parameter a column
 pub record BlockView : Type 0 where
@@ -36,3 +37,8 @@ pub record IsBlock (m : ModelView) (block : BlockView) : Type 0 where
   pub plain : All (λ row. is_plain m row ≡ true) block.tests
   pub wide : length block.columns ≡ length m.params
   pub each : (p : ℕ) → p < length m.params → slice_index_or block.columns p [] ≡ map (digit_in m p) block.tests
+
+-- the rank of the demanded tuple of a set that each test serves
+pub record AreRanks (m : ModelView) (set : List ℕ) (tests : List (List (Option ℕ))) (ranks : List ℕ) : Type 0 where
+  pub long : length ranks ≡ length tests
+  pub each : (at : ℕ) → at < length tests → IsServedRank m set (slice_index_or tests at []) (Some (slice_index_or ranks at 0))

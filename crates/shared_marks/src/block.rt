@@ -146,7 +146,7 @@ impl<'a> Block<'a> {
 }
 
 // Adds a digit to each number, whose radix this is.
-fn add_digits(numbers: &mut [u32], radix: u32, digits: &[u16])
+pub(crate) fn add_digits(numbers: &mut [u32], radix: u32, digits: &[u16])
     requires long { length digits.now ≡ length numbers.old }
     requires few { (at : ℕ) → at < length numbers.old → slice_index_or numbers.old at 0 * radix + slice_index_or digits.now at 0 < 2 ^ 26 }
     ensures long { length numbers.new ≡ length numbers.old }

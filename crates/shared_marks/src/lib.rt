@@ -11,6 +11,7 @@
 
 mod block;
 mod digits;
+mod gather;
 mod holding;
 mod lines;
 mod open;

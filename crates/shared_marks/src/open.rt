@@ -5,11 +5,11 @@ ghost use Rattle.definitions.specs.Demand.{demanded_tuples};
 ghost use Rattle.row_text.specs.RowFiles.{suite_seen};
 ghost use Rattle.tuple_index.specs.Plan.{plan_of, set_at};
 ghost use Rattle.shared_marks.specs.Adding.{Adds, Marks};
-ghost use Rattle.shared_marks.specs.Blocks.{IsBlock, is_positive, place_in};
+ghost use Rattle.shared_marks.specs.Blocks.{AreRanks, IsBlock, is_positive, place_in};
 ghost use Rattle.shared_marks.specs.Lines.{AreLines, AreOpen, IsLine, front, is_of_some};
 ghost use Rattle.shared_marks.specs.Served.{base_of, is_served_at, served_between};
 
-use crate::block::{Block, is_positive, put_places};
+use crate::block::{Block, add_digits, is_positive, put_places};
 use crate::digits::radix_of;
 use crate::lines::{Line, OpenSets, front};
 use crate::table::{MarkSeat, SharedMarks};
@@ -38,9 +38,35 @@ fn put_fronts(model: &TestModel, plan: &Plan, line: Line, block: &Block<'_>, pla
     }
 }
 
+// Puts for each test of a block the rank of the demanded tuple of a line's set that it serves. The places of the
+// tests' values of all members but the last are at hand.
+fn put_ranks(
+    model: &TestModel,
+    plan: &Plan,
+    line: Line,
+    block: &Block<'_>,
+    fronts: &[u32],
+    ranks: &mut [u32],
+)
+    requires plan { plan.now ≡ plan_of model.now }
+    requires block { IsBlock model.now block.now }
+    requires line { IsLine plan.now line }
+    requires fronts { fronts.now ≡ map (place_in model.now (front (set_at plan.now line.set))) block.now.tests }
+    requires room { length ranks.old ≡ length block.now.tests }
+    ensures { AreRanks model.now (set_at (plan_of model.now) line.set) block.now.tests ranks.new }
+{
+    plan.assert_invariant();
+    ranks.copy_from_slice(fronts);
+    add_digits(
+        ranks,
+        radix_of(model, plan, line.last),
+        block.column(line.last),
+    );
+}
+
 impl SharedMarks {
     // Marks the places of the demanded tuples of a line's set that the tests of a block serve. The places of their
-    // values of all members but the last are at hand.
+    // values of all members but the last are at hand. There is room for a number for each test, and for words.
     fn mark_line(
         &self,
         seat: &mut MarkSeat,
@@ -49,6 +75,8 @@ impl SharedMarks {
         line: Line,
         block: &Block<'_>,
         fronts: &[u32],
+        ranks: &mut [u32],
+        words: &mut [u64],
     )
         requires table { seat.old.table ≡ self.now.table }
         requires plan { plan.now ≡ plan_of model.now }
@@ -56,19 +84,16 @@ impl SharedMarks {
         requires block { IsBlock model.now block.now }
         requires line { IsLine plan.now line }
         requires fronts { fronts.now ≡ map (place_in model.now (front (set_at plan.now line.set))) block.now.tests }
-        ensures { Marks (served_between model.now block.now.tests (base_of model.now line.set) (base_of model.now (line.set + 1))) seat.old seat.new }
+        requires room { length ranks.old ≡ length block.now.tests }
+        ensures marks { Marks (served_between model.now block.now.tests (base_of model.now line.set) (base_of model.now (line.set + 1))) seat.old seat.new }
+        ensures room { length ranks.new ≡ length ranks.old }
     {
-        plan.assert_invariant();
-        let radix = radix_of(model, plan, line.last);
-        let column = block.column(line.last);
-        for at in 0..fronts.len() {
-            let rank = fronts[at] * radix + u32::from(column[at]);
-            self.mark_lightly(seat, line.base + rank);
-        }
+        put_ranks(model, plan, line, block, fronts, ranks);
+        self.mark_ranks(seat, line.base, plan.size(line.set), ranks, words);
     }
 
-    // Marks the places of the demanded tuples of the lines' sets that the tests of a block serve. There is a number
-    // for each test, of any value.
+    // Marks the places of the demanded tuples of the lines' sets that the tests of a block serve. There is room for two
+    // numbers for each test, and for words.
     fn mark_lines(
         &self,
         seat: &mut MarkSeat,
@@ -77,18 +102,21 @@ impl SharedMarks {
         lines: &[Line],
         block: &Block<'_>,
         fronts: &mut [u32],
+        ranks: &mut [u32],
+        words: &mut [u64],
     )
         requires table { seat.old.table ≡ self.now.table }
         requires plan { plan.now ≡ plan_of model.now }
         requires bits { self.now.bits ≡ length (demanded_tuples model.now) }
         requires block { IsBlock model.now block.now }
         requires lines { AreLines plan.now lines.now }
-        requires room { length fronts.old ≡ length block.now.tests }
+        requires fronts { length fronts.old ≡ length block.now.tests }
+        requires ranks { length ranks.old ≡ length block.now.tests }
         ensures { Marks (λ place. is_of_some plan.now lines.now place && is_served_at model.now block.now.tests place) seat.old seat.new }
     {
         for line in lines {
             put_fronts(model, plan, *line, block, fronts);
-            self.mark_line(seat, model, plan, *line, block, fronts);
+            self.mark_line(seat, model, plan, *line, block, fronts, ranks, words);
         }
     }
 
@@ -143,8 +171,20 @@ impl SharedMarks {
         }
         let block = Block::of(alloc, model, plan, rows)?;
         let mut fronts = vec![in alloc; 0; block.len()]?;
+        let mut ranks = vec![in alloc; 0; block.len()]?;
+        // gathering pays where a set has fewer words than there are tests
+        let mut words = vec![in alloc; 0; block.len()]?;
         let lines = in_play.lines.as_slice();
-        self.mark_lines(seat, model, plan, lines, &block, &mut fronts);
+        self.mark_lines(
+            seat,
+            model,
+            plan,
+            lines,
+            &block,
+            &mut fronts,
+            &mut ranks,
+            &mut words,
+        );
         Ok(())
     }
 

@@ -1,7 +1,7 @@
 ghost use Rattle.std.specs.Prelude.{◌≡◌, ℕ};
 ghost use Rattle.shared_marks.specs.Facts.{IsKept};
 ghost use Rattle.shared_marks.specs.Seats.{first_holding, halved, joined, marking, noting, other_half, spent};
-ghost use Rattle.shared_marks.specs.Steps.{IsTest, has_bit};
+ghost use Rattle.shared_marks.specs.Steps.{IsTest, has_bit, marking_all, places_of};
 
 use crate::holding::Holding;
 use atomic_table::{Join, Play, Split, TableRule};
@@ -32,6 +32,13 @@ pub(crate) struct Marking<P: Place> {
 
 impl<P: Place> Play<(), Holding> for Marking<P> {
     ghost then = { λ _ before _ after. after ≡ (marking P.place before.0, before.1) };
+}
+
+// A step that marks the places of a word whose bits its operand has.
+pub(crate) struct MarkingBits;
+
+impl Play<(), Holding> for MarkingBits {
+    ghost then = { λ step before _ after. after ≡ (marking_all (places_of step.word step.first) before.0, before.1) };
 }
 
 // A step that marks a place whose bit is set already.

@@ -1,20 +1,20 @@
-ghost use Rattle.std.specs.Prelude.{◌≡◌, ◌<◌, ◌≤◌, ℕ, true, false, length, map, slice_index_or, IfOk};
+ghost use Rattle.std.specs.Prelude.{◌≡◌, ◌*◌, ◌^◌, ◌<◌, ◌≤◌, ℕ, true, false, length, map, slice_index_or, IfOk};
 ghost use Rattle.std.specs.List.{range_with_len};
 ghost use Rattle.std.specs.Slots.{IsFull, slots_items, slots_len};
 ghost use Rattle.definitions.specs.Demand.{is_among};
 ghost use Rattle.shared_marks.specs.Adding.{Adds, nothing};
 ghost use Rattle.shared_marks.specs.Seats.{IsWhole, first_holding, halved, with_holding, is_held, joined, marking, noting, other_half, testing};
-ghost use Rattle.shared_marks.specs.Steps.{has_bit};
+ghost use Rattle.shared_marks.specs.Steps.{has_bit, marking_all, places_of};
 
 use crate::holding::Holding;
-use crate::rule::{Halves, MarkRule, Marking, Noting, Place, Testing};
+use crate::rule::{Halves, MarkRule, Marking, MarkingBits, Noting, Place, Testing};
 use atomic_table::{Closed, Seat, Table};
 use std::alloc::Global;
 use std::marker::{Brand, Model};
 use value_text::NoMemory;
 
 /// The number of bits of a word.
-const WORD_BITS: usize = 64;
+pub(crate) const WORD_BITS: usize = 64;
 
 /// A seat of a table of marks: what a worker steps with. Contracts see of which table it is, and what it
 /// holds: the places that it marked, those that it has seen marked, and its share of the table.
@@ -137,6 +137,13 @@ impl SharedMarks {
         Bits { words, size }
     }
 
+    // A table has fewer than 2^32 places.
+    pub(crate) fn assert_invariant(&self)
+        ensures { self.now.bits < 2 ^ 32 }
+    {
+        let _size = self.size;
+    }
+
     // Marks a place as `mark` does. Where its bit is set already one load is enough, and this is the usual
     // case where many rows serve a tuple.
     pub(crate) fn mark_lightly(&self, seat: &mut MarkSeat, place: u32)
@@ -147,6 +154,17 @@ impl SharedMarks {
         if !self.note::<Brand>(seat, place) {
             self.put::<Brand>(seat, place);
         }
+    }
+
+    // Marks the places of a word whose bits a number has: one `fetch_or` of the word.
+    pub(crate) fn mark_word(&self, seat: &mut MarkSeat, word: u32, bits: u64)
+        requires table { seat.old.table ≡ self.now.table }
+        requires word { 64 * word ≤ self.now.bits }
+        ensures { seat.new ≡ with_holding seat.old (marking_all (places_of word bits) seat.old.holds) }
+    {
+        self.table
+            .shared
+            .fetch_or::<MarkingBits>(&mut seat.seat, word as usize, bits);
     }
 
     // Whether all places of a range are marked; then the seat has seen them.

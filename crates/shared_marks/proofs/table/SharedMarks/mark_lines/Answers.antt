@@ -16,8 +16,9 @@ loop-line-preserved c =
     let i = c.loop-line.line-index in
     let at : i + 1 - 1 ≡ i = omega arith in (
       line_more m plan tests _ _ _ c.args.seat.now c.loop-line.seat c.mark_line.new.seat c.requires.plan (take_more lines i _ c.loop-line-test.true) c.loop-line.invariant.0
-          c.mark_line.ensures,
+          c.mark_line.ensures.marks,
       ap length c.put_fronts.ensures ∙ length-map tests _,
       λ some other. c.put_fronts.ensures ∙ ap (λ (line : Line). map (place_in m (front (set_at plan line.set))) tests)
           (sym (ap (λ n. get_or lines n other) at ∙ get_or_default lines i other _ c.loop-line-test.true)),
+      c.mark_line.ensures.room ∙ c.loop-line.invariant.3,
     )

@@ -12,3 +12,4 @@ invariant-loop-line l =
     Marks (λ place. is_of_some l.plan (take l.line-index l.lines) place && is_served_at l.model l.block.tests place) l.initial.seat l.seat
     × (length l.fronts ≡ length l.block.tests)
     × (0 < l.line-index → (other : Line) → l.fronts ≡ map (place_in l.model (front (set_at l.plan (get_or l.lines (l.line-index - 1) other).set))) l.block.tests)
+    × (length l.ranks ≡ length l.block.tests)
