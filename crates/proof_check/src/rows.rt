@@ -1,32 +1,21 @@
 ghost use Rattle.std.specs.Prelude.{◌≡◌, All, find, not, option_map};
 ghost use Rattle.cov_model.specs.Fits.{FitsModel};
-ghost use Rattle.cov_model.specs.Rows.{is_complete};
 ghost use Rattle.cov_model.specs.Valid.{is_valid};
 ghost use Rattle.row_text.specs.RowFiles.{seeds_seen};
 
-use cov_model::{Cells, ParamNo, TestModel};
-use row_text::RowFile;
-
-// Whether a partial row gives every parameter a value.
-fn is_complete(model: &TestModel, cells: &Cells) -> bool
-    requires { FitsModel model.now cells.now }
-    ensures { result ≡ is_complete cells.now }
-{
-    let count = model.params().len() as ParamNo;
-    for p in 0..count {
-        if cells.get(p).is_none() {
-            return false;
-        }
-    }
-    true
-}
+use cov_model::{Cells, TestModel};
+use row_text::{RowFile, is_complete};
 
 // Whether a partial row is a valid row, which it is only if it is complete.
 fn is_valid(model: &TestModel, cells: &Cells) -> bool
     requires { FitsModel model.now cells.now }
     ensures { result ≡ is_valid model.now cells.now }
 {
-    is_complete(model, cells) && model.row_fault(cells).is_none()
+    model.assert_invariant();
+    if !is_complete(cells) {
+        return false;
+    }
+    model.row_fault(cells).is_none()
 }
 
 /// The line of the first row of a file that isn't valid; a row that isn't complete isn't valid. Takes no

@@ -1,14 +1,41 @@
-ghost use Rattle.std.specs.Prelude.{◌≡◌, ◌==◌, ◌<◌, ◌^◌, [], ◌∷◌, MatchOption, IfSome, length, position};
+ghost use Rattle.std.specs.Prelude.{◌≡◌, ◌==◌, ◌<◌, ◌^◌, [], ◌∷◌, Some, MatchOption, IfSome, length, position};
 ghost use Rattle.std.specs.List.{after_first, before_first};
 ghost use Rattle.refutation.specs.Reading.{pieces, pieces_left};
 
+use memchr::memchr;
 use std::marker::Model;
+
+// The place of the first byte that is a mark, where it is the second, third or fourth one, as behind most words of a
+// proof.
+fn near_place(text: &[u8], mark: u8) -> Option<usize>
+    ensures { IfSome result (λ place. position (λ b. b == mark) text.now ≡ Some place) }
+{
+    let [first, second, third, rest @ ..] = text else {
+        return None;
+    };
+    if *first == mark {
+        return None;
+    }
+    if *second == mark {
+        return Some(1);
+    }
+    if *third == mark {
+        return Some(2);
+    }
+    match rest {
+        [fourth, ..] if *fourth == mark => Some(3),
+        _ => None,
+    }
+}
 
 // The place of the first byte that is a mark.
 fn place_of(text: &[u8], mark: u8) -> Option<usize>
     ensures { result ≡ position (λ b. b == mark) text.now }
 {
-    text.iter().position(|byte| *byte == mark)
+    match near_place(text, mark) {
+        Some(place) => Some(place),
+        None => memchr(mark, text),
+    }
 }
 
 // What stands before the first mark and what stands behind it, where there is one.
