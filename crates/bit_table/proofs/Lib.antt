@@ -1,4 +1,5 @@
 pub mod MarkLemmas
 pub mod ClearLemmas
 pub mod NextLemmas
+pub mod FromLemmas
 pub mod SetLemmas

@@ -16,7 +16,7 @@ rest_at words place = get_or words (place / 64) 0 / 2 ^ (place % 64)
 abbrev pub next_at : List ℕ → ℕ → ℕ
 next_at words place = place + trailing_zeros w64 (rest_at words place)
 
-bit_of_rest : (word k i : ℕ) → bit_at (word / 2 ^ k) i ≡ bit_at word (k + i)
+pub bit_of_rest : (word k i : ℕ) → bit_at (word / 2 ^ k) i ≡ bit_at word (k + i)
 bit_of_rest word k i = ap (λ q. q % 2) (div-div-eq-div-mul word (2 ^ k) (2 ^ i) ∙ ap (λ m. word / m) (sym (pow-add 2 k i)))
 
 -- the mark of a place further on in the word

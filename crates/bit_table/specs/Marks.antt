@@ -1,5 +1,6 @@
 -- Marks on places numbered from 0, as the list of the marks.
-use Rattle.std.specs.Prelude.{◌≡◌, ℕ, ◌<◌, ◌≤◌, Bool, true, false, List, slice_index_or}
+use Rattle.std.specs.Prelude.{◌≡◌, ℕ, ◌+◌, ◌<◌, ◌≤◌, Bool, true, false, List, slice_index_or, if◌then◌else◌}
+use Rattle.std.specs.Int.{bit_at}
 
 -- no place from one on and before another is marked
 abbrev pub NoneSet : List Bool → ℕ → ℕ → Type 0
@@ -11,3 +12,8 @@ pub record IsFirstSet (marks : List Bool) (from to place : ℕ) : Type 0 where
   pub below : place < to
   pub marked : slice_index_or marks place false ≡ true
   pub none_before : NoneSet marks from place
+
+-- a word has the marks of a number of places from one on as its lowest bits, and no other bit
+pub record AreMarksFrom (marks : List Bool) (from count word : ℕ) : Type 0 where
+  pub each : (i : ℕ) → i < count → bit_at word i ≡ (if slice_index_or marks (from + i) false then 1 else 0)
+  pub no_other : (i : ℕ) → count ≤ i → bit_at word i ≡ 0

@@ -1,6 +1,7 @@
-ghost use Rattle.std.specs.Prelude.{◌≡◌, ◌<◌, ◌≤◌, true, false, length, replicate, slice_index_or, slice_set, IfOk, MatchOption};
+ghost use Rattle.std.specs.Prelude.{◌≡◌, ◌+◌, ◌-◌, ◌<◌, ◌≤◌, ℕ, true, false, length, replicate, slice_index_or, slice_set, IfOk, MatchOption};
+ghost use Rattle.std.specs.Int.{bit_at};
 ghost use Rattle.std.specs.List.{count_by};
-ghost use Rattle.bit_table.specs.Marks.{IsFirstSet, NoneSet};
+ghost use Rattle.bit_table.specs.Marks.{AreMarksFrom, IsFirstSet, NoneSet};
 
 use std::alloc::Global;
 use std::marker::Model;
@@ -28,6 +29,31 @@ impl Model for BitTable {
 
     ghost invariant = { λ table. (table.size ≤ 64 * length table.words.items)
         × (table.set_count ≡ count_by (λ mark. mark) (marks_of table.words.items table.size)) };
+}
+
+// The word of this number, or 0 behind the last word.
+#[inline]
+fn word_at(words: &[u64], at: usize) -> u64
+    ensures { result ≡ slice_index_or words.now at 0 }
+{
+    match words.get(at) {
+        Some(word) => *word,
+        None => 0,
+    }
+}
+
+// The 64 bits of two neighbouring words from a bit of the first on.
+#[inline]
+fn across(low: u64, high: u64, bit: usize) -> u64
+    requires { bit < 64 }
+    ensures below { (i : ℕ) → bit + i < 64 → bit_at result i ≡ bit_at low (bit + i) }
+    ensures above { (i : ℕ) → 64 ≤ bit + i → i < 64 → bit_at result i ≡ bit_at high (bit + i - 64) }
+{
+    if bit == 0 {
+        low
+    } else {
+        (low >> bit) | (high << (WORD_BITS - bit))
+    }
 }
 
 impl BitTable {
@@ -120,5 +146,23 @@ impl BitTable {
             place = (place / WORD_BITS + 1) * WORD_BITS;
         }
         None
+    }
+
+    /// The marks of up to 64 neighbouring places from one on, as the lowest bits of a word, whose other
+    /// bits are 0.
+    #[inline]
+    pub fn marks_from(&self, from: u32, count: u32) -> u64
+        requires few { count ≤ 64 }
+        requires within { from + count ≤ length self.now }
+        ensures { AreMarksFrom self.now from count result }
+    {
+        if count == 0 {
+            return 0;
+        }
+        let words = self.words.as_slice();
+        let at = from as usize / WORD_BITS;
+        let bit = from as usize % WORD_BITS;
+        let word = across(word_at(words, at), word_at(words, at + 1), bit);
+        word & (u64::MAX >> (WORD_BITS - count as usize))
     }
 }

@@ -10,6 +10,7 @@ pub mod PlaceLemmas
 pub mod LoopLemmas
 pub mod LastLemmas
 pub mod ScoreLemmas
+pub mod LaneLemmas
 pub mod DigitLemmas
 pub mod ChoiceLemmas
 pub mod BitLemmas

@@ -1,5 +1,5 @@
 -- Bits of words, 64 to a word.
-use Rattle.std.specs.Prelude.{ℕ, zero, suc, ◌+◌, ◌-◌, ◌/◌, ◌%◌, List, min, slice_index}
+use Rattle.std.specs.Prelude.{◌≡◌, ℕ, zero, suc, ◌+◌, ◌-◌, ◌/◌, ◌%◌, ◌<◌, List, length, min, slice_index, slice_index_or}
 use Rattle.std.specs.Int.{bit_at}
 
 -- a bit: 1 where it is set
@@ -18,3 +18,8 @@ lacking words mask k = min (bit_in words k) (1 - bit_in mask k)
 abbrev pub sum_to : (ℕ → ℕ) → ℕ → ℕ
 sum_to f zero = 0
 sum_to f (suc n) = sum_to f n + f n
+
+-- numbers to each of which that of its place was added
+pub record AreRaised (added : ℕ → ℕ) (old new : List ℕ) : Type 0 where
+  pub long : length new ≡ length old
+  pub each : (i : ℕ) → i < length old → slice_index_or new i 0 ≡ slice_index_or old i 0 + added i

@@ -7,6 +7,7 @@ ghost use Rattle.uncovered_table.specs.Prepared.{AreLines, digit_in};
 ghost use Rattle.cov_model.specs.Sound.{param_at};
 
 use crate::block::Line;
+use crate::lanes::add_marks;
 use crate::prepared::{ColumnLines, NO_DIGIT};
 use crate::sets::SliceSets;
 use bit_table::BitTable;
@@ -157,16 +158,8 @@ fn add_bits(bits: &BitTable, first: u32, from: ValueNo, scores: &mut [u32])
     ensures long { length scores.new ≡ length scores.old }
     ensures each { (i : ℕ) → i < length scores.old → slice_index_or scores.new i 0 ≡ slice_index_or scores.old i 0 + bit_count bits.now (Some (first + from + i)) }
 {
-    let count = scores.len();
-    if count == 0 {
-        return;
-    }
-    let begin = first + u32::from(from);
-    let end = begin + count as u32;
-    let mut next = begin;
-    while let Some(bit) = bits.next_set(next, end) {
-        scores[(bit - begin) as usize] += 1;
-        next = bit + 1;
+    if !scores.is_empty() {
+        add_marks(bits, first + u32::from(from), scores);
     }
 }
 

@@ -7,6 +7,7 @@
 
 mod block;
 mod held;
+mod lanes;
 mod next;
 mod pairs;
 mod part;

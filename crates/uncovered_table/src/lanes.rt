@@ -1,0 +1,89 @@
+ghost use Rattle.std.specs.Prelude.{◌≡◌, ◌+◌, ◌<◌, ◌≤◌, ◌^◌, All, Some, length};
+ghost use Rattle.std.specs.Int.{bit_at};
+ghost use Rattle.uncovered_table.specs.Bits.{bit_count};
+ghost use Rattle.uncovered_table.specs.Words.{AreRaised};
+
+use crate::words::WORD_BITS;
+use bit_table::BitTable;
+use std::simd::prelude::*;
+
+// The number of scores that are raised at once.
+const LANES: usize = 8;
+
+// Adds the lowest bits of a word to 8 scores at once.
+#[inline]
+fn add_lanes(word: u64, scores: &mut [u32])
+    requires long { length scores.old ≡ 8 }
+    requires low { All (λ score. score < 2 ^ 31) scores.old }
+    ensures { AreRaised (bit_at word) scores.old scores.new }
+{
+    let places = u32x8::from_array([1, 2, 4, 8, 16, 32, 64, 128]);
+    let none = (u32x8::splat((word & 255) as u32) & places).simd_eq(u32x8::splat(0));
+    let bits = none.select(u32x8::splat(0), u32x8::splat(1));
+    (u32x8::from_slice(scores) + bits).copy_to_slice(scores);
+}
+
+// A bit of a word.
+#[inline]
+fn bit_of(word: u64, i: usize) -> u32
+    requires { i < 64 }
+    ensures value { result ≡ bit_at word i }
+    ensures small { result ≤ 1 }
+{
+    ((word >> i) & 1) as u32
+}
+
+// Adds the lowest bits of a word to a few scores, one by one.
+#[inline]
+fn add_few(word: u64, scores: &mut [u32])
+    requires few { length scores.old < 64 }
+    requires low { All (λ score. score < 2 ^ 31) scores.old }
+    ensures { AreRaised (bit_at word) scores.old scores.new }
+{
+    for i in 0..scores.len() {
+        scores[i] += bit_of(word, i);
+    }
+}
+
+// Adds the lowest bits of a word to scores.
+fn add_word(word: u64, scores: &mut [u32])
+    requires low { All (λ score. score < 2 ^ 31) scores.old }
+    ensures { AreRaised (bit_at word) scores.old scores.new }
+{
+    if scores.len() < LANES {
+        add_few(word, scores);
+        return;
+    }
+    let (now, later) = scores.split_at_mut(LANES);
+    add_lanes(word, now);
+    add_word(word >> LANES, later);
+}
+
+// Adds to scores the marks of neighbouring places.
+fn add_some(bits: &BitTable, begin: u32, scores: &mut [u32])
+    requires few { length scores.old ≤ 64 }
+    requires within { begin + length scores.old ≤ length bits.now }
+    requires low { All (λ score. score < 2 ^ 31) scores.old }
+    ensures { AreRaised (λ i. bit_count bits.now (Some (begin + i))) scores.old scores.new }
+{
+    let word = bits.marks_from(begin, scores.len() as u32);
+    if word != 0 {
+        add_word(word, scores);
+    }
+}
+
+// Adds to scores the marks of as many neighbouring places from one on.
+pub(crate) fn add_marks(bits: &BitTable, begin: u32, scores: &mut [u32])
+    requires within { begin + length scores.old ≤ length bits.now }
+    requires few { length bits.now ≤ 2 ^ 26 }
+    requires low { All (λ score. score < 2 ^ 31) scores.old }
+    ensures { AreRaised (λ i. bit_count bits.now (Some (begin + i))) scores.old scores.new }
+{
+    if scores.len() <= WORD_BITS {
+        add_some(bits, begin, scores);
+        return;
+    }
+    let (now, later) = scores.split_at_mut(WORD_BITS);
+    add_some(bits, begin, now);
+    add_marks(bits, begin + WORD_BITS as u32, later);
+}
