@@ -20,4 +20,4 @@ pub mod TuplePairs
 pub mod SolverTrees
 pub mod LeastRules
 pub mod Citing
-pub mod Refusals
+pub mod Recurring

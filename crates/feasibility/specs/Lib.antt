@@ -6,4 +6,4 @@ pub mod Tree
 pub mod Live
 pub mod Refuting
 pub mod Ends
-pub mod Refusals
+pub mod Recurring

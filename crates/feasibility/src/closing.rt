@@ -10,13 +10,13 @@ ghost use Rattle.definitions.specs.Refutation.{is_omission_leaf};
 ghost use Rattle.definitions.specs.Search.{breaks_a_rule, constrained_params, is_failing, visit};
 ghost use Rattle.live_sets.specs.Trail.{IsSince};
 ghost use Rattle.feasibility.specs.Live.{HasShape, HasUnmarked, ShowsFailure, ShowsLive, no_on};
-ghost use Rattle.feasibility.specs.Refusals.{IsRefused};
+ghost use Rattle.feasibility.specs.Recurring.{AreAnswered};
 ghost use Rattle.feasibility.specs.Refuting.{Closes, HasNoLeaf, IsPath, value_cost};
 ghost use Rattle.feasibility.specs.Solving.{IsReady};
 ghost use Rattle.feasibility.specs.Tree.{IsListed, constrained_at, constrained_from, no_values};
 
 use crate::answer::{Answer, RefuteFault};
-use crate::refused::Refused;
+use crate::answer_table::AnswerTable;
 use crate::refuter::Refuter;
 use cov_model::{Cells, ParamNo, ValueNo};
 use live_sets::LiveSets;
@@ -310,24 +310,23 @@ impl<'t> Refuter<'t> {
         budget: u64,
         cells: &mut Cells,
         sets: &mut LiveSets,
-        refused: &mut Refused,
+        table: &AnswerTable,
         tokens: &mut TreeBuf,
     ) -> Result<(), RefuteFault>
         requires long { length cells.old ≡ length self.now.model.params }
         requires fits { FitsModel self.now.model self.now.tuple }
         requires listed { IsListed self.now.lists self.now.tuple }
         requires ready { IsReady self.now.model self.now.lists fails sets.old }
-        requires kept { IsRefused self.now.model self.now.lists refused.old }
+        requires kept { AreAnswered self.now.model self.now.lists table.now }
         requires unfound { (visit self.now.model self.now.lists (constrained_params self.now.model) self.now.tuple).found ≡ false }
         ensures closes { OnOk result (Closes self.now (self.now.tuple ∷ []) (visit self.now.model self.now.lists (constrained_params self.now.model) self.now.tuple).cost tokens.old tokens.new) }
         ensures within { OnOk result ((visit self.now.model self.now.lists (constrained_params self.now.model) self.now.tuple).cost ≤ budget) }
         ensures spent { result ≡ Err RefuteFault.Spent → budget < (visit self.now.model self.now.lists (constrained_params self.now.model) self.now.tuple).cost }
         ensures long { length cells.new ≡ length cells.old }
         ensures sets { sets.new ≡ sets.old }
-        ensures kept { IsRefused self.now.model self.now.lists refused.new }
     {
         self.begin(cells);
-        match self.tree().search_from(fails, cells, sets, refused, budget) {
+        match self.tree().search_from(fails, cells, sets, table, budget) {
             Answer::Spent => Err(RefuteFault::Spent),
             Answer::Yes | Answer::No => {
                 self.close_tuple(fails, cells, sets, tokens)?;

@@ -9,6 +9,8 @@
 #![tactic(auto)]
 
 mod answer;
+mod answer_table;
+mod answered;
 mod closing;
 mod constrained;
 mod contained;
@@ -17,7 +19,6 @@ mod members;
 mod named;
 mod narrowing;
 mod question;
-mod refused;
 mod refuter;
 mod refuting;
 mod solver;

@@ -53,7 +53,7 @@ impl<'a> Solver<'a> {
             budget,
             &mut self.room,
             &mut self.sets,
-            &mut self.refused,
+            &self.answered,
             &mut tokens,
         )?;
         *into = tokens;

@@ -1,4 +1,4 @@
-ghost use Rattle.std.specs.Prelude.{◌≡◌, ◌≢◌, Some, length, IfOk};
+ghost use Rattle.std.specs.Prelude.{◌≡◌, ◌≢◌, ◌<◌, Some, length, IfOk};
 ghost use Rattle.cov_model.specs.Preference.{OrdersValues};
 ghost use Rattle.definitions.specs.Completion.{first_completion, is_extendable};
 ghost use Rattle.definitions.specs.Demand.{is_among};
@@ -7,13 +7,32 @@ ghost use Rattle.feasibility.specs.Answers.{answer_of};
 ghost use Rattle.definitions.specs.SliceRows.{IsOfSlice, IsSliceOf};
 
 use crate::answer::Answer;
-use crate::refused::Refused;
+use crate::answer_table::AnswerTable;
 use crate::tree::SearchTree;
 use cov_model::{Cells, ParamNo, Prefs, Slice, TestModel};
 use live_sets::LiveSets;
 use std::alloc::Global;
 use std::marker::Model;
 use value_text::NoMemory;
+
+// How many answered questions a solver keeps where few parameters are named by constraints, so that
+// questions recur: a prime number, by which their places differ.
+const MANY_PLACES: usize = 2039;
+
+// How many parameters are few.
+const FEW_NAMED: usize = 12;
+
+// How many answered questions a solver keeps that looks at this tree.
+fn places_for(tree: &SearchTree) -> usize
+    ensures { 0 < result }
+{
+    let named = tree.constrained_len();
+    if named == 0 || named > FEW_NAMED {
+        1
+    } else {
+        MANY_PLACES
+    }
+}
 
 /// Tells of partial rows of one slice whether they are extendable, and completes them. The search
 /// is the plain one: it looks one value ahead and has a budget of nodes (this project's rule).
@@ -27,13 +46,13 @@ pub struct Solver<'a> {
     pub(crate) room: Cells,
     pub(crate) sets: LiveSets,
     pub(crate) fails: bool,
-    pub(crate) refused: Refused,
+    pub(crate) answered: AnswerTable,
 }
 
 impl<'a> Model for Solver<'a> {
     ghost use Rattle.std.specs.Coded.{codes};
     ghost use Rattle.cov_model.specs.contracts.model.TestModel as tested;
-    ghost use Rattle.feasibility.specs.Refusals.{IsRefused};
+    ghost use Rattle.feasibility.specs.Recurring.{AreAnswered};
     ghost use Rattle.feasibility.specs.Solving.{IsSolver, SolverView};
 
     ghost Value = { SolverView };
@@ -42,7 +61,7 @@ impl<'a> Model for Solver<'a> {
 
     ghost view = { λ a. record { model = a.tree.model; prefs = a.prefs.now; slice = a.slice } };
 
-    ghost invariant = { λ a. IsSolver (record { model = a.tree.model; prefs = a.prefs.now; slice = a.slice }) a.tree.values a.room a.fails a.sets × IsRefused a.tree.model a.tree.values a.refused };
+    ghost invariant = { λ a. IsSolver (record { model = a.tree.model; prefs = a.prefs.now; slice = a.slice }) a.tree.values a.room a.fails a.sets × AreAnswered a.tree.model a.tree.values a.answered };
 }
 
 impl<'a> Solver<'a> {
@@ -66,7 +85,7 @@ impl<'a> Solver<'a> {
         let mut room = Cells::empty(alloc, model.params().len())?;
         let mut sets = tree.listed_sets(alloc)?;
         let fails = tree.begin(&mut room, &mut sets);
-        let refused = Refused::none(alloc, model.params().len())?;
+        let answered = AnswerTable::new(alloc, places_for(&tree), model.params().len())?;
         Ok(Solver {
             alloc,
             tree,
@@ -75,7 +94,7 @@ impl<'a> Solver<'a> {
             room,
             sets,
             fails,
-            refused,
+            answered,
         })
     }
 
@@ -94,12 +113,12 @@ impl<'a> Solver<'a> {
         ensures answer { result ≡ answer_of (is_extendable self.old.model self.old.slice cells.now) (plain_cost self.old.model self.old.prefs self.old.slice cells.now) budget }
         ensures same { self.new ≡ self.old }
     {
-        self.tree.search(
+        self.tree.tell(
             self.fails,
             cells,
             &mut self.room,
             &mut self.sets,
-            &mut self.refused,
+            &mut self.answered,
             budget,
         )
     }
@@ -122,7 +141,7 @@ impl<'a> Solver<'a> {
             cells,
             &mut self.room,
             &mut self.sets,
-            &mut self.refused,
+            &self.answered,
             budget,
         ) {
             Answer::Yes => {

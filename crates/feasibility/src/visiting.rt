@@ -8,12 +8,13 @@ ghost use Rattle.definitions.specs.Search.{constrained_params, is_failing};
 ghost use Rattle.feasibility.specs.Answers.{VisitTells, answer_of, searched};
 ghost use Rattle.feasibility.specs.Live.{ShowsLive};
 ghost use Rattle.feasibility.specs.Path.{filled, filled_cell, reached};
-ghost use Rattle.feasibility.specs.Refusals.{AgreeOnNamed, IsRefused};
+ghost use Rattle.feasibility.specs.Recurring.{AgreeOnNamed, AreAnswered};
 ghost use Rattle.feasibility.specs.Solving.{IsReady};
 ghost use Rattle.feasibility.specs.Tree.{IsListed, constrained_at, constrained_from, no_values};
 
 use crate::answer::Answer;
-use crate::refused::Refused;
+use crate::answer_table::AnswerTable;
+use crate::answered::Answered;
 use crate::tree::SearchTree;
 use cov_model::{Cells, ParamNo, ValueNo};
 use live_sets::LiveSets;
@@ -141,25 +142,48 @@ impl<'a> SearchTree<'a> {
         answer
     }
 
-    // Whether the cells give each parameter that constraints name what the last question without a
-    // completion gives it, if one is known.
-    fn goes_as(&self, cells: &Cells, refused: &Refused) -> bool
+    // Whether the cells give each parameter that constraints name what a question gives it, if one is
+    // known.
+    fn goes_as(&self, cells: &Cells, answered: &Answered) -> bool
         requires long { length cells.now ≡ length self.now.model.params }
-        requires also { length refused.now.cells ≡ length self.now.model.params }
-        ensures known { result ≡ true → refused.now.known ≡ true }
-        ensures agree { result ≡ true → AgreeOnNamed self.now.model cells.now refused.now.cells }
+        requires also { length answered.now.cells ≡ length self.now.model.params }
+        ensures known { result ≡ true → answered.now.known ≡ true }
+        ensures agree { result ≡ true → AgreeOnNamed self.now.model cells.now answered.now.cells }
     {
-        if !refused.known {
+        if !answered.known {
             return false;
         }
         let count = self.constrained_len();
         for i in 0..count {
             let p = self.constrained_at(i).param;
-            if cells.get(p) != refused.cells.get(p) {
+            if cells.get(p) != answered.cells.get(p) {
                 return false;
             }
         }
         true
+    }
+
+    // The place of a question in a table: questions that give the parameters which constraints name
+    // the same values have the same.
+    fn place_of(&self, cells: &Cells, places: usize) -> usize
+        requires long { length cells.now ≡ length self.now.model.params }
+        requires some { 0 < places }
+        ensures { result < places }
+    {
+        if places == 1 {
+            return 0;
+        }
+        let mut mixed = 0u32;
+        let count = self.constrained_len();
+        for i in 0..count {
+            let p = self.constrained_at(i).param;
+            let value = match cells.get(p) {
+                Some(v) => v as u32 + 1,
+                None => 0,
+            };
+            mixed = (mixed ^ value).wrapping_mul(16_777_619);
+        }
+        mixed as usize % places
     }
 
     // Searches for a completion of the cells in the room, given that the node without values doesn't
@@ -190,59 +214,93 @@ impl<'a> SearchTree<'a> {
         cells: &Cells,
         room: &mut Cells,
         sets: &mut LiveSets,
-        refused: &mut Refused,
+        table: &AnswerTable,
         budget: u64,
     ) -> Answer
         requires fits { FitsModel self.now.model cells.now }
         requires listed { IsListed self.now.values cells.now }
         requires long { length room.old ≡ length cells.now }
         requires ready { IsReady self.now.model self.now.values fails sets.old }
-        requires kept { IsRefused self.now.model self.now.values refused.old }
+        requires kept { AreAnswered self.now.model self.now.values table.now }
         ensures answer { result ≡ answer_of (searched self.now cells.now).found (searched self.now cells.now).cost budget }
         ensures yes { result ≡ Answer.Yes → room.new ≡ reached self.now.model self.now.values (constrained_params self.now.model) cells.now }
         ensures long { length room.new ≡ length room.old }
         ensures sound { IsSound self.now.model }
         ensures sets { sets.new ≡ sets.old }
-        ensures kept { IsRefused self.now.model self.now.values refused.new }
     {
         room.copy_from(cells);
-        self.search_from(fails, room, sets, refused, budget)
+        self.search_from(fails, room, sets, table, budget)
     }
 
-    // The same for the cells in the room, which after No are as before. A question that goes as the
-    // last one without a completion isn't searched again.
+    // The same for the cells in the room, which after No are as before. A question without a completion
+    // that goes as one in the table isn't searched again.
     pub(crate) fn search_from(
         &self,
         fails: bool,
         room: &mut Cells,
         sets: &mut LiveSets,
-        refused: &mut Refused,
+        table: &AnswerTable,
         budget: u64,
     ) -> Answer
         requires fits { FitsModel self.now.model room.old }
         requires listed { IsListed self.now.values room.old }
         requires ready { IsReady self.now.model self.now.values fails sets.old }
-        requires kept { IsRefused self.now.model self.now.values refused.old }
+        requires kept { AreAnswered self.now.model self.now.values table.now }
         ensures answer { result ≡ answer_of (searched self.now room.old).found (searched self.now room.old).cost budget }
         ensures yes { result ≡ Answer.Yes → room.new ≡ reached self.now.model self.now.values (constrained_params self.now.model) room.old }
         ensures no { result ≡ Answer.No → room.new ≡ room.old }
         ensures long { length room.new ≡ length room.old }
         ensures sound { IsSound self.now.model }
         ensures sets { sets.new ≡ sets.old }
-        ensures kept { IsRefused self.now.model self.now.values refused.new }
     {
         self.assert_invariant();
         let mut left = budget;
         if fails {
             return visit_failing(&mut left);
         }
-        if self.goes_as(room, refused) {
-            return refused.answer(budget);
+        let place = self.place_of(room, table.len());
+        let answered = table.at(place);
+        if !answered.found && self.goes_as(room, answered) {
+            return answered.answer(budget);
         }
+        self.search_anew(room, sets, &mut left)
+    }
+
+    // Tells whether the cells have a completion, given whether the node without values fails. What goes
+    // as a question in the table isn't searched again, and what is searched is kept there.
+    pub(crate) fn tell(
+        &self,
+        fails: bool,
+        cells: &Cells,
+        room: &mut Cells,
+        sets: &mut LiveSets,
+        table: &mut AnswerTable,
+        budget: u64,
+    ) -> Answer
+        requires fits { FitsModel self.now.model cells.now }
+        requires listed { IsListed self.now.values cells.now }
+        requires long { length room.old ≡ length cells.now }
+        requires ready { IsReady self.now.model self.now.values fails sets.old }
+        requires kept { AreAnswered self.now.model self.now.values table.old }
+        ensures answer { result ≡ answer_of (searched self.now cells.now).found (searched self.now cells.now).cost budget }
+        ensures long { length room.new ≡ length room.old }
+        ensures sound { IsSound self.now.model }
+        ensures sets { sets.new ≡ sets.old }
+        ensures kept { AreAnswered self.now.model self.now.values table.new }
+    {
+        self.assert_invariant();
+        let mut left = budget;
+        if fails {
+            return visit_failing(&mut left);
+        }
+        let place = self.place_of(cells, table.len());
+        let answered = table.at(place);
+        if self.goes_as(cells, answered) {
+            return answered.answer(budget);
+        }
+        room.copy_from(cells);
         let answer = self.search_anew(room, sets, &mut left);
-        if answer == Answer::No {
-            refused.keep(room, budget - left);
-        }
+        table.keep_answer(place, cells, answer, budget - left);
         answer
     }
 }

@@ -1,7 +1,7 @@
 use Rattle.std.proofs.Common.{◌<◌, length, ap, arith}
 use Rattle.definitions.specs.Search.{constrained_params}
 use Rattle.feasibility.proofs.Naming.{constrained_exists}
-use Rattle.feasibility.proofs.Refusals.{agree_listed}
+use Rattle.feasibility.proofs.Recurring.{agree_listed}
 use Rattle.feasibility.proofs.tree.SearchTree.goes_as.Goals as goal
 
 pub get-requires : goal.get-requires
@@ -16,5 +16,5 @@ get-requires-in-loop-i c =
 
 pub returns-clause-agree : goal.returns-clause-agree
 returns-clause-agree c e =
-    agree_listed c.args.self.now.model c.args.cells.now c.args.refused.now.cells c.requires.long c.requires.also
+    agree_listed c.args.self.now.model c.args.cells.now c.args.answered.now.cells c.requires.long c.requires.also
     (λ j low. c.loop-i.invariant.same j (omega (arith, low, c.loop-i.invariant.count)))

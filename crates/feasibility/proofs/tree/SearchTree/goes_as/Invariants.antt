@@ -6,5 +6,5 @@ abbrev pub invariant-loop-i : goal.invariant-loop-i
 invariant-loop-i l = record {
   count : l.count ≡ length (constrained_params l.self.model);
   same : (j : ℕ) → j < l.i
-      → get_or l.cells (get_or (constrained_params l.self.model) j 0) None ≡ get_or l.refused.cells (get_or (constrained_params l.self.model) j 0) None;
+      → get_or l.cells (get_or (constrained_params l.self.model) j 0) None ≡ get_or l.answered.cells (get_or (constrained_params l.self.model) j 0) None;
 }

@@ -1,8 +1,9 @@
-use Rattle.std.proofs.Common.{◌∙◌, refl, sym, ap}
+use Rattle.std.proofs.Common.{◌∙◌, refl, sym, ap, subst, arith}
 use Rattle.definitions.specs.Search.{Outcome, constrained_params}
 use Rattle.feasibility.specs.Answers.{answer_of}
+use Rattle.feasibility.specs.Recurring.{IsAnswered}
 use Rattle.feasibility.proofs.Deciding.{fails_stays}
-use Rattle.feasibility.proofs.Refusals.{refused_tells}
+use Rattle.feasibility.proofs.Recurring.{answered_at, answered_tells}
 use Rattle.feasibility.proofs.Visits.{told_fails}
 use Rattle.feasibility.proofs.tree.SearchTree.search_from.Goals as goal
 
@@ -17,6 +18,9 @@ returns-then-fails-clause-answer c =
 pub returns-then-goes_as-clause-answer : goal.returns-then-goes_as-clause-answer
 returns-then-goes_as-clause-answer c =
     let m = c.args.self.now.model in
-    let tells = refused_tells m c.args.self.now.values c.args.room.now c.args.refused.now c.assert_invariant.ensures.values
-    (sym c.requires.ready.fails ∙ c.if-fails.false) c.requires.kept (c.goes_as.ensures.known c.if-goes_as.true) (c.goes_as.ensures.agree c.if-goes_as.true) in
+    let lists = c.args.self.now.values in
+    let known = subst (IsAnswered m lists) (sym c.at-answered.ensures)
+    (answered_at m lists c.args.table.now c.place_of-place.result c.requires.kept (omega (arith, c.place_of-place.ensures, c.len.ensures.length))) in
+    let tells = answered_tells m lists c.args.room.now c.at-answered.result.now c.assert_invariant.ensures.values
+    (sym c.requires.ready.fails ∙ c.if-fails.false) known (c.goes_as.ensures.known c.if-goes_as.true) (c.goes_as.ensures.agree c.if-goes_as.true) in
     c.answer.ensures ∙ sym (ap (λ (outcome : Outcome). answer_of outcome.found outcome.cost c.args.budget) tells)

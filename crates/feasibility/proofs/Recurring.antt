@@ -1,8 +1,9 @@
 -- A question goes as another one that gives the parameters which constraints name the same values.
-use Rattle.std.proofs.Common.{◌≡◌, ℕ, ◌-◌, ◌<◌, ◌≤◌, Bool, true, false, not, ◌&&◌, ◌||◌, List, [], ◌∷◌, length, Option, Some, None, is_some, get_or, ◌∙◌, sym, ap, subst, refl, arith, inl, inr}
+use Rattle.std.proofs.Common.{◌≡◌, ℕ, ◌-◌, ◌<◌, ◌≤◌, Bool, true, false, not, ◌&&◌, ◌||◌, List, [], ◌∷◌, length, replicate, Option, Some, None, is_some, get_or, ◌∙◌, sym, ap, subst, refl, arith, inl, inr}
 use Rattle.std.specs.List.{list_any}
 use Rattle.std.proofs.lemmas.Bool.{false≢true, cases_Bool, cases_eq, cases_lt, and_right, or_left}
-use Rattle.std.proofs.lemmas.List.{get_or-set_other, get_or_default, get_or_past, length-set}
+use Rattle.std.proofs.lemmas.List.Elements.{All-get_or, All-replicate, All-set}
+use Rattle.std.proofs.lemmas.List.{get_or-set_other, get_or_default, get_or_past, length-replicate, length-set}
 use Rattle.cov_model.specs.Sound.{ModelView}
 use Rattle.cov_model.specs.Rows.{is_assigned}
 use Rattle.cov_model.specs.Valid.{param_numbers}
@@ -13,16 +14,16 @@ use Rattle.definitions.proofs.Members.{Has, contains_member, has_filter}
 use Rattle.definitions.proofs.PartialRowLemmas.{among_head, among_tail}
 use Rattle.definitions.proofs.SliceLemmas.{has_params}
 use Rattle.feasibility.specs.declared.answer.Answer.{Answer}
-use Rattle.feasibility.specs.declared.answer.Answer.TheVariants.{No}
-use Rattle.feasibility.specs.declared.refused.Refused.{Refused}
+use Rattle.feasibility.specs.declared.answer.Answer.TheVariants.{Yes, No, Spent}
+use Rattle.feasibility.specs.declared.answered.Answered.{Answered}
 use Rattle.feasibility.specs.Answers.{Told}
-use Rattle.feasibility.specs.Refusals.{AgreeOnNamed, IsRefused}
+use Rattle.feasibility.specs.Recurring.{AgreeOnNamed, AreAnswered, IsAnswered, kept_at, none_answered, unanswered}
 use Rattle.feasibility.specs.Tree.{ListsValues, is_named, no_values}
 use Rattle.feasibility.proofs.Alike.{any_same, breaks_same, leaf_told, node_told, same_with, try_alike}
 use Rattle.feasibility.proofs.Broken.{none_at}
 use Rattle.feasibility.proofs.Deciding.{stuck_fails}
 use Rattle.feasibility.proofs.Extendable.{among_filter_test}
-use Rattle.feasibility.proofs.Visits.{told_no}
+use Rattle.feasibility.proofs.Visits.{told_no, told_yes}
 
 -- with the same value more they agree too
 agree_with : (m : ModelView) (a b : List (Option ℕ)) (p v : ℕ) → AgreeOnNamed m a b → AgreeOnNamed m (with_value a p v) (with_value b p v)
@@ -123,31 +124,52 @@ visit_agree m lists (p ∷ params) a b many some named agree =
     ∙ ap (λ (tried : Outcome). node_told (is_assigned b p) (visit m lists params b) (is_failing m lists b) tried) below
 
 -- what is known of a question tells the outcome of each that goes as it
-pub refused_tells : (m : ModelView) (lists : List (List ℕ)) (cells : List (Option ℕ)) (refused : Refused) → ListsValues m lists
-    → is_failing m lists (no_values m) ≡ false → IsRefused m lists refused → refused.known ≡ true → AgreeOnNamed m cells refused.cells
-    → visit m lists (constrained_params m) cells ≡ record { found = false; cost = refused.cost }
-refused_tells m lists cells refused values node is known agree =
-    visit_agree m lists (constrained_params m) cells refused.cells values.as_many (has_values m lists node)
+pub answered_tells : (m : ModelView) (lists : List (List ℕ)) (cells : List (Option ℕ)) (answered : Answered) → ListsValues m lists
+    → is_failing m lists (no_values m) ≡ false → IsAnswered m lists answered → answered.known ≡ true → AgreeOnNamed m cells answered.cells
+    → visit m lists (constrained_params m) cells ≡ record { found = answered.found; cost = answered.cost }
+answered_tells m lists cells answered values node is known agree =
+    visit_agree m lists (constrained_params m) cells answered.cells values.as_many (has_values m lists node)
     (λ p listed. among_filter_test (is_named m) p (param_numbers m) listed) agree
     ∙ is.told known
 
--- a question that was answered No is one to keep
-outcome_is : (outcome : Outcome) (cost : ℕ) → outcome.found ≡ false → outcome.cost ≡ cost → outcome ≡ record { found = false; cost = cost }
-outcome_is outcome cost found costs =
-    ap (λ (b : Bool). record { found = b; cost = outcome.cost }) found ∙ ap (λ (n : ℕ). record { found = false; cost = n }) costs
+-- at a place of a table
+pub answered_at : (m : ModelView) (lists : List (List ℕ)) (table : List Answered) (place : ℕ) → AreAnswered m lists table → place < length table
+    → IsAnswered m lists (get_or table place none_answered)
+answered_at m lists table place are low = All-get_or (IsAnswered m lists) table place none_answered low are
 
-pub refused_kept : (m : ModelView) (lists : List (List ℕ)) (before path after : List (Option ℕ)) (budget left : ℕ) (answer : Answer)
-    → Told (visit m lists (constrained_params m) before) path before after budget left answer → answer ≡ No → length before ≡ length m.params
-    → IsRefused m lists (record { known = true; cells = after; cost = budget - left })
-refused_kept m lists before path after budget left answer told ends long =
+-- where none is known
+pub unanswered_are : (m : ModelView) (lists : List (List ℕ)) (n : ℕ) → AreAnswered m lists (replicate n (unanswered (length m.params)))
+unanswered_are m lists n =
+    All-replicate (IsAnswered m lists) n (unanswered (length m.params))
+    (record { long = length-replicate (length m.params) None; told = λ known. absurd (false≢true known) })
+
+-- a question that was answered is one to keep
+outcome_is : (outcome : Outcome) (found : Bool) (cost : ℕ) → outcome.found ≡ found → outcome.cost ≡ cost
+    → outcome ≡ record { found = found; cost = cost }
+outcome_is outcome found cost founds costs =
+    ap (λ (b : Bool). record { found = b; cost = outcome.cost }) founds ∙ ap (λ (n : ℕ). record { found = found; cost = n }) costs
+
+pub answer_kept : (m : ModelView) (lists : List (List ℕ)) (table : List Answered) (place : ℕ) (before path room after : List (Option ℕ))
+    (budget left : ℕ) (answer : Answer) → AreAnswered m lists table → length before ≡ length m.params
+    → Told (visit m lists (constrained_params m) before) path room after budget left answer
+    → AreAnswered m lists (kept_at table place before answer (budget - left))
+answer_kept m lists table place before path room after budget left Spent are long told = are
+answer_kept m lists table place before path room after budget left No are long told =
     let outcome = visit m lists (constrained_params m) before in
-    let ended = told_no outcome.found outcome.cost budget (sym ends ∙ told.answer) in
-    let same : after ≡ before = told.other ends in
-    record {
-      long = ap length same ∙ long;
-      told = λ known. ap (visit m lists (constrained_params m)) same
-          ∙ outcome_is outcome (budget - left) ended.is (omega (arith, ended.enough, told.left));
-    }
+    let ended = told_no outcome.found outcome.cost budget told.answer in
+    All-set (IsAnswered m lists) table place (record { known = true; cells = before; found = false; cost = budget - left })
+    (record {
+      long = long;
+      told = λ known. outcome_is outcome false (budget - left) ended.is (omega (arith, ended.enough, told.left));
+    }) are
+answer_kept m lists table place before path room after budget left Yes are long told =
+    let outcome = visit m lists (constrained_params m) before in
+    let ended = told_yes outcome.found outcome.cost budget told.answer in
+    All-set (IsAnswered m lists) table place (record { known = true; cells = before; found = true; cost = budget - left })
+    (record {
+      long = long;
+      told = λ known. outcome_is outcome true (budget - left) ended.is (omega (arith, ended.enough, told.left));
+    }) are
 
 -- partial rows that give the same to each parameter of the list
 pub agree_listed : (m : ModelView) (a b : List (Option ℕ)) → length a ≡ length m.params → length b ≡ length m.params
