@@ -13,7 +13,7 @@ pub returns-then-is_twice : goal.returns-then-is_twice
 returns-then-is_twice c = λ m header long same.
     let are = counts_are m header c.args.columns.now c.args.params c.in_ok-counts.counts.items long same c.in_ok-counts.ensures in
     let some : list_any (λ count. nat_lt 1 count) c.in_ok-counts.counts.items ≡ _ =
-      ap (list_any (λ count. nat_lt 1 count)) (sym c.as_slice.ensures.value) ∙ sym c.is_twice.ensures ∙ c.if-is_twice.true in
+    ap (list_any (λ count. nat_lt 1 count)) (sym c.as_slice.ensures.value) ∙ sym c.is_twice.ensures ∙ c.if-is_twice.true in
     ap (λ fault. option_or fault (missing_fault m (mode_seen c.args.mode) header)) (twice_is m c.args.line header c.in_ok-counts.counts.items are ∙ cond-true _ _ _ some)
 
 pub check_missing-requires : goal.check_missing-requires
@@ -24,6 +24,6 @@ pub returns : goal.returns
 returns c = λ m header long same.
     let are = counts_are m header c.args.columns.now c.args.params c.in_ok-counts.counts.items long same c.in_ok-counts.ensures in
     let none : list_any (λ count. nat_lt 1 count) c.in_ok-counts.counts.items ≡ _ =
-      ap (list_any (λ count. nat_lt 1 count)) (sym c.as_slice.ensures.value) ∙ sym c.is_twice.ensures ∙ c.if-is_twice.false in
+    ap (list_any (λ count. nat_lt 1 count)) (sym c.as_slice.ensures.value) ∙ sym c.is_twice.ensures ∙ c.if-is_twice.false in
     let fault = twice_is m c.args.line header c.in_ok-counts.counts.items are ∙ cond-false _ _ _ none in
     rw fault (c.check_missing.ensures m header (c.as_slice-2.ensures.value ∙ are))

@@ -8,15 +8,21 @@ use Rattle.cov_model.proofs.model.TestModel.+eval.Goals as goal
 pub pred_truth-all_truth-requires : goal.pred_truth-all_truth-requires
 pred_truth-all_truth-requires t c = (
   first_of (search (rules, the_lemmas), grind (arith, the_lemmas)),
-  (subst (All (λ part. IsSoundPred c.args.self.now.params (pred_view part))) (sym c.as_slice.ensures)
-    (each_sound c.args.self.now.params c.args.pred.now c.in-All.parts c.in-All.is c.requires.sound), c.requires.fits),
+  (
+    subst (All (λ part. IsSoundPred c.args.self.now.params (pred_view part))) (sym c.as_slice.ensures)
+        (each_sound c.args.self.now.params c.args.pred.now c.in-All.parts c.in-All.is c.requires.sound),
+    c.requires.fits,
+  ),
 )
 
 pub pred_truth-any_truth-requires : goal.pred_truth-any_truth-requires
 pred_truth-any_truth-requires t c = (
   first_of (search (rules, the_lemmas), grind (arith, the_lemmas)),
-  (subst (All (λ part. IsSoundPred c.args.self.now.params (pred_view part))) (sym c.as_slice-in-Any.ensures)
-    (either_sound c.args.self.now.params c.args.pred.now c.in-Any.parts c.in-Any.is c.requires.sound), c.requires.fits),
+  (
+    subst (All (λ part. IsSoundPred c.args.self.now.params (pred_view part))) (sym c.as_slice-in-Any.ensures)
+        (either_sound c.args.self.now.params c.args.pred.now c.in-Any.parts c.in-Any.is c.requires.sound),
+    c.requires.fits,
+  ),
 )
 
 pub pred_truth-returns-in-All : goal.pred_truth-returns-in-All
