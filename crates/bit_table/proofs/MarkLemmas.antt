@@ -6,7 +6,7 @@ use Rattle.std.proofs.lemmas.Bool.{cases_eq, cases_lt}
 use Rattle.std.proofs.lemmas.List.{get_or-replicate, get_or_past, length-replicate, same_lists}
 use Rattle.std.proofs.lemmas.List.Folds.{sum_by-replicate}
 use Rattle.std.proofs.lemmas.List.FromFn.{get_or-map-range_with_len, length-map-range_with_len}
-use Rattle.std.proofs.lemmas.Nat.Bits.{bit_at_ones}
+use Rattle.std.proofs.lemmas.Nat.Bits.{bit_at-zero, bit_at_ones}
 use Rattle.bit_table.specs.Words.{mark_at, marks_of}
 
 pub marks_long : (words : List ℕ) (size : ℕ) → length (marks_of words size) ≡ size
@@ -31,6 +31,18 @@ unmarked words size place none = elim (cases_lt place size) [
   | inl inside ↦ mark_is words size place false inside ∙ none
   | inr past ↦ get_or_past (marks_of words size) place false (rw (marks_long words size) past)
 ]
+
+-- a word of 0 marks nothing, and so do words of zeros
+pub unmarked_word : (word i : ℕ) → word ≡ 0 → eqb (bit_at word i) 1 ≡ false
+unmarked_word word i none = ap (λ w. eqb (bit_at w i) 1) none ∙ ap (λ b. eqb b 1) (bit_at-zero i)
+
+pub no_marks : (count place : ℕ) → mark_at (replicate count 0) place ≡ false
+no_marks count place =
+    unmarked_word (get_or (replicate count 0) (place / 64) 0) (place % 64)
+    (elim (cases_lt (place / 64) count) [
+      | inl inside ↦ get_or-replicate count (place / 64) 0 0 inside
+      | inr past ↦ get_or_past (replicate count 0) (place / 64) 0 (omega (arith, length-replicate {A = ℕ} count 0, past))
+    ])
 
 all_ones : (count place : ℕ) → place / 64 < count → mark_at (replicate count (2 ^ 64 - 1)) place ≡ true
 all_ones count place inside =

@@ -18,13 +18,13 @@ abbrev pub marked : List ℕ → ℕ → ℕ → List ℕ
 marked words place word = set words (place / 64) (with_bit word place)
 
 -- the place has its mark
-is_there : (words : List ℕ) (place word : ℕ) → place / 64 < length words → mark_at (marked words place word) place ≡ true
+pub is_there : (words : List ℕ) (place word : ℕ) → place / 64 < length words → mark_at (marked words place word) place ≡ true
 is_there words place word inside =
     ap (λ w. eqb (bit_at w (place % 64)) 1) (get_or-set_at words (place / 64) (place / 64) (with_bit word place) 0 refl inside)
     ∙ ap (λ b. eqb b 1) (bit_at_set_same w64 word (place % 64) (omega arith))
 
 -- each other mark stays
-stays : (words : List ℕ) (place word other : ℕ) → place / 64 < length words → word ≡ get_or words (place / 64) 0 → (other ≡ place → ⊥)
+pub stays : (words : List ℕ) (place word other : ℕ) → place / 64 < length words → word ≡ get_or words (place / 64) 0 → (other ≡ place → ⊥)
     → mark_at (marked words place word) other ≡ mark_at words other
 stays words place word other inside read apart = elim (cases_eq (other / 64) (place / 64)) [
   | inl here ↦

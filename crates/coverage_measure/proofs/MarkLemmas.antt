@@ -3,13 +3,12 @@ use Rattle.std.proofs.Common.{◌≡◌, ℕ, ◌+◌, ◌<◌, ◌≤◌, Bool,
 use Rattle.std.specs.List.{filter}
 use Rattle.std.specs.Prelude.{sum}
 use Rattle.std.proofs.lemmas.List.{get_or-drop, get_or-map, get_or-take, length-drop, length-map, length-take-le, same_lists}
-use Rattle.std.proofs.lemmas.List.Sums.{sum_by-take-le}
 use Rattle.std.proofs.lemmas.Option.{get_or_from_slice_get, slice_get-get_or}
 use Rattle.cov_model.specs.Sound.{ModelView}
 use Rattle.definitions.specs.Demand.{demanded_sets, demanded_tuples, tuples_of}
 use Rattle.tuple_index.specs.Plan.{plan_of, set_at}
 use Rattle.shared_marks.specs.Served.{base_of}
-use Rattle.shared_marks.proofs.PlaceLemmas.{all_places, base_more, place_within, tuple_there}
+use Rattle.shared_marks.proofs.PlaceLemmas.{place_within, set_within, tuple_there}
 
 -- as many marks are set as items pass
 pub count_marks : {X : Type 0} (test : X → Bool) (items : List X) → length (filter (λ mark. mark) (map test items)) ≡ length (filter test items)
@@ -20,12 +19,6 @@ count_marks test (item ∷ items) = by_test (test item) (count_marks test items)
         → length (cond b (b ∷ filter (λ mark. mark) (map test items)) (filter (λ mark. mark) (map test items))) ≡ length (cond b (item ∷ filter test items) (filter test items))
     by_test true later = ap suc later
     by_test false later = later
-
--- all of them are marks of demanded tuples
-set_within : (m : ModelView) (set : ℕ) → set < length (demanded_sets m) → base_of m set + length (tuples_of m (set_at (plan_of m) set)) ≤ length (demanded_tuples m)
-set_within m set within =
-    let part : sum (take (set + 1) (plan_of m).sizes) ≤ sum (plan_of m).sizes = sum_by-take-le (λ n. n) (plan_of m).sizes (set + 1) in
-    omega (arith, part, base_more m set within, all_places m)
 
 -- the marks of a set stand one after another from its base on
 pub set_marks : (m : ModelView) (test : List (Option ℕ) → Bool) (set : ℕ) → set < length (demanded_sets m)

@@ -1,7 +1,7 @@
 -- The members of a list, by recursion on it.
 use Rattle.std.proofs.Common.{◌≡◌, ℕ, zero, suc, ◌+◌, ◌<◌, ◌≤◌, Bool, true, false, cond, List, [], ◌∷◌, ◌++◌, map}
 use Rattle.std.proofs.Common.{length, get_or, All, Option, Some, None, ◌⊎◌, inl, inr, ◌∙◌, sym, ap, subst, refl, arith}
-use Rattle.std.specs.Prelude.{Contains, ◌==◌, find, filter_map}
+use Rattle.std.specs.Prelude.{Contains, ◌==◌, find, filter_map, slice_get}
 use Rattle.std.specs.List.{cons_option, filter, flat_map, list_any, list_all, range_with_len}
 use Rattle.std.proofs.lemmas.Bool.{false≢true, cases_eq, eq-eqb, eqb-true, and_parts, and_from, or_cases, or_left, or_right}
 use Rattle.std.proofs.lemmas.Option.{none-some, same_Some}
@@ -35,6 +35,12 @@ pub member_of_all : {X : Type 0} (P : X → Type 0) (xs : List X) (x : X) → Al
 member_of_all P xs x all has =
     let at = contains_member xs x has in
     subst P at.2 (all at.0 x at.1)
+
+-- what stands at a place is a member
+pub has_place : {X : Type 0} (xs : List X) (i : ℕ) (x : X) → slice_get xs i ≡ Some x → Has xs x
+has_place [] i x here = absurd (none-some x here)
+has_place (y ∷ xs) zero x here = inl (same_Some y x here)
+has_place (y ∷ xs) (suc i) x here = inr (has_place xs i x here)
 
 -- members of a list that is joined, mapped or filtered
 pub has_left : {X : Type 0} (xs ys : List X) (x : X) → Has xs x → Has (xs ++ ys) x

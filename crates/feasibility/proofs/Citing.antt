@@ -13,7 +13,7 @@ use Rattle.cov_model.specs.Valid.{negatives}
 use Rattle.cov_model.proofs.CellLemmas.{contains-get_or}
 use Rattle.definitions.specs.Pairs.{cells_of}
 use Rattle.definitions.specs.Refutation.{earlier_tuple, is_omission_leaf}
-use Rattle.definitions.proofs.Members.{Has, among_has, find_some, has_range, of_among, of_find, of_range}
+use Rattle.definitions.proofs.Members.{Has, among_has, find_some, has_range, of_among, of_find, of_range, has_place}
 use Rattle.definitions.proofs.NamedPairs.{pair_stands}
 use Rattle.refutation.specs.declared.omissions.Omission.{Omission}
 use Rattle.refutation.specs.Holders.{EndsWithin, ListsEnding, NeverFalls, last_pair}
@@ -157,11 +157,6 @@ lowers_end test numbers least none = record {
 
 -- ---- the least of those whose tuples end with a parameter below a number
 
-has_at : {X : Type 0} (xs : List X) (i : ℕ) (x : X) → slice_get xs i ≡ Some x → Has xs x
-has_at [] i x is = absurd (none-some x is)
-has_at (y ∷ xs) zero x is = inl (same_Some y x is)
-has_at (y ∷ xs) (suc i) x is = inr (has_at xs i x is)
-
 abbrev leaf : RefuterView → List (Option ℕ) → ℕ → Bool
 leaf r path k = is_omission_leaf r.model r.format r.earlier r.tuple path k
 
@@ -179,7 +174,7 @@ path_gives r proof path i d are within ends cites =
     row = cells_of (length r.model.params) pairs
 
     stands : get_or row ends.last.0 None ≡ Some ends.last.1
-    stands = pair_stands (length r.model.params) pairs ends.last ends.rising ends.below (has_at pairs (length pairs - 1) ends.last ends.is_last)
+    stands = pair_stands (length r.model.params) pairs ends.last ends.rising ends.below (has_place pairs (length pairs - 1) ends.last ends.is_last)
 
     is_row : get_or r.earlier i [] ≡ row
     is_row =

@@ -17,7 +17,7 @@ use Rattle.definitions.specs.Pairs.{cells_of}
 use Rattle.definitions.proofs.Distinct.{NoRepeats, repeats_flat}
 use Rattle.definitions.proofs.Grown.{slices_once}
 use Rattle.definitions.proofs.InPlay.{tuple_is}
-use Rattle.definitions.proofs.Members.{Has, member_of_all, of_flat, of_map}
+use Rattle.definitions.proofs.Members.{Has, member_of_all, of_flat, of_map, has_place}
 use Rattle.definitions.proofs.MetOnce.{sets_once, tuples_once}
 use Rattle.definitions.proofs.SetOrder.{lex, sorted_in_order}
 use Rattle.definitions.proofs.SliceLemmas.{is_slice, slice_is}
@@ -25,7 +25,7 @@ use Rattle.refutation.specs.Checking.{AreOfModel}
 use Rattle.tuple_index.specs.Places.{RisesFrom, tuple_lists}
 use Rattle.tuple_index.specs.Plan.{IsChoice, PlanView, negative_count, plan_of, set_at, tuple_cells, value_given}
 use Rattle.tuple_index.proofs.ChoiceAt.{choice_at}
-use Rattle.tuple_index.proofs.InverseLemmas.{has_place, tuples_differ, cells_tell}
+use Rattle.tuple_index.proofs.InverseLemmas.{tuples_differ, cells_tell}
 use Rattle.tuple_index.proofs.OrderLemmas.{demanded_rise}
 use Rattle.tuple_index.proofs.RankLemmas.{choice_long}
 use Rattle.tuple_index.proofs.TupleLemmas.{tuples_of-lists}

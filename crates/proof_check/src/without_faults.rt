@@ -4,7 +4,7 @@ ghost use Rattle.definitions.specs.Verdict.{verdict};
 ghost use Rattle.command_line.specs.Stops.{status_of};
 ghost use Rattle.command_line.specs.SureFiles.{told_of};
 ghost use Rattle.command_line.specs.Words.{opts_of, texts};
-ghost use Rattle.proof_check.specs.Runs.{AreRead, HasReadings, HeldFiles, Holds, IsRefused, verdict_status};
+ghost use Rattle.proof_check.specs.Runs.{AreRead, HasReadings, HeldFiles, Holds, FilesAreRefused, verdict_status};
 ghost use Rattle.proof_check.specs.Words.{asked_by, names_in};
 
 use crate::run::run_check;
@@ -34,7 +34,7 @@ pub fn run_check_without_faults<R: Threads + Sync>(
         Holds (told_of files.old) (names_in (texts words.now)) held → AreRead (opts_of s) held →
         HasReadings (opts_of s) (λ m lines proof. (result ≡ verdict_status (verdict m lines proof)) ⊎ (result ≡ 1)) held }
     ensures refused { (s : Settings) (held : HeldFiles) (stop : Stop) → asked_by (texts words.now) ≡ Ok s →
-        Holds (told_of files.old) (names_in (texts words.now)) held → IsRefused (opts_of s) held stop →
+        Holds (told_of files.old) (names_in (texts words.now)) held → FilesAreRefused (opts_of s) held stop →
         (result ≡ status_of stop) ⊎ (result ≡ 1) }
 {
     run_check(rt, alloc, words, files, out, diag)

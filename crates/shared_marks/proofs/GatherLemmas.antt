@@ -8,29 +8,13 @@ use Rattle.std.proofs.lemmas.List.{get_or-replicate, get_or_past, length-replica
 use Rattle.std.proofs.lemmas.List.Folds.{list_any_more}
 use Rattle.std.proofs.lemmas.Nat.Bits.{bit_at-zero}
 use Rattle.bit_table.specs.Words.{mark_at}
+use Rattle.bit_table.proofs.MarkLemmas.{no_marks, unmarked_word}
 use Rattle.shared_marks.specs.Adding.{Marks, are_behind, is_in_words, is_of_word}
 use Rattle.shared_marks.specs.Seats.{SeatView, marking, with_holding}
 use Rattle.shared_marks.specs.Steps.{has_bit}
 use Rattle.shared_marks.proofs.AddingLemmas.{marks_one, marks_then}
 
--- words of zeros have no bit
-no_bit : (words : List ℕ) (place : ℕ) → get_or words (place / 64) 0 ≡ 0 → mark_at words place ≡ false
-no_bit words place none = ap (λ w. eqb (bit_at w (place % 64)) 1) none ∙ ap (λ b. eqb b 1) (bit_at-zero (place % 64))
-
-pub zeros_none : (count place : ℕ) → mark_at (replicate count 0) place ≡ false
-zeros_none count place =
-    no_bit zeros place
-    (elim (cases_lt (place / 64) count) [
-      | inl within ↦ get_or-replicate count (place / 64) 0 0 within
-      | inr past ↦ get_or_past zeros (place / 64) 0 (omega (arith, past, long))
-    ])
-  where
-    zeros : List ℕ
-    zeros = replicate count 0
-
-    long : length zeros ≡ count
-    long = length-replicate count 0
-
+-- a word of zeros has no bit
 pub zero_none : (word place : ℕ) → is_of_word word 0 place ≡ false
 zero_none word place = and_right (place / 64 == word) (has_bit 0 place) (ap (λ b. eqb b 1) (bit_at-zero (place % 64)))
 
@@ -88,7 +72,7 @@ words_end first at place words all = elim (cases_lt place (64 * (first + at))) [
   | inr past ↦
       and_left (nat_lt place (64 * (first + at))) (is_in_words first words place) (le-ltb place (64 * (first + at)) past)
       ∙ sym (and_right (nat_le (64 * first) place) (mark_at words (place - 64 * first))
-      (no_bit words (place - 64 * first) (get_or_past words ((place - 64 * first) / 64) 0 (omega (arith, all, past)))))
+      (unmarked_word (get_or words ((place - 64 * first) / 64) 0) ((place - 64 * first) % 64) (get_or_past words ((place - 64 * first) / 64) 0 (omega (arith, all, past)))))
 ]
 
 -- places behind a base are places behind what is left of it in its word
@@ -120,7 +104,7 @@ pub gathered : (base place : ℕ) (ranks zeros words : List ℕ) (count : ℕ) �
     → ((p : ℕ) → mark_at words p ≡ (mark_at zeros p || are_behind (base % 64) ranks p)) → is_in_words (base / 64) words place ≡ are_behind base ranks place
 gathered base place ranks zeros words count none each =
     ap (λ t. nat_le (64 * (base / 64)) place && t) (each p ∙ ap (λ zs. mark_at zs p || are_behind (base % 64) ranks p) none
-    ∙ ap (λ t. t || are_behind (base % 64) ranks p) (zeros_none count p))
+    ∙ ap (λ t. t || are_behind (base % 64) ranks p) (no_marks count p))
     ∙ behind_moved (base / 64) (base % 64) base place ranks (omega arith)
   where
     p : ℕ

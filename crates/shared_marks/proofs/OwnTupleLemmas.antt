@@ -15,13 +15,13 @@ use Rattle.cov_model.specs.Valid.{is_row, is_valid, negatives, serves}
 use Rattle.cov_model.proofs.CellLemmas.{assigned_within, contains-from, contains-value_in, length-slice_values}
 use Rattle.cov_model.proofs.RowLemmas.{FitsModel-is_row, row_has_value, row_is_assigned}
 use Rattle.definitions.specs.Demand.{demanded_sets, is_among, tuples_in, tuples_of}
-use Rattle.definitions.proofs.Members.{Has, all_pass, among_has, has_filter, of_among, of_filter, of_flat, same_answer}
+use Rattle.definitions.proofs.Members.{Has, all_pass, among_has, has_filter, of_among, of_filter, of_flat, same_answer, has_place}
 use Rattle.definitions.proofs.InPlay.{tuple_is}
 use Rattle.definitions.proofs.Serving.{of_serves, value_of}
 use Rattle.definitions.proofs.SliceLemmas.{has_negatives, has_numbers, is_slice, of_negatives}
 use Rattle.tuple_index.specs.Places.{RisesFrom, has_part}
 use Rattle.tuple_index.specs.Plan.{IsChoice, PlanView, are_values, is_negative, is_value, negative_count, plan_of, set_at, tuple_cells, value_given}
-use Rattle.tuple_index.proofs.InverseLemmas.{has_place, ranks_are_inverse}
+use Rattle.tuple_index.proofs.InverseLemmas.{ranks_are_inverse}
 use Rattle.tuple_index.proofs.OrderLemmas.{demanded_rise}
 use Rattle.shared_marks.specs.Served.{IsServedRank}
 

@@ -23,7 +23,8 @@ use Rattle.suspect_tuples.specs.Suspects.{gives, has_tuple}
 use Rattle.suspect_tuples.specs.ValueRows.{AreGiven, AreValueRows, KeepsHaving, KeepsPair, is_many, words_in}
 use Rattle.suspect_tuples.specs.declared.value_rows.ValueRows.{ValueRows}
 use Rattle.suspect_tuples.specs.declared.value_rows.ValueRows.TheVariants.{Few, Many}
-use Rattle.suspect_tuples.proofs.RowSetLemmas.{has_here, has_none, unmarked_word}
+use Rattle.bit_table.proofs.MarkLemmas.{unmarked_word}
+use Rattle.suspect_tuples.proofs.RowSetLemmas.{has_here, has_none}
 use Rattle.suspect_tuples.proofs.ValueRowLemmas.{each_pushed}
 
 pub params_begin : (m : ModelView) (rows : List (List (Option ℕ))) → AreParamSets m rows 0 []

@@ -10,52 +10,11 @@ use Rattle.std.proofs.lemmas.List.{get_or-map, get_or-replicate, get_or-set_othe
 use Rattle.std.proofs.lemmas.List.Folds.{list_any_more}
 use Rattle.std.proofs.lemmas.Nat.Bits.{bit_at-zero}
 use Rattle.bit_table.specs.Words.{mark_at, marks_of}
-use Rattle.bit_table.proofs.MarkLemmas.{mark_is, marks_long}
-use Rattle.bit_table.proofs.SetLemmas.{marked, sets, with_bit}
+use Rattle.bit_table.proofs.MarkLemmas.{no_marks}
+use Rattle.bit_table.proofs.SetLemmas.{is_there, marked, stays, with_bit}
 use Rattle.definitions.specs.Demand.{is_among}
 use Rattle.suspect_tuples.specs.RowBits.{has_at}
 use Rattle.suspect_tuples.specs.Suspects.{has_tuple}
-
--- a word of 0 marks nothing, nor does one past the last
-pub unmarked_word : (word i : ℕ) → word ≡ 0 → eqb (bit_at word i) 1 ≡ false
-unmarked_word word i none = ap (λ w. eqb (bit_at w i) 1) none ∙ ap (λ b. eqb b 1) (bit_at-zero i)
-
-unmarked_past : (words : List ℕ) (at : ℕ) → length words ≤ at / 64 → mark_at words at ≡ false
-unmarked_past words at past = unmarked_word (get_or words (at / 64) 0) (at % 64) (get_or_past words (at / 64) 0 past)
-
-no_marks : (count at : ℕ) → mark_at (replicate count 0) at ≡ false
-no_marks count at = elim (cases_lt (at / 64) count) [
-  | inl inside ↦ unmarked_word (get_or (replicate count 0) (at / 64) 0) (at % 64) (get_or-replicate count (at / 64) 0 0 inside)
-  | inr past ↦ unmarked_past (replicate count 0) at (omega (arith, length-replicate {A = ℕ} count 0, past))
-]
-
--- a mark that is set, and the others
-mark_after : (words : List ℕ) (place word other : ℕ) → place / 64 < length words → word ≡ get_or words (place / 64) 0 → other / 64 < length words
-    → mark_at (marked words place word) other ≡ get_or (set (marks_of words (64 * length words)) place true) other false
-mark_after words place word other inside read within =
-    let size = 64 * length words in
-    let count = count_by (λ mark. mark) (marks_of words size) in
-    sym (mark_is (marked words place word) size other false (omega (arith, within)))
-    ∙ ap (λ marks. get_or marks other false) (sets words size count place word (omega arith) refl (omega (arith, inside)) read).seen
-
-mark_here : (words : List ℕ) (place word : ℕ) → place / 64 < length words → word ≡ get_or words (place / 64) 0
-    → mark_at (marked words place word) place ≡ true
-mark_here words place word inside read =
-    let size = 64 * length words in
-    mark_after words place word place inside read inside
-    ∙ get_or-set_at (marks_of words size) place place true false refl (omega (arith, inside, marks_long words size))
-
-mark_elsewhere : (words : List ℕ) (place word other : ℕ) → place / 64 < length words → word ≡ get_or words (place / 64) 0 → (other ≡ place → ⊥)
-    → mark_at (marked words place word) other ≡ mark_at words other
-mark_elsewhere words place word other inside read apart = elim (cases_lt (other / 64) (length words)) [
-  | inl within ↦
-      let size = 64 * length words in
-      mark_after words place word other inside read within ∙ get_or-set_other (marks_of words size) place other true false apart
-      ∙ mark_is words size other false (omega (arith, within))
-  | inr past ↦
-      unmarked_past (marked words place word) other (omega (arith, length-set words (place / 64) (with_bit word place), past))
-      ∙ sym (unmarked_past words other past)
-]
 
 -- whether a row contains the tuple
 pub has_here : (rows : List (List (Option ℕ))) (tuple : List (ℕ × ℕ)) (at : ℕ) (d : List (Option ℕ)) → at < length rows
@@ -70,10 +29,10 @@ pub mark_more : (words : List ℕ) (at word other : ℕ) → at / 64 < length wo
     → mark_at (marked words at word) other ≡ (mark_at words other || eqb at other)
 mark_more words at word other inside read = elim (cases_eq at other) [
   | inl same ↦
-      ap (mark_at (marked words at word)) (sym same) ∙ mark_here words at word inside read
+      ap (mark_at (marked words at word)) (sym same) ∙ is_there words at word inside
       ∙ sym (or_right (mark_at words other) (eqb at other) (eq-eqb at other same))
   | inr apart ↦
-      mark_elsewhere words at word other inside read (λ same. apart (sym same))
+      stays words at word other inside read (λ same. apart (sym same))
       ∙ sym (ap (λ b. mark_at words other || b) (ne_eqb at other apart) ∙ or-false (mark_at words other))
 ]
 

@@ -13,10 +13,9 @@ use Rattle.cov_model.specs.Meaning.{value_at}
 use Rattle.cov_model.specs.Valid.{param_numbers}
 use Rattle.cov_model.specs.Slices.{positive_values, negative_values, value_numbers}
 use Rattle.definitions.specs.Demand.{is_among}
-use Rattle.definitions.proofs.Members.{Has, of_append, of_map, of_flat, of_filter, among_has, of_among}
+use Rattle.definitions.proofs.Members.{Has, of_append, of_map, of_flat, of_filter, among_has, of_among, has_place}
 use Rattle.tuple_index.specs.Plan.{PlanView, plan_of, IsChoice, are_values, is_negative, is_value, negative_count}
 use Rattle.tuple_index.specs.Places.{RisesFrom, values_in, negatives_of, value_lists, negative_lists, tuple_lists}
-use Rattle.tuple_index.proofs.InverseLemmas.{has_place}
 use Rattle.tuple_index.proofs.PlaceLemmas.{all_among}
 use Rattle.tuple_index.proofs.RankLemmas.{all_among_above}
 

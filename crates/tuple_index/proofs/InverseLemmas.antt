@@ -6,7 +6,7 @@ use Rattle.std.proofs.lemmas.List.FromFn.{get_or-map-range_with_len}
 use Rattle.cov_model.specs.Sound.{ModelView}
 use Rattle.cov_model.specs.Slices.{slices}
 use Rattle.definitions.specs.Demand.{demanded_sets, tuples_in, tuples_of}
-use Rattle.definitions.proofs.Members.{Has}
+use Rattle.definitions.proofs.Members.{Has, has_place}
 use Rattle.definitions.proofs.Distinct.{NoRepeats, repeats_flat}
 use Rattle.definitions.proofs.SliceLemmas.{is_slice, slice_is}
 use Rattle.definitions.proofs.InPlay.{tuple_is}
@@ -21,13 +21,7 @@ use Rattle.std.proofs.lemmas.Option.{same_Some}
 use Rattle.std.proofs.lemmas.Bool.{eq-eqb}
 use Rattle.tuple_index.proofs.RankLemmas.{choice_long}
 
--- what stands at a place is a member
-pub has_place : {X : Type 0} (xs : List X) (i : ℕ) (x : X) → slice_get xs i ≡ Some x → Has xs x
-has_place [] i x here = absurd (omega (arith, slice_get_within [] i x here))
-has_place (y ∷ xs) zero x here = inl (same_Some y x here)
-has_place (y ∷ xs) (suc i) x here = inr (has_place xs i x here)
-
--- and stands nowhere else, where no member comes again
+-- what stands at a place stands nowhere else, where no member comes again
 pub one_place : {X : Type 0} (xs : List X) (i j : ℕ) (x : X) → NoRepeats xs → slice_get xs i ≡ Some x → slice_get xs j ≡ Some x → i ≡ j
 one_place [] i j x once here there = absurd (omega (arith, slice_get_within [] i x here))
 one_place (y ∷ xs) zero zero x once here there = refl

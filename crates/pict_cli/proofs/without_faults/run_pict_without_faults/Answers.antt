@@ -1,4 +1,4 @@
-use Rattle.std.proofs.Common.{◌≡◌, refl}
+use Rattle.std.proofs.Common.{◌≡◌, inl, inr}
 use Rattle.command_line.proofs.NoFaults.{never_rose, none_rose}
 use Rattle.pict_cli.proofs.without_faults.run_pict_without_faults.Goals as goal
 
@@ -8,7 +8,7 @@ returns-clause-read g c = λ seven. none_rose _ (c.run_pict.ensures.read seven).
 pub returns-clause-write : goal.returns-clause-write
 returns-clause-write g c = λ eight. elim (c.run_pict.ensures.write eight) [
   | inl report ↦ never_rose report
-  | inr file ↦ none_rose _ file.1.1.1
+  | inr file ↦ none_rose _ file.2.1
 ]
 
 pub returns-clause-complete : goal.returns-clause-complete

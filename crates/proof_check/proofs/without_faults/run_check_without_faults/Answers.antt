@@ -1,4 +1,3 @@
-use Rattle.std.proofs.Common.{◌≡◌, refl}
 use Rattle.command_line.proofs.NoFaults.{never_rose}
 use Rattle.proof_check.proofs.without_faults.run_check_without_faults.Goals as goal
 
