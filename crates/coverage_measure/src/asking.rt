@@ -11,7 +11,7 @@ use std::alloc::Global;
 use value_text::NoMemory;
 
 /// The most solvers that are kept at a time: a model may have more slices than there is room for solvers.
-const MOST_KEPT: usize = 64;
+const MOST_KEPT: usize = 256;
 
 // A solver, the slice that it is for, and each parameter's values there in declared order.
 #[derive(Drop)]

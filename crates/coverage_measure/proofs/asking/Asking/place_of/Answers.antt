@@ -15,6 +15,6 @@ pub returns-clause-kept : goal.returns-clause-kept
 returns-clause-kept c =
     let one : KeptSolver = record { slice = c.args.slice; solver = c.in_ok-solver.solver; values = c.in_ok-values.values } in
     let pushed : c.push.new.self.items ≡ c.truncate.new.self.items ++ one ∷ [] = grind (arith, common_steps) in
-    kept_more c.args.self.now.model.now c.args.self.now.prefs.now 63 c.args.kept.now.items c.truncate.new.self.items c.push.new.self.items one c.requires.kept
+    kept_more c.args.self.now.model.now c.args.self.now.prefs.now 255 c.args.kept.now.items c.truncate.new.self.items c.push.new.self.items one c.requires.kept
     c.truncate.ensures.items
     (record { slice = c.requires.slice; solver = c.in_ok-solver.ensures; values = c.in_ok-values.ensures }) pushed
