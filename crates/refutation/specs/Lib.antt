@@ -3,3 +3,4 @@ pub mod Holders
 pub mod Lines
 pub mod Proofs
 pub mod Reading
+pub mod Repeats

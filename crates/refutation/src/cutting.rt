@@ -1,4 +1,4 @@
-ghost use Rattle.std.specs.Prelude.{◌≡◌, ◌==◌, ◌<◌, ◌^◌, [], ◌∷◌, Some, MatchOption, IfSome, length, position};
+ghost use Rattle.std.specs.Prelude.{◌≡◌, ◌==◌, ◌<◌, ◌^◌, [], ◌∷◌, Some, true, MatchOption, IfSome, length, option_copied, position};
 ghost use Rattle.std.specs.List.{after_first, before_first};
 ghost use Rattle.refutation.specs.Reading.{pieces, pieces_left};
 
@@ -96,6 +96,23 @@ impl<'a> Words<'a> {
                 self.rest = None;
                 Some(text)
             }
+        }
+    }
+
+    // The text that is left, where something is.
+    pub(crate) fn left(&self) -> Option<&'a [u8]>
+        ensures { pieces_left 32 (option_copied result) ≡ self.now }
+    {
+        self.rest
+    }
+
+    // Whether the words are those of a text, as far as that is told by the bytes alone.
+    pub(crate) fn are_of(&self, text: &[u8]) -> bool
+        ensures { result ≡ true → self.now ≡ pieces 32 text.now }
+    {
+        match self.rest {
+            Some(rest) => rest == text,
+            None => false,
         }
     }
 

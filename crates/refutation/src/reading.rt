@@ -1,10 +1,11 @@
-ghost use Rattle.std.specs.Prelude.{◌≡◌, ◌+◌, ◌<◌, ◌≤◌, ◌^◌, ◌++◌, [], None, Some, MatchBool, MatchOption, All, IfOk, bytes_eq, codes, length, map, option_map};
+ghost use Rattle.std.specs.Prelude.{◌≡◌, ◌+◌, ◌<◌, ◌≤◌, ◌^◌, ◌++◌, [], None, Some, MatchBool, MatchOption, All, IfOk, IfSome, bytes_eq, codes, length, map, option_map};
 ghost use Rattle.std.specs.List.{after_first, before_first};
 ghost use Rattle.cov_model.specs.Tuples.{IsRising};
 ghost use Rattle.definitions.specs.Laws.{IsOmissionOf};
 ghost use Rattle.definitions.specs.ProofText.{is_colon_word, is_rising, omissions_of, read_each, read_format, read_lines, read_omission, read_pair, read_token};
 ghost use Rattle.refutation.specs.Checking.{AreOfModel};
 ghost use Rattle.refutation.specs.Proofs.{format_of, meant, omission_meant};
+ghost use Rattle.refutation.specs.Repeats.{IsReadTree};
 ghost use Rattle.refutation.specs.Reading.{Gives, LacksTree, LacksTuple, ReadsTree, ReadsTuple, omissions_meant, pieces, proof_meant};
 
 use crate::cutting::{Words, most_pieces, split_once};
@@ -19,6 +20,13 @@ use value_text::NoMemory;
 
 // The fewest bytes of the line of an omission, as `omit 0=0 : N`.
 const LEAST_LINE: usize = 12;
+
+// A tree that was read, with its text.
+#[derive(Drop)]
+struct ReadTree<'l> {
+    text: &'l [u8],
+    tree: TreeBuf,
+}
 
 // Whether a word is the one that begins the line of an omission.
 fn is_omit(word: &[u8]) -> bool
@@ -115,7 +123,7 @@ impl<'a> Spelling<'a> {
     }
 
     // Reads a tree: one or more tokens.
-    fn read_tree(&self, alloc: Global, words: &mut Words) -> Result<Option<TreeBuf>, NoMemory>
+    fn read_new_tree(&self, alloc: Global, words: &mut Words) -> Result<Option<TreeBuf>, NoMemory>
         ensures { IfOk result (λ read. MatchOption read (LacksTree self.now.model (format_of self.now.form) words.old)
             (λ tree. ReadsTree self.now.model (format_of self.now.form) words.old (map meant tree))) }
     {
@@ -129,9 +137,62 @@ impl<'a> Spelling<'a> {
         Ok(Some(tree))
     }
 
-    // Reads the line of an omission.
-    fn read_omission(&self, alloc: Global, line: &[u8]) -> Result<Option<Omission>, NoMemory>
-        ensures { IfOk result (λ read. option_map omission_meant read ≡ read_omission self.now.model (format_of self.now.form) line.now) }
+    // A copy of the tree before, where the words are its own.
+    fn copy_tree(
+        &self,
+        alloc: Global,
+        words: &Words,
+        before: &Option<ReadTree<'_>>,
+    ) -> Result<Option<TreeBuf>, NoMemory>
+        requires { IfSome before.now (IsReadTree self.now) }
+        ensures { IfOk result (λ copy. IfSome copy (λ tree. ReadsTree self.now.model (format_of self.now.form) words.now (map meant tree))) }
+    {
+        let Some(known) = before else {
+            return Ok(None);
+        };
+        if !words.are_of(known.text) {
+            return Ok(None);
+        }
+        let tree = TreeBuf::copy_of(alloc, known.tree.as_slice())?;
+        Ok(Some(tree))
+    }
+
+    // The same, given the tree before: most trees of a proof are that of the line before.
+    fn read_tree<'l>(
+        &self,
+        alloc: Global,
+        words: &mut Words<'l>,
+        before: &mut Option<ReadTree<'l>>,
+    ) -> Result<Option<TreeBuf>, NoMemory>
+        requires { IfSome before.old (IsReadTree self.now) }
+        ensures read { IfOk result (λ read. MatchOption read (LacksTree self.now.model (format_of self.now.form) words.old)
+            (λ tree. ReadsTree self.now.model (format_of self.now.form) words.old (map meant tree))) }
+        ensures before { IfOk result (λ read. IfSome before.new (IsReadTree self.now)) }
+    {
+        if let Some(tree) = self.copy_tree(alloc, words, before)? {
+            return Ok(Some(tree));
+        }
+        let left = words.left();
+        let Some(tree) = self.read_new_tree(alloc, words)? else {
+            return Ok(None);
+        };
+        if let Some(text) = left {
+            let copy = TreeBuf::copy_of(alloc, tree.as_slice())?;
+            *before = Some(ReadTree { text, tree: copy });
+        }
+        Ok(Some(tree))
+    }
+
+    // Reads the line of an omission, given the tree before.
+    fn read_omission<'l>(
+        &self,
+        alloc: Global,
+        line: &'l [u8],
+        before: &mut Option<ReadTree<'l>>,
+    ) -> Result<Option<Omission>, NoMemory>
+        requires { IfSome before.old (IsReadTree self.now) }
+        ensures read { IfOk result (λ read. option_map omission_meant read ≡ read_omission self.now.model (format_of self.now.form) line.now) }
+        ensures before { IfOk result (λ read. IfSome before.new (IsReadTree self.now)) }
     {
         let mut words = Words::of(line);
         let Some(word) = words.next() else {
@@ -143,7 +204,7 @@ impl<'a> Spelling<'a> {
         let Some(tuple) = self.read_tuple(alloc, &mut words)? else {
             return Ok(None);
         };
-        let Some(tree) = self.read_tree(alloc, &mut words)? else {
+        let Some(tree) = self.read_tree(alloc, &mut words, before)? else {
             return Ok(None);
         };
         Ok(Some(Omission { tuple, tree }))
@@ -160,8 +221,9 @@ impl<'a> Spelling<'a> {
         let mut proof = Omissions::with_room(alloc, self.form(), most)?;
         let mut rest = bytes;
         let mut line = 2;
+        let mut before = None;
         while let Some((text, behind)) = split_once(rest, b'\n') {
-            let Some(omission) = self.read_omission(alloc, text)? else {
+            let Some(omission) = self.read_omission(alloc, text, &mut before)? else {
                 return Err(ProofFault::Line(line));
             };
             proof.push(omission)?;

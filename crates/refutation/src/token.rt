@@ -60,6 +60,14 @@ impl TreeBuf {
         Ok(TreeBuf { tokens })
     }
 
+    // A copy of some tokens.
+    pub(crate) fn copy_of(alloc: Global, tokens: &[TreeToken]) -> Result<Self, NoMemory>
+        ensures { IfOk result (λ tree. tree ≡ tokens.now) }
+    {
+        let tokens = SmallVec::from_slice(alloc, tokens)?;
+        Ok(TreeBuf { tokens })
+    }
+
     /// The number of tokens. Takes no memory.
     pub fn len(&self) -> usize
         ensures { result ≡ length self.now }

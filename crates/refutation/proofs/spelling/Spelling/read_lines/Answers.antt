@@ -11,7 +11,7 @@ pub returns-in_default-2-clause-read : goal.returns-in_default-2-clause-read
 returns-in_default-2-clause-read c =
     c.loop-text.invariant.read
     ∙ lines_stop c.args.self.now.model (format_of c.args.self.now.form) c.loop-text.line (omissions_meant c.loop-text.proof.omissions) c.in-Some.text.now
-    c.loop-text.rest.now c.in-Some.behind.now c.in-Some.ensures.pieces (sym c.in_ok-omission.ensures ∙ ap (option_map omission_meant) c.in_default-2.is)
+    c.loop-text.rest.now c.in-Some.behind.now c.in-Some.ensures.pieces (sym c.in_ok-omission.ensures.read ∙ ap (option_map omission_meant) c.in_default-2.is)
 
 pub loop-text-preserved : goal.loop-text-preserved
 loop-text-preserved c =
@@ -19,7 +19,7 @@ loop-text-preserved c =
     let format = format_of c.args.self.now.form in
     let omission = c.in-Some-2.omission in
     let reads : read_omission m format c.in-Some.text.now ≡ Some (omission_meant omission) =
-    sym c.in_ok-omission.ensures ∙ ap (option_map omission_meant) c.in-Some-2.is in
+    sym c.in_ok-omission.ensures.read ∙ ap (option_map omission_meant) c.in-Some-2.is in
     let front : omissions_meant c.loop-text.proof.omissions ++ omission_meant omission ∷ [] ≡ omissions_meant c.push.new.self.omissions =
     sym (ap (λ (proof : _). omissions_meant proof.omissions) c.in_ok-push.ensures.ok ∙ map-append omission_meant c.loop-text.proof.omissions (omission ∷ [])) in
     record {
@@ -29,5 +29,6 @@ loop-text-preserved c =
           ∙ ap (λ omissions. with_omissions omissions (read_lines m format (c.loop-text.line + 1) (pieces 10 c.in-Some.behind.now))) front;
       form = ap (λ (proof : _). proof.form) c.in_ok-push.ensures.ok ∙ c.loop-text.invariant.form;
       counted = omega (arith, ap (λ (proof : _). length proof.omissions) c.in_ok-push.ensures.ok, length_push c.loop-text.proof.omissions omission);
+      before = c.in_ok-omission.ensures.before;
       within = omega (arith, c.in-Some.ensures.shorter);
     }
