@@ -20,20 +20,28 @@ pub(crate) fn no_scores(alloc: Global, count: usize) -> Result<Vec<u32>, NoMemor
     Ok(scores)
 }
 
-// Of a value found before and another one, the first, unless the other has the greater score. A
-// value without a score doesn't count.
-fn better_value(found: Option<ValueNo>, other: ValueNo, scores: &[u32]) -> Option<ValueNo>
-    requires found { IfSome found (λ v. v < length scores.now) }
+// Of a value found before, with its score, and another one, the first, unless the other has the greater
+// score. A value without a score doesn't count.
+#[inline]
+fn better_value(
+    found: (Option<ValueNo>, u32),
+    other: ValueNo,
+    scores: &[u32],
+) -> (Option<ValueNo>, u32)
+    requires within { IfSome found.0 (λ v. v < length scores.now) }
+    requires none { found.0 ≡ None → found.1 ≡ 0 }
+    requires some { IfSome found.0 (λ v. slice_index scores.now v ≡ found.1) }
     requires other { other < length scores.now }
-    ensures better { result ≡ better (λ v. slice_index scores.now v) found (if nat_lt 0 (slice_index scores.now other) then Some other else None) }
-    ensures within { IfSome result (λ v. v < length scores.now) }
+    ensures better { result.0 ≡ better (λ v. slice_index scores.now v) found.0 (if nat_lt 0 (slice_index scores.now other) then Some other else None) }
+    ensures within { IfSome result.0 (λ v. v < length scores.now) }
+    ensures none { result.0 ≡ None → result.1 ≡ 0 }
+    ensures some { IfSome result.0 (λ v. slice_index scores.now v ≡ result.1) }
 {
-    if scores[other as usize] == 0 {
-        return found;
-    }
-    match found {
-        Some(v) if scores[v as usize] >= scores[other as usize] => Some(v),
-        _ => Some(other),
+    let score = scores[other as usize];
+    if score > found.1 {
+        (Some(other), score)
+    } else {
+        found
     }
 }
 
@@ -43,11 +51,11 @@ fn best_value(order: &[ValueNo], scores: &[u32]) -> Option<ValueNo>
     ensures best { result ≡ best (λ v. slice_index scores.now v) order.now }
     ensures within { IfSome result (λ v. v < length scores.now) }
 {
-    let mut found = None;
+    let mut found = (None, 0);
     for v in order {
         found = better_value(found, *v, scores);
     }
-    found
+    found.0
 }
 
 // Gives a row, which has no value in the column, the first value by falling score that leaves it
