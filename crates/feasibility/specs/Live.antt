@@ -51,17 +51,20 @@ pub record ShowsListed (m : ModelView) (lists : List (List ℕ)) (sets : LiveVie
 abbrev pub EachHasOne : ModelView → List (Option ℕ) → List (List Bool) → Type 0
 EachHasOne m cells live = (q : ℕ) → q < length m.params → is_assigned cells q ≡ false → 0 < count_by (λ mark. mark) (slice_index_or live q [])
 
--- the values of a parameter below a number were looked at, and those taken away with which the constraint is No
-pub record NarrowedTo (m : ModelView) (k q n : ℕ) (cells : List (Option ℕ)) (old new : LiveView) : Type 0 where
-  pub below : (w : ℕ) → w < n → mark_at new.live q w ≡ (mark_at old.live q w && not (no_on m (with_value cells q w) k))
-  pub above : (w : ℕ) → n ≤ w → mark_at new.live q w ≡ mark_at old.live q w
+-- some values of a parameter were looked at, and those taken away with which the constraint is No
+pub record NarrowedBy (m : ModelView) (k q : ℕ) (done : List ℕ) (cells : List (Option ℕ)) (old new : LiveView) : Type 0 where
+  pub marks : (w : ℕ) → mark_at new.live q w ≡ (mark_at old.live q w && not (is_among done w && no_on m (with_value cells q w) k))
   pub others : (s : ℕ) → s ≢ q → slice_index_or new.live s [] ≡ slice_index_or old.live s []
   pub shape : HasShape m new.live
   pub since : IsSince old new
 
--- all of them
-abbrev pub Narrowed : ModelView → ℕ → ℕ → List (Option ℕ) → LiveView → LiveView → Type 0
-Narrowed m k q cells old new = NarrowedTo m k q (length (param_at m.params q).values) cells old new
+-- of all values those were taken away
+pub record Narrowed (m : ModelView) (k q : ℕ) (cells : List (Option ℕ)) (old new : LiveView) : Type 0 where
+  pub below : (w : ℕ) → w < length (param_at m.params q).values
+      → mark_at new.live q w ≡ (mark_at old.live q w && not (no_on m (with_value cells q w) k))
+  pub others : (s : ℕ) → s ≢ q → slice_index_or new.live s [] ≡ slice_index_or old.live s []
+  pub shape : HasShape m new.live
+  pub since : IsSince old new
 
 -- none of these constraints is No, the values are taken away with which one is, and each parameter without a
 -- value has one left

@@ -47,7 +47,19 @@ undecided_on m numbers cells = filter (λ k. not (is_yes (body_truth m (rule_at 
 abbrev pub undecided : ModelView → ℕ → ℕ → List ℕ
 undecided m p v = undecided_on m (naming m p) (with_value (no_values m) p v)
 
--- these by each of its values
+-- the values of a parameter that alone leave a constraint undecided
+abbrev pub doubtful : ModelView → BodyView → ℕ → List ℕ
+doubtful m body q = filter (λ w. not (is_yes (body_truth m body (with_value (no_values m) q w)))) (value_numbers m q)
+
+-- these by each parameter that the constraint of a number names
+abbrev pub doubtful_by : ModelView → ℕ → List (List ℕ)
+doubtful_by m k = map (doubtful m (rule_at m k).body) (members (length m.params) (rule_at m k).body)
+
+-- the same of each constraint
+abbrev pub all_doubtful : ModelView → List (List (List ℕ))
+all_doubtful m = map (doubtful_by m) (range_with_len 1 (length m.rules))
+
+-- the constraints that a parameter leaves undecided, by each of its values
 abbrev pub undecided_by : ModelView → ℕ → Constrained
 undecided_by m p = record { param = p; undecided = map (undecided m p) (value_numbers m p) }
 
@@ -77,7 +89,8 @@ pub record IsListed (lists : List (List ℕ)) (cells : List (Option ℕ)) : Type
   pub listed : (p : ℕ) → is_assigned cells p ≡ true → is_among (slice_index_or lists p []) (value_in cells p) ≡ true
 
 -- what a search has is of the model
-pub record IsTree (m : ModelView) (lists named : List (List ℕ)) (entries : List Constrained) : Type 0 where
+pub record IsTree (m : ModelView) (lists named : List (List ℕ)) (doubts : List (List (List ℕ))) (entries : List Constrained) : Type 0 where
   pub values : ListsValues m lists
   pub members : named ≡ all_members m
+  pub doubtful : doubts ≡ all_doubtful m
   pub constrained : entries ≡ all_constrained m

@@ -14,6 +14,7 @@ mod answered;
 mod closing;
 mod constrained;
 mod contained;
+mod doubtful;
 mod laws;
 mod members;
 mod named;

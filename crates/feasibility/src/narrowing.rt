@@ -1,12 +1,12 @@
 ghost use Rattle.std.specs.Prelude.{◌≡◌, ℕ, ◌+◌, ◌<◌, ◌≤◌, ◌∷◌, true, false, Some, None, [], length, not, slice_index_or, All, IfOk};
 ghost use Rattle.cov_model.specs.Fits.{FitsModel};
-ghost use Rattle.cov_model.specs.Sound.{param_at};
+ghost use Rattle.cov_model.specs.Sound.{param_at, rule_at};
 ghost use Rattle.cov_model.specs.Rows.{is_assigned};
 ghost use Rattle.definitions.specs.Completion.{with_value};
 ghost use Rattle.definitions.specs.Search.{constrained_params, is_failing};
 ghost use Rattle.live_sets.specs.Trail.{IsSince, mark_at};
-ghost use Rattle.feasibility.specs.Live.{AreRules, EachHasOne, HasShape, ListMarks, LookedAt, Narrowed, ShowsFailure, ShowsListed, ShowsLive, Stops, no_on};
-ghost use Rattle.feasibility.specs.Tree.{constrained_at, no_values};
+ghost use Rattle.feasibility.specs.Live.{AreRules, EachHasOne, HasShape, ListMarks, LookedAt, Narrowed, NarrowedBy, ShowsFailure, ShowsListed, ShowsLive, Stops, no_on};
+ghost use Rattle.feasibility.specs.Tree.{constrained_at, members, no_values};
 
 use crate::tree::SearchTree;
 use bit_table::BitTable;
@@ -73,10 +73,40 @@ impl<'a> SearchTree<'a> {
         broken
     }
 
-    // Takes the values of a parameter away with which the constraint is No.
-    fn narrow(&self, rule: u32, q: ParamNo, cells: &mut Cells, sets: &mut LiveSets)
+    // Takes a value away, if it is live and the constraint is No with it.
+    fn narrow_value(
+        &self,
+        rule: u32,
+        q: ParamNo,
+        w: ValueNo,
+        cells: &mut Cells,
+        sets: &mut LiveSets,
+    )
         requires first { 0 < rule }
         requires last { rule ≤ length self.now.model.rules }
+        requires parameter { q < length self.now.model.params }
+        requires value { w < length (param_at self.now.model.params q).values }
+        requires fits { FitsModel self.now.model cells.old }
+        requires free { is_assigned cells.old q ≡ false }
+        requires shape { HasShape self.now.model sets.old.live }
+        ensures narrowed { NarrowedBy self.now.model rule q (w ∷ []) cells.old sets.old sets.new }
+        ensures same { cells.new ≡ cells.old }
+    {
+        if !sets.is_live(q, w) {
+            return;
+        }
+        if self.is_no_with(rule, q, w, cells) {
+            sets.take_away(q, w);
+        }
+    }
+
+    // Takes the values of a parameter away with which the constraint is No: they are among those that
+    // alone leave it undecided. The parameter is the one at a place of those that it names.
+    fn narrow(&self, rule: u32, j: usize, q: ParamNo, cells: &mut Cells, sets: &mut LiveSets)
+        requires first { 0 < rule }
+        requires last { rule ≤ length self.now.model.rules }
+        requires place { j < length (members (length self.now.model.params) (rule_at self.now.model rule).body) }
+        requires named { q ≡ slice_index_or (members (length self.now.model.params) (rule_at self.now.model rule).body) j 0 }
         requires parameter { q < length self.now.model.params }
         requires fits { FitsModel self.now.model cells.old }
         requires free { is_assigned cells.old q ≡ false }
@@ -85,12 +115,8 @@ impl<'a> SearchTree<'a> {
         ensures same { cells.new ≡ cells.old }
     {
         self.assert_invariant();
-        let mut from = 0;
-        while let Some(w) = sets.next_live(q, from) {
-            if self.is_no_with(rule, q, w, cells) {
-                sets.take_away(q, w);
-            }
-            from = w + 1;
+        for w in self.doubtful_of(rule, j) {
+            self.narrow_value(rule, q, *w, cells, sets);
         }
     }
 
@@ -109,10 +135,11 @@ impl<'a> SearchTree<'a> {
         ensures same { cells.new ≡ cells.old }
     {
         let members = self.members_of(rule);
-        for q in members {
-            if cells.get(*q).is_none() {
-                self.narrow(rule, *q, cells, sets);
-                if sets.count(*q) == 0 {
+        for j in 0..members.len() {
+            let q = members[j];
+            if cells.get(q).is_none() {
+                self.narrow(rule, j, q, cells, sets);
+                if sets.count(q) == 0 {
                     return false;
                 }
             }

@@ -7,9 +7,10 @@ ghost use Rattle.definitions.specs.Completion.{preferred_values};
 ghost use Rattle.definitions.specs.Demand.{is_among};
 ghost use Rattle.definitions.specs.Search.{constrained_params};
 ghost use Rattle.definitions.specs.SliceRows.{IsSliceOf};
-ghost use Rattle.feasibility.specs.Tree.{ListsValues, constrained_at, members, undecided, undecided_by};
+ghost use Rattle.feasibility.specs.Tree.{ListsValues, constrained_at, doubtful, members, undecided, undecided_by};
 
 use crate::constrained::{Constrained, constrained_params};
+use crate::doubtful::all_doubtful;
 use crate::members::member_lists;
 use crate::values::preferred_lists;
 use compiled_rules::CompiledRules;
@@ -20,13 +21,14 @@ use std::marker::Model;
 use value_text::NoMemory;
 
 /// What a plain search looks at in each node: the values of each parameter in the order in which
-/// they are tried, the parameters that each constraint names, and the parameters that constraints
-/// name, with those that each value leaves undecided.
+/// they are tried, the parameters that each constraint names, with the values that alone leave it
+/// undecided, and the parameters that constraints name, with those that each value leaves undecided.
 #[derive(Drop)]
 pub struct SearchTree<'a> {
     rules: CompiledRules<'a>,
     values: PackedLists,
     members: PackedLists,
+    doubtful: Vec<PackedLists>,
     constrained: Vec<Constrained>,
 }
 
@@ -41,7 +43,7 @@ impl<'a> Model for SearchTree<'a> {
 
     ghost view = { λ a. record { model = a.rules; values = a.values } };
 
-    ghost invariant = { λ a. IsTree a.rules a.values a.members a.constrained.items };
+    ghost invariant = { λ a. IsTree a.rules a.values a.members a.doubtful.items a.constrained.items };
 }
 
 impl<'a> SearchTree<'a> {
@@ -59,11 +61,13 @@ impl<'a> SearchTree<'a> {
         let rules = CompiledRules::new(alloc, model)?;
         let values = preferred_lists(alloc, model, prefs, slice)?;
         let members = member_lists(alloc, model)?;
+        let doubtful = all_doubtful(alloc, &rules, &members)?;
         let constrained = constrained_params(alloc, &rules)?;
         Ok(SearchTree {
             rules,
             values,
             members,
+            doubtful,
             constrained,
         })
     }
@@ -116,6 +120,18 @@ impl<'a> SearchTree<'a> {
         ensures { result.now ≡ members (length self.now.model.params) (rule_at self.now.model rule).body }
     {
         self.members.list(rule as usize - 1)
+    }
+
+    // The values of the parameter at a place of these that alone leave the constraint undecided.
+    pub(crate) fn doubtful_of(&self, rule: u32, j: usize) -> &[ValueNo]
+        requires first { 0 < rule }
+        requires last { rule ≤ length self.now.model.rules }
+        requires place { j < length (members (length self.now.model.params) (rule_at self.now.model rule).body) }
+        ensures { result.now ≡ doubtful self.now.model (rule_at self.now.model rule).body
+            (slice_index_or (members (length self.now.model.params) (rule_at self.now.model rule).body) j 0) }
+    {
+        let lists = &self.doubtful[rule as usize - 1];
+        lists.list(j)
     }
 
     // How many parameters constraints name.

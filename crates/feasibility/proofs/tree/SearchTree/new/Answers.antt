@@ -9,5 +9,6 @@ invariant_of-result c = record {
       (subst (ListsValues c.args.model.now) (sym c.in_ok-values.ensures)
       (preferred_are_values c.args.model.now c.args.prefs.now c.args.slice c.requires.slice));
   members = c.in_ok-members.ensures ∙ ap all_members (sym c.in_ok-rules.ensures);
+  doubtful = c.in_ok-doubtful.ensures;
   constrained = c.in_ok-constrained.ensures;
 }
