@@ -28,7 +28,8 @@ use Rattle.cov_model.specs.declared.constraint.Term as terms
 use Rattle.cov_model.specs.declared.constraint.Term.TheVariants as term
 use Rattle.cov_model.specs.declared.demand.Demand.{Demand}
 use Rattle.cov_model.specs.declared.parameter.Param.{Param}
-use Rattle.type_check.specs.Checking.{body_terms, first_refusal, given_that, is_of_type, is_same_type, literal_of, numeric_at, param_named, term_refusal_or, rel_of, term_of, terms_in, terms_of, with_param}
+use Rattle.type_check.specs.Checking.{body_terms, first_refusal, given_that, is_of_type, is_same_type, literal_of, numeric_at, param_named}
+use Rattle.type_check.specs.Checking.{term_refusal_or, rel_of, term_of, terms_in, terms_of, with_param}
 use Rattle.type_check.specs.Constraints.{body_of, found_term, pred_of, preds_of}
 use Rattle.type_check.proofs.Refusals.{behind_none}
 use Rattle.constraint_ast.specs.declared.tree.RawLiteral.{RawLiteral}

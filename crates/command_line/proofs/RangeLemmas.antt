@@ -1,5 +1,6 @@
 -- What words set is in its ranges, and the marks differ.
-use Rattle.std.proofs.Common.{◌≡◌, ℕ, ◌+◌, ◌≤◌, ◌^◌, ◌-◌, inl, inr, arith, Bool, true, false, not, ◌&&◌, ◌||◌, cond, if◌then◌else◌, List, [], ◌∷◌, ◌++◌, length, Option, Some, None, refl, sym, ap, subst, ◌∙◌}
+use Rattle.std.proofs.Common.{◌≡◌, ℕ, ◌+◌, ◌≤◌, ◌^◌, ◌-◌, inl, inr, arith, Bool, true, false, not, ◌&&◌, ◌||◌, cond, if◌then◌else◌}
+use Rattle.std.proofs.Common.{List, [], ◌∷◌, ◌++◌, length, Option, Some, None, refl, sym, ap, subst, ◌∙◌}
 use Rattle.std.specs.Prelude.{option_map, codes, nat_le, ◌==◌}
 use Rattle.std.specs.List.{list_any, after_first}
 use Rattle.std.proofs.lemmas.Bool.{and_parts, eqb-false, leb-true, false≢true, cases_Bool, or_left, or_parts, or_right}
@@ -9,7 +10,9 @@ use Rattle.value_text.specs.Numbers.{count_of, is_digits}
 use Rattle.value_text.specs.Texts.{is_same_text}
 use Rattle.cov_model.specs.Names.{is_mark}
 use Rattle.model_lex.specs.Sections.{has_colon}
-use Rattle.definitions.specs.Settings.{OrderWord, OrderOf, OrderMax, Setting, Order, Separator, Alias, Prefix, SeedFile, ShuffleValues, ShuffleBy, AnyShuffle, CaseCounts, Statistics, Workers, Budget, ProofFile, ProofFormat, MeasureFile, Make, SuspectFile, Settings, set, setting_of, is_named, is_colon, valued_setting, bare_setting, mark_of, order_word_of, file_of}
+use Rattle.definitions.specs.Settings.{OrderWord, OrderOf, OrderMax, Setting, Order, Separator, Alias, Prefix, SeedFile, ShuffleValues, ShuffleBy, AnyShuffle}
+use Rattle.definitions.specs.Settings.{CaseCounts, Statistics, Workers, Budget, ProofFile, ProofFormat, MeasureFile, Make, SuspectFile, Settings, set}
+use Rattle.definitions.specs.Settings.{setting_of, is_named, is_colon, valued_setting, bare_setting, mark_of, order_word_of, file_of}
 use Rattle.definitions.specs.Words.{has_equal_marks, is_mark_word, set_by, is_faulty, first_faulty}
 use Rattle.model_parse.specs.RawModels.{AreMarks, IsOrder}
 use Rattle.command_line.specs.Ranges.{AreFit, AreWorkers}

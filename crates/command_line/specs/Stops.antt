@@ -11,14 +11,16 @@ use Rattle.tuple_index.specs.declared.fault.PlanFault.{PlanFault}
 use Rattle.tuple_index.specs.declared.fault.PlanFault.TheVariants.{TooManySets, TooManyTuples}
 use Rattle.tuple_index.specs.declared.fault.PlanFault.TheVariants as plan_faults
 use Rattle.definitions.specs.Limits as limits
-use Rattle.definitions.specs.Diagnostics.{bad_result_line, bytes_limit_line, cannot_read_line, cannot_write_line, cannot_write_report_line, count_limit_line, memory_line, model_line, no_column_line, no_header_line, no_result_line, spent_line, too_wide_line, two_columns_line, word_line}
+use Rattle.definitions.specs.Diagnostics.{bad_result_line, bytes_limit_line, cannot_read_line, cannot_write_line, cannot_write_report_line, count_limit_line, memory_line, model_line}
+use Rattle.definitions.specs.Diagnostics.{no_column_line, no_header_line, no_result_line, spent_line, too_wide_line, two_columns_line, word_line}
 use Rattle.command_line.specs.declared.stop.Stop.{Stop}
 use Rattle.row_text.specs.declared.rows_fault.RowsFault.{RowsFault}
 use Rattle.row_text.specs.declared.rows_fault.RowsFault.TheVariants.{NoHeader, Twice, Missing, TooManyRows, Width}
 use Rattle.row_text.specs.declared.rows_fault.RowsFault.TheVariants as rows_faults
 use Rattle.command_line.specs.declared.files.FileKind.{FileKind}
 use Rattle.command_line.specs.declared.files.FileKind.TheVariants as kinds
-use Rattle.command_line.specs.declared.stop.Stop.TheVariants.{OutOfMemory, Spent, BadWord, BadModel, BadConstraint, BadRows, NoResult, BadResult, CannotRead, CannotWrite, CannotWriteReport, TooMany, TooLong}
+use Rattle.command_line.specs.declared.stop.Stop.TheVariants.{OutOfMemory, Spent, BadWord, BadModel, BadConstraint, BadRows, NoResult, BadResult, CannotRead}
+use Rattle.command_line.specs.declared.stop.Stop.TheVariants.{CannotWrite, CannotWriteReport, TooMany, TooLong}
 use Rattle.command_line.specs.declared.stop.Quantity.{Quantity}
 use Rattle.command_line.specs.declared.stop.Quantity.TheVariants.{Part, DemandedSets, DemandedTuples, Rows, SuspectCandidates}
 

@@ -14,7 +14,8 @@ use Rattle.value_text.specs.declared.fixed.FixedAnswer.{FixedAnswer}
 use Rattle.value_text.specs.declared.fixed.FixedAnswer.TheVariants.{Number as IsNumber, NotNumber, TooWide}
 use Rattle.constraint_ast.specs.Grammar.{at, AreRules, most_open}
 use Rattle.constraint_ast.specs.Laws.{RuleTextReadsBack}
-use Rattle.constraint_ast.specs.Lexing.{both_tokens, inside, keyword_of, punctuation_of, meant, number_meant, or_code, relation_meant, relation_of, token_before, token_meant, tokens_in, tokens_of, Spell}
+use Rattle.constraint_ast.specs.Lexing.{both_tokens, inside, keyword_of, punctuation_of, meant, number_meant, or_code, relation_meant}
+use Rattle.constraint_ast.specs.Lexing.{relation_of, token_before, token_meant, tokens_in, tokens_of, Spell}
 use Rattle.constraint_ast.specs.RuleText.{body_tokens, rule_at, rule_text}
 use Rattle.constraint_ast.specs.Trees.{RuleTree}
 use Rattle.constraint_ast.specs.declared.token.LineToken.{LineToken}

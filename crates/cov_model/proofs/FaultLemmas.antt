@@ -1,5 +1,6 @@
 -- The first false constraint and the first two negative values.
-use Rattle.std.proofs.Common.{◌≡◌, ℕ, suc, ◌+◌, ◌-◌, ◌<◌, Bool, true, false, ◌&&◌, not, cond, List, [], ◌∷◌, ◌++◌, length, Option, Some, None, is_none, find, get_or, drop, nat_le, ◌∙◌, sym, ap, refl, arith, add-one}
+use Rattle.std.proofs.Common.{◌≡◌, ℕ, suc, ◌+◌, ◌-◌, ◌<◌, Bool, true, false, ◌&&◌, not, cond, List, [], ◌∷◌, ◌++◌, length, Option, Some}
+use Rattle.std.proofs.Common.{None, is_none, find, get_or, drop, nat_le, ◌∙◌, sym, ap, refl, arith, add-one}
 use Rattle.std.specs.Option.{option_to_list}
 use Rattle.std.specs.List.{filter, list_all, range_with_len}
 use Rattle.std.proofs.Math.Seq.{drop-cons}

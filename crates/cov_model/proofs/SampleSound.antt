@@ -1,5 +1,6 @@
 -- The model of the tests is sound, and which rows fit it.
-use Rattle.std.proofs.Common.{◌≡◌, ℕ, zero, suc, ◌+◌, ◌<◌, ◌≤◌, true, false, List, [], ◌∷◌, ◌++◌, length, get_or, AllPairs, Option, Some, None, IfSome, nat_lt, ◌&&◌, ◌∙◌, refl, sym, subst, ap, arith, codes}
+use Rattle.std.proofs.Common.{◌≡◌, ℕ, zero, suc, ◌+◌, ◌<◌, ◌≤◌, true, false, List, [], ◌∷◌, ◌++◌, length, get_or, AllPairs, Option}
+use Rattle.std.proofs.Common.{Some, None, IfSome, nat_lt, ◌&&◌, ◌∙◌, refl, sym, subst, ap, arith, codes}
 use Rattle.std.specs.Str.{chars}
 use Rattle.std.specs.List.{AllByRecursion}
 use Rattle.std.proofs.lemmas.Bool.{false≢true}

@@ -1,5 +1,6 @@
 -- The first completion of a partial row that meets a test, over plain lists.
-use Rattle.std.proofs.Common.{◌≡◌, ℕ, zero, suc, ◌<◌, Bool, true, false, ◌&&◌, ◌||◌, ◌==◌, cond, if◌then◌else◌, List, [], ◌∷◌, map, length, Option, Some, None, is_some, unwrap_or, find, get_or, set, ◌⊎◌, ◌∙◌, sym, ap, subst, refl, arith, inl, inr}
+use Rattle.std.proofs.Common.{◌≡◌, ℕ, zero, suc, ◌<◌, Bool, true, false, ◌&&◌, ◌||◌, ◌==◌, cond, if◌then◌else◌, List, [], ◌∷◌, map, length, Option}
+use Rattle.std.proofs.Common.{Some, None, is_some, unwrap_or, find, get_or, set, ◌⊎◌, ◌∙◌, sym, ap, subst, refl, arith, inl, inr}
 use Rattle.std.specs.Option.{option_or, option_map}
 use Rattle.std.specs.List.{filter, flat_map}
 use Rattle.std.proofs.lemmas.Bool.{false≢true, eqb-true, eq-eqb}

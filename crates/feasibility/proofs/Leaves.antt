@@ -1,5 +1,6 @@
 -- Which of the leaves that are possible on a path is the first.
-use Rattle.std.proofs.Common.{◌≡◌, ℕ, zero, suc, ◌+◌, ◌-◌, ◌<◌, ◌≤◌, Bool, true, false, ◌&&◌, ◌==◌, cond, List, [], ◌∷◌, ◌++◌, map, filter, find, take, drop, length, get_or, Option, Some, None, inl, inr, ◌∙◌, sym, ap, refl, arith, append-nil, eq-eqb}
+use Rattle.std.proofs.Common.{◌≡◌, ℕ, zero, suc, ◌+◌, ◌-◌, ◌<◌, ◌≤◌, Bool, true, false, ◌&&◌, ◌==◌, cond, List, [], ◌∷◌, ◌++◌, map, filter, find, take}
+use Rattle.std.proofs.Common.{drop, length, get_or, Option, Some, None, inl, inr, ◌∙◌, sym, ap, refl, arith, append-nil, eq-eqb}
 use Rattle.std.specs.List.{range_with_len}
 use Rattle.std.proofs.lemmas.Bool.{false≢true, and_parts, and_from, eqb-true, false_from_ne_true}
 use Rattle.std.specs.Option.{option_or}

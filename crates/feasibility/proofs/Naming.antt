@@ -1,5 +1,6 @@
 -- Which constraints name a parameter.
-use Rattle.std.proofs.Common.{◌≡◌, ℕ, ◌+◌, ◌<◌, ◌≤◌, Bool, true, false, not, ◌||◌, ◌==◌, cond, if◌then◌else◌, ◌++◌, List, [], ◌∷◌, map, take, length, append-nil, Option, is_some, unwrap_or, Some, None, get_or, All, ◌∙◌, sym, ap, subst, refl, arith, zero-add}
+use Rattle.std.proofs.Common.{◌≡◌, ℕ, ◌+◌, ◌<◌, ◌≤◌, Bool, true, false, not, ◌||◌, ◌==◌, cond, if◌then◌else◌, ◌++◌, List, [], ◌∷◌, map, take, length}
+use Rattle.std.proofs.Common.{append-nil, Option, is_some, unwrap_or, Some, None, get_or, All, ◌∙◌, sym, ap, subst, refl, arith, zero-add}
 use Rattle.std.specs.List.{filter, list_any, range_with_len}
 use Rattle.std.proofs.lemmas.Bool.{false_from_ne_true}
 use Rattle.std.proofs.lemmas.List.{get_or_default, take_more}

@@ -1,5 +1,6 @@
 -- Plain search finds the first completion that meets every constraint.
-use Rattle.std.proofs.Common.{◌≡◌, ◌≢◌, lt-ltb, eq-eqb, zero-add, ℕ, zero, suc, ◌+◌, ◌<◌, Bool, true, false, not, ◌&&◌, ◌||◌, ◌==◌, cond, if◌then◌else◌, List, [], ◌∷◌, length, Option, Some, None, is_some, unwrap_or, get_or, set, ◌⊎◌, ◌∙◌, sym, ap, subst, refl, arith, inl, inr}
+use Rattle.std.proofs.Common.{◌≡◌, ◌≢◌, lt-ltb, eq-eqb, zero-add, ℕ, zero, suc, ◌+◌, ◌<◌, Bool, true, false, not, ◌&&◌, ◌||◌, ◌==◌, cond, if◌then◌else◌, List, [], ◌∷◌}
+use Rattle.std.proofs.Common.{length, Option, Some, None, is_some, unwrap_or, get_or, set, ◌⊎◌, ◌∙◌, sym, ap, subst, refl, arith, inl, inr}
 use Rattle.std.specs.Option.{option_or}
 use Rattle.std.specs.List.{filter, list_any, list_all, range_with_len}
 use Rattle.std.proofs.lemmas.Bool.{false≢true, cases_lt, cases_eq, and_right, and_parts, and_from, or_parts, not-true, false_from_ne_true, eqb-true}
@@ -24,7 +25,8 @@ use Rattle.definitions.specs.Search.{Outcome, body_params, breaks_a_rule, is_no,
 pub use Rattle.definitions.proofs.Refuted.{contains-with as contains-with_value}
 use Rattle.feasibility.specs.Tree.{ListsValues, IsListed, is_named}
 use Rattle.feasibility.specs.Path.{filled, reached, reached_by}
-use Rattle.feasibility.proofs.Completing.{tried, tried_same, first_of, IsFree, Decided, first_of-branch, IsCompletion, first_of-none, CanBeFilled, filled_is_completion, first_of-filled, completion_contains, completion_length, completion_gives}
+use Rattle.feasibility.proofs.Completing.{tried, tried_same, first_of, IsFree, Decided, first_of-branch, IsCompletion, first_of-none, CanBeFilled}
+use Rattle.feasibility.proofs.Completing.{filled_is_completion, first_of-filled, completion_contains, completion_length, completion_gives}
 use Rattle.feasibility.proofs.Local.{AgreeOn, agree_each, local_body}
 
 -- a row on which every constraint holds contains no partial row on which some constraint is No

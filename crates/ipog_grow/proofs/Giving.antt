@@ -1,5 +1,6 @@
 -- The parameters that have a value in a tuple: only they count where a partial row is to agree with it.
-use Rattle.std.proofs.Common.{◌≡◌, ℕ, zero, suc, ◌+◌, ◌<◌, ◌≤◌, Bool, true, false, ◌&&◌, List, [], ◌∷◌, ◌++◌, length, take, drop, Option, Some, None, is_some, get_or, set, All, ◌∙◌, sym, ap, subst, refl, arith}
+use Rattle.std.proofs.Common.{◌≡◌, ℕ, zero, suc, ◌+◌, ◌<◌, ◌≤◌, Bool, true, false, ◌&&◌, List, [], ◌∷◌, ◌++◌, length, take, drop}
+use Rattle.std.proofs.Common.{Option, Some, None, is_some, get_or, set, All, ◌∙◌, sym, ap, subst, refl, arith}
 use Rattle.std.specs.List.{filter, list_all, range_with_len}
 use Rattle.std.proofs.lemmas.List.{append-nil, drop_all, take_more, take-set, length-set, get_or-set_same}
 use Rattle.std.proofs.lemmas.List.Elements.{All-filter, filter-append}

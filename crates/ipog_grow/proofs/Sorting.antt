@@ -1,5 +1,6 @@
 -- Seed rows that are asked one after another, and how runs of questions end.
-use Rattle.std.proofs.Common.{◌≡◌, ℕ, ◌+◌, ◌<◌, Bool, true, false, cond, not, nat_lt, List, [], ◌∷◌, ◌++◌, map, length, filter, find, take, drop, get_or, Option, Some, None, option_map, ◌∙◌, sym, ap, refl}
+use Rattle.std.proofs.Common.{◌≡◌, ℕ, ◌+◌, ◌<◌, Bool, true, false, cond, not, nat_lt, List, [], ◌∷◌, ◌++◌, map, length, filter}
+use Rattle.std.proofs.Common.{find, take, drop, get_or, Option, Some, None, option_map, ◌∙◌, sym, ap, refl}
 use Rattle.std.proofs.lemmas.List.{map-append, append_assoc, take_more, take-append-drop}
 use Rattle.std.proofs.lemmas.List.Elements.{filter-append}
 use Rattle.std.proofs.lemmas.Option.{none-some}

@@ -1,5 +1,6 @@
 -- Column by column: the columns not yet taken keep all their tuples open.
-use Rattle.std.proofs.Common.{◌≡◌, ◌≢◌, ℕ, ◌+◌, ◌<◌, ◌≤◌, Bool, true, false, ◌||◌, List, [], ◌∷◌, ◌++◌, map, length, drop, take, get_or, nat_eq, Option, Some, None, All, IsPermutation, ◌∙◌, sym, ap, subst, refl, arith, add-one, append_assoc}
+use Rattle.std.proofs.Common.{◌≡◌, ◌≢◌, ℕ, ◌+◌, ◌<◌, ◌≤◌, Bool, true, false, ◌||◌, List, [], ◌∷◌, ◌++◌, map, length, drop, take, get_or, nat_eq}
+use Rattle.std.proofs.Common.{Option, Some, None, All, IsPermutation, ◌∙◌, sym, ap, subst, refl, arith, add-one, append_assoc}
 use Rattle.std.specs.List.{range_with_len}
 use Rattle.std.proofs.lemmas.Bool.{false≢true}
 use Rattle.std.proofs.lemmas.List.FromFn.{length-range_with_len, get_or-range_with_len}

@@ -1,5 +1,6 @@
 -- The tuples of a slice, and the partial rows that grow from them: they have values of the slice.
-use Rattle.std.proofs.Common.{◌≡◌, ◌≢◌, ℕ, zero, suc, ◌+◌, ◌<◌, ◌≤◌, Bool, true, false, cond, ◌&&◌, ◌||◌, List, [], ◌∷◌, length, filter, Option, Some, None, is_some, unwrap_or, get_or, set, nat_eq, All, ◌∙◌, sym, ap, refl, arith, inl, inr, zero-add}
+use Rattle.std.proofs.Common.{◌≡◌, ◌≢◌, ℕ, zero, suc, ◌+◌, ◌<◌, ◌≤◌, Bool, true, false, cond, ◌&&◌, ◌||◌, List, [], ◌∷◌, length, filter, Option, Some}
+use Rattle.std.proofs.Common.{None, is_some, unwrap_or, get_or, set, nat_eq, All, ◌∙◌, sym, ap, refl, arith, inl, inr, zero-add}
 use Rattle.std.specs.List.{last_or, range_with_len}
 use Rattle.std.proofs.lemmas.Bool.{false≢true, cases_eq, not-true}
 use Rattle.std.proofs.lemmas.Bool.Decides.{nat_tests}

@@ -1,5 +1,6 @@
 -- Partial rows with an empty cell, and those that can't agree with a tuple.
-use Rattle.std.proofs.Common.{◌≡◌, ℕ, zero, suc, ◌+◌, ◌<◌, ◌≤◌, Bool, true, false, cond, ◌&&◌, ◌||◌, not, All, IfSome, List, [], ◌∷◌, ◌++◌, length, take, replicate, Option, Some, None, get_or, set, nat_eq, is_some, unwrap_or, ◌≢◌, ◌⊎◌, ◌∙◌, sym, ap, subst, refl, arith, inl, inr, length-append}
+use Rattle.std.proofs.Common.{◌≡◌, ℕ, zero, suc, ◌+◌, ◌<◌, ◌≤◌, Bool, true, false, cond, ◌&&◌, ◌||◌, not, All, IfSome, List, [], ◌∷◌, ◌++◌, length, take, replicate, Option}
+use Rattle.std.proofs.Common.{Some, None, get_or, set, nat_eq, is_some, unwrap_or, ◌≢◌, ◌⊎◌, ◌∙◌, sym, ap, subst, refl, arith, inl, inr, length-append}
 use Rattle.std.specs.List.{list_all}
 use Rattle.std.specs.Option.{option_map_or}
 use Rattle.std.proofs.lemmas.Bool.{false≢true, cases_eq, cases_lt, and_parts, and_right, or_from, or_parts}

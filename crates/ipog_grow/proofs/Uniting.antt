@@ -1,5 +1,6 @@
 -- Partial rows that agree and are united, place by place.
-use Rattle.std.proofs.Common.{◌≡◌, ℕ, ◌+◌, ◌<◌, ◌≤◌, Bool, true, cond, ◌&&◌, List, ◌∷◌, length, drop, Option, Some, None, is_some, get_or, set, nat_eq, ◌∙◌, sym, ap, refl, arith, inl, inr, add-one, drop-cons}
+use Rattle.std.proofs.Common.{◌≡◌, ℕ, ◌+◌, ◌<◌, ◌≤◌, Bool, true, cond, ◌&&◌, List, ◌∷◌, length, drop, Option, Some, None, is_some}
+use Rattle.std.proofs.Common.{get_or, set, nat_eq, ◌∙◌, sym, ap, refl, arith, inl, inr, add-one, drop-cons}
 use Rattle.std.proofs.lemmas.Bool.{cases_eq}
 use Rattle.std.proofs.lemmas.List.{length-set, get_or-set_same, get_or-set_other, same_lists, get_or_default}
 use Rattle.definitions.specs.Growth.{agrees, union}

@@ -1,5 +1,6 @@
 -- What questions are asked of a slice, and what their answers tell. (This project's rules.)
-use Rattle.std.specs.Prelude.{◌≡◌, ℕ, ◌<◌, Bool, true, List, [], ◌∷◌, ◌++◌, map, drop, slice_get, slice_index_or, slice_set, length, slice_index, if◌then◌else◌, All, Option, None, Some, Result, Ok, Err}
+use Rattle.std.specs.Prelude.{◌≡◌, ℕ, ◌<◌, Bool, true, List, [], ◌∷◌, ◌++◌, map, drop, slice_get, slice_index_or, slice_set}
+use Rattle.std.specs.Prelude.{length, slice_index, if◌then◌else◌, All, Option, None, Some, Result, Ok, Err}
 use Rattle.std.specs.List.{filter}
 use Rattle.cov_model.specs.declared.slice.Slice.{Slice}
 use Rattle.cov_model.specs.Sound.{ModelView, IsSound}

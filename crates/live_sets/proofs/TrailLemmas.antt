@@ -2,7 +2,8 @@
 use Rattle.std.proofs.Common.{◌≡◌, ℕ, ◌+◌, ◌<◌, ◌≤◌, Bool, true, false, List, [], ◌∷◌, ◌++◌, take, drop, length, get_or, set, cond, ◌∙◌, sym, ap, refl, arith, inl, inr, length-append}
 use Rattle.std.specs.List.{count_by}
 use Rattle.std.proofs.lemmas.Bool.{cases_lt}
-use Rattle.std.proofs.lemmas.List.{take_more, drop-append-le, take-append-le, take-append-drop, length-take, length-take-le, drop_all, take_all, set_past, set-set, get_or-set_same, get_or_default, set-get_or}
+use Rattle.std.proofs.lemmas.List.{take_more, drop-append-le, take-append-le, take-append-drop, length-take, length-take-le, drop_all}
+use Rattle.std.proofs.lemmas.List.{take_all, set_past, set-set, get_or-set_same, get_or_default, set-get_or}
 use Rattle.std.proofs.Math.Seq.{drop-append_seam}
 use Rattle.std.proofs.lemmas.List.Sums.{sum_by-set}
 use Rattle.live_sets.specs.declared.sets.Taken.{Taken}

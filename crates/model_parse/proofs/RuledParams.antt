@@ -25,7 +25,8 @@ use Rattle.model_lex.specs.declared.note.NoteCode.TheVariants.{RepeatedValueName
 use Rattle.model_lex.specs.declared.options.ModelOpts.{ModelOpts}
 use Rattle.model_parse.specs.declared.reading.ParamsRead.{ParamsRead}
 use Rattle.model_parse.specs.declared.reading.Reading.{Reading}
-use Rattle.model_parse.specs.ParamLines.{all_names, called_code, given, is_repeated, kept_names, kept_value, kept_values, line_name, line_pieces, notes_of, param_fault, param_of, params_of, piece_fault, place_named, values_code, values_of}
+use Rattle.model_parse.specs.ParamLines.{all_names, called_code, given, is_repeated, kept_names, kept_value, kept_values, line_name, line_pieces, notes_of}
+use Rattle.model_parse.specs.ParamLines.{param_fault, param_of, params_of, piece_fault, place_named, values_code, values_of}
 use Rattle.model_parse.specs.Pieces.{is_unfit}
 use Rattle.model_parse.specs.Rules.{above, bad_line, first_some, read_unless, with_earlier}
 use Rattle.model_parse.specs.Values.{is_reference, piece_code, referred, value_of}

@@ -1,5 +1,6 @@
 -- The demand that the group lines give is sound, and so is the raw model.
-use Rattle.std.proofs.Common.{◌≡◌, ◌≢◌, ℕ, ◌<◌, ◌≤◌, Bool, true, false, ◌&&◌, List, [], ◌∷◌, min, length, All, AllPairs, Option, Some, None, IfOk, position, refl, sym, ◌∙◌, subst, arith, ltb, leb, eqb}
+use Rattle.std.proofs.Common.{◌≡◌, ◌≢◌, ℕ, ◌<◌, ◌≤◌, Bool, true, false, ◌&&◌, List, [], ◌∷◌, min, length, All, AllPairs, Option}
+use Rattle.std.proofs.Common.{Some, None, IfOk, position, refl, sym, ◌∙◌, subst, arith, ltb, leb, eqb}
 use Rattle.std.proofs.lemmas.Bool.{and_parts, true≢false, ltb-false, leb-true, eq-eqb, cond_both}
 use Rattle.std.proofs.lemmas.Option.{cond_some}
 use Rattle.std.proofs.lemmas.List.{length-append}

@@ -1,5 +1,6 @@
 -- The values that a parameter line gives are sound, and their names are distinct.
-use Rattle.std.proofs.Common.{◌≡◌, ◌≢◌, ℕ, ◌<◌, Bool, true, false, cond, List, [], ◌∷◌, ◌++◌, map, length, get_or, All, AllPairs, Option, Some, None, Ok, IfOk, refl, sym, ◌∙◌, ap, subst, arith, flat_map, position, ltb, eqb}
+use Rattle.std.proofs.Common.{◌≡◌, ◌≢◌, ℕ, ◌<◌, Bool, true, false, cond, List, [], ◌∷◌, ◌++◌, map, length, get_or, All, AllPairs, Option}
+use Rattle.std.proofs.Common.{Some, None, Ok, IfOk, refl, sym, ◌∙◌, ap, subst, arith, flat_map, position, ltb, eqb}
 use Rattle.std.proofs.lemmas.Bool.{true≢false, false_from_ne_true, ltb-false, eqb-false, eqb-true, cond_both}
 use Rattle.std.proofs.lemmas.Grind.{flat_map-append}
 use Rattle.std.proofs.lemmas.List.{append-nil, nil_from_length, append_assoc, length-map, length-append, map-append, get_or-map}

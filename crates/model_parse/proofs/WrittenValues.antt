@@ -1,5 +1,6 @@
 -- A value as it is written, read again.
-use Rattle.std.proofs.Common.{◌≡◌, ◌≢◌, ℕ, ◌-◌, ◌^◌, ◌<◌, Bool, true, false, ◌||◌, if◌then◌else◌, List, [], ◌∷◌, ◌++◌, map, flat_map, length, get_or, All, None, refl, sym, ◌∙◌, ap, subst, arith, eqb, ltb, decimal}
+use Rattle.std.proofs.Common.{◌≡◌, ◌≢◌, ℕ, ◌-◌, ◌^◌, ◌<◌, Bool, true, false, ◌||◌, if◌then◌else◌, List, [], ◌∷◌, ◌++◌, map, flat_map}
+use Rattle.std.proofs.Common.{length, get_or, All, None, refl, sym, ◌∙◌, ap, subst, arith, eqb, ltb, decimal}
 use Rattle.std.proofs.lemmas.Bool.{ltb-true, or_from, and_parts, and_from, and_right, or_parts, ne_eqb, eq-eqb, lt-ltb, cond-true, cond-false, not_from_true, not-true}
 use Rattle.std.proofs.lemmas.Bool.Decides.{nat_tests}
 use Rattle.std.proofs.lemmas.Fmt.{decimal_is_IsNumeral}

@@ -1,5 +1,6 @@
 -- Tuples as pairs, as values of a set, and as partial rows.
-use Rattle.std.proofs.Common.{◌≡◌, ℕ, ◌+◌, ◌<◌, Bool, true, false, ◌||◌, cond, List, [], ◌∷◌, map, length, get_or, replicate, Option, Some, None, is_some, inl, inr, ◌∙◌, refl, sym, ap, arith, zero-add}
+use Rattle.std.proofs.Common.{◌≡◌, ℕ, ◌+◌, ◌<◌, Bool, true, false, ◌||◌, cond, List, [], ◌∷◌, map, length, get_or, replicate}
+use Rattle.std.proofs.Common.{Option, Some, None, is_some, inl, inr, ◌∙◌, refl, sym, ap, arith, zero-add}
 use Rattle.std.specs.Prelude.{◌==◌}
 use Rattle.std.specs.List.{count_by}
 use Rattle.std.proofs.lemmas.Bool.{and_from, cases_eq, cases_lt, eq-eqb, ne_eqb}

@@ -25,11 +25,13 @@ use Rattle.row_text.specs.declared.rows_fault.RowsFault.TheVariants as told_faul
 use Rattle.command_line.specs.Stops.{NamesView, status_of, stop_of_model, stop_of_plan, stop_of_rows}
 use Rattle.command_line.specs.Words.{opts_of, settings_in}
 use Rattle.command_line.specs.declared.stop.Stop.{Stop}
-use Rattle.command_line.specs.declared.stop.Stop.TheVariants.{OutOfMemory, Spent, BadWord, BadModel, BadConstraint, BadRows, NoResult, BadResult, CannotRead, CannotWrite, CannotWriteReport, TooMany, TooLong}
+use Rattle.command_line.specs.declared.stop.Stop.TheVariants.{OutOfMemory, Spent, BadWord, BadModel, BadConstraint, BadRows, NoResult, BadResult, CannotRead}
+use Rattle.command_line.specs.declared.stop.Stop.TheVariants.{CannotWrite, CannotWriteReport, TooMany, TooLong}
 use Rattle.command_line.specs.declared.files.FileKind.{FileKind}
 use Rattle.proof_check.specs.Checks.{IsCheckOf, Spells, verdict_given, report_of}
 use Rattle.proof_check.specs.RunSteps.{CountsOut, StopsBefore, cannot_read, is_before, is_refused, no_memory, stop_of_check}
-use Rattle.proof_check.specs.Runs.{AreRead, Ends, HasReadings, HasVerdict, HeldFiles, Inputs, IsRefusal, FilesAreRefused, IsStatus, IsTold, answer_status, answer_text, bad_model, bad_report, end_status, inputs_of, stop_of_report, too_many, unread, verdict_status}
+use Rattle.proof_check.specs.Runs.{AreRead, Ends, HasReadings, HasVerdict, HeldFiles, Inputs, IsRefusal, FilesAreRefused, IsStatus, IsTold, answer_status}
+use Rattle.proof_check.specs.Runs.{answer_text, bad_model, bad_report, end_status, inputs_of, stop_of_report, too_many, unread, verdict_status}
 use Rattle.proof_check.specs.Words.{asked_by, command_seen, names_in, names_seen, settings_seen}
 use Rattle.proof_check.specs.declared.verdict.Verdict.{Verdict}
 use Rattle.proof_check.specs.declared.verdict.Verdict.TheVariants.{Accepted, BadRow, BadProof, BadOmission, Uncovered}

@@ -1,5 +1,6 @@
 -- When a word of the checker has no reading between the others, and what the words so far set.
-use Rattle.std.proofs.Common.{◌≡◌, ℕ, ◌+◌, ◌<◌, Bool, true, false, not, ◌&&◌, ◌||◌, if◌then◌else◌, List, [], ◌∷◌, ◌++◌, take, drop, length, get_or, Ok, Option, Some, None, inl, inr, refl, sym, ap, ap₂, subst, ◌∙◌, arith}
+use Rattle.std.proofs.Common.{◌≡◌, ℕ, ◌+◌, ◌<◌, Bool, true, false, not, ◌&&◌, ◌||◌, if◌then◌else◌, List, [], ◌∷◌, ◌++◌, take, drop, length}
+use Rattle.std.proofs.Common.{get_or, Ok, Option, Some, None, inl, inr, refl, sym, ap, ap₂, subst, ◌∙◌, arith}
 use Rattle.std.specs.Prelude.{All, filter_map, ◌==◌, option_map}
 use Rattle.std.specs.List.{list_any}
 use Rattle.std.specs.Option.{option_map_or, option_or}
@@ -8,8 +9,10 @@ use Rattle.std.proofs.lemmas.List.{take_more, drop_more}
 use Rattle.std.proofs.lemmas.List.Elements.{All-cons, All-nil, All-append}
 use Rattle.std.proofs.lemmas.List.Folds.{list_any_none}
 use Rattle.value_text.proofs.ListLemmas.{option_or_parts}
-use Rattle.definitions.specs.Settings.{Setting, Order, Separator, Alias, Prefix, SeedFile, ShuffleValues, CaseCounts, Statistics, Workers, Budget, ProofFile, ProofFormat, MeasureFile, Make, SuspectFile, set, setting_of}
-use Rattle.definitions.specs.Words.{Command, excludes, exclude_each_other, is_mark_word, has_equal_marks, set_by, is_faulty, is_faulty_for_checker, is_of_checker, first_faulty, first_faulty_for_checker, missing_name, read_check_words}
+use Rattle.definitions.specs.Settings.{Setting, Order, Separator, Alias, Prefix, SeedFile, ShuffleValues, CaseCounts, Statistics, Workers, Budget}
+use Rattle.definitions.specs.Settings.{ProofFile, ProofFormat, MeasureFile, Make, SuspectFile, set, setting_of}
+use Rattle.definitions.specs.Words.{Command, excludes, exclude_each_other, is_mark_word, has_equal_marks, set_by, is_faulty, is_faulty_for_checker}
+use Rattle.definitions.specs.Words.{is_of_checker, first_faulty, first_faulty_for_checker, missing_name, read_check_words}
 use Rattle.command_line.specs.Ranges.{AreFit}
 use Rattle.command_line.proofs.RangeLemmas.{words_fit}
 use Rattle.command_line.proofs.WordLemmas.{command_read, set_by-push, settings-push, unfaulty}

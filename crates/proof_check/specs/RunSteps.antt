@@ -6,7 +6,8 @@ use Rattle.definitions.specs.Verdict.{verdict}
 use Rattle.model_lex.specs.declared.options.ModelOpts.{ModelOpts}
 use Rattle.command_line.specs.Stops.{stop_of_model, stop_of_plan, stop_of_rows}
 use Rattle.command_line.specs.declared.stop.Stop.{Stop}
-use Rattle.command_line.specs.declared.stop.Stop.TheVariants.{OutOfMemory, Spent, BadWord, BadModel, BadConstraint, BadRows, NoResult, BadResult, CannotRead, CannotWrite, CannotWriteReport, TooMany, TooLong}
+use Rattle.command_line.specs.declared.stop.Stop.TheVariants.{OutOfMemory, Spent, BadWord, BadModel, BadConstraint, BadRows, NoResult, BadResult, CannotRead}
+use Rattle.command_line.specs.declared.stop.Stop.TheVariants.{CannotWrite, CannotWriteReport, TooMany, TooLong}
 use Rattle.command_line.specs.declared.files.FileKind.{FileKind}
 use Rattle.proof_check.specs.Checks.{verdict_given}
 use Rattle.proof_check.specs.Runs.{HasReadings, HeldFiles, Inputs, FilesAreRefused, inputs_of}

@@ -15,7 +15,8 @@ ghost use Rattle.command_line.specs.Stops as stops;
 ghost use Rattle.command_line.specs.Told.{Tells};
 ghost use Rattle.command_line.specs.Words.{opts_of, texts};
 ghost use Rattle.proof_check.specs.RunSteps.{Answers, CountsOut, FitLimits, Reads, is_before, stop_of_check};
-ghost use Rattle.proof_check.specs.Runs.{AreRead, Ends, HasReadings, HasVerdict, HeldFiles, Holds, IsRefusal, FilesAreRefused, IsRun, IsStatus, IsTold, ReadFaults, ReadsRose, answer_text, end_status, end_text, inputs_of, verdict_status};
+ghost use Rattle.proof_check.specs.Runs.{AreRead, Ends, HasReadings, HasVerdict, HeldFiles, Holds, IsRefusal, FilesAreRefused, IsRun, IsStatus, IsTold};
+ghost use Rattle.proof_check.specs.Runs.{ReadFaults, ReadsRose, answer_text, end_status, end_text, inputs_of, verdict_status};
 ghost use Rattle.proof_check.specs.Words.{IsWordFault, asked_by, names_in, names_seen, settings_seen};
 
 use crate::check::check_bytes;

@@ -1,5 +1,6 @@
 -- How the columns of a header are read and checked.
-use Rattle.std.proofs.Common.{◌≡◌, ℕ, ◌+◌, ◌<◌, ◌≤◌, Bool, true, false, cond, List, [], ◌∷◌, ◌++◌, map, filter, length, get_or, set, take, inl, inr, All, Option, Some, None, is_none, position, find, nat_lt, refl, sym, ◌∙◌, ap, ap₂, arith, zero-add}
+use Rattle.std.proofs.Common.{◌≡◌, ℕ, ◌+◌, ◌<◌, ◌≤◌, Bool, true, false, cond, List, [], ◌∷◌, ◌++◌, map, filter, length, get_or, set, take, inl, inr, All}
+use Rattle.std.proofs.Common.{Option, Some, None, is_none, position, find, nat_lt, refl, sym, ◌∙◌, ap, ap₂, arith, zero-add}
 use Rattle.std.specs.Prelude.{◌==◌, IfSome, nat_eq}
 use Rattle.std.specs.List.{count_by, list_any, position_or_len, range_with_len, slice_get}
 use Rattle.std.proofs.lemmas.Bool.{cases_eq, cond-false, cond-true, eq-eqb, ltb-false, ltb-true, ne_eqb}

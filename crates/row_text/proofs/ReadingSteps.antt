@@ -1,5 +1,6 @@
 -- How a row file is read line by line, and what its checks find.
-use Rattle.std.proofs.Common.{◌≡◌, ℕ, suc, ◌<◌, ◌≤◌, Bool, true, not, List, [], ◌∷◌, ◌++◌, map, length, get_or, All, AllPairs, Option, Some, None, is_some, unwrap_or, Ok, Err, find, nat_lt, refl, sym, ◌∙◌, ap, ap₂, subst, arith, zero-add}
+use Rattle.std.proofs.Common.{◌≡◌, ℕ, suc, ◌<◌, ◌≤◌, Bool, true, not, List, [], ◌∷◌, ◌++◌, map, length, get_or, All, AllPairs, Option, Some, None}
+use Rattle.std.proofs.Common.{is_some, unwrap_or, Ok, Err, find, nat_lt, refl, sym, ◌∙◌, ap, ap₂, subst, arith, zero-add}
 use Rattle.std.specs.Prelude.{IfSome}
 use Rattle.std.specs.List.{flat_map, list_any}
 use Rattle.std.specs.Option.{option_or}
@@ -22,7 +23,8 @@ use Rattle.cov_model.proofs.CellLemmas.{assigned_within}
 use Rattle.definitions.specs.Limits.{Rows, most_counted}
 use Rattle.definitions.specs.RowFile.{cell_at, cells_of_line, columns_of, filled_lines, named_param, named_value, row_of_line}
 use Rattle.definitions.specs.RowReading as defined
-use Rattle.definitions.specs.RowReading.{RowReading, column_count, column_notes, count_fault, first_fault, missing_fault, read_numbered, read_rows, read_under, twice_fault, unless_fault, value_notes, width_fault}
+use Rattle.definitions.specs.RowReading.{RowReading, column_count, column_notes, count_fault, first_fault, missing_fault, read_numbered}
+use Rattle.definitions.specs.RowReading.{read_rows, read_under, twice_fault, unless_fault, value_notes, width_fault}
 use Rattle.definitions.proofs.Nothing.{none_found}
 use Rattle.model_lex.specs.Lines.{file_lines, without_mark}
 use Rattle.model_lex.specs.declared.note.Note.{Note}

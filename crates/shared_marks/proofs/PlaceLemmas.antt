@@ -1,5 +1,6 @@
 -- The places of the demanded tuples of a set, and which of them a row serves.
-use Rattle.std.proofs.Common.{inl, inr, ◌≡◌, ℕ, ◌+◌, ◌-◌, ◌<◌, ◌≤◌, Bool, true, false, ◌&&◌, ◌||◌, cond, ◌⊎◌, List, [], ◌∷◌, ◌++◌, map, length, get_or, take, Option, Some, None, ◌∙◌, refl, sym, ap, arith, zero-add}
+use Rattle.std.proofs.Common.{inl, inr, ◌≡◌, ℕ, ◌+◌, ◌-◌, ◌<◌, ◌≤◌, Bool, true, false, ◌&&◌, ◌||◌, cond, ◌⊎◌, List, [], ◌∷◌, ◌++◌, map}
+use Rattle.std.proofs.Common.{length, get_or, take, Option, Some, None, ◌∙◌, refl, sym, ap, arith, zero-add}
 use Rattle.std.specs.Prelude.{IfSome, nat_le, nat_lt, slice_get, sum}
 use Rattle.std.specs.List.{flat_map, range_with_len}
 use Rattle.std.specs.Option.{option_map, option_map_or}

@@ -1,5 +1,6 @@
 -- The values of a demanded tuple stand at their rank.
-use Rattle.std.proofs.Common.{inl, inr, ◌≡◌, ℕ, suc, ◌+◌, ◌*◌, ◌^◌, ◌<◌, ◌≤◌, Bool, true, false, ◌||◌, List, [], ◌∷◌, ◌++◌, length, get_or, Some, sum_by, ◌∙◌, refl, sym, subst, ap, arith, zero-add, length-append}
+use Rattle.std.proofs.Common.{inl, inr, ◌≡◌, ℕ, suc, ◌+◌, ◌*◌, ◌^◌, ◌<◌, ◌≤◌, Bool, true, false, ◌||◌, List, [], ◌∷◌, ◌++◌, length}
+use Rattle.std.proofs.Common.{get_or, Some, sum_by, ◌∙◌, refl, sym, subst, ap, arith, zero-add, length-append}
 use Rattle.std.specs.List.{flat_map}
 use Rattle.std.specs.Prelude.{sum, ◌==◌, slice_get, if◌then◌else◌}
 use Rattle.std.specs.Option.{option_map}
@@ -15,7 +16,8 @@ use Rattle.cov_model.specs.declared.slice.Slice.TheVariants.{Positive, Negative}
 use Rattle.definitions.specs.Demand.{is_among, tuples_of}
 use Rattle.tuple_index.specs.Kept.{IsKept}
 use Rattle.tuple_index.specs.Plan.{PlanView, plan_of, set_at, tuple_cells, IsChoice, are_values, is_negative, is_value, negative_count}
-use Rattle.tuple_index.specs.Places.{RisesFrom, values_in, negatives_of, value_lists, ways, place_of, place, negative_ways, ways_before, tuple_count, negative_lists, tuple_lists, start_of, slice_given, rank_of}
+use Rattle.tuple_index.specs.Places.{RisesFrom, values_in, negatives_of, value_lists, ways, place_of, place, negative_ways, ways_before}
+use Rattle.tuple_index.specs.Places.{tuple_count, negative_lists, tuple_lists, start_of, slice_given, rank_of}
 use Rattle.tuple_index.proofs.ListingLemmas.{apart_test, above_test, rises_lower}
 use Rattle.tuple_index.proofs.TupleLemmas.{among_more, tuples_of-lists}
 use Rattle.tuple_index.proofs.PlaceLemmas.{all_among, length-value_lists, length-flat_map_same, slice_get-append_left, slice_get-append_right, slice_get-pieces, slice_get-place_of, slice_get-place}

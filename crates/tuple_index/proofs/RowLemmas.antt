@@ -1,5 +1,6 @@
 -- Rows of sums of products.
-use Rattle.std.proofs.Common.{false, ◌≡◌, ℕ, zero, suc, ◌+◌, ◌*◌, ◌-◌, ◌<◌, ◌≤◌, ◌^◌, min, sum_by, replicate, List, [], ◌∷◌, ◌++◌, map, drop, length, get_or, ◌∙◌, refl, sym, subst, ap, arith, zero-add}
+use Rattle.std.proofs.Common.{false, ◌≡◌, ℕ, zero, suc, ◌+◌, ◌*◌, ◌-◌, ◌<◌, ◌≤◌, ◌^◌, min, sum_by, replicate, List, [], ◌∷◌}
+use Rattle.std.proofs.Common.{◌++◌, map, drop, length, get_or, ◌∙◌, refl, sym, subst, ap, arith, zero-add}
 use Rattle.std.specs.Prelude.{◌==◌, if◌then◌else◌}
 use Rattle.std.specs.List.{range_with_len}
 use Rattle.std.proofs.lemmas.Bool.Decides.{nat_tests}

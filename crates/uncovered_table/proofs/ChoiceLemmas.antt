@@ -1,5 +1,6 @@
 -- The tuples of a slice by their numbers: which of them cells contain.
-use Rattle.std.proofs.Common.{inl, inr, ◌≡◌, ℕ, zero, suc, ◌+◌, ◌<◌, ◌≤◌, Bool, true, false, ◌||◌, not, List, [], ◌∷◌, ◌++◌, Option, All, map, length, get_or, sum_by, ◌∙◌, refl, sym, subst, ap, arith, zero-add}
+use Rattle.std.proofs.Common.{inl, inr, ◌≡◌, ℕ, zero, suc, ◌+◌, ◌<◌, ◌≤◌, Bool, true, false, ◌||◌, not, List, [], ◌∷◌, ◌++◌, Option}
+use Rattle.std.proofs.Common.{All, map, length, get_or, sum_by, ◌∙◌, refl, sym, subst, ap, arith, zero-add}
 use Rattle.std.specs.Prelude.{◌==◌, take_while, if◌then◌else◌}
 use Rattle.std.specs.List.{filter, flat_map, list_any, range_with_len}
 use Rattle.std.proofs.lemmas.Bool.{cases_eq, cases_lt, false≢true, cases_Bool, eq-eqb}

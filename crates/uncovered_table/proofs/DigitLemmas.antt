@@ -1,5 +1,6 @@
 -- Numbers in mixed radix, and the choices of values that they number.
-use Rattle.std.proofs.Common.{inl, inr, ◌≡◌, ℕ, zero, suc, ◌+◌, ◌*◌, ◌<◌, ◌≤◌, Bool, true, false, ◌&&◌, List, [], ◌∷◌, Option, Some, None, map, length, get_or, drop, nat_lt, ◌∙◌, refl, sym, subst, ap, arith}
+use Rattle.std.proofs.Common.{inl, inr, ◌≡◌, ℕ, zero, suc, ◌+◌, ◌*◌, ◌<◌, ◌≤◌, Bool, true, false, ◌&&◌, List, [], ◌∷◌, Option, Some}
+use Rattle.std.proofs.Common.{None, map, length, get_or, drop, nat_lt, ◌∙◌, refl, sym, subst, ap, arith}
 use Rattle.std.specs.Prelude.{◌==◌, ◌/◌, ◌%◌, option_and_then, option_map, if◌then◌else◌}
 use Rattle.std.specs.Option.{option_map_or}
 use Rattle.std.proofs.lemmas.Bool.{and_right, cases_eq, cases_lt, cases_Bool, ne_eqb}

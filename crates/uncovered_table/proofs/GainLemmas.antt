@@ -1,5 +1,6 @@
 -- The tuples that cells contain, set by set: how many of them are open, and what closing them leaves.
-use Rattle.std.proofs.Common.{inl, inr, ◌≡◌, ℕ, zero, suc, ◌+◌, ◌-◌, ◌<◌, ◌≤◌, Bool, true, false, ◌&&◌, ◌||◌, not, List, [], ◌∷◌, Option, Some, None, All, map, length, get_or, sum_by, nat_lt, ◌∙◌, refl, sym, ap, arith, zero-add, length-append}
+use Rattle.std.proofs.Common.{inl, inr, ◌≡◌, ℕ, zero, suc, ◌+◌, ◌-◌, ◌<◌, ◌≤◌, Bool, true, false, ◌&&◌, ◌||◌, not, List, [], ◌∷◌, Option, Some, None}
+use Rattle.std.proofs.Common.{All, map, length, get_or, sum_by, nat_lt, ◌∙◌, refl, sym, ap, arith, zero-add, length-append}
 use Rattle.std.specs.Prelude.{◌==◌, option_map, slice_set, if◌then◌else◌}
 use Rattle.std.specs.Option.{option_map_or}
 use Rattle.std.specs.List.{filter, flat_map, list_any, range_with_len}

@@ -1,5 +1,6 @@
 -- Cells contain a tuple of a set exactly if they give its members their values.
-use Rattle.std.proofs.Common.{inl, inr, ◌≡◌, ℕ, zero, suc, ◌+◌, ◌<◌, ◌≤◌, ◌&&◌, List, [], ◌∷◌, Option, Some, None, map, length, get_or, drop, ◌∙◌, refl, sym, subst, ap, arith, zero-add, drop-cons, add-one}
+use Rattle.std.proofs.Common.{inl, inr, ◌≡◌, ℕ, zero, suc, ◌+◌, ◌<◌, ◌≤◌, ◌&&◌, List, [], ◌∷◌, Option, Some, None, map, length}
+use Rattle.std.proofs.Common.{get_or, drop, ◌∙◌, refl, sym, subst, ap, arith, zero-add, drop-cons, add-one}
 use Rattle.std.specs.Prelude.{◌==◌, if◌then◌else◌}
 use Rattle.std.specs.List.{range_with_len}
 use Rattle.std.proofs.lemmas.Bool.{cases_eq, eq-eqb}

@@ -1,5 +1,6 @@
 -- The next open tuple, set by set.
-use Rattle.std.proofs.Common.{inl, inr, ◌≡◌, ℕ, zero, suc, ◌+◌, ◌-◌, ◌^◌, ◌<◌, ◌≤◌, Bool, true, false, ◌&&◌, ◌||◌, List, [], ◌∷◌, Option, Some, None, map, length, get_or, drop, nat_lt, ◌∙◌, refl, sym, subst, ap, arith}
+use Rattle.std.proofs.Common.{inl, inr, ◌≡◌, ℕ, zero, suc, ◌+◌, ◌-◌, ◌^◌, ◌<◌, ◌≤◌, Bool, true, false, ◌&&◌, ◌||◌, List, [], ◌∷◌, Option}
+use Rattle.std.proofs.Common.{Some, None, map, length, get_or, drop, nat_lt, ◌∙◌, refl, sym, subst, ap, arith}
 use Rattle.std.specs.Prelude.{◌==◌, IfSome, find, nat_le, if◌then◌else◌}
 use Rattle.std.specs.List.{filter, flat_map, list_any, range_with_len}
 use Rattle.std.specs.List.Sorted.{IsNonDecreasingBy}

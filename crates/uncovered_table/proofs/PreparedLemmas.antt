@@ -1,5 +1,6 @@
 -- Sums of digits by their weights.
-use Rattle.std.proofs.Common.{◌≡◌, ℕ, ◌+◌, ◌*◌, ◌^◌, ◌<◌, ◌≤◌, Bool, true, false, cond, List, [], ◌∷◌, ◌++◌, Option, Some, None, drop, length, get_or, set, nat_eq, All, inl, inr, ◌∙◌, sym, ap, subst, refl, arith, add-one, drop-cons}
+use Rattle.std.proofs.Common.{◌≡◌, ℕ, ◌+◌, ◌*◌, ◌^◌, ◌<◌, ◌≤◌, Bool, true, false, cond, List, [], ◌∷◌, ◌++◌, Option, Some, None, drop, length}
+use Rattle.std.proofs.Common.{get_or, set, nat_eq, All, inl, inr, ◌∙◌, sym, ap, subst, refl, arith, add-one, drop-cons}
 use Rattle.std.specs.Prelude.{option_map}
 use Rattle.std.proofs.Math.Nat.{mul-le-mul}
 use Rattle.std.proofs.lemmas.List.{drop_all, get_or_past, get_or-set_same, get_or-set_other, length-set}

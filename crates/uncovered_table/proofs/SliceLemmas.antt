@@ -1,5 +1,6 @@
 -- The tuples of a set in a slice: how many they are and where they start.
-use Rattle.std.proofs.Common.{inl, inr, ◌≡◌, ℕ, zero, suc, ◌+◌, ◌*◌, ◌<◌, ◌≤◌, Bool, true, false, ◌||◌, not, List, [], ◌∷◌, ◌++◌, map, length, get_or, sum_by, ◌∙◌, refl, sym, subst, ap, arith, zero-add}
+use Rattle.std.proofs.Common.{inl, inr, ◌≡◌, ℕ, zero, suc, ◌+◌, ◌*◌, ◌<◌, ◌≤◌, Bool, true, false, ◌||◌, not, List, [], ◌∷◌, ◌++◌}
+use Rattle.std.proofs.Common.{map, length, get_or, sum_by, ◌∙◌, refl, sym, subst, ap, arith, zero-add}
 use Rattle.std.specs.Prelude.{◌==◌, take_while, if◌then◌else◌}
 use Rattle.std.specs.List.{filter, flat_map, range_with_len}
 use Rattle.std.proofs.lemmas.Bool.{cases_eq, false≢true, cases_Bool, eq-eqb}

@@ -1,5 +1,6 @@
 -- The tuples that cells contain with a value in a column.
-use Rattle.std.proofs.Common.{inl, inr, ◌≡◌, ℕ, zero, suc, ◌+◌, ◌-◌, ◌*◌, ◌<◌, ◌≤◌, Bool, true, false, ◌||◌, List, [], ◌∷◌, Option, Some, None, All, drop, length, filter, get_or, sum_by, ◌∙◌, refl, sym, subst, ap, arith, zero-add, add-one}
+use Rattle.std.proofs.Common.{inl, inr, ◌≡◌, ℕ, zero, suc, ◌+◌, ◌-◌, ◌*◌, ◌<◌, ◌≤◌, Bool, true, false, ◌||◌, List, [], ◌∷◌, Option, Some, None, All}
+use Rattle.std.proofs.Common.{drop, length, filter, get_or, sum_by, ◌∙◌, refl, sym, subst, ap, arith, zero-add, add-one}
 use Rattle.std.specs.Prelude.{◌==◌, IfSome, nat_lt, option_and_then, option_map, if◌then◌else◌}
 use Rattle.std.proofs.lemmas.Bool.{cases_Bool, cases_eq, false≢true}
 use Rattle.std.proofs.lemmas.Bool.Decides.{nat_tests}

@@ -1,5 +1,6 @@
 -- Where the tuples of a slice have their bits.
-use Rattle.std.specs.Prelude.{◌≡◌, ℕ, ◌+◌, ◌-◌, ◌<◌, ◌*◌, ◌&&◌, Bool, true, false, List, [], ◌∷◌, length, Option, Some, None, ◌==◌, find, nat_lt, option_and_then, option_map, slice_index_or, slice_set, if◌then◌else◌}
+use Rattle.std.specs.Prelude.{◌≡◌, ℕ, ◌+◌, ◌-◌, ◌<◌, ◌*◌, ◌&&◌, Bool, true, false, List, [], ◌∷◌, length, Option, Some, None, ◌==◌, find}
+use Rattle.std.specs.Prelude.{nat_lt, option_and_then, option_map, slice_index_or, slice_set, if◌then◌else◌}
 use Rattle.std.specs.List.{filter, flat_map, range_with_len}
 use Rattle.std.specs.Option.{option_or}
 use Rattle.cov_model.specs.declared.slice.Slice.{Slice}

@@ -12,7 +12,8 @@ use Rattle.command_line.specs.Words.{texts}
 use Rattle.proof_check.specs.RunSteps.{CountsOut}
 use Rattle.proof_check.specs.Runs.{AreRead, HasReadings, HasVerdict, Holds, IsRefusal, FilesAreRefused, IsRun, IsStatus, IsTold, ReadsRose, end_status, end_text, inputs_of, unread, verdict_status}
 use Rattle.proof_check.specs.Words.{command_seen}
-use Rattle.proof_check.proofs.RunEnds.{accepted_told, broken_told, complete_end, counts_stay, eight_is_end, for_asked, names_given, not_three, nothing_written, refusal_has_cause, refused_end, seven_is_end, status_known, verdict_is_end, verdict_told}
+use Rattle.proof_check.proofs.RunEnds.{accepted_told, broken_told, complete_end, counts_stay, eight_is_end, for_asked, names_given, not_three, nothing_written}
+use Rattle.proof_check.proofs.RunEnds.{refusal_has_cause, refused_end, seven_is_end, status_known, verdict_is_end, verdict_told}
 use Rattle.proof_check.proofs.WordLemmas.{command_fits}
 use Rattle.proof_check.proofs.run.run_check.Goals as goal
 

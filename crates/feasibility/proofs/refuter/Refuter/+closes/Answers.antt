@@ -1,4 +1,5 @@
-use Rattle.std.proofs.Common.{◌≡◌, ◌<◌, ◌+◌, ◌∷◌, ◌++◌, ◌∙◌, [], None, Some, is_some, if◌then◌else◌, Bool, ℕ, true, false, not, drop, find, get_or, length, map, set, refl, sym, ap, subst, arith, lt-ltb}
+use Rattle.std.proofs.Common.{◌≡◌, ◌<◌, ◌+◌, ◌∷◌, ◌++◌, ◌∙◌, [], None, Some, is_some, if◌then◌else◌, Bool, ℕ, true, false, not}
+use Rattle.std.proofs.Common.{drop, find, get_or, length, map, set, refl, sym, ap, subst, arith, lt-ltb}
 use Rattle.std.specs.Prelude.{nat_lt}
 use Rattle.std.specs.List.{range_with_len, sum_by}
 use Rattle.std.specs.Result.{OnOk}
