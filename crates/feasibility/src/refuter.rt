@@ -43,9 +43,21 @@ impl<'t> Model for Refuter<'t> {
 
     ghost coded = { Prim.hlevel (codes, tested.the_row.coded) };
 
-    ghost view = { λ a. record { model = a.tree.now.model; lists = a.tree.now.values; format = format_of a.omissions.now.form; earlier = earlier_tuples a.tree.now.model a.omissions.now; tuple = cells_of (length a.tree.now.model.params) a.tuple.now } };
+    ghost view = { λ a. record {
+      model = a.tree.now.model;
+      lists = a.tree.now.values;
+      format = format_of a.omissions.now.form;
+      earlier = earlier_tuples a.tree.now.model a.omissions.now;
+      tuple = cells_of (length a.tree.now.model.params) a.tuple.now;
+    } };
 
-    ghost invariant = { λ a. IsRefuter (record { model = a.tree.now.model; lists = a.tree.now.values; format = format_of a.omissions.now.form; earlier = earlier_tuples a.tree.now.model a.omissions.now; tuple = cells_of (length a.tree.now.model.params) a.tuple.now }) a.slice };
+    ghost invariant = { λ a. IsRefuter (record {
+      model = a.tree.now.model;
+      lists = a.tree.now.values;
+      format = format_of a.omissions.now.form;
+      earlier = earlier_tuples a.tree.now.model a.omissions.now;
+      tuple = cells_of (length a.tree.now.model.params) a.tuple.now;
+    }) a.slice };
 }
 
 // Whether a number is less than another, if there is another.
@@ -66,8 +78,20 @@ impl<'t> Refuter<'t> {
         tuple: &'t Tuple,
         omissions: &'t Omissions,
     ) -> Refuter<'t>
-        requires { IsRefuter (record { model = tree.now.model; lists = tree.now.values; format = format_of omissions.now.form; earlier = earlier_tuples tree.now.model omissions.now; tuple = cells_of (length tree.now.model.params) tuple.now }) slice }
-        ensures { result ≡ record { model = tree.now.model; lists = tree.now.values; format = format_of omissions.now.form; earlier = earlier_tuples tree.now.model omissions.now; tuple = cells_of (length tree.now.model.params) tuple.now } }
+        requires { IsRefuter (record {
+          model = tree.now.model;
+          lists = tree.now.values;
+          format = format_of omissions.now.form;
+          earlier = earlier_tuples tree.now.model omissions.now;
+          tuple = cells_of (length tree.now.model.params) tuple.now;
+        }) slice }
+        ensures { result ≡ record {
+          model = tree.now.model;
+          lists = tree.now.values;
+          format = format_of omissions.now.form;
+          earlier = earlier_tuples tree.now.model omissions.now;
+          tuple = cells_of (length tree.now.model.params) tuple.now;
+        } }
     {
         Refuter {
             tree,

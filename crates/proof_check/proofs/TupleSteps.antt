@@ -76,7 +76,12 @@ given_pairs (q ∷ set) (v ∷ values) p (suc n) rises long =
       | inr apart ↦
           ap (λ (b : Bool). pairs_from p (cond b (Some v) (value_given set values p) ∷ later)) (ne_eqb q p apart)
           ∙ ap (λ cell. pairs_from p (cell ∷ later)) (none_given (q + 1) (p + suc n) p set values rises.2 (omega (arith, rises.0)))
-          ∙ given_pairs (q ∷ set) (v ∷ values) (p + 1) n (omega (arith, rises.0, apart), omega (arith, rises.1), rises_wider (q + 1) (p + suc n) (q + 1) ((p + 1) + n) set (omega arith) (omega arith) rises.2) long
+          ∙ given_pairs (q ∷ set) (v ∷ values) (p + 1) n (
+            omega (arith, rises.0, apart),
+            omega
+                (arith, rises.1),
+            rises_wider (q + 1) (p + suc n) (q + 1) ((p + 1) + n) set (omega arith) (omega arith) rises.2,
+          ) long
     ]
   where
     later : List (Option ℕ)

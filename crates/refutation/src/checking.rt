@@ -75,7 +75,8 @@ impl<'a> TreeCheck<'a> {
         requires fits { FitsModel self.now.model path.old }
         requires part { contains path.old (tuple_in self.now) ≡ true }
         requires outside { outside ≡ is_negative_leaf self.now.model (tuple_in self.now) path.old }
-        ensures rest { MatchOption result (LacksTrees self.now (path.old ∷ []) (TreeToken.Branch p ∷ tokens.now)) (λ rest. BeginsWithTrees self.now (path.old ∷ []) (TreeToken.Branch p ∷ tokens.now) rest.now) }
+        ensures rest { MatchOption result (LacksTrees self.now (path.old ∷ []) (TreeToken.Branch p ∷ tokens.now))
+            (λ rest. BeginsWithTrees self.now (path.old ∷ []) (TreeToken.Branch p ∷ tokens.now) rest.now) }
         ensures same { OnSome result (path.new ≡ path.old) }
         ensures long { length path.new ≡ length path.old }
     {

@@ -222,7 +222,8 @@ pushing-more m slice column members before parts next left p weight step more st
         record {
           within = omega (arith, pushing.within);
           weight_is = weighed;
-          step_is = at_step ∙ ap (λ (b : Bool). cond b weight step) here ∙ pushing.weight_is ∙ sym (ap (step_of (own_values m slice) column) opened ∙ ap (λ (b : Bool). cond b (ways (own_values m slice) (drop left members)) (step_of (own_values m slice) column (drop left members))) here);
+          step_is = at_step ∙ ap (λ (b : Bool). cond b weight step) here ∙ pushing.weight_is ∙ sym (ap (step_of (own_values m slice) column) opened
+              ∙ ap (λ (b : Bool). cond b (ways (own_values m slice) (drop left members)) (step_of (own_values m slice) column (drop left members))) here);
           kept = ap (take (length before)) same ∙ pushing.kept;
           least = omega (arith, pushing.least, ap length same);
           few = omega (arith, pushing.few, ap length same, some);
@@ -230,7 +231,8 @@ pushing-more m slice column members before parts next left p weight step more st
           sums =
               λ digits.
               ap (λ list. sum_of digits (drop (length before) list)) same ∙ pushing.sums digits
-              ∙ sym (numbered digits ∙ ap (λ (b : Bool). joined (cond b (Some 0) (digits p)) (ways (own_values m slice) (drop left members)) (number_of (own_values m slice) (with_digit digits column 0) (drop left members))) here
+              ∙ sym (numbered digits ∙ ap (λ (b : Bool). joined (cond b (Some 0) (digits p))
+              (ways (own_values m slice) (drop left members)) (number_of (own_values m slice) (with_digit digits column 0) (drop left members))) here
               ∙ nothing (ways (own_values m slice) (drop left members)) (number_of (own_values m slice) (with_digit digits column 0) (drop left members)));
         }
     by_column false apart =
@@ -239,18 +241,21 @@ pushing-more m slice column members before parts next left p weight step more st
         record {
           within = omega (arith, pushing.within);
           weight_is = weighed;
-          step_is = at_step ∙ ap (λ (b : Bool). cond b weight step) apart ∙ pushing.step_is ∙ sym (ap (step_of (own_values m slice) column) opened ∙ ap (λ (b : Bool). cond b (ways (own_values m slice) (drop left members)) (step_of (own_values m slice) column (drop left members))) apart);
+          step_is = at_step ∙ ap (λ (b : Bool). cond b weight step) apart ∙ pushing.step_is ∙ sym (ap (step_of (own_values m slice) column) opened
+              ∙ ap (λ (b : Bool). cond b (ways (own_values m slice) (drop left members)) (step_of (own_values m slice) column (drop left members))) apart);
           kept = ap (take (length before)) longer ∙ take-append-le (length before) parts ((record { param = p; weight = weight }) ∷ []) pushing.least ∙ pushing.kept;
           least = omega (arith, pushing.least, size);
           few = omega (arith, pushing.few, size, some);
-          exist = λ all. subst (All (λ part. part.param < length m.params)) (sym longer) (All-append (λ part. part.param < length m.params) parts ((record { param = p; weight = weight }) ∷ []) (pushing.exist all) (All-cons (λ part. part.param < length m.params) (record { param = p; weight = weight }) [] own (All-nil (λ part. part.param < length m.params))));
+          exist = λ all. subst (All (λ part. part.param < length m.params)) (sym longer) (All-append (λ part. part.param < length m.params) parts ((record { param = p; weight = weight })
+              ∷ []) (pushing.exist all) (All-cons (λ part. part.param < length m.params) (record { param = p; weight = weight }) [] own (All-nil (λ part. part.param < length m.params))));
           sums =
               λ digits.
               ap (λ list. sum_of digits (drop (length before) list)) longer
               ∙ ap (sum_of digits) (drop-append-le (length before) parts ((record { param = p; weight = weight }) ∷ []) pushing.least)
               ∙ sum-push digits (drop (length before) parts) (record { param = p; weight = weight })
               ∙ ap (joined (digits p) weight) (pushing.sums digits) ∙ ap (λ w. joined (digits p) w (number_of (own_values m slice) (with_digit digits column 0) (drop left members))) pushing.weight_is
-              ∙ sym (numbered digits ∙ ap (λ (b : Bool). joined (cond b (Some 0) (digits p)) (ways (own_values m slice) (drop left members)) (number_of (own_values m slice) (with_digit digits column 0) (drop left members))) apart);
+              ∙ sym (numbered digits ∙ ap (λ (b : Bool). joined (cond b (Some 0) (digits p))
+              (ways (own_values m slice) (drop left members)) (number_of (own_values m slice) (with_digit digits column 0) (drop left members))) apart);
         }
 
 pub pushing-end : (m : ModelView) (slice : Slice) (column set : ℕ) (members : List ℕ) (before parts : List Part) (left weight step : ℕ) → left ≤ 0 → members ≡ set_at m set → length members ≤ 256
@@ -336,7 +341,8 @@ lines-push m slice column set sets line lines before parts are pushed begins end
       step = step;
       sums =
           λ digits.
-          ap (sum_of digits) (ap (λ n. take (line.end - n) (drop n parts)) begins ∙ take_all (line.end - length before) (drop (length before) parts) (omega (arith, ends, length-drop (length before) parts)))
+          ap (sum_of digits) (ap (λ n. take (line.end - n) (drop n parts)) begins
+          ∙ take_all (line.end - length before) (drop (length before) parts) (omega (arith, ends, length-drop (length before) parts)))
           ∙ pushed.sums digits;
     }
 
@@ -359,7 +365,8 @@ columns-more m slice p columns next made are put lines =
           λ q other within.
           elim (cases_lt q p) [
             | inl below ↦
-                subst (λ (c : ColumnLines). AreLines m slice q (sets_in_play m slice q) c.lines.items c.parts.items) (sym (get_or_append_left columns (made ∷ []) other q (omega (arith, below, are.many)))) (are.each q other below)
+                subst (λ (c : ColumnLines). AreLines m slice q (sets_in_play m slice q) c.lines.items c.parts.items)
+                (sym (get_or_append_left columns (made ∷ []) other q (omega (arith, below, are.many)))) (are.each q other below)
             | inr past ↦
                 let last : q ≡ p = omega (arith, past, within) in
                 let here : get_or (columns ++ made ∷ []) q other ≡ made = ap (λ n. get_or (columns ++ made ∷ []) n other) (last ∙ sym are.many) ∙ get_or-append_seam columns made [] other in

@@ -70,7 +70,8 @@ sum-word words mask i fits =
     let more = sum-more (common words mask) (64 * i) 64 in
     let here = ones-sum 64 (bit_and (slice_index words i) (slice_index mask i)) fits in
     let same = sum-same (λ j. common words mask (64 * i + j)) (bit_at (bit_and (slice_index words i) (slice_index mask i))) 64 (λ j within. at j within) in
-    ap (sum_to (common words mask)) split ∙ more ∙ (let e : sum_to (common words mask) (64 * i) + sum_to (λ j. common words mask (64 * i + j)) 64 ≡ sum_to (common words mask) (64 * i) + ones (bit_and (slice_index words i) (slice_index mask i)) = ap (λ n. sum_to (common words mask) (64 * i) + n) (same ∙ sym here) in e)
+    ap (sum_to (common words mask)) split ∙ more ∙ (let e : sum_to (common words mask) (64 * i) + sum_to (λ j. common words mask (64 * i + j)) 64
+    ≡ sum_to (common words mask) (64 * i) + ones (bit_and (slice_index words i) (slice_index mask i)) = ap (λ n. sum_to (common words mask) (64 * i) + n) (same ∙ sym here) in e)
   where
     at : (j : ℕ) → j < 64 → common words mask (64 * i + j) ≡ bit_at (bit_and (slice_index words i) (slice_index mask i)) j
     at j within =

@@ -184,8 +184,10 @@ impl<'a> SliceSets<'a> {
         requires k { k < length (sets_in_play self.now.model self.now.slice column) }
         requires own { set ≡ slice_index_or (sets_in_play self.now.model self.now.slice column) k 0 }
         requires lines { AreLines self.now.model self.now.slice column (sets_in_play self.now.model self.now.slice column) lines.now.lines.items lines.now.parts.items }
-        ensures value { (d : ℕ) → held_bit self.now.model self.now.slice (with_digit (cell_digit (own_values self.now.model self.now.slice) cells.now) column d) set ≡ option_map (λ line. line.first + d * line.step) result }
-        ensures within { IfSome result (λ line. (d : ℕ) → d < length (own_values self.now.model self.now.slice column) → line.first + d * line.step < length (slice_places self.now.model self.now.slice)) }
+        ensures value { (d : ℕ) → held_bit self.now.model self.now.slice (with_digit (cell_digit (own_values self.now.model self.now.slice) cells.now) column d) set
+            ≡ option_map (λ line. line.first + d * line.step) result }
+        ensures within { IfSome result (λ line. (d : ℕ) → d < length (own_values self.now.model self.now.slice column)
+            → line.first + d * line.step < length (slice_places self.now.model self.now.slice)) }
     {
         self.assert_invariant();
         let _ = cells;

@@ -16,4 +16,5 @@ returns-in_err-verdict-clause-read g c = λ kind e.
 
 pub returns-clause-ends : goal.returns-clause-ends
 returns-clause-ends g c = λ held holds.
-    printed_ends c.args.opts.now.opts held (g.O.Sink.written c.args.out.now) (g.O.Sink.written c.print.new.out) c.in_ok-verdict.verdict c.print.result (c.in_ok-verdict.ensures.answers held holds) c.print.ensures.prints
+    printed_ends c.args.opts.now.opts held (g.O.Sink.written c.args.out.now)
+    (g.O.Sink.written c.print.new.out) c.in_ok-verdict.verdict c.print.result (c.in_ok-verdict.ensures.answers held holds) c.print.ensures.prints

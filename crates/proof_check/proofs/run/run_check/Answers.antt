@@ -23,21 +23,24 @@ check-end-requires-after_bounds g c = λ _ _. command_fits (texts c.args.words.n
 pub returns-clause-certified : goal.returns-clause-certified
 returns-clause-certified g c = λ zero s held asked.
     for_asked (texts c.args.words.now) c.in-Ok.opts (λ opts names. Holds (g.F.Folder.file c.args.files.now) names held → HasReadings opts IsCertified held)
-    c.in-Ok.ensures asked (λ holds. accepted_told c.in-Ok.opts.opts held (g.O.Sink.written c.args.out.now) (g.O.Sink.written c.check-end.new.out) c.check-end.result c.status_of.result c.status_of.ensures zero (c.check-end.ensures.ends held holds))
+    c.in-Ok.ensures asked (λ holds. accepted_told c.in-Ok.opts.opts held (g.O.Sink.written c.args.out.now)
+    (g.O.Sink.written c.check-end.new.out) c.check-end.result c.status_of.result c.status_of.ensures zero (c.check-end.ensures.ends held holds))
 
 pub returns-clause-verdict : goal.returns-clause-verdict
 returns-clause-verdict g c = λ known s held asked.
     for_asked (texts c.args.words.now) c.in-Ok.opts
     (λ opts names. Holds (g.F.Folder.file c.args.files.now) names held
     → HasReadings opts (λ m lines proof. IsTold (g.O.Sink.written c.args.out.now) (g.O.Sink.written c.check-end.new.out) c.status_of.result (verdict m lines proof)) held)
-    c.in-Ok.ensures asked (λ holds. verdict_told c.in-Ok.opts.opts held (g.O.Sink.written c.args.out.now) (g.O.Sink.written c.check-end.new.out) c.check-end.result c.status_of.result c.status_of.ensures known (c.check-end.ensures.ends held holds))
+    c.in-Ok.ensures asked (λ holds. verdict_told c.in-Ok.opts.opts held (g.O.Sink.written c.args.out.now)
+    (g.O.Sink.written c.check-end.new.out) c.check-end.result c.status_of.result c.status_of.ensures known (c.check-end.ensures.ends held holds))
 
 pub returns-clause-broken : goal.returns-clause-broken
 returns-clause-broken g c = λ eight s held asked.
     for_asked (texts c.args.words.now) c.in-Ok.opts
     (λ opts names. Holds (g.F.Folder.file c.args.files.now) names held
     → HasReadings opts (λ m lines proof. Puts Failed (g.O.Sink.written c.args.out.now) (g.O.Sink.written c.check-end.new.out) (verdict_text (verdict m lines proof))) held)
-    c.in-Ok.ensures asked (λ holds. broken_told c.in-Ok.opts.opts held (g.O.Sink.written c.args.out.now) (g.O.Sink.written c.check-end.new.out) c.check-end.result c.check-end.ensures.before (sym c.status_of.ensures ∙ eight) (c.check-end.ensures.ends held holds))
+    c.in-Ok.ensures asked (λ holds. broken_told c.in-Ok.opts.opts held (g.O.Sink.written c.args.out.now)
+    (g.O.Sink.written c.check-end.new.out) c.check-end.result c.check-end.ensures.before (sym c.status_of.ensures ∙ eight) (c.check-end.ensures.ends held holds))
 
 pub returns-clause-complete : goal.returns-clause-complete
 returns-clause-complete g c = λ s held asked.
@@ -86,7 +89,8 @@ returns-clause-refusal g c = λ known s held asked.
     for_asked (texts c.args.words.now) c.in-Ok.opts
     (λ opts names. Holds (g.F.Folder.file c.args.files.now) names held → (stop : Stop) × FilesAreRefused opts held stop × (c.status_of.result ≡ status_of stop))
     c.in-Ok.ensures asked (λ holds.
-    let why = refusal_has_cause c.in-Ok.opts.opts held (g.O.Sink.written c.args.out.now) (g.O.Sink.written c.check-end.new.out) c.check-end.result (subst IsRefusal c.status_of.ensures known) (c.check-end.ensures.ends held holds) in
+    let why = refusal_has_cause c.in-Ok.opts.opts held (g.O.Sink.written c.args.out.now)
+    (g.O.Sink.written c.check-end.new.out) c.check-end.result (subst IsRefusal c.status_of.ensures known) (c.check-end.ensures.ends held holds) in
     (why.0, why.1, c.status_of.ensures ∙ why.2))
 
 pub returns-clause-run : goal.returns-clause-run
@@ -109,11 +113,13 @@ returns-clause-run g c = λ s asked.
     })
 
 pub returns-clause-read_words : goal.returns-clause-read_words
-returns-clause-read_words g c = λ s asked three. not_three (g.O.Sink.written c.args.out.now) (g.O.Sink.written c.check-end.new.out) c.check-end.result c.check-end.ensures.before (sym c.status_of.ensures ∙ three)
+returns-clause-read_words g c = λ s asked three. not_three (g.O.Sink.written c.args.out.now)
+    (g.O.Sink.written c.check-end.new.out) c.check-end.result c.check-end.ensures.before (sym c.status_of.ensures ∙ three)
 
 pub returns-clause-nothing : goal.returns-clause-nothing
 returns-clause-nothing g c = λ eight none.
-    nothing_written (g.O.Sink.written c.args.out.now) (g.O.Sink.written c.check-end.new.out) c.check-end.result c.check-end.ensures.before (λ e. eight (c.status_of.ensures ∙ e)) (λ known. none (subst HasVerdict (sym c.status_of.ensures) known))
+    nothing_written (g.O.Sink.written c.args.out.now) (g.O.Sink.written c.check-end.new.out) c.check-end.result c.check-end.ensures.before
+    (λ e. eight (c.status_of.ensures ∙ e)) (λ known. none (subst HasVerdict (sym c.status_of.ensures) known))
 
 pub returns-clause-silent : goal.returns-clause-silent
 returns-clause-silent g c = λ known. verdict_is_end c.check-end.result _ (subst HasVerdict c.status_of.ensures known) c.tell.ensures.silent
@@ -136,4 +142,5 @@ pub returns-clause-no_fault : goal.returns-clause-no_fault
 returns-clause-no_fault g c = λ eight. counts_stay c.check-end.result (λ e. eight (c.status_of.ensures ∙ e)) c.check-end.ensures.counts
 
 pub returns-clause-statuses : goal.returns-clause-statuses
-returns-clause-statuses g c = subst IsStatus (sym c.status_of.ensures) (status_known (g.O.Sink.written c.args.out.now) (g.O.Sink.written c.check-end.new.out) c.check-end.result c.check-end.ensures.before)
+returns-clause-statuses g c = subst IsStatus (sym c.status_of.ensures)
+    (status_known (g.O.Sink.written c.args.out.now) (g.O.Sink.written c.check-end.new.out) c.check-end.result c.check-end.ensures.before)

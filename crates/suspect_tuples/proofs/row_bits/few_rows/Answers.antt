@@ -32,7 +32,8 @@ loop-pair-preserved c =
     let i = c.loop-pair.pair-index in
     let pair = get_or tuple i (0, 0) in
     subst (AreMany giving) (sym (take_more tuple i (0, 0) c.loop-pair-test.true))
-    (All-push (λ p. is_many (rows_of giving p) ≡ true) _ pair c.loop-pair.invariant (ap is_many (sym c.rows_of.ensures ∙ ap option_copied c.in-Some-Many.is) ∙ ap (λ kept. is_many (Some kept)) c.in-Some-Many.field-0-is))
+    (All-push (λ p. is_many (rows_of giving p) ≡ true) _ pair c.loop-pair.invariant
+    (ap is_many (sym c.rows_of.ensures ∙ ap option_copied c.in-Some-Many.is) ∙ ap (λ kept. is_many (Some kept)) c.in-Some-Many.field-0-is))
 
 pub returns-clause-many : goal.returns-clause-many
 returns-clause-many c none =

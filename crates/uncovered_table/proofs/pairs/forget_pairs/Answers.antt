@@ -13,7 +13,8 @@ pub returns-in-Some-clause-own : goal.returns-in-Some-clause-own
 returns-in-Some-clause-own c =
     λ p play.
     let v = c.args.sets.now in
-    let found : Some c.in-Some.p ≡ Some p = sym c.in-Some.is ∙ c.play_column.ensures.value ∙ ap (λ w. play_column w.model w.slice c.args.set) c.sets.view_is ∙ play-own v.model v.slice p c.args.set play in
+    let found : Some c.in-Some.p ≡ Some p = sym c.in-Some.is ∙ c.play_column.ensures.value
+    ∙ ap (λ w. play_column w.model w.slice c.args.set) c.sets.view_is ∙ play-own v.model v.slice p c.args.set play in
     let same : c.in-Some.p ≡ p = cc in
     ap (λ n. get_or (slice_set c.args.columns.now.items c.in-Some.p None) n None) (sym same) ∙ forget-own c.args.columns.now.items c.in-Some.p
 

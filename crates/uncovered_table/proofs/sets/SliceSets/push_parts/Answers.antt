@@ -23,7 +23,8 @@ loop-left-preserved c =
     let p = get_or c.members-members.result.now (c.loop-left.left - 1) 0 in
     let inside : c.loop-left.left - 1 < length c.members-members.result.now = omega (arith, c.loop-left.invariant.within, c.loop-left-test.true) in
     let exists : p < length v.model.params = (let less = c.members-members.ensures.exist (c.loop-left.left - 1) 0 inside in omega (arith, less, ap (λ w. length w.model.params) c.self.view_is)) in
-    pushing-more v.model v.slice c.args.column c.members-members.result.now c.args.parts.now.items c.loop-left.parts.items c.push_part.new.parts.items c.loop-left.left p c.loop-left.weight c.loop-left.step
+    pushing-more v.model v.slice c.args.column c.members-members.result.now c.args.parts.now.items
+    c.loop-left.parts.items c.push_part.new.parts.items c.loop-left.left p c.loop-left.weight c.loop-left.step
     (c.loop-left.weight * c.value_count-weight.result) c.step_at-step.result c.loop-left-test.true c.loop-left.invariant refl exists c.in_ok-push_part.ensures c.step_at-step.ensures
     (ap (λ n. c.loop-left.weight * n) (c.value_count-weight.ensures ∙ ap (λ w. length (own_values w.model w.slice p)) c.self.view_is))
 
