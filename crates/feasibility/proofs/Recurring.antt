@@ -1,6 +1,6 @@
 -- A question goes as another one that gives the parameters which constraints name the same values.
-use Rattle.std.proofs.Common.{◌≡◌, ℕ, ◌-◌, ◌<◌, ◌≤◌, Bool, true, false, not, ◌&&◌, ◌||◌, List, [], ◌∷◌, length, replicate, Option}
-use Rattle.std.proofs.Common.{Some, None, is_some, get_or, ◌∙◌, sym, ap, subst, refl, arith, inl, inr}
+use Rattle.std.proofs.Common.{◌≡◌, ℕ, ◌-◌, ◌<◌, ◌≤◌, Bool, true, false, not, ◌&&◌, ◌||◌, List, [], ◌∷◌, length, replicate}
+use Rattle.std.proofs.Common.{Option, Some, None, is_some, get_or, ◌∙◌, sym, ap, subst, refl, arith, inl, inr}
 use Rattle.std.specs.List.{list_any}
 use Rattle.std.proofs.lemmas.Bool.{false≢true, cases_Bool, cases_eq, cases_lt, and_right, or_left}
 use Rattle.std.proofs.lemmas.List.Elements.{All-get_or, All-replicate, All-set}

@@ -17,7 +17,7 @@ use value_text::NoMemory;
 
 // How many answered questions a solver keeps where few parameters are named by constraints, so that
 // questions recur: a prime number, by which their places differ.
-const MANY_PLACES: usize = 2039;
+const MANY_PLACES: usize = 251;
 
 // How many parameters are few.
 const FEW_NAMED: usize = 12;
