@@ -5,6 +5,9 @@ ghost use Rattle.shared_marks.specs.Adding.{Marks, are_behind, is_in_words, is_o
 
 use crate::table::{MarkSeat, SharedMarks, WORD_BITS};
 
+/// The fewest words in which bits are gathered: each bit of a word waits for the one before.
+const FEWEST_WORDS: usize = 4;
+
 // Sets the bit of a place in words.
 fn put_bit(words: &mut [u64], place: usize)
     requires { place / 64 < length words.old }
@@ -92,7 +95,7 @@ impl SharedMarks {
         ensures { Marks (are_behind base ranks.now) seat.old seat.new }
     {
         let needed = (base as usize % WORD_BITS + size as usize) / WORD_BITS + 1;
-        if needed > words.len() {
+        if needed < FEWEST_WORDS || needed > words.len() {
             return self.mark_each(seat, base, ranks);
         }
         self.mark_gathered(seat, base, ranks, &mut words[..needed]);
