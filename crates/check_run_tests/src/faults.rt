@@ -1,8 +1,13 @@
 //! Folders and sinks that fail.
 
 use crate::runs::{ACCEPTED, FILES, Given, MODEL, PROOF, REPORT, ends_as, on_files};
+use outside_io::{FileHeld, FileList, SureFolder, SureSink};
+use proof_check::run_check_without_faults;
 use std::alloc::Global;
+use std::test::Fail;
 use std::thread::Threads;
+use test_runs::words_of;
+use value_text::{NoMemory, OwnedList, Text};
 
 // The calls of the folder that fail, and the line.
 const READS: &[(&[u64], &str)] = &[
@@ -73,4 +78,34 @@ fn a_fault_of_standard_error_changes_nothing(rt: HostRuntime) {
         ..on_files(FILES)
     };
     assert!(rt; ends_as(&rt, rt.alloc(), &given, 7, "", "error: cann"));
+}
+
+// A folder that never fails, with the model in the file `m`; every other name reads as no bytes.
+fn folder_of(alloc: Global) -> Result<SureFolder, NoMemory> {
+    let mut bytes = OwnedList::new(alloc);
+    for byte in MODEL {
+        bytes.push(*byte)?;
+    }
+    let name = Text::copy(alloc, "m")?;
+    let mut files = FileList::new(alloc);
+    files.push(FileHeld { name, bytes })?;
+    Ok(SureFolder::new(files))
+}
+
+#[test]
+fn refuses_an_empty_report_where_nothing_fails(rt: HostRuntime) -> Result<(), Fail> {
+    let mut folder = folder_of(rt.alloc())?;
+    let mut out = SureSink::new();
+    let mut told = SureSink::new();
+    let words = words_of(rt.alloc(), &["m", "r", "p"])?;
+    let status = run_check_without_faults(
+        &rt,
+        rt.alloc(),
+        words.as_slice(),
+        &mut folder,
+        &mut out,
+        &mut told,
+    );
+    assert!(rt; status == 6 && out.taken() == 0 && told.taken() > 0);
+    Ok(())
 }

@@ -1,7 +1,7 @@
 //! Folders and sinks that fail.
 
 use outside_io::{FileHeld, FileList, SureFolder, SureSink};
-use pict_cli::run_pict;
+use pict_cli::run_pict_without_faults;
 use std::alloc::Global;
 use std::test::Fail;
 use std::thread::Threads;
@@ -101,7 +101,7 @@ fn runs_where_nothing_fails(rt: HostRuntime) -> Result<(), Fail> {
     let mut out = SureSink::new();
     let mut told = SureSink::new();
     let words = words_of(rt.alloc(), &["m"])?;
-    let status = run_pict(
+    let status = run_pict_without_faults(
         &rt,
         rt.alloc(),
         words.as_slice(),
