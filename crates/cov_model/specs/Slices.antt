@@ -1,17 +1,18 @@
 -- The slices of a model: the positive one, and one for each negative value. (This project's rule.)
-use Rattle.std.specs.Prelude.{ℕ, not, List, [], ◌∷◌, map, length, Option, slice_set}
-use Rattle.std.specs.List.{filter, flat_map, range_with_len}
+use Rattle.std.specs.Prelude.{ℕ, not, List, [], ◌∷◌, map, Option, slice_set}
+use Rattle.std.specs.List.{filter, flat_map}
 use Rattle.cov_model.specs.declared.slice.Slice.{Slice}
 use Rattle.cov_model.specs.declared.slice.Slice.TheVariants.{Positive, Negative}
 use Rattle.cov_model.specs.Sound.{ModelView}
 use Rattle.cov_model.specs.Rows.{value_in}
 use Rattle.cov_model.specs.Meaning.{value_at}
 use Rattle.cov_model.specs.Sound.{param_at}
+use Rattle.cov_model.specs.Preference.{declared_order}
 use Rattle.cov_model.specs.Valid.{negatives, param_numbers}
 
 -- the numbers of the values of a parameter, of those that aren't negative, and of those that are
 abbrev pub value_numbers : ModelView → ℕ → List ℕ
-value_numbers m p = range_with_len 0 (length (param_at m.params p).values)
+value_numbers m p = declared_order (param_at m.params p).values
 
 abbrev pub positive_values : ModelView → ℕ → List ℕ
 positive_values m p = filter (λ v. not (value_at m p v).negative) (value_numbers m p)

@@ -81,7 +81,7 @@ pub row_told : (m : ModelView) (pref : List (List ℕ)) (one : KeptSolver) (solv
     → cond found 1 0 ≡ tally (is_found m pref one.slice) (cells ∷ [])
 row_told m pref one solver cells found sound orders is of same told =
     sym (ap (λ passes. length (cond passes (cells ∷ []) []))
-    ((plain_search_is_exact m pref one.slice cells sound (orders.as_many, orders.each) is.slice of).0
+    ((plain_search_is_exact m pref one.slice cells sound orders is.slice of).0
     ∙ sym (ap (λ (s : SolverView). is_extendable s.model s.slice cells) (same ∙ is.solver)) ∙ told) ∙ by_found found)
   where
     by_found : (b : Bool) → length (cond b (cells ∷ []) []) ≡ cond b 1 0

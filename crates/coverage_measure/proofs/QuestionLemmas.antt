@@ -48,7 +48,7 @@ is_question m pref set slice tuple sound orders is has =
     let own = slice_is m slice tuple (slice_exists m slice is) of.belongs in
     record {
       served =
-          (plain_search_is_exact m pref slice tuple sound (orders.as_many, orders.each) is (in_slice m set slice tuple is of)).0
+          (plain_search_is_exact m pref slice tuple sound orders is (in_slice m set slice tuple is of)).0
           ∙ ap (λ s. is_extendable m s tuple) (sym own.is) ∙ sym (servable_are_extendable m tuple sound own.few);
       own = own.is;
     }

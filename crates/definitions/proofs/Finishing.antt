@@ -13,7 +13,7 @@ use Rattle.definitions.specs.Demand.{is_among}
 use Rattle.definitions.specs.Completion.{completions, column_order, preferred_values, meets_rules, is_extendable, first_completion, has_slice, can_be_served}
 use Rattle.definitions.specs.Seeds.{distinct, kept_seeds, seed_rows}
 use Rattle.definitions.specs.Growth.{Grown, columns, tuples_in_play, is_of_slice, slice_growth}
-use Rattle.definitions.specs.Laws.{ArePreferences}
+use Rattle.cov_model.specs.Preference.{OrdersValues}
 use Rattle.definitions.proofs.Members.{Has, of_filter, has_given, of_given, any_member, of_any, all_pass, passes_all, of_find, find_some, among_has}
 use Rattle.definitions.proofs.Choices.{IsChoice, choice_completes, completion_is}
 use Rattle.definitions.proofs.SliceLemmas.{IsSlice}
@@ -41,7 +41,7 @@ completes m pref slice cells row first =
     record { is = record { choice = preferred_are_values m pref slice row chosen.choice; meets = found.1 }; contained = chosen.contained }
 
 -- and each extendable partial row has one
-pub extendable_completes : (m : ModelView) (pref : List (List ℕ)) (slice : Slice) (cells : List (Option ℕ)) → ArePreferences m pref → IsSlice m slice
+pub extendable_completes : (m : ModelView) (pref : List (List ℕ)) (slice : Slice) (cells : List (Option ℕ)) → OrdersValues m pref → IsSlice m slice
     → is_extendable m slice cells ≡ true
     → (row : List (Option ℕ)) × (first_completion m pref slice cells ≡ Some row)
 extendable_completes m pref slice cells orders is extends =
@@ -61,7 +61,7 @@ finished_row m pref slice rows row has =
     (completes m pref slice given.0 row given.2).is
 
 -- hold what the partial rows held
-pub finished_held : (m : ModelView) (pref : List (List ℕ)) (slice : Slice) (rows : List (List (Option ℕ))) (tuple : List (Option ℕ)) → ArePreferences m pref
+pub finished_held : (m : ModelView) (pref : List (List ℕ)) (slice : Slice) (rows : List (List (Option ℕ))) (tuple : List (Option ℕ)) → OrdersValues m pref
     → IsSlice m slice
     → list_all (is_extendable m slice) rows ≡ true → is_held rows tuple ≡ true → is_held (finished m pref slice rows) tuple ≡ true
 finished_held m pref slice rows tuple orders is all held =
@@ -120,7 +120,7 @@ pub record IsSliceGrowth (m : ModelView) (seeds : List (ℕ × List (Option ℕ)
   pub kept : (seed : List (Option ℕ)) → Has (seeds_of m seeds slice) seed → is_held grown.rows seed ≡ true
   pub few : length grown.rows ≤ length (seeds_of m seeds slice) + length (filter (is_extendable m slice) (met_in m slice))
 
-pub slice_grows : (m : ModelView) (pref : List (List ℕ)) (seeds : List (ℕ × List (Option ℕ))) (slice : Slice) → ArePreferences m pref → IsSlice m slice
+pub slice_grows : (m : ModelView) (pref : List (List ℕ)) (seeds : List (ℕ × List (Option ℕ))) (slice : Slice) → OrdersValues m pref → IsSlice m slice
     → IsSliceGrowth m seeds slice (slice_growth m pref seeds slice)
 slice_grows m pref seeds slice orders is =
     let grown = columns m pref slice (column_order m slice) (seeds_of m seeds slice) in

@@ -12,7 +12,7 @@ use Rattle.cov_model.proofs.CellLemmas.{length-slice_values}
 use Rattle.definitions.specs.Demand.{demanded_sets, demanded_tuples, tuples_in, tuples_of}
 use Rattle.definitions.specs.Completion.{has_slice, is_extendable}
 use Rattle.definitions.specs.Growth.{slice_growth, slices_growth, growth}
-use Rattle.definitions.specs.Laws.{ArePreferences}
+use Rattle.cov_model.specs.Preference.{OrdersValues}
 use Rattle.definitions.proofs.Members.{Has, of_map, has_flat, of_flat, has_filter, of_filter}
 use Rattle.definitions.proofs.Distinct.{NoRepeats, repeats_filter, repeats_range, repeats_map, repeats_flat}
 use Rattle.definitions.proofs.SliceLemmas.{IsSlice, is_slice, has_slices, slice_is, slice_of_is}
@@ -69,7 +69,7 @@ pub record IsGrownRow (m : ModelView) (pref : List (List ℕ)) (seeds : List (�
   pub is : IsSlice m slice
   pub row_of : IsSliceRow m slice row
 
-pub of_rows : (m : ModelView) (pref : List (List ℕ)) (seeds : List (ℕ × List (Option ℕ))) (row : List (Option ℕ)) → ArePreferences m pref
+pub of_rows : (m : ModelView) (pref : List (List ℕ)) (seeds : List (ℕ × List (Option ℕ))) (row : List (Option ℕ)) → OrdersValues m pref
     → Has (growth m pref seeds).rows row
     → IsGrownRow m pref seeds row
 of_rows m pref seeds row orders has =
@@ -120,7 +120,7 @@ pub record IsOmitted (m : ModelView) (tuple : List (Option ℕ)) : Type 0 where
   pub demanded : IsDemanded m tuple
   pub fails : is_extendable m (slice_of m tuple) tuple ≡ false
 
-pub of_omitted : (m : ModelView) (pref : List (List ℕ)) (seeds : List (ℕ × List (Option ℕ))) (tuple : List (Option ℕ)) → ArePreferences m pref
+pub of_omitted : (m : ModelView) (pref : List (List ℕ)) (seeds : List (ℕ × List (Option ℕ))) (tuple : List (Option ℕ)) → OrdersValues m pref
     → Has (growth m pref seeds).omitted tuple
     → IsOmitted m tuple
 of_omitted m pref seeds tuple orders has =
@@ -136,7 +136,7 @@ of_omitted m pref seeds tuple orders has =
       fails = ap (λ s. is_extendable m s tuple) of.is ∙ not-true (is_extendable m slice tuple) kept.1;
     }
 
-pub has_omitted : (m : ModelView) (pref : List (List ℕ)) (seeds : List (ℕ × List (Option ℕ))) (tuple : List (Option ℕ)) → IsSound m → ArePreferences m pref
+pub has_omitted : (m : ModelView) (pref : List (List ℕ)) (seeds : List (ℕ × List (Option ℕ))) (tuple : List (Option ℕ)) → IsSound m → OrdersValues m pref
     → IsOmitted m tuple
     → Has (growth m pref seeds).omitted tuple
 has_omitted m pref seeds tuple sound orders is =

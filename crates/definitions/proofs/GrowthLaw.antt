@@ -15,7 +15,8 @@ use Rattle.definitions.specs.Completion.{completions, meets_rules, is_extendable
 use Rattle.definitions.specs.Seeds.{is_same_row, kept_seeds}
 use Rattle.definitions.specs.Growth.{is_of_slice, growth}
 use Rattle.definitions.specs.Covering.{IsUnserved}
-use Rattle.definitions.specs.Laws.{ArePreferences, GrowthCovers, SuitesCover, SuitesHaveFewRows}
+use Rattle.definitions.specs.Laws.{GrowthCovers, SuitesCover, SuitesHaveFewRows}
+use Rattle.cov_model.specs.Preference.{OrdersValues}
 use Rattle.definitions.specs.Figures.{all_rows, is_served}
 use Rattle.definitions.proofs.Members.{Has, has_contained, contains_member, all_members, of_flat, has_filter, any_member, of_any}
 use Rattle.definitions.proofs.Distinct.{NoRepeats}
@@ -33,7 +34,7 @@ use Rattle.definitions.proofs.Grown.{slices_once, rows_of_slice, rows_by_slice, 
 any_of_member : {X : Type 0} (P : X → Type 0) (xs : List X) (x : X) → Has xs x → P x → Any P xs
 any_of_member P xs x has holds = let at = contains_member xs x has in (at.0, x, at.1, at.2, holds)
 
-grown_valid : (m : ModelView) (pref : List (List ℕ)) (seeds : List (ℕ × List (Option ℕ))) → ArePreferences m pref
+grown_valid : (m : ModelView) (pref : List (List ℕ)) (seeds : List (ℕ × List (Option ℕ))) → OrdersValues m pref
     → All (λ row. is_valid m row ≡ true) (growth m pref seeds).rows
 grown_valid m pref seeds orders =
     all_members (λ row. is_valid m row ≡ true) (growth m pref seeds).rows (λ row has.
@@ -55,7 +56,7 @@ unservable m tuple is none = record {
 }
 
 -- an extendable tuple is served by a row of the suite
-extendable_served : (m : ModelView) (pref : List (List ℕ)) (seeds : List (ℕ × List (Option ℕ))) (tuple : List (Option ℕ)) → IsSound m → ArePreferences m pref
+extendable_served : (m : ModelView) (pref : List (List ℕ)) (seeds : List (ℕ × List (Option ℕ))) (tuple : List (Option ℕ)) → IsSound m → OrdersValues m pref
     → IsDemanded m tuple
     → is_extendable m (slice_of m tuple) tuple ≡ true → Any (λ row. serves m row tuple ≡ true) (growth m pref seeds).rows
 extendable_served m pref seeds tuple sound orders is extends =
@@ -68,7 +69,7 @@ extendable_served m pref seeds tuple sound orders is extends =
     any_of_member (λ row. serves m row tuple ≡ true) (growth m pref seeds).rows holder.0 (has_rows m pref seeds slice holder.0 of holder.1)
     (choice_serves m holder.0 tuple row_of.choice holder.2 row_of.meets)
 
-grown_served : (m : ModelView) (pref : List (List ℕ)) (seeds : List (ℕ × List (Option ℕ))) (tuple : List (Option ℕ)) → IsSound m → ArePreferences m pref
+grown_served : (m : ModelView) (pref : List (List ℕ)) (seeds : List (ℕ × List (Option ℕ))) (tuple : List (Option ℕ)) → IsSound m → OrdersValues m pref
     → IsDemanded m tuple
     → Any (λ row. serves m row tuple ≡ true) (growth m pref seeds).rows ↔ (Contains (growth m pref seeds).omitted tuple → ⊥)
 grown_served m pref seeds tuple sound orders is = (
@@ -84,7 +85,7 @@ grown_served m pref seeds tuple sound orders is = (
 )
 
 -- each kept seed is in a row
-seed_kept : (m : ModelView) (pref : List (List ℕ)) (seeds : List (ℕ × List (Option ℕ))) (seed : List (Option ℕ)) → ArePreferences m pref
+seed_kept : (m : ModelView) (pref : List (List ℕ)) (seeds : List (ℕ × List (Option ℕ))) (seed : List (Option ℕ)) → OrdersValues m pref
     → Has (kept_seeds m seeds) seed
     → Any (λ row. contains row seed ≡ true) (growth m pref seeds).rows
 seed_kept m pref seeds seed orders has =
@@ -113,7 +114,7 @@ few_seeds m seeds =
 abbrev is_unlisted : ModelView → List (List ℕ) → List (ℕ × List (Option ℕ)) → List (Option ℕ) → Bool
 is_unlisted m pref seeds tuple = not (list_any (is_same_row tuple) (growth m pref seeds).omitted)
 
-extendable_unlisted : (m : ModelView) (pref : List (List ℕ)) (seeds : List (ℕ × List (Option ℕ))) (tuple : List (Option ℕ)) → ArePreferences m pref
+extendable_unlisted : (m : ModelView) (pref : List (List ℕ)) (seeds : List (ℕ × List (Option ℕ))) (tuple : List (Option ℕ)) → OrdersValues m pref
     → IsDemanded m tuple
     → is_extendable m (slice_of m tuple) tuple ≡ true → is_unlisted m pref seeds tuple ≡ true
 extendable_unlisted m pref seeds tuple orders is extends =
@@ -125,7 +126,7 @@ extendable_unlisted m pref seeds tuple orders is extends =
     false≢true (sym (ap (λ t. is_extendable m (slice_of m t) t) same ∙ omitted.fails) ∙ extends)))
 
 -- the extendable tuples that the slices meet are demanded tuples outside the omission list
-few_tuples : (m : ModelView) (pref : List (List ℕ)) (seeds : List (ℕ × List (Option ℕ))) → ArePreferences m pref
+few_tuples : (m : ModelView) (pref : List (List ℕ)) (seeds : List (ℕ × List (Option ℕ))) → OrdersValues m pref
     → sum_by (λ slice. count (is_extendable m slice) (met_in m slice)) (slices m) ≤ count (is_unlisted m pref seeds) (demanded_tuples m)
 few_tuples m pref seeds orders =
     let left = is_unlisted m pref seeds in
@@ -144,7 +145,7 @@ few_tuples m pref seeds orders =
     (λ set. count_flat left (tuples_in m set) (slices m)) in
     omega (arith, in_slice, swapped, whole)
 
-grown_few : (m : ModelView) (pref : List (List ℕ)) (seeds : List (ℕ × List (Option ℕ))) → ArePreferences m pref
+grown_few : (m : ModelView) (pref : List (List ℕ)) (seeds : List (ℕ × List (Option ℕ))) → OrdersValues m pref
     → length (growth m pref seeds).rows ≤ count (is_unlisted m pref seeds) (demanded_tuples m) + length (kept_seeds m seeds)
 grown_few m pref seeds orders =
     let whole = ap length (rows_by_slice m pref seeds (slices m)) in
@@ -167,7 +168,7 @@ between_slices m first second row other is_first is_second apart one two =
     let of_second = slice_is m second other is_second (row_in_slice m second other is_second two.choice) in
     apart (sym of_first.is ∙ ap (slice_of m) equal ∙ of_second.is))
 
-rows_apart : (m : ModelView) (pref : List (List ℕ)) (seeds : List (ℕ × List (Option ℕ))) (parts : List Slice) → ArePreferences m pref → NoRepeats parts
+rows_apart : (m : ModelView) (pref : List (List ℕ)) (seeds : List (ℕ × List (Option ℕ))) (parts : List Slice) → OrdersValues m pref → NoRepeats parts
     → ((slice : Slice) → Has parts slice → IsSlice m slice) → AreApart (flat_map (rows_of_slice m pref seeds) parts)
 rows_apart m pref seeds [] orders once is = tt
 rows_apart m pref seeds (slice ∷ parts) orders once is =
@@ -180,7 +181,7 @@ rows_apart m pref seeds (slice ∷ parts) orders once is =
     between_slices m slice found.0 row other (is slice (inl refl)) is_found (λ same. once.0 (subst (Has parts) (sym same) found.1)) (own.rows row here)
     ((slice_grows m pref seeds found.0 orders is_found).rows other found.2))
 
-grown_distinct : (m : ModelView) (pref : List (List ℕ)) (seeds : List (ℕ × List (Option ℕ))) → ArePreferences m pref
+grown_distinct : (m : ModelView) (pref : List (List ℕ)) (seeds : List (ℕ × List (Option ℕ))) → OrdersValues m pref
     → AllPairs (λ a b. is_same_row a b ≡ false) (growth m pref seeds).rows
 grown_distinct m pref seeds orders =
     apart_pairs (growth m pref seeds).rows
@@ -220,7 +221,7 @@ suites_cover m pref seeds sound orders = record {
 }
 
 -- a demanded tuple that isn't among the omitted ones is served by some row of the model
-unlisted_served : (m : ModelView) (pref : List (List ℕ)) (seeds : List (ℕ × List (Option ℕ))) (tuple : List (Option ℕ)) → IsSound m → ArePreferences m pref
+unlisted_served : (m : ModelView) (pref : List (List ℕ)) (seeds : List (ℕ × List (Option ℕ))) (tuple : List (Option ℕ)) → IsSound m → OrdersValues m pref
     → IsDemanded m tuple
     → is_unlisted m pref seeds tuple ≡ true → is_served m (all_rows m) tuple ≡ true
 unlisted_served m pref seeds tuple sound orders is unlisted =

@@ -17,7 +17,7 @@ use Rattle.definitions.specs.Demand.{is_among, choices, rising, demanded_sets, v
 use Rattle.definitions.specs.Completion.{column_order, is_extendable}
 use Rattle.definitions.specs.Seeds.{is_same_row}
 use Rattle.definitions.specs.Growth.{growth, sets_in_play, tuples_in_play}
-use Rattle.definitions.specs.Laws.{ArePreferences}
+use Rattle.cov_model.specs.Preference.{OrdersValues}
 use Rattle.definitions.proofs.SetOrder.{lex, sorted_in_order}
 use Rattle.definitions.proofs.Members.{Has, of_map, of_flat, has_filter, of_filter, among_has, of_among, same_answer}
 use Rattle.definitions.proofs.Distinct.{NoRepeats, repeats_filter, repeats_range, repeats_map, repeats_flat}
@@ -147,7 +147,7 @@ met_once m slice is =
     (λ p q tuple first second here there. one_column m slice p q tuple is here there) (order_once m slice)
 
 -- and omits none twice
-of_omitted_in : (m : ModelView) (pref : List (List ℕ)) (seeds : List (ℕ × List (Option ℕ))) (slice : Slice) (tuple : List (Option ℕ)) → ArePreferences m pref
+of_omitted_in : (m : ModelView) (pref : List (List ℕ)) (seeds : List (ℕ × List (Option ℕ))) (slice : Slice) (tuple : List (Option ℕ)) → OrdersValues m pref
     → IsSlice m slice
     → Has (omitted_in_slice m pref seeds slice) tuple → slice_of m tuple ≡ slice
 of_omitted_in m pref seeds slice tuple orders is has =
@@ -155,7 +155,7 @@ of_omitted_in m pref seeds slice tuple orders is has =
     let met = of_met m slice tuple (of_filter (λ tuple. not (is_extendable m slice tuple)) (met_in m slice) tuple left).0 in
     (slice_is m slice tuple is (tuple_is m met.set slice tuple is met.has).belongs).is
 
-omitted_repeats : (m : ModelView) (pref : List (List ℕ)) (seeds : List (ℕ × List (Option ℕ))) → ArePreferences m pref → NoRepeats (growth m pref seeds).omitted
+omitted_repeats : (m : ModelView) (pref : List (List ℕ)) (seeds : List (ℕ × List (Option ℕ))) → OrdersValues m pref → NoRepeats (growth m pref seeds).omitted
 omitted_repeats m pref seeds orders =
     subst NoRepeats (sym (omitted_by_slice m pref seeds (slices m)))
     (repeats_flat (omitted_in_slice m pref seeds) (slices m)
@@ -176,7 +176,7 @@ apart_of_once n (row ∷ rows) once long = (
   apart_of_once n rows once.1 (λ other has. long other (inr has)),
 )
 
-pub omitted_once : (m : ModelView) (pref : List (List ℕ)) (seeds : List (ℕ × List (Option ℕ))) → ArePreferences m pref
+pub omitted_once : (m : ModelView) (pref : List (List ℕ)) (seeds : List (ℕ × List (Option ℕ))) → OrdersValues m pref
     → AllPairs (λ a b. is_same_row a b ≡ false) (growth m pref seeds).omitted
 omitted_once m pref seeds orders =
     apart_pairs (growth m pref seeds).omitted

@@ -28,10 +28,13 @@ column_order m slice =
     falling (sum_by length (slice_values m slice)) (count_in m slice) (param_numbers m)
     ++ filter (λ p. count_in m slice p == 0) (param_numbers m)
 
--- each parameter's values in a slice, in preference order; the first list gives all its values so
+-- a parameter's values in a slice, in preference order; the lists give all its values so
+abbrev pub preferred_at : ModelView → List (List ℕ) → Slice → ℕ → List ℕ
+preferred_at m pref slice p = filter (is_among (slice_index_or (slice_values m slice) p [])) (slice_index_or pref p [])
+
+-- the same of each parameter
 abbrev pub preferred_values : ModelView → List (List ℕ) → Slice → List (List ℕ)
-preferred_values m pref slice =
-    map (λ p. filter (is_among (slice_index_or (slice_values m slice) p [])) (slice_index_or pref p [])) (param_numbers m)
+preferred_values m pref slice = map (preferred_at m pref slice) (param_numbers m)
 
 -- the cells with this value of a parameter
 abbrev pub with_value : List (Option ℕ) → ℕ → ℕ → List (Option ℕ)

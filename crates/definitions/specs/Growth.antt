@@ -116,9 +116,13 @@ column extends p values tuples rows =
     let settled = down extends tuples filled.rows in
     record { rows = settled.rows; omitted = settled.omitted; asked = filled.asked ++ settled.asked }
 
+-- the last parameter of a set in a column order is this one
+abbrev pub ends_with : List ℕ → ℕ → List ℕ → Bool
+ends_with order p set = option_map_or (λ q. q == p) (last_or None (filter (is_among set) order)) false
+
 -- the sets in play for a column: the demanded sets of which it is the last parameter in column order
 abbrev pub sets_in_play : ModelView → List ℕ → ℕ → List (List ℕ)
-sets_in_play m order p = filter (λ set. option_map_or (λ q. q == p) (last_or None (filter (is_among set) order)) false) (demanded_sets m)
+sets_in_play m order p = filter (ends_with order p) (demanded_sets m)
 
 -- their tuples in the slice, set by set; in a negative slice a set without its fixed parameter has none
 abbrev pub tuples_in_play : ModelView → Slice → ℕ → List (List (Option ℕ))
@@ -137,12 +141,16 @@ abbrev pub is_of_slice : ModelView → Slice → List (Option ℕ) → Bool
 is_of_slice m Positive cells = length (negatives m cells) == 0
 is_of_slice m (Negative q v) cells = is_among (negatives m cells) q && (value_in cells q == v)
 
--- a slice: it starts with its kept seeds, and after the last column each partial row becomes its first
--- completion, equal rows once
-abbrev pub slice_growth : ModelView → List (List ℕ) → List (ℕ × List (Option ℕ)) → Slice → Grown
-slice_growth m pref seeds slice =
-    let grown = columns m pref slice (column_order m slice) (filter (is_of_slice m slice) (kept_seeds m seeds)) in
+-- the columns of a slice from these partial rows; after the last column each partial row becomes its first completion,
+-- equal rows once
+abbrev pub slice_grown_from : ModelView → List (List ℕ) → Slice → List (List (Option ℕ)) → Grown
+slice_grown_from m pref slice rows =
+    let grown = columns m pref slice (column_order m slice) rows in
     record { rows = distinct (filter_map (first_completion m pref slice) grown.rows); omitted = grown.omitted; asked = grown.asked ++ grown.rows }
+
+-- a slice starts with its kept seeds
+abbrev pub slice_growth : ModelView → List (List ℕ) → List (ℕ × List (Option ℕ)) → Slice → Grown
+slice_growth m pref seeds slice = slice_grown_from m pref slice (filter (is_of_slice m slice) (kept_seeds m seeds))
 
 -- the slices in order
 abbrev pub slices_growth : ModelView → List (List ℕ) → List (ℕ × List (Option ℕ)) → List Slice → Grown

@@ -1,13 +1,14 @@
 -- What holds of the definitions together. (This project's rules.)
 use Rattle.std.specs.Prelude.{◌≡◌, ℕ, ◌+◌, ◌^◌, ◌<◌, ◌≤◌, ◌↔◌, ◌⊎◌, slice_index_or, true, false, not, List}
-use Rattle.std.specs.Prelude.{[], map, filter, length, Option, Ok, All, AllPairs, Contains, IsPermutation}
+use Rattle.std.specs.Prelude.{[], map, filter, length, Option, Ok, All, AllPairs, Contains}
 use Rattle.std.specs.List.{Any, list_any, enumerate_from}
 use Rattle.cov_model.specs.declared.slice.Slice.{Slice}
 use Rattle.cov_model.specs.Sound.{ModelView, IsSound, param_at}
 use Rattle.cov_model.specs.Rows.{contains, is_assigned, value_in}
 use Rattle.cov_model.specs.Tuples.{IsRising}
 use Rattle.cov_model.specs.Valid.{is_row, is_valid, serves}
-use Rattle.cov_model.specs.Slices.{slice_of, slice_values, value_numbers}
+use Rattle.cov_model.specs.Preference.{OrdersValues}
+use Rattle.cov_model.specs.Slices.{slice_of, slice_values}
 use Rattle.definitions.specs.Covering.{Covers, HasFewRows, IsUnserved}
 use Rattle.definitions.specs.Demand.{demanded_tuples}
 use Rattle.definitions.specs.Report.{report_text}
@@ -98,10 +99,6 @@ abbrev pub ServableAreExtendable : Type 0
 ServableAreExtendable = (m : ModelView) (tuple : List (Option ℕ)) → IsSound m → has_slice m tuple ≡ true
     → is_served m (all_rows m) tuple ≡ is_extendable m (slice_of m tuple) tuple
 
--- the lists are the values of each parameter in some order
-abbrev pub ArePreferences : ModelView → List (List ℕ) → Type 0
-ArePreferences m pref = (length pref ≡ length m.params) × ((p : ℕ) → p < length m.params → IsPermutation (value_numbers m p) (slice_index_or pref p []))
-
 -- what growth gives: every row is valid, and no two are the same; a demanded tuple is omitted, and then
 -- once, exactly if no row of the model serves it, and else a row of the suite does; each kept seed is in a
 -- row; and there are no more rows than demanded tuples outside the omission list and kept seeds
@@ -118,16 +115,16 @@ pub record IsGrownSuite (m : ModelView) (pref : List (List ℕ)) (seeds : List (
 
 -- of a sound model, preference orders, and any seed rows
 abbrev pub GrowthCovers : Type 0
-GrowthCovers = (m : ModelView) (pref : List (List ℕ)) (seeds : List (ℕ × List (Option ℕ))) → IsSound m → ArePreferences m pref → IsGrownSuite m pref seeds
+GrowthCovers = (m : ModelView) (pref : List (List ℕ)) (seeds : List (ℕ × List (Option ℕ))) → IsSound m → OrdersValues m pref → IsGrownSuite m pref seeds
 
 -- so its suite covers what can be covered
 abbrev pub SuitesCover : Type 0
-SuitesCover = (m : ModelView) (pref : List (List ℕ)) (seeds : List (ℕ × List (Option ℕ))) → IsSound m → ArePreferences m pref
+SuitesCover = (m : ModelView) (pref : List (List ℕ)) (seeds : List (ℕ × List (Option ℕ))) → IsSound m → OrdersValues m pref
     → Covers m (growth m pref seeds).rows
 
 -- and its rows are few
 abbrev pub SuitesHaveFewRows : Type 0
-SuitesHaveFewRows = (m : ModelView) (pref : List (List ℕ)) (seeds : List (ℕ × List (Option ℕ))) → IsSound m → ArePreferences m pref
+SuitesHaveFewRows = (m : ModelView) (pref : List (List ℕ)) (seeds : List (ℕ × List (Option ℕ))) → IsSound m → OrdersValues m pref
     → HasFewRows m (length (kept_seeds m seeds)) (growth m pref seeds).rows
 
 -- if report and proof are accepted, every row is valid, and each demanded tuple is served by one of the

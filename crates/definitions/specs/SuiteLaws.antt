@@ -1,6 +1,7 @@
 -- What holds of the proof of a suite. (This project's rules.)
 use Rattle.std.specs.Prelude.{◌≡◌, ℕ, ◌^◌, ◌<◌, ◌⊎◌, true, false, List, map, length, Option, Ok, All, AllPairs, Contains}
 use Rattle.std.specs.List.{Any, list_any}
+use Rattle.cov_model.specs.Preference.{OrdersValues}
 use Rattle.cov_model.specs.Sound.{ModelView, IsSound}
 use Rattle.cov_model.specs.Valid.{serves}
 use Rattle.definitions.specs.Covering.{IsUnserved}
@@ -11,13 +12,13 @@ use Rattle.definitions.specs.Refutation.{refutes_each}
 use Rattle.definitions.specs.ProofText.{Omission, omissions_of}
 use Rattle.definitions.specs.Verdict.{Accepted, as_cells, listed, verdict}
 use Rattle.definitions.specs.SuiteProof.{IsProofOfSuite}
-use Rattle.definitions.specs.Laws.{ArePreferences, IsOmissionOf}
+use Rattle.definitions.specs.Laws.{IsOmissionOf}
 
 -- what these laws are about: the proof, in format 1 or 2, of the suite of a sound model with preference orders and
 -- any seed rows, where fewer than 2^32 tuples are demanded, so that each omission has a number that a token can cite
 pub record IsSoundProof (m : ModelView) (pref : List (List ℕ)) (seeds : List (ℕ × List (Option ℕ))) (format : ℕ) (bytes : List ℕ) : Type 0 where
   pub sound : IsSound m
-  pub orders : ArePreferences m pref
+  pub orders : OrdersValues m pref
   pub known : (format ≡ 1) ⊎ (format ≡ 2)
   pub few : length (demanded_tuples m) < 2 ^ 32
   pub proof : IsProofOfSuite m pref seeds format bytes

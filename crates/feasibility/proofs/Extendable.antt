@@ -19,7 +19,7 @@ use Rattle.definitions.specs.Demand.{is_among}
 use Rattle.definitions.specs.Completion.{completions, meets_rules, is_extendable, preferred_values, first_completion}
 use Rattle.definitions.specs.Search.{constrained_params, plain_search, plain_cost, visit}
 pub use Rattle.cov_model.proofs.CellLemmas.{length-slice_values}
-use Rattle.definitions.specs.Laws.{ArePreferences}
+use Rattle.cov_model.specs.Preference.{OrdersValues}
 use Rattle.definitions.proofs.Members.{same_answer}
 pub use Rattle.definitions.proofs.PartialRowLemmas.{get_or-preferred_values}
 use Rattle.definitions.proofs.PartialRowLemmas.{among_tail, length-preferred_values}
@@ -148,14 +148,14 @@ preferred_listed m pref slice p v listed =
     ]
 
 -- and each value of the slice is listed
-pub slice_listed : (m : ModelView) (pref : List (List ℕ)) (slice : Slice) (p v : ℕ) → ArePreferences m pref → IsSliceOf m slice
+pub slice_listed : (m : ModelView) (pref : List (List ℕ)) (slice : Slice) (p v : ℕ) → OrdersValues m pref → IsSliceOf m slice
     → is_among (get_or (slice_values m slice) p []) v ≡ true → is_among (get_or (preferred_values m pref slice) p []) v ≡ true
 slice_listed m pref slice p v are is listed =
     elim (cases_lt p (length m.params)) [
       | inl within ↦
           subst (λ (values : List ℕ). is_among values v ≡ true) (sym (get_or-preferred_values m pref slice p within))
           (among_filter_in (is_among (get_or (slice_values m slice) p [])) v (get_or pref p []) listed
-          (sym (list_any-IsPermutation (λ k. k == v) (value_numbers m p) (get_or pref p []) (are.1 p within))
+          (sym (list_any-IsPermutation (λ k. k == v) (value_numbers m p) (get_or pref p []) (are.each p within))
           ∙ among_range (length (param_at m.params p).values) v (slice_exist m slice p v is within listed)))
       | inr past ↦
           absurd (false≢true (ap (λ (values : List ℕ). is_among values v)
@@ -178,7 +178,7 @@ preferred_are_values m pref slice is = record {
       ];
 }
 
-pub is_listed : (m : ModelView) (pref : List (List ℕ)) (slice : Slice) (cells : List (Option ℕ)) → ArePreferences m pref → IsSliceOf m slice
+pub is_listed : (m : ModelView) (pref : List (List ℕ)) (slice : Slice) (cells : List (Option ℕ)) → OrdersValues m pref → IsSliceOf m slice
     → IsOfSlice m slice cells
     → IsListed (preferred_values m pref slice) cells
 is_listed m pref slice cells are is of = record {
@@ -187,7 +187,7 @@ is_listed m pref slice cells are is of = record {
 }
 
 -- plain search gives the first completion
-pub plain_search_gives : (m : ModelView) (pref : List (List ℕ)) (slice : Slice) (cells : List (Option ℕ)) → IsSound m → ArePreferences m pref
+pub plain_search_gives : (m : ModelView) (pref : List (List ℕ)) (slice : Slice) (cells : List (Option ℕ)) → IsSound m → OrdersValues m pref
     → IsSliceOf m slice → IsOfSlice m slice cells
     → first_completion m pref slice cells ≡ given_by (plain_search m pref slice cells)
     (filled (preferred_values m pref slice) (reached m (preferred_values m pref slice) (constrained_params m) cells))
@@ -200,7 +200,7 @@ found_given : (found : Bool) (row : List (Option ℕ)) → is_some (cond found (
 found_given true row = refl
 found_given false row = refl
 
-pub completed_is_extendable : (m : ModelView) (pref : List (List ℕ)) (slice : Slice) (cells : List (Option ℕ)) → ArePreferences m pref
+pub completed_is_extendable : (m : ModelView) (pref : List (List ℕ)) (slice : Slice) (cells : List (Option ℕ)) → OrdersValues m pref
     → IsSliceOf m slice → IsOfSlice m slice cells → is_some (first_completion m pref slice cells) ≡ is_extendable m slice cells
 completed_is_extendable m pref slice cells are is of =
     let some = length-preferred_values m pref slice in
@@ -261,7 +261,7 @@ solver_asks solver lists room fails sets cells budget answer is sound of told =
     ∙ ap (λ (values : List (List ℕ)). answer_of (visit solver.model values (constrained_params solver.model) cells).found
     (visit solver.model values (constrained_params solver.model) cells).cost budget) is.tried
     ∙ ap (λ (found : Bool). answer_of found (plain_cost solver.model solver.prefs solver.slice cells) budget)
-    (plain_search_is_exact solver.model solver.prefs solver.slice cells sound (is.orders.as_many, is.orders.each) is.slice of).0
+    (plain_search_is_exact solver.model solver.prefs solver.slice cells sound is.orders is.slice of).0
 
 -- and the row that it reaches is the first completion
 pub solver_completes : (solver : SolverView) (lists : List (List ℕ)) (room : List (Option ℕ)) (fails : Bool) (sets : LiveView) (cells row : List (Option ℕ))
@@ -282,7 +282,7 @@ solver_completes solver lists room fails sets cells row budget answer is sound o
     let last : row ≡ filled (preferred_values solver.model solver.prefs solver.slice)
     (reached solver.model (preferred_values solver.model solver.prefs solver.slice) (constrained_params solver.model) cells) =
     reaches ∙ ap (λ (values : List (List ℕ)). filled values (reached solver.model values (constrained_params solver.model) cells)) is.tried in
-    sym (plain_search_gives solver.model solver.prefs solver.slice cells sound (is.orders.as_many, is.orders.each) is.slice of
+    sym (plain_search_gives solver.model solver.prefs solver.slice cells sound is.orders is.slice of
     ∙ ap (λ (b : Bool). cond b (Some (filled (preferred_values solver.model solver.prefs solver.slice)
     (reached solver.model (preferred_values solver.model solver.prefs solver.slice) (constrained_params solver.model) cells))) None) found
     ∙ ap (λ (r : List (Option ℕ)). Some r) (sym last))
@@ -293,4 +293,4 @@ pub solver_lists : (solver : SolverView) (lists : List (List ℕ)) (room : List 
     → IsOfSlice solver.model solver.slice cells → IsListed lists cells
 solver_lists solver lists room fails sets cells is of =
     subst (λ (values : List (List ℕ)). IsListed values cells) (sym is.tried)
-    (is_listed solver.model solver.prefs solver.slice cells (is.orders.as_many, is.orders.each) is.slice of)
+    (is_listed solver.model solver.prefs solver.slice cells is.orders is.slice of)

@@ -18,7 +18,7 @@ use Rattle.cov_model.specs.Valid.{negatives}
 use Rattle.cov_model.specs.Slices.{slice_by, slice_of, slice_values}
 use Rattle.definitions.specs.Completion.{has_slice, preferred_values, with_value}
 use Rattle.definitions.specs.Demand.{is_among}
-use Rattle.definitions.specs.Laws.{ArePreferences}
+use Rattle.cov_model.specs.Preference.{OrdersValues}
 use Rattle.definitions.specs.Pairs.{cells_of}
 use Rattle.definitions.specs.Refutation.{is_negative_leaf, is_omission_leaf}
 use Rattle.definitions.specs.Search.{breaks_a_rule}
@@ -254,7 +254,7 @@ slice_negatives m slice cells is of same =
     negatives_by m slice cells (negatives m cells) (leb-true (length (negatives m cells)) 1 (slice_few m slice cells is of same)) same
 
 -- and the values to try of a parameter without a value are those that aren't negative
-slice_tries : (m : ModelView) (pref : List (List ℕ)) (slice : Slice) (cells : List (Option ℕ)) (q w : ℕ) → ArePreferences m pref → IsSliceOf m slice
+slice_tries : (m : ModelView) (pref : List (List ℕ)) (slice : Slice) (cells : List (Option ℕ)) (q w : ℕ) → OrdersValues m pref → IsSliceOf m slice
     → slice_of m cells ≡ slice → q < length m.params → w < length (param_at m.params q).values → is_assigned cells q ≡ false
     → is_among (get_or (preferred_values m pref slice) q []) w ≡ not (value_at m q w).negative
 slice_tries m pref slice cells q w orders is same within exists free =
@@ -276,6 +276,6 @@ solver_refutes solver lists room fails sets format earlier tuple is of same few 
   fixed = slice_negatives solver.model solver.slice tuple is.slice of same;
   positive = λ q w within exists free.
       ap (λ (values : List (List ℕ)). is_among (get_or values q []) w) is.tried
-      ∙ slice_tries solver.model solver.prefs solver.slice tuple q w (is.orders.as_many, is.orders.each) is.slice same within exists free;
+      ∙ slice_tries solver.model solver.prefs solver.slice tuple q w is.orders is.slice same within exists free;
   few = few;
 }

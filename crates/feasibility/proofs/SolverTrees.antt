@@ -37,7 +37,7 @@ pub solver_unfound : (solver : SolverView) (lists : List (List ℕ)) (room : Lis
     → (visit solver.model lists (constrained_params solver.model) tuple).found ≡ false
 solver_unfound solver lists room fails sets tuple is sound of same unserved =
     ap (λ (values : List (List ℕ)). (visit solver.model values (constrained_params solver.model) tuple).found) is.tried
-    ∙ (plain_search_is_exact solver.model solver.prefs solver.slice tuple sound (is.orders.as_many, is.orders.each) is.slice of).0
+    ∙ (plain_search_is_exact solver.model solver.prefs solver.slice tuple sound is.orders is.slice of).0
     ∙ unserved_ends solver.model solver.slice tuple sound (slice_few solver.model solver.slice tuple is.slice of same) same unserved
 
 -- and answers No, or that the budget is spent

@@ -4,12 +4,12 @@ use Rattle.cov_model.specs.declared.slice.Slice.{Slice}
 use Rattle.cov_model.specs.Sound.{ModelView, IsSound}
 use Rattle.definitions.specs.Completion.{is_extendable, first_completion}
 use Rattle.definitions.specs.Search.{plain_search}
-use Rattle.definitions.specs.Laws.{ArePreferences}
+use Rattle.cov_model.specs.Preference.{OrdersValues}
 use Rattle.definitions.specs.SliceRows.{IsSliceOf, IsOfSlice}
 
 -- plain search succeeds on a partial row of a slice exactly if it is extendable there, and then it has a
 -- first completion, whatever the preferences
 abbrev pub PlainSearchIsExact : Type 0
-PlainSearchIsExact = (m : ModelView) (pref : List (List ℕ)) (slice : Slice) (cells : List (Option ℕ)) → IsSound m → ArePreferences m pref
+PlainSearchIsExact = (m : ModelView) (pref : List (List ℕ)) (slice : Slice) (cells : List (Option ℕ)) → IsSound m → OrdersValues m pref
     → IsSliceOf m slice → IsOfSlice m slice cells
     → ((plain_search m pref slice cells).found ≡ is_extendable m slice cells) × (is_some (first_completion m pref slice cells) ≡ is_extendable m slice cells)

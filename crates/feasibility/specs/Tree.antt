@@ -6,8 +6,7 @@ use Rattle.cov_model.specs.Views.{BodyView}
 use Rattle.cov_model.specs.Sound.{ModelView, param_at, rule_at}
 use Rattle.cov_model.specs.Rows.{is_assigned, value_in}
 use Rattle.cov_model.specs.Kleene.{body_truth}
-use Rattle.cov_model.specs.declared.slice.Slice.{Slice}
-use Rattle.cov_model.specs.Slices.{slice_values, value_numbers}
+use Rattle.cov_model.specs.Slices.{value_numbers}
 use Rattle.definitions.specs.Completion.{with_value}
 use Rattle.definitions.specs.Demand.{is_among}
 use Rattle.definitions.specs.Search.{body_params, constrained_params}
@@ -73,10 +72,6 @@ constrained_at m i = slice_index_or (constrained_params m) i 0
 
 abbrev pub constrained_from : ModelView → ℕ → List ℕ
 constrained_from m i = drop i (constrained_params m)
-
--- a parameter's values in a slice, in preference order
-abbrev pub preferred_at : ModelView → List (List ℕ) → Slice → ℕ → List ℕ
-preferred_at m pref slice p = filter (is_among (slice_index_or (slice_values m slice) p [])) (slice_index_or pref p [])
 
 -- one list of values for each parameter, and these values exist
 pub record ListsValues (m : ModelView) (lists : List (List ℕ)) : Type 0 where

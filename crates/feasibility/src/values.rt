@@ -6,7 +6,7 @@ ghost use Rattle.cov_model.specs.Meaning.{value_at};
 ghost use Rattle.definitions.specs.Completion.{preferred_values};
 ghost use Rattle.definitions.specs.Demand.{is_among};
 ghost use Rattle.definitions.specs.SliceRows.{IsSliceOf};
-ghost use Rattle.feasibility.specs.Tree.{preferred_at};
+ghost use Rattle.definitions.specs.Completion.{preferred_at};
 
 use cov_model::{ParamNo, Prefs, Slice, TestModel, ValueNo};
 use packed_lists::PackedLists;

@@ -21,7 +21,7 @@ pub none_completed : (context : SearchContext) (cells : List (Option ℕ)) (answ
     → completed context cells ≡ None
 none_completed context cells answer is grows told fails =
     none (completed context cells)
-    (completed_is_extendable context.model context.prefs context.slice cells (is.orders.as_many, is.orders.each) is.slice grows.of
+    (completed_is_extendable context.model context.prefs context.slice cells is.orders is.slice grows.of
     ∙ found (nat_lt context.budget (plain_cost context.model context.prefs context.slice cells)) (extends context cells) (sym told ∙ fails))
   where
     found : (over b : Bool) → cond over Spent (cond b Yes No) ≡ No → b ≡ false

@@ -6,7 +6,7 @@ use Rattle.std.specs.Option.{option_or}
 use Rattle.outside_io.specs.declared.answers.WriteAnswer.TheVariants.{Done}
 use Rattle.outside_io.specs.Puts.{Puts}
 use Rattle.cov_model.specs.Sound.{ModelView, IsSound}
-use Rattle.cov_model.specs.Preference.{preference}
+use Rattle.cov_model.specs.Preference.{OrdersValues, preference}
 use Rattle.cov_model.specs.Meaning.{body_holds}
 use Rattle.cov_model.specs.Valid.{is_row, is_valid, negatives}
 use Rattle.cov_model.proofs.PreferenceLemmas.{OrdersValues-preference}
@@ -25,7 +25,6 @@ use Rattle.tuple_index.specs.declared.fault.PlanFault.TheVariants.{TooManySets, 
 use Rattle.definitions.specs.Growth.{growth}
 use Rattle.definitions.specs.Report.{report_text}
 use Rattle.definitions.specs.RowFile.{rows_of}
-use Rattle.definitions.specs.Laws.{ArePreferences}
 use Rattle.definitions.proofs.GrowthLaw.{growth_covers, suites_cover, suites_have_few_rows}
 use Rattle.definitions.proofs.ReadBack.{read_back}
 use Rattle.model_lex.specs.declared.note.Note.{Note}
@@ -37,10 +36,6 @@ use Rattle.pict_cli.specs.Runs.{AreContained, CoversOrRefutes, EndsBehind, Holds
 use Rattle.pict_cli.specs.Runs.{PrintsFewRows, PrintsSeeds, RunsModel, cannot_write, cannot_write_proof, comes_whole, given_of, growth_of}
 use Rattle.pict_cli.specs.Runs.{must_stop, no_memory, out_text, rows_of_run, rows_unread, seeds_kept, shuffled_by, stop_due, text_in, told_proof}
 
--- the orders of a run
-are_preferences : (m : ModelView) (shuffle : Option ℕ) → ArePreferences m (preference m shuffle)
-are_preferences m shuffle = let orders = OrdersValues-preference m shuffle in (orders.as_many, orders.each)
-
 -- valid rows are rows
 are_rows : (m : ModelView) (rows : List (List (Option ℕ))) → All (λ row. is_valid m row ≡ true) rows → All (λ row. is_row m row ≡ true) rows
 are_rows m rows valid k d within =
@@ -49,14 +44,14 @@ are_rows m rows valid k d within =
     (and_parts (is_row m row) holds (and_parts (is_row m row && holds) (nat_le (length (negatives m row)) 1) (valid k d within)).0).0
 
 -- what was printed whole holds the rows of the suite
-read_suite : (m : ModelView) (pref : List (List ℕ)) (seeds : List (ℕ × List (Option ℕ))) → IsSound m → ArePreferences m pref
+read_suite : (m : ModelView) (pref : List (List ℕ)) (seeds : List (ℕ × List (Option ℕ))) → IsSound m → OrdersValues m pref
     → rows_of m (report_text m (growth m pref seeds).rows) ≡ (growth m pref seeds).rows
 read_suite m pref seeds sound orders =
     read_back m (growth m pref seeds).rows sound (are_rows m (growth m pref seeds).rows (suites_cover m pref seeds sound orders).valid)
 
 -- what was printed whole behind other bytes
 added : (P : List (List (Option ℕ)) → Type 0) (m : ModelView) (pref : List (List ℕ)) (seeds : List (ℕ × List (Option ℕ))) (before : List ℕ) (after : Option (List ℕ))
-    → IsSound m → ArePreferences m pref → P (growth m pref seeds).rows → Puts Done (Some before) after (report_text m (growth m pref seeds).rows)
+    → IsSound m → OrdersValues m pref → P (growth m pref seeds).rows → Puts Done (Some before) after (report_text m (growth m pref seeds).rows)
     → IsSomeAnd after (λ bytes. (text : List ℕ) × (bytes ≡ before ++ text) × P (rows_of m text))
 added P m pref seeds before after sound orders holds put =
     let text = report_text m (growth m pref seeds).rows in
@@ -111,8 +106,8 @@ module _ (s : Settings) (seed : ℕ) (m : ModelView) (source : RowSource) (notes
   abbrev seeds : List (ℕ × List (Option ℕ))
   seeds = rows_of_run s m source
 
-  orders : ArePreferences m pref
-  orders = are_preferences m (shuffled_by s.shuffle seed)
+  orders : OrdersValues m pref
+  orders = OrdersValues-preference m (shuffled_by s.shuffle seed)
 
   within : makes_plan (mode_of s) ≡ true → limit_passed m ≡ None
   within plans = within_limits (limit_passed m) (makes_plan (mode_of s)) _ plans (not_due s seed m source notes runs.ends)
@@ -206,4 +201,4 @@ module _ (s : Settings) (seed : ℕ) (m : ModelView) (source : RowSource) (notes
 -- the rows of a suite are rows
 pub suite_rows : (m : ModelView) (shuffle : Option ℕ) (seeds : List (ℕ × List (Option ℕ))) → IsSound m → All (λ row. is_row m row ≡ true) (growth m (preference m shuffle) seeds).rows
 suite_rows m shuffle seeds sound =
-    are_rows m (growth m (preference m shuffle) seeds).rows (suites_cover m (preference m shuffle) seeds sound (are_preferences m shuffle)).valid
+    are_rows m (growth m (preference m shuffle) seeds).rows (suites_cover m (preference m shuffle) seeds sound (OrdersValues-preference m shuffle)).valid

@@ -1,14 +1,14 @@
 -- The places of the demanded tuples of a slice. (The order of sets and tuples is this project's rule.)
 -- A place is the number of a demanded set, and the rank of a tuple of it.
 use Rattle.std.specs.Prelude.{ℕ, Bool, true, false, not, ◌&&◌, ◌||◌, List, [], map, length, sum_by, Option, None, ◌==◌, nat_lt, slice_index_or, take_while}
-use Rattle.std.specs.List.{filter, flat_map, last_or, range_with_len}
-use Rattle.std.specs.Option.{option_map_or}
+use Rattle.std.specs.List.{flat_map, range_with_len}
 use Rattle.cov_model.specs.declared.slice.Slice.{Slice}
 use Rattle.cov_model.specs.declared.slice.Slice.TheVariants.{Positive, Negative}
 use Rattle.cov_model.specs.Sound.{ModelView}
 use Rattle.cov_model.specs.Slices.{slices}
-use Rattle.definitions.specs.Demand.{is_among, demanded_sets, tuples_in, tuples_of}
+use Rattle.definitions.specs.Demand.{demanded_sets, tuples_in, tuples_of}
 use Rattle.definitions.specs.Completion.{column_order}
+use Rattle.definitions.specs.Growth.{ends_with}
 
 -- the demanded set of a number, and the tuple of a place
 abbrev pub set_at : ModelView → ℕ → List ℕ
@@ -36,7 +36,7 @@ slice_places m slice = flat_map (places_in m slice) (range_with_len 0 (length (d
 
 -- the last parameter of a set in the column order of a slice is this one
 abbrev pub ends_with_column : ModelView → Slice → ℕ → List ℕ → Bool
-ends_with_column m slice p set = option_map_or (λ q. q == p) (last_or None (filter (is_among set) (column_order m slice))) false
+ends_with_column m slice p set = ends_with (column_order m slice) p set
 
 -- the place is one of a set in play for a column
 abbrev pub is_in_play : ModelView → Slice → ℕ → ℕ × ℕ → Bool
