@@ -1,5 +1,5 @@
 ghost use Rattle.std.specs.Prelude.{◌≡◌, None, false, slice_index_or};
-ghost use Rattle.cov_model.specs.Kleene.{known};
+ghost use Rattle.cov_model.specs.Kleene.{known, not_of};
 ghost use Rattle.compiled_rules.specs.Codes.{all_codes, any_codes, at_truth, body_code_truth, both_truth, code_truth};
 
 use crate::table::TruthTable;
@@ -90,7 +90,8 @@ fn both_truth(
     }
 }
 
-// What is known of a compiled predicate.
+// What is known of a compiled predicate. Most are terms, which need no call.
+#[inline]
 #[cycle(truths)]
 pub(crate) fn code_truth(table: &TruthTable, code: &Code, cells: &Cells) -> Truth
     ensures { result ≡ code_truth table.now code.now cells.now }
@@ -98,10 +99,19 @@ pub(crate) fn code_truth(table: &TruthTable, code: &Code, cells: &Cells) -> Trut
     match code {
         Code::At(p, start) => at_truth(table, *p, *start, cells),
         Code::Both(p, q, start, width) => both_truth(table, *p, *q, *start, *width, cells),
-        Code::Not(inner) => code_truth(table, inner, cells).negated(),
+        Code::Not(inner) => not_truth(table, inner, cells),
         Code::All(parts) => all_codes(table, parts.as_slice(), cells),
         Code::Any(parts) => any_codes(table, parts.as_slice(), cells),
     }
+}
+
+// What is known of the negation of a compiled predicate.
+#[inline(never)]
+#[cycle(truths)]
+fn not_truth(table: &TruthTable, code: &Code, cells: &Cells) -> Truth
+    ensures { result ≡ not_of (code_truth table.now code.now cells.now) }
+{
+    code_truth(table, code, cells).negated()
 }
 
 // What is known of a list of compiled predicates: that each holds.

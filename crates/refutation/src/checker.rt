@@ -49,13 +49,16 @@ fn count_in(tree: &[TreeToken]) -> usize {
     tree.iter().filter(|token| is_by_rule(**token)).count()
 }
 
-// How many leaves of the trees of a proof are by constraints.
-fn count_by_rule(proof: &Omissions) -> u64 {
+// Whether the trees of a proof have at least so many leaves by constraints.
+fn has_leaves(proof: &Omissions, least: u64) -> bool {
     let mut count: u64 = 0;
     for omission in proof.as_slice() {
+        if count >= least {
+            return true;
+        }
         count = count.saturating_add(count_in(omission.tree.as_slice()) as u64);
     }
-    count
+    count >= least
 }
 
 impl<'a> TreeChecker<'a> {
@@ -95,7 +98,7 @@ impl<'a> TreeChecker<'a> {
     ) -> Result<TreeChecker<'a>, NoMemory>
         ensures { IfOk result (λ checker. checker ≡ model.now) }
     {
-        if table_size(model) <= count_by_rule(proof) {
+        if has_leaves(proof, table_size(model)) {
             TreeChecker::with_table(alloc, model)
         } else {
             Ok(TreeChecker::plain(model))

@@ -55,7 +55,12 @@ pub(crate) fn split_once(text: &[u8], mark: u8) -> Option<(&[u8], &[u8])>
 pub(crate) fn most_pieces(text: &[u8], mark: u8, least: usize) -> usize
     requires { least < 2 ^ 32 }
 {
-    let marks = text.iter().filter(|byte| **byte == mark).count();
+    let mut marks: usize = 0;
+    let mut rest = text;
+    while let Some((_, behind)) = split_once(rest, mark) {
+        marks = marks.saturating_add(1);
+        rest = behind;
+    }
     marks.min(text.len() / (least + 1)) + 1
 }
 

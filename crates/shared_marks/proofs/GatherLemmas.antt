@@ -1,10 +1,10 @@
 -- Bits that are gathered in words before the places of the words are marked.
-use Rattle.std.proofs.Common.{inl, inr, ◌≡◌, ℕ, ◌+◌, ◌-◌, ◌*◌, ◌/◌, ◌%◌, ◌<◌, ◌≤◌, true, false, ◌&&◌, ◌||◌, List, [], ◌∷◌, length, get_or, replicate, take, eqb, ◌∙◌, refl, sym, ap, arith, subst}
+use Rattle.std.proofs.Common.{inl, inr, ◌≡◌, ℕ, ◌+◌, ◌-◌, ◌*◌, ◌/◌, ◌%◌, ◌<◌, ◌≤◌, Bool, true, false, ◌&&◌, ◌||◌, List, [], ◌∷◌, length, get_or, replicate, take, eqb, ◌∙◌, refl, sym, ap, arith, subst}
 use Rattle.std.specs.Int.{bit_at}
 use Rattle.std.specs.Prelude.{◌==◌, nat_le, nat_lt}
 use Rattle.std.proofs.Math.Bool.{and-or_distrib_left, or_assoc, or_comm, or-false}
 use Rattle.std.proofs.lemmas.Bool.{and_left, and_right, cases_eq, cases_lt, eq-eqb, le-leb, le-ltb, lt-leb, lt-ltb, ne_eqb}
-use Rattle.std.proofs.lemmas.List.{get_or-replicate, get_or_past, length-replicate}
+use Rattle.std.proofs.lemmas.List.{get_or-replicate, get_or-take, get_or_past, length-replicate, length-take}
 use Rattle.std.proofs.lemmas.List.Folds.{list_any_more}
 use Rattle.std.proofs.lemmas.Nat.Bits.{bit_at-zero}
 use Rattle.bit_table.specs.Words.{mark_at}
@@ -100,15 +100,33 @@ behind_moved first base whole place (rank ∷ ranks) is =
           ∙ sym (ne_eqb (whole + rank) place apart)
     ]
 
+gathered_at : (base place : ℕ) (ranks words : List ℕ) → ((p : ℕ) → mark_at words p ≡ are_behind (base % 64) ranks p)
+    → is_in_words (base / 64) words place ≡ are_behind base ranks place
+gathered_at base place ranks words each =
+    ap (λ t. nat_le (64 * (base / 64)) place && t) (each (place - 64 * (base / 64))) ∙ behind_moved (base / 64) (base % 64) base place ranks (omega arith)
+
 pub gathered : (base place : ℕ) (ranks zeros words : List ℕ) (count : ℕ) → zeros ≡ replicate count 0
     → ((p : ℕ) → mark_at words p ≡ (mark_at zeros p || are_behind (base % 64) ranks p)) → is_in_words (base / 64) words place ≡ are_behind base ranks place
 gathered base place ranks zeros words count none each =
-    ap (λ t. nat_le (64 * (base / 64)) place && t) (each p ∙ ap (λ zs. mark_at zs p || are_behind (base % 64) ranks p) none
-    ∙ ap (λ t. t || are_behind (base % 64) ranks p) (no_marks count p))
-    ∙ behind_moved (base / 64) (base % 64) base place ranks (omega arith)
-  where
-    p : ℕ
-    p = place - 64 * (base / 64)
+    gathered_at base place ranks words (λ p.
+    each p ∙ ap (λ zs. mark_at zs p || are_behind (base % 64) ranks p) none ∙ ap (λ t. t || are_behind (base % 64) ranks p) (no_marks count p))
+
+pub flagged : (base place : ℕ) (ranks words : List ℕ) (clear flags : List Bool) → ((p : ℕ) → get_or clear p false ≡ false)
+    → ((p : ℕ) → get_or flags p false ≡ (get_or clear p false || are_behind (base % 64) ranks p)) → ((p : ℕ) → mark_at words p ≡ get_or flags p false)
+    → is_in_words (base / 64) words place ≡ are_behind base ranks place
+flagged base place ranks words clear flags none each packed =
+    gathered_at base place ranks words (λ p. packed p ∙ each p ∙ ap (λ t. t || are_behind (base % 64) ranks p) (none p))
+
+-- no flag of some that are clear is set, nor is one behind them
+pub none_set : (count many p : ℕ) → get_or (take count (replicate many false)) p false ≡ false
+none_set count many p = elim (cases_lt p count) [
+  | inl before ↦
+      get_or-take count (replicate many false) p false before ∙ elim (cases_lt p many) [
+        | inl inside ↦ get_or-replicate many p false false inside
+        | inr past ↦ get_or_past (replicate many false) p false (omega (arith, length-replicate {A = Bool} many false, past))
+      ]
+  | inr past ↦ get_or_past (take count (replicate many false)) p false (omega (arith, length-take count (replicate many false), past))
+]
 
 -- one rank more whose place is marked
 pub mark_more : (base i d : ℕ) (ranks : List ℕ) (start seat after : SeatView) → i < length ranks → Marks (are_behind base (take i ranks)) start seat

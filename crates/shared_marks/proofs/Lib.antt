@@ -11,6 +11,7 @@ pub mod RowLemmas
 pub mod WorkerLemmas
 pub mod DigitLemmas
 pub mod BlockLemmas
+pub mod FlagLemmas
 pub mod GatherLemmas
 pub mod LineLemmas
 pub mod OpenLemmas

@@ -3,10 +3,17 @@ ghost use Rattle.std.specs.List.{list_any};
 ghost use Rattle.bit_table.specs.Words.{mark_at};
 ghost use Rattle.shared_marks.specs.Adding.{Marks, are_behind, is_in_words, is_of_word};
 
+use crate::flags::{pack, set_flags};
 use crate::table::{MarkSeat, SharedMarks, WORD_BITS};
 
 /// The fewest words in which bits are gathered: each bit of a word waits for the one before.
 const FEWEST_WORDS: usize = 4;
+
+/// The most words whose bits are flags first, so that none waits.
+const MOST_FLAG_WORDS: usize = 8;
+
+/// As many flags as these words have bits.
+const MOST_FLAGS: usize = 512;
 
 // Sets the bit of a place in words.
 fn put_bit(words: &mut [u64], place: usize)
@@ -67,6 +74,21 @@ impl SharedMarks {
         self.mark_words(seat, base / WORD_BITS as u32, words);
     }
 
+    // The same for few words, whose bits are gathered as flags.
+    fn mark_flagged(&self, seat: &mut MarkSeat, base: u32, ranks: &[u32], words: &mut [u64])
+        requires table { seat.old.table ≡ self.now.table }
+        requires few { length words.old ≤ 8 }
+        requires within { 64 * (base / 64 + length words.old) ≤ self.now.bits + 64 }
+        requires room { All (λ rank. base % 64 + rank < 64 * length words.old) ranks.now }
+        ensures { Marks (are_behind base ranks.now) seat.old seat.new }
+    {
+        let mut all = [false; MOST_FLAGS];
+        let flags = &mut all[..words.len() * WORD_BITS];
+        set_flags(flags, base as usize % WORD_BITS, ranks);
+        pack(flags, words);
+        self.mark_words(seat, base / WORD_BITS as u32, words);
+    }
+
     // Marks the places of these ranks behind a base one by one.
     fn mark_each(&self, seat: &mut MarkSeat, base: u32, ranks: &[u32])
         requires table { seat.old.table ≡ self.now.table }
@@ -95,7 +117,14 @@ impl SharedMarks {
         ensures { Marks (are_behind base ranks.now) seat.old seat.new }
     {
         let needed = (base as usize % WORD_BITS + size as usize) / WORD_BITS + 1;
-        if needed < FEWEST_WORDS || needed > words.len() {
+        if needed > words.len() {
+            return self.mark_each(seat, base, ranks);
+        }
+        // packing the flags of a set pays where most of its places are served
+        if needed <= MOST_FLAG_WORDS && ranks.len() >= size as usize {
+            return self.mark_flagged(seat, base, ranks, &mut words[..needed]);
+        }
+        if needed < FEWEST_WORDS {
             return self.mark_each(seat, base, ranks);
         }
         self.mark_gathered(seat, base, ranks, &mut words[..needed]);

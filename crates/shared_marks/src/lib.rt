@@ -11,6 +11,7 @@
 
 mod block;
 mod digits;
+mod flags;
 mod gather;
 mod holding;
 mod lines;
