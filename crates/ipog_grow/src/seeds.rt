@@ -1,4 +1,4 @@
-ghost use Rattle.std.specs.Prelude.{◌≡◌, ◌<◌, ◌^◌, ◌++◌, ◌∷◌, [], ◌&&◌, true, not, is_some, map, length, if◌then◌else◌, All, IfOk, OnOk};
+ghost use Rattle.std.specs.Prelude.{◌≡◌, ◌<◌, ◌^◌, ◌++◌, ◌∷◌, [], ◌&&◌, true, not, is_some, map, length, if◌then◌else◌, All, IfOk, IfSome, OnOk};
 ghost use Rattle.std.specs.List.{filter, list_any};
 ghost use Rattle.cov_model.specs.Fits.{FitsModel};
 ghost use Rattle.cov_model.specs.Meaning.{given_value};
@@ -9,8 +9,10 @@ ghost use Rattle.definitions.specs.Completion.{can_be_served, has_slice};
 ghost use Rattle.definitions.specs.Search.{first_over};
 ghost use Rattle.definitions.specs.Seeds.{asked_seeds, dropped_lines, kept_seeds, seed_rows};
 ghost use Rattle.definitions.specs.Growth.{is_of_slice};
+ghost use Rattle.definitions.specs.SliceRows.{IsSliceOf};
 ghost use Rattle.row_text.specs.RowFiles.{row_seen, seeds_seen};
 ghost use Rattle.ipog_grow.specs.Rows.{with_row, with_seed};
+ghost use Rattle.ipog_grow.specs.SeedSolvers.{IsSolverFor};
 ghost use Rattle.feasibility.specs.Ends.{Ends};
 
 use crate::distinct::{RowSet, copy_of, push_copy};
@@ -26,6 +28,13 @@ use value_text::NoMemory;
 pub(crate) struct SortedSeeds {
     pub(crate) kept: Rows,
     pub(crate) dropped: LineList,
+}
+
+// A solver, and the slice that it is for.
+#[derive(Drop)]
+struct SeedSolver<'a> {
+    slice: Slice,
+    solver: Solver<'a>,
 }
 
 // Whether a partial row gives no parameter a value.
@@ -117,16 +126,43 @@ fn distinct_seeds(
     Ok(list)
 }
 
-// Whether a seed row is kept: at most one value is negative, and the row is extendable.
-fn is_kept(
+// The solver of a slice: the last one, if it is for this slice, else a new one.
+fn solver_of<'a>(
     alloc: Global,
-    model: &TestModel,
-    prefs: &Prefs,
+    model: &'a TestModel,
+    prefs: &'a Prefs,
+    slice: Slice,
+    last: Option<SeedSolver<'a>>,
+) -> Result<SeedSolver<'a>, NoMemory>
+    requires slice { IsSliceOf model.now slice }
+    requires orders { OrdersValues model.now prefs.now }
+    requires last { IfSome last (IsSolverFor model.now prefs.now) }
+    ensures slice { IfOk result (λ one. one.slice ≡ slice) }
+    ensures solver { IfOk result (IsSolverFor model.now prefs.now) }
+{
+    if let Some(one) = last {
+        if one.slice == slice {
+            return Ok(one);
+        }
+    }
+    let solver = Solver::new(alloc, model, prefs, slice)?;
+    Ok(SeedSolver { slice, solver })
+}
+
+// Whether a seed row is kept: at most one value is negative, and the row is extendable. The solver that is
+// asked is the last one then.
+fn is_kept<'a>(
+    alloc: Global,
+    model: &'a TestModel,
+    prefs: &'a Prefs,
     cells: &Cells,
     budget: u64,
+    last: &mut Option<SeedSolver<'a>>,
 ) -> Result<bool, SearchFault>
     requires fits { FitsModel model.now cells.now }
     requires orders { OrdersValues model.now prefs.now }
+    requires last { IfSome last.old (IsSolverFor model.now prefs.now) }
+    ensures last { IfSome last.new (IsSolverFor model.now prefs.now) }
     ensures kept { IfOk result (λ kept. kept ≡ can_be_served model.now cells.now) }
     ensures asked { Ends result (first_over model.now prefs.now budget (filter (has_slice model.now) (cells.now ∷ []))) }
 {
@@ -135,10 +171,12 @@ fn is_kept(
         return Ok(false);
     }
     let slice = model.slice_of(cells);
-    let Ok(mut solver) = Solver::new(alloc, model, prefs, slice) else {
+    let Ok(mut one) = solver_of(alloc, model, prefs, slice, last.take()) else {
         return Err(SearchFault::NoMemory);
     };
-    match solver.ask(cells, budget) {
+    let answer = one.solver.ask(cells, budget);
+    *last = Some(one);
+    match answer {
         Answer::Yes => Ok(true),
         Answer::No => Ok(false),
         Answer::Spent => Err(over_budget(alloc, cells)),
@@ -146,21 +184,24 @@ fn is_kept(
 }
 
 // Puts a seed row behind those that are kept, or its line behind those of the others.
-fn place_seed(
+fn place_seed<'a>(
     alloc: Global,
-    model: &TestModel,
-    prefs: &Prefs,
+    model: &'a TestModel,
+    prefs: &'a Prefs,
     seed: &FileRow,
     budget: u64,
+    last: &mut Option<SeedSolver<'a>>,
     sorted: &mut SortedSeeds,
 ) -> Result<(), SearchFault>
     requires fits { FitsModel model.now seed.now.cells }
     requires orders { OrdersValues model.now prefs.now }
+    requires last { IfSome last.old (IsSolverFor model.now prefs.now) }
+    ensures last { IfSome last.new (IsSolverFor model.now prefs.now) }
     ensures kept { OnOk result (sorted.new.kept ≡ sorted.old.kept ++ filter (can_be_served model.now) (seed.now.cells ∷ [])) }
     ensures dropped { OnOk result (sorted.new.dropped ≡ sorted.old.dropped ++ (if can_be_served model.now seed.now.cells then [] else seed.now.line ∷ [])) }
     ensures asked { Ends result (first_over model.now prefs.now budget (filter (has_slice model.now) (seed.now.cells ∷ []))) }
 {
-    if !is_kept(alloc, model, prefs, &seed.cells, budget)? {
+    if !is_kept(alloc, model, prefs, &seed.cells, budget, last)? {
         return match sorted.dropped.push(seed.line) {
             Ok(()) => Ok(()),
             Err(_) => Err(SearchFault::NoMemory),
@@ -196,8 +237,9 @@ pub(crate) fn sort_seeds(
         kept: Rows::new(alloc),
         dropped: LineList::new(alloc),
     };
+    let mut last = None;
     for seed in distinct.as_slice() {
-        place_seed(alloc, model, prefs, seed, budget, &mut sorted)?;
+        place_seed(alloc, model, prefs, seed, budget, &mut last, &mut sorted)?;
     }
     Ok(sorted)
 }

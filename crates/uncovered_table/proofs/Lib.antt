@@ -1,6 +1,7 @@
 pub mod WordLemmas
 pub mod MaskLemmas
 pub mod PairLemmas
+pub mod NumberLemmas
 pub mod PartnerLemmas
 pub mod PreparedLemmas
 pub mod ColumnLemmas

@@ -1,13 +1,14 @@
--- What is common with a mask of digits: a bit for each parameter that has one.
-use Rattle.std.proofs.Common.{◌≡◌, ℕ, zero, suc, ◌+◌, ◌-◌, ◌<◌, ◌≤◌, ◌||◌, true, false, List, [], ◌∷◌, ◌++◌, Option, Some, None, ◌∙◌, sym, ap, refl, arith, add-one, inl, inr}
+-- What is common with a mask of digits, a bit for each parameter that has one; masks and words without these bits, by one parameter more.
+use Rattle.std.proofs.Common.{◌≡◌, ℕ, zero, suc, ◌+◌, ◌-◌, ◌<◌, ◌≤◌, ◌||◌, Bool, true, false, List, [], ◌∷◌, ◌++◌, Option, Some, None, ◌∙◌, sym, ap, refl, arith, inl, inr}
 use Rattle.std.specs.Prelude.{◌==◌, if◌then◌else◌, min}
 use Rattle.std.specs.List.{list_any}
 use Rattle.std.proofs.Math.Bool.{or-true, or-false, or_assoc}
 use Rattle.std.proofs.lemmas.Bool.{cases_eq, cases_lt}
 use Rattle.std.proofs.lemmas.Bool.Decides.{nat_tests}
-use Rattle.uncovered_table.specs.Words.{sum_to}
-use Rattle.uncovered_table.specs.Masks.{AreAll, IsMask, begin_at, bit_for, hot}
-use Rattle.uncovered_table.proofs.WordLemmas.{sum-more, sum-same}
+use Rattle.definitions.specs.Demand.{is_among}
+use Rattle.uncovered_table.specs.Words.{bit_in, sum_to}
+use Rattle.uncovered_table.specs.Masks.{AreAll, AreWithout, IsCleared, IsMask, begin_at, bit_for, hot, restricted}
+use Rattle.uncovered_table.proofs.WordLemmas.{bit-small, sum-more, sum-same}
 
 no_sum : (w : ℕ → ℕ) (n : ℕ) → sum_to (λ d. min (w d) 0) n ≡ 0
 no_sum w zero = refl
@@ -76,50 +77,116 @@ begins-apart count p q d e below less same =
           ]
     ]
 
--- the mask of one parameter more
-pub mask-start : (count : ℕ → ℕ) (digits : ℕ → Option ℕ) (mask : ℕ → ℕ) → ((k : ℕ) → mask k ≡ 0) → IsMask count digits 0 mask
-mask-start count digits mask none = record { bits = λ p d before below. absurd (omega (arith, before)); rest = λ k least. none k }
-
-pub mask-none : (count : ℕ → ℕ) (digits : ℕ → Option ℕ) (mask : ℕ → ℕ) (p : ℕ) → IsMask count digits p mask → digits p ≡ None → IsMask count digits (p + 1) mask
-mask-none count digits mask p is none = record {
-  bits =
-      λ q d before below.
-      elim (cases_eq q p) [
-        | inl here ↦
-            let first = ap (begin_at count) here in
-            is.rest (begin_at count q + d) (omega (arith, first)) ∙ sym (ap (λ o. hot o d) (ap digits here ∙ none))
-        | inr apart ↦ is.bits q d (omega (arith, before, apart)) below
-      ];
-  rest = λ k least. is.rest k (let next : begin_at count (p + 1) ≡ begin_at count p + count p = ap (begin_at count) (add-one p) in omega (arith, least, next));
-}
-
-pub mask-some : (count : ℕ → ℕ) (digits : ℕ → Option ℕ) (mask next : ℕ → ℕ) (p e : ℕ) → IsMask count digits p mask → digits p ≡ Some e → e < count p
-    → ((k : ℕ) → next k ≡ (if k == begin_at count p + e then 1 else mask k)) → IsMask count digits (p + 1) next
-mask-some count digits mask next p e is some inside made = record {
-  bits =
-      λ q d before below.
-      elim (cases_eq q p) [
-        | inl here ↦
-            let first = ap (begin_at count) here in
-            let zero_before = is.rest (begin_at count q + d) (omega (arith, first)) in
-            let test : (begin_at count q + d == begin_at count p + e) ≡ (e == d) = grind (arith, nat_tests, first) in
-            made (begin_at count q + d) ∙ ap (λ n. if begin_at count q + d == begin_at count p + e then 1 else n) zero_before
-            ∙ ap (λ b. if b then 1 else 0) test ∙ sym (ap (λ o. hot o d) (ap digits here ∙ some))
-        | inr apart ↦
-            let rise = begins-rise count q p (omega (arith, before, apart)) in
-            let test : (begin_at count q + d == begin_at count p + e) ≡ false = grind (arith, nat_tests, rise) in
-            made (begin_at count q + d) ∙ ap (λ b. if b then 1 else mask (begin_at count q + d)) test ∙ is.bits q d (omega (arith, before, apart)) below
-      ];
-  rest =
-      λ k least.
-      let end : begin_at count (p + 1) ≡ begin_at count p + count p = ap (begin_at count) (add-one p) in
-      let test : (k == begin_at count p + e) ≡ false = grind (arith, nat_tests, end, least) in
-      made k ∙ ap (λ b. if b then 1 else mask k) test ∙ is.rest k (omega (arith, least, end));
-}
-
 any-more : (params : List ℕ) (p q : ℕ) → list_any (λ k. k == q) (params ++ p ∷ []) ≡ (list_any (λ k. k == q) params || (p == q))
 any-more [] p q = or-false (p == q)
 any-more (r ∷ params) p q = ap (λ b. (r == q) || b) (any-more params p q) ∙ sym (or_assoc (r == q) (list_any (λ k. k == q) params) (p == q))
+
+-- the digits of one parameter more, where it has none and where it has one
+no_hot : (b : Bool) (o : Option ℕ) (d : ℕ) → hot o d ≡ 0 → hot (if b then o else None) d ≡ 0
+no_hot true o d none = none
+no_hot false o d none = refl
+
+restricted-none : (digits : ℕ → Option ℕ) (params : List ℕ) (p q e : ℕ) → digits p ≡ None
+    → hot (restricted (params ++ p ∷ []) digits q) e ≡ hot (restricted params digits q) e
+restricted-none digits params p q e none =
+    elim (cases_eq q p) [
+      | inl here ↦
+          let off : hot (digits q) e ≡ 0 = ap (λ o. hot o e) (ap digits here ∙ none) in
+          no_hot (is_among (params ++ p ∷ []) q) (digits q) e off ∙ sym (no_hot (is_among params q) (digits q) e off)
+      | inr apart ↦
+          let test : (p == q) ≡ false = grind (arith, nat_tests) in
+          ap (λ b. hot (if b then digits q else None) e)
+          (any-more params p q ∙ ap (λ b. is_among params q || b) test ∙ or-false (is_among params q))
+    ]
+
+restricted-some : (count : ℕ → ℕ) (digits : ℕ → Option ℕ) (params : List ℕ) (p x q e : ℕ) → digits p ≡ Some x → x < count p → e < count q
+    → hot (restricted (params ++ p ∷ []) digits q) e
+    ≡ (if begin_at count q + e == begin_at count p + x then 1 else hot (restricted params digits q) e)
+restricted-some count digits params p x q e some below less =
+    let listed = any-more params p q in
+    elim (cases_eq q p) [
+      | inl here ↦
+          let first = ap (begin_at count) here in
+          let test : (p == q) ≡ true = grind (arith, nat_tests) in
+          let given : digits q ≡ Some x = ap digits here ∙ some in
+          ap (λ b. hot (if b then digits q else None) e) (listed ∙ ap (λ b. is_among params q || b) test ∙ or-true (is_among params q))
+          ∙ ap (λ o. hot o e) given
+          ∙ elim (cases_eq x e) [
+            | inl same ↦
+                let on : hot (Some x) e ≡ 1 = grind (arith, nat_tests) in
+                let place : (begin_at count q + e == begin_at count p + x) ≡ true = grind (arith, nat_tests, first) in
+                on ∙ sym (ap (λ b. if b then 1 else hot (restricted params digits q) e) place)
+            | inr apart ↦
+                let off : hot (Some x) e ≡ 0 = grind (arith, nat_tests) in
+                let place : (begin_at count q + e == begin_at count p + x) ≡ false = grind (arith, nat_tests, first) in
+                off ∙ sym (ap (λ b. if b then 1 else hot (restricted params digits q) e) place
+                ∙ no_hot (is_among params q) (digits q) e (ap (λ o. hot o e) given ∙ off))
+          ]
+      | inr apart ↦
+          let test : (p == q) ≡ false = grind (arith, nat_tests) in
+          let place : (begin_at count q + e == begin_at count p + x) ≡ false = elim (cases_eq (begin_at count q + e) (begin_at count p + x)) [
+            | inl same ↦ absurd (apart (begins-apart count q p e x less below same))
+            | inr differs ↦ grind (arith, nat_tests)
+          ] in
+          ap (λ b. hot (if b then digits q else None) e) (listed ∙ ap (λ b. is_among params q || b) test ∙ or-false (is_among params q))
+          ∙ sym (ap (λ b. if b then 1 else hot (restricted params digits q) e) place)
+    ]
+
+-- the mask of no parameter, and of one more
+pub mask-start : (count : ℕ → ℕ) (digits : ℕ → Option ℕ) (n : ℕ) (mask : ℕ → ℕ) → ((k : ℕ) → mask k ≡ 0) → IsMask count (restricted [] digits) n mask
+mask-start count digits n mask none = record { bits = λ p d before below. none (begin_at count p + d); rest = λ k least. none k }
+
+pub mask-none : (count : ℕ → ℕ) (digits : ℕ → Option ℕ) (n : ℕ) (mask : ℕ → ℕ) (params : List ℕ) (p : ℕ) → IsMask count (restricted params digits) n mask
+    → digits p ≡ None → IsMask count (restricted (params ++ p ∷ []) digits) n mask
+mask-none count digits n mask params p is none = record {
+  bits = λ q d before below. is.bits q d before below ∙ sym (restricted-none digits params p q d none);
+  rest = is.rest;
+}
+
+pub mask-some : (count : ℕ → ℕ) (digits : ℕ → Option ℕ) (n : ℕ) (mask next : ℕ → ℕ) (params : List ℕ) (p x : ℕ) → IsMask count (restricted params digits) n mask
+    → p < n → digits p ≡ Some x → x < count p → ((k : ℕ) → next k ≡ (if k == begin_at count p + x then 1 else mask k))
+    → IsMask count (restricted (params ++ p ∷ []) digits) n next
+mask-some count digits n mask next params p x is within some inside made = record {
+  bits =
+      λ q d before below.
+      made (begin_at count q + d) ∙ ap (λ k. if begin_at count q + d == begin_at count p + x then 1 else k) (is.bits q d before below)
+      ∙ sym (restricted-some count digits params p x q d some inside below);
+  rest =
+      λ k least.
+      let rise = begins-rise count p n within in
+      let test : (k == begin_at count p + x) ≡ false = grind (arith, nat_tests, rise, least) in
+      made k ∙ ap (λ b. if b then 1 else mask k) test ∙ is.rest k least;
+}
+
+-- words without the digits of no parameter, and of one more
+pub cleared-start : (count : ℕ → ℕ) (digits : ℕ → Option ℕ) (old : List ℕ) → IsCleared count (restricted [] digits) old old
+cleared-start count digits old = record {
+  long = refl;
+  bits = λ p d below. let small = bit-small old (begin_at count p + d) in omega (arith, small);
+}
+
+without_one : (b : Bool) (n h : ℕ) → (if b then 0 else min n (1 - h)) ≡ min n (1 - (if b then 1 else h))
+without_one true n h = omega arith
+without_one false n h = refl
+
+pub cleared-more : (count : ℕ → ℕ) (digits : ℕ → Option ℕ) (params : List ℕ) (p : ℕ) (old now next : List ℕ) → ((d : ℕ) → digits p ≡ Some d → d < count p)
+    → IsCleared count (restricted params digits) old now → AreWithout count digits p now next
+    → IsCleared count (restricted (params ++ p ∷ []) digits) old next
+cleared-more count digits params p old now next below is without = record {
+  long = without.long ∙ is.long;
+  bits = λ q d less. by_digit q d less (digits p) refl;
+}
+  where
+    by_digit : (q d : ℕ) → d < count q → (o : Option ℕ) → digits p ≡ o
+        → bit_in next (begin_at count q + d) ≡ min (bit_in old (begin_at count q + d)) (1 - hot (restricted (params ++ p ∷ []) digits q) d)
+    by_digit q d less None given =
+        without.none given (begin_at count q + d) ∙ is.bits q d less
+        ∙ ap (λ h. min (bit_in old (begin_at count q + d)) (1 - h)) (sym (restricted-none digits params p q d given))
+    by_digit q d less (Some x) given =
+        let place = begin_at count q + d in
+        without.some x given place ∙ ap (λ n. if place == begin_at count p + x then 0 else n) (is.bits q d less)
+        ∙ without_one (place == begin_at count p + x) (bit_in old place) (hot (restricted params digits q) d)
+        ∙ ap (λ h. min (bit_in old place) (1 - h)) (sym (restricted-some count digits params p x q d given (below x given) less))
 
 pub all-start : (count : ℕ → ℕ) (mask : ℕ → ℕ) → ((k : ℕ) → mask k ≡ 0) → AreAll count [] mask
 all-start count mask none = record { bits = λ p d below. none (begin_at count p + d) }

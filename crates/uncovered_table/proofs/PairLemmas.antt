@@ -19,7 +19,7 @@ use Rattle.tuple_index.specs.Places.{RisesFrom, ways}
 use Rattle.tuple_index.specs.Plan.{plan_of}
 use Rattle.uncovered_table.specs.Bits.{InPlay, all_cleared, bit_count, cleared, first_bit, held_bit, held_count, sets_in_play, tuple_count}
 use Rattle.uncovered_table.specs.Digits.{AreDigits, joined, number_of, own_values, with_digit}
-use Rattle.uncovered_table.specs.Masks.{IsMask, begin_at, bit_for, hot}
+use Rattle.uncovered_table.specs.Masks.{IsCleared, IsMask, begin_at, bit_for, hot, restricted}
 use Rattle.uncovered_table.specs.Pairs.{ArePairs, IsPair, IsPartner, Matched, digit_count, pair_bit}
 use Rattle.uncovered_table.specs.Places.{ends_with_column, set_at}
 use Rattle.uncovered_table.specs.Words.{bit_in, common, sum_to}
@@ -203,6 +203,29 @@ matched-weaker R S weaker [] (y ∷ ys) all = absurd all
 matched-weaker R S weaker (x ∷ xs) [] all = absurd all
 matched-weaker R S weaker (x ∷ xs) (y ∷ ys) all = (weaker x y all.0, matched-weaker R S weaker xs ys all.1)
 
+pub matched-long : (R : ℕ → ℕ → Type 0) (xs ys : List ℕ) → Matched R xs ys → length xs ≡ length ys
+matched-long R [] [] all = refl
+matched-long R [] (y ∷ ys) all = absurd all
+matched-long R (x ∷ xs) [] all = absurd all
+matched-long R (x ∷ xs) (y ∷ ys) all = ap suc (matched-long R xs ys all.1)
+
+pub matched-at : (R : ℕ → ℕ → Type 0) (xs ys : List ℕ) (k : ℕ) → Matched R xs ys → k < length xs → R (get_or xs k 0) (get_or ys k 0)
+matched-at R [] ys k all within = absurd (omega (arith, within))
+matched-at R (x ∷ xs) [] k all within = absurd all
+matched-at R (x ∷ xs) (y ∷ ys) zero all within = all.0
+matched-at R (x ∷ xs) (y ∷ ys) (suc k) all within = matched-at R xs ys k all.1 (omega (arith, within))
+
+-- what is known of each item of the second list
+pub matched-listed : (R : ℕ → ℕ → Type 0) (P : ℕ → Type 0) (xs ys : List ℕ) → Matched R xs ys → ((y : ℕ) → is_among ys y ≡ true → P y)
+    → Matched (λ x y. R x y × P y) xs ys
+matched-listed R P [] [] all each = tt
+matched-listed R P [] (y ∷ ys) all each = absurd all
+matched-listed R P (x ∷ xs) [] all each = absurd all
+matched-listed R P (x ∷ xs) (y ∷ ys) all each = (
+  (all.0, each y (ap (λ b. b || is_among ys y) (eq-eqb y y refl))),
+  matched-listed R P xs ys all.1 (λ z among. each z (ap (λ b. (y == z) || b) among ∙ or-true (y == z))),
+)
+
 -- a row that is closed in another column
 pub pairs-elsewhere : (m : ModelView) (slice : Slice) (f : ℕ → Option ℕ) (c column : ℕ) (bits : List Bool) (sets partners : List ℕ) (blocks : List (List ℕ))
     → IsKept (plan_of m) → AreDigits (own_values m slice) f → (c ≡ column → ⊥) → ArePairs m slice column bits sets partners blocks
@@ -223,7 +246,6 @@ pairs-elsewhere m slice f c column bits sets partners blocks kept below apart ar
   enough = are.enough;
   short = are.short;
   fits = are.fits;
-  none = are.none;
 }
 
 -- a tuple of a set that is in play for another column, or for none
@@ -247,7 +269,6 @@ pairs-single m slice column closed bit bits sets partners blocks kept first last
   enough = are.enough;
   short = are.short;
   fits = are.fits;
-  none = are.none;
 }
   where
     within : (set : ℕ) → InPlay m slice column set → (g : ℕ → Option ℕ) → AreDigits (own_values m slice) g → (k : ℕ) → held_bit m slice g set ≡ Some k → k ≡ bit
@@ -265,17 +286,17 @@ pairs-single m slice column closed bit bits sets partners blocks kept first last
         ]
 
 -- what a closed row leaves of the blocks
-pub record AreCleared (blocks next : List (List ℕ)) (d : ℕ) (mask : ℕ → ℕ) : Type 0 where
+pub record AreCleared (count : ℕ → ℕ) (digits : ℕ → Option ℕ) (blocks next : List (List ℕ)) (d : ℕ) : Type 0 where
   pub many : length next ≡ length blocks
-  pub long : (k : ℕ) → length (get_or next k []) ≡ length (get_or blocks k [])
-  pub bits : (k i : ℕ) → bit_in (get_or next k []) i ≡ (if k == d then min (bit_in (get_or blocks k []) i) (1 - mask i) else bit_in (get_or blocks k []) i)
+  pub others : (k : ℕ) → (k ≡ d → ⊥) → get_or next k [] ≡ get_or blocks k []
+  pub own : IsCleared count digits (get_or blocks d []) (get_or next d [])
 
-other_digit : (digits : ℕ → Option ℕ) (column d p : ℕ) → (p ≡ column → ⊥) → with_digit digits column d p ≡ digits p
+pub other_digit : (digits : ℕ → Option ℕ) (column d p : ℕ) → (p ≡ column → ⊥) → with_digit digits column d p ≡ digits p
 other_digit digits column d p apart =
     let test : (p == column) ≡ false = grind (arith, nat_tests) in
     ap (λ b. if b then Some d else digits p) test
 
-own_column : (digits : ℕ → Option ℕ) (column d : ℕ) → with_digit digits column d column ≡ Some d
+pub own_column : (digits : ℕ → Option ℕ) (column d : ℕ) → with_digit digits column d column ≡ Some d
 own_column digits column d = ap (λ b. if b then Some d else digits column) (eq-eqb column column refl)
 
 in_play_among : (m : ModelView) (slice : Slice) (column set : ℕ) → InPlay m slice column set → is_among (sets_in_play m slice column) set ≡ true
@@ -287,31 +308,33 @@ in_play_among m slice column set play =
     ∙ and-true (ends_with_column m slice column (set_at m set)) ∙ play.ends
 
 -- a row that is closed in the column itself
-pub pairs-closed : (m : ModelView) (slice : Slice) (column d : ℕ) (digits : ℕ → Option ℕ) (mask : ℕ → ℕ) (bits : List Bool) (partners : List ℕ)
+pub pairs-closed : (m : ModelView) (slice : Slice) (column d : ℕ) (digits : ℕ → Option ℕ) (bits : List Bool) (partners : List ℕ)
     (blocks next : List (List ℕ)) → IsKept (plan_of m) → AreDigits (own_values m slice) digits → d < digit_count m slice column
-    → IsMask (digit_count m slice) digits (length m.params) mask → AreCleared blocks next d mask
+    → AreCleared (digit_count m slice) (restricted partners digits) blocks next d
     → ArePairs m slice column bits (sets_in_play m slice column) partners blocks
     → ArePairs m slice column (all_cleared m slice (with_digit digits column d) bits (sets_in_play m slice column)) (sets_in_play m slice column) partners next
-pairs-closed m slice column d digits mask bits partners blocks next kept below within masked made are = record {
+pairs-closed m slice column d digits bits partners blocks next kept below within made are = record {
   rise = are.rise;
   pairs =
-      matched-weaker (IsPair m slice column bits blocks)
+      matched-weaker (λ set p. IsPair m slice column bits blocks set p × (is_among partners p ≡ true))
       (IsPair m slice column (all_cleared m slice (with_digit digits column d) bits (sets_in_play m slice column)) next)
-      (λ set p is. record { partner = is.partner; held = λ k e g under first second. by_digit set p is k e g under first second (digits p) refl })
-      (sets_in_play m slice column) partners are.pairs;
+      (λ set p known. record {
+        partner = known.0.partner;
+        held = λ k e g under first second. by_digit set p known.0 known.1 k e g under first second (digits p) refl;
+      })
+      (sets_in_play m slice column) partners
+      (matched-listed (IsPair m slice column bits blocks) (λ p. is_among partners p ≡ true) (sets_in_play m slice column) partners are.pairs (λ p among. among));
   enough = made.many ∙ are.enough;
-  short = λ k. subst (λ n. n ≤ 128) (sym (made.long k)) (are.short k);
+  short =
+      λ k.
+      elim (cases_eq k d) [
+        | inl same ↦
+            subst (λ n. n ≤ 128) (sym (ap (λ i. length (get_or next i [])) same ∙ made.own.long ∙ ap (λ i. length (get_or blocks i [])) (sym same))) (are.short k)
+        | inr apart ↦ subst (λ n. n ≤ 128) (sym (ap length (made.others k apart))) (are.short k)
+      ];
   fits = are.fits;
-  none =
-      λ k p e other less.
-      made.bits k (begin_at (digit_count m slice) p + e)
-      ∙ zero_stays (k == d) (pair_bit m slice blocks k p e) (1 - mask (begin_at (digit_count m slice) p + e)) (are.none k p e other less);
 }
   where
-    zero_stays : (b : Bool) (n x : ℕ) → n ≡ 0 → (if b then min n x else n) ≡ 0
-    zero_stays true n x none = omega (arith, none)
-    zero_stays false n x none = none
-
     own : (set p : ℕ) → IsPartner m slice column set p → (k e : ℕ) (g : ℕ → Option ℕ) → g column ≡ Some k → g p ≡ Some e → k ≡ d → digits p ≡ Some e
         → held_bit m slice (with_digit digits column d) set ≡ held_bit m slice g set
     own set p partner k e g first second same is =
@@ -346,24 +369,21 @@ pairs-closed m slice column d digits mask bits partners blocks next kept below w
         ∙ meet.digits p (partner.members p ∙ ap (λ b. (p == column) || b) (eq-eqb p p refl) ∙ or-true (p == column)) ∙ second in
         differs (cc) second_same))
 
-    by_digit : (set p : ℕ) → IsPair m slice column bits blocks set p → (k e : ℕ) (g : ℕ → Option ℕ) → AreDigits (own_values m slice) g → g column ≡ Some k
-        → g p ≡ Some e → (o : Option ℕ) → digits p ≡ o
+    by_digit : (set p : ℕ) → IsPair m slice column bits blocks set p → is_among partners p ≡ true → (k e : ℕ) (g : ℕ → Option ℕ)
+        → AreDigits (own_values m slice) g → g column ≡ Some k → g p ≡ Some e → (o : Option ℕ) → digits p ≡ o
         → pair_bit m slice next k p e ≡ held_count m slice (all_cleared m slice (with_digit digits column d) bits (sets_in_play m slice column)) g set
-    by_digit set p is k e g under first second o given =
+    by_digit set p is among k e g under first second o given =
         let place = begin_at (digit_count m slice) p + e in
-        let hidden : mask place ≡ hot o e = masked.bits p e is.partner.exists (under p e second) ∙ ap (λ x. hot x e) given in
-        let small = bit-small (get_or blocks k []) place in
         elim (cases_eq k d) [
           | inr apart ↦
-              let test : (k == d) ≡ false = grind (arith, nat_tests) in
-              unmarked set p is k e g under first second (λ same x. apart same)
-              (made.bits k place ∙ ap (λ b. if b then min (pair_bit m slice blocks k p e) (1 - mask place) else pair_bit m slice blocks k p e) test)
+              unmarked set p is k e g under first second (λ same x. apart same) (ap (λ block. bit_in block place) (made.others k apart))
           | inl same ↦
-              let test : (k == d) ≡ true = grind (arith, nat_tests) in
               let masks : pair_bit m slice next k p e ≡ min (pair_bit m slice blocks k p e) (1 - hot o e) =
-              made.bits k place ∙ ap (λ b. if b then min (pair_bit m slice blocks k p e) (1 - mask place) else pair_bit m slice blocks k p e) test
-              ∙ ap (λ n. min (pair_bit m slice blocks k p e) (1 - n)) hidden in
-              at o given masks same small
+              ap (λ i. bit_in (get_or next i []) place) same ∙ made.own.bits p e (under p e second)
+              ∙ ap (λ i. min (bit_in (get_or blocks i []) place) (1 - hot (restricted partners digits p) e)) (sym same)
+              ∙ ap (λ b. min (pair_bit m slice blocks k p e) (1 - hot (if b then digits p else None) e)) among
+              ∙ ap (λ x. min (pair_bit m slice blocks k p e) (1 - hot x e)) given in
+              at o given masks same (bit-small (get_or blocks k []) place)
         ]
       where
         at : (o : Option ℕ) → digits p ≡ o → pair_bit m slice next k p e ≡ min (pair_bit m slice blocks k p e) (1 - hot o e) → k ≡ d
@@ -388,7 +408,7 @@ pairs-closed m slice column d digits mask bits partners blocks next kept below w
             ]
 
 -- a sum over all parameters is that over those that are listed
-above_among : (a e x : ℕ) (ps : List ℕ) → RisesFrom a e ps → x < a → is_among ps x ≡ false
+pub above_among : (a e x : ℕ) (ps : List ℕ) → RisesFrom a e ps → x < a → is_among ps x ≡ false
 above_among a e x [] rises less = refl
 above_among a e x (p ∷ ps) rises less =
     let least = rises.0 in
@@ -431,41 +451,49 @@ listed-sum g h (s ∷ ss) (p ∷ ps) lo (suc n) match rises none =
           omega (arith, first_of g lo n, rest, here)
     ]
 
+-- a row without a digit of the other parameter has no tuple of the set
+pub partner-none : (m : ModelView) (slice : Slice) (column d set p : ℕ) (digits : ℕ → Option ℕ) → IsPartner m slice column set p → digits p ≡ None
+    → held_bit m slice (with_digit digits column d) set ≡ None
+partner-none m slice column d set p digits partner none =
+    ap (option_map (λ n. first_bit m slice set + n))
+    (member_none (own_values m slice) (with_digit digits column d) (set_at m set) p
+    (partner.members p ∙ ap (λ b. (p == column) || b) (eq-eqb p p refl) ∙ or-true (p == column))
+    (other_digit digits column d p partner.apart ∙ none))
+
 -- the bits that a block has in common with a row's mask are those of the open tuples that the row contains
 pub pairs-count : (m : ModelView) (slice : Slice) (column d : ℕ) (digits : ℕ → Option ℕ) (mask : List ℕ) (bits : List Bool) (sets partners : List ℕ)
     (blocks : List (List ℕ)) → AreDigits (own_values m slice) digits → d < digit_count m slice column
-    → IsMask (digit_count m slice) digits (length m.params) (bit_in mask) → ArePairs m slice column bits sets partners blocks
+    → IsMask (digit_count m slice) (restricted partners digits) (length m.params) (bit_in mask) → ArePairs m slice column bits sets partners blocks
     → sum_to (common (get_or blocks d []) mask) (64 * length (get_or blocks d [])) ≡ sum_by (held_count m slice bits (with_digit digits column d)) sets
 pairs-count m slice column d digits mask bits sets partners blocks below within masked are =
     let block = get_or blocks d [] in
     let count = digit_count m slice in
     let params = length m.params in
-    let g : ℕ → ℕ = λ p. bit_for (digits p) (pair_bit m slice blocks d p) in
+    let own = restricted partners digits in
+    let g : ℕ → ℕ = λ p. bit_for (own p) (pair_bit m slice blocks d p) in
     let f = with_digit digits column d in
     sum-ends (common block mask) (64 * length block) (begin_at count params)
     (λ i past. let none = bit-past block i past in omega (arith, none))
     (λ i past. let none = masked.rest i past in omega (arith, none))
-    ∙ mask-sum count digits (bit_in mask) (bit_in block) params params (omega arith) masked below (bit-small block)
+    ∙ mask-sum count own (bit_in mask) (bit_in block) params params (omega arith) masked (λ p e. some_own p e (is_among partners p)) (bit-small block)
     ∙ sum-same g (λ i. g (0 + i)) params (λ i inside. ap g (sym (zero-add i)))
     ∙ listed-sum g (held_count m slice bits f) sets partners 0 params
-    (matched-weaker (IsPair m slice column bits blocks) (λ set p. g p ≡ held_count m slice bits f set)
-    (λ set p is. by_digit set p is (digits p) refl) sets partners are.pairs)
+    (matched-weaker (λ set p. IsPair m slice column bits blocks set p × (is_among partners p ≡ true)) (λ set p. g p ≡ held_count m slice bits f set)
+    (λ set p known. ap (λ b. bit_for (if b then digits p else None) (pair_bit m slice blocks d p)) known.1 ∙ by_digit set p known.0 (digits p) refl) sets partners
+    (matched-listed (IsPair m slice column bits blocks) (λ p. is_among partners p ≡ true) sets partners are.pairs (λ p among. among)))
     (subst (λ k. RisesFrom 0 k partners) (sym (zero-add params)) are.rise)
-    (λ p least other. no_digit p other (digits p) refl)
+    (λ p least other. ap (λ b. bit_for (if b then digits p else None) (pair_bit m slice blocks d p)) other)
   where
+    some_own : (p e : ℕ) (b : Bool) → (if b then digits p else None) ≡ Some e → e < digit_count m slice p
+    some_own p e true is = below p e is
+    some_own p e false is = absurd (let never : None ≡ Some e = is in cc)
+
     by_digit : (set p : ℕ) → IsPair m slice column bits blocks set p → (o : Option ℕ) → digits p ≡ o
         → bit_for (digits p) (pair_bit m slice blocks d p) ≡ held_count m slice bits (with_digit digits column d) set
     by_digit set p is None given =
         ap (λ o. bit_for o (pair_bit m slice blocks d p)) given
-        ∙ sym (ap (λ o. bit_count bits (option_map (λ n. first_bit m slice set + n) o))
-        (member_none (own_values m slice) (with_digit digits column d) (set_at m set) p
-        (is.partner.members p ∙ ap (λ b. (p == column) || b) (eq-eqb p p refl) ∙ or-true (p == column))
-        (other_digit digits column d p is.partner.apart ∙ given)))
+        ∙ sym (ap (bit_count bits) (partner-none m slice column d set p digits is.partner given))
     by_digit set p is (Some e) given =
         ap (λ o. bit_for o (pair_bit m slice blocks d p)) given
         ∙ is.held d e (with_digit digits column d) (with_digits (own_values m slice) digits column d below within) (own_column digits column d)
         (other_digit digits column d p is.partner.apart ∙ given)
-
-    no_digit : (p : ℕ) → is_among partners p ≡ false → (o : Option ℕ) → digits p ≡ o → bit_for (digits p) (pair_bit m slice blocks d p) ≡ 0
-    no_digit p other None given = ap (λ o. bit_for o (pair_bit m slice blocks d p)) given
-    no_digit p other (Some e) given = ap (λ o. bit_for o (pair_bit m slice blocks d p)) given ∙ are.none d p e other (below p e given)

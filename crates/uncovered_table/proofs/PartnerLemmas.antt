@@ -1,12 +1,12 @@
 -- The pairs of a column at first: the other member of each set in play, and blocks with a bit for each tuple.
-use Rattle.std.proofs.Common.{inl, inr, ◌≡◌, ℕ, zero, suc, ◌+◌, ◌-◌, ◌*◌, ◌/◌, ◌%◌, ◌<◌, ◌≤◌, ◌⊎◌, Bool, true, false, ◌||◌, List, [], ◌∷◌, ◌++◌, Option, Some, None, All, map}
+use Rattle.std.proofs.Common.{inl, inr, ◌≡◌, ℕ, ◌+◌, ◌-◌, ◌*◌, ◌/◌, ◌%◌, ◌<◌, ◌≤◌, ◌⊎◌, Bool, true, false, ◌||◌, List, [], ◌∷◌, ◌++◌, Option, Some, None, All, map}
 use Rattle.std.proofs.Common.{length, get_or, sum_by, replicate, take, drop, ◌∙◌, refl, sym, subst, ap, arith, add-one, drop-cons, length-append}
 use Rattle.std.specs.Int.{bit_at}
 use Rattle.std.specs.Option.{option_map_or}
-use Rattle.std.specs.Prelude.{◌==◌, IfSome, min, nat_lt, option_map, slice_range, slice_set, if◌then◌else◌}
+use Rattle.std.specs.Prelude.{◌==◌, IfSome, nat_lt, option_map, slice_range, slice_set, if◌then◌else◌}
 use Rattle.std.proofs.lemmas.Bool.{cases_Bool, cases_eq, cases_lt, eq-eqb, false≢true}
 use Rattle.std.proofs.lemmas.Bool.Decides.{nat_tests}
-use Rattle.std.proofs.lemmas.List.{append-nil, drop_all, get_or_append_left, get_or_default, get_or_past, get_or-replicate}
+use Rattle.std.proofs.lemmas.List.{get_or_append_left, get_or_default, get_or_past, get_or-replicate}
 use Rattle.std.proofs.lemmas.List.{get_or-set_same, get_or-set_other, length-replicate, length-set, take_all, take_more}
 use Rattle.std.proofs.lemmas.List.Elements.{All-cons, All-nil}
 use Rattle.std.proofs.lemmas.Nat.Bits.{bit_at-zero}
@@ -24,7 +24,7 @@ use Rattle.uncovered_table.specs.declared.prepared.Prepared.{Prepared}
 use Rattle.uncovered_table.specs.Bits.{InPlay, all_cleared, bit_count, first_bit, held_count, sets_in_play, tuple_count, value_held}
 use Rattle.uncovered_table.specs.Kept.{last_column, play_column}
 use Rattle.uncovered_table.specs.Digits.{AreDigits, cell_digit, digit_of, joined, number_of, own_values, with_digit}
-use Rattle.uncovered_table.specs.Masks.{AreAll, AreBegins, IsMask, begin_at}
+use Rattle.uncovered_table.specs.Masks.{AreAll, AreBegins, IsCleared, IsMask, begin_at, restricted}
 use Rattle.uncovered_table.specs.Pairs.{AreKept, ArePairs, ArePartners, HasPairs, IsLonePart, IsPair, IsPartner, Matched, common_count, digit_count}
 use Rattle.uncovered_table.specs.Places.{set_at, slice_places}
 use Rattle.uncovered_table.specs.Prepared.{IsLineOf, sum_of}
@@ -32,7 +32,7 @@ use Rattle.uncovered_table.specs.Words.{bit_in}
 use Rattle.uncovered_table.proofs.BitLemmas.{bits_before}
 use Rattle.uncovered_table.proofs.GainLemmas.{number_within}
 use Rattle.uncovered_table.proofs.LineLemmas.{column_among}
-use Rattle.uncovered_table.proofs.PairLemmas.{AreCleared, matched-weaker, pairs-count, pairs-elsewhere, pairs-single, same_members}
+use Rattle.uncovered_table.proofs.PairLemmas.{AreCleared, matched-listed, matched-weaker, pairs-count, pairs-elsewhere, pairs-single, same_members}
 use Rattle.uncovered_table.proofs.MaskLemmas.{begins-rise}
 use Rattle.uncovered_table.proofs.DigitLemmas.{cell_digits, digit_below}
 use Rattle.uncovered_table.proofs.ValueLemmas.{digit_gain, member_none, no_gain}
@@ -146,17 +146,6 @@ pub rises-wider : (a b e : ℕ) (ps : List ℕ) → b ≤ e → RisesFrom a b ps
 rises-wider a b e [] order rises = tt
 rises-wider a b e (p ∷ ps) order rises = let less = rises.1 in (rises.0, omega (arith, less, order), rises-wider (p + 1) b e ps order rises.2)
 
--- what is known of each item of the second list
-matched-listed : (R : ℕ → ℕ → Type 0) (P : ℕ → Type 0) (xs ys : List ℕ) → Matched R xs ys → ((y : ℕ) → is_among ys y ≡ true → P y)
-    → Matched (λ x y. R x y × P y) xs ys
-matched-listed R P [] [] all each = tt
-matched-listed R P [] (y ∷ ys) all each = absurd all
-matched-listed R P (x ∷ xs) [] all each = absurd all
-matched-listed R P (x ∷ xs) (y ∷ ys) all each = (
-  (all.0, each y (ap (λ b. b || is_among ys y) (eq-eqb y y refl))),
-  matched-listed R P xs ys all.1 (λ z among. each z (ap (λ b. (y == z) || b) among ∙ or-true (y == z))),
-)
-
 -- where each member has a digit there is a number
 record SomeNumber (values : ℕ → List ℕ) (digits : ℕ → Option ℕ) (set : List ℕ) : Type 0 where
   number : ℕ
@@ -225,15 +214,6 @@ pairs-new m slice column count sets partners block blocks kept are all few fits 
         | inr past ↦ subst (λ n. n ≤ 128) (sym (ap length (beyond k past))) (omega arith)
       ];
   fits = fits;
-  none =
-      λ k p e other below.
-      elim (cases_lt k count) [
-        | inl less ↦
-            at k (begin_at (digit_count m slice) p + e) less ∙ all.bits p e below ∙ ap (λ b. if b then 1 else 0) other
-        | inr past ↦
-            ap (λ words. bit_in words (begin_at (digit_count m slice) p + e)) (beyond k past)
-            ∙ bit-past [] (begin_at (digit_count m slice) p + e) (omega arith)
-      ];
 }
   where
     read : (k : ℕ) → k < count → get_or blocks k [] ≡ block
@@ -279,32 +259,13 @@ all-used count params mask block words all within rest cut = record {
   bits = λ p d below. ap (λ list. bit_in list (begin_at count p + d)) cut ∙ bit-used mask words (begin_at count p + d) within rest ∙ all.bits p d below;
 }
 
--- a block without the bits of a mask
-pub cleared-blocks : (blocks : List (List ℕ)) (d : ℕ) (block : List ℕ) (mask : ℕ → ℕ) → d < length blocks → length block ≡ length (get_or blocks d [])
-    → ((i : ℕ) → bit_in block i ≡ min (bit_in (get_or blocks d []) i) (1 - mask i)) → AreCleared blocks (slice_set blocks d block) d mask
-cleared-blocks blocks d block mask within long made = record {
+-- one block without the bits of digits
+pub cleared-blocks : (count : ℕ → ℕ) (digits : ℕ → Option ℕ) (blocks : List (List ℕ)) (d : ℕ) (block : List ℕ) → d < length blocks
+    → IsCleared count digits (get_or blocks d []) block → AreCleared count digits blocks (slice_set blocks d block) d
+cleared-blocks count digits blocks d block within made = record {
   many = length-set blocks d block;
-  long =
-      λ k.
-      elim (cases_eq k d) [
-        | inl here ↦
-            ap (λ n. length (get_or (slice_set blocks d block) n [])) here ∙ ap length (get_or-set_same blocks d block [] within) ∙ long
-            ∙ ap (λ n. length (get_or blocks n [])) (sym here)
-        | inr apart ↦ ap length (get_or-set_other blocks d k block [] apart)
-      ];
-  bits =
-      λ k i.
-      elim (cases_eq k d) [
-        | inl here ↦
-            let test : (k == d) ≡ true = grind (arith, nat_tests) in
-            ap (λ n. bit_in (get_or (slice_set blocks d block) n []) i) here ∙ ap (λ list. bit_in list i) (get_or-set_same blocks d block [] within) ∙ made i
-            ∙ ap (λ n. min (bit_in (get_or blocks n []) i) (1 - mask i)) (sym here)
-            ∙ sym (ap (λ b. if b then min (bit_in (get_or blocks k []) i) (1 - mask i) else bit_in (get_or blocks k []) i) test)
-        | inr apart ↦
-            let test : (k == d) ≡ false = grind (arith, nat_tests) in
-            ap (λ list. bit_in list i) (get_or-set_other blocks d k block [] apart)
-            ∙ sym (ap (λ b. if b then min (bit_in (get_or blocks k []) i) (1 - mask i) else bit_in (get_or blocks k []) i) test)
-      ];
+  others = λ k apart. get_or-set_other blocks d k block [] apart;
+  own = subst (IsCleared count digits (get_or blocks d [])) (sym (get_or-set_same blocks d block [] within)) made;
 }
 
 pub no-bits : (n k : ℕ) → bit_in (replicate n 0) k ≡ 0
@@ -404,19 +365,6 @@ kept-closed m slice f bits column columns made kept below are here = record {
         pairs-elsewhere m slice f column p bits (sets_in_play m slice p) pairs.partners.items (map (λ block. block.items) pairs.blocks.items) kept below
         (λ same. apart (sym same)) has
 
--- a table whose column keeps none stays so
-pub kept-none : (m : ModelView) (slice : Slice) (f : ℕ → Option ℕ) (bits : List Bool) (column : ℕ) (columns : List (Option PairBits))
-    → IsKept (plan_of m) → AreDigits (own_values m slice) f → AreKept m slice bits (length m.params) columns → get_or columns column None ≡ None
-    → AreKept m slice (all_cleared m slice f bits (sets_in_play m slice column)) (length m.params) columns
-kept-none m slice f bits column columns kept below are none =
-    subst (AreKept m slice (all_cleared m slice f bits (sets_in_play m slice column)) (length m.params)) (set_same columns column none)
-    (kept-closed m slice f bits column columns None kept below are tt)
-  where
-    set_same : (xs : List (Option PairBits)) (i : ℕ) → get_or xs i None ≡ None → slice_set xs i None ≡ xs
-    set_same [] i is = refl
-    set_same (x ∷ xs) zero is = ap (λ o. o ∷ xs) (sym is)
-    set_same (x ∷ xs) (suc i) is = ap (λ rest. x ∷ rest) (set_same xs i is)
-
 -- what closing a single tuple leaves
 pub kept-single : (m : ModelView) (slice : Slice) (bits : List Bool) (closed bit : ℕ) (columns next : List (Option PairBits)) → IsKept (plan_of m)
     → first_bit m slice closed ≤ bit → bit < first_bit m slice closed + tuple_count m slice closed → length next ≡ length columns
@@ -468,7 +416,7 @@ forget-own columns p =
 -- the gain of a value is what the block of its digit has in common with the row's mask
 pub pairs-gain : (m : ModelView) (slice : Slice) (column v : ℕ) (cells : List (Option ℕ)) (mask : List ℕ) (bits : List Bool) (partners : List ℕ)
     (blocks : List (List ℕ)) (o : Option ℕ) → digit_of (own_values m slice column) v ≡ o
-    → IsMask (digit_count m slice) (cell_digit (own_values m slice) cells) (length m.params) (bit_in mask)
+    → IsMask (digit_count m slice) (restricted partners (cell_digit (own_values m slice) cells)) (length m.params) (bit_in mask)
     → ArePairs m slice column bits (sets_in_play m slice column) partners blocks
     → common_count blocks mask o ≡ sum_by (value_held m slice bits cells column v) (sets_in_play m slice column)
 pairs-gain m slice column v cells mask bits partners blocks None is masked are = no_gain m slice bits cells column v (sets_in_play m slice column) is
@@ -482,9 +430,3 @@ pub digit-block : (m : ModelView) (slice : Slice) (column v n : ℕ) (o : Option
     → IfSome o (λ d. d < n)
 digit-block m slice column v n None is many = tt
 digit-block m slice column v n (Some d) is many = let less = digit_below (own_values m slice column) v d is in omega (arith, less, many)
-
--- a list written over whole
-pub whole-list : (new old : List ℕ) (len : ℕ) → length new ≡ length old → len ≡ length old → take len (new ++ drop (length new) old) ≡ new
-whole-list new old len same long =
-    ap (λ rest. take len (new ++ rest)) (drop_all (length new) old (omega (arith, same))) ∙ ap (take len) (append-nil new)
-    ∙ take_all len new (omega (arith, same, long))

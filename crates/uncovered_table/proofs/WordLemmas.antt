@@ -7,12 +7,12 @@ use Rattle.std.specs.Int.Count.{ones}
 use Rattle.std.specs.Int.Bits.{bit_and}
 use Rattle.std.proofs.lemmas.Nat.{ones_cat}
 use Rattle.std.proofs.lemmas.Nat.Bits.{bit_at-suc, bit_at_lowest, bit_at_and, bit_at-zero, bit_at-lt, bit_at_set_other, bit_at_set_same}
+use Rattle.std.proofs.lemmas.Nat.Bits.{bit_at_clear_other, bit_at_clear_same}
 use Rattle.std.specs.Int.{bit_not}
 use Rattle.std.proofs.lemmas.Bool.{cases_eq, cases_lt}
 use Rattle.std.proofs.lemmas.Bool.Decides.{nat_tests}
-use Rattle.std.proofs.lemmas.List.{get_or-set_same, get_or-set_other, get_or_past, get_or-take, length-set, length-take}
-use Rattle.std.proofs.lemmas.Nat.Bits.{bit_at_not}
-use Rattle.uncovered_table.specs.Words.{bit_in, common, lacking, sum_to}
+use Rattle.std.proofs.lemmas.List.{get_or-set_same, get_or-set_other, get_or_past, get_or-take, length-take}
+use Rattle.uncovered_table.specs.Words.{bit_in, common, sum_to}
 
 pub sum-first : (f : ℕ → ℕ) (n : ℕ) → sum_to f (suc n) ≡ f 0 + sum_to (λ i. f (suc i)) n
 sum-first f zero = omega arith
@@ -81,37 +81,6 @@ sum-word words mask i fits =
         ∙ ap (λ n. min (bit_at (slice_index words i) n) (bit_at (slice_index mask i) n)) place
         ∙ sym (bit_at_and (slice_index words i) (slice_index mask i) j)
 
--- a word without the mask's bits
-pub record Cleared (words mask now : List ℕ) (i : ℕ) : Type 0 where
-  pub long : length now ≡ length words
-  pub done : (k : ℕ) → k < 64 * i → bit_in now k ≡ lacking words mask k
-  pub rest : (k : ℕ) → 64 * i ≤ k → bit_in now k ≡ bit_in words k
-
-pub cleared-word : (words mask now : List ℕ) (i : ℕ) → i < length words → get_or mask i 0 < 2 ^ 64 → Cleared words mask now i
-    → Cleared words mask (set now i (bit_and (get_or now i 0) (bit_not w64 (get_or mask i 0)))) (i + 1)
-cleared-word words mask now i within fits before = record {
-  long = length-set now i (bit_and (get_or now i 0) (bit_not w64 (get_or mask i 0))) ∙ before.long;
-  done =
-      λ k below.
-      elim (cases_eq (k / 64) i) [
-        | inl here ↦
-            let least : 64 * i ≤ k = omega (arith, here) in
-            let was : bit_at (get_or now i 0) (k % 64) ≡ bit_in words k = ap (λ n. bit_at (get_or now n 0) (k % 64)) (sym here) ∙ before.rest k least in
-            let masked : bit_at (bit_not w64 (get_or mask i 0)) (k % 64) ≡ 1 - bit_in mask k =
-            bit_at_not w64 (get_or mask i 0) (k % 64) fits (omega arith) ∙ ap (λ n. 1 - bit_at (get_or mask n 0) (k % 64)) (sym here) in
-            ap (λ n. bit_at (get_or (set now i (bit_and (get_or now i 0) (bit_not w64 (get_or mask i 0)))) n 0) (k % 64)) here
-            ∙ ap (λ word. bit_at word (k % 64)) (get_or-set_same now i (bit_and (get_or now i 0) (bit_not w64 (get_or mask i 0))) 0 (omega (arith, before.long)))
-            ∙ bit_at_and (get_or now i 0) (bit_not w64 (get_or mask i 0)) (k % 64) ∙ ap (λ b. min b (bit_at (bit_not w64 (get_or mask i 0)) (k % 64))) was ∙ ap (min (bit_in words k)) masked
-        | inr apart ↦
-            ap (λ word. bit_at word (k % 64)) (get_or-set_other now i (k / 64) (bit_and (get_or now i 0) (bit_not w64 (get_or mask i 0))) 0 apart)
-            ∙ before.done k (omega (arith, apart, below))
-      ];
-  rest =
-      λ k least.
-      ap (λ word. bit_at word (k % 64)) (get_or-set_other now i (k / 64) (bit_and (get_or now i 0) (bit_not w64 (get_or mask i 0))) 0 (λ same. omega (arith, same, least)))
-      ∙ before.rest k (omega (arith, least));
-}
-
 -- the sum ends where nothing more comes
 sum-tail : (f : ℕ → ℕ) (n more : ℕ) → ((i : ℕ) → n ≤ i → f i ≡ 0) → sum_to f (n + more) ≡ sum_to f n
 sum-tail f n zero none = ap (sum_to f) (let e : n + 0 ≡ n = omega arith in e)
@@ -158,6 +127,31 @@ set-bit words place k within =
             | inr elsewhere ↦
                 ap (λ w. bit_at w (k % 64)) (get_or-set_other words (place / 64) (k / 64) word 0 elsewhere)
                 ∙ sym (ap (λ b. if b then 1 else bit_in words k) test)
+          ]
+    ]
+
+-- a bit that is cleared, and the others
+pub clear-bit : (words : List ℕ) (place k was : ℕ) → place / 64 < length words → was ≡ get_or words (place / 64) 0
+    → bit_in (set words (place / 64) (bit_and was (bit_not w64 (1 * 2 ^ (place % 64) % 2 ^ 64)))) k ≡ (if k == place then 0 else bit_in words k)
+clear-bit words place k was inside read =
+    let word = bit_and was (bit_not w64 (1 * 2 ^ (place % 64) % 2 ^ 64)) in
+    elim (cases_eq k place) [
+      | inl same ↦
+          let test : nat_eq k place ≡ true = grind (arith, nat_tests) in
+          ap (bit_in (set words (place / 64) word)) same ∙ ap (λ w. bit_at w (place % 64)) (get_or-set_same words (place / 64) word 0 inside)
+          ∙ bit_at_clear_same w64 was (place % 64) (omega arith) ∙ sym (ap (λ b. if b then 0 else bit_in words k) test)
+      | inr apart ↦
+          let test : nat_eq k place ≡ false = grind (arith, nat_tests) in
+          elim (cases_eq (k / 64) (place / 64)) [
+            | inl here ↦
+                let bit : k % 64 ≡ place % 64 → ⊥ = λ same. apart (omega (arith, same, here)) in
+                ap (λ n. bit_at (get_or (set words (place / 64) word) n 0) (k % 64)) here
+                ∙ ap (λ w. bit_at w (k % 64)) (get_or-set_same words (place / 64) word 0 inside)
+                ∙ bit_at_clear_other w64 was (place % 64) (omega arith) (k % 64) (omega arith) bit ∙ ap (λ w. bit_at w (k % 64)) read
+                ∙ ap (λ n. bit_at (get_or words n 0) (k % 64)) (sym here) ∙ sym (ap (λ b. if b then 0 else bit_in words k) test)
+            | inr elsewhere ↦
+                ap (λ w. bit_at w (k % 64)) (get_or-set_other words (place / 64) (k / 64) word 0 elsewhere)
+                ∙ sym (ap (λ b. if b then 0 else bit_in words k) test)
           ]
     ]
 

@@ -1,6 +1,6 @@
 -- The open tuples of the sets of two parameters once more, as bits in blocks: a block for each digit of a column, and in it a bit for each digit
 -- of each other parameter.
-use Rattle.std.specs.Prelude.{◌≡◌, ℕ, Bool, false, ◌||◌, ◌+◌, ◌<◌, ◌≤◌, ◌*◌, List, [], ◌∷◌, length, map, IfSome, Option, None, Some, ◌==◌, slice_index_or}
+use Rattle.std.specs.Prelude.{◌≡◌, ℕ, Bool, ◌||◌, ◌+◌, ◌<◌, ◌≤◌, ◌*◌, List, [], ◌∷◌, length, map, IfSome, Option, None, Some, ◌==◌, slice_index_or}
 use Rattle.cov_model.specs.declared.slice.Slice.{Slice}
 use Rattle.cov_model.specs.Sound.{ModelView}
 use Rattle.definitions.specs.Demand.{is_among}
@@ -42,14 +42,13 @@ pub record IsPair (m : ModelView) (slice : Slice) (column : ℕ) (bits : List Bo
   pub held : (d e : ℕ) (digits : ℕ → Option ℕ) → AreDigits (own_values m slice) digits → digits column ≡ Some d → digits p ≡ Some e
       → pair_bit m slice blocks d p e ≡ held_count m slice bits digits set
 
--- those of some sets, by their other parameters in order; other bits are not set
+-- those of some sets, by their other parameters in order
 pub record ArePairs (m : ModelView) (slice : Slice) (column : ℕ) (bits : List Bool) (sets partners : List ℕ) (blocks : List (List ℕ)) : Type 0 where
   pub rise : RisesFrom 0 (length m.params) partners
   pub pairs : Matched (IsPair m slice column bits blocks) sets partners
   pub enough : length blocks ≡ digit_count m slice column
   pub short : (d : ℕ) → length (slice_index_or blocks d []) ≤ 128
   pub fits : begin_at (digit_count m slice) (length m.params) ≤ 64 * 128
-  pub none : (d p e : ℕ) → is_among partners p ≡ false → e < digit_count m slice p → pair_bit m slice blocks d p e ≡ 0
 
 -- the pairs of a column
 abbrev pub HasPairs : ModelView → Slice → List Bool → ℕ → PairBits → Type 0

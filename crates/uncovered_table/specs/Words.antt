@@ -1,5 +1,5 @@
 -- Bits of words, 64 to a word.
-use Rattle.std.specs.Prelude.{◌≡◌, ℕ, zero, suc, ◌+◌, ◌-◌, ◌/◌, ◌%◌, ◌<◌, List, length, min, slice_index, slice_index_or}
+use Rattle.std.specs.Prelude.{◌≡◌, ℕ, zero, suc, ◌+◌, ◌/◌, ◌%◌, ◌<◌, List, length, min, slice_index, slice_index_or}
 use Rattle.std.specs.Int.{bit_at}
 
 -- a bit: 1 where it is set
@@ -9,10 +9,6 @@ bit_in words k = bit_at (slice_index words (k / 64)) (k % 64)
 -- 1 where both have it
 abbrev pub common : List ℕ → List ℕ → ℕ → ℕ
 common words mask k = min (bit_in words k) (bit_in mask k)
-
--- 1 where the mask lacks it
-abbrev pub lacking : List ℕ → List ℕ → ℕ → ℕ
-lacking words mask k = min (bit_in words k) (1 - bit_in mask k)
 
 -- the sum of a function over the numbers below one
 abbrev pub sum_to : (ℕ → ℕ) → ℕ → ℕ

@@ -1,19 +1,19 @@
-ghost use Rattle.std.specs.Prelude.{◌≡◌, ◌==◌, [], Some, if◌then◌else◌, ◌*◌, ◌+◌, ◌<◌, ◌≤◌, ◌⊎◌, ℕ, All, IfOk, IfSome, None, length, map, replicate, slice_index_or, sum_by, take, true};
+ghost use Rattle.std.specs.Prelude.{◌≡◌, ◌==◌, [], Option, Some, if◌then◌else◌, ◌*◌, ◌+◌, ◌<◌, ◌≤◌, ◌⊎◌, ℕ, All, IfOk, IfSome, None, length, map, replicate, slice_index_or, sum_by, take, true};
 ghost use Rattle.cov_model.specs.Sound.{param_at};
 ghost use Rattle.definitions.specs.SliceRows.{IsOfSlice};
-ghost use Rattle.uncovered_table.specs.Bits.{InPlay, all_cleared, held_count, sets_in_play, value_held};
+ghost use Rattle.uncovered_table.specs.Bits.{InPlay, all_cleared, cleared, held_bit, sets_in_play, value_held};
 ghost use Rattle.uncovered_table.specs.Digits.{cell_digit, own_values, with_digit};
 ghost use Rattle.definitions.specs.Demand.{demanded_sets};
-ghost use Rattle.uncovered_table.specs.Masks.{AreAll, AreBegins, IsMask, begin_at};
-ghost use Rattle.uncovered_table.specs.Pairs.{AreKept, ArePartners, HasPairs, IsLonePart, common_count, digit_count};
+ghost use Rattle.uncovered_table.specs.Masks.{AreAll, AreBegins, AreWithout, IsCleared, IsMask, begin_at, restricted};
+ghost use Rattle.uncovered_table.specs.Pairs.{AreKept, ArePartners, HasPairs, IsLonePart, IsPartner, Matched, common_count, digit_count};
 ghost use Rattle.uncovered_table.specs.Places.{slice_places};
 ghost use Rattle.uncovered_table.specs.Prepared.{AreColumns, AreLines};
-ghost use Rattle.uncovered_table.specs.Words.{bit_in, lacking};
+ghost use Rattle.uncovered_table.specs.Words.{bit_in};
 
-use crate::held::from_value;
+use crate::held::{clear_held, from_value};
 use crate::prepared::{ColumnLines, Part, Prepared};
 use crate::sets::SliceSets;
-use crate::words::{WORD_BITS, clear_common, count_common, set_bit, set_bits, used};
+use crate::words::{WORD_BITS, clear_bit, count_common, set_bit, set_bits, used};
 use bit_table::BitTable;
 use cov_model::{Cells, ParamNo, ValueNo};
 use std::alloc::Global;
@@ -116,20 +116,63 @@ impl<'a> SliceSets<'a> {
         Ok(begins)
     }
 
-    // Puts the mask of a row's digits.
-    fn put_mask(&self, begins: &[u32], cells: &Cells, mask: &mut [u64])
+    // Puts the mask of the digits that cells give some parameters.
+    fn put_mask(&self, begins: &[u32], params: &[ParamNo], cells: &Cells, mask: &mut [u64])
         requires begins { AreBegins (digit_count self.now.model self.now.slice) (length self.now.model.params) begins.now }
+        requires exist { All (λ p. p < length self.now.model.params) params.now }
         requires cells { IsOfSlice self.now.model self.now.slice cells.now }
         requires fits { begin_at (digit_count self.now.model self.now.slice) (length self.now.model.params) ≤ 64 * length mask.old }
         requires none { (k : ℕ) → bit_in mask.old k ≡ 0 }
         ensures long { length mask.new ≡ length mask.old }
-        ensures mask { IsMask (digit_count self.now.model self.now.slice) (cell_digit (own_values self.now.model self.now.slice) cells.now) (length self.now.model.params) (bit_in mask.new) }
+        ensures mask { IsMask (digit_count self.now.model self.now.slice)
+            (restricted params.now (cell_digit (own_values self.now.model self.now.slice) cells.now)) (length self.now.model.params) (bit_in mask.new) }
     {
         self.assert_invariant();
-        let count = cells.len() as ParamNo;
-        for p in 0..count {
+        for k in 0..params.len() {
+            let p = params[k];
             let begin = begins[p as usize];
             put_digit(mask, begin, self.cell_digit(cells, p));
+        }
+    }
+
+    // How many digits a parameter has.
+    #[inline]
+    fn digit_count(&self, begins: &[u32], p: ParamNo) -> u32
+        requires begins { AreBegins (digit_count self.now.model self.now.slice) (length self.now.model.params) begins.now }
+        requires param { p < length self.now.model.params }
+        ensures { result ≡ digit_count self.now.model self.now.slice p }
+    {
+        let _ = self;
+        begins[p as usize + 1] - begins[p as usize]
+    }
+
+    // The bit of the tuple of a set of two parameters that has these digits: the digit of the one that is
+    // declared first counts for more.
+    #[inline]
+    fn pair_bit(
+        &self,
+        begins: &[u32],
+        set: u32,
+        column: ParamNo,
+        digit: u16,
+        p: ParamNo,
+        other: u16,
+    ) -> u32
+        requires begins { AreBegins (digit_count self.now.model self.now.slice) (length self.now.model.params) begins.now }
+        requires column { column < length self.now.model.params }
+        requires partner { IsPartner self.now.model self.now.slice column set p }
+        requires digit { digit < digit_count self.now.model self.now.slice column }
+        requires other { other < digit_count self.now.model self.now.slice p }
+        ensures value { (digits : ℕ → Option ℕ) → digits column ≡ Some digit → digits p ≡ Some other
+            → held_bit self.now.model self.now.slice digits set ≡ Some result }
+        ensures within { result < length (slice_places self.now.model self.now.slice) }
+    {
+        self.assert_invariant();
+        let first = self.block(set).first;
+        if p < column {
+            first + u32::from(other) * self.digit_count(begins, column) + u32::from(digit)
+        } else {
+            first + u32::from(digit) * self.digit_count(begins, p) + u32::from(other)
         }
     }
 
@@ -280,7 +323,7 @@ pub(crate) fn put_pair_counts(
     sets.assert_invariant();
     let _ = bits;
     let mut mask = [0; MASK_WORDS];
-    sets.put_mask(begins, cells, &mut mask);
+    sets.put_mask(begins, pairs.partners.as_slice(), cells, &mut mask);
     let digits = from_value(sets.digits(column), from);
     for i in 0..scores.len() {
         let digit = digits[i];
@@ -288,72 +331,86 @@ pub(crate) fn put_pair_counts(
     }
 }
 
-// Clears the bits that a block has in common with a mask.
-fn clear_block(block: &mut Vec<u64>, mask: &[u64])
-    requires { length block.old.items ≤ length mask.now }
-    ensures long { length block.new.items ≡ length block.old.items }
-    ensures each { (k : ℕ) → bit_in block.new.items k ≡ lacking block.old.items mask.now k }
-{
-    clear_common(block.as_mut_slice(), mask);
-}
-
-// Clears the bits of the tuples that cells contain, with this digit in the column.
-fn clear_pairs(
+// Clears the bit of the tuple of a set of two parameters that cells contain, with this digit in the column,
+// and its bit in the block of the digit.
+fn clear_pair(
     sets: &SliceSets<'_>,
-    pairs: &mut PairBits,
     begins: &[u32],
-    bits: &BitTable,
+    set: u32,
+    p: ParamNo,
     cells: &Cells,
     column: ParamNo,
     digit: u16,
+    bits: &mut BitTable,
+    block: &mut Vec<u64>,
 )
+    requires begins { AreBegins (digit_count sets.now.model sets.now.slice) (length sets.now.model.params) begins.now }
+    requires partner { IsPartner sets.now.model sets.now.slice column set p }
     requires cells { IsOfSlice sets.now.model sets.now.slice cells.now }
     requires column { column < length sets.now.model.params }
-    requires digit { digit < length (own_values sets.now.model sets.now.slice column) }
-    requires begins { AreBegins (digit_count sets.now.model sets.now.slice) (length sets.now.model.params) begins.now }
-    requires pairs { HasPairs sets.now.model sets.now.slice bits.now column pairs.old }
-    ensures { HasPairs sets.now.model sets.now.slice (all_cleared sets.now.model sets.now.slice
-        (with_digit (cell_digit (own_values sets.now.model sets.now.slice) cells.now) column digit) bits.now
-        (sets_in_play sets.now.model sets.now.slice column)) column pairs.new }
+    requires digit { digit < digit_count sets.now.model sets.now.slice column }
+    requires bits { length bits.old ≡ length (slice_places sets.now.model sets.now.slice) }
+    ensures bits { bits.new ≡ cleared (held_bit sets.now.model sets.now.slice
+        (with_digit (cell_digit (own_values sets.now.model sets.now.slice) cells.now) column digit) set) bits.old }
+    ensures block { AreWithout (digit_count sets.now.model sets.now.slice) (cell_digit (own_values sets.now.model sets.now.slice) cells.now) p
+        block.old.items block.new.items }
 {
-    sets.assert_invariant();
-    let _ = bits;
-    let mut mask = [0; MASK_WORDS];
-    sets.put_mask(begins, cells, &mut mask);
-    clear_block(&mut pairs.blocks[digit as usize], &mask);
-}
-
-// Clears those bits where pairs are kept.
-fn clear_kept(
-    sets: &SliceSets<'_>,
-    kept: &mut Option<PairBits>,
-    begins: &[u32],
-    bits: &BitTable,
-    cells: &Cells,
-    column: ParamNo,
-    digit: u16,
-)
-    requires cells { IsOfSlice sets.now.model sets.now.slice cells.now }
-    requires column { column < length sets.now.model.params }
-    requires digit { digit < length (own_values sets.now.model sets.now.slice column) }
-    requires begins { AreBegins (digit_count sets.now.model sets.now.slice) (length sets.now.model.params) begins.now }
-    requires pairs { IfSome kept.old (HasPairs sets.now.model sets.now.slice bits.now column) }
-    ensures { IfSome kept.new (HasPairs sets.now.model sets.now.slice (all_cleared sets.now.model sets.now.slice
-        (with_digit (cell_digit (own_values sets.now.model sets.now.slice) cells.now) column digit) bits.now
-        (sets_in_play sets.now.model sets.now.slice column)) column) }
-{
-    match kept {
-        Some(pairs) => clear_pairs(sets, pairs, begins, bits, cells, column, digit),
+    match sets.cell_digit(cells, p) {
+        Some(other) => {
+            let begin = begins[p as usize];
+            bits.clear(sets.pair_bit(begins, set, column, digit, p, other));
+            clear_bit(block, begin as usize + other as usize);
+        }
         None => {}
     }
 }
 
-// Clears those of a column, where it keeps some.
-pub(crate) fn clear_column(
+// Clears these bits for each set in play for the column, by their other members.
+fn clear_partners(
     sets: &SliceSets<'_>,
-    columns: &mut Vec<Option<PairBits>>,
     begins: &[u32],
-    bits: &BitTable,
+    partners: &[ParamNo],
+    cells: &Cells,
+    column: ParamNo,
+    digit: u16,
+    bits: &mut BitTable,
+    block: &mut Vec<u64>,
+)
+    requires begins { AreBegins (digit_count sets.now.model sets.now.slice) (length sets.now.model.params) begins.now }
+    requires partners { Matched (IsPartner sets.now.model sets.now.slice column) (sets_in_play sets.now.model sets.now.slice column) partners.now }
+    requires cells { IsOfSlice sets.now.model sets.now.slice cells.now }
+    requires column { column < length sets.now.model.params }
+    requires digit { digit < digit_count sets.now.model sets.now.slice column }
+    requires bits { length bits.old ≡ length (slice_places sets.now.model sets.now.slice) }
+    ensures bits { bits.new ≡ all_cleared sets.now.model sets.now.slice
+        (with_digit (cell_digit (own_values sets.now.model sets.now.slice) cells.now) column digit) bits.old
+        (sets_in_play sets.now.model sets.now.slice column) }
+    ensures block { IsCleared (digit_count sets.now.model sets.now.slice)
+        (restricted partners.now (cell_digit (own_values sets.now.model sets.now.slice) cells.now)) block.old.items block.new.items }
+{
+    let demanded = sets.in_play(column);
+    for k in 0..demanded.len() {
+        let p = partners[k];
+        clear_pair(
+            sets,
+            begins,
+            demanded[k],
+            p,
+            cells,
+            column,
+            digit,
+            bits,
+            block,
+        );
+    }
+}
+
+// Clears the bits of the tuples that cells contain, with this digit in the column, where pairs are kept.
+fn clear_pairs(
+    sets: &SliceSets<'_>,
+    pairs: &mut PairBits,
+    begins: &[u32],
+    bits: &mut BitTable,
     cells: &Cells,
     column: ParamNo,
     digit: u16,
@@ -361,15 +418,89 @@ pub(crate) fn clear_column(
     requires cells { IsOfSlice sets.now.model sets.now.slice cells.now }
     requires column { column < length sets.now.model.params }
     requires digit { digit < length (own_values sets.now.model sets.now.slice column) }
+    requires bits { length bits.old ≡ length (slice_places sets.now.model sets.now.slice) }
     requires begins { AreBegins (digit_count sets.now.model sets.now.slice) (length sets.now.model.params) begins.now }
-    requires kept { AreKept sets.now.model sets.now.slice bits.now (length sets.now.model.params) columns.old.items }
-    ensures { AreKept sets.now.model sets.now.slice (all_cleared sets.now.model sets.now.slice
-        (with_digit (cell_digit (own_values sets.now.model sets.now.slice) cells.now) column digit) bits.now
+    requires pairs { HasPairs sets.now.model sets.now.slice bits.old column pairs.old }
+    ensures bits { bits.new ≡ all_cleared sets.now.model sets.now.slice
+        (with_digit (cell_digit (own_values sets.now.model sets.now.slice) cells.now) column digit) bits.old
+        (sets_in_play sets.now.model sets.now.slice column) }
+    ensures pairs { HasPairs sets.now.model sets.now.slice (all_cleared sets.now.model sets.now.slice
+        (with_digit (cell_digit (own_values sets.now.model sets.now.slice) cells.now) column digit) bits.old
+        (sets_in_play sets.now.model sets.now.slice column)) column pairs.new }
+{
+    sets.assert_invariant();
+    let block = &mut pairs.blocks[digit as usize];
+    clear_partners(
+        sets,
+        begins,
+        pairs.partners.as_slice(),
+        cells,
+        column,
+        digit,
+        bits,
+        block,
+    );
+}
+
+// Clears those bits, by the pairs where they are kept, else by the prepared lines.
+fn clear_kept(
+    sets: &SliceSets<'_>,
+    kept: &mut Option<PairBits>,
+    lines: &ColumnLines,
+    begins: &[u32],
+    bits: &mut BitTable,
+    cells: &Cells,
+    column: ParamNo,
+    digit: u16,
+)
+    requires cells { IsOfSlice sets.now.model sets.now.slice cells.now }
+    requires column { column < length sets.now.model.params }
+    requires digit { digit < length (own_values sets.now.model sets.now.slice column) }
+    requires bits { length bits.old ≡ length (slice_places sets.now.model sets.now.slice) }
+    requires lines { AreLines sets.now.model sets.now.slice column (sets_in_play sets.now.model sets.now.slice column) lines.now.lines.items lines.now.parts.items }
+    requires begins { AreBegins (digit_count sets.now.model sets.now.slice) (length sets.now.model.params) begins.now }
+    requires pairs { IfSome kept.old (HasPairs sets.now.model sets.now.slice bits.old column) }
+    ensures bits { bits.new ≡ all_cleared sets.now.model sets.now.slice
+        (with_digit (cell_digit (own_values sets.now.model sets.now.slice) cells.now) column digit) bits.old
+        (sets_in_play sets.now.model sets.now.slice column) }
+    ensures pairs { IfSome kept.new (HasPairs sets.now.model sets.now.slice (all_cleared sets.now.model sets.now.slice
+        (with_digit (cell_digit (own_values sets.now.model sets.now.slice) cells.now) column digit) bits.old
+        (sets_in_play sets.now.model sets.now.slice column)) column) }
+{
+    match kept {
+        Some(pairs) => clear_pairs(sets, pairs, begins, bits, cells, column, digit),
+        None => clear_held(sets, lines, bits, cells, column, digit),
+    }
+}
+
+// Clears those bits, and keeps the pairs of each column.
+pub(crate) fn clear_column(
+    sets: &SliceSets<'_>,
+    columns: &mut Vec<Option<PairBits>>,
+    lines: &ColumnLines,
+    begins: &[u32],
+    bits: &mut BitTable,
+    cells: &Cells,
+    column: ParamNo,
+    digit: u16,
+)
+    requires cells { IsOfSlice sets.now.model sets.now.slice cells.now }
+    requires column { column < length sets.now.model.params }
+    requires digit { digit < length (own_values sets.now.model sets.now.slice column) }
+    requires bits { length bits.old ≡ length (slice_places sets.now.model sets.now.slice) }
+    requires lines { AreLines sets.now.model sets.now.slice column (sets_in_play sets.now.model sets.now.slice column) lines.now.lines.items lines.now.parts.items }
+    requires begins { AreBegins (digit_count sets.now.model sets.now.slice) (length sets.now.model.params) begins.now }
+    requires kept { AreKept sets.now.model sets.now.slice bits.old (length sets.now.model.params) columns.old.items }
+    ensures bits { bits.new ≡ all_cleared sets.now.model sets.now.slice
+        (with_digit (cell_digit (own_values sets.now.model sets.now.slice) cells.now) column digit) bits.old
+        (sets_in_play sets.now.model sets.now.slice column) }
+    ensures kept { AreKept sets.now.model sets.now.slice (all_cleared sets.now.model sets.now.slice
+        (with_digit (cell_digit (own_values sets.now.model sets.now.slice) cells.now) column digit) bits.old
         (sets_in_play sets.now.model sets.now.slice column)) (length sets.now.model.params) columns.new.items }
 {
     sets.assert_invariant();
     let kept = &mut columns[column as usize];
-    clear_kept(sets, kept, begins, bits, cells, column, digit);
+    clear_kept(sets, kept, lines, begins, bits, cells, column, digit);
 }
 
 // Forgets the pairs of the column for which a set is in play.

@@ -8,7 +8,7 @@ ghost use Rattle.uncovered_table.specs.Bits.{sets_in_play};
 ghost use Rattle.uncovered_table.specs.Open.{IsPlaceOf, all_open, closed, gain, is_open, next_open, row_closed};
 ghost use Rattle.uncovered_table.specs.Places.{is_in_play, is_place, slice_places, tuple_at};
 
-use crate::held::{add_held, clear_held, count_held};
+use crate::held::{add_held, count_held};
 use crate::next::next_of;
 use crate::pairs::{PairBits, clear_column, forget_pairs, put_pair_counts};
 use crate::part::SlicePart;
@@ -125,25 +125,16 @@ impl<'a> Uncovered<'a> {
     {
         self.sets.assert_invariant();
         match self.sets.cell_digit(cells, column) {
-            Some(digit) => {
-                clear_column(
-                    &self.sets,
-                    &mut self.pairs,
-                    self.begins.as_slice(),
-                    &self.bits,
-                    cells,
-                    column,
-                    digit,
-                );
-                clear_held(
-                    &self.sets,
-                    &self.lines[column as usize],
-                    &mut self.bits,
-                    cells,
-                    column,
-                    digit,
-                );
-            }
+            Some(digit) => clear_column(
+                &self.sets,
+                &mut self.pairs,
+                &self.lines[column as usize],
+                self.begins.as_slice(),
+                &mut self.bits,
+                cells,
+                column,
+                digit,
+            ),
             None => {}
         }
     }

@@ -1,7 +1,7 @@
 ghost use Rattle.std.specs.Prelude.{◌≡◌, ◌<◌, [], IfOk, IfSome, None, OnOk, Some, if◌then◌else◌, length, map, replicate};
 ghost use Rattle.cov_model.specs.Valid.{param_numbers};
 ghost use Rattle.definitions.specs.Demand.{demanded_sets};
-ghost use Rattle.uncovered_table.specs.Bits.{sets_in_play};
+ghost use Rattle.uncovered_table.specs.Bits.{sets_in_play, tuple_count};
 ghost use Rattle.uncovered_table.specs.Kept.{AreBlocks, AreTablesOf, digits_of, play_column, with_set};
 
 use crate::block::Block;
@@ -71,27 +71,40 @@ impl<'a> SlicePart<'a> {
         Ok(blocks)
     }
 
-    // The column for which a set is in play, if it has a tuple in the slice.
-    pub(crate) fn play_column(&self, set: u32) -> Option<ParamNo>
-        requires { set < length (demanded_sets self.now.model) }
+    // The column for which a set is in play that has so many tuples in the slice, if it has one.
+    fn column_for(&self, set: u32, count: u32) -> Option<ParamNo>
+        requires set { set < length (demanded_sets self.now.model) }
+        requires count { count ≡ tuple_count self.now.model self.now.slice set }
         ensures value { result ≡ play_column self.now.model self.now.slice set }
         ensures own { IfSome result (λ p. p < length self.now.model.params) }
     {
-        if self.ranks(set).1 > 0 {
+        if count > 0 {
             self.last_column(set)
         } else {
             None
         }
     }
 
+    // The column for which a set is in play, if it has a tuple in the slice.
+    pub(crate) fn play_column(&self, set: u32) -> Option<ParamNo>
+        requires { set < length (demanded_sets self.now.model) }
+        ensures value { result ≡ play_column self.now.model self.now.slice set }
+        ensures own { IfSome result (λ p. p < length self.now.model.params) }
+    {
+        let count = self.ranks(set).1;
+        self.column_for(set, count)
+    }
+
     // For each column the sets in play that have tuples in the slice.
-    fn plays(&self, alloc: Global) -> Result<Vec<Vec<u32>>, NoMemory>
+    fn plays(&self, alloc: Global, blocks: &[Block]) -> Result<Vec<Vec<u32>>, NoMemory>
+        requires { AreBlocks self.now.model self.now.slice (length (demanded_sets self.now.model)) blocks.now }
         ensures { IfOk result (λ lists. map (λ list. list.items) lists.items ≡ map (sets_in_play self.now.model self.now.slice)
             (param_numbers self.now.model)) }
     {
         let mut lists = empty_lists(alloc, self.param_count())?;
         for set in 0..self.set_count() {
-            let column = self.play_column(set);
+            let block = blocks[set as usize];
+            let column = self.column_for(set, block.count);
             push_set(&mut lists, column, set)?;
         }
         Ok(lists)
@@ -132,7 +145,7 @@ impl<'a> SlicePart<'a> {
             (map (λ list. list.items) tables.digits.items)) }
     {
         let blocks = self.blocks(alloc)?;
-        let plays = self.plays(alloc)?;
+        let plays = self.plays(alloc, blocks.as_slice())?;
         let digits = self.digits(alloc)?;
         Ok(SliceTables {
             blocks,

@@ -1,5 +1,5 @@
 ghost use Rattle.std.specs.Prelude.{◌≡◌, ◌==◌, ◌<◌, ◌≤◌, ◌^◌, ◌*◌, ℕ, length, slice_index_or, if◌then◌else◌};
-ghost use Rattle.uncovered_table.specs.Words.{bit_in, common, lacking, sum_to};
+ghost use Rattle.uncovered_table.specs.Words.{bit_in, common, sum_to};
 
 // The number of bits of a word.
 pub(crate) const WORD_BITS: usize = 64;
@@ -17,15 +17,18 @@ pub(crate) fn count_common(words: &[u64], mask: &[u64]) -> u32
     count
 }
 
-// Clears the bits that words have in common with a mask.
-pub(crate) fn clear_common(words: &mut [u64], mask: &[u64])
-    requires room { length words.old ≤ length mask.now }
-    ensures long { length words.new ≡ length words.old }
-    ensures each { (k : ℕ) → bit_in words.new k ≡ lacking words.old mask.now k }
+// Clears a bit, if there is a word for it.
+#[inline]
+pub(crate) fn clear_bit(words: &mut Vec<u64>, place: usize)
+    ensures long { length words.new.items ≡ length words.old.items }
+    ensures each { (k : ℕ) → bit_in words.new.items k ≡ (if k == place then 0 else bit_in words.old.items k) }
 {
-    for i in 0..words.len() {
-        words[i] &= !mask[i];
+    let at = place / WORD_BITS;
+    if at >= words.len() {
+        return;
     }
+    let word = words[at];
+    words[at] = word & !(1 << (place % WORD_BITS));
 }
 
 // Sets a bit.

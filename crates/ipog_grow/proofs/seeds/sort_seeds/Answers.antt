@@ -31,7 +31,7 @@ returns-in_err-place_seed-clause-asked c =
     ap (λ seeds. first_over c.args.model.now c.args.prefs.now c.args.budget (filter (has_slice c.args.model.now) (map (λ seed. seed.1) seeds)))
     (sym are ∙ split)
     ∙ sorted-spent c.args.model.now c.args.prefs.now c.args.budget (map row_seen (take c.loop-seed.seed-index items)) (row_seen c.seed-item.result)
-    (map row_seen (drop (c.loop-seed.seed-index + 1) items)) c.loop-seed.sorted.kept c.loop-seed.sorted.dropped c.loop-seed.invariant q spent)
+    (map row_seen (drop (c.loop-seed.seed-index + 1) items)) c.loop-seed.sorted.kept c.loop-seed.sorted.dropped c.loop-seed.invariant.seeds q spent)
     c.in_err-place_seed.ensures.asked)
 
 pub loop-seed-preserved : goal.loop-seed-preserved
@@ -41,18 +41,22 @@ loop-seed-preserved c =
     ap (map row_seen) (take_more items c.loop-seed.seed-index c.seed-item.result c.loop-seed-test.true
     ∙ ap (λ x. take c.loop-seed.seed-index items ++ x ∷ []) (sym c.seed-item.is))
     ∙ map-append row_seen (take c.loop-seed.seed-index items) (c.seed-item.result ∷ []) in
-    subst (λ (seeds : List (ℕ × List (Option ℕ))). Sorted c.args.model.now c.args.prefs.now c.args.budget seeds c.place_seed.new.sorted.kept
-    c.place_seed.new.sorted.dropped) (sym more)
-    (sorted-next c.args.model.now c.args.prefs.now c.args.budget (map row_seen (take c.loop-seed.seed-index items)) (row_seen c.seed-item.result)
-    c.loop-seed.sorted.kept
-    c.place_seed.new.sorted.kept c.loop-seed.sorted.dropped c.place_seed.new.sorted.dropped c.loop-seed.invariant c.in_ok-place_seed.ensures.kept
-    c.in_ok-place_seed.ensures.dropped c.in_ok-place_seed.ensures.asked)
+    record {
+      seeds =
+          subst (λ (seeds : List (ℕ × List (Option ℕ))). Sorted c.args.model.now c.args.prefs.now c.args.budget seeds c.place_seed.new.sorted.kept
+          c.place_seed.new.sorted.dropped) (sym more)
+          (sorted-next c.args.model.now c.args.prefs.now c.args.budget (map row_seen (take c.loop-seed.seed-index items)) (row_seen c.seed-item.result)
+          c.loop-seed.sorted.kept
+          c.place_seed.new.sorted.kept c.loop-seed.sorted.dropped c.place_seed.new.sorted.dropped c.loop-seed.invariant.seeds c.in_ok-place_seed.ensures.kept
+          c.in_ok-place_seed.ensures.dropped c.in_ok-place_seed.ensures.asked);
+      last = c.place_seed.ensures.last;
+    }
 
 -- at the end all are sorted
 pub returns-clause-kept : goal.returns-clause-kept
 returns-clause-kept c =
     let items : List FileRow = c.as_slice-seed-items.result.now in
-    c.loop-seed.invariant.kept_are
+    c.loop-seed.invariant.seeds.kept_are
     ∙ ap (λ seeds. filter (can_be_served c.args.model.now) (map (λ seed. seed.1) seeds))
     (ap (map row_seen) (take_all c.loop-seed.seed-index items c.loop-seed-test.false)
     ∙ whole c.args.seeds.now.rows c.in-Ok.distinct items c.as_slice.result.now c.as_slice.ensures c.in-Ok.ensures.seeds c.as_slice-seed-items.ensures)
@@ -60,7 +64,7 @@ returns-clause-kept c =
 pub returns-clause-dropped : goal.returns-clause-dropped
 returns-clause-dropped c =
     let items : List FileRow = c.as_slice-seed-items.result.now in
-    c.loop-seed.invariant.dropped_are
+    c.loop-seed.invariant.seeds.dropped_are
     ∙ ap (λ seeds. map (λ seed. seed.0) (filter (λ seed. not (can_be_served c.args.model.now seed.1)) seeds))
     (ap (map row_seen) (take_all c.loop-seed.seed-index items c.loop-seed-test.false)
     ∙ whole c.args.seeds.now.rows c.in-Ok.distinct items c.as_slice.result.now c.as_slice.ensures c.in-Ok.ensures.seeds c.as_slice-seed-items.ensures)
@@ -71,4 +75,4 @@ returns-clause-asked c =
     ap (λ seeds. first_over c.args.model.now c.args.prefs.now c.args.budget (filter (has_slice c.args.model.now) (map (λ seed. seed.1) seeds)))
     (sym (ap (map row_seen) (take_all c.loop-seed.seed-index items c.loop-seed-test.false)
     ∙ whole c.args.seeds.now.rows c.in-Ok.distinct items c.as_slice.result.now c.as_slice.ensures c.in-Ok.ensures.seeds c.as_slice-seed-items.ensures))
-    ∙ c.loop-seed.invariant.unspent
+    ∙ c.loop-seed.invariant.seeds.unspent

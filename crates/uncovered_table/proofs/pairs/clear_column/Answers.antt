@@ -18,11 +18,11 @@ clear_kept-requires-clause-pairs c =
     ∙ get_or_default columns c.args.column c.index_mut-kept.result.now None (omega (arith, c.requires.column, c.requires.kept.many)) in
     subst (λ o. IfSome o (HasPairs v.model v.slice c.args.bits.now c.args.column)) (sym read) (c.requires.kept.each c.args.column c.requires.column)
 
-pub returns : goal.returns
-returns c =
+pub returns-clause-kept : goal.returns-clause-kept
+returns-clause-kept c =
     let v = c.args.sets.now in
     let values = own_values v.model v.slice in
     let digits = cell_digit values c.args.cells.now in
     kept-closed v.model v.slice (with_digit digits c.args.column c.args.digit) c.args.bits.now c.args.column c.args.columns.now.items c.clear_kept.new.kept
     c.assert_invariant.ensures.kept (with_digits values digits c.args.column c.args.digit (cell_digits values c.args.cells.now) c.requires.digit) c.requires.kept
-    c.clear_kept.ensures
+    c.clear_kept.ensures.pairs

@@ -12,15 +12,15 @@ invariant_of-self c =
     let v = c.self.inside.sets in
     record {
       long =
-          ap length c.clear_held.ensures
+          ap length c.clear_column.ensures.bits
           ∙ length-all_cleared v.model v.slice (with_digit (cell_digit (own_values v.model v.slice) c.args.cells.now) c.args.column c.in-Some.digit)
           c.self.inside.bits (sets_in_play v.model v.slice c.args.column)
           ∙ c.self.invariant.long;
       lines = c.self.invariant.lines;
       begins_are = c.self.invariant.begins_are;
       kept =
-          subst (λ bits. AreKept v.model v.slice bits (length v.model.params) c.clear_column.new.columns.items) (sym c.clear_held.ensures)
-          c.clear_column.ensures;
+          subst (λ bits. AreKept v.model v.slice bits (length v.model.params) c.clear_column.new.columns.items) (sym c.clear_column.ensures.bits)
+          c.clear_column.ensures.kept;
     }
 
 pub returns-in-Some : goal.returns-in-Some
@@ -28,7 +28,7 @@ returns-in-Some c =
     let v = c.self.inside.sets in
     let bits = c.self.inside.bits in
     let cells = c.args.cells.now in
-    ap (marked v.model v.slice) (c.clear_held.ensures
+    ap (marked v.model v.slice) (c.clear_column.ensures.bits
     ∙ cleared_own v.model v.slice cells bits c.args.column c.in-Some.digit (sets_in_play v.model v.slice c.args.column)
     (sym c.cell_digit.ensures ∙ c.in-Some.is))
     ∙ row_closed_bits v.model v.slice bits cells c.args.column c.assert_invariant.ensures.kept c.assert_invariant.ensures.own
