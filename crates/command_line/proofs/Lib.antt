@@ -1,3 +1,4 @@
+pub mod Colons
 pub mod Loading
 pub mod NoFaults
 pub mod PutLines
