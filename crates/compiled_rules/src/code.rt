@@ -91,7 +91,7 @@ fn both_truth(
 }
 
 // What is known of a compiled predicate. Most are terms, which need no call.
-#[inline]
+#[inline(always)]
 #[cycle(truths)]
 pub(crate) fn code_truth(table: &TruthTable, code: &Code, cells: &Cells) -> Truth
     ensures { result ≡ code_truth table.now code.now cells.now }
@@ -115,6 +115,7 @@ fn not_truth(table: &TruthTable, code: &Code, cells: &Cells) -> Truth
 }
 
 // What is known of a list of compiled predicates: that each holds.
+#[inline(never)]
 #[cycle(truths)]
 fn all_codes(table: &TruthTable, parts: &[Code], cells: &Cells) -> Truth
     ensures { result ≡ all_codes table.now parts.now cells.now }
@@ -130,6 +131,7 @@ fn all_codes(table: &TruthTable, parts: &[Code], cells: &Cells) -> Truth
 }
 
 // What is known of a list of compiled predicates: that some of them holds.
+#[inline(never)]
 #[cycle(truths)]
 fn any_codes(table: &TruthTable, parts: &[Code], cells: &Cells) -> Truth
     ensures { result ≡ any_codes table.now parts.now cells.now }

@@ -5,6 +5,7 @@ pub mod SetLemmas
 pub mod PairLemmas
 pub mod DemandLemmas
 pub mod LeftLemmas
+pub mod UnservedLemmas
 pub mod VerdictLemmas
 pub mod FaultLemmas
 pub mod OneCheck

@@ -1,5 +1,6 @@
 -- Which demanded tuples a proof leaves: those that no omission lists. Each is told by its place. (This project's rule.)
-use Rattle.std.specs.Prelude.{◌≡◌, ◌≢◌, ℕ, ◌<◌, Bool, true, false, ◌&&◌, not, List, [], ◌∷◌, length, Option, Some, slice_get, slice_index_or}
+use Rattle.std.specs.Prelude.{◌≡◌, ◌≢◌, ℕ, ◌+◌, ◌<◌, ◌≤◌, ◌==◌, Bool, true, false, ◌&&◌, not, List, [], ◌∷◌, length, Option, Some, slice_get, slice_index_or}
+use Rattle.std.specs.Int.{bit_at}
 use Rattle.std.specs.List.{list_any}
 use Rattle.cov_model.specs.Sound.{ModelView}
 use Rattle.definitions.specs.Demand.{demanded_tuples}
@@ -36,6 +37,11 @@ pub record IsFirstLeft (left served : List Bool) (place : ℕ) : Type 0 where
   pub within : place < length left
   pub unserved : (slice_index_or left place false && not (slice_index_or served place false)) ≡ true
   pub none_before : NoneLeft left served place
+
+-- the lowest bits of a word tell which of so many places from one on are left and not served, and the others are 0
+pub record AreUnservedFrom (left served : List Bool) (from count word : ℕ) : Type 0 where
+  pub each : (i : ℕ) → i < count → (bit_at word i == 1) ≡ (slice_index_or left (from + i) false && not (slice_index_or served (from + i) false))
+  pub no_other : (i : ℕ) → count ≤ i → bit_at word i ≡ 0
 
 -- the pairs of the members of a set with these values
 abbrev pub pairs_with : List ℕ → List ℕ → List (ℕ × ℕ)

@@ -1,4 +1,4 @@
-ghost use Rattle.std.specs.Prelude.{◌≡◌, ◌<◌, ◌≤◌, ◌^◌, ◌+◌, ℕ, List, [], All, Option, Some, None, IfOk, MatchOption, find, length, map, not, option_map, slice_get, slice_index_or, sum, take};
+ghost use Rattle.std.specs.Prelude.{◌≡◌, ◌<◌, ◌≤◌, ◌^◌, ◌+◌, ◌%◌, ℕ, List, [], All, Option, Some, None, IfOk, MatchOption, find, length, map, not, option_map, slice_get, slice_index_or, sum, take};
 ghost use Rattle.cov_model.specs.Fits.{FitsModel};
 ghost use Rattle.cov_model.specs.Valid.{is_valid};
 ghost use Rattle.definitions.specs.Demand.{demanded_tuples, tuples_of};
@@ -9,7 +9,7 @@ ghost use Rattle.refutation.specs.Reading.{omissions_meant};
 ghost use Rattle.row_text.specs.RowFiles.{suite_seen};
 ghost use Rattle.tuple_index.specs.Places.{RisesFrom};
 ghost use Rattle.tuple_index.specs.Plan.{plan_of, set_at};
-ghost use Rattle.proof_check.specs.Left.{IsFirstLeft, IsPlaceOf, NoneLeft, pairs_with};
+ghost use Rattle.proof_check.specs.Left.{AreUnservedFrom, IsFirstLeft, IsPlaceOf, NoneLeft, pairs_with};
 
 use crate::listed::mark_unlisted;
 use bit_table::BitTable;
@@ -23,15 +23,35 @@ use std::thread::Threads;
 use tuple_index::Plan;
 use value_text::NoMemory;
 
+/// The number of places that a word tells of.
+const WORD_BITS: u32 = 64;
+
+// Which of so many places from one on are left and not served, as the lowest bits of a word.
+fn unserved_from(left: &BitTable, served: &Bits, from: u32, count: u32) -> u64
+    requires long { length served.now ≡ length left.now }
+    requires aligned { from % 64 ≡ 0 }
+    requires some { 0 < count }
+    requires few { count ≤ 64 }
+    requires within { from + count ≤ length left.now }
+    ensures { AreUnservedFrom left.now served.now from count result }
+{
+    left.marks_from(from, count) & !served.marks_from(from, count)
+}
+
 // The first place that is left and not served.
 fn first_place(left: &BitTable, served: &Bits) -> Option<u32>
     requires { length served.now ≡ length left.now }
     ensures { MatchOption result (NoneLeft left.now served.now (length left.now)) (IsFirstLeft left.now served.now) }
 {
-    for place in 0..left.len() {
-        if left.is_set(place) && !served.has(place) {
-            return Some(place);
+    let end = left.len();
+    let mut from = 0;
+    while from < end {
+        let count = WORD_BITS.min(end - from);
+        let unserved = unserved_from(left, served, from, count);
+        if unserved != 0 {
+            return Some(from + unserved.trailing_zeros());
         }
+        from += count;
     }
     None
 }

@@ -1,5 +1,6 @@
 ghost use Rattle.std.specs.Prelude.{◌≡◌, ◌<◌, ◌≤◌, true, false, [], ◌∷◌, All, MatchOption, OnSome, length, map, take};
 ghost use Rattle.cov_model.specs.Fits.{FitsModel};
+ghost use Rattle.cov_model.specs.Meaning.{value_at};
 ghost use Rattle.cov_model.specs.Rows.{contains, is_assigned};
 ghost use Rattle.cov_model.specs.Sound.{param_at};
 ghost use Rattle.definitions.specs.Completion.{with_value};
@@ -12,7 +13,7 @@ use crate::checker::TreeChecker;
 use crate::omissions::Omissions;
 use crate::pairs::{clear, set_all};
 use crate::token::TreeToken;
-use crate::tree_check::TreeCheck;
+use crate::tree_check::{TreeCheck, is_negative_in};
 use cov_model::{Cells, ParamNo, TestModel, Tuple, ValueNo};
 
 // The rest behind a token, where that is a leaf.
@@ -83,25 +84,29 @@ impl<'a> TreeCheck<'a> {
         if !self.is_branch(p, path) {
             return None;
         }
+        let values = self.values_of(p);
         let mut rest = tokens;
         for v in 0..self.count_of(p) {
-            rest = self.after_child(p, v, rest, path, outside)?;
+            let negative = is_negative_in(values, v);
+            rest = self.after_child(p, v, negative, rest, path, outside)?;
         }
         Some(rest)
     }
 
-    // The same of the tree for a path with one more value.
+    // The same of the tree for a path with one more value, which is negative or not.
     #[cycle(trees)]
     fn after_child<'t>(
         &self,
         p: ParamNo,
         v: ValueNo,
+        negative: bool,
         tokens: &'t [TreeToken],
         path: &mut Cells,
         outside: bool,
     ) -> Option<&'t [TreeToken]>
         requires parameter { p < length self.now.model.params }
         requires value { v < length (param_at self.now.model.params p).values }
+        requires negative { negative ≡ (value_at self.now.model p v).negative }
         requires free { is_assigned path.old p ≡ false }
         requires fits { FitsModel self.now.model path.old }
         requires part { contains path.old (tuple_in self.now) ≡ true }
@@ -110,9 +115,8 @@ impl<'a> TreeCheck<'a> {
         ensures same { OnSome result (path.new ≡ path.old) }
         ensures long { length path.new ≡ length path.old }
     {
-        let outside = outside | self.is_negative(p, v);
         path.set_cell(p, v);
-        let rest = self.after_tree(tokens, path, outside)?;
+        let rest = self.after_tree(tokens, path, outside | negative)?;
         path.clear_cell(p);
         Some(rest)
     }

@@ -1,8 +1,8 @@
-ghost use Rattle.std.specs.Prelude.{◌≡◌, ◌<◌, ◌≤◌, ◌||◌, All, IfSome, length, not, option_map, take};
+ghost use Rattle.std.specs.Prelude.{◌≡◌, ◌<◌, ◌≤◌, ◌||◌, All, IfSome, length, not, option_map, slice_index_or, take};
 ghost use Rattle.std.specs.List.{list_all};
 ghost use Rattle.cov_model.specs.Fits.{FitsModel};
 ghost use Rattle.cov_model.specs.Kleene.{body_truth};
-ghost use Rattle.cov_model.specs.Meaning.{value_at};
+ghost use Rattle.cov_model.specs.Meaning.{no_value, value_at};
 ghost use Rattle.cov_model.specs.Rows.{contains, is_assigned};
 ghost use Rattle.cov_model.specs.Sound.{IsSound, ModelView, param_at, rule_at};
 ghost use Rattle.cov_model.specs.Valid.{negatives};
@@ -15,7 +15,7 @@ ghost use Rattle.refutation.specs.Proofs.{format_of};
 use crate::checker::TreeChecker;
 use crate::omissions::{Omission, Omissions, ProofForm};
 use crate::pairs::{gives_all, has_param};
-use cov_model::{Cells, ParamNo, TestModel, Tuple, ValueNo};
+use cov_model::{Cells, ParamNo, TestModel, Tuple, Value, ValueNo};
 use std::marker::Model;
 
 /// What a tree is checked against: a model, the format of the proof, the omissions that may be cited,
@@ -63,6 +63,14 @@ fn cited(omissions: &[Omission], number: u32) -> Option<&Tuple>
         Some(omission) => Some(&omission.tuple),
         None => None,
     }
+}
+
+// Whether one of some values is negative.
+pub(crate) fn is_negative_in(values: &[Value], v: ValueNo) -> bool
+    requires { v < length values.now }
+    ensures { result ≡ (slice_index_or values.now v no_value).negative }
+{
+    values[v as usize].negative
 }
 
 impl<'a> TreeCheck<'a> {
@@ -124,14 +132,23 @@ impl<'a> TreeCheck<'a> {
         self.model().params().as_slice()[p as usize].values.len() as ValueNo
     }
 
+    // The values of a parameter.
+    pub(crate) fn values_of(&self, p: ParamNo) -> &'a [Value]
+        requires { p < length self.now.model.params }
+        ensures { result.now ≡ (param_at self.now.model.params p).values }
+    {
+        self.model().params().as_slice()[p as usize]
+            .values
+            .as_slice()
+    }
+
     // Whether a value of a parameter is negative.
-    pub(crate) fn is_negative(&self, p: ParamNo, v: ValueNo) -> bool
+    fn is_negative(&self, p: ParamNo, v: ValueNo) -> bool
         requires parameter { p < length self.now.model.params }
         requires value { v < length (param_at self.now.model.params p).values }
         ensures { result ≡ (value_at self.now.model p v).negative }
     {
-        let param = &self.model().params().as_slice()[p as usize];
-        param.values.as_slice()[v as usize].negative
+        is_negative_in(self.values_of(p), v)
     }
 
     // Whether the parameter exists and has no value on the path.

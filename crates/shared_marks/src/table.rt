@@ -1,6 +1,7 @@
-ghost use Rattle.std.specs.Prelude.{◌≡◌, ◌*◌, ◌^◌, ◌<◌, ◌≤◌, ℕ, true, false, length, map, slice_index_or, IfOk};
+ghost use Rattle.std.specs.Prelude.{◌≡◌, ◌+◌, ◌*◌, ◌%◌, ◌^◌, ◌<◌, ◌≤◌, ℕ, true, false, length, map, slice_index_or, IfOk};
 ghost use Rattle.std.specs.List.{range_with_len};
 ghost use Rattle.std.specs.Slots.{IsFull, slots_items, slots_len};
+ghost use Rattle.bit_table.specs.Marks.{AreMarksFrom};
 ghost use Rattle.definitions.specs.Demand.{is_among};
 ghost use Rattle.shared_marks.specs.Adding.{Adds, nothing};
 ghost use Rattle.shared_marks.specs.Seats.{IsWhole, first_holding, halved, with_holding, is_held, joined, marking, noting, other_half, testing};
@@ -280,5 +281,18 @@ impl Bits {
         let place = place as usize;
         let word = self.words[place / WORD_BITS];
         (word >> (place % WORD_BITS)) & 1 == 1
+    }
+
+    /// The marks of up to 64 places from a multiple of 64 on, as the lowest bits of a word, whose other bits are 0. Takes
+    /// no memory.
+    pub fn marks_from(&self, from: u32, count: u32) -> u64
+        requires aligned { from % 64 ≡ 0 }
+        requires some { 0 < count }
+        requires few { count ≤ 64 }
+        requires within { from + count ≤ length self.now }
+        ensures { AreMarksFrom self.now from count result }
+    {
+        let word = self.words[from as usize / WORD_BITS];
+        word & (u64::MAX >> (WORD_BITS - count as usize))
     }
 }

@@ -30,8 +30,8 @@ after_branch-returns-clause-rest t c =
 pub after_child-after_tree-requires : goal.after_child-after_tree-requires
 after_child-after_tree-requires t c =
     let m = c.args.self.now.model in
-    let child = child_is c.args.self.now c.args.path.now c.args.p c.args.v c.args.outside c.is_negative.result c.requires.parameter c.requires.value
-    c.requires.free c.requires.fits c.requires.part c.requires.outside c.is_negative.ensures in
+    let child = child_is c.args.self.now c.args.path.now c.args.p c.args.v c.args.outside c.args.negative c.requires.parameter c.requires.value
+    c.requires.free c.requires.fits c.requires.part c.requires.outside c.requires.negative in
     let row = sym c.set_cell.ensures in (
       omega (arith, ap free_count c.set_cell.ensures, child.free),
       (
