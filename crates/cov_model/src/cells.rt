@@ -1,14 +1,16 @@
 ghost use Rattle.std.specs.Prelude.{◌≡◌, ◌<◌, Option, Some, None, length, replicate, slice_index_or, slice_set, IfOk};
 
 use crate::parameter::{ParamNo, ValueNo};
+use smallvec::SmallVec;
 use std::alloc::Global;
 use std::marker::Model;
 use value_text::{NoMemory, OwnedList};
 
-/// A partial row: for each parameter of a model the number of its value, where it has one.
+/// A partial row: for each parameter of a model the number of its value, where it has one. With at
+/// most four parameters it takes no memory beside its own.
 #[derive(Drop)]
 pub struct Cells {
-    places: Vec<Option<ValueNo>>,
+    places: SmallVec<Option<ValueNo>, 4>,
 }
 
 /// A list of complete rows.
@@ -31,7 +33,19 @@ impl Cells {
     pub fn empty(alloc: Global, n: usize) -> Result<Cells, NoMemory>
         ensures { IfOk result (λ cells. cells ≡ replicate n None) }
     {
-        let places = vec![in alloc; None; n]?;
+        let places = SmallVec::from_elem(alloc, None, n)?;
+        Ok(Cells { places })
+    }
+
+    /// A copy of the partial row.
+    ///
+    /// # Errors
+    ///
+    /// `NoMemory` where there is no room for it.
+    pub fn copy(&self, alloc: Global) -> Result<Cells, NoMemory>
+        ensures { IfOk result (λ copy. copy ≡ self.now) }
+    {
+        let places = SmallVec::from_slice(alloc, self.as_slice())?;
         Ok(Cells { places })
     }
 
@@ -40,6 +54,13 @@ impl Cells {
         ensures { result ≡ length self.now }
     {
         self.places.len()
+    }
+
+    /// The values in the order of the parameters; `None` exactly where one has none.
+    pub fn as_slice(&self) -> &[Option<ValueNo>]
+        ensures { result.now ≡ self.now }
+    {
+        self.places.as_slice()
     }
 
     /// The value of a parameter; `None` exactly where it has none.
@@ -71,6 +92,6 @@ impl Cells {
         requires { length self.old ≡ length other.now }
         ensures { self.new ≡ other.now }
     {
-        self.places.copy_from_slice(other.places.as_slice());
+        self.places.as_mut_slice().copy_from_slice(other.as_slice());
     }
 }

@@ -8,6 +8,9 @@ pub mod SliceSteps
 pub mod Spending
 pub mod Completed
 pub mod SameRows
+pub mod InPlace
+pub mod Rising
+pub mod Removing
 pub mod Lists
 pub mod Falling
 pub mod Holding

@@ -1,60 +1,76 @@
-ghost use Rattle.std.specs.Prelude.{◌≡◌, ◌≤◌, ◌∷◌, ◌++◌, [], ℕ, List, Option, All, length, filter_map, OnOk};
+ghost use Rattle.std.specs.Prelude.{◌≡◌, ◌+◌, ◌<◌, ◌≤◌, ◌∷◌, ◌++◌, [], All, length, filter_map, slice_index_or, take, IfOk, OnOk};
+ghost use Rattle.std.specs.List.{cons_option};
 ghost use Rattle.definitions.specs.Seeds.{distinct};
 ghost use Rattle.ipog_grow.specs.Asking.{Grows, Told, first_spent};
-ghost use Rattle.ipog_grow.specs.Completing.{completed, with_given};
+ghost use Rattle.ipog_grow.specs.Completing.{completed};
+ghost use Rattle.ipog_grow.specs.Rows.{AreDone};
 
 use crate::asker::Asker;
-use crate::distinct::{RowSet, add_row, copy_of};
+use crate::distinct::{copy_of, remove_repeats};
 use crate::stop::Stop;
 use cov_model::{Cells, Rows};
 use std::alloc::Global;
 
-// Completes a partial row of the slice, and adds its first completion to the rows that are known and
-// behind others, unless it is known.
+// Completes the partial row at a place, and puts its first completion, if there is one, behind those
+// of earlier rows: the first `count` rows. Tells how many completions there are then.
 fn complete_row(
-    alloc: Global,
     asker: &mut Asker,
-    cells: &Cells,
-    row: &mut Cells,
-    known: &mut RowSet,
-    rows: &mut Rows,
-) -> Result<(), Stop>
-    requires grows { Grows asker.old.context cells.now }
-    requires few { length asker.old.context.model.params ≤ 256 }
-    requires room { length row.old ≡ length asker.old.context.model.params }
-    requires long { All (λ other. length other ≡ length asker.old.context.model.params) known.old }
-    ensures asked { Told result asker.new.question (first_spent asker.old.context (cells.now ∷ [])) }
-    ensures known { OnOk result (known.new ≡ with_given known.old (completed asker.old.context cells.now)) }
-    ensures rows { OnOk result ((start : List (List (Option ℕ))) → rows.old ≡ start ++ known.old → rows.new ≡ start ++ known.new) }
-    ensures long { OnOk result (All (λ other. length other ≡ length asker.old.context.model.params) known.new) }
-    ensures room { length row.new ≡ length row.old }
+    rows: &mut [Cells],
+    i: usize,
+    count: usize,
+    room: &mut Cells,
+) -> Result<usize, Stop>
+    requires within { i < length rows.old }
+    requires count { count ≤ i }
+    requires grows { Grows asker.old.context (slice_index_or rows.old i []) }
+    requires long { All (λ row. length row ≡ length asker.old.context.model.params) rows.old }
+    requires room { length room.old ≡ length asker.old.context.model.params }
+    ensures asked { Told result asker.new.question (first_spent asker.old.context (slice_index_or rows.old i [] ∷ [])) }
+    ensures done { IfOk result (λ after. AreDone rows.old rows.new (i + 1) after
+        (take count rows.old ++ cons_option (completed asker.old.context (slice_index_or rows.old i [])) [])) }
+    ensures long { OnOk result (All (λ row. length row ≡ length asker.old.context.model.params) rows.new) }
+    ensures room { length room.new ≡ length room.old }
     ensures same { asker.new.context ≡ asker.old.context }
 {
-    if !asker.complete(cells, row)? {
-        return Ok(());
+    if !asker.complete(&rows[i], room)? {
+        return Ok(count);
     }
-    add_row(alloc, row, known, rows)?;
+    rows[count].copy_from(room);
+    Ok(count + 1)
+}
+
+// Puts in the place of the grown rows of a slice their first completions, in order.
+fn complete_each(alloc: Global, asker: &mut Asker, rows: &mut Vec<Cells>) -> Result<(), Stop>
+    requires grows { All (Grows asker.old.context) rows.old.items }
+    ensures asked { Told result asker.new.question (first_spent asker.old.context rows.old.items) }
+    ensures rows { OnOk result (rows.new.items ≡ filter_map (completed asker.old.context) rows.old.items) }
+    ensures long { OnOk result (All (λ row. length row ≡ length asker.old.context.model.params) rows.new.items) }
+    ensures same { asker.new.context ≡ asker.old.context }
+{
+    let mut room = copy_of(alloc, asker.question())?;
+    let mut count = 0;
+    for i in 0..rows.len() {
+        count = complete_row(asker, rows.as_mut_slice(), i, count, &mut room)?;
+    }
+    rows.truncate(count);
     Ok(())
 }
 
 // Completes the grown rows of a slice in order, and puts their first completions behind other rows,
-// equal ones once.
+// equal ones once. Rows before which there are none stay in the memory that they grew in.
 pub(crate) fn complete_rows(
     alloc: Global,
     asker: &mut Asker,
-    grown: &[Cells],
+    mut grown: Vec<Cells>,
     rows: &mut Rows,
 ) -> Result<(), Stop>
-    requires grows { All (Grows asker.old.context) grown.now }
-    requires few { length asker.old.context.model.params ≤ 256 }
-    ensures asked { Told result asker.new.question (first_spent asker.old.context grown.now) }
-    ensures rows { OnOk result (rows.new ≡ rows.old ++ distinct (filter_map (completed asker.old.context) grown.now)) }
+    requires grows { All (Grows asker.old.context) grown.items }
+    ensures asked { Told result asker.new.question (first_spent asker.old.context grown.items) }
+    ensures rows { OnOk result (rows.new ≡ rows.old ++ distinct (filter_map (completed asker.old.context) grown.items)) }
     ensures same { asker.new.context ≡ asker.old.context }
 {
-    let mut known = RowSet::new(alloc);
-    let mut row = copy_of(alloc, asker.question())?;
-    for cells in grown {
-        complete_row(alloc, asker, cells, &mut row, &mut known, rows)?;
-    }
+    complete_each(alloc, asker, &mut grown)?;
+    remove_repeats(alloc, &mut grown)?;
+    rows.append(grown)?;
     Ok(())
 }

@@ -1,8 +1,10 @@
-ghost use Rattle.std.specs.Prelude.{◌≡◌, ◌<◌, ◌^◌, ◌++◌, ◌∷◌, [], ℕ, List, Option, All, length, not, IfOk, OnOk};
-ghost use Rattle.ipog_grow.specs.Rows.{is_known_row, with_row};
+ghost use Rattle.std.specs.Prelude.{◌≡◌, ◌+◌, ◌<◌, ◌≤◌, ◌++◌, ◌∷◌, [], true, All, length, not, slice_index_or, take, IfOk, OnOk};
+ghost use Rattle.definitions.specs.Seeds.{distinct};
+ghost use Rattle.ipog_grow.specs.Rows.{AreAsLong, AreRising, AreDone, is_known_row, stands_before, with_row};
 
-use cov_model::{Cells, ParamNo, Rows, ValueNo};
+use cov_model::{Cells, ValueNo};
 use indexmap::IndexSet;
+use smallvec::SmallVec;
 use std::alloc::Global;
 use std::marker::Model;
 use value_text::NoMemory;
@@ -10,7 +12,7 @@ use value_text::NoMemory;
 // The places of a row, as a set compares them.
 #[derive(Debug, Drop, PartialEq, Eq, Hash)]
 pub(crate) struct RowKey {
-    places: Vec<Option<ValueNo>>,
+    places: SmallVec<Option<ValueNo>, 4>,
 }
 
 // Distinct rows of one length, in order of first occurrence. Contracts see the list of them.
@@ -39,37 +41,21 @@ impl RowSet {
 
     // Adds a row of the same length as the others, unless it is among them, and tells whether it wasn't.
     pub(crate) fn add(&mut self, alloc: Global, row: &Cells) -> Result<bool, NoMemory>
-        requires short { length row.now < 2 ^ 16 }
-        requires same { All (λ known. length known ≡ length row.now) self.old }
+        requires { All (λ known. length known ≡ length row.now) self.old }
         ensures added { IfOk result (λ added. added ≡ not (is_known_row self.old row.now)) }
         ensures rows { IfOk result (λ _. self.new ≡ with_row self.old row.now) }
     {
-        let places = places_of(alloc, row)?;
+        let places = SmallVec::from_slice(alloc, row.as_slice())?;
         let added = self.keys.insert(RowKey { places })?;
         Ok(added)
     }
-}
-
-// A copy of the places of a row.
-fn places_of(alloc: Global, row: &Cells) -> Result<Vec<Option<ValueNo>>, NoMemory>
-    requires { length row.now < 2 ^ 16 }
-    ensures { IfOk result (λ places. places.items ≡ row.now) }
-{
-    let mut places = Vec::new(alloc);
-    let count = row.len() as ParamNo;
-    for p in 0..count {
-        places.push(row.get(p))?;
-    }
-    Ok(places)
 }
 
 // A copy of a row.
 pub(crate) fn copy_of(alloc: Global, row: &Cells) -> Result<Cells, NoMemory>
     ensures { IfOk result (λ copy. copy ≡ row.now) }
 {
-    let mut copy = Cells::empty(alloc, row.len())?;
-    copy.copy_from(row);
-    Ok(copy)
+    row.copy(alloc)
 }
 
 // Adds a copy of a row to others.
@@ -81,22 +67,61 @@ pub(crate) fn push_copy(alloc: Global, row: &Cells, rows: &mut Vec<Cells>) -> Re
     Ok(())
 }
 
-// Adds a row to those that are known, and behind others, unless it is known.
-pub(crate) fn add_row(
-    alloc: Global,
-    row: &Cells,
-    known: &mut RowSet,
-    rows: &mut Rows,
-) -> Result<(), NoMemory>
-    requires short { length row.now < 2 ^ 16 }
-    requires same { All (λ other. length other ≡ length row.now) known.old }
-    ensures known { OnOk result (known.new ≡ with_row known.old row.now) }
-    ensures rows { OnOk result ((start : List (List (Option ℕ))) → rows.old ≡ start ++ known.old → rows.new ≡ start ++ known.new) }
-    ensures long { OnOk result (All (λ other. length other ≡ length row.now) known.new) }
+// Whether a row stands before another: it has the lower value at the first parameter where they differ.
+fn stands_before(row: &Cells, other: &Cells) -> bool
+    ensures { result ≡ stands_before row.now other.now }
 {
-    if !known.add(alloc, row)? {
+    row.as_slice().cmp(&other.as_slice()).is_lt()
+}
+
+// Whether each row stands before the next one.
+fn are_rising(rows: &[Cells]) -> bool
+    ensures { result ≡ true → AreRising rows.now }
+{
+    for i in 1..rows.len() {
+        if !stands_before(&rows[i - 1], &rows[i]) {
+            return false;
+        }
+    }
+    true
+}
+
+// Puts the row at a place behind the distinct ones of the earlier rows: the first `count` rows, which
+// are the known ones. Tells how many there are then.
+fn keep_row(
+    alloc: Global,
+    rows: &mut [Cells],
+    i: usize,
+    count: usize,
+    known: &mut RowSet,
+) -> Result<usize, NoMemory>
+    requires within { i < length rows.old }
+    requires count { count ≤ i }
+    requires known { known.old ≡ take count rows.old }
+    requires long { All (λ other. length other ≡ length (slice_index_or rows.old i [])) known.old }
+    ensures done { IfOk result (λ after. AreDone rows.old rows.new (i + 1) after (with_row known.old (slice_index_or rows.old i []))) }
+    ensures known { OnOk result (known.new ≡ with_row known.old (slice_index_or rows.old i [])) }
+{
+    if !known.add(alloc, &rows[i])? {
+        return Ok(count);
+    }
+    rows.swap(i, count);
+    Ok(count + 1)
+}
+
+// Takes out the rows that are the same as an earlier one. Takes no memory where the rows rise.
+pub(crate) fn remove_repeats(alloc: Global, rows: &mut Vec<Cells>) -> Result<(), NoMemory>
+    requires { AreAsLong rows.old.items }
+    ensures { OnOk result (rows.new.items ≡ distinct rows.old.items) }
+{
+    if are_rising(rows.as_slice()) {
         return Ok(());
     }
-    let copy = copy_of(alloc, row)?;
-    rows.push(copy)
+    let mut known = RowSet::new(alloc);
+    let mut count = 0;
+    for i in 0..rows.len() {
+        count = keep_row(alloc, rows.as_mut_slice(), i, count, &mut known)?;
+    }
+    rows.truncate(count);
+    Ok(())
 }

@@ -82,7 +82,7 @@ pub(crate) fn grow_slice<R: Threads + Sync, G: Gate + Sync>(
         alloc,
         &mut asker,
         input.proof,
-        grown.as_slice(),
+        grown,
         omitted.as_slice(),
         rows,
         omissions,

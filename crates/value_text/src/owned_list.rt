@@ -87,4 +87,24 @@ impl<T> OwnedList<T> {
         self.items.push(item)?;
         Ok(())
     }
+
+    /// Adds the items of a vector at the end, in order. An empty list takes the vector over, with its
+    /// memory. After a refusal the list is as before.
+    ///
+    /// # Errors
+    ///
+    /// `NoMemory` where the list could not grow.
+    pub fn append(&mut self, mut items: Vec<T>) -> Result<(), NoMemory>
+    where
+        T: Drop,
+        ensures ok { OnOk result (self.new ≡ self.old ++ items.items) }
+        ensures err { OnErr result (self.new ≡ self.old) }
+    {
+        if self.items.is_empty() {
+            self.items = items;
+            return Ok(());
+        }
+        self.items.append(&mut items)?;
+        Ok(())
+    }
 }

@@ -62,11 +62,11 @@ finish_slice-requires-clause-omitted g c =
     let now : SearchContext = c.in-Ok.growth.asker.context in
     let rows : List (List (Option ℕ)) = c.in-Ok.growth.rows.items in
     let same = c.in-Ok.ensures.rows in
-    subst (λ (w : SearchContext). All (IsOmittedIn w) c.as_slice-2.result.now)
+    subst (λ (w : SearchContext). All (IsOmittedIn w) c.as_slice.result.now)
     (sym (c.in_default-grow_columns.ensures.same ∙ c.in-Ok.ensures.context))
     (subst (λ (tuples : List (List (Option ℕ))). All (IsOmittedIn context) tuples)
-    (sym (same_omitted now context order rows start c.in-Ok.growth.omitted c.as_slice-2.result.now c.grow_columns.new.self.omitted
-    c.in-Ok.ensures.context same c.in-Ok.ensures.omitted c.in_default-grow_columns.ensures.omitted c.as_slice-2.ensures))
+    (sym (same_omitted now context order rows start c.in-Ok.growth.omitted c.as_slice.result.now c.grow_columns.new.self.omitted
+    c.in-Ok.ensures.context same c.in-Ok.ensures.omitted c.in_default-grow_columns.ensures.omitted c.as_slice.ensures))
     (omitted-in context order start c.requires.slice
     (sym (same_asked now context order rows start c.in-Ok.ensures.context same) ∙ c.in_default-grow_columns.ensures.asked)))
 
@@ -80,8 +80,8 @@ finish_slice-requires-clause-few g c =
       c.requires.few,
       omitted-few context order start,
       ap length (same_omitted c.in-Ok.growth.asker.context context order c.in-Ok.growth.rows.items start c.in-Ok.growth.omitted
-          c.as_slice-2.result.now c.grow_columns.new.self.omitted c.in-Ok.ensures.context c.in-Ok.ensures.rows
-          c.in-Ok.ensures.omitted c.in_default-grow_columns.ensures.omitted c.as_slice-2.ensures),
+          c.as_slice.result.now c.grow_columns.new.self.omitted c.in-Ok.ensures.context c.in-Ok.ensures.rows
+          c.in-Ok.ensures.omitted c.in_default-grow_columns.ensures.omitted c.as_slice.ensures),
     )
 
 pub returns-clause-count : goal.returns-clause-count
@@ -91,11 +91,11 @@ returns-clause-count g c =
     let order : List ℕ = column_order context.model c.args.slice in
     let few = omitted-few context order start in
     let put = ap length (same_omitted c.in-Ok.growth.asker.context context order c.in-Ok.growth.rows.items start c.in-Ok.growth.omitted
-    c.as_slice-2.result.now c.grow_columns.new.self.omitted c.in-Ok.ensures.context c.in-Ok.ensures.rows
-    c.in-Ok.ensures.omitted c.in_default-grow_columns.ensures.omitted c.as_slice-2.ensures) in
+    c.as_slice.result.now c.grow_columns.new.self.omitted c.in-Ok.ensures.context c.in-Ok.ensures.rows
+    c.in-Ok.ensures.omitted c.in_default-grow_columns.ensures.omitted c.as_slice.ensures) in
     on_ok_weaker c.finish_slice.result
     (λ tuples.
-    let count = omissions-count c.grow_columns.new.self.asker.context.model c.args.omissions.now c.finish_slice.new.omissions c.as_slice-2.result.now tuples in
+    let count = omissions-count c.grow_columns.new.self.asker.context.model c.args.omissions.now c.finish_slice.new.omissions c.as_slice.result.now tuples in
     omega (arith, few, put, count)) c.finish_slice.ensures.tuples
 
 pub returns-clause-asked : goal.returns-clause-asked
@@ -105,8 +105,8 @@ returns-clause-asked g c =
     let order : List ℕ = column_order context.model c.args.slice in
     let grown : Grown = columns_grown context order start in
     let same = c.in-Ok.ensures.rows in
-    let rows : c.as_slice.result.now ≡ grown.rows =
-    c.as_slice.ensures.value ∙ c.in_default-grow_columns.ensures.rows
+    let rows : c.grow_columns.new.self.rows.items ≡ grown.rows =
+    c.in_default-grow_columns.ensures.rows
     ∙ ap (λ (g : Grown). g.rows) (same_grown c.in-Ok.growth.asker.context context order c.in-Ok.growth.rows.items start c.in-Ok.ensures.context
     same) in
     subst (Ends c.finish_slice.result)
@@ -114,5 +114,5 @@ returns-clause-asked g c =
     (sym (same_asked c.in-Ok.growth.asker.context context order c.in-Ok.growth.rows.items start c.in-Ok.ensures.context same)
     ∙ c.in_default-grow_columns.ensures.asked)))
     (subst (Ends c.finish_slice.result)
-    (ap (λ w. first_spent w c.as_slice.result.now) (c.in_default-grow_columns.ensures.same ∙ c.in-Ok.ensures.context) ∙ ap (first_spent context) rows)
+    (ap (λ w. first_spent w c.grow_columns.new.self.rows.items) (c.in_default-grow_columns.ensures.same ∙ c.in-Ok.ensures.context) ∙ ap (first_spent context) rows)
     c.finish_slice.ensures.asked)
