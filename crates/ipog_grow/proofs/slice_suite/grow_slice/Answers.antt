@@ -1,9 +1,11 @@
-use Rattle.std.proofs.Common.{◌≡◌, ◌++◌, ℕ, Bool, List, [], Option, Err, All, length, nat_lt, filter, ◌∙◌, sym, ap, subst, arith}
+use Rattle.std.proofs.Common.{◌≡◌, ◌++◌, ℕ, Bool, List, [], Option, Err, All, length, nat_lt, filter, filter_map, ◌∙◌, sym, ap, subst, arith}
 use Rattle.std.proofs.lemmas.Result.{on_ok_weaker}
 use Rattle.definitions.specs.Completion.{column_order}
 use Rattle.definitions.specs.Growth.{Grown, is_of_slice}
 use Rattle.definitions.specs.Search.{question_cost}
+use Rattle.definitions.specs.Seeds.{distinct}
 use Rattle.ipog_grow.specs.Asking.{SearchContext, Grows, Told, columns_grown, first_spent}
+use Rattle.ipog_grow.specs.Completing.{completed}
 use Rattle.ipog_grow.specs.Inputs.{context_in}
 use Rattle.ipog_grow.specs.Omissions.{IsOmittedIn}
 use Rattle.feasibility.specs.Ends.{Ends}
@@ -32,6 +34,14 @@ same_omitted : (now context : SearchContext) (order : List ℕ) (grown start bef
 same_omitted now context order grown start before given put same starts none puts gives =
     gives ∙ puts ∙ ap (λ tuples. tuples ++ (columns_grown now order grown).omitted) none ∙ ap (λ (g : Grown). g.omitted)
     (same_grown now context order grown start same starts)
+
+-- what their rows put behind others
+same_put : (now context : SearchContext) (order : List ℕ) (before given after start : List (List (Option ℕ))) → now ≡ context
+    → given ≡ (columns_grown context order start).rows → after ≡ before ++ distinct (filter_map (completed now) given)
+    → after ≡ before ++ distinct (filter_map (completed context) (columns_grown context order start).rows)
+same_put now context order before given after start same is puts =
+    puts ∙ ap (λ (w : SearchContext). before ++ distinct (filter_map (completed w) given)) same
+    ∙ ap (λ rows. before ++ distinct (filter_map (completed context) rows)) is
 
 pub grow_columns-requires-clause-grows : goal.grow_columns-requires-clause-grows
 grow_columns-requires-clause-grows g c _ _ =
@@ -83,6 +93,20 @@ finish_slice-requires-clause-few g c =
           c.as_slice.result.now c.grow_columns.new.self.omitted c.in-Ok.ensures.context c.in-Ok.ensures.rows
           c.in-Ok.ensures.omitted c.in_default-grow_columns.ensures.omitted c.as_slice.ensures),
     )
+
+pub returns-clause-rows : goal.returns-clause-rows
+returns-clause-rows g c =
+    let context : SearchContext = context_in c.args.input.now c.args.slice in
+    let start : List (List (Option ℕ)) = filter (is_of_slice context.model c.args.slice) c.args.input.now.kept.now in
+    let order : List ℕ = column_order context.model c.args.slice in
+    let given : List (List (Option ℕ)) = c.grow_columns.new.self.rows.items in
+    let rows : given ≡ (columns_grown context order start).rows =
+    c.in_default-grow_columns.ensures.rows
+    ∙ ap (λ (g : Grown). g.rows) (same_grown c.in-Ok.growth.asker.context context order c.in-Ok.growth.rows.items start c.in-Ok.ensures.context
+    c.in-Ok.ensures.rows) in
+    on_ok_weaker c.finish_slice.result
+    (same_put c.grow_columns.new.self.asker.context context order c.args.rows.now given c.finish_slice.new.rows start
+    (c.in_default-grow_columns.ensures.same ∙ c.in-Ok.ensures.context) rows) c.finish_slice.ensures.rows
 
 pub returns-clause-count : goal.returns-clause-count
 returns-clause-count g c =

@@ -20,17 +20,18 @@ invariant_of-result c =
     c.len.ensures ∙ ap length c.params.ensures.value ∙ ap (λ (w : ModelView). length w.params) (sym model) in
     let answered : c.len-2.result ≡ length m.params =
     c.len-2.ensures ∙ ap length c.params-2.ensures.value ∙ ap (λ (w : ModelView). length w.params) (sym model) in
-    let room : c.in_ok-room.room ≡ no_values m = c.in_ok-room.ensures ∙ ap (λ n. replicate n None) count in
-    (record {
-      slice = subst (λ (w : ModelView). IsSliceOf w c.args.slice) (sym model) c.requires.slice;
-      orders = subst (λ (w : ModelView). OrdersValues w c.args.prefs.now) (sym model) c.requires.orders;
-      tried = ap (λ (t : TreeView). t.values) c.in_ok-tree.ensures ∙ ap (λ (w : ModelView). preferred_values w c.args.prefs.now c.args.slice) (sym model);
-      room = ap length (c.begin-fails.ensures.same ∙ room) ∙ length-replicate (length m.params) None;
-      ready = record {
-        fails = c.begin-fails.ensures.fails ∙ ap (is_failing m lists) room;
-        live = λ fine. subst (λ (cells : List (Option ℕ)). ShowsLive m lists cells c.begin-fails.new.sets) room (c.begin-fails.ensures.live fine);
-        why = λ failing. subst (λ (cells : List (Option ℕ)). ShowsFailure m lists cells c.begin-fails.new.sets) room (c.begin-fails.ensures.why failing);
-      };
-    },
-    subst (AreAnswered m lists) (sym (c.in_ok-answered.ensures ∙ ap (λ n. replicate c.places_for.result (unanswered n)) answered))
-    (unanswered_are m lists c.places_for.result))
+    let room : c.in_ok-room.room ≡ no_values m = c.in_ok-room.ensures ∙ ap (λ n. replicate n None) count in (
+      record {
+        slice = subst (λ (w : ModelView). IsSliceOf w c.args.slice) (sym model) c.requires.slice;
+        orders = subst (λ (w : ModelView). OrdersValues w c.args.prefs.now) (sym model) c.requires.orders;
+        tried = ap (λ (t : TreeView). t.values) c.in_ok-tree.ensures ∙ ap (λ (w : ModelView). preferred_values w c.args.prefs.now c.args.slice) (sym model);
+        room = ap length (c.begin-fails.ensures.same ∙ room) ∙ length-replicate (length m.params) None;
+        ready = record {
+          fails = c.begin-fails.ensures.fails ∙ ap (is_failing m lists) room;
+          live = λ fine. subst (λ (cells : List (Option ℕ)). ShowsLive m lists cells c.begin-fails.new.sets) room (c.begin-fails.ensures.live fine);
+          why = λ failing. subst (λ (cells : List (Option ℕ)). ShowsFailure m lists cells c.begin-fails.new.sets) room (c.begin-fails.ensures.why failing);
+        };
+      },
+      subst (AreAnswered m lists) (sym (c.in_ok-answered.ensures ∙ ap (λ n. replicate c.places_for.result (unanswered n)) answered))
+          (unanswered_are m lists c.places_for.result),
+    )
