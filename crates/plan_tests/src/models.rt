@@ -80,7 +80,20 @@ fn makes_rows_and_tuples(rt: HostRuntime) -> Result<(), Fail> {
     let mut cells = Cells::empty(rt.alloc(), 2)?;
     cells.set_cell(1, 4);
     assert!(rt; cells.len() == 2 && cells.get(0).is_none() && cells.get(1) == Some(4));
+    let copy = cells.copy(rt.alloc())?;
+    assert!(rt; copy.as_slice() == [None, Some(4)].as_slice());
     let tuple = Tuple::of(rt.alloc(), &[(0, 3), (2, 1)])?;
     assert!(rt; tuple.as_slice() == [(0, 3), (2, 1)].as_slice());
+    Ok(())
+}
+
+// One parameter more than a row has room for without memory.
+#[test]
+fn copies_a_row_of_five(rt: HostRuntime) -> Result<(), Fail> {
+    let mut cells = Cells::empty(rt.alloc(), 5)?;
+    cells.set_cell(4, 1);
+    let copy = cells.copy(rt.alloc())?;
+    cells.clear_cell(4);
+    assert!(rt; copy.as_slice() == [None, None, None, None, Some(1)].as_slice());
     Ok(())
 }

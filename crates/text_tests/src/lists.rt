@@ -3,7 +3,7 @@
 use bit_table::BitTable;
 use packed_lists::PackedLists;
 use std::test::Fail;
-use value_text::{Text, TextList};
+use value_text::{OwnedList, Text, TextList};
 
 #[test]
 fn texts_stand_in_a_list(rt: HostRuntime) -> Result<(), Fail> {
@@ -16,6 +16,15 @@ fn texts_stand_in_a_list(rt: HostRuntime) -> Result<(), Fail> {
         Some(name) => assert!(rt; name.as_str() == "two"),
         None => assert!(rt; false),
     }
+    Ok(())
+}
+
+#[test]
+fn a_vector_goes_behind_a_list(rt: HostRuntime) -> Result<(), Fail> {
+    let mut list = OwnedList::new(rt.alloc());
+    list.append(vec![in rt.alloc(); 3u32; 2]?)?;
+    list.append(vec![in rt.alloc(); 5u32; 1]?)?;
+    assert!(rt; list.as_slice() == [3, 3, 5].as_slice());
     Ok(())
 }
 
