@@ -1,5 +1,5 @@
 -- What is common with a mask of digits, a bit for each parameter that has one; masks and words without these bits, by one parameter more.
-use Rattle.std.proofs.Common.{◌≡◌, ℕ, zero, suc, ◌+◌, ◌-◌, ◌<◌, ◌≤◌, ◌||◌, Bool, true, false, List, [], ◌∷◌, ◌++◌, Option, Some, None, ◌∙◌, sym, ap, refl, arith, inl, inr}
+use Rattle.std.proofs.Common.{◌≡◌, ℕ, zero, suc, ◌+◌, ◌-◌, ◌<◌, ◌≤◌, ◌||◌, Bool, true, false, List, [], ◌∷◌, ◌++◌, length, Option, Some, None, ◌∙◌, sym, ap, refl, arith, inl, inr}
 use Rattle.std.specs.Prelude.{◌==◌, if◌then◌else◌, min}
 use Rattle.std.specs.List.{list_any}
 use Rattle.std.proofs.Math.Bool.{or-true, or-false, or_assoc}
@@ -163,6 +163,19 @@ pub cleared-start : (count : ℕ → ℕ) (digits : ℕ → Option ℕ) (old : L
 cleared-start count digits old = record {
   long = refl;
   bits = λ p d below. let small = bit-small old (begin_at count p + d) in omega (arith, small);
+}
+
+pub without-digit : (count : ℕ → ℕ) (digits : ℕ → Option ℕ) (p begin x : ℕ) (old new : List ℕ) → digits p ≡ Some x → begin ≡ begin_at count p
+    → length new ≡ length old → ((k : ℕ) → bit_in new k ≡ (if k == begin + x then 0 else bit_in old k)) → AreWithout count digits p old new
+without-digit count digits p begin x old new given at long each = record {
+  long = long;
+  none = λ none. absurd (let never : Some x ≡ None = sym given ∙ none in cc);
+  some =
+      λ d is k.
+      let both : Some x ≡ Some d = sym given ∙ is in
+      let same : x ≡ d = cc in
+      let place : begin + x ≡ begin_at count p + d = omega (arith, at, same) in
+      each k ∙ ap (λ n. if k == n then 0 else bit_in old k) place;
 }
 
 without_one : (b : Bool) (n h : ℕ) → (if b then 0 else min n (1 - h)) ≡ min n (1 - (if b then 1 else h))

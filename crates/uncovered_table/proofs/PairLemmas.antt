@@ -1,7 +1,7 @@
 -- Open tuples as bits in blocks: what counting and closing make of them.
 use Rattle.std.proofs.Common.{inl, inr, ◌≡◌, ℕ, zero, suc, ◌+◌, ◌-◌, ◌*◌, ◌<◌, ◌≤◌, Bool, true, false, ◌||◌, List, [], ◌∷◌, Option, Some}
 use Rattle.std.proofs.Common.{None, All, length, get_or, sum_by, ◌∙◌, refl, sym, subst, ap, arith, zero-add}
-use Rattle.std.specs.Prelude.{◌==◌, ◌&&◌, min, nat_lt, option_map, slice_set, if◌then◌else◌}
+use Rattle.std.specs.Prelude.{◌==◌, ◌&&◌, min, nat_lt, option_map, slice_set, take, if◌then◌else◌}
 use Rattle.std.specs.Option.{option_map_or}
 use Rattle.std.specs.List.{filter, last_or}
 use Rattle.std.proofs.lemmas.Bool.{and_parts, cases_eq, cases_lt, eq-eqb, false≢true}
@@ -20,7 +20,7 @@ use Rattle.tuple_index.specs.Plan.{plan_of}
 use Rattle.uncovered_table.specs.Bits.{InPlay, all_cleared, bit_count, cleared, first_bit, held_bit, held_count, sets_in_play, tuple_count}
 use Rattle.uncovered_table.specs.Digits.{AreDigits, joined, number_of, own_values, with_digit}
 use Rattle.uncovered_table.specs.Masks.{IsCleared, IsMask, begin_at, bit_for, hot, restricted}
-use Rattle.uncovered_table.specs.Pairs.{ArePairs, IsPair, IsPartner, Matched, digit_count, pair_bit}
+use Rattle.uncovered_table.specs.Pairs.{ArePairs, IsBlockPair, IsPair, IsPartner, Matched, digit_count, pair_bit}
 use Rattle.uncovered_table.specs.Places.{ends_with_column, set_at}
 use Rattle.uncovered_table.specs.Words.{bit_in, common, sum_to}
 use Rattle.uncovered_table.proofs.BitLemmas.{bits_before}
@@ -133,7 +133,7 @@ gone_at bits k =
       | inr past ↦ get_or_past (slice_set bits k false) k false (omega (arith, past, length-set bits k false))
     ]
 
-cleared_stays : (o : Option ℕ) (bits : List Bool) (k : ℕ) → get_or bits k false ≡ false → get_or (cleared o bits) k false ≡ false
+pub cleared_stays : (o : Option ℕ) (bits : List Bool) (k : ℕ) → get_or bits k false ≡ false → get_or (cleared o bits) k false ≡ false
 cleared_stays None bits k none = none
 cleared_stays (Some bit) bits k none =
     elim (cases_eq k bit) [
@@ -497,3 +497,52 @@ pairs-count m slice column d digits mask bits sets partners blocks below within 
         ap (λ o. bit_for o (pair_bit m slice blocks d p)) given
         ∙ is.held d e (with_digit digits column d) (with_digits (own_values m slice) digits column d below within) (own_column digits column d)
         (other_digit digits column d p is.partner.apart ∙ given)
+
+-- a rising number isn't among those before it
+at-least : (a e : ℕ) (ps : List ℕ) (k : ℕ) → RisesFrom a e ps → k < length ps → a ≤ get_or ps k 0
+at-least a e [] k rises within = absurd (omega (arith, within))
+at-least a e (p ∷ ps) zero rises within = rises.0
+at-least a e (p ∷ ps) (suc k) rises within =
+    let more = at-least (p + 1) e ps k rises.2 (omega (arith, within)) in
+    omega (arith, rises.0, more)
+
+pub unlisted : (a e : ℕ) (ps : List ℕ) (k : ℕ) → RisesFrom a e ps → k < length ps → is_among (take k ps) (get_or ps k 0) ≡ false
+unlisted a e [] k rises within = absurd (omega (arith, within))
+unlisted a e (p ∷ ps) zero rises within = refl
+unlisted a e (p ∷ ps) (suc k) rises within =
+    let q = get_or ps k 0 in
+    let more : p + 1 ≤ q = at-least (p + 1) e ps k rises.2 (omega (arith, within)) in
+    let test : (p == q) ≡ false = grind (arith, nat_tests) in
+    ap (λ b. b || is_among (take k ps) q) test ∙ unlisted (p + 1) e ps k rises.2 (omega (arith, within))
+
+-- where the bit in the block isn't set, there is nothing to clear
+same_bits : (bits : List Bool) (b : ℕ) → get_or bits b false ≡ false → slice_set bits b false ≡ bits
+same_bits [] b none = refl
+same_bits (x ∷ bits) zero none = ap (λ y. y ∷ bits) (sym none)
+same_bits (x ∷ bits) (suc b) none = ap (λ rest. x ∷ rest) (same_bits bits b none)
+
+pub none-cleared : (m : ModelView) (slice : Slice) (column d set p e : ℕ) (digits : ℕ → Option ℕ) (params : List ℕ) (first bits : List Bool)
+    (block now : List ℕ) → AreDigits (own_values m slice) digits → d < digit_count m slice column → IsBlockPair m slice column d first block set p
+    → IsCleared (digit_count m slice) (restricted params digits) block now → is_among params p ≡ false
+    → ((k : ℕ) → get_or first k false ≡ false → get_or bits k false ≡ false) → digits p ≡ Some e
+    → bit_in now (begin_at (digit_count m slice) p + e) ≡ 0 → cleared (held_bit m slice (with_digit digits column d) set) bits ≡ bits
+none-cleared m slice column d set p e digits params first bits block now below within pair is other stays given none =
+    let f = with_digit digits column d in
+    let place = begin_at (digit_count m slice) p + e in
+    let kept = is.bits p e (below p e given) ∙ ap (λ b. min (bit_in block place) (1 - hot (if b then digits p else None) e)) other in
+    let small = bit-small block place in
+    let count : held_count m slice first f set ≡ bit_in block place =
+    sym (pair.held e f (with_digits (own_values m slice) digits column d below within) (own_column digits column d)
+    (other_digit digits column d p pair.partner.apart ∙ given)) in
+    by_bit (held_bit m slice f set) (count ∙ (let gone : bit_in block place ≡ 0 = omega (arith, kept, small, none) in gone))
+  where
+    marks : Bool → ℕ
+    marks t = if t then 1 else 0
+
+    by_test : (t : Bool) → marks t ≡ 0 → t ≡ false
+    by_test true one = absurd (omega (arith, one))
+    by_test false one = refl
+
+    by_bit : (o : Option ℕ) → bit_count first o ≡ 0 → cleared o bits ≡ bits
+    by_bit None count = refl
+    by_bit (Some b) count = same_bits bits b (stays b (by_test (get_or first b false) count))

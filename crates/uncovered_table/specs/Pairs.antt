@@ -42,6 +42,12 @@ pub record IsPair (m : ModelView) (slice : Slice) (column : ℕ) (bits : List Bo
   pub held : (d e : ℕ) (digits : ℕ → Option ℕ) → AreDigits (own_values m slice) digits → digits column ≡ Some d → digits p ≡ Some e
       → pair_bit m slice blocks d p e ≡ held_count m slice bits digits set
 
+-- so do those in the block of a digit of the column, of its tuples with this digit
+pub record IsBlockPair (m : ModelView) (slice : Slice) (column d : ℕ) (bits : List Bool) (block : List ℕ) (set p : ℕ) : Type 0 where
+  pub partner : IsPartner m slice column set p
+  pub held : (e : ℕ) (digits : ℕ → Option ℕ) → AreDigits (own_values m slice) digits → digits column ≡ Some d → digits p ≡ Some e
+      → bit_in block (begin_at (digit_count m slice) p + e) ≡ held_count m slice bits digits set
+
 -- those of some sets, by their other parameters in order
 pub record ArePairs (m : ModelView) (slice : Slice) (column : ℕ) (bits : List Bool) (sets partners : List ℕ) (blocks : List (List ℕ)) : Type 0 where
   pub rise : RisesFrom 0 (length m.params) partners

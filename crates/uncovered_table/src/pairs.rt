@@ -5,10 +5,11 @@ ghost use Rattle.uncovered_table.specs.Bits.{InPlay, all_cleared, cleared, held_
 ghost use Rattle.uncovered_table.specs.Digits.{cell_digit, own_values, with_digit};
 ghost use Rattle.definitions.specs.Demand.{demanded_sets};
 ghost use Rattle.uncovered_table.specs.Masks.{AreAll, AreBegins, AreWithout, IsCleared, IsMask, begin_at, restricted};
-ghost use Rattle.uncovered_table.specs.Pairs.{AreKept, ArePartners, HasPairs, IsLonePart, IsPartner, Matched, common_count, digit_count};
+ghost use Rattle.uncovered_table.specs.Pairs.{AreKept, ArePartners, HasPairs, IsBlockPair, IsLonePart, IsPartner, Matched, common_count, digit_count};
 ghost use Rattle.uncovered_table.specs.Places.{slice_places};
 ghost use Rattle.uncovered_table.specs.Prepared.{AreColumns, AreLines};
 ghost use Rattle.uncovered_table.specs.Words.{bit_in};
+ghost use Rattle.tuple_index.specs.Places.{RisesFrom};
 
 use crate::held::{clear_held, from_value};
 use crate::prepared::{ColumnLines, Part, Prepared};
@@ -350,6 +351,10 @@ fn clear_pair(
     requires column { column < length sets.now.model.params }
     requires digit { digit < digit_count sets.now.model sets.now.slice column }
     requires bits { length bits.old ≡ length (slice_places sets.now.model sets.now.slice) }
+    requires none { (e : ℕ) → cell_digit (own_values sets.now.model sets.now.slice) cells.now p ≡ Some e
+        → bit_in block.old.items (begin_at (digit_count sets.now.model sets.now.slice) p + e) ≡ 0
+        → cleared (held_bit sets.now.model sets.now.slice (with_digit (cell_digit (own_values sets.now.model sets.now.slice) cells.now) column digit) set) bits.old
+        ≡ bits.old }
     ensures bits { bits.new ≡ cleared (held_bit sets.now.model sets.now.slice
         (with_digit (cell_digit (own_values sets.now.model sets.now.slice) cells.now) column digit) set) bits.old }
     ensures block { AreWithout (digit_count sets.now.model sets.now.slice) (cell_digit (own_values sets.now.model sets.now.slice) cells.now) p
@@ -358,8 +363,9 @@ fn clear_pair(
     match sets.cell_digit(cells, p) {
         Some(other) => {
             let begin = begins[p as usize];
-            bits.clear(sets.pair_bit(begins, set, column, digit, p, other));
-            clear_bit(block, begin as usize + other as usize);
+            if clear_bit(block, begin as usize + other as usize) {
+                bits.clear(sets.pair_bit(begins, set, column, digit, p, other));
+            }
         }
         None => {}
     }
@@ -377,7 +383,9 @@ fn clear_partners(
     block: &mut Vec<u64>,
 )
     requires begins { AreBegins (digit_count sets.now.model sets.now.slice) (length sets.now.model.params) begins.now }
-    requires partners { Matched (IsPartner sets.now.model sets.now.slice column) (sets_in_play sets.now.model sets.now.slice column) partners.now }
+    requires rise { RisesFrom 0 (length sets.now.model.params) partners.now }
+    requires partners { Matched (IsBlockPair sets.now.model sets.now.slice column digit bits.old block.old.items)
+        (sets_in_play sets.now.model sets.now.slice column) partners.now }
     requires cells { IsOfSlice sets.now.model sets.now.slice cells.now }
     requires column { column < length sets.now.model.params }
     requires digit { digit < digit_count sets.now.model sets.now.slice column }

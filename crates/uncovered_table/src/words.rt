@@ -1,4 +1,4 @@
-ghost use Rattle.std.specs.Prelude.{◌≡◌, ◌==◌, ◌<◌, ◌≤◌, ◌^◌, ◌*◌, ℕ, length, slice_index_or, if◌then◌else◌};
+ghost use Rattle.std.specs.Prelude.{◌≡◌, false, ◌==◌, ◌<◌, ◌≤◌, ◌^◌, ◌*◌, ℕ, length, slice_index_or, if◌then◌else◌};
 ghost use Rattle.uncovered_table.specs.Words.{bit_in, common, sum_to};
 
 // The number of bits of a word.
@@ -17,18 +17,21 @@ pub(crate) fn count_common(words: &[u64], mask: &[u64]) -> u32
     count
 }
 
-// Clears a bit, if there is a word for it.
+// Clears a bit, if there is a word for it, and tells whether it was set.
 #[inline]
-pub(crate) fn clear_bit(words: &mut Vec<u64>, place: usize)
+pub(crate) fn clear_bit(words: &mut Vec<u64>, place: usize) -> bool
+    ensures none { result ≡ false → bit_in words.old.items place ≡ 0 }
     ensures long { length words.new.items ≡ length words.old.items }
     ensures each { (k : ℕ) → bit_in words.new.items k ≡ (if k == place then 0 else bit_in words.old.items k) }
 {
     let at = place / WORD_BITS;
     if at >= words.len() {
-        return;
+        return false;
     }
     let word = words[at];
-    words[at] = word & !(1 << (place % WORD_BITS));
+    let left = word & !(1 << (place % WORD_BITS));
+    words[at] = left;
+    left != word
 }
 
 // Sets a bit.

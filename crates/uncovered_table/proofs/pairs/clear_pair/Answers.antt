@@ -6,6 +6,7 @@ use Rattle.uncovered_table.specs.Masks.{begin_at}
 use Rattle.uncovered_table.specs.Pairs.{digit_count}
 use Rattle.uncovered_table.specs.Words.{bit_in}
 use Rattle.uncovered_table.proofs.DigitLemmas.{cell_digits}
+use Rattle.uncovered_table.proofs.MaskLemmas.{without-digit}
 use Rattle.uncovered_table.proofs.PairLemmas.{other_digit, own_column, partner-none}
 use Rattle.uncovered_table.proofs.pairs.clear_pair.Goals as goal
 
@@ -14,28 +15,33 @@ pair_bit-requires-clause-other c =
     let v = c.args.sets.now in
     cell_digits (own_values v.model v.slice) c.args.cells.now c.args.p c.in-Some.other (sym c.cell_digit.ensures ∙ c.in-Some.is)
 
-pub returns-in-Some-clause-bits : goal.returns-in-Some-clause-bits
-returns-in-Some-clause-bits c =
+pub returns-then-clear_bit-clause-bits : goal.returns-then-clear_bit-clause-bits
+returns-then-clear_bit-clause-bits c =
     let v = c.args.sets.now in
     let digits = cell_digit (own_values v.model v.slice) c.args.cells.now in
     c.clear.ensures
     ∙ ap (λ o. cleared o c.args.bits.now) (sym (c.pair_bit.ensures.value (with_digit digits c.args.column c.args.digit) (own_column digits c.args.column c.args.digit)
     (other_digit digits c.args.column c.args.digit c.args.p c.requires.partner.apart ∙ sym c.cell_digit.ensures ∙ c.in-Some.is)))
 
-pub returns-in-Some-clause-block : goal.returns-in-Some-clause-block
-returns-in-Some-clause-block c =
+pub returns-then-clear_bit-clause-block : goal.returns-then-clear_bit-clause-block
+returns-then-clear_bit-clause-block c =
+    without-digit (digit_count c.args.sets.now.model c.args.sets.now.slice) (cell_digit (own_values c.args.sets.now.model c.args.sets.now.slice) c.args.cells.now)
+    c.args.p (get_or c.args.begins.now c.args.p 0) c.in-Some.other c.args.block.now.items c.clear_bit.new.words.items (sym c.cell_digit.ensures ∙ c.in-Some.is)
+    (c.requires.begins.each c.args.p 0 (let less = c.requires.partner.exists in omega (arith, less))) c.clear_bit.ensures.long c.clear_bit.ensures.each
+
+pub returns-else-clear_bit-clause-bits : goal.returns-else-clear_bit-clause-bits
+returns-else-clear_bit-clause-bits c =
     let v = c.args.sets.now in
     let begin = c.requires.begins.each c.args.p 0 (let less = c.requires.partner.exists in omega (arith, less)) in
-    record {
-      long = c.clear_bit.ensures.long;
-      none = λ none. absurd (let never : Some c.in-Some.other ≡ None = sym c.in-Some.is ∙ c.cell_digit.ensures ∙ none in cc);
-      some =
-          λ d is k.
-          let both : Some c.in-Some.other ≡ Some d = sym c.in-Some.is ∙ c.cell_digit.ensures ∙ is in
-          let same : c.in-Some.other ≡ d = cc in
-          let place : get_or c.args.begins.now c.args.p 0 + c.in-Some.other ≡ begin_at (digit_count v.model v.slice) c.args.p + d = omega (arith, begin, same) in
-          c.clear_bit.ensures.each k ∙ ap (λ n. if k == n then 0 else bit_in c.args.block.now.items k) place;
-    }
+    let place : begin_at (digit_count v.model v.slice) c.args.p + c.in-Some.other ≡ get_or c.args.begins.now c.args.p 0 + c.in-Some.other = omega (arith, begin) in
+    sym (c.requires.none c.in-Some.other (sym c.cell_digit.ensures ∙ c.in-Some.is)
+    (ap (bit_in c.args.block.now.items) place ∙ c.clear_bit.ensures.none c.if-clear_bit.false))
+
+pub returns-else-clear_bit-clause-block : goal.returns-else-clear_bit-clause-block
+returns-else-clear_bit-clause-block c =
+    without-digit (digit_count c.args.sets.now.model c.args.sets.now.slice) (cell_digit (own_values c.args.sets.now.model c.args.sets.now.slice) c.args.cells.now)
+    c.args.p (get_or c.args.begins.now c.args.p 0) c.in-Some.other c.args.block.now.items c.clear_bit.new.words.items (sym c.cell_digit.ensures ∙ c.in-Some.is)
+    (c.requires.begins.each c.args.p 0 (let less = c.requires.partner.exists in omega (arith, less))) c.clear_bit.ensures.long c.clear_bit.ensures.each
 
 pub returns-in-None-clause-bits : goal.returns-in-None-clause-bits
 returns-in-None-clause-bits c =

@@ -1,10 +1,12 @@
-use Rattle.std.proofs.Common.{◌≡◌, ◌∙◌, ◌<◌, [], ap, arith, get_or, length, map, subst, sym}
+use Rattle.std.proofs.Common.{◌≡◌, ◌∙◌, ◌+◌, ◌<◌, [], ap, arith, get_or, length, map, subst, sym}
 use Rattle.std.specs.Prelude.{slice_set}
 use Rattle.std.proofs.lemmas.List.{get_or-map, length-map, map-set}
 use Rattle.uncovered_table.specs.Bits.{sets_in_play}
 use Rattle.uncovered_table.specs.Digits.{cell_digit, own_values}
-use Rattle.uncovered_table.specs.Masks.{IsCleared, restricted}
-use Rattle.uncovered_table.specs.Pairs.{IsPair, IsPartner, Matched, digit_count}
+use Rattle.tuple_index.specs.Places.{RisesFrom}
+use Rattle.uncovered_table.specs.Masks.{IsCleared, begin_at, restricted}
+use Rattle.uncovered_table.specs.Pairs.{IsBlockPair, IsPair, Matched, digit_count}
+use Rattle.uncovered_table.specs.Words.{bit_in}
 use Rattle.uncovered_table.proofs.DigitLemmas.{cell_digits}
 use Rattle.uncovered_table.proofs.PairLemmas.{AreCleared, matched-weaker, pairs-closed}
 use Rattle.uncovered_table.proofs.PartnerLemmas.{cleared-blocks}
@@ -18,14 +20,31 @@ index_mut-block-requires c =
     omega (arith, length-map list (λ block. block.items), c.requires.pairs.enough, c.requires.digit) in
     omega (arith, within, c.args.pairs.now.blocks.ok.0)
 
+pub clear_partners-requires-clause-rise : goal.clear_partners-requires-clause-rise
+clear_partners-requires-clause-rise c =
+    subst (RisesFrom 0 (length c.args.sets.now.model.params)) (sym c.as_slice.ensures.value) c.requires.pairs.rise
+
 pub clear_partners-requires-clause-partners : goal.clear_partners-requires-clause-partners
 clear_partners-requires-clause-partners c =
     let v = c.args.sets.now in
-    let pairs = c.args.pairs.now in
+    let d = c.args.digit in
+    let list = c.args.pairs.now.blocks.items in
+    let olds = map (λ block. block.items) list in
+    let within : d < length list = omega (arith, length-map list (λ block. block.items), c.requires.pairs.enough, c.requires.digit) in
+    let block = c.index_mut-block.result.now.items in
+    let was : block ≡ get_or olds d [] =
+    ap (λ block. block.items) c.index_mut-block.ensures.value
+    ∙ sym (get_or-map (λ block. block.items) list d c.index_mut-block.result.now [] within) in
     let sets = sets_in_play v.model v.slice c.args.column in
-    subst (Matched (IsPartner v.model v.slice c.args.column) sets) (sym c.as_slice.ensures.value)
-    (matched-weaker (IsPair v.model v.slice c.args.column c.args.bits.now (map (λ block. block.items) pairs.blocks.items))
-    (IsPartner v.model v.slice c.args.column) (λ set p is. is.partner) sets pairs.partners.items c.requires.pairs.pairs)
+    subst (Matched (IsBlockPair v.model v.slice c.args.column d c.args.bits.now block) sets) (sym c.as_slice.ensures.value)
+    (matched-weaker (IsPair v.model v.slice c.args.column c.args.bits.now olds) (IsBlockPair v.model v.slice c.args.column d c.args.bits.now block)
+    (λ set p is. record {
+      partner = is.partner;
+      held =
+          λ e digits below first second.
+          ap (λ words. bit_in words (begin_at (digit_count v.model v.slice) p + e)) was ∙ is.held d e digits below first second;
+    })
+    sets c.args.pairs.now.partners.items c.requires.pairs.pairs)
 
 pub returns-clause-pairs : goal.returns-clause-pairs
 returns-clause-pairs c =
