@@ -1,4 +1,5 @@
 pub mod Checking
+pub mod HeldTokens
 pub mod Holders
 pub mod Lines
 pub mod Proofs

@@ -137,8 +137,8 @@ impl<'a> Spelling<'a> {
         Ok(Some(tree))
     }
 
-    // A copy of the tree before, where the words are its own.
-    fn copy_tree(
+    // The tree before, where the words are its own.
+    fn repeated_tree(
         &self,
         alloc: Global,
         words: &Words,
@@ -153,7 +153,7 @@ impl<'a> Spelling<'a> {
         if !words.are_of(known.text) {
             return Ok(None);
         }
-        let tree = TreeBuf::copy_of(alloc, known.tree.as_slice())?;
+        let tree = known.tree.again(alloc)?;
         Ok(Some(tree))
     }
 
@@ -169,16 +169,19 @@ impl<'a> Spelling<'a> {
             (λ tree. ReadsTree self.now.model (format_of self.now.form) words.old (map meant tree))) }
         ensures before { IfOk result (λ read. IfSome before.new (IsReadTree self.now)) }
     {
-        if let Some(tree) = self.copy_tree(alloc, words, before)? {
+        if let Some(tree) = self.repeated_tree(alloc, words, before)? {
             return Ok(Some(tree));
         }
         let left = words.left();
         let Some(tree) = self.read_new_tree(alloc, words)? else {
             return Ok(None);
         };
+        let tree = tree.shareable(alloc)?;
         if let Some(text) = left {
-            let copy = TreeBuf::copy_of(alloc, tree.as_slice())?;
-            *before = Some(ReadTree { text, tree: copy });
+            *before = Some(ReadTree {
+                text,
+                tree: tree.again(alloc)?,
+            });
         }
         Ok(Some(tree))
     }

@@ -8,6 +8,7 @@ use smallvec::SmallVec;
 use std::alloc::Global;
 use std::marker::Model;
 use std::slice::Iter;
+use std::sync::Arc;
 use value_text::NoMemory;
 
 /// A token of a refutation tree, which is written in preorder (this project's rule).
@@ -25,21 +26,30 @@ pub enum TreeToken {
     ByOmission(u32),
 }
 
+// Where the tokens of a tree stand: in a list of its own, or in one that several trees share.
+#[derive(Drop)]
+enum Tokens {
+    Own(SmallVec<TreeToken, 2>),
+    Shared(Arc<SmallVec<TreeToken, 2>>),
+}
+
 /// The tokens of a tree. Contracts see their list.
 ///
-/// Most trees of a proof are a leaf, so a few tokens stand in the value itself.
+/// Most trees of a proof are a leaf, so a few tokens stand in the value itself; and most of the others are
+/// the tree of the line before, so that lines share their tokens.
 #[derive(Drop)]
 pub struct TreeBuf {
-    tokens: SmallVec<TreeToken, 2>,
+    tokens: Tokens,
 }
 
 impl Model for TreeBuf {
     ghost use Rattle.std.specs.Prelude.{List};
     ghost use Rattle.refutation.specs.declared.token.TreeToken.{TreeToken};
+    ghost use Rattle.refutation.specs.HeldTokens.{held_tokens};
 
     ghost Value = { List TreeToken };
 
-    ghost view = { λ tree. tree.tokens.items };
+    ghost view = { λ tree. held_tokens tree.tokens };
 }
 
 impl TreeBuf {
@@ -48,7 +58,7 @@ impl TreeBuf {
         ensures { result ≡ [] }
     {
         TreeBuf {
-            tokens: SmallVec::new(alloc),
+            tokens: Tokens::Own(SmallVec::new(alloc)),
         }
     }
 
@@ -57,14 +67,36 @@ impl TreeBuf {
         ensures { IfOk result (λ tree. tree ≡ []) }
     {
         let tokens = SmallVec::with_capacity(alloc, count)?;
+        Ok(TreeBuf {
+            tokens: Tokens::Own(tokens),
+        })
+    }
+
+    // The same tree, whose tokens others can share if they don't stand in the value itself.
+    pub(crate) fn shareable(self, alloc: Global) -> Result<Self, NoMemory>
+        ensures { IfOk result (λ tree. tree ≡ self) }
+    {
+        let tokens = match self.tokens {
+            Tokens::Own(list) => {
+                if list.spilled() {
+                    Tokens::Shared(Arc::new(alloc, list)?)
+                } else {
+                    Tokens::Own(list)
+                }
+            }
+            Tokens::Shared(list) => Tokens::Shared(list),
+        };
         Ok(TreeBuf { tokens })
     }
 
-    // A copy of some tokens.
-    pub(crate) fn copy_of(alloc: Global, tokens: &[TreeToken]) -> Result<Self, NoMemory>
-        ensures { IfOk result (λ tree. tree ≡ tokens.now) }
+    // The same tree once more.
+    pub(crate) fn again(&self, alloc: Global) -> Result<Self, NoMemory>
+        ensures { IfOk result (λ tree. tree ≡ self.now) }
     {
-        let tokens = SmallVec::from_slice(alloc, tokens)?;
+        let tokens = match &self.tokens {
+            Tokens::Own(list) => Tokens::Own(SmallVec::from_slice(alloc, list.as_slice())?),
+            Tokens::Shared(list) => Tokens::Shared(Arc::try_clone(list)?),
+        };
         Ok(TreeBuf { tokens })
     }
 
@@ -72,21 +104,24 @@ impl TreeBuf {
     pub fn len(&self) -> usize
         ensures { result ≡ length self.now }
     {
-        self.tokens.len()
+        self.as_slice().len()
     }
 
     /// Whether there is no token. Takes no memory.
     pub fn is_empty(&self) -> bool
         ensures { result ≡ (length self.now == 0) }
     {
-        self.tokens.is_empty()
+        self.as_slice().is_empty()
     }
 
     /// The tokens, in order. Takes no memory.
     pub fn as_slice(&self) -> &[TreeToken]
         ensures { result.now ≡ self.now }
     {
-        self.tokens.as_slice()
+        match &self.tokens {
+            Tokens::Own(list) => list.as_slice(),
+            Tokens::Shared(list) => list.as_slice(),
+        }
     }
 
     /// The token at a place counted from 0; `None` exactly where the place is not below the number of
@@ -116,7 +151,14 @@ impl TreeBuf {
         ensures ok { OnOk result (self.new ≡ self.old ++ token ∷ []) }
         ensures err { OnErr result (self.new ≡ self.old) }
     {
-        self.tokens.push(token)?;
+        match &mut self.tokens {
+            Tokens::Own(list) => list.push(token)?,
+            Tokens::Shared(list) => {
+                let mut own = SmallVec::from_slice(*list.allocator(), list.as_slice())?;
+                own.push(token)?;
+                self.tokens = Tokens::Own(own);
+            }
+        }
         Ok(())
     }
 }
