@@ -10,7 +10,8 @@ use Rattle.ipog_grow.specs.Omissions.{IsOmittedIn}
 use Rattle.ipog_grow.proofs.Tuples.{grows-slice}
 use Rattle.ipog_grow.proofs.Refuting.{omitted-tree, omitted-unserved, omitted-within}
 use Rattle.ipog_grow.proofs.asker.Asker.refute.Goals as goal
-use Rattle.ipog_grow.proofs.asker.Asker.refute.Goals.{in-Ok, in-Err-NoMemory+in-Inline-1, in-Err-NoMemory+in-Heap-1}
+use Rattle.ipog_grow.proofs.asker.Asker.refute.Goals.{in-Ok, in-Err-NoMemory+in-Own+in-Inline-1, in-Err-NoMemory+in-Own+in-Heap-1}
+use Rattle.ipog_grow.proofs.asker.Asker.refute.Goals.{in-Err-NoMemory+in-Shared-1}
 
 -- what decides the answers, and the tuple
 abbrev context_of : Inside → SearchContext
@@ -52,6 +53,7 @@ returns-clause-tree c = elim c.match-refute.branch [
       (omitted-tree context (tuple_of c.self.inside c.args.tuple.now) format (earlier_tuples context.model c.args.earlier.now)
       (map meant c.refute.new.into) c.self.invariant.context
       (omitted_here c.self.inside c.args.self.now c.args.tuple.now c.self.view_is c.requires.omitted) w.in-Ok.ensures.eager w.in-Ok.ensures.branches))
-  | in-Err-NoMemory+in-Inline-1 w ↦ rw w.result-is tt
-  | in-Err-NoMemory+in-Heap-1 w ↦ rw w.result-is tt
+  | in-Err-NoMemory+in-Own+in-Inline-1 w ↦ rw w.result-is tt
+  | in-Err-NoMemory+in-Own+in-Heap-1 w ↦ rw w.result-is tt
+  | in-Err-NoMemory+in-Shared-1 w ↦ rw w.result-is tt
 ]
