@@ -21,3 +21,4 @@ pub mod SolverTrees
 pub mod LeastRules
 pub mod Citing
 pub mod Recurring
+pub mod Descending

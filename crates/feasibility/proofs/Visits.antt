@@ -203,14 +203,14 @@ pub record Going (visited : List (Option ℕ) → Outcome) (reach : List (Option
   pub path : reached_by visited reach cells p values ≡ reached_by visited reach cells p rest
 
 -- what the search through the rest tells, by its first value
-record First (visited : List (Option ℕ) → Outcome) (reach : List (Option ℕ) → List (Option ℕ)) (cells : List (Option ℕ)) (p v : ℕ) (rest : List ℕ)
+pub record First (visited : List (Option ℕ) → Outcome) (reach : List (Option ℕ) → List (Option ℕ)) (cells : List (Option ℕ)) (p v : ℕ) (rest : List ℕ)
     (held : Bool) : Type 0 where
-  found : (try_values visited cells p (v ∷ rest)).found ≡ (if held then true else (try_values visited cells p rest).found)
-  cost : (try_values visited cells p (v ∷ rest)).cost ≡ (if held then (visited (with_value cells p v)).cost else (visited (with_value cells p v)).cost
+  pub found : (try_values visited cells p (v ∷ rest)).found ≡ (if held then true else (try_values visited cells p rest).found)
+  pub cost : (try_values visited cells p (v ∷ rest)).cost ≡ (if held then (visited (with_value cells p v)).cost else (visited (with_value cells p v)).cost
       + (try_values visited cells p rest).cost)
-  path : reached_by visited reach cells p (v ∷ rest) ≡ (if held then reach (with_value cells p v) else reached_by visited reach cells p rest)
+  pub path : reached_by visited reach cells p (v ∷ rest) ≡ (if held then reach (with_value cells p v) else reached_by visited reach cells p rest)
 
-first : (visited : List (Option ℕ) → Outcome) (reach : List (Option ℕ) → List (Option ℕ)) (cells : List (Option ℕ)) (p v : ℕ) (rest : List ℕ) (found : Bool)
+pub first : (visited : List (Option ℕ) → Outcome) (reach : List (Option ℕ) → List (Option ℕ)) (cells : List (Option ℕ)) (p v : ℕ) (rest : List ℕ) (found : Bool)
     → (visited (with_value cells p v)).found ≡ found → First visited reach cells p v rest found
 first visited reach cells p v rest true is = record {
   found = ap (λ (b : Bool). (if b then visited (with_value cells p v) else record {

@@ -7,3 +7,4 @@ pub mod Live
 pub mod Refuting
 pub mod Ends
 pub mod Recurring
+pub mod Descent

@@ -14,6 +14,7 @@ mod answered;
 mod closing;
 mod constrained;
 mod contained;
+mod descent;
 mod doubtful;
 mod laws;
 mod members;

@@ -22,15 +22,35 @@ const MANY_PLACES: usize = 251;
 // How many parameters are few.
 const FEW_NAMED: usize = 12;
 
+// As many questions, and no more, may each have a place of their own.
+const MOST_PLACES: usize = 4096;
+
+// How many questions differ in what they give the parameters that constraints name, or some larger
+// number.
+fn kinds_of_questions(tree: &SearchTree) -> usize
+    ensures { 0 < result }
+{
+    tree.assert_invariant();
+    let mut kinds = 1usize;
+    let count = tree.constrained_len();
+    for i in 0..count {
+        let p = tree.constrained_at(i).param;
+        kinds = kinds.saturating_mul(tree.count_of(p) as usize + 1);
+    }
+    kinds
+}
+
 // How many answered questions a solver keeps that looks at this tree.
 fn places_for(tree: &SearchTree) -> usize
     ensures { 0 < result }
 {
-    let named = tree.constrained_len();
-    if named == 0 || named > FEW_NAMED {
-        1
-    } else {
+    let kinds = kinds_of_questions(tree);
+    if kinds <= MOST_PLACES {
+        kinds
+    } else if tree.constrained_len() <= FEW_NAMED {
         MANY_PLACES
+    } else {
+        1
     }
 }
 

@@ -73,7 +73,13 @@ impl<'a> SearchTree<'a> {
     // Visits a node that doesn't fail, given that the constrained parameters before a place have
     // values. The sets show the live values, before and after.
     #[cycle(visits)]
-    fn visit(&self, i: usize, cells: &mut Cells, sets: &mut LiveSets, left: &mut u64) -> Answer
+    pub(crate) fn visit(
+        &self,
+        i: usize,
+        cells: &mut Cells,
+        sets: &mut LiveSets,
+        left: &mut u64,
+    ) -> Answer
         requires place { i ≤ length (constrained_params self.now.model) }
         requires fits { FitsModel self.now.model cells.old }
         requires node { is_failing self.now.model self.now.values cells.old ≡ false }
@@ -163,27 +169,30 @@ impl<'a> SearchTree<'a> {
         true
     }
 
-    // The place of a question in a table: questions that give the parameters which constraints name
-    // the same values have the same.
+    // The place of a question in a table: the number of what it gives the parameters that constraints
+    // name, if the table has so many places.
     fn place_of(&self, cells: &Cells, places: usize) -> usize
         requires long { length cells.now ≡ length self.now.model.params }
         requires some { 0 < places }
         ensures { result < places }
     {
+        self.assert_invariant();
         if places == 1 {
             return 0;
         }
-        let mut mixed = 0u32;
+        let mut number = 0usize;
         let count = self.constrained_len();
         for i in 0..count {
             let p = self.constrained_at(i).param;
             let value = match cells.get(p) {
-                Some(v) => v as u32 + 1,
+                Some(v) => v as usize + 1,
                 None => 0,
             };
-            mixed = (mixed ^ value).wrapping_mul(16_777_619);
+            number = number
+                .wrapping_mul(self.count_of(p) as usize + 1)
+                .wrapping_add(value);
         }
-        mixed as usize % places
+        number % places
     }
 
     // Searches for a completion of the cells in the room, given that the node without values doesn't
@@ -202,6 +211,31 @@ impl<'a> SearchTree<'a> {
             return visit_failing(left);
         }
         let answer = self.visit(0, room, sets, left);
+        sets.undo(len);
+        answer
+    }
+
+    // The same for the cells of a question, which are in the room. Most searches need not go back.
+    fn search_straight(
+        &self,
+        cells: &Cells,
+        room: &mut Cells,
+        sets: &mut LiveSets,
+        left: &mut u64,
+    ) -> Answer
+        requires fits { FitsModel self.now.model cells.now }
+        requires same { room.old ≡ cells.now }
+        requires node { is_failing self.now.model self.now.values (no_values self.now.model) ≡ false }
+        requires live { ShowsLive self.now.model self.now.values (no_values self.now.model) sets.old }
+        ensures told { VisitTells self.now (constrained_params self.now.model) cells.now cells.now room.new left.old left.new result }
+        ensures sets { sets.new ≡ sets.old }
+    {
+        let len = sets.trail_len();
+        if !self.start(room, sets) {
+            sets.undo(len);
+            return visit_failing(left);
+        }
+        let answer = self.visit_node(cells, room, sets, left);
         sets.undo(len);
         answer
     }
@@ -299,7 +333,7 @@ impl<'a> SearchTree<'a> {
             return answered.answer(budget);
         }
         room.copy_from(cells);
-        let answer = self.search_anew(room, sets, &mut left);
+        let answer = self.search_straight(cells, room, sets, &mut left);
         table.keep_answer(place, cells, answer, budget - left);
         answer
     }
