@@ -22,3 +22,5 @@ pub mod LeastRules
 pub mod Citing
 pub mod Recurring
 pub mod Descending
+pub mod SameTrees
+pub mod KeptTrees

@@ -27,7 +27,7 @@ use Rattle.feasibility.proofs.Extendable.{among_filter_test}
 use Rattle.feasibility.proofs.Visits.{told_no, told_yes}
 
 -- with the same value more they agree too
-agree_with : (m : ModelView) (a b : List (Option ℕ)) (p v : ℕ) → AgreeOnNamed m a b → AgreeOnNamed m (with_value a p v) (with_value b p v)
+pub agree_with : (m : ModelView) (a b : List (Option ℕ)) (p v : ℕ) → AgreeOnNamed m a b → AgreeOnNamed m (with_value a p v) (with_value b p v)
 agree_with m a b p v agree = record {
   long = length-set a p (Some v) ∙ agree.long;
   also = length-set b p (Some v) ∙ agree.also;
@@ -47,10 +47,10 @@ breaks_unnamed m cells p v unnamed =
     (λ q named. get_or-set_other cells p q (Some v) None (λ same. false≢true (sym unnamed ∙ ap (is_named m) (sym same) ∙ named)))
 
 -- each parameter has a value to try
-abbrev HasValues : ModelView → List (List ℕ) → Type 0
+abbrev pub HasValues : ModelView → List (List ℕ) → Type 0
 HasValues m lists = (p : ℕ) → p < length m.params → get_or lists p [] ≡ [] → ⊥
 
-has_values : (m : ModelView) (lists : List (List ℕ)) → is_failing m lists (no_values m) ≡ false → HasValues m lists
+pub has_values : (m : ModelView) (lists : List (List ℕ)) → is_failing m lists (no_values m) ≡ false → HasValues m lists
 has_values m lists node p within none =
     false≢true (sym node ∙ stuck_fails m lists (no_values m) p within (ap (λ cell. is_some cell) (none_at (length m.params) p))
     (λ w has. absurd (subst (λ (list : List ℕ). Has list w) none has)))
@@ -108,7 +108,7 @@ fails_agree m lists a b many some agree =
     ]
 
 -- so a visit has the same outcome
-visit_agree : (m : ModelView) (lists : List (List ℕ)) (params : List ℕ) (a b : List (Option ℕ)) → length lists ≡ length m.params → HasValues m lists
+pub visit_agree : (m : ModelView) (lists : List (List ℕ)) (params : List ℕ) (a b : List (Option ℕ)) → length lists ≡ length m.params → HasValues m lists
     → ((p : ℕ) → is_among params p ≡ true → is_named m p ≡ true) → AgreeOnNamed m a b → visit m lists params a ≡ visit m lists params b
 visit_agree m lists [] a b many some named agree = ap leaf_told (fails_agree m lists a b many some agree)
 visit_agree m lists (p ∷ params) a b many some named agree =

@@ -8,3 +8,4 @@ pub mod Refuting
 pub mod Ends
 pub mod Recurring
 pub mod Descent
+pub mod KeptTrees

@@ -1,4 +1,4 @@
-ghost use Rattle.std.specs.Prelude.{◌≡◌, ◌+◌, ◌<◌, ◌≤◌, ◌∷◌, [], true, false, Err, length, find, slice_index_or, OnOk};
+ghost use Rattle.std.specs.Prelude.{◌≡◌, ◌+◌, ◌<◌, ◌≤◌, ◌∷◌, [], true, false, length, find, slice_index_or, OnOk};
 ghost use Rattle.std.specs.List.{count_by, range_with_len};
 ghost use Rattle.cov_model.specs.Fits.{FitsModel};
 ghost use Rattle.cov_model.specs.Meaning.{value_at};
@@ -10,13 +10,10 @@ ghost use Rattle.definitions.specs.Refutation.{is_omission_leaf};
 ghost use Rattle.definitions.specs.Search.{breaks_a_rule, constrained_params, is_failing, visit};
 ghost use Rattle.live_sets.specs.Trail.{IsSince};
 ghost use Rattle.feasibility.specs.Live.{HasShape, HasUnmarked, ShowsFailure, ShowsLive, no_on};
-ghost use Rattle.feasibility.specs.Recurring.{AreAnswered};
 ghost use Rattle.feasibility.specs.Refuting.{Closes, HasNoLeaf, IsPath, value_cost};
 ghost use Rattle.feasibility.specs.Solving.{IsReady};
 ghost use Rattle.feasibility.specs.Tree.{IsListed, constrained_at, constrained_from, no_values};
 
-use crate::answer::{Answer, RefuteFault};
-use crate::answer_table::AnswerTable;
 use crate::refuter::Refuter;
 use cov_model::{Cells, ParamNo, ValueNo};
 use live_sets::LiveSets;
@@ -301,37 +298,5 @@ impl<'t> Refuter<'t> {
         let closed = self.close_started(cells, sets, tokens);
         sets.undo(len);
         closed
-    }
-
-    // Makes the tree of the tuple, if a search of it, which finds nothing, keeps to the budget.
-    pub(crate) fn make_tree(
-        &self,
-        fails: bool,
-        budget: u64,
-        cells: &mut Cells,
-        sets: &mut LiveSets,
-        table: &AnswerTable,
-        tokens: &mut TreeBuf,
-    ) -> Result<(), RefuteFault>
-        requires long { length cells.old ≡ length self.now.model.params }
-        requires fits { FitsModel self.now.model self.now.tuple }
-        requires listed { IsListed self.now.lists self.now.tuple }
-        requires ready { IsReady self.now.model self.now.lists fails sets.old }
-        requires kept { AreAnswered self.now.model self.now.lists table.now }
-        requires unfound { (visit self.now.model self.now.lists (constrained_params self.now.model) self.now.tuple).found ≡ false }
-        ensures closes { OnOk result (Closes self.now (self.now.tuple ∷ []) (visit self.now.model self.now.lists (constrained_params self.now.model) self.now.tuple).cost tokens.old tokens.new) }
-        ensures within { OnOk result ((visit self.now.model self.now.lists (constrained_params self.now.model) self.now.tuple).cost ≤ budget) }
-        ensures spent { result ≡ Err RefuteFault.Spent → budget < (visit self.now.model self.now.lists (constrained_params self.now.model) self.now.tuple).cost }
-        ensures long { length cells.new ≡ length cells.old }
-        ensures sets { sets.new ≡ sets.old }
-    {
-        self.begin(cells);
-        match self.tree().search_from(fails, cells, sets, table, budget) {
-            Answer::Spent => Err(RefuteFault::Spent),
-            Answer::Yes | Answer::No => {
-                self.close_tuple(fails, cells, sets, tokens)?;
-                Ok(())
-            }
-        }
     }
 }

@@ -243,7 +243,7 @@ impl<'t> Refuter<'t> {
     }
 
     // The omissions that stand before the tree.
-    fn omissions(&self) -> &'t Omissions
+    pub(crate) fn omissions(&self) -> &'t Omissions
         ensures format { self.now.format ≡ format_of result.now.form }
         ensures earlier { self.now.earlier ≡ earlier_tuples self.now.model result.now }
     {

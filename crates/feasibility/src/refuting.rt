@@ -47,16 +47,15 @@ impl<'a> Solver<'a> {
     {
         self.tree.assert_invariant();
         let refuter = Refuter::new(&self.tree, self.slice, tuple, earlier);
-        let mut tokens = TreeBuf::new(self.alloc);
-        refuter.make_tree(
+        *into = refuter.tree_of(
+            self.alloc,
             self.fails,
             budget,
             &mut self.room,
             &mut self.sets,
             &self.answered,
-            &mut tokens,
+            &mut self.kept,
         )?;
-        *into = tokens;
         Ok(())
     }
 }

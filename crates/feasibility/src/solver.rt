@@ -8,6 +8,7 @@ ghost use Rattle.definitions.specs.SliceRows.{IsOfSlice, IsSliceOf};
 
 use crate::answer::Answer;
 use crate::answer_table::AnswerTable;
+use crate::kept_tree::KeptTree;
 use crate::tree::SearchTree;
 use cov_model::{Cells, ParamNo, Prefs, Slice, TestModel};
 use live_sets::LiveSets;
@@ -67,11 +68,13 @@ pub struct Solver<'a> {
     pub(crate) sets: LiveSets,
     pub(crate) fails: bool,
     pub(crate) answered: AnswerTable,
+    pub(crate) kept: KeptTree,
 }
 
 impl<'a> Model for Solver<'a> {
     ghost use Rattle.std.specs.Coded.{codes};
     ghost use Rattle.cov_model.specs.contracts.model.TestModel as tested;
+    ghost use Rattle.feasibility.specs.KeptTrees.{IsKeptTree};
     ghost use Rattle.feasibility.specs.Recurring.{AreAnswered};
     ghost use Rattle.feasibility.specs.Solving.{IsSolver, SolverView};
 
@@ -81,7 +84,7 @@ impl<'a> Model for Solver<'a> {
 
     ghost view = { λ a. record { model = a.tree.model; prefs = a.prefs.now; slice = a.slice } };
 
-    ghost invariant = { λ a. IsSolver (record { model = a.tree.model; prefs = a.prefs.now; slice = a.slice }) a.tree.values a.room a.fails a.sets × AreAnswered a.tree.model a.tree.values a.answered };
+    ghost invariant = { λ a. IsSolver (record { model = a.tree.model; prefs = a.prefs.now; slice = a.slice }) a.tree.values a.room a.fails a.sets × AreAnswered a.tree.model a.tree.values a.answered × IsKeptTree a.tree.model a.tree.values a.kept };
 }
 
 impl<'a> Solver<'a> {
@@ -106,6 +109,7 @@ impl<'a> Solver<'a> {
         let mut sets = tree.listed_sets(alloc)?;
         let fails = tree.begin(&mut room, &mut sets);
         let answered = AnswerTable::new(alloc, places_for(&tree), model.params().len())?;
+        let kept = KeptTree::none(alloc, model.params().len())?;
         Ok(Solver {
             alloc,
             tree,
@@ -115,6 +119,7 @@ impl<'a> Solver<'a> {
             sets,
             fails,
             answered,
+            kept,
         })
     }
 

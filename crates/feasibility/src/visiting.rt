@@ -148,25 +148,30 @@ impl<'a> SearchTree<'a> {
         answer
     }
 
-    // Whether the cells give each parameter that constraints name what a question gives it, if one is
-    // known.
+    // Whether two partial rows give each parameter that constraints name the same value, or none.
+    pub(crate) fn agree_on_named(&self, cells: &Cells, others: &Cells) -> bool
+        requires long { length cells.now ≡ length self.now.model.params }
+        requires also { length others.now ≡ length self.now.model.params }
+        ensures { result ≡ true → AgreeOnNamed self.now.model cells.now others.now }
+    {
+        let count = self.constrained_len();
+        for i in 0..count {
+            let p = self.constrained_at(i).param;
+            if cells.get(p) != others.get(p) {
+                return false;
+            }
+        }
+        true
+    }
+
+    // Whether the cells go as a question, if one is known.
     fn goes_as(&self, cells: &Cells, answered: &Answered) -> bool
         requires long { length cells.now ≡ length self.now.model.params }
         requires also { length answered.now.cells ≡ length self.now.model.params }
         ensures known { result ≡ true → answered.now.known ≡ true }
         ensures agree { result ≡ true → AgreeOnNamed self.now.model cells.now answered.now.cells }
     {
-        if !answered.known {
-            return false;
-        }
-        let count = self.constrained_len();
-        for i in 0..count {
-            let p = self.constrained_at(i).param;
-            if cells.get(p) != answered.cells.get(p) {
-                return false;
-            }
-        }
-        true
+        answered.known && self.agree_on_named(cells, &answered.cells)
     }
 
     // The place of a question in a table: the number of what it gives the parameters that constraints

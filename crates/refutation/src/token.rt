@@ -72,8 +72,12 @@ impl TreeBuf {
         })
     }
 
-    // The same tree, whose tokens others can share if they don't stand in the value itself.
-    pub(crate) fn shareable(self, alloc: Global) -> Result<Self, NoMemory>
+    /// The same tree, whose tokens others can share if they don't stand in the value itself.
+    ///
+    /// # Errors
+    ///
+    /// `NoMemory` where there is no room.
+    pub fn shareable(self, alloc: Global) -> Result<Self, NoMemory>
         ensures { IfOk result (λ tree. tree ≡ self) }
     {
         let tokens = match self.tokens {
@@ -89,8 +93,12 @@ impl TreeBuf {
         Ok(TreeBuf { tokens })
     }
 
-    // The same tree once more.
-    pub(crate) fn again(&self, alloc: Global) -> Result<Self, NoMemory>
+    /// The same tree once more, which shares its tokens if others can.
+    ///
+    /// # Errors
+    ///
+    /// `NoMemory` where there is no room.
+    pub fn again(&self, alloc: Global) -> Result<Self, NoMemory>
         ensures { IfOk result (λ tree. tree ≡ self.now) }
     {
         let tokens = match &self.tokens {

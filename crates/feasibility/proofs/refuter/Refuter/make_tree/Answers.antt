@@ -1,34 +1,41 @@
-use Rattle.std.proofs.Common.{◌≡◌, ◌∙◌, sym, ap, subst, inl, inr}
-use Rattle.std.proofs.lemmas.Bool.{false≢true}
+use Rattle.std.proofs.Common.{◌≡◌, ◌∷◌, ◌∙◌, [], true, sym, ap, subst}
 use Rattle.definitions.specs.Search.{constrained_params, visit}
-use Rattle.feasibility.specs.declared.answer.Answer.TheVariants.{No}
-use Rattle.feasibility.specs.Answers.{answer_of}
-use Rattle.feasibility.specs.Refuting.{IsPath}
-use Rattle.feasibility.specs.Solving.{IsReady}
-use Rattle.feasibility.specs.Tree.{IsListed, TreeView}
+use Rattle.refutation.specs.Proofs.{format_of}
+use Rattle.feasibility.specs.KeptTrees.{IsKeptTree, IsTreeFor}
+use Rattle.feasibility.specs.Refuting.{Closes, IsPath}
+use Rattle.feasibility.proofs.KeptTrees.{tree_is_kept, tree_made}
 use Rattle.feasibility.proofs.Paths.{tuple_path}
-use Rattle.feasibility.proofs.Visits.{told_yes}
 use Rattle.feasibility.proofs.refuter.Refuter.make_tree.Goals as goal
 
-pub close_tuple-requires : goal.close_tuple-requires
-close_tuple-requires c =
+pub close_tuple-requires-clause-path : goal.close_tuple-requires-clause-path
+close_tuple-requires-clause-path c = subst (IsPath c.args.self.now) (sym c.requires.tuple) (tuple_path c.args.self.now c.requires.fits)
+
+pub returns-in_ok-keep-in-One-clause-tree : goal.returns-in_ok-keep-in-One-clause-tree
+returns-in_ok-keep-in-One-clause-tree c =
     let r = c.args.self.now in
-    let told : c.search_from.result ≡ answer_of (visit r.model r.lists (constrained_params r.model) r.tuple).found
-    (visit r.model r.lists (constrained_params r.model) r.tuple).cost c.args.budget =
-    subst (λ cells. c.search_from.result ≡ answer_of (visit r.model r.lists (constrained_params r.model) cells).found
-    (visit r.model r.lists (constrained_params r.model) cells).cost c.args.budget) c.begin.ensures
-    (subst (λ (s : TreeView). c.search_from.result ≡ answer_of (visit s.model s.values (constrained_params s.model) c.begin.new.cells).found
-    (visit s.model s.values (constrained_params s.model) c.begin.new.cells).cost c.args.budget) c.tree.ensures c.search_from.ensures.answer) in
-    let ended : c.search_from.result ≡ No = elim c.in-Yes.is [
-      | inl found ↦
-          absurd (false≢true (sym c.requires.unfound ∙ (told_yes (visit r.model r.lists (constrained_params r.model) r.tuple).found
-          (visit r.model r.lists (constrained_params r.model) r.tuple).cost c.args.budget (sym found ∙ told)).is))
-      | inr none ↦ none
-    ] in
-    let room : c.search_from.new.room ≡ r.tuple = c.search_from.ensures.no ended ∙ c.begin.ensures in
-    record {
-      path = subst (IsPath r) (sym room) (tuple_path r c.requires.fits);
-      listed = subst (IsListed r.lists) (sym room) c.requires.listed;
-      ready = subst (IsReady r.model r.lists c.args.fails) (sym c.search_from.ensures.sets) c.requires.ready;
-      unfound = ap (λ cells. (visit r.model r.lists (constrained_params r.model) cells).found) room ∙ c.requires.unfound;
-    }
+    let closes = subst (λ cells. Closes r (cells ∷ []) (visit r.model r.lists (constrained_params r.model) cells).cost [] c.close_tuple.new.tokens)
+    c.requires.tuple
+    (subst (λ old. Closes r (c.args.cells.now ∷ []) (visit r.model r.lists (constrained_params r.model) c.args.cells.now).cost old c.close_tuple.new.tokens)
+    c.new-tokens.ensures c.in_ok-close_tuple.ensures.closes) in
+    subst (IsTreeFor r) (sym c.in_ok-tree-in-One.ensures) (tree_made r c.close_tuple.new.tokens closes)
+
+pub returns-in_ok-keep-in-One-clause-kept : goal.returns-in_ok-keep-in-One-clause-kept
+returns-in_ok-keep-in-One-clause-kept c =
+    let r = c.args.self.now in
+    let closes = subst (λ cells. Closes r (cells ∷ []) (visit r.model r.lists (constrained_params r.model) cells).cost [] c.close_tuple.new.tokens)
+    c.requires.tuple
+    (subst (λ old. Closes r (c.args.cells.now ∷ []) (visit r.model r.lists (constrained_params r.model) c.args.cells.now).cost old c.close_tuple.new.tokens)
+    c.new-tokens.ensures c.in_ok-close_tuple.ensures.closes) in
+    let made = subst (IsTreeFor r) (sym c.in_ok-tree-in-One.ensures) (tree_made r c.close_tuple.new.tokens closes) in
+    subst (IsKeptTree r.model r.lists) (sym c.in_ok-keep-in-One.ensures.ok)
+    (tree_is_kept r (record { known = true; cells = c.close_tuple.new.cells; tree = c.in_ok-tree-in-One.tree }) c.requires.fits.as_long
+    (c.omissions.ensures.format ∙ ap format_of (sym c.form.ensures ∙ c.in-One.is)) made (c.close_tuple.ensures.cells ∙ c.requires.tuple))
+
+pub returns-in-Two-clause-tree : goal.returns-in-Two-clause-tree
+returns-in-Two-clause-tree c =
+    let r = c.args.self.now in
+    let closes = subst (λ cells. Closes r (cells ∷ []) (visit r.model r.lists (constrained_params r.model) cells).cost [] c.close_tuple.new.tokens)
+    c.requires.tuple
+    (subst (λ old. Closes r (c.args.cells.now ∷ []) (visit r.model r.lists (constrained_params r.model) c.args.cells.now).cost old c.close_tuple.new.tokens)
+    c.new-tokens.ensures c.in_ok-close_tuple.ensures.closes) in
+    tree_made r c.close_tuple.new.tokens closes

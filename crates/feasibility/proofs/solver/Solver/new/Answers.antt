@@ -6,8 +6,10 @@ use Rattle.definitions.specs.Completion.{preferred_values}
 use Rattle.definitions.specs.Search.{is_failing}
 use Rattle.definitions.specs.SliceRows.{IsSliceOf}
 use Rattle.feasibility.specs.Live.{ShowsFailure, ShowsLive}
+use Rattle.feasibility.specs.KeptTrees.{IsKeptTree, no_tree}
 use Rattle.feasibility.specs.Recurring.{AreAnswered, unanswered}
 use Rattle.feasibility.specs.Tree.{TreeView, no_values}
+use Rattle.feasibility.proofs.KeptTrees.{none_is_kept}
 use Rattle.feasibility.proofs.Recurring.{unanswered_are}
 use Rattle.feasibility.proofs.solver.Solver.new.Goals as goal
 
@@ -20,6 +22,8 @@ invariant_of-result c =
     c.len.ensures ∙ ap length c.params.ensures.value ∙ ap (λ (w : ModelView). length w.params) (sym model) in
     let answered : c.len-2.result ≡ length m.params =
     c.len-2.ensures ∙ ap length c.params-2.ensures.value ∙ ap (λ (w : ModelView). length w.params) (sym model) in
+    let kept : c.len-3.result ≡ length m.params =
+    c.len-3.ensures ∙ ap length c.params-3.ensures.value ∙ ap (λ (w : ModelView). length w.params) (sym model) in
     let room : c.in_ok-room.room ≡ no_values m = c.in_ok-room.ensures ∙ ap (λ n. replicate n None) count in (
       record {
         slice = subst (λ (w : ModelView). IsSliceOf w c.args.slice) (sym model) c.requires.slice;
@@ -34,4 +38,5 @@ invariant_of-result c =
       },
       subst (AreAnswered m lists) (sym (c.in_ok-answered.ensures ∙ ap (λ n. replicate c.places_for.result (unanswered n)) answered))
           (unanswered_are m lists c.places_for.result),
+      subst (IsKeptTree m lists) (sym (c.in_ok-kept.ensures ∙ ap no_tree kept)) (none_is_kept m lists),
     )

@@ -31,16 +31,16 @@ new-refuter-requires c =
       length-map c.args.earlier.now.omissions (λ (omission : Omission). cells_of (length solver.model.params) omission.tuple),
     ))
 
-pub make_tree-requires-clause-listed : goal.make_tree-requires-clause-listed
-make_tree-requires-clause-listed c =
+pub tree_of-requires-clause-listed : goal.tree_of-requires-clause-listed
+tree_of-requires-clause-listed c =
     let solver : SolverView = record { model = c.self.inside.tree.model; prefs = c.self.inside.prefs.now; slice = c.self.inside.slice } in
     subst (λ (r : RefuterView). IsListed r.lists r.tuple) (sym c.new-refuter.ensures)
     (solver_lists solver c.self.inside.tree.values c.self.inside.room c.self.inside.fails c.self.inside.sets
     (cells_of (length solver.model.params) c.args.tuple.now) c.self.invariant.0
     (subst (λ (s : SolverView). IsOfSlice s.model s.slice (cells_of (length s.model.params) c.args.tuple.now)) (sym c.self.view_is) c.requires.of))
 
-pub make_tree-requires-clause-unfound : goal.make_tree-requires-clause-unfound
-make_tree-requires-clause-unfound c =
+pub tree_of-requires-clause-unfound : goal.tree_of-requires-clause-unfound
+tree_of-requires-clause-unfound c =
     let solver : SolverView = record { model = c.self.inside.tree.model; prefs = c.self.inside.prefs.now; slice = c.self.inside.slice } in
     ap (λ (r : RefuterView). (visit r.model r.lists (constrained_params r.model) r.tuple).found) c.new-refuter.ensures
     ∙ solver_unfound solver c.self.inside.tree.values c.self.inside.room c.self.inside.fails c.self.inside.sets
@@ -48,14 +48,3 @@ make_tree-requires-clause-unfound c =
     (subst (λ (s : SolverView). IsOfSlice s.model s.slice (cells_of (length s.model.params) c.args.tuple.now)) (sym c.self.view_is) c.requires.of)
     (subst (λ (s : SolverView). slice_of s.model (cells_of (length s.model.params) c.args.tuple.now) ≡ s.slice) (sym c.self.view_is) c.requires.slice)
     (subst (λ (s : SolverView). IsUnserved s.model (cells_of (length s.model.params) c.args.tuple.now)) (sym c.self.view_is) c.requires.unserved)
-
-pub returns-clause-eager : goal.returns-clause-eager
-returns-clause-eager c =
-    let r = c.new-refuter.result in
-    let cost = (visit r.model r.lists (constrained_params r.model) r.tuple).cost in
-    let closes = subst (λ old. Closes r (r.tuple ∷ []) cost old c.make_tree.new.tokens) c.new-tokens.ensures c.in_ok-make_tree.ensures.closes in
-    let earlier = c.args.earlier.now in
-    subst (λ (s : SolverView). is_eager s.model (format_of earlier.form) (earlier_tuples s.model earlier) (cells_of (length s.model.params) c.args.tuple.now)
-    (map meant c.make_tree.new.tokens) ≡ true) c.self.view_is
-    (subst (λ (made : RefuterView). is_eager made.model made.format made.earlier made.tuple (map meant c.make_tree.new.tokens) ≡ true) c.new-refuter.ensures
-    (closes_tuple r cost c.make_tree.new.tokens closes))
