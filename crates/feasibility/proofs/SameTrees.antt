@@ -1,7 +1,7 @@
 -- In format 1 a tree refutes each tuple that gives the parameters which constraints name the same values, if none of
 -- its branches is on a parameter of the tuple.
 use Rattle.std.proofs.Common.{◌≡◌, ℕ, Bool, true, false, not, ◌&&◌, ◌||◌, ◌==◌, if◌then◌else◌, List, [], ◌∷◌, ◌++◌, length, map, Option, Some, None}
-use Rattle.std.proofs.Common.{is_some, unwrap_or, get_or, ◌∙◌, sym, ap, subst, refl, inl, inr}
+use Rattle.std.proofs.Common.{is_some, unwrap_or, get_or, ◌∙◌, sym, ap, refl, inl, inr}
 use Rattle.std.specs.List.{filter, list_all, list_any, range_with_len}
 use Rattle.std.proofs.lemmas.Bool.{false≢true, cases_eq, and_from, and_parts, and_right, false_from_ne_true, not-true, or_left, or_right}
 use Rattle.std.proofs.lemmas.List.{get_or-set_other}
@@ -12,7 +12,7 @@ use Rattle.cov_model.specs.Kleene.{body_truth}
 use Rattle.cov_model.specs.Meaning.{given_value, value_at}
 use Rattle.cov_model.specs.Rows.{is_assigned}
 use Rattle.cov_model.specs.Slices.{value_numbers}
-use Rattle.cov_model.specs.Valid.{negatives, param_numbers}
+use Rattle.cov_model.specs.Valid.{param_numbers}
 use Rattle.definitions.specs.Completion.{with_value}
 use Rattle.definitions.specs.Demand.{is_among}
 use Rattle.definitions.specs.Refutation.{Token, Branch, ByRule, ByNegative, ByOmission, are_eager, branches, is_branch, is_eager, is_first_leaf, is_leaf}
@@ -20,7 +20,6 @@ use Rattle.definitions.specs.Refutation.{is_negative_leaf, is_rule_leaf, leaves,
 use Rattle.definitions.specs.Search.{body_params, is_no}
 use Rattle.feasibility.specs.KeptTrees.{is_free}
 use Rattle.feasibility.specs.Recurring.{AgreeOnNamed}
-use Rattle.feasibility.specs.Tree.{is_named}
 use Rattle.feasibility.proofs.Alike.{any_same, same_with}
 use Rattle.feasibility.proofs.Local.{agree_each, local_body}
 use Rattle.feasibility.proofs.Recurring.{agree_with}

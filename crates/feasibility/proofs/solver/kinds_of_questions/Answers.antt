@@ -1,4 +1,4 @@
-use Rattle.std.proofs.Common.{◌≡◌, ◌+◌, ◌*◌, ◌<◌, length, ap, arith}
+use Rattle.std.proofs.Common.{◌+◌, ◌*◌, ◌<◌, length, ap, arith}
 use Rattle.std.proofs.Math.Nat.{mul-pos}
 use Rattle.definitions.specs.Search.{constrained_params}
 use Rattle.feasibility.proofs.Naming.{constrained_exists}

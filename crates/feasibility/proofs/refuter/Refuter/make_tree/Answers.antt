@@ -1,4 +1,4 @@
-use Rattle.std.proofs.Common.{◌≡◌, ◌∷◌, ◌∙◌, [], true, sym, ap, subst}
+use Rattle.std.proofs.Common.{◌∷◌, ◌∙◌, [], true, sym, ap, subst}
 use Rattle.definitions.specs.Search.{constrained_params, visit}
 use Rattle.refutation.specs.Proofs.{format_of}
 use Rattle.feasibility.specs.KeptTrees.{IsKeptTree, IsTreeFor}

@@ -1,17 +1,15 @@
-use Rattle.std.proofs.Common.{◌≡◌, ◌∷◌, ◌∙◌, [], true, length, map, sym, ap, subst, arith}
+use Rattle.std.proofs.Common.{◌≡◌, ◌∙◌, length, sym, ap, subst, arith}
 use Rattle.std.proofs.lemmas.List.{length-map}
 use Rattle.cov_model.specs.Slices.{slice_of}
 use Rattle.definitions.specs.Covering.{IsUnserved}
 use Rattle.definitions.specs.Pairs.{cells_of}
-use Rattle.definitions.specs.Refutation.{is_eager}
 use Rattle.definitions.specs.Search.{constrained_params, visit}
 use Rattle.definitions.specs.SliceRows.{IsOfSlice}
-use Rattle.refutation.specs.Proofs.{format_of, meant}
+use Rattle.refutation.specs.Proofs.{format_of}
 use Rattle.refutation.specs.declared.omissions.Omission.{Omission}
-use Rattle.feasibility.specs.Refuting.{Closes, RefuterView, earlier_tuples}
+use Rattle.feasibility.specs.Refuting.{RefuterView, earlier_tuples}
 use Rattle.feasibility.specs.Solving.{SolverView}
 use Rattle.feasibility.specs.Tree.{IsListed}
-use Rattle.feasibility.proofs.AddedTrees.{closes_tuple}
 use Rattle.feasibility.proofs.Extendable.{solver_lists}
 use Rattle.feasibility.proofs.Paths.{solver_refutes}
 use Rattle.feasibility.proofs.SolverTrees.{solver_unfound}

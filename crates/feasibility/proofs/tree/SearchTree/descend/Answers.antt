@@ -1,4 +1,4 @@
-use Rattle.std.proofs.Common.{◌≡◌, ◌-◌, ◌+◌, ◌∙◌, true, length, refl, ap, subst, arith}
+use Rattle.std.proofs.Common.{◌≡◌, ◌-◌, ◌+◌, ◌∙◌, true, refl, ap, subst, arith}
 use Rattle.definitions.specs.Search.{constrained_params}
 use Rattle.live_sets.proofs.TrailLemmas.{since_more, since_self}
 use Rattle.feasibility.specs.Descent.{ComesTo}

@@ -1,4 +1,4 @@
-use Rattle.std.proofs.Common.{◌≡◌, ◌<◌, ◌∙◌, ◌+◌, true, false, [], refl, length, get_or, is_some, sym, ap, subst, arith}
+use Rattle.std.proofs.Common.{◌≡◌, ◌∙◌, ◌+◌, true, false, [], refl, length, get_or, is_some, sym, ap, subst, arith}
 use Rattle.std.proofs.lemmas.Bool.{not-true}
 use Rattle.cov_model.specs.Fits.{FitsModel}
 use Rattle.cov_model.specs.Rows.{is_assigned}
