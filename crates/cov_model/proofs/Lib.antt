@@ -2,6 +2,7 @@ pub mod SoundLemmas
 pub mod TruthLemmas
 pub mod CellLemmas
 pub mod RowLemmas
+pub mod PackedRowLemmas
 pub mod KnownLemmas
 pub mod FaultLemmas
 pub mod SortLemmas

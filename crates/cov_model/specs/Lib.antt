@@ -4,6 +4,7 @@ pub mod Views
 pub mod Stored
 pub mod Sound
 pub mod Rows
+pub mod PackedRows
 pub mod Fits
 pub mod Meaning
 pub mod Kleene

@@ -4,7 +4,7 @@ use crate::parameter::{ParamNo, ValueNo};
 use smallvec::SmallVec;
 use std::alloc::Global;
 use std::marker::Model;
-use value_text::{NoMemory, OwnedList};
+use value_text::NoMemory;
 
 /// A partial row: for each parameter of a model the number of its value, where it has one. With at
 /// most four parameters it takes no memory beside its own.
@@ -12,9 +12,6 @@ use value_text::{NoMemory, OwnedList};
 pub struct Cells {
     places: SmallVec<Option<ValueNo>, 4>,
 }
-
-/// A list of complete rows.
-pub type Rows = OwnedList<Cells>;
 
 impl Model for Cells {
     ghost use Rattle.std.specs.Prelude.{List, Option, ℕ};
@@ -92,6 +89,14 @@ impl Cells {
         requires { length self.old ≡ length other.now }
         ensures { self.new ≡ other.now }
     {
-        self.places.as_mut_slice().copy_from_slice(other.as_slice());
+        self.copy_from_slice(other.as_slice());
+    }
+
+    /// Becomes the partial row with these values. Takes no memory.
+    pub fn copy_from_slice(&mut self, places: &[Option<ValueNo>])
+        requires { length self.old ≡ length places.now }
+        ensures { self.new ≡ places.now }
+    {
+        self.places.as_mut_slice().copy_from_slice(places);
     }
 }

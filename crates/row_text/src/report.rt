@@ -11,7 +11,7 @@ ghost use Rattle.row_text.specs.Turns.{AreMadeFor, IsFor, AreTurns, turns_at};
 
 use crate::out_buffer::OutBuffer;
 use crate::turns::Turns;
-use cov_model::{Cells, ParamNo, Rows, TestModel, Value};
+use cov_model::{Rows, TestModel, Value, ValueNo};
 use outside_io::{Sink, WriteAnswer};
 
 /// Writes what stands before a cell in its line.
@@ -37,14 +37,14 @@ fn put_header<O: Sink>(model: &TestModel, buffer: &mut OutBuffer, out: &mut O)
 }
 
 /// The number of the value that a row gives a parameter.
-fn number_given(model: &TestModel, row: &Cells, place: usize) -> usize
+fn number_given(model: &TestModel, row: &[Option<ValueNo>], place: usize) -> usize
     requires row { is_row model.now row.now ≡ true }
     requires place { place < length model.now.params }
     ensures value { result ≡ value_in row.now place }
     ensures exists { result < length (param_at model.now.params place).values }
 {
     model.assert_invariant();
-    let Some(value) = row.get(place as ParamNo) else {
+    let Some(value) = row[place] else {
         unreachable!()
     };
     value as usize
@@ -91,7 +91,7 @@ fn put_cell<O: Sink>(
     ensures others { (q : ℕ) → q ≢ place → turns_at turns.new.next q ≡ turns_at turns.old.next q }
     ensures shape { IsFor model.now turns.new.next }
 {
-    let number = number_given(model, &rows.as_slice()[at], place);
+    let number = number_given(model, rows.row(at), place);
     let value = value_of(model, place, number);
     let names = value.names.as_slice();
     let shown = turns.next.take(place, number, names.len());

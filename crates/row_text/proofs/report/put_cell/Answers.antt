@@ -1,5 +1,4 @@
-use Rattle.std.proofs.Common.{ℕ, ◌≡◌, ◌<◌, ◌+◌, ◌++◌, ◌∷◌, [], List, Option, length, get_or, take, true, if◌then◌else◌, sym, ap, ◌∙◌, subst, arith}
-use Rattle.std.proofs.lemmas.List.{get_or_default}
+use Rattle.std.proofs.Common.{ℕ, ◌≡◌, ◌<◌, ◌+◌, ◌++◌, ◌∷◌, [], List, length, get_or, take, true, if◌then◌else◌, sym, ap, ◌∙◌, subst, arith}
 use Rattle.std.proofs.lemmas.List.Elements.{All-get_or}
 use Rattle.cov_model.specs.Meaning.{value_at}
 use Rattle.cov_model.specs.Rows.{value_in}
@@ -22,11 +21,8 @@ returns-clause-text g c =
     let number = c.number_given-number.result in
     let value = c.value_of-value.result.now in
     let bytes = c.as_bytes.result.now in
-    let row : c.index-as_slice-at.result ≡ get_or rows c.args.at [] =
-    c.index-as_slice-at.is ∙ ap (λ (xs : List (List (Option ℕ))). get_or xs c.args.at c.index-as_slice-at.result) c.as_slice.ensures
-    ∙ get_or_default rows c.args.at c.index-as_slice-at.result [] c.requires.at in
     let gives : number ≡ value_in (get_or rows c.args.at []) c.args.place = c.number_given-number.ensures.value ∙ ap
-    (λ cells. value_in cells c.args.place) row in
+    (λ cells. value_in cells c.args.place) c.row.ensures in
     let name : bytes ≡ get_or value.names c.take-shown.result c.index-names-shown.result =
     c.as_bytes.ensures.value ∙ c.as_str.ensures.value ∙ c.index-names-shown.is ∙ ap
     (λ (names : List (List ℕ)). get_or names c.take-shown.result c.index-names-shown.result) c.as_slice-names.ensures in
@@ -42,11 +38,8 @@ returns-clause-next g c =
     let rows = c.args.rows.now in
     let turns = c.args.turns.now.next in
     let number = c.number_given-number.result in
-    let row : c.index-as_slice-at.result ≡ get_or rows c.args.at [] =
-    c.index-as_slice-at.is ∙ ap (λ (xs : List (List (Option ℕ))). get_or xs c.args.at c.index-as_slice-at.result) c.as_slice.ensures
-    ∙ get_or_default rows c.args.at c.index-as_slice-at.result [] c.requires.at in
     let gives : number ≡ value_in (get_or rows c.args.at []) c.args.place = c.number_given-number.ensures.value ∙ ap
-    (λ cells. value_in cells c.args.place) row in
+    (λ cells. value_in cells c.args.place) c.row.ensures in
     let good = All-get_or (λ row. is_row m row ≡ true) rows c.args.at [] c.requires.at c.requires.rows in
     let assigned = row_is_assigned m (get_or rows c.args.at []) c.args.place good c.requires.place in
     let count : length c.as_slice-names.result.now ≡ length (value_at m c.args.place number).names = ap length c.as_slice-names.ensures ∙ ap
