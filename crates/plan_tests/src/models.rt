@@ -1,9 +1,12 @@
 //! The orders in which values are taken, and the faults of rows.
 
-use cov_model::{Cells, Prefs, RowWhy, Tuple, ValueNo};
+ghost use Rattle.std.specs.Prelude.{◌≡◌, All, IfOk, length};
+
+use cov_model::{Cells, Prefs, RowWhy, Rows, Tuple, ValueNo};
 use std::alloc::Global;
 use std::test::Fail;
 use test_models::{model_of, row_of};
+use value_text::NoMemory;
 
 // A number to shuffle by, and the orders of the values of three parameters: words of PCG are drawn for one
 // after another, and a heavier value comes first.
@@ -95,5 +98,33 @@ fn copies_a_row_of_five(rt: HostRuntime) -> Result<(), Fail> {
     let copy = cells.copy(rt.alloc())?;
     cells.clear_cell(4);
     assert!(rt; copy.as_slice() == [None, None, None, None, Some(1)].as_slice());
+    Ok(())
+}
+
+// Rows of these two cells each.
+fn packed(
+    alloc: Global,
+    table: &[(Option<ValueNo>, Option<ValueNo>)],
+) -> Result<Rows, NoMemory>
+    ensures { IfOk result (All (λ row. length row ≡ 2)) }
+{
+    let mut rows = Rows::new(alloc);
+    for (first, second) in table {
+        rows.push(&[*first, *second])?;
+    }
+    Ok(rows)
+}
+
+#[test]
+fn packs_rows_behind_others(rt: HostRuntime) -> Result<(), Fail> {
+    let mut rows = packed(rt.alloc(), &[(Some(1), None), (None, Some(2))])?;
+    let others = packed(rt.alloc(), &[(Some(3), Some(4))])?;
+    rows.append(others)?;
+    assert!(rt;
+        rows.len() == 3
+            && rows.row(0) == [Some(1), None].as_slice()
+            && rows.row(1) == [None, Some(2)].as_slice()
+            && rows.row(2) == [Some(3), Some(4)].as_slice()
+    );
     Ok(())
 }

@@ -17,7 +17,7 @@ fn rows_of(alloc: Global, model: &TestModel, table: &[(ValueNo, ValueNo)]) -> Re
     let mut rows = Rows::new(alloc);
     for (first, second) in table {
         match row_of(alloc, model, *first, *second) {
-            Some(row) => rows.push(row)?,
+            Some(row) => rows.push(row.as_slice())?,
             None => return Err(NoMemory),
         }
     }
