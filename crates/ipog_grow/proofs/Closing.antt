@@ -3,7 +3,7 @@ use Rattle.std.proofs.Common.{◌≡◌, ℕ, ◌<◌, Bool, true, false, cond, 
 use Rattle.std.specs.Prelude.{slice_get, IfSome, is_some}
 use Rattle.std.proofs.lemmas.List.Elements.{All-head, All-tail, All-push, All-filter}
 use Rattle.cov_model.specs.Rows.{contains}
-use Rattle.std.proofs.lemmas.List.{drop_all, take_all, append-nil, get_or_default}
+use Rattle.std.proofs.lemmas.List.{length-set}
 use Rattle.std.proofs.lemmas.Bool.{false≢true}
 use Rattle.std.proofs.lemmas.Option.{none-some, same_Some}
 use Rattle.ipog_grow.proofs.Spending.{find-later, find-earlier}
@@ -215,35 +215,20 @@ settle-asks context tuple rows alone none =
     ap (first_spent context) (settle-alone_asked (extends context) tuple rows alone) ∙ find-later (is_over context) (join (extends context) tuple rows).asked
     (tuple ∷ []) none
 
--- what a slice of a whole list leaves
-pub whole_slice : (rows after : List (List (Option ℕ))) (n : ℕ) → n ≡ length rows → length after ≡ length rows → take n (after ++ drop (length after) rows)
-    ≡ after
-whole_slice rows after n whole long =
-    ap (λ list. take n (after ++ list)) (drop_all (length after) rows (omega (arith, long))) ∙ ap (take n) (append-nil after)
-    ∙ take_all n after (omega (arith, whole, long))
-
--- a row took the tuple: the rows that were lent are back in place, and one of them is the union
-pub record IsTakenAt (rows grown back : List (List (Option ℕ))) (tuple : List (Option ℕ)) (i : ℕ) (read : List (Option ℕ)) : Type 0 where
-  pub whole : back ≡ grown
+-- a row took the tuple, and this is the union
+pub record IsTakenAt (rows grown : List (List (Option ℕ))) (tuple : List (Option ℕ)) (i : ℕ) (read : List (Option ℕ)) : Type 0 where
   pub union_at : IsUnionAt rows grown tuple i
   pub within : i < length grown
   pub read_is : read ≡ get_or grown i []
 
-pub taken_at : {rows seen grown : List (List (Option ℕ))} {tuple read : List (Option ℕ)} {i len : ℕ} {at : Option ℕ} → seen ≡ rows → len ≡ length rows
-    → length grown ≡ length seen
-    → at ≡ Some i → IfSome at (λ k. IsUnionAt seen grown tuple k) → read ≡ get_or (take len (grown ++ drop (length grown) rows)) i read
-    → IsTakenAt rows grown (take len (grown ++ drop (length grown) rows)) tuple i read
-taken_at {rows} {seen} {grown} {tuple} {read} {i} {len} {at} same size long found union_at is =
-    let put : IsUnionAt rows grown tuple i =
-    subst (λ (list : List (List (Option ℕ))). IsUnionAt list grown tuple i) same
-    (subst (λ (o : Option ℕ). IfSome o (λ k. IsUnionAt seen grown tuple k)) found union_at) in
-    let whole = whole_slice rows grown len size (long ∙ ap length same) in
-    let within : i < length grown = omega (arith, put.within, long, ap length same) in
+pub taken_at : {rows grown : List (List (Option ℕ))} {tuple read : List (Option ℕ)} {i : ℕ} {at : Option ℕ}
+    → at ≡ Some i → IfSome at (λ k. IsUnionAt rows grown tuple k) → IfSome at (λ k. read ≡ get_or grown k []) → IsTakenAt rows grown tuple i read
+taken_at {rows} {grown} {tuple} {read} {i} {at} found union_at is =
+    let put : IsUnionAt rows grown tuple i = subst (λ (o : Option ℕ). IfSome o (λ k. IsUnionAt rows grown tuple k)) found union_at in
     record {
-      whole = whole;
       union_at = put;
-      within = within;
-      read_is = is ∙ ap (λ list. get_or list i read) whole ∙ get_or_default grown i read [] within;
+      within = omega (arith, put.within, ap length put.put, length-set rows i (union (get_or rows i []) tuple));
+      read_is = subst (λ (o : Option ℕ). IfSome o (λ k. read ≡ get_or grown k [])) found is;
     }
 
 -- no row took it
@@ -251,9 +236,6 @@ pub record IsAlone (context : SearchContext) (tuple : List (Option ℕ)) (rows :
   pub alone : false ≡ (join (extends context) tuple rows).taken
   pub unspent : first_spent context (join (extends context) tuple rows).asked ≡ None
 
-pub is_alone : (context : SearchContext) {tuple : List (Option ℕ)} {rows seen : List (List (Option ℕ))} {at : Option ℕ} → seen ≡ rows → at ≡ None
-    → is_some at ≡ (join (extends context) tuple seen).taken → first_spent context (join (extends context) tuple seen).asked ≡ None → IsAlone context tuple rows
-is_alone context {tuple} {rows} {seen} {at} same none taken unspent = record {
-  alone = ap (λ (o : Option ℕ). is_some o) (sym none) ∙ taken ∙ ap (λ list. (join (extends context) tuple list).taken) same;
-  unspent = ap (λ list. first_spent context (join (extends context) tuple list).asked) (sym same) ∙ unspent;
-}
+pub is_alone : (context : SearchContext) (tuple : List (Option ℕ)) (rows : List (List (Option ℕ))) {at : Option ℕ} → at ≡ None
+    → is_some at ≡ (join (extends context) tuple rows).taken → first_spent context (join (extends context) tuple rows).asked ≡ None → IsAlone context tuple rows
+is_alone context tuple rows {at} none taken unspent = record { alone = ap (λ (o : Option ℕ). is_some o) (sym none) ∙ taken; unspent = unspent }

@@ -4,7 +4,7 @@ use Rattle.std.proofs.Common.{Option, Some, None, is_some, ◌∙◌, sym, ap, s
 use Rattle.std.specs.List.{cons_option}
 use Rattle.std.proofs.lemmas.Bool.{false≢true}
 use Rattle.std.proofs.lemmas.List.{get_or_default, take_all, take_more}
-use Rattle.std.proofs.lemmas.List.Elements.{filter_map-append}
+use Rattle.std.proofs.lemmas.List.Elements.{All-weaker, filter_map-append}
 use Rattle.feasibility.specs.declared.answer.Answer.{Answer}
 use Rattle.feasibility.specs.declared.answer.Answer.TheVariants.{Yes, No, Spent}
 use Rattle.feasibility.specs.Answers.{answer_of}
@@ -112,3 +112,10 @@ module _ (context : SearchContext) (grown rows : List (List (Option ℕ))) (i co
 
   pub completes-unspent : first_spent context grown ≡ None
   completes-unspent = ap (first_spent context) (sym (take_all i grown all)) ∙ before.unspent
+
+-- rows of one length stand behind others of that length
+pub fits_behind : (n : ℕ) (rows others : List (List (Option ℕ))) → All (λ row. length row ≡ n) rows → All (λ row. length row ≡ n) others
+    → All (λ row. All (λ known. length known ≡ length row) rows) others
+fits_behind n rows others long others_long =
+    λ i d within. All-weaker (λ (known : List (Option ℕ)). length known ≡ n) (λ (known : List (Option ℕ)). length known ≡ length (get_or others i d))
+    (λ known is. is ∙ sym (others_long i d within)) rows long

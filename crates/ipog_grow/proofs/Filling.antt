@@ -1,5 +1,5 @@
 -- A cell is filled: the scores are the gains, and the best values are those by falling gain.
-use Rattle.std.proofs.Common.{◌≡◌, ℕ, ◌<◌, ◌≤◌, Bool, true, false, cond, List, [], ◌∷◌, map, length, filter, Option, Some, None, unwrap_or, get_or, All, ◌∙◌, sym, ap, refl, arith, inl, inr, zero-add}
+use Rattle.std.proofs.Common.{◌≡◌, ℕ, ◌<◌, ◌≤◌, Bool, true, false, cond, List, [], ◌∷◌, map, length, filter, Option, Some, None, unwrap_or, get_or, set, All, ◌∙◌, sym, ap, refl, arith, inl, inr, zero-add, subst}
 use Rattle.std.specs.List.{range_with_len}
 use Rattle.std.proofs.lemmas.Bool.{false≢true, cases_lt}
 use Rattle.std.proofs.lemmas.List.{get_or_past, get_or-set_same}
@@ -150,3 +150,33 @@ fills {context} {p} {row} {scores} {order} {rows} {tuples} table n is within own
       same = filled-tried context table p rows tuples row scores order is within own long moment s free;
       most = λ i d below. omega (arith, s.bounded i d below, ap length moment, length-filter-le (is_uncovered rows) tuples);
     }
+
+-- the row at a place became this one, and no other row another one
+pub record IsPutBack (rows after : List (List (Option ℕ))) (i : ℕ) (row : List (Option ℕ)) : Type 0 where
+  pub is : get_or after i [] ≡ row
+  pub others : after ≡ set rows i (get_or after i [])
+
+-- a copy of the row was given a value, and so was the row
+pub put_back : {rows after : List (List (Option ℕ))} {i : ℕ} {copy row : List (Option ℕ)} (p v : ℕ) → i < length rows → copy ≡ get_or rows i []
+    → row ≡ set copy p (Some v) → after ≡ set rows i (set (get_or rows i []) p (Some v)) → IsPutBack rows after i row
+put_back {rows} {after} {i} {copy} {row} p v within read given put =
+    let same : set (get_or rows i []) p (Some v) ≡ row = ap (λ r. set r p (Some v)) (sym read) ∙ sym given in
+    let there : get_or after i [] ≡ row =
+    ap (λ list. get_or list i []) put ∙ get_or-set_same rows i (set (get_or rows i []) p (Some v)) [] within ∙ same in
+    record { is = there; others = put ∙ ap (set rows i) (same ∙ sym there) }
+
+-- the same of a copy of the row
+pub record IsFilledFrom (context : SearchContext) (p : ℕ) (rows tuples : List (List (Option ℕ))) (row copy : List (Option ℕ)) (scores order : List ℕ) : Type 0 where
+  pub same : filled context p rows tuples row ≡ tried context (length tuples) scores order p copy
+  pub most : All (λ score. score ≤ length tuples) scores
+
+pub fills_copy : {context : SearchContext} {p : ℕ} {row copy : List (Option ℕ)} {scores order : List ℕ} {rows tuples : List (List (Option ℕ))} (table : OpenView) (n : ℕ)
+    → IsSoundContext context → p < length context.model.params → order ≡ get_or context.prefs p []
+    → length scores ≡ length (param_at context.model.params p).values
+    → All (IsInPlay context.model context.slice p) (open_tuples table p) → Grows context row → copy ≡ row
+    → scores ≡ map (gain table copy p) (range_with_len 0 n)
+    → is_assigned row p ≡ false → open_tuples table p ≡ filter (is_uncovered rows) tuples → IsFilledFrom context p rows tuples row copy scores order
+fills_copy {context} {p} {row} {copy} {scores} {order} {rows} {tuples} table n is within own long in_play grows read gains free moment =
+    let by = fills table n is within own long in_play grows (subst (λ (r : List (Option ℕ)). scores ≡ map (gain table r p) (range_with_len 0 n)) read gains) free
+    moment in
+    record { same = by.same ∙ ap (tried context (length tuples) scores order p) (sym read); most = by.most }

@@ -1,9 +1,8 @@
 -- A column: its horizontal growth, then its vertical growth.
-use Rattle.std.proofs.Common.{◌≡◌, ℕ, ◌<◌, true, List, [], length, get_or, filter, Option, Some, None, All, ◌∙◌, sym, ap, subst, take, drop, ◌++◌}
+use Rattle.std.proofs.Common.{◌≡◌, ℕ, ◌<◌, true, List, [], length, get_or, filter, Option, Some, None, All, ◌∙◌, sym, ap, subst}
 use Rattle.std.proofs.lemmas.List.FromFn.{length-range_with_len}
 use Rattle.std.proofs.lemmas.List.Sorted.{length_permutation}
 use Rattle.std.proofs.lemmas.List.Elements.{filter_passes}
-use Rattle.ipog_grow.proofs.Closing.{whole_slice}
 use Rattle.ipog_grow.proofs.Spending.{find-later, find-earlier}
 use Rattle.cov_model.specs.Sound.{param_at}
 use Rattle.definitions.specs.Growth.{Grown, down, is_uncovered, tuples_in_play}
@@ -83,31 +82,28 @@ half-stops context p initial question over =
     (down (extends context) (in_play context p) (crossed context p (in_play context p) [] initial).rows).asked over
 
 -- the tuples that are open once what the rows contain is closed
-pub closed-moment : (context : SearchContext) (p : ℕ) (start table : OpenView) (initial shown seen : List (List (Option ℕ)))
-    → IsReady context start p initial → shown ≡ initial → seen ≡ initial
-    → open_tuples table p ≡ filter (is_uncovered shown) (open_tuples start p)
-    → open_tuples table p ≡ filter (is_uncovered seen) (tuples_in_play context.model context.slice p)
-closed-moment context p start table initial shown seen ready before same moment =
-    moment ∙ ap (filter (is_uncovered shown)) ready.all_open ∙ ap (λ list. filter (is_uncovered list) (in_play context p)) (before ∙ sym same)
+pub closed-moment : (context : SearchContext) (p : ℕ) (start table : OpenView) (initial : List (List (Option ℕ))) → IsReady context start p initial
+    → open_tuples table p ≡ filter (is_uncovered initial) (open_tuples start p)
+    → open_tuples table p ≡ filter (is_uncovered initial) (tuples_in_play context.model context.slice p)
+closed-moment context p start table initial ready moment = moment ∙ ap (filter (is_uncovered initial)) ready.all_open
 
--- what horizontal growth told, of rows that are then put back in place
-pub half : {context : SearchContext} {p len : ℕ} {start table after : OpenView} {initial shown seen rows : List (List (Option ℕ))}
-    → IsReady context start p initial → shown ≡ initial → seen ≡ initial
-    → open_tuples table p ≡ filter (is_uncovered shown) (open_tuples start p) → Keeps start table p → len ≡ length initial → length rows ≡ length seen
-    → ((tuples : List (List (Option ℕ))) → open_tuples table p ≡ filter (is_uncovered seen) tuples
-    → first_spent context (crossed context p tuples [] seen).asked ≡ None)
-    → ((tuples : List (List (Option ℕ))) → open_tuples table p ≡ filter (is_uncovered seen) tuples → rows ≡ (crossed context p tuples [] seen).rows)
-    → ((tuples : List (List (Option ℕ))) → open_tuples table p ≡ filter (is_uncovered seen) tuples → open_tuples after p ≡ filter (is_uncovered rows) tuples)
+-- what horizontal growth told
+pub half : {context : SearchContext} {p : ℕ} {start table after : OpenView} {initial rows : List (List (Option ℕ))} → IsReady context start p initial
+    → open_tuples table p ≡ filter (is_uncovered initial) (open_tuples start p) → Keeps start table p
+    → ((tuples : List (List (Option ℕ))) → open_tuples table p ≡ filter (is_uncovered initial) tuples
+    → first_spent context (crossed context p tuples [] initial).asked ≡ None)
+    → ((tuples : List (List (Option ℕ))) → open_tuples table p ≡ filter (is_uncovered initial) tuples → rows ≡ (crossed context p tuples [] initial).rows)
+    → ((tuples : List (List (Option ℕ))) → open_tuples table p ≡ filter (is_uncovered initial) tuples
+    → open_tuples after p ≡ filter (is_uncovered rows) tuples)
     → Keeps table after p → All (IsInPlay context.model context.slice p) (open_tuples after p) → All (Grows context) rows
-    → Half context start after p initial (take len (rows ++ drop (length rows) initial))
-half {context} {p} {len} {start} {table} {after} {initial} {shown} {seen} {rows} ready before same closes kept size long none given leaves keeps own grows =
-    let moment = closed-moment context p start table initial shown seen ready before same closes in
-    let whole = whole_slice initial rows len size (long ∙ ap length same) in
-    subst (Half context start after p initial) (sym whole) (record {
-      asked = ap (λ list. first_spent context (crossed context p (in_play context p) [] list).asked) (sym same) ∙ none (in_play context p) moment;
-      given = given (in_play context p) moment ∙ ap (λ list. (crossed context p (in_play context p) [] list).rows) same;
+    → Half context start after p initial rows
+half {context} {p} {start} {table} {after} {initial} {rows} ready closes kept none given leaves keeps own grows =
+    let moment = closed-moment context p start table initial ready closes in
+    record {
+      asked = none (in_play context p) moment;
+      given = given (in_play context p) moment;
       moment = leaves (in_play context p) moment;
       keeps = keeps-both start table after p kept keeps;
       in_play = own;
       grows = grows;
-    })
+    }

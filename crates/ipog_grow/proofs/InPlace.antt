@@ -1,8 +1,6 @@
 -- Work on rows in place.
 use Rattle.std.proofs.Common.{◌≡◌, ℕ, ◌+◌, ◌<◌, ◌≤◌, List, [], ◌∷◌, ◌++◌, take, drop, length, get_or, set, Option, ◌∙◌, sym, ap, refl, arith}
-use Rattle.std.specs.List.{swap}
-use Rattle.std.proofs.lemmas.List.{append-nil, drop-set-lt, drop_all, drop_more, get_or-drop, length-set, take-set-le, take_all, take_more_set}
-use Rattle.std.proofs.lemmas.List.Edits.{swap_is}
+use Rattle.std.proofs.lemmas.List.{drop-set-lt, drop_more, get_or-drop, length-set, take_more_set}
 use Rattle.ipog_grow.specs.Rows.{AreDone}
 
 abbrev Row : Type 0
@@ -44,25 +42,3 @@ module _ (rows : List Row) (i count : ℕ) (row : Row) (within : i < length rows
     rest = drop-set-lt (i + 1) rows count row (omega (arith, behind));
     as_many = length-set rows count row;
   }
-
-  -- a row that changes its place with the one there
-  pub done-swapped : row ≡ get_or rows i row → AreDone rows (swap rows i count) (i + 1) (count + 1) (take count rows ++ row ∷ [])
-  done-swapped is =
-      let first : List Row = set rows i (get_or rows count row) in
-      let swapped : set first count (get_or rows i row) ≡ swap rows i count = swap_is rows i count row within (omega (arith, within, behind)) in
-      record {
-        given_are = sym (ap (take (count + 1)) swapped)
-            ∙ take_more_set first count (get_or rows i row) (omega (arith, within, behind, length-set rows i (get_or rows count row)))
-            ∙ ap (λ front. front ++ get_or rows i row ∷ []) (take-set-le count rows i (get_or rows count row) behind)
-            ∙ ap (λ r. take count rows ++ r ∷ []) (sym is);
-        within = omega (arith, behind);
-        rest = sym (ap (drop (i + 1)) swapped) ∙ drop-set-lt (i + 1) first count (get_or rows i row) (omega (arith, behind))
-            ∙ drop-set-lt (i + 1) rows i (get_or rows count row) (omega arith);
-        as_many = sym (ap length swapped) ∙ length-set first count (get_or rows i row) ∙ length-set rows i (get_or rows count row);
-      }
-
--- rows that are written as a part of a vector, which is all of it
-pub written : (n : ℕ) (rows now : List Row) → n ≡ length rows → length now ≡ length rows → take n (now ++ drop (length now) rows) ≡ now
-written n rows now all as_many =
-    ap (λ rest. take n (now ++ rest)) (drop_all (length now) rows (omega (arith, as_many)))
-    ∙ ap (take n) (append-nil now) ∙ take_all n now (omega (arith, all, as_many))

@@ -5,7 +5,7 @@ use Rattle.std.specs.Prelude.{slice_get}
 use Rattle.std.proofs.lemmas.Bool.{cases_lt}
 use Rattle.std.proofs.lemmas.Bool.Decides.{nat_tests}
 use Rattle.std.proofs.lemmas.Option.{none-some, same_Some}
-use Rattle.std.proofs.lemmas.List.{get_or_default, drop_all, take_all, take_more, take-set, drop-set, take-append-drop, append-nil, drop_more}
+use Rattle.std.proofs.lemmas.List.{drop_all, take_all, take_more, take-set, drop-set, take-append-drop, append-nil, drop_more}
 use Rattle.std.proofs.lemmas.List.Elements.{All-set}
 use Rattle.ipog_grow.proofs.Asking.{IsAnswered}
 use Rattle.ipog_grow.proofs.Spending.{find-later, find-earlier}
@@ -228,8 +228,8 @@ joining-end context tuple rows i past joining =
     }
 
 -- a row that was read
-pub read_row : (rows held : List (List (Option ℕ))) (i : ℕ) (d : List (Option ℕ)) → held ≡ rows → i < length rows → get_or held i d ≡ get_or rows i []
-read_row rows held i d same within = ap (λ list. get_or list i d) same ∙ get_or_default rows i d [] within
+pub read_row : {rows held : List (List (Option ℕ))} {row : List (Option ℕ)} (i : ℕ) → held ≡ rows → row ≡ get_or held i [] → row ≡ get_or rows i []
+read_row {rows} {held} {row} i same is = is ∙ ap (λ list. get_or list i []) same
 
 -- a candidate that agrees with the tuple: the rows before it are passed, and the union with it is a partial row of the slice
 pub record IsOffered (context : SearchContext) (tuple : List (Option ℕ)) (rows : List (List (Option ℕ))) (i : ℕ) (put : List (Option ℕ)) : Type 0 where
@@ -240,19 +240,18 @@ pub record IsOffered (context : SearchContext) (tuple : List (Option ℕ)) (rows
   pub grows : Grows context put
   pub long : length put ≡ length context.model.params
 
-pub offered : {context : SearchContext} {tuple put : List (Option ℕ)} {rows held : List (List (Option ℕ))} {candidates : List ℕ} {i : ℕ} {found : Bool}
-    (d e : List (Option ℕ))
+pub offered : {context : SearchContext} {tuple put row other : List (Option ℕ)} {rows held : List (List (Option ℕ))} {candidates : List ℕ} {i : ℕ} {found : Bool}
     → IsSoundContext context → Grows context tuple → All (Grows context) rows → held ≡ rows → Offering context tuple rows candidates
-    → slice_get candidates 0 ≡ Some i → found ≡ agrees (get_or held i d) tuple → found ≡ true → put ≡ union (get_or held i e) tuple
+    → slice_get candidates 0 ≡ Some i → row ≡ get_or held i [] → other ≡ get_or held i [] → found ≡ agrees row tuple → found ≡ true → put ≡ union other tuple
     → IsOffered context tuple rows i put
-offered {context} {tuple} {put} {rows} {held} {candidates} {i} {found} d e is grows all same offering first tested agreed united =
-    let row = offering-first candidates offering first in
-    let whole : put ≡ union (get_or rows i []) tuple = united ∙ ap (λ row. union row tuple) (read_row rows held i e same row.0) in
-    let both = grows-union context.model context.slice (get_or rows i []) tuple is.slice (all i [] row.0) grows in
+offered {context} {tuple} {put} {row} {other} {rows} {held} {candidates} {i} {found} is grows all same offering first read again tested agreed united =
+    let passed = offering-first candidates offering first in
+    let whole : put ≡ union (get_or rows i []) tuple = united ∙ ap (λ r. union r tuple) (read_row i same again) in
+    let both = grows-union context.model context.slice (get_or rows i []) tuple is.slice (all i [] passed.0) grows in
     record {
-      within = row.0;
-      joining = row.1;
-      agree = ap (λ row. agrees row tuple) (sym (read_row rows held i d same row.0)) ∙ sym tested ∙ agreed;
+      within = passed.0;
+      joining = passed.1;
+      agree = ap (λ r. agrees r tuple) (sym (read_row i same read)) ∙ sym tested ∙ agreed;
       is = whole;
       grows = subst (Grows context) (sym whole) both;
       long = ap length whole ∙ both.of.fits.as_long;
@@ -289,14 +288,13 @@ left {context} {tuple} {put} {rows} {candidates} {rest} {i} offering first is of
     (ap (λ (c : List (Option ℕ)). first_spent context (c ∷ [])) (sym offer.is) ∙ answer.unspent))
 
 -- a candidate that doesn't agree
-pub passed_over : {context : SearchContext} {tuple : List (Option ℕ)} {rows held : List (List (Option ℕ))} {candidates rest : List ℕ} {i : ℕ} {found : Bool}
-    (d : List (Option ℕ))
+pub passed_over : {context : SearchContext} {tuple row : List (Option ℕ)} {rows held : List (List (Option ℕ))} {candidates rest : List ℕ} {i : ℕ} {found : Bool}
     → Offering context tuple rows candidates → slice_get candidates 0 ≡ Some i → rest ≡ drop 1 candidates → held ≡ rows
-    → found ≡ agrees (get_or held i d) tuple → found ≡ false → Offering context tuple rows rest
-passed_over {context} {tuple} {rows} {held} {candidates} {rest} {i} {found} d offering first is same tested differs =
-    let row = offering-first candidates offering first in
+    → row ≡ get_or held i [] → found ≡ agrees row tuple → found ≡ false → Offering context tuple rows rest
+passed_over {context} {tuple} {row} {rows} {held} {candidates} {rest} {i} {found} offering first is same read tested differs =
+    let passed = offering-first candidates offering first in
     offering-on candidates offering first is
-    (joining-other context tuple rows i row.0 row.1 (ap (λ row. agrees row tuple) (sym (read_row rows held i d same row.0)) ∙ sym tested ∙ differs))
+    (joining-other context tuple rows i passed.0 passed.1 (ap (λ r. agrees r tuple) (sym (read_row i same read)) ∙ sym tested ∙ differs))
 
 -- no candidate is left
 pub joining-none : {context : SearchContext} {tuple : List (Option ℕ)} {rows : List (List (Option ℕ))} {candidates : List ℕ}

@@ -6,7 +6,7 @@ use Rattle.std.specs.Cmp.Lexicographic.{pointwise}
 use Rattle.std.proofs.lemmas.Bool.Decides.{Decides-eqb}
 use Rattle.std.specs.List.{list_any}
 use Rattle.std.proofs.lemmas.Bool.{false≢true, and_from}
-use Rattle.std.proofs.lemmas.List.Elements.{filter-append, All-head, All-tail}
+use Rattle.std.proofs.lemmas.List.Elements.{filter-append, All-cons, All-filter, All-head, All-tail}
 use Rattle.std.proofs.lemmas.Slice.Eq.{slice_eq-Decides}
 use Rattle.std.proofs.lemmas.List.{append-nil}
 use Rattle.value_text.proofs.ListLemmas.{or_twice}
@@ -66,6 +66,13 @@ module _ {X : Type 0} (row : X → List (Option ℕ)) where
           ∙ ap (λ (b : Bool). filter (apart y) (distinct_by row items) ++ cond (not b) (x ∷ []) []) is ∙ append-nil (filter (apart y) (distinct_by row items)))
       by_case false false is = ap (λ rest. y ∷ rest) (filter-append (apart y) (distinct_by row items) (x ∷ [])
           ∙ ap (λ (b : Bool). filter (apart y) (distinct_by row items) ++ cond (not b) (x ∷ []) []) is)
+
+  -- what is so of each item is so of those
+  pub distinct_by-all : (P : X → Type 0) (items : List X) → All P items → All P (distinct_by row items)
+  distinct_by-all P [] all = all
+  distinct_by-all P (x ∷ items) all =
+      All-cons P x (filter (apart x) (distinct_by row items)) (All-head P x items all)
+      (All-filter (apart x) P (distinct_by row items) (distinct_by-all P items (All-tail P x items all)))
 
 -- rows of one length are the same exactly if their places are equal
 abbrev pub equal_cells : List (Option ℕ) → List (Option ℕ) → Bool

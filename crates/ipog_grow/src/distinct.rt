@@ -1,8 +1,8 @@
-ghost use Rattle.std.specs.Prelude.{◌≡◌, ◌+◌, ◌<◌, ◌≤◌, ◌++◌, ◌∷◌, [], true, All, length, not, slice_index_or, take, IfOk, OnOk};
+ghost use Rattle.std.specs.Prelude.{◌≡◌, ◌+◌, ◌^◌, ◌<◌, ◌≤◌, [], true, All, length, not, slice_index_or, take, IfOk, OnOk};
 ghost use Rattle.definitions.specs.Seeds.{distinct};
 ghost use Rattle.ipog_grow.specs.Rows.{AreAsLong, AreRising, AreDone, is_known_row, stands_before, with_row};
 
-use cov_model::{Cells, ValueNo};
+use cov_model::{Rows, ValueNo};
 use indexmap::IndexSet;
 use smallvec::SmallVec;
 use std::alloc::Global;
@@ -40,46 +40,30 @@ impl RowSet {
     }
 
     // Adds a row of the same length as the others, unless it is among them, and tells whether it wasn't.
-    pub(crate) fn add(&mut self, alloc: Global, row: &Cells) -> Result<bool, NoMemory>
+    pub(crate) fn add(&mut self, alloc: Global, row: &[Option<ValueNo>]) -> Result<bool, NoMemory>
         requires { All (λ known. length known ≡ length row.now) self.old }
         ensures added { IfOk result (λ added. added ≡ not (is_known_row self.old row.now)) }
         ensures rows { IfOk result (λ _. self.new ≡ with_row self.old row.now) }
     {
-        let places = SmallVec::from_slice(alloc, row.as_slice())?;
+        let places = SmallVec::from_slice(alloc, row)?;
         let added = self.keys.insert(RowKey { places })?;
         Ok(added)
     }
 }
 
-// A copy of a row.
-pub(crate) fn copy_of(alloc: Global, row: &Cells) -> Result<Cells, NoMemory>
-    ensures { IfOk result (λ copy. copy ≡ row.now) }
-{
-    row.copy(alloc)
-}
-
-// Adds a copy of a row to others.
-pub(crate) fn push_copy(alloc: Global, row: &Cells, rows: &mut Vec<Cells>) -> Result<(), NoMemory>
-    ensures { OnOk result (rows.new.items ≡ rows.old.items ++ row.now ∷ []) }
-{
-    let copy = copy_of(alloc, row)?;
-    rows.push(copy)?;
-    Ok(())
-}
-
 // Whether a row stands before another: it has the lower value at the first parameter where they differ.
-fn stands_before(row: &Cells, other: &Cells) -> bool
+fn stands_before(row: &[Option<ValueNo>], other: &[Option<ValueNo>]) -> bool
     ensures { result ≡ stands_before row.now other.now }
 {
-    row.as_slice().cmp(&other.as_slice()).is_lt()
+    row.cmp(&other).is_lt()
 }
 
 // Whether each row stands before the next one.
-fn are_rising(rows: &[Cells]) -> bool
+fn are_rising(rows: &Rows) -> bool
     ensures { result ≡ true → AreRising rows.now }
 {
     for i in 1..rows.len() {
-        if !stands_before(&rows[i - 1], &rows[i]) {
+        if !stands_before(rows.row(i - 1), rows.row(i)) {
             return false;
         }
     }
@@ -90,37 +74,38 @@ fn are_rising(rows: &[Cells]) -> bool
 // are the known ones. Tells how many there are then.
 fn keep_row(
     alloc: Global,
-    rows: &mut [Cells],
+    rows: &mut Rows,
     i: usize,
     count: usize,
     known: &mut RowSet,
 ) -> Result<usize, NoMemory>
     requires within { i < length rows.old }
+    requires short { length rows.old < 2 ^ 64 }
     requires count { count ≤ i }
     requires known { known.old ≡ take count rows.old }
     requires long { All (λ other. length other ≡ length (slice_index_or rows.old i [])) known.old }
     ensures done { IfOk result (λ after. AreDone rows.old rows.new (i + 1) after (with_row known.old (slice_index_or rows.old i []))) }
     ensures known { OnOk result (known.new ≡ with_row known.old (slice_index_or rows.old i [])) }
 {
-    if !known.add(alloc, &rows[i])? {
+    if !known.add(alloc, rows.row(i))? {
         return Ok(count);
     }
-    rows.swap(i, count);
+    rows.copy_row(i, count);
     Ok(count + 1)
 }
 
 // Takes out the rows that are the same as an earlier one. Takes no memory where the rows rise.
-pub(crate) fn remove_repeats(alloc: Global, rows: &mut Vec<Cells>) -> Result<(), NoMemory>
-    requires { AreAsLong rows.old.items }
-    ensures { OnOk result (rows.new.items ≡ distinct rows.old.items) }
+pub(crate) fn remove_repeats(alloc: Global, rows: &mut Rows) -> Result<(), NoMemory>
+    requires { AreAsLong rows.old }
+    ensures { OnOk result (rows.new ≡ distinct rows.old) }
 {
-    if are_rising(rows.as_slice()) {
+    if are_rising(rows) {
         return Ok(());
     }
     let mut known = RowSet::new(alloc);
     let mut count = 0;
     for i in 0..rows.len() {
-        count = keep_row(alloc, rows.as_mut_slice(), i, count, &mut known)?;
+        count = keep_row(alloc, rows, i, count, &mut known)?;
     }
     rows.truncate(count);
     Ok(())

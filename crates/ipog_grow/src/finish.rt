@@ -87,20 +87,22 @@ pub(crate) fn finish_slice(
     alloc: Global,
     asker: &mut Asker,
     proof: Option<ProofForm>,
-    grown: Vec<Cells>,
+    grown: Rows,
     omitted: &[Cells],
     rows: &mut Rows,
     omissions: &mut Omissions,
 ) -> Result<(), SearchFault>
-    requires grows { All (Grows asker.old.context) grown.items }
+    requires grows { All (Grows asker.old.context) grown }
     requires omitted { All (IsOmittedIn asker.old.context) omitted.now }
     requires earlier { AreOmissionsOf asker.old.context.model asker.old.context.prefs proof omissions.old }
     requires few { length omissions.old.omissions + length omitted.now < 2 ^ 32 }
-    ensures rows { OnOk result (rows.new ≡ rows.old ++ distinct (filter_map (completed asker.old.context) grown.items)) }
+    requires long { All (λ row. length row ≡ length asker.old.context.model.params) rows.old }
+    ensures rows { OnOk result (rows.new ≡ rows.old ++ distinct (filter_map (completed asker.old.context) grown)) }
+    ensures long { OnOk result (All (λ row. length row ≡ length asker.old.context.model.params) rows.new) }
     ensures tuples { OnOk result (earlier_tuples asker.old.context.model omissions.new
         ≡ earlier_tuples asker.old.context.model omissions.old ++ omitted.now) }
     ensures omissions { OnOk result (AreOmissionsOf asker.old.context.model asker.old.context.prefs proof omissions.new) }
-    ensures asked { Ends result (first_spent asker.old.context grown.items) }
+    ensures asked { Ends result (first_spent asker.old.context grown) }
 {
     asker.assert_invariant();
     if let Err(stop) = complete_rows(alloc, asker, grown, rows) {

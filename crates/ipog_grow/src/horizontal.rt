@@ -9,13 +9,13 @@ use crate::asker::Asker;
 use crate::fill::fill_cell;
 use crate::stop::Stop;
 use crate::workers::Workers;
-use cov_model::{Cells, ParamNo, ValueNo};
+use cov_model::{Cells, ParamNo, Rows, ValueNo};
 use outside_io::Gate;
 use std::thread::Threads;
 use uncovered_table::Uncovered;
 
 // Horizontal growth of a column: each partial row in order gets its best value there. The open tuples
-// in play are those that no row contains, before and after.
+// in play are those that no row contains, before and after. The room is for a partial row.
 pub(crate) fn grow_horizontally<R: Threads + Sync, G: Gate + Sync>(
     workers: &Workers<'_, R, G>,
     table: &mut Uncovered,
@@ -23,13 +23,15 @@ pub(crate) fn grow_horizontally<R: Threads + Sync, G: Gate + Sync>(
     order: &[ValueNo],
     column: ParamNo,
     scores: &mut [u32],
-    rows: &mut [Cells],
+    rows: &mut Rows,
+    room: &mut Cells,
 ) -> Result<(), Stop>
     requires table { IsTableOf asker.old.context table.old }
     requires column { column < length asker.old.context.model.params }
     requires order { order.now ≡ slice_index_or asker.old.context.prefs column [] }
     requires scores { length scores.old ≡ length (param_at asker.old.context.model.params column).values }
     requires in_play { All (IsInPlay asker.old.context.model asker.old.context.slice column) (open_tuples table.old column) }
+    requires room { length room.old ≡ length asker.old.context.model.params }
     requires grows { All (Grows asker.old.context) rows.old }
     ensures asked { (tuples : List (List (Option ℕ))) → open_tuples table.old column ≡ filter (is_uncovered rows.old) tuples
         → Told result asker.new.question (first_spent asker.old.context (crossed asker.old.context column tuples [] rows.old).asked) }
@@ -42,9 +44,10 @@ pub(crate) fn grow_horizontally<R: Threads + Sync, G: Gate + Sync>(
     ensures grows { OnOk result (All (Grows asker.old.context) rows.new) }
     ensures same { asker.new.context ≡ asker.old.context }
     ensures long { length scores.new ≡ length scores.old }
+    ensures room { length room.new ≡ length room.old }
 {
     for i in 0..rows.len() {
-        fill_cell(workers, table, asker, order, column, scores, &mut rows[i])?;
+        fill_cell(workers, table, asker, order, column, scores, rows, i, room)?;
     }
     Ok(())
 }

@@ -8,15 +8,15 @@ use crate::asker::Asker;
 use crate::candidates::Candidates;
 use crate::stop::Stop;
 use crate::unions::{agree, put_given_params, unite};
-use cov_model::Cells;
+use cov_model::{Cells, Rows};
 
 // The first partial row that agrees with a tuple, and whose union with it is extendable, becomes this
-// union; its number, if there is one. The room is for a union. Only the candidates may agree.
+// union; its number, if there is one. The room is for a union, and has this one then. Only the candidates may agree.
 pub(crate) fn join_first(
     asker: &mut Asker,
     tuple: &Cells,
     room: &mut Cells,
-    rows: &mut [Cells],
+    rows: &mut Rows,
     mut candidates: Candidates<'_>,
 ) -> Result<Option<usize>, Stop>
     requires tuple { Grows asker.old.context tuple.now }
@@ -28,6 +28,7 @@ pub(crate) fn join_first(
     ensures rows { OnOk result (rows.new ≡ (join (extends asker.old.context) tuple.now rows.old).rows) }
     ensures taken { IfOk result (λ at. is_some at ≡ (join (extends asker.old.context) tuple.now rows.old).taken) }
     ensures place { IfOk result (λ at. IfSome at (λ i. IsUnionAt rows.old rows.new tuple.now i)) }
+    ensures room { IfOk result (λ at. IfSome at (λ i. room.new ≡ slice_index_or rows.new i [])) }
     ensures unchanged { IfOk result (λ at. at ≡ None → rows.new ≡ rows.old) }
     ensures grows { OnOk result (All (Grows asker.old.context) rows.new) }
     ensures same { asker.new.context ≡ asker.old.context }
@@ -38,10 +39,11 @@ pub(crate) fn join_first(
     let count = put_given_params(tuple, &mut params);
     let given = &params[..count];
     while let Some(i) = candidates.take_first() {
-        if agree(&rows[i], tuple, given) {
-            unite(&rows[i], tuple, room);
+        let row = rows.row(i);
+        if agree(row, tuple, given) {
+            unite(row, tuple, room);
             if asker.ask(room)? {
-                rows[i].copy_from(room);
+                rows.put(i, room.as_slice());
                 return Ok(Some(i));
             }
         }

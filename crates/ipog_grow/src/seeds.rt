@@ -15,7 +15,7 @@ ghost use Rattle.ipog_grow.specs.Rows.{with_row, with_seed};
 ghost use Rattle.ipog_grow.specs.SeedSolvers.{IsSolverFor};
 ghost use Rattle.feasibility.specs.Ends.{Ends};
 
-use crate::distinct::{RowSet, copy_of, push_copy};
+use crate::distinct::RowSet;
 use crate::suite::LineList;
 use cov_model::{Cells, ParamNo, Prefs, Rows, Slice, TestModel};
 use feasibility::{Answer, SearchFault, Solver, over_budget};
@@ -94,13 +94,13 @@ fn add_seed(
     ensures list { OnOk result (map row_seen list.new ≡ with_seed known.old (map row_seen list.old) (row_seen seed.now)) }
     ensures long { OnOk result (All (λ other. length other ≡ length seed.now.cells) known.new) }
 {
-    if !known.add(alloc, &seed.cells)? {
+    if !known.add(alloc, seed.cells.as_slice())? {
         return Ok(());
     }
     if is_blank(&seed.cells) {
         return Ok(());
     }
-    let cells = copy_of(alloc, &seed.cells)?;
+    let cells = seed.cells.copy(alloc)?;
     list.push(FileRow {
         line: seed.line,
         cells,
@@ -196,6 +196,7 @@ fn place_seed<'a>(
     requires fits { FitsModel model.now seed.now.cells }
     requires orders { OrdersValues model.now prefs.now }
     requires last { IfSome last.old (IsSolverFor model.now prefs.now) }
+    requires long { All (λ row. length row ≡ length model.now.params) sorted.old.kept }
     ensures last { IfSome last.new (IsSolverFor model.now prefs.now) }
     ensures kept { OnOk result (sorted.new.kept ≡ sorted.old.kept ++ filter (can_be_served model.now) (seed.now.cells ∷ [])) }
     ensures dropped { OnOk result (sorted.new.dropped ≡ sorted.old.dropped ++ (if can_be_served model.now seed.now.cells then [] else seed.now.line ∷ [])) }
@@ -207,10 +208,7 @@ fn place_seed<'a>(
             Err(_) => Err(SearchFault::NoMemory),
         };
     }
-    let Ok(copy) = copy_of(alloc, &seed.cells) else {
-        return Err(SearchFault::NoMemory);
-    };
-    match sorted.kept.push(copy) {
+    match sorted.kept.push(seed.cells.as_slice()) {
         Ok(()) => Ok(()),
         Err(_) => Err(SearchFault::NoMemory),
     }
@@ -250,15 +248,17 @@ pub(crate) fn seeds_of_slice(
     model: &TestModel,
     kept: &Rows,
     slice: Slice,
-) -> Result<Vec<Cells>, NoMemory>
+) -> Result<Rows, NoMemory>
     requires fit { All (FitsModel model.now) kept.now }
     requires few { All (λ seed. has_slice model.now seed ≡ true) kept.now }
-    ensures { IfOk result (λ rows. rows.items ≡ filter (is_of_slice model.now slice) kept.now) }
+    ensures { IfOk result (λ rows. rows ≡ filter (is_of_slice model.now slice) kept.now) }
 {
-    let mut rows = Vec::new(alloc);
-    for seed in kept.as_slice() {
-        if model.slice_of(seed) == slice {
-            push_copy(alloc, seed, &mut rows)?;
+    let mut rows = Rows::new(alloc);
+    let mut seed = Cells::empty(alloc, model.params().len())?;
+    for i in 0..kept.len() {
+        seed.copy_from_slice(kept.row(i));
+        if model.slice_of(&seed) == slice {
+            rows.push(seed.as_slice())?;
         }
     }
     Ok(rows)

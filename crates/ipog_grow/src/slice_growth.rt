@@ -11,7 +11,6 @@ ghost use Rattle.ipog_grow.specs.UnfilledRows.{HasUnfilled};
 
 use crate::asker::Asker;
 use crate::contained::close_contained;
-use crate::distinct::{copy_of, push_copy};
 use crate::horizontal::grow_horizontally;
 use crate::join::join_first;
 use crate::order::column_order;
@@ -26,7 +25,7 @@ use std::alloc::Global;
 use std::thread::Threads;
 use tuple_index::Plan;
 use uncovered_table::Uncovered;
-use value_text::NoMemory;
+use value_text::{NoMemory, OwnedList};
 
 // What grows in a slice: the partial rows, the table of the open tuples and the tuples that were
 // omitted; with room for a tuple and for a partial row.
@@ -36,8 +35,8 @@ pub(crate) struct SliceGrowth<'a> {
     pub(crate) asker: Asker<'a>,
     pub(crate) tuple: Cells,
     pub(crate) room: Cells,
-    pub(crate) rows: Vec<Cells>,
-    pub(crate) omitted: Rows,
+    pub(crate) rows: Rows,
+    pub(crate) omitted: OwnedList<Cells>,
 }
 
 impl<'a> SliceGrowth<'a> {
@@ -50,14 +49,14 @@ impl<'a> SliceGrowth<'a> {
         plan: &'a Plan,
         slice: Slice,
         budget: u64,
-        rows: Vec<Cells>,
+        rows: Rows,
     ) -> Result<SliceGrowth<'a>, NoMemory>
         requires plan { plan.now ≡ plan_of model.now }
         requires slice { IsSliceOf model.now slice }
         requires orders { OrdersValues model.now prefs.now }
         ensures context { IfOk result (λ growth. growth.asker.context ≡ record { model = model.now; prefs = prefs.now; slice = slice; budget = budget }) }
         ensures is_new { IfOk result (λ growth. IsNew growth.asker.context growth.table growth.tuple growth.room) }
-        ensures rows { IfOk result (λ growth. growth.rows.items ≡ rows.items) }
+        ensures rows { IfOk result (λ growth. growth.rows ≡ rows) }
         ensures omitted { IfOk result (λ growth. growth.omitted ≡ []) }
     {
         let count = model.params().len();
@@ -67,7 +66,7 @@ impl<'a> SliceGrowth<'a> {
             tuple: Cells::empty(alloc, count)?,
             room: Cells::empty(alloc, count)?,
             rows,
-            omitted: Rows::new(alloc),
+            omitted: OwnedList::new(alloc),
         })
     }
 
@@ -83,14 +82,14 @@ impl<'a> SliceGrowth<'a> {
         unfilled: &mut UnfilledRows,
     ) -> Result<(), Stop>
         requires column { column < length self.old.asker.context.model.params }
-        requires next { IsNext self.old.asker.context self.old.table column place self.old.tuple self.old.rows.items }
+        requires next { IsNext self.old.asker.context self.old.table column place self.old.tuple self.old.rows }
         requires exist { All (λ p. p < length self.old.asker.context.model.params) columns.now }
-        requires unfilled { HasUnfilled columns.now column (length (param_at self.old.asker.context.model.params column).values) self.old.rows.items unfilled.old }
+        requires unfilled { HasUnfilled columns.now column (length (param_at self.old.asker.context.model.params column).values) self.old.rows unfilled.old }
         ensures asked { Told result self.new.asker.question (first_spent self.old.asker.context (self.old.tuple ∷ [])) }
-        ensures rows { OnOk result (self.new.rows.items ≡ rows_alone self.old.asker.context self.old.tuple self.old.rows.items) }
+        ensures rows { OnOk result (self.new.rows ≡ rows_alone self.old.asker.context self.old.tuple self.old.rows) }
         ensures omitted { OnOk result (self.new.omitted ≡ self.old.omitted ++ omitted_alone self.old.asker.context self.old.tuple) }
-        ensures passed { OnOk result (IsPassed self.old.asker.context self.old.table self.new.table column place self.new.rows.items) }
-        ensures unfilled { OnOk result (HasUnfilled columns.now column (length (param_at self.old.asker.context.model.params column).values) self.new.rows.items unfilled.new) }
+        ensures passed { OnOk result (IsPassed self.old.asker.context self.old.table self.new.table column place self.new.rows) }
+        ensures unfilled { OnOk result (HasUnfilled columns.now column (length (param_at self.old.asker.context.model.params column).values) self.new.rows unfilled.new) }
         ensures same { self.new.asker.context ≡ self.old.asker.context }
         ensures tuple { self.new.tuple ≡ self.old.tuple }
         ensures room { self.new.room ≡ self.old.room }
@@ -98,11 +97,11 @@ impl<'a> SliceGrowth<'a> {
         self.asker.assert_invariant();
         if self.asker.ask(&self.tuple)? {
             let number = self.rows.len();
-            push_copy(alloc, &self.tuple, &mut self.rows)?;
-            unfilled.push_row(&self.tuple, columns, column, number)?;
+            self.rows.push(self.tuple.as_slice())?;
+            unfilled.push_row(self.tuple.as_slice(), columns, column, number)?;
             self.table.close_row(&self.tuple, column);
         } else {
-            let row = copy_of(alloc, &self.tuple)?;
+            let row = self.tuple.copy(alloc)?;
             self.omitted.push(row)?;
             self.table.close(place.0, place.1);
         }
@@ -121,18 +120,18 @@ impl<'a> SliceGrowth<'a> {
         unfilled: &mut UnfilledRows,
     ) -> Result<(), Stop>
         requires column { column < length self.old.asker.context.model.params }
-        requires next { IsNext self.old.asker.context self.old.table column place self.old.tuple self.old.rows.items }
+        requires next { IsNext self.old.asker.context self.old.table column place self.old.tuple self.old.rows }
         requires columns { columns.now ≡ columns_to self.old.asker.context.model self.old.asker.context.slice column }
         requires exist { All (λ p. p < length self.old.asker.context.model.params) columns.now }
-        requires unfilled { HasUnfilled columns.now column (length (param_at self.old.asker.context.model.params column).values) self.old.rows.items unfilled.old }
+        requires unfilled { HasUnfilled columns.now column (length (param_at self.old.asker.context.model.params column).values) self.old.rows unfilled.old }
         requires room { length self.old.room ≡ length self.old.asker.context.model.params }
         ensures asked { Told result self.new.asker.question
-            (first_spent self.old.asker.context (settle (extends self.old.asker.context) self.old.tuple self.old.rows.items).asked) }
-        ensures rows { OnOk result (self.new.rows.items ≡ (settle (extends self.old.asker.context) self.old.tuple self.old.rows.items).rows) }
+            (first_spent self.old.asker.context (settle (extends self.old.asker.context) self.old.tuple self.old.rows).asked) }
+        ensures rows { OnOk result (self.new.rows ≡ (settle (extends self.old.asker.context) self.old.tuple self.old.rows).rows) }
         ensures omitted { OnOk result (self.new.omitted ≡ self.old.omitted
-            ++ (settle (extends self.old.asker.context) self.old.tuple self.old.rows.items).omitted) }
-        ensures passed { OnOk result (IsPassed self.old.asker.context self.old.table self.new.table column place self.new.rows.items) }
-        ensures unfilled { OnOk result (HasUnfilled columns.now column (length (param_at self.old.asker.context.model.params column).values) self.new.rows.items unfilled.new) }
+            ++ (settle (extends self.old.asker.context) self.old.tuple self.old.rows).omitted) }
+        ensures passed { OnOk result (IsPassed self.old.asker.context self.old.table self.new.table column place self.new.rows) }
+        ensures unfilled { OnOk result (HasUnfilled columns.now column (length (param_at self.old.asker.context.model.params column).values) self.new.rows unfilled.new) }
         ensures same { self.new.asker.context ≡ self.old.asker.context }
         ensures tuple { self.new.tuple ≡ self.old.tuple }
         ensures room { length self.new.room ≡ length self.old.room }
@@ -142,10 +141,10 @@ impl<'a> SliceGrowth<'a> {
             &mut self.asker,
             &self.tuple,
             &mut self.room,
-            self.rows.as_mut_slice(),
+            &mut self.rows,
             unfilled.candidates(&self.tuple, column),
         )? {
-            Some(i) => self.table.close_row(&self.rows[i], column),
+            Some(_) => self.table.close_row(&self.room, column),
             None => self.settle_alone(alloc, column, place, columns, unfilled)?,
         }
         Ok(())
@@ -164,32 +163,26 @@ impl<'a> SliceGrowth<'a> {
         requires plan { plan.now ≡ plan_of self.old.asker.context.model }
         requires column { column < length self.old.asker.context.model.params }
         requires count { count ≡ length (param_at self.old.asker.context.model.params column).values }
-        requires is_open { IsOpen self.old.asker.context self.old.table column self.old.rows.items }
+        requires is_open { IsOpen self.old.asker.context self.old.table column self.old.rows }
         requires columns { columns.now ≡ columns_to self.old.asker.context.model self.old.asker.context.slice column }
         requires exist { All (λ p. p < length self.old.asker.context.model.params) columns.now }
         requires tuple { length self.old.tuple ≡ length self.old.asker.context.model.params }
         requires room { length self.old.room ≡ length self.old.asker.context.model.params }
         ensures asked { Told result self.new.asker.question
-            (first_spent self.old.asker.context (down (extends self.old.asker.context) (open_tuples self.old.table column) self.old.rows.items).asked) }
-        ensures rows { OnOk result (self.new.rows.items
-            ≡ (down (extends self.old.asker.context) (open_tuples self.old.table column) self.old.rows.items).rows) }
+            (first_spent self.old.asker.context (down (extends self.old.asker.context) (open_tuples self.old.table column) self.old.rows).asked) }
+        ensures rows { OnOk result (self.new.rows
+            ≡ (down (extends self.old.asker.context) (open_tuples self.old.table column) self.old.rows).rows) }
         ensures omitted { OnOk result (self.new.omitted ≡ self.old.omitted
-            ++ (down (extends self.old.asker.context) (open_tuples self.old.table column) self.old.rows.items).omitted) }
+            ++ (down (extends self.old.asker.context) (open_tuples self.old.table column) self.old.rows).omitted) }
         ensures keeps { OnOk result (Keeps self.old.table self.new.table column) }
-        ensures grows { OnOk result (All (Grows self.old.asker.context) self.new.rows.items) }
+        ensures grows { OnOk result (All (Grows self.old.asker.context) self.new.rows) }
         ensures same { self.new.asker.context ≡ self.old.asker.context }
         ensures tuple { length self.new.tuple ≡ length self.old.tuple }
         ensures room { length self.new.room ≡ length self.old.room }
     {
         self.asker.assert_invariant();
         plan.assert_invariant();
-        let mut unfilled = UnfilledRows::among(
-            alloc,
-            self.rows.as_slice(),
-            columns,
-            column,
-            count,
-        )?;
+        let mut unfilled = UnfilledRows::among(alloc, &self.rows, columns, column, count)?;
         let mut from = None;
         while let Some(place) = self.table.next_open(column, from) {
             put_tuple(plan, place, &mut self.tuple);
@@ -213,17 +206,17 @@ impl<'a> SliceGrowth<'a> {
         requires prefs { prefs.now ≡ self.old.asker.context.prefs }
         requires plan { plan.now ≡ plan_of self.old.asker.context.model }
         requires column { column < length self.old.asker.context.model.params }
-        requires ready { IsReady self.old.asker.context self.old.table column self.old.rows.items }
+        requires ready { IsReady self.old.asker.context self.old.table column self.old.rows }
         requires columns { columns.now ≡ columns_to self.old.asker.context.model self.old.asker.context.slice column }
         requires exist { All (λ p. p < length self.old.asker.context.model.params) columns.now }
         requires tuple { length self.old.tuple ≡ length self.old.asker.context.model.params }
         requires room { length self.old.room ≡ length self.old.asker.context.model.params }
         ensures asked { Told result self.new.asker.question
-            (first_spent self.old.asker.context (column_grown self.old.asker.context column self.old.rows.items).asked) }
-        ensures rows { OnOk result (self.new.rows.items ≡ (column_grown self.old.asker.context column self.old.rows.items).rows) }
-        ensures omitted { OnOk result (self.new.omitted ≡ self.old.omitted ++ (column_grown self.old.asker.context column self.old.rows.items).omitted) }
+            (first_spent self.old.asker.context (column_grown self.old.asker.context column self.old.rows).asked) }
+        ensures rows { OnOk result (self.new.rows ≡ (column_grown self.old.asker.context column self.old.rows).rows) }
+        ensures omitted { OnOk result (self.new.omitted ≡ self.old.omitted ++ (column_grown self.old.asker.context column self.old.rows).omitted) }
         ensures keeps { OnOk result (Keeps self.old.table self.new.table column) }
-        ensures grows { OnOk result (All (Grows self.old.asker.context) self.new.rows.items) }
+        ensures grows { OnOk result (All (Grows self.old.asker.context) self.new.rows) }
         ensures same { self.new.asker.context ≡ self.old.asker.context }
         ensures tuple { length self.new.tuple ≡ length self.old.tuple }
         ensures room { length self.new.room ≡ length self.old.room }
@@ -231,7 +224,7 @@ impl<'a> SliceGrowth<'a> {
         self.asker.assert_invariant();
         let order = prefs.of(column);
         let mut scores = no_scores(alloc, order.len())?;
-        close_contained(&mut self.table, &self.rows, column);
+        close_contained(&mut self.table, &self.rows, column, &mut self.room);
         grow_horizontally(
             workers,
             &mut self.table,
@@ -239,7 +232,8 @@ impl<'a> SliceGrowth<'a> {
             order,
             column,
             &mut scores,
-            self.rows.as_mut_slice(),
+            &mut self.rows,
+            &mut self.room,
         )?;
         self.grow_vertically(alloc, plan, column, order.len(), columns)
     }
@@ -259,13 +253,13 @@ impl<'a> SliceGrowth<'a> {
         requires prefs { self.old.asker.context.prefs ≡ prefs.now }
         requires plan { plan.now ≡ plan_of model.now }
         requires is_new { IsNew self.old.asker.context self.old.table self.old.tuple self.old.room }
-        requires grows { All (Grows self.old.asker.context) self.old.rows.items }
+        requires grows { All (Grows self.old.asker.context) self.old.rows }
         ensures asked { Told result self.new.asker.question
-            (first_spent self.old.asker.context (columns_grown self.old.asker.context (column_order model.now slice) self.old.rows.items).asked) }
-        ensures rows { OnOk result (self.new.rows.items ≡ (columns_grown self.old.asker.context (column_order model.now slice) self.old.rows.items).rows) }
+            (first_spent self.old.asker.context (columns_grown self.old.asker.context (column_order model.now slice) self.old.rows).asked) }
+        ensures rows { OnOk result (self.new.rows ≡ (columns_grown self.old.asker.context (column_order model.now slice) self.old.rows).rows) }
         ensures omitted { OnOk result (self.new.omitted ≡ self.old.omitted
-            ++ (columns_grown self.old.asker.context (column_order model.now slice) self.old.rows.items).omitted) }
-        ensures grows { OnOk result (All (Grows self.old.asker.context) self.new.rows.items) }
+            ++ (columns_grown self.old.asker.context (column_order model.now slice) self.old.rows).omitted) }
+        ensures grows { OnOk result (All (Grows self.old.asker.context) self.new.rows) }
         ensures same { self.new.asker.context ≡ self.old.asker.context }
     {
         self.asker.assert_invariant();

@@ -1,4 +1,4 @@
-ghost use Rattle.std.specs.Prelude.{◌≡◌, ◌+◌, ◌<◌, ◌≤◌, ◌^◌, ◌++◌, [], length, IfOk, OnOk};
+ghost use Rattle.std.specs.Prelude.{◌≡◌, ◌+◌, ◌<◌, ◌≤◌, ◌^◌, ◌++◌, [], All, length, IfOk, OnOk};
 ghost use Rattle.std.specs.List.{filter};
 ghost use Rattle.definitions.specs.Growth.{is_of_slice};
 ghost use Rattle.definitions.specs.SliceRows.{IsSliceOf};
@@ -33,7 +33,7 @@ fn growth_from_seeds<'a>(
     requires slice { IsSliceOf input.now.model.now slice }
     ensures context { IfOk result (λ growth. growth.asker.context ≡ context_in input.now slice) }
     ensures is_new { IfOk result (λ growth. IsNew growth.asker.context growth.table growth.tuple growth.room) }
-    ensures rows { IfOk result (λ growth. growth.rows.items ≡ filter (is_of_slice input.now.model.now slice) input.now.kept.now) }
+    ensures rows { IfOk result (λ growth. growth.rows ≡ filter (is_of_slice input.now.model.now slice) input.now.kept.now) }
     ensures omitted { IfOk result (λ growth. growth.omitted ≡ []) }
 {
     let (model, prefs, plan) = (input.model, input.prefs, input.plan);
@@ -54,9 +54,11 @@ pub(crate) fn grow_slice<R: Threads + Sync, G: Gate + Sync>(
     requires input { IsSoundInput input.now }
     requires slice { IsSliceOf input.now.model.now slice }
     requires earlier { AreOmissionsOf input.now.model.now input.now.prefs.now input.now.proof omissions.old }
+    requires long { All (λ row. length row ≡ length input.now.model.now.params) rows.old }
     requires few { length omissions.old.omissions + met_count input.now.model.now slice < 2 ^ 32 }
     ensures rows { OnOk result (rows.new ≡ rows.old
         ++ (grown_from (context_in input.now slice) (filter (is_of_slice input.now.model.now slice) input.now.kept.now)).rows) }
+    ensures long { OnOk result (All (λ row. length row ≡ length input.now.model.now.params) rows.new) }
     ensures tuples { OnOk result (earlier_tuples input.now.model.now omissions.new ≡ earlier_tuples input.now.model.now omissions.old
         ++ (grown_from (context_in input.now slice) (filter (is_of_slice input.now.model.now slice) input.now.kept.now)).omitted) }
     ensures omissions { OnOk result (AreOmissionsOf input.now.model.now input.now.prefs.now input.now.proof omissions.new) }

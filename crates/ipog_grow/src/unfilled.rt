@@ -2,7 +2,7 @@ ghost use Rattle.std.specs.Prelude.{◌≡◌, ◌<◌, All, IfOk, IfSome, None,
 ghost use Rattle.ipog_grow.specs.UnfilledRows.{HasUnfilled, candidates, is_filled, with_number, with_unfilled};
 
 use crate::candidates::Candidates;
-use cov_model::{Cells, ParamNo, ValueNo};
+use cov_model::{Cells, ParamNo, Rows, ValueNo};
 use std::alloc::Global;
 use std::marker::Model;
 use value_text::NoMemory;
@@ -25,12 +25,12 @@ impl Model for UnfilledRows {
 }
 
 // Whether a partial row has a value in each of these columns.
-fn is_filled(row: &Cells, columns: &[ParamNo]) -> bool
+fn is_filled(row: &[Option<ValueNo>], columns: &[ParamNo]) -> bool
     requires { All (λ p. p < length row.now) columns.now }
     ensures { result ≡ is_filled columns.now row.now }
 {
     for p in columns {
-        if row.get(*p).is_none() {
+        if row[*p as usize].is_none() {
             return false;
         }
     }
@@ -67,7 +67,7 @@ impl UnfilledRows {
     // Puts the number of a new partial row behind others, unless it has a value in each of these columns.
     pub(crate) fn push_row(
         &mut self,
-        row: &Cells,
+        row: &[Option<ValueNo>],
         columns: &[ParamNo],
         column: ParamNo,
         number: usize,
@@ -78,7 +78,7 @@ impl UnfilledRows {
         ensures { OnOk result (self.new ≡ with_unfilled columns.now column row.now number self.old) }
     {
         if !is_filled(row, columns) {
-            self.push_number(row.get(column), number)?;
+            self.push_number(row[column as usize], number)?;
         }
         Ok(())
     }
@@ -87,7 +87,7 @@ impl UnfilledRows {
     // one that grows, which has this number of them.
     pub(crate) fn among(
         alloc: Global,
-        rows: &[Cells],
+        rows: &Rows,
         columns: &[ParamNo],
         column: ParamNo,
         count: usize,
@@ -99,7 +99,7 @@ impl UnfilledRows {
     {
         let mut unfilled = UnfilledRows::new(alloc, count)?;
         for i in 0..rows.len() {
-            unfilled.push_row(&rows[i], columns, column, i)?;
+            unfilled.push_row(rows.row(i), columns, column, i)?;
         }
         Ok(unfilled)
     }

@@ -2,7 +2,7 @@ ghost use Rattle.std.specs.Prelude.{◌≡◌, ◌<◌, ◌≤◌, All, length, 
 ghost use Rattle.definitions.specs.Growth.{agrees, union};
 ghost use Rattle.ipog_grow.specs.Growing.{given_params};
 
-use cov_model::{Cells, ParamNo};
+use cov_model::{Cells, ParamNo, ValueNo};
 
 // Puts the parameters that have a value in a tuple to the front, rising, and tells how many there are.
 pub(crate) fn put_given_params(tuple: &Cells, into: &mut [ParamNo]) -> usize
@@ -24,14 +24,14 @@ pub(crate) fn put_given_params(tuple: &Cells, into: &mut [ParamNo]) -> usize
 
 // Whether no parameter has one value in a partial row and another in a tuple, which gives values to
 // these parameters.
-pub(crate) fn agree(row: &Cells, tuple: &Cells, given: &[ParamNo]) -> bool
+pub(crate) fn agree(row: &[Option<ValueNo>], tuple: &Cells, given: &[ParamNo]) -> bool
     requires long { length tuple.now ≡ length row.now }
     requires given { given.now ≡ given_params tuple.now }
     requires exist { All (λ p. p < length row.now) given.now }
     ensures { result ≡ agrees row.now tuple.now }
 {
     for p in given {
-        if let (Some(v), Some(w)) = (row.get(*p), tuple.get(*p)) {
+        if let (Some(v), Some(w)) = (row[*p as usize], tuple.get(*p)) {
             if v != w {
                 return false;
             }
@@ -41,7 +41,7 @@ pub(crate) fn agree(row: &Cells, tuple: &Cells, given: &[ParamNo]) -> bool
 }
 
 // Puts the values of a partial row and of a tuple that agrees with it.
-pub(crate) fn unite(row: &Cells, tuple: &Cells, into: &mut Cells)
+pub(crate) fn unite(row: &[Option<ValueNo>], tuple: &Cells, into: &mut Cells)
     requires long { length tuple.now ≡ length row.now }
     requires room { length into.old ≡ length row.now }
     requires few { length row.now ≤ 256 }
@@ -50,7 +50,7 @@ pub(crate) fn unite(row: &Cells, tuple: &Cells, into: &mut Cells)
     into.copy_from(tuple);
     let count = row.len() as ParamNo;
     for p in 0..count {
-        if let Some(v) = row.get(p) {
+        if let Some(v) = row[p as usize] {
             into.set_cell(p, v);
         }
     }

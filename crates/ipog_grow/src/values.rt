@@ -59,14 +59,14 @@ fn best_value(order: &[ValueNo], scores: &[u32]) -> Option<ValueNo>
 }
 
 // Gives a row, which has no value in the column, the first value by falling score that leaves it
-// extendable, if there is one, and tells whether it did. The scores are lost.
+// extendable; this value, if there is one. The scores are lost.
 pub(crate) fn try_values(
     asker: &mut Asker,
     order: &[ValueNo],
     scores: &mut [u32],
     column: ParamNo,
     row: &mut Cells,
-) -> Result<bool, Stop>
+) -> Result<Option<ValueNo>, Stop>
     requires column { column < length asker.old.context.model.params }
     requires order { order.now ≡ slice_index_or asker.old.context.prefs column [] }
     requires scores { length scores.old ≡ length (param_at asker.old.context.model.params column).values }
@@ -77,20 +77,22 @@ pub(crate) fn try_values(
     ensures asked { (n : ℕ) → All (λ score. score ≤ n) scores.old
         → Told result asker.new.question (first_spent asker.old.context (tried asker.old.context n scores.old order.now column row.old).asked) }
     ensures row { OnOk result ((n : ℕ) → All (λ score. score ≤ n) scores.old → row.new ≡ (tried asker.old.context n scores.old order.now column row.old).row) }
-    ensures kept { IfOk result (λ given. given ≡ false → row.new ≡ row.old) }
+    ensures kept { IfOk result (λ given. given ≡ None → row.new ≡ row.old) }
+    ensures given { IfOk result (λ given. IfSome given (λ v. row.new ≡ slice_set row.old column (Some v))) }
     ensures grows { OnOk result (Grows asker.old.context row.new) }
     ensures more { OnOk result (contains row.new row.old ≡ true) }
     ensures same { asker.new.context ≡ asker.old.context }
     ensures long { length scores.new ≡ length scores.old }
+    ensures size { length row.new ≡ length row.old }
 {
     asker.assert_invariant();
     while let Some(v) = best_value(order, scores) {
         row.set_cell(column, v);
         if asker.ask(row)? {
-            return Ok(true);
+            return Ok(Some(v));
         }
         row.clear_cell(column);
         scores[v as usize] = 0;
     }
-    Ok(false)
+    Ok(None)
 }

@@ -1,5 +1,4 @@
-use Rattle.std.proofs.Common.{◌≡◌, ◌∙◌, ◌<◌, ◌+◌, [], ℕ, List, Option, is_some, length, get_or, false, ap, sym, subst, arith}
-use Rattle.std.proofs.lemmas.List.{get_or_default}
+use Rattle.std.proofs.Common.{◌≡◌, ◌∙◌, ◌<◌, ◌+◌, [], ℕ, List, Option, is_some, length, get_or, false, ap, refl, sym, subst, arith}
 use Rattle.cov_model.specs.Rows.{is_assigned}
 use Rattle.uncovered_table.specs.Open.{OpenView, row_closed}
 use Rattle.ipog_grow.proofs.ContainedLemmas.{Started, started-none, started-closed, started-free}
@@ -7,22 +6,28 @@ use Rattle.ipog_grow.proofs.contained.close_contained.Goals as goal
 use Rattle.ipog_grow.proofs.contained.close_contained.Goals.{then-is_some, else-is_some}
 
 pub loop-i-init : goal.loop-i-init
-loop-i-init c = started-none c.args.column c.args.table.now c.args.rows.now
+loop-i-init c = record { started = started-none c.args.column c.args.table.now c.args.rows.now; long = refl }
 
 pub loop-i-preserved : goal.loop-i-preserved
 loop-i-preserved c =
     let within : c.loop-i.i < length c.args.rows.now = omega arith in
     elim c.if-is_some.branch [
       | then-is_some w ↦
-          started-closed c.args.column c.args.table.now c.loop-i.table c.if-is_some.table c.args.rows.now c.loop-i.i within c.loop-i.invariant
-          (w.table-is ∙ w.close_row.ensures ∙ ap (row_closed c.loop-i.table c.args.column)
-          (w.index-rows-i-then-is_some.is ∙ get_or_default c.args.rows.now c.loop-i.i w.index-rows-i-then-is_some.result [] within))
+          let read = w.copy_from_slice.ensures ∙ w.row-then-is_some.ensures in
+          record {
+            started =
+                started-closed c.args.column c.args.table.now c.loop-i.table c.if-is_some.table c.args.rows.now c.loop-i.i within c.loop-i.invariant.started
+                (w.table-is ∙ w.close_row.ensures ∙ ap (row_closed c.loop-i.table c.args.column) read);
+            long = ap length (w.room-is ∙ read) ∙ (c.requires.grows c.loop-i.i [] within).of.fits.as_long ∙ sym c.requires.room;
+          }
       | else-is_some w ↦
           let free : is_assigned (get_or c.args.rows.now c.loop-i.i []) c.args.column ≡ false =
-          ap (λ (row : List (Option ℕ)). is_assigned row c.args.column)
-          (sym (c.index-rows-i.is ∙ get_or_default c.args.rows.now c.loop-i.i c.index-rows-i.result [] within))
-          ∙ ap (λ (cell : Option ℕ). is_some cell) (sym c.get.ensures) ∙ sym c.is_some.ensures ∙ w.if-is_some.false in
-          subst (λ (t : OpenView). Started c.args.column c.args.table.now t c.args.rows.now (c.loop-i.i + 1)) (sym w.table-is)
-          (started-free c.args.table.now.model c.args.table.now.slice c.args.column c.args.table.now c.loop-i.table c.args.rows.now c.loop-i.i within
-          c.loop-i.invariant c.requires.in_play free)
+          ap (λ (row : List (Option ℕ)). is_assigned row c.args.column) (sym c.row.ensures) ∙ sym c.is_some.ensures ∙ w.if-is_some.false in
+          record {
+            started =
+                subst (λ (t : OpenView). Started c.args.column c.args.table.now t c.args.rows.now (c.loop-i.i + 1)) (sym w.table-is)
+                (started-free c.args.table.now.model c.args.table.now.slice c.args.column c.args.table.now c.loop-i.table c.args.rows.now c.loop-i.i within
+                c.loop-i.invariant.started c.requires.in_play free);
+            long = ap length w.room-is ∙ c.loop-i.invariant.long;
+          }
     ]

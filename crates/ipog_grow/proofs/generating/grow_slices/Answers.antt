@@ -27,7 +27,7 @@ returns-in_err-grow_slice-clause-asked g c =
     ap (λ slices. first_spent context (slices_growth context.model context.prefs seeds slices).asked)
     (split_at c.args.slices.now c.loop-slice.slice-index Positive c.loop-slice-test.true)
     ∙ slices_grown-spent context.model context.prefs context.budget seeds before context.slice (drop (c.loop-slice.slice-index + 1) c.args.slices.now)
-    c.loop-slice.rows (earlier_tuples context.model c.loop-slice.omissions) (c.loop-slice.invariant.0 seeds kept) q
+    c.loop-slice.rows (earlier_tuples context.model c.loop-slice.omissions) (c.loop-slice.invariant.grown seeds kept) q
     (ap (λ rows. first_spent context (grown_from context (filter (is_of_slice context.model context.slice) rows)).asked) (sym kept) ∙ spent))
     c.in_err-grow_slice.ensures.asked)
 
@@ -38,24 +38,26 @@ loop-slice-preserved g c =
     let tuples : List (List (Option ℕ)) = earlier_tuples context.model c.loop-slice.omissions in
     let tuples' : List (List (Option ℕ)) = earlier_tuples context.model c.grow_slice.new.omissions in
     let more : take (c.loop-slice.slice-index + 1) c.args.slices.now ≡ before ++ context.slice ∷ [] =
-    take_more c.args.slices.now c.loop-slice.slice-index Positive c.loop-slice-test.true in (
-      (λ seeds kept.
+    take_more c.args.slices.now c.loop-slice.slice-index Positive c.loop-slice-test.true in
+    record {
+      grown = λ seeds kept.
           subst (λ (parts : List Slice). SlicesGrown context.model context.prefs context.budget seeds parts c.grow_slice.new.rows tuples') (sym more)
           (slices_grown-next context.model context.prefs context.budget seeds before context.slice c.loop-slice.rows c.grow_slice.new.rows tuples tuples'
-          (c.loop-slice.invariant.0 seeds kept)
+          (c.loop-slice.invariant.grown seeds kept)
           (c.in_ok-grow_slice.ensures.rows ∙ ap (λ rows. c.loop-slice.rows
           ++ (grown_from context (filter (is_of_slice context.model context.slice) rows)).rows) kept)
           (c.in_ok-grow_slice.ensures.tuples ∙ ap (λ rows. tuples ++ (grown_from context (filter (is_of_slice context.model context.slice) rows)).omitted)
           kept)
           (ap (λ rows. first_spent context (grown_from context (filter (is_of_slice context.model context.slice) rows)).asked) (sym kept)
-          ∙ c.in_ok-grow_slice.ensures.asked))),
-      c.in_ok-grow_slice.ensures.omissions,
-      omega (
+          ∙ c.in_ok-grow_slice.ensures.asked));
+      omissions = c.in_ok-grow_slice.ensures.omissions;
+      count = omega (
         arith,
         c.in_ok-grow_slice.ensures.count,
-        c.loop-slice.invariant.2,
+        c.loop-slice.invariant.count,
         ap (sum_by (met_count context.model)) more,
         sum_by-append (met_count context.model) before (context.slice ∷ []),
         sum_by-cons (met_count context.model) context.slice [],
-      ),
-    )
+      );
+      long = c.in_ok-grow_slice.ensures.long;
+    }

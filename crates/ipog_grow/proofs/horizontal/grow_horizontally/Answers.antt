@@ -1,11 +1,10 @@
-use Rattle.std.proofs.Common.{◌≡◌, ◌∙◌, ◌<◌, ℕ, Err, List, Option, [], length, get_or, sym, subst, All, arith}
+use Rattle.std.proofs.Common.{◌≡◌, ◌∙◌, ◌<◌, ◌+◌, ℕ, Err, List, Option, [], length, get_or, sym, subst, All, arith}
 use Rattle.std.proofs.lemmas.Result.{err_from_is_err_and}
-use Rattle.std.proofs.lemmas.List.{get_or_default}
 use Rattle.cov_model.specs.Sound.{param_at}
 use Rattle.ipog_grow.specs.Growing.{IsInPlay, open_tuples}
 use Rattle.ipog_grow.specs.Asking.{SearchContext, Grows, IsTableOf, Told, first_spent, filled, crossed}
 use Rattle.ipog_grow.proofs.Asking.{told-err}
-use Rattle.ipog_grow.proofs.HorizontalLemmas.{Step, crossing-more, crossing-spent}
+use Rattle.ipog_grow.proofs.HorizontalLemmas.{Crossing, Step, crossing-more, crossing-spent}
 use Rattle.ipog_grow.proofs.horizontal.grow_horizontally.Goals as goal
 
 pub fill_cell-requires-clause-table : goal.fill_cell-requires-clause-table
@@ -31,17 +30,23 @@ fill_cell-requires-clause-in_play g c _ _ =
     subst (λ (w : SearchContext). All (IsInPlay w.model w.slice c.args.column) (open_tuples c.loop-i.table c.args.column)) (sym c.loop-i.invariant.context)
     c.loop-i.invariant.crossing.in_play
 
+pub fill_cell-requires-clause-place : goal.fill_cell-requires-clause-place
+fill_cell-requires-clause-place g c _ _ = omega (arith, c.loop-i.invariant.crossing.long)
+
 pub fill_cell-requires-clause-grows : goal.fill_cell-requires-clause-grows
 fill_cell-requires-clause-grows g c _ _ =
     let within : c.loop-i.i < length c.loop-i.rows = omega (arith, c.loop-i.invariant.crossing.long) in
-    subst (λ (w : SearchContext). Grows w (get_or c.loop-i.rows c.loop-i.i c.index-rows-i.result)) (sym c.loop-i.invariant.context)
-    (c.loop-i.invariant.crossing.grows c.loop-i.i c.index-rows-i.result within)
+    subst (λ (w : SearchContext). Grows w (get_or c.loop-i.rows c.loop-i.i [])) (sym c.loop-i.invariant.context)
+    (c.loop-i.invariant.crossing.grows c.loop-i.i [] within)
+
+pub fill_cell-requires-clause-room : goal.fill_cell-requires-clause-room
+fill_cell-requires-clause-room g c _ _ =
+    subst (λ (w : SearchContext). length c.loop-i.room ≡ length w.model.params) (sym c.loop-i.invariant.context)
+    (c.loop-i.invariant.room ∙ c.requires.room)
 
 pub returns-in_err-fill_cell-clause-asked : goal.returns-in_err-fill_cell-clause-asked
 returns-in_err-fill_cell-clause-asked g c tuples moment =
     let within : c.loop-i.i < length c.loop-i.rows = omega (arith, c.loop-i.invariant.crossing.long) in
-    let read : get_or c.loop-i.rows c.loop-i.i c.index-rows-i.result ≡ get_or c.loop-i.rows c.loop-i.i [] =
-    get_or_default c.loop-i.rows c.loop-i.i c.index-rows-i.result [] within in
     let p = err_from_is_err_and c.from_residual.result c.from_residual.ensures.1 in
     rw (p.1, p.2) (told-err (Unit {0}) (Unit {0}) c.in_err-fill_cell.field-0.0 c.fill_cell.new.asker.question
     (first_spent c.args.asker.now.context (filled c.args.asker.now.context c.args.column c.loop-i.rows tuples (get_or c.loop-i.rows c.loop-i.i [])).asked)
@@ -50,17 +55,13 @@ returns-in_err-fill_cell-clause-asked g c tuples moment =
     c.fill_cell.new.asker.question tuples within c.loop-i.invariant.crossing moment over)
     (subst (λ (w : SearchContext). Told {A = Unit {0}} (Err c.in_err-fill_cell.field-0.0) c.fill_cell.new.asker.question
     (first_spent w (filled w c.args.column c.loop-i.rows tuples (get_or c.loop-i.rows c.loop-i.i [])).asked)) c.loop-i.invariant.context
-    (subst (λ (row : List (Option ℕ)). Told {A = Unit {0}} (Err c.in_err-fill_cell.field-0.0) c.fill_cell.new.asker.question
-    (first_spent c.loop-i.asker.context (filled c.loop-i.asker.context c.args.column c.loop-i.rows tuples row).asked)) read
-    (c.in_err-fill_cell.ensures.asked c.loop-i.rows tuples (c.loop-i.invariant.crossing.moment tuples moment)))))
+    (c.in_err-fill_cell.ensures.asked c.loop-i.rows tuples (c.loop-i.invariant.crossing.moment tuples moment))))
 
 pub loop-i-preserved : goal.loop-i-preserved
 loop-i-preserved g c =
     let within : c.loop-i.i < length c.loop-i.rows = omega (arith, c.loop-i.invariant.crossing.long) in
-    let read : get_or c.loop-i.rows c.loop-i.i c.index-rows-i.result ≡ get_or c.loop-i.rows c.loop-i.i [] =
-    get_or_default c.loop-i.rows c.loop-i.i c.index-rows-i.result [] within in
-    let told : Step c.loop-i.asker.context c.args.column c.loop-i.table c.fill_cell.new.table (get_or c.loop-i.rows c.loop-i.i c.index-rows-i.result)
-    c.fill_cell.new.row =
+    let grown : List (Option ℕ) = get_or c.fill_cell.new.rows c.loop-i.i [] in
+    let told : Step c.loop-i.asker.context c.args.column c.loop-i.table c.fill_cell.new.table (get_or c.loop-i.rows c.loop-i.i []) grown =
     record {
       asked = c.in_ok-fill_cell.ensures.asked;
       given = c.in_ok-fill_cell.ensures.row;
@@ -71,11 +72,12 @@ loop-i-preserved g c =
     record {
       context = c.fill_cell.ensures.same ∙ c.loop-i.invariant.context;
       scores = c.fill_cell.ensures.long ∙ c.loop-i.invariant.scores;
+      room = c.fill_cell.ensures.room ∙ c.loop-i.invariant.room;
       crossing =
-          crossing-more c.args.asker.now.context c.args.column c.args.table.now c.loop-i.table c.fill_cell.new.table c.args.rows.now c.loop-i.rows c.loop-i.i
-          c.fill_cell.new.row within
-          c.loop-i.invariant.crossing
-          (subst (λ (row : List (Option ℕ)). Step c.args.asker.now.context c.args.column c.loop-i.table c.fill_cell.new.table row c.fill_cell.new.row) read
-          (subst (λ (w : SearchContext). Step w c.args.column c.loop-i.table c.fill_cell.new.table (get_or c.loop-i.rows c.loop-i.i c.index-rows-i.result)
-          c.fill_cell.new.row) c.loop-i.invariant.context told));
+          subst (λ rows. Crossing c.args.asker.now.context c.args.column c.args.table.now c.fill_cell.new.table c.args.rows.now rows (c.loop-i.i + 1))
+          (sym c.in_ok-fill_cell.ensures.others)
+          (crossing-more c.args.asker.now.context c.args.column c.args.table.now c.loop-i.table c.fill_cell.new.table c.args.rows.now c.loop-i.rows c.loop-i.i
+          grown within c.loop-i.invariant.crossing
+          (subst (λ (w : SearchContext). Step w c.args.column c.loop-i.table c.fill_cell.new.table (get_or c.loop-i.rows c.loop-i.i []) grown)
+          c.loop-i.invariant.context told));
     }

@@ -1,4 +1,5 @@
-use Rattle.std.proofs.Common.{false, ◌≡◌, ◌∙◌, ◌<◌, Bool, ℕ, Option, All, length, get_or, ap, refl, sym, subst, set, []}
+use Rattle.std.proofs.Common.{false, ◌≡◌, ◌∙◌, ◌<◌, Bool, ℕ, List, Option, All, length, get_or, ap, refl, sym, subst, set, []}
+use Rattle.std.proofs.lemmas.List.{get_or-set_same}
 use Rattle.std.proofs.lemmas.Result.{err_from_is_err_and}
 use Rattle.ipog_grow.specs.Asking.{SearchContext, Grows}
 use Rattle.ipog_grow.specs.Growing.{given_params}
@@ -10,13 +11,10 @@ use Rattle.ipog_grow.proofs.join.join_first.Goals as goal
 -- the parameters that the tuple gives exist in each row
 pub agree-requires-clause-exist : goal.agree-requires-clause-exist
 agree-requires-clause-exist c =
-    let i = c.in-Some.i in
-    let row = get_or c.loop-i.rows i c.index-rows-i.result in
     let within = (offering-first _ c.loop-i.invariant.offering (sym c.take_first.ensures.first ∙ c.in-Some.is)).0 in
-    let read = read_row c.args.rows.now c.loop-i.rows i c.index-rows-i.result c.loop-i.invariant.rows within in
-    let long : length c.args.tuple.now ≡ length row = c.requires.tuple.of.fits.as_long ∙ sym (c.requires.rows i [] within).of.fits.as_long
-    ∙ sym (ap length read) in
-    subst (All (λ p. p < length row)) (sym c.put_given_params-count.ensures.given)
+    let long : length c.args.tuple.now ≡ length c.row-row.result.now = c.requires.tuple.of.fits.as_long ∙ sym (c.requires.rows c.in-Some.i [] within).of.fits.as_long
+    ∙ sym (ap length (read_row c.in-Some.i c.loop-i.invariant.rows c.row-row.ensures)) in
+    subst (All (λ p. p < length c.row-row.result.now)) (sym c.put_given_params-count.ensures.given)
     (subst (λ (n : ℕ). All (λ p. p < n) (given_params c.args.tuple.now)) long (given_within c.args.tuple.now))
 
 pub loop-i-init : goal.loop-i-init
@@ -24,14 +22,14 @@ loop-i-init c = record { context = refl; rows = refl; room = refl; offering = of
 
 pub ask-requires : goal.ask-requires
 ask-requires c =
-    let offer = offered _ _ c.assert_invariant.ensures.context c.requires.tuple c.requires.rows c.loop-i.invariant.rows c.loop-i.invariant.offering
-    (sym c.take_first.ensures.first ∙ c.in-Some.is) c.agree.ensures c.if-agree.true c.unite.ensures in
+    let offer = offered c.assert_invariant.ensures.context c.requires.tuple c.requires.rows c.loop-i.invariant.rows c.loop-i.invariant.offering
+    (sym c.take_first.ensures.first ∙ c.in-Some.is) c.row-row.ensures c.row-row.ensures c.agree.ensures c.if-agree.true c.unite.ensures in
     subst (λ (w : SearchContext). Grows w c.unite.new.into) (sym c.loop-i.invariant.context) offer.grows
 
 pub returns-in_err-ask-clause-asked : goal.returns-in_err-ask-clause-asked
 returns-in_err-ask-clause-asked c =
-    let offer = offered _ _ c.assert_invariant.ensures.context c.requires.tuple c.requires.rows c.loop-i.invariant.rows c.loop-i.invariant.offering
-    (sym c.take_first.ensures.first ∙ c.in-Some.is) c.agree.ensures c.if-agree.true c.unite.ensures in
+    let offer = offered c.assert_invariant.ensures.context c.requires.tuple c.requires.rows c.loop-i.invariant.rows c.loop-i.invariant.offering
+    (sym c.take_first.ensures.first ∙ c.in-Some.is) c.row-row.ensures c.row-row.ensures c.agree.ensures c.if-agree.true c.unite.ensures in
     let p = err_from_is_err_and c.from_residual.result c.from_residual.ensures.1 in
     rw (p.1, p.2) (told-answer Bool (Option ℕ) c.in_err-ask.field-0.0 c.ask.new.self.question c.loop-i.invariant.context offer.is
     (joining-spent offer.within offer.joining offer.agree)
@@ -39,28 +37,27 @@ returns-in_err-ask-clause-asked c =
 
 pub returns-in_err-ask-clause-long : goal.returns-in_err-ask-clause-long
 returns-in_err-ask-clause-long c =
-    let offer = offered _ _ c.assert_invariant.ensures.context c.requires.tuple c.requires.rows c.loop-i.invariant.rows c.loop-i.invariant.offering
-    (sym c.take_first.ensures.first ∙ c.in-Some.is) c.agree.ensures c.if-agree.true c.unite.ensures in
+    let offer = offered c.assert_invariant.ensures.context c.requires.tuple c.requires.rows c.loop-i.invariant.rows c.loop-i.invariant.offering
+    (sym c.take_first.ensures.first ∙ c.in-Some.is) c.row-row.ensures c.row-row.ensures c.agree.ensures c.if-agree.true c.unite.ensures in
     offer.long ∙ sym c.requires.room
 
-pub copy_from-requires : goal.copy_from-requires
-copy_from-requires c =
-    let offer = offered _ _ c.assert_invariant.ensures.context c.requires.tuple c.requires.rows c.loop-i.invariant.rows c.loop-i.invariant.offering
-    (sym c.take_first.ensures.first ∙ c.in-Some.is) c.agree.ensures c.if-agree.true c.unite.ensures in
-    ap length (read_row c.args.rows.now c.loop-i.rows c.in-Some.i c.index-rows-i-then-branch.result c.loop-i.invariant.rows offer.within)
-    ∙ (c.requires.rows c.in-Some.i [] offer.within).of.fits.as_long ∙ sym offer.long
+pub put-requires-clause-long : goal.put-requires-clause-long
+put-requires-clause-long c =
+    let offer = offered c.assert_invariant.ensures.context c.requires.tuple c.requires.rows c.loop-i.invariant.rows c.loop-i.invariant.offering
+    (sym c.take_first.ensures.first ∙ c.in-Some.is) c.row-row.ensures c.row-row.ensures c.agree.ensures c.if-agree.true c.unite.ensures in
+    ap length c.as_slice.ensures ∙ offer.long ∙ sym (c.requires.rows c.in-Some.i [] offer.within).of.fits.as_long
+    ∙ ap (λ rows. length (get_or rows c.in-Some.i [])) (sym c.loop-i.invariant.rows)
 
-offer : (c : goal.After-copy_from) → IsOffered c.args.asker.now.context c.args.tuple.now c.args.rows.now c.in-Some.i c.unite.new.into
+offer : (c : goal.After-put) → IsOffered c.args.asker.now.context c.args.tuple.now c.args.rows.now c.in-Some.i c.unite.new.into
 offer c =
-    offered _ _ c.assert_invariant.ensures.context c.requires.tuple c.requires.rows c.loop-i.invariant.rows c.loop-i.invariant.offering
-    (sym c.take_first.ensures.first ∙ c.in-Some.is) c.agree.ensures c.if-agree.true c.unite.ensures
+    offered c.assert_invariant.ensures.context c.requires.tuple c.requires.rows c.loop-i.invariant.rows c.loop-i.invariant.offering
+    (sym c.take_first.ensures.first ∙ c.in-Some.is) c.row-row.ensures c.row-row.ensures c.agree.ensures c.if-agree.true c.unite.ensures
 
-taken : (c : goal.After-copy_from) → Takes c.args.asker.now.context c.args.tuple.now c.args.rows.now
-    (set c.loop-i.rows c.in-Some.i c.copy_from.new.self) c.in-Some.i
+taken : (c : goal.After-put) → Takes c.args.asker.now.context c.args.tuple.now c.args.rows.now c.put.new.self c.in-Some.i
 taken c =
     takes c.requires.rows c.loop-i.invariant.rows (offer c)
     (answered c.loop-i.invariant.context refl (sym c.if-branch.true ∙ c.in_ok-ask.ensures.value) c.in_ok-ask.ensures.asked)
-    (ap (set c.loop-i.rows c.in-Some.i) c.copy_from.ensures)
+    (c.put.ensures ∙ ap (set c.loop-i.rows c.in-Some.i) c.as_slice.ensures)
 
 pub returns-then-branch-clause-asked : goal.returns-then-branch-clause-asked
 returns-then-branch-clause-asked c = (taken c).joins.asked
@@ -74,6 +71,12 @@ returns-then-branch-clause-taken c = (taken c).joins.taken_is
 pub returns-then-branch-clause-place : goal.returns-then-branch-clause-place
 returns-then-branch-clause-place c = (taken c).union_at
 
+pub returns-then-branch-clause-room : goal.returns-then-branch-clause-room
+returns-then-branch-clause-room c =
+    let put = ap (λ rows. get_or rows c.in-Some.i []) (c.put.ensures ∙ ap (set c.loop-i.rows c.in-Some.i) c.as_slice.ensures) in
+    sym (put ∙ get_or-set_same c.loop-i.rows c.in-Some.i c.unite.new.into []
+    (subst (λ (rows : List (List (Option ℕ))). c.in-Some.i < length rows) (sym c.loop-i.invariant.rows) (offer c).within))
+
 pub returns-then-branch-clause-grows : goal.returns-then-branch-clause-grows
 returns-then-branch-clause-grows c = (taken c).grows
 
@@ -82,8 +85,8 @@ returns-then-branch-clause-long c = (offer c).long ∙ sym c.requires.room
 
 pub loop-i-preserved-else-branch : goal.loop-i-preserved-else-branch
 loop-i-preserved-else-branch c =
-    let offer = offered _ _ c.assert_invariant.ensures.context c.requires.tuple c.requires.rows c.loop-i.invariant.rows c.loop-i.invariant.offering
-    (sym c.take_first.ensures.first ∙ c.in-Some.is) c.agree.ensures c.if-agree.true c.unite.ensures in
+    let offer = offered c.assert_invariant.ensures.context c.requires.tuple c.requires.rows c.loop-i.invariant.rows c.loop-i.invariant.offering
+    (sym c.take_first.ensures.first ∙ c.in-Some.is) c.row-row.ensures c.row-row.ensures c.agree.ensures c.if-agree.true c.unite.ensures in
     record {
       context = c.ask.ensures.same ∙ c.loop-i.invariant.context;
       rows = c.loop-i.invariant.rows;
@@ -97,8 +100,8 @@ loop-i-preserved c = record {
   context = c.loop-i.invariant.context;
   rows = c.loop-i.invariant.rows;
   room = c.loop-i.invariant.room;
-  offering = passed_over _ c.loop-i.invariant.offering (sym c.take_first.ensures.first ∙ c.in-Some.is) c.take_first.ensures.rest
-      c.loop-i.invariant.rows c.agree.ensures c.if-agree.false;
+  offering = passed_over c.loop-i.invariant.offering (sym c.take_first.ensures.first ∙ c.in-Some.is) c.take_first.ensures.rest
+      c.loop-i.invariant.rows c.row-row.ensures c.agree.ensures c.if-agree.false;
 }
 
 ended : (c : goal.In_default) → Joins c.args.asker.now.context c.args.tuple.now c.args.rows.now c.args.rows.now false

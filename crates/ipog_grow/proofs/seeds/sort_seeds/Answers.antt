@@ -1,6 +1,8 @@
-use Rattle.std.proofs.Common.{◌≡◌, ◌+◌, ◌++◌, ◌∷◌, [], ℕ, List, Option, map, take, drop, filter, not, ◌∙◌, sym, ap, subst}
+use Rattle.std.proofs.Common.{◌≡◌, ◌+◌, ◌++◌, ◌∷◌, [], ℕ, All, List, Option, length, map, take, drop, filter, not, ◌∙◌, sym, ap, subst}
 use Rattle.std.proofs.lemmas.List.{take_more, take_all, map-append}
+use Rattle.std.proofs.lemmas.List.Elements.{All-append, All-cons, All-filter, All-nil}
 use Rattle.std.proofs.lemmas.Result.{err_from_is_err_and}
+use Rattle.cov_model.specs.Fits.{FitsModel}
 use Rattle.definitions.specs.Completion.{can_be_served, has_slice}
 use Rattle.definitions.specs.Search.{first_over}
 use Rattle.definitions.specs.Seeds.{seed_rows, asked_seeds}
@@ -41,6 +43,10 @@ loop-seed-preserved c =
     ap (map row_seen) (take_more items c.loop-seed.seed-index c.seed-item.result c.loop-seed-test.true
     ∙ ap (λ x. take c.loop-seed.seed-index items ++ x ∷ []) (sym c.seed-item.is))
     ∙ map-append row_seen (take c.loop-seed.seed-index items) (c.seed-item.result ∷ []) in
+    let fit : All (λ seed. FitsModel c.args.model.now seed.cells) items =
+    subst (All (λ seed. FitsModel c.args.model.now seed.cells)) (sym c.as_slice-seed-items.ensures) c.in-Ok.ensures.fit in
+    let fits : FitsModel c.args.model.now c.seed-item.result.cells =
+    subst (λ seed. FitsModel c.args.model.now seed.cells) (sym c.seed-item.is) (fit c.loop-seed.seed-index c.seed-item.result c.loop-seed-test.true) in
     record {
       seeds =
           subst (λ (seeds : List (ℕ × List (Option ℕ))). Sorted c.args.model.now c.args.prefs.now c.args.budget seeds c.place_seed.new.sorted.kept
@@ -50,6 +56,13 @@ loop-seed-preserved c =
           c.place_seed.new.sorted.kept c.loop-seed.sorted.dropped c.place_seed.new.sorted.dropped c.loop-seed.invariant.seeds c.in_ok-place_seed.ensures.kept
           c.in_ok-place_seed.ensures.dropped c.in_ok-place_seed.ensures.asked);
       last = c.place_seed.ensures.last;
+      long =
+          subst (All (λ row. length row ≡ length c.args.model.now.params)) (sym c.in_ok-place_seed.ensures.kept)
+          (All-append (λ row. length row ≡ length c.args.model.now.params) c.loop-seed.sorted.kept
+          (filter (can_be_served c.args.model.now) (c.seed-item.result.cells ∷ [])) c.loop-seed.invariant.long
+          (All-filter (can_be_served c.args.model.now) (λ row. length row ≡ length c.args.model.now.params) (c.seed-item.result.cells ∷ [])
+          (All-cons (λ row. length row ≡ length c.args.model.now.params) c.seed-item.result.cells [] fits.as_long
+          (All-nil (λ row. length row ≡ length c.args.model.now.params)))));
     }
 
 -- at the end all are sorted

@@ -1,4 +1,4 @@
-use Rattle.std.proofs.Common.{map, take}
+use Rattle.std.proofs.Common.{◌≡◌, All, length, map, take}
 use Rattle.std.specs.Prelude.{IfSome}
 use Rattle.row_text.specs.RowFiles.{row_seen}
 use Rattle.ipog_grow.specs.SeedSolvers.{IsSolverFor}
@@ -10,4 +10,5 @@ abbrev pub invariant-loop-seed : goal.invariant-loop-seed
 invariant-loop-seed l = record {
   seeds : Sorted l.model l.prefs l.budget (map row_seen (take l.seed-index l.seed-items)) l.sorted.kept l.sorted.dropped;
   last : IfSome l.last (IsSolverFor l.model l.prefs);
+  long : All (λ row. length row ≡ length l.model.params) l.sorted.kept;
 }

@@ -45,7 +45,7 @@ same_put now context order before given after start same is puts =
 
 pub grow_columns-requires-clause-grows : goal.grow_columns-requires-clause-grows
 grow_columns-requires-clause-grows g c _ _ =
-    subst (λ (w : SearchContext). All (Grows w) c.in-Ok.growth.rows.items) (sym c.in-Ok.ensures.context)
+    subst (λ (w : SearchContext). All (Grows w) c.in-Ok.growth.rows) (sym c.in-Ok.ensures.context)
     (subst (λ (rows : List (List (Option ℕ))). All (Grows (context_in c.args.input.now c.args.slice)) rows)
     (sym c.in-Ok.ensures.rows)
     (seeds_grow c.args.input.now.model.now c.args.slice c.args.input.now.kept.now c.requires.input.fit c.requires.input.few))
@@ -61,7 +61,7 @@ returns-in-Err-clause-asked g c =
     (λ spent. find-earlier (over context) c.question.result.now grown.asked grown.rows spent)
     (subst (λ (question : List (Option ℕ)). Told {A = Unit {0}} (Err c.in-Err.stop) question (first_spent context grown.asked)) (sym c.question.ensures.value)
     (subst (Told {A = Unit {0}} (Err c.in-Err.stop) c.grow_columns.new.self.asker.question)
-    (same_asked c.in-Ok.growth.asker.context context order c.in-Ok.growth.rows.items start c.in-Ok.ensures.context
+    (same_asked c.in-Ok.growth.asker.context context order c.in-Ok.growth.rows start c.in-Ok.ensures.context
     c.in-Ok.ensures.rows) c.in-Err.ensures.asked)))
 
 pub finish_slice-requires-clause-omitted : goal.finish_slice-requires-clause-omitted
@@ -70,7 +70,7 @@ finish_slice-requires-clause-omitted g c =
     let start : List (List (Option ℕ)) = filter (is_of_slice context.model c.args.slice) c.args.input.now.kept.now in
     let order : List ℕ = column_order context.model c.args.slice in
     let now : SearchContext = c.in-Ok.growth.asker.context in
-    let rows : List (List (Option ℕ)) = c.in-Ok.growth.rows.items in
+    let rows : List (List (Option ℕ)) = c.in-Ok.growth.rows in
     let same = c.in-Ok.ensures.rows in
     subst (λ (w : SearchContext). All (IsOmittedIn w) c.as_slice.result.now)
     (sym (c.in_default-grow_columns.ensures.same ∙ c.in-Ok.ensures.context))
@@ -89,7 +89,7 @@ finish_slice-requires-clause-few g c =
       arith,
       c.requires.few,
       omitted-few context order start,
-      ap length (same_omitted c.in-Ok.growth.asker.context context order c.in-Ok.growth.rows.items start c.in-Ok.growth.omitted
+      ap length (same_omitted c.in-Ok.growth.asker.context context order c.in-Ok.growth.rows start c.in-Ok.growth.omitted
           c.as_slice.result.now c.grow_columns.new.self.omitted c.in-Ok.ensures.context c.in-Ok.ensures.rows
           c.in-Ok.ensures.omitted c.in_default-grow_columns.ensures.omitted c.as_slice.ensures),
     )
@@ -99,10 +99,10 @@ returns-clause-rows g c =
     let context : SearchContext = context_in c.args.input.now c.args.slice in
     let start : List (List (Option ℕ)) = filter (is_of_slice context.model c.args.slice) c.args.input.now.kept.now in
     let order : List ℕ = column_order context.model c.args.slice in
-    let given : List (List (Option ℕ)) = c.grow_columns.new.self.rows.items in
+    let given : List (List (Option ℕ)) = c.grow_columns.new.self.rows in
     let rows : given ≡ (columns_grown context order start).rows =
     c.in_default-grow_columns.ensures.rows
-    ∙ ap (λ (g : Grown). g.rows) (same_grown c.in-Ok.growth.asker.context context order c.in-Ok.growth.rows.items start c.in-Ok.ensures.context
+    ∙ ap (λ (g : Grown). g.rows) (same_grown c.in-Ok.growth.asker.context context order c.in-Ok.growth.rows start c.in-Ok.ensures.context
     c.in-Ok.ensures.rows) in
     on_ok_weaker c.finish_slice.result
     (same_put c.grow_columns.new.self.asker.context context order c.args.rows.now given c.finish_slice.new.rows start
@@ -114,7 +114,7 @@ returns-clause-count g c =
     let start : List (List (Option ℕ)) = filter (is_of_slice context.model c.args.slice) c.args.input.now.kept.now in
     let order : List ℕ = column_order context.model c.args.slice in
     let few = omitted-few context order start in
-    let put = ap length (same_omitted c.in-Ok.growth.asker.context context order c.in-Ok.growth.rows.items start c.in-Ok.growth.omitted
+    let put = ap length (same_omitted c.in-Ok.growth.asker.context context order c.in-Ok.growth.rows start c.in-Ok.growth.omitted
     c.as_slice.result.now c.grow_columns.new.self.omitted c.in-Ok.ensures.context c.in-Ok.ensures.rows
     c.in-Ok.ensures.omitted c.in_default-grow_columns.ensures.omitted c.as_slice.ensures) in
     on_ok_weaker c.finish_slice.result
@@ -129,14 +129,25 @@ returns-clause-asked g c =
     let order : List ℕ = column_order context.model c.args.slice in
     let grown : Grown = columns_grown context order start in
     let same = c.in-Ok.ensures.rows in
-    let rows : c.grow_columns.new.self.rows.items ≡ grown.rows =
+    let rows : c.grow_columns.new.self.rows ≡ grown.rows =
     c.in_default-grow_columns.ensures.rows
-    ∙ ap (λ (g : Grown). g.rows) (same_grown c.in-Ok.growth.asker.context context order c.in-Ok.growth.rows.items start c.in-Ok.ensures.context
+    ∙ ap (λ (g : Grown). g.rows) (same_grown c.in-Ok.growth.asker.context context order c.in-Ok.growth.rows start c.in-Ok.ensures.context
     same) in
     subst (Ends c.finish_slice.result)
     (sym (find-later (over context) grown.asked grown.rows
-    (sym (same_asked c.in-Ok.growth.asker.context context order c.in-Ok.growth.rows.items start c.in-Ok.ensures.context same)
+    (sym (same_asked c.in-Ok.growth.asker.context context order c.in-Ok.growth.rows start c.in-Ok.ensures.context same)
     ∙ c.in_default-grow_columns.ensures.asked)))
     (subst (Ends c.finish_slice.result)
-    (ap (λ w. first_spent w c.grow_columns.new.self.rows.items) (c.in_default-grow_columns.ensures.same ∙ c.in-Ok.ensures.context) ∙ ap (first_spent context) rows)
+    (ap (λ w. first_spent w c.grow_columns.new.self.rows) (c.in_default-grow_columns.ensures.same ∙ c.in-Ok.ensures.context) ∙ ap (first_spent context) rows)
     c.finish_slice.ensures.asked)
+
+pub finish_slice-requires-clause-long : goal.finish_slice-requires-clause-long
+finish_slice-requires-clause-long g c =
+    subst (λ (w : SearchContext). All (λ row. length row ≡ length w.model.params) c.args.rows.now)
+    (sym (c.in_default-grow_columns.ensures.same ∙ c.in-Ok.ensures.context)) c.requires.long
+
+pub returns-clause-long : goal.returns-clause-long
+returns-clause-long g c =
+    on_ok_weaker c.finish_slice.result
+    (subst (λ (w : SearchContext). All (λ row. length row ≡ length w.model.params) c.finish_slice.new.rows)
+    (c.in_default-grow_columns.ensures.same ∙ c.in-Ok.ensures.context)) c.finish_slice.ensures.long

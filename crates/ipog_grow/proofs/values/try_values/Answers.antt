@@ -1,4 +1,5 @@
-use Rattle.std.proofs.Common.{◌∙◌, Bool, List, Option, ℕ, ap, sym, subst}
+use Rattle.std.proofs.Common.{◌∙◌, Bool, List, Option, Some, ℕ, length, ap, sym, subst}
+use Rattle.std.proofs.lemmas.List.{length-set}
 use Rattle.std.proofs.lemmas.Result.{err_from_is_err_and}
 use Rattle.definitions.specs.Completion.{with_value}
 use Rattle.cov_model.proofs.CellLemmas.{contains-refl}
@@ -19,9 +20,13 @@ returns-in_err-ask-clause-asked c n all =
     let put = trying-put c.assert_invariant.ensures.context c.requires.column c.requires.order c.requires.listed c.requires.grows c.requires.free
     c.loop-v.invariant.trying (sym c.best_value.ensures.best ∙ c.in-Some.is) c.in-Some.ensures.within c.loop-v.invariant.row c.set_cell.ensures in
     let p = err_from_is_err_and c.from_residual.result c.from_residual.ensures.1 in
-    rw (p.1, p.2) (told-answer Bool Bool c.in_err-ask.field-0.0 c.ask.new.self.question c.loop-v.invariant.context put.is
+    rw (p.1, p.2) (told-answer Bool (Option ℕ) c.in_err-ask.field-0.0 c.ask.new.self.question c.loop-v.invariant.context put.is
     (λ over. trying-spent put.next over n all)
     c.in_err-ask.ensures.asked)
+
+pub returns-in_err-ask-clause-size : goal.returns-in_err-ask-clause-size
+returns-in_err-ask-clause-size c =
+    ap length c.set_cell.ensures ∙ length-set c.loop-v.row c.args.column (Some c.in-Some.v) ∙ ap length c.loop-v.invariant.row
 
 put_here : (c : goal.Then-branch) → Put c.args.asker.now.context c.args.order.now c.args.column c.in-Some.v c.args.row.now c.loop-v.row c.set_cell.new.self
     c.args.scores.now c.loop-v.scores
@@ -42,8 +47,14 @@ returns-then-branch-clause-asked c = (given c).asked
 pub returns-then-branch-clause-row : goal.returns-then-branch-clause-row
 returns-then-branch-clause-row c n all = (put_here c).is ∙ (given c).given n all
 
+pub returns-then-branch-clause-given : goal.returns-then-branch-clause-given
+returns-then-branch-clause-given c = (put_here c).is
+
 pub returns-then-branch-clause-grows : goal.returns-then-branch-clause-grows
 returns-then-branch-clause-grows c = (put_here c).grows
+
+pub returns-then-branch-clause-size : goal.returns-then-branch-clause-size
+returns-then-branch-clause-size c = (put_here c).grows.of.fits.as_long ∙ sym c.requires.grows.of.fits.as_long
 
 pub returns-then-branch-clause-more : goal.returns-then-branch-clause-more
 returns-then-branch-clause-more c = (put_here c).more

@@ -20,7 +20,7 @@ known key keys rows row views is long =
 pub returns-clause-added : goal.returns-clause-added
 returns-clause-added c =
     c.in_ok-added.ensures.added
-    ∙ ap not (known (record { places = c.in_ok-places.places }) c.self.inside.keys.keys c.args.self.now c.args.row.now c.self.view_is (c.in_ok-places.ensures.ok ∙ c.as_slice.ensures)
+    ∙ ap not (known (record { places = c.in_ok-places.places }) c.self.inside.keys.keys c.args.self.now c.args.row.now c.self.view_is c.in_ok-places.ensures.ok
     c.requires)
 
 pub returns-clause-rows : goal.returns-clause-rows
@@ -28,8 +28,8 @@ returns-clause-rows c =
     let keys : List RowKey = c.self.inside.keys.keys in
     let key : RowKey = record { places = c.in_ok-places.places } in
     ap (map cells) (c.in_ok-added.ensures.keys
-    ∙ ap (λ (b : Bool). cond b keys (keys ++ key ∷ [])) (known key keys c.args.self.now c.args.row.now c.self.view_is (c.in_ok-places.ensures.ok ∙ c.as_slice.ensures) c.requires))
-    ∙ pushed (is_known_row c.args.self.now c.args.row.now) key keys c.args.self.now c.args.row.now c.self.view_is (c.in_ok-places.ensures.ok ∙ c.as_slice.ensures)
+    ∙ ap (λ (b : Bool). cond b keys (keys ++ key ∷ [])) (known key keys c.args.self.now c.args.row.now c.self.view_is c.in_ok-places.ensures.ok c.requires))
+    ∙ pushed (is_known_row c.args.self.now c.args.row.now) key keys c.args.self.now c.args.row.now c.self.view_is c.in_ok-places.ensures.ok
   where
     pushed : (b : Bool) (key : RowKey) (keys : List RowKey) (rows : List (List (Option ℕ))) (row : List (Option ℕ)) → map cells keys ≡ rows → cells key ≡ row
         → map cells (cond b keys (keys ++ key ∷ [])) ≡ cond b rows (rows ++ row ∷ [])

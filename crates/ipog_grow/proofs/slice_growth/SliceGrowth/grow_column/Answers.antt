@@ -12,7 +12,7 @@ use Rattle.ipog_grow.proofs.slice_growth.SliceGrowth.grow_column.Goals as goal
 
 pub close_contained-requires-clause-in_play : goal.close_contained-requires-clause-in_play
 close_contained-requires-clause-in_play g c =
-    let own = ready-in_play c.args.self.now.asker.context c.args.column c.args.self.now.table c.args.self.now.rows.items c.assert_invariant.ensures.context
+    let own = ready-in_play c.args.self.now.asker.context c.args.column c.args.self.now.table c.args.self.now.rows c.assert_invariant.ensures.context
     c.requires.column c.requires.ready in
     subst (λ (m : ModelView). All (IsInPlay m c.args.self.now.table.slice c.args.column) (open_tuples c.args.self.now.table c.args.column))
     (sym c.requires.ready.of.0)
@@ -27,28 +27,24 @@ grow_horizontally-requires-clause-scores g c _ _ =
 
 pub grow_horizontally-requires-clause-in_play : goal.grow_horizontally-requires-clause-in_play
 grow_horizontally-requires-clause-in_play g c _ _ =
-    let own = ready-in_play c.args.self.now.asker.context c.args.column c.args.self.now.table c.args.self.now.rows.items c.assert_invariant.ensures.context
+    let own = ready-in_play c.args.self.now.asker.context c.args.column c.args.self.now.table c.args.self.now.rows c.assert_invariant.ensures.context
     c.requires.column c.requires.ready in
     subst (All (IsInPlay c.args.self.now.asker.context.model c.args.self.now.asker.context.slice c.args.column)) (sym c.close_contained.ensures.moment)
-    (All-filter (is_uncovered c.deref.result.now) (IsInPlay c.args.self.now.asker.context.model c.args.self.now.asker.context.slice c.args.column)
+    (All-filter (is_uncovered c.args.self.now.rows) (IsInPlay c.args.self.now.asker.context.model c.args.self.now.asker.context.slice c.args.column)
     (open_tuples c.args.self.now.table c.args.column) own)
 
 pub returns-in_err-grow_horizontally-clause-asked : goal.returns-in_err-grow_horizontally-clause-asked
 returns-in_err-grow_horizontally-clause-asked g c =
     let context = c.args.self.now.asker.context in
     let tuples = tuples_in_play context.model context.slice c.args.column in
-    let asked : List (List (Option ℕ)) → List (List (Option ℕ)) = λ rows. (crossed context c.args.column tuples [] rows).asked in
-    let moment = closed-moment context c.args.column c.args.self.now.table c.close_contained.new.table c.args.self.now.rows.items c.deref.result.now
-    c.as_mut_slice.result.now c.requires.ready
-    c.deref.ensures.value c.as_mut_slice.ensures.value c.close_contained.ensures.moment in
+    let moment = closed-moment context c.args.column c.args.self.now.table c.close_contained.new.table c.args.self.now.rows c.requires.ready
+    c.close_contained.ensures.moment in
     let p = err_from_is_err_and c.from_residual-in_err-grow_horizontally.result c.from_residual-in_err-grow_horizontally.ensures.1 in
     rw (p.1, p.2) (told-err (Unit {0}) (Unit {0}) c.in_err-grow_horizontally.field-0.0 c.grow_horizontally.new.asker.question
-    (first_spent context (asked c.args.self.now.rows.items))
-    (first_spent context (column_grown context c.args.column c.args.self.now.rows.items).asked)
-    (λ over. half-stops context c.args.column c.args.self.now.rows.items c.grow_horizontally.new.asker.question over)
-    (subst (λ rows. Told {A = Unit {0}} (Err c.in_err-grow_horizontally.field-0.0) c.grow_horizontally.new.asker.question (first_spent context (asked rows)))
-    c.as_mut_slice.ensures.value
-    (c.in_err-grow_horizontally.ensures.asked tuples moment)))
+    (first_spent context (crossed context c.args.column tuples [] c.args.self.now.rows).asked)
+    (first_spent context (column_grown context c.args.column c.args.self.now.rows).asked)
+    (half-stops context c.args.column c.args.self.now.rows c.grow_horizontally.new.asker.question)
+    (c.in_err-grow_horizontally.ensures.asked tuples moment))
 
 pub grow_vertically-requires-clause-count : goal.grow_vertically-requires-clause-count
 grow_vertically-requires-clause-count g c =
@@ -58,47 +54,40 @@ grow_vertically-requires-clause-count g c =
 
 pub grow_vertically-requires-clause-is_open : goal.grow_vertically-requires-clause-is_open
 grow_vertically-requires-clause-is_open g c =
-    let size : c.args.self.now.rows.len ≡ length c.args.self.now.rows.items = omega (arith, c.args.self.now.rows.ok.0) in
-    let crossed_over = half c.requires.ready c.deref.ensures.value c.as_mut_slice.ensures.value c.close_contained.ensures.moment
-    c.close_contained.ensures.keeps size
-    c.grow_horizontally.auto.rows c.in_ok-grow_horizontally.ensures.asked c.in_ok-grow_horizontally.ensures.rows c.in_ok-grow_horizontally.ensures.moment
+    let crossed_over = half c.requires.ready c.close_contained.ensures.moment c.close_contained.ensures.keeps
+    c.in_ok-grow_horizontally.ensures.asked c.in_ok-grow_horizontally.ensures.rows c.in_ok-grow_horizontally.ensures.moment
     c.in_ok-grow_horizontally.ensures.keeps c.in_ok-grow_horizontally.ensures.in_play c.in_ok-grow_horizontally.ensures.grows in
-    let rows = take c.args.self.now.rows.len (c.grow_horizontally.new.rows ++ drop (length c.grow_horizontally.new.rows) c.args.self.now.rows.items) in
-    subst (λ (w : SearchContext). IsOpen w c.grow_horizontally.new.table c.args.column rows) (sym c.in_ok-grow_horizontally.ensures.same)
-    (half-open c.requires.ready crossed_over)
+    subst (λ (w : SearchContext). IsOpen w c.grow_horizontally.new.table c.args.column c.grow_horizontally.new.rows)
+    (sym c.in_ok-grow_horizontally.ensures.same) (half-open c.requires.ready crossed_over)
 
 halved : (g : _) (c : goal.After-drop-scores-2 g)
-    → Half c.args.self.now.asker.context c.args.self.now.table c.grow_horizontally.new.table c.args.column c.args.self.now.rows.items
-    (take c.args.self.now.rows.len (c.grow_horizontally.new.rows ++ drop (length c.grow_horizontally.new.rows) c.args.self.now.rows.items))
+    → Half c.args.self.now.asker.context c.args.self.now.table c.grow_horizontally.new.table c.args.column c.args.self.now.rows c.grow_horizontally.new.rows
 halved g c =
-    let size : c.args.self.now.rows.len ≡ length c.args.self.now.rows.items = omega (arith, c.args.self.now.rows.ok.0) in
-    half c.requires.ready c.deref.ensures.value c.as_mut_slice.ensures.value c.close_contained.ensures.moment c.close_contained.ensures.keeps size
-    c.grow_horizontally.auto.rows c.in_ok-grow_horizontally.ensures.asked c.in_ok-grow_horizontally.ensures.rows c.in_ok-grow_horizontally.ensures.moment
-    c.in_ok-grow_horizontally.ensures.keeps c.in_ok-grow_horizontally.ensures.in_play c.in_ok-grow_horizontally.ensures.grows
+    half c.requires.ready c.close_contained.ensures.moment c.close_contained.ensures.keeps c.in_ok-grow_horizontally.ensures.asked
+    c.in_ok-grow_horizontally.ensures.rows c.in_ok-grow_horizontally.ensures.moment c.in_ok-grow_horizontally.ensures.keeps
+    c.in_ok-grow_horizontally.ensures.in_play c.in_ok-grow_horizontally.ensures.grows
 
 pub returns-clause-asked : goal.returns-clause-asked
 returns-clause-asked g c =
-    let rows = take c.args.self.now.rows.len (c.grow_horizontally.new.rows ++ drop (length c.grow_horizontally.new.rows) c.args.self.now.rows.items) in
     subst (Told c.grow_vertically.result c.grow_vertically.new.self.asker.question)
     (half-asked (halved g c))
     (subst (λ (w : SearchContext). Told c.grow_vertically.result c.grow_vertically.new.self.asker.question
-    (first_spent w (down (extends w) (open_tuples c.grow_horizontally.new.table c.args.column) rows).asked)) c.in_ok-grow_horizontally.ensures.same
-    c.grow_vertically.ensures.asked)
+    (first_spent w (down (extends w) (open_tuples c.grow_horizontally.new.table c.args.column) c.grow_horizontally.new.rows).asked))
+    c.in_ok-grow_horizontally.ensures.same c.grow_vertically.ensures.asked)
 
 pub returns-clause-rows : goal.returns-clause-rows
 returns-clause-rows g c =
-    let rows = take c.args.self.now.rows.len (c.grow_horizontally.new.rows ++ drop (length c.grow_horizontally.new.rows) c.args.self.now.rows.items) in
-    subst (λ (grown : List (List (Option ℕ))). OnOk c.grow_vertically.result (c.grow_vertically.new.self.rows.items ≡ grown))
+    subst (λ (grown : List (List (Option ℕ))). OnOk c.grow_vertically.result (c.grow_vertically.new.self.rows ≡ grown))
     (half-rows (halved g c))
     (subst (λ (w : SearchContext). OnOk c.grow_vertically.result
-    (c.grow_vertically.new.self.rows.items ≡ (down (extends w) (open_tuples c.grow_horizontally.new.table c.args.column) rows).rows))
+    (c.grow_vertically.new.self.rows ≡ (down (extends w) (open_tuples c.grow_horizontally.new.table c.args.column) c.grow_horizontally.new.rows).rows))
     c.in_ok-grow_horizontally.ensures.same c.grow_vertically.ensures.rows)
 
 pub returns-clause-omitted : goal.returns-clause-omitted
 returns-clause-omitted g c =
-    let rows = take c.args.self.now.rows.len (c.grow_horizontally.new.rows ++ drop (length c.grow_horizontally.new.rows) c.args.self.now.rows.items) in
     subst (λ (tuples : List (List (Option ℕ))). OnOk c.grow_vertically.result (c.grow_vertically.new.self.omitted ≡ c.args.self.now.omitted ++ tuples))
     (half-omitted (halved g c))
     (subst (λ (w : SearchContext). OnOk c.grow_vertically.result
-    (c.grow_vertically.new.self.omitted ≡ c.args.self.now.omitted ++ (down (extends w) (open_tuples c.grow_horizontally.new.table c.args.column) rows).omitted))
+    (c.grow_vertically.new.self.omitted
+    ≡ c.args.self.now.omitted ++ (down (extends w) (open_tuples c.grow_horizontally.new.table c.args.column) c.grow_horizontally.new.rows).omitted))
     c.in_ok-grow_horizontally.ensures.same c.grow_vertically.ensures.omitted)

@@ -21,7 +21,7 @@ loop-k-init g c =
       tuple = refl;
       room = refl;
       order = c.in_ok-order.ensures.value;
-      taking = taking-start c.args.self.now.asker.context c.in_ok-order.order.items c.args.self.now.table c.args.self.now.rows.items c.args.self.now.omitted
+      taking = taking-start c.args.self.now.asker.context c.in_ok-order.order.items c.args.self.now.table c.args.self.now.rows c.args.self.now.omitted
           c.assert_invariant.ensures.context c.requires.is_new.fresh moved c.requires.grows;
     }
 
@@ -32,7 +32,7 @@ grow_column-requires-clause-column g c _ _ =
     let column : c.index.result.now ≡ get_or c.in_ok-order.order.items c.loop-k.k 0 = c.index.ensures
     ∙ get_or_default c.in_ok-order.order.items c.loop-k.k c.index.result.now 0 within in
     let taking = taking-at c.args.self.now.asker.context c.in_ok-order.order.items c.loop-k.k c.index.result.now c.loop-k.self.table
-    c.args.self.now.rows.items c.loop-k.self.rows.items c.args.self.now.omitted c.loop-k.self.omitted within column c.loop-k.invariant.taking in
+    c.args.self.now.rows c.loop-k.self.rows c.args.self.now.omitted c.loop-k.self.omitted within column c.loop-k.invariant.taking in
     subst (λ (w : SearchContext). c.index.result.now < length w.model.params) (sym c.loop-k.invariant.context)
     (All-head (λ p. p < length c.args.self.now.asker.context.model.params) c.index.result.now (drop (c.loop-k.k + 1) c.in_ok-order.order.items)
     taking.ready.exist)
@@ -44,8 +44,8 @@ grow_column-requires-clause-ready g c _ _ =
     let column : c.index.result.now ≡ get_or c.in_ok-order.order.items c.loop-k.k 0 = c.index.ensures
     ∙ get_or_default c.in_ok-order.order.items c.loop-k.k c.index.result.now 0 within in
     let taking = taking-at c.args.self.now.asker.context c.in_ok-order.order.items c.loop-k.k c.index.result.now c.loop-k.self.table
-    c.args.self.now.rows.items c.loop-k.self.rows.items c.args.self.now.omitted c.loop-k.self.omitted within column c.loop-k.invariant.taking in
-    subst (λ (w : SearchContext). IsReady w c.loop-k.self.table c.index.result.now c.loop-k.self.rows.items) (sym c.loop-k.invariant.context)
+    c.args.self.now.rows c.loop-k.self.rows c.args.self.now.omitted c.loop-k.self.omitted within column c.loop-k.invariant.taking in
+    subst (λ (w : SearchContext). IsReady w c.loop-k.self.table c.index.result.now c.loop-k.self.rows) (sym c.loop-k.invariant.context)
     (taking-next taking.ready)
 
 pub returns-in_err-grow_column-clause-asked : goal.returns-in_err-grow_column-clause-asked
@@ -55,17 +55,17 @@ returns-in_err-grow_column-clause-asked g c =
     let column : c.index.result.now ≡ get_or c.in_ok-order.order.items c.loop-k.k 0 = c.index.ensures
     ∙ get_or_default c.in_ok-order.order.items c.loop-k.k c.index.result.now 0 within in
     let taking = taking-at c.args.self.now.asker.context c.in_ok-order.order.items c.loop-k.k c.index.result.now c.loop-k.self.table
-    c.args.self.now.rows.items c.loop-k.self.rows.items c.args.self.now.omitted c.loop-k.self.omitted within column c.loop-k.invariant.taking in
+    c.args.self.now.rows c.loop-k.self.rows c.args.self.now.omitted c.loop-k.self.omitted within column c.loop-k.invariant.taking in
     let p = err_from_is_err_and c.from_residual-in_err-grow_column.result c.from_residual-in_err-grow_column.ensures.1 in
     rw (p.1, p.2) (subst (λ order. Told {A = Unit {0}} (Err c.in_err-grow_column.field-0.0) c.grow_column.new.self.asker.question
-    (first_spent c.args.self.now.asker.context (columns_grown c.args.self.now.asker.context order c.args.self.now.rows.items).asked))
+    (first_spent c.args.self.now.asker.context (columns_grown c.args.self.now.asker.context order c.args.self.now.rows).asked))
     c.loop-k.invariant.order
     (told-err (Unit {0}) (Unit {0}) c.in_err-grow_column.field-0.0 c.grow_column.new.self.asker.question
-    (first_spent c.args.self.now.asker.context (column_grown c.args.self.now.asker.context c.index.result.now c.loop-k.self.rows.items).asked)
-    (first_spent c.args.self.now.asker.context (columns_grown c.args.self.now.asker.context c.in_ok-order.order.items c.args.self.now.rows.items).asked)
+    (first_spent c.args.self.now.asker.context (column_grown c.args.self.now.asker.context c.index.result.now c.loop-k.self.rows).asked)
+    (first_spent c.args.self.now.asker.context (columns_grown c.args.self.now.asker.context c.in_ok-order.order.items c.args.self.now.rows).asked)
     (λ over. taking-spent taking over)
     (subst (λ (w : SearchContext). Told {A = Unit {0}} (Err c.in_err-grow_column.field-0.0) c.grow_column.new.self.asker.question
-    (first_spent w (column_grown w c.index.result.now c.loop-k.self.rows.items).asked)) c.loop-k.invariant.context c.in_err-grow_column.ensures.asked)))
+    (first_spent w (column_grown w c.index.result.now c.loop-k.self.rows).asked)) c.loop-k.invariant.context c.in_err-grow_column.ensures.asked)))
 
 pub loop-k-preserved : goal.loop-k-preserved
 loop-k-preserved g c =
@@ -74,7 +74,7 @@ loop-k-preserved g c =
     let column : c.index.result.now ≡ get_or c.in_ok-order.order.items c.loop-k.k 0 = c.index.ensures
     ∙ get_or_default c.in_ok-order.order.items c.loop-k.k c.index.result.now 0 within in
     let taking = taking-at c.args.self.now.asker.context c.in_ok-order.order.items c.loop-k.k c.index.result.now c.loop-k.self.table
-    c.args.self.now.rows.items c.loop-k.self.rows.items c.args.self.now.omitted c.loop-k.self.omitted within column c.loop-k.invariant.taking in
+    c.args.self.now.rows c.loop-k.self.rows c.args.self.now.omitted c.loop-k.self.omitted within column c.loop-k.invariant.taking in
     record {
       context = c.grow_column.ensures.same ∙ c.loop-k.invariant.context;
       tuple = c.grow_column.ensures.tuple ∙ c.loop-k.invariant.tuple;
@@ -82,14 +82,14 @@ loop-k-preserved g c =
       order = c.loop-k.invariant.order;
       taking =
           taking-more taking
-          (subst (λ (w : SearchContext). first_spent w (column_grown w c.index.result.now c.loop-k.self.rows.items).asked ≡ None)
+          (subst (λ (w : SearchContext). first_spent w (column_grown w c.index.result.now c.loop-k.self.rows).asked ≡ None)
           c.loop-k.invariant.context c.in_ok-grow_column.ensures.asked)
-          (subst (λ (w : SearchContext). c.grow_column.new.self.rows.items ≡ (column_grown w c.index.result.now c.loop-k.self.rows.items).rows)
+          (subst (λ (w : SearchContext). c.grow_column.new.self.rows ≡ (column_grown w c.index.result.now c.loop-k.self.rows).rows)
           c.loop-k.invariant.context c.in_ok-grow_column.ensures.rows)
           (subst (λ (w : SearchContext). c.grow_column.new.self.omitted ≡ c.loop-k.self.omitted
-          ++ (column_grown w c.index.result.now c.loop-k.self.rows.items).omitted) c.loop-k.invariant.context c.in_ok-grow_column.ensures.omitted)
+          ++ (column_grown w c.index.result.now c.loop-k.self.rows).omitted) c.loop-k.invariant.context c.in_ok-grow_column.ensures.omitted)
           c.in_ok-grow_column.ensures.keeps
-          (subst (λ (w : SearchContext). All (Grows w) c.grow_column.new.self.rows.items) c.loop-k.invariant.context c.in_ok-grow_column.ensures.grows);
+          (subst (λ (w : SearchContext). All (Grows w) c.grow_column.new.self.rows) c.loop-k.invariant.context c.in_ok-grow_column.ensures.grows);
     }
 
 pub grow_column-requires-clause-columns : goal.grow_column-requires-clause-columns

@@ -16,11 +16,10 @@ use Rattle.ipog_grow.proofs.slice_growth.SliceGrowth.grow_vertically.Goals as go
 
 pub among-requires-clause-values : goal.among-requires-clause-values
 among-requires-clause-values c =
-    let rows = c.args.self.now.rows.items in
-    subst (All (λ row. IfSome (get_or row c.args.column None) (λ v. v < c.args.count))) (sym c.as_slice.ensures.value)
-    (λ i d within.
+    let rows = c.args.self.now.rows in
+    λ i d within.
     subst (λ n. IfSome (get_or (get_or rows i d) c.args.column None) (λ v. v < n)) (sym c.requires.count)
-    (value-within c.args.self.now.asker.context.model (get_or rows i d) c.args.column (c.requires.is_open.grows i d within).of.fits))
+    (value-within c.args.self.now.asker.context.model (get_or rows i d) c.args.column (c.requires.is_open.grows i d within).of.fits)
 
 pub put_tuple-requires-clause-set : goal.put_tuple-requires-clause-set
 put_tuple-requires-clause-set c =
@@ -45,12 +44,12 @@ settle-requires-clause-next c =
     let put = c.put_tuple.ensures.tuple c.args.self.now.asker.context.model c.requires.plan (c.loop-place.invariant.tuple ∙ c.requires.tuple) in
     let next = downing-next c.loop-place.invariant.downing (sym c.next_open.ensures.value ∙ c.in-Some.is) c.in-Some.ensures.own
     (put ∙ ap (λ (m : ModelView). tuple_at m c.in-Some.place) (sym c.loop-place.invariant.downing.is_open.of.0)) in
-    subst (λ (w : SearchContext). IsNext w c.loop-place.self.table c.args.column c.in-Some.place c.put_tuple.new.into c.loop-place.self.rows.items)
+    subst (λ (w : SearchContext). IsNext w c.loop-place.self.table c.args.column c.in-Some.place c.put_tuple.new.into c.loop-place.self.rows)
     (sym c.loop-place.invariant.context) next
 
 pub settle-requires-clause-unfilled : goal.settle-requires-clause-unfilled
 settle-requires-clause-unfilled c =
-    subst (λ (n : ℕ). HasUnfilled c.args.columns.now c.args.column n c.loop-place.self.rows.items c.loop-place.unfilled)
+    subst (λ (n : ℕ). HasUnfilled c.args.columns.now c.args.column n c.loop-place.self.rows c.loop-place.unfilled)
     (c.requires.count ∙ ap (λ (w : SearchContext). length (param_at w.model.params c.args.column).values) (sym c.loop-place.invariant.context))
     c.loop-place.invariant.unfilled
 
@@ -61,12 +60,12 @@ returns-in_err-settle-clause-asked c =
     (put ∙ ap (λ (m : ModelView). tuple_at m c.in-Some.place) (sym c.loop-place.invariant.downing.is_open.of.0)) in
     let p = err_from_is_err_and c.from_residual-in_err-settle.result c.from_residual-in_err-settle.ensures.1 in
     rw (p.1, p.2) (told-err (Unit {0}) (Unit {0}) c.in_err-settle.field-0.0 c.settle.new.self.asker.question
-    (first_spent c.args.self.now.asker.context (settle (extends c.args.self.now.asker.context) c.put_tuple.new.into c.loop-place.self.rows.items).asked)
+    (first_spent c.args.self.now.asker.context (settle (extends c.args.self.now.asker.context) c.put_tuple.new.into c.loop-place.self.rows).asked)
     (first_spent c.args.self.now.asker.context (down (extends c.args.self.now.asker.context) (open_tuples c.args.self.now.table c.args.column)
-    c.args.self.now.rows.items).asked)
+    c.args.self.now.rows).asked)
     (λ over. downing-spent c.loop-place.invariant.downing next over)
     (subst (λ (w : SearchContext). Told {A = Unit {0}} (Err c.in_err-settle.field-0.0) c.settle.new.self.asker.question
-    (first_spent w (settle (extends w) c.put_tuple.new.into c.loop-place.self.rows.items).asked)) c.loop-place.invariant.context
+    (first_spent w (settle (extends w) c.put_tuple.new.into c.loop-place.self.rows).asked)) c.loop-place.invariant.context
     c.in_err-settle.ensures.asked))
 
 pub loop-place-smaller : goal.loop-place-smaller
@@ -75,7 +74,7 @@ loop-place-smaller c =
     let next = downing-next c.loop-place.invariant.downing (sym c.next_open.ensures.value ∙ c.in-Some.is) c.in-Some.ensures.own
     (put ∙ ap (λ (m : ModelView). tuple_at m c.in-Some.place) (sym c.loop-place.invariant.downing.is_open.of.0)) in
     let passes = subst (λ (w : SearchContext). IsPassed w c.loop-place.self.table c.settle.new.self.table c.args.column c.in-Some.place
-    c.settle.new.self.rows.items) c.loop-place.invariant.context c.in_ok-settle.ensures.passed in
+    c.settle.new.self.rows) c.loop-place.invariant.context c.in_ok-settle.ensures.passed in
     downing-falls next passes
 
 pub loop-place-preserved : goal.loop-place-preserved
@@ -84,13 +83,13 @@ loop-place-preserved c =
     let next = downing-next c.loop-place.invariant.downing (sym c.next_open.ensures.value ∙ c.in-Some.is) c.in-Some.ensures.own
     (put ∙ ap (λ (m : ModelView). tuple_at m c.in-Some.place) (sym c.loop-place.invariant.downing.is_open.of.0)) in
     let passes = subst (λ (w : SearchContext). IsPassed w c.loop-place.self.table c.settle.new.self.table c.args.column c.in-Some.place
-    c.settle.new.self.rows.items) c.loop-place.invariant.context c.in_ok-settle.ensures.passed in
+    c.settle.new.self.rows) c.loop-place.invariant.context c.in_ok-settle.ensures.passed in
     record {
       context = c.settle.ensures.same ∙ c.loop-place.invariant.context;
       tuple = ap length c.settle.ensures.tuple ∙ c.put_tuple.ensures.long ∙ c.loop-place.invariant.tuple;
       room = c.settle.ensures.room ∙ c.loop-place.invariant.room;
       unfilled =
-          subst (λ (n : ℕ). HasUnfilled c.args.columns.now c.args.column n c.settle.new.self.rows.items c.settle.new.unfilled)
+          subst (λ (n : ℕ). HasUnfilled c.args.columns.now c.args.column n c.settle.new.self.rows c.settle.new.unfilled)
           (ap (λ (w : SearchContext). length (param_at w.model.params c.args.column).values) c.loop-place.invariant.context ∙ sym c.requires.count)
           c.in_ok-settle.ensures.unfilled;
       from =
@@ -99,12 +98,12 @@ loop-place-preserved c =
           (sym passes.keeps.slice) c.in-Some.ensures.own);
       downing =
           downing-more c.loop-place.invariant.downing next
-          (subst (λ (w : SearchContext). first_spent w (settle (extends w) c.put_tuple.new.into c.loop-place.self.rows.items).asked ≡ None)
+          (subst (λ (w : SearchContext). first_spent w (settle (extends w) c.put_tuple.new.into c.loop-place.self.rows).asked ≡ None)
           c.loop-place.invariant.context c.in_ok-settle.ensures.asked)
-          (subst (λ (w : SearchContext). c.settle.new.self.rows.items ≡ (settle (extends w) c.put_tuple.new.into c.loop-place.self.rows.items).rows)
+          (subst (λ (w : SearchContext). c.settle.new.self.rows ≡ (settle (extends w) c.put_tuple.new.into c.loop-place.self.rows).rows)
           c.loop-place.invariant.context c.in_ok-settle.ensures.rows)
           (subst (λ (w : SearchContext). c.settle.new.self.omitted ≡ c.loop-place.self.omitted
-          ++ (settle (extends w) c.put_tuple.new.into c.loop-place.self.rows.items).omitted) c.loop-place.invariant.context c.in_ok-settle.ensures.omitted)
+          ++ (settle (extends w) c.put_tuple.new.into c.loop-place.self.rows).omitted) c.loop-place.invariant.context c.in_ok-settle.ensures.omitted)
           passes;
     }
 

@@ -11,9 +11,9 @@ invariant-loop-place l = record {
   context : l.self.asker.context ≡ l.fn.self.asker.context;
   tuple : length l.self.tuple ≡ length l.fn.self.tuple;
   room : length l.self.room ≡ length l.fn.self.room;
-  unfilled : HasUnfilled l.columns l.column l.count l.self.rows.items l.unfilled;
+  unfilled : HasUnfilled l.columns l.column l.count l.self.rows l.unfilled;
   from : IfSome l.from (IsPlaceOf l.self.table);
-  downing : Downing l.fn.self.asker.context l.column l.fn.self.table l.self.table l.fn.self.rows.items l.self.rows.items l.fn.self.omitted l.self.omitted
+  downing : Downing l.fn.self.asker.context l.column l.fn.self.table l.self.table l.fn.self.rows l.self.rows l.fn.self.omitted l.self.omitted
       l.from;
 }
 

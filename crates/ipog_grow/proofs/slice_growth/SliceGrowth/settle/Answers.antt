@@ -11,7 +11,7 @@ use Rattle.uncovered_table.specs.Open.{row_closed}
 use Rattle.ipog_grow.specs.Asking.{SearchContext, Grows, IsPassed, Told, extends, first_spent, rows_alone}
 use Rattle.ipog_grow.specs.UnfilledRows.{HasUnfilled}
 use Rattle.ipog_grow.proofs.Asking.{told-err}
-use Rattle.ipog_grow.proofs.Closing.{is_alone, joinable, next-grows, passed-union, settle-asks, settle-stops, taken_at, whole_slice}
+use Rattle.ipog_grow.proofs.Closing.{is_alone, joinable, next-grows, passed-union, settle-asks, settle-stops, taken_at}
 use Rattle.ipog_grow.proofs.Settling.{settle-alone_rows}
 use Rattle.ipog_grow.proofs.UnfilledLemmas.{unfilled-union, value-within}
 use Rattle.ipog_grow.proofs.slice_growth.SliceGrowth.settle.Goals as goal
@@ -32,85 +32,73 @@ candidates-requires-clause-value c =
 
 pub join_first-requires-clause-candidates : goal.join_first-requires-clause-candidates
 join_first-requires-clause-candidates c =
-    subst (λ (seen : List (List (Option ℕ))). RisesFrom 0 (length seen) c.candidates.result) (sym c.as_mut_slice.ensures.value)
     (joinable c.requires.next c.requires.columns c.requires.unfilled c.candidates.ensures).rise
 
 pub join_first-requires-clause-others : goal.join_first-requires-clause-others
 join_first-requires-clause-others c =
-    subst (λ (seen : List (List (Option ℕ))). (i : ℕ) → i < length seen → is_among c.candidates.result i ≡ false
-    → agrees (get_or seen i []) c.args.self.now.tuple ≡ false) (sym c.as_mut_slice.ensures.value)
     (joinable c.requires.next c.requires.columns c.requires.unfilled c.candidates.ensures).others
 
-pub returns-in_err-i-clause-asked : goal.returns-in_err-i-clause-asked
-returns-in_err-i-clause-asked c =
+pub returns-in_err-join_first-clause-asked : goal.returns-in_err-join_first-clause-asked
+returns-in_err-join_first-clause-asked c =
     let context = c.args.self.now.asker.context in
-    let asked : List (List (Option ℕ)) → List (List (Option ℕ)) = λ rows. (join (extends context) c.args.self.now.tuple rows).asked in
     let p = err_from_is_err_and c.from_residual.result c.from_residual.ensures.1 in
-    rw (p.1, p.2) (told-err (Option ℕ) (Unit {0}) c.in_err-i.field-0.0 c.join_first.new.asker.question (first_spent context (asked c.args.self.now.rows.items))
-    (first_spent context (settle (extends context) c.args.self.now.tuple c.args.self.now.rows.items).asked)
-    (λ over. settle-stops context c.args.self.now.tuple c.join_first.new.asker.question c.args.self.now.rows.items over)
-    (subst (λ (rows : List (List (Option ℕ))). Told {A = Option ℕ} (Err c.in_err-i.field-0.0) c.join_first.new.asker.question
-    (first_spent context (asked rows))) c.as_mut_slice.ensures.value c.in_err-i.ensures.asked))
+    rw (p.1, p.2) (told-err (Option ℕ) (Unit {0}) c.in_err-join_first.field-0.0 c.join_first.new.asker.question
+    (first_spent context (join (extends context) c.args.self.now.tuple c.args.self.now.rows).asked)
+    (first_spent context (settle (extends context) c.args.self.now.tuple c.args.self.now.rows).asked)
+    (settle-stops context c.args.self.now.tuple c.join_first.new.asker.question c.args.self.now.rows)
+    c.in_err-join_first.ensures.asked)
 
 pub close_row-requires-clause-cells : goal.close_row-requires-clause-cells
 close_row-requires-clause-cells c =
-    let size : c.args.self.now.rows.len ≡ length c.args.self.now.rows.items = omega (arith, c.args.self.now.rows.ok.0) in
-    let taken = taken_at c.as_mut_slice.ensures.value size c.join_first.auto.rows c.in-Some.is c.in_ok-i.ensures.place c.index.ensures in
-    let own : Grows c.args.self.now.asker.context c.index.result.now = subst (Grows c.args.self.now.asker.context) (sym taken.read_is)
-    (c.in_ok-i.ensures.grows c.in-Some.i [] taken.within) in
-    subst (λ (m : ModelView). IsOfSlice m c.args.self.now.table.slice c.index.result.now) (sym c.requires.next.of.0)
-    (subst (λ (s : Slice). IsOfSlice c.args.self.now.asker.context.model s c.index.result.now) (sym c.requires.next.of.1) own.of)
+    let taken = taken_at c.in-Some.is c.in_ok-join_first.ensures.place c.in_ok-join_first.ensures.room in
+    let own : Grows c.args.self.now.asker.context c.join_first.new.room = subst (Grows c.args.self.now.asker.context) (sym taken.read_is)
+    (c.in_ok-join_first.ensures.grows c.in-Some.field-0 [] taken.within) in
+    subst (λ (m : ModelView). IsOfSlice m c.args.self.now.table.slice c.join_first.new.room) (sym c.requires.next.of.0)
+    (subst (λ (s : Slice). IsOfSlice c.args.self.now.asker.context.model s c.join_first.new.room) (sym c.requires.next.of.1) own.of)
 
 pub returns-in-Some-clause-passed : goal.returns-in-Some-clause-passed
 returns-in-Some-clause-passed c =
-    let rows = c.args.self.now.rows.items in
-    let i = c.in-Some.i in
-    let size : c.args.self.now.rows.len ≡ length c.args.self.now.rows.items = omega (arith, c.args.self.now.rows.ok.0) in
-    let taken = taken_at c.as_mut_slice.ensures.value size c.join_first.auto.rows c.in-Some.is c.in_ok-i.ensures.place c.index.ensures in
-    subst (IsPassed c.args.self.now.asker.context c.args.self.now.table c.close_row.new.self c.args.column c.args.place) (sym taken.whole)
-    (passed-union c.requires.next taken.union_at
+    let rows = c.args.self.now.rows in
+    let i = c.in-Some.field-0 in
+    let taken = taken_at c.in-Some.is c.in_ok-join_first.ensures.place c.in_ok-join_first.ensures.room in
+    passed-union c.requires.next taken.union_at
     (c.close_row.ensures ∙ ap (row_closed c.args.self.now.table c.args.column) taken.read_is)
     (ap (λ list. get_or list i []) taken.union_at.put ∙ get_or-set_same rows i (union (get_or rows i []) c.args.self.now.tuple) [] taken.union_at.within)
-    c.in_ok-i.ensures.grows)
+    c.in_ok-join_first.ensures.grows
 
 pub returns-in-Some-clause-unfilled : goal.returns-in-Some-clause-unfilled
 returns-in-Some-clause-unfilled c =
     let count = length (param_at c.args.self.now.asker.context.model.params c.args.column).values in
-    let size : c.args.self.now.rows.len ≡ length c.args.self.now.rows.items = omega (arith, c.args.self.now.rows.ok.0) in
-    let taken = taken_at c.as_mut_slice.ensures.value size c.join_first.auto.rows c.in-Some.is c.in_ok-i.ensures.place c.index.ensures in
-    subst (λ (rows : List (List (Option ℕ))). HasUnfilled c.args.columns.now c.args.column count rows c.args.unfilled.now)
-    (sym (taken.whole ∙ taken.union_at.put))
-    (unfilled-union c.args.columns.now c.args.column count c.args.self.now.rows.items c.args.unfilled.now c.args.self.now.tuple c.in-Some.i
+    let taken = taken_at c.in-Some.is c.in_ok-join_first.ensures.place c.in_ok-join_first.ensures.room in
+    subst (λ (rows : List (List (Option ℕ))). HasUnfilled c.args.columns.now c.args.column count rows c.args.unfilled.now) (sym taken.union_at.put)
+    (unfilled-union c.args.columns.now c.args.column count c.args.self.now.rows c.args.unfilled.now c.args.self.now.tuple c.in-Some.field-0
     taken.union_at.within c.requires.unfilled)
 
 pub returns-in_err-settle_alone-in-None-clause-asked : goal.returns-in_err-settle_alone-in-None-clause-asked
 returns-in_err-settle_alone-in-None-clause-asked c =
     let context = c.args.self.now.asker.context in
-    let alone = is_alone c.args.self.now.asker.context c.as_mut_slice.ensures.value c.in-None.is c.in_ok-i.ensures.taken c.in_ok-i.ensures.asked in
+    let alone = is_alone c.args.self.now.asker.context c.args.self.now.tuple c.args.self.now.rows c.in-None.is c.in_ok-join_first.ensures.taken c.in_ok-join_first.ensures.asked in
     let p = err_from_is_err_and c.from_residual-in_err-settle_alone-in-None.result c.from_residual-in_err-settle_alone-in-None.ensures.1 in
     rw (p.1, p.2) (told-err (Unit {0}) (Unit {0}) c.in_err-settle_alone-in-None.field-0.0 c.settle_alone.new.self.asker.question
     (first_spent context (c.args.self.now.tuple ∷ []))
-    (first_spent context (settle (extends context) c.args.self.now.tuple c.args.self.now.rows.items).asked)
-    (λ over. settle-asks context c.args.self.now.tuple c.args.self.now.rows.items alone.alone alone.unspent ∙ over)
+    (first_spent context (settle (extends context) c.args.self.now.tuple c.args.self.now.rows).asked)
+    (λ over. settle-asks context c.args.self.now.tuple c.args.self.now.rows alone.alone alone.unspent ∙ over)
     (subst (λ (w : SearchContext). Told {A = Unit {0}} (Err c.in_err-settle_alone-in-None.field-0.0) c.settle_alone.new.self.asker.question
-    (first_spent w (c.args.self.now.tuple ∷ []))) c.in_ok-i.ensures.same
+    (first_spent w (c.args.self.now.tuple ∷ []))) c.in_ok-join_first.ensures.same
     c.in_err-settle_alone-in-None.ensures.asked))
 
 pub returns-in_ok-settle_alone-in-None-clause-asked : goal.returns-in_ok-settle_alone-in-None-clause-asked
 returns-in_ok-settle_alone-in-None-clause-asked c =
-    let alone = is_alone c.args.self.now.asker.context c.as_mut_slice.ensures.value c.in-None.is c.in_ok-i.ensures.taken c.in_ok-i.ensures.asked in
-    settle-asks c.args.self.now.asker.context c.args.self.now.tuple c.args.self.now.rows.items alone.alone alone.unspent
-    ∙ ap (λ (w : SearchContext). first_spent w (c.args.self.now.tuple ∷ [])) (sym c.in_ok-i.ensures.same) ∙ c.in_ok-settle_alone-in-None.ensures.asked
+    let alone = is_alone c.args.self.now.asker.context c.args.self.now.tuple c.args.self.now.rows c.in-None.is c.in_ok-join_first.ensures.taken c.in_ok-join_first.ensures.asked in
+    settle-asks c.args.self.now.asker.context c.args.self.now.tuple c.args.self.now.rows alone.alone alone.unspent
+    ∙ ap (λ (w : SearchContext). first_spent w (c.args.self.now.tuple ∷ [])) (sym c.in_ok-join_first.ensures.same) ∙ c.in_ok-settle_alone-in-None.ensures.asked
 
 pub returns-in_ok-settle_alone-in-None-clause-rows : goal.returns-in_ok-settle_alone-in-None-clause-rows
 returns-in_ok-settle_alone-in-None-clause-rows c =
     let context = c.args.self.now.asker.context in
-    let rows = c.args.self.now.rows.items in
-    let size : c.args.self.now.rows.len ≡ length c.args.self.now.rows.items = omega (arith, c.args.self.now.rows.ok.0) in
-    let alone = is_alone c.args.self.now.asker.context c.as_mut_slice.ensures.value c.in-None.is c.in_ok-i.ensures.taken c.in_ok-i.ensures.asked in
-    let whole = whole_slice rows c.join_first.new.rows c.args.self.now.rows.len size (c.join_first.auto.rows ∙ ap length c.as_mut_slice.ensures.value) in
-    let same = whole ∙ c.in_ok-i.ensures.unchanged c.in-None.is ∙ c.as_mut_slice.ensures.value in
+    let rows = c.args.self.now.rows in
+    let alone = is_alone c.args.self.now.asker.context c.args.self.now.tuple c.args.self.now.rows c.in-None.is c.in_ok-join_first.ensures.taken c.in_ok-join_first.ensures.asked in
     c.in_ok-settle_alone-in-None.ensures.rows
-    ∙ ap (λ (w : SearchContext). rows_alone w c.args.self.now.tuple
-    (take c.args.self.now.rows.len (c.join_first.new.rows ++ drop (length c.join_first.new.rows) rows))) c.in_ok-i.ensures.same
-    ∙ ap (rows_alone context c.args.self.now.tuple) same ∙ sym (settle-alone_rows (extends context) c.args.self.now.tuple rows alone.alone)
+    ∙ ap (λ (w : SearchContext). rows_alone w c.args.self.now.tuple c.join_first.new.rows) c.in_ok-join_first.ensures.same
+    ∙ ap (rows_alone context c.args.self.now.tuple) (c.in_ok-join_first.ensures.unchanged c.in-None.is)
+    ∙ sym (settle-alone_rows (extends context) c.args.self.now.tuple rows alone.alone)

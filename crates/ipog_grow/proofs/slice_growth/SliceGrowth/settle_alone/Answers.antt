@@ -1,28 +1,36 @@
-use Rattle.std.proofs.Common.{◌≡◌, ◌∙◌, ◌<◌, ℕ, All, length, ap, ◌∷◌, ◌++◌, None, IfSome, [], get_or, sym, subst, arith}
+use Rattle.std.proofs.Common.{◌≡◌, ◌∙◌, ◌<◌, ℕ, List, Option, All, length, ap, ◌∷◌, ◌++◌, None, IfSome, [], get_or, sym, subst, arith}
+use Rattle.std.proofs.lemmas.List.Elements.{All-weaker}
 use Rattle.cov_model.specs.Sound.{ModelView, param_at}
 use Rattle.cov_model.specs.declared.slice.Slice.{Slice}
 use Rattle.definitions.specs.SliceRows.{IsOfSlice}
-use Rattle.ipog_grow.specs.Asking.{IsPassed}
+use Rattle.ipog_grow.specs.Asking.{Grows, IsPassed}
 use Rattle.ipog_grow.specs.UnfilledRows.{HasUnfilled, with_unfilled}
 use Rattle.ipog_grow.proofs.Closing.{next-grows, passed-new, passed-omitted}
 use Rattle.ipog_grow.proofs.UnfilledLemmas.{unfilled-push, value-within}
 use Rattle.ipog_grow.proofs.slice_growth.SliceGrowth.settle_alone.Goals as goal
 
+pub push-requires : goal.push-requires
+push-requires c =
+    let own = next-grows c.requires.next in
+    All-weaker (Grows c.args.self.now.asker.context) (λ other. length other ≡ length c.as_slice.result.now)
+    (λ other grows. grows.of.fits.as_long ∙ sym own.of.fits.as_long ∙ sym (ap length c.as_slice.ensures)) c.args.self.now.rows c.requires.next.grows
+
 pub push_row-requires-clause-exist : goal.push_row-requires-clause-exist
 push_row-requires-clause-exist c =
     let own = next-grows c.requires.next in
-    subst (λ (n : ℕ). All (λ p. p < n) c.args.columns.now) (sym own.of.fits.as_long) c.requires.exist
+    subst (λ (n : ℕ). All (λ p. p < n) c.args.columns.now) (sym (ap length c.as_slice-then-branch.ensures ∙ own.of.fits.as_long)) c.requires.exist
 
 pub push_row-requires-clause-column : goal.push_row-requires-clause-column
 push_row-requires-clause-column c =
     let own = next-grows c.requires.next in
-    omega (arith, c.requires.column, own.of.fits.as_long)
+    omega (arith, c.requires.column, own.of.fits.as_long, ap length c.as_slice-then-branch.ensures)
 
 pub push_row-requires-clause-value : goal.push_row-requires-clause-value
 push_row-requires-clause-value c =
     let own = next-grows c.requires.next in
-    subst (λ (n : ℕ). IfSome (get_or c.args.self.now.tuple c.args.column None) (λ v. v < n)) (sym c.requires.unfilled.values)
-    (value-within c.args.self.now.asker.context.model c.args.self.now.tuple c.args.column own.of.fits)
+    subst (λ (row : List (Option ℕ)). IfSome (get_or row c.args.column None) (λ v. v < length c.args.unfilled.now.by_value)) (sym c.as_slice-then-branch.ensures)
+    (subst (λ (n : ℕ). IfSome (get_or c.args.self.now.tuple c.args.column None) (λ v. v < n)) (sym c.requires.unfilled.values)
+    (value-within c.args.self.now.asker.context.model c.args.self.now.tuple c.args.column own.of.fits))
 
 pub ask-requires : goal.ask-requires
 ask-requires c = next-grows c.requires.next
@@ -39,21 +47,21 @@ returns-in_ok-push_row-clause-unfilled c =
     let columns = c.args.columns.now in
     let count = length (param_at c.args.self.now.asker.context.model.params c.args.column).values in
     let own = next-grows c.requires.next in
-    let number : c.len-number.result ≡ length c.args.self.now.rows.items = omega (arith, c.args.self.now.rows.ok.0) in
-    subst (λ rows. HasUnfilled columns c.args.column count rows c.push_row.new.self) (sym c.in_ok-push_copy.ensures)
-    (subst (HasUnfilled columns c.args.column count (c.args.self.now.rows.items ++ tuple ∷ []))
-    (sym (c.in_ok-push_row.ensures ∙ ap (λ n. with_unfilled columns c.args.column tuple n c.args.unfilled.now) number))
-    (unfilled-push columns c.args.column count c.args.self.now.rows.items c.args.unfilled.now tuple
+    subst (λ rows. HasUnfilled columns c.args.column count rows c.push_row.new.self) (sym (c.in_ok-push.ensures.ok ∙ ap (λ row. c.args.self.now.rows ++ row ∷ []) c.as_slice.ensures))
+    (subst (HasUnfilled columns c.args.column count (c.args.self.now.rows ++ tuple ∷ []))
+    (sym (c.in_ok-push_row.ensures ∙ ap (λ row. with_unfilled columns c.args.column row c.len-number.result c.args.unfilled.now) c.as_slice-then-branch.ensures
+    ∙ ap (λ n. with_unfilled columns c.args.column tuple n c.args.unfilled.now) c.len-number.ensures))
+    (unfilled-push columns c.args.column count c.args.self.now.rows c.args.unfilled.now tuple
     (value-within c.args.self.now.asker.context.model tuple c.args.column own.of.fits) c.requires.unfilled))
 
 pub returns-in_ok-push_row-clause-passed : goal.returns-in_ok-push_row-clause-passed
 returns-in_ok-push_row-clause-passed c =
     let own = next-grows c.requires.next in
-    subst (IsPassed c.args.self.now.asker.context c.args.self.now.table c.close_row.new.self c.args.column c.args.place) (sym c.in_ok-push_copy.ensures)
+    subst (IsPassed c.args.self.now.asker.context c.args.self.now.table c.close_row.new.self c.args.column c.args.place) (sym (c.in_ok-push.ensures.ok ∙ ap (λ row. c.args.self.now.rows ++ row ∷ []) c.as_slice.ensures))
     (passed-new
     c.requires.next c.close_row.ensures own)
 
-pub returns-in_ok-push-clause-passed : goal.returns-in_ok-push-clause-passed
-returns-in_ok-push-clause-passed c =
+pub returns-in_ok-push-2-clause-passed : goal.returns-in_ok-push-2-clause-passed
+returns-in_ok-push-2-clause-passed c =
     passed-omitted
     c.requires.next c.close.ensures
