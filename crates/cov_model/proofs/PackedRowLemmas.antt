@@ -1,8 +1,8 @@
 -- Partial rows of one length, one behind another in one list.
-use Rattle.std.proofs.Common.{◌≡◌, ℕ, zero, suc, ◌+◌, ◌*◌, ◌<◌, ◌≤◌, List, [], ◌∷◌, ◌++◌, length, get_or, set, take, drop, Option, All, ◌∙◌, refl, sym, ap, arith, subst, length-append, length-drop, length-take, zero-add}
+use Rattle.std.proofs.Common.{◌≡◌, ℕ, zero, suc, ◌+◌, ◌*◌, ◌<◌, ◌≤◌, List, [], ◌∷◌, ◌++◌, length, get_or, set, take, drop, Option, All, ◌∙◌, refl, sym, ap, arith, subst, length-append, length-drop, zero-add}
 use Rattle.std.proofs.Math.Nat.{suc-mul}
-use Rattle.std.proofs.Math.Seq.{drop-append_seam, take-length}
-use Rattle.std.proofs.lemmas.List.{nil_from_length, take-append-le, drop-append-le, drop-drop, length-take-le, take-take, drop-take, take-set-le, drop-set-lt, drop-set-add, take_at, drop_at, take_all, append_assoc, append-nil}
+use Rattle.std.proofs.Math.Seq.{take-length}
+use Rattle.std.proofs.lemmas.List.{nil_from_length, take-append-le, drop-append-le, drop-drop, length-take-le, take-take, drop-take, take-set-le, drop-set-lt, drop-set-add, take_at, drop_at}
 use Rattle.std.proofs.lemmas.List.Elements.{All-get_or, All-weaker}
 use Rattle.std.proofs.lemmas.Nat.{mul-le}
 use Rattle.cov_model.specs.PackedRows.{rows_of}

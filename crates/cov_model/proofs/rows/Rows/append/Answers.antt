@@ -1,6 +1,6 @@
-use Rattle.std.proofs.Common.{rules, ◌≡◌, ◌<◌, ◌+◌, ◌*◌, ◌++◌, ◌∙◌, ℕ, List, Option, All, length, sym, ap, subst, arith}
+use Rattle.std.proofs.Common.{rules, ◌≡◌, ◌+◌, ◌*◌, ◌++◌, ◌∙◌, length, sym, ap, arith}
 use Rattle.cov_model.specs.PackedRows.{rows_of}
-use Rattle.cov_model.proofs.PackedRowLemmas.{Appends, seen_appends}
+use Rattle.cov_model.proofs.PackedRowLemmas.{seen_appends}
 use Rattle.cov_model.proofs.rows.Rows.append.Goals as goal
 
 pub invariant_of-self-2 : goal.invariant_of-self-2

@@ -1,4 +1,4 @@
-use Rattle.std.proofs.Common.{◌≡◌, length, ◌∙◌, sym, ap}
+use Rattle.std.proofs.Common.{length, ◌∙◌, sym, ap}
 use Rattle.cov_model.proofs.PackedRowLemmas.{rows_length}
 use Rattle.cov_model.proofs.rows.Rows.len.Goals as goal
 

@@ -1,6 +1,6 @@
-use Rattle.std.proofs.Common.{◌≡◌, ◌+◌, ◌*◌, ◌++◌, ◌∷◌, [], length, ◌∙◌, ap, arith, rules, sym}
+use Rattle.std.proofs.Common.{◌≡◌, ◌+◌, ◌*◌, ◌++◌, length, ◌∙◌, ap, arith, rules, sym}
 use Rattle.cov_model.specs.PackedRows.{rows_of}
-use Rattle.cov_model.proofs.PackedRowLemmas.{Pushes, seen_push}
+use Rattle.cov_model.proofs.PackedRowLemmas.{seen_push}
 use Rattle.cov_model.proofs.rows.Rows.push.Goals as goal
 
 pub invariant_of-self-2 : goal.invariant_of-self-2

@@ -1,4 +1,4 @@
-use Rattle.std.proofs.Common.{◌≡◌, ◌+◌, ◌*◌, ◌≤◌, ◌∙◌, length, take, drop, sym, ap, arith}
+use Rattle.std.proofs.Common.{◌*◌, ◌∙◌, length, take, drop, sym, ap, arith}
 use Rattle.cov_model.proofs.PackedRowLemmas.{IsRowAt, seen_row}
 use Rattle.cov_model.proofs.rows.Rows.row.Goals as goal
 

@@ -1,4 +1,4 @@
-use Rattle.std.proofs.Common.{◌≡◌, ◌+◌, ◌*◌, ◌≤◌, ◌∙◌, Some, length, sym, ap, arith}
+use Rattle.std.proofs.Common.{Some, arith}
 use Rattle.cov_model.proofs.PackedRowLemmas.{Sets, seen_set}
 use Rattle.cov_model.proofs.rows.Rows.set_cell.Goals as goal
 

@@ -1,4 +1,4 @@
-use Rattle.std.proofs.Common.{◌≡◌, ◌*◌, ◌≤◌, ◌∙◌, length, take, sym, ap, arith}
+use Rattle.std.proofs.Common.{◌≤◌, ◌∙◌, length, take, sym, ap, arith}
 use Rattle.std.proofs.lemmas.List.{take_all}
 use Rattle.cov_model.specs.PackedRows.{rows_of}
 use Rattle.cov_model.proofs.PackedRowLemmas.{rows_length, rows_take}
