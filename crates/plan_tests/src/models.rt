@@ -102,10 +102,7 @@ fn copies_a_row_of_five(rt: HostRuntime) -> Result<(), Fail> {
 }
 
 // Rows of these two cells each.
-fn packed(
-    alloc: Global,
-    table: &[(Option<ValueNo>, Option<ValueNo>)],
-) -> Result<Rows, NoMemory>
+fn packed(alloc: Global, table: &[(Option<ValueNo>, Option<ValueNo>)]) -> Result<Rows, NoMemory>
     ensures { IfOk result (All (λ row. length row ≡ 2)) }
 {
     let mut rows = Rows::new(alloc);
