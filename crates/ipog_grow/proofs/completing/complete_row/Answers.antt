@@ -1,4 +1,4 @@
-use Rattle.std.proofs.Common.{◌≡◌, ◌<◌, ℕ, ◌∷◌, [], List, Bool, Option, ◌∙◌, sym, ap, subst, get_or, length, arith}
+use Rattle.std.proofs.Common.{ℕ, ◌∷◌, [], List, Bool, Option, ◌∙◌, sym, ap, subst, get_or}
 use Rattle.std.proofs.lemmas.Result.{err_from_is_err_and}
 use Rattle.ipog_grow.specs.Asking.{Grows, first_spent}
 use Rattle.ipog_grow.proofs.Asking.{told-err}

@@ -1,4 +1,4 @@
-use Rattle.std.proofs.Common.{◌≡◌, ◌∙◌, ℕ, List, Option, All, length, sym, subst}
+use Rattle.std.proofs.Common.{◌≡◌, ℕ, All, length, sym, subst}
 use Rattle.std.proofs.lemmas.List.Elements.{All-append}
 use Rattle.ipog_grow.proofs.Completed.{fits_behind}
 use Rattle.ipog_grow.proofs.SameRows.{distinct_by-all}

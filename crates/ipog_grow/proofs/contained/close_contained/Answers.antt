@@ -1,4 +1,4 @@
-use Rattle.std.proofs.Common.{◌≡◌, ◌∙◌, ◌<◌, ◌+◌, [], ℕ, List, Option, is_some, length, get_or, false, ap, refl, sym, subst, arith}
+use Rattle.std.proofs.Common.{◌≡◌, ◌∙◌, ◌<◌, ◌+◌, [], ℕ, List, Option, length, get_or, false, ap, refl, sym, subst, arith}
 use Rattle.cov_model.specs.Rows.{is_assigned}
 use Rattle.uncovered_table.specs.Open.{OpenView, row_closed}
 use Rattle.ipog_grow.proofs.ContainedLemmas.{Started, started-none, started-closed, started-free}

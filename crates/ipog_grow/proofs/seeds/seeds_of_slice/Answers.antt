@@ -1,9 +1,8 @@
-use Rattle.std.proofs.Common.{◌≡◌, ◌+◌, ◌<◌, ◌++◌, ◌∷◌, [], ℕ, Bool, true, cond, List, Option, All, length, get_or, take, filter, ◌∙◌, sym, ap, subst, arith}
+use Rattle.std.proofs.Common.{◌≡◌, ◌+◌, ◌<◌, ◌++◌, ◌∷◌, [], ℕ, Bool, cond, List, Option, All, length, get_or, take, filter, ◌∙◌, sym, ap, subst, arith}
 use Rattle.std.proofs.lemmas.List.{append-nil}
 use Rattle.cov_model.specs.contracts.slice.SlicePartialEq as equal
 use Rattle.cov_model.specs.declared.slice.Slice.{Slice}
 use Rattle.cov_model.specs.Slices.{slice_of}
-use Rattle.definitions.specs.Completion.{has_slice}
 use Rattle.definitions.specs.Growth.{is_of_slice}
 use Rattle.ipog_grow.proofs.OfSlice.{slice_of-test, filter-more, seeds-long}
 use Rattle.ipog_grow.proofs.seeds.seeds_of_slice.Goals as goal

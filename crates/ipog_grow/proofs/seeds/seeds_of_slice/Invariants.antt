@@ -1,4 +1,4 @@
-use Rattle.std.proofs.Common.{◌≡◌, All, length, take, filter}
+use Rattle.std.proofs.Common.{◌≡◌, length, take, filter}
 use Rattle.definitions.specs.Growth.{is_of_slice}
 use Rattle.ipog_grow.proofs.seeds.seeds_of_slice.Given as goal
 

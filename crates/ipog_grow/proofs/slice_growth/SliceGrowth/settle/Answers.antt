@@ -1,14 +1,12 @@
-use Rattle.std.proofs.Common.{◌≡◌, List, ◌<◌, ◌∙◌, ◌∷◌, ◌++◌, [], ℕ, Err, Option, None, IfSome, false, take, drop, length, get_or, ap, sym, subst, arith}
+use Rattle.std.proofs.Common.{List, ◌<◌, ◌∙◌, ◌∷◌, [], ℕ, Err, Option, None, IfSome, length, get_or, ap, sym, subst, arith}
 use Rattle.std.proofs.lemmas.Result.{err_from_is_err_and}
 use Rattle.std.proofs.lemmas.List.{get_or-set_same}
 use Rattle.cov_model.specs.Sound.{ModelView, param_at}
 use Rattle.cov_model.specs.declared.slice.Slice.{Slice}
-use Rattle.definitions.specs.Demand.{is_among}
 use Rattle.definitions.specs.SliceRows.{IsOfSlice}
-use Rattle.definitions.specs.Growth.{agrees, join, settle, union}
-use Rattle.tuple_index.specs.Places.{RisesFrom}
+use Rattle.definitions.specs.Growth.{join, settle, union}
 use Rattle.uncovered_table.specs.Open.{row_closed}
-use Rattle.ipog_grow.specs.Asking.{SearchContext, Grows, IsPassed, Told, extends, first_spent, rows_alone}
+use Rattle.ipog_grow.specs.Asking.{SearchContext, Grows, Told, extends, first_spent, rows_alone}
 use Rattle.ipog_grow.specs.UnfilledRows.{HasUnfilled}
 use Rattle.ipog_grow.proofs.Asking.{told-err}
 use Rattle.ipog_grow.proofs.Closing.{is_alone, joinable, next-grows, passed-union, settle-asks, settle-stops, taken_at}
