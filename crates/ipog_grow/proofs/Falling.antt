@@ -1,6 +1,6 @@
 -- The values by falling score: the best one first, then the rest as if it had none.
 use Rattle.std.proofs.Common.{◌≡◌, ◌≢◌, ◌⊎◌, ℕ, zero, suc, ◌<◌, ◌≤◌, Bool, true, false, cond, ◌&&◌, ◌||◌, not, List, [], ◌∷◌, ◌++◌}
-use Rattle.std.proofs.Common.{filter, Option, Some, None, nat_eq, nat_lt, ◌∙◌, sym, ap, subst, refl, arith, inl, inr}
+use Rattle.std.proofs.Common.{filter, length, get_or, Option, Some, None, nat_eq, nat_lt, ◌∙◌, sym, ap, subst, refl, arith, inl, inr}
 use Rattle.std.proofs.lemmas.Bool.{false≢true, cases_lt, cases_eq}
 use Rattle.std.proofs.lemmas.Bool.Decides.{nat_tests}
 use Rattle.std.proofs.lemmas.Option.{none-some, same_Some}
@@ -124,6 +124,46 @@ best_none score (u ∷ values) e w among =
         let test : nat_lt 0 (score u) ≡ true = grind (arith, nat_tests) in
         absurd (none-some u (sym e ∙ ap (λ (b : Bool). cond b (Some u) None) test))
     zero_of (inr none) e = omega arith
+
+-- the first value of the greatest score is found
+pub best_at : (score : ℕ → ℕ) (values : List ℕ) (i most : ℕ) → 0 < most → ((w : ℕ) → score w ≤ most) → i < length values
+    → ((k : ℕ) → k < i → score (get_or values k 0) ≢ most) → score (get_or values i 0) ≡ most → best score values ≡ Some (get_or values i 0)
+best_at score [] i most some all within before is = absurd (omega (arith, within))
+best_at score (v ∷ values) zero most some all within before is =
+    let test : nat_lt 0 (score v) ≡ true = grind (arith, nat_tests) in
+    ap (λ (b : Bool). better score (cond b (Some v) None) (best score values)) test ∙ stays (best score values)
+  where
+    stays : (found : Option ℕ) → better score (Some v) found ≡ Some v
+    stays None = refl
+    stays (Some w) =
+        let bound = all w in
+        let test : nat_lt (score v) (score w) ≡ false = grind (arith, nat_tests) in
+        ap (λ (b : Bool). cond b (Some w) (Some v)) test
+best_at score (v ∷ values) (suc i) most some all within before is =
+    ap (better score (cond (nat_lt 0 (score v)) (Some v) None)) later ∙ gives (nat_lt 0 (score v))
+  where
+    u : ℕ
+    u = get_or values i 0
+
+    later : best score values ≡ Some u
+    later = best_at score values i most some all (omega (arith, within)) (λ k below. before (suc k) (omega arith)) is
+
+    gives : (b : Bool) → better score (cond b (Some v) None) (Some u) ≡ Some u
+    gives false = refl
+    gives true =
+        let bound = all v in
+        let differs : score v ≢ most = before 0 (omega arith) in
+        let less : score v < score u = omega (arith, is) in
+        let test : nat_lt (score v) (score u) ≡ true = grind (arith, nat_tests) in
+        ap (λ (b : Bool). cond b (Some u) (Some v)) test
+
+-- where no value has a score, none is found
+pub best_of_none : (score : ℕ → ℕ) (values : List ℕ) → ((w : ℕ) → score w ≡ 0) → best score values ≡ None
+best_of_none score [] none = refl
+best_of_none score (v ∷ values) none =
+    let e : score v ≡ 0 = none v in
+    let test : nat_lt 0 (score v) ≡ false = grind (arith, nat_tests) in
+    ap (λ (b : Bool). better score (cond b (Some v) None) (best score values)) test ∙ best_of_none score values none
 
 -- what is found is the best value
 pub best_is : (score : ℕ → ℕ) (values : List ℕ) (v : ℕ) → Distinct values → best score values ≡ Some v → IsBest score values v

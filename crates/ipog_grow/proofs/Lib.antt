@@ -10,6 +10,7 @@ pub mod Completed
 pub mod SameRows
 pub mod InPlace
 pub mod Rising
+pub mod Fingerprints
 pub mod Removing
 pub mod Lists
 pub mod Falling

@@ -1,5 +1,6 @@
 pub mod Suites
 pub mod Rows
+pub mod Fingerprints
 pub mod SliceGrowing
 pub mod SliceLists
 pub mod Completing

@@ -2,6 +2,7 @@ ghost use Rattle.std.specs.Prelude.{◌≡◌, ◌+◌, ◌^◌, ◌<◌, ◌≤
 ghost use Rattle.definitions.specs.Seeds.{distinct};
 ghost use Rattle.ipog_grow.specs.Rows.{AreAsLong, AreRising, AreDone, is_known_row, stands_before, with_row};
 
+use crate::fingerprint::are_apart;
 use cov_model::{Rows, ValueNo};
 use indexmap::IndexSet;
 use smallvec::SmallVec;
@@ -94,12 +95,13 @@ fn keep_row(
     Ok(count + 1)
 }
 
-// Takes out the rows that are the same as an earlier one. Takes no memory where the rows rise.
+// Takes out the rows that are the same as an earlier one. Rows that rise, or whose fingerprints all differ, are
+// distinct; only else each row is looked up among those before it.
 pub(crate) fn remove_repeats(alloc: Global, rows: &mut Rows) -> Result<(), NoMemory>
     requires { AreAsLong rows.old }
     ensures { OnOk result (rows.new ≡ distinct rows.old) }
 {
-    if are_rising(rows) {
+    if are_rising(rows) || are_apart(alloc, rows)? {
         return Ok(());
     }
     let mut known = RowSet::new(alloc);

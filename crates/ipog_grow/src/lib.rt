@@ -8,6 +8,7 @@ mod completing;
 mod contained;
 mod distinct;
 mod fill;
+mod fingerprint;
 mod finish;
 mod generating;
 mod horizontal;

@@ -1,10 +1,11 @@
-ghost use Rattle.std.specs.Prelude.{◌≡◌, ◌<◌, ◌≤◌, ℕ, true, false, Some, None, All, [], length, map, slice_index, slice_index_or, slice_set, if◌then◌else◌, nat_lt, IfOk, IfSome, OnOk};
+ghost use Rattle.std.specs.Prelude.{◌≡◌, ◌<◌, ◌≤◌, ℕ, true, false, Some, None, All, Contains, IsPermutation, [], length, map, slice_index, slice_index_or, slice_set, IfOk, IfSome, OnOk};
+ghost use Rattle.std.specs.List.{range_with_len};
 ghost use Rattle.cov_model.specs.Rows.{contains, is_assigned};
 ghost use Rattle.cov_model.specs.Slices.{slice_values};
 ghost use Rattle.cov_model.specs.Sound.{param_at};
 ghost use Rattle.definitions.specs.Demand.{is_among};
 ghost use Rattle.ipog_grow.specs.Asking.{Grows, Told, first_spent, tried};
-ghost use Rattle.ipog_grow.specs.Growing.{best, better};
+ghost use Rattle.ipog_grow.specs.Growing.{best};
 
 use crate::asker::Asker;
 use crate::stop::Stop;
@@ -20,42 +21,36 @@ pub(crate) fn no_scores(alloc: Global, count: usize) -> Result<Vec<u32>, NoMemor
     Ok(scores)
 }
 
-// Of a value found before, with its score, and another one, the first, unless the other has the greater
-// score. A value without a score doesn't count.
-#[inline]
-fn better_value(
-    found: (Option<ValueNo>, u32),
-    other: ValueNo,
-    scores: &[u32],
-) -> (Option<ValueNo>, u32)
-    requires within { IfSome found.0 (λ v. v < length scores.now) }
-    requires none { found.0 ≡ None → found.1 ≡ 0 }
-    requires some { IfSome found.0 (λ v. slice_index scores.now v ≡ found.1) }
-    requires other { other < length scores.now }
-    ensures better { result.0 ≡ better (λ v. slice_index scores.now v) found.0 (if nat_lt 0 (slice_index scores.now other) then Some other else None) }
-    ensures within { IfSome result.0 (λ v. v < length scores.now) }
-    ensures none { result.0 ≡ None → result.1 ≡ 0 }
-    ensures some { IfSome result.0 (λ v. slice_index scores.now v ≡ result.1) }
+// The greatest score, or 0.
+fn greatest(scores: &[u32]) -> u32
+    ensures most { All (λ score. score ≤ result) scores.now }
+    ensures own { 0 < result → Contains scores.now result }
 {
-    let score = scores[other as usize];
-    if score > found.1 {
-        (Some(other), score)
-    } else {
-        found
+    let mut most: u32 = 0;
+    for score in scores {
+        most = most.max(*score);
     }
+    most
 }
 
-// The first value of the greatest score, if one has a score above 0.
+// The first value of the greatest score, if one has a score above 0. Scores are compared in their own order first,
+// many at once; the first value is looked for only then. The order has a place for each score.
 fn best_value(order: &[ValueNo], scores: &[u32]) -> Option<ValueNo>
-    requires { All (λ v. v < length scores.now) order.now }
+    requires order { IsPermutation (range_with_len 0 (length scores.now)) order.now }
+    requires exist { All (λ v. v < length scores.now) order.now }
     ensures best { result ≡ best (λ v. slice_index scores.now v) order.now }
     ensures within { IfSome result (λ v. v < length scores.now) }
 {
-    let mut found = (None, 0);
-    for v in order {
-        found = better_value(found, *v, scores);
+    let most = greatest(scores);
+    if most == 0 {
+        return None;
     }
-    found.0
+    for v in order {
+        if scores[*v as usize] == most {
+            return Some(*v);
+        }
+    }
+    None
 }
 
 // Gives a row, which has no value in the column, the first value by falling score that leaves it
