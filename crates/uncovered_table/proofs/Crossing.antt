@@ -8,6 +8,7 @@ use Rattle.cov_model.proofs.parameter.Param.TheSendSync as param
 use Rattle.cov_model.specs.contracts.model.TestModel as model
 use Rattle.value_text.proofs.owned_list.OwnedList.TheSendSync as list
 use Rattle.tuple_index.proofs.plan.Plan.TheSendSync as plan
+use Rattle.uncovered_table.proofs.prepared.ColumnLines.TheSendSync as lines
 use Rattle.uncovered_table.specs.contracts.part.SlicePart as part
 use Rattle.uncovered_table.specs.contracts.sets.SliceSets as sets
 use Rattle.uncovered_table.specs.contracts.table.Uncovered as table
@@ -22,4 +23,4 @@ sets_sync : (κ : NamedLft) → IsSync (sets.the_row κ)
 sets_sync κ = let a = part_sync κ in search (sendable, crosses) depth 20
 
 pub table_sync : (κ : NamedLft) → IsSync (table.the_row κ)
-table_sync κ = let a = sets_sync κ in search (sendable, crosses) depth 20
+table_sync κ = let a = sets_sync κ in search (sendable, crosses, lines.the_sync) depth 20

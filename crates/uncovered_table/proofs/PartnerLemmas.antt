@@ -1,17 +1,17 @@
 -- The pairs of a column at first: the other member of each set in play, and blocks with a bit for each tuple.
-use Rattle.std.proofs.Common.{inl, inr, ◌≡◌, ℕ, ◌+◌, ◌-◌, ◌*◌, ◌/◌, ◌%◌, ◌<◌, ◌≤◌, ◌⊎◌, Bool, true, false, ◌||◌, List, [], ◌∷◌, ◌++◌, Option, Some, None, All, map}
-use Rattle.std.proofs.Common.{length, get_or, sum_by, replicate, take, drop, ◌∙◌, refl, sym, subst, ap, arith, add-one, drop-cons, length-append}
+use Rattle.std.proofs.Common.{inl, inr, ◌≡◌, ℕ, ◌+◌, ◌*◌, ◌/◌, ◌%◌, ◌<◌, ◌≤◌, ◌⊎◌, Bool, true, false, ◌||◌, List, [], ◌∷◌, ◌++◌, Option, Some, None, All, map}
+use Rattle.std.proofs.Common.{length, get_or, sum_by, replicate, take, ◌∙◌, refl, sym, subst, ap, arith, add-one, length-append}
 use Rattle.std.specs.Int.{bit_at}
 use Rattle.std.specs.Option.{option_map_or}
-use Rattle.std.specs.Prelude.{◌==◌, IfSome, nat_lt, option_map, slice_range, slice_set, if◌then◌else◌}
-use Rattle.std.proofs.lemmas.Bool.{cases_Bool, cases_eq, cases_lt, eq-eqb, false≢true}
+use Rattle.std.specs.Prelude.{◌==◌, IfSome, nat_lt, option_map, slice_set, if◌then◌else◌}
+use Rattle.std.proofs.lemmas.Bool.{cases_eq, cases_lt, eq-eqb, false≢true}
 use Rattle.std.proofs.lemmas.Bool.Decides.{nat_tests}
-use Rattle.std.proofs.lemmas.List.{get_or_append_left, get_or_default, get_or_past, get_or-replicate}
+use Rattle.std.proofs.lemmas.List.{get_or_append_left, get_or_past, get_or-replicate}
 use Rattle.std.proofs.lemmas.List.{get_or-set_same, get_or-set_other, length-replicate, length-set, take_all, take_more}
 use Rattle.std.proofs.lemmas.List.Elements.{All-cons, All-nil}
 use Rattle.std.proofs.lemmas.Nat.Bits.{bit_at-zero}
 use Rattle.std.proofs.Math.Seq.{get_or-append_seam}
-use Rattle.std.proofs.Math.Bool.{or-true}
+use Rattle.std.proofs.Math.Bool.{or_comm, or-false, or-true}
 use Rattle.cov_model.specs.declared.slice.Slice.{Slice}
 use Rattle.cov_model.specs.Sound.{ModelView}
 use Rattle.definitions.specs.Demand.{demanded_sets, is_among}
@@ -19,114 +19,80 @@ use Rattle.tuple_index.specs.Kept.{IsKept}
 use Rattle.tuple_index.specs.Places.{RisesFrom, ways}
 use Rattle.tuple_index.specs.Plan.{plan_of}
 use Rattle.uncovered_table.specs.declared.pairs.PairBits.{PairBits}
-use Rattle.uncovered_table.specs.declared.prepared.Part.{Part}
-use Rattle.uncovered_table.specs.declared.prepared.Prepared.{Prepared}
 use Rattle.uncovered_table.specs.Bits.{InPlay, all_cleared, bit_count, first_bit, held_count, sets_in_play, tuple_count, value_held}
 use Rattle.uncovered_table.specs.Kept.{last_column, play_column}
-use Rattle.uncovered_table.specs.Digits.{AreDigits, cell_digit, digit_of, joined, number_of, own_values, with_digit}
+use Rattle.uncovered_table.specs.Digits.{AreDigits, cell_digit, digit_of, joined, number_of, own_values}
 use Rattle.uncovered_table.specs.Masks.{AreAll, AreBegins, IsCleared, IsMask, begin_at, restricted}
-use Rattle.uncovered_table.specs.Pairs.{AreKept, ArePairs, ArePartners, HasPairs, IsLonePart, IsPair, IsPartner, Matched, common_count, digit_count}
+use Rattle.uncovered_table.specs.Pairs.{AreKept, ArePairs, ArePartners, HasPairs, IsOtherMember, IsPair, IsPartner, Matched, common_count, digit_count}
 use Rattle.uncovered_table.specs.Places.{set_at, slice_places}
-use Rattle.uncovered_table.specs.Prepared.{IsLineOf, sum_of}
 use Rattle.uncovered_table.specs.Words.{bit_in}
 use Rattle.uncovered_table.proofs.BitLemmas.{bits_before}
 use Rattle.uncovered_table.proofs.GainLemmas.{number_within}
 use Rattle.uncovered_table.proofs.LineLemmas.{column_among}
-use Rattle.uncovered_table.proofs.PairLemmas.{AreCleared, matched-listed, matched-weaker, pairs-count, pairs-elsewhere, pairs-single, same_members}
+use Rattle.uncovered_table.proofs.PairLemmas.{AreCleared, matched-listed, matched-weaker, pairs-count, pairs-elsewhere, pairs-single}
 use Rattle.uncovered_table.proofs.MaskLemmas.{begins-rise}
 use Rattle.uncovered_table.proofs.DigitLemmas.{cell_digits, digit_below}
-use Rattle.uncovered_table.proofs.ValueLemmas.{digit_gain, member_none, no_gain}
+use Rattle.uncovered_table.proofs.ValueLemmas.{digit_gain, no_gain}
 use Rattle.uncovered_table.proofs.WordLemmas.{bit-past, bit-used}
 
--- each parameter has the digit 0, but for one
-abbrev all_but : ℕ → ℕ → Option ℕ
-all_but q r = if r == q then None else Some 0
+-- one of two members is the column, and this is the other one
+record TwoKnown (members : List ℕ) (column e p : ℕ) : Type 0 where
+  exists : p < e
+  apart : p ≡ column → ⊥
+  among : (q : ℕ) → is_among members q ≡ ((q == column) || (q == p))
 
-abbrev zeros : ℕ → Option ℕ
-zeros r = Some 0
-
--- the part between two neighbouring places
-one-part : (parts : List Part) (begin end : ℕ) (part : Part) → end ≡ begin + 1 → end ≤ length parts → part ≡ get_or parts begin part
-    → slice_range parts begin end ≡ part ∷ []
-one-part parts begin end part next within read =
-    let one : end - begin ≡ 1 = omega (arith, next) in
-    ap (λ n. take n (drop begin parts)) one ∙ ap (take 1) (drop-cons parts begin part (omega (arith, next, within)))
-    ∙ ap (λ p. p ∷ []) (sym read)
-
--- the set of a line with one part has the column and the part's parameter
-pub partner-of : (m : ModelView) (slice : Slice) (column set : ℕ) (line : Prepared) (parts : List Part) (part : Part) → InPlay m slice column set
-    → IsLineOf m slice column set line parts → line.end ≡ line.begin + 1 → part ≡ get_or parts line.begin part → part.param < length m.params
-    → IsPartner m slice column set part.param
-partner-of m slice column set line parts part play own next read exists = record {
-  plays = play;
-  exists = exists;
-  apart = λ same. must (λ r among here. here ∙ same);
-  members =
-      λ q.
-      elim (cases_eq q column) [
-        | inl here ↦
-            let test : (q == column) ≡ true = grind (arith, nat_tests) in
-            ap (is_among (set_at m set)) here ∙ column_among m slice column set play ∙ sym (ap (λ b. b || (q == part.param)) test)
-        | inr apart ↦
-            let test : (q == column) ≡ false = grind (arith, nat_tests) in
-            elim (cases_eq q part.param) [
-              | inl here ↦
-                  let own_test : (q == part.param) ≡ true = grind (arith, nat_tests) in
-                  ap (is_among (set_at m set)) here ∙ listed ∙ sym (ap (λ b. b || (q == part.param)) test ∙ own_test)
-              | inr differs ↦
-                  let own_test : (q == part.param) ≡ false = grind (arith, nat_tests) in
-                  others q apart differs ∙ sym (ap (λ b. b || (q == part.param)) test ∙ own_test)
-            ]
-      ];
-}
+two-known : (members : List ℕ) (column e next p : ℕ) → is_among members column ≡ true → RisesFrom 0 e members → IsOtherMember members column next p
+    → TwoKnown members column e p
+two-known [] column e next p listed rises other = absurd (let two = other.two in omega (arith, two))
+two-known (a ∷ []) column e next p listed rises other = absurd (let two = other.two in omega (arith, two))
+two-known (a ∷ b ∷ c ∷ more) column e next p listed rises other = absurd (let two = other.two in omega (arith, two))
+two-known (a ∷ b ∷ []) column e next p listed rises other =
+    let low = rises.2.0 in
+    let first = rises.1 in
+    let second = rises.2.1 in
+    elim (cases_eq a column) [
+      | inl here ↦
+          let test : (a == column) ≡ true = grind (arith, nat_tests) in
+          let is : p ≡ b = other.other ∙ ap (λ t. if t then b else a) test in
+          record {
+            exists = omega (arith, second, is);
+            apart = λ same. omega (arith, low, here, is, same);
+            among =
+                λ q.
+                ap (λ t. t || ((b == q) || false)) (turned a q) ∙ ap (λ t. (q == a) || t) (or-false (b == q) ∙ turned b q)
+                ∙ ap (λ k. (q == k) || (q == b)) here ∙ ap (λ k. (q == column) || (q == k)) (sym is);
+          }
+      | inr apart ↦
+          let test : (a == column) ≡ false = grind (arith, nat_tests) in
+          let is : p ≡ a = other.other ∙ ap (λ t. if t then b else a) test in
+          let last : (b == column) ≡ true = sym (or-false (b == column)) ∙ sym (ap (λ t. t || ((b == column) || false)) test) ∙ listed in
+          let there : b ≡ column = grind (arith, nat_tests) in
+          record {
+            exists = omega (arith, first, is);
+            apart = λ same. apart (sym is ∙ same);
+            among =
+                λ q.
+                ap (λ t. t || ((b == q) || false)) (turned a q) ∙ ap (λ t. (q == a) || t) (or-false (b == q) ∙ turned b q)
+                ∙ or_comm (q == a) (q == b)
+                ∙ ap (λ k. (q == k) || (q == a)) there ∙ ap (λ k. (q == column) || (q == k)) (sym is);
+          }
+    ]
   where
-    sums : (digits : ℕ → Option ℕ) → joined (digits part.param) part.weight (Some 0)
-        ≡ number_of (own_values m slice) (with_digit digits column 0) (set_at m set)
-    sums digits = ap (sum_of digits) (sym (one-part parts line.begin line.end part next own.within read)) ∙ own.sums digits
+    turned : (k q : ℕ) → (k == q) ≡ (q == k)
+    turned k q = grind (arith, nat_tests)
 
-    must : ((r : ℕ) → is_among (set_at m set) r ≡ true → r ≡ part.param → r ≡ column) → ⊥
-    must never =
-        let same : number_of (own_values m slice) (with_digit zeros column 0) (set_at m set)
-        ≡ number_of (own_values m slice) (with_digit (all_but part.param) column 0) (set_at m set) =
-        same_members (own_values m slice) (with_digit zeros column 0) (with_digit (all_but part.param) column 0) (set_at m set)
-        (λ r among.
-        elim (cases_eq r column) [
-          | inl here ↦ let test : (r == column) ≡ true = grind (arith, nat_tests) in
-              ap (λ b. if b then Some 0 else zeros r) test ∙ sym (ap (λ b. if b then Some 0 else all_but part.param r) test)
-          | inr apart ↦
-              elim (cases_eq r part.param) [
-                | inl here ↦ absurd (apart (never r among here))
-                | inr differs ↦
-                    let test : (r == column) ≡ false = grind (arith, nat_tests) in
-                    let other : (r == part.param) ≡ false = grind (arith, nat_tests) in
-                    ap (λ b. if b then Some 0 else zeros r) test
-                    ∙ sym (ap (λ b. if b then Some 0 else all_but part.param r) test ∙ ap (λ b. if b then None else Some 0) other)
-              ]
-        ]) in
-        let none : all_but part.param part.param ≡ None = ap (λ b. if b then None else Some 0) (eq-eqb part.param part.param refl) in
-        let both : Some (0 * part.weight + 0) ≡ None =
-        sums zeros ∙ same ∙ sym (sums (all_but part.param)) ∙ ap (λ o. joined o part.weight (Some 0)) none in
-        cc
-
-    listed : is_among (set_at m set) part.param ≡ true
-    listed = elim (cases_Bool (is_among (set_at m set) part.param)) [
-      | inl among ↦ among
-      | inr other ↦ absurd (must (λ r among here. absurd (false≢true (sym other ∙ ap (is_among (set_at m set)) (sym here) ∙ among))))
-    ]
-
-    others : (q : ℕ) → (q ≡ column → ⊥) → (q ≡ part.param → ⊥) → is_among (set_at m set) q ≡ false
-    others q apart differs = elim (cases_Bool (is_among (set_at m set) q)) [
-      | inr other ↦ other
-      | inl among ↦
-          let test : (q == column) ≡ false = grind (arith, nat_tests) in
-          let hidden : with_digit (all_but q) column 0 q ≡ None =
-          ap (λ b. if b then Some 0 else all_but q q) test ∙ ap (λ b. if b then None else Some 0) (eq-eqb q q refl) in
-          let other : (part.param == q) ≡ false = grind (arith, nat_tests) in
-          let both : Some (0 * part.weight + 0) ≡ None =
-          sym (ap (λ b. joined (if b then None else Some 0) part.weight (Some 0)) other) ∙ sums (all_but q)
-          ∙ member_none (own_values m slice) (with_digit (all_but q) column 0) (set_at m set) q among hidden in
-          absurd (cc)
-    ]
+-- a set in play of two members has the column and the other one
+pub partner-of : (m : ModelView) (slice : Slice) (column set next p : ℕ) (members : List ℕ) → InPlay m slice column set
+    → members ≡ set_at m set → RisesFrom 0 (length m.params) members → IsOtherMember members column next p
+    → IsPartner m slice column set p
+partner-of m slice column set next p members play own rises other =
+    let known = two-known members column (length m.params) next p (ap (λ list. is_among list column) own ∙ column_among m slice column set play) rises other in
+    record {
+      plays = play;
+      exists = known.exists;
+      apart = known.apart;
+      members = λ q. ap (λ list. is_among list q) (sym own) ∙ known.among q;
+    }
 
 -- one item more
 pub matched-more : (R : ℕ → ℕ → Type 0) (xs ys : List ℕ) (x y : ℕ) → Matched R xs ys → R x y → Matched R (xs ++ x ∷ []) (ys ++ y ∷ [])
@@ -274,17 +240,6 @@ no-bits n k =
       | inl less ↦ ap (λ word. bit_at word (k % 64)) (get_or-replicate n (k / 64) 0 0 less) ∙ bit_at-zero (k % 64)
       | inr past ↦ bit-past (replicate n 0) k ((let none : ℕ = 0 in let long = length-replicate n none in omega (arith, past, long)))
     ]
-
--- the lone part of a line tells the partner
-pub partner-next : (m : ModelView) (slice : Slice) (column set p next : ℕ) (line : Prepared) (parts : List Part) → InPlay m slice column set
-    → IsLineOf m slice column set line parts → IsLonePart line parts next p → All (λ part. part.param < length m.params) parts
-    → IsPartner m slice column set p
-partner-next m slice column set p next line parts play own lone exist =
-    let other : Part = record { param = 0; weight = 0 } in
-    let part = get_or parts line.begin other in
-    let inside : line.begin < length parts = omega (arith, lone.one, own.within) in
-    let read : part ≡ get_or parts line.begin part = get_or_default parts line.begin other part inside in
-    subst (IsPartner m slice column set) (sym (lone.param other)) (partner-of m slice column set line parts part play own lone.one read (exist line.begin other inside))
 
 -- the partners so far
 pub record PartnersTo (m : ModelView) (slice : Slice) (column k next : ℕ) (sets partners : List ℕ) : Type 0 where

@@ -1,5 +1,5 @@
 -- Sums of digits by their weights.
-use Rattle.std.proofs.Common.{◌≡◌, ℕ, ◌+◌, ◌*◌, ◌^◌, ◌<◌, ◌≤◌, Bool, true, false, cond, List, [], ◌∷◌, ◌++◌, Option, Some, None, drop, length}
+use Rattle.std.proofs.Common.{◌≡◌, ℕ, zero, suc, ◌+◌, ◌*◌, ◌^◌, ◌<◌, ◌≤◌, Bool, true, false, cond, List, [], ◌∷◌, ◌++◌, Option, Some, None, drop, length}
 use Rattle.std.proofs.Common.{get_or, set, nat_eq, All, inl, inr, ◌∙◌, sym, ap, subst, refl, arith, add-one, drop-cons}
 use Rattle.std.specs.Prelude.{option_map}
 use Rattle.std.proofs.Math.Nat.{mul-le-mul}
@@ -16,16 +16,15 @@ use Rattle.cov_model.specs.declared.slice.Slice.{Slice}
 use Rattle.definitions.specs.SliceRows.{IsSliceOf}
 use Rattle.tuple_index.specs.Kept.{IsKept}
 use Rattle.tuple_index.specs.Places.{ways}
-use Rattle.uncovered_table.proofs.DigitLemmas.{fewer_ways}
+use Rattle.uncovered_table.proofs.DigitLemmas.{cell_digits, fewer_ways, joined-None, number_below, with_digits}
 use Rattle.tuple_index.specs.Plan.{plan_of}
-use Rattle.uncovered_table.specs.Bits.{InPlay, first_bit, sets_in_play}
+use Rattle.uncovered_table.specs.Bits.{InPlay, first_bit}
 use Rattle.uncovered_table.specs.Places.{set_at}
 use Rattle.uncovered_table.proofs.LineLemmas.{LineKnown, line_known}
 use Rattle.uncovered_table.specs.declared.prepared.Part.{Part}
 use Rattle.uncovered_table.specs.declared.prepared.Prepared.{Prepared}
-use Rattle.uncovered_table.specs.declared.prepared.ColumnLines.{ColumnLines}
 use Rattle.uncovered_table.specs.Digits.{cell_digit, joined, number_of, own_values, step_of, with_digit}
-use Rattle.uncovered_table.specs.Prepared.{AreColumns, AreLines, ArePushed, with_part, IsLineOf, coded, digit_in, sum_of}
+use Rattle.uncovered_table.specs.Prepared.{AreLines, ArePushed, with_part, IsLineOf, coded, digit_in, sum_of}
 use Rattle.value_text.proofs.ListLemmas.{add_zero}
 
 -- the parts that are left decide
@@ -164,11 +163,63 @@ parts-few parts begin end order within few = omega (arith, length-take (end - be
 pub parts-exist : (P : Part → Type 0) (parts : List Part) (begin end : ℕ) → All P parts → All P (slice_range parts begin end)
 parts-exist P parts begin end all = All-take P (end - begin) (drop begin parts) (All-drop P begin parts all)
 
--- the parts of the last members
-pub record Pushing (m : ModelView) (slice : Slice) (column : ℕ) (members : List ℕ) (before parts : List Part) (left weight step : ℕ) : Type 0 where
+-- the weight and the step of the last members
+pub record Weighing (m : ModelView) (slice : Slice) (column : ℕ) (members : List ℕ) (left weight step : ℕ) : Type 0 where
   pub within : left ≤ length members
   pub weight_is : weight ≡ ways (own_values m slice) (drop left members)
   pub step_is : step ≡ step_of (own_values m slice) column (drop left members)
+
+weighing-start : (m : ModelView) (slice : Slice) (column : ℕ) (members : List ℕ) (n : ℕ) → n ≡ length members → Weighing m slice column members n 1 0
+weighing-start m slice column members n whole =
+    let none : drop n members ≡ [] = drop_all n members (omega (arith, whole)) in
+    record {
+      within = omega (arith, whole);
+      weight_is = sym (ap (ways (own_values m slice)) none);
+      step_is = sym (ap (step_of (own_values m slice) column) none);
+    }
+
+-- the members from one more on
+opened : (members : List ℕ) (left p : ℕ) → 0 < left → left ≤ length members → p ≡ get_or members (left - 1) 0 → drop (left - 1) members ≡ p ∷ drop left members
+opened members left p some within is =
+    drop_more members (left - 1) 0 (omega (arith, within, some)) ∙ ap (λ q. q ∷ drop (left - 1 + 1) members) (sym is)
+    ∙ ap (λ k. p ∷ drop k members) (let e : left - 1 + 1 ≡ left = omega (arith, some) in e)
+
+turned : (a b : ℕ) → a * b ≡ b * a
+turned a b = grind arith
+
+pub weighing-more : (m : ModelView) (slice : Slice) (column : ℕ) (members : List ℕ) (left p weight step more stepped : ℕ) → 0 < left
+    → Weighing m slice column members left weight step → p ≡ get_or members (left - 1) 0
+    → stepped ≡ cond (nat_eq p column) weight step → more ≡ weight * length (own_values m slice p)
+    → Weighing m slice column members (left - 1) more stepped
+weighing-more m slice column members left p weight step more stepped some weighing is at_step at_more =
+    let open_members = opened members left p some weighing.within is in
+    record {
+      within = omega (arith, weighing.within);
+      weight_is = at_more ∙ turned weight (length (own_values m slice p)) ∙ ap (λ w. length (own_values m slice p) * w) weighing.weight_is
+          ∙ sym (ap (ways (own_values m slice)) open_members);
+      step_is = at_step ∙ ap (λ w. cond (nat_eq p column) w step) weighing.weight_is
+          ∙ ap (cond (nat_eq p column) (ways (own_values m slice) (drop left members))) weighing.step_is
+          ∙ sym (ap (step_of (own_values m slice) column) open_members);
+    }
+
+-- the number with one more member
+number-more : (m : ModelView) (slice : Slice) (column : ℕ) (members : List ℕ) (left p weight step : ℕ) (digits : ℕ → Option ℕ) → 0 < left
+    → Weighing m slice column members left weight step → p ≡ get_or members (left - 1) 0
+    → number_of (own_values m slice) (with_digit digits column 0) (drop (left - 1) members)
+    ≡ joined (with_digit digits column 0 p) weight (number_of (own_values m slice) (with_digit digits column 0) (drop left members))
+number-more m slice column members left p weight step digits some weighing is =
+    ap (number_of (own_values m slice) (with_digit digits column 0)) (opened members left p some weighing.within is)
+    ∙ ap (λ w. joined (with_digit digits column 0 p) w (number_of (own_values m slice) (with_digit digits column 0) (drop left members))) (sym weighing.weight_is)
+
+pub weight-most : (m : ModelView) (slice : Slice) (column : ℕ) (members : List ℕ) (left weight step : ℕ) → Weighing m slice column members left weight step
+    → 0 < ways (own_values m slice) members → ways (own_values m slice) members ≤ 2 ^ 26 → weight ≤ 2 ^ 26
+weight-most m slice column members left weight step weighing own few =
+    let least = fewer_ways (own_values m slice) left members own in
+    omega (arith, least, weighing.weight_is, few)
+
+-- the parts of the last members
+pub record Pushing (m : ModelView) (slice : Slice) (column : ℕ) (members : List ℕ) (before parts : List Part) (left weight step : ℕ) : Type 0 where
+  pub weighing : Weighing m slice column members left weight step
   pub kept : take (length before) parts ≡ before
   pub least : length before ≤ length parts
   pub few : length parts + left ≤ length before + length members
@@ -179,9 +230,7 @@ pub pushing-start : (m : ModelView) (slice : Slice) (column : ℕ) (members : Li
 pushing-start m slice column members before n whole =
     let none : drop n members ≡ [] = drop_all n members (omega (arith, whole)) in
     record {
-      within = omega (arith, whole);
-      weight_is = sym (ap (ways (own_values m slice)) none);
-      step_is = sym (ap (step_of (own_values m slice) column) none);
+      weighing = weighing-start m slice column members n whole;
       kept = take_all (length before) before (omega arith);
       least = omega arith;
       few = omega (arith, whole);
@@ -196,34 +245,22 @@ pub pushing-more : (m : ModelView) (slice : Slice) (column : ℕ) (members : Lis
 pushing-more m slice column members before parts next left p weight step more stepped some pushing is own put at_step at_more =
     by_column (nat_eq p column) refl
   where
-    inside : left - 1 < length members
-    inside = omega (arith, pushing.within, some)
-
-    opened : drop (left - 1) members ≡ p ∷ drop left members
-    opened = drop_more members (left - 1) 0 inside ∙ ap (λ q. q ∷ drop (left - 1 + 1) members) (sym is) ∙ ap (λ k. p ∷ drop k members) (let e : left - 1 + 1 ≡ left = omega (arith, some) in e)
-
-    turned : (a b : ℕ) → a * b ≡ b * a
-    turned a b = grind arith
-
-    weighed : more ≡ ways (own_values m slice) (drop (left - 1) members)
-    weighed = at_more ∙ turned weight (length (own_values m slice p)) ∙ ap (λ w. length (own_values m slice p) * w) pushing.weight_is ∙ sym (ap (ways (own_values m slice)) opened)
+    weighed : Weighing m slice column members (left - 1) more stepped
+    weighed = weighing-more m slice column members left p weight step more stepped some pushing.weighing is at_step at_more
 
     nothing : (w : ℕ) (o : Option ℕ) → joined (Some 0) w o ≡ o
     nothing w None = refl
     nothing w (Some n) = ap (λ (k : ℕ). Some k) (let e : 0 * w + n ≡ n = grind arith in e)
 
     numbered : (digits : ℕ → Option ℕ) → number_of (own_values m slice) (with_digit digits column 0) (drop (left - 1) members)
-        ≡ joined (with_digit digits column 0 p) (ways (own_values m slice) (drop left members)) (number_of (own_values m slice) (with_digit digits column 0) (drop left members))
-    numbered digits = ap (number_of (own_values m slice) (with_digit digits column 0)) opened
+        ≡ joined (with_digit digits column 0 p) weight (number_of (own_values m slice) (with_digit digits column 0) (drop left members))
+    numbered digits = number-more m slice column members left p weight step digits some pushing.weighing is
 
     by_column : (b : Bool) → nat_eq p column ≡ b → Pushing m slice column members before next (left - 1) more stepped
     by_column true here =
         let same : next ≡ parts = put ∙ ap (λ (b : Bool). cond b parts (parts ++ (record { param = p; weight = weight }) ∷ [])) here in
         record {
-          within = omega (arith, pushing.within);
-          weight_is = weighed;
-          step_is = at_step ∙ ap (λ (b : Bool). cond b weight step) here ∙ pushing.weight_is ∙ sym (ap (step_of (own_values m slice) column) opened
-              ∙ ap (λ (b : Bool). cond b (ways (own_values m slice) (drop left members)) (step_of (own_values m slice) column (drop left members))) here);
+          weighing = weighed;
           kept = ap (take (length before)) same ∙ pushing.kept;
           least = omega (arith, pushing.least, ap length same);
           few = omega (arith, pushing.few, ap length same, some);
@@ -232,17 +269,14 @@ pushing-more m slice column members before parts next left p weight step more st
               λ digits.
               ap (λ list. sum_of digits (drop (length before) list)) same ∙ pushing.sums digits
               ∙ sym (numbered digits ∙ ap (λ (b : Bool). joined (cond b (Some 0) (digits p))
-              (ways (own_values m slice) (drop left members)) (number_of (own_values m slice) (with_digit digits column 0) (drop left members))) here
-              ∙ nothing (ways (own_values m slice) (drop left members)) (number_of (own_values m slice) (with_digit digits column 0) (drop left members)));
+              weight (number_of (own_values m slice) (with_digit digits column 0) (drop left members))) here
+              ∙ nothing weight (number_of (own_values m slice) (with_digit digits column 0) (drop left members)));
         }
     by_column false apart =
         let longer : next ≡ parts ++ (record { param = p; weight = weight }) ∷ [] = put ∙ ap (λ (b : Bool). cond b parts (parts ++ (record { param = p; weight = weight }) ∷ [])) apart in
         let size : length next ≡ length parts + 1 = ap length longer ∙ length-append parts ((record { param = p; weight = weight }) ∷ []) in
         record {
-          within = omega (arith, pushing.within);
-          weight_is = weighed;
-          step_is = at_step ∙ ap (λ (b : Bool). cond b weight step) apart ∙ pushing.step_is ∙ sym (ap (step_of (own_values m slice) column) opened
-              ∙ ap (λ (b : Bool). cond b (ways (own_values m slice) (drop left members)) (step_of (own_values m slice) column (drop left members))) apart);
+          weighing = weighed;
           kept = ap (take (length before)) longer ∙ take-append-le (length before) parts ((record { param = p; weight = weight }) ∷ []) pushing.least ∙ pushing.kept;
           least = omega (arith, pushing.least, size);
           few = omega (arith, pushing.few, size, some);
@@ -253,9 +287,9 @@ pushing-more m slice column members before parts next left p weight step more st
               ap (λ list. sum_of digits (drop (length before) list)) longer
               ∙ ap (sum_of digits) (drop-append-le (length before) parts ((record { param = p; weight = weight }) ∷ []) pushing.least)
               ∙ sum-push digits (drop (length before) parts) (record { param = p; weight = weight })
-              ∙ ap (joined (digits p) weight) (pushing.sums digits) ∙ ap (λ w. joined (digits p) w (number_of (own_values m slice) (with_digit digits column 0) (drop left members))) pushing.weight_is
+              ∙ ap (joined (digits p) weight) (pushing.sums digits)
               ∙ sym (numbered digits ∙ ap (λ (b : Bool). joined (cond b (Some 0) (digits p))
-              (ways (own_values m slice) (drop left members)) (number_of (own_values m slice) (with_digit digits column 0) (drop left members))) apart);
+              weight (number_of (own_values m slice) (with_digit digits column 0) (drop left members))) apart);
         }
 
 pub pushing-end : (m : ModelView) (slice : Slice) (column set : ℕ) (members : List ℕ) (before parts : List Part) (left weight step : ℕ) → left ≤ 0 → members ≡ set_at m set → length members ≤ 256
@@ -263,7 +297,7 @@ pub pushing-end : (m : ModelView) (slice : Slice) (column set : ℕ) (members : 
 pushing-end m slice column set members before parts left weight step done is short pushing =
     let none : left ≡ 0 = omega arith in
     let whole : drop left members ≡ set_at m set = ap (λ k. drop k members) none ∙ is in (
-      pushing.step_is ∙ ap (step_of (own_values m slice) column) whole,
+      pushing.weighing.step_is ∙ ap (step_of (own_values m slice) column) whole,
       record {
         kept = pushing.kept;
         least = pushing.least;
@@ -273,19 +307,72 @@ pushing-end m slice column set members before parts left weight step done is sho
       },
     )
 
-pub weight-fits : (m : ModelView) (slice : Slice) (column set : ℕ) (members : List ℕ) (before parts : List Part) (left p weight step : ℕ) → 0 < left → p ≡ get_or members (left - 1) 0
-    → Pushing m slice column members before parts left weight step → 0 < ways (own_values m slice) members → ways (own_values m slice) members ≤ 2 ^ 26
-    → weight * length (own_values m slice p) ≤ 2 ^ 26
-weight-fits m slice column set members before parts left p weight step some is pushing own few =
-    let opened : drop (left - 1) members ≡ p ∷ drop left members = drop_more members (left - 1) 0 (omega (arith, pushing.within, some)) ∙ ap (λ q. q ∷ drop (left - 1 + 1) members) (sym is)
-    ∙ ap (λ k. p ∷ drop k members) (let e : left - 1 + 1 ≡ left = omega (arith, some) in e) in
-    let least = fewer_ways (own_values m slice) (left - 1) members own in
-    let product : ways (own_values m slice) (drop (left - 1) members) ≡ weight * length (own_values m slice p) =
-    ap (ways (own_values m slice)) opened ∙ ap (λ w. length (own_values m slice p) * w) (sym pushing.weight_is) ∙ turned (length (own_values m slice p)) weight in
-    omega (arith, least, product, few)
+-- the number of the last members
+pub record Numbering (m : ModelView) (slice : Slice) (column : ℕ) (members : List ℕ) (digits : ℕ → Option ℕ) (left weight step number : ℕ) : Type 0 where
+  pub weighing : Weighing m slice column members left weight step
+  pub number_is : Some number ≡ number_of (own_values m slice) (with_digit digits column 0) (drop left members)
+
+pub numbering-start : (m : ModelView) (slice : Slice) (column : ℕ) (members : List ℕ) (digits : ℕ → Option ℕ) (n : ℕ) → n ≡ length members
+    → Numbering m slice column members digits n 1 0 0
+numbering-start m slice column members digits n whole = record {
+  weighing = weighing-start m slice column members n whole;
+  number_is = sym (ap (number_of (own_values m slice) (with_digit digits column 0)) (drop_all n members (omega (arith, whole))));
+}
+
+-- one member more makes this of it
+numbering-next : (m : ModelView) (slice : Slice) (column : ℕ) (members : List ℕ) (digits : ℕ → Option ℕ) (left p weight step number : ℕ) (o : Option ℕ) → 0 < left
+    → Numbering m slice column members digits left weight step number → p ≡ get_or members (left - 1) 0
+    → o ≡ joined (with_digit digits column 0 p) weight (Some number)
+    → o ≡ number_of (own_values m slice) (with_digit digits column 0) (drop (left - 1) members)
+numbering-next m slice column members digits left p weight step number o some numbering is made =
+    made ∙ ap (joined (with_digit digits column 0 p) weight) numbering.number_is
+    ∙ sym (number-more m slice column members left p weight step digits some numbering.weighing is)
+
+pub numbering-more : (m : ModelView) (slice : Slice) (column : ℕ) (members : List ℕ) (digits : ℕ → Option ℕ) (left p weight step number more stepped longer : ℕ) → 0 < left
+    → Numbering m slice column members digits left weight step number → p ≡ get_or members (left - 1) 0
+    → Some longer ≡ joined (with_digit digits column 0 p) weight (Some number)
+    → stepped ≡ cond (nat_eq p column) weight step → more ≡ weight * length (own_values m slice p)
+    → Numbering m slice column members digits (left - 1) more stepped longer
+numbering-more m slice column members digits left p weight step number more stepped longer some numbering is made at_step at_more = record {
+  weighing = weighing-more m slice column members left p weight step more stepped some numbering.weighing is at_step at_more;
+  number_is = numbering-next m slice column members digits left p weight step number (Some longer) some numbering is made;
+}
+
+pub numbering-none : (m : ModelView) (slice : Slice) (column : ℕ) (members : List ℕ) (digits : ℕ → Option ℕ) (left p weight step number : ℕ) → 0 < left
+    → Numbering m slice column members digits left weight step number → p ≡ get_or members (left - 1) 0
+    → None ≡ joined (with_digit digits column 0 p) weight (Some number)
+    → None ≡ number_of (own_values m slice) (with_digit digits column 0) members
+numbering-none m slice column members digits left p weight step number some numbering is made =
+    sym (each (left - 1) members (sym (numbering-next m slice column members digits left p weight step number None some numbering is made)))
   where
-    turned : (a b : ℕ) → a * b ≡ b * a
-    turned a b = grind arith
+    each : (k : ℕ) (set : List ℕ) → number_of (own_values m slice) (with_digit digits column 0) (drop k set) ≡ None
+        → number_of (own_values m slice) (with_digit digits column 0) set ≡ None
+    each zero set none = none
+    each (suc k) [] none = none
+    each (suc k) (q ∷ set) none =
+        ap (joined (with_digit digits column 0 q) (ways (own_values m slice) set)) (each k set none)
+        ∙ joined-None (with_digit digits column 0 q) (ways (own_values m slice) set)
+
+pub number-few : (m : ModelView) (slice : Slice) (cells : List (Option ℕ)) (column : ℕ) (members : List ℕ) (left weight step number : ℕ)
+    → Numbering m slice column members (cell_digit (own_values m slice) cells) left weight step number
+    → 0 < length (own_values m slice column) → 0 < ways (own_values m slice) members → ways (own_values m slice) members ≤ 2 ^ 26 → number < 2 ^ 26
+number-few m slice cells column members left weight step number numbering own some few =
+    let values = own_values m slice in
+    let digits = cell_digit values cells in
+    let below = number_below values (with_digit digits column 0) (drop left members) number (with_digits values digits column 0 (cell_digits values cells) own)
+    (sym numbering.number_is) in
+    let most = weight-most m slice column members left weight step numbering.weighing some few in
+    omega (arith, below, most, numbering.weighing.weight_is)
+
+pub member-known : (m : ModelView) (slice : Slice) (cells : List (Option ℕ)) (column set : ℕ) (members : List ℕ) (first left weight step number : ℕ) → IsKept (plan_of m)
+    → IsSliceOf m slice → InPlay m slice column set → members ≡ set_at m set → first ≡ first_bit m slice set → left ≤ 0
+    → Numbering m slice column members (cell_digit (own_values m slice) cells) left weight step number
+    → LineKnown m slice (cell_digit (own_values m slice) cells) column set (first + number) step
+member-known m slice cells column set members first left weight step number kept is play same begin done numbering =
+    let whole : drop left members ≡ members = ap (λ k. drop k members) (let none : left ≡ 0 = omega arith in none) in
+    line_known m slice cells column set members first number step kept is play same begin
+    (numbering.number_is ∙ ap (number_of (own_values m slice) (with_digit (cell_digit (own_values m slice) cells) column 0)) whole)
+    (numbering.weighing.step_is ∙ ap (step_of (own_values m slice) column) whole)
 
 -- more parts behind keep a line
 range-before : (parts more : List Part) (begin end : ℕ) → begin ≤ end → end ≤ length parts → slice_range (parts ++ more) begin end ≡ slice_range parts begin end
@@ -354,28 +441,3 @@ lines-next m slice column i sets line lines next before parts within are pushed 
     subst (λ list. AreLines m slice column (take (i + 1) sets) list parts) (sym put)
     (subst (λ list. AreLines m slice column list (lines ++ line ∷ []) parts) (sym (take_more sets i 0 within))
     (lines-push m slice column (get_or sets i 0) (take i sets) line lines before parts are pushed begins ends first step))
-
--- one column more
-pub columns-more : (m : ModelView) (slice : Slice) (p : ℕ) (columns next : List ColumnLines) (made : ColumnLines) → AreColumns m slice p columns → next ≡ columns ++ made ∷ []
-    → AreLines m slice p (sets_in_play m slice p) made.lines.items made.parts.items → AreColumns m slice (p + 1) next
-columns-more m slice p columns next made are put lines =
-    subst (AreColumns m slice (p + 1)) (sym put) (record {
-      many = length-append columns (made ∷ []) ∙ ap (λ n. n + 1) are.many;
-      each =
-          λ q other within.
-          elim (cases_lt q p) [
-            | inl below ↦
-                subst (λ (c : ColumnLines). AreLines m slice q (sets_in_play m slice q) c.lines.items c.parts.items)
-                (sym (get_or_append_left columns (made ∷ []) other q (omega (arith, below, are.many)))) (are.each q other below)
-            | inr past ↦
-                let last : q ≡ p = omega (arith, past, within) in
-                let here : get_or (columns ++ made ∷ []) q other ≡ made = ap (λ n. get_or (columns ++ made ∷ []) n other) (last ∙ sym are.many) ∙ get_or-append_seam columns made [] other in
-                subst (λ (c : ColumnLines). AreLines m slice q (sets_in_play m slice q) c.lines.items c.parts.items) (sym here)
-                (subst (λ k. AreLines m slice k (sets_in_play m slice k) made.lines.items made.parts.items) (sym last) lines)
-          ];
-    })
-
-pub column-of : (m : ModelView) (slice : Slice) (p : ℕ) (columns : List ColumnLines) (lines : ColumnLines) → AreColumns m slice (length m.params) columns → p < length m.params
-    → lines ≡ get_or columns p lines → AreLines m slice p (sets_in_play m slice p) lines.lines.items lines.parts.items
-column-of m slice p columns lines are within read =
-    subst (λ (c : ColumnLines). AreLines m slice p (sets_in_play m slice p) c.lines.items c.parts.items) (sym read) (are.each p lines within)

@@ -1,13 +1,11 @@
 -- The open tuples of the sets of two parameters once more, as bits in blocks: a block for each digit of a column, and in it a bit for each digit
 -- of each other parameter.
-use Rattle.std.specs.Prelude.{◌≡◌, ℕ, Bool, ◌||◌, ◌+◌, ◌<◌, ◌≤◌, ◌*◌, List, [], ◌∷◌, length, map, IfSome, Option, None, Some, ◌==◌, slice_index_or}
+use Rattle.std.specs.Prelude.{◌≡◌, ℕ, Bool, ◌||◌, ◌+◌, ◌<◌, ◌≤◌, ◌*◌, List, [], ◌∷◌, length, map, IfSome, Option, None, Some, ◌==◌, slice_index_or, if◌then◌else◌}
 use Rattle.cov_model.specs.declared.slice.Slice.{Slice}
 use Rattle.cov_model.specs.Sound.{ModelView}
 use Rattle.definitions.specs.Demand.{is_among}
 use Rattle.tuple_index.specs.Places.{RisesFrom}
 use Rattle.uncovered_table.specs.declared.pairs.PairBits.{PairBits}
-use Rattle.uncovered_table.specs.declared.prepared.Part.{Part}
-use Rattle.uncovered_table.specs.declared.prepared.Prepared.{Prepared}
 use Rattle.uncovered_table.specs.Bits.{InPlay, held_count, sets_in_play}
 use Rattle.uncovered_table.specs.Digits.{AreDigits, own_values}
 use Rattle.uncovered_table.specs.Masks.{begin_at}
@@ -75,8 +73,8 @@ abbrev pub common_count : List (List ℕ) → List ℕ → Option ℕ → ℕ
 common_count blocks mask None = 0
 common_count blocks mask (Some d) = sum_to (common (slice_index_or blocks d []) mask) (64 * length (slice_index_or blocks d []))
 
--- a line has one part, of this parameter, which is not below a number
-pub record IsLonePart (line : Prepared) (parts : List Part) (next p : ℕ) : Type 0 where
-  pub one : line.end ≡ line.begin + 1
-  pub param : (other : Part) → p ≡ (slice_index_or parts line.begin other).param
+-- of two members this one is beside the column, and not below a number
+pub record IsOtherMember (members : List ℕ) (column next p : ℕ) : Type 0 where
+  pub two : length members ≡ 2
+  pub other : p ≡ (if slice_index_or members 0 0 == column then slice_index_or members 1 0 else slice_index_or members 0 0)
   pub least : next ≤ p

@@ -1,6 +1,6 @@
 -- The places of the demanded tuples of a slice. (The order of sets and tuples is this project's rule.)
 -- A place is the number of a demanded set, and the rank of a tuple of it.
-use Rattle.std.specs.Prelude.{ℕ, Bool, true, false, not, ◌&&◌, ◌||◌, List, [], map, length, sum_by, Option, None, ◌==◌, nat_lt, slice_index_or, take_while}
+use Rattle.std.specs.Prelude.{ℕ, Bool, true, false, not, ◌&&◌, ◌||◌, List, [], map, length, sum_by, Option, ◌==◌, nat_lt, slice_index_or, take_while}
 use Rattle.std.specs.List.{flat_map, range_with_len}
 use Rattle.cov_model.specs.declared.slice.Slice.{Slice}
 use Rattle.cov_model.specs.declared.slice.Slice.TheVariants.{Positive, Negative}

@@ -36,6 +36,10 @@ pub record AreLines (m : ModelView) (slice : Slice) (column : ℕ) (sets : List 
   pub exist : All (λ part. part.param < length m.params) parts
   pub each : (k d : ℕ) (other : Prepared) → k < length sets → IsLineOf m slice column (slice_index_or sets k d) (slice_index_or lines k other) parts
 
+-- those of the sets in play for a column
+abbrev pub AreLinesOf : ModelView → Slice → ℕ → ColumnLines → Type 0
+AreLinesOf m slice column made = AreLines m slice column (sets_in_play m slice column) made.lines.items made.parts.items
+
 -- the parts with one more, unless it is the column
 abbrev pub with_part : ℕ → ℕ → ℕ → List Part → List Part
 with_part p column weight parts = if p == column then parts else parts ++ (record { param = p; weight = weight }) ∷ []
@@ -47,8 +51,3 @@ pub record ArePushed (m : ModelView) (slice : Slice) (column set : ℕ) (before 
   pub few : length parts ≤ length before + 256
   pub exist : All (λ part. part.param < length m.params) before → All (λ part. part.param < length m.params) parts
   pub sums : (digits : ℕ → Option ℕ) → sum_of digits (drop (length before) parts) ≡ number_of (own_values m slice) (with_digit digits column 0) (set_at m set)
-
--- those of the first columns
-pub record AreColumns (m : ModelView) (slice : Slice) (count : ℕ) (columns : List ColumnLines) : Type 0 where
-  pub many : length columns ≡ count
-  pub each : (p : ℕ) (other : ColumnLines) → p < count → AreLines m slice p (sets_in_play m slice p) (slice_index_or columns p other).lines.items (slice_index_or columns p other).parts.items

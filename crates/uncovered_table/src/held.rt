@@ -3,7 +3,7 @@ ghost use Rattle.definitions.specs.SliceRows.{IsOfSlice};
 ghost use Rattle.uncovered_table.specs.Bits.{InPlay, all_cleared, bit_count, cleared, held_bit, held_count, line_bit, sets_in_play, value_held};
 ghost use Rattle.uncovered_table.specs.Digits.{HasAllValues, cell_digit, own_values, with_digit};
 ghost use Rattle.uncovered_table.specs.Places.{slice_places};
-ghost use Rattle.uncovered_table.specs.Prepared.{AreLines, digit_in};
+ghost use Rattle.uncovered_table.specs.Prepared.{AreLinesOf, digit_in};
 ghost use Rattle.cov_model.specs.Sound.{param_at};
 
 use crate::block::Line;
@@ -47,11 +47,10 @@ fn clear_at(bits: &mut BitTable, bit: Option<u32>)
     }
 }
 
-// The bit of the tuple of a set in play that cells contain, with this digit in the column, by its prepared
-// line.
-fn prepared_bit(
+// The bit of the tuple of a set in play that cells contain, with this digit in the column.
+fn tuple_bit(
     sets: &SliceSets<'_>,
-    lines: &ColumnLines,
+    lines: Option<&ColumnLines>,
     k: usize,
     set: u32,
     cells: &Cells,
@@ -65,20 +64,20 @@ fn prepared_bit(
     requires long { length sets.now.model.params ≤ length digits.now }
     requires k { k < length (sets_in_play sets.now.model sets.now.slice column) }
     requires own { set ≡ slice_index_or (sets_in_play sets.now.model sets.now.slice column) k 0 }
-    requires lines { AreLines sets.now.model sets.now.slice column (sets_in_play sets.now.model sets.now.slice column) lines.now.lines.items lines.now.parts.items }
+    requires lines { IfSome lines (λ made. AreLinesOf sets.now.model sets.now.slice column made.now) }
     requires digit { digit < length (own_values sets.now.model sets.now.slice column) }
     ensures value { result ≡ held_bit sets.now.model sets.now.slice (with_digit (cell_digit (own_values sets.now.model sets.now.slice) cells.now) column digit) set }
     ensures within { IfSome result (λ b. b < length (slice_places sets.now.model sets.now.slice)) }
 {
     sets.assert_invariant();
-    let line = sets.prepared_line(lines, k, set, column, cells, digits)?;
+    let line = sets.set_line(lines, k, set, column, cells, digits)?;
     Some(line.first + u32::from(digit) * line.step)
 }
 
 // How many open tuples of the sets in play cells contain, with this digit in the column.
 pub(crate) fn count_held(
     sets: &SliceSets<'_>,
-    lines: &ColumnLines,
+    lines: Option<&ColumnLines>,
     bits: &BitTable,
     cells: &Cells,
     column: ParamNo,
@@ -88,7 +87,7 @@ pub(crate) fn count_held(
     requires column { column < length sets.now.model.params }
     requires digit { digit < length (own_values sets.now.model sets.now.slice column) }
     requires bits { length bits.now ≡ length (slice_places sets.now.model sets.now.slice) }
-    requires lines { AreLines sets.now.model sets.now.slice column (sets_in_play sets.now.model sets.now.slice column) lines.now.lines.items lines.now.parts.items }
+    requires lines { IfSome lines (λ made. AreLinesOf sets.now.model sets.now.slice column made.now) }
     ensures { result ≡ sum_by (held_count sets.now.model sets.now.slice bits.now
         (with_digit (cell_digit (own_values sets.now.model sets.now.slice) cells.now) column digit)) (sets_in_play sets.now.model sets.now.slice column) }
 {
@@ -99,7 +98,7 @@ pub(crate) fn count_held(
     sets.put_digits(cells, &mut row);
     let mut count: u32 = 0;
     for k in 0..in_play.len() {
-        let bit = prepared_bit(sets, lines, k, in_play[k], cells, &row, column, digit);
+        let bit = tuple_bit(sets, lines, k, in_play[k], cells, &row, column, digit);
         count += count_at(bits, bit);
     }
     count
@@ -108,7 +107,7 @@ pub(crate) fn count_held(
 // Clears the bits of the tuples of the sets in play that cells contain, with this digit in the column.
 pub(crate) fn clear_held(
     sets: &SliceSets<'_>,
-    lines: &ColumnLines,
+    lines: Option<&ColumnLines>,
     bits: &mut BitTable,
     cells: &Cells,
     column: ParamNo,
@@ -118,7 +117,7 @@ pub(crate) fn clear_held(
     requires column { column < length sets.now.model.params }
     requires digit { digit < length (own_values sets.now.model sets.now.slice column) }
     requires bits { length bits.old ≡ length (slice_places sets.now.model sets.now.slice) }
-    requires lines { AreLines sets.now.model sets.now.slice column (sets_in_play sets.now.model sets.now.slice column) lines.now.lines.items lines.now.parts.items }
+    requires lines { IfSome lines (λ made. AreLinesOf sets.now.model sets.now.slice column made.now) }
     ensures { bits.new ≡ all_cleared sets.now.model sets.now.slice
         (with_digit (cell_digit (own_values sets.now.model sets.now.slice) cells.now) column digit) bits.old
         (sets_in_play sets.now.model sets.now.slice column) }
@@ -129,7 +128,7 @@ pub(crate) fn clear_held(
     let mut row = [NO_DIGIT; 256];
     sets.put_digits(cells, &mut row);
     for k in 0..in_play.len() {
-        let bit = prepared_bit(sets, lines, k, in_play[k], cells, &row, column, digit);
+        let bit = tuple_bit(sets, lines, k, in_play[k], cells, &row, column, digit);
         clear_at(bits, bit);
     }
 }
@@ -176,7 +175,7 @@ pub(crate) fn from_value(digits: &[Option<u16>], from: ValueNo) -> &[Option<u16>
 // the last one, their bits stand side by side.
 fn add_set(
     sets: &SliceSets<'_>,
-    lines: &ColumnLines,
+    lines: Option<&ColumnLines>,
     k: usize,
     bits: &BitTable,
     set: u32,
@@ -196,7 +195,7 @@ fn add_set(
     requires long { length sets.now.model.params ≤ length row.now }
     requires k { k < length (sets_in_play sets.now.model sets.now.slice column) }
     requires own { set ≡ slice_index_or (sets_in_play sets.now.model sets.now.slice column) k 0 }
-    requires lines { AreLines sets.now.model sets.now.slice column (sets_in_play sets.now.model sets.now.slice column) lines.now.lines.items lines.now.parts.items }
+    requires lines { IfSome lines (λ made. AreLinesOf sets.now.model sets.now.slice column made.now) }
     requires all { all ≡ true → HasAllValues sets.now.model sets.now.slice column }
     requires low { All (λ score. score < 2 ^ 31) scores.old }
     ensures long { length scores.new ≡ length scores.old }
@@ -204,7 +203,7 @@ fn add_set(
         ≡ slice_index_or scores.old i 0 + value_held sets.now.model sets.now.slice bits.now cells.now column (from + i) set }
 {
     sets.assert_invariant();
-    if let Some(line) = sets.prepared_line(lines, k, set, column, cells, row) {
+    if let Some(line) = sets.set_line(lines, k, set, column, cells, row) {
         if all && line.step == 1 {
             add_bits(bits, line.first, from, scores);
         } else {
@@ -218,7 +217,7 @@ fn add_set(
 // column.
 pub(crate) fn add_held(
     sets: &SliceSets<'_>,
-    lines: &ColumnLines,
+    lines: Option<&ColumnLines>,
     bits: &BitTable,
     cells: &Cells,
     column: ParamNo,
@@ -229,7 +228,7 @@ pub(crate) fn add_held(
     requires column { column < length sets.now.model.params }
     requires values { from + length scores.old ≤ length (param_at sets.now.model.params column).values }
     requires bits { length bits.now ≡ length (slice_places sets.now.model sets.now.slice) }
-    requires lines { AreLines sets.now.model sets.now.slice column (sets_in_play sets.now.model sets.now.slice column) lines.now.lines.items lines.now.parts.items }
+    requires lines { IfSome lines (λ made. AreLinesOf sets.now.model sets.now.slice column made.now) }
     requires zero { All (λ score. score ≡ 0) scores.old }
     ensures long { length scores.new ≡ length scores.old }
     ensures each { (i : ℕ) → i < length scores.old → slice_index_or scores.new i 0

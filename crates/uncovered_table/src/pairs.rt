@@ -5,14 +5,14 @@ ghost use Rattle.uncovered_table.specs.Bits.{InPlay, all_cleared, cleared, held_
 ghost use Rattle.uncovered_table.specs.Digits.{cell_digit, own_values, with_digit};
 ghost use Rattle.definitions.specs.Demand.{demanded_sets};
 ghost use Rattle.uncovered_table.specs.Masks.{AreAll, AreBegins, AreWithout, IsCleared, IsMask, begin_at, restricted};
-ghost use Rattle.uncovered_table.specs.Pairs.{AreKept, ArePartners, HasPairs, IsBlockPair, IsLonePart, IsPartner, Matched, common_count, digit_count};
+ghost use Rattle.uncovered_table.specs.Pairs.{AreKept, ArePartners, HasPairs, IsBlockPair, IsOtherMember, IsPartner, Matched, common_count, digit_count};
 ghost use Rattle.uncovered_table.specs.Places.{slice_places};
-ghost use Rattle.uncovered_table.specs.Prepared.{AreColumns, AreLines};
+ghost use Rattle.uncovered_table.specs.Prepared.{AreLinesOf};
 ghost use Rattle.uncovered_table.specs.Words.{bit_in};
 ghost use Rattle.tuple_index.specs.Places.{RisesFrom};
 
 use crate::held::{clear_held, from_value};
-use crate::prepared::{ColumnLines, Part, Prepared};
+use crate::prepared::ColumnLines;
 use crate::sets::SliceSets;
 use crate::words::{WORD_BITS, clear_bit, count_common, set_bit, set_bits, used};
 use bit_table::BitTable;
@@ -84,16 +84,21 @@ fn put_digit(mask: &mut [u64], begin: u32, digit: Option<u16>)
     }
 }
 
-// The parameter of the one part of a line, where it has one alone and this is not below a number.
-fn lone_part(line: Prepared, parts: &[Part], next: u32) -> Option<ParamNo>
-    requires order { line.begin ≤ line.end }
-    requires within { line.end ≤ length parts.now }
-    ensures { IfSome result (λ p. IsLonePart line parts.now next p) }
+// Of two parameters the one that is not the column.
+fn other_of(first: ParamNo, second: ParamNo, column: ParamNo) -> ParamNo
+    ensures { result ≡ (if first == column then second else first) }
 {
-    if line.end - line.begin != 1 {
+    if first == column { second } else { first }
+}
+
+// The member beside the column, where it is one alone and not below a number.
+fn other_member(members: &[ParamNo], column: ParamNo, next: u32) -> Option<ParamNo>
+    ensures { IfSome result (IsOtherMember members.now column next) }
+{
+    if members.len() != 2 {
         return None;
     }
-    let p = parts[line.begin].param;
+    let p = other_of(members[0], members[1], column);
     if u32::from(p) < next {
         return None;
     }
@@ -178,14 +183,8 @@ impl<'a> SliceSets<'a> {
     }
 
     // The other member of each set in play for a column, where each has one and they rise.
-    fn partners(
-        &self,
-        alloc: Global,
-        column: ParamNo,
-        lines: &ColumnLines,
-    ) -> Result<Option<Vec<ParamNo>>, NoMemory>
-        requires column { column < length self.now.model.params }
-        requires lines { AreLines self.now.model self.now.slice column (sets_in_play self.now.model self.now.slice column) lines.now.lines.items lines.now.parts.items }
+    fn partners(&self, alloc: Global, column: ParamNo) -> Result<Option<Vec<ParamNo>>, NoMemory>
+        requires { column < length self.now.model.params }
         ensures { IfOk result (λ found. IfSome found (λ partners. ArePartners self.now.model self.now.slice column (sets_in_play self.now.model self.now.slice column) partners.items)) }
     {
         self.assert_invariant();
@@ -193,8 +192,8 @@ impl<'a> SliceSets<'a> {
         let mut partners = Vec::new(alloc);
         let mut next: u32 = 0;
         for k in 0..in_play.len() {
-            let line = lines.lines[k];
-            let p = match lone_part(line, lines.parts.as_slice(), next) {
+            let members = self.part.members(in_play[k]);
+            let p = match other_member(members, column, next) {
                 Some(p) => p,
                 None => return Ok(None),
             };
@@ -227,18 +226,16 @@ impl<'a> SliceSets<'a> {
         &self,
         alloc: Global,
         column: ParamNo,
-        lines: &ColumnLines,
         begins: &[u32],
     ) -> Result<Option<PairBits>, NoMemory>
         requires column { column < length self.now.model.params }
-        requires lines { AreLines self.now.model self.now.slice column (sets_in_play self.now.model self.now.slice column) lines.now.lines.items lines.now.parts.items }
         requires begins { AreBegins (digit_count self.now.model self.now.slice) (length self.now.model.params) begins.now }
         requires fits { begin_at (digit_count self.now.model self.now.slice) (length self.now.model.params) ≤ 64 * 128 }
         ensures { IfOk result (λ found. IfSome found (HasPairs self.now.model self.now.slice (replicate (length (slice_places self.now.model self.now.slice)) true) column)) }
     {
         self.assert_invariant();
         let count = self.part.value_count(column);
-        let found = self.partners(alloc, column, lines)?;
+        let found = self.partners(alloc, column)?;
         let partners = match found {
             Some(partners) => partners,
             None => return Ok(None),
@@ -260,17 +257,15 @@ impl<'a> SliceSets<'a> {
         alloc: Global,
         end: u32,
         column: ParamNo,
-        lines: &ColumnLines,
         begins: &[u32],
     ) -> Result<Option<PairBits>, NoMemory>
         requires column { column < length self.now.model.params }
-        requires lines { AreLines self.now.model self.now.slice column (sets_in_play self.now.model self.now.slice column) lines.now.lines.items lines.now.parts.items }
         requires begins { AreBegins (digit_count self.now.model self.now.slice) (length self.now.model.params) begins.now }
         requires end { end ≡ begin_at (digit_count self.now.model self.now.slice) (length self.now.model.params) }
         ensures { IfOk result (λ found. IfSome found (HasPairs self.now.model self.now.slice (replicate (length (slice_places self.now.model self.now.slice)) true) column)) }
     {
         if end as usize <= WORD_BITS * MASK_WORDS {
-            self.column_pairs(alloc, column, lines, begins)
+            self.column_pairs(alloc, column, begins)
         } else {
             Ok(None)
         }
@@ -280,20 +275,17 @@ impl<'a> SliceSets<'a> {
     pub(crate) fn all_pairs(
         &self,
         alloc: Global,
-        lines: &[ColumnLines],
         begins: &[u32],
     ) -> Result<Vec<Option<PairBits>>, NoMemory>
-        requires lines { AreColumns self.now.model self.now.slice (length self.now.model.params) lines.now }
-        requires begins { AreBegins (digit_count self.now.model self.now.slice) (length self.now.model.params) begins.now }
+        requires { AreBegins (digit_count self.now.model self.now.slice) (length self.now.model.params) begins.now }
         ensures { IfOk result (λ columns. AreKept self.now.model self.now.slice (replicate (length (slice_places self.now.model self.now.slice)) true) (length self.now.model.params) columns.items) }
     {
         self.assert_invariant();
-        let count = lines.len();
+        let count = self.part.param_count();
         let end = begins[count];
         let mut columns = Vec::new(alloc);
         for p in 0..count {
-            let column = &lines[p];
-            let pairs = self.pairs_if(alloc, end, p as ParamNo, column, begins)?;
+            let pairs = self.pairs_if(alloc, end, p as ParamNo, begins)?;
             columns.push(pairs)?;
         }
         Ok(columns)
@@ -450,11 +442,11 @@ fn clear_pairs(
     );
 }
 
-// Clears those bits, by the pairs where they are kept, else by the prepared lines.
+// Clears those bits, by the pairs where they are kept, else by the lines of the sets.
 fn clear_kept(
     sets: &SliceSets<'_>,
     kept: &mut Option<PairBits>,
-    lines: &ColumnLines,
+    lines: Option<&ColumnLines>,
     begins: &[u32],
     bits: &mut BitTable,
     cells: &Cells,
@@ -465,7 +457,7 @@ fn clear_kept(
     requires column { column < length sets.now.model.params }
     requires digit { digit < length (own_values sets.now.model sets.now.slice column) }
     requires bits { length bits.old ≡ length (slice_places sets.now.model sets.now.slice) }
-    requires lines { AreLines sets.now.model sets.now.slice column (sets_in_play sets.now.model sets.now.slice column) lines.now.lines.items lines.now.parts.items }
+    requires lines { IfSome lines (λ made. AreLinesOf sets.now.model sets.now.slice column made.now) }
     requires begins { AreBegins (digit_count sets.now.model sets.now.slice) (length sets.now.model.params) begins.now }
     requires pairs { IfSome kept.old (HasPairs sets.now.model sets.now.slice bits.old column) }
     ensures bits { bits.new ≡ all_cleared sets.now.model sets.now.slice
@@ -485,7 +477,7 @@ fn clear_kept(
 pub(crate) fn clear_column(
     sets: &SliceSets<'_>,
     columns: &mut Vec<Option<PairBits>>,
-    lines: &ColumnLines,
+    lines: Option<&ColumnLines>,
     begins: &[u32],
     bits: &mut BitTable,
     cells: &Cells,
@@ -496,7 +488,7 @@ pub(crate) fn clear_column(
     requires column { column < length sets.now.model.params }
     requires digit { digit < length (own_values sets.now.model sets.now.slice column) }
     requires bits { length bits.old ≡ length (slice_places sets.now.model sets.now.slice) }
-    requires lines { AreLines sets.now.model sets.now.slice column (sets_in_play sets.now.model sets.now.slice column) lines.now.lines.items lines.now.parts.items }
+    requires lines { IfSome lines (λ made. AreLinesOf sets.now.model sets.now.slice column made.now) }
     requires begins { AreBegins (digit_count sets.now.model sets.now.slice) (length sets.now.model.params) begins.now }
     requires kept { AreKept sets.now.model sets.now.slice bits.old (length sets.now.model.params) columns.old.items }
     ensures bits { bits.new ≡ all_cleared sets.now.model sets.now.slice

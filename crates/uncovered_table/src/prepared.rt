@@ -1,8 +1,8 @@
-ghost use Rattle.std.specs.Prelude.{◌≡◌, ◌+◌, ◌*◌, ◌<◌, ◌≤◌, ◌==◌, ℕ, All, IfOk, IfSome, OnOk, if◌then◌else◌, length, option_map, slice_index_or, slice_range};
-ghost use Rattle.uncovered_table.specs.Prepared.{AreColumns, AreLines, ArePushed, digit_in, sum_of, with_part};
+ghost use Rattle.std.specs.Prelude.{◌≡◌, ◌+◌, ◌*◌, ◌<◌, ◌≤◌, ◌^◌, ◌==◌, ℕ, All, IfOk, IfSome, OnOk, Some, if◌then◌else◌, length, option_map, slice_index_or, slice_range};
+ghost use Rattle.uncovered_table.specs.Prepared.{AreLines, AreLinesOf, ArePushed, digit_in, sum_of, with_part};
 ghost use Rattle.definitions.specs.SliceRows.{IsOfSlice};
 ghost use Rattle.uncovered_table.specs.Bits.{InPlay, held_bit, sets_in_play};
-ghost use Rattle.uncovered_table.specs.Digits.{cell_digit, own_values, step_of, with_digit};
+ghost use Rattle.uncovered_table.specs.Digits.{cell_digit, joined, own_values, step_of, with_digit};
 ghost use Rattle.uncovered_table.specs.Places.{set_at, slice_places};
 
 use crate::block::Line;
@@ -34,6 +34,7 @@ pub(crate) struct Prepared {
 // The lines of the sets in play for a column, in order, and their parts one behind another.
 #[derive(Drop)]
 pub(crate) struct ColumnLines {
+    pub(crate) column: ParamNo,
     pub(crate) lines: Vec<Prepared>,
     pub(crate) parts: Vec<Part>,
 }
@@ -88,6 +89,25 @@ fn step_at(p: ParamNo, column: ParamNo, weight: u32, step: u32) -> u32
     if p == column { weight } else { step }
 }
 
+// A number with the digit of one more member before it, where this is there. The digit of the column is
+// left out.
+#[inline]
+fn with_member(number: u64, digits: &[u16], p: ParamNo, column: ParamNo, weight: u32) -> Option<u64>
+    requires within { p < length digits.now }
+    requires few { number < 2 ^ 32 }
+    ensures { result ≡ joined (with_digit (digit_in digits.now) column 0 p) weight (Some number) }
+{
+    if p == column {
+        return Some(number);
+    }
+    let digit = digits[p as usize];
+    if digit == NO_DIGIT {
+        None
+    } else {
+        Some(u64::from(digit) * u64::from(weight) + number)
+    }
+}
+
 impl<'a> SliceSets<'a> {
     // Puts the parts of a set in play behind those of others, and gives the step of the column.
     fn push_parts(&self, set: u32, column: ParamNo, parts: &mut Vec<Part>) -> Result<u32, NoMemory>
@@ -117,7 +137,8 @@ impl<'a> SliceSets<'a> {
         column: ParamNo,
     ) -> Result<ColumnLines, NoMemory>
         requires { column < length self.now.model.params }
-        ensures { IfOk result (λ made. AreLines self.now.model self.now.slice column (sets_in_play self.now.model self.now.slice column) made.lines.items made.parts.items) }
+        ensures own { IfOk result (λ made. made.column ≡ column) }
+        ensures lines { IfOk result (AreLinesOf self.now.model self.now.slice column) }
     {
         let mut lines = Vec::new(alloc);
         let mut parts = Vec::new(alloc);
@@ -133,20 +154,27 @@ impl<'a> SliceSets<'a> {
             };
             lines.push(line)?;
         }
-        Ok(ColumnLines { lines, parts })
+        Ok(ColumnLines {
+            column,
+            lines,
+            parts,
+        })
     }
 
-    // The prepared lines of each column.
-    pub(crate) fn all_lines(&self, alloc: Global) -> Result<Vec<ColumnLines>, NoMemory>
-        ensures { IfOk result (λ columns. AreColumns self.now.model self.now.slice (length self.now.model.params) columns.items) }
+    // The lines that are ready, where they are those of this column.
+    pub(crate) fn lines_for<'b>(
+        &self,
+        ready: &'b Option<ColumnLines>,
+        column: ParamNo,
+    ) -> Option<&'b ColumnLines>
+        requires { IfSome ready.now (λ made. AreLinesOf self.now.model self.now.slice made.column made) }
+        ensures { IfSome result (λ made. AreLinesOf self.now.model self.now.slice column made.now) }
     {
-        self.assert_invariant();
-        let mut columns = Vec::new(alloc);
-        for p in 0..self.model().params().len() {
-            let made = self.column_lines(alloc, p as ParamNo)?;
-            columns.push(made)?;
+        let _ = self;
+        match ready {
+            Some(lines) if lines.column == column => Some(lines),
+            _ => None,
         }
-        Ok(columns)
     }
 
     // Puts the digits of a row's values.
@@ -166,9 +194,10 @@ impl<'a> SliceSets<'a> {
         }
     }
 
-    // The bits of the tuples of a set in play that cells contain, for the digits of the column.
+    // The bits of the tuples of a set in play that cells contain, for the digits of the column, by its
+    // prepared line.
     #[inline]
-    pub(crate) fn prepared_line(
+    fn prepared_line(
         &self,
         lines: &ColumnLines,
         k: usize,
@@ -183,7 +212,7 @@ impl<'a> SliceSets<'a> {
         requires long { length self.now.model.params ≤ length digits.now }
         requires k { k < length (sets_in_play self.now.model self.now.slice column) }
         requires own { set ≡ slice_index_or (sets_in_play self.now.model self.now.slice column) k 0 }
-        requires lines { AreLines self.now.model self.now.slice column (sets_in_play self.now.model self.now.slice column) lines.now.lines.items lines.now.parts.items }
+        requires lines { AreLinesOf self.now.model self.now.slice column lines.now }
         ensures value { (d : ℕ) → held_bit self.now.model self.now.slice (with_digit (cell_digit (own_values self.now.model self.now.slice) cells.now) column d) set
             ≡ option_map (λ line. line.first + d * line.step) result }
         ensures within { IfSome result (λ line. (d : ℕ) → d < length (own_values self.now.model self.now.slice column)
@@ -199,6 +228,67 @@ impl<'a> SliceSets<'a> {
                 step: line.step,
             }),
             None => None,
+        }
+    }
+
+    // Those bits, by the members of the set, the last one first.
+    fn member_line(&self, set: u32, column: ParamNo, cells: &Cells, digits: &[u16]) -> Option<Line>
+        requires set { InPlay self.now.model self.now.slice column set }
+        requires cells { IsOfSlice self.now.model self.now.slice cells.now }
+        requires digits { digit_in digits.now ≡ cell_digit (own_values self.now.model self.now.slice) cells.now }
+        requires long { length self.now.model.params ≤ length digits.now }
+        ensures value { (d : ℕ) → held_bit self.now.model self.now.slice (with_digit (cell_digit (own_values self.now.model self.now.slice) cells.now) column d) set
+            ≡ option_map (λ line. line.first + d * line.step) result }
+        ensures within { IfSome result (λ line. (d : ℕ) → d < length (own_values self.now.model self.now.slice column)
+            → line.first + d * line.step < length (slice_places self.now.model self.now.slice)) }
+    {
+        self.assert_invariant();
+        let _ = cells;
+        let members = self.part.members(set);
+        let mut weight: u32 = 1;
+        let mut step: u32 = 0;
+        let mut number: u64 = 0;
+        let mut left = members.len();
+        while left > 0 {
+            left -= 1;
+            let p = members[left];
+            let count = self.part.value_count(p);
+            number = with_member(number, digits, p, column, weight)?;
+            step = step_at(p, column, weight, step);
+            weight *= count;
+        }
+        Some(Line {
+            first: self.block(set).first + number as u32,
+            step,
+        })
+    }
+
+    // Those bits, by the prepared line where the lines of the column are ready.
+    #[inline]
+    pub(crate) fn set_line(
+        &self,
+        lines: Option<&ColumnLines>,
+        k: usize,
+        set: u32,
+        column: ParamNo,
+        cells: &Cells,
+        digits: &[u16],
+    ) -> Option<Line>
+        requires set { InPlay self.now.model self.now.slice column set }
+        requires cells { IsOfSlice self.now.model self.now.slice cells.now }
+        requires digits { digit_in digits.now ≡ cell_digit (own_values self.now.model self.now.slice) cells.now }
+        requires long { length self.now.model.params ≤ length digits.now }
+        requires k { k < length (sets_in_play self.now.model self.now.slice column) }
+        requires own { set ≡ slice_index_or (sets_in_play self.now.model self.now.slice column) k 0 }
+        requires lines { IfSome lines (λ made. AreLinesOf self.now.model self.now.slice column made.now) }
+        ensures value { (d : ℕ) → held_bit self.now.model self.now.slice (with_digit (cell_digit (own_values self.now.model self.now.slice) cells.now) column d) set
+            ≡ option_map (λ line. line.first + d * line.step) result }
+        ensures within { IfSome result (λ line. (d : ℕ) → d < length (own_values self.now.model self.now.slice column)
+            → line.first + d * line.step < length (slice_places self.now.model self.now.slice)) }
+    {
+        match lines {
+            Some(lines) => self.prepared_line(lines, k, set, column, cells, digits),
+            None => self.member_line(set, column, cells, digits),
         }
     }
 }

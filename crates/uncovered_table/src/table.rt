@@ -26,7 +26,8 @@ use value_text::NoMemory;
 #[derive(Drop)]
 pub struct Uncovered<'a> {
     sets: SliceSets<'a>,
-    lines: Vec<ColumnLines>,
+    // The lines of one column at most, since those of all columns take much memory.
+    ready: Option<ColumnLines>,
     begins: Vec<u32>,
     pairs: Vec<Option<PairBits>>,
     bits: BitTable,
@@ -47,7 +48,7 @@ impl<'a> Model for Uncovered<'a> {
 
     ghost view = { λ a. marked a.sets.model a.sets.slice a.bits };
 
-    ghost invariant = { λ a. IsTable a.sets.model a.sets.slice a.lines.items a.begins.items a.pairs.items a.bits };
+    ghost invariant = { λ a. IsTable a.sets.model a.sets.slice a.ready a.begins.items a.pairs.items a.bits };
 }
 
 impl<'a> Uncovered<'a> {
@@ -69,12 +70,11 @@ impl<'a> Uncovered<'a> {
     {
         let sets = SliceSets::new(alloc, SlicePart::new(model, plan, slice))?;
         let bits = BitTable::all_set(alloc, sets.size())?;
-        let lines = sets.all_lines(alloc)?;
         let begins = sets.begins(alloc)?;
-        let pairs = sets.all_pairs(alloc, lines.as_slice(), begins.as_slice())?;
+        let pairs = sets.all_pairs(alloc, begins.as_slice())?;
         Ok(Uncovered {
             sets,
-            lines,
+            ready: None,
             begins,
             pairs,
             bits,
@@ -96,6 +96,21 @@ impl<'a> Uncovered<'a> {
         ensures { result.now ≡ self.now.model }
     {
         self.sets.model()
+    }
+
+    /// Makes a column ready, in place of the one that was: `gain`, `gains` and `close_row` take fewer
+    /// steps for it. After a refusal none is ready.
+    ///
+    /// # Errors
+    ///
+    /// `NoMemory` where memory is refused.
+    pub fn prepare(&mut self, alloc: Global, column: ParamNo) -> Result<(), NoMemory>
+        requires { column < length self.old.model.params }
+        ensures { self.new ≡ self.old }
+    {
+        self.ready = None;
+        self.ready = Some(self.sets.column_lines(alloc, column)?);
+        Ok(())
     }
 
     /// Whether the tuple of this place is open. Takes no memory.
@@ -128,7 +143,7 @@ impl<'a> Uncovered<'a> {
             Some(digit) => clear_column(
                 &self.sets,
                 &mut self.pairs,
-                &self.lines[column as usize],
+                self.sets.lines_for(&self.ready, column),
                 self.begins.as_slice(),
                 &mut self.bits,
                 cells,
@@ -178,7 +193,7 @@ impl<'a> Uncovered<'a> {
         match self.sets.value_digit(column, value) {
             Some(digit) => count_held(
                 &self.sets,
-                &self.lines[column as usize],
+                self.sets.lines_for(&self.ready, column),
                 &self.bits,
                 cells,
                 column,
@@ -213,7 +228,7 @@ impl<'a> Uncovered<'a> {
                 scores.fill(0);
                 add_held(
                     &self.sets,
-                    &self.lines[column as usize],
+                    self.sets.lines_for(&self.ready, column),
                     &self.bits,
                     cells,
                     column,

@@ -1,5 +1,4 @@
 use Rattle.std.proofs.Common.{◌≡◌, ◌∙◌, ◌+◌, Some, None, ap, arith, get_or, refl, sym}
-use Rattle.std.specs.Prelude.{◌==◌, if◌then◌else◌}
 use Rattle.uncovered_table.specs.Bits.{cleared}
 use Rattle.uncovered_table.specs.Digits.{cell_digit, own_values, with_digit}
 use Rattle.uncovered_table.specs.Masks.{begin_at}

@@ -1,9 +1,9 @@
-use Rattle.std.proofs.Common.{◌≡◌, ◌∙◌, ◌/◌, ◌%◌, ◌*◌, ◌^◌, ◌<◌, ap, arith, bit_and, get_or, length, sym, w64}
+use Rattle.std.proofs.Common.{◌≡◌, ◌∙◌, ◌/◌, ◌%◌, ◌*◌, ◌^◌, ◌<◌, ap, arith, bit_and, length, sym, w64}
 use Rattle.std.specs.Int.{bit_at, bit_not}
 use Rattle.std.proofs.lemmas.Bool.Decides.{nat_tests}
 use Rattle.std.proofs.lemmas.List.{get_or_default}
 use Rattle.std.proofs.lemmas.Nat.Bits.{bit_at_clear_same}
-use Rattle.uncovered_table.proofs.WordLemmas.{bit-past, clear-bit}
+use Rattle.uncovered_table.proofs.WordLemmas.{clear-bit}
 use Rattle.uncovered_table.proofs.words.clear_bit.Goals as goal
 
 pub returns-clause-none : goal.returns-clause-none

@@ -1,25 +1,19 @@
 use Rattle.std.proofs.Common.{◌≡◌, ◌∙◌, ◌++◌, ◌∷◌, [], ap, arith, length, replicate, subst, true}
 use Rattle.std.proofs.lemmas.Grind.{common_steps}
+use Rattle.uncovered_table.specs.Masks.{begin_at}
 use Rattle.uncovered_table.specs.Pairs.{AreKept, digit_count}
 use Rattle.uncovered_table.specs.Places.{slice_places}
 use Rattle.uncovered_table.proofs.PartnerLemmas.{kept-more}
-use Rattle.uncovered_table.specs.Masks.{begin_at}
-use Rattle.uncovered_table.proofs.PreparedLemmas.{column-of}
 use Rattle.uncovered_table.proofs.sets.SliceSets.all_pairs.Goals as goal
 
 pub pairs_if-requires-clause-column : goal.pairs_if-requires-clause-column
-pairs_if-requires-clause-column c = omega (arith, c.loop-p-test.true, c.requires.lines.many)
-
-pub pairs_if-requires-clause-lines : goal.pairs_if-requires-clause-lines
-pairs_if-requires-clause-lines c =
-    let v = c.args.self.now in
-    column-of v.model v.slice c.loop-p.p c.args.lines.now c.index-lines-p.result c.requires.lines (omega (arith, c.loop-p-test.true, c.requires.lines.many))
-    c.index-lines-p.is
+pairs_if-requires-clause-column c = omega (arith, c.loop-p-test.true, c.param_count-count.ensures, ap (λ w. length w.model.params) c.self.view_is)
 
 pub pairs_if-requires-clause-end : goal.pairs_if-requires-clause-end
 pairs_if-requires-clause-end c =
     let v = c.args.self.now in
-    c.requires.begins.each (length c.args.lines.now) 0 (omega (arith, c.requires.lines.many)) ∙ ap (begin_at (digit_count v.model v.slice)) c.requires.lines.many
+    let all : c.param_count-count.result ≡ length v.model.params = c.param_count-count.ensures ∙ ap (λ w. length w.model.params) c.self.view_is in
+    c.requires.each c.param_count-count.result 0 (omega (arith, all)) ∙ ap (begin_at (digit_count v.model v.slice)) all
 
 pub loop-p-preserved : goal.loop-p-preserved
 loop-p-preserved c =
@@ -31,5 +25,5 @@ loop-p-preserved c =
 pub returns : goal.returns
 returns c =
     let v = c.args.self.now in
-    let all : c.loop-p.p ≡ length v.model.params = omega (arith, c.loop-p-test.false, c.requires.lines.many, c.loop-p.auto.p-end) in
+    let all : c.loop-p.p ≡ length v.model.params = omega (arith, c.loop-p-test.false, c.param_count-count.ensures, ap (λ w. length w.model.params) c.self.view_is, c.loop-p.auto.p-end) in
     subst (λ n. AreKept v.model v.slice (replicate (length (slice_places v.model v.slice)) true) n c.loop-p.columns.items) all c.loop-p.invariant

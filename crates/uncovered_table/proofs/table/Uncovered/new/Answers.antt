@@ -11,7 +11,7 @@ invariant_of-result c =
     let v = c.in_ok-sets.sets in
     record {
       long = ap length c.in_ok-bits.ensures ∙ length-replicate c.size.result true ∙ c.size.ensures;
-      lines = c.in_ok-lines.ensures;
+      lines = tt;
       begins_are = c.in_ok-begins.ensures;
       kept =
           subst (λ bits. AreKept v.model v.slice bits (length v.model.params) c.in_ok-pairs.pairs.items)

@@ -1,5 +1,5 @@
 use Rattle.std.proofs.Common.{◌*◌, ap, arith}
-use Rattle.uncovered_table.proofs.held.prepared_bit.Goals as goal
+use Rattle.uncovered_table.proofs.held.tuple_bit.Goals as goal
 
 pub overflow_mul-result : goal.overflow_mul-result
 overflow_mul-result c =
