@@ -1,4 +1,4 @@
-ghost use Rattle.std.specs.Prelude.{◌≡◌, ◌+◌, true, ◌^◌, ◌<◌, ◌≤◌, ℕ, List, [], All, Some, None, IfErr, IfOk, OnOk, length, map, take, sum, sum_by, slice_get, slice_index_or};
+ghost use Rattle.std.specs.Prelude.{◌≡◌, ◌+◌, ◌*◌, true, ◌^◌, ◌<◌, ◌≤◌, ℕ, List, [], All, Some, None, IfErr, IfOk, OnOk, length, map, take, sum, sum_by, slice_get, slice_index_or};
 ghost use Rattle.cov_model.specs.Sound.{ModelView};
 ghost use Rattle.definitions.specs.Demand.{is_among, tuples_of};
 ghost use Rattle.tuple_index.specs.Kept.{IsKept, of_values, with_sets};
@@ -322,17 +322,25 @@ impl Plan {
         Slice::Positive
     }
 
+    // How many tuples have one of so many negative values of a member.
+    fn ways_with(&self, members: &[ParamNo], p: ParamNo, count: u64) -> u64
+        requires exist { All (λ p. p < length self.now.positives) members.now }
+        requires own { p < length self.now.positives }
+        ensures { result ≡ saturated (count * ways (values_in self.now (Slice.Negative p 0)) members.now) }
+    {
+        if count == 0 {
+            return 0;
+        }
+        count.saturating_mul(self.ways(members, Slice::Negative(p, 0)))
+    }
+
     // How many tuples have a negative value of this member.
     fn negative_ways(&self, members: &[ParamNo], p: ParamNo) -> u64
         requires exist { All (λ p. p < length self.now.positives) members.now }
         requires own { p < length self.now.positives }
         ensures { result ≡ saturated (negative_ways self.now members.now p) }
     {
-        let count = self.negatives(p).len() as u64;
-        if count == 0 {
-            return 0;
-        }
-        count.saturating_mul(self.ways(members, Slice::Negative(p, 0)))
+        self.ways_with(members, p, self.negatives(p).len() as u64)
     }
 
     // How many demanded tuples a set has.
@@ -371,10 +379,7 @@ impl Plan {
         match slice {
             Slice::Positive => 0,
             Slice::Negative(q, v) => {
-                let inside = place_in(self.negatives(q), v).saturating_mul(self.ways(
-                    members,
-                    Slice::Negative(q, 0),
-                ));
+                let inside = self.ways_with(members, q, place_in(self.negatives(q), v));
                 let before = self.ways_before(members, q).saturating_add(inside);
                 self.ways(members, Slice::Positive).saturating_add(before)
             }
