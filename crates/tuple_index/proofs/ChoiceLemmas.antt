@@ -1,9 +1,10 @@
 -- The steps and the ends of the loops that list choices.
-use Rattle.std.proofs.Common.{Some, Bool, true, false, ◌||◌, ◌≡◌, ℕ, zero, suc, ◌+◌, ◌-◌, ◌<◌, ◌≤◌, List, [], ◌∷◌, ◌++◌, map, drop, length, get_or, ◌∙◌, refl, sym, ap, arith, append_assoc}
+use Rattle.std.proofs.Common.{Some, Bool, true, false, ◌||◌, ◌≡◌, ℕ, zero, suc, ◌+◌, ◌-◌, ◌<◌, ◌≤◌, List, [], ◌∷◌, ◌++◌, map, take, drop, length, get_or, ◌∙◌, refl, sym, ap, arith, append_assoc}
 use Rattle.std.specs.List.{flat_map, filter, list_any, range_with_len}
 use Rattle.tuple_index.proofs.ListingLemmas.{map_map}
 use Rattle.std.proofs.lemmas.List.Folds.{flat_map-map}
-use Rattle.std.proofs.lemmas.List.{at_drop_more, at_drop_all, append-nil, length-drop, map-append}
+use Rattle.std.proofs.lemmas.List.{at_drop_more, at_drop_all, append-nil, length-drop, length_push, map-append, take-append-le}
+use Rattle.std.proofs.Math.Seq.{take-length}
 use Rattle.std.specs.Prelude.{slice_get}
 use Rattle.std.proofs.lemmas.Option.{get_or_from_slice_get}
 use Rattle.value_text.proofs.ListLemmas.{map-get_or-range_with_len}
@@ -53,6 +54,37 @@ pub choose_end : {X : Type 0} (k i : ℕ) (xs : List X) (before whole : List (Li
 choose_end k i xs before whole some past so_far =
     let few : length (drop i xs) < k = omega (arith, length-drop i xs, past, some) in
     sym (append-nil before) ∙ ap (λ ys. before ++ ys) (sym (choose_few k (drop i xs) few)) ∙ so_far
+
+-- what is made of the ways to take k items, item by item
+pub made_step : {X Y : Type 0} (f : List X → Y) (k i : ℕ) (xs : List X) (d : X) (before after whole : List Y) → 0 < k → i < length xs
+    → after ≡ before ++ map (λ rest. f (get_or xs i d ∷ rest)) (choose (k - 1) (drop (i + 1) xs))
+    → before ++ map f (choose k (drop i xs)) ≡ whole → after ++ map f (choose k (drop (i + 1) xs)) ≡ whole
+made_step f zero i xs d before after whole some within longer so_far = absurd (omega (arith, some))
+made_step f (suc k) i xs d before after whole some within longer so_far =
+    let less : suc k - 1 ≡ k = omega arith in
+    let x = get_or xs i d in
+    let with_it = choose k (drop (i + 1) xs) in
+    let without = choose (suc k) (drop (i + 1) xs) in
+    let opened : map f (choose (suc k) (drop i xs)) ≡ map (λ rest. f (x ∷ rest)) with_it ++ map f without =
+    ap (map f) (at_drop_more (choose (suc k)) xs i d within)
+    ∙ map-append f (map (λ rest. x ∷ rest) with_it) without
+    ∙ ap (λ ys. ys ++ map f without) (map_map f (λ rest. x ∷ rest) with_it) in
+    ap (λ ys. ys ++ map f without) (longer ∙ ap (λ n. before ++ map (λ rest. f (x ∷ rest)) (choose n (drop (i + 1) xs))) less)
+    ∙ append_assoc before (map (λ rest. f (x ∷ rest)) with_it) (map f without)
+    ∙ ap (λ ys. before ++ ys) (sym opened) ∙ so_far
+
+pub made_end : {X Y : Type 0} (f : List X → Y) (k i : ℕ) (xs : List X) (before whole : List Y) → 0 < k → length xs - (k - 1) ≤ i
+    → before ++ map f (choose k (drop i xs)) ≡ whole → before ≡ whole
+made_end f k i xs before whole some past so_far =
+    let few : length (drop i xs) < k = omega (arith, length-drop i xs, past, some) in
+    sym (append-nil before) ∙ ap (λ ys. before ++ map f ys) (sym (choose_few k (drop i xs) few)) ∙ so_far
+
+-- an item put behind others and taken off again
+pub taken_off : {X : Type 0} (xs longer shorter : List X) (x : X) (n : ℕ) → longer ≡ xs ++ x ∷ [] → n ≡ length longer → shorter ≡ take (n - 1) longer
+    → shorter ≡ xs
+taken_off xs longer shorter x n put long off =
+    let few : n - 1 ≡ length xs = omega (arith, long, ap length put, length_push xs x) in
+    off ∙ ap (λ k. take k longer) few ∙ ap (take (length xs)) put ∙ take-append-le (length xs) xs (x ∷ []) (omega arith) ∙ take-length xs
 
 -- the numbers from p on
 range_more : (p count : ℕ) → p < count → range_with_len p (count - p) ≡ p ∷ range_with_len (p + 1) (count - (p + 1))

@@ -10,6 +10,7 @@ pub mod CountLemmas
 pub mod RowLemmas
 pub mod BaseLemmas
 pub mod OrderLemmas
+pub mod PlainLemmas
 pub mod PlanLemmas
 pub mod SliceLemmas
 pub mod InverseLemmas

@@ -1,11 +1,11 @@
 -- The steps and the ends of the loops over the members of a set.
-use Rattle.std.proofs.Common.{sum_by, ◌≡◌, ℕ, ◌+◌, ◌*◌, ◌-◌, ◌^◌, ◌<◌, ◌≤◌, true, false, List, [], ◌∷◌, All, map, subst, drop, length, get_or, ◌∙◌, sym, ap, arith}
+use Rattle.std.proofs.Common.{sum_by, ◌≡◌, ℕ, ◌+◌, ◌*◌, ◌-◌, ◌^◌, ◌<◌, ◌≤◌, true, false, List, [], ◌∷◌, All, drop, length, get_or, ◌∙◌, sym, ap, arith}
 use Rattle.std.specs.Prelude.{◌==◌, if◌then◌else◌}
 use Rattle.std.specs.List.{AllByRecursion}
 use Rattle.std.proofs.lemmas.List.Elements.{All-from_recursion, All-get_or}
 use Rattle.std.proofs.lemmas.Bool.Decides.{nat_tests}
 use Rattle.std.proofs.lemmas.List.Sums.{get_or-le-sum_by, sum_by-cons}
-use Rattle.std.proofs.lemmas.List.{at_drop_more, at_drop_all, drop_more, get_or-map, length-map}
+use Rattle.std.proofs.lemmas.List.{at_drop_more, at_drop_all, drop_more}
 use Rattle.tuple_index.specs.Plan.{PlanView}
 use Rattle.tuple_index.specs.Places.{RisesFrom, ways, place, place_of, negative_ways, ways_before}
 use Rattle.tuple_index.specs.PlanFault.{saturated}
@@ -113,12 +113,9 @@ sum_end f xs i count whole past fits so_far =
     let none : sum_by f (drop i xs) ≡ 0 = at_drop_all (sum_by f) xs i past in
     omega (arith, none, fits, so_far)
 
--- a set of those that rise
-pub rising_at : {X : Type 0} (f : X → List ℕ) (e : ℕ) (xs : List X) (i : ℕ) (d : X) → i < length xs → All (RisesFrom 0 e) (map f xs)
-    → RisesFrom 0 e (f (get_or xs i d))
-rising_at f e xs i d within all =
-    let inside : i < length (map f xs) = omega (arith, within, length-map xs f) in
-    subst (RisesFrom 0 e) (get_or-map f xs i d [] within) (All-get_or (RisesFrom 0 e) (map f xs) i [] inside all)
+-- the members of a set of those that rise exist
+pub exist_at : (e : ℕ) (sets : List (List ℕ)) (i : ℕ) → i < length sets → All (RisesFrom 0 e) sets → All (λ q. q < e) (get_or sets i [])
+exist_at e sets i within all = rises_within (get_or sets i []) 0 e (All-get_or (RisesFrom 0 e) sets i [] within all)
 
 -- a size within the limit of the sum is counted exactly
 pub told_size : {X : Type 0} (f : X → ℕ) (xs : List X) (i : ℕ) (d : X) (n : ℕ) → i < length xs → sum_by f xs ≤ 2 ^ 26 → n ≡ saturated (f (get_or xs i d))

@@ -1,5 +1,5 @@
 -- The distinct sets of a list, in lexicographic order.
-use Rattle.std.proofs.Common.{Ordering, Less, Equal, Greater, ◌≡◌, ℕ, zero, suc, ◌+◌, ◌≤◌, Bool, true, false, ◌||◌, ◌&&◌, List, [], ◌∷◌, All, map, length, ◌∙◌, refl, sym, subst, ap, arith}
+use Rattle.std.proofs.Common.{Ordering, Less, Equal, Greater, ◌≡◌, ℕ, zero, suc, ◌+◌, ◌<◌, ◌≤◌, Bool, true, false, ◌||◌, ◌&&◌, List, [], ◌∷◌, All, map, length, get_or, ◌∙◌, refl, sym, subst, ap, arith}
 use Rattle.std.specs.List.{AllByRecursion, dedup, dedup_from, filter, list_any, range_with_len}
 use Rattle.std.specs.List.Sorted.{IsPermutation, IsSorted, IsStrictlySortedBy}
 use Rattle.std.specs.Ordering.{is_lt, is_eq}
@@ -172,3 +172,33 @@ ordered_parts f before sorted after moved rises left =
     same_sets (map f after) (in_order (map f before))
     (sorted_parts f after (subst (IsStrictlySortedBy (λ x y. lex (f x) (f y))) (sym left) strictly))
     (sorted_in_order (map f before)) alike
+
+-- each set stands before the next one
+abbrev pub Steps : List (List ℕ) → Type 0
+Steps sets = (i : ℕ) → i + 1 < length sets → is_lt (lex (get_or sets i []) (get_or sets (i + 1) [])) ≡ true
+
+first_step : (set next : List ℕ) (sets : List (List ℕ)) → Steps (set ∷ next ∷ sets) → lex set next ≡ Less
+first_step set next sets steps = is_less (lex set next) (steps 0 (omega arith))
+  where
+    is_less : (order : Ordering) → is_lt order ≡ true → order ≡ Less
+    is_less Less e = refl
+    is_less Equal e = absurd (false≢true e)
+    is_less Greater e = absurd (false≢true e)
+
+later_steps : (set : List ℕ) (sets : List (List ℕ)) → Steps (set ∷ sets) → Steps sets
+later_steps set sets steps i within =
+    let e : suc i + 1 ≡ suc (i + 1) = omega arith in
+    subst (λ k. is_lt (lex (get_or sets i []) (get_or (set ∷ sets) k [])) ≡ true) e (steps (suc i) (omega (arith, within)))
+
+-- such sets are in order
+strictly_sorted : (sets : List (List ℕ)) → Steps sets → IsStrictlySortedBy lex sets
+unfolding IsStrictlySortedBy
+strictly_sorted [] steps = tt
+strictly_sorted (set ∷ []) steps = (tt, tt)
+strictly_sorted (set ∷ next ∷ sets) steps =
+    let first = first_step set next sets steps in
+    let later = strictly_sorted (next ∷ sets) (later_steps set (next ∷ sets) steps) in
+    ((first, above_more set next sets first later.0), later)
+
+pub in_order_itself : (sets : List (List ℕ)) → Steps sets → sets ≡ in_order sets
+in_order_itself sets steps = same_sets sets (in_order sets) (strictly_sorted sets steps) (sorted_in_order sets) (λ p. sym (any_in_order p sets))

@@ -60,19 +60,19 @@ each_counted m (set ∷ sets) rise =
 sizes_counted : (m : ModelView) → map (tuple_count (plan_of m)) (demanded_sets m) ≡ map (λ set. length (tuples_of m set)) (demanded_sets m)
 sizes_counted m = each_counted m (demanded_sets m) (each_rises m)
 
-tuples_counted : {X : Type 0} (m : ModelView) (values : PlanView) (f : X → List ℕ) (sets : List X) → values ≡ of_values (plan_of m)
-    → map f sets ≡ demanded_sets m → sum_by (λ set. tuple_count values (f set)) sets ≡ length (demanded_tuples m)
-tuples_counted m values f sets same listed =
-    ap (λ plan. sum_by (λ set. tuple_count plan (f set)) sets) same
-    ∙ sym (sum-map (λ set. tuple_count (plan_of m) (f set)) sets)
-    ∙ ap sum (sym (map_map (tuple_count (plan_of m)) f sets) ∙ ap (map (tuple_count (plan_of m))) listed ∙ sizes_counted m)
+tuples_counted : (m : ModelView) (values : PlanView) (sets : List (List ℕ)) → values ≡ of_values (plan_of m) → sets ≡ demanded_sets m
+    → sum_by (tuple_count values) sets ≡ length (demanded_tuples m)
+tuples_counted m values sets same listed =
+    ap (λ plan. sum_by (tuple_count plan) sets) same
+    ∙ ap (sum_by (tuple_count (plan_of m))) listed
+    ∙ sym (sum-map (tuple_count (plan_of m)) (demanded_sets m))
+    ∙ ap sum (sizes_counted m)
     ∙ sum-map (λ set. length (tuples_of m set)) (demanded_sets m)
     ∙ sym (length-flat_map (tuples_of m) (demanded_sets m))
 
-pub total_told : {X : Type 0} (m : ModelView) (values : PlanView) (f : X → List ℕ) (sets lent : List X) (n : ℕ) → values ≡ of_values (plan_of m)
-    → map f sets ≡ demanded_sets m → lent ≡ sets → n ≡ saturated (sum_by (λ set. tuple_count values (f set)) lent) → n ≡ saturated (length (demanded_tuples m))
-total_told m values f sets lent n same listed all is =
-    is ∙ ap (λ xs. saturated (sum_by (λ set. tuple_count values (f set)) xs)) all ∙ ap saturated (tuples_counted m values f sets same listed)
+pub total_told : (m : ModelView) (values : PlanView) (sets : List (List ℕ)) (n : ℕ) → values ≡ of_values (plan_of m) → sets ≡ demanded_sets m
+    → n ≡ saturated (sum_by (tuple_count values) sets) → n ≡ saturated (length (demanded_tuples m))
+total_told m values sets n same listed is = is ∙ ap saturated (tuples_counted m values sets same listed)
 
 -- with the demanded sets it is the plan
 pub made_is : (m : ModelView) (values plan : PlanView) (sets : List (List ℕ)) → values ≡ of_values (plan_of m) → sets ≡ demanded_sets m
@@ -88,10 +88,10 @@ sets_rise m values sets same listed =
     ∙ length-map-range_with_len (positive_values m) 0 (length m.params) in
     subst (λ n. All (RisesFrom 0 n) sets) (sym long) (subst (All (RisesFrom 0 (length m.params))) (sym listed) (demanded_rise m))
 
-pub sets_few : {X : Type 0} (m : ModelView) (f : X → List ℕ) (sets : List X) (n : ℕ) → n ≡ saturated (length (choices m)) → n ≤ 2 ^ 20
-    → map f sets ≡ demanded_sets m → length sets ≤ 2 ^ 20
-sets_few m f sets n is few listed =
-    omega (arith, length-map sets f, ap length listed, few_in_order (map (rising m) (choices m)), length-map (choices m) (rising m), is, few)
+pub sets_few : (m : ModelView) (sets : List (List ℕ)) (n : ℕ) → n ≡ saturated (length (choices m)) → n ≤ 2 ^ 20 → sets ≡ demanded_sets m
+    → length sets ≤ 2 ^ 20
+sets_few m sets n is few listed =
+    omega (arith, ap length listed, few_in_order (map (rising m) (choices m)), length-map (choices m) (rising m), is, few)
 
 -- which limit is passed
 pub sets_passed : (m : ModelView) (n : ℕ) → n ≡ saturated (length (choices m)) → 2 ^ 20 < n → limit_passed m ≡ Some (TooManySets n)
@@ -119,26 +119,22 @@ none_passed m n k is few total most =
     rw (first, second) refl
 
 -- a plan with these sets keeps what a plan keeps
-pub kept_with : {X : Type 0} (plan : PlanView) (f : X → List ℕ) (sets : List X) → IsKept plan → All (RisesFrom 0 (length plan.positives)) (map f sets)
-    → length sets ≤ 2 ^ 20 → sum_by (λ set. tuple_count plan (f set)) sets ≤ 2 ^ 26 → IsKept (with_sets plan (map f sets))
-kept_with plan f sets kept rise few_sets few_tuples =
-    let summed : sum (map (tuple_count plan) (map f sets)) ≡ sum_by (λ set. tuple_count plan (f set)) sets =
-    ap sum (map_map (tuple_count plan) f sets) ∙ sum-map (λ set. tuple_count plan (f set)) sets in
-    record {
-      few = omega (arith, length-map sets f, few_sets);
-      as_many = length-map (map f sets) (tuple_count plan);
-      within = omega (arith, summed, few_tuples);
-      both = kept.both;
-      rising = rise;
-      counted = λ i within. get_or-map (tuple_count plan) (map f sets) i [] 0 within;
-    }
+pub kept_with : (plan : PlanView) (sets : List (List ℕ)) → IsKept plan → All (RisesFrom 0 (length plan.positives)) sets → length sets ≤ 2 ^ 20
+    → sum_by (tuple_count plan) sets ≤ 2 ^ 26 → IsKept (with_sets plan sets)
+kept_with plan sets kept rise few_sets few_tuples = record {
+  few = few_sets;
+  as_many = length-map sets (tuple_count plan);
+  within = omega (arith, sum-map (tuple_count plan) sets, few_tuples);
+  both = kept.both;
+  rising = rise;
+  counted = λ i within. get_or-map (tuple_count plan) sets i [] 0 within;
+}
 
 -- the values of a plan with these sets and sizes
 abbrev pub with_sizes : PlanView → List (List ℕ) → List ℕ → PlanView
 with_sizes plan sets sizes = record { sets = sets; sizes = sizes; positives = plan.positives; negatives = plan.negatives }
 
-pub sized_is : {X : Type 0} (own plan : PlanView) (f : X → List ℕ) (sets : List X) (lists : List (List ℕ)) (sizes : List ℕ) → own ≡ plan
-    → lists ≡ map f sets → sizes ≡ map (λ set. tuple_count plan (f set)) sets → with_sizes own lists sizes ≡ with_sets plan (map f sets)
-sized_is own plan f sets lists sizes same listed each =
-    same_plan (with_sizes own lists sizes) (with_sets plan (map f sets)) listed (each ∙ sym (map_map (tuple_count plan) f sets))
-    (ap (λ p. p.positives) same) (ap (λ p. p.negatives) same)
+pub sized_is : (own plan : PlanView) (sets : List (List ℕ)) (sizes : List ℕ) → own ≡ plan → sizes ≡ map (tuple_count plan) sets
+    → with_sizes own sets sizes ≡ with_sets plan sets
+sized_is own plan sets sizes same each =
+    same_plan (with_sizes own sets sizes) (with_sets plan sets) refl each (ap (λ p. p.positives) same) (ap (λ p. p.negatives) same)

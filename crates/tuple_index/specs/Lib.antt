@@ -4,4 +4,5 @@ pub mod Places
 pub mod Kept
 pub mod Counts
 pub mod Signs
+pub mod Choices
 pub mod Laws

@@ -13,7 +13,7 @@ pub fn bases_of(alloc: Global, sizes: &[u32]) -> Result<Vec<u32>, NoMemory>
     requires { sum sizes.now ≤ 2 ^ 26 }
     ensures { IfOk result (λ bases. AreBases sizes.now bases.items) }
 {
-    let mut bases = Vec::new(alloc);
+    let mut bases = Vec::with_capacity(alloc, sizes.len())?;
     let mut total: u32 = 0;
     for size in sizes {
         bases.push(total)?;

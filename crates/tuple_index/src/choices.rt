@@ -32,8 +32,8 @@ fn joined<T: Copy + Drop>(
     Ok(list)
 }
 
-/// Adds each of the lists, with these items before it.
-pub fn push_joined<T: Copy + Drop>(
+// Adds each of the lists, with these items before it.
+fn push_joined<T: Copy + Drop>(
     alloc: Global,
     into: &mut Ways<T>,
     first: &[T],

@@ -1,26 +1,21 @@
 ghost use Rattle.std.specs.Prelude.{◌≡◌, ◌<◌, ◌++◌, [], ◌∷◌, map, min, not, length, slice_index_or, IfOk, OnOk};
 ghost use Rattle.std.specs.List.{filter, flat_map, list_any, range_with_len};
 ghost use Rattle.cov_model.specs.Valid.{param_numbers};
-ghost use Rattle.definitions.specs.Demand.{choices, choose, is_among, singles, unions, units};
+ghost use Rattle.definitions.specs.Demand.{choose, is_among, rising, singles, unions, units};
 
-use crate::choices::{Ways, cross, push_joined, ways_to_choose};
-use cov_model::{Group, NoList, ParamNo, TestModel};
+use crate::choices::{Ways, cross, ways_to_choose};
+use crate::values::{is_listed, push_rising};
+use cov_model::{NoList, ParamNo, TestModel};
+use packed_lists::PackedLists;
 use std::alloc::Global;
 use value_text::{NoMemory, OwnedList};
-
-/// Whether a number is in a list.
-pub fn is_listed(numbers: &NoList, n: u16) -> bool
-    ensures { result ≡ is_among numbers.now n }
-{
-    numbers.as_slice().iter().any(|k| *k == n)
-}
 
 /// Whether a parameter is in no sub-model.
 pub fn is_single(model: &TestModel, p: ParamNo) -> bool
     ensures { result ≡ not (list_any (λ sub. is_among sub.members p) model.now.demand.subs) }
 {
     for sub in model.demand().subs.as_slice() {
-        if is_listed(&sub.members, p) {
+        if is_listed(sub.members.as_slice(), p) {
             return false;
         }
     }
@@ -55,8 +50,12 @@ fn push_singles(
     Ok(())
 }
 
-// The units of a model, each as all ways to take parameters of it.
-fn units_of(alloc: Global, model: &TestModel) -> Result<OwnedList<Ways<u16>>, NoMemory>
+/// The units of a model, each as all ways to take parameters of it.
+///
+/// # Errors
+///
+/// `NoMemory` where there is no room for them.
+pub fn units_of(alloc: Global, model: &TestModel) -> Result<OwnedList<Ways<u16>>, NoMemory>
     ensures { IfOk result (λ all. all ≡ units model.now) }
 {
     let mut all = OwnedList::new(alloc);
@@ -94,43 +93,40 @@ fn numbers_below(alloc: Global, count: usize) -> Result<Vec<usize>, NoMemory>
     Ok((0..count).collect::<Vec<usize>>(alloc)?)
 }
 
-// The unions of one way of each of any k units.
-fn unit_unions(alloc: Global, units: &[Ways<u16>], k: u32) -> Result<Ways<u16>, NoMemory>
-    ensures { IfOk result (λ sets. sets ≡ flat_map unions (choose k units.now)) }
+// Adds the sets of these choices.
+fn push_each(
+    alloc: Global,
+    model: &TestModel,
+    choices: &[NoList],
+    sets: &mut PackedLists,
+) -> Result<(), NoMemory>
+    ensures { OnOk result (sets.new ≡ sets.old ++ map (rising model.now) choices.now) }
 {
-    let numbers = numbers_below(alloc, units.len())?;
-    let picks = ways_to_choose(alloc, k, numbers.as_slice())?;
-    let mut sets = OwnedList::new(alloc);
-    for pick in picks.as_slice() {
-        let unions = unions_of(alloc, units, pick.as_slice())?;
-        push_joined(alloc, &mut sets, &[], unions.as_slice())?;
-    }
-    Ok(sets)
-}
-
-// Adds the subsets of each relation.
-fn push_relations(alloc: Global, relations: &[Group], into: &mut Ways<u16>) -> Result<(), NoMemory>
-    ensures { OnOk result (into.new ≡ into.old ++ flat_map (λ relation. choose relation.order relation.members) relations.now) }
-{
-    for relation in relations {
-        let subsets = ways_to_choose(alloc, relation.order, relation.members.as_slice())?;
-        push_joined(alloc, into, &[], subsets.as_slice())?;
+    for choice in choices {
+        push_rising(alloc, model, choice.as_slice(), sets)?;
     }
     Ok(())
 }
 
-/// The choices of demanded sets of a model, before equal ones are joined.
+/// Adds the sets of the unions of one way of each of any k units.
 ///
 /// # Errors
 ///
 /// `NoMemory` where there is no room for them.
-pub fn choices_of(alloc: Global, model: &TestModel) -> Result<Ways<u16>, NoMemory>
-    ensures { IfOk result (λ sets. sets ≡ choices model.now) }
+pub fn push_unions(
+    alloc: Global,
+    model: &TestModel,
+    units: &[Ways<u16>],
+    k: u32,
+    sets: &mut PackedLists,
+) -> Result<(), NoMemory>
+    ensures { OnOk result (sets.new ≡ sets.old ++ map (rising model.now) (flat_map unions (choose k units.now))) }
 {
-    let units = units_of(alloc, model)?;
-    let demand = model.demand();
-    let taken = units.len().min(demand.order as usize) as u32;
-    let mut sets = unit_unions(alloc, units.as_slice(), taken)?;
-    push_relations(alloc, demand.relations.as_slice(), &mut sets)?;
-    Ok(sets)
+    let numbers = numbers_below(alloc, units.len())?;
+    let picks = ways_to_choose(alloc, k, numbers.as_slice())?;
+    for pick in picks.as_slice() {
+        let unions = unions_of(alloc, units, pick.as_slice())?;
+        push_each(alloc, model, unions.as_slice(), sets)?;
+    }
+    Ok(())
 }

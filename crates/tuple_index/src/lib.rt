@@ -11,6 +11,7 @@ mod count;
 mod demand;
 mod fault;
 mod laws;
+mod order;
 mod plan;
 mod sets;
 mod values;

@@ -1,4 +1,4 @@
-ghost use Rattle.std.specs.Prelude.{◌≡◌, ◌+◌, true, ◌^◌, ◌<◌, ◌≤◌, ℕ, List, [], All, Some, None, IfErr, IfOk, OnOk, length, map, take, sum, sum_by, slice_get, slice_index_or};
+ghost use Rattle.std.specs.Prelude.{◌≡◌, ◌+◌, ◌*◌, true, ◌^◌, ◌<◌, ◌≤◌, ℕ, List, [], All, Some, None, IfErr, IfOk, OnOk, length, map, take, sum, sum_by, slice_get, slice_index_or};
 ghost use Rattle.cov_model.specs.Sound.{ModelView};
 ghost use Rattle.definitions.specs.Demand.{is_among, tuples_of};
 ghost use Rattle.tuple_index.specs.Kept.{IsKept, of_values, with_sets};
@@ -10,7 +10,7 @@ ghost use Rattle.tuple_index.specs.PlanFault.{IsFaultOf, limit_passed, saturated
 use crate::bases::bases_of;
 use crate::count::count_choices;
 use crate::fault::PlanFault;
-use crate::sets::{packed, sets_of};
+use crate::sets::sets_of;
 use crate::values::values_by_sign;
 use cov_model::{ParamNo, Slice, TestModel, ValueNo};
 use packed_lists::PackedLists;
@@ -84,17 +84,16 @@ impl Plan {
     }
 
     // The plan with these sets, and with the values of this one.
-    fn with_sets(self, alloc: Global, sets: Vec<Vec<ParamNo>>) -> Result<Plan, NoMemory>
-        requires rising { All (RisesFrom 0 (length self.positives)) (map (λ set. set.items) sets.items) }
-        requires few { length sets.items ≤ 2 ^ 20 }
-        requires within { sum_by (λ set. tuple_count self set.items) sets.items ≤ 2 ^ 26 }
-        ensures { IfOk result (λ plan. plan ≡ with_sets self (map (λ set. set.items) sets.items)) }
+    fn with_sets(self, alloc: Global, sets: PackedLists) -> Result<Plan, NoMemory>
+        requires rising { All (RisesFrom 0 (length self.positives)) sets }
+        requires few { length sets ≤ 2 ^ 20 }
+        requires within { sum_by (tuple_count self) sets ≤ 2 ^ 26 }
+        ensures { IfOk result (λ plan. plan ≡ with_sets self sets) }
     {
         let counts = self.sizes_of(alloc, &sets)?;
         let bases = bases_of(alloc, &counts)?;
-        let members_of = packed(alloc, &sets)?;
         Ok(Plan {
-            members_of,
+            members_of: sets,
             counts,
             bases,
             positive: self.positive,
@@ -103,26 +102,26 @@ impl Plan {
     }
 
     // How many demanded tuples these sets have.
-    fn count_all(&self, sets: &[Vec<ParamNo>]) -> u64
-        requires { All (RisesFrom 0 (length self.now.positives)) (map (λ set. set.items) sets.now) }
-        ensures { result ≡ saturated (sum_by (λ set. tuple_count self.now set.items) sets.now) }
+    fn count_all(&self, sets: &PackedLists) -> u64
+        requires { All (RisesFrom 0 (length self.now.positives)) sets.now }
+        ensures { result ≡ saturated (sum_by (tuple_count self.now) sets.now) }
     {
         let mut count: u64 = 0;
-        for set in sets {
-            count = count.saturating_add(self.count_tuples(set.as_slice()));
+        for i in 0..sets.len() {
+            count = count.saturating_add(self.count_tuples(sets.list(i)));
         }
         count
     }
 
     // How many demanded tuples each of these sets has.
-    fn sizes_of(&self, alloc: Global, sets: &[Vec<ParamNo>]) -> Result<Vec<u32>, NoMemory>
-        requires rising { All (RisesFrom 0 (length self.now.positives)) (map (λ set. set.items) sets.now) }
-        requires within { sum_by (λ set. tuple_count self.now set.items) sets.now ≤ 2 ^ 26 }
-        ensures { IfOk result (λ sizes. sizes.items ≡ map (λ set. tuple_count self.now set.items) sets.now) }
+    fn sizes_of(&self, alloc: Global, sets: &PackedLists) -> Result<Vec<u32>, NoMemory>
+        requires rising { All (RisesFrom 0 (length self.now.positives)) sets.now }
+        requires within { sum_by (tuple_count self.now) sets.now ≤ 2 ^ 26 }
+        ensures { IfOk result (λ sizes. sizes.items ≡ map (tuple_count self.now) sets.now) }
     {
-        let mut sizes = Vec::new(alloc);
-        for set in sets {
-            let count = self.count_tuples(set.as_slice()) as u32;
+        let mut sizes = Vec::with_capacity(alloc, sets.len())?;
+        for i in 0..sets.len() {
+            let count = self.count_tuples(sets.list(i)) as u32;
             sizes.push(count)?;
         }
         Ok(sizes)
@@ -323,14 +322,25 @@ impl Plan {
         Slice::Positive
     }
 
+    // How many tuples have one of so many negative values of a member.
+    fn ways_with(&self, members: &[ParamNo], p: ParamNo, count: u64) -> u64
+        requires exist { All (λ p. p < length self.now.positives) members.now }
+        requires own { p < length self.now.positives }
+        ensures { result ≡ saturated (count * ways (values_in self.now (Slice.Negative p 0)) members.now) }
+    {
+        if count == 0 {
+            return 0;
+        }
+        count.saturating_mul(self.ways(members, Slice::Negative(p, 0)))
+    }
+
     // How many tuples have a negative value of this member.
     fn negative_ways(&self, members: &[ParamNo], p: ParamNo) -> u64
         requires exist { All (λ p. p < length self.now.positives) members.now }
         requires own { p < length self.now.positives }
         ensures { result ≡ saturated (negative_ways self.now members.now p) }
     {
-        let count = self.negatives(p).len() as u64;
-        count.saturating_mul(self.ways(members, Slice::Negative(p, 0)))
+        self.ways_with(members, p, self.negatives(p).len() as u64)
     }
 
     // How many demanded tuples a set has.
@@ -369,10 +379,7 @@ impl Plan {
         match slice {
             Slice::Positive => 0,
             Slice::Negative(q, v) => {
-                let inside = place_in(self.negatives(q), v).saturating_mul(self.ways(
-                    members,
-                    Slice::Negative(q, 0),
-                ));
+                let inside = self.ways_with(members, q, place_in(self.negatives(q), v));
                 let before = self.ways_before(members, q).saturating_add(inside);
                 self.ways(members, Slice::Positive).saturating_add(before)
             }

@@ -1,12 +1,19 @@
-ghost use Rattle.std.specs.Prelude.{◌≡◌, ◌<◌, ◌≤◌, length, map, IfOk};
-ghost use Rattle.definitions.specs.Demand.{rising};
+ghost use Rattle.std.specs.Prelude.{◌≡◌, ◌<◌, ◌≤◌, ◌++◌, [], ◌∷◌, length, map, IfOk, OnOk};
+ghost use Rattle.definitions.specs.Demand.{is_among, rising};
 ghost use Rattle.tuple_index.specs.Places.{rises_from};
 ghost use Rattle.tuple_index.specs.Signs.{has_sign, values_of_sign};
 
-use crate::demand::is_listed;
-use cov_model::{NoList, ParamNo, TestModel, Value, ValueNo};
+use cov_model::{ParamNo, TestModel, Value, ValueNo};
+use packed_lists::PackedLists;
 use std::alloc::Global;
 use value_text::NoMemory;
+
+/// Whether a number is in a list.
+pub fn is_listed(numbers: &[u16], n: u16) -> bool
+    ensures { result ≡ is_among numbers.now n }
+{
+    numbers.iter().any(|k| *k == n)
+}
 
 // Whether the numbers rise and are below the count.
 fn is_rising(numbers: &[u16], count: u16) -> bool
@@ -26,7 +33,7 @@ fn is_rising(numbers: &[u16], count: u16) -> bool
 fn listed_params(
     alloc: Global,
     model: &TestModel,
-    choice: &NoList,
+    choice: &[ParamNo],
 ) -> Result<Vec<ParamNo>, NoMemory>
     ensures { IfOk result (λ set. set.items ≡ rising model.now choice.now) }
 {
@@ -40,22 +47,24 @@ fn listed_params(
     Ok(set)
 }
 
-/// The parameters of a choice, rising and each once. Most choices are so already.
+/// Adds the parameters of a choice, rising and each once. Most choices are so already.
 ///
 /// # Errors
 ///
 /// `NoMemory` where there is no room for them.
-pub fn rising_of(
+pub fn push_rising(
     alloc: Global,
     model: &TestModel,
-    choice: &NoList,
-) -> Result<Vec<ParamNo>, NoMemory>
-    ensures { IfOk result (λ set. set.items ≡ rising model.now choice.now) }
+    choice: &[ParamNo],
+    sets: &mut PackedLists,
+) -> Result<(), NoMemory>
+    ensures { OnOk result (sets.new ≡ sets.old ++ rising model.now choice.now ∷ []) }
 {
-    if !is_rising(choice.as_slice(), model.params().len() as u16) {
-        return listed_params(alloc, model, choice);
+    if is_rising(choice, model.params().len() as u16) {
+        return sets.push(choice);
     }
-    Ok(choice.as_slice().to_vec(alloc)?)
+    let set = listed_params(alloc, model, choice)?;
+    sets.push(&set)
 }
 
 // Whether a value is negative, or is not.
