@@ -140,22 +140,18 @@ best_at score (v ∷ values) zero most some all within before is =
         let test : nat_lt (score v) (score w) ≡ false = grind (arith, nat_tests) in
         ap (λ (b : Bool). cond b (Some w) (Some v)) test
 best_at score (v ∷ values) (suc i) most some all within before is =
-    ap (better score (cond (nat_lt 0 (score v)) (Some v) None)) later ∙ gives (nat_lt 0 (score v))
+    ap (better score (cond (nat_lt 0 (score v)) (Some v) None))
+    (best_at score values i most some all (omega (arith, within)) (λ k below. before (suc k) (omega arith)) is)
+    ∙ gives (nat_lt 0 (score v))
   where
-    u : ℕ
-    u = get_or values i 0
-
-    later : best score values ≡ Some u
-    later = best_at score values i most some all (omega (arith, within)) (λ k below. before (suc k) (omega arith)) is
-
-    gives : (b : Bool) → better score (cond b (Some v) None) (Some u) ≡ Some u
+    gives : (b : Bool) → better score (cond b (Some v) None) (Some (get_or values i 0)) ≡ Some (get_or values i 0)
     gives false = refl
     gives true =
         let bound = all v in
         let differs : score v ≢ most = before 0 (omega arith) in
-        let less : score v < score u = omega (arith, is) in
-        let test : nat_lt (score v) (score u) ≡ true = grind (arith, nat_tests) in
-        ap (λ (b : Bool). cond b (Some u) (Some v)) test
+        let less : score v < score (get_or values i 0) = omega (arith, is, bound, differs) in
+        let test : nat_lt (score v) (score (get_or values i 0)) ≡ true = grind (arith, nat_tests) in
+        ap (λ (b : Bool). cond b (Some (get_or values i 0)) (Some v)) test
 
 -- where no value has a score, none is found
 pub best_of_none : (score : ℕ → ℕ) (values : List ℕ) → ((w : ℕ) → score w ≡ 0) → best score values ≡ None

@@ -15,10 +15,10 @@ abbrev Row : Type 0
 Row = List (Option ℕ)
 
 -- how often a number is listed
-one : ℕ → ℕ → ℕ
+abbrev one : ℕ → ℕ → ℕ
 one v n = cond (nat_eq n v) 1 0
 
-times : ℕ → List ℕ → ℕ
+abbrev times : ℕ → List ℕ → ℕ
 times v numbers = sum_by (one v) numbers
 
 times_more : (v n : ℕ) (numbers : List ℕ) → times v (n ∷ numbers) ≡ one v n + times v numbers
@@ -36,7 +36,12 @@ Rise numbers = (k : ℕ) → k + 1 < length numbers → get_or numbers k 0 < get
 chain : (numbers : List ℕ) → Rise numbers → Chain numbers
 chain [] rise = tt
 chain (n ∷ []) rise = tt
-chain (n ∷ next ∷ numbers) rise = (rise 0 (omega arith), chain (next ∷ numbers) (λ k within. rise (suc k) (omega (arith, within))))
+chain (n ∷ next ∷ numbers) rise = (rise 0 (omega arith), chain (next ∷ numbers) later)
+  where
+    later : Rise (next ∷ numbers)
+    later k within =
+        let e : suc k + 1 ≡ suc (k + 1) = omega arith in
+        subst (λ i. get_or (next ∷ numbers) k 0 < get_or (n ∷ next ∷ numbers) i 0) e (rise (suc k) (omega (arith, within)))
 
 none_below : (v n : ℕ) (numbers : List ℕ) → v < n → Chain (n ∷ numbers) → times v (n ∷ numbers) ≡ 0
 none_below v n [] less steps = times_more v n [] ∙ grind (arith, nat_tests)
@@ -45,8 +50,17 @@ none_below v n (next ∷ numbers) less steps =
     times_more v n (next ∷ numbers) ∙ grind (arith, nat_tests)
 
 at_most_once : (v : ℕ) (numbers : List ℕ) → Chain numbers → times v numbers ≤ 1
-at_most_once v [] steps = omega arith
-at_most_once v (n ∷ []) steps = grind (arith, nat_tests)
+at_most_once v [] steps = omega (arith, empty)
+  where
+    empty : times v [] ≡ 0
+    empty = refl
+at_most_once v (n ∷ []) steps = elim (cases_eq n v) [
+  | inl same ↦ let first : one v n ≡ 1 = grind (arith, nat_tests) in omega (arith, times_more v n [], first, empty)
+  | inr differs ↦ let first : one v n ≡ 0 = grind (arith, nat_tests) in omega (arith, times_more v n [], first, empty)
+]
+  where
+    empty : times v [] ≡ 0
+    empty = refl
 at_most_once v (n ∷ next ∷ numbers) steps = elim (cases_eq n v) [
   | inl same ↦
       let later : times v (next ∷ numbers) ≡ 0 = none_below v next numbers (omega (arith, steps.0, same)) steps.1 in

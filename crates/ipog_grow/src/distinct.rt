@@ -101,7 +101,10 @@ pub(crate) fn remove_repeats(alloc: Global, rows: &mut Rows) -> Result<(), NoMem
     requires { AreAsLong rows.old }
     ensures { OnOk result (rows.new ≡ distinct rows.old) }
 {
-    if are_rising(rows) || are_apart(alloc, rows)? {
+    if are_rising(rows) {
+        return Ok(());
+    }
+    if are_apart(alloc, rows)? {
         return Ok(());
     }
     let mut known = RowSet::new(alloc);
