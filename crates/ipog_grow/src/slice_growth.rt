@@ -223,6 +223,7 @@ impl<'a> SliceGrowth<'a> {
     {
         self.asker.assert_invariant();
         let order = prefs.of(column);
+        self.table.prepare(alloc, column)?;
         let mut scores = no_scores(alloc, order.len())?;
         close_contained(&mut self.table, &self.rows, column, &mut self.room);
         grow_horizontally(
