@@ -1,5 +1,6 @@
 -- The distinct sets of a list, in lexicographic order.
-use Rattle.std.proofs.Common.{Ordering, Less, Equal, Greater, ◌≡◌, ℕ, zero, suc, ◌+◌, ◌<◌, ◌≤◌, Bool, true, false, ◌||◌, ◌&&◌, List, [], ◌∷◌, All, map, length, get_or, ◌∙◌, refl, sym, subst, ap, arith}
+use Rattle.std.proofs.Common.{Ordering, Less, Equal, Greater, ◌≡◌, ℕ, zero, suc, ◌+◌, ◌<◌, ◌≤◌, Bool, true, false, ◌||◌, ◌&&◌}
+use Rattle.std.proofs.Common.{List, [], ◌∷◌, All, map, length, get_or, ◌∙◌, refl, sym, subst, ap, arith}
 use Rattle.std.specs.List.{AllByRecursion, dedup, dedup_from, filter, list_any, range_with_len}
 use Rattle.std.specs.List.Sorted.{IsPermutation, IsSorted, IsStrictlySortedBy}
 use Rattle.std.specs.Ordering.{is_lt, is_eq}

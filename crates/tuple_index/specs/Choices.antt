@@ -1,4 +1,5 @@
--- The two parts of the choices of a model: those of units, and those of relations.
+-- The two parts of the choices of a model: those of units, and those of relations. (As in the definition
+-- of the demanded sets.)
 use Rattle.std.specs.Prelude.{ℕ, List, min, length}
 use Rattle.std.specs.List.{flat_map}
 use Rattle.cov_model.specs.declared.demand.Group.{Group}

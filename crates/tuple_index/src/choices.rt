@@ -8,16 +8,6 @@ use value_text::{NoMemory, OwnedList};
 /// A list of lists.
 pub type Ways<T> = OwnedList<OwnedList<T>>;
 
-// Adds these items at the end.
-fn push_all<T: Copy + Drop>(list: &mut OwnedList<T>, items: &[T]) -> Result<(), NoMemory>
-    ensures { OnOk result (list.new ≡ list.old ++ items.now) }
-{
-    for item in items {
-        list.push(*item)?;
-    }
-    Ok(())
-}
-
 // The one list after the other.
 fn joined<T: Copy + Drop>(
     alloc: Global,
@@ -26,9 +16,10 @@ fn joined<T: Copy + Drop>(
 ) -> Result<OwnedList<T>, NoMemory>
     ensures { IfOk result (λ list. list ≡ first.now ++ second.now) }
 {
+    let mut both = Vec::from_slice(alloc, first)?;
+    both.extend_from_slice(second)?;
     let mut list = OwnedList::new(alloc);
-    push_all(&mut list, first)?;
-    push_all(&mut list, second)?;
+    list.append(both)?;
     Ok(list)
 }
 

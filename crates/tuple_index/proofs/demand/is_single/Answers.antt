@@ -11,4 +11,5 @@ loop-sub-preserved c =
     ∙ ap (λ demand. demand.subs) c.demand.ensures.value in
     any_step lists c.args.model.now.demand.subs c.loop-sub.sub-index c.sub-item.result _
     (subst (λ subs. c.loop-sub.sub-index < length subs) same c.loop-sub-test.true)
-    (c.sub-item.is ∙ ap (λ subs. get_or subs c.loop-sub.sub-index c.sub-item.result) same) (ap (λ members. is_among members c.args.p) (sym c.as_slice.ensures) ∙ sym c.is_listed.ensures ∙ c.if-is_listed.false) c.loop-sub.invariant
+    (c.sub-item.is ∙ ap (λ subs. get_or subs c.loop-sub.sub-index c.sub-item.result) same)
+    (ap (λ members. is_among members c.args.p) (sym c.as_slice.ensures) ∙ sym c.is_listed.ensures ∙ c.if-is_listed.false) c.loop-sub.invariant
