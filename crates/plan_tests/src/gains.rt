@@ -96,8 +96,9 @@ fn closes_alike(
 }
 
 // Whether the gains in a row of this turn are those of the list, also once what the row with one of the values
-// contains is closed.
+// contains is closed. Every other column is made ready before.
 fn has_turn(
+    alloc: Global,
     turn: u32,
     model: &TestModel,
     table: &mut Uncovered,
@@ -114,18 +115,27 @@ fn has_turn(
     if row.len() != model.params().len() || column as usize >= row.len() {
         return false;
     }
+    if column % 2 == 0 && table.prepare(alloc, column).is_err() {
+        return false;
+    }
     let value = (turn / 6) as ValueNo % count_values(model, column).max(1);
     has_gains_in_turn(turn, model, table, list, row, column)
         && closes_alike(model, table, list, row, column, value)
 }
 
 // Whether each of hundreds of turns is as the list has it.
-fn has_turns(model: &TestModel, table: &mut Uncovered, list: &mut OpenList, row: &mut Cells) -> bool
+fn has_turns(
+    alloc: Global,
+    model: &TestModel,
+    table: &mut Uncovered,
+    list: &mut OpenList,
+    row: &mut Cells,
+) -> bool
     requires model { table.old.model ≡ model.now }
     requires slice { table.old.slice ≡ Slice.Positive }
 {
     for turn in 0..600 {
-        if !has_turn(turn, model, table, list, row) {
+        if !has_turn(alloc, turn, model, table, list, row) {
             return false;
         }
     }
@@ -147,7 +157,7 @@ fn counts_of(alloc: Global, model: &TestModel, plan: &Plan) -> Option<(usize, us
         return None;
     };
     let before = list.len();
-    if has_turns(model, &mut table, &mut list, &mut row) {
+    if has_turns(alloc, model, &mut table, &mut list, &mut row) {
         Some((before, list.len()))
     } else {
         None
