@@ -57,9 +57,8 @@ impl<'a> Asker<'a> {
         requires orders { OrdersValues model.now prefs.now }
         ensures { IfOk result (λ asker. asker.context ≡ record { model = model.now; prefs = prefs.now; slice = slice; budget = budget }) }
     {
-        let count = model.params().len();
+        let question = Cells::empty(alloc, model.params().len())?;
         let solver = Solver::new(alloc, model, prefs, slice)?;
-        let question = Cells::empty(alloc, count)?;
         Ok(Asker {
             solver,
             budget,

@@ -214,6 +214,31 @@ fn place_seed<'a>(
     }
 }
 
+// Asks of each of these seed rows, in order, whether it is kept.
+fn sort_each(
+    alloc: Global,
+    model: &TestModel,
+    prefs: &Prefs,
+    seeds: &[FileRow],
+    budget: u64,
+) -> Result<SortedSeeds, SearchFault>
+    requires fits { All (λ seed. FitsModel model.now seed.cells) seeds.now }
+    requires orders { OrdersValues model.now prefs.now }
+    ensures kept { IfOk result (λ sorted. sorted.kept ≡ filter (can_be_served model.now) (map (λ seed. seed.1) (map row_seen seeds.now))) }
+    ensures dropped { IfOk result (λ sorted. sorted.dropped ≡ map (λ seed. seed.0) (filter (λ seed. not (can_be_served model.now seed.1)) (map row_seen seeds.now))) }
+    ensures asked { Ends result (first_over model.now prefs.now budget (filter (has_slice model.now) (map (λ seed. seed.1) (map row_seen seeds.now)))) }
+{
+    let mut sorted = SortedSeeds {
+        kept: Rows::new(alloc),
+        dropped: LineList::new(alloc),
+    };
+    let mut last = None;
+    for seed in seeds {
+        place_seed(alloc, model, prefs, seed, budget, &mut last, &mut sorted)?;
+    }
+    Ok(sorted)
+}
+
 // Asks of each seed row of a file that counts, in order, whether it is kept.
 pub(crate) fn sort_seeds(
     alloc: Global,
@@ -231,15 +256,7 @@ pub(crate) fn sort_seeds(
     let Ok(distinct) = distinct_seeds(alloc, model, seeds.rows.as_slice()) else {
         return Err(SearchFault::NoMemory);
     };
-    let mut sorted = SortedSeeds {
-        kept: Rows::new(alloc),
-        dropped: LineList::new(alloc),
-    };
-    let mut last = None;
-    for seed in distinct.as_slice() {
-        place_seed(alloc, model, prefs, seed, budget, &mut last, &mut sorted)?;
-    }
-    Ok(sorted)
+    sort_each(alloc, model, prefs, distinct.as_slice(), budget)
 }
 
 // Copies of the kept seeds of a slice, in order.

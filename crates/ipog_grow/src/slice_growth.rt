@@ -60,11 +60,15 @@ impl<'a> SliceGrowth<'a> {
         ensures omitted { IfOk result (λ growth. growth.omitted ≡ []) }
     {
         let count = model.params().len();
+        let tuple = Cells::empty(alloc, count)?;
+        let room = Cells::empty(alloc, count)?;
+        let table = Uncovered::new(alloc, model, plan, slice)?;
+        let asker = Asker::new(alloc, model, prefs, slice, budget)?;
         Ok(SliceGrowth {
-            table: Uncovered::new(alloc, model, plan, slice)?,
-            asker: Asker::new(alloc, model, prefs, slice, budget)?,
-            tuple: Cells::empty(alloc, count)?,
-            room: Cells::empty(alloc, count)?,
+            table,
+            asker,
+            tuple,
+            room,
             rows,
             omitted: OwnedList::new(alloc),
         })

@@ -20,6 +20,7 @@ use feasibility::SearchFault;
 use outside_io::Gate;
 use refutation::Omissions;
 use std::alloc::Global;
+use std::mem::replace;
 use std::thread::Threads;
 use value_text::NoMemory;
 
@@ -74,18 +75,13 @@ pub(crate) fn grow_slice<R: Threads + Sync, G: Gate + Sync>(
     if let Err(stop) = growth.grow_columns(workers, alloc, model, prefs, plan, slice) {
         return Err(fault_of(alloc, stop, growth.asker.question()));
     }
-    let SliceGrowth {
-        mut asker,
-        rows: grown,
-        omitted,
-        ..
-    } = growth;
+    let grown = replace(&mut growth.rows, Rows::new(alloc));
     finish_slice(
         alloc,
-        &mut asker,
+        &mut growth.asker,
         input.proof,
         grown,
-        omitted.as_slice(),
+        growth.omitted.as_slice(),
         rows,
         omissions,
     )

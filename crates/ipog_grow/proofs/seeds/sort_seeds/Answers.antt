@@ -1,14 +1,11 @@
-use Rattle.std.proofs.Common.{◌≡◌, ◌+◌, ◌++◌, ◌∷◌, [], ℕ, All, List, Option, length, map, take, drop, filter, not, ◌∙◌, sym, ap, subst}
-use Rattle.std.proofs.lemmas.List.{take_more, take_all, map-append}
-use Rattle.std.proofs.lemmas.List.Elements.{All-append, All-cons, All-filter, All-nil}
-use Rattle.std.proofs.lemmas.Result.{err_from_is_err_and}
-use Rattle.cov_model.specs.Fits.{FitsModel}
+use Rattle.std.proofs.Common.{◌≡◌, ℕ, List, Option, map, filter, not, ◌∙◌, ap, subst}
+use Rattle.std.specs.Prelude.{IfOk}
 use Rattle.definitions.specs.Completion.{can_be_served, has_slice}
 use Rattle.definitions.specs.Search.{first_over}
-use Rattle.definitions.specs.Seeds.{seed_rows, asked_seeds}
-use Rattle.row_text.specs.RowFiles.{row_seen, seeds_seen}
+use Rattle.definitions.specs.Seeds.{seed_rows}
+use Rattle.feasibility.specs.Ends.{Ends}
+use Rattle.row_text.specs.RowFiles.{row_seen}
 use Rattle.row_text.specs.declared.row_file.FileRow.{FileRow}
-use Rattle.ipog_grow.proofs.Sorting.{Sorted, sorted-next, sorted-spent, split_at, ends-by}
 use Rattle.ipog_grow.proofs.seeds.sort_seeds.Goals as goal
 
 -- the seeds that are asked are the distinct ones
@@ -16,76 +13,21 @@ whole : (rows distinct items slice : List FileRow) → slice ≡ rows → map ro
     → map row_seen items ≡ seed_rows (map row_seen rows)
 whole rows distinct items slice are found same = ap (map row_seen) same ∙ found ∙ ap (λ seeds. seed_rows (map row_seen seeds)) are
 
-pub returns-in_err-place_seed-clause-asked : goal.returns-in_err-place_seed-clause-asked
-returns-in_err-place_seed-clause-asked c =
-    let p = err_from_is_err_and c.from_residual.result c.from_residual.ensures.1 in
-    let items : List FileRow = c.as_slice-seed-items.result.now in
-    let split : map row_seen items ≡ map row_seen (take c.loop-seed.seed-index items) ++ row_seen c.seed-item.result ∷ map row_seen
-    (drop (c.loop-seed.seed-index + 1) items) =
-    ap (map row_seen) (split_at items c.loop-seed.seed-index c.seed-item.result c.loop-seed-test.true
-    ∙ ap (λ x. take c.loop-seed.seed-index items ++ x ∷ drop (c.loop-seed.seed-index + 1) items) (sym c.seed-item.is))
-    ∙ map-append row_seen (take c.loop-seed.seed-index items) (c.seed-item.result ∷ drop (c.loop-seed.seed-index + 1) items) in
-    let are = whole c.args.seeds.now.rows c.in-Ok.distinct items c.as_slice.result.now c.as_slice.ensures c.in-Ok.ensures.seeds c.as_slice-seed-items.ensures in
-    rw (p.1, p.2) (ends-by c.in_err-place_seed.field-0.0
-    (first_over c.args.model.now c.args.prefs.now c.args.budget (filter (has_slice c.args.model.now) (c.seed-item.result.cells ∷ [])))
-    (first_over c.args.model.now c.args.prefs.now c.args.budget (asked_seeds c.args.model.now (seeds_seen c.args.seeds.now)))
-    (λ q spent.
-    ap (λ seeds. first_over c.args.model.now c.args.prefs.now c.args.budget (filter (has_slice c.args.model.now) (map (λ seed. seed.1) seeds)))
-    (sym are ∙ split)
-    ∙ sorted-spent c.args.model.now c.args.prefs.now c.args.budget (map row_seen (take c.loop-seed.seed-index items)) (row_seen c.seed-item.result)
-    (map row_seen (drop (c.loop-seed.seed-index + 1) items)) c.loop-seed.sorted.kept c.loop-seed.sorted.dropped c.loop-seed.invariant.seeds q spent)
-    c.in_err-place_seed.ensures.asked)
+sorted_are : (c : goal.After-drop-distinct-inside) → map row_seen c.as_slice-2.result.now ≡ seed_rows (map row_seen c.args.seeds.now.rows)
+sorted_are c = whole c.args.seeds.now.rows c.in-Ok.distinct c.as_slice-2.result.now c.as_slice.result.now c.as_slice.ensures c.in-Ok.ensures.seeds c.as_slice-2.ensures
 
-pub loop-seed-preserved : goal.loop-seed-preserved
-loop-seed-preserved c =
-    let items : List FileRow = c.as_slice-seed-items.result.now in
-    let more : map row_seen (take (c.loop-seed.seed-index + 1) items) ≡ map row_seen (take c.loop-seed.seed-index items) ++ row_seen c.seed-item.result ∷ [] =
-    ap (map row_seen) (take_more items c.loop-seed.seed-index c.seed-item.result c.loop-seed-test.true
-    ∙ ap (λ x. take c.loop-seed.seed-index items ++ x ∷ []) (sym c.seed-item.is))
-    ∙ map-append row_seen (take c.loop-seed.seed-index items) (c.seed-item.result ∷ []) in
-    let fit : All (λ seed. FitsModel c.args.model.now seed.cells) items =
-    subst (All (λ seed. FitsModel c.args.model.now seed.cells)) (sym c.as_slice-seed-items.ensures) c.in-Ok.ensures.fit in
-    let fits : FitsModel c.args.model.now c.seed-item.result.cells =
-    subst (λ seed. FitsModel c.args.model.now seed.cells) (sym c.seed-item.is) (fit c.loop-seed.seed-index c.seed-item.result c.loop-seed-test.true) in
-    record {
-      seeds =
-          subst (λ (seeds : List (ℕ × List (Option ℕ))). Sorted c.args.model.now c.args.prefs.now c.args.budget seeds c.place_seed.new.sorted.kept
-          c.place_seed.new.sorted.dropped) (sym more)
-          (sorted-next c.args.model.now c.args.prefs.now c.args.budget (map row_seen (take c.loop-seed.seed-index items)) (row_seen c.seed-item.result)
-          c.loop-seed.sorted.kept
-          c.place_seed.new.sorted.kept c.loop-seed.sorted.dropped c.place_seed.new.sorted.dropped c.loop-seed.invariant.seeds c.in_ok-place_seed.ensures.kept
-          c.in_ok-place_seed.ensures.dropped c.in_ok-place_seed.ensures.asked);
-      last = c.place_seed.ensures.last;
-      long =
-          subst (All (λ row. length row ≡ length c.args.model.now.params)) (sym c.in_ok-place_seed.ensures.kept)
-          (All-append (λ row. length row ≡ length c.args.model.now.params) c.loop-seed.sorted.kept
-          (filter (can_be_served c.args.model.now) (c.seed-item.result.cells ∷ [])) c.loop-seed.invariant.long
-          (All-filter (can_be_served c.args.model.now) (λ row. length row ≡ length c.args.model.now.params) (c.seed-item.result.cells ∷ [])
-          (All-cons (λ row. length row ≡ length c.args.model.now.params) c.seed-item.result.cells [] fits.as_long
-          (All-nil (λ row. length row ≡ length c.args.model.now.params)))));
-    }
-
--- at the end all are sorted
 pub returns-clause-kept : goal.returns-clause-kept
 returns-clause-kept c =
-    let items : List FileRow = c.as_slice-seed-items.result.now in
-    c.loop-seed.invariant.seeds.kept_are
-    ∙ ap (λ seeds. filter (can_be_served c.args.model.now) (map (λ seed. seed.1) seeds))
-    (ap (map row_seen) (take_all c.loop-seed.seed-index items c.loop-seed-test.false)
-    ∙ whole c.args.seeds.now.rows c.in-Ok.distinct items c.as_slice.result.now c.as_slice.ensures c.in-Ok.ensures.seeds c.as_slice-seed-items.ensures)
+    subst (λ (seeds : List (ℕ × List (Option ℕ))). IfOk c.sort_each.result (λ sorted. sorted.kept
+    ≡ filter (can_be_served c.args.model.now) (map (λ seed. seed.1) seeds))) (sorted_are c) c.sort_each.ensures.kept
 
 pub returns-clause-dropped : goal.returns-clause-dropped
 returns-clause-dropped c =
-    let items : List FileRow = c.as_slice-seed-items.result.now in
-    c.loop-seed.invariant.seeds.dropped_are
-    ∙ ap (λ seeds. map (λ seed. seed.0) (filter (λ seed. not (can_be_served c.args.model.now seed.1)) seeds))
-    (ap (map row_seen) (take_all c.loop-seed.seed-index items c.loop-seed-test.false)
-    ∙ whole c.args.seeds.now.rows c.in-Ok.distinct items c.as_slice.result.now c.as_slice.ensures c.in-Ok.ensures.seeds c.as_slice-seed-items.ensures)
+    subst (λ (seeds : List (ℕ × List (Option ℕ))). IfOk c.sort_each.result (λ sorted. sorted.dropped
+    ≡ map (λ seed. seed.0) (filter (λ seed. not (can_be_served c.args.model.now seed.1)) seeds))) (sorted_are c) c.sort_each.ensures.dropped
 
 pub returns-clause-asked : goal.returns-clause-asked
 returns-clause-asked c =
-    let items : List FileRow = c.as_slice-seed-items.result.now in
-    ap (λ seeds. first_over c.args.model.now c.args.prefs.now c.args.budget (filter (has_slice c.args.model.now) (map (λ seed. seed.1) seeds)))
-    (sym (ap (map row_seen) (take_all c.loop-seed.seed-index items c.loop-seed-test.false)
-    ∙ whole c.args.seeds.now.rows c.in-Ok.distinct items c.as_slice.result.now c.as_slice.ensures c.in-Ok.ensures.seeds c.as_slice-seed-items.ensures))
-    ∙ c.loop-seed.invariant.seeds.unspent
+    subst (λ (seeds : List (ℕ × List (Option ℕ))). Ends c.sort_each.result
+    (first_over c.args.model.now c.args.prefs.now c.args.budget (filter (has_slice c.args.model.now) (map (λ seed. seed.1) seeds)))) (sorted_are c)
+    c.sort_each.ensures.asked

@@ -3,12 +3,12 @@ use Rattle.std.specs.Prelude.{IfSome}
 use Rattle.row_text.specs.RowFiles.{row_seen}
 use Rattle.ipog_grow.specs.SeedSolvers.{IsSolverFor}
 use Rattle.ipog_grow.proofs.Sorting.{Sorted}
-use Rattle.ipog_grow.proofs.seeds.sort_seeds.Given as goal
+use Rattle.ipog_grow.proofs.seeds.sort_each.Given as goal
 
 -- the seed rows before this place are sorted, and no question of theirs exceeded the budget
 abbrev pub invariant-loop-seed : goal.invariant-loop-seed
 invariant-loop-seed l = record {
-  seeds : Sorted l.model l.prefs l.budget (map row_seen (take l.seed-index l.seed-items)) l.sorted.kept l.sorted.dropped;
+  seeds : Sorted l.model l.prefs l.budget (map row_seen (take l.seed-index l.seeds)) l.sorted.kept l.sorted.dropped;
   last : IfSome l.last (IsSolverFor l.model l.prefs);
   long : All (λ row. length row ≡ length l.model.params) l.sorted.kept;
 }
