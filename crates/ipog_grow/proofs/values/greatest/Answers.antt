@@ -1,4 +1,4 @@
-use Rattle.std.proofs.Common.{◌≡◌, ◌<◌, ◌≤◌, ◌⊎◌, ℕ, length, get_or, ◌∙◌, sym, ap, arith, inl, inr}
+use Rattle.std.proofs.Common.{◌≡◌, get_or, ◌∙◌, sym, ap, arith, inl, inr}
 use Rattle.std.proofs.lemmas.Bool.{cases_lt}
 use Rattle.std.proofs.lemmas.List.{get_or_default}
 use Rattle.ipog_grow.proofs.values.greatest.Goals as goal
@@ -15,9 +15,11 @@ loop-score-preserved c = record {
   ];
   own = λ some. elim (cases_lt c.loop-score.most (get_or c.args.scores.now c.loop-score.score-index 0)) [
     | inl less ↦
-        let is : c.max-most.result ≡ get_or c.args.scores.now c.loop-score.score-index 0 = omega (arith, c.max-most.ensures) in
-        (c.loop-score.score-index, c.loop-score-test.true,
-        get_or_default c.args.scores.now c.loop-score.score-index c.max-most.result 0 c.loop-score-test.true ∙ sym is)
+        let is : c.max-most.result ≡ get_or c.args.scores.now c.loop-score.score-index 0 = omega (arith, c.max-most.ensures) in (
+          c.loop-score.score-index,
+          c.loop-score-test.true,
+          get_or_default c.args.scores.now c.loop-score.score-index c.max-most.result 0 c.loop-score-test.true ∙ sym is,
+        )
     | inr most ↦
         let is : c.max-most.result ≡ c.loop-score.most = omega (arith, c.max-most.ensures) in
         let own = c.loop-score.invariant.own (omega (arith, is, some)) in
