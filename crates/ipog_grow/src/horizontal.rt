@@ -14,6 +14,16 @@ use outside_io::Gate;
 use std::thread::Threads;
 use uncovered_table::Uncovered;
 
+// Lets complete sets leave before every 32nd row. Not before each, since it looks at all that are ready.
+fn leave_at_times(table: &mut Uncovered, column: ParamNo, i: usize)
+    requires { column < length table.old.model.params }
+    ensures { table.new ≡ table.old }
+{
+    if i % 32 == 0 {
+        table.leave_complete(column);
+    }
+}
+
 // Horizontal growth of a column: each partial row in order gets its best value there. The open tuples
 // in play are those that no row contains, before and after. The room is for a partial row.
 pub(crate) fn grow_horizontally<R: Threads + Sync, G: Gate + Sync>(
@@ -47,6 +57,7 @@ pub(crate) fn grow_horizontally<R: Threads + Sync, G: Gate + Sync>(
     ensures room { length room.new ≡ length room.old }
 {
     for i in 0..rows.len() {
+        leave_at_times(table, column, i);
         fill_cell(workers, table, asker, order, column, scores, rows, i, room)?;
     }
     Ok(())

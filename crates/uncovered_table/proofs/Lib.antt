@@ -4,6 +4,7 @@ pub mod PairLemmas
 pub mod NumberLemmas
 pub mod PartnerLemmas
 pub mod PreparedLemmas
+pub mod ReadyLemmas
 pub mod ColumnLemmas
 pub mod SliceLemmas
 pub mod HeldLemmas

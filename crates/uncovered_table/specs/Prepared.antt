@@ -1,11 +1,12 @@
 -- Lines that were prepared for a column. (This project's rules.)
-use Rattle.std.specs.Prelude.{◌≡◌, ℕ, ◌+◌, ◌<◌, ◌≤◌, All, length, slice_range, take, drop, ◌++◌, List, [], ◌∷◌, Option, Some, None, ◌==◌, slice_index_or, if◌then◌else◌}
+use Rattle.std.specs.Prelude.{◌≡◌, ◌⊎◌, ℕ, Bool, ◌+◌, ◌<◌, ◌≤◌, All, length, slice_range, take, drop, ◌++◌, List, [], ◌∷◌, Option, Some, None, ◌==◌, slice_index_or, if◌then◌else◌}
+use Rattle.bit_table.specs.Marks.{NoneSet}
 use Rattle.cov_model.specs.declared.slice.Slice.{Slice}
 use Rattle.cov_model.specs.Sound.{ModelView}
 use Rattle.uncovered_table.specs.declared.prepared.Part.{Part}
 use Rattle.uncovered_table.specs.declared.prepared.Prepared.{Prepared}
 use Rattle.uncovered_table.specs.declared.prepared.ColumnLines.{ColumnLines}
-use Rattle.uncovered_table.specs.Bits.{first_bit, sets_in_play}
+use Rattle.uncovered_table.specs.Bits.{first_bit, sets_in_play, tuple_count}
 use Rattle.uncovered_table.specs.Digits.{joined, number_of, own_values, step_of, with_digit}
 use Rattle.uncovered_table.specs.Places.{set_at}
 
@@ -36,9 +37,25 @@ pub record AreLines (m : ModelView) (slice : Slice) (column : ℕ) (sets : List 
   pub exist : All (λ part. part.param < length m.params) parts
   pub each : (k d : ℕ) (other : Prepared) → k < length sets → IsLineOf m slice column (slice_index_or sets k d) (slice_index_or lines k other) parts
 
--- those of the sets in play for a column
+-- those of the sets that are ready for a column
 abbrev pub AreLinesOf : ModelView → Slice → ℕ → ColumnLines → Type 0
-AreLinesOf m slice column made = AreLines m slice column (sets_in_play m slice column) made.lines.items made.parts.items
+AreLinesOf m slice column made = AreLines m slice column made.sets.items made.lines.items made.parts.items
+
+-- no tuple of the set is open
+abbrev pub IsComplete : ModelView → Slice → List Bool → ℕ → Type 0
+IsComplete m slice bits set = NoneSet bits (first_bit m slice set) (first_bit m slice set + tuple_count m slice set)
+
+-- the second list is the first one, in order, without some numbers that are done
+abbrev pub IsLeft : (ℕ → Type 0) → List ℕ → List ℕ → Type 0
+IsLeft IsDone [] [] = Unit {0}
+IsLeft IsDone [] (y ∷ ys) = ⊥
+IsLeft IsDone (x ∷ xs) [] = IsDone x × IsLeft IsDone xs []
+IsLeft IsDone (x ∷ xs) (y ∷ ys) = ((x ≡ y) × IsLeft IsDone xs ys) ⊎ (IsDone x × IsLeft IsDone xs (y ∷ ys))
+
+-- what is ready for a column: the lines of its sets in play, without some that are complete
+pub record AreReady (m : ModelView) (slice : Slice) (bits : List Bool) (column : ℕ) (made : ColumnLines) : Type 0 where
+  pub lines : AreLinesOf m slice column made
+  pub left : IsLeft (IsComplete m slice bits) (sets_in_play m slice column) made.sets.items
 
 -- the parts with one more, unless it is the column
 abbrev pub with_part : ℕ → ℕ → ℕ → List Part → List Part

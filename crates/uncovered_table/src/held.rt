@@ -3,7 +3,7 @@ ghost use Rattle.definitions.specs.SliceRows.{IsOfSlice};
 ghost use Rattle.uncovered_table.specs.Bits.{InPlay, all_cleared, bit_count, cleared, held_bit, held_count, line_bit, sets_in_play, value_held};
 ghost use Rattle.uncovered_table.specs.Digits.{HasAllValues, cell_digit, own_values, with_digit};
 ghost use Rattle.uncovered_table.specs.Places.{slice_places};
-ghost use Rattle.uncovered_table.specs.Prepared.{AreLinesOf, digit_in};
+ghost use Rattle.uncovered_table.specs.Prepared.{AreLinesOf, AreReady, digit_in};
 ghost use Rattle.cov_model.specs.Sound.{param_at};
 
 use crate::block::Line;
@@ -62,8 +62,7 @@ fn tuple_bit(
     requires cells { IsOfSlice sets.now.model sets.now.slice cells.now }
     requires digits { digit_in digits.now ≡ cell_digit (own_values sets.now.model sets.now.slice) cells.now }
     requires long { length sets.now.model.params ≤ length digits.now }
-    requires k { k < length (sets_in_play sets.now.model sets.now.slice column) }
-    requires own { set ≡ slice_index_or (sets_in_play sets.now.model sets.now.slice column) k 0 }
+    requires own { IfSome lines (λ made. (k < length made.now.sets.items) × (set ≡ slice_index_or made.now.sets.items k 0)) }
     requires lines { IfSome lines (λ made. AreLinesOf sets.now.model sets.now.slice column made.now) }
     requires digit { digit < length (own_values sets.now.model sets.now.slice column) }
     ensures value { result ≡ held_bit sets.now.model sets.now.slice (with_digit (cell_digit (own_values sets.now.model sets.now.slice) cells.now) column digit) set }
@@ -87,18 +86,18 @@ pub(crate) fn count_held(
     requires column { column < length sets.now.model.params }
     requires digit { digit < length (own_values sets.now.model sets.now.slice column) }
     requires bits { length bits.now ≡ length (slice_places sets.now.model sets.now.slice) }
-    requires lines { IfSome lines (λ made. AreLinesOf sets.now.model sets.now.slice column made.now) }
+    requires lines { IfSome lines (λ made. AreReady sets.now.model sets.now.slice bits.now column made.now) }
     ensures { result ≡ sum_by (held_count sets.now.model sets.now.slice bits.now
         (with_digit (cell_digit (own_values sets.now.model sets.now.slice) cells.now) column digit)) (sets_in_play sets.now.model sets.now.slice column) }
 {
     sets.assert_invariant();
     let _ = sets.model().params();
-    let in_play = sets.in_play(column);
+    let walked = sets.walked(lines, bits, column);
     let mut row = [NO_DIGIT; 256];
     sets.put_digits(cells, &mut row);
     let mut count: u32 = 0;
-    for k in 0..in_play.len() {
-        let bit = tuple_bit(sets, lines, k, in_play[k], cells, &row, column, digit);
+    for k in 0..walked.len() {
+        let bit = tuple_bit(sets, lines, k, walked[k], cells, &row, column, digit);
         count += count_at(bits, bit);
     }
     count
@@ -117,18 +116,18 @@ pub(crate) fn clear_held(
     requires column { column < length sets.now.model.params }
     requires digit { digit < length (own_values sets.now.model sets.now.slice column) }
     requires bits { length bits.old ≡ length (slice_places sets.now.model sets.now.slice) }
-    requires lines { IfSome lines (λ made. AreLinesOf sets.now.model sets.now.slice column made.now) }
+    requires lines { IfSome lines (λ made. AreReady sets.now.model sets.now.slice bits.old column made.now) }
     ensures { bits.new ≡ all_cleared sets.now.model sets.now.slice
         (with_digit (cell_digit (own_values sets.now.model sets.now.slice) cells.now) column digit) bits.old
         (sets_in_play sets.now.model sets.now.slice column) }
 {
     sets.assert_invariant();
     let _ = sets.model().params();
-    let in_play = sets.in_play(column);
+    let walked = sets.walked(lines, bits, column);
     let mut row = [NO_DIGIT; 256];
     sets.put_digits(cells, &mut row);
-    for k in 0..in_play.len() {
-        let bit = tuple_bit(sets, lines, k, in_play[k], cells, &row, column, digit);
+    for k in 0..walked.len() {
+        let bit = tuple_bit(sets, lines, k, walked[k], cells, &row, column, digit);
         clear_at(bits, bit);
     }
 }
@@ -193,8 +192,7 @@ fn add_set(
     requires bits { length bits.now ≡ length (slice_places sets.now.model sets.now.slice) }
     requires row { digit_in row.now ≡ cell_digit (own_values sets.now.model sets.now.slice) cells.now }
     requires long { length sets.now.model.params ≤ length row.now }
-    requires k { k < length (sets_in_play sets.now.model sets.now.slice column) }
-    requires own { set ≡ slice_index_or (sets_in_play sets.now.model sets.now.slice column) k 0 }
+    requires own { IfSome lines (λ made. (k < length made.now.sets.items) × (set ≡ slice_index_or made.now.sets.items k 0)) }
     requires lines { IfSome lines (λ made. AreLinesOf sets.now.model sets.now.slice column made.now) }
     requires all { all ≡ true → HasAllValues sets.now.model sets.now.slice column }
     requires low { All (λ score. score < 2 ^ 31) scores.old }
@@ -228,7 +226,7 @@ pub(crate) fn add_held(
     requires column { column < length sets.now.model.params }
     requires values { from + length scores.old ≤ length (param_at sets.now.model.params column).values }
     requires bits { length bits.now ≡ length (slice_places sets.now.model sets.now.slice) }
-    requires lines { IfSome lines (λ made. AreLinesOf sets.now.model sets.now.slice column made.now) }
+    requires lines { IfSome lines (λ made. AreReady sets.now.model sets.now.slice bits.now column made.now) }
     requires zero { All (λ score. score ≡ 0) scores.old }
     ensures long { length scores.new ≡ length scores.old }
     ensures each { (i : ℕ) → i < length scores.old → slice_index_or scores.new i 0
@@ -236,13 +234,13 @@ pub(crate) fn add_held(
 {
     sets.assert_invariant();
     let _ = sets.model().params();
-    let in_play = sets.in_play(column);
+    let walked = sets.walked(lines, bits, column);
     let mut row = [NO_DIGIT; 256];
     sets.put_digits(cells, &mut row);
     let all = sets.has_all_values(column);
-    for k in 0..in_play.len() {
+    for k in 0..walked.len() {
         add_set(
-            sets, lines, k, bits, in_play[k], cells, &row, column, from, all, scores,
+            sets, lines, k, bits, walked[k], cells, &row, column, from, all, scores,
         );
     }
 }

@@ -7,7 +7,7 @@ ghost use Rattle.definitions.specs.Demand.{demanded_sets};
 ghost use Rattle.uncovered_table.specs.Masks.{AreAll, AreBegins, AreWithout, IsCleared, IsMask, begin_at, restricted};
 ghost use Rattle.uncovered_table.specs.Pairs.{AreKept, ArePartners, HasPairs, IsBlockPair, IsOtherMember, IsPartner, Matched, common_count, digit_count};
 ghost use Rattle.uncovered_table.specs.Places.{slice_places};
-ghost use Rattle.uncovered_table.specs.Prepared.{AreLinesOf};
+ghost use Rattle.uncovered_table.specs.Prepared.{AreReady};
 ghost use Rattle.uncovered_table.specs.Words.{bit_in};
 ghost use Rattle.tuple_index.specs.Places.{RisesFrom};
 
@@ -457,7 +457,7 @@ fn clear_kept(
     requires column { column < length sets.now.model.params }
     requires digit { digit < length (own_values sets.now.model sets.now.slice column) }
     requires bits { length bits.old ≡ length (slice_places sets.now.model sets.now.slice) }
-    requires lines { IfSome lines (λ made. AreLinesOf sets.now.model sets.now.slice column made.now) }
+    requires lines { IfSome lines (λ made. AreReady sets.now.model sets.now.slice bits.old column made.now) }
     requires begins { AreBegins (digit_count sets.now.model sets.now.slice) (length sets.now.model.params) begins.now }
     requires pairs { IfSome kept.old (HasPairs sets.now.model sets.now.slice bits.old column) }
     ensures bits { bits.new ≡ all_cleared sets.now.model sets.now.slice
@@ -488,7 +488,7 @@ pub(crate) fn clear_column(
     requires column { column < length sets.now.model.params }
     requires digit { digit < length (own_values sets.now.model sets.now.slice column) }
     requires bits { length bits.old ≡ length (slice_places sets.now.model sets.now.slice) }
-    requires lines { IfSome lines (λ made. AreLinesOf sets.now.model sets.now.slice column made.now) }
+    requires lines { IfSome lines (λ made. AreReady sets.now.model sets.now.slice bits.old column made.now) }
     requires begins { AreBegins (digit_count sets.now.model sets.now.slice) (length sets.now.model.params) begins.now }
     requires kept { AreKept sets.now.model sets.now.slice bits.old (length sets.now.model.params) columns.old.items }
     ensures bits { bits.new ≡ all_cleared sets.now.model sets.now.slice

@@ -1,5 +1,6 @@
-ghost use Rattle.std.specs.Prelude.{◌≡◌, ◌+◌, ◌*◌, ◌<◌, ◌≤◌, ◌^◌, ◌==◌, ℕ, All, IfOk, IfSome, OnOk, Some, if◌then◌else◌, length, option_map, slice_index_or, slice_range};
-ghost use Rattle.uncovered_table.specs.Prepared.{AreLines, AreLinesOf, ArePushed, digit_in, sum_of, with_part};
+ghost use Rattle.std.specs.Prelude.{◌≡◌, Bool, List, false, ◌+◌, ◌*◌, ◌<◌, ◌≤◌, ◌^◌, ◌==◌, ℕ, All, IfOk, IfSome, OnOk, Some, if◌then◌else◌, length, option_map, slice_index_or, slice_range};
+ghost use Rattle.uncovered_table.specs.Prepared.{AreLines, AreLinesOf, ArePushed, AreReady, IsComplete, IsLeft, digit_in, sum_of, with_part};
+ghost use Rattle.definitions.specs.Demand.{demanded_sets};
 ghost use Rattle.definitions.specs.SliceRows.{IsOfSlice};
 ghost use Rattle.uncovered_table.specs.Bits.{InPlay, held_bit, sets_in_play};
 ghost use Rattle.uncovered_table.specs.Digits.{cell_digit, joined, own_values, step_of, with_digit};
@@ -7,6 +8,7 @@ ghost use Rattle.uncovered_table.specs.Places.{set_at, slice_places};
 
 use crate::block::Line;
 use crate::sets::SliceSets;
+use bit_table::BitTable;
 use cov_model::{Cells, ParamNo};
 use std::alloc::Global;
 use value_text::NoMemory;
@@ -31,10 +33,12 @@ pub(crate) struct Prepared {
     pub(crate) end: usize,
 }
 
-// The lines of the sets in play for a column, in order, and their parts one behind another.
+// The lines of the sets in play for a column, in order, and their parts one behind another. Sets without
+// an open tuple may be missing.
 #[derive(Drop)]
 pub(crate) struct ColumnLines {
     pub(crate) column: ParamNo,
+    pub(crate) sets: Vec<u32>,
     pub(crate) lines: Vec<Prepared>,
     pub(crate) parts: Vec<Part>,
 }
@@ -138,8 +142,9 @@ impl<'a> SliceSets<'a> {
     ) -> Result<ColumnLines, NoMemory>
         requires { column < length self.now.model.params }
         ensures own { IfOk result (λ made. made.column ≡ column) }
-        ensures lines { IfOk result (AreLinesOf self.now.model self.now.slice column) }
+        ensures ready { IfOk result (λ made. (bits : List Bool) → AreReady self.now.model self.now.slice bits column made) }
     {
+        let mut sets = Vec::new(alloc);
         let mut lines = Vec::new(alloc);
         let mut parts = Vec::new(alloc);
         let in_play = self.in_play(column);
@@ -152,10 +157,12 @@ impl<'a> SliceSets<'a> {
                 begin,
                 end: parts.len(),
             };
+            sets.push(*set)?;
             lines.push(line)?;
         }
         Ok(ColumnLines {
             column,
+            sets,
             lines,
             parts,
         })
@@ -167,13 +174,36 @@ impl<'a> SliceSets<'a> {
         ready: &'b Option<ColumnLines>,
         column: ParamNo,
     ) -> Option<&'b ColumnLines>
-        requires { IfSome ready.now (λ made. AreLinesOf self.now.model self.now.slice made.column made) }
-        ensures { IfSome result (λ made. AreLinesOf self.now.model self.now.slice column made.now) }
+        ensures { (bits : List Bool) → IfSome ready.now (λ made. AreReady self.now.model self.now.slice bits made.column made)
+            → IfSome result (λ made. AreReady self.now.model self.now.slice bits column made.now) }
     {
         let _ = self;
         match ready {
             Some(lines) if lines.column == column => Some(lines),
             _ => None,
+        }
+    }
+
+    // The sets that are walked over for a column: those that are ready, else all in play.
+    pub(crate) fn walked<'b>(
+        &'b self,
+        lines: Option<&'b ColumnLines>,
+        bits: &BitTable,
+        column: ParamNo,
+    ) -> &'b [u32]
+        requires column { column < length self.now.model.params }
+        requires lines { IfSome lines (λ made. AreReady self.now.model self.now.slice bits.now column made.now) }
+        ensures left { IsLeft (IsComplete self.now.model self.now.slice bits.now) (sets_in_play self.now.model self.now.slice column) result.now }
+        ensures own { IfSome lines.entry (λ made. made.now.sets.items ≡ result.now) }
+        ensures few { length result.now ≤ 2 ^ 20 }
+        ensures each { All (InPlay self.now.model self.now.slice column) result.now }
+    {
+        self.assert_invariant();
+        let _ = bits;
+        let in_play = self.in_play(column);
+        match lines {
+            Some(lines) => lines.sets.as_slice(),
+            None => in_play,
         }
     }
 
@@ -210,8 +240,8 @@ impl<'a> SliceSets<'a> {
         requires cells { IsOfSlice self.now.model self.now.slice cells.now }
         requires digits { digit_in digits.now ≡ cell_digit (own_values self.now.model self.now.slice) cells.now }
         requires long { length self.now.model.params ≤ length digits.now }
-        requires k { k < length (sets_in_play self.now.model self.now.slice column) }
-        requires own { set ≡ slice_index_or (sets_in_play self.now.model self.now.slice column) k 0 }
+        requires k { k < length lines.now.sets.items }
+        requires own { set ≡ slice_index_or lines.now.sets.items k 0 }
         requires lines { AreLinesOf self.now.model self.now.slice column lines.now }
         ensures value { (d : ℕ) → held_bit self.now.model self.now.slice (with_digit (cell_digit (own_values self.now.model self.now.slice) cells.now) column d) set
             ≡ option_map (λ line. line.first + d * line.step) result }
@@ -278,8 +308,7 @@ impl<'a> SliceSets<'a> {
         requires cells { IsOfSlice self.now.model self.now.slice cells.now }
         requires digits { digit_in digits.now ≡ cell_digit (own_values self.now.model self.now.slice) cells.now }
         requires long { length self.now.model.params ≤ length digits.now }
-        requires k { k < length (sets_in_play self.now.model self.now.slice column) }
-        requires own { set ≡ slice_index_or (sets_in_play self.now.model self.now.slice column) k 0 }
+        requires own { IfSome lines (λ made. (k < length made.now.sets.items) × (set ≡ slice_index_or made.now.sets.items k 0)) }
         requires lines { IfSome lines (λ made. AreLinesOf self.now.model self.now.slice column made.now) }
         ensures value { (d : ℕ) → held_bit self.now.model self.now.slice (with_digit (cell_digit (own_values self.now.model self.now.slice) cells.now) column d) set
             ≡ option_map (λ line. line.first + d * line.step) result }
@@ -290,5 +319,54 @@ impl<'a> SliceSets<'a> {
             Some(lines) => self.prepared_line(lines, k, set, column, cells, digits),
             None => self.member_line(set, column, cells, digits),
         }
+    }
+}
+
+// Whether a tuple of a set is open.
+fn has_open(sets: &SliceSets<'_>, bits: &BitTable, set: u32) -> bool
+    requires set { set < length (demanded_sets sets.now.model) }
+    requires bits { length bits.now ≡ length (slice_places sets.now.model sets.now.slice) }
+    ensures { result ≡ false → IsComplete sets.now.model sets.now.slice bits.now set }
+{
+    sets.assert_invariant();
+    let block = sets.block(set);
+    bits.next_set(block.first, block.first + block.count)
+        .is_some()
+}
+
+// Keeps the sets with an open tuple among those that are ready, and their lines. Parts stay where they
+// are, since a line names its own.
+fn keep_open(sets: &SliceSets<'_>, made: &mut ColumnLines, bits: &BitTable)
+    requires bits { length bits.now ≡ length (slice_places sets.now.model sets.now.slice) }
+    requires ready { AreReady sets.now.model sets.now.slice bits.now made.old.column made.old }
+    ensures { AreReady sets.now.model sets.now.slice bits.now made.new.column made.new }
+{
+    sets.assert_invariant();
+    let count = made.sets.len();
+    let mut kept: usize = 0;
+    for k in 0..count {
+        let set = made.sets[k];
+        made.sets[kept] = set;
+        made.lines[kept] = made.lines[k];
+        kept += usize::from(has_open(sets, bits, set));
+    }
+    made.sets.truncate(kept);
+    made.lines.truncate(kept);
+}
+
+// Lets the sets without an open tuple leave what is ready, where it is ready for this column.
+pub(crate) fn leave_complete(
+    sets: &SliceSets<'_>,
+    ready: &mut Option<ColumnLines>,
+    bits: &BitTable,
+    column: ParamNo,
+)
+    requires bits { length bits.now ≡ length (slice_places sets.now.model sets.now.slice) }
+    requires ready { IfSome ready.old (λ made. AreReady sets.now.model sets.now.slice bits.now made.column made) }
+    ensures { IfSome ready.new (λ made. AreReady sets.now.model sets.now.slice bits.now made.column made) }
+{
+    match ready {
+        Some(made) if made.column == column => keep_open(sets, made, bits),
+        _ => {}
     }
 }

@@ -12,7 +12,7 @@ use crate::held::{add_held, count_held};
 use crate::next::next_of;
 use crate::pairs::{PairBits, clear_column, forget_pairs, put_pair_counts};
 use crate::part::SlicePart;
-use crate::prepared::ColumnLines;
+use crate::prepared::{ColumnLines, leave_complete};
 use crate::sets::SliceSets;
 use bit_table::BitTable;
 use cov_model::{Cells, ParamNo, Slice, TestModel, ValueNo};
@@ -111,6 +111,16 @@ impl<'a> Uncovered<'a> {
         self.ready = None;
         self.ready = Some(self.sets.column_lines(alloc, column)?);
         Ok(())
+    }
+
+    /// Lets the sets without an open tuple leave what is ready for a column, so that `gain`, `gains` and
+    /// `close_row` don't look at them any more. Does nothing where another column is ready, or none.
+    /// Takes no memory.
+    pub fn leave_complete(&mut self, column: ParamNo)
+        requires { column < length self.old.model.params }
+        ensures { self.new ≡ self.old }
+    {
+        leave_complete(&self.sets, &mut self.ready, &self.bits, column);
     }
 
     /// Whether the tuple of this place is open. Takes no memory.

@@ -1,4 +1,4 @@
-use Rattle.std.proofs.Common.{◌≡◌, ◌<◌, ◌+◌, ℕ, List, IsPermutation, get_or, length, subst, sym}
+use Rattle.std.proofs.Common.{◌<◌, ◌+◌, ℕ, List, IsPermutation, get_or, length, subst}
 use Rattle.ipog_grow.proofs.Fingerprints.{apart_distinct}
 use Rattle.ipog_grow.proofs.fingerprint.are_apart.Goals as goal
 

@@ -1,4 +1,4 @@
-use Rattle.std.proofs.Common.{◌≡◌, ◌∙◌, ◌<◌, ◌+◌, ℕ, Err, List, Option, [], length, get_or, sym, subst, All, arith}
+use Rattle.std.proofs.Common.{◌≡◌, ◌∙◌, ◌<◌, ◌+◌, ℕ, Err, List, ap, Option, [], length, get_or, sym, subst, All, arith}
 use Rattle.std.proofs.lemmas.Result.{err_from_is_err_and}
 use Rattle.cov_model.specs.Sound.{param_at}
 use Rattle.ipog_grow.specs.Growing.{IsInPlay, open_tuples}
@@ -7,10 +7,15 @@ use Rattle.ipog_grow.proofs.Asking.{told-err}
 use Rattle.ipog_grow.proofs.HorizontalLemmas.{Crossing, Step, crossing-more, crossing-spent}
 use Rattle.ipog_grow.proofs.horizontal.grow_horizontally.Goals as goal
 
+pub leave_at_times-requires : goal.leave_at_times-requires
+leave_at_times-requires g c =
+    subst (λ model. c.args.column < length model.params) (sym (c.loop-i.invariant.crossing.keeps.model ∙ c.requires.table.0)) c.requires.column
+
 pub fill_cell-requires-clause-table : goal.fill_cell-requires-clause-table
 fill_cell-requires-clause-table g c _ _ =
-    subst (λ (w : SearchContext). IsTableOf w c.loop-i.table) (sym c.loop-i.invariant.context)
-    (c.loop-i.invariant.crossing.keeps.model ∙ c.requires.table.0, c.loop-i.invariant.crossing.keeps.slice ∙ c.requires.table.1)
+    subst (λ table. IsTableOf c.loop-i.asker.context table) (sym c.leave_at_times.ensures)
+    (subst (λ (w : SearchContext). IsTableOf w c.loop-i.table) (sym c.loop-i.invariant.context)
+    (c.loop-i.invariant.crossing.keeps.model ∙ c.requires.table.0, c.loop-i.invariant.crossing.keeps.slice ∙ c.requires.table.1))
 
 pub fill_cell-requires-clause-column : goal.fill_cell-requires-clause-column
 fill_cell-requires-clause-column g c _ _ =
@@ -27,8 +32,10 @@ fill_cell-requires-clause-scores g c _ _ =
 
 pub fill_cell-requires-clause-in_play : goal.fill_cell-requires-clause-in_play
 fill_cell-requires-clause-in_play g c _ _ =
-    subst (λ (w : SearchContext). All (IsInPlay w.model w.slice c.args.column) (open_tuples c.loop-i.table c.args.column)) (sym c.loop-i.invariant.context)
-    c.loop-i.invariant.crossing.in_play
+    subst (λ (w : SearchContext). All (IsInPlay w.model w.slice c.args.column) (open_tuples c.leave_at_times.new.table c.args.column))
+    (sym c.loop-i.invariant.context)
+    (subst (λ table. All (IsInPlay c.args.asker.now.context.model c.args.asker.now.context.slice c.args.column) (open_tuples table c.args.column))
+    (sym c.leave_at_times.ensures) c.loop-i.invariant.crossing.in_play)
 
 pub fill_cell-requires-clause-place : goal.fill_cell-requires-clause-place
 fill_cell-requires-clause-place g c _ _ = omega (arith, c.loop-i.invariant.crossing.long)
@@ -55,13 +62,14 @@ returns-in_err-fill_cell-clause-asked g c tuples moment =
     c.fill_cell.new.asker.question tuples within c.loop-i.invariant.crossing moment over)
     (subst (λ (w : SearchContext). Told {A = Unit {0}} (Err c.in_err-fill_cell.field-0.0) c.fill_cell.new.asker.question
     (first_spent w (filled w c.args.column c.loop-i.rows tuples (get_or c.loop-i.rows c.loop-i.i [])).asked)) c.loop-i.invariant.context
-    (c.in_err-fill_cell.ensures.asked c.loop-i.rows tuples (c.loop-i.invariant.crossing.moment tuples moment))))
+    (c.in_err-fill_cell.ensures.asked c.loop-i.rows tuples
+    (ap (λ table. open_tuples table c.args.column) c.leave_at_times.ensures ∙ c.loop-i.invariant.crossing.moment tuples moment))))
 
 pub loop-i-preserved : goal.loop-i-preserved
 loop-i-preserved g c =
     let within : c.loop-i.i < length c.loop-i.rows = omega (arith, c.loop-i.invariant.crossing.long) in
     let grown : List (Option ℕ) = get_or c.fill_cell.new.rows c.loop-i.i [] in
-    let told : Step c.loop-i.asker.context c.args.column c.loop-i.table c.fill_cell.new.table (get_or c.loop-i.rows c.loop-i.i []) grown =
+    let told : Step c.loop-i.asker.context c.args.column c.leave_at_times.new.table c.fill_cell.new.table (get_or c.loop-i.rows c.loop-i.i []) grown =
     record {
       asked = c.in_ok-fill_cell.ensures.asked;
       given = c.in_ok-fill_cell.ensures.row;
@@ -79,5 +87,7 @@ loop-i-preserved g c =
           (crossing-more c.args.asker.now.context c.args.column c.args.table.now c.loop-i.table c.fill_cell.new.table c.args.rows.now c.loop-i.rows c.loop-i.i
           grown within c.loop-i.invariant.crossing
           (subst (λ (w : SearchContext). Step w c.args.column c.loop-i.table c.fill_cell.new.table (get_or c.loop-i.rows c.loop-i.i []) grown)
-          c.loop-i.invariant.context told));
+          c.loop-i.invariant.context
+          (subst (λ table. Step c.loop-i.asker.context c.args.column table c.fill_cell.new.table (get_or c.loop-i.rows c.loop-i.i []) grown)
+          c.leave_at_times.ensures told)));
     }

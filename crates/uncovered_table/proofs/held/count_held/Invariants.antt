@@ -6,6 +6,6 @@ use Rattle.uncovered_table.proofs.held.count_held.Given as goal
 abbrev pub invariant-loop-k : goal.invariant-loop-k
 invariant-loop-k l = record {
   counted : l.count ≡ sum_by (held_count l.sets.model l.sets.slice l.bits
-      (with_digit (cell_digit (own_values l.sets.model l.sets.slice) l.cells) l.column l.digit)) (take l.k l.in_play);
+      (with_digit (cell_digit (own_values l.sets.model l.sets.slice) l.cells) l.column l.digit)) (take l.k l.walked);
   few : l.count ≤ l.k;
 }

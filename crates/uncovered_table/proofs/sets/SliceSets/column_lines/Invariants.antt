@@ -1,7 +1,10 @@
-use Rattle.std.proofs.Common.{take}
+use Rattle.std.proofs.Common.{◌≡◌, take}
 use Rattle.uncovered_table.specs.Prepared.{AreLines}
 use Rattle.uncovered_table.proofs.sets.SliceSets.column_lines.Given as goal
 
--- the lines of the sets so far
+-- the sets so far and their lines
 abbrev pub invariant-loop-set : goal.invariant-loop-set
-invariant-loop-set l = AreLines l.self.model l.self.slice l.column (take l.set-index l.in_play) l.lines.items l.parts.items
+invariant-loop-set l = record {
+  sets : l.sets.items ≡ take l.set-index l.in_play;
+  lines : AreLines l.self.model l.self.slice l.column (take l.set-index l.in_play) l.lines.items l.parts.items;
+}

@@ -1,6 +1,5 @@
 use Rattle.std.proofs.Common.{◌≡◌, ◌∙◌, ◌<◌, ◌+◌, None, refl, All, length, ap, sym, subst, arith}
 use Rattle.std.specs.Prelude.{slice_range}
-use Rattle.uncovered_table.specs.Bits.{sets_in_play}
 use Rattle.uncovered_table.specs.Digits.{cell_digit, own_values}
 use Rattle.uncovered_table.specs.Places.{set_at}
 use Rattle.uncovered_table.specs.Prepared.{digit_in, sum_of}
@@ -11,14 +10,14 @@ use Rattle.uncovered_table.proofs.sets.SliceSets.prepared_line.Goals as goal
 pub between-parts-requires-clause-order : goal.between-parts-requires-clause-order
 between-parts-requires-clause-order c =
     let v = c.args.self.now in
-    let own = line-of v.model v.slice c.args.column c.args.set c.args.k (sets_in_play v.model v.slice c.args.column) c.index-line.result.now
+    let own = line-of v.model v.slice c.args.column c.args.set c.args.k c.args.lines.now.sets.items c.index-line.result.now
     c.args.lines.now.lines.items c.args.lines.now.parts.items c.requires.lines c.requires.k c.requires.own c.index-line.ensures in
     own.order
 
 pub between-parts-requires-clause-within : goal.between-parts-requires-clause-within
 between-parts-requires-clause-within c =
     let v = c.args.self.now in
-    let own = line-of v.model v.slice c.args.column c.args.set c.args.k (sets_in_play v.model v.slice c.args.column) c.index-line.result.now
+    let own = line-of v.model v.slice c.args.column c.args.set c.args.k c.args.lines.now.sets.items c.index-line.result.now
     c.args.lines.now.lines.items c.args.lines.now.parts.items c.requires.lines c.requires.k c.requires.own c.index-line.ensures in
     omega (arith, own.within, ap length c.as_slice.ensures.value)
 
@@ -34,7 +33,7 @@ sum_of-requires-clause-within c =
 pub sum_of-requires-clause-few : goal.sum_of-requires-clause-few
 sum_of-requires-clause-few c =
     let v = c.args.self.now in
-    let own = line-of v.model v.slice c.args.column c.args.set c.args.k (sets_in_play v.model v.slice c.args.column) c.index-line.result.now
+    let own = line-of v.model v.slice c.args.column c.args.set c.args.k c.args.lines.now.sets.items c.index-line.result.now
     c.args.lines.now.lines.items c.args.lines.now.parts.items c.requires.lines c.requires.k c.requires.own c.index-line.ensures in
     let ranged : c.between-parts.result.now ≡ slice_range c.args.lines.now.parts.items c.index-line.result.now.begin c.index-line.result.now.end =
     c.between-parts.ensures ∙ ap (λ list. slice_range list c.index-line.result.now.begin c.index-line.result.now.end) c.as_slice.ensures.value in
@@ -47,7 +46,7 @@ known : (c : goal.After-struct_known-1) → LineKnown c.args.self.now.model c.ar
     (c.index-line.result.now.first + c.in-Some.sum) c.index-line.result.now.step
 known c =
     let v = c.args.self.now in
-    let own = line-of v.model v.slice c.args.column c.args.set c.args.k (sets_in_play v.model v.slice c.args.column) c.index-line.result.now
+    let own = line-of v.model v.slice c.args.column c.args.set c.args.k c.args.lines.now.sets.items c.index-line.result.now
     c.args.lines.now.lines.items c.args.lines.now.parts.items c.requires.lines c.requires.k c.requires.own c.index-line.ensures in
     let ranged : c.between-parts.result.now ≡ slice_range c.args.lines.now.parts.items c.index-line.result.now.begin c.index-line.result.now.end =
     c.between-parts.ensures ∙ ap (λ list. slice_range list c.index-line.result.now.begin c.index-line.result.now.end) c.as_slice.ensures.value in
@@ -58,7 +57,7 @@ known c =
 pub overflow_cast-result : goal.overflow_cast-result
 overflow_cast-result c =
     let v = c.args.self.now in
-    let own = line-of v.model v.slice c.args.column c.args.set c.args.k (sets_in_play v.model v.slice c.args.column) c.index-line.result.now
+    let own = line-of v.model v.slice c.args.column c.args.set c.args.k c.args.lines.now.sets.items c.index-line.result.now
     c.args.lines.now.lines.items c.args.lines.now.parts.items c.requires.lines c.requires.k c.requires.own c.index-line.ensures in
     let ranged : c.between-parts.result.now ≡ slice_range c.args.lines.now.parts.items c.index-line.result.now.begin c.index-line.result.now.end =
     c.between-parts.ensures ∙ ap (λ list. slice_range list c.index-line.result.now.begin c.index-line.result.now.end) c.as_slice.ensures.value in
@@ -83,7 +82,7 @@ returns-in-Some-clause-within c =
 pub returns-in-None-clause-value : goal.returns-in-None-clause-value
 returns-in-None-clause-value c =
     let v = c.args.self.now in
-    let own = line-of v.model v.slice c.args.column c.args.set c.args.k (sets_in_play v.model v.slice c.args.column) c.index-line.result.now
+    let own = line-of v.model v.slice c.args.column c.args.set c.args.k c.args.lines.now.sets.items c.index-line.result.now
     c.args.lines.now.lines.items c.args.lines.now.parts.items c.requires.lines c.requires.k c.requires.own c.index-line.ensures in
     let ranged : c.between-parts.result.now ≡ slice_range c.args.lines.now.parts.items c.index-line.result.now.begin c.index-line.result.now.end =
     c.between-parts.ensures ∙ ap (λ list. slice_range list c.index-line.result.now.begin c.index-line.result.now.end) c.as_slice.ensures.value in

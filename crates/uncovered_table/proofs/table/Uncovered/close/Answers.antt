@@ -1,12 +1,14 @@
 use Rattle.std.proofs.Common.{ℕ, ◌∙◌, ap, false, length, subst, sym}
-use Rattle.std.specs.Prelude.{slice_set}
+use Rattle.std.specs.Prelude.{IfSome, slice_set}
 use Rattle.std.proofs.lemmas.List.{length-set}
 use Rattle.uncovered_table.specs.Bits.{bit_of, marked}
 use Rattle.uncovered_table.specs.Open.{IsPlaceOf, closed}
 use Rattle.uncovered_table.specs.Pairs.{AreKept}
+use Rattle.uncovered_table.specs.Prepared.{AreReady}
 use Rattle.uncovered_table.proofs.BitLemmas.{bit_known}
 use Rattle.uncovered_table.proofs.OpenLemmas.{closed_bit}
 use Rattle.uncovered_table.proofs.PartnerLemmas.{kept-single}
+use Rattle.uncovered_table.proofs.ReadyLemmas.{ready-cleared}
 use Rattle.uncovered_table.proofs.table.Uncovered.close.Goals as goal
 
 pub forget_pairs-requires-clause-set : goal.forget_pairs-requires-clause-set
@@ -26,7 +28,9 @@ invariant_of-self c =
     let cleared = c.clear.ensures ∙ ap (λ k. slice_set c.self.inside.bits k false) c.bit.ensures.value in
     record {
       long = ap length cleared ∙ length-set c.self.inside.bits (bit_of v.model v.slice place) false ∙ c.self.invariant.long;
-      lines = c.self.invariant.lines;
+      lines =
+          subst (λ bits. IfSome c.self.inside.ready (λ made. AreReady v.model v.slice bits made.column made)) (sym cleared)
+          (ready-cleared v.model v.slice c.self.inside.bits (bit_of v.model v.slice place) c.self.inside.ready c.self.invariant.lines);
       begins_are = c.self.invariant.begins_are;
       kept =
           subst (λ bits. AreKept v.model v.slice bits (length v.model.params) c.forget_pairs.new.columns.items) (sym cleared)

@@ -1,9 +1,12 @@
 use Rattle.std.proofs.Common.{◌≡◌, ◌∙◌, ap, length, subst, sym}
+use Rattle.std.specs.Prelude.{IfSome}
 use Rattle.uncovered_table.specs.Bits.{marked, sets_in_play}
 use Rattle.uncovered_table.specs.Digits.{cell_digit, own_values, with_digit}
 use Rattle.uncovered_table.specs.Open.{row_closed}
 use Rattle.uncovered_table.specs.Pairs.{AreKept}
+use Rattle.uncovered_table.specs.Prepared.{AreReady}
 use Rattle.uncovered_table.proofs.GainLemmas.{length-all_cleared, row_closed_bits}
+use Rattle.uncovered_table.proofs.ReadyLemmas.{ready-all_cleared}
 use Rattle.uncovered_table.proofs.ValueLemmas.{cleared_none, cleared_own}
 use Rattle.uncovered_table.proofs.table.Uncovered.close_row.Goals as goal
 
@@ -16,7 +19,10 @@ invariant_of-self c =
           ∙ length-all_cleared v.model v.slice (with_digit (cell_digit (own_values v.model v.slice) c.args.cells.now) c.args.column c.in-Some.digit)
           c.self.inside.bits (sets_in_play v.model v.slice c.args.column)
           ∙ c.self.invariant.long;
-      lines = c.self.invariant.lines;
+      lines =
+          subst (λ bits. IfSome c.self.inside.ready (λ made. AreReady v.model v.slice bits made.column made)) (sym c.clear_column.ensures.bits)
+          (ready-all_cleared v.model v.slice (with_digit (cell_digit (own_values v.model v.slice) c.args.cells.now) c.args.column c.in-Some.digit)
+          c.self.inside.bits (sets_in_play v.model v.slice c.args.column) c.self.inside.ready c.self.invariant.lines);
       begins_are = c.self.invariant.begins_are;
       kept =
           subst (λ bits. AreKept v.model v.slice bits (length v.model.params) c.clear_column.new.columns.items) (sym c.clear_column.ensures.bits)
