@@ -1,16 +1,22 @@
-ghost use Rattle.std.specs.Prelude.{◌≡◌, ◌++◌, ◌∷◌, ◌<◌, [], All, IfOk, OnOk, length};
+ghost use Rattle.std.specs.Prelude.{◌≡◌, ◌+◌, ◌^◌, ◌++◌, ◌∷◌, ◌<◌, [], All, IfOk, OnOk, filter_map, length};
 ghost use Rattle.cov_model.specs.Preference.{OrdersValues};
 ghost use Rattle.cov_model.specs.Sound.{param_at};
 ghost use Rattle.definitions.specs.Completion.{column_order};
 ghost use Rattle.definitions.specs.Growth.{down, settle};
+ghost use Rattle.definitions.specs.Seeds.{distinct};
 ghost use Rattle.definitions.specs.SliceRows.{IsSliceOf};
+ghost use Rattle.feasibility.specs.Ends.{Ends};
+ghost use Rattle.feasibility.specs.Refuting.{earlier_tuples};
 ghost use Rattle.tuple_index.specs.Plan.{plan_of};
+ghost use Rattle.ipog_grow.specs.Completing.{completed};
+ghost use Rattle.ipog_grow.specs.Omissions.{AreOmissionsOf, IsOmittedIn};
 ghost use Rattle.ipog_grow.specs.Asking.{Grows, IsNew, IsNext, IsOpen, IsPassed, IsReady, Told, column_grown, columns_grown, extends, first_spent, omitted_alone, rows_alone};
 ghost use Rattle.ipog_grow.specs.Growing.{Keeps, columns_to, open_tuples};
 ghost use Rattle.ipog_grow.specs.UnfilledRows.{HasUnfilled};
 
 use crate::asker::Asker;
 use crate::contained::close_contained;
+use crate::finish::finish_slice;
 use crate::horizontal::grow_horizontally;
 use crate::join::join_first;
 use crate::order::column_order;
@@ -20,7 +26,9 @@ use crate::unfilled::UnfilledRows;
 use crate::values::no_scores;
 use crate::workers::Workers;
 use cov_model::{Cells, ParamNo, Prefs, Rows, Slice, TestModel};
+use feasibility::SearchFault;
 use outside_io::Gate;
+use refutation::{Omissions, ProofForm};
 use std::alloc::Global;
 use std::thread::Threads;
 use tuple_index::Plan;
@@ -273,5 +281,43 @@ impl<'a> SliceGrowth<'a> {
             self.grow_column(workers, alloc, prefs, plan, order[k], &order[..k + 1])?;
         }
         Ok(())
+    }
+
+    // Ends the growth after the last column: completes the grown rows, and puts them and the omitted tuples
+    // behind those of earlier slices.
+    pub(crate) fn finish(
+        self,
+        alloc: Global,
+        proof: Option<ProofForm>,
+        rows: &mut Rows,
+        omissions: &mut Omissions,
+    ) -> Result<(), SearchFault>
+        requires grows { All (Grows self.asker.context) self.rows }
+        requires omitted { All (IsOmittedIn self.asker.context) self.omitted }
+        requires earlier { AreOmissionsOf self.asker.context.model self.asker.context.prefs proof omissions.old }
+        requires few { length omissions.old.omissions + length self.omitted < 2 ^ 32 }
+        requires long { All (λ row. length row ≡ length self.asker.context.model.params) rows.old }
+        ensures rows { OnOk result (rows.new ≡ rows.old ++ distinct (filter_map (completed self.entry.asker.context) self.entry.rows)) }
+        ensures long { OnOk result (All (λ row. length row ≡ length self.entry.asker.context.model.params) rows.new) }
+        ensures tuples { OnOk result (earlier_tuples self.entry.asker.context.model omissions.new
+            ≡ earlier_tuples self.entry.asker.context.model omissions.old ++ self.entry.omitted) }
+        ensures omissions { OnOk result (AreOmissionsOf self.entry.asker.context.model self.entry.asker.context.prefs proof omissions.new) }
+        ensures asked { Ends result (first_spent self.entry.asker.context self.entry.rows) }
+    {
+        let SliceGrowth {
+            mut asker,
+            rows: grown,
+            omitted,
+            ..
+        } = self;
+        finish_slice(
+            alloc,
+            &mut asker,
+            proof,
+            grown,
+            omitted.as_slice(),
+            rows,
+            omissions,
+        )
     }
 }

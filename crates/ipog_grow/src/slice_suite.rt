@@ -9,7 +9,6 @@ ghost use Rattle.ipog_grow.specs.Omissions.{AreOmissionsOf, met_count};
 ghost use Rattle.ipog_grow.specs.SliceGrowing.{grown_from};
 ghost use Rattle.feasibility.specs.Ends.{Ends};
 
-use crate::finish::finish_slice;
 use crate::input::GrowInput;
 use crate::question::fault_of;
 use crate::seeds::seeds_of_slice;
@@ -20,7 +19,6 @@ use feasibility::SearchFault;
 use outside_io::Gate;
 use refutation::Omissions;
 use std::alloc::Global;
-use std::mem::replace;
 use std::thread::Threads;
 use value_text::NoMemory;
 
@@ -75,14 +73,5 @@ pub(crate) fn grow_slice<R: Threads + Sync, G: Gate + Sync>(
     if let Err(stop) = growth.grow_columns(workers, alloc, model, prefs, plan, slice) {
         return Err(fault_of(alloc, stop, growth.asker.question()));
     }
-    let grown = replace(&mut growth.rows, Rows::new(alloc));
-    finish_slice(
-        alloc,
-        &mut growth.asker,
-        input.proof,
-        grown,
-        growth.omitted.as_slice(),
-        rows,
-        omissions,
-    )
+    growth.finish(alloc, input.proof, rows, omissions)
 }

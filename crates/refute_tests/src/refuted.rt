@@ -37,6 +37,32 @@ fn row_of_tuple(alloc: Global, model: &TestModel, tuple: &Tuple) -> Result<Cells
     Ok(row)
 }
 
+// The tree of a tuple without negative values, by a solver of the positive slice.
+fn refuted_by(
+    alloc: Global,
+    solver: &mut Solver<'_>,
+    model: &TestModel,
+    tuple: &Tuple,
+    budget: u64,
+    earlier: &Omissions,
+) -> Result<TreeBuf, RefuteFault>
+    requires model { solver.old.model ≡ model.now }
+    requires slice { solver.old.slice ≡ Slice.Positive }
+    requires few { length earlier.now.omissions < 2 ^ 32 }
+{
+    let row = row_of_tuple(alloc, model, tuple)?;
+    if !is_positive_row(model, &row) {
+        return Err(RefuteFault::NoMemory);
+    }
+    match solver.ask(&row, u64::MAX) {
+        Answer::No => {}
+        Answer::Yes | Answer::Spent => return Err(RefuteFault::NoMemory),
+    }
+    let mut tree = TreeBuf::new(alloc);
+    solver.refute(tuple, budget, earlier, &mut tree)?;
+    Ok(tree)
+}
+
 /// The tree of a tuple without negative values, after these omissions. `NoMemory` too where some row
 /// serves the tuple.
 pub fn refuted(
@@ -50,15 +76,5 @@ pub fn refuted(
 {
     let prefs = Prefs::new(alloc, model, None)?;
     let mut solver = Solver::new(alloc, model, &prefs, Slice::Positive)?;
-    let row = row_of_tuple(alloc, model, tuple)?;
-    if !is_positive_row(model, &row) {
-        return Err(RefuteFault::NoMemory);
-    }
-    match solver.ask(&row, u64::MAX) {
-        Answer::No => {}
-        Answer::Yes | Answer::Spent => return Err(RefuteFault::NoMemory),
-    }
-    let mut tree = TreeBuf::new(alloc);
-    solver.refute(tuple, budget, earlier, &mut tree)?;
-    Ok(tree)
+    refuted_by(alloc, &mut solver, model, tuple, budget, earlier)
 }

@@ -1,4 +1,4 @@
-use Rattle.std.proofs.Common.{◌≡◌, ◌++◌, ℕ, Bool, List, [], Option, Err, All, length, nat_lt, filter, filter_map, ◌∙◌, sym, ap, subst, arith}
+use Rattle.std.proofs.Common.{◌≡◌, ◌++◌, ℕ, Bool, List, [], Option, Err, All, length, nat_lt, filter, filter_map, ◌∙◌, sym, ap, subst, refl, arith}
 use Rattle.std.proofs.lemmas.Result.{on_ok_weaker}
 use Rattle.definitions.specs.Completion.{column_order}
 use Rattle.definitions.specs.Growth.{Grown, is_of_slice}
@@ -64,24 +64,24 @@ returns-in-Err-clause-asked g c =
     (same_asked c.in-Ok.growth.asker.context context order c.in-Ok.growth.rows start c.in-Ok.ensures.context
     c.in-Ok.ensures.rows) c.in-Err.ensures.asked)))
 
-pub finish_slice-requires-clause-omitted : goal.finish_slice-requires-clause-omitted
-finish_slice-requires-clause-omitted g c =
+pub finish-requires-clause-omitted : goal.finish-requires-clause-omitted
+finish-requires-clause-omitted g c =
     let context : SearchContext = context_in c.args.input.now c.args.slice in
     let start : List (List (Option ℕ)) = filter (is_of_slice context.model c.args.slice) c.args.input.now.kept.now in
     let order : List ℕ = column_order context.model c.args.slice in
     let now : SearchContext = c.in-Ok.growth.asker.context in
     let rows : List (List (Option ℕ)) = c.in-Ok.growth.rows in
     let same = c.in-Ok.ensures.rows in
-    subst (λ (w : SearchContext). All (IsOmittedIn w) c.as_slice.result.now)
+    subst (λ (w : SearchContext). All (IsOmittedIn w) c.grow_columns.new.self.omitted)
     (sym (c.in_default-grow_columns.ensures.same ∙ c.in-Ok.ensures.context))
     (subst (λ (tuples : List (List (Option ℕ))). All (IsOmittedIn context) tuples)
-    (sym (same_omitted now context order rows start c.in-Ok.growth.omitted c.as_slice.result.now c.grow_columns.new.self.omitted
-    c.in-Ok.ensures.context same c.in-Ok.ensures.omitted c.in_default-grow_columns.ensures.omitted c.as_slice.ensures))
+    (sym (same_omitted now context order rows start c.in-Ok.growth.omitted c.grow_columns.new.self.omitted c.grow_columns.new.self.omitted
+    c.in-Ok.ensures.context same c.in-Ok.ensures.omitted c.in_default-grow_columns.ensures.omitted refl))
     (omitted-in context order start c.requires.slice
     (sym (same_asked now context order rows start c.in-Ok.ensures.context same) ∙ c.in_default-grow_columns.ensures.asked)))
 
-pub finish_slice-requires-clause-few : goal.finish_slice-requires-clause-few
-finish_slice-requires-clause-few g c =
+pub finish-requires-clause-few : goal.finish-requires-clause-few
+finish-requires-clause-few g c =
     let context : SearchContext = context_in c.args.input.now c.args.slice in
     let start : List (List (Option ℕ)) = filter (is_of_slice context.model c.args.slice) c.args.input.now.kept.now in
     let order : List ℕ = column_order context.model c.args.slice in
@@ -90,8 +90,8 @@ finish_slice-requires-clause-few g c =
       c.requires.few,
       omitted-few context order start,
       ap length (same_omitted c.in-Ok.growth.asker.context context order c.in-Ok.growth.rows start c.in-Ok.growth.omitted
-          c.as_slice.result.now c.grow_columns.new.self.omitted c.in-Ok.ensures.context c.in-Ok.ensures.rows
-          c.in-Ok.ensures.omitted c.in_default-grow_columns.ensures.omitted c.as_slice.ensures),
+          c.grow_columns.new.self.omitted c.grow_columns.new.self.omitted c.in-Ok.ensures.context c.in-Ok.ensures.rows
+          c.in-Ok.ensures.omitted c.in_default-grow_columns.ensures.omitted refl),
     )
 
 pub returns-clause-rows : goal.returns-clause-rows
@@ -104,9 +104,9 @@ returns-clause-rows g c =
     c.in_default-grow_columns.ensures.rows
     ∙ ap (λ (g : Grown). g.rows) (same_grown c.in-Ok.growth.asker.context context order c.in-Ok.growth.rows start c.in-Ok.ensures.context
     c.in-Ok.ensures.rows) in
-    on_ok_weaker c.finish_slice.result
-    (same_put c.grow_columns.new.self.asker.context context order c.args.rows.now given c.finish_slice.new.rows start
-    (c.in_default-grow_columns.ensures.same ∙ c.in-Ok.ensures.context) rows) c.finish_slice.ensures.rows
+    on_ok_weaker c.finish.result
+    (same_put c.grow_columns.new.self.asker.context context order c.args.rows.now given c.finish.new.rows start
+    (c.in_default-grow_columns.ensures.same ∙ c.in-Ok.ensures.context) rows) c.finish.ensures.rows
 
 pub returns-clause-count : goal.returns-clause-count
 returns-clause-count g c =
@@ -115,12 +115,12 @@ returns-clause-count g c =
     let order : List ℕ = column_order context.model c.args.slice in
     let few = omitted-few context order start in
     let put = ap length (same_omitted c.in-Ok.growth.asker.context context order c.in-Ok.growth.rows start c.in-Ok.growth.omitted
-    c.as_slice.result.now c.grow_columns.new.self.omitted c.in-Ok.ensures.context c.in-Ok.ensures.rows
-    c.in-Ok.ensures.omitted c.in_default-grow_columns.ensures.omitted c.as_slice.ensures) in
-    on_ok_weaker c.finish_slice.result
+    c.grow_columns.new.self.omitted c.grow_columns.new.self.omitted c.in-Ok.ensures.context c.in-Ok.ensures.rows
+    c.in-Ok.ensures.omitted c.in_default-grow_columns.ensures.omitted refl) in
+    on_ok_weaker c.finish.result
     (λ tuples.
-    let count = omissions-count c.grow_columns.new.self.asker.context.model c.args.omissions.now c.finish_slice.new.omissions c.as_slice.result.now tuples in
-    omega (arith, few, put, count)) c.finish_slice.ensures.tuples
+    let count = omissions-count c.grow_columns.new.self.asker.context.model c.args.omissions.now c.finish.new.omissions c.grow_columns.new.self.omitted tuples in
+    omega (arith, few, put, count)) c.finish.ensures.tuples
 
 pub returns-clause-asked : goal.returns-clause-asked
 returns-clause-asked g c =
@@ -133,21 +133,21 @@ returns-clause-asked g c =
     c.in_default-grow_columns.ensures.rows
     ∙ ap (λ (g : Grown). g.rows) (same_grown c.in-Ok.growth.asker.context context order c.in-Ok.growth.rows start c.in-Ok.ensures.context
     same) in
-    subst (Ends c.finish_slice.result)
+    subst (Ends c.finish.result)
     (sym (find-later (over context) grown.asked grown.rows
     (sym (same_asked c.in-Ok.growth.asker.context context order c.in-Ok.growth.rows start c.in-Ok.ensures.context same)
     ∙ c.in_default-grow_columns.ensures.asked)))
-    (subst (Ends c.finish_slice.result)
+    (subst (Ends c.finish.result)
     (ap (λ w. first_spent w c.grow_columns.new.self.rows) (c.in_default-grow_columns.ensures.same ∙ c.in-Ok.ensures.context) ∙ ap (first_spent context) rows)
-    c.finish_slice.ensures.asked)
+    c.finish.ensures.asked)
 
-pub finish_slice-requires-clause-long : goal.finish_slice-requires-clause-long
-finish_slice-requires-clause-long g c =
+pub finish-requires-clause-long : goal.finish-requires-clause-long
+finish-requires-clause-long g c =
     subst (λ (w : SearchContext). All (λ row. length row ≡ length w.model.params) c.args.rows.now)
     (sym (c.in_default-grow_columns.ensures.same ∙ c.in-Ok.ensures.context)) c.requires.long
 
 pub returns-clause-long : goal.returns-clause-long
 returns-clause-long g c =
-    on_ok_weaker c.finish_slice.result
-    (subst (λ (w : SearchContext). All (λ row. length row ≡ length w.model.params) c.finish_slice.new.rows)
-    (c.in_default-grow_columns.ensures.same ∙ c.in-Ok.ensures.context)) c.finish_slice.ensures.long
+    on_ok_weaker c.finish.result
+    (subst (λ (w : SearchContext). All (λ row. length row ≡ length w.model.params) c.finish.new.rows)
+    (c.in_default-grow_columns.ensures.same ∙ c.in-Ok.ensures.context)) c.finish.ensures.long
