@@ -1,4 +1,4 @@
-ghost use Rattle.std.specs.Prelude.{◌≡◌, Bool, List, false, ◌+◌, ◌*◌, ◌<◌, ◌≤◌, ◌^◌, ◌==◌, ℕ, All, IfOk, IfSome, OnOk, Some, if◌then◌else◌, length, option_map, slice_index_or, slice_range};
+ghost use Rattle.std.specs.Prelude.{◌≡◌, ◌∷◌, [], Bool, List, false, ◌+◌, ◌*◌, ◌<◌, ◌≤◌, ◌^◌, ◌==◌, ℕ, All, IfOk, IfSome, OnOk, Some, if◌then◌else◌, length, option_map, slice_index_or, slice_range};
 ghost use Rattle.uncovered_table.specs.Prepared.{AreLines, AreLinesOf, ArePushed, AreReady, IsComplete, IsLeft, digit_in, sum_of, with_part};
 ghost use Rattle.definitions.specs.Demand.{demanded_sets};
 ghost use Rattle.definitions.specs.SliceRows.{IsOfSlice};
@@ -53,9 +53,24 @@ fn between(parts: &[Part], begin: usize, end: usize) -> &[Part]
     &parts[begin..end]
 }
 
-// The number that digits make, where each is there.
+// The number that the digits of two parts make, where both are there.
 #[inline]
-pub(crate) fn sum_of(parts: &[Part], digits: &[u16]) -> Option<u64>
+fn sum_of_two(first: Part, second: Part, digits: &[u16]) -> Option<u64>
+    requires first { first.param < length digits.now }
+    requires second { second.param < length digits.now }
+    ensures { result ≡ sum_of (digit_in digits.now) (first ∷ second ∷ []) }
+{
+    let one = digits[first.param as usize];
+    let other = digits[second.param as usize];
+    if one == NO_DIGIT || other == NO_DIGIT {
+        return None;
+    }
+    let number = u64::from(one) * u64::from(first.weight);
+    Some(number + u64::from(other) * u64::from(second.weight))
+}
+
+// The number that the digits of any parts make, where each is there.
+fn sum_of_all(parts: &[Part], digits: &[u16]) -> Option<u64>
     requires within { All (λ part. part.param < length digits.now) parts.now }
     requires few { length parts.now ≤ 256 }
     ensures { result ≡ sum_of (digit_in digits.now) parts.now }
@@ -69,6 +84,19 @@ pub(crate) fn sum_of(parts: &[Part], digits: &[u16]) -> Option<u64>
         number += u64::from(digit) * u64::from(part.weight);
     }
     Some(number)
+}
+
+// The number that digits make, where each is there. At order 3 there are two parts.
+#[inline(always)]
+pub(crate) fn sum_of(parts: &[Part], digits: &[u16]) -> Option<u64>
+    requires within { All (λ part. part.param < length digits.now) parts.now }
+    requires few { length parts.now ≤ 256 }
+    ensures { result ≡ sum_of (digit_in digits.now) parts.now }
+{
+    match parts {
+        [first, second] => sum_of_two(*first, *second, digits),
+        _ => sum_of_all(parts, digits),
+    }
 }
 
 // Puts a member behind other parts, unless it is the column.
@@ -226,7 +254,7 @@ impl<'a> SliceSets<'a> {
 
     // The bits of the tuples of a set in play that cells contain, for the digits of the column, by its
     // prepared line.
-    #[inline]
+    #[inline(always)]
     fn prepared_line(
         &self,
         lines: &ColumnLines,
@@ -261,7 +289,9 @@ impl<'a> SliceSets<'a> {
         }
     }
 
-    // Those bits, by the members of the set, the last one first.
+    // Those bits, by the members of the set, the last one first. Out of line, so that the prepared ones are found
+    // without a call.
+    #[inline(never)]
     fn member_line(&self, set: u32, column: ParamNo, cells: &Cells, digits: &[u16]) -> Option<Line>
         requires set { InPlay self.now.model self.now.slice column set }
         requires cells { IsOfSlice self.now.model self.now.slice cells.now }
@@ -294,7 +324,7 @@ impl<'a> SliceSets<'a> {
     }
 
     // Those bits, by the prepared line where the lines of the column are ready.
-    #[inline]
+    #[inline(always)]
     pub(crate) fn set_line(
         &self,
         lines: Option<&ColumnLines>,
