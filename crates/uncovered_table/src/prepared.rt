@@ -345,10 +345,11 @@ impl<'a> SliceSets<'a> {
         ensures within { IfSome result (λ line. (d : ℕ) → d < length (own_values self.now.model self.now.slice column)
             → line.first + d * line.step < length (slice_places self.now.model self.now.slice)) }
     {
-        match lines {
-            Some(lines) => self.prepared_line(lines, k, set, column, cells, digits),
-            None => self.member_line(set, column, cells, digits),
-        }
+        let line = match lines {
+            Some(lines) => self.prepared_line(lines, k, set, column, cells, digits)?,
+            None => self.member_line(set, column, cells, digits)?,
+        };
+        Some(line)
     }
 }
 
