@@ -6,7 +6,7 @@ use Rattle.std.proofs.lemmas.Bool.{cases_lt}
 use Rattle.std.proofs.lemmas.Nat.{pow_pos}
 use Rattle.std.proofs.lemmas.Nat.Bits.{bit_at-lt, bit_at-zero, bit_at_above, bit_at_and, bit_at_cat_high, bit_at_cat_low, bit_at_ones, bit_at_ones_above, bit_at_or}
 use Rattle.bit_table.specs.Marks.{AreMarksFrom}
-use Rattle.bit_table.specs.Words.{mark_at, marks_of}
+use Rattle.bit_table.specs.Words.{AreBits, mark_at, marks_of}
 use Rattle.bit_table.proofs.MarkLemmas.{bit_counted, mark_is}
 use Rattle.bit_table.proofs.NextLemmas.{bit_of_rest}
 
@@ -53,30 +53,30 @@ lost word count i few past =
     let none = bit_of_rest (2 ^ 64 - 1) (64 - count) i ∙ bit_at_ones_above 64 (64 - count + i) (omega (arith, few, past)) in
     bit_at_and word ((2 ^ 64 - 1) / 2 ^ (64 - count)) i ∙ ap (min (bit_at word i)) none ∙ omega arith
 
--- what is known of the 64 bits from a place on
-pub record AreBitsFrom (words : List ℕ) (from word : ℕ) : Type 0 where
-  pub below : (i : ℕ) → from % 64 + i < 64 → bit_at word i ≡ bit_at (get_or words (from / 64) 0) (from % 64 + i)
-  pub above : (i : ℕ) → 64 ≤ from % 64 + i → i < 64 → bit_at word i ≡ bit_at (get_or words (from / 64 + 1) 0) (from % 64 + i - 64)
+-- what is known of the bits from a place on
+abbrev pub AreBitsFrom : List ℕ → ℕ → ℕ → ℕ → Type 0
+AreBitsFrom words from count word = AreBits (get_or words (from / 64) 0) (get_or words (from / 64 + 1) 0) (from % 64) count word
 
-mark_read : (words : List ℕ) (from word i : ℕ) → AreBitsFrom words from word → i < 64 → mark_at words (from + i) ≡ eqb (bit_at word i) 1
-mark_read words from word i bits small = elim (cases_lt (from % 64 + i) 64) [
+mark_read : (words : List ℕ) (from count word i : ℕ) → AreBitsFrom words from count word → i < count → count ≤ 64
+    → mark_at words (from + i) ≡ eqb (bit_at word i) 1
+mark_read words from count word i bits within few = elim (cases_lt (from % 64 + i) 64) [
   | inl near ↦
       let at : (from + i) / 64 ≡ from / 64 = omega (arith, near) in
       let bit : (from + i) % 64 ≡ from % 64 + i = omega (arith, near) in
       ap (λ k. eqb (bit_at (get_or words k 0) ((from + i) % 64)) 1) at ∙ ap (λ k. eqb (bit_at (get_or words (from / 64) 0) k) 1) bit
-      ∙ ap (λ b. eqb b 1) (sym (bits.below i near))
+      ∙ ap (λ b. eqb b 1) (sym (bits.below i within near))
   | inr far ↦
-      let at : (from + i) / 64 ≡ from / 64 + 1 = omega (arith, far, small) in
-      let bit : (from + i) % 64 ≡ from % 64 + i - 64 = omega (arith, far, small) in
+      let at : (from + i) / 64 ≡ from / 64 + 1 = omega (arith, far, within, few) in
+      let bit : (from + i) % 64 ≡ from % 64 + i - 64 = omega (arith, far, within, few) in
       ap (λ k. eqb (bit_at (get_or words k 0) ((from + i) % 64)) 1) at ∙ ap (λ k. eqb (bit_at (get_or words (from / 64 + 1) 0) k) 1) bit
-      ∙ ap (λ b. eqb b 1) (sym (bits.above i far small))
+      ∙ ap (λ b. eqb b 1) (sym (bits.above i within far))
 ]
 
-pub marks_read : (words : List ℕ) (size from count word : ℕ) → AreBitsFrom words from word → count ≤ 64 → from + count ≤ size
+pub marks_read : (words : List ℕ) (size from count word : ℕ) → AreBitsFrom words from count word → count ≤ 64 → from + count ≤ size
     → AreMarksFrom (marks_of words size) from count (bit_and word ((2 ^ 64 - 1) / 2 ^ (64 - count)))
 marks_read words size from count word bits few within = record {
   each = λ i below. kept word count i few below ∙ sym (bit_counted (bit_at word i) (bit_at-lt word i))
       ∙ ap (λ mark. cond mark 1 0)
-      (sym (mark_is words size (from + i) false (omega (arith, below, within)) ∙ mark_read words from word i bits (omega (arith, below, few))));
+      (sym (mark_is words size (from + i) false (omega (arith, below, within)) ∙ mark_read words from count word i bits below few));
   no_other = λ i past. lost word count i few past;
 }

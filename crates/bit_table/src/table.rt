@@ -1,7 +1,8 @@
-ghost use Rattle.std.specs.Prelude.{◌≡◌, ◌+◌, ◌-◌, ◌<◌, ◌≤◌, ℕ, true, false, length, replicate, slice_index_or, slice_set, IfOk, MatchOption};
+ghost use Rattle.std.specs.Prelude.{◌≡◌, ◌*◌, ◌+◌, ◌-◌, ◌<◌, ◌≤◌, ℕ, true, false, length, replicate, slice_index_or, slice_set, IfOk, MatchOption};
 ghost use Rattle.std.specs.Int.{bit_at};
 ghost use Rattle.std.specs.List.{count_by};
 ghost use Rattle.bit_table.specs.Marks.{AreMarksFrom, IsFirstSet, NoneSet};
+ghost use Rattle.bit_table.specs.Words.{AreBits};
 
 use std::alloc::Global;
 use std::marker::Model;
@@ -31,28 +32,30 @@ impl Model for BitTable {
         × (table.set_count ≡ count_by (λ mark. mark) (marks_of table.words.items table.size)) };
 }
 
-// The word of this number, or 0 behind the last word.
-#[inline]
-fn word_at(words: &[u64], at: usize) -> u64
-    ensures { result ≡ slice_index_or words.now at 0 }
-{
-    match words.get(at) {
-        Some(word) => *word,
-        None => 0,
-    }
-}
-
 // The 64 bits of two neighbouring words from a bit of the first on.
 #[inline]
 fn across(low: u64, high: u64, bit: usize) -> u64
-    requires { bit < 64 }
+    requires first { 0 < bit }
+    requires within { bit < 64 }
     ensures below { (i : ℕ) → bit + i < 64 → bit_at result i ≡ bit_at low (bit + i) }
     ensures above { (i : ℕ) → 64 ≤ bit + i → i < 64 → bit_at result i ≡ bit_at high (bit + i - 64) }
 {
-    if bit == 0 {
-        low
+    (low >> bit) | (high << (WORD_BITS - bit))
+}
+
+// The bits of a word from one on, and those of the next word behind them where so many reach into it.
+#[inline]
+fn bits_from(words: &[u64], at: usize, bit: usize, count: usize) -> u64
+    requires some { 0 < count }
+    requires few { count ≤ 64 }
+    requires bit { bit < 64 }
+    requires within { 64 * at + bit + count ≤ 64 * length words.now }
+    ensures { AreBits (slice_index_or words.now at 0) (slice_index_or words.now (at + 1) 0) bit count result }
+{
+    if bit + count <= WORD_BITS {
+        words[at] >> bit
     } else {
-        (low >> bit) | (high << (WORD_BITS - bit))
+        across(words[at], words[at + 1], bit)
     }
 }
 
@@ -162,7 +165,7 @@ impl BitTable {
         let words = self.words.as_slice();
         let at = from as usize / WORD_BITS;
         let bit = from as usize % WORD_BITS;
-        let word = across(word_at(words, at), word_at(words, at + 1), bit);
+        let word = bits_from(words, at, bit, count as usize);
         word & (u64::MAX >> (WORD_BITS - count as usize))
     }
 }

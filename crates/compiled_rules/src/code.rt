@@ -3,7 +3,7 @@ ghost use Rattle.cov_model.specs.Kleene.{known, not_of};
 ghost use Rattle.compiled_rules.specs.Codes.{all_codes, any_codes, at_truth, body_code_truth, both_truth, code_truth};
 
 use crate::table::TruthTable;
-use cov_model::{Cells, ParamNo, Truth};
+use cov_model::{ParamNo, Truth, ValueNo};
 use value_text::OwnedList;
 
 /// A predicate whose terms are compiled.
@@ -46,19 +46,18 @@ fn truth_at(table: &TruthTable, place: usize) -> Truth
 
 // The value of a parameter, if it has one.
 #[inline]
-fn value_of(cells: &Cells, p: ParamNo) -> Option<u16>
+fn value_of(cells: &[Option<ValueNo>], p: ParamNo) -> Option<ValueNo>
     ensures { result ≡ slice_index_or cells.now p None }
 {
-    if (p as usize) < cells.len() {
-        cells.get(p)
-    } else {
-        None
+    match cells.get(p as usize) {
+        Some(value) => *value,
+        None => None,
     }
 }
 
 // What is known of a compiled term of one parameter.
 #[inline]
-fn at_truth(table: &TruthTable, p: ParamNo, start: u32, cells: &Cells) -> Truth
+fn at_truth(table: &TruthTable, p: ParamNo, start: u32, cells: &[Option<ValueNo>]) -> Truth
     ensures { result ≡ at_truth table.now p start cells.now }
 {
     match value_of(cells, p) {
@@ -75,7 +74,7 @@ fn both_truth(
     q: ParamNo,
     start: u32,
     width: u16,
-    cells: &Cells,
+    cells: &[Option<ValueNo>],
 ) -> Truth
     ensures { result ≡ both_truth table.now p q start width cells.now }
 {
@@ -93,7 +92,7 @@ fn both_truth(
 // What is known of a compiled predicate. Most are terms, which need no call.
 #[inline(always)]
 #[cycle(truths)]
-pub(crate) fn code_truth(table: &TruthTable, code: &Code, cells: &Cells) -> Truth
+pub(crate) fn code_truth(table: &TruthTable, code: &Code, cells: &[Option<ValueNo>]) -> Truth
     ensures { result ≡ code_truth table.now code.now cells.now }
 {
     match code {
@@ -108,7 +107,7 @@ pub(crate) fn code_truth(table: &TruthTable, code: &Code, cells: &Cells) -> Trut
 // What is known of the negation of a compiled predicate.
 #[inline(never)]
 #[cycle(truths)]
-fn not_truth(table: &TruthTable, code: &Code, cells: &Cells) -> Truth
+fn not_truth(table: &TruthTable, code: &Code, cells: &[Option<ValueNo>]) -> Truth
     ensures { result ≡ not_of (code_truth table.now code.now cells.now) }
 {
     code_truth(table, code, cells).negated()
@@ -117,7 +116,7 @@ fn not_truth(table: &TruthTable, code: &Code, cells: &Cells) -> Truth
 // What is known of a list of compiled predicates: that each holds.
 #[inline(never)]
 #[cycle(truths)]
-fn all_codes(table: &TruthTable, parts: &[Code], cells: &Cells) -> Truth
+fn all_codes(table: &TruthTable, parts: &[Code], cells: &[Option<ValueNo>]) -> Truth
     ensures { result ≡ all_codes table.now parts.now cells.now }
 {
     let mut so_far = Truth::Yes;
@@ -133,7 +132,7 @@ fn all_codes(table: &TruthTable, parts: &[Code], cells: &Cells) -> Truth
 // What is known of a list of compiled predicates: that some of them holds.
 #[inline(never)]
 #[cycle(truths)]
-fn any_codes(table: &TruthTable, parts: &[Code], cells: &Cells) -> Truth
+fn any_codes(table: &TruthTable, parts: &[Code], cells: &[Option<ValueNo>]) -> Truth
     ensures { result ≡ any_codes table.now parts.now cells.now }
 {
     let mut so_far = Truth::No;
@@ -147,7 +146,7 @@ fn any_codes(table: &TruthTable, parts: &[Code], cells: &Cells) -> Truth
 }
 
 // What is known of a compiled constraint.
-pub(crate) fn body_truth(table: &TruthTable, body: &BodyCode, cells: &Cells) -> Truth
+pub(crate) fn body_truth(table: &TruthTable, body: &BodyCode, cells: &[Option<ValueNo>]) -> Truth
     ensures { result ≡ body_code_truth table.now body.now cells.now }
 {
     match body {

@@ -77,6 +77,6 @@ impl<'a> CompiledRules<'a> {
         ensures { result ≡ body_truth self.now (rule_at self.now rule).body cells.now }
     {
         let code = &self.bodies.as_slice()[rule as usize - 1];
-        body_truth(&self.table, code, cells)
+        body_truth(&self.table, code, cells.as_slice())
     }
 }

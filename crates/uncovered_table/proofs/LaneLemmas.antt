@@ -15,6 +15,9 @@ use Rattle.uncovered_table.specs.Words.{AreRaised}
 abbrev pub lane : ℕ → ℕ → ℕ
 lane word place = cond (top 31 (cond (eqb (bit_and (bit_and word 255) place) 0) 4294967295 0)) 0 1
 
+abbrev pub four_lanes : ℕ → List ℕ
+four_lanes word = lane word 1 ∷ lane word 2 ∷ lane word 4 ∷ lane word 8 ∷ []
+
 abbrev pub lanes : ℕ → List ℕ
 lanes word = lane word 1 ∷ lane word 2 ∷ lane word 4 ∷ lane word 8 ∷ lane word 16 ∷ lane word 32 ∷ lane word 64 ∷ lane word 128 ∷ []
 
@@ -47,24 +50,39 @@ lane_at word (suc (suc (suc (suc (suc (suc zero)))))) within = lane_is word 6 re
 lane_at word (suc (suc (suc (suc (suc (suc (suc zero))))))) within = lane_is word 7 refl
 lane_at word (suc (suc (suc (suc (suc (suc (suc (suc i)))))))) within = absurd (omega (arith, within))
 
--- 8 numbers, to which the lanes are added
+four_lane_at : (word i : ℕ) → i < 4 → get_or (four_lanes word) i 0 ≡ bit_at word i
+four_lane_at word zero within = lane_is word 0 refl
+four_lane_at word (suc zero) within = lane_is word 1 refl
+four_lane_at word (suc (suc zero)) within = lane_is word 2 refl
+four_lane_at word (suc (suc (suc zero))) within = lane_is word 3 refl
+four_lane_at word (suc (suc (suc (suc i)))) within = absurd (omega (arith, within))
+
+-- numbers to which as many lanes are added
+lanes_put : (f : ℕ → ℕ → ℕ) → ((x y : ℕ) → x + y < 2 ^ 32 → f x y ≡ x + y) → (word n : ℕ) (added xs : List ℕ) → length added ≡ n → length xs ≡ n
+    → ((i : ℕ) → i < n → get_or added i 0 ≡ bit_at word i) → ((i d : ℕ) → i < length xs → get_or xs i d < 2 ^ 31)
+    → AreRaised (bit_at word) xs (put_chunk 0 xs (zip2 f (take n xs) added))
+lanes_put f adds word n added xs many long lane_is low =
+    let whole : take n xs ≡ xs = take_all n xs (omega (arith, long)) in
+    let raised = zip2 f xs added in
+    let as_long = length-zip2 f xs added (long ∙ sym many) in
+    let put : put_chunk 0 xs (zip2 f (take n xs) added) ≡ raised = ap (λ ys. put_chunk 0 xs (zip2 f ys added)) whole ∙ put_chunk_whole xs raised (sym as_long) in
+    record {
+      long = length-put_chunk 0 xs (zip2 f (take n xs) added);
+      each = λ i within.
+          let inside : i < n = omega (arith, within, long) in
+          let lane = lane_is i inside in
+          let small = bit_at-lt word i in
+          ap (λ ys. get_or ys i 0) put ∙ get_or-zip2 f xs added i 0 0 0 within (omega (arith, inside, many))
+          ∙ adds (get_or xs i 0) (get_or added i 0) (omega (arith, lane, small, low i 0 within)) ∙ ap (λ b. get_or xs i 0 + b) lane;
+    }
+
 pub lanes_raised : (f : ℕ → ℕ → ℕ) → ((x y : ℕ) → x + y < 2 ^ 32 → f x y ≡ x + y) → (word : ℕ) (xs : List ℕ) → length xs ≡ 8
     → ((i d : ℕ) → i < length xs → get_or xs i d < 2 ^ 31) → AreRaised (bit_at word) xs (put_chunk 0 xs (zip2 f (take 8 xs) (lanes word)))
-lanes_raised f adds word xs long low =
-    let whole : take 8 xs ≡ xs = take_all 8 xs (omega (arith, long)) in
-    let raised = zip2 f xs (lanes word) in
-    let as_long = length-zip2 f xs (lanes word) long in
-    let put : put_chunk 0 xs (zip2 f (take 8 xs) (lanes word)) ≡ raised =
-    ap (λ ys. put_chunk 0 xs (zip2 f ys (lanes word))) whole ∙ put_chunk_whole xs raised (sym as_long) in
-    record {
-      long = length-put_chunk 0 xs (zip2 f (take 8 xs) (lanes word));
-      each = λ i within.
-          let inside : i < 8 = omega (arith, within, long) in
-          let lane = lane_at word i inside in
-          let small = bit_at-lt word i in
-          ap (λ ys. get_or ys i 0) put ∙ get_or-zip2 f xs (lanes word) i 0 0 0 within inside
-          ∙ adds (get_or xs i 0) (get_or (lanes word) i 0) (omega (arith, lane, small, low i 0 within)) ∙ ap (λ b. get_or xs i 0 + b) lane;
-    }
+lanes_raised f adds word xs long low = lanes_put f adds word 8 (lanes word) xs refl long (lane_at word) low
+
+pub four_raised : (f : ℕ → ℕ → ℕ) → ((x y : ℕ) → x + y < 2 ^ 32 → f x y ≡ x + y) → (word : ℕ) (xs : List ℕ) → length xs ≡ 4
+    → ((i d : ℕ) → i < length xs → get_or xs i d < 2 ^ 31) → AreRaised (bit_at word) xs (put_chunk 0 xs (zip2 f (take 4 xs) (four_lanes word)))
+four_raised f adds word xs long low = lanes_put f adds word 4 (four_lanes word) xs refl long (four_lane_at word) low
 
 -- numbers that are raised in two parts
 pub raised_parts : (added : ℕ → ℕ) (ys zs now later : List ℕ) (n : ℕ) → length ys ≡ n → AreRaised added ys now

@@ -47,10 +47,15 @@ pub record AreBlocks (m : ModelView) (slice : Slice) (sets : ℕ) (blocks : List
 abbrev pub digits_of : ModelView → Slice → ℕ → List (Option ℕ)
 digits_of m slice p = map (digit_of (own_values m slice p)) (value_numbers m p)
 
--- the bits of each set, the sets in play for each column, and the digits of each parameter's values
-pub record AreTablesOf (v : SliceView) (blocks : List Block) (plays : List (List ℕ)) (digits : List (List (Option ℕ))) : Type 0 where
+-- the first bits of the sets in play for a column
+abbrev pub firsts_of : ModelView → Slice → ℕ → List ℕ
+firsts_of m slice p = map (first_bit m slice) (sets_in_play m slice p)
+
+-- the bits of each set, the sets in play for each column and their first bits, and the digits of each parameter's values
+pub record AreTablesOf (v : SliceView) (blocks : List Block) (plays firsts : List (List ℕ)) (digits : List (List (Option ℕ))) : Type 0 where
   pub blocks_are : AreBlocks v.model v.slice (length (demanded_sets v.model)) blocks
   pub plays_are : plays ≡ map (sets_in_play v.model v.slice) (param_numbers v.model)
+  pub firsts_are : firsts ≡ map (firsts_of v.model v.slice) (param_numbers v.model)
   pub digits_are : digits ≡ map (digits_of v.model v.slice) (param_numbers v.model)
 
 -- the lists with a set added to that of a column, if there is one

@@ -10,6 +10,9 @@ use std::simd::prelude::*;
 // The number of scores that are raised at once.
 const LANES: usize = 8;
 
+// Half of it, for the scores that are left.
+const HALF: usize = 4;
+
 // Adds the lowest bits of a word to 8 scores at once.
 #[inline]
 fn add_lanes(word: u64, scores: &mut [u32])
@@ -33,9 +36,22 @@ fn bit_of(word: u64, i: usize) -> u32
     ((word >> i) & 1) as u32
 }
 
-// Adds the lowest bits of a word to a few scores, one by one.
+// Adds the lowest bits of a word to 4 scores at once.
 #[inline]
-fn add_few(word: u64, scores: &mut [u32])
+fn add_half(word: u64, scores: &mut [u32])
+    requires long { length scores.old ≡ 4 }
+    requires low { All (λ score. score < 2 ^ 31) scores.old }
+    ensures { AreRaised (bit_at word) scores.old scores.new }
+{
+    let places = u32x4::from_array([1, 2, 4, 8]);
+    let none = (u32x4::splat((word & 255) as u32) & places).simd_eq(u32x4::splat(0));
+    let bits = none.select(u32x4::splat(0), u32x4::splat(1));
+    (u32x4::from_slice(scores) + bits).copy_to_slice(scores);
+}
+
+// Adds the lowest bits of a word to scores, one by one.
+#[inline]
+fn add_each(word: u64, scores: &mut [u32])
     requires few { length scores.old < 64 }
     requires low { All (λ score. score < 2 ^ 31) scores.old }
     ensures { AreRaised (bit_at word) scores.old scores.new }
@@ -43,6 +59,22 @@ fn add_few(word: u64, scores: &mut [u32])
     for i in 0..scores.len() {
         scores[i] += bit_of(word, i);
     }
+}
+
+// Adds the lowest bits of a word to a few scores.
+#[inline]
+fn add_few(word: u64, scores: &mut [u32])
+    requires few { length scores.old < 64 }
+    requires low { All (λ score. score < 2 ^ 31) scores.old }
+    ensures { AreRaised (bit_at word) scores.old scores.new }
+{
+    if scores.len() < HALF {
+        add_each(word, scores);
+        return;
+    }
+    let (now, later) = scores.split_at_mut(HALF);
+    add_half(word, now);
+    add_each(word >> HALF, later);
 }
 
 // Adds the lowest bits of a word to scores.

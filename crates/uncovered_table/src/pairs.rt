@@ -1,7 +1,7 @@
 ghost use Rattle.std.specs.Prelude.{◌≡◌, ◌==◌, [], Option, Some, if◌then◌else◌, ◌*◌, ◌+◌, ◌<◌, ◌≤◌, ◌⊎◌, ℕ, All, IfOk, IfSome, None, length, map, replicate, slice_index_or, sum_by, take, true};
 ghost use Rattle.cov_model.specs.Sound.{param_at};
 ghost use Rattle.definitions.specs.SliceRows.{IsOfSlice};
-ghost use Rattle.uncovered_table.specs.Bits.{InPlay, all_cleared, cleared, held_bit, sets_in_play, value_held};
+ghost use Rattle.uncovered_table.specs.Bits.{InPlay, all_cleared, cleared, first_bit, held_bit, sets_in_play, value_held};
 ghost use Rattle.uncovered_table.specs.Digits.{cell_digit, own_values, with_digit};
 ghost use Rattle.definitions.specs.Demand.{demanded_sets};
 ghost use Rattle.uncovered_table.specs.Masks.{AreAll, AreBegins, AreWithout, IsCleared, IsMask, begin_at, restricted};
@@ -123,7 +123,13 @@ impl<'a> SliceSets<'a> {
     }
 
     // Puts the mask of the digits that cells give some parameters.
-    fn put_mask(&self, begins: &[u32], params: &[ParamNo], cells: &Cells, mask: &mut [u64])
+    fn put_mask(
+        &self,
+        begins: &[u32],
+        params: &[ParamNo],
+        cells: &[Option<ValueNo>],
+        mask: &mut [u64],
+    )
         requires begins { AreBegins (digit_count self.now.model self.now.slice) (length self.now.model.params) begins.now }
         requires exist { All (λ p. p < length self.now.model.params) params.now }
         requires cells { IsOfSlice self.now.model self.now.slice cells.now }
@@ -137,7 +143,7 @@ impl<'a> SliceSets<'a> {
         for k in 0..params.len() {
             let p = params[k];
             let begin = begins[p as usize];
-            put_digit(mask, begin, self.cell_digit(cells, p));
+            put_digit(mask, begin, self.digit_in(cells, p));
         }
     }
 
@@ -159,6 +165,7 @@ impl<'a> SliceSets<'a> {
         &self,
         begins: &[u32],
         set: u32,
+        first: u32,
         column: ParamNo,
         digit: u16,
         p: ParamNo,
@@ -167,6 +174,7 @@ impl<'a> SliceSets<'a> {
         requires begins { AreBegins (digit_count self.now.model self.now.slice) (length self.now.model.params) begins.now }
         requires column { column < length self.now.model.params }
         requires partner { IsPartner self.now.model self.now.slice column set p }
+        requires first { first ≡ first_bit self.now.model self.now.slice set }
         requires digit { digit < digit_count self.now.model self.now.slice column }
         requires other { other < digit_count self.now.model self.now.slice p }
         ensures value { (digits : ℕ → Option ℕ) → digits column ≡ Some digit → digits p ≡ Some other
@@ -174,7 +182,7 @@ impl<'a> SliceSets<'a> {
         ensures within { result < length (slice_places self.now.model self.now.slice) }
     {
         self.assert_invariant();
-        let first = self.block(set).first;
+        let _ = set;
         if p < column {
             first + u32::from(other) * self.digit_count(begins, column) + u32::from(digit)
         } else {
@@ -316,7 +324,12 @@ pub(crate) fn put_pair_counts(
     sets.assert_invariant();
     let _ = bits;
     let mut mask = [0; MASK_WORDS];
-    sets.put_mask(begins, pairs.partners.as_slice(), cells, &mut mask);
+    sets.put_mask(
+        begins,
+        pairs.partners.as_slice(),
+        cells.as_slice(),
+        &mut mask,
+    );
     let digits = from_value(sets.digits(column), from);
     for i in 0..scores.len() {
         let digit = digits[i];
@@ -330,8 +343,9 @@ fn clear_pair(
     sets: &SliceSets<'_>,
     begins: &[u32],
     set: u32,
+    first: u32,
     p: ParamNo,
-    cells: &Cells,
+    cells: &[Option<ValueNo>],
     column: ParamNo,
     digit: u16,
     bits: &mut BitTable,
@@ -339,6 +353,7 @@ fn clear_pair(
 )
     requires begins { AreBegins (digit_count sets.now.model sets.now.slice) (length sets.now.model.params) begins.now }
     requires partner { IsPartner sets.now.model sets.now.slice column set p }
+    requires first { first ≡ first_bit sets.now.model sets.now.slice set }
     requires cells { IsOfSlice sets.now.model sets.now.slice cells.now }
     requires column { column < length sets.now.model.params }
     requires digit { digit < digit_count sets.now.model sets.now.slice column }
@@ -352,11 +367,11 @@ fn clear_pair(
     ensures block { AreWithout (digit_count sets.now.model sets.now.slice) (cell_digit (own_values sets.now.model sets.now.slice) cells.now) p
         block.old.items block.new.items }
 {
-    match sets.cell_digit(cells, p) {
+    match sets.digit_in(cells, p) {
         Some(other) => {
             let begin = begins[p as usize];
             if clear_bit(block, begin as usize + other as usize) {
-                bits.clear(sets.pair_bit(begins, set, column, digit, p, other));
+                bits.clear(sets.pair_bit(begins, set, first, column, digit, p, other));
             }
         }
         None => {}
@@ -368,7 +383,7 @@ fn clear_partners(
     sets: &SliceSets<'_>,
     begins: &[u32],
     partners: &[ParamNo],
-    cells: &Cells,
+    cells: &[Option<ValueNo>],
     column: ParamNo,
     digit: u16,
     bits: &mut BitTable,
@@ -389,12 +404,14 @@ fn clear_partners(
         (restricted partners.now (cell_digit (own_values sets.now.model sets.now.slice) cells.now)) block.old.items block.new.items }
 {
     let demanded = sets.in_play(column);
+    let firsts = sets.firsts(column);
     for k in 0..demanded.len() {
         let p = partners[k];
         clear_pair(
             sets,
             begins,
             demanded[k],
+            firsts[k],
             p,
             cells,
             column,
@@ -434,7 +451,7 @@ fn clear_pairs(
         sets,
         begins,
         pairs.partners.as_slice(),
-        cells,
+        cells.as_slice(),
         column,
         digit,
         bits,

@@ -7,7 +7,7 @@ ghost use Rattle.tuple_index.specs.Kept.{IsKept};
 ghost use Rattle.tuple_index.specs.Plan.{plan_of};
 ghost use Rattle.uncovered_table.specs.Bits.{InPlay, bit_of, sets_in_play};
 ghost use Rattle.uncovered_table.specs.Digits.{HasAllValues, cell_digit, digit_of, own_values};
-ghost use Rattle.uncovered_table.specs.Kept.{IsBlock, digits_of};
+ghost use Rattle.uncovered_table.specs.Kept.{IsBlock, digits_of, firsts_of};
 ghost use Rattle.uncovered_table.specs.Places.{is_place, slice_places};
 
 use crate::block::Block;
@@ -38,7 +38,8 @@ impl<'a> Model for SliceSets<'a> {
 
     ghost view = { λ a. a.part };
 
-    ghost invariant = { λ a. AreTablesOf a.part a.tables.blocks.items (map (λ list. list.items) a.tables.plays.items) (map (λ list. list.items) a.tables.digits.items) };
+    ghost invariant = { λ a. AreTablesOf a.part a.tables.blocks.items (map (λ list. list.items) a.tables.plays.items)
+        (map (λ list. list.items) a.tables.firsts.items) (map (λ list. list.items) a.tables.digits.items) };
 }
 
 impl<'a> SliceSets<'a> {
@@ -110,6 +111,14 @@ impl<'a> SliceSets<'a> {
         self.tables.plays[column as usize].as_slice()
     }
 
+    // Their first bits.
+    pub(crate) fn firsts(&self, column: ParamNo) -> &[u32]
+        requires { column < length self.now.model.params }
+        ensures { result.now ≡ firsts_of self.now.model self.now.slice column }
+    {
+        self.tables.firsts[column as usize].as_slice()
+    }
+
     // The digits of the values of a parameter.
     pub(crate) fn digits(&self, p: ParamNo) -> &[Option<u16>]
         requires { p < length self.now.model.params }
@@ -142,7 +151,16 @@ impl<'a> SliceSets<'a> {
         requires param { p < length self.now.model.params }
         ensures { result ≡ cell_digit (own_values self.now.model self.now.slice) cells.now p }
     {
-        match cells.get(p) {
+        self.digit_in(cells.as_slice(), p)
+    }
+
+    // The same of cells that are read as a slice, for those who walk over many parameters.
+    pub(crate) fn digit_in(&self, cells: &[Option<ValueNo>], p: ParamNo) -> Option<u16>
+        requires cells { IsOfSlice self.now.model self.now.slice cells.now }
+        requires param { p < length self.now.model.params }
+        ensures { result ≡ cell_digit (own_values self.now.model self.now.slice) cells.now p }
+    {
+        match cells[p as usize] {
             Some(v) => self.value_digit(p, v),
             None => None,
         }

@@ -2,7 +2,7 @@ ghost use Rattle.std.specs.Prelude.{◌≡◌, ◌<◌, [], IfOk, IfSome, None, 
 ghost use Rattle.cov_model.specs.Valid.{param_numbers};
 ghost use Rattle.definitions.specs.Demand.{demanded_sets};
 ghost use Rattle.uncovered_table.specs.Bits.{sets_in_play, tuple_count};
-ghost use Rattle.uncovered_table.specs.Kept.{AreBlocks, AreTablesOf, digits_of, play_column, with_set};
+ghost use Rattle.uncovered_table.specs.Kept.{AreBlocks, AreTablesOf, digits_of, firsts_of, play_column, with_set};
 
 use crate::block::Block;
 use crate::part::SlicePart;
@@ -17,6 +17,8 @@ pub(crate) struct SliceTables {
     pub(crate) blocks: Vec<Block>,
     // For each column the sets in play that have tuples in the slice.
     pub(crate) plays: Vec<Vec<u32>>,
+    // And their first bits, side by side for those who walk over these sets.
+    pub(crate) firsts: Vec<Vec<u32>>,
     // For each parameter the digits of its values.
     pub(crate) digits: Vec<Vec<Option<u16>>>,
 }
@@ -110,6 +112,46 @@ impl<'a> SlicePart<'a> {
         Ok(lists)
     }
 
+    // The first bits of the sets in play for a column.
+    fn firsts_of(
+        &self,
+        alloc: Global,
+        blocks: &[Block],
+        column: ParamNo,
+        sets: &[u32],
+    ) -> Result<Vec<u32>, NoMemory>
+        requires blocks { AreBlocks self.now.model self.now.slice (length (demanded_sets self.now.model)) blocks.now }
+        requires sets { sets.now ≡ sets_in_play self.now.model self.now.slice column }
+        ensures { IfOk result (λ firsts. firsts.items ≡ firsts_of self.now.model self.now.slice column) }
+    {
+        let mut firsts = Vec::new(alloc);
+        for set in sets {
+            let block = blocks[*set as usize];
+            firsts.push(block.first)?;
+        }
+        Ok(firsts)
+    }
+
+    // Those of each column.
+    fn firsts(
+        &self,
+        alloc: Global,
+        blocks: &[Block],
+        plays: &[Vec<u32>],
+    ) -> Result<Vec<Vec<u32>>, NoMemory>
+        requires blocks { AreBlocks self.now.model self.now.slice (length (demanded_sets self.now.model)) blocks.now }
+        requires plays { map (λ list. list.items) plays.now ≡ map (sets_in_play self.now.model self.now.slice) (param_numbers self.now.model) }
+        ensures { IfOk result (λ lists. map (λ list. list.items) lists.items ≡ map (firsts_of self.now.model self.now.slice) (param_numbers self.now.model)) }
+    {
+        self.assert_invariant();
+        let mut lists = Vec::new(alloc);
+        for p in 0..self.param_count() {
+            let firsts = self.firsts_of(alloc, blocks, p as ParamNo, plays[p].as_slice())?;
+            lists.push(firsts)?;
+        }
+        Ok(lists)
+    }
+
     // The digits of the values of a parameter.
     fn digits_of(&self, alloc: Global, p: ParamNo) -> Result<Vec<Option<u16>>, NoMemory>
         requires { p < length self.now.model.params }
@@ -142,14 +184,16 @@ impl<'a> SlicePart<'a> {
     // The tables of the slice.
     pub(crate) fn tables(&self, alloc: Global) -> Result<SliceTables, NoMemory>
         ensures { IfOk result (λ tables. AreTablesOf self.now tables.blocks.items (map (λ list. list.items) tables.plays.items)
-            (map (λ list. list.items) tables.digits.items)) }
+            (map (λ list. list.items) tables.firsts.items) (map (λ list. list.items) tables.digits.items)) }
     {
         let blocks = self.blocks(alloc)?;
         let plays = self.plays(alloc, blocks.as_slice())?;
+        let firsts = self.firsts(alloc, blocks.as_slice(), plays.as_slice())?;
         let digits = self.digits(alloc)?;
         Ok(SliceTables {
             blocks,
             plays,
+            firsts,
             digits,
         })
     }

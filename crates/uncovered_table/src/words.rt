@@ -17,7 +17,8 @@ pub(crate) fn count_common(words: &[u64], mask: &[u64]) -> u32
     count
 }
 
-// Clears a bit, if there is a word for it, and tells whether it was set.
+// Clears a bit, if there is a word for it, and tells whether it was set. A word without the bit isn't
+// written, so that the next read of it need not wait.
 #[inline]
 pub(crate) fn clear_bit(words: &mut Vec<u64>, place: usize) -> bool
     ensures none { result ≡ false → bit_in words.old.items place ≡ 0 }
@@ -30,8 +31,11 @@ pub(crate) fn clear_bit(words: &mut Vec<u64>, place: usize) -> bool
     }
     let word = words[at];
     let left = word & !(1 << (place % WORD_BITS));
+    if left == word {
+        return false;
+    }
     words[at] = left;
-    left != word
+    true
 }
 
 // Sets a bit.

@@ -1,8 +1,8 @@
 use Rattle.std.proofs.Common.{◌≡◌, ◌∙◌, ◌+◌, ◌<◌, [], ap, arith, get_or, length, map, subst, sym}
 use Rattle.std.specs.Prelude.{slice_set}
 use Rattle.std.proofs.lemmas.List.{get_or-map, length-map, map-set}
-use Rattle.uncovered_table.specs.Bits.{sets_in_play}
-use Rattle.uncovered_table.specs.Digits.{cell_digit, own_values}
+use Rattle.uncovered_table.specs.Bits.{all_cleared, sets_in_play}
+use Rattle.uncovered_table.specs.Digits.{cell_digit, own_values, with_digit}
 use Rattle.tuple_index.specs.Places.{RisesFrom}
 use Rattle.uncovered_table.specs.Masks.{IsCleared, begin_at, restricted}
 use Rattle.uncovered_table.specs.Pairs.{IsBlockPair, IsPair, Matched, digit_count}
@@ -62,9 +62,19 @@ returns-clause-pairs c =
     ∙ sym (get_or-map (λ block. block.items) list c.args.digit c.index_mut-block.result.now [] within) in
     let own : IsCleared count (restricted partners digits) (get_or olds c.args.digit []) block.items =
     subst (λ old. IsCleared count (restricted partners digits) old block.items) was
-    (subst (λ ps. IsCleared count (restricted ps digits) c.index_mut-block.result.now.items block.items) c.as_slice.ensures.value c.clear_partners.ensures.block) in
+    (subst (λ cells. IsCleared count (restricted partners (cell_digit (own_values v.model v.slice) cells)) c.index_mut-block.result.now.items block.items)
+    c.as_slice-2.ensures
+    (subst (λ ps. IsCleared count (restricted ps (cell_digit (own_values v.model v.slice) c.as_slice-2.result.now)) c.index_mut-block.result.now.items block.items)
+    c.as_slice.ensures.value c.clear_partners.ensures.block)) in
     let made : AreCleared count (restricted partners digits) olds (map (λ block. block.items) (slice_set list c.args.digit block)) c.args.digit =
     subst (λ next. AreCleared count (restricted partners digits) olds next c.args.digit) (sym (map-set (λ block. block.items) list c.args.digit block))
     (cleared-blocks count (restricted partners digits) olds c.args.digit block.items (omega (arith, within, length-map list (λ block. block.items))) own) in
     pairs-closed v.model v.slice c.args.column c.args.digit digits c.args.bits.now partners olds (map (λ block. block.items) (slice_set list c.args.digit block))
     c.assert_invariant.ensures.kept (cell_digits (own_values v.model v.slice) c.args.cells.now) c.requires.digit made c.requires.pairs
+
+pub returns-clause-bits : goal.returns-clause-bits
+returns-clause-bits c =
+    let v = c.args.sets.now in
+    c.clear_partners.ensures.bits
+    ∙ ap (λ cells. all_cleared v.model v.slice (with_digit (cell_digit (own_values v.model v.slice) cells) c.args.column c.args.digit) c.args.bits.now
+    (sets_in_play v.model v.slice c.args.column)) c.as_slice-2.ensures

@@ -69,8 +69,10 @@ loop-i-preserved c =
     ap (λ list. get_or list c.loop-i.i None) (c.from_value-digits.ensures ∙ ap (drop c.args.from) c.digits.ensures)
     ∙ digit_from v.model v.slice c.args.column c.args.from c.loop-i.i below in
     let sets = sets_in_play v.model v.slice c.args.column in
-    let masked = subst (λ list. IsMask (digit_count v.model v.slice) (restricted list (cell_digit (own_values v.model v.slice) c.args.cells.now))
-    (length v.model.params) (bit_in c.put_mask.new.mask)) c.as_slice.ensures.value c.put_mask.ensures.mask in
+    let masked = subst (λ cells. IsMask (digit_count v.model v.slice) (restricted c.args.pairs.now.partners.items (cell_digit (own_values v.model v.slice) cells))
+    (length v.model.params) (bit_in c.put_mask.new.mask)) c.as_slice-2.ensures
+    (subst (λ list. IsMask (digit_count v.model v.slice) (restricted list (cell_digit (own_values v.model v.slice) c.as_slice-2.result.now))
+    (length v.model.params) (bit_in c.put_mask.new.mask)) c.as_slice.ensures.value c.put_mask.ensures.mask) in
     let value : c.count_pairs.result ≡ sum_by (value_held v.model v.slice c.args.bits.now c.args.cells.now c.args.column place) sets =
     c.count_pairs.ensures
     ∙ pairs-gain v.model v.slice c.args.column place c.args.cells.now c.put_mask.new.mask c.args.bits.now c.args.pairs.now.partners.items

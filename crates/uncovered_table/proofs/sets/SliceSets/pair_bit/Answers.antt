@@ -4,32 +4,32 @@ use Rattle.uncovered_table.proofs.sets.SliceSets.pair_bit.Goals as goal
 
 -- the bit where the other parameter is declared first, and where it isn't
 first : (c : goal.After-digit_count) → IsBitOf c.args.self.now.model c.args.self.now.slice c.args.column c.args.digit c.args.set c.args.p c.args.other
-    (c.block-first.result.first + c.from.result * c.digit_count.result + c.args.digit)
+    (c.args.first + c.from.result * c.digit_count.result + c.args.digit)
 first c =
-    bit-first c.args.self.now.model c.args.self.now.slice c.args.column c.args.digit c.args.set c.args.p c.args.other c.block-first.result.first c.from.result
+    bit-first c.args.self.now.model c.args.self.now.slice c.args.column c.args.digit c.args.set c.args.p c.args.other c.args.first c.from.result
     c.digit_count.result c.args.digit c.assert_invariant.ensures.kept c.requires.partner c.if-p-column.true c.requires.digit c.requires.other
-    c.block-first.ensures.first c.from.ensures c.digit_count.ensures refl
+    c.requires.first c.from.ensures c.digit_count.ensures refl
 
 last : (c : goal.After-digit_count-else-p-column) → IsBitOf c.args.self.now.model c.args.self.now.slice c.args.column c.args.digit c.args.set c.args.p c.args.other
-    (c.block-first.result.first + c.from-else-p-column.result * c.digit_count-else-p-column.result + c.args.other)
+    (c.args.first + c.from-else-p-column.result * c.digit_count-else-p-column.result + c.args.other)
 last c =
-    bit-last c.args.self.now.model c.args.self.now.slice c.args.column c.args.digit c.args.set c.args.p c.args.other c.block-first.result.first
+    bit-last c.args.self.now.model c.args.self.now.slice c.args.column c.args.digit c.args.set c.args.p c.args.other c.args.first
     c.from-else-p-column.result c.digit_count-else-p-column.result c.args.other c.assert_invariant.ensures.kept c.requires.partner c.if-p-column.false
-    c.requires.digit c.requires.other c.block-first.ensures.first c.from-else-p-column.ensures c.digit_count-else-p-column.ensures refl
+    c.requires.digit c.requires.other c.requires.first c.from-else-p-column.ensures c.digit_count-else-p-column.ensures refl
 
 whole_first : (c : goal.After-from-then-p-column) → IsBitOf c.args.self.now.model c.args.self.now.slice c.args.column c.args.digit c.args.set c.args.p c.args.other
-    (c.block-first.result.first + c.from.result * c.digit_count.result + c.from-then-p-column.result)
+    (c.args.first + c.from.result * c.digit_count.result + c.from-then-p-column.result)
 whole_first c =
-    bit-first c.args.self.now.model c.args.self.now.slice c.args.column c.args.digit c.args.set c.args.p c.args.other c.block-first.result.first c.from.result
+    bit-first c.args.self.now.model c.args.self.now.slice c.args.column c.args.digit c.args.set c.args.p c.args.other c.args.first c.from.result
     c.digit_count.result c.from-then-p-column.result c.assert_invariant.ensures.kept c.requires.partner c.if-p-column.true c.requires.digit c.requires.other
-    c.block-first.ensures.first c.from.ensures c.digit_count.ensures c.from-then-p-column.ensures
+    c.requires.first c.from.ensures c.digit_count.ensures c.from-then-p-column.ensures
 
 whole_last : (c : goal.After-from-else-p-column-2) → IsBitOf c.args.self.now.model c.args.self.now.slice c.args.column c.args.digit c.args.set c.args.p c.args.other
-    (c.block-first.result.first + c.from-else-p-column.result * c.digit_count-else-p-column.result + c.from-else-p-column-2.result)
+    (c.args.first + c.from-else-p-column.result * c.digit_count-else-p-column.result + c.from-else-p-column-2.result)
 whole_last c =
-    bit-last c.args.self.now.model c.args.self.now.slice c.args.column c.args.digit c.args.set c.args.p c.args.other c.block-first.result.first
+    bit-last c.args.self.now.model c.args.self.now.slice c.args.column c.args.digit c.args.set c.args.p c.args.other c.args.first
     c.from-else-p-column.result c.digit_count-else-p-column.result c.from-else-p-column-2.result c.assert_invariant.ensures.kept c.requires.partner
-    c.if-p-column.false c.requires.digit c.requires.other c.block-first.ensures.first c.from-else-p-column.ensures c.digit_count-else-p-column.ensures
+    c.if-p-column.false c.requires.digit c.requires.other c.requires.first c.from-else-p-column.ensures c.digit_count-else-p-column.ensures
     c.from-else-p-column-2.ensures
 
 pub overflow_mul-result : goal.overflow_mul-result

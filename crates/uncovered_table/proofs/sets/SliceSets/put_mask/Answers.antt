@@ -15,8 +15,8 @@ put_digit-requires c =
     let v = c.args.self.now in
     let p = get_or c.args.params.now c.loop-k.k 0 in
     let inside : p < length v.model.params = c.requires.exist c.loop-k.k 0 c.loop-k-test.true in
-    digit-room (digit_count v.model v.slice) (length v.model.params) p (get_or c.args.begins.now p 0) (64 * length c.loop-k.mask) c.cell_digit.result
-    (λ d is. cell_digits (own_values v.model v.slice) c.args.cells.now p d (sym c.cell_digit.ensures ∙ is)) inside
+    digit-room (digit_count v.model v.slice) (length v.model.params) p (get_or c.args.begins.now p 0) (64 * length c.loop-k.mask) c.digit_in.result
+    (λ d is. cell_digits (own_values v.model v.slice) c.args.cells.now p d (sym c.digit_in.ensures ∙ is)) inside
     (c.requires.begins.each p 0 (omega (arith, inside)))
     (omega (arith, c.requires.fits, c.loop-k.invariant.long))
 
@@ -37,10 +37,10 @@ loop-k-preserved c =
       long = c.put_digit.ensures.long ∙ c.loop-k.invariant.long;
       is =
           subst (λ list. IsMask (digit_count v.model v.slice) (restricted list digits) (length v.model.params) (bit_in c.put_digit.new.mask))
-          (sym (take_more c.args.params.now c.loop-k.k 0 c.loop-k-test.true)) (by_digit c.cell_digit.result refl);
+          (sym (take_more c.args.params.now c.loop-k.k 0 c.loop-k-test.true)) (by_digit c.digit_in.result refl);
     }
   where
-    by_digit : (o : Option ℕ) → c.cell_digit.result ≡ o → IsMask (digit_count c.args.self.now.model c.args.self.now.slice)
+    by_digit : (o : Option ℕ) → c.digit_in.result ≡ o → IsMask (digit_count c.args.self.now.model c.args.self.now.slice)
         (restricted (take c.loop-k.k c.args.params.now ++ get_or c.args.params.now c.loop-k.k 0 ∷ [])
         (cell_digit (own_values c.args.self.now.model c.args.self.now.slice) c.args.cells.now)) (length c.args.self.now.model.params) (bit_in c.put_digit.new.mask)
     by_digit None is =
@@ -50,12 +50,12 @@ loop-k-preserved c =
         let p = get_or c.args.params.now c.loop-k.k 0 in
         let digits = cell_digit (own_values v.model v.slice) c.args.cells.now in
         subst (λ words. IsMask count (restricted (params ++ p ∷ []) digits) (length v.model.params) (bit_in words)) (sym (c.put_digit.ensures.none is))
-        (mask-none count digits (length v.model.params) (bit_in c.loop-k.mask) params p c.loop-k.invariant.is (sym c.cell_digit.ensures ∙ is))
+        (mask-none count digits (length v.model.params) (bit_in c.loop-k.mask) params p c.loop-k.invariant.is (sym c.digit_in.ensures ∙ is))
     by_digit (Some d) is =
         let v = c.args.self.now in
         let p = get_or c.args.params.now c.loop-k.k 0 in
         let digits = cell_digit (own_values v.model v.slice) c.args.cells.now in
-        let given = sym c.cell_digit.ensures ∙ is in
+        let given = sym c.digit_in.ensures ∙ is in
         let inside : p < length v.model.params = c.requires.exist c.loop-k.k 0 c.loop-k-test.true in
         let begin = c.requires.begins.each p 0 (omega (arith, inside)) in
         mask-some (digit_count v.model v.slice) digits (length v.model.params) (bit_in c.loop-k.mask) (bit_in c.put_digit.new.mask)

@@ -1,6 +1,6 @@
 use Rattle.std.proofs.Common.{◌≡◌, ◌+◌, ◌<◌, ◌≤◌, ℕ, get_or, length}
 use Rattle.std.specs.Int.{bit_at}
-use Rattle.uncovered_table.proofs.lanes.add_few.Given as goal
+use Rattle.uncovered_table.proofs.lanes.add_each.Given as goal
 
 abbrev pub invariant-loop-i : goal.invariant-loop-i
 invariant-loop-i l = record {
