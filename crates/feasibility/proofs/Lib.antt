@@ -24,3 +24,4 @@ pub mod Recurring
 pub mod Descending
 pub mod SameTrees
 pub mod KeptTrees
+pub mod TwoFree

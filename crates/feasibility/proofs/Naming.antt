@@ -1,9 +1,9 @@
 -- Which constraints name a parameter.
-use Rattle.std.proofs.Common.{◌≡◌, ℕ, ◌+◌, ◌<◌, ◌≤◌, Bool, true, false, not, ◌||◌, ◌==◌, cond, if◌then◌else◌, ◌++◌, List, [], ◌∷◌, map, take, length}
+use Rattle.std.proofs.Common.{◌≡◌, ℕ, ◌+◌, ◌-◌, ◌<◌, ◌≤◌, Bool, true, false, not, ◌||◌, ◌==◌, cond, if◌then◌else◌, ◌++◌, List, [], ◌∷◌, map, take, length}
 use Rattle.std.proofs.Common.{append-nil, Option, is_some, unwrap_or, Some, None, get_or, All, ◌∙◌, sym, ap, subst, refl, arith, zero-add}
 use Rattle.std.specs.List.{filter, list_any, range_with_len}
 use Rattle.std.proofs.lemmas.Bool.{false_from_ne_true}
-use Rattle.std.proofs.lemmas.List.{get_or_default, take_more}
+use Rattle.std.proofs.lemmas.List.{get_or-map, get_or_default, map-append, take_more}
 use Rattle.std.proofs.lemmas.Grind.{flat_map-append}
 use Rattle.std.proofs.lemmas.List.Elements.{All-append, All-filter, All-map, All-nil, filter-append}
 use Rattle.std.proofs.lemmas.List.Folds.{list_any-append}
@@ -11,7 +11,7 @@ use Rattle.std.proofs.lemmas.List.FromFn.{length-map-range_with_len, length-rang
 use Rattle.value_text.proofs.ListLemmas.{length-filter-le, range_with_len_more}
 use Rattle.cov_model.specs.declared.constraint.Rule.{Rule}
 use Rattle.cov_model.specs.Views.{BodyView, RuleView, body_view, each_is, either_is, pred_view, preds_in, rule_view}
-use Rattle.cov_model.specs.Sound.{ModelView, IsSound, param_at, rule_at}
+use Rattle.cov_model.specs.Sound.{ModelView, IsSound, no_rule, param_at, rule_at}
 use Rattle.cov_model.specs.Kleene.{body_truth}
 use Rattle.cov_model.specs.Fits.{FitsModel}
 use Rattle.cov_model.specs.Rows.{is_assigned, value_in}
@@ -217,3 +217,20 @@ has_given m cells p v entry sound fits is read =
       exist = has.exist;
       given = ap (λ (c : Option ℕ). if is_some c then undecided m p (unwrap_or c 0) else []) cell;
     }
+
+-- the parameters that the constraint at a place names
+pub members_at : (m : ModelView) (lists : List (List ℕ)) (i : ℕ) → lists ≡ all_members m → i < length m.rules
+    → get_or lists i [] ≡ members (length m.params) (rule_at m (i + 1)).body
+members_at m lists i are within =
+    let place : i ≡ i + 1 - 1 = omega arith in
+    ap (λ (found : List (List ℕ)). get_or found i []) are
+    ∙ get_or-map (λ (rule : RuleView). members (length m.params) rule.body) m.rules i no_rule [] within
+    ∙ ap (λ (k : ℕ). members (length m.params) (get_or m.rules k no_rule).body) place
+
+-- one parameter more, of those that pass
+pub map_filter_more : {X : Type 0} (g : ℕ → X) (f : ℕ → Bool) (q : ℕ)
+    → map g (filter f (range_with_len 0 (q + 1))) ≡ map g (filter f (range_with_len 0 q)) ++ map g (filter f (q ∷ []))
+map_filter_more g f q =
+    ap (map g) (ap (filter f) (range_with_len_more 0 q) ∙ filter-append f (range_with_len 0 q) ((0 + q) ∷ []))
+    ∙ map-append g (filter f (range_with_len 0 q)) (filter f ((0 + q) ∷ []))
+    ∙ ap (λ (k : ℕ). map g (filter f (range_with_len 0 q)) ++ map g (filter f (k ∷ []))) (zero-add q)

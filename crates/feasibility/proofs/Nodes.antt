@@ -1,17 +1,23 @@
 -- Nodes of a search: what setting, clearing and filling cells gives.
 use Rattle.std.proofs.Common.{◌≡◌, ℕ, zero, suc, ◌+◌, ◌<◌, ◌≤◌, true, ◌==◌, List, [], ◌∷◌, length, Option, Some, None, get_or, set, ◌∙◌, sym, ap, refl, arith, inl, inr, eq-eqb}
 use Rattle.std.proofs.lemmas.Bool.{cases_eq}
-use Rattle.std.proofs.lemmas.List.{get_or-set_other, get_or-set_same, get_or_default, length-set, same_lists, set-get_or, set-set}
+use Rattle.std.proofs.lemmas.List.{get_or-set_other, get_or-set_same, get_or_default, length-replicate, length-set, same_lists, set-get_or, set-set}
 use Rattle.std.proofs.lemmas.List.Folds.{list_any_at}
+use Rattle.cov_model.specs.Sound.{ModelView}
 use Rattle.definitions.specs.Completion.{with_value}
 use Rattle.definitions.specs.Demand.{is_among}
 use Rattle.feasibility.specs.Path.{filled, filled_cell}
+use Rattle.feasibility.specs.Tree.{no_values}
 pub use Rattle.value_text.proofs.ListLemmas.{none_of}
 pub use Rattle.refutation.proofs.PairLemmas.{FitsModel-with_value}
 
 -- a cell that is set and cleared is as before
 pub set_clear : (cells : List (Option ℕ)) (p v : ℕ) → get_or cells p None ≡ None → set (with_value cells p v) p None ≡ cells
 set_clear cells p v none = set-set cells p (Some v) None ∙ ap (λ (cell : Option ℕ). set cells p cell) (sym none) ∙ set-get_or cells p None
+
+-- a partial row without values has a place for each parameter
+pub length-none : (m : ModelView) (cells : List (Option ℕ)) → cells ≡ no_values m → length cells ≡ length m.params
+length-none m cells none = ap length none ∙ length-replicate (length m.params) None
 
 -- a value at a place of a list is listed
 pub listed_at : (values list : List ℕ) (i : ℕ) → values ≡ list → i < length values → is_among list (get_or values i 0) ≡ true

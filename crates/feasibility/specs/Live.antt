@@ -9,7 +9,8 @@ use Rattle.definitions.specs.Completion.{with_value}
 use Rattle.definitions.specs.Demand.{is_among}
 use Rattle.definitions.specs.Search.{breaks_a_rule, is_no}
 use Rattle.live_sets.specs.Trail.{LiveView, mark_at, IsSince}
-use Rattle.feasibility.specs.Tree.{undecided}
+use Rattle.compiled_rules.specs.Codes.{is_yes}
+use Rattle.feasibility.specs.Tree.{no_values, undecided}
 
 -- a value is live if it is listed and no constraint is No with it
 abbrev pub is_live : ModelView → List (List ℕ) → List (Option ℕ) → ℕ → ℕ → Bool
@@ -18,6 +19,17 @@ is_live m lists cells q w = is_among (slice_index_or lists q []) w && not (break
 -- the constraint of a number is No
 abbrev pub no_on : ModelView → List (Option ℕ) → ℕ → Bool
 no_on m cells k = is_no (body_truth m (rule_at m k).body cells)
+
+-- a parameter has no value, and one that alone makes the constraint hold
+pub record IsFree (m : ModelView) (k : ℕ) (cells : List (Option ℕ)) (q : ℕ) : Type 0 where
+  pub low : q < length m.params
+  pub unset : is_assigned cells q ≡ false
+  pub value : ℕ
+  pub holds : is_yes (body_truth m (rule_at m k).body (with_value (no_values m) q value)) ≡ true
+
+-- with no value of a parameter that has none is the constraint No
+abbrev pub NoValueBreaks : ModelView → ℕ → List (Option ℕ) → Type 0
+NoValueBreaks m k cells = (q w : ℕ) → is_assigned cells q ≡ false → no_on m (with_value cells q w) k ≡ false
 
 -- one of these constraints is No
 abbrev pub breaks_one : ModelView → List ℕ → List (Option ℕ) → Bool

@@ -1,10 +1,12 @@
-ghost use Rattle.std.specs.Prelude.{◌≡◌, ◌<◌, length, map, IfOk};
+ghost use Rattle.std.specs.Prelude.{◌≡◌, ◌<◌, ◌++◌, ◌∷◌, [], length, map, IfOk, OnOk};
+ghost use Rattle.std.specs.List.{filter};
 ghost use Rattle.cov_model.specs.Fits.{FitsModel};
 ghost use Rattle.cov_model.specs.Slices.{value_numbers};
 ghost use Rattle.feasibility.specs.Live.{AreRules};
-ghost use Rattle.feasibility.specs.Tree.{all_constrained, naming, no_values, undecided, undecided_on};
+ghost use Rattle.feasibility.specs.Tree.{all_constrained, is_named, naming, no_values, undecided, undecided_by, undecided_on};
 
 use crate::named::body_names;
+use crate::values::{put_list, value_count};
 use compiled_rules::CompiledRules;
 use cov_model::{Cells, ParamNo, TestModel, Truth, ValueNo};
 use packed_lists::PackedLists;
@@ -67,15 +69,41 @@ fn undecided_lists(
     ensures lists { IfOk result (λ lists. lists ≡ map (undecided rules.now p) (value_numbers rules.now p)) }
     ensures same { IfOk result (λ _. cells.new ≡ cells.old) }
 {
-    let count = rules.model().params().as_slice()[p as usize].values.len() as ValueNo;
+    let count = value_count(rules.model(), p);
     let mut lists = PackedLists::new(alloc);
     for v in 0..count {
         cells.set_cell(p, v);
         let list = undecided_on(alloc, rules, numbers, cells)?;
-        lists.push(list.as_slice())?;
+        put_list(&mut lists, list)?;
         cells.clear_cell(p);
     }
     Ok(lists)
+}
+
+// Puts a parameter behind the others, if a constraint names it. The cells give no parameter a value,
+// before and after.
+fn put_named(
+    alloc: Global,
+    rules: &CompiledRules,
+    p: ParamNo,
+    cells: &mut Cells,
+    list: &mut Vec<Constrained>,
+) -> Result<(), NoMemory>
+    requires parameter { p < length rules.now.params }
+    requires none { cells.old ≡ no_values rules.now }
+    ensures list { OnOk result (list.new.items ≡ list.old.items ++ map (undecided_by rules.now) (filter (is_named rules.now) (p ∷ []))) }
+    ensures same { OnOk result (cells.new ≡ cells.old) }
+{
+    let numbers = naming(alloc, rules.model(), p)?;
+    if numbers.is_empty() {
+        return Ok(());
+    }
+    let undecided = undecided_lists(alloc, rules, p, numbers.as_slice(), cells)?;
+    list.push(Constrained {
+        param: p,
+        undecided,
+    })?;
+    Ok(())
 }
 
 // The parameters that constraints name, in declared order.
@@ -85,25 +113,11 @@ pub(crate) fn constrained_params(
 ) -> Result<Vec<Constrained>, NoMemory>
     ensures { IfOk result (λ list. list.items ≡ all_constrained rules.now) }
 {
-    let model = rules.model();
-    let count = model.params().len();
+    let count = rules.model().params().len();
     let mut cells = Cells::empty(alloc, count)?;
     let mut list = Vec::new(alloc);
     for p in 0..count {
-        let numbers = naming(alloc, model, p as ParamNo)?;
-        if !numbers.is_empty() {
-            let undecided = undecided_lists(
-                alloc,
-                rules,
-                p as ParamNo,
-                numbers.as_slice(),
-                &mut cells,
-            )?;
-            list.push(Constrained {
-                param: p as ParamNo,
-                undecided,
-            })?;
-        }
+        put_named(alloc, rules, p as ParamNo, &mut cells, &mut list)?;
     }
     Ok(list)
 }

@@ -1,10 +1,12 @@
-ghost use Rattle.std.specs.Prelude.{◌≡◌, ◌<◌, ◌≤◌, length, IfOk};
+ghost use Rattle.std.specs.Prelude.{◌≡◌, ◌<◌, ◌≤◌, length, not, IfOk};
 ghost use Rattle.cov_model.specs.Fits.{FitsModel};
 ghost use Rattle.cov_model.specs.Kleene.{body_truth};
-ghost use Rattle.cov_model.specs.Sound.{rule_at};
+ghost use Rattle.cov_model.specs.Sound.{param_at, rule_at};
 ghost use Rattle.compiled_rules.specs.Codes.{is_yes};
+ghost use Rattle.definitions.specs.Completion.{with_value};
 ghost use Rattle.feasibility.specs.Tree.{all_doubtful, all_members, doubtful, doubtful_by, members, no_values};
 
+use crate::values::{put_list, value_count};
 use compiled_rules::CompiledRules;
 use cov_model::{Cells, ParamNo, Truth, ValueNo};
 use packed_lists::PackedLists;
@@ -24,6 +26,23 @@ fn holds(rules: &CompiledRules, rule: u32, cells: &Cells) -> bool
     }
 }
 
+// Whether a value of a parameter alone leaves a constraint undecided. The cells give no parameter a
+// value, before and after.
+fn is_doubtful(rules: &CompiledRules, rule: u32, q: ParamNo, w: ValueNo, cells: &mut Cells) -> bool
+    requires first { 0 < rule }
+    requires last { rule ≤ length rules.now.rules }
+    requires parameter { q < length rules.now.params }
+    requires value { w < length (param_at rules.now.params q).values }
+    requires none { cells.old ≡ no_values rules.now }
+    ensures doubtful { result ≡ not (is_yes (body_truth rules.now (rule_at rules.now rule).body (with_value (no_values rules.now) q w))) }
+    ensures same { cells.new ≡ cells.old }
+{
+    cells.set_cell(q, w);
+    let decided = holds(rules, rule, cells);
+    cells.clear_cell(q);
+    !decided
+}
+
 // The values of a parameter that alone leave a constraint undecided. The cells give no parameter a
 // value, before and after.
 fn doubtful_values(
@@ -40,13 +59,10 @@ fn doubtful_values(
     ensures list { IfOk result (λ list. list.items ≡ doubtful rules.now (rule_at rules.now rule).body q) }
     ensures same { IfOk result (λ _. cells.new ≡ cells.old) }
 {
-    let count = rules.model().params().as_slice()[q as usize].values.len() as ValueNo;
+    let count = value_count(rules.model(), q);
     let mut list = Vec::new(alloc);
     for w in 0..count {
-        cells.set_cell(q, w);
-        let decided = holds(rules, rule, cells);
-        cells.clear_cell(q);
-        if !decided {
+        if is_doubtful(rules, rule, q, w, cells) {
             list.push(w)?;
         }
     }
@@ -71,7 +87,7 @@ fn doubtful_lists(
     let mut lists = PackedLists::new(alloc);
     for q in named {
         let list = doubtful_values(alloc, rules, rule, *q, cells)?;
-        lists.push(list.as_slice())?;
+        put_list(&mut lists, list)?;
     }
     Ok(lists)
 }

@@ -29,6 +29,7 @@ mod solver;
 mod tree;
 mod values;
 mod visiting;
+mod workspace;
 
 pub use answer::{Answer, Question, RefuteFault, SearchFault};
 pub use laws::plain_search_is_exact;

@@ -3,6 +3,7 @@ ghost use Rattle.cov_model.specs.Views.{body_view};
 ghost use Rattle.feasibility.specs.Tree.{all_members, members};
 
 use crate::named::body_names;
+use crate::values::put_list;
 use cov_model::{Body, ParamNo, TestModel};
 use packed_lists::PackedLists;
 use std::alloc::Global;
@@ -29,7 +30,7 @@ pub(crate) fn member_lists(alloc: Global, model: &TestModel) -> Result<PackedLis
     let mut lists = PackedLists::new(alloc);
     for rule in model.rules().as_slice() {
         let list = members(alloc, count, &rule.body)?;
-        lists.push(list.as_slice())?;
+        put_list(&mut lists, list)?;
     }
     Ok(lists)
 }

@@ -5,7 +5,7 @@ ghost use Rattle.cov_model.specs.Rows.{is_assigned};
 ghost use Rattle.definitions.specs.Completion.{with_value};
 ghost use Rattle.definitions.specs.Search.{constrained_params, is_failing};
 ghost use Rattle.live_sets.specs.Trail.{IsSince, mark_at};
-ghost use Rattle.feasibility.specs.Live.{AreRules, EachHasOne, HasShape, ListMarks, LookedAt, Narrowed, NarrowedBy, ShowsFailure, ShowsListed, ShowsLive, Stops, no_on};
+ghost use Rattle.feasibility.specs.Live.{AreRules, EachHasOne, HasShape, IsFree, ListMarks, LookedAt, Narrowed, NarrowedBy, NoValueBreaks, ShowsFailure, ShowsListed, ShowsLive, Stops, no_on};
 ghost use Rattle.feasibility.specs.Tree.{constrained_at, members, no_values};
 
 use crate::tree::SearchTree;
@@ -147,6 +147,45 @@ impl<'a> SearchTree<'a> {
         true
     }
 
+    // Whether the parameter at a place of those that the constraint names has no value, and one that
+    // alone makes the constraint hold.
+    fn is_free(&self, rule: u32, j: usize, q: ParamNo, cells: &Cells) -> bool
+        requires first { 0 < rule }
+        requires last { rule ≤ length self.now.model.rules }
+        requires place { j < length (members (length self.now.model.params) (rule_at self.now.model rule).body) }
+        requires named { q ≡ slice_index_or (members (length self.now.model.params) (rule_at self.now.model rule).body) j 0 }
+        requires parameter { q < length self.now.model.params }
+        requires fits { FitsModel self.now.model cells.now }
+        ensures { result ≡ true → IsFree self.now.model rule cells.now q }
+    {
+        cells.get(q).is_none() && self.doubtful_of(rule, j).len() < self.count_of(q) as usize
+    }
+
+    // Whether two parameters that the constraint names are free so. While either can get that value the
+    // constraint isn't No, so that no value of another parameter need be looked at.
+    fn has_two_free(&self, rule: u32, cells: &Cells) -> bool
+        requires first { 0 < rule }
+        requires last { rule ≤ length self.now.model.rules }
+        requires fits { FitsModel self.now.model cells.now }
+        ensures { result ≡ true → NoValueBreaks self.now.model rule cells.now }
+    {
+        let members = self.members_of(rule);
+        if members.len() < 3 {
+            return false;
+        }
+        let mut found: Option<ParamNo> = None;
+        for j in 0..members.len() {
+            let q = members[j];
+            if self.is_free(rule, j, q, cells) {
+                match found {
+                    Some(p) if p != q => return true,
+                    _ => found = Some(q),
+                }
+            }
+        }
+        false
+    }
+
     // Looks at a constraint: one that holds says nothing of a value. Whether it isn't No and each
     // parameter that it names has a value left.
     fn look_at(&self, rule: u32, cells: &mut Cells, sets: &mut LiveSets) -> bool
@@ -163,7 +202,7 @@ impl<'a> SearchTree<'a> {
         match self.truth(rule, cells) {
             Truth::Yes => true,
             Truth::No => false,
-            Truth::Unknown => self.look_ahead(rule, cells, sets),
+            Truth::Unknown => self.has_two_free(rule, cells) || self.look_ahead(rule, cells, sets),
         }
     }
 

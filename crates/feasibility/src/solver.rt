@@ -1,4 +1,4 @@
-ghost use Rattle.std.specs.Prelude.{◌≡◌, ◌≢◌, ◌<◌, Some, length, IfOk};
+ghost use Rattle.std.specs.Prelude.{◌≡◌, ◌≢◌, Some, length, IfOk};
 ghost use Rattle.cov_model.specs.Preference.{OrdersValues};
 ghost use Rattle.definitions.specs.Completion.{first_completion, is_extendable};
 ghost use Rattle.definitions.specs.Demand.{is_among};
@@ -10,50 +10,12 @@ use crate::answer::Answer;
 use crate::answer_table::AnswerTable;
 use crate::kept_tree::KeptTree;
 use crate::tree::SearchTree;
+use crate::workspace::Workspace;
 use cov_model::{Cells, ParamNo, Prefs, Slice, TestModel};
 use live_sets::LiveSets;
 use std::alloc::Global;
 use std::marker::Model;
 use value_text::NoMemory;
-
-// How many answered questions a solver keeps where few parameters are named by constraints, so that
-// questions recur: a prime number, by which their places differ.
-const MANY_PLACES: usize = 251;
-
-// How many parameters are few.
-const FEW_NAMED: usize = 12;
-
-// As many questions, and no more, may each have a place of their own.
-const MOST_PLACES: usize = 4096;
-
-// How many questions differ in what they give the parameters that constraints name, or some larger
-// number.
-fn kinds_of_questions(tree: &SearchTree) -> usize
-    ensures { 0 < result }
-{
-    tree.assert_invariant();
-    let mut kinds = 1usize;
-    let count = tree.constrained_len();
-    for i in 0..count {
-        let p = tree.constrained_at(i).param;
-        kinds = kinds.saturating_mul(tree.count_of(p) as usize + 1);
-    }
-    kinds
-}
-
-// How many answered questions a solver keeps that looks at this tree.
-fn places_for(tree: &SearchTree) -> usize
-    ensures { 0 < result }
-{
-    let kinds = kinds_of_questions(tree);
-    if kinds <= MOST_PLACES {
-        kinds
-    } else if tree.constrained_len() <= FEW_NAMED {
-        MANY_PLACES
-    } else {
-        1
-    }
-}
 
 /// Tells of partial rows of one slice whether they are extendable, and completes them. The search
 /// is the plain one: it looks one value ahead and has a budget of nodes (this project's rule).
@@ -105,11 +67,13 @@ impl<'a> Solver<'a> {
         ensures { IfOk result (λ solver. solver ≡ record { model = model.now; prefs = prefs.now; slice = slice }) }
     {
         let tree = SearchTree::new(alloc, model, prefs, slice)?;
-        let mut room = Cells::empty(alloc, model.params().len())?;
-        let mut sets = tree.listed_sets(alloc)?;
-        let fails = tree.begin(&mut room, &mut sets);
-        let answered = AnswerTable::new(alloc, places_for(&tree), model.params().len())?;
-        let kept = KeptTree::none(alloc, model.params().len())?;
+        let Workspace {
+            room,
+            sets,
+            fails,
+            answered,
+            kept,
+        } = Workspace::new(alloc, &tree)?;
         Ok(Solver {
             alloc,
             tree,

@@ -12,7 +12,7 @@ ghost use Rattle.feasibility.specs.Tree.{ListsValues, constrained_at, doubtful, 
 use crate::constrained::{Constrained, constrained_params};
 use crate::doubtful::all_doubtful;
 use crate::members::member_lists;
-use crate::values::preferred_lists;
+use crate::values::{preferred_lists, value_count};
 use compiled_rules::CompiledRules;
 use cov_model::{Cells, ParamNo, Prefs, Slice, TestModel, Truth, ValueNo};
 use packed_lists::PackedLists;
@@ -58,9 +58,9 @@ impl<'a> SearchTree<'a> {
         requires orders { OrdersValues model.now prefs.now }
         ensures { IfOk result (λ tree. tree ≡ record { model = model.now; values = preferred_values model.now prefs.now slice }) }
     {
-        let rules = CompiledRules::new(alloc, model)?;
         let values = preferred_lists(alloc, model, prefs, slice)?;
         let members = member_lists(alloc, model)?;
+        let rules = CompiledRules::new(alloc, model)?;
         let doubtful = all_doubtful(alloc, &rules, &members)?;
         let constrained = constrained_params(alloc, &rules)?;
         Ok(SearchTree {
@@ -102,7 +102,7 @@ impl<'a> SearchTree<'a> {
         requires { q < length self.now.model.params }
         ensures { result ≡ length (param_at self.now.model.params q).values }
     {
-        self.model().params().as_slice()[q as usize].values.len() as ValueNo
+        value_count(self.model(), q)
     }
 
     // The values of a parameter in the order in which they are tried.

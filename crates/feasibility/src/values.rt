@@ -1,4 +1,4 @@
-ghost use Rattle.std.specs.Prelude.{◌≡◌, ◌<◌, [], ◌∷◌, length, slice_index_or, not, IfOk};
+ghost use Rattle.std.specs.Prelude.{◌≡◌, ◌<◌, [], ◌∷◌, ◌++◌, length, slice_index_or, not, IfOk, OnOk};
 ghost use Rattle.cov_model.specs.Preference.{OrdersValues};
 ghost use Rattle.cov_model.specs.Slices.{positive_values, slice_values};
 ghost use Rattle.cov_model.specs.Sound.{param_at};
@@ -21,6 +21,21 @@ pub(crate) fn is_positive(model: &TestModel, p: ParamNo, v: ValueNo) -> bool
 {
     let param = &model.params().as_slice()[p as usize];
     !param.values.as_slice()[v as usize].negative
+}
+
+// How many values a parameter has.
+pub(crate) fn value_count(model: &TestModel, p: ParamNo) -> ValueNo
+    requires { p < length model.now.params }
+    ensures { result ≡ length (param_at model.now.params p).values }
+{
+    model.params().as_slice()[p as usize].values.len() as ValueNo
+}
+
+// Puts a list behind the others.
+pub(crate) fn put_list(lists: &mut PackedLists, list: Vec<u16>) -> Result<(), NoMemory>
+    ensures { OnOk result (lists.new ≡ lists.old ++ list.items ∷ []) }
+{
+    lists.push(list.as_slice())
 }
 
 // Whether a value of a parameter is one of the slice.
@@ -78,7 +93,7 @@ pub(crate) fn preferred_lists(
     let mut lists = PackedLists::new(alloc);
     for p in 0..count {
         let list = preferred(alloc, model, prefs, slice, p as ParamNo)?;
-        lists.push(list.as_slice())?;
+        put_list(&mut lists, list)?;
     }
     Ok(lists)
 }
@@ -88,7 +103,7 @@ fn positives(alloc: Global, model: &TestModel, p: ParamNo) -> Result<Vec<ValueNo
     requires { p < length model.now.params }
     ensures { IfOk result (λ list. list.items ≡ positive_values model.now p) }
 {
-    let count = model.params().as_slice()[p as usize].values.len() as ValueNo;
+    let count = value_count(model, p);
     let mut list = Vec::new(alloc);
     for v in 0..count {
         if is_positive(model, p, v) {
@@ -140,7 +155,7 @@ pub fn slice_lists(alloc: Global, model: &TestModel, slice: Slice) -> Result<Pac
     let mut lists = PackedLists::new(alloc);
     for p in 0..count {
         let list = declared(alloc, model, slice, p as ParamNo)?;
-        lists.push(list.as_slice())?;
+        put_list(&mut lists, list)?;
     }
     Ok(lists)
 }

@@ -188,14 +188,14 @@ impl<'a> SearchTree<'a> {
         let mut number = 0usize;
         let count = self.constrained_len();
         for i in 0..count {
-            let p = self.constrained_at(i).param;
-            let value = match cells.get(p) {
+            let named = self.constrained_at(i);
+            let value = match cells.get(named.param) {
                 Some(v) => v as usize + 1,
                 None => 0,
             };
-            number = number
-                .wrapping_mul(self.count_of(p) as usize + 1)
-                .wrapping_add(value);
+            // a list for each value, and one number more for none
+            let choices = named.undecided.len().wrapping_add(1);
+            number = number.wrapping_mul(choices).wrapping_add(value);
         }
         number % places
     }

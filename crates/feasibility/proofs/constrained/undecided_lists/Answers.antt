@@ -14,7 +14,7 @@ undecided_on-requires-clause-exist c = subst (AreRules c.args.rules.now) (sym c.
 pub loop-v-preserved : goal.loop-v-preserved
 loop-v-preserved c =
     let m = c.args.rules.now in
-    let list = c.as_slice-in-loop-v.ensures.value ∙ c.in_ok-list.ensures ∙ ap (λ numbers. undecided_on m numbers c.set_cell.new.self) c.requires.named
+    let list = c.in_ok-list.ensures ∙ ap (λ numbers. undecided_on m numbers c.set_cell.new.self) c.requires.named
     ∙ ap (undecided_on m (naming m c.args.p)) (c.set_cell.ensures
     ∙ ap (λ cells. set cells c.args.p (Some c.loop-v.v)) (c.loop-v.invariant.cells ∙ c.requires.none)) in
     record {
@@ -22,7 +22,7 @@ loop-v-preserved c =
       cells = c.clear_cell.ensures ∙ ap (λ cells. set cells c.args.p None) c.set_cell.ensures
           ∙ set_clear c.loop-v.cells c.args.p c.loop-v.v (ap (λ cells. get_or cells c.args.p None) (c.loop-v.invariant.cells ∙ c.requires.none)
           ∙ none_at _ c.args.p) ∙ c.loop-v.invariant.cells;
-      lists = c.in_ok-push.ensures.ok ∙ ap (λ lists. lists ++ c.as_slice-in-loop-v.result.now ∷ []) c.loop-v.invariant.lists
+      lists = c.in_ok-put_list.ensures ∙ ap (λ lists. lists ++ c.in_ok-list.list.items ∷ []) c.loop-v.invariant.lists
           ∙ ap (λ numbers. map (undecided m c.args.p) (range_with_len 0 c.loop-v.v) ++ numbers ∷ []) list
           ∙ sym (map-range_with_len_more (undecided m c.args.p) 0 c.loop-v.v c.loop-v.v (zero-add c.loop-v.v));
     }

@@ -8,9 +8,9 @@ pub loop-p-preserved : goal.loop-p-preserved
 loop-p-preserved c =
     let lists = slice_values c.args.model.now c.args.slice in (
       c.loop-p.invariant.0,
-      c.in_ok-push.ensures.ok
-          ∙ ap (λ done. done ++ c.as_slice.result.now ∷ []) c.loop-p.invariant.1
-          ∙ ap (λ list. take c.loop-p.p lists ++ list ∷ []) (c.as_slice.ensures.value ∙ c.in_ok-list.ensures)
+      c.in_ok-put_list.ensures
+          ∙ ap (λ done. done ++ c.in_ok-list.list.items ∷ []) c.loop-p.invariant.1
+          ∙ ap (λ list. take c.loop-p.p lists ++ list ∷ []) c.in_ok-list.ensures
           ∙ sym (take_more lists c.loop-p.p [] (omega (arith, c.loop-p-test.true, c.loop-p.invariant.0, length-slice_values c.args.model.now c.args.slice))),
     )
 

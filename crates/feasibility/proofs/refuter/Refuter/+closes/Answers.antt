@@ -5,6 +5,7 @@ use Rattle.std.specs.List.{range_with_len, sum_by}
 use Rattle.std.specs.Result.{OnOk}
 use Rattle.std.proofs.lemmas.Bool.{and_from, not-false, not-true}
 use Rattle.std.proofs.lemmas.Result.{on_ok_weaker}
+use Rattle.cov_model.specs.Fits.{FitsModel}
 use Rattle.cov_model.specs.Meaning.{value_at}
 use Rattle.cov_model.specs.Rows.{is_assigned}
 use Rattle.cov_model.specs.Sound.{param_at}
@@ -18,13 +19,37 @@ use Rattle.feasibility.specs.Live.{ShowsFailure, ShowsLive}
 use Rattle.feasibility.specs.Refuting.{Closes, HasNoLeaf, IsPath, value_cost}
 use Rattle.feasibility.specs.Tree.{TreeView}
 use Rattle.feasibility.proofs.AddedTrees.{closes_branch, closes_counted, closes_leaf, closes_more, closes_none}
-use Rattle.feasibility.proofs.Costs.{all_tried, listed_cost, place_left, visit_node}
+use Rattle.feasibility.proofs.Costs.{all_tried, listed_cost, place_left, visit_node, visit_skip}
 use Rattle.feasibility.proofs.Leaves.{no_leaf, omission_first}
 use Rattle.feasibility.proofs.Naming.{constrained_exists, constrained_few}
 use Rattle.feasibility.proofs.Nodes.{none_of, set_clear}
 use Rattle.feasibility.proofs.Paths.{marked_value, positive_value, unmarked_value}
 use Rattle.feasibility.proofs.Visits.{failing_outcome}
 use Rattle.feasibility.proofs.refuter.Refuter.+closes.Goals as goal
+
+pub close_live-enter-requires-clause-place : goal.close_live-enter-requires-clause-place
+close_live-enter-requires-clause-place t c =
+    subst (λ (s : TreeView). c.args.i < length (constrained_params s.model)) (sym c.tree.ensures) c.requires.place
+
+pub close_live-enter-requires-clause-value : goal.close_live-enter-requires-clause-value
+close_live-enter-requires-clause-value t c =
+    subst (λ (s : TreeView). c.args.v < length (param_at s.model.params (get_or (constrained_params s.model) c.args.i 0)).values) (sym c.tree.ensures) c.requires.value
+
+pub close_live-enter-requires-clause-fits : goal.close_live-enter-requires-clause-fits
+close_live-enter-requires-clause-fits t c =
+    subst (λ (s : TreeView). FitsModel s.model c.args.cells.now) (sym c.tree.ensures) c.requires.before.fits
+
+pub close_live-enter-requires-clause-free : goal.close_live-enter-requires-clause-free
+close_live-enter-requires-clause-free t c =
+    subst (λ (s : TreeView). is_assigned c.args.cells.now (get_or (constrained_params s.model) c.args.i 0) ≡ false) (sym c.tree.ensures) c.requires.free
+
+pub close_live-enter-requires-clause-node : goal.close_live-enter-requires-clause-node
+close_live-enter-requires-clause-node t c =
+    subst (λ (s : TreeView). is_failing s.model s.values c.args.cells.now ≡ false) (sym c.tree.ensures) c.requires.node
+
+pub close_live-enter-requires-clause-live : goal.close_live-enter-requires-clause-live
+close_live-enter-requires-clause-live t c =
+    subst (λ (s : TreeView). ShowsLive s.model s.values c.args.cells.now c.args.sets.now) (sym c.tree.ensures) c.requires.live
 
 pub close_live-overflow_add-i : goal.close_live-overflow_add-i
 close_live-overflow_add-i t c = omega (arith, c.requires.place, constrained_few c.args.self.now.model c.assert_invariant.ensures.sound)
@@ -139,6 +164,32 @@ close_node-overflow_add-i t c =
     let r = c.args.self.now in
     let within = place_left r.model r.lists (constrained_params r.model) c.args.i c.args.cells.now c.requires.node c.requires.unfound in
     omega (arith, within, constrained_few r.model c.assert_invariant.ensures.sound)
+
+pub close_node-close_node-requires : goal.close_node-close_node-requires
+close_node-close_node-requires t c =
+    let r = c.args.self.now in
+    let within = place_left r.model r.lists (constrained_params r.model) c.args.i c.args.cells.now c.requires.node c.requires.unfound in
+    let given = ap (is_assigned c.args.cells.now) (sym c.constrained_param-p.ensures) ∙ ap is_some (sym c.get.ensures) ∙ sym c.is_some.ensures
+    ∙ c.if-is_some.true in
+    let skip = visit_skip r.model r.lists (constrained_params r.model) c.args.i c.args.cells.now within given in (
+      omega (arith, within),
+      (
+        c.requires.path,
+        (
+          c.requires.leafless,
+          (c.requires.node, (c.requires.live, ap (λ (outcome : Outcome). outcome.found) (sym skip) ∙ c.requires.unfound)),
+        ),
+      ),
+    )
+
+pub close_node-returns-then-is_some-clause-closes : goal.close_node-returns-then-is_some-clause-closes
+close_node-returns-then-is_some-clause-closes t c =
+    let r = c.args.self.now in
+    let within = place_left r.model r.lists (constrained_params r.model) c.args.i c.args.cells.now c.requires.node c.requires.unfound in
+    let given = ap (is_assigned c.args.cells.now) (sym c.constrained_param-p.ensures) ∙ ap is_some (sym c.get.ensures) ∙ sym c.is_some.ensures
+    ∙ c.if-is_some.true in
+    subst (λ (outcome : Outcome). OnOk c.close_node.result (Closes r (c.args.cells.now ∷ []) outcome.cost c.args.tokens.now c.close_node.new.tokens))
+    (sym (visit_skip r.model r.lists (constrained_params r.model) c.args.i c.args.cells.now within given)) c.close_node.ensures.closes
 
 pub close_node-count_of-count-requires : goal.close_node-count_of-count-requires
 close_node-count_of-count-requires t c =

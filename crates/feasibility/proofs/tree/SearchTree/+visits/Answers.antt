@@ -1,10 +1,11 @@
-use Rattle.std.proofs.Common.{◌≡◌, ◌<◌, ◌+◌, ◌-◌, ◌∙◌, None, true, false, drop, length, get_or, set, refl, sym, ap, subst, arith}
+use Rattle.std.proofs.Common.{◌≡◌, ℕ, ◌<◌, ◌+◌, ◌-◌, ◌∙◌, None, is_some, true, false, drop, length, get_or, set, refl, sym, ap, subst, arith}
 use Rattle.std.proofs.lemmas.Bool.{not-true, not-false}
 use Rattle.std.proofs.lemmas.Grind.{common_steps}
 use Rattle.std.proofs.lemmas.List.FromFn.{length-range_with_len}
 use Rattle.value_text.proofs.ListLemmas.{length-filter-le}
 use Rattle.cov_model.specs.Fits.{FitsModel}
 use Rattle.cov_model.specs.Rows.{is_assigned}
+use Rattle.cov_model.specs.Sound.{param_at}
 use Rattle.cov_model.specs.Valid.{param_numbers}
 use Rattle.definitions.specs.Completion.{with_value}
 use Rattle.definitions.specs.Search.{constrained_params, is_failing, visit}
@@ -17,13 +18,25 @@ use Rattle.feasibility.specs.Tree.{is_named}
 use Rattle.feasibility.proofs.Deciding.{dead_fails}
 use Rattle.feasibility.proofs.Naming.{constrained_exists}
 use Rattle.feasibility.proofs.Nodes.{FitsModel-with_value, listed_at, none_of, set_clear}
-use Rattle.feasibility.proofs.Visits.{at_node, going_more, going_no, going_spent, going_yes, told_back, told_fails, told_node, told_on, told_over}
+use Rattle.feasibility.proofs.Visits.{at_node, going_more, going_no, going_spent, going_yes, told_back, told_fails, told_leaf, told_node, told_on, told_over, told_skip}
 use Rattle.feasibility.proofs.tree.SearchTree.+visits.Goals as goal
 
 pub visit-get-requires : goal.visit-get-requires
 visit-get-requires t c =
     let within : c.args.i < length (constrained_params c.args.self.now.model) = omega arith in
     omega (arith, constrained_exists c.args.self.now.model c.args.i within, ap (λ entry. entry.param) c.constrained_at.ensures, c.requires.fits.as_long)
+
+pub visit-returns-then-i-constrained_len-clause-told : goal.visit-returns-then-i-constrained_len-clause-told
+visit-returns-then-i-constrained_len-clause-told t c =
+    told_leaf c.args.self.now.model c.args.self.now.values (constrained_params c.args.self.now.model) c.args.i c.args.cells.now c.args.left.now
+    c.visit_leaf.new.left c.visit_leaf.result (omega arith) c.requires.node c.visit_leaf.ensures.answer c.visit_leaf.ensures.left
+
+pub visit-returns-then-is_some-clause-told : goal.visit-returns-then-is_some-clause-told
+visit-returns-then-is_some-clause-told t c =
+    told_skip c.args.self.now.model c.args.self.now.values (constrained_params c.args.self.now.model) c.args.i c.args.cells.now c.visit.new.cells
+    c.args.left.now c.visit.new.left c.visit.result (omega arith)
+    (ap (λ entry. is_assigned c.args.cells.now entry.param) (sym c.constrained_at.ensures) ∙ ap is_some (sym c.get.ensures) ∙ sym c.is_some.ensures
+    ∙ c.if-is_some.true) c.visit.ensures.told
 
 pub visit-returns-then-left-eq0-clause-told : goal.visit-returns-then-left-eq0-clause-told
 visit-returns-then-left-eq0-clause-told t c =
@@ -126,6 +139,23 @@ visit-returns-clause-told t c =
     (going_no visited reach c.args.cells.now p c.loop-v.v-index c.values_of-values.result.now (c.args.left.now - 1) c.loop-v.left c.loop-v-test.false
     c.loop-v.invariant.going))
 
+pub visit_value-is_live-requires-clause-parameter : goal.visit_value-is_live-requires-clause-parameter
+visit_value-is_live-requires-clause-parameter t c =
+    subst (λ (n : ℕ). c.constrained_at.result.now.param < n) (sym c.requires.live.shape.as_many)
+    (subst (λ (q : ℕ). q < length c.args.self.now.model.params) (sym (ap (λ entry. entry.param) c.constrained_at.ensures))
+    (constrained_exists c.args.self.now.model c.args.i c.requires.place))
+
+pub visit_value-is_live-requires-clause-value : goal.visit_value-is_live-requires-clause-value
+visit_value-is_live-requires-clause-value t c =
+    let m = c.args.self.now.model in
+    subst (λ (n : ℕ). c.args.v < n) (sym (c.requires.live.shape.each c.constrained_at.result.now.param))
+    (subst (λ (q : ℕ). c.args.v < length (param_at m.params q).values) (sym (ap (λ entry. entry.param) c.constrained_at.ensures))
+    (c.assert_invariant.ensures.values.exist (get_or (constrained_params m) c.args.i 0) c.args.v c.requires.value))
+
+pub visit_value-enter-requires-clause-value : goal.visit_value-enter-requires-clause-value
+visit_value-enter-requires-clause-value t c =
+    c.assert_invariant.ensures.values.exist (get_or (constrained_params c.args.self.now.model) c.args.i 0) c.args.v c.requires.value
+
 pub visit_value-returns-then-not-is_live-clause-told : goal.visit_value-returns-then-not-is_live-clause-told
 visit_value-returns-then-not-is_live-clause-told t c =
     let m = c.args.self.now.model in
@@ -146,8 +176,9 @@ visit_value-returns-then-not-enter-clause-told t c =
     c.clear_cell.ensures ∙ ap (λ cells. set cells c.constrained_at.result.now.param None) c.enter.ensures.cells
     ∙ ap (λ entry. set (with_value c.args.cells.now p c.args.v) entry.param None) c.constrained_at.ensures
     ∙ set_clear c.args.cells.now p c.args.v (none_of (get_or c.args.cells.now p None) c.requires.free) in
-    told_fails m c.args.self.now.values (drop (c.args.i + 1) (constrained_params m)) (with_value c.args.cells.now p c.args.v) _ c.args.cells.now
-    c.clear_cell.new.self c.args.left.now c.visit_failing-then-not-enter.new.left
+    let params = drop (c.args.i + 1) (constrained_params m) in
+    told_fails m c.args.self.now.values params (with_value c.args.cells.now p c.args.v)
+    (reached m c.args.self.now.values params (with_value c.args.cells.now p c.args.v)) c.args.cells.now c.clear_cell.new.self c.args.left.now c.visit_failing-then-not-enter.new.left
     c.visit_failing-then-not-enter.result (not-false (is_failing m c.args.self.now.values (with_value c.args.cells.now p c.args.v))
     (sym c.enter.ensures.fails ∙ c.if-not-enter.true))
     c.visit_failing-then-not-enter.ensures.answer c.visit_failing-then-not-enter.ensures.left back

@@ -1,5 +1,6 @@
-use Rattle.std.proofs.Common.{◌≡◌, ◌∙◌, ◌+◌, true, false, [], refl, length, get_or, is_some, sym, ap, subst, arith}
+use Rattle.std.proofs.Common.{◌≡◌, ◌∙◌, ◌+◌, true, false, Some, [], refl, length, get_or, is_some, sym, ap, subst, arith}
 use Rattle.std.proofs.lemmas.Bool.{not-true}
+use Rattle.std.proofs.lemmas.List.{length-set}
 use Rattle.cov_model.specs.Fits.{FitsModel}
 use Rattle.cov_model.specs.Rows.{is_assigned}
 use Rattle.definitions.specs.Completion.{with_value}
@@ -8,7 +9,7 @@ use Rattle.feasibility.specs.Descent.{ComesTo, IsFirstLive}
 use Rattle.feasibility.specs.Live.{ShowsLive}
 use Rattle.feasibility.specs.Tree.{constrained_from}
 use Rattle.feasibility.proofs.Deciding.{dead_fails}
-use Rattle.feasibility.proofs.Descending.{comes_by}
+use Rattle.feasibility.proofs.Descending.{comes_by, comes_past}
 use Rattle.feasibility.proofs.Naming.{constrained_exists}
 use Rattle.feasibility.proofs.Nodes.{FitsModel-with_value, listed_at}
 use Rattle.feasibility.proofs.tree.SearchTree.descend_at.Goals as goal
@@ -25,6 +26,34 @@ get-requires c =
 pub first_live-requires-clause-parameter : goal.first_live-requires-clause-parameter
 first_live-requires-clause-parameter c =
     omega (arith, constrained_exists c.args.self.now.model c.args.i c.requires.place, ap (λ entry. entry.param) c.constrained_at.ensures)
+
+pub returns-then-is_some-clause-comes : goal.returns-then-is_some-clause-comes
+returns-then-is_some-clause-comes c =
+    comes_past c.args.self.now c.args.i c.args.cells.now c.requires.place
+    (ap (λ q. is_assigned c.args.cells.now q) (sym (ap (λ entry. entry.param) c.constrained_at.ensures))
+    ∙ ap is_some (sym c.get.ensures) ∙ sym c.is_some.ensures ∙ c.if-is_some.true)
+
+pub bounds-values_of-k : goal.bounds-values_of-k
+bounds-values_of-k c = omega (arith, ap length c.values_of.ensures, c.in_ok-k.ensures.within)
+
+pub enter-requires-clause-free : goal.enter-requires-clause-free
+enter-requires-clause-free c =
+    ap (λ q. is_assigned c.args.cells.now q) (sym (ap (λ entry. entry.param) c.constrained_at.ensures))
+    ∙ ap is_some (sym c.get.ensures) ∙ sym c.is_some.ensures ∙ c.if-is_some.false
+
+pub enter-requires-clause-value : goal.enter-requires-clause-value
+enter-requires-clause-value c =
+    let p = get_or (constrained_params c.args.self.now.model) c.args.i 0 in
+    let k = c.in_ok-k.k in
+    let values : c.values_of.result.now ≡ get_or c.args.self.now.values p [] =
+    c.values_of.ensures ∙ ap (λ q. get_or c.args.self.now.values q []) (ap (λ entry. entry.param) c.constrained_at.ensures) in
+    c.assert_invariant.ensures.values.exist p (get_or c.values_of.result.now k 0)
+    (listed_at c.values_of.result.now (get_or c.args.self.now.values p []) k values (omega (arith, ap length c.values_of.ensures, c.in_ok-k.ensures.within)))
+
+pub returns-clause-long : goal.returns-clause-long
+returns-clause-long c =
+    ap length c.enter.ensures.cells
+    ∙ length-set c.args.cells.now (get_or (constrained_params c.args.self.now.model) c.args.i 0) (Some (get_or c.values_of.result.now c.in_ok-k.k 0))
 
 pub returns-clause-comes : goal.returns-clause-comes
 returns-clause-comes c =

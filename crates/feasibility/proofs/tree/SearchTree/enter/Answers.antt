@@ -1,4 +1,5 @@
-use Rattle.std.proofs.Common.{◌≡◌, ◌∙◌, get_or, sym, ap, subst}
+use Rattle.std.proofs.Common.{◌≡◌, ℕ, ◌<◌, ◌∙◌, get_or, length, sym, ap, subst}
+use Rattle.cov_model.specs.Fits.{FitsModel}
 use Rattle.definitions.specs.Completion.{with_value}
 use Rattle.definitions.specs.Search.{constrained_params}
 use Rattle.feasibility.specs.Live.{AreRules, EachHasOne, LookedAt, Stops}
@@ -6,6 +7,7 @@ use Rattle.feasibility.specs.Tree.{undecided}
 use Rattle.feasibility.proofs.Broken.{longer_set}
 use Rattle.feasibility.proofs.Deciding.{decided_answer, decided_live, decided_why, fewer_left, free_left, value_decides}
 use Rattle.feasibility.proofs.Naming.{constrained_exists, has_undecided}
+use Rattle.feasibility.proofs.Nodes.{FitsModel-with_value}
 use Rattle.feasibility.proofs.tree.SearchTree.enter.Goals as goal
 
 pub list-requires : goal.list-requires
@@ -13,6 +15,26 @@ list-requires c =
     (has_undecided c.args.self.now.model (get_or (constrained_params c.args.self.now.model) c.args.i 0) c.args.v c.constrained_at-named.result.now
     c.assert_invariant.ensures.sound
     c.constrained_at-named.ensures c.requires.value).within
+
+pub set_cell-requires : goal.set_cell-requires
+set_cell-requires c =
+    subst (λ (n : ℕ). c.constrained_at-named.result.now.param < n) (sym c.requires.fits.as_long)
+    (subst (λ (q : ℕ). q < length c.args.self.now.model.params) (sym (ap (λ entry. entry.param) c.constrained_at-named.ensures))
+    (constrained_exists c.args.self.now.model c.args.i c.requires.place))
+
+pub look_at_each-requires-clause-fits : goal.look_at_each-requires-clause-fits
+look_at_each-requires-clause-fits c =
+    let m = c.args.self.now.model in
+    let p = get_or (constrained_params m) c.args.i 0 in
+    let row : c.set_cell.new.self ≡ with_value c.args.cells.now p c.args.v =
+    c.set_cell.ensures ∙ ap (λ entry. with_value c.args.cells.now entry.param c.args.v) c.constrained_at-named.ensures in
+    subst (FitsModel m) (sym row)
+    (FitsModel-with_value m c.args.cells.now p c.args.v c.requires.fits (constrained_exists m c.args.i c.requires.place) c.requires.value)
+
+pub returns-clause-cells : goal.returns-clause-cells
+returns-clause-cells c =
+    c.look_at_each.ensures.same ∙ c.set_cell.ensures
+    ∙ ap (λ entry. with_value c.args.cells.now entry.param c.args.v) c.constrained_at-named.ensures
 
 pub look_at_each-requires-clause-exist : goal.look_at_each-requires-clause-exist
 look_at_each-requires-clause-exist c =

@@ -2,7 +2,7 @@ use Rattle.std.proofs.Common.{◌+◌, ◌*◌, ◌<◌, length, ap, arith}
 use Rattle.std.proofs.Math.Nat.{mul-pos}
 use Rattle.definitions.specs.Search.{constrained_params}
 use Rattle.feasibility.proofs.Naming.{constrained_exists}
-use Rattle.feasibility.proofs.solver.kinds_of_questions.Goals as goal
+use Rattle.feasibility.proofs.workspace.kinds_of_questions.Goals as goal
 
 pub loop-i-init : goal.loop-i-init
 loop-i-init c = (c.constrained_len-count.ensures, omega arith)

@@ -1,6 +1,6 @@
 use Rattle.std.proofs.Common.{◌≡◌, ◌<◌, length}
 use Rattle.definitions.specs.Search.{constrained_params}
-use Rattle.feasibility.proofs.solver.kinds_of_questions.Given as goal
+use Rattle.feasibility.proofs.workspace.kinds_of_questions.Given as goal
 
 abbrev pub invariant-loop-i : goal.invariant-loop-i
 invariant-loop-i l = (l.count ≡ length (constrained_params l.tree.model)) × (0 < l.kinds)
