@@ -1,11 +1,9 @@
 //! Numbers of candidates above the limit.
 
-use crate::results::results_of;
+use crate::results::{model_at, results_of};
 use cov_model::TestModel;
 use std::alloc::{AllocError, Global};
-use std::test::Fail;
 use suspect_tuples::{SuspectFault, suspects};
-use test_models::{options, read};
 
 // A model of so many parameters with one value each.
 fn model_text(alloc: Global, params: u32) -> Result<String, AllocError> {
@@ -44,9 +42,12 @@ const COUNTS: &[(u32, u32, &[&str], Option<u64>)] = &[
     (256, 2, &["fail"], None),
 ];
 
-// The number of candidates of a file of results, where it is above the limit.
+// The number of candidates of a file of results, where it is above the limit; nothing where the file is refused, or
+// memory was.
 fn count_of(alloc: Global, model: &TestModel, bytes: &[u8]) -> Option<Option<u64>> {
-    let results = results_of(alloc, model, bytes).ok()?;
+    let Ok(results) = results_of(alloc, model, bytes) else {
+        return None;
+    };
     match suspects(alloc, model, &results) {
         Ok(_) => Some(None),
         Err(SuspectFault::TooMany(found)) => Some(Some(found)),
@@ -54,19 +55,39 @@ fn count_of(alloc: Global, model: &TestModel, bytes: &[u8]) -> Option<Option<u64
     }
 }
 
-#[test]
-fn counts_candidates(rt: HostRuntime) -> Result<(), Fail> {
-    for (params, order, results, count) in COUNTS {
-        if *order == 0 {
-            Err("an order is at least 1")?;
-        }
-        let text = model_text(rt.alloc(), *params)?;
-        let file = file_text(rt.alloc(), *params, results)?;
-        let (model, _) = read(rt.alloc(), text.as_str(), &options(*order))?;
-        match count_of(rt.alloc(), &model, file.as_str().as_bytes()) {
-            Some(found) => assert!(rt; found == *count, "{found:?}"),
-            None => Err("it was refused, or memory was")?,
-        }
+// The same for the file of these results under a model.
+fn count_of_rows(
+    alloc: Global,
+    model: &TestModel,
+    params: u32,
+    results: &[&str],
+) -> Option<Option<u64>> {
+    match file_text(alloc, params, results) {
+        Ok(file) => count_of(alloc, model, file.as_str().as_bytes()),
+        Err(_) => None,
     }
-    Ok(())
+}
+
+// The model of so many parameters; nothing where the order is 0, or memory was refused.
+fn model_of_count(alloc: Global, params: u32, order: u32) -> Option<TestModel> {
+    match model_text(alloc, params) {
+        Ok(text) => model_at(alloc, text.as_str(), order, true),
+        Err(_) => None,
+    }
+}
+
+// The number of candidates under that model.
+fn count_under(alloc: Global, params: u32, order: u32, results: &[&str]) -> Option<Option<u64>> {
+    match model_of_count(alloc, params, order) {
+        Some(model) => count_of_rows(alloc, &model, params, results),
+        None => None,
+    }
+}
+
+#[test]
+fn counts_candidates(rt: HostRuntime) {
+    for (params, order, results, count) in COUNTS {
+        let found = count_under(rt.alloc(), *params, *order, results);
+        assert!(rt; found == Some(*count), "{found:?}");
+    }
 }
