@@ -5,32 +5,42 @@ use cov_model::TestModel;
 use std::alloc::{AllocError, Global};
 use suspect_tuples::{SuspectFault, suspects};
 
-// A model of so many parameters with one value each.
-fn model_text(alloc: Global, params: u32) -> Result<String, AllocError> {
-    let mut text = String::new(alloc);
-    for p in 0..params {
-        let line = format!(in alloc; "P{p}: 1\n")?;
-        text.push_str(line.as_str())?;
-    }
-    Ok(text)
+// Adds the name of a parameter, and what stands behind it.
+fn push_param(alloc: Global, p: u32, end: &str, text: &mut String) -> Result<(), AllocError> {
+    let name = format!(in alloc; "P{p}{end}")?;
+    text.push_str(name.as_str())
 }
 
-// A row of this model, once for each of these results.
-fn file_text(alloc: Global, params: u32, results: &[&str]) -> Result<String, AllocError> {
-    let mut text = String::new(alloc);
+// Adds the names of so many parameters, and this behind each.
+fn push_params(alloc: Global, params: u32, end: &str, text: &mut String) -> Result<(), AllocError> {
     for p in 0..params {
-        let cell = format!(in alloc; "P{p}\t")?;
-        text.push_str(cell.as_str())?;
+        push_param(alloc, p, end, text)?;
     }
+    Ok(())
+}
+
+// Adds a row of so many first values, and its outcome.
+fn push_row(params: u32, outcome: &str, text: &mut String) -> Result<(), AllocError> {
+    for _ in 0..params {
+        text.push_str("1\t")?;
+    }
+    text.push_str(outcome)?;
+    text.push_str("\n")
+}
+
+// Adds the header of a file of results, and a row for each of these.
+fn push_file(
+    alloc: Global,
+    params: u32,
+    results: &[&str],
+    text: &mut String,
+) -> Result<(), AllocError> {
+    push_params(alloc, params, "\t", text)?;
     text.push_str(":result\n")?;
     for result in results {
-        for _ in 0..params {
-            text.push_str("1\t")?;
-        }
-        text.push_str(result)?;
-        text.push_str("\n")?;
+        push_row(params, result, text)?;
     }
-    Ok(text)
+    Ok(())
 }
 
 // Parameters, an order, results, and the number of candidates, where it is above the limit.
@@ -62,16 +72,18 @@ fn count_of_rows(
     params: u32,
     results: &[&str],
 ) -> Option<Option<u64>> {
-    match file_text(alloc, params, results) {
-        Ok(file) => count_of(alloc, model, file.as_str().as_bytes()),
+    let mut file = String::new(alloc);
+    match push_file(alloc, params, results, &mut file) {
+        Ok(()) => count_of(alloc, model, file.as_str().as_bytes()),
         Err(_) => None,
     }
 }
 
-// The model of so many parameters; nothing where the order is 0, or memory was refused.
+// The model of so many parameters with one value each; nothing where the order is 0, or memory was refused.
 fn model_of_count(alloc: Global, params: u32, order: u32) -> Option<TestModel> {
-    match model_text(alloc, params) {
-        Ok(text) => model_at(alloc, text.as_str(), order, true),
+    let mut text = String::new(alloc);
+    match push_params(alloc, params, ": 1\n", &mut text) {
+        Ok(()) => model_at(alloc, text.as_str(), order, true),
         Err(_) => None,
     }
 }
