@@ -54,31 +54,53 @@ fn is_of_model(model: &TestModel, cells: &Cells) -> bool
     true
 }
 
-/// The file of these rows, from line 2 on. `None` where one of them isn't of the model.
-pub(crate) fn file_of(
-    alloc: Global,
-    model: &TestModel,
-    rows: &[RowValues],
-) -> Result<Option<RowFile>, NoMemory>
+// The same where it is of the model; nothing where it isn't, or memory was refused.
+fn row_of(alloc: Global, model: &TestModel, values: RowValues) -> Option<Cells>
+    ensures { IfSome result (λ cells. FitsModel model.now cells) }
+{
+    if values.len() > 256 {
+        return None;
+    }
+    let Ok(cells) = cells_of(alloc, values) else {
+        return None;
+    };
+    if is_of_model(model, &cells) {
+        Some(cells)
+    } else {
+        None
+    }
+}
+
+// The list of these rows, from line 2 on.
+fn list_of(alloc: Global, model: &TestModel, rows: &[RowValues]) -> Option<FileRowList>
     requires { length rows.now < 2 ^ 12 }
-    ensures { IfOk result (λ made. IfSome made (λ file. All (λ row. FitsModel model.now row.cells) file.rows × (length file.rows ≤ 2 ^ 12))) }
+    ensures { IfSome result (λ list. All (λ row. FitsModel model.now row.cells) list × (length list ≡ length rows.now)) }
 {
     let mut list = FileRowList::new(alloc);
     for (i, values) in rows.iter().enumerate() {
-        if values.len() > 256 {
-            return Ok(None);
+        let Some(cells) = row_of(alloc, model, values) else {
+            return None;
+        };
+        let line = i as u32 + 2;
+        if list.push(FileRow { line, cells }).is_err() {
+            return None;
         }
-        let cells = cells_of(alloc, values)?;
-        if !is_of_model(model, &cells) {
-            return Ok(None);
-        }
-        list.push(FileRow {
-            line: i as u32 + 2,
-            cells,
-        })?;
     }
-    Ok(Some(RowFile {
-        rows: list,
-        notes: NoteList::new(alloc),
-    }))
+    Some(list)
+}
+
+/// The file of these rows. `None` where there are 2^12 or more, one of them isn't of the model, or memory was refused.
+pub(crate) fn file_of(alloc: Global, model: &TestModel, rows: &[RowValues]) -> Option<RowFile>
+    ensures { IfSome result (λ file. All (λ row. FitsModel model.now row.cells) file.rows × (length file.rows ≤ 2 ^ 12)) }
+{
+    if rows.len() >= 1 << 12 {
+        return None;
+    }
+    match list_of(alloc, model, rows) {
+        Some(rows) => Some(RowFile {
+            rows,
+            notes: NoteList::new(alloc),
+        }),
+        None => None,
+    }
 }

@@ -6,6 +6,8 @@ mod files;
 #[cfg(test)]
 mod gate;
 #[cfg(test)]
+mod marks;
+#[cfg(test)]
 mod seats;
 #[cfg(test)]
 mod served;

@@ -142,35 +142,66 @@ fn has_turns(
     true
 }
 
-// How many tuples of the model's list are open before and after the turns; nothing where a turn isn't as the list has
-// it, or memory was refused.
-fn counts_of(alloc: Global, model: &TestModel, plan: &Plan) -> Option<(usize, usize)>
-    requires { plan.now ≡ plan_of model.now }
+// How many tuples of the list are open before and after the turns; nothing where a turn isn't as the list has it, or
+// memory was refused.
+fn counts_beside(
+    alloc: Global,
+    model: &TestModel,
+    table: &mut Uncovered,
+    list: &mut OpenList,
+) -> Option<(usize, usize)>
+    requires model { table.old.model ≡ model.now }
+    requires slice { table.old.slice ≡ Slice.Positive }
 {
-    let Ok(mut table) = Uncovered::new(alloc, model, plan, Slice::Positive) else {
-        return None;
-    };
-    let Ok(mut list) = OpenList::new(alloc, model, plan) else {
-        return None;
-    };
+    let before = list.len();
     let Ok(mut row) = Cells::empty(alloc, 6) else {
         return None;
     };
-    let before = list.len();
-    if has_turns(alloc, model, &mut table, &mut list, &mut row) {
+    if has_turns(alloc, model, table, list, &mut row) {
         Some((before, list.len()))
     } else {
         None
     }
 }
 
+// The same for the list of the plan.
+fn counts_in(
+    alloc: Global,
+    model: &TestModel,
+    plan: &Plan,
+    table: &mut Uncovered,
+) -> Option<(usize, usize)>
+    requires model { table.old.model ≡ model.now }
+    requires slice { table.old.slice ≡ Slice.Positive }
+{
+    match OpenList::new(alloc, model, plan) {
+        Ok(mut list) => counts_beside(alloc, model, table, &mut list),
+        Err(_) => None,
+    }
+}
+
+// The same for a table in which all is open.
+fn counts_of(alloc: Global, model: &TestModel, plan: &Plan) -> Option<(usize, usize)>
+    requires { plan.now ≡ plan_of model.now }
+{
+    match Uncovered::new(alloc, model, plan, Slice::Positive) {
+        Ok(mut table) => counts_in(alloc, model, plan, &mut table),
+        Err(_) => None,
+    }
+}
+
+// The same for the plan of the model.
+fn counts_of_model(alloc: Global, model: &TestModel) -> Option<(usize, usize)> {
+    match Plan::new(alloc, model) {
+        Ok(plan) => counts_of(alloc, model, &plan),
+        Err(_) => None,
+    }
+}
+
 // The same for the model of a text.
 fn counts_of_text(alloc: Global, text: &str) -> Option<(usize, usize)> {
-    let Ok(model) = model_of(alloc, text) else {
-        return None;
-    };
-    match Plan::new(alloc, &model) {
-        Ok(plan) => counts_of(alloc, &model, &plan),
+    match model_of(alloc, text) {
+        Ok(model) => counts_of_model(alloc, &model),
         Err(_) => None,
     }
 }

@@ -58,13 +58,18 @@ const PLANS: &[(&str, &[Expected<'static>])] = &[
     ),
 ];
 
-// Whether the demanded sets of the model of a text are these; `false` too where there is no plan.
-fn plans_sets(alloc: Global, text: &str, sets: &[Expected]) -> bool {
-    let Ok(model) = model_of(alloc, text) else {
-        return false;
-    };
-    match Plan::new(alloc, &model) {
+// Whether the demanded sets of a model are these; `false` too where there is no plan.
+fn are_planned(alloc: Global, model: &TestModel, sets: &[Expected]) -> bool {
+    match Plan::new(alloc, model) {
         Ok(plan) => are_sets(&plan, sets),
+        Err(_) => false,
+    }
+}
+
+// The same for the model of a text.
+fn plans_sets(alloc: Global, text: &str, sets: &[Expected]) -> bool {
+    match model_of(alloc, text) {
+        Ok(model) => are_planned(alloc, &model, sets),
         Err(_) => false,
     }
 }
@@ -88,13 +93,18 @@ fn has_rank(plan: &Plan, model: &TestModel, rank: u32, expected: [ValueNo; 2]) -
     values == expected && plan.rank(0, &values) == rank
 }
 
-// The same in the plan of a model with a negative value.
+// The same in the plan of the model.
+fn is_ranked_in(alloc: Global, model: &TestModel, rank: u32, expected: [ValueNo; 2]) -> bool {
+    match Plan::new(alloc, model) {
+        Ok(plan) => has_rank(&plan, model, rank, expected),
+        Err(_) => false,
+    }
+}
+
+// The same for a model with a negative value.
 fn is_ranked(alloc: Global, rank: u32, expected: [ValueNo; 2]) -> bool {
-    let Ok(model) = model_of(alloc, "A: ~-1, 0, 1\nB: 0, 1\n[A] < 2;\n") else {
-        return false;
-    };
-    match Plan::new(alloc, &model) {
-        Ok(plan) => has_rank(&plan, &model, rank, expected),
+    match model_of(alloc, "A: ~-1, 0, 1\nB: 0, 1\n[A] < 2;\n") {
+        Ok(model) => is_ranked_in(alloc, &model, rank, expected),
         Err(_) => false,
     }
 }

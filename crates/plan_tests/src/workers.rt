@@ -54,6 +54,27 @@ fn scores_of<R: Threads + Sync>(
 }
 
 // The scores that they give once the first row is closed; nothing where memory was refused.
+fn scores_in<R: Threads + Sync>(
+    rt: &R,
+    alloc: Global,
+    model: &TestModel,
+    table: &mut Uncovered,
+    gate: &Meeting,
+) -> Option<[u32; 2]>
+    requires model { table.old.model ≡ model.now }
+    requires slice { table.old.slice ≡ Slice.Positive }
+{
+    let Ok(mut row) = Cells::empty(alloc, 3) else {
+        return None;
+    };
+    if close_first(model, table, &mut row) {
+        scores_of(rt, model, table, &mut row, gate)
+    } else {
+        None
+    }
+}
+
+// The same for a table in which all is open.
 fn scores_at<R: Threads + Sync>(
     rt: &R,
     alloc: Global,
@@ -63,26 +84,29 @@ fn scores_at<R: Threads + Sync>(
 ) -> Option<[u32; 2]>
     requires { plan.now ≡ plan_of model.now }
 {
-    let Ok(mut table) = Uncovered::new(alloc, model, plan, Slice::Positive) else {
-        return None;
-    };
-    let Ok(mut row) = Cells::empty(alloc, 3) else {
-        return None;
-    };
-    if close_first(model, &mut table, &mut row) {
-        scores_of(rt, model, &table, &mut row, gate)
-    } else {
-        None
+    match Uncovered::new(alloc, model, plan, Slice::Positive) {
+        Ok(mut table) => scores_in(rt, alloc, model, &mut table, gate),
+        Err(_) => None,
+    }
+}
+
+// The same for the plan of the model.
+fn scores_of_model<R: Threads + Sync>(
+    rt: &R,
+    alloc: Global,
+    model: &TestModel,
+    gate: &Meeting,
+) -> Option<[u32; 2]> {
+    match Plan::new(alloc, model) {
+        Ok(plan) => scores_at(rt, alloc, model, &plan, gate),
+        Err(_) => None,
     }
 }
 
 // The same for a model of three parameters.
 fn scores_by_two<R: Threads + Sync>(rt: &R, alloc: Global, gate: &Meeting) -> Option<[u32; 2]> {
-    let Ok(model) = model_of(alloc, "A: 1, 2\nB: x, y\nC: u, v\n") else {
-        return None;
-    };
-    match Plan::new(alloc, &model) {
-        Ok(plan) => scores_at(rt, alloc, &model, &plan, gate),
+    match model_of(alloc, "A: 1, 2\nB: x, y\nC: u, v\n") {
+        Ok(model) => scores_of_model(rt, alloc, &model, gate),
         Err(_) => None,
     }
 }

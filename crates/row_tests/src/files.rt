@@ -1,9 +1,9 @@
 //! Row files that are accepted.
 
-use crate::rows::{Row, file_of, has_notes, has_rows};
+use crate::rows::{Row, has_file};
 use model_lex::NoteCode;
 use row_text::RowMode;
-use std::test::Fail;
+use std::alloc::Global;
 use test_models::model_of;
 
 // Two values each, one of B and one of C negative, and a constraint.
@@ -21,18 +21,26 @@ const SEED_ROWS: &[Row<'static>] = &[
     (7, &[Some(0), None, None]),
 ];
 
+// Whether the bytes are a row file of the model of a text, with these rows and notes; `false` too where memory was
+// refused.
+fn reads(
+    alloc: Global,
+    text: &str,
+    bytes: &[u8],
+    mode: RowMode,
+    rows: &[Row<'_>],
+    notes: &[(u32, NoteCode)],
+) -> bool {
+    match model_of(alloc, text) {
+        Ok(model) => has_file(alloc, &model, bytes, mode, rows, notes),
+        Err(_) => false,
+    }
+}
+
 #[test]
-fn reads_seeds(rt: HostRuntime) -> Result<(), Fail> {
-    let model = model_of(rt.alloc(), MIXED)?;
-    let file = file_of(rt.alloc(), &model, SEEDS, RowMode::Seed)?;
-    assert!(rt; has_rows(&file, SEED_ROWS));
-    assert!(rt;
-        has_notes(
-            &file,
-            &[(1, NoteCode::UnknownColumn), (7, NoteCode::UnknownValue)]
-        )
-    );
-    Ok(())
+fn reads_seeds(rt: HostRuntime) {
+    let notes = [(1, NoteCode::UnknownColumn), (7, NoteCode::UnknownValue)];
+    assert!(rt; reads(rt.alloc(), MIXED, SEEDS, RowMode::Seed, SEED_ROWS, &notes));
 }
 
 // Two parameters of two values each.
@@ -76,28 +84,24 @@ const SUITES: &[(&[u8], &[Row<'static>], &[(u32, NoteCode)])] = &[
 ];
 
 #[test]
-fn reads_suites(rt: HostRuntime) -> Result<(), Fail> {
-    let model = model_of(rt.alloc(), PAIR)?;
+fn reads_suites(rt: HostRuntime) {
     for (bytes, rows, notes) in SUITES {
-        let file = file_of(rt.alloc(), &model, bytes, RowMode::Suite)?;
-        assert!(rt; has_rows(&file, rows));
-        assert!(rt; has_notes(&file, notes));
+        assert!(rt; reads(rt.alloc(), PAIR, bytes, RowMode::Suite, rows, notes));
     }
-    Ok(())
 }
 
+// The rows of a file that gives names and aliases.
+const ALIAS_ROWS: &[Row<'static>] = &[
+    (2, &[Some(0), Some(2)]),
+    (3, &[Some(0), Some(0)]),
+    (4, &[Some(1), Some(1)]),
+    (5, &[None, Some(1)]),
+];
+
 #[test]
-fn reads_aliases(rt: HostRuntime) -> Result<(), Fail> {
-    let model = model_of(rt.alloc(), "OS: Win8 | Win10, ~Linux | BSD\nB: 1, 2, 3\n")?;
+fn reads_aliases(rt: HostRuntime) {
+    let text = "OS: Win8 | Win10, ~Linux | BSD\nB: 1, 2, 3\n";
     let bytes = b"OS\tB\nWin10\t3\nwin8\t1\n~bsd\t2\nLinux\t2\n";
-    let file = file_of(rt.alloc(), &model, bytes, RowMode::Suite)?;
-    let rows: &[Row<'static>] = &[
-        (2, &[Some(0), Some(2)]),
-        (3, &[Some(0), Some(0)]),
-        (4, &[Some(1), Some(1)]),
-        (5, &[None, Some(1)]),
-    ];
-    assert!(rt; has_rows(&file, rows));
-    assert!(rt; has_notes(&file, &[(5, NoteCode::UnknownValue)]));
-    Ok(())
+    let notes = [(5, NoteCode::UnknownValue)];
+    assert!(rt; reads(rt.alloc(), text, bytes, RowMode::Suite, ALIAS_ROWS, &notes));
 }

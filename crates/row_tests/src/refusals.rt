@@ -1,10 +1,12 @@
 //! Row files that are refused.
 
 use crate::rows::file_of;
+use cov_model::TestModel;
 use row_text::{RowMode, RowsFault};
 use std::alloc::{AllocError, Global};
-use std::test::Fail;
 use test_models::model_of;
+
+const PAIR: &str = "A: 1, 2\nB: x, y\n";
 
 // A row file of two parameters A and B with two values each, the mode, and its fault.
 const REFUSALS: &[(&[u8], RowMode, RowsFault)] = &[
@@ -19,16 +21,33 @@ const REFUSALS: &[(&[u8], RowMode, RowsFault)] = &[
     (b"A\n1\n\n1\tx\n1\tx\n", RowMode::Seed, RowsFault::Width(4)),
 ];
 
-#[test]
-fn refuses_files(rt: HostRuntime) -> Result<(), Fail> {
-    let model = model_of(rt.alloc(), "A: 1, 2\nB: x, y\n")?;
-    for (bytes, mode, fault) in REFUSALS {
-        match file_of(rt.alloc(), &model, bytes, *mode) {
-            Ok(_) => Err("it was accepted")?,
-            Err(found) => assert!(rt; found == *fault, "{found:?}"),
-        }
+// How many rows a row file has, or its fault.
+fn count_under(
+    alloc: Global,
+    model: &TestModel,
+    bytes: &[u8],
+    mode: RowMode,
+) -> Result<usize, RowsFault> {
+    match file_of(alloc, model, bytes, mode) {
+        Ok(file) => Ok(file.rows.len()),
+        Err(fault) => Err(fault),
     }
-    Ok(())
+}
+
+// The same under the model of the pair; `NoMemory` too where there is none.
+fn count_of(alloc: Global, bytes: &[u8], mode: RowMode) -> Result<usize, RowsFault> {
+    match model_of(alloc, PAIR) {
+        Ok(model) => count_under(alloc, &model, bytes, mode),
+        Err(_) => Err(RowsFault::NoMemory),
+    }
+}
+
+#[test]
+fn refuses_files(rt: HostRuntime) {
+    for (bytes, mode, fault) in REFUSALS {
+        let found = count_of(rt.alloc(), bytes, *mode);
+        assert!(rt; found == Err(*fault), "{found:?}");
+    }
 }
 
 // A header, and behind it so many lines.
@@ -40,16 +59,21 @@ fn long_file(alloc: Global, lines: u32) -> Result<Vec<u8>, AllocError> {
     Ok(bytes)
 }
 
-#[test]
-fn counts_rows(rt: HostRuntime) -> Result<(), Fail> {
-    let model = model_of(rt.alloc(), "A: 1, 2\nB: x, y\n")?;
-    let mut bytes = long_file(rt.alloc(), 1_048_577)?;
-    match file_of(rt.alloc(), &model, bytes.as_slice(), RowMode::Seed) {
-        Ok(_) => Err("it was accepted")?,
-        Err(found) => assert!(rt; found == RowsFault::TooManyRows(1_048_577), "{found:?}"),
+// The number of rows of this file, or its fault.
+fn count_of_lines(alloc: Global, lines: u32) -> Result<usize, RowsFault> {
+    match long_file(alloc, lines) {
+        Ok(bytes) => count_of(alloc, bytes.as_slice(), RowMode::Seed),
+        Err(_) => Err(RowsFault::NoMemory),
     }
-    bytes.truncate(2_097_154);
-    let file = file_of(rt.alloc(), &model, bytes.as_slice(), RowMode::Seed)?;
-    assert!(rt; file.rows.len() == 1_048_576);
-    Ok(())
+}
+
+#[test]
+fn counts_rows(rt: HostRuntime) {
+    let above = count_of_lines(rt.alloc(), 1_048_577);
+    assert!(rt;
+        above == Err(RowsFault::TooManyRows(1_048_577)),
+        "{above:?}"
+    );
+    let most = count_of_lines(rt.alloc(), 1_048_576);
+    assert!(rt; most == Ok(1_048_576), "{most:?}");
 }

@@ -41,8 +41,8 @@ fn gives(cells: &Cells, values: &[Option<ValueNo>]) -> bool {
     true
 }
 
-/// Whether a row file has these rows.
-pub(crate) fn has_rows(file: &RowFile, rows: &[Row<'_>]) -> bool {
+// Whether a row file has these rows.
+fn has_rows(file: &RowFile, rows: &[Row<'_>]) -> bool {
     if file.rows.len() != rows.len() {
         return false;
     }
@@ -54,8 +54,8 @@ pub(crate) fn has_rows(file: &RowFile, rows: &[Row<'_>]) -> bool {
     true
 }
 
-/// Whether a row file has these notes.
-pub(crate) fn has_notes(file: &RowFile, notes: &[(u32, NoteCode)]) -> bool {
+// Whether a row file has these notes.
+fn has_notes(file: &RowFile, notes: &[(u32, NoteCode)]) -> bool {
     if file.notes.len() != notes.len() {
         return false;
     }
@@ -65,4 +65,19 @@ pub(crate) fn has_notes(file: &RowFile, notes: &[(u32, NoteCode)]) -> bool {
         }
     }
     true
+}
+
+/// Whether the bytes are a row file of a model, with these rows and notes.
+pub(crate) fn has_file(
+    alloc: Global,
+    model: &TestModel,
+    bytes: &[u8],
+    mode: RowMode,
+    rows: &[Row<'_>],
+    notes: &[(u32, NoteCode)],
+) -> bool {
+    match file_of(alloc, model, bytes, mode) {
+        Ok(file) => has_rows(&file, rows) && has_notes(&file, notes),
+        Err(_) => false,
+    }
 }

@@ -50,7 +50,31 @@ fn grown<R: Threads + Sync>(
     }
 }
 
-// The suite of a model, grown by so many workers within a budget; nothing too where there is no plan.
+// The suite of a model and its plan, grown by so many workers within a budget; nothing too where memory was refused.
+fn suite_by<R: Threads + Sync>(
+    rt: &R,
+    alloc: Global,
+    model: &TestModel,
+    plan: &Plan,
+    budget: u64,
+    workers: u32,
+) -> Option<Suite>
+    requires plan { plan.now ≡ plan_of model.now }
+    requires some_workers { 1 ≤ workers }
+    requires few_workers { workers ≤ 64 }
+{
+    let opts = GrowOpts {
+        budget,
+        workers,
+        proof: None,
+    };
+    match Prefs::new(alloc, model, None) {
+        Ok(prefs) => grown(rt, alloc, model, plan, &prefs, &opts),
+        Err(_) => None,
+    }
+}
+
+// The same; nothing too where there is no plan.
 fn suite_of<R: Threads + Sync>(
     rt: &R,
     alloc: Global,
@@ -61,18 +85,10 @@ fn suite_of<R: Threads + Sync>(
     requires some_workers { 1 ≤ workers }
     requires few_workers { workers ≤ 64 }
 {
-    let Ok(plan) = Plan::new(alloc, model) else {
-        return None;
-    };
-    let Ok(prefs) = Prefs::new(alloc, model, None) else {
-        return None;
-    };
-    let opts = GrowOpts {
-        budget,
-        workers,
-        proof: None,
-    };
-    grown(rt, alloc, model, &plan, &prefs, &opts)
+    match Plan::new(alloc, model) {
+        Ok(plan) => suite_by(rt, alloc, model, &plan, budget, workers),
+        Err(_) => None,
+    }
 }
 
 // The omitted tuples of the model, in the order in which they are asked for.
@@ -97,18 +113,26 @@ fn are_tuples(omitted: &Omissions, tuples: &[&[(ParamNo, ValueNo)]]) -> bool {
     true
 }
 
-// Whether the suite of the model has six rows and these omitted tuples, in a proof of the first form.
-fn tells_omitted<R: Threads + Sync>(rt: &R, alloc: Global) -> bool {
-    let Ok(model) = model_of(alloc, NONE_LIVE) else {
-        return false;
-    };
-    match suite_of(rt, alloc, &model, 1000, 2) {
-        Some(suite) => {
-            suite.rows.len() == 6
-                && suite.omitted.form() == ProofForm::One
-                && are_tuples(&suite.omitted, OMITTED)
-        }
+// Whether the suite has six rows and these omitted tuples, in a proof of the first form.
+fn has_omitted(suite: &Suite) -> bool {
+    suite.rows.len() == 6
+        && suite.omitted.form() == ProofForm::One
+        && are_tuples(&suite.omitted, OMITTED)
+}
+
+// The same for the suite of a model.
+fn tells_omitted_of<R: Threads + Sync>(rt: &R, alloc: Global, model: &TestModel) -> bool {
+    match suite_of(rt, alloc, model, 1000, 2) {
+        Some(suite) => has_omitted(&suite),
         None => false,
+    }
+}
+
+// The same for the model of which no value of C goes with the first value of A.
+fn tells_omitted<R: Threads + Sync>(rt: &R, alloc: Global) -> bool {
+    match model_of(alloc, NONE_LIVE) {
+        Ok(model) => tells_omitted_of(rt, alloc, &model),
+        Err(_) => false,
     }
 }
 

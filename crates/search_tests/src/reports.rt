@@ -2,6 +2,7 @@
 
 ghost use Rattle.std.specs.Prelude.{◌≡◌, true, All, IfOk};
 ghost use Rattle.cov_model.specs.Valid.{is_row};
+ghost use Rattle.row_text.specs.Turns.{AreMadeFor};
 
 use cov_model::{Rows, TestModel, ValueNo};
 use outside_io::{MemSink, WriteAnswer};
@@ -29,46 +30,48 @@ fn sink(alloc: Global, most: usize) -> Result<MemSink, NoMemory> {
     MemSink::up_to(alloc, most)
 }
 
-// What a sink has when all of it could be put there.
-fn put_whole(answer: WriteAnswer, out: MemSink) -> Option<MemSink> {
-    match answer {
-        WriteAnswer::Done => Some(out),
-        WriteAnswer::Failed => None,
+// Whether the report of rows is this text; `false` too where memory was refused.
+fn is_written(alloc: Global, model: &TestModel, rows: &Rows, turns: &mut Turns, text: &str) -> bool
+    requires rows { All (λ row. is_row model.now row ≡ true) rows.now }
+    requires turns { AreMadeFor model.now turns.old }
+{
+    match sink(alloc, 100) {
+        Ok(mut out) => {
+            put_report(model, rows, turns, &mut out) == WriteAnswer::Done
+                && out.bytes() == text.as_bytes()
+        }
+        Err(NoMemory) => false,
     }
 }
 
-// The report of rows.
-fn report_of_rows(
-    alloc: Global,
-    model: &TestModel,
-    rows: &Rows,
-) -> Result<Option<MemSink>, NoMemory>
+// The same for the first names.
+fn is_report_of_rows(alloc: Global, model: &TestModel, rows: &Rows, text: &str) -> bool
     requires { All (λ row. is_row model.now row ≡ true) rows.now }
 {
-    let mut turns = Turns::new(alloc, model)?;
-    let mut out = sink(alloc, 100)?;
-    let answer = put_report(model, rows, &mut turns, &mut out);
-    Ok(put_whole(answer, out))
+    match Turns::new(alloc, model) {
+        Ok(mut turns) => is_written(alloc, model, rows, &mut turns, text),
+        Err(NoMemory) => false,
+    }
 }
 
-// The report of a model's rows of these values.
-fn report_of(
+// The same for a model's rows of these values.
+fn is_report_of(
     alloc: Global,
     model: &TestModel,
     table: &[(ValueNo, ValueNo)],
-) -> Result<Option<MemSink>, NoMemory> {
-    let rows = rows_of(alloc, model, table)?;
-    report_of_rows(alloc, model, &rows)
+    text: &str,
+) -> bool {
+    match rows_of(alloc, model, table) {
+        Ok(rows) => is_report_of_rows(alloc, model, &rows, text),
+        Err(NoMemory) => false,
+    }
 }
 
-// Whether the report of rows of these values of a text's model is this; `false` too where memory was refused.
+// The same for the model of a text.
 fn is_report(alloc: Global, text: &str, table: &[(ValueNo, ValueNo)], report: &str) -> bool {
-    let Ok(model) = model_of(alloc, text) else {
-        return false;
-    };
-    match report_of(alloc, &model, table) {
-        Ok(Some(out)) => out.bytes() == report.as_bytes(),
-        Ok(None) | Err(NoMemory) => false,
+    match model_of(alloc, text) {
+        Ok(model) => is_report_of(alloc, &model, table, report),
+        Err(_) => false,
     }
 }
 

@@ -34,114 +34,113 @@ fn row_of(alloc: Global, model: &TestModel, pairs: &[(ParamNo, ValueNo)]) -> Opt
     }
 }
 
-// What the search answers on a row within a budget, and then within another one; nothing where memory was refused.
-fn answers_on(
-    alloc: Global,
-    model: &TestModel,
-    prefs: &Prefs,
-    row: &Cells,
-    first: u64,
-    second: u64,
-) -> Option<(Answer, Answer)>
-    requires orders { OrdersValues model.now prefs.now }
-    requires row { IsOfSlice model.now Slice.Positive row.now }
-{
-    let Ok(mut solver) = Solver::new(alloc, model, prefs, Slice::Positive) else {
-        return None;
-    };
-    let before = solver.ask(row, first);
-    let after = solver.ask(row, second);
-    Some((before, after))
+// A question to the search about a row, and what it is to say.
+#[derive(Drop, Clone, Copy)]
+enum Question {
+    // The answers within a budget, and then within another one.
+    Extends((u64, Answer), (u64, Answer)),
+    // The values of the row that it completes within a budget.
+    Completes(u64, [ValueNo; 3]),
 }
 
-// The same on the row of these pairs.
-fn answers(
-    alloc: Global,
-    pairs: &[(ParamNo, ValueNo)],
-    first: u64,
-    second: u64,
-) -> Option<(Answer, Answer)> {
-    let Ok(model) = model_of(alloc, NONE_LIVE) else {
-        return None;
-    };
-    let Ok(prefs) = Prefs::new(alloc, &model, None) else {
-        return None;
-    };
-    match row_of(alloc, &model, pairs) {
-        Some(row) => answers_on(alloc, &model, &prefs, &row, first, second),
-        None => None,
-    }
+// Whether a row has these values.
+fn has_values(row: &Cells, values: [ValueNo; 3]) -> bool {
+    row.len() == 3
+        && row.get(0) == Some(values[0])
+        && row.get(1) == Some(values[1])
+        && row.get(2) == Some(values[2])
 }
 
-// Whether the search completes a row within a budget.
-fn completes(
+// Whether the row that the search completes within a budget has these values; `false` too where memory was refused.
+fn completes_to(
     alloc: Global,
+    solver: &mut Solver<'_>,
     model: &TestModel,
-    prefs: &Prefs,
     row: &Cells,
     budget: u64,
-    into: &mut Cells,
+    values: [ValueNo; 3],
 ) -> bool
-    requires orders { OrdersValues model.now prefs.now }
+    requires model { solver.old.model ≡ model.now }
+    requires slice { solver.old.slice ≡ Slice.Positive }
     requires row { IsOfSlice model.now Slice.Positive row.now }
-    requires long { length into.old ≡ length model.now.params }
 {
-    match Solver::new(alloc, model, prefs, Slice::Positive) {
-        Ok(mut solver) => solver.complete(row, budget, into) == Answer::Yes,
+    match Cells::empty(alloc, model.params().len()) {
+        Ok(mut into) => {
+            solver.complete(row, budget, &mut into) == Answer::Yes && has_values(&into, values)
+        }
         Err(NoMemory) => false,
     }
 }
 
-// The row that the search completes within a budget.
-fn completion_of(
+// Whether the search says on a row what it is to say.
+fn says_by(
     alloc: Global,
+    solver: &mut Solver<'_>,
     model: &TestModel,
-    prefs: &Prefs,
     row: &Cells,
-    budget: u64,
-) -> Option<Cells>
+    question: Question,
+) -> bool
+    requires model { solver.old.model ≡ model.now }
+    requires slice { solver.old.slice ≡ Slice.Positive }
+    requires row { IsOfSlice model.now Slice.Positive row.now }
+{
+    match question {
+        Question::Extends(first, second) => {
+            let before = solver.ask(row, first.0);
+            let after = solver.ask(row, second.0);
+            before == first.1 && after == second.1
+        }
+        Question::Completes(budget, values) => {
+            completes_to(alloc, solver, model, row, budget, values)
+        }
+    }
+}
+
+// The same for a new search.
+fn says_on(alloc: Global, model: &TestModel, prefs: &Prefs, row: &Cells, question: Question) -> bool
     requires orders { OrdersValues model.now prefs.now }
     requires row { IsOfSlice model.now Slice.Positive row.now }
 {
-    let Ok(mut into) = Cells::empty(alloc, model.params().len()) else {
-        return None;
-    };
-    if completes(alloc, model, prefs, row, budget, &mut into) {
-        Some(into)
-    } else {
-        None
+    match Solver::new(alloc, model, prefs, Slice::Positive) {
+        Ok(mut solver) => says_by(alloc, &mut solver, model, row, question),
+        Err(NoMemory) => false,
     }
 }
 
-// The same for the row of these pairs.
-fn completion(alloc: Global, pairs: &[(ParamNo, ValueNo)], budget: u64) -> Option<Cells> {
-    let Ok(model) = model_of(alloc, NONE_LIVE) else {
-        return None;
-    };
-    let Ok(prefs) = Prefs::new(alloc, &model, None) else {
-        return None;
-    };
-    match row_of(alloc, &model, pairs) {
-        Some(row) => completion_of(alloc, &model, &prefs, &row, budget),
-        None => None,
-    }
-}
-
-// Whether the row that the search completes within a budget has these values.
-fn completes_to(
+// The same on the row of these pairs.
+fn says_on_pairs(
     alloc: Global,
+    model: &TestModel,
+    prefs: &Prefs,
     pairs: &[(ParamNo, ValueNo)],
-    budget: u64,
-    values: [ValueNo; 3],
-) -> bool {
-    match completion(alloc, pairs, budget) {
-        Some(row) => {
-            row.len() == 3
-                && row.get(0) == Some(values[0])
-                && row.get(1) == Some(values[1])
-                && row.get(2) == Some(values[2])
-        }
+    question: Question,
+) -> bool
+    requires { OrdersValues model.now prefs.now }
+{
+    match row_of(alloc, model, pairs) {
+        Some(row) => says_on(alloc, model, prefs, &row, question),
         None => false,
+    }
+}
+
+// The same by the order of the values in the model.
+fn says_in_order(
+    alloc: Global,
+    model: &TestModel,
+    pairs: &[(ParamNo, ValueNo)],
+    question: Question,
+) -> bool {
+    match Prefs::new(alloc, model, None) {
+        Ok(prefs) => says_on_pairs(alloc, model, &prefs, pairs, question),
+        Err(NoMemory) => false,
+    }
+}
+
+// The same under the model of which no value of C goes with the first value of A.
+fn says(alloc: Global, pairs: &[(ParamNo, ValueNo)], question: Question) -> bool {
+    match model_of(alloc, NONE_LIVE) {
+        Ok(model) => says_in_order(alloc, &model, pairs, question),
+        Err(_) => false,
     }
 }
 
@@ -154,12 +153,14 @@ const WITHOUT_C: &[(ParamNo, ValueNo)] = &[(0, 0), (1, 0)];
 // The plain cost of the values of B and C is 3: the row, the first value of A and the second one.
 #[test]
 fn completes_a_row_within_its_budget(rt: HostRuntime) {
-    assert!(rt; answers(rt.alloc(), WITHOUT_A, 2, 3) == Some((Answer::Spent, Answer::Yes)));
-    assert!(rt; completes_to(rt.alloc(), WITHOUT_A, 3, [1, 0, 1]));
+    let extends = Question::Extends((2, Answer::Spent), (3, Answer::Yes));
+    assert!(rt; says(rt.alloc(), WITHOUT_A, extends));
+    assert!(rt; says(rt.alloc(), WITHOUT_A, Question::Completes(3, [1, 0, 1])));
 }
 
 // No value of C is live with the first value of A, so the search visits one node.
 #[test]
 fn looks_one_value_ahead(rt: HostRuntime) {
-    assert!(rt; answers(rt.alloc(), WITHOUT_C, 0, 1) == Some((Answer::Spent, Answer::No)));
+    let extends = Question::Extends((0, Answer::Spent), (1, Answer::No));
+    assert!(rt; says(rt.alloc(), WITHOUT_C, extends));
 }

@@ -1,12 +1,10 @@
 //! The texts of suspicious tuples.
-ghost use Rattle.std.specs.Prelude.{◌≤◌};
 
-use crate::results::results_of;
+use crate::results::{model_at, results_of};
+use cov_model::TestModel;
 use outside_io::{MemSink, WriteAnswer};
 use std::alloc::Global;
-use std::test::Fail;
-use suspect_tuples::{put_suspects, suspects};
-use test_models::{options, read};
+use suspect_tuples::{Suspects, put_suspects, suspects};
 
 // Three parameters of two values each.
 const TRIPLE: &str = "A: 1, 2\nB: x, y\nC: u, v\n";
@@ -95,30 +93,53 @@ const TEXTS: &[(&str, u32, &[u8], &str)] = &[
     ),
 ];
 
-// The text of the suspicious tuples of a file of results, where nothing is refused.
-pub(crate) fn text_of(alloc: Global, text: &str, order: u32, file: &[u8]) -> Option<MemSink>
-    requires { 1 ≤ order }
-{
-    let (model, _) = read(alloc, text, &options(order)).ok()?;
-    let results = results_of(alloc, &model, file).ok()?;
-    let found = suspects(alloc, &model, &results).ok()?;
-    let mut out = MemSink::up_to(alloc, 1000).ok()?;
-    match put_suspects(&found, &mut out) {
-        WriteAnswer::Done => Some(out),
-        WriteAnswer::Failed => None,
+// The suspicious tuples of a file of results; nothing where it is refused, or memory was.
+fn suspects_of(alloc: Global, model: &TestModel, file: &[u8]) -> Option<Suspects> {
+    let Ok(results) = results_of(alloc, model, file) else {
+        return None;
+    };
+    match suspects(alloc, model, &results) {
+        Ok(found) => Some(found),
+        Err(_) => None,
+    }
+}
+
+// Whether suspicious tuples are written as this text; `false` too where memory was refused.
+fn are_written(alloc: Global, found: &Suspects, text: &str) -> bool {
+    match MemSink::up_to(alloc, 1000) {
+        Ok(mut out) => {
+            put_suspects(found, &mut out) == WriteAnswer::Done && out.bytes() == text.as_bytes()
+        }
+        Err(_) => false,
+    }
+}
+
+// Whether this is the text of the suspicious tuples of a file of results.
+fn is_text(alloc: Global, model: &TestModel, file: &[u8], text: &str) -> bool {
+    match suspects_of(alloc, model, file) {
+        Some(found) => are_written(alloc, &found, text),
+        None => false,
+    }
+}
+
+// The same under the model of a text.
+pub(crate) fn is_text_under(
+    alloc: Global,
+    model: &str,
+    order: u32,
+    file: &[u8],
+    text: &str,
+) -> bool {
+    match model_at(alloc, model, order, true) {
+        Some(model) => is_text(alloc, &model, file, text),
+        None => false,
     }
 }
 
 #[test]
-fn lists_suspicious_tuples(rt: HostRuntime) -> Result<(), Fail> {
-    for (model, order, file, expected) in TEXTS {
-        if *order == 0 {
-            Err("an order is at least 1")?;
-        }
-        match text_of(rt.alloc(), model, *order, file) {
-            Some(out) => assert!(rt; out.bytes() == expected.as_bytes(), "{expected}"),
-            None => Err("it was refused")?,
-        }
+fn lists_suspicious_tuples(rt: HostRuntime) {
+    for (model, order, file, text) in TEXTS {
+        let is_text = is_text_under(rt.alloc(), model, *order, file, text);
+        assert!(rt; is_text, "{text}");
     }
-    Ok(())
 }

@@ -1,11 +1,12 @@
 //! Files of results that are refused, and notes on those that aren't.
 
-use crate::results::results_of;
+use crate::results::{model_at, results_of};
+use cov_model::TestModel;
 use model_lex::NoteCode;
 use row_text::RowsFault;
-use std::test::Fail;
+use std::alloc::Global;
 use suspect_tuples::{ResultFile, ResultsFault};
-use test_models::{model_of, options, read};
+use test_models::model_of;
 
 // Two parameters of two values each.
 const PAIR: &str = "A: 1, 2\nB: x, y\n";
@@ -39,32 +40,52 @@ const REFUSALS: &[(&[u8], ResultsFault)] = &[
     ),
 ];
 
-#[test]
-fn refuses_files(rt: HostRuntime) -> Result<(), Fail> {
-    let model = model_of(rt.alloc(), PAIR)?;
-    for (bytes, fault) in REFUSALS {
-        match results_of(rt.alloc(), &model, bytes) {
-            Ok(_) => Err("it was accepted")?,
-            Err(found) => assert!(rt; found == *fault, "{found:?}"),
-        }
+// Whether a file of results is refused by this fault.
+fn is_fault(alloc: Global, model: &TestModel, bytes: &[u8], fault: ResultsFault) -> bool {
+    match results_of(alloc, model, bytes) {
+        Ok(_) => false,
+        Err(found) => found == fault,
     }
-    Ok(())
+}
+
+// The same under the model of the pair; `false` too where memory was refused.
+fn refuses(alloc: Global, bytes: &[u8], fault: ResultsFault) -> bool {
+    match model_of(alloc, PAIR) {
+        Ok(model) => is_fault(alloc, &model, bytes, fault),
+        Err(_) => false,
+    }
 }
 
 #[test]
-fn counts_case_of_the_header_alone(rt: HostRuntime) -> Result<(), Fail> {
-    let mut exact = options(2);
-    exact.fold = false;
-    let (model, _) = read(rt.alloc(), PAIR, &exact)?;
-    match results_of(rt.alloc(), &model, b"A\tB\t:Result\n1\tx\tpass\n") {
-        Ok(_) => Err("another case was accepted")?,
-        Err(found) => assert!(rt; found == ResultsFault::NoResult),
+fn refuses_files(rt: HostRuntime) {
+    for (bytes, fault) in REFUSALS {
+        assert!(rt; refuses(rt.alloc(), bytes, *fault), "{fault:?}");
     }
-    match results_of(rt.alloc(), &model, b"A\tB\t:result\n1\tx\tFail\n") {
-        Ok(results) => assert!(rt; results.failed.get(0) == Some(&true)),
-        Err(_) => Err("it was refused")?,
+}
+
+// Whether the first test of a file of results failed; `false` too where the file is refused.
+fn failed_first(alloc: Global, model: &TestModel, bytes: &[u8]) -> bool {
+    match results_of(alloc, model, bytes) {
+        Ok(results) => results.failed.get(0) == Some(&true),
+        Err(_) => false,
     }
-    Ok(())
+}
+
+// Whether case counts in the header alone; `false` too where memory was refused.
+fn counts_case_of_header(alloc: Global) -> bool {
+    match model_at(alloc, PAIR, 2, false) {
+        Some(model) => {
+            let other = b"A\tB\t:Result\n1\tx\tpass\n";
+            is_fault(alloc, &model, other, ResultsFault::NoResult)
+                && failed_first(alloc, &model, b"A\tB\t:result\n1\tx\tFail\n")
+        }
+        None => false,
+    }
+}
+
+#[test]
+fn counts_case_of_the_header_alone(rt: HostRuntime) {
+    assert!(rt; counts_case_of_header(rt.alloc()));
 }
 
 // A file of results and the lines of the notes on it, each of an unknown column.
@@ -77,19 +98,36 @@ const NOTED: &[(&[u8], &[u32])] = &[
 // Whether the first test passed, and the notes are of unknown columns on these lines.
 fn has_notes(results: &ResultFile, lines: &[u32]) -> bool {
     let notes = results.rows.notes.as_slice();
-    let noted = notes.iter().zip(lines).all(|(note, line)| note.line == *line
-        && note.code == NoteCode::UnknownColumn);
-    notes.len() == lines.len() && noted && results.failed.get(0) == Some(&false)
+    if notes.len() != lines.len() {
+        return false;
+    }
+    for (note, line) in notes.iter().zip(lines) {
+        if note.line != *line || note.code != NoteCode::UnknownColumn {
+            return false;
+        }
+    }
+    results.failed.get(0) == Some(&false)
+}
+
+// The same of a file of results under a model.
+fn has_notes_under(alloc: Global, model: &TestModel, bytes: &[u8], lines: &[u32]) -> bool {
+    match results_of(alloc, model, bytes) {
+        Ok(results) => has_notes(&results, lines),
+        Err(_) => false,
+    }
+}
+
+// The same under the model of the pair; `false` too where memory was refused.
+fn notes(alloc: Global, bytes: &[u8], lines: &[u32]) -> bool {
+    match model_of(alloc, PAIR) {
+        Ok(model) => has_notes_under(alloc, &model, bytes, lines),
+        Err(_) => false,
+    }
 }
 
 #[test]
-fn notes_other_columns(rt: HostRuntime) -> Result<(), Fail> {
-    let model = model_of(rt.alloc(), PAIR)?;
+fn notes_other_columns(rt: HostRuntime) {
     for (bytes, lines) in NOTED {
-        match results_of(rt.alloc(), &model, bytes) {
-            Ok(results) => assert!(rt; has_notes(&results, lines)),
-            Err(_) => Err("it was refused")?,
-        }
+        assert!(rt; notes(rt.alloc(), bytes, lines));
     }
-    Ok(())
 }
