@@ -4,7 +4,6 @@ use crate::runs::{ACCEPTED, FILES, Given, MODEL, PROOF, REPORT, ends_as, on_file
 use outside_io::{FileHeld, FileList, SureFolder, SureSink};
 use proof_check::run_check_without_faults;
 use std::alloc::Global;
-use std::test::Fail;
 use std::thread::Threads;
 use test_runs::words_of;
 use value_text::{NoMemory, OwnedList, Text};
@@ -16,14 +15,19 @@ const READS: &[(&[u64], &str)] = &[
     (&[3], "error: cannot read p\n"),
 ];
 
+// Whether a run on the three files, where these calls fail, ends with status 7, and tells this.
+fn is_named<R: Threads + Sync>(rt: &R, alloc: Global, fail: &[u64], line: &str) -> bool {
+    let given = Given {
+        fail,
+        ..on_files(FILES)
+    };
+    ends_as(rt, alloc, &given, 7, "", line)
+}
+
 #[test]
 fn names_the_file_that_cannot_be_read(rt: HostRuntime) {
     for (fail, line) in READS {
-        let given = Given {
-            fail,
-            ..on_files(FILES)
-        };
-        assert!(rt; ends_as(&rt, rt.alloc(), &given, 7, "", line), "{line}");
+        assert!(rt; is_named(&rt, rt.alloc(), fail, line), "{line}");
     }
 }
 
@@ -80,32 +84,43 @@ fn a_fault_of_standard_error_changes_nothing(rt: HostRuntime) {
     assert!(rt; ends_as(&rt, rt.alloc(), &given, 7, "", "error: cann"));
 }
 
+fn bytes_of(alloc: Global, bytes: &[u8]) -> Result<OwnedList<u8>, NoMemory> {
+    let mut list = OwnedList::new(alloc);
+    for byte in bytes {
+        list.push(*byte)?;
+    }
+    Ok(list)
+}
+
 // A folder that never fails, with the model in the file `m`; every other name reads as no bytes.
 fn folder_of(alloc: Global) -> Result<SureFolder, NoMemory> {
-    let mut bytes = OwnedList::new(alloc);
-    for byte in MODEL {
-        bytes.push(*byte)?;
-    }
     let name = Text::copy(alloc, "m")?;
+    let bytes = bytes_of(alloc, MODEL)?;
     let mut files = FileList::new(alloc);
     files.push(FileHeld { name, bytes })?;
     Ok(SureFolder::new(files))
 }
 
-#[test]
-fn refuses_an_empty_report_where_nothing_fails(rt: HostRuntime) -> Result<(), Fail> {
-    let mut folder = folder_of(rt.alloc())?;
+// Whether a run of these words in this folder ends with status 6, prints nothing and tells something.
+fn is_refused_in<R: Threads + Sync>(
+    rt: &R,
+    alloc: Global,
+    words: &[String],
+    folder: &mut SureFolder,
+) -> bool {
     let mut out = SureSink::new();
     let mut told = SureSink::new();
-    let words = words_of(rt.alloc(), &["m", "r", "p"])?;
-    let status = run_check_without_faults(
-        &rt,
-        rt.alloc(),
-        words.as_slice(),
-        &mut folder,
-        &mut out,
-        &mut told,
-    );
-    assert!(rt; status == 6 && out.taken() == 0 && told.taken() > 0);
-    Ok(())
+    let status = run_check_without_faults(rt, alloc, words, folder, &mut out, &mut told);
+    status == 6 && out.taken() == 0 && told.taken() > 0
+}
+
+fn is_refused<R: Threads + Sync>(rt: &R, alloc: Global) -> Result<bool, NoMemory> {
+    let words = words_of(alloc, &["m", "r", "p"])?;
+    let mut folder = folder_of(alloc)?;
+    Ok(is_refused_in(rt, alloc, words.as_slice(), &mut folder))
+}
+
+#[test]
+fn refuses_an_empty_report_where_nothing_fails(rt: HostRuntime) {
+    assert!(rt; is_refused(&rt, rt.alloc()) == Ok(true));
 }

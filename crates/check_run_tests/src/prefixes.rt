@@ -1,8 +1,7 @@
 //! The report and the proof of a model that `pict` makes, whole and cut.
 
-use crate::runs::{ends_as, on_files, run};
+use crate::runs::{ends_on, on_files, run};
 use std::alloc::Global;
-use std::test::Fail;
 use std::thread::Threads;
 use test_models::DISK;
 use test_runs::{Ended, on_model};
@@ -25,8 +24,8 @@ fn says<'a, R: Threads + Sync>(
     status: u8,
     verdict: &str,
 ) -> bool {
-    let files = [("m", DISK.as_bytes()), ("r", report), ("p", proof)];
-    ends_as(rt, alloc, &on_files(&files), status, verdict, "")
+    let end = (status, verdict, "");
+    ends_on(rt, alloc, DISK.as_bytes(), report, proof, end)
 }
 
 // The status with which the checker ends; nothing where memory was refused.
@@ -43,45 +42,46 @@ fn status_of<'a, R: Threads + Sync>(
     }
 }
 
-#[test]
-fn accepts_what_pict_writes(rt: HostRuntime) -> Result<(), Fail> {
-    let made = made(&rt, rt.alloc())?;
-    assert!(rt; made.holds("p", PROOF.as_bytes()));
-    let report = made.written.bytes();
-    let rows = str::from_utf8(report)?.lines().skip(1).count();
-    let line = format!(in rt.alloc(); "accepted: {rows} rows, 4 omissions\n")?;
-    assert!(rt; says(&rt, rt.alloc(), report, PROOF.as_bytes(), 0, line.as_str()));
-    Ok(())
+// Whether the checker accepts so many rows and the proof.
+fn accepts_rows<R: Threads + Sync>(rt: &R, alloc: Global, report: &[u8], rows: usize) -> bool {
+    match format!(in alloc; "accepted: {rows} rows, 4 omissions\n") {
+        Ok(line) => says(rt, alloc, report, PROOF.as_bytes(), 0, line.as_str()),
+        Err(_) => false,
+    }
 }
 
-#[test]
-fn refuses_another_leaf(rt: HostRuntime) -> Result<(), Fail> {
-    let made = made(&rt, rt.alloc())?;
-    let proof =
-        b"pict-proof 1\nomit 1=4 3=0 : L2\nomit 1=5 3=0 : L1\nomit 1=6 3=0 : L1\nomit 1=6 3=1 : L2\n";
+fn accepts<R: Threads + Sync>(rt: &R, alloc: Global, report: &[u8]) -> bool {
+    match str::from_utf8(report) {
+        Ok(text) => accepts_rows(rt, alloc, report, text.lines().skip(1).count()),
+        Err(_) => false,
+    }
+}
+
+const OTHER_LEAF: &[u8] =
+    b"pict-proof 1\nomit 1=4 3=0 : L2\nomit 1=5 3=0 : L1\nomit 1=6 3=0 : L1\nomit 1=6 3=1 : L2\n";
+
+fn refuses_other_leaf<R: Threads + Sync>(rt: &R, alloc: Global, report: &[u8]) -> bool {
     let line = "refused: proof line 2: the tree does not refute the tuple\n";
-    assert!(rt; says(&rt, rt.alloc(), made.written.bytes(), proof, 10, line));
-    Ok(())
+    says(rt, alloc, report, OTHER_LEAF, 10, line)
 }
 
-#[test]
-fn refuses_each_prefix_of_the_proof(rt: HostRuntime) -> Result<(), Fail> {
-    let made = made(&rt, rt.alloc())?;
+// Whether the report is refused with each prefix of the proof.
+fn refuses_proofs<R: Threads + Sync>(rt: &R, alloc: Global, report: &[u8]) -> bool {
     let proof = PROOF.as_bytes();
     for length in 0..proof.len() {
-        let status = status_of(&rt, rt.alloc(), made.written.bytes(), &proof[..length]);
-        assert!(rt; status == Some(10), "{length}");
+        if status_of(rt, alloc, report, &proof[..length]) != Some(10) {
+            return false;
+        }
     }
-    Ok(())
+    true
 }
 
-#[test]
-fn names_the_line_that_is_cut(rt: HostRuntime) -> Result<(), Fail> {
-    let made = made(&rt, rt.alloc())?;
-    let (_last, cut) = PROOF.as_bytes().split_last().ok_or("the proof has bytes")?;
+fn names_cut_line<R: Threads + Sync>(rt: &R, alloc: Global, report: &[u8]) -> bool {
     let line = "refused: proof line 5: not a proof line\n";
-    assert!(rt; says(&rt, rt.alloc(), made.written.bytes(), cut, 10, line));
-    Ok(())
+    match PROOF.as_bytes().split_last() {
+        Some((_last, cut)) => says(rt, alloc, report, cut, 10, line),
+        None => false,
+    }
 }
 
 // Whether a prefix of this length ends inside a line: neither before a line feed nor behind one.
@@ -100,56 +100,99 @@ fn refuses<R: Threads + Sync>(rt: &R, alloc: Global, report: &[u8], length: usiz
 
 // Whether none of the prefixes of the report is accepted that end inside a line and whose length leaves this rest
 // when divided by four.
-fn refuses_prefixes<R: Threads + Sync>(
-    rt: &R,
-    alloc: Global,
-    rest: usize,
-) -> Result<bool, NoMemory> {
-    let made = made(rt, alloc)?;
-    let report = made.written.bytes();
+fn refuses_prefixes<R: Threads + Sync>(rt: &R, alloc: Global, report: &[u8], rest: usize) -> bool {
     for length in (rest..report.len()).step_by(4) {
         if ends_inside(report, length) && !refuses(rt, alloc, report, length) {
-            return Ok(false);
+            return false;
         }
     }
-    Ok(true)
+    true
+}
+
+// Whether the report is accepted without its last byte.
+fn accepts_cut<R: Threads + Sync>(rt: &R, alloc: Global, report: &[u8]) -> bool {
+    match report.split_last() {
+        Some((_last, cut)) => status_of(rt, alloc, cut, PROOF.as_bytes()) == Some(0),
+        None => false,
+    }
+}
+
+// What is shown of the report.
+#[derive(Clone, Copy)]
+enum Shown {
+    Accepted,
+    OtherLeaf,
+    CutProofs,
+    CutLine,
+    CutReports(usize),
+    CutEnd,
+}
+
+fn is_so<R: Threads + Sync>(rt: &R, alloc: Global, report: &[u8], shown: Shown) -> bool {
+    match shown {
+        Shown::Accepted => accepts(rt, alloc, report),
+        Shown::OtherLeaf => refuses_other_leaf(rt, alloc, report),
+        Shown::CutProofs => refuses_proofs(rt, alloc, report),
+        Shown::CutLine => names_cut_line(rt, alloc, report),
+        Shown::CutReports(rest) => refuses_prefixes(rt, alloc, report, rest),
+        Shown::CutEnd => accepts_cut(rt, alloc, report),
+    }
+}
+
+// Whether `pict` writes the proof, and this is so of its report.
+fn is_so_of_made<R: Threads + Sync>(rt: &R, alloc: Global, shown: Shown) -> bool {
+    match made(rt, alloc) {
+        Ok(made) => {
+            made.holds("p", PROOF.as_bytes()) && is_so(rt, alloc, made.written.bytes(), shown)
+        }
+        Err(NoMemory) => false,
+    }
 }
 
 #[test]
-fn accepts_no_report_that_ends_inside_a_line(rt: HostRuntime) -> Result<(), Fail> {
-    assert!(rt; refuses_prefixes(&rt, rt.alloc(), 0)?);
-    Ok(())
+fn accepts_what_pict_writes(rt: HostRuntime) {
+    assert!(rt; is_so_of_made(&rt, rt.alloc(), Shown::Accepted));
 }
 
 #[test]
-fn accepts_none_of_one_byte_more(rt: HostRuntime) -> Result<(), Fail> {
-    assert!(rt; refuses_prefixes(&rt, rt.alloc(), 1)?);
-    Ok(())
+fn refuses_another_leaf(rt: HostRuntime) {
+    assert!(rt; is_so_of_made(&rt, rt.alloc(), Shown::OtherLeaf));
 }
 
 #[test]
-fn accepts_none_of_two_bytes_more(rt: HostRuntime) -> Result<(), Fail> {
-    assert!(rt; refuses_prefixes(&rt, rt.alloc(), 2)?);
-    Ok(())
+fn refuses_each_prefix_of_the_proof(rt: HostRuntime) {
+    assert!(rt; is_so_of_made(&rt, rt.alloc(), Shown::CutProofs));
 }
 
 #[test]
-fn accepts_none_of_three_bytes_more(rt: HostRuntime) -> Result<(), Fail> {
-    assert!(rt; refuses_prefixes(&rt, rt.alloc(), 3)?);
-    Ok(())
+fn names_the_line_that_is_cut(rt: HostRuntime) {
+    assert!(rt; is_so_of_made(&rt, rt.alloc(), Shown::CutLine));
+}
+
+#[test]
+fn accepts_no_report_that_ends_inside_a_line(rt: HostRuntime) {
+    assert!(rt; is_so_of_made(&rt, rt.alloc(), Shown::CutReports(0)));
+}
+
+#[test]
+fn accepts_none_of_one_byte_more(rt: HostRuntime) {
+    assert!(rt; is_so_of_made(&rt, rt.alloc(), Shown::CutReports(1)));
+}
+
+#[test]
+fn accepts_none_of_two_bytes_more(rt: HostRuntime) {
+    assert!(rt; is_so_of_made(&rt, rt.alloc(), Shown::CutReports(2)));
+}
+
+#[test]
+fn accepts_none_of_three_bytes_more(rt: HostRuntime) {
+    assert!(rt; is_so_of_made(&rt, rt.alloc(), Shown::CutReports(3)));
 }
 
 // A prefix that ends with an earlier line may be accepted, since a row at the end may be needless.
 #[test]
-fn reads_a_report_without_its_last_line_feed(rt: HostRuntime) -> Result<(), Fail> {
-    let made = made(&rt, rt.alloc())?;
-    let (_last, cut) = made
-        .written
-        .bytes()
-        .split_last()
-        .ok_or("the report has bytes")?;
-    assert!(rt; status_of(&rt, rt.alloc(), cut, PROOF.as_bytes()) == Some(0));
-    Ok(())
+fn reads_a_report_without_its_last_line_feed(rt: HostRuntime) {
+    assert!(rt; is_so_of_made(&rt, rt.alloc(), Shown::CutEnd));
 }
 
 #[test]

@@ -1,6 +1,6 @@
 //! Files that have no reading.
 
-use crate::runs::{MODEL, PROOF, REPORT, ends_as, on_files};
+use crate::runs::{MODEL, PROOF, REPORT, ends_on};
 
 // A model, a report, and the status and the line on standard error.
 const REFUSALS: &[(&[u8], &[u8], u8, &str)] = &[
@@ -36,22 +36,17 @@ const REFUSALS: &[(&[u8], &[u8], u8, &str)] = &[
 #[test]
 fn tells_the_first_cause(rt: HostRuntime) {
     for (model, report, status, line) in REFUSALS {
-        let files = [("m", *model), ("r", *report), ("p", PROOF)];
-        assert!(rt;
-            ends_as(&rt, rt.alloc(), &on_files(&files), *status, "", line),
-            "{line}"
-        );
+        let end = (*status, "", *line);
+        let is_told = ends_on(&rt, rt.alloc(), model, report, PROOF, end);
+        assert!(rt; is_told, "{line}");
     }
 }
 
 // Notes aren't told: a value name that is dropped, and a column that no parameter has.
 #[test]
 fn tells_no_notes(rt: HostRuntime) {
-    let files: [(&str, &[u8]); 3] = [
-        ("m", b"A: 1, 2, 1\nB: x, y\nIF [A] = 1 THEN [B] = \"x\";\n"),
-        ("r", b"A\tB\tZ\n1\tx\tq\n2\tx\tq\n2\ty\tq\n"),
-        ("p", PROOF),
-    ];
-    let line = "accepted: 3 rows, 1 omissions\n";
-    assert!(rt; ends_as(&rt, rt.alloc(), &on_files(&files), 0, line, ""));
+    let model = b"A: 1, 2, 1\nB: x, y\nIF [A] = 1 THEN [B] = \"x\";\n";
+    let report = b"A\tB\tZ\n1\tx\tq\n2\tx\tq\n2\ty\tq\n";
+    let end = (0, "accepted: 3 rows, 1 omissions\n", "");
+    assert!(rt; ends_on(&rt, rt.alloc(), model, report, PROOF, end));
 }

@@ -45,11 +45,16 @@ pub fn on_files<'a>(files: &'a [(&'a str, &'a [u8])]) -> Given<'a> {
     }
 }
 
-fn folder_of(alloc: Global, given: &Given) -> Result<MemFolder, NoMemory> {
-    let mut folder = MemFolder::new(alloc, calls_of(alloc, given.fail)?);
-    for (name, bytes) in given.files {
+fn add_files(files: &[(&str, &[u8])], folder: &mut MemFolder) -> Result<(), NoMemory> {
+    for (name, bytes) in files {
         folder.add(name, bytes)?;
     }
+    Ok(())
+}
+
+fn folder_of(alloc: Global, given: &Given) -> Result<MemFolder, NoMemory> {
+    let mut folder = MemFolder::new(alloc, calls_of(alloc, given.fail)?);
+    add_files(given.files, &mut folder)?;
     Ok(folder)
 }
 
@@ -73,6 +78,24 @@ impl Ended {
     }
 }
 
+// Runs `pictcheck` in this folder.
+fn run_in<R: Threads + Sync>(
+    rt: &R,
+    alloc: Global,
+    words: &[String],
+    files: &mut MemFolder,
+    room: (usize, usize),
+) -> Result<Ended, NoMemory> {
+    let mut written = MemSink::up_to(alloc, room.0)?;
+    let mut told = MemSink::up_to(alloc, room.1)?;
+    let status = run_check(rt, alloc, words, files, &mut written, &mut told);
+    Ok(Ended {
+        status,
+        written,
+        told,
+    })
+}
+
 /// Runs `pictcheck`.
 ///
 /// # Errors
@@ -81,21 +104,7 @@ impl Ended {
 pub fn run<R: Threads + Sync>(rt: &R, alloc: Global, given: &Given) -> Result<Ended, NoMemory> {
     let words = words_of(alloc, given.words)?;
     let mut files = folder_of(alloc, given)?;
-    let mut written = MemSink::up_to(alloc, given.room.0)?;
-    let mut told = MemSink::up_to(alloc, given.room.1)?;
-    let status = run_check(
-        rt,
-        alloc,
-        words.as_slice(),
-        &mut files,
-        &mut written,
-        &mut told,
-    );
-    Ok(Ended {
-        status,
-        written,
-        told,
-    })
+    run_in(rt, alloc, words.as_slice(), &mut files, given.room)
 }
 
 /// Whether a run ends with this status, and the two streams get these texts. `false` too where `run` gives
@@ -112,6 +121,19 @@ pub fn ends_as<R: Threads + Sync>(
         Ok(ended) => ended.is(status, written, told),
         Err(NoMemory) => false,
     }
+}
+
+/// Whether a run on a model, a report and a proof ends so.
+pub fn ends_on<'a, R: Threads + Sync>(
+    rt: &R,
+    alloc: Global,
+    model: &'a [u8],
+    report: &'a [u8],
+    proof: &'a [u8],
+    end: (u8, &str, &str),
+) -> bool {
+    let files = [("m", model), ("r", report), ("p", proof)];
+    ends_as(rt, alloc, &on_files(&files), end.0, end.1, end.2)
 }
 
 /// Whether a run with these words on the model, its report and its proof ends so.

@@ -1,6 +1,6 @@
 //! Verdicts on reports and proofs.
 
-use crate::runs::{ACCEPTED, Given, MODEL, PROOF, REPORT, ends_as, on_files};
+use crate::runs::{ACCEPTED, Given, MODEL, PROOF, REPORT, ends_as, ends_on, on_files};
 
 // A model in which the first value of A goes with no row, and a parameter that no constraint names.
 const TWIN: &[u8] = b"A: 1, 2\nB: 1, 2\nC: 1, 2\nD: 1, 2\n\
@@ -83,11 +83,9 @@ const VERDICTS: &[(&[u8], &[u8], &[u8], u8, &str)] = &[
 #[test]
 fn says_what_is_wrong(rt: HostRuntime) {
     for (model, report, proof, status, line) in VERDICTS {
-        let files = [("m", *model), ("r", *report), ("p", *proof)];
-        assert!(rt;
-            ends_as(&rt, rt.alloc(), &on_files(&files), *status, line, ""),
-            "{line}"
-        );
+        let end = (*status, *line, "");
+        let is_said = ends_on(&rt, rt.alloc(), model, report, proof, end);
+        assert!(rt; is_said, "{line}");
     }
 }
 

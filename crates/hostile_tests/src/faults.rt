@@ -3,7 +3,6 @@
 use outside_io::{FileHeld, FileList, SureFolder, SureSink};
 use pict_cli::run_pict_without_faults;
 use std::alloc::Global;
-use std::test::Fail;
 use std::thread::Threads;
 use test_runs::{Given, ends_as, on_model, words_of};
 use value_text::{NoMemory, OwnedList, Text};
@@ -40,7 +39,17 @@ fn keeps_what_fits_of_the_report(rt: HostRuntime) {
 
 // The name of the one file, the calls of the folder that fail, how many bytes fit into standard error,
 // the words, and the status, the report and the line.
-const FAULTS: &[(&str, &[u64], usize, &[&str], u8, &str, &str)] = &[
+type Fault<'a> = (
+    &'a str,
+    &'a [u64],
+    usize,
+    &'a [&'a str],
+    u8,
+    &'a str,
+    &'a str,
+);
+
+const FAULTS: &[Fault<'static>] = &[
     ("m", &[1], 100, &["m"], 7, "", "error: cannot read m\n"),
     ("n", &[], 100, &["m"], 7, "", "error: cannot read m\n"),
     (
@@ -67,49 +76,61 @@ const FAULTS: &[(&str, &[u64], usize, &[&str], u8, &str, &str)] = &[
     ("m", &[], 0, &["m"], 0, REPORT, ""),
 ];
 
+fn ends_so<R: Threads + Sync>(rt: &R, alloc: Global, fault: &Fault) -> bool {
+    let (name, fail, room, words, status, report, line) = fault;
+    let given = Given {
+        name,
+        fail,
+        room: (100, *room),
+        ..on_model(words, MODEL.as_bytes())
+    };
+    ends_as(rt, alloc, &given, *status, report, line)
+}
+
 #[test]
 fn ends_with_the_status_of_a_fault(rt: HostRuntime) {
-    for (name, fail, room, words, status, report, line) in FAULTS {
-        let given = Given {
-            name,
-            fail,
-            room: (100, *room),
-            ..on_model(words, MODEL.as_bytes())
-        };
-        assert!(rt;
-            ends_as(&rt, rt.alloc(), &given, *status, report, line),
-            "{status} {line}"
-        );
+    for fault in FAULTS {
+        assert!(rt; ends_so(&rt, rt.alloc(), fault), "{} {}", fault.4, fault.6);
     }
+}
+
+fn bytes_of(alloc: Global, text: &str) -> Result<OwnedList<u8>, NoMemory> {
+    let mut bytes = OwnedList::new(alloc);
+    for byte in text.as_bytes() {
+        bytes.push(*byte)?;
+    }
+    Ok(bytes)
 }
 
 // A folder that never fails, with the model in the file `m`.
 fn folder_of(alloc: Global) -> Result<SureFolder, NoMemory> {
-    let mut bytes = OwnedList::new(alloc);
-    for byte in MODEL.as_bytes() {
-        bytes.push(*byte)?;
-    }
     let name = Text::copy(alloc, "m")?;
+    let bytes = bytes_of(alloc, MODEL)?;
     let mut files = FileList::new(alloc);
     files.push(FileHeld { name, bytes })?;
     Ok(SureFolder::new(files))
 }
 
-#[test]
-fn runs_where_nothing_fails(rt: HostRuntime) -> Result<(), Fail> {
-    let mut folder = folder_of(rt.alloc())?;
+// Whether a run of these words in this folder ends with status 0, prints 20 bytes and tells nothing.
+fn runs_in<R: Threads + Sync>(
+    rt: &R,
+    alloc: Global,
+    words: &[String],
+    folder: &mut SureFolder,
+) -> bool {
     let mut out = SureSink::new();
     let mut told = SureSink::new();
-    let words = words_of(rt.alloc(), &["m"])?;
-    let status = run_pict_without_faults(
-        &rt,
-        rt.alloc(),
-        words.as_slice(),
-        &mut folder,
-        &mut out,
-        &mut told,
-        5,
-    );
-    assert!(rt; status == 0 && out.taken() == 20 && told.taken() == 0);
-    Ok(())
+    let status = run_pict_without_faults(rt, alloc, words, folder, &mut out, &mut told, 5);
+    status == 0 && out.taken() == 20 && told.taken() == 0
+}
+
+fn runs<R: Threads + Sync>(rt: &R, alloc: Global) -> Result<bool, NoMemory> {
+    let words = words_of(alloc, &["m"])?;
+    let mut folder = folder_of(alloc)?;
+    Ok(runs_in(rt, alloc, words.as_slice(), &mut folder))
+}
+
+#[test]
+fn runs_where_nothing_fails(rt: HostRuntime) {
+    assert!(rt; runs(&rt, rt.alloc()) == Ok(true));
 }

@@ -1,7 +1,8 @@
 //! Model files that are refused, each by one line.
 
+use crate::limits::push_times;
 use std::alloc::{AllocError, Global};
-use std::test::Fail;
+use std::thread::Threads;
 use test_runs::{ends_as, on_model};
 
 // A model file, and the status and the line by which it is refused.
@@ -214,34 +215,46 @@ const REFUSALS: &[(&[u8], u8, &str)] = &[
     ),
 ];
 
+// Whether a run on a model ends with this status, and tells this alone.
+fn is_refused<R: Threads + Sync>(
+    rt: &R,
+    alloc: Global,
+    model: &[u8],
+    status: u8,
+    line: &str,
+) -> bool {
+    ends_as(rt, alloc, &on_model(&["m"], model), status, "", line)
+}
+
 #[test]
 fn refuses_model_files(rt: HostRuntime) {
     for (model, status, line) in REFUSALS {
-        let given = on_model(&["m"], model);
-        assert!(rt;
-            ends_as(&rt, rt.alloc(), &given, *status, "", line),
-            "{line}"
-        );
+        assert!(rt; is_refused(&rt, rt.alloc(), model, *status, line), "{line}");
     }
 }
 
 // A constraint behind 64 times NOT.
 fn nested(alloc: Global, last: &str) -> Result<String, AllocError> {
     let mut model = String::from_str(alloc, "A: 1, 2\nB: x, y\n")?;
-    for _ in 0..64 {
-        model.push_str("NOT ")?;
-    }
+    push_times(&mut model, "NOT ", 64)?;
     model.push_str(last)?;
     Ok(model)
 }
 
-#[test]
-fn refuses_what_is_nested_too_deeply(rt: HostRuntime) -> Result<(), Fail> {
+// Whether such a model is refused.
+fn is_too_deep<R: Threads + Sync>(rt: &R, alloc: Global, last: &str) -> bool {
     let line = "error: model line 3: C11 nested too deeply\n";
-    for last in ["NOT [A] = 1;\n", "[A] NOT IN {1};\n"] {
-        let model = nested(rt.alloc(), last)?;
-        let given = on_model(&["m"], model.as_bytes());
-        assert!(rt; ends_as(&rt, rt.alloc(), &given, 5, "", line), "{last}");
+    match nested(alloc, last) {
+        Ok(model) => is_refused(rt, alloc, model.as_bytes(), 5, line),
+        Err(AllocError) => false,
     }
-    Ok(())
+}
+
+const DEEP: &[&str] = &["NOT [A] = 1;\n", "[A] NOT IN {1};\n"];
+
+#[test]
+fn refuses_what_is_nested_too_deeply(rt: HostRuntime) {
+    for last in DEEP {
+        assert!(rt; is_too_deep(&rt, rt.alloc(), last), "{last}");
+    }
 }

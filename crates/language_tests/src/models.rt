@@ -3,10 +3,9 @@
 ghost use Rattle.model_parse.specs.RawModels.{AreOpts};
 
 use cov_model::{Group, Param, TestModel, Value};
-use model_lex::{Marks, ModelOpts, NoteList, OrderWord, split_model};
-use model_parse::parse_params;
+use model_lex::{Marks, ModelFault, ModelOpts, NoteList, OrderWord, split_model};
+use model_parse::{RawModel, parse_params};
 use std::alloc::{AllocError, Global};
-use std::test::Fail;
 use test_models::{options, read};
 
 // ` ~a|b(5)` for a negative value a with the alias b and the weight 5.
@@ -40,25 +39,49 @@ fn show_group(alloc: Global, group: &Group, into: &mut String) -> Result<(), All
     into.push_str(format!(in alloc; "@ {}\n", group.order)?.as_str())
 }
 
+fn show_groups(alloc: Global, groups: &[Group], into: &mut String) -> Result<(), AllocError> {
+    for group in groups {
+        show_group(alloc, group, into)?;
+    }
+    Ok(())
+}
+
 // The parameters, the order, the sub-models, behind `and` the relations, and the lines of the notes.
-fn show(alloc: Global, model: &TestModel, notes: &NoteList) -> Result<String, AllocError> {
-    let mut text = String::new(alloc);
+fn show(
+    alloc: Global,
+    model: &TestModel,
+    notes: &NoteList,
+    into: &mut String,
+) -> Result<(), AllocError> {
     for param in model.params().as_slice() {
-        show_param(alloc, param, &mut text)?;
+        show_param(alloc, param, into)?;
     }
     let demand = model.demand();
-    text.push_str(format!(in alloc; "order {}\n", demand.order)?.as_str())?;
-    for group in demand.subs.as_slice() {
-        show_group(alloc, group, &mut text)?;
-    }
-    text.push_str("and\n")?;
-    for group in demand.relations.as_slice() {
-        show_group(alloc, group, &mut text)?;
-    }
+    into.push_str(format!(in alloc; "order {}\n", demand.order)?.as_str())?;
+    show_groups(alloc, demand.subs.as_slice(), into)?;
+    into.push_str("and\n")?;
+    show_groups(alloc, demand.relations.as_slice(), into)?;
     for note in notes.as_slice() {
-        text.push_str(format!(in alloc; "note {}\n", note.line)?.as_str())?;
+        into.push_str(format!(in alloc; "note {}\n", note.line)?.as_str())?;
     }
-    Ok(text)
+    Ok(())
+}
+
+// Whether a model and its notes are shown so.
+fn are_shown(alloc: Global, model: &TestModel, notes: &NoteList, shown: &str) -> bool {
+    let mut text = String::new(alloc);
+    match show(alloc, model, notes, &mut text) {
+        Ok(()) => text.as_str() == shown,
+        Err(AllocError) => false,
+    }
+}
+
+// Whether the model of a file is shown so.
+fn is_shown(alloc: Global, file: &str, shown: &str) -> bool {
+    match read(alloc, file, &options(2)) {
+        Ok((model, notes)) => are_shown(alloc, &model, &notes, shown),
+        Err(_) => false,
+    }
 }
 
 const MODELS: &[(&str, &str)] = &[
@@ -94,15 +117,10 @@ const MODELS: &[(&str, &str)] = &[
 ];
 
 #[test]
-fn reads_models(rt: HostRuntime) -> Result<(), Fail> {
+fn reads_models(rt: HostRuntime) {
     for (file, shown) in MODELS {
-        let (model, notes) = read(rt.alloc(), file, &options(2))?;
-        assert!(rt;
-            show(rt.alloc(), &model, &notes)?.as_str() == *shown,
-            "{file}"
-        );
+        assert!(rt; is_shown(rt.alloc(), file, shown), "{file}");
     }
-    Ok(())
 }
 
 // Other marks, all parameters at once, and letters of either case are two.
@@ -120,20 +138,41 @@ fn other_options() -> ModelOpts
     }
 }
 
-#[test]
-fn reads_by_other_marks(rt: HostRuntime) -> Result<(), Fail> {
-    let file = "A: 1; 2,5\nB: a;A;!b/~c\n{ A; B }";
-    let (model, notes) = read(rt.alloc(), file, &other_options())?;
-    let shown = "1A: 1 2,5\n2B: a A ~b|~c\norder 2\n0 1 @ 2\nand\n";
-    assert!(rt; show(rt.alloc(), &model, &notes)?.as_str() == shown);
-    assert!(rt; model.prefix() == b'!' && !model.fold());
-    Ok(())
+// Whether a file that is read by them is shown so, and its model keeps the prefix and the letters.
+fn is_shown_otherwise(alloc: Global, file: &str, shown: &str) -> bool {
+    match read(alloc, file, &other_options()) {
+        Ok((model, notes)) => {
+            are_shown(alloc, &model, &notes, shown) && model.prefix() == b'!' && !model.fold()
+        }
+        Err(_) => false,
+    }
 }
 
 #[test]
-fn parses_parameters(rt: HostRuntime) -> Result<(), Fail> {
-    let sections = split_model(rt.alloc(), b"A: 1, 2\nB: x, y\n")?;
-    let raw = parse_params(rt.alloc(), &sections, &options(2))?;
-    assert!(rt; raw.params.len() == 2 && raw.demand.order == 2 && raw.notes.is_empty());
-    Ok(())
+fn reads_by_other_marks(rt: HostRuntime) {
+    let file = "A: 1; 2,5\nB: a;A;!b/~c\n{ A; B }";
+    let shown = "1A: 1 2,5\n2B: a A ~b|~c\norder 2\n0 1 @ 2\nand\n";
+    assert!(rt; is_shown_otherwise(rt.alloc(), file, shown));
+}
+
+fn parsed(alloc: Global) -> Result<RawModel, ModelFault> {
+    let sections = split_model(alloc, b"A: 1, 2\nB: x, y\n")?;
+    parse_params(alloc, &sections, &options(2))
+}
+
+fn is_plain(raw: &RawModel) -> bool {
+    raw.params.len() == 2 && raw.demand.order == 2 && raw.notes.is_empty()
+}
+
+// Whether two parameters are parsed, the order, and no note.
+fn is_parsed(alloc: Global) -> bool {
+    match parsed(alloc) {
+        Ok(raw) => is_plain(&raw),
+        Err(_) => false,
+    }
+}
+
+#[test]
+fn parses_parameters(rt: HostRuntime) {
+    assert!(rt; is_parsed(rt.alloc()));
 }

@@ -4,19 +4,25 @@ use model_lex::{LimitName, ModelFault};
 use std::alloc::Global;
 use test_models::{options, read};
 
+fn told(fault: ModelFault) -> (&'static str, u64) {
+    match fault {
+        ModelFault::Bad(diag) | ModelFault::BadRule(diag) => {
+            (diag.code.code(), u64::from(diag.line))
+        }
+        ModelFault::Limit(LimitName::Params, count) => ("parameters", count),
+        ModelFault::Limit(LimitName::Values, count) => ("values", count),
+        ModelFault::Limit(LimitName::Names, count) => ("names", count),
+        ModelFault::Limit(LimitName::Rules, count) => ("constraints", count),
+        ModelFault::NoMemory => ("no memory", 0),
+    }
+}
+
 // How the reading of a file ends: with the code and the line of a refusal, with a limit that is passed and the count,
 // or with a model.
 pub fn end_of(alloc: Global, file: &str) -> (&'static str, u64) {
     match read(alloc, file, &options(2)) {
         Ok(_) => ("a model", 0),
-        Err(ModelFault::Bad(diag) | ModelFault::BadRule(diag)) => {
-            (diag.code.code(), u64::from(diag.line))
-        }
-        Err(ModelFault::Limit(LimitName::Params, count)) => ("parameters", count),
-        Err(ModelFault::Limit(LimitName::Values, count)) => ("values", count),
-        Err(ModelFault::Limit(LimitName::Names, count)) => ("names", count),
-        Err(ModelFault::Limit(LimitName::Rules, count)) => ("constraints", count),
-        Err(ModelFault::NoMemory) => ("no memory", 0),
+        Err(fault) => told(fault),
     }
 }
 

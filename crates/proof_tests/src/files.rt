@@ -1,13 +1,12 @@
 //! Proof files that are written and read back, and lines that are none.
 
 use crate::proofs::proof_of;
-use cov_model::Tuple;
+use cov_model::{TestModel, Tuple};
 use refutation::{
     Omission, Omissions, ProofFault, ProofForm, TreeBuf, TreeToken, format_len, omission_len,
     put_format, put_omission, write_omission,
 };
 use std::alloc::Global;
-use std::test::Fail;
 use test_models::model_of;
 use value_text::NoMemory;
 
@@ -92,75 +91,111 @@ const NO_LINES: &[&str] = &[
 // Citations that are none in format 2 either.
 const NO_CITATIONS: &[&str] = &["O0", "O", "O01", "O4294967296", "O-1", "o1"];
 
-// The text of a proof, each line with its own room.
-fn written(alloc: Global, proof: &Omissions) -> Result<Vec<u8>, NoMemory> {
-    let mut text = Vec::new(alloc);
-    text.reserve(format_len(proof.form()) as usize)?;
-    put_format(proof.form(), &mut text);
+// Adds the text of a proof, each line with its own room.
+fn write(proof: &Omissions, into: &mut Vec<u8>) -> Result<(), NoMemory> {
+    into.reserve(format_len(proof.form()) as usize)?;
+    put_format(proof.form(), into);
     for omission in proof.as_slice() {
-        write_omission(omission, &mut text)?;
+        write_omission(omission, into)?;
     }
-    Ok(text)
+    Ok(())
 }
 
-// The lines of the omissions of a proof.
-fn put(alloc: Global, proof: &Omissions) -> Result<Vec<u8>, NoMemory> {
-    let mut text = Vec::new(alloc);
+// Adds the lines of the omissions of a proof.
+fn put(proof: &Omissions, into: &mut Vec<u8>) -> Result<(), NoMemory> {
     for omission in proof.as_slice() {
-        text.reserve(omission_len(omission) as usize)?;
-        put_omission(omission, &mut text);
+        into.reserve(omission_len(omission) as usize)?;
+        put_omission(omission, into);
     }
-    Ok(text)
+    Ok(())
 }
 
-// Whether the proof of a text is written as that text, and its omissions as the lines behind the first.
+// Whether a proof is written as this text.
+fn is_written(alloc: Global, proof: &Omissions, text: &[u8]) -> bool {
+    let mut whole = Vec::new(alloc);
+    match write(proof, &mut whole) {
+        Ok(()) => whole.as_slice() == text,
+        Err(NoMemory) => false,
+    }
+}
+
+// Whether its omissions are written as the lines of this text behind the first.
+fn ends_with(alloc: Global, proof: &Omissions, text: &[u8]) -> bool {
+    let mut lines = Vec::new(alloc);
+    match put(proof, &mut lines) {
+        Ok(()) => text.ends_with(lines.as_slice()) && proof.is_empty() == lines.is_empty(),
+        Err(NoMemory) => false,
+    }
+}
+
 fn keeps_text(alloc: Global, proof: &Omissions, text: &[u8]) -> bool {
-    let Ok(whole) = written(alloc, proof) else {
-        return false;
-    };
-    let Ok(lines) = put(alloc, proof) else {
-        return false;
-    };
-    let ends = text.ends_with(lines.as_slice()) && proof.is_empty() == lines.is_empty();
-    ends && whole.as_slice() == text
+    proof.iter().count() == proof.len()
+        && is_written(alloc, proof, text)
+        && ends_with(alloc, proof, text)
 }
 
-// Whether a text is a proof of the model, and the proof is written as it was read.
-fn is_written_again(alloc: Global, text: &str) -> bool {
-    let Ok(model) = model_of(alloc, MODEL) else {
-        return false;
-    };
-    match proof_of(alloc, &model, text) {
-        Ok(proof) => {
-            proof.iter().count() == proof.len() && keeps_text(alloc, &proof, text.as_bytes())
-        }
-        Err(_) => false,
+// How the reading of a text ends for a model: with the number of the line that is none, or with 0 where its proof is
+// written as it was read; with nothing where it isn't, or memory was refused.
+fn end_for(alloc: Global, model: &TestModel, text: &str) -> Option<u32> {
+    match proof_of(alloc, model, text) {
+        Ok(proof) => keeps_text(alloc, &proof, text.as_bytes()).then_some(0),
+        Err(ProofFault::Line(line)) => Some(line),
+        Err(ProofFault::NoMemory) => None,
+    }
+}
+
+fn end_of(alloc: Global, text: &str) -> Option<u32> {
+    match model_of(alloc, MODEL) {
+        Ok(model) => end_for(alloc, &model, text),
+        Err(_) => None,
     }
 }
 
 #[test]
 fn proofs_are_written_as_they_were_read(rt: HostRuntime) {
     for text in FILES {
-        assert!(rt; is_written_again(rt.alloc(), text), "{text}");
+        assert!(rt; end_of(rt.alloc(), text) == Some(0), "{text}");
     }
+}
+
+const TOKENS: &[TreeToken] = &[
+    TreeToken::Branch(1),
+    TreeToken::ByRule(2),
+    TreeToken::ByNegative,
+    TreeToken::ByOmission(30),
+];
+
+fn push_tokens(tree: &mut TreeBuf) -> Result<(), NoMemory> {
+    for token in TOKENS {
+        tree.push(*token)?;
+    }
+    Ok(())
 }
 
 fn tree_by_hand(alloc: Global) -> Result<TreeBuf, NoMemory> {
     let mut tree = TreeBuf::new(alloc);
-    tree.push(TreeToken::Branch(1))?;
-    tree.push(TreeToken::ByRule(2))?;
-    tree.push(TreeToken::ByNegative)?;
-    tree.push(TreeToken::ByOmission(30))?;
+    push_tokens(&mut tree)?;
     Ok(tree)
 }
 
+fn has_tokens(tree: &TreeBuf) -> bool {
+    tree.len() == 4
+        && tree.iter().count() == 4
+        && tree.get(2).copied() == Some(TreeToken::ByNegative)
+        && tree.get(4).is_none()
+}
+
+fn is_made(alloc: Global) -> bool {
+    match tree_by_hand(alloc) {
+        Ok(tree) => has_tokens(&tree),
+        Err(NoMemory) => false,
+    }
+}
+
 #[test]
-fn trees_are_made_by_hand(rt: HostRuntime) -> Result<(), Fail> {
+fn trees_are_made_by_hand(rt: HostRuntime) {
     assert!(rt; TreeBuf::new(rt.alloc()).is_empty());
-    let tree = tree_by_hand(rt.alloc())?;
-    assert!(rt; tree.len() == 4 && tree.iter().count() == 4);
-    assert!(rt; tree.get(2).copied() == Some(TreeToken::ByNegative) && tree.get(4).is_none());
-    Ok(())
+    assert!(rt; is_made(rt.alloc()));
 }
 
 fn proof_by_hand(alloc: Global) -> Result<Omissions, NoMemory> {
@@ -171,37 +206,35 @@ fn proof_by_hand(alloc: Global) -> Result<Omissions, NoMemory> {
     Ok(proof)
 }
 
-#[test]
-fn proofs_are_made_by_hand(rt: HostRuntime) -> Result<(), Fail> {
-    let proof = proof_by_hand(rt.alloc())?;
-    assert!(rt; proof.get(0).is_some() && proof.get(1).is_none());
-    let text = written(rt.alloc(), &proof)?;
-    assert!(rt; text.as_slice() == b"pict-proof 2\nomit 0=10 1=1 : B1 L2 N O30\n".as_slice());
-    Ok(())
+fn has_one(alloc: Global, proof: &Omissions) -> bool {
+    proof.get(0).is_some()
+        && proof.get(1).is_none()
+        && is_written(alloc, proof, b"pict-proof 2\nomit 0=10 1=1 : B1 L2 N O30\n")
 }
 
-// The number of the line that is none; nothing where each is one, or memory was refused.
-fn broken_line(alloc: Global, text: &str) -> Option<u32> {
-    let Ok(model) = model_of(alloc, MODEL) else {
-        return None;
-    };
-    match proof_of(alloc, &model, text) {
-        Err(ProofFault::Line(line)) => Some(line),
-        Err(ProofFault::NoMemory) | Ok(_) => None,
+fn is_written_by_hand(alloc: Global) -> bool {
+    match proof_by_hand(alloc) {
+        Ok(proof) => has_one(alloc, &proof),
+        Err(NoMemory) => false,
     }
+}
+
+#[test]
+fn proofs_are_made_by_hand(rt: HostRuntime) {
+    assert!(rt; is_written_by_hand(rt.alloc()));
 }
 
 #[test]
 fn files_that_are_no_proofs_are_refused(rt: HostRuntime) {
     for (text, line) in BROKEN {
-        assert!(rt; broken_line(rt.alloc(), text) == Some(*line), "{text}");
+        assert!(rt; end_of(rt.alloc(), text) == Some(*line), "{text}");
     }
 }
 
-// The same for the text with this line at its end.
-fn broken_line_behind(alloc: Global, text: &str, line: &str) -> Option<u32> {
+// The same of the text with this line at its end.
+fn end_behind(alloc: Global, text: &str, line: &str) -> Option<u32> {
     match format!(in alloc; "{text}{line}\n") {
-        Ok(file) => broken_line(alloc, file.as_str()),
+        Ok(file) => end_of(alloc, file.as_str()),
         Err(_) => None,
     }
 }
@@ -209,16 +242,16 @@ fn broken_line_behind(alloc: Global, text: &str, line: &str) -> Option<u32> {
 #[test]
 fn lines_that_are_no_omissions_are_refused(rt: HostRuntime) {
     for line in NO_LINES {
-        let broken = broken_line_behind(rt.alloc(), "pict-proof 1\nomit 0=1 1=1 : L1\n", line);
-        assert!(rt; broken == Some(3), "{line}");
+        let end = end_behind(rt.alloc(), "pict-proof 1\nomit 0=1 1=1 : L1\n", line);
+        assert!(rt; end == Some(3), "{line}");
     }
 }
 
 #[test]
 fn tokens_that_are_no_citations_are_refused(rt: HostRuntime) {
     for token in NO_CITATIONS {
-        let broken = broken_line_behind(rt.alloc(), "pict-proof 2\nomit 0=1 : ", token);
-        assert!(rt; broken == Some(2), "{token}");
+        let end = end_behind(rt.alloc(), "pict-proof 2\nomit 0=1 : ", token);
+        assert!(rt; end == Some(2), "{token}");
     }
 }
 

@@ -95,21 +95,70 @@ fn last_refutes(alloc: Global, model: &TestModel, proof: &Omissions) -> bool
     )
 }
 
+// Whether a checker says that the tree of the last omission refutes its tuple after those before it; nothing where
+// there is no omission, or memory was refused.
+fn checker_says(alloc: Global, model: &TestModel, proof: &Omissions) -> Option<bool>
+    requires of_model { All (λ omission. AreOfModel model.now omission.tuple) proof.now.omissions }
+    requires few { length proof.now.omissions ≤ 2 ^ 20 }
+{
+    let [front @ .., last] = proof.as_slice() else {
+        return None;
+    };
+    let before = front.len() as u32;
+    let Ok(mut scratch) = Cells::empty(alloc, model.params().len()) else {
+        return None;
+    };
+    let Ok(checker) = TreeChecker::new(alloc, model, proof) else {
+        return None;
+    };
+    Some(checker.refutes(
+        &last.tuple,
+        last.tree.as_slice(),
+        proof,
+        before,
+        &mut scratch,
+    ))
+}
+
+// What says whether a tree refutes a tuple: the plain check, or a checker.
+#[derive(Clone, Copy)]
+enum Judge {
+    Plain,
+    Checker,
+}
+
+// What it says of the last omission; nothing where a checker says nothing.
+fn judged(alloc: Global, judge: Judge, model: &TestModel, proof: &Omissions) -> Option<bool>
+    requires of_model { All (λ omission. AreOfModel model.now omission.tuple) proof.now.omissions }
+    requires few { length proof.now.omissions ≤ 2 ^ 20 }
+{
+    match judge {
+        Judge::Plain => Some(last_refutes(alloc, model, proof)),
+        Judge::Checker => checker_says(alloc, model, proof),
+    }
+}
+
 // The same for the proof of a text with this line at its end; nothing where there is no proof.
-fn line_refutes(alloc: Global, model: &TestModel, text: &str, line: &str) -> Option<bool> {
+fn line_refutes(
+    alloc: Global,
+    judge: Judge,
+    model: &TestModel,
+    text: &str,
+    line: &str,
+) -> Option<bool> {
     let Ok(file) = format!(in alloc; "{text}{line}") else {
         return None;
     };
     match proof_of(alloc, model, file.as_str()) {
-        Ok(proof) => Some(last_refutes(alloc, model, &proof)),
+        Ok(proof) => judged(alloc, judge, model, &proof),
         Err(_) => None,
     }
 }
 
 // The same for the model of a text.
-fn refutes(alloc: Global, model: &str, text: &str, line: &str) -> Option<bool> {
+fn refutes(alloc: Global, judge: Judge, model: &str, text: &str, line: &str) -> Option<bool> {
     match model_of(alloc, model) {
-        Ok(model) => line_refutes(alloc, &model, text, line),
+        Ok(model) => line_refutes(alloc, judge, &model, text, line),
         Err(_) => None,
     }
 }
@@ -117,7 +166,7 @@ fn refutes(alloc: Global, model: &str, text: &str, line: &str) -> Option<bool> {
 #[test]
 fn trees_refute_their_tuples(rt: HostRuntime) {
     for (model, lines, expected) in TREES {
-        let refutes = refutes(rt.alloc(), model, "pict-proof 1\n", lines);
+        let refutes = refutes(rt.alloc(), Judge::Plain, model, "pict-proof 1\n", lines);
         assert!(rt; refutes == Some(*expected), "{lines}");
     }
 }
@@ -125,7 +174,7 @@ fn trees_refute_their_tuples(rt: HostRuntime) {
 #[test]
 fn trees_cite_earlier_tuples(rt: HostRuntime) {
     for (line, expected) in CITED {
-        let refutes = refutes(rt.alloc(), TWIN_AND_ONE, CITING, line);
+        let refutes = refutes(rt.alloc(), Judge::Plain, TWIN_AND_ONE, CITING, line);
         assert!(rt; refutes == Some(*expected), "{line}");
     }
 }
@@ -140,7 +189,7 @@ const CITED_NEGATIVES: &[(&str, bool)] = &[
 #[test]
 fn negative_values_have_to_be_cited(rt: HostRuntime) {
     for (lines, expected) in CITED_NEGATIVES {
-        let refutes = refutes(rt.alloc(), NEGATIVE, "pict-proof 2\n", lines);
+        let refutes = refutes(rt.alloc(), Judge::Plain, NEGATIVE, "pict-proof 2\n", lines);
         assert!(rt; refutes == Some(*expected), "{lines}");
     }
 }
@@ -151,52 +200,13 @@ const FIFTEEN_LEAVES: &str =
     "pict-proof 1\nomit 0=0 1=0 : B2 L1 L2 L3\nomit 0=0 1=0 : B2 L1 L2 L3\n\
     omit 0=0 1=0 : B2 L1 L2 L3\nomit 0=0 1=1 : B2 L1 L2 L3\nomit 0=0 1=1 : B2 L1 L2 L3\n";
 
-// Whether a checker says that the tree of the last omission refutes its tuple after those before it; nothing where
-// there is no omission, or memory was refused.
-fn checker_says(alloc: Global, model: &TestModel, proof: &Omissions) -> Option<bool>
-    requires of_model { All (λ omission. AreOfModel model.now omission.tuple) proof.now.omissions }
-    requires few { length proof.now.omissions ≤ 2 ^ 20 }
-{
-    let [front @ .., last] = proof.as_slice() else {
-        return None;
-    };
-    let Ok(checker) = TreeChecker::new(alloc, model, proof) else {
-        return None;
-    };
-    let Ok(mut scratch) = Cells::empty(alloc, model.params().len()) else {
-        return None;
-    };
-    let before = front.len() as u32;
-    Some(checker.refutes(
-        &last.tuple,
-        last.tree.as_slice(),
-        proof,
-        before,
-        &mut scratch,
-    ))
-}
-
-// The same of a line for the first model, behind others.
-fn checker_says_behind(alloc: Global, text: &str, line: &str) -> Option<bool> {
-    let Ok(model) = model_of(alloc, BARRED) else {
-        return None;
-    };
-    let Ok(file) = format!(in alloc; "{text}{line}") else {
-        return None;
-    };
-    match proof_of(alloc, &model, file.as_str()) {
-        Ok(proof) => checker_says(alloc, &model, &proof),
-        Err(_) => None,
-    }
-}
-
 #[test]
 fn a_checker_says_the_same(rt: HostRuntime) {
     for (model, line, expected) in TREES {
         if *model == BARRED {
-            let plain = checker_says_behind(rt.alloc(), "pict-proof 1\n", line);
+            let plain = refutes(rt.alloc(), Judge::Checker, BARRED, "pict-proof 1\n", line);
             assert!(rt; plain == Some(*expected), "{line}");
-            let compiled = checker_says_behind(rt.alloc(), FIFTEEN_LEAVES, line);
+            let compiled = refutes(rt.alloc(), Judge::Checker, BARRED, FIFTEEN_LEAVES, line);
             assert!(rt; compiled == Some(*expected), "{line}");
         }
     }

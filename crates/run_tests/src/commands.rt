@@ -1,6 +1,8 @@
 //! Runs that end otherwise than with a report, and what standard error gets.
 
 use crate::growth::{NONE_LIVE, NONE_LIVE_REPORT, TWIN};
+use std::alloc::Global;
+use std::thread::Threads;
 use test_runs::{ends_as, on_model};
 
 const PAIRS: &[u8] = b"A: 1, 2\nB: x, y\n";
@@ -12,7 +14,9 @@ const REPEATED: &[u8] = b"A: a, A, b\n";
 const TWIN_REPORT: &str = "A\tB\tC\n2\t1\t1\n2\t2\t2\n";
 
 // Words, a model, a status, and what standard output and standard error get.
-const ENDS: &[(&[&str], &[u8], u8, &str, &str)] = &[
+type End<'a> = (&'a [&'a str], &'a [u8], u8, &'a str, &'a str);
+
+const ENDS: &[End<'static>] = &[
     // The first word that is not understood.
     (&[], PAIRS, 3, "", "error: word 1 is not understood\n"),
     (
@@ -104,13 +108,14 @@ const ENDS: &[(&[&str], &[u8], u8, &str, &str)] = &[
     (&["m", "/o:1", "/c"], REPEATED, 0, "A\na\nA\nb\n", ""),
 ];
 
+fn ends_so<R: Threads + Sync>(rt: &R, alloc: Global, end: &End) -> bool {
+    let (words, model, status, written, told) = end;
+    ends_as(rt, alloc, &on_model(words, model), *status, written, told)
+}
+
 #[test]
 fn ends_with_a_status_and_a_line(rt: HostRuntime) {
-    for (words, model, status, written, told) in ENDS {
-        let given = on_model(words, model);
-        assert!(rt;
-            ends_as(&rt, rt.alloc(), &given, *status, written, told),
-            "{words:?} {told}"
-        );
+    for end in ENDS {
+        assert!(rt; ends_so(&rt, rt.alloc(), end), "{:?} {}", end.0, end.4);
     }
 }

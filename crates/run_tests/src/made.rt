@@ -2,7 +2,6 @@
 //! step; the forbidden pairs of each are counted once.
 
 use std::alloc::Global;
-use std::test::Fail;
 use std::thread::Threads;
 use test_runs::{Ended, Given, on_model, run};
 use value_text::NoMemory;
@@ -54,70 +53,93 @@ fn is_made(ended: &Ended, made: &Made) -> bool {
         && held.starts_with(FIRST_PARAMETER.as_bytes())
 }
 
+fn are_alike(first: &Ended, second: &Ended) -> bool {
+    first.written.bytes() == second.written.bytes()
+        && first.files.held("m") == second.files.held("m")
+}
+
 // Two runs of one of these are alike, and leave the made model in the model file.
-fn makes<R: Threads + Sync>(rt: &R, alloc: Global, place: usize) -> Result<bool, NoMemory> {
-    let Some(made) = MADE.get(place) else {
-        return Ok(false);
-    };
+fn makes_twice<R: Threads + Sync>(rt: &R, alloc: Global, made: &Made) -> Result<bool, NoMemory> {
     let words = ["m", made.0];
     let given = on_model(&words, OLD);
     let first = run(rt, alloc, &given)?;
     let second = run(rt, alloc, &given)?;
-    let same_report = first.written.bytes() == second.written.bytes();
-    let same_model = first.files.held("m") == second.files.held("m");
-    Ok(is_made(&first, made) && same_report && same_model)
+    Ok(is_made(&first, made) && are_alike(&first, &second))
 }
 
-#[test]
-fn makes_the_model_of_1(rt: HostRuntime) -> Result<(), Fail> {
-    assert!(rt; makes(&rt, rt.alloc(), 0)?);
-    Ok(())
-}
-
-#[test]
-fn makes_the_model_of_2(rt: HostRuntime) -> Result<(), Fail> {
-    assert!(rt; makes(&rt, rt.alloc(), 1)?);
-    Ok(())
-}
-
-#[test]
-fn makes_the_model_of_3(rt: HostRuntime) -> Result<(), Fail> {
-    assert!(rt; makes(&rt, rt.alloc(), 2)?);
-    Ok(())
-}
-
-#[test]
-fn makes_the_model_of_7(rt: HostRuntime) -> Result<(), Fail> {
-    assert!(rt; makes(&rt, rt.alloc(), 3)?);
-    Ok(())
-}
-
-// Whether a run leaves a model file that ends so.
-fn leaves_ending(ended: &Ended, ending: &str) -> bool {
-    match ended.files.held("m") {
-        Some(held) => held.ends_with(ending.as_bytes()),
+// The same of the one at this place.
+fn makes<R: Threads + Sync>(rt: &R, alloc: Global, place: usize) -> bool {
+    match MADE.get(place) {
+        Some(made) => makes_twice(rt, alloc, made) == Ok(true),
         None => false,
+    }
+}
+
+#[test]
+fn makes_the_model_of_1(rt: HostRuntime) {
+    assert!(rt; makes(&rt, rt.alloc(), 0));
+}
+
+#[test]
+fn makes_the_model_of_2(rt: HostRuntime) {
+    assert!(rt; makes(&rt, rt.alloc(), 1));
+}
+
+#[test]
+fn makes_the_model_of_3(rt: HostRuntime) {
+    assert!(rt; makes(&rt, rt.alloc(), 2));
+}
+
+#[test]
+fn makes_the_model_of_7(rt: HostRuntime) {
+    assert!(rt; makes(&rt, rt.alloc(), 3));
+}
+
+// Whether a run leaves a model file that begins and ends so.
+fn is_left(ended: &Ended, first: &[u8], last: &[u8]) -> bool {
+    match ended.files.held("m") {
+        Some(held) => held.starts_with(first) && held.ends_with(last),
+        None => false,
+    }
+}
+
+// The same where it has to end with status 0 and a report that begins so.
+fn leaves<R: Threads + Sync>(
+    rt: &R,
+    alloc: Global,
+    given: &Given,
+    report: &[u8],
+    first: &[u8],
+    last: &[u8],
+) -> bool {
+    match run(rt, alloc, given) {
+        Ok(ended) => {
+            ended.status == 0
+                && ended.written.bytes().starts_with(report)
+                && is_left(&ended, first, last)
+        }
+        Err(NoMemory) => false,
     }
 }
 
 // Nothing is read under the name of the model file.
 #[test]
-fn needs_no_model_file(rt: HostRuntime) -> Result<(), Fail> {
+fn needs_no_model_file(rt: HostRuntime) {
     let given = Given {
         name: "other",
         written: "m",
         ..on_model(&["m", "/make:7"], b"")
     };
-    let ended = run(&rt, rt.alloc(), &given)?;
-    assert!(rt; ended.status == 0);
-    assert!(rt; ended.written.bytes().starts_with(b"Demanded sets: 1770\n"));
-    assert!(rt; leaves_ending(&ended, LAST_CONSTRAINT));
-    Ok(())
+    let report = b"Demanded sets: 1770\n";
+    let last = LAST_CONSTRAINT.as_bytes();
+    assert!(rt; leaves(&rt, rt.alloc(), &given, report, b"", last));
 }
 
 // Words, the calls of the folder that fail, how many bytes fit into standard output, the status, the line, and how the
 // model file ends: as what it held, as the made model, or as a proof.
-const ENDS: &[(&[&str], &[u64], usize, u8, &str, &str)] = &[
+type End<'a> = (&'a [&'a str], &'a [u64], usize, u8, &'a str, &'a str);
+
+const ENDS: &[End<'static>] = &[
     (
         &["m", "/make:7"],
         &[1],
@@ -152,42 +174,34 @@ const ENDS: &[(&[&str], &[u64], usize, u8, &str, &str)] = &[
     ),
 ];
 
-// Whether a run ends with this status and this line, writes no report, and leaves a model file that ends so.
-fn stops<R: Threads + Sync>(
-    rt: &R,
-    alloc: Global,
-    given: &Given,
-    status: u8,
-    line: &str,
-    ending: &str,
-) -> bool {
+// Whether a run ends so, and writes no report.
+fn stops<R: Threads + Sync>(rt: &R, alloc: Global, given: &Given, end: &End) -> bool {
+    let (_, _, _, status, line, last) = end;
     match run(rt, alloc, given) {
-        Ok(ended) => ended.is(status, "", line) && leaves_ending(&ended, ending),
+        Ok(ended) => ended.is(*status, "", line) && is_left(&ended, b"", last.as_bytes()),
         Err(NoMemory) => false,
     }
 }
 
+fn ends_so<R: Threads + Sync>(rt: &R, alloc: Global, end: &End) -> bool {
+    let (words, fail, room, _, _, _) = end;
+    let given = Given {
+        fail,
+        room: (*room, 1 << 10),
+        ..on_model(words, OLD)
+    };
+    stops(rt, alloc, &given, end)
+}
+
 #[test]
 fn leaves_the_made_model_where_it_stops_later(rt: HostRuntime) {
-    for (words, fail, room, status, line, ending) in ENDS {
-        let given = Given {
-            fail,
-            room: (*room, 1 << 10),
-            ..on_model(words, OLD)
-        };
-        assert!(rt;
-            stops(&rt, rt.alloc(), &given, *status, line, ending),
-            "{line}"
-        );
+    for end in ENDS {
+        assert!(rt; ends_so(&rt, rt.alloc(), end), "{}", end.4);
     }
 }
 
 #[test]
-fn the_proof_may_take_the_place_of_the_made_model(rt: HostRuntime) -> Result<(), Fail> {
+fn the_proof_may_take_the_place_of_the_made_model(rt: HostRuntime) {
     let given = on_model(&["m", "/make:7", "/proof:m"], OLD);
-    let ended = run(&rt, rt.alloc(), &given)?;
-    assert!(rt; ended.status == 0);
-    let held = ended.files.held("m").ok_or("no model file")?;
-    assert!(rt; held.starts_with(b"pict-proof 1\nomit "));
-    Ok(())
+    assert!(rt; leaves(&rt, rt.alloc(), &given, b"", b"pict-proof 1\nomit ", b""));
 }

@@ -2,7 +2,6 @@
 
 use crate::growth::{NONE_LIVE, NONE_LIVE_REPORT, TWIN};
 use std::alloc::Global;
-use std::test::Fail;
 use std::thread::Threads;
 use test_models::DISK;
 use test_runs::{Given, on_model, run, writes};
@@ -86,14 +85,26 @@ fn lists_what_no_row_serves(rt: HostRuntime) {
     }
 }
 
+// Whether a run ends with status 0, and leaves these bytes under this name.
+fn leaves<R: Threads + Sync>(
+    rt: &R,
+    alloc: Global,
+    given: &Given,
+    name: &str,
+    bytes: &[u8],
+) -> bool {
+    match run(rt, alloc, given) {
+        Ok(ended) => ended.status == 0 && ended.holds(name, bytes),
+        Err(NoMemory) => false,
+    }
+}
+
 #[test]
-fn lists_four_pairs_of_the_disk_model(rt: HostRuntime) -> Result<(), Fail> {
+fn lists_four_pairs_of_the_disk_model(rt: HostRuntime) {
     let proof =
         b"pict-proof 1\nomit 1=4 3=0 : L1\nomit 1=5 3=0 : L1\nomit 1=6 3=0 : L1\nomit 1=6 3=1 : L2\n";
     let given = on_model(&["m", "/proof:p"], DISK.as_bytes());
-    let ended = run(&rt, rt.alloc(), &given)?;
-    assert!(rt; ended.status == 0 && ended.holds("p", proof));
-    Ok(())
+    assert!(rt; leaves(&rt, rt.alloc(), &given, "p", proof));
 }
 
 // Words with which the growth of the twin rules ends early, and the line.
@@ -127,10 +138,9 @@ fn writes_no_proof_without_a_suite(rt: HostRuntime) {
 
 // The model file was read before.
 #[test]
-fn the_proof_may_take_the_place_of_the_model(rt: HostRuntime) -> Result<(), Fail> {
+fn the_proof_may_take_the_place_of_the_model(rt: HostRuntime) {
     let model = b"A: 1, 2\nB: x, y\nIF [A] = 1 THEN [B] = \"x\";\n";
-    let ended = run(&rt, rt.alloc(), &on_model(&["m", "/proof:m"], model))?;
-    assert!(rt; ended.status == 0);
-    assert!(rt; ended.holds("m", b"pict-proof 1\nomit 0=0 1=1 : L1\n"));
-    Ok(())
+    let given = on_model(&["m", "/proof:m"], model);
+    let proof = b"pict-proof 1\nomit 0=0 1=1 : L1\n";
+    assert!(rt; leaves(&rt, rt.alloc(), &given, "m", proof));
 }

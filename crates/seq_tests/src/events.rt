@@ -1,27 +1,27 @@
 //! Files of events: those that are read, and those that are refused.
 
 use seq_check::{EventCode, EventLimit, Events, EventsFault, read_events};
-use std::alloc::Global;
-use std::test::Fail;
+use std::alloc::{AllocError, Global};
+use value_text::TextList;
 
-// What is read of a file, for sequences of `length` events.
-fn read(alloc: Global, file: &str, length: u32) -> Result<Result<Events, EventsFault>, Fail> {
+/// What is read of a file, for sequences of two or three events.
+pub(crate) fn read(alloc: Global, file: &str, length: u32) -> Result<Events, EventsFault> {
     let bytes = file.as_bytes();
     if bytes.len() > 100_000 {
-        return Err("the file is too long")?;
+        return Err(EventsFault::NoMemory);
     }
     match length {
-        2 => Ok(read_events(alloc, bytes, 2)),
-        3 => Ok(read_events(alloc, bytes, 3)),
-        _ => Err("no such length")?,
+        2 => read_events(alloc, bytes, 2),
+        3 => read_events(alloc, bytes, 3),
+        _ => Err(EventsFault::NoMemory),
     }
 }
 
 // Why a file is refused, if it is.
-fn refusal(alloc: Global, file: &str, length: u32) -> Result<Option<EventsFault>, Fail> {
-    match read(alloc, file, length)? {
-        Ok(_) => Ok(None),
-        Err(fault) => Ok(Some(fault)),
+fn refusal(alloc: Global, file: &str, length: u32) -> Option<EventsFault> {
+    match read(alloc, file, length) {
+        Ok(_) => None,
+        Err(fault) => Some(fault),
     }
 }
 
@@ -60,78 +60,120 @@ const REFUSED: &[(&str, u32, u32, EventCode)] = &[
 ];
 
 #[test]
-fn refuses_lines(rt: HostRuntime) -> Result<(), Fail> {
+fn refuses_lines(rt: HostRuntime) {
     for (file, length, line, code) in REFUSED {
-        let refused = refusal(rt.alloc(), file, *length)?;
+        let refused = refusal(rt.alloc(), file, *length);
         assert!(rt; refused == Some(EventsFault::Bad(*line, *code)), "{file}");
     }
-    Ok(())
 }
 
-// Adds a line so many times.
-fn add_lines(text: &mut String, line: &str, count: u32) -> Result<(), Fail> {
-    for turn in 0..count {
-        text.push_str(line)?;
+/// Adds a text so many times.
+pub(crate) fn add_times(into: &mut String, text: &str, count: u32) -> Result<(), AllocError> {
+    for _ in 0..count {
+        into.push_str(text)?;
     }
     Ok(())
 }
 
-// A file with so many events `a`, `aa` and so on, and so many precedences.
-fn large(alloc: Global, events: u32, precedences: u32) -> Result<String, Fail> {
-    let mut text = String::new(alloc);
+// Adds so many events `a`, `aa` and so on.
+fn add_events(into: &mut String, events: u32) -> Result<(), AllocError> {
     for turn in 0..events {
-        add_lines(&mut text, "a", turn)?;
-        text.push_str("a\n")?;
+        add_times(into, "a", turn)?;
+        into.push_str("a\n")?;
     }
-    add_lines(&mut text, "a < a\n", precedences)?;
+    Ok(())
+}
+
+// A file with so many events and precedences, and a text behind them.
+fn large(alloc: Global, events: u32, precedences: u32, behind: &str) -> Result<String, AllocError> {
+    let mut text = String::new(alloc);
+    add_events(&mut text, events)?;
+    add_times(&mut text, "a < a\n", precedences)?;
+    text.push_str(behind)?;
     Ok(text)
 }
 
-// Numbers of events and of precedences, and the limit that is passed.
-const LIMITS: &[(u32, u32, Option<EventsFault>)] = &[
-    (64, 4096, None),
-    (65, 0, Some(EventsFault::TooMany(EventLimit::Events, 65))),
+// Why such a file is refused, if it is.
+fn refusal_of_large(
+    alloc: Global,
+    events: u32,
+    precedences: u32,
+    behind: &str,
+) -> Option<EventsFault> {
+    match large(alloc, events, precedences, behind) {
+        Ok(file) => refusal(alloc, file.as_str(), 2),
+        Err(AllocError) => Some(EventsFault::NoMemory),
+    }
+}
+
+// Numbers of events and of precedences, the limit that is passed, and the number of the line behind them.
+const LIMITS: &[(u32, u32, Option<EventsFault>, u32)] = &[
+    (64, 4096, None, 4161),
+    (
+        65,
+        0,
+        Some(EventsFault::TooMany(EventLimit::Events, 65)),
+        66,
+    ),
     (
         2,
         4097,
         Some(EventsFault::TooMany(EventLimit::Precedences, 4097)),
+        4100,
     ),
-    (65, 4097, Some(EventsFault::TooMany(EventLimit::Events, 65))),
+    (
+        65,
+        4097,
+        Some(EventsFault::TooMany(EventLimit::Events, 65)),
+        4163,
+    ),
     // A limit comes before too few events, and behind a refused line.
     (
         1,
         4097,
         Some(EventsFault::TooMany(EventLimit::Precedences, 4097)),
+        4099,
     ),
 ];
 
 #[test]
-fn tells_limits(rt: HostRuntime) -> Result<(), Fail> {
-    for (events, precedences, passed) in LIMITS {
-        let mut file = large(rt.alloc(), *events, *precedences)?;
+fn tells_limits(rt: HostRuntime) {
+    for (events, precedences, passed, line) in LIMITS {
+        let whole = refusal_of_large(rt.alloc(), *events, *precedences, "");
+        assert!(rt; whole == *passed, "{line}");
+        let behind = refusal_of_large(rt.alloc(), *events, *precedences, "-\n");
         assert!(rt;
-            refusal(rt.alloc(), file.as_str(), 2)? == *passed,
-            "{events} {precedences}"
-        );
-        file.push_str("-\n")?;
-        let line = *events + *precedences + 1;
-        assert!(rt;
-            refusal(rt.alloc(), file.as_str(), 2)? == Some(EventsFault::Bad(line, EventCode::Q1)),
+            behind == Some(EventsFault::Bad(*line, EventCode::Q1)),
             "{line}"
         );
     }
-    Ok(())
+}
+
+fn are_names(names: &TextList, wanted: &[&str]) -> bool {
+    if names.len() != wanted.len() {
+        return false;
+    }
+    for (name, text) in names.iter().zip(wanted) {
+        if name.as_str() != *text {
+            return false;
+        }
+    }
+    true
 }
 
 // Whether a file has these names and precedences.
 fn has_read(events: &Events, names: &[&str], precedences: &[(u16, u16)]) -> bool {
-    let read = events.names();
-    read.len() == names.len()
-        && read
-            .iter()
-            .zip(names)
-            .all(|(name, wanted)| name.as_str() == *wanted)
+    are_names(events.names(), names)
         && events.precedences().as_slice() == precedences
+        && events.length() == 2
+}
+
+// Whether they are read of a file, for sequences of two events.
+fn is_read(alloc: Global, file: &str, names: &[&str], precedences: &[(u16, u16)]) -> bool {
+    match read(alloc, file, 2) {
+        Ok(events) => has_read(&events, names, precedences),
+        Err(_) => false,
+    }
 }
 
 // Files, their names and their precedences.
@@ -153,15 +195,8 @@ const READ: &[(&str, &[&str], &[(u16, u16)])] = &[
 ];
 
 #[test]
-fn reads_files(rt: HostRuntime) -> Result<(), Fail> {
+fn reads_files(rt: HostRuntime) {
     for (file, names, precedences) in READ {
-        match read(rt.alloc(), file, 2)? {
-            Ok(events) => {
-                assert!(rt; has_read(&events, names, precedences), "{file}");
-                assert!(rt; events.length() == 2);
-            }
-            Err(_) => assert!(rt; false, "{file}"),
-        }
+        assert!(rt; is_read(rt.alloc(), file, names, precedences), "{file}");
     }
-    Ok(())
 }

@@ -3,14 +3,20 @@
 use outside_io::{Calls, MemFolder, MemSink};
 use seq_cover::run_seq;
 use std::alloc::Global;
-use std::test::Fail;
 use value_text::NoMemory;
 
-/// The words of a text, parted by spaces.
-pub(crate) fn words_of(alloc: Global, text: &str) -> Result<Vec<String>, NoMemory> {
-    let mut words = Vec::new(alloc);
+fn push_words(alloc: Global, text: &str, words: &mut Vec<String>) -> Result<(), NoMemory> {
     for word in text.split(' ') {
         words.push(String::from_str(alloc, word)?)?;
+    }
+    Ok(())
+}
+
+// The words of a text, parted by spaces; none of no text.
+fn words_of(alloc: Global, text: Option<&str>) -> Result<Vec<String>, NoMemory> {
+    let mut words = Vec::new(alloc);
+    if let Some(text) = text {
+        push_words(alloc, text, &mut words)?;
     }
     Ok(words)
 }
@@ -26,8 +32,8 @@ fn calls_of(alloc: Global, numbers: &[u64]) -> Result<Calls, NoMemory> {
 /// What a run is given.
 #[derive(Clone, Copy)]
 pub(crate) struct Given<'a> {
-    /// The words behind the program's name.
-    pub words: &'a [String],
+    /// The words behind the program's name, parted by spaces, where there are any.
+    pub words: Option<&'a str>,
     /// The bytes of the file `f`.
     pub file: &'a [u8],
     /// Those of the file `r`, where there are any.
@@ -47,21 +53,37 @@ fn folder_of(alloc: Global, given: &Given) -> Result<MemFolder, NoMemory> {
     Ok(folder)
 }
 
-/// Whether a run ends with this status, and the two streams get these texts.
-pub(crate) fn ends_as(
+/// A status, and what the two streams get.
+type End<'a> = (u8, &'a str, &'a str);
+
+// Whether a run of these words in this folder ends so.
+fn ends_in(
     alloc: Global,
-    given: &Given,
-    status: u8,
-    written: &str,
-    told: &str,
+    words: &[String],
+    files: &mut MemFolder,
+    room: (usize, usize),
+    end: End,
 ) -> Result<bool, NoMemory> {
+    let mut out = MemSink::up_to(alloc, room.0)?;
+    let mut diag = MemSink::up_to(alloc, room.1)?;
+    let status = run_seq(alloc, words, files, &mut out, &mut diag);
+    let is_written = out.bytes() == end.1.as_bytes();
+    let is_told = diag.bytes() == end.2.as_bytes();
+    Ok(status == end.0 && is_written && is_told)
+}
+
+fn ends(alloc: Global, given: &Given, end: End) -> Result<bool, NoMemory> {
+    let words = words_of(alloc, given.words)?;
     let mut files = folder_of(alloc, given)?;
-    let mut out = MemSink::up_to(alloc, given.room.0)?;
-    let mut diag = MemSink::up_to(alloc, given.room.1)?;
-    let ended = run_seq(alloc, given.words, &mut files, &mut out, &mut diag);
-    let is_written = out.bytes() == written.as_bytes();
-    let is_told = diag.bytes() == told.as_bytes();
-    Ok(ended == status && is_written && is_told)
+    ends_in(alloc, words.as_slice(), &mut files, given.room, end)
+}
+
+/// Whether a run ends with this status, and the two streams get these texts. `false` too where memory was refused.
+pub(crate) fn ends_as(alloc: Global, given: &Given, end: End) -> bool {
+    match ends(alloc, given, end) {
+        Ok(is_so) => is_so,
+        Err(NoMemory) => false,
+    }
 }
 
 /// The events a, b and c, a before b.
@@ -70,7 +92,9 @@ pub(crate) const THREE: &str = "a\nb\nc\na < b\n";
 pub(crate) const REPORT: &str = "a\tb\tc\nc\ta\tb\nnever b a : a b a\n";
 
 // The words, the file and the report, and the status and what the two streams get.
-const RUNS: &[(&str, &str, &str, u8, &str, &str)] = &[
+type Run<'a> = (&'a str, &'a str, &'a str, u8, &'a str, &'a str);
+
+const RUNS: &[Run<'static>] = &[
     // Reports.
     ("f", THREE, "", 0, REPORT, ""),
     (
@@ -271,37 +295,34 @@ const RUNS: &[(&str, &str, &str, u8, &str, &str)] = &[
     ("g", THREE, "", 7, "", "error: cannot read g\n"),
 ];
 
+fn ends_so(alloc: Global, run: &Run) -> bool {
+    let (text, file, report, status, written, told) = run;
+    let given = Given {
+        words: Some(text),
+        file: file.as_bytes(),
+        report: report.as_bytes(),
+        fail: &[],
+        room: (1 << 12, 1 << 8),
+    };
+    ends_as(alloc, &given, (*status, written, told))
+}
+
 #[test]
-fn runs(rt: HostRuntime) -> Result<(), Fail> {
-    for (text, file, report, status, written, told) in RUNS {
-        let words = words_of(rt.alloc(), text)?;
-        let given = Given {
-            words: words.as_slice(),
-            file: file.as_bytes(),
-            report: report.as_bytes(),
-            fail: &[],
-            room: (1 << 12, 1 << 8),
-        };
-        assert!(rt;
-            ends_as(rt.alloc(), &given, *status, written, told)?,
-            "{text} {file}"
-        );
+fn runs(rt: HostRuntime) {
+    for run in RUNS {
+        assert!(rt; ends_so(rt.alloc(), run), "{} {}", run.0, run.1);
     }
+}
+
+#[test]
+fn runs_without_words(rt: HostRuntime) {
     let none = Given {
-        words: &[],
+        words: None,
         file: &[],
         report: &[],
         fail: &[],
         room: (1 << 8, 1 << 8),
     };
-    assert!(rt;
-        ends_as(
-            rt.alloc(),
-            &none,
-            3,
-            "",
-            "error: word 1 is not understood\n"
-        )?
-    );
-    Ok(())
+    let end = (3, "", "error: word 1 is not understood\n");
+    assert!(rt; ends_as(rt.alloc(), &none, end));
 }
