@@ -1,9 +1,8 @@
 -- What is known of the lines of a file that isn't refused.
-use Rattle.std.proofs.Common.{◌≡◌, ℕ, ◌<◌, Bool, true, false, if◌then◌else◌, List, [], length, drop, Option, Some, None, Result, Ok, Err, is_none, refl, subst, arith}
+use Rattle.std.proofs.Common.{◌≡◌, ℕ, ◌<◌, Bool, true, false, if◌then◌else◌, List, [], length, drop, Option, Some, None, Result, Ok, Err, is_none, refl, subst}
 use Rattle.std.proofs.lemmas.Bool.{and_parts, or_parts, not-false, not-true, ltb-true}
 use Rattle.std.specs.List.{list_all}
 use Rattle.value_text.specs.Numbers.{count_of}
-use Rattle.model_parse.specs.Pieces.{pieces}
 use Rattle.model_parse.proofs.SoundNames.{some_pieces}
 use Rattle.acts_front.specs.ParameterLines.{Parameter, Scope, are_few_digits, behind_kind, declared_in, folds, is_declared}
 use Rattle.acts_front.specs.ParameterLines.{is_name, has_repeated, is_value, kind_in, parameter_in, parameter_with, read_parameter}

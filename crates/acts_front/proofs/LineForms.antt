@@ -1,13 +1,15 @@
 -- Lines that have the form of a parameter or of a relation.
-use Rattle.std.proofs.Common.{◌≡◌, ℕ, ◌-◌, Bool, true, ◌&&◌, List, [], ◌∷◌, ◌++◌, length, length-append, take, get_or, map, Some, None, refl, ap, ◌∙◌, arith}
+use Rattle.std.proofs.Common.{◌≡◌, ℕ, ◌-◌, Bool, true, false, ◌&&◌, List, [], ◌∷◌, ◌++◌, length, length-append, take, get_or, map, Option, Some, None, Ok, Err, refl, ap, ◌∙◌, arith}
 use Rattle.std.proofs.Math.Seq.{get_or-append_seam, take-append_seam}
 use Rattle.std.proofs.lemmas.List.{length-map, map-append}
 use Rattle.std.proofs.lemmas.List.Folds.{list_all-map}
 use Rattle.std.specs.List.{list_all}
-use Rattle.std.specs.Prelude.{if◌then◌else◌, nat_lt}
+use Rattle.std.specs.Prelude.{if◌then◌else◌, is_none, is_some, nat_lt}
+use Rattle.value_text.specs.Numbers.{count_of}
 use Rattle.model_parse.specs.Pieces.{begins_with}
-use Rattle.acts_front.specs.ParameterLines.{are_few_digits, behind_kind, is_name, is_value, kind_in, name_in, parameter_in, values_in}
-use Rattle.acts_front.specs.RelationLines.{member_names, relation_in_parts, strength_of}
+use Rattle.acts_front.specs.ParameterLines.{Scope, are_few_digits, behind_kind, is_name, is_value, kind_in, name_in, parameter_in, values_in}
+use Rattle.acts_front.specs.RelationLines.{Relation, are_members, member_names, related_in, relation_in_parts, strength_of}
+use Rattle.acts_front.specs.declared.code.ActsCode.TheVariants.{A6, A7}
 use Rattle.acts_front.specs.declared.kind.Kind.{Kind}
 
 pub parameter_is :
@@ -40,3 +42,15 @@ parts_popped text items members strength is fits are =
     ∙ parts_are (map text members) (text strength) fits
     (ap (λ n. nat_lt 0 n && list_all is_name (map text members) && are_few_digits (text strength)) (length-map members text)
     ∙ (ap (λ all. nat_lt 0 (length members) && all && are_few_digits (text strength)) (list_all-map is_name text members) ∙ are)))
+
+-- why a relation of this form is refused, or that it isn't
+pub unrelated_is : (scope : Scope) (relation : Relation) → are_members scope relation.members ≡ false → related_in scope (Some relation) ≡ Err A6
+unrelated_is scope relation fit = rw fit refl
+
+pub related_is : (scope : Scope) (relation : Relation) (counted : Bool) → are_members scope relation.members ≡ true → is_some (count_of relation.strength 1 (length relation.members)) ≡ counted
+    → related_in scope (Some relation) ≡ (if counted then Ok relation else Err A7)
+related_is scope relation counted fit is = rw fit (at (count_of relation.strength 1 (length relation.members)) is)
+  where
+    at : (count : Option ℕ) → is_some count ≡ counted → (if is_none count then Err A7 else Ok relation) ≡ (if counted then Ok relation else Err A7)
+    at (Some n) e = rw (← e) refl
+    at None e = rw (← e) refl

@@ -1,7 +1,7 @@
 -- The parameter lines of a file in the form of ACTS: `NAME (TYPE): VALUE, VALUE`. (The ACTS guide; the details
 -- are this project's rules.)
 use Rattle.std.specs.Prelude.{ℕ, Bool, true, false, not, ◌&&◌, ◌||◌, List, [], ◌∷◌, ◌++◌, length, drop, Option, Some, None}
-use Rattle.std.specs.Prelude.{Result, Ok, Err, ◌==◌, nat_le, nat_lt, slice_index, if◌then◌else◌, codes, find, option_map}
+use Rattle.std.specs.Prelude.{Result, Ok, Err, nat_le, nat_lt, slice_index, if◌then◌else◌, codes, find, option_map}
 use Rattle.std.specs.Char.{is_ascii_digit}
 use Rattle.std.specs.List.{list_all, list_any, before_first, after_first}
 use Rattle.std.specs.Str.{str_eq_ignore_ascii_case}

@@ -19,7 +19,7 @@ use value_text::NoMemory;
 const DEPTH: u32 = 64;
 
 /// What is found of a part of a constraint, the worse the later.
-#[derive(Debug, Drop, Clone, Copy, PartialEq, Eq)]
+#[derive(Drop, Clone, Copy)]
 pub(crate) enum Finding {
     /// Each of its terms fits the parameters.
     Fits,
@@ -58,7 +58,7 @@ impl Finding {
 }
 
 // What joins conjunctions, and what joins units.
-#[derive(Debug, Drop, Clone, Copy, PartialEq, Eq)]
+#[derive(Drop, Clone, Copy)]
 enum Joint {
     Or,
     And,

@@ -11,7 +11,7 @@ use std::alloc::Global;
 use value_text::NoMemory;
 
 /// The type of a parameter (ACTS guide).
-#[derive(Debug, Drop, Clone, Copy, PartialEq, Eq)]
+#[derive(Drop, Clone, Copy, PartialEq, Eq)]
 pub(crate) enum Kind {
     /// Whole numbers.
     Int,

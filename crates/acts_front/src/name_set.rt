@@ -1,4 +1,4 @@
-ghost use Rattle.std.specs.Prelude.{◌≡◌, ◌<◌, [], ◌∷◌, ◌++◌, length, false, map, IfOk, IfSome, OnOk};
+ghost use Rattle.std.specs.Prelude.{◌≡◌, ◌<◌, [], ◌∷◌, ◌++◌, length, false, map, IfOk, IfSome, OnOk, OnErr};
 ghost use Rattle.value_text.specs.Texts.{folded};
 ghost use Rattle.model_parse.specs.ValueSteps.{is_known, place_of};
 ghost use Rattle.acts_front.specs.ParameterLines.{has_repeated};
@@ -48,8 +48,8 @@ impl NameSet {
     pub(crate) fn holds(&self, alloc: Global, name: &[u8], fold: bool) -> Result<bool, NoMemory>
         ensures { IfOk result (λ known. known ≡ is_known fold self.now name.now) }
     {
-        let key = folded(alloc, name, fold)?;
-        Ok(self.keys.contains(&key))
+        let place = self.place(alloc, name, fold)?;
+        Ok(place.is_some())
     }
 
     /// The place of a name, from 0; `None` exactly where it isn't among them.
@@ -66,10 +66,11 @@ impl NameSet {
         Ok(self.keys.get_index_of(&key))
     }
 
-    /// Adds a name that isn't among them.
+    /// Adds a name that isn't among them. Where memory is refused, they stay as they are.
     pub(crate) fn add(&mut self, alloc: Global, name: &[u8], fold: bool) -> Result<(), NoMemory>
         requires { is_known fold self.old name.now ≡ false }
-        ensures { OnOk result (self.new ≡ self.old ++ folded fold name.now ∷ []) }
+        ensures added { OnOk result (self.new ≡ self.old ++ folded fold name.now ∷ []) }
+        ensures refused { OnErr result (self.new ≡ self.old) }
     {
         let key = folded(alloc, name, fold)?;
         self.keys.insert(key)?;
@@ -77,11 +78,16 @@ impl NameSet {
     }
 }
 
-/// Whether one of some texts is the same as an earlier one.
-pub(crate) fn has_repeated(alloc: Global, texts: &[&[u8]], fold: bool) -> Result<bool, NoMemory>
+// Whether one of some texts is the same as an earlier one. The set is empty at first, and keeps those so far.
+fn is_one_known(
+    alloc: Global,
+    texts: &[&[u8]],
+    fold: bool,
+    earlier: &mut NameSet,
+) -> Result<bool, NoMemory>
+    requires { earlier.old ≡ [] }
     ensures { IfOk result (λ repeated. repeated ≡ has_repeated fold [] (map (λ text. text.now) texts.now)) }
 {
-    let mut earlier = NameSet::new(alloc);
     for text in texts {
         if earlier.holds(alloc, text, fold)? {
             return Ok(true);
@@ -89,4 +95,12 @@ pub(crate) fn has_repeated(alloc: Global, texts: &[&[u8]], fold: bool) -> Result
         earlier.add(alloc, text, fold)?;
     }
     Ok(false)
+}
+
+/// Whether one of some texts is the same as an earlier one.
+pub(crate) fn has_repeated(alloc: Global, texts: &[&[u8]], fold: bool) -> Result<bool, NoMemory>
+    ensures { IfOk result (λ repeated. repeated ≡ has_repeated fold [] (map (λ text. text.now) texts.now)) }
+{
+    let mut earlier = NameSet::new(alloc);
+    is_one_known(alloc, texts, fold, &mut earlier)
 }

@@ -1,5 +1,5 @@
-ghost use Rattle.std.specs.Prelude.{◌≡◌, ◌++◌, false, option_map, IfOk, OnOk};
-ghost use Rattle.acts_front.specs.ParameterLines.{is_declared, parameter_in, read_parameter};
+ghost use Rattle.std.specs.Prelude.{◌≡◌, ◌||◌, [], ◌++◌, false, option_map, IfOk, OnOk};
+ghost use Rattle.acts_front.specs.ParameterLines.{folds, has_repeated, is_declared, parameter_in, read_parameter};
 ghost use Rattle.acts_front.specs.Reading.{Reads, parameter_seen};
 ghost use Rattle.acts_front.specs.Translation.{parameter_text};
 
@@ -51,14 +51,26 @@ impl Parameter<'_> {
     pub(crate) fn put(&self, alloc: Global, out: &mut Vec<u8>) -> Result<(), NoMemory>
         ensures { OnOk result (out.new.items ≡ out.old.items ++ parameter_text (parameter_seen self.now)) }
     {
-        let values = self.kind.printed(alloc, self.values.as_slice())?;
         out.extend_from_slice(self.name)?;
         out.extend_from_slice(b": ")?;
+        let values = self.kind.printed(alloc, self.values.as_slice())?;
         put_list(out, values.as_slice())
     }
 }
 
 impl Scope<'_> {
+    // Whether the name of a parameter is declared, or one of its values is repeated.
+    fn is_repeated(&self, alloc: Global, param: &Parameter<'_>) -> Result<bool, NoMemory>
+        ensures { IfOk result (λ repeated. repeated ≡ (is_declared self.now param.now.name.now
+            || has_repeated (folds self.now.fold param.now.kind) [] (parameter_seen param.now).values)) }
+    {
+        let folds = param.kind.folds(self.fold());
+        Ok(
+            self.declares(alloc, param.name)?
+                || has_repeated(alloc, param.values.as_slice(), folds)?,
+        )
+    }
+
     /// The parameter of a line behind those that are declared.
     ///
     /// # Errors
@@ -77,10 +89,7 @@ impl Scope<'_> {
         let Some(param) = Parameter::read(alloc, text)? else {
             return Err(ActsFault::Bad(line, ActsCode::A3));
         };
-        let folds = param.kind.folds(self.fold());
-        if self.declares(alloc, param.name)?
-            || has_repeated(alloc, param.values.as_slice(), folds)?
-        {
+        if self.is_repeated(alloc, &param)? {
             return Err(ActsFault::Bad(line, ActsCode::A4));
         }
         Ok(param)

@@ -1,9 +1,9 @@
-ghost use Rattle.std.specs.Prelude.{◌≡◌, ◌&&◌, ◌++◌, is_some, length, nat_lt, option_map, map, IfOk, OnOk};
+ghost use Rattle.std.specs.Prelude.{◌≡◌, ◌&&◌, ◌++◌, is_some, length, nat_lt, option_map, map, IfOk, MatchOption, OnOk, Some, Ok, Err};
 ghost use Rattle.std.specs.List.{list_all};
 ghost use Rattle.value_text.specs.Numbers.{count_of};
 ghost use Rattle.acts_front.specs.ParameterLines.{are_few_digits, is_declared, is_name};
 ghost use Rattle.acts_front.specs.Reading.{Reads, relation_seen};
-ghost use Rattle.acts_front.specs.RelationLines.{are_members, read_relation, relation_in, relation_in_parts};
+ghost use Rattle.acts_front.specs.RelationLines.{are_members, read_relation, related_in, relation_in, relation_in_parts};
 ghost use Rattle.acts_front.specs.Translation.{relation_text};
 
 use crate::code::{ActsCode, ActsFault};
@@ -118,6 +118,21 @@ impl Scope<'_> {
         Ok(!repeated)
     }
 
+    // Why a relation of this form is refused, if it is.
+    fn refusal(&self, alloc: Global, relation: &Relation<'_>) -> Result<Option<ActsCode>, NoMemory>
+        ensures { let seen = relation_seen relation.now in IfOk result (λ refusal. MatchOption refusal
+            (related_in self.now (Some seen) ≡ Ok seen) (λ code. related_in self.now (Some seen) ≡ Err code)) }
+    {
+        let members = relation.members.as_slice();
+        if !self.are_members(alloc, members)? {
+            return Ok(Some(ActsCode::A6));
+        }
+        if !is_strength(relation.strength, members.len()) {
+            return Ok(Some(ActsCode::A7));
+        }
+        Ok(None)
+    }
+
     /// The relation of a line behind the parameters that are declared.
     ///
     /// # Errors
@@ -136,13 +151,9 @@ impl Scope<'_> {
         let Some(relation) = Relation::read(alloc, text)? else {
             return Err(ActsFault::Bad(line, ActsCode::A5));
         };
-        let members = relation.members.as_slice();
-        if !self.are_members(alloc, members)? {
-            return Err(ActsFault::Bad(line, ActsCode::A6));
+        match self.refusal(alloc, &relation)? {
+            Some(code) => Err(ActsFault::Bad(line, code)),
+            None => Ok(relation),
         }
-        if !is_strength(relation.strength, members.len()) {
-            return Err(ActsFault::Bad(line, ActsCode::A7));
-        }
-        Ok(relation)
     }
 }

@@ -72,19 +72,17 @@ impl<'a> Scope<'a> {
         }
     }
 
-    /// The same with one more parameter, of a name that isn't declared.
-    pub(crate) fn with(
-        mut self,
-        alloc: Global,
-        name: &'a [u8],
-        kind: Kind,
-    ) -> Result<Scope<'a>, NoMemory>
-        requires { is_declared self name.now ≡ false }
-        ensures { IfOk result (λ scope. scope ≡ record self.entry { params = self.entry.params ++ record { name = name.now; kind = kind } ∷ [] }) }
+    /// Adds a parameter, of a name that isn't declared.
+    pub(crate) fn add(&mut self, alloc: Global, name: &'a [u8], kind: Kind) -> Result<(), NoMemory>
+        requires { is_declared self.old name.now ≡ false }
+        ensures { OnOk result (self.new ≡ record self.old { params = self.old.params ++ record { name = name.now; kind = kind } ∷ [] }) }
     {
-        let fold = self.fold;
-        self.names.add(alloc, name, fold)?;
         self.declared.push((name, kind))?;
-        Ok(self)
+        let fold = self.fold;
+        let added = self.names.add(alloc, name, fold);
+        if added.is_err() {
+            self.declared.pop();
+        }
+        added
     }
 }

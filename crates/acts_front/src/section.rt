@@ -2,7 +2,7 @@ ghost use Rattle.std.specs.Prelude.{◌≡◌};
 ghost use Rattle.acts_front.specs.Lines.{begun, headed, place_of};
 
 /// The section that a line stands in (ACTS guide).
-#[derive(Debug, Drop, Clone, Copy, PartialEq, Eq)]
+#[derive(Drop, Clone, Copy)]
 pub(crate) enum Section {
     /// Before the first header.
     Outside,

@@ -13,7 +13,7 @@ use std::alloc::Global;
 use value_text::NoMemory;
 
 /// A token of a constraint line (ACTS guide).
-#[derive(Debug, Drop, Clone, Copy)]
+#[derive(Drop, Clone, Copy)]
 pub(crate) enum Token<'a> {
     /// A name.
     Name(&'a [u8]),

@@ -1,20 +1,23 @@
-ghost use Rattle.std.specs.Prelude.{◌≡◌, ◌≤◌, ◌^◌, [], length, IfOk};
-ghost use Rattle.acts_front.specs.ActsFiles.{constraint_line, line_gives, line_in, parameter_line, relation_line, section_behind, section_in, text_gives};
-ghost use Rattle.acts_front.specs.ParameterLines.{read_parameter};
-ghost use Rattle.acts_front.specs.Reading.{Adds, Translates, ended};
+ghost use Rattle.std.specs.Prelude.{◌≡◌, ◌≤◌, ◌^◌, [], false, length, Some, IfOk, OnOk};
+ghost use Rattle.std.specs.Result.{result_map_both};
+ghost use Rattle.acts_front.specs.ActsFiles.{OfParameter, constraint_line, line_gives, line_in, parameter_line, relation_line, section_behind, section_in, text_gives};
+ghost use Rattle.acts_front.specs.ParameterLines.{is_declared, read_parameter};
+ghost use Rattle.acts_front.specs.Reading.{Adds, IsAdded, Translates, ended, parameter_seen, tokens_seen};
 ghost use Rattle.acts_front.specs.RelationLines.{read_relation};
 ghost use Rattle.acts_front.specs.SameModels.{IsFaithful};
 ghost use Rattle.acts_front.specs.Tokens.{tokens_found};
-ghost use Rattle.acts_front.specs.Translation.{translated_text, translation};
+ghost use Rattle.acts_front.specs.Translation.{parameter_text, translated_text, translation};
 
 use crate::code::{ActsCode, ActsFault};
 use crate::line::{are_allowed, cut_line, line_text, without_mark};
+use crate::parameter::Parameter;
 use crate::scope::Scope;
 use crate::section::Section;
 use crate::text::begins_with;
-use crate::token::tokens_found;
+use crate::token::{Token, tokens_found};
 use crate::write::{end_line, put_constraint};
 use std::alloc::Global;
+use value_text::NoMemory;
 
 // What is known behind some lines: the section that they end in, the parameters that they declare, and their
 // translation.
@@ -39,107 +42,101 @@ impl<'a> Translator<'a> {
         }
     }
 
-    // And the text of a parameter line.
-    fn add_parameter(
-        mut self,
-        alloc: Global,
-        line: u32,
-        text: &'a [u8],
-    ) -> Result<Translator<'a>, ActsFault>
-        ensures { Adds line self.entry.section translated_text (parameter_line (read_parameter self.entry.scope text.now)) self.entry result }
+    // Adds a parameter that a line declares, and its text.
+    fn put_parameter(&mut self, alloc: Global, param: &Parameter<'a>) -> Result<(), NoMemory>
+        requires { is_declared self.old.scope param.now.name.now ≡ false }
+        ensures { OnOk result (IsAdded self.old self.new self.old.section (OfParameter (parameter_seen param.now)) (parameter_text (parameter_seen param.now))) }
     {
-        let param = self.scope.parameter(alloc, line, text)?;
         param.put(alloc, &mut self.text)?;
-        self.scope = self.scope.with(alloc, param.name, param.kind)?;
-        Ok(self)
+        self.scope.add(alloc, param.name, param.kind)
     }
 
-    // And the text of a relation line.
-    fn add_relation(
-        mut self,
-        alloc: Global,
-        line: u32,
-        text: &[u8],
-    ) -> Result<Translator<'a>, ActsFault>
-        ensures { Adds line self.entry.section translated_text (relation_line (read_relation self.entry.scope text.now)) self.entry result }
+    // Adds the text of a parameter line.
+    fn add_parameter(&mut self, alloc: Global, line: u32, text: &'a [u8]) -> Result<(), ActsFault>
+        ensures { Adds line self.old.section translated_text (parameter_line (read_parameter self.old.scope text.now)) self.old (result_map_both (λ _. self.new) (λ fault. fault) result) }
+    {
+        let param = self.scope.parameter(alloc, line, text)?;
+        self.put_parameter(alloc, &param)?;
+        Ok(())
+    }
+
+    // Adds the text of a relation line.
+    fn add_relation(&mut self, alloc: Global, line: u32, text: &[u8]) -> Result<(), ActsFault>
+        ensures { Adds line self.old.section translated_text (relation_line (read_relation self.old.scope text.now)) self.old (result_map_both (λ _. self.new) (λ fault. fault) result) }
     {
         let relation = self.scope.relation(alloc, line, text)?;
         relation.put(&mut self.text)?;
-        Ok(self)
+        Ok(())
     }
 
-    // And the text of a constraint line.
-    fn add_constraint(
-        mut self,
+    // Adds the text of the constraint of some tokens.
+    fn add_tokens(
+        &mut self,
         alloc: Global,
         line: u32,
-        text: &[u8],
-    ) -> Result<Translator<'a>, ActsFault>
-        ensures { Adds line self.entry.section translated_text (constraint_line self.entry.scope (tokens_found text.now)) self.entry result }
+        tokens: &[Token<'_>],
+    ) -> Result<(), ActsFault>
+        ensures { Adds line self.old.section translated_text (constraint_line self.old.scope (Some (tokens_seen tokens.now))) self.old (result_map_both (λ _. self.new) (λ fault. fault) result) }
     {
-        let Some(tokens) = tokens_found(alloc, text)? else {
-            return Err(ActsFault::Bad(line, ActsCode::A9));
-        };
-        if let Some(code) = self.scope.constraint(alloc, tokens.as_slice())?.code() {
+        if let Some(code) = self.scope.constraint(alloc, tokens)?.code() {
             return Err(ActsFault::Bad(line, code));
         }
-        put_constraint(&mut self.text, tokens.as_slice())?;
-        Ok(self)
+        put_constraint(&mut self.text, tokens)?;
+        Ok(())
     }
 
-    // And a text that is no header and isn't empty.
-    fn add_in_section(
-        self,
-        alloc: Global,
-        line: u32,
-        text: &'a [u8],
-    ) -> Result<Translator<'a>, ActsFault>
-        ensures { Adds line self.entry.section translated_text (line_in self.entry.section self.entry.scope text.now) self.entry result }
+    // Adds the text of a constraint line.
+    fn add_constraint(&mut self, alloc: Global, line: u32, text: &[u8]) -> Result<(), ActsFault>
+        ensures { Adds line self.old.section translated_text (constraint_line self.old.scope (tokens_found text.now)) self.old (result_map_both (λ _. self.new) (λ fault. fault) result) }
+    {
+        match tokens_found(alloc, text)? {
+            Some(tokens) => self.add_tokens(alloc, line, tokens.as_slice()),
+            None => Err(ActsFault::Bad(line, ActsCode::A9)),
+        }
+    }
+
+    // Adds a text that is no header and isn't empty.
+    fn add_in_section(&mut self, alloc: Global, line: u32, text: &'a [u8]) -> Result<(), ActsFault>
+        ensures { Adds line self.old.section translated_text (line_in self.old.section self.old.scope text.now) self.old (result_map_both (λ _. self.new) (λ fault. fault) result) }
     {
         match self.section {
             Section::Outside => Err(ActsFault::Bad(line, ActsCode::A2)),
-            Section::System => Ok(self),
+            Section::System => Ok(()),
             Section::Parameters => self.add_parameter(alloc, line, text),
             Section::Relations => self.add_relation(alloc, line, text),
             Section::Constraints => self.add_constraint(alloc, line, text),
         }
     }
 
-    // And the text of a line.
-    fn add_text(self, alloc: Global, line: u32, text: &'a [u8]) -> Result<Translator<'a>, ActsFault>
-        ensures { Adds line (section_in self.entry.section text.now) translated_text (text_gives self.entry.section self.entry.scope text.now) self.entry result }
+    // Adds the text of a line.
+    fn add_text(&mut self, alloc: Global, line: u32, text: &'a [u8]) -> Result<(), ActsFault>
+        ensures { Adds line (section_in self.old.section text.now) translated_text (text_gives self.old.section self.old.scope text.now) self.old (result_map_both (λ _. self.new) (λ fault. fault) result) }
     {
         if text.is_empty() {
-            return Ok(self);
+            return Ok(());
         }
         if !begins_with(text, b'[') {
             return self.add_in_section(alloc, line, text);
         }
         match self.section.begun(text) {
             Some(section) => {
-                let mut next = self;
-                next.section = section;
-                Ok(next)
+                self.section = section;
+                Ok(())
             }
             None => Err(ActsFault::Bad(line, ActsCode::A2)),
         }
     }
 
-    // And a line.
-    fn add_line(
-        self,
-        alloc: Global,
-        number: u32,
-        line: &'a [u8],
-    ) -> Result<Translator<'a>, ActsFault>
-        ensures { Adds number (section_behind self.entry.section line.now) ended (line_gives self.entry.section self.entry.scope line.now) self.entry result }
+    // Adds a line.
+    fn add_line(&mut self, alloc: Global, number: u32, line: &'a [u8]) -> Result<(), ActsFault>
+        ensures { Adds number (section_behind self.old.section line.now) ended (line_gives self.old.section self.old.scope line.now) self.old (result_map_both (λ _. self.new) (λ fault. fault) result) }
     {
         if !are_allowed(line) {
             return Err(ActsFault::Bad(number, ActsCode::A1));
         }
-        let mut next = self.add_text(alloc, number, line_text(line))?;
-        end_line(&mut next.text)?;
-        Ok(next)
+        self.add_text(alloc, number, line_text(line))?;
+        end_line(&mut self.text)?;
+        Ok(())
     }
 }
 
@@ -165,7 +162,7 @@ pub fn translate(alloc: Global, bytes: &[u8], fold: bool) -> Result<Vec<u8>, Act
         let (line, behind) = cut_line(rest);
         rest = behind;
         number += 1;
-        translator = translator.add_line(alloc, number, line)?;
+        translator.add_line(alloc, number, line)?;
     }
     if translator.scope.is_empty() {
         return Err(ActsFault::Bad(1, ActsCode::A8));

@@ -1,6 +1,6 @@
 -- Names of events, as texts and in the keys of a set.
-use Rattle.std.proofs.Common.{◌≡◌, ℕ, ◌<◌, Bool, true, false, ◌||◌, cond, List, [], ◌∷◌, ◌++◌, map, length, Option, Some, None, Result, Ok}
-use Rattle.std.proofs.Common.{Err, IfOk, is_ok, refl, sym, ◌∙◌, ap, position, nat_lt, eqb, arith, get_or, AllPairs, ◌≢◌, length-append}
+use Rattle.std.proofs.Common.{◌≡◌, ℕ, ◌<◌, Bool, true, false, ◌||◌, cond, List, [], ◌∷◌, ◌++◌, map, length, Option, Some, None}
+use Rattle.std.proofs.Common.{refl, sym, ◌∙◌, ap, position, nat_lt, eqb, arith, get_or, AllPairs, ◌≢◌, length-append}
 use Rattle.std.proofs.lemmas.Bool.{and_parts, both_ways}
 use Rattle.std.proofs.lemmas.Bool.Decides.{nat_tests}
 use Rattle.std.proofs.lemmas.List.{map-append}
@@ -50,10 +50,6 @@ added_is text name key keys new names e same views absent =
     let known = any_text text (text key) keys ∙ ap (λ t. list_any (bytes_eq t) (map text keys)) same ∙ ap (list_any (bytes_eq name)) views ∙ unnumbered names name absent in
     ap (map text) (e ∙ ap (λ b. cond b keys (keys ++ key ∷ [])) known)
     ∙ map-append text keys (key ∷ []) ∙ ap (λ ns. ns ++ text key ∷ []) views ∙ ap (λ t. names ++ t ∷ []) same
-
-pub on_ok : {T E : Type 0} (r : Result T E) (P : Type 0) → IfOk r (λ _. P) → is_ok r ≡ true → P
-on_ok (Ok x) P h e = h
-on_ok (Err x) P h e = cc
 
 -- names stay distinct where one is added that is none of them
 pub still_distinct : (names : List (List ℕ)) (name : List ℕ) → AllPairs (λ a b. a ≢ b) names → number_of names name ≡ None → AllPairs (λ a b. a ≢ b) (names ++ name ∷ [])

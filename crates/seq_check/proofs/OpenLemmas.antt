@@ -1,9 +1,9 @@
 -- Which sequences are open, by the place of their set.
-use Rattle.std.proofs.Common.{◌≡◌, ℕ, ◌+◌, ◌*◌, ◌<◌, ◌≤◌, ◌⊎◌, ◌-◌, Bool, true, false, ◌&&◌, List, [], ◌∷◌, ◌++◌, length}
+use Rattle.std.proofs.Common.{◌≡◌, ℕ, ◌+◌, ◌*◌, ◌<◌, ◌≤◌, ◌⊎◌, ◌-◌, Bool, true, false, ◌&&◌, List, [], ◌∷◌, ◌++◌, length, not}
 use Rattle.std.proofs.Common.{take, get_or, slice_index, nat_lt, eqb, All, inl, inr, refl, sym, ap, subst, ◌∙◌, arith}
 use Rattle.std.specs.Bool.{Decides}
 use Rattle.std.specs.Str.{bytes_eq}
-use Rattle.std.proofs.lemmas.Bool.{and_parts, and_from, cases_eq, eq-eqb, eqb-true, ne_eqb, lt-ltb, ltb-true}
+use Rattle.std.proofs.lemmas.Bool.{and_parts, and_from, cases_eq, cases_lt, eq-eqb, eqb-true, ne_eqb, le-ltb, lt-ltb, ltb-true}
 use Rattle.std.proofs.lemmas.Bool.Decides.{same_from_decides}
 use Rattle.std.proofs.lemmas.List.{take_more, length-take-le}
 use Rattle.std.proofs.Math.Seq.{take-length}
@@ -11,7 +11,8 @@ use Rattle.std.proofs.lemmas.List.Elements.{All-head, All-tail, All-take}
 use Rattle.std.proofs.lemmas.Slice.Eq.{bytes_eq-Decides}
 use Rattle.std.proofs.Math.Bool.{and-false, and-true}
 use Rattle.seq_check.proofs.FindLemmas.{swapped}
-use Rattle.seq_check.specs.EventSets.{AreSets, IsFront, OpenView, first_of, rises, second_of, set_count, set_place}
+use Rattle.seq_check.specs.EventSets.{AreSets, IsFront, OpenView, first_of, in_set, in_set_at, rises, second_of, set_count, set_place}
+use Rattle.seq_check.specs.declared.event_set.EventSet.{EventSet}
 
 -- the events but the last of two, and of three
 pub record Two (n : ℕ) (front : List ℕ) : Type 0 where
@@ -181,3 +182,37 @@ ahead_three at n event first second last within below is = elim (cases_eq event 
       ∙ ap (λ e. nat_lt (slice_index at first) (slice_index at e) && nat_lt (slice_index at e) (slice_index at last)) same ∙ three_rise at first second last)
   | inr apart ↦ rw (ne_eqb event second apart) refl
 ]
+
+-- the triples closed so far, with one more last event
+same_step : (old here within : Bool) → ((old && true) && not (here && within)) ≡ (old && not ((here && true) && within))
+same_step false here within = refl
+same_step true true within = refl
+same_step true false within = refl
+
+pub closed_more : (at : List ℕ) (event last n : ℕ) (firsts : EventSet) (before now after : List EventSet) → n ≤ 64 → last < n → slice_index at event < slice_index at last
+    → ((first second k : ℕ) → first < 64 → second < 64 → k < n → in_set_at now (64 * second + k) first ≡ (in_set_at before (64 * second + k) first
+    && not ((nat_lt k last && (eqb event second && nat_lt (slice_index at event) (slice_index at k))) && in_set firsts first)))
+    → ((other first : ℕ) → first < 64 → in_set_at after other first ≡ (in_set_at now other first && not (eqb (64 * event + last) other && in_set firsts first)))
+    → (first second k : ℕ) → first < 64 → second < 64 → k < n → in_set_at after (64 * second + k) first ≡ (in_set_at before (64 * second + k) first
+    && not ((nat_lt k (last + 1) && (eqb event second && nat_lt (slice_index at event) (slice_index at k))) && in_set firsts first))
+closed_more at event last n firsts before now after few below higher so_far closed first second k f s low =
+    closed (64 * second + k) first f ∙ ap (λ t. t && not (eqb (64 * event + last) (64 * second + k) && in_set firsts first)) (so_far first second k f s low)
+    ∙ elim (cases_eq last k) [
+      | inl same ↦
+          let here : eqb (64 * event + last) (64 * second + k) ≡ eqb event second = elim (cases_eq event second) [
+            | inl e ↦ eq-eqb (64 * event + last) (64 * second + k) (omega arith) ∙ sym (eq-eqb event second e)
+            | inr apart ↦ ne_eqb (64 * event + last) (64 * second + k) (λ e. apart (omega arith)) ∙ sym (ne_eqb event second apart)
+          ] in
+          let past : nat_lt k last ≡ false = le-ltb k last (omega arith) in
+          let next : nat_lt k (last + 1) ≡ true = lt-ltb k (last + 1) (omega arith) in
+          let up : nat_lt (slice_index at event) (slice_index at k) ≡ true = lt-ltb _ _ (subst (λ j. slice_index at event < slice_index at j) same higher) in
+          rw (here, past, next, up) (same_step (in_set_at before (64 * second + k) first) (eqb event second) (in_set firsts first))
+      | inr apart ↦
+          let there : eqb (64 * event + last) (64 * second + k) ≡ false =
+          ne_eqb (64 * event + last) (64 * second + k) (λ e. apart (same_pair event last second k (omega arith) (omega arith) e).1) in
+          let bound : nat_lt k (last + 1) ≡ nat_lt k last = elim (cases_lt k last) [
+            | inl lower ↦ lt-ltb k (last + 1) (omega arith) ∙ sym (lt-ltb k last lower)
+            | inr past ↦ le-ltb k (last + 1) (omega arith) ∙ sym (le-ltb k last past)
+          ] in
+          rw (there, bound) (and-true _)
+    ]

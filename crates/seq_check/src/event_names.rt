@@ -1,4 +1,4 @@
-ghost use Rattle.std.specs.Prelude.{◌≡◌, ◌<◌, [], ◌∷◌, ◌++◌, length, None, IfOk, IfSome, OnOk};
+ghost use Rattle.std.specs.Prelude.{◌≡◌, ◌<◌, [], ◌∷◌, ◌++◌, length, take, None, IfOk, IfSome, OnOk, OnErr};
 ghost use Rattle.seq_check.specs.EventFile.{number_of};
 
 use indexmap::IndexSet;
@@ -39,13 +39,21 @@ impl EventNames {
         Ok(self.keys.get_index_of(&key))
     }
 
-    /// Adds a name that no event has.
+    /// Adds a name that no event has. Where memory is refused, they stay as they are.
     pub(crate) fn add(&mut self, alloc: Global, name: &[u8]) -> Result<(), NoMemory>
         requires { number_of self.old name.now ≡ None }
-        ensures { OnOk result (self.new ≡ self.old ++ name.now ∷ []) }
+        ensures added { OnOk result (self.new ≡ self.old ++ name.now ∷ []) }
+        ensures refused { OnErr result (self.new ≡ self.old) }
     {
         let key = Vec::from_slice(alloc, name)?;
-        let inserted = self.keys.insert(key).is_ok();
-        if inserted { Ok(()) } else { Err(NoMemory) }
+        self.keys.insert(key)?;
+        Ok(())
+    }
+
+    /// Drops the names behind the first so many.
+    pub(crate) fn truncate(&mut self, count: usize)
+        ensures { self.new ≡ take count self.old }
+    {
+        self.keys.truncate(count);
     }
 }

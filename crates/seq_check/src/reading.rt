@@ -1,6 +1,6 @@
-ghost use Rattle.std.specs.Prelude.{◌≡◌, ◌≤◌, ◌<◌, ◌^◌, ◌⊎◌, ◌++◌, [], All, length, IfErr, None, IfOk, true};
-ghost use Rattle.seq_check.specs.Events.{is_name};
-ghost use Rattle.seq_check.specs.EventFile.{Event, Precedence, events_of, events_with, line_of, refusal};
+ghost use Rattle.std.specs.Prelude.{◌≡◌, ◌≤◌, ◌<◌, ◌^◌, ◌⊎◌, ◌∷◌, ◌++◌, [], All, length, IfErr, None, Ok, Err, IfOk, OnOk, OnErr, true};
+ghost use Rattle.seq_check.specs.Events.{AreEvents, is_name};
+ghost use Rattle.seq_check.specs.EventFile.{Event, Precedence, events_of, events_with, line_of, number_of, refusal};
 ghost use Rattle.seq_check.specs.Reading.{AreKnown, Declared, Reads, Refuses, SoFar, nothing_declared, with_line};
 
 use crate::cut::{cut_line, without_mark, without_return};
@@ -46,60 +46,75 @@ impl Reading {
         }
     }
 
-    // And a line that declares an event.
-    fn declare(mut self, alloc: Global, line: u32, name: &str) -> Result<Reading, EventsFault>
+    // Adds an event of a new name.
+    fn add_event(&mut self, alloc: Global, line: u32, name: &str) -> Result<(), NoMemory>
+        requires name { is_name name.now ≡ true }
+        requires fresh { number_of self.old.names name.now ≡ None }
+        ensures { OnOk result (self.new ≡ with_line line (Event name.now) self.old) }
+    {
+        self.known.add(alloc, name.as_bytes())?;
+        if add_text(alloc, name, &mut self.names).is_err() {
+            self.known.truncate(self.names.len());
+            return Err(NoMemory);
+        }
+        self.last = line;
+        Ok(())
+    }
+
+    // Reads a line that declares an event.
+    fn declare(&mut self, alloc: Global, line: u32, name: &str) -> Result<(), EventsFault>
         requires { is_name name.now ≡ true }
-        ensures ok { IfOk result (λ reading. (refusal self.names (Event name.now) ≡ None) × (reading ≡ with_line line (Event name.now) self)) }
-        ensures err { IfErr result (Refuses line (refusal self.names (Event name.now))) }
+        ensures ok { OnOk result ((refusal self.old.names (Event name.now) ≡ None) × (self.new ≡ with_line line (Event name.now) self.old)) }
+        ensures err { IfErr result (Refuses line (refusal self.old.names (Event name.now))) }
     {
         if self.known.number(alloc, name.as_bytes())?.is_some() {
             return Err(EventsFault::Bad(line, EventCode::Q2));
         }
-        self.known.add(alloc, name.as_bytes())?;
-        self.names.push(Text::copy(alloc, name)?)?;
-        self.last = line;
-        Ok(self)
+        self.add_event(alloc, line, name)?;
+        Ok(())
     }
 
-    // And a line that gives a precedence.
+    // Reads a line that gives a precedence.
     fn precede(
-        mut self,
+        &mut self,
         alloc: Global,
         line: u32,
         first: &[u8],
         second: &[u8],
-    ) -> Result<Reading, EventsFault>
-        ensures ok { IfOk result (λ reading. (refusal self.names (Precedence first.now second.now) ≡ None) × (reading ≡ with_line line (Precedence first.now second.now) self)) }
-        ensures err { IfErr result (Refuses line (refusal self.names (Precedence first.now second.now))) }
+    ) -> Result<(), EventsFault>
+        ensures ok { OnOk result ((refusal self.old.names (Precedence first.now second.now) ≡ None) × (self.new ≡ with_line line (Precedence first.now second.now) self.old)) }
+        ensures err { IfErr result (Refuses line (refusal self.old.names (Precedence first.now second.now))) }
     {
         let earlier = self.known.number(alloc, first)?;
         let later = self.known.number(alloc, second)?;
         match (earlier, later) {
             (Some(earlier), Some(later)) => {
                 self.pairs.push((earlier, later))?;
-                Ok(self)
+                Ok(())
             }
             _ => Err(EventsFault::Bad(line, EventCode::Q3)),
         }
     }
 
-    // And a line.
-    fn read_line(self, alloc: Global, line: u32, text: &[u8]) -> Result<Reading, EventsFault>
-        ensures ok { IfOk result (λ reading. (refusal self.names (line_of text.now) ≡ None) × (reading ≡ with_line line (line_of text.now) self)) }
-        ensures err { IfErr result (Refuses line (refusal self.names (line_of text.now))) }
+    // Reads a line.
+    fn read_line(&mut self, alloc: Global, line: u32, text: &[u8]) -> Result<(), EventsFault>
+        ensures ok { OnOk result ((refusal self.old.names (line_of text.now) ≡ None) × (self.new ≡ with_line line (line_of text.now) self.old)) }
+        ensures err { IfErr result (Refuses line (refusal self.old.names (line_of text.now))) }
     {
         match line_of(text) {
-            EventLine::Ignored => Ok(self),
+            EventLine::Ignored => Ok(()),
             EventLine::Event(name) => self.declare(alloc, line, name),
             EventLine::Precedence(first, second) => self.precede(alloc, line, first, second),
             EventLine::Neither => Err(EventsFault::Bad(line, EventCode::Q1)),
         }
     }
 
-    // The events, where all lines are read.
-    fn finish(self, alloc: Global, length: u32) -> Result<Events, EventsFault>
+    // The precedences, where all lines are read and the events aren't refused.
+    fn kept_pairs(&self, alloc: Global, length: u32) -> Result<PairList, EventsFault>
         requires { (length ≡ 2) ⊎ (length ≡ 3) }
-        ensures { Reads (events_with length self.names self.pairs self.last) result }
+        ensures kept { IfOk result (λ pairs. AreEvents (record { names = self.now.names; precedences = pairs; len = length })) }
+        ensures read { IfOk result (λ pairs. events_with length self.now.names self.now.pairs self.now.last ≡ Ok (record { names = self.now.names; precedences = pairs; len = length })) }
+        ensures refused { IfErr result (λ fault. Reads (events_with length self.now.names self.now.pairs self.now.last) (Err fault)) }
     {
         if self.names.is_empty() {
             return Err(EventsFault::Bad(1, EventCode::Q4));
@@ -114,8 +129,25 @@ impl Reading {
             return Err(EventsFault::Bad(self.last, EventCode::Q5));
         }
         let pairs = short_pairs(alloc, self.pairs.as_slice())?;
+        Ok(pairs)
+    }
+
+    // The events, where all lines are read.
+    fn finish(self, alloc: Global, length: u32) -> Result<Events, EventsFault>
+        requires { (length ≡ 2) ⊎ (length ≡ 3) }
+        ensures { Reads (events_with length self.names self.pairs self.last) result }
+    {
+        let pairs = self.kept_pairs(alloc, length)?;
         Ok(Events::new(self.names, pairs, length))
     }
+}
+
+// Adds a copy of a text. Where memory is refused, the texts stay as they are.
+fn add_text(alloc: Global, text: &str, into: &mut TextList) -> Result<(), NoMemory>
+    ensures added { OnOk result (into.new ≡ into.old ++ text.now ∷ []) }
+    ensures refused { OnErr result (into.new ≡ into.old) }
+{
+    into.push(Text::copy(alloc, text)?)
 }
 
 // Pairs of small numbers.
@@ -153,7 +185,7 @@ pub fn read_events(alloc: Global, bytes: &[u8], t: u32) -> Result<Events, Events
         let (text, behind) = cut_line(rest);
         rest = behind;
         line += 1;
-        reading = reading.read_line(alloc, line, without_return(text))?;
+        reading.read_line(alloc, line, without_return(text))?;
     }
     reading.finish(alloc, t)
 }

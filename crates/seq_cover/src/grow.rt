@@ -1,7 +1,7 @@
 //! Growth: sequence by sequence.
-ghost use Rattle.std.specs.Prelude.{◌≡◌, ◌≤◌, ◌<◌, ◌+◌, ◌∷◌, ◌++◌, [], ℕ, All, false, length, fold, IfOk, OnOk};
+ghost use Rattle.std.specs.Prelude.{◌≡◌, ◌≤◌, ◌<◌, ◌+◌, ◌-◌, ◌∷◌, ◌++◌, [], ℕ, All, false, length, fold, IfOk, OnOk};
 ghost use Rattle.seq_check.specs.EventSets.{IsFront};
-ghost use Rattle.seq_check.specs.Orders.{arrows, is_among, is_had, lengthened};
+ghost use Rattle.seq_check.specs.Orders.{arrows, distinct_lists, is_among, is_had, lengthened, sequences};
 ghost use Rattle.seq_check.specs.Verdicts.{verdict};
 ghost use Rattle.seq_check.specs.declared.verdict.OrderVerdict.TheVariants.{Accepted};
 ghost use Rattle.seq_cover.specs.Covering.{Covers};
@@ -34,7 +34,38 @@ struct Fixed {
     back: Arrows,
 }
 
+impl Fixed {
+    // The precedences of these events.
+    fn of(alloc: Global, events: &Events) -> Result<Fixed, NoMemory>
+        ensures { IfOk result (λ fixed. AreFixed events.now fixed.ways fixed.ends fixed.back) }
+    {
+        events.assert_invariant();
+        let precedences = events.precedences().as_slice();
+        Ok(Fixed {
+            ways: ways_of(alloc, precedences)?,
+            ends: Arrows::of(alloc, precedences)?,
+            back: Arrows::back(alloc, precedences)?,
+        })
+    }
+}
+
 impl Growth {
+    // Nothing grown.
+    fn new(alloc: Global, events: &Events) -> Result<Growth, NoMemory>
+        ensures suite { IfOk result (λ growth. growth.suite ≡ nothing_grown) }
+        ensures left { IfOk result (λ growth. IsLeft events.now growth.opened growth.suite.rows) }
+    {
+        events.assert_invariant();
+        let opened = OpenSequences::new(alloc, events.length())?;
+        Ok(Growth {
+            suite: OrderSuite {
+                rows: OwnedList::new(alloc),
+                never: OwnedList::new(alloc),
+            },
+            opened,
+        })
+    }
+
     // Sets a sequence aside.
     fn set_aside(&mut self, sequence: NoList, cycle: NoList) -> Result<(), NoMemory>
         ensures rows { OnOk result (self.new.suite.rows ≡ self.old.suite.rows) }
@@ -122,6 +153,42 @@ impl Growth {
         }
         Ok(())
     }
+
+    // Takes the sequences that begin with these lists, which are all of them.
+    fn settle_fronts(
+        &mut self,
+        alloc: Global,
+        events: &Events,
+        fixed: &Fixed,
+        fronts: &[NoList],
+    ) -> Result<(), NoMemory>
+        requires left { IsLeft events.now self.old.opened self.old.suite.rows }
+        requires fixed { AreFixed events.now fixed.now.ways fixed.now.ends fixed.now.back }
+        requires fronts { fronts.now ≡ distinct_lists (length events.now.names) (events.now.len - 1) }
+        ensures { OnOk result (self.new.suite ≡ fold (settled events.now) self.old.suite (sequences events.now)) }
+    {
+        events.assert_invariant();
+        for front in fronts {
+            self.settle_all(alloc, events, fixed, front.as_slice())?;
+        }
+        Ok(())
+    }
+}
+
+// What is grown along the sequences that begin with these lists, which are all of them.
+fn grow_from(
+    alloc: Global,
+    events: &Events,
+    fixed: &Fixed,
+    fronts: &[NoList],
+) -> Result<OrderSuite, NoMemory>
+    requires fixed { AreFixed events.now fixed.now.ways fixed.now.ends fixed.now.back }
+    requires fronts { fronts.now ≡ distinct_lists (length events.now.names) (events.now.len - 1) }
+    ensures { IfOk result (λ suite. suite ≡ grown events.now) }
+{
+    let mut growth = Growth::new(alloc, events)?;
+    growth.settle_fronts(alloc, events, fixed, fronts)?;
+    Ok(growth.suite)
 }
 
 // The rows and the sequences that are set aside, as growth takes the sequences in their order.
@@ -129,24 +196,9 @@ fn grow_suite(alloc: Global, events: &Events) -> Result<OrderSuite, NoMemory>
     ensures { IfOk result (λ suite. suite ≡ grown events.now) }
 {
     events.assert_invariant();
-    let precedences = events.precedences().as_slice();
-    let fixed = Fixed {
-        ways: ways_of(alloc, precedences)?,
-        ends: Arrows::of(alloc, precedences)?,
-        back: Arrows::back(alloc, precedences)?,
-    };
-    let mut growth = Growth {
-        suite: OrderSuite {
-            rows: OwnedList::new(alloc),
-            never: OwnedList::new(alloc),
-        },
-        opened: OpenSequences::new(alloc, events.length())?,
-    };
+    let fixed = Fixed::of(alloc, events)?;
     let fronts = distinct_lists(alloc, events.names().len() as u16, events.length() - 1)?;
-    for front in fronts.as_slice() {
-        growth.settle_all(alloc, events, &fixed, front.as_slice())?;
-    }
-    Ok(growth.suite)
+    grow_from(alloc, events, &fixed, fronts.as_slice())
 }
 
 /// Rows that together have each sequence that a permitted order has, and the other sequences, each with a cycle as

@@ -114,9 +114,9 @@ pub(crate) fn build_row(
         Tells opened.now count (λ s. not (is_had rows s)) → row ≡ built_from count len pairs rows count []) }
     ensures few { IfOk result (λ row. length row ≤ 64) }
 {
+    let mut gains = vec![in alloc; 0; count as usize]?;
     let mut row = OwnedList::new(alloc);
     let mut placed = EventSet::none();
-    let mut gains = vec![in alloc; 0; count as usize]?;
     for turn in 0..count {
         let Some(event) = next_placed(back, placed, gains.as_slice()) else {
             return Ok(row);

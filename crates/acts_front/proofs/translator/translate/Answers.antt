@@ -14,13 +14,13 @@ loop-rest-init c =
 
 pub loop-rest-preserved : goal.loop-rest-preserved
 loop-rest-preserved c =
-    goes_on c.cut_line.result.1.now c.loop-rest.invariant c.cut_line.ensures.lines c.cut_line.ensures.shorter _ c.in_ok-translator.translator refl c.in_ok-translator.ensures
+    goes_on c.cut_line.result.1.now c.loop-rest.invariant c.cut_line.ensures.lines c.cut_line.ensures.shorter _ c.add_line.new.self refl c.in_ok-add_line.ensures
 
-pub returns-in_err-translator-clause-translated : goal.returns-in_err-translator-clause-translated
-returns-in_err-translator-clause-translated c =
-    let is : c.from_residual.result ≡ Err c.in_err-translator.field-0.0 = search rules in
+pub returns-in_err-add_line-clause-translated : goal.returns-in_err-add_line-clause-translated
+returns-in_err-add_line-clause-translated c =
+    let is : c.from_residual.result ≡ Err c.in_err-add_line.field-0.0 = search rules in
     rw is
-    (refused c.cut_line.result.1.now c.loop-rest.invariant c.cut_line.ensures.lines c.cut_line.ensures.shorter _ c.in_err-translator.field-0.0 refl c.in_err-translator.ensures)
+    (refused c.cut_line.result.1.now c.loop-rest.invariant c.cut_line.ensures.lines c.cut_line.ensures.shorter _ c.in_err-add_line.field-0.0 refl c.in_err-add_line.ensures)
 
 pub returns-then-is_empty-clause-translated : goal.returns-then-is_empty-clause-translated
 returns-then-is_empty-clause-translated c =

@@ -14,16 +14,16 @@ pub loop-rest-preserved : goal.loop-rest-preserved
 loop-rest-preserved c =
     let behind = c.cut_line.result.1.now in
     let cut = ap (map without_return) c.cut_line.ensures.lines ∙ ap (λ text. text ∷ file_lines behind) (sym c.without_return.ensures) in
-    rw c.in_ok-reading.ensures.ok.1
-    (reads behind c.loop-rest.invariant cut c.cut_line.ensures.shorter c.in_ok-reading.ensures.ok.0)
+    rw c.in_ok-read_line.ensures.ok.1
+    (reads behind c.loop-rest.invariant cut c.cut_line.ensures.shorter c.in_ok-read_line.ensures.ok.0)
 
-pub returns-in_err-reading : goal.returns-in_err-reading
-returns-in_err-reading c =
+pub returns-in_err-read_line : goal.returns-in_err-read_line
+returns-in_err-read_line c =
     let behind = c.cut_line.result.1.now in
     let cut = ap (map without_return) c.cut_line.ensures.lines ∙ ap (λ text. text ∷ file_lines behind) (sym c.without_return.ensures) in
-    let is : c.from_residual.result ≡ Err c.in_err-reading.field-0.0 = search rules in
+    let is : c.from_residual.result ≡ Err c.in_err-read_line.field-0.0 = search rules in
     rw is
-    (stops behind c.loop-rest.invariant cut c.cut_line.ensures.shorter c.args.t c.in_err-reading.field-0.0 c.in_err-reading.ensures.err)
+    (stops behind c.loop-rest.invariant cut c.cut_line.ensures.shorter c.args.t c.in_err-read_line.field-0.0 c.in_err-read_line.ensures.err)
 
 pub returns : goal.returns
 returns c =

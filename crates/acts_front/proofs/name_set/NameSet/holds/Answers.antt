@@ -1,9 +1,10 @@
-use Rattle.std.proofs.Common.{ℕ, Vec}
-use Rattle.std.specs.declared.alloc.Global.{Global}
-use Rattle.model_parse.proofs.Names.{known_is}
+use Rattle.std.proofs.Common.{◌∙◌, ap}
+use Rattle.std.specs.Prelude.{is_some}
+use Rattle.std.specs.Str.{bytes_eq}
+use Rattle.value_text.specs.Texts.{folded}
+use Rattle.acts_front.proofs.Mapped.{is_some-position}
 use Rattle.acts_front.proofs.name_set.NameSet.holds.Goals as goal
 
 pub returns : goal.returns
 returns c =
-    known_is (λ (key : Vec ℕ Global). key.items) c.args.fold c.args.name.now c.in_ok-key.key.items
-    c.self.inside.keys.keys c.args.self.now c.contains.result c.contains.ensures c.in_ok-key.ensures c.self.view_is
+    c.is_some.ensures ∙ (ap is_some c.in_ok-place.ensures.value ∙ is_some-position (bytes_eq (folded c.args.fold c.args.name.now)) c.args.self.now)

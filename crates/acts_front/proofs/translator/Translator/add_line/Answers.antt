@@ -10,12 +10,13 @@ use Rattle.acts_front.proofs.translator.Translator.add_line.Goals as goal
 
 pub returns : goal.returns
 returns c =
-    let section = c.args.self.section in
-    let scope = c.args.self.scope in
+    let self = c.args.self.now in
     let text = c.line_text.result.now in
-    let next : Translator = record { section = c.in_ok-next.next.section; scope = c.in_ok-next.next.scope; text = c.end_line.new.out } in
+    let added = c.add_text.new.self in
+    let next : Translator = record { section = added.section; scope = added.scope; text = c.end_line.new.out } in
     let allowed : list_all is_allowed c.args.line.now ≡ true = sym c.are_allowed.ensures ∙ c.if-not-are_allowed.false in
-    let gives : line_gives section scope c.args.line.now ≡ text_gives section scope (lines.line_text c.args.line.now) = rw allowed refl in
-    subst (λ given. Adds c.args.number (section_in section (lines.line_text c.args.line.now)) ended given c.args.self (Ok next)) (ap (text_gives section scope) c.line_text.ensures ∙ sym gives)
-    (subst (λ behind. Adds c.args.number (section_in section behind) ended (text_gives section scope text) c.args.self (Ok next)) c.line_text.ensures
-    (adds_ended c.args.number (section_in section text) (text_gives section scope text) c.args.self c.in_ok-next.next next c.in_ok-next.ensures c.in_ok-end_line.ensures refl refl))
+    let gives : line_gives self.section self.scope c.args.line.now ≡ text_gives self.section self.scope (lines.line_text c.args.line.now) = rw allowed refl in
+    subst (λ given. Adds c.args.number (section_in self.section (lines.line_text c.args.line.now)) ended given self (Ok next))
+    (ap (text_gives self.section self.scope) c.line_text.ensures ∙ sym gives)
+    (subst (λ behind. Adds c.args.number (section_in self.section behind) ended (text_gives self.section self.scope text) self (Ok next)) c.line_text.ensures
+    (adds_ended c.args.number (section_in self.section text) (text_gives self.section self.scope text) self added next c.in_ok-add_text.ensures c.in_ok-end_line.ensures refl refl))
