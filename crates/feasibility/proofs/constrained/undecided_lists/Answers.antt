@@ -1,15 +1,30 @@
-use Rattle.std.proofs.Common.{◌++◌, ◌∷◌, ◌∙◌, [], Some, None, get_or, set, sym, ap, subst, map, zero-add}
+use Rattle.std.proofs.Common.{ℕ, ◌<◌, length, ◌++◌, ◌∷◌, ◌∙◌, [], Some, None, get_or, set, sym, ap, subst, map, zero-add}
 use Rattle.std.specs.List.{range_with_len}
+use Rattle.std.proofs.lemmas.List.{length-set}
 use Rattle.std.proofs.lemmas.List.FromFn.{map-range_with_len_more}
+use Rattle.cov_model.specs.Sound.{ModelView}
 use Rattle.feasibility.specs.Live.{AreRules}
 use Rattle.feasibility.specs.Tree.{naming, undecided, undecided_on}
 use Rattle.feasibility.proofs.Broken.{none_at}
 use Rattle.feasibility.proofs.Naming.{naming_exist}
-use Rattle.feasibility.proofs.Nodes.{set_clear}
+use Rattle.feasibility.proofs.Nodes.{length-none, set_clear}
 use Rattle.feasibility.proofs.constrained.undecided_lists.Goals as goal
 
 pub undecided_on-requires-clause-exist : goal.undecided_on-requires-clause-exist
 undecided_on-requires-clause-exist c = subst (AreRules c.args.rules.now) (sym c.requires.named) (naming_exist c.args.rules.now c.args.p c.model.ensures.sound)
+
+pub value_count-count-requires : goal.value_count-count-requires
+value_count-count-requires c = subst (λ (m : ModelView). c.args.p < length m.params) (sym c.model.ensures.value) c.requires.parameter
+
+pub set_cell-requires : goal.set_cell-requires
+set_cell-requires c =
+    subst (λ (n : ℕ). c.args.p < n) (sym (length-none c.args.rules.now c.loop-v.cells (c.loop-v.invariant.cells ∙ c.requires.none))) c.requires.parameter
+
+pub clear_cell-requires : goal.clear_cell-requires
+clear_cell-requires c = subst (λ (n : ℕ). c.args.p < n)
+    (sym (ap length c.set_cell.ensures ∙ length-set c.loop-v.cells c.args.p (Some c.loop-v.v)
+    ∙ length-none c.args.rules.now c.loop-v.cells (c.loop-v.invariant.cells ∙ c.requires.none)))
+    c.requires.parameter
 
 pub loop-v-preserved : goal.loop-v-preserved
 loop-v-preserved c =

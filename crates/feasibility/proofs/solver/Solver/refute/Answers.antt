@@ -7,8 +7,10 @@ use Rattle.definitions.specs.Search.{constrained_params, visit}
 use Rattle.definitions.specs.SliceRows.{IsOfSlice}
 use Rattle.refutation.specs.Proofs.{format_of}
 use Rattle.refutation.specs.declared.omissions.Omission.{Omission}
+use Rattle.feasibility.specs.KeptTrees.{IsKeptTree}
+use Rattle.feasibility.specs.Recurring.{AreAnswered}
 use Rattle.feasibility.specs.Refuting.{RefuterView, earlier_tuples}
-use Rattle.feasibility.specs.Solving.{SolverView}
+use Rattle.feasibility.specs.Solving.{IsReady, SolverView}
 use Rattle.feasibility.specs.Tree.{IsListed}
 use Rattle.feasibility.proofs.Extendable.{solver_lists}
 use Rattle.feasibility.proofs.Paths.{solver_refutes}
@@ -46,3 +48,18 @@ tree_of-requires-clause-unfound c =
     (subst (λ (s : SolverView). IsOfSlice s.model s.slice (cells_of (length s.model.params) c.args.tuple.now)) (sym c.self.view_is) c.requires.of)
     (subst (λ (s : SolverView). slice_of s.model (cells_of (length s.model.params) c.args.tuple.now) ≡ s.slice) (sym c.self.view_is) c.requires.slice)
     (subst (λ (s : SolverView). IsUnserved s.model (cells_of (length s.model.params) c.args.tuple.now)) (sym c.self.view_is) c.requires.unserved)
+
+pub tree_of-requires-clause-long : goal.tree_of-requires-clause-long
+tree_of-requires-clause-long c = c.self.invariant.0.room ∙ ap (λ (r : RefuterView). length r.model.params) (sym c.new-refuter.ensures)
+
+pub tree_of-requires-clause-ready : goal.tree_of-requires-clause-ready
+tree_of-requires-clause-ready c =
+    subst (λ (r : RefuterView). IsReady r.model r.lists c.self.inside.fails c.self.inside.sets) (sym c.new-refuter.ensures) c.self.invariant.0.ready
+
+pub tree_of-requires-clause-answered : goal.tree_of-requires-clause-answered
+tree_of-requires-clause-answered c =
+    subst (λ (r : RefuterView). AreAnswered r.model r.lists c.self.inside.answered) (sym c.new-refuter.ensures) c.self.invariant.1
+
+pub tree_of-requires-clause-kept : goal.tree_of-requires-clause-kept
+tree_of-requires-clause-kept c =
+    subst (λ (r : RefuterView). IsKeptTree r.model r.lists c.self.inside.kept) (sym c.new-refuter.ensures) c.self.invariant.2
