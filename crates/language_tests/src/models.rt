@@ -7,25 +7,43 @@ use model_lex::{Marks, ModelFault, ModelOpts, NoteList, OrderWord, split_model};
 use model_parse::{RawModel, parse_params};
 use std::alloc::{AllocError, Global};
 use test_models::{options, read};
+use value_text::Text;
+
+// Adds a number and a text.
+fn put(alloc: Global, number: u32, behind: &str, into: &mut String) -> Result<(), AllocError> {
+    let text = format!(in alloc; "{number}{behind}")?;
+    into.push_str(text.as_str())
+}
+
+fn put_names(names: &[Text], into: &mut String) -> Result<(), AllocError> {
+    for (at, name) in names.iter().enumerate() {
+        into.push_str(if at > 0 { "|" } else { "" })?;
+        into.push_str(name.as_str())?;
+    }
+    Ok(())
+}
 
 // ` ~a|b(5)` for a negative value a with the alias b and the weight 5.
 fn show_value(alloc: Global, value: &Value, into: &mut String) -> Result<(), AllocError> {
     into.push_str(if value.negative { " ~" } else { " " })?;
-    for (at, name) in value.names.as_slice().iter().enumerate() {
-        into.push_str(if at > 0 { "|" } else { "" })?;
-        into.push_str(name.as_str())?;
-    }
+    put_names(value.names.as_slice(), into)?;
     if value.weight != 1 {
-        into.push_str(format!(in alloc; "({})", value.weight)?.as_str())?;
+        into.push_str("(")?;
+        put(alloc, value.weight, ")", into)?;
     }
     Ok(())
 }
 
 // `2#A: 1 2` for a numeric parameter A of line 2 with the values 1 and 2.
 fn show_param(alloc: Global, param: &Param, into: &mut String) -> Result<(), AllocError> {
-    let mark = if param.numeric { "#" } else { "" };
-    let name = param.name.as_str();
-    into.push_str(format!(in alloc; "{}{mark}{name}:", param.line)?.as_str())?;
+    put(
+        alloc,
+        param.line,
+        if param.numeric { "#" } else { "" },
+        into,
+    )?;
+    into.push_str(param.name.as_str())?;
+    into.push_str(":")?;
     for value in param.values.as_slice() {
         show_value(alloc, value, into)?;
     }
@@ -34,14 +52,23 @@ fn show_param(alloc: Global, param: &Param, into: &mut String) -> Result<(), All
 
 fn show_group(alloc: Global, group: &Group, into: &mut String) -> Result<(), AllocError> {
     for p in group.members.as_slice() {
-        into.push_str(format!(in alloc; "{p} ")?.as_str())?;
+        put(alloc, u32::from(*p), " ", into)?;
     }
-    into.push_str(format!(in alloc; "@ {}\n", group.order)?.as_str())
+    into.push_str("@ ")?;
+    put(alloc, group.order, "\n", into)
 }
 
 fn show_groups(alloc: Global, groups: &[Group], into: &mut String) -> Result<(), AllocError> {
     for group in groups {
         show_group(alloc, group, into)?;
+    }
+    Ok(())
+}
+
+fn show_notes(alloc: Global, notes: &NoteList, into: &mut String) -> Result<(), AllocError> {
+    for note in notes.as_slice() {
+        into.push_str("note ")?;
+        put(alloc, note.line, "\n", into)?;
     }
     Ok(())
 }
@@ -57,18 +84,25 @@ fn show(
         show_param(alloc, param, into)?;
     }
     let demand = model.demand();
-    into.push_str(format!(in alloc; "order {}\n", demand.order)?.as_str())?;
+    into.push_str("order ")?;
+    put(alloc, demand.order, "\n", into)?;
     show_groups(alloc, demand.subs.as_slice(), into)?;
     into.push_str("and\n")?;
     show_groups(alloc, demand.relations.as_slice(), into)?;
-    for note in notes.as_slice() {
-        into.push_str(format!(in alloc; "note {}\n", note.line)?.as_str())?;
-    }
-    Ok(())
+    show_notes(alloc, notes, into)
 }
 
-// Whether a model and its notes are shown so.
-fn are_shown(alloc: Global, model: &TestModel, notes: &NoteList, shown: &str) -> bool {
+// Whether a model keeps the prefix and the letters of these options, and is shown so with its notes.
+fn are_shown(
+    alloc: Global,
+    model: &TestModel,
+    notes: &NoteList,
+    opts: &ModelOpts,
+    shown: &str,
+) -> bool {
+    if model.prefix() != opts.marks.prefix || model.fold() != opts.fold {
+        return false;
+    }
     let mut text = String::new(alloc);
     match show(alloc, model, notes, &mut text) {
         Ok(()) => text.as_str() == shown,
@@ -76,10 +110,12 @@ fn are_shown(alloc: Global, model: &TestModel, notes: &NoteList, shown: &str) ->
     }
 }
 
-// Whether the model of a file is shown so.
-fn is_shown(alloc: Global, file: &str, shown: &str) -> bool {
-    match read(alloc, file, &options(2)) {
-        Ok((model, notes)) => are_shown(alloc, &model, &notes, shown),
+// The same of the model of a file.
+fn is_shown(alloc: Global, file: &str, opts: &ModelOpts, shown: &str) -> bool
+    requires { AreOpts opts.now }
+{
+    match read(alloc, file, opts) {
+        Ok((model, notes)) => are_shown(alloc, &model, &notes, opts, shown),
         Err(_) => false,
     }
 }
@@ -119,7 +155,7 @@ const MODELS: &[(&str, &str)] = &[
 #[test]
 fn reads_models(rt: HostRuntime) {
     for (file, shown) in MODELS {
-        assert!(rt; is_shown(rt.alloc(), file, shown), "{file}");
+        assert!(rt; is_shown(rt.alloc(), file, &options(2), shown), "{file}");
     }
 }
 
@@ -138,21 +174,11 @@ fn other_options() -> ModelOpts
     }
 }
 
-// Whether a file that is read by them is shown so, and its model keeps the prefix and the letters.
-fn is_shown_otherwise(alloc: Global, file: &str, shown: &str) -> bool {
-    match read(alloc, file, &other_options()) {
-        Ok((model, notes)) => {
-            are_shown(alloc, &model, &notes, shown) && model.prefix() == b'!' && !model.fold()
-        }
-        Err(_) => false,
-    }
-}
-
 #[test]
 fn reads_by_other_marks(rt: HostRuntime) {
     let file = "A: 1; 2,5\nB: a;A;!b/~c\n{ A; B }";
     let shown = "1A: 1 2,5\n2B: a A ~b|~c\norder 2\n0 1 @ 2\nand\n";
-    assert!(rt; is_shown_otherwise(rt.alloc(), file, shown));
+    assert!(rt; is_shown(rt.alloc(), file, &other_options(), shown));
 }
 
 fn parsed(alloc: Global) -> Result<RawModel, ModelFault> {
