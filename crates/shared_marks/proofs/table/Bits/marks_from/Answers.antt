@@ -25,8 +25,8 @@ returns c =
     let read = get_or_read words (from / 64) word (word_listed words size from c.self.invariant below) c.index-word.ensures 0 in
     subst (λ marks. AreMarksFrom marks from c.args.count (bit_and word ((2 ^ 64 - 1) / 2 ^ (64 - c.args.count)))) c.self.view_is
     (marks_read words size from c.args.count word (record {
-      below = λ i near.
+      below = λ i within near.
           let same : i ≡ from % 64 + i = omega (arith, c.requires.aligned) in
           ap (bit_at word) same ∙ ap (λ w. bit_at w (from % 64 + i)) read;
-      above = λ i far small. absurd (omega (arith, c.requires.aligned, far, small));
+      above = λ i within far. absurd (omega (arith, c.requires.aligned, c.requires.few, far, within));
     }) c.requires.few (omega (arith, c.requires.within, seen, long)))
