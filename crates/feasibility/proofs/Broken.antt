@@ -118,7 +118,7 @@ longer_alone n cells p v long is q assigned =
     ]
 
 -- a constraint that names a parameter and isn't undecided by its value holds
-decided : (m : ModelView) (cells : List (Option ℕ)) (p v k : ℕ) → IsSound m → length cells ≡ length m.params → get_or cells p None ≡ Some v → 0 < k
+pub decided : (m : ModelView) (cells : List (Option ℕ)) (p v k : ℕ) → IsSound m → length cells ≡ length m.params → get_or cells p None ≡ Some v → 0 < k
     → k ≤ length m.rules
     → is_among (body_params (rule_at m k).body) p ≡ true → is_among (undecided m p v) k ≡ false → is_yes (body_truth m (rule_at m k).body cells) ≡ true
 decided m cells p v k sound long is some most named away =

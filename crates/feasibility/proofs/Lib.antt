@@ -22,6 +22,7 @@ pub mod LeastRules
 pub mod Citing
 pub mod Recurring
 pub mod Descending
+pub mod Earlier
 pub mod SameTrees
 pub mod KeptTrees
 pub mod TwoFree

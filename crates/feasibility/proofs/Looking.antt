@@ -15,7 +15,7 @@ use Rattle.refutation.proofs.HolderLemmas.{among_last}
 use Rattle.compiled_rules.specs.Codes.{is_yes}
 use Rattle.live_sets.specs.Trail.{LiveView, mark_at, IsSince}
 use Rattle.live_sets.proofs.TrailLemmas.{since_self, since_more}
-use Rattle.feasibility.specs.Live.{AreRules, EachHasOne, HasShape, LookedAt, Narrowed, NoValueBreaks, Stops, breaks_one, no_on}
+use Rattle.feasibility.specs.Live.{AreRules, BreaksNoMark, EachHasOne, HasShape, LookedAt, Narrowed, NoValueBreaks, Stops, breaks_one, no_on}
 use Rattle.feasibility.specs.Tree.{members}
 use Rattle.refutation.proofs.HolderLemmas.{among_last}
 use Rattle.feasibility.proofs.Broken.{breaks_by, breaks_of, longer_set}
@@ -50,28 +50,40 @@ looked_append m some others cells old now new first second = record {
   since = since_more old now new first.since second.since;
 }
 
--- a constraint that is No with no value
-pub looked_unbroken : (m : ModelView) (k : ℕ) (cells : List (Option ℕ)) (sets : LiveView) → HasShape m sets.live → EachHasOne m cells sets.live
-    → no_on m cells k ≡ false → NoValueBreaks m k cells → LookedAt m (k ∷ []) cells sets sets
-looked_unbroken m k cells sets shape left unbroken none = record {
-  unbroken = ap (λ (b : Bool). b || false) unbroken;
+-- a constraint that neither is No nor is made so by a value that is marked
+pub looked_seen : (m : ModelView) (k : ℕ) (cells : List (Option ℕ)) (sets : LiveView) → HasShape m sets.live → EachHasOne m cells sets.live
+    → BreaksNoMark m k cells sets → LookedAt m (k ∷ []) cells sets sets
+looked_seen m k cells sets shape left seen = record {
+  unbroken = ap (λ (b : Bool). b || false) seen.unbroken;
   shape = shape;
-  marks = λ q w low inside free. stays (mark_at sets.live q w) (no_on m (with_value cells q w) k) (none q w free);
+  marks = λ q w low inside free. stays (mark_at sets.live q w) (no_on m (with_value cells q w) k) (seen.kept q w low inside free);
   left = left;
   since = since_self sets;
 }
   where
-    stays : (a b : Bool) → b ≡ false → a ≡ (a && not (b || false))
-    stays true b h = sym (ap (λ (c : Bool). not (c || false)) h)
+    stays : (a b : Bool) → (a ≡ true → b ≡ false) → a ≡ (a && not (b || false))
+    stays true b h = sym (ap (λ (c : Bool). not (c || false)) (h refl))
     stays false b h = refl
 
+-- one that is No with no value
+pub looked_unbroken : (m : ModelView) (k : ℕ) (cells : List (Option ℕ)) (sets : LiveView) → HasShape m sets.live → EachHasOne m cells sets.live
+    → no_on m cells k ≡ false → NoValueBreaks m k cells → LookedAt m (k ∷ []) cells sets sets
+looked_unbroken m k cells sets shape left unbroken none =
+    looked_seen m k cells sets shape left (record { unbroken = unbroken; kept = λ q w low inside free marked. none q w free })
+
 -- one that holds
+pub holds_seen : (m : ModelView) (k : ℕ) (cells : List (Option ℕ)) (sets : LiveView) → is_yes (body_truth m (rule_at m k).body cells) ≡ true
+    → BreaksNoMark m k cells sets
+holds_seen m k cells sets holds = record {
+  unbroken = not_no (body_truth m (rule_at m k).body cells) holds;
+  kept = λ q w low inside free marked.
+      not_no (body_truth m (rule_at m k).body (with_value cells q w))
+      (yes_from_yes _ _ (stays_body m (rule_at m k).body cells (with_value cells q w) (longer_set cells q w free)) holds);
+}
+
 pub looked_holds : (m : ModelView) (k : ℕ) (cells : List (Option ℕ)) (sets : LiveView) → HasShape m sets.live → EachHasOne m cells sets.live
     → is_yes (body_truth m (rule_at m k).body cells) ≡ true → LookedAt m (k ∷ []) cells sets sets
-looked_holds m k cells sets shape left holds =
-    looked_unbroken m k cells sets shape left (not_no (body_truth m (rule_at m k).body cells) holds)
-    (λ q w free. not_no (body_truth m (rule_at m k).body (with_value cells q w))
-    (yes_from_yes _ _ (stays_body m (rule_at m k).body cells (with_value cells q w) (longer_set cells q w free)) holds))
+looked_holds m k cells sets shape left holds = looked_seen m k cells sets shape left (holds_seen m k cells sets holds)
 
 -- a constraint of whose parameters some are looked at
 pub record AheadTo (m : ModelView) (k : ℕ) (cells : List (Option ℕ)) (done : List ℕ) (old new : LiveView) : Type 0 where

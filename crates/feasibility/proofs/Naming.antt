@@ -5,7 +5,7 @@ use Rattle.std.specs.List.{filter, list_any, range_with_len}
 use Rattle.std.proofs.lemmas.Bool.{false_from_ne_true}
 use Rattle.std.proofs.lemmas.List.{get_or-map, get_or_default, map-append, take_more}
 use Rattle.std.proofs.lemmas.Grind.{flat_map-append}
-use Rattle.std.proofs.lemmas.List.Elements.{All-append, All-filter, All-map, All-nil, filter-append}
+use Rattle.std.proofs.lemmas.List.Elements.{Contains-get_or, All-append, All-filter, All-map, All-nil, filter-append}
 use Rattle.std.proofs.lemmas.List.Folds.{list_any-append}
 use Rattle.std.proofs.lemmas.List.FromFn.{length-map-range_with_len, length-range_with_len, get_or-map-range_with_len}
 use Rattle.value_text.proofs.ListLemmas.{length-filter-le, range_with_len_more}
@@ -22,7 +22,7 @@ use Rattle.cov_model.specs.declared.constraint.Pred.{Pred}
 use Rattle.definitions.specs.Demand.{is_among}
 use Rattle.definitions.specs.Completion.{with_value}
 use Rattle.definitions.specs.Search.{pred_params, parts_params, body_params, constrained_params}
-use Rattle.definitions.proofs.Members.{Has, all_members as members_are, any_member, contains_member, has_filter, of_range}
+use Rattle.definitions.proofs.Members.{Has, all_members as members_are, any_member, contains_member, has_contained, has_filter, of_filter, of_range}
 use Rattle.definitions.proofs.Nothing.{nothing_kept}
 use Rattle.definitions.proofs.ProofWords.{rule_numbers}
 use Rattle.definitions.proofs.SliceLemmas.{has_params, of_params}
@@ -134,6 +134,12 @@ member_exists n body list i is within =
     subst (All (λ q. q < n)) (sym is)
     (All-filter (is_among (body_params body)) (λ q. q < n) (range_with_len 0 n)
     (members_are (λ q. q < n) (range_with_len 0 n) (λ q has. omega (arith, (of_range 0 n q has).1)))) i 0 within
+
+pub member_named : (n : ℕ) (body : BodyView) (list : List ℕ) (i : ℕ) → list ≡ members n body → i < length list
+    → is_among (body_params body) (get_or list i 0) ≡ true
+member_named n body list i is within =
+    (of_filter (is_among (body_params body)) (range_with_len 0 n) (get_or list i 0)
+    (subst (λ (numbers : List ℕ). Has numbers (get_or list i 0)) is (has_contained list (get_or list i 0) (Contains-get_or list i 0 within)))).1
 
 pub constrained_exists : (m : ModelView) (i : ℕ) → i < length (constrained_params m) → get_or (constrained_params m) i 0 < length m.params
 constrained_exists m i within =

@@ -7,7 +7,7 @@ use Rattle.cov_model.specs.Rows.{is_assigned, value_in}
 use Rattle.cov_model.specs.Kleene.{body_truth}
 use Rattle.definitions.specs.Completion.{with_value}
 use Rattle.definitions.specs.Demand.{is_among}
-use Rattle.definitions.specs.Search.{breaks_a_rule, is_no}
+use Rattle.definitions.specs.Search.{body_params, breaks_a_rule, is_no}
 use Rattle.live_sets.specs.Trail.{LiveView, mark_at, IsSince}
 use Rattle.compiled_rules.specs.Codes.{is_yes}
 use Rattle.feasibility.specs.Tree.{no_values, undecided}
@@ -30,6 +30,23 @@ pub record IsFree (m : ModelView) (k : ℕ) (cells : List (Option ℕ)) (q : ℕ
 -- with no value of a parameter that has none is the constraint No
 abbrev pub NoValueBreaks : ModelView → ℕ → List (Option ℕ) → Type 0
 NoValueBreaks m k cells = (q w : ℕ) → is_assigned cells q ≡ false → no_on m (with_value cells q w) k ≡ false
+
+-- a constraint is neither No nor, with a value that is marked, made so
+pub record BreaksNoMark (m : ModelView) (k : ℕ) (cells : List (Option ℕ)) (sets : LiveView) : Type 0 where
+  pub unbroken : no_on m cells k ≡ false
+  pub kept : (q w : ℕ) → q < length m.params → w < length (param_at m.params q).values → is_assigned cells q ≡ false
+      → mark_at sets.live q w ≡ true → no_on m (with_value cells q w) k ≡ false
+
+-- a constraint names a parameter below a number that has a value
+pub record NamesEarlier (m : ModelView) (k p : ℕ) (cells : List (Option ℕ)) : Type 0 where
+  pub param : ℕ
+  pub below : param < p
+  pub named : is_among (body_params (rule_at m k).body) param ≡ true
+  pub given : is_assigned cells param ≡ true
+
+-- those that do so say nothing more of a value
+abbrev pub AreSeen : ModelView → ℕ → List (Option ℕ) → LiveView → Type 0
+AreSeen m p cells sets = (k : ℕ) → 0 < k → k ≤ length m.rules → NamesEarlier m k p cells → BreaksNoMark m k cells sets
 
 -- one of these constraints is No
 abbrev pub breaks_one : ModelView → List ℕ → List (Option ℕ) → Bool

@@ -5,7 +5,8 @@ ghost use Rattle.cov_model.specs.Rows.{is_assigned};
 ghost use Rattle.definitions.specs.Completion.{with_value};
 ghost use Rattle.definitions.specs.Search.{constrained_params, is_failing};
 ghost use Rattle.live_sets.specs.Trail.{IsSince, mark_at};
-ghost use Rattle.feasibility.specs.Live.{AreRules, EachHasOne, HasShape, IsFree, ListMarks, LookedAt, Narrowed, NarrowedBy, NoValueBreaks, ShowsFailure, ShowsListed, ShowsLive, Stops, no_on};
+ghost use Rattle.feasibility.specs.Live.{AreRules, AreSeen, BreaksNoMark, EachHasOne, HasShape, IsFree, ListMarks, LookedAt, NamesEarlier, Narrowed};
+ghost use Rattle.feasibility.specs.Live.{NarrowedBy, NoValueBreaks, ShowsFailure, ShowsListed, ShowsLive, Stops, no_on};
 ghost use Rattle.feasibility.specs.Tree.{constrained_at, members, no_values};
 
 use crate::tree::SearchTree;
@@ -161,8 +162,8 @@ impl<'a> SearchTree<'a> {
         cells.get(q).is_none() && self.doubtful_of(rule, j).len() < self.count_of(q) as usize
     }
 
-    // Whether two parameters that the constraint names are free so. While either can get that value the
-    // constraint isn't No, so that no value of another parameter need be looked at.
+    // Whether two parameters that the constraint names are free so. Whichever parameter gets a value, one
+    // of the two can still make the constraint hold, so that it is No with no value.
     fn has_two_free(&self, rule: u32, cells: &Cells) -> bool
         requires first { 0 < rule }
         requires last { rule ≤ length self.now.model.rules }
@@ -206,19 +207,62 @@ impl<'a> SearchTree<'a> {
         }
     }
 
-    // Looks at each of the constraints.
-    fn look_at_each(&self, rules: &[u16], cells: &mut Cells, sets: &mut LiveSets) -> bool
+    // Whether the constraint names a parameter below this one that has a value.
+    fn names_earlier(&self, rule: u32, p: ParamNo, cells: &Cells) -> bool
+        requires first { 0 < rule }
+        requires last { rule ≤ length self.now.model.rules }
+        requires fits { FitsModel self.now.model cells.now }
+        ensures { result ≡ true → NamesEarlier self.now.model rule p cells.now }
+    {
+        for q in self.members_of(rule) {
+            if *q >= p {
+                return false;
+            }
+            if cells.get(*q).is_some() {
+                return true;
+            }
+        }
+        false
+    }
+
+    // Looks at a constraint, unless it names a parameter below this one with a value: then it was looked
+    // at from there, or that value alone makes it hold.
+    fn look_once(&self, rule: u32, p: ParamNo, cells: &mut Cells, sets: &mut LiveSets) -> bool
+        requires first { 0 < rule }
+        requires last { rule ≤ length self.now.model.rules }
+        requires fits { FitsModel self.now.model cells.old }
+        requires shape { HasShape self.now.model sets.old.live }
+        requires left { EachHasOne self.now.model cells.old sets.old.live }
+        requires seen { NamesEarlier self.now.model rule p cells.old → BreaksNoMark self.now.model rule cells.old sets.old }
+        ensures looked { result ≡ true → LookedAt self.now.model (rule ∷ []) cells.old sets.old sets.new }
+        ensures stops { result ≡ false → Stops self.now.model cells.old sets.old sets.new }
+        ensures since { IsSince sets.old sets.new }
+        ensures same { cells.new ≡ cells.old }
+    {
+        self.names_earlier(rule, p, cells) || self.look_at(rule, cells, sets)
+    }
+
+    // Looks at each of the constraints, but not again at those that name a parameter below this one with a
+    // value. No parameter is below 0.
+    fn look_at_each(
+        &self,
+        rules: &[u16],
+        p: ParamNo,
+        cells: &mut Cells,
+        sets: &mut LiveSets,
+    ) -> bool
         requires exist { AreRules self.now.model rules.now }
         requires fits { FitsModel self.now.model cells.old }
         requires shape { HasShape self.now.model sets.old.live }
         requires left { EachHasOne self.now.model cells.old sets.old.live }
+        requires seen { AreSeen self.now.model p cells.old sets.old }
         ensures looked { result ≡ true → LookedAt self.now.model rules.now cells.old sets.old sets.new }
         ensures stops { result ≡ false → Stops self.now.model cells.old sets.old sets.new }
         ensures since { IsSince sets.old sets.new }
         ensures same { cells.new ≡ cells.old }
     {
         for rule in rules {
-            if !self.look_at(*rule as u32, cells, sets) {
+            if !self.look_once(*rule as u32, p, cells, sets) {
                 return false;
             }
         }
@@ -282,7 +326,8 @@ impl<'a> SearchTree<'a> {
         for i in 0..count {
             let named = self.constrained_at(i);
             if let Some(v) = cells.get(named.param) {
-                if !self.look_at_each(named.undecided.list(v as usize), cells, sets) {
+                let rules = named.undecided.list(v as usize);
+                if !self.look_at_each(rules, named.param, cells, sets) {
                     return false;
                 }
             }
@@ -308,6 +353,6 @@ impl<'a> SearchTree<'a> {
         self.assert_invariant();
         let named = self.constrained_at(i);
         cells.set_cell(named.param, v);
-        self.look_at_each(named.undecided.list(v as usize), cells, sets)
+        self.look_at_each(named.undecided.list(v as usize), 0, cells, sets)
     }
 }

@@ -46,7 +46,8 @@ impl<'a> Model for Solver<'a> {
 
     ghost view = { λ a. record { model = a.tree.model; prefs = a.prefs.now; slice = a.slice } };
 
-    ghost invariant = { λ a. IsSolver (record { model = a.tree.model; prefs = a.prefs.now; slice = a.slice }) a.tree.values a.room a.fails a.sets × AreAnswered a.tree.model a.tree.values a.answered × IsKeptTree a.tree.model a.tree.values a.kept };
+    ghost invariant = { λ a. IsSolver (record { model = a.tree.model; prefs = a.prefs.now; slice = a.slice }) a.tree.values a.room a.fails a.sets
+        × AreAnswered a.tree.model a.tree.values a.answered × IsKeptTree a.tree.model a.tree.values a.kept };
 }
 
 impl<'a> Solver<'a> {

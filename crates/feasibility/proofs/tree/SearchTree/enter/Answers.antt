@@ -1,4 +1,4 @@
-use Rattle.std.proofs.Common.{◌≡◌, ℕ, ◌<◌, ◌∙◌, get_or, length, sym, ap, subst}
+use Rattle.std.proofs.Common.{◌≡◌, ℕ, ◌<◌, ◌∙◌, get_or, length, sym, ap, subst, arith}
 use Rattle.cov_model.specs.Fits.{FitsModel}
 use Rattle.definitions.specs.Completion.{with_value}
 use Rattle.definitions.specs.Search.{constrained_params}
@@ -42,6 +42,9 @@ look_at_each-requires-clause-exist c =
     c.assert_invariant.ensures.sound
     c.constrained_at-named.ensures c.requires.value in
     subst (AreRules c.args.self.now.model) (sym c.list.ensures) has.exist
+
+pub look_at_each-requires-clause-seen : goal.look_at_each-requires-clause-seen
+look_at_each-requires-clause-seen c k some most earlier = absurd (omega (arith, earlier.below))
 
 pub look_at_each-requires-clause-left : goal.look_at_each-requires-clause-left
 look_at_each-requires-clause-left c =

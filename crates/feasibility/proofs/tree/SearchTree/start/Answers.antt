@@ -3,10 +3,11 @@ use Rattle.std.proofs.lemmas.List.{take_all}
 use Rattle.cov_model.specs.Rows.{is_assigned, value_in}
 use Rattle.definitions.specs.Search.{constrained_params}
 use Rattle.live_sets.proofs.TrailLemmas.{since_more}
-use Rattle.feasibility.specs.Live.{AreRules, LookedAt, Stops, undecided_of}
+use Rattle.feasibility.specs.Live.{AreRules, AreSeen, LookedAt, Stops, undecided_of}
 use Rattle.feasibility.specs.Tree.{no_values, undecided}
 use Rattle.feasibility.proofs.Broken.{longer_none}
 use Rattle.feasibility.proofs.Deciding.{decided_free, decided_live, decided_stops, decided_why, fewer_left, free_left, values_decide}
+use Rattle.feasibility.proofs.Earlier.{seen_before}
 use Rattle.feasibility.proofs.Looking.{looked_append, looked_none, stops_before}
 use Rattle.feasibility.proofs.Naming.{constrained_exists, undecided_of_exist, undecided_of_more, has_given}
 use Rattle.feasibility.proofs.tree.SearchTree.start.Goals as goal
@@ -35,8 +36,8 @@ get-requires c =
       c.requires.fits.as_long,
     )
 
-pub list-requires : goal.list-requires
-list-requires c =
+pub list-rules-requires : goal.list-rules-requires
+list-rules-requires c =
     (has_given c.args.self.now.model c.args.cells.now (get_or (constrained_params c.args.self.now.model) c.loop-i.i 0) c.in-Some.v
     c.constrained_at-named.result.now c.assert_invariant.ensures.sound c.requires.fits
     c.constrained_at-named.ensures (ap (λ cells. get_or cells c.constrained_at-named.result.now.param None) (sym c.loop-i.invariant.cells) ∙ sym c.get.ensures
@@ -48,7 +49,16 @@ look_at_each-requires-clause-exist c =
     c.constrained_at-named.result.now c.assert_invariant.ensures.sound c.requires.fits
     c.constrained_at-named.ensures (ap (λ cells. get_or cells c.constrained_at-named.result.now.param None) (sym c.loop-i.invariant.cells) ∙ sym c.get.ensures
     ∙ c.in-Some.is) in
-    subst (AreRules c.args.self.now.model) (sym c.list.ensures) has.exist
+    subst (AreRules c.args.self.now.model) (sym c.list-rules.ensures) has.exist
+
+pub look_at_each-requires-clause-seen : goal.look_at_each-requires-clause-seen
+look_at_each-requires-clause-seen c =
+    let m = c.args.self.now.model in
+    let within : c.loop-i.i < length (constrained_params m) = omega (arith, c.loop-i.invariant.count) in
+    subst (λ p. AreSeen m p c.loop-i.cells c.loop-i.sets) (sym (ap (λ entry. entry.param) c.constrained_at-named.ensures))
+    (subst (λ cells. AreSeen m (get_or (constrained_params m) c.loop-i.i 0) cells c.loop-i.sets) (sym c.loop-i.invariant.cells)
+    (seen_before m c.args.cells.now c.loop-i.i c.args.sets.now c.loop-i.sets c.assert_invariant.ensures.sound c.requires.fits.as_long within
+    c.loop-i.invariant.to))
 
 pub returns-then-not-look_at_each-clause-fails : goal.returns-then-not-look_at_each-clause-fails
 returns-then-not-look_at_each-clause-fails c =
@@ -92,7 +102,7 @@ loop-i-preserved c =
       | in-Some+else-not-look_at_each w ↦
           let has = has_given m c.args.cells.now p w.in-Some.v c.constrained_at-named.result.now c.assert_invariant.ensures.sound c.requires.fits
           c.constrained_at-named.ensures (read ∙ w.in-Some.is) in
-          let list : w.list.result.now ≡ undecided m p w.in-Some.v = w.list.ensures ∙ has.list in
+          let list : w.list-rules.result.now ≡ undecided m p w.in-Some.v = w.list-rules.ensures ∙ has.list in
           record {
             count = c.loop-i.invariant.count;
             cells = w.cells-is ∙ w.look_at_each.ensures.same ∙ c.loop-i.invariant.cells;
@@ -100,8 +110,8 @@ loop-i-preserved c =
                 (sym w.sets-is)
                 (subst (λ numbers. LookedAt m numbers c.args.cells.now c.args.sets.now w.look_at_each.new.sets)
                 (ap (λ numbers. done ++ numbers) list ∙ sym (more ∙ ap (λ (numbers : List _). done ++ numbers) has.given))
-                (looked_append m done w.list.result.now c.args.cells.now c.args.sets.now c.loop-i.sets w.look_at_each.new.sets c.loop-i.invariant.to
-                (subst (λ cells. LookedAt m w.list.result.now cells c.loop-i.sets w.look_at_each.new.sets) c.loop-i.invariant.cells
+                (looked_append m done w.list-rules.result.now c.args.cells.now c.args.sets.now c.loop-i.sets w.look_at_each.new.sets c.loop-i.invariant.to
+                (subst (λ cells. LookedAt m w.list-rules.result.now cells c.loop-i.sets w.look_at_each.new.sets) c.loop-i.invariant.cells
                 (w.look_at_each.ensures.looked w.if-not-look_at_each.false))));
           }
       | in_default w ↦
