@@ -51,6 +51,11 @@ given_within tuple =
     let inside : i < length tuple = omega (arith, within, length-range_with_len 0 (length tuple)) in
     subst (λ (p : ℕ). p < length tuple) (sym (get_or-range_with_len 0 (length tuple) i d inside)) (omega (arith, inside)))
 
+-- they exist in a row of the tuple's length
+pub given_exist : (tuple row : List (Option ℕ)) (params : List ℕ) → params ≡ given_params tuple → length tuple ≡ length row → All (λ p. p < length row) params
+given_exist tuple row params given long =
+    subst (All (λ p. p < length row)) (sym given) (subst (λ (n : ℕ). All (λ p. p < n) (given_params tuple)) long (given_within tuple))
+
 -- one parameter more
 filter-more : (tuple : List (Option ℕ)) (p : ℕ) → filter (is_assigned tuple) (range_with_len 0 (p + 1)) ≡ filter (is_assigned tuple) (range_with_len 0 p)
     ++ filter (is_assigned tuple) (p ∷ [])

@@ -1,9 +1,18 @@
 -- Partial rows that agree and are united, place by place.
-use Rattle.std.proofs.Common.{◌≡◌, ℕ, ◌+◌, ◌<◌, ◌≤◌, Bool, true, cond, ◌&&◌, List, ◌∷◌, length, drop, Option, Some, None, is_some}
-use Rattle.std.proofs.Common.{get_or, set, nat_eq, ◌∙◌, sym, ap, refl, arith, inl, inr, add-one, drop-cons}
-use Rattle.std.proofs.lemmas.Bool.{cases_eq}
-use Rattle.std.proofs.lemmas.List.{length-set, get_or-set_same, get_or-set_other, same_lists, get_or_default}
+use Rattle.std.proofs.Common.{◌≡◌, ◌≢◌, ℕ, ◌+◌, ◌<◌, Bool, true, false, cond, ◌&&◌, ◌||◌, ◌==◌, List, [], ◌∷◌, ◌++◌, length, drop, Option, Some, None, is_some}
+use Rattle.std.proofs.Common.{get_or, nat_eq, ◌∙◌, sym, ap, refl, arith, inl, inr, add-one, drop-cons}
+use Rattle.std.specs.List.{range_with_len}
+use Rattle.std.proofs.lemmas.Bool.{cases_Bool, cases_eq, false_from_ne_true, false≢true, ne_eqb}
+use Rattle.std.proofs.lemmas.List.{same_lists, get_or_default}
+use Rattle.std.proofs.lemmas.List.Folds.{list_any-append}
+use Rattle.value_text.proofs.ListLemmas.{none_of}
+use Rattle.cov_model.specs.Rows.{is_assigned}
+use Rattle.cov_model.proofs.CellLemmas.{assigned_within}
+use Rattle.definitions.specs.Demand.{is_among}
 use Rattle.definitions.specs.Growth.{agrees, union}
+use Rattle.definitions.proofs.Members.{Has, among_has, has_filter, has_range}
+use Rattle.refutation.proofs.HolderLemmas.{among_last}
+use Rattle.ipog_grow.specs.Growing.{given_params}
 use Rattle.ipog_grow.proofs.Tuples.{get_or-union, length-union}
 
 -- two cells don't have different values
@@ -25,46 +34,79 @@ agrees-at row tuple p within long =
     ∙ ap (λ (k : ℕ). get_or tuple p None ∷ drop k tuple) (sym (add-one p)))
     ∙ agrees-cons (get_or row p None) (get_or tuple p None) (drop (p + 1) row) (drop (p + 1) tuple)
 
--- the places before one are those of the union, and the others those of the tuple
-pub record UnitedTo (row tuple cells : List (Option ℕ)) (p : ℕ) : Type 0 where
+-- the value of a parameter in a partial row, and else the one that a tuple gives it, if it is one of these parameters
+abbrev pub united_cell : List (Option ℕ) → List (Option ℕ) → List ℕ → ℕ → Option ℕ
+united_cell row tuple done q = cond (is_some (get_or row q None)) (get_or row q None) (cond (is_among done q) (get_or tuple q None) None)
+
+-- cells have these values
+pub record UnitedAt (row tuple cells : List (Option ℕ)) (done : List ℕ) : Type 0 where
   pub long : length cells ≡ length row
-  pub done : (q : ℕ) → q < p → get_or cells q None ≡ get_or (union row tuple) q None
-  pub rest : (q : ℕ) → p ≤ q → get_or cells q None ≡ get_or tuple q None
+  pub each : (q : ℕ) → get_or cells q None ≡ united_cell row tuple done q
 
-pub united-start : (row tuple : List (Option ℕ)) → length tuple ≡ length row → UnitedTo row tuple tuple 0
-united-start row tuple long = record { long = long; done = λ q before. absurd (omega arith); rest = λ q after. refl }
+pub united-start : (row tuple : List (Option ℕ)) → UnitedAt row tuple row []
+united-start row tuple = record { long = refl; each = λ q. own (get_or row q None) }
+  where
+    own : (cell : Option ℕ) → cell ≡ cond (is_some cell) cell None
+    own (Some v) = refl
+    own None = refl
 
-pub united-none : (row tuple cells : List (Option ℕ)) (p : ℕ) → UnitedTo row tuple cells p → get_or row p None ≡ None → UnitedTo row tuple cells (p + 1)
-united-none row tuple cells p to none = record {
-  long = to.long;
-  done = λ q before.
-      elim (cases_eq q p) [
-        | inl same ↦
-            to.rest q (omega arith)
-            ∙ sym (get_or-union row tuple q ∙ ap (λ (cell : Option ℕ). cond (is_some cell) cell (get_or tuple q None))
-            (ap (λ (k : ℕ). get_or row k None) same ∙ none))
-        | inr differs ↦ to.done q (omega (arith, differs))
-      ];
-  rest = λ q after. to.rest q (omega arith);
+among-other : (done : List ℕ) (p q : ℕ) → q ≢ p → is_among (done ++ p ∷ []) q ≡ is_among done q
+among-other done p q differs =
+    list_any-append (λ k. k == q) done (p ∷ []) ∙ ap (λ (b : Bool). is_among done q || (b || false)) (ne_eqb p q (λ same. differs (sym same)))
+    ∙ or_none (is_among done q)
+  where
+    or_none : (b : Bool) → (b || (false || false)) ≡ b
+    or_none true = refl
+    or_none false = refl
+
+-- one parameter more, which keeps its value, or gets that of the tuple
+pub united-more : (row tuple cells new : List (Option ℕ)) (done : List ℕ) (p : ℕ) → UnitedAt row tuple cells done → length new ≡ length cells
+    → ((q : ℕ) → q ≢ p → get_or new q None ≡ get_or cells q None)
+    → get_or new p None ≡ cond (is_some (get_or cells p None)) (get_or cells p None) (get_or tuple p None) → UnitedAt row tuple new (done ++ p ∷ [])
+united-more row tuple cells new done p to long others own = record {
+  long = long ∙ to.long;
+  each = λ q. elim (cases_eq q p) [
+    | inl same ↦
+        ap (λ (k : ℕ). get_or new k None) same ∙ own
+        ∙ ap (λ (cell : Option ℕ). cond (is_some cell) cell (get_or tuple p None)) (to.each p)
+        ∙ twice (get_or row p None) (get_or tuple p None) (is_among done p)
+        ∙ sym (ap (λ (b : Bool). cond (is_some (get_or row p None)) (get_or row p None) (cond b (get_or tuple p None) None)) (among_last done p))
+        ∙ ap (united_cell row tuple (done ++ p ∷ [])) (sym same)
+    | inr differs ↦
+        others q differs ∙ to.each q
+        ∙ sym (ap (λ (b : Bool). cond (is_some (get_or row q None)) (get_or row q None) (cond b (get_or tuple q None) None)) (among-other done p q differs))
+  ];
 }
+  where
+    twice : (r t : Option ℕ) (b : Bool)
+        → cond (is_some (cond (is_some r) r (cond b t None))) (cond (is_some r) r (cond b t None)) t ≡ cond (is_some r) r (cond true t None)
+    twice (Some v) t b = refl
+    twice None (Some w) true = refl
+    twice None None true = refl
+    twice None t false = refl
 
-pub united-some : (row tuple cells : List (Option ℕ)) (p v : ℕ) → p < length row → UnitedTo row tuple cells p → get_or row p None ≡ Some v
-    → UnitedTo row tuple (set cells p (Some v)) (p + 1)
-united-some row tuple cells p v within to some = record {
-  long = length-set cells p (Some v) ∙ to.long;
-  done = λ q before.
-      elim (cases_eq q p) [
-        | inl same ↦
-            ap (λ (k : ℕ). get_or (set cells p (Some v)) k None) same ∙ get_or-set_same cells p (Some v) None (omega (arith, to.long))
-            ∙ sym (get_or-union row tuple q ∙ ap (λ (cell : Option ℕ). cond (is_some cell) cell (get_or tuple q None))
-            (ap (λ (k : ℕ). get_or row k None) same ∙ some))
-        | inr differs ↦ get_or-set_other cells p q (Some v) None differs ∙ to.done q (omega (arith, differs))
-      ];
-  rest = λ q after. get_or-set_other cells p q (Some v) None (λ same. omega (arith, same)) ∙ to.rest q (omega arith);
-}
-
-pub united-all : (row tuple cells : List (Option ℕ)) (p : ℕ) → p ≡ length row → length tuple ≡ length row → UnitedTo row tuple cells p → cells ≡ union row tuple
-united-all row tuple cells p whole long to =
+pub united-all : (row tuple cells : List (Option ℕ)) → length tuple ≡ length row → UnitedAt row tuple cells (given_params tuple) → cells ≡ union row tuple
+united-all row tuple cells long to =
     let same : length (union row tuple) ≡ length row = length-union row tuple (sym long) in
     same_lists cells (union row tuple) (to.long ∙ sym same) (λ q d within.
-    get_or_default cells q d None within ∙ to.done q (omega (arith, to.long)) ∙ get_or_default (union row tuple) q None d (omega (arith, to.long, same)))
+    get_or_default cells q d None within ∙ whole q ∙ get_or_default (union row tuple) q None d (omega (arith, within, to.long, same)))
+  where
+    listed : (q : ℕ) → is_assigned tuple q ≡ true → Has (given_params tuple) q
+    listed q assigned =
+        has_filter (is_assigned tuple) (range_with_len 0 (length tuple)) q
+        (has_range 0 (length tuple) q (omega arith) (omega (arith, assigned_within tuple q assigned))) assigned
+
+    given : (q : ℕ) → is_among (given_params tuple) q ≡ false → get_or tuple q None ≡ None
+    given q away =
+        none_of (get_or tuple q None)
+        (false_from_ne_true (is_assigned tuple q) (λ assigned. false≢true (sym away ∙ among_has (given_params tuple) q (listed q assigned))))
+
+    beside : (q : ℕ) → cond (is_among (given_params tuple) q) (get_or tuple q None) None ≡ get_or tuple q None
+    beside q = elim (cases_Bool (is_among (given_params tuple) q)) [
+      | inl among ↦ ap (λ (b : Bool). cond b (get_or tuple q None) None) among
+      | inr away ↦ ap (λ (b : Bool). cond b (get_or tuple q None) None) away ∙ sym (given q away)
+    ]
+
+    whole : (q : ℕ) → get_or cells q None ≡ get_or (union row tuple) q None
+    whole q =
+        to.each q ∙ ap (λ (cell : Option ℕ). cond (is_some (get_or row q None)) (get_or row q None) cell) (beside q) ∙ sym (get_or-union row tuple q)

@@ -41,7 +41,7 @@ pub(crate) fn join_first(
     while let Some(i) = candidates.take_first() {
         let row = rows.row(i);
         if agree(row, tuple, given) {
-            unite(row, tuple, room);
+            unite(row, tuple, given, room);
             if asker.ask(room)? {
                 rows.put(i, room.as_slice());
                 return Ok(Some(i));

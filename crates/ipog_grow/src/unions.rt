@@ -1,4 +1,5 @@
-ghost use Rattle.std.specs.Prelude.{◌≡◌, ◌<◌, ◌≤◌, All, length, take};
+ghost use Rattle.std.specs.Prelude.{◌≡◌, ◌≢◌, ℕ, ◌<◌, ◌≤◌, All, None, if◌then◌else◌, length, slice_index_or, take};
+ghost use Rattle.std.specs.Option.{is_some};
 ghost use Rattle.definitions.specs.Growth.{agrees, union};
 ghost use Rattle.ipog_grow.specs.Growing.{given_params};
 
@@ -40,18 +41,34 @@ pub(crate) fn agree(row: &[Option<ValueNo>], tuple: &Cells, given: &[ParamNo]) -
     true
 }
 
-// Puts the values of a partial row and of a tuple that agrees with it.
-pub(crate) fn unite(row: &[Option<ValueNo>], tuple: &Cells, into: &mut Cells)
+// Gives a parameter the value that a tuple gives it, unless it has one.
+fn put_beside(tuple: &Cells, p: ParamNo, into: &mut Cells)
+    requires tuple { p < length tuple.now }
+    requires room { p < length into.old }
+    ensures long { length into.new ≡ length into.old }
+    ensures others { (q : ℕ) → q ≢ p → slice_index_or into.new q None ≡ slice_index_or into.old q None }
+    ensures own { slice_index_or into.new p None
+        ≡ (if is_some (slice_index_or into.old p None) then slice_index_or into.old p None else slice_index_or tuple.now p None) }
+{
+    if into.get(p).is_some() {
+        return;
+    }
+    if let Some(v) = tuple.get(p) {
+        into.set_cell(p, v);
+    }
+}
+
+// Puts the values of a partial row, and beside them those of a tuple that agrees with it. The tuple gives
+// values to these parameters.
+pub(crate) fn unite(row: &[Option<ValueNo>], tuple: &Cells, given: &[ParamNo], into: &mut Cells)
     requires long { length tuple.now ≡ length row.now }
+    requires given { given.now ≡ given_params tuple.now }
+    requires exist { All (λ p. p < length row.now) given.now }
     requires room { length into.old ≡ length row.now }
-    requires few { length row.now ≤ 256 }
     ensures { into.new ≡ union row.now tuple.now }
 {
-    into.copy_from(tuple);
-    let count = row.len() as ParamNo;
-    for p in 0..count {
-        if let Some(v) = row[p as usize] {
-            into.set_cell(p, v);
-        }
+    into.copy_from_slice(row);
+    for p in given {
+        put_beside(tuple, *p, into);
     }
 }

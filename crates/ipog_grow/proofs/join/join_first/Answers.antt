@@ -1,10 +1,9 @@
-use Rattle.std.proofs.Common.{false, ◌≡◌, ◌∙◌, ◌<◌, Bool, ℕ, List, Option, All, length, get_or, ap, refl, sym, subst, set, []}
+use Rattle.std.proofs.Common.{false, ◌∙◌, ◌<◌, Bool, ℕ, List, Option, length, get_or, take, ap, refl, sym, subst, set, []}
 use Rattle.std.proofs.lemmas.List.{get_or-set_same}
 use Rattle.std.proofs.lemmas.Result.{err_from_is_err_and}
 use Rattle.ipog_grow.specs.Asking.{SearchContext, Grows}
-use Rattle.ipog_grow.specs.Growing.{given_params}
 use Rattle.ipog_grow.proofs.Asking.{answered, told-answer}
-use Rattle.ipog_grow.proofs.Giving.{given_within}
+use Rattle.ipog_grow.proofs.Giving.{given_exist}
 use Rattle.ipog_grow.proofs.Joining.{IsOffered, Joins, Takes, joining-none, joining-spent, left, offered, offering-first, offering-start, passed_over, read_row, takes}
 use Rattle.ipog_grow.proofs.join.join_first.Goals as goal
 
@@ -12,10 +11,18 @@ use Rattle.ipog_grow.proofs.join.join_first.Goals as goal
 pub agree-requires-clause-exist : goal.agree-requires-clause-exist
 agree-requires-clause-exist c =
     let within = (offering-first _ c.loop-i.invariant.offering (sym c.take_first.ensures.first ∙ c.in-Some.is)).0 in
-    let long : length c.args.tuple.now ≡ length c.row-row.result.now = c.requires.tuple.of.fits.as_long ∙ sym (c.requires.rows c.in-Some.i [] within).of.fits.as_long
-    ∙ sym (ap length (read_row c.in-Some.i c.loop-i.invariant.rows c.row-row.ensures)) in
-    subst (All (λ p. p < length c.row-row.result.now)) (sym c.put_given_params-count.ensures.given)
-    (subst (λ (n : ℕ). All (λ p. p < n) (given_params c.args.tuple.now)) long (given_within c.args.tuple.now))
+    given_exist c.args.tuple.now c.row-row.result.now (take c.put_given_params-count.result c.put_given_params-count.new.into)
+    c.put_given_params-count.ensures.given
+    (c.requires.tuple.of.fits.as_long ∙ sym (c.requires.rows c.in-Some.i [] within).of.fits.as_long
+    ∙ sym (ap length (read_row c.in-Some.i c.loop-i.invariant.rows c.row-row.ensures)))
+
+pub unite-requires-clause-exist : goal.unite-requires-clause-exist
+unite-requires-clause-exist c =
+    let within = (offering-first _ c.loop-i.invariant.offering (sym c.take_first.ensures.first ∙ c.in-Some.is)).0 in
+    given_exist c.args.tuple.now c.row-row.result.now (take c.put_given_params-count.result c.put_given_params-count.new.into)
+    c.put_given_params-count.ensures.given
+    (c.requires.tuple.of.fits.as_long ∙ sym (c.requires.rows c.in-Some.i [] within).of.fits.as_long
+    ∙ sym (ap length (read_row c.in-Some.i c.loop-i.invariant.rows c.row-row.ensures)))
 
 pub loop-i-init : goal.loop-i-init
 loop-i-init c = record { context = refl; rows = refl; room = refl; offering = offering-start c.requires.candidates c.requires.others }

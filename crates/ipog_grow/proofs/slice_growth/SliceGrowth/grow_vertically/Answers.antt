@@ -1,4 +1,4 @@
-use Rattle.std.proofs.Common.{◌≡◌, ◌∙◌, ◌++◌, ℕ, ◌<◌, IfSome, Err, None, true, get_or, length, ap, sym, subst}
+use Rattle.std.proofs.Common.{◌≡◌, ◌∙◌, ◌++◌, [], All, ℕ, ◌<◌, IfSome, Err, None, true, get_or, length, ap, sym, subst}
 use Rattle.std.specs.List.{list_any}
 use Rattle.std.proofs.lemmas.Result.{err_from_is_err_and}
 use Rattle.cov_model.specs.Sound.{ModelView, param_at}
@@ -38,6 +38,12 @@ put_tuple-requires-clause-members c =
     let own = placed c.loop-place.self.table c.assert_invariant.ensures.context c.loop-place.invariant.downing.is_open.of c.requires.plan
     c.assert_invariant-2.ensures c.in-Some.ensures.own in
     own.few
+
+pub put_tuple-requires-clause-exist : goal.put_tuple-requires-clause-exist
+put_tuple-requires-clause-exist c =
+    let own = placed c.loop-place.self.table c.assert_invariant.ensures.context c.loop-place.invariant.downing.is_open.of c.requires.plan
+    c.assert_invariant-2.ensures c.in-Some.ensures.own in
+    subst (λ n. All (λ p. p < n) (get_or c.args.plan.now.sets c.in-Some.place.0 [])) (sym (c.loop-place.invariant.tuple ∙ c.requires.tuple)) own.exist
 
 pub settle-requires-clause-next : goal.settle-requires-clause-next
 settle-requires-clause-next c =
