@@ -110,7 +110,8 @@ impl<'a> Translator<'a> {
 
     // Adds the text of a line.
     fn add_text(&mut self, alloc: Global, line: u32, text: &'a [u8]) -> Result<(), ActsFault>
-        ensures { Adds line (section_in self.old.section text.now) translated_text (text_gives self.old.section self.old.scope text.now) self.old (result_map_both (λ _. self.new) (λ fault. fault) result) }
+        ensures { Adds line (section_in self.old.section text.now) translated_text (text_gives self.old.section self.old.scope text.now) self.old
+            (result_map_both (λ _. self.new) (λ fault. fault) result) }
     {
         if text.is_empty() {
             return Ok(());
@@ -129,7 +130,8 @@ impl<'a> Translator<'a> {
 
     // Adds a line.
     fn add_line(&mut self, alloc: Global, number: u32, line: &'a [u8]) -> Result<(), ActsFault>
-        ensures { Adds number (section_behind self.old.section line.now) ended (line_gives self.old.section self.old.scope line.now) self.old (result_map_both (λ _. self.new) (λ fault. fault) result) }
+        ensures { Adds number (section_behind self.old.section line.now) ended (line_gives self.old.section self.old.scope line.now) self.old
+            (result_map_both (λ _. self.new) (λ fault. fault) result) }
     {
         if !are_allowed(line) {
             return Err(ActsFault::Bad(number, ActsCode::A1));
