@@ -1,5 +1,6 @@
 -- A cell is filled: the scores are the gains, and the best values are those by falling gain.
-use Rattle.std.proofs.Common.{◌≡◌, ℕ, ◌<◌, ◌≤◌, Bool, true, false, cond, List, [], ◌∷◌, map, length, filter, Option, Some, None, unwrap_or, get_or, set, All, ◌∙◌, sym, ap, refl, arith, inl, inr, zero-add, subst}
+use Rattle.std.proofs.Common.{◌≡◌, ℕ, ◌<◌, ◌≤◌, Bool, true, false, cond, List, [], ◌∷◌, map, length, filter, Option, Some, None, unwrap_or, get_or, set}
+use Rattle.std.proofs.Common.{All, ◌∙◌, sym, ap, refl, arith, inl, inr, zero-add, subst}
 use Rattle.std.specs.List.{range_with_len}
 use Rattle.std.proofs.lemmas.Bool.{false≢true, cases_lt}
 use Rattle.std.proofs.lemmas.List.{get_or_past, get_or-set_same}

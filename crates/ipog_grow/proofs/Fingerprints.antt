@@ -1,5 +1,6 @@
 -- Rows whose fingerprints all differ are distinct.
-use Rattle.std.proofs.Common.{◌≡◌, ℕ, suc, ◌+◌, ◌<◌, ◌≤◌, Bool, true, false, not, cond, List, [], ◌∷◌, length, map, filter, get_or, All, Option, IsPermutation, ◌∙◌, sym, ap, subst, refl, arith, inl, inr, nat_eq}
+use Rattle.std.proofs.Common.{◌≡◌, ℕ, suc, ◌+◌, ◌<◌, ◌≤◌, Bool, true, false, not, cond, List, [], ◌∷◌, length, map, filter, get_or, All, Option}
+use Rattle.std.proofs.Common.{IsPermutation, ◌∙◌, sym, ap, subst, refl, arith, inl, inr, nat_eq}
 use Rattle.std.specs.List.{sum_by}
 use Rattle.std.proofs.lemmas.Bool.{cases_eq}
 use Rattle.std.proofs.lemmas.Bool.Decides.{nat_tests}

@@ -57,9 +57,9 @@ returns-in_ok-push_row-clause-unfilled c =
 pub returns-in_ok-push_row-clause-passed : goal.returns-in_ok-push_row-clause-passed
 returns-in_ok-push_row-clause-passed c =
     let own = next-grows c.requires.next in
-    subst (IsPassed c.args.self.now.asker.context c.args.self.now.table c.close_row.new.self c.args.column c.args.place) (sym (c.in_ok-push.ensures.ok ∙ ap (λ row. c.args.self.now.rows ++ row ∷ []) c.as_slice.ensures))
-    (passed-new
-    c.requires.next c.close_row.ensures own)
+    subst (IsPassed c.args.self.now.asker.context c.args.self.now.table c.close_row.new.self c.args.column c.args.place)
+    (sym (c.in_ok-push.ensures.ok ∙ ap (λ row. c.args.self.now.rows ++ row ∷ []) c.as_slice.ensures))
+    (passed-new c.requires.next c.close_row.ensures own)
 
 pub returns-in_ok-push-2-clause-passed : goal.returns-in_ok-push-2-clause-passed
 returns-in_ok-push-2-clause-passed c =
