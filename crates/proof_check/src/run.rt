@@ -237,6 +237,16 @@ fn tell<E: Sink>(end: &Result<Verdict, Stop>, names: &FileNames<'_>, diag: &mut 
     }
 }
 
+/// Writes why a run stopped, if it did, and gives its exit status.
+fn finish<E: Sink>(end: &Result<Verdict, Stop>, names: &FileNames<'_>, diag: &mut E) -> u8
+    ensures status { result ≡ end_status end.now }
+    ensures tells { Tells (E.written diag.old) (E.written diag.new) (E.faults diag.old) (E.faults diag.new) (end_text names.now end.now) }
+    ensures silent { IfOk end.now (λ given. (E.written diag.new ≡ E.written diag.old) × (E.faults diag.new ≡ E.faults diag.old)) }
+{
+    let _ = tell(end, names, diag);
+    status_of(end)
+}
+
 /// Writes which word has no reading, and gives the status of such a run.
 fn refuse_words<E: Sink>(fault: WordFault, diag: &mut E) -> u8
     ensures status { result ≡ 3 }
@@ -339,6 +349,5 @@ pub fn run_check<R: Threads + Sync, F: Folder, O: Sink, E: Sink>(
         Err(fault) => return refuse_words(fault, diag),
     };
     let end = check(rt, alloc, &opts, files, out);
-    let _ = tell(&end, &opts.names(), diag);
-    status_of(&end)
+    finish(&end, &opts.names(), diag)
 }
