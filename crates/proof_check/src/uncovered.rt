@@ -1,4 +1,5 @@
-ghost use Rattle.std.specs.Prelude.{◌≡◌, ◌<◌, ◌≤◌, ◌^◌, ◌+◌, ◌%◌, ℕ, List, [], All, Option, Some, None, IfOk, IfSome, MatchOption, find, length, map, not, option_map, slice_get, slice_index_or, sum, take};
+ghost use Rattle.std.specs.Prelude.{◌≡◌, ◌<◌, ◌≤◌, ◌^◌, ◌+◌, ◌%◌, ℕ, List, [], All, Option, Some, None, IfOk};
+ghost use Rattle.std.specs.Prelude.{IfSome, MatchOption, find, length, map, not, option_map, slice_get, slice_index_or, sum, take};
 ghost use Rattle.cov_model.specs.Fits.{FitsModel};
 ghost use Rattle.cov_model.specs.Valid.{is_valid};
 ghost use Rattle.definitions.specs.Demand.{demanded_tuples, tuples_of};

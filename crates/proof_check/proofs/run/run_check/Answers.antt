@@ -133,7 +133,8 @@ returns-clause-read g c = λ seven.
 pub returns-clause-write : goal.returns-clause-write
 returns-clause-write g c = λ eight.
     subst (λ end. CountsOut end (g.O.Sink.faults c.args.out.now) (g.O.Sink.faults c.check-end.new.out))
-    (eight_is_end (g.O.Sink.written c.args.out.now) (g.O.Sink.written c.check-end.new.out) c.check-end.result c.check-end.ensures.before (sym c.finish.ensures.status ∙ eight)) c.check-end.ensures.counts
+    (eight_is_end (g.O.Sink.written c.args.out.now) (g.O.Sink.written c.check-end.new.out) c.check-end.result c.check-end.ensures.before (sym c.finish.ensures.status ∙ eight))
+    c.check-end.ensures.counts
 
 pub returns-clause-no_read_fault : goal.returns-clause-no_read_fault
 returns-clause-no_read_fault g c = λ seven. c.check-end.ensures.no_fault (λ kind e. seven (c.finish.ensures.status ∙ ap end_status e))
