@@ -1,29 +1,22 @@
 -- Demanded tuples: each has one place, and gives values to the members of its set alone.
-use Rattle.std.proofs.Common.{◌≡◌, ℕ, zero, suc, ◌+◌, ◌<◌, ◌≤◌, List, [], ◌∷◌, map, length, get_or, take, Option, Some, None, inl, inr, ◌∙◌, refl, sym, ap, subst, arith, zero-add}
+use Rattle.std.proofs.Common.{◌≡◌, ℕ, suc, ◌+◌, ◌<◌, ◌≤◌, List, [], ◌∷◌, map, length, take, Option, Some, inl, inr, ◌∙◌, refl, sym, ap, subst, arith}
 use Rattle.std.specs.Prelude.{◌≢◌, slice_get, sum}
 use Rattle.std.specs.List.{count_by}
 use Rattle.std.specs.List.Sorted.{IsStrictlySortedBy}
-use Rattle.std.proofs.lemmas.Bool.{eq-eqb, ne_eqb}
 use Rattle.std.proofs.lemmas.List.{length-map}
 use Rattle.std.proofs.lemmas.Option.{same_Some, slice_get-get_or, slice_get_within}
 use Rattle.cov_model.specs.Meaning.{value_at}
-use Rattle.cov_model.specs.Rows.{is_assigned}
-use Rattle.cov_model.specs.Slices.{slices}
 use Rattle.cov_model.specs.Sound.{ModelView, param_at}
 use Rattle.cov_model.specs.Tuples.{IsRising}
-use Rattle.cov_model.proofs.CellLemmas.{length-slice_values}
-use Rattle.definitions.specs.Demand.{choices, rising, demanded_sets, demanded_tuples, is_among, tuples_in, tuples_of}
+use Rattle.definitions.specs.Demand.{choices, rising, demanded_sets, demanded_tuples, tuples_of}
 use Rattle.definitions.specs.Pairs.{cells_of}
 use Rattle.definitions.proofs.Distinct.{NoRepeats, repeats_flat}
-use Rattle.definitions.proofs.Grown.{slices_once}
-use Rattle.definitions.proofs.InPlay.{tuple_is}
 use Rattle.definitions.proofs.Members.{Has, member_of_all, of_flat, of_map, has_place}
-use Rattle.definitions.proofs.MetOnce.{sets_once, tuples_once}
+use Rattle.definitions.proofs.MetOnce.{sets_once}
 use Rattle.definitions.proofs.SetOrder.{lex, sorted_in_order}
-use Rattle.definitions.proofs.SliceLemmas.{is_slice, slice_is}
 use Rattle.refutation.specs.Checking.{AreOfModel}
 use Rattle.tuple_index.specs.Places.{RisesFrom, tuple_lists}
-use Rattle.tuple_index.specs.Plan.{IsChoice, PlanView, negative_count, plan_of, set_at, tuple_cells, value_given}
+use Rattle.tuple_index.specs.Plan.{IsChoice, PlanView, negative_count, plan_of, set_at, tuple_cells}
 use Rattle.tuple_index.proofs.ChoiceAt.{choice_at}
 use Rattle.tuple_index.proofs.InverseLemmas.{tuples_differ, cells_tell}
 use Rattle.tuple_index.proofs.OrderLemmas.{demanded_rise}
@@ -32,7 +25,7 @@ use Rattle.tuple_index.proofs.TupleLemmas.{tuples_of-lists}
 use Rattle.shared_marks.specs.Served.{base_of}
 use Rattle.shared_marks.proofs.PlaceLemmas.{tuple_there}
 use Rattle.proof_check.specs.Left.{IsPlaceOf, LacksPlace}
-use Rattle.proof_check.proofs.PairLemmas.{ArePairs, assigned_is, cells_are, given_at, negatives_counted, params, values, values_exist}
+use Rattle.proof_check.proofs.PairLemmas.{ArePairs, assigned_is, cells_are, negatives_counted, params, values, values_exist}
 use Rattle.proof_check.proofs.SetLemmas.{params_rise, same_members}
 use Rattle.shared_marks.proofs.OwnTupleLemmas.{of_set}
 

@@ -1,6 +1,6 @@
 -- What the reading of the three files gives, from that of each.
-use Rattle.std.proofs.Common.{◌≡◌, ℕ, ◌<◌, ◌≤◌, Bool, true, false, cond, List, Option, None, Some, Ok, Err, Result, length, refl, sym, ap, subst, ◌∙◌, arith, inl, inr}
-use Rattle.std.specs.Prelude.{◌≢◌, IfSome, IfErr, IsErrAnd, IsSomeAnd, nat_lt}
+use Rattle.std.proofs.Common.{◌≡◌, ℕ, ◌<◌, ◌≤◌, cond, List, Option, None, Some, Ok, Err, length, sym, ap, subst, ◌∙◌}
+use Rattle.std.specs.Prelude.{IfSome, IsSomeAnd}
 use Rattle.std.proofs.lemmas.Bool.{le-ltb, lt-ltb}
 use Rattle.outside_io.specs.Files.{Files, KeepsFiles}
 use Rattle.definitions.specs.Limits.{most_bytes}
@@ -12,7 +12,7 @@ use Rattle.command_line.specs.declared.files.FileKind.TheVariants as kinds
 use Rattle.command_line.specs.declared.stop.Stop.{Stop}
 use Rattle.command_line.specs.declared.stop.Stop.TheVariants.{TooLong}
 use Rattle.proof_check.specs.RunSteps.{StopsBefore, cannot_read, is_refused, no_memory}
-use Rattle.proof_check.specs.Runs.{HeldFiles, Holds, Inputs, bytes_of, inputs_of, join_bytes, unread}
+use Rattle.proof_check.specs.Runs.{HeldFiles, Holds, bytes_of, inputs_of, join_bytes, unread}
 
 -- a file that was read whole, and one with too many bytes
 pub whole : (kind : FileKind) (held : Option (List ℕ)) (bytes : List ℕ) → held ≡ Some bytes → length bytes ≤ most_bytes (measured kind)

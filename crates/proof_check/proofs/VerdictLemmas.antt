@@ -1,6 +1,6 @@
 -- The verdict on rows that are valid and a proof that was read: by the first place that is left and not served.
 use Rattle.std.proofs.Common.{◌≡◌, ℕ, zero, suc, ◌<◌, Bool, true, false, ◌&&◌, not, cond, List, [], ◌∷◌, map, length, get_or, Option, Some, None, is_some, ◌∙◌, refl, sym, ap, arith}
-use Rattle.std.specs.Prelude.{Ok, find, option_map}
+use Rattle.std.specs.Prelude.{Ok, MatchOption, find, option_map}
 use Rattle.std.specs.List.{list_any}
 use Rattle.std.proofs.lemmas.Bool.{and_from, false≢true}
 use Rattle.std.proofs.Math.Bool.{and_comm}
@@ -12,7 +12,7 @@ use Rattle.cov_model.specs.Sound.{ModelView}
 use Rattle.cov_model.specs.Valid.{is_valid}
 use Rattle.definitions.specs.Demand.{demanded_tuples}
 use Rattle.definitions.specs.Figures.{is_served, tests_of}
-use Rattle.definitions.specs.Pairs.{cells_of}
+use Rattle.definitions.specs.Pairs.{cells_of, pairs_of}
 use Rattle.definitions.specs.ProofText as texts
 use Rattle.definitions.specs.ProofText.{omissions_of}
 use Rattle.definitions.specs.Refutation.{first_unrefuted}
@@ -118,6 +118,14 @@ pub none_open : (m : ModelView) (rows : List (List (Option ℕ))) (omissions : L
 none_open m rows omissions left served marks none =
     none_at (is_open m rows omissions) (demanded_tuples m) []
     (λ k within. sym (open_at m rows omissions left served marks k within) ∙ none k (omega (arith, within, marks.left_is.as_many)))
+
+-- the tuple at the first place that is left and not served
+pub open_found : (m : ModelView) (rows : List (List (Option ℕ))) (omissions : List Omission) (left served : List Bool) → AreMarks m rows omissions left served
+    → (found : Option ℕ) → MatchOption found (NoneLeft left served (length left)) (IsFirstLeft left served)
+    → option_map (λ place. pairs_of (get_or (demanded_tuples m) place [])) found ≡ option_map pairs_of (first_uncovered m rows (omissions_meant omissions))
+open_found m rows omissions left served marks (Some place) first =
+    ap (option_map pairs_of) (sym (first_open m rows omissions left served place marks first))
+open_found m rows omissions left served marks None none = ap (option_map pairs_of) (sym (none_open m rows omissions left served marks none))
 
 -- the verdict where no row is bad and the proof was read
 pub judged : (m : ModelView) (file : RowFile) (bytes : List ℕ) (proof : ProofView) → find (λ line. not (is_valid m line.1)) (seeds_seen file) ≡ None

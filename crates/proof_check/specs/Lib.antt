@@ -1,4 +1,5 @@
 pub mod Faults
+pub mod CheckSteps
 pub mod Checks
 pub mod Left
 pub mod Laws

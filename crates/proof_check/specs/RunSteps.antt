@@ -1,5 +1,5 @@
 -- What the steps of a run of the checker say of each other. (This project's rules.)
-use Rattle.std.specs.Prelude.{◌≡◌, ℕ, ◌≤◌, Bool, true, false, List, length, Result, Ok, Err}
+use Rattle.std.specs.Prelude.{◌≡◌, ℕ, ◌≤◌, Bool, true, false, length, Result, Ok, Err}
 use Rattle.outside_io.specs.Faults.{Rose}
 use Rattle.definitions.specs.Limits.{ModelFile, RowFile, ProofFile, most_bytes}
 use Rattle.definitions.specs.Verdict.{verdict}

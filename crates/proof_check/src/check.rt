@@ -9,6 +9,7 @@ ghost use Rattle.refutation.specs.Reading.{omissions_meant};
 ghost use Rattle.row_text.specs.Readings.{IsFileOf};
 ghost use Rattle.row_text.specs.RowFiles.{seeds_seen, suite_seen};
 ghost use Rattle.tuple_index.specs.Plan.{plan_of};
+ghost use Rattle.proof_check.specs.CheckSteps.{IsModelCheckOf, IsReportCheckOf};
 ghost use Rattle.proof_check.specs.Checks.{IsCheckOf, verdict_given};
 
 use crate::rows::first_bad_row;
@@ -19,7 +20,7 @@ use cov_model::TestModel;
 use model_lex::ModelOpts;
 use outside_io::Gate;
 use refutation::{Omissions, ProofFault, read_omissions};
-use row_text::{RowFile, RowMode, read_rows};
+use row_text::{RowFile, RowMode, RowsFault, read_rows};
 use std::alloc::Global;
 use std::thread::Threads;
 use tuple_index::Plan;
@@ -84,6 +85,50 @@ fn judge<R: Threads + Sync, G: Gate + Sync>(
     }
 }
 
+// The verdict on the bytes of a report and of a proof. The error is the refusal of the report.
+fn check_report<R: Threads + Sync, G: Gate + Sync>(
+    rt: &R,
+    alloc: Global,
+    model: &TestModel,
+    plan: &Plan,
+    report: &[u8],
+    proof: &[u8],
+    workers: u32,
+    gate: &G,
+) -> Result<Verdict, RowsFault>
+    requires plan { plan.now ≡ plan_of model.now }
+    requires report { length report.now ≤ 2 ^ 26 }
+    requires proof { length proof.now ≤ 2 ^ 28 }
+    requires least { 1 ≤ workers }
+    requires most { workers ≤ 64 }
+    ensures { IsReportCheckOf model.now report.now proof.now result }
+{
+    let file = read_rows(alloc, report, model, RowMode::Suite)?;
+    let verdict = judge(rt, alloc, model, plan, &file, proof, workers, gate)?;
+    Ok(verdict)
+}
+
+// The same for a model that may demand more than a plan holds.
+fn check_model<R: Threads + Sync, G: Gate + Sync>(
+    rt: &R,
+    alloc: Global,
+    model: &TestModel,
+    report: &[u8],
+    proof: &[u8],
+    workers: u32,
+    gate: &G,
+) -> Result<Verdict, CheckFault>
+    requires report { length report.now ≤ 2 ^ 26 }
+    requires proof { length proof.now ≤ 2 ^ 28 }
+    requires least { 1 ≤ workers }
+    requires most { workers ≤ 64 }
+    ensures { IsModelCheckOf model.now report.now proof.now result }
+{
+    let plan = Plan::new(alloc, model)?;
+    let verdict = check_report(rt, alloc, model, &plan, report, proof, workers, gate)?;
+    Ok(verdict)
+}
+
 /// What the checker says of a report and a proof for a model file (this project's rule). The report is read as a
 /// whole suite. The verdict is the first of these that applies: the first line of the report whose row isn't a
 /// complete and valid row; the first line of the proof that isn't one of a proof; the first one whose tree doesn't
@@ -115,8 +160,5 @@ pub fn check_bytes<R: Threads + Sync, G: Gate + Sync>(
     ensures { IsCheckOf opts.now model.now report.now proof.now result }
 {
     let (model, _notes) = read_model(alloc, model, opts)?;
-    let plan = Plan::new(alloc, &model)?;
-    let file = read_rows(alloc, report, &model, RowMode::Suite)?;
-    let verdict = judge(rt, alloc, &model, &plan, &file, proof, workers, gate)?;
-    Ok(verdict)
+    check_model(rt, alloc, &model, report, proof, workers, gate)
 }

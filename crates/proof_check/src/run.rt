@@ -21,7 +21,7 @@ ghost use Rattle.proof_check.specs.Words.{IsWordFault, asked_by, names_in, names
 
 use crate::check::check_bytes;
 use crate::verdict::{CheckFault, Verdict};
-use crate::words::{CheckOpts, read_check_words};
+use crate::words::{CheckOpts, WordFault, read_check_words};
 use command_line::{FileKind, FileNames, Stop};
 use outside_io::{Folder, OpenGate, ReadAnswer, Sink, WriteAnswer};
 use std::alloc::Global;
@@ -237,6 +237,26 @@ fn tell<E: Sink>(end: &Result<Verdict, Stop>, names: &FileNames<'_>, diag: &mut 
     }
 }
 
+/// Writes why a run stopped, if it did, and gives its exit status.
+fn finish<E: Sink>(end: &Result<Verdict, Stop>, names: &FileNames<'_>, diag: &mut E) -> u8
+    ensures status { result ≡ end_status end.now }
+    ensures tells { Tells (E.written diag.old) (E.written diag.new) (E.faults diag.old) (E.faults diag.new) (end_text names.now end.now) }
+    ensures silent { IfOk end.now (λ given. (E.written diag.new ≡ E.written diag.old) × (E.faults diag.new ≡ E.faults diag.old)) }
+{
+    let _ = tell(end, names, diag);
+    status_of(end)
+}
+
+/// Writes which word has no reading, and gives the status of such a run.
+fn refuse_words<E: Sink>(fault: WordFault, diag: &mut E) -> u8
+    ensures status { result ≡ 3 }
+    ensures tells { Tells (E.written diag.old) (E.written diag.new) (E.faults diag.old) (E.faults diag.new) (word_line fault.index) }
+{
+    let stop = Stop::BadWord(fault.index);
+    let _ = stop.put_line(&FileNames::none(), diag);
+    3
+}
+
 /// Runs the checker on its words, those behind the program's name, and gives the exit status.
 ///
 /// The words are MODEL, REPORT, PROOF and the options `/o`, `/d`, `/a`, `/n`, `/c` and `/workers`. The steps come in
@@ -326,13 +346,8 @@ pub fn run_check<R: Threads + Sync, F: Folder, O: Sink, E: Sink>(
 {
     let opts = match read_check_words(words) {
         Ok(opts) => opts,
-        Err(fault) => {
-            let stop = Stop::BadWord(fault.index);
-            let _ = stop.put_line(&FileNames::none(), diag);
-            return 3;
-        }
+        Err(fault) => return refuse_words(fault, diag),
     };
     let end = check(rt, alloc, &opts, files, out);
-    let _ = tell(&end, &opts.names(), diag);
-    status_of(&end)
+    finish(&end, &opts.names(), diag)
 }

@@ -10,6 +10,46 @@ use refutation::{Omissions, TreeChecker};
 use std::alloc::Global;
 use value_text::NoMemory;
 
+// The line of the first omission whose tree doesn't refute its tuple, given as many scratch cells as parameters.
+fn first_refused(checker: &TreeChecker<'_>, proof: &Omissions, scratch: &mut Cells) -> Option<u32>
+    requires of_model { All (λ omission. AreOfModel checker.now omission.tuple) proof.now.omissions }
+    requires few { length proof.now.omissions ≤ 2 ^ 28 }
+    requires long { length scratch.old ≡ length checker.now.params }
+    ensures { result ≡ first_unrefuted checker.now (format_of proof.now.form) [] 2 (as_cells checker.now (omissions_meant proof.now.omissions)) }
+{
+    for (i, omission) in proof.as_slice().iter().enumerate() {
+        let before = i as u32;
+        if !checker.refutes(
+            &omission.tuple,
+            omission.tree.as_slice(),
+            proof,
+            before,
+            scratch,
+        ) {
+            return Some(before + 2);
+        }
+    }
+    None
+}
+
+// The same, with what the trees are checked with made for it.
+fn first_bad_within(
+    alloc: Global,
+    model: &TestModel,
+    proof: &Omissions,
+    scratch: &mut Cells,
+) -> Result<Option<u32>, NoMemory>
+    requires of_model { All (λ omission. AreOfModel model.now omission.tuple) proof.now.omissions }
+    requires few { length proof.now.omissions ≤ 2 ^ 28 }
+    requires long { length scratch.old ≡ length model.now.params }
+    ensures { IfOk result (λ found. found ≡ first_unrefuted model.now (format_of proof.now.form) [] 2 (as_cells model.now (omissions_meant proof.now.omissions))) }
+{
+    match TreeChecker::new(alloc, model, proof) {
+        Ok(checker) => Ok(first_refused(&checker, proof, scratch)),
+        Err(NoMemory) => Err(NoMemory),
+    }
+}
+
 /// The line of the first omission of a proof whose tree doesn't refute its tuple after the tuples of the
 /// omissions before; the first omission stands on line 2.
 ///
@@ -25,19 +65,6 @@ pub fn first_bad_tree(
     requires few { length proof.now.omissions ≤ 2 ^ 28 }
     ensures { IfOk result (λ found. found ≡ first_unrefuted model.now (format_of proof.now.form) [] 2 (as_cells model.now (omissions_meant proof.now.omissions))) }
 {
-    let checker = TreeChecker::new(alloc, model, proof)?;
     let mut scratch = Cells::empty(alloc, model.params().len())?;
-    for (i, omission) in proof.as_slice().iter().enumerate() {
-        let before = i as u32;
-        if !checker.refutes(
-            &omission.tuple,
-            omission.tree.as_slice(),
-            proof,
-            before,
-            &mut scratch,
-        ) {
-            return Ok(Some(before + 2));
-        }
-    }
-    Ok(None)
+    first_bad_within(alloc, model, proof, &mut scratch)
 }

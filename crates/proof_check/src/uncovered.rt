@@ -1,4 +1,5 @@
-ghost use Rattle.std.specs.Prelude.{◌≡◌, ◌<◌, ◌≤◌, ◌^◌, ◌+◌, ◌%◌, ℕ, List, [], All, Option, Some, None, IfOk, MatchOption, find, length, map, not, option_map, slice_get, slice_index_or, sum, take};
+ghost use Rattle.std.specs.Prelude.{◌≡◌, ◌<◌, ◌≤◌, ◌^◌, ◌+◌, ◌%◌, ℕ, List, [], All, Option, Some, None, IfOk};
+ghost use Rattle.std.specs.Prelude.{IfSome, MatchOption, find, length, map, not, option_map, slice_get, slice_index_or, sum, take};
 ghost use Rattle.cov_model.specs.Fits.{FitsModel};
 ghost use Rattle.cov_model.specs.Valid.{is_valid};
 ghost use Rattle.definitions.specs.Demand.{demanded_tuples, tuples_of};
@@ -119,6 +120,23 @@ fn tuple_at(alloc: Global, model: &TestModel, plan: &Plan, place: u32) -> Result
     tuple_in(alloc, model, plan, set, rank, values.as_mut_slice())
 }
 
+// The same at a place, if there is one.
+fn tuple_if_any(
+    alloc: Global,
+    model: &TestModel,
+    plan: &Plan,
+    found: Option<u32>,
+) -> Result<Option<Tuple>, NoMemory>
+    requires plan { plan.now ≡ plan_of model.now }
+    requires place { IfSome found (λ place. place < length (demanded_tuples model.now)) }
+    ensures { IfOk result (λ tuple. tuple ≡ option_map (λ place. pairs_of (slice_index_or (demanded_tuples model.now) place [])) found) }
+{
+    match found {
+        Some(place) => Ok(Some(tuple_at(alloc, model, plan, place)?)),
+        None => Ok(None),
+    }
+}
+
 /// The first demanded tuple that no row of a file serves and no omission of a proof lists, by the order of the
 /// demanded tuples. Each row is marked once, by these workers, and each omission is looked up once: no tuple is
 /// compared with each of them. The rows have to be valid rows; the plan, the file and the proof have to be of
@@ -148,8 +166,5 @@ pub fn first_uncovered<R: Threads + Sync, G: Gate + Sync>(
 {
     let left = mark_unlisted(alloc, model, plan, proof)?;
     let served = mark_rows(rt, alloc, model, plan, file, workers, gate)?;
-    match first_place(&left, &served) {
-        Some(place) => Ok(Some(tuple_at(alloc, model, plan, place)?)),
-        None => Ok(None),
-    }
+    tuple_if_any(alloc, model, plan, first_place(&left, &served))
 }

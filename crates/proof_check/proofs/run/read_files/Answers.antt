@@ -1,4 +1,4 @@
-use Rattle.std.proofs.Common.{◌≡◌, ℕ, List, Option, sym, ap, subst, Ok, Err, Some}
+use Rattle.std.proofs.Common.{◌≡◌, sym, subst, Some}
 use Rattle.command_line.specs.Loading.{IsUnread}
 use Rattle.command_line.specs.declared.files.FileKind.TheVariants as kinds
 use Rattle.command_line.specs.declared.stop.Stop.TheVariants.{TooLong}

@@ -1,5 +1,4 @@
-use Rattle.std.proofs.Common.{◌≡◌, Err, ap, subst, sym}
-use Rattle.command_line.specs.declared.stop.Stop.TheVariants.{CannotRead}
+use Rattle.std.proofs.Common.{Err, ap, subst, sym}
 use Rattle.proof_check.specs.RunSteps.{Answers}
 use Rattle.proof_check.proofs.run.verdict_of.Goals as goal
 use Rattle.value_text.proofs.ListLemmas.{is_err, one_err}
