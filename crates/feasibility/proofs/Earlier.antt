@@ -12,6 +12,7 @@ use Rattle.cov_model.proofs.CellLemmas.{assigned_within}
 use Rattle.definitions.specs.Completion.{with_value}
 use Rattle.definitions.specs.Demand.{is_among}
 use Rattle.definitions.specs.Search.{body_params, constrained_params}
+use Rattle.definitions.proofs.Contained.{left}
 use Rattle.definitions.proofs.Members.{Has, any_member, has_filter, has_flat, of_among, of_filter, of_range}
 use Rattle.definitions.proofs.SliceLemmas.{has_params}
 use Rattle.live_sets.specs.Trail.{LiveView, mark_at}
@@ -92,9 +93,5 @@ seen_after m numbers k cells old now to seen = record {
   unbroken = seen.unbroken;
   kept = λ q w low inside free marked.
       seen.kept q w low inside free
-      (was (mark_at old.live q w) (not (breaks_one m numbers (with_value cells q w))) (sym (to.marks q w low inside free) ∙ marked));
+      (left (mark_at old.live q w) (not (breaks_one m numbers (with_value cells q w))) (sym (to.marks q w low inside free) ∙ marked));
 }
-  where
-    was : (a b : Bool) → (a && b) ≡ true → a ≡ true
-    was true b h = refl
-    was false b h = absurd (false≢true h)

@@ -96,7 +96,7 @@ pub record AheadTo (m : ModelView) (k : ℕ) (cells : List (Option ℕ)) (done :
 among_push : (done : List ℕ) (q s : ℕ) → is_among (done ++ q ∷ []) s ≡ (is_among done s || ((q == s) || false))
 among_push done q s = list_any-append (λ k. k == s) done (q ∷ [])
 
-among_other : (done : List ℕ) (q s : ℕ) → s ≢ q → is_among (done ++ q ∷ []) s ≡ is_among done s
+pub among_other : (done : List ℕ) (q s : ℕ) → s ≢ q → is_among (done ++ q ∷ []) s ≡ is_among done s
 among_other done q s differs = among_push done q s ∙ ap (λ (b : Bool). is_among done s || (b || false)) (ne_eqb q s (λ same. differs (sym same)))
     ∙ or_false (is_among done s)
   where

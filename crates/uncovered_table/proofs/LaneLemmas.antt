@@ -1,5 +1,6 @@
 -- Numbers to which the bits of a word are added, 8 at once or part by part.
-use Rattle.std.proofs.Common.{inl, inr, ◌≡◌, ℕ, zero, suc, ◌*◌, ◌+◌, ◌++◌, ◌^◌, ◌-◌, ◌<◌, List, [], ◌∷◌, length, get_or, take, false, cond, eqb, bit_and, ◌∙◌, refl, sym, ap, arith}
+use Rattle.std.proofs.Common.{inl, inr, ◌≡◌, ℕ, zero, suc, ◌*◌, ◌+◌, ◌++◌, ◌^◌, ◌-◌, ◌<◌, ◌≤◌, Bool, List, [], ◌∷◌, Some}
+use Rattle.std.proofs.Common.{length, get_or, take, false, cond, eqb, bit_and, ◌∙◌, refl, sym, subst, ap, arith}
 use Rattle.std.specs.Prelude.{min}
 use Rattle.std.specs.Int.{bit_at}
 use Rattle.std.specs.Simd.Lanes.{put_chunk, top, zip2}
@@ -8,8 +9,10 @@ use Rattle.std.proofs.lemmas.Bool.{cases_eq, cases_lt, ne_eqb}
 use Rattle.std.proofs.lemmas.List.{get_or-append-add, get_or-append_right, get_or_append_left, length-append, take_all}
 use Rattle.std.proofs.lemmas.Nat.{pow_pos}
 use Rattle.std.proofs.lemmas.Nat.Bits.{and_pow, bit_at-lt, bit_at_and}
-use Rattle.std.proofs.lemmas.Simd.{get_or-zip2, length-put_chunk, length-zip2, put_chunk_whole}
-use Rattle.uncovered_table.specs.Words.{AreRaised}
+use Rattle.std.proofs.lemmas.Simd.{get_or-zip2, length-zip2, put_chunk_whole}
+use Rattle.bit_table.specs.Marks.{AreMarksFrom}
+use Rattle.uncovered_table.specs.Bits.{bit_count}
+use Rattle.uncovered_table.specs.Words.{AreCounted, AreRaised}
 
 -- what the lane of a place adds
 abbrev pub lane : ℕ → ℕ → ℕ
@@ -58,31 +61,53 @@ four_lane_at word (suc (suc (suc zero))) within = lane_is word 3 refl
 four_lane_at word (suc (suc (suc (suc i)))) within = absurd (omega (arith, within))
 
 -- numbers to which as many lanes are added
-lanes_put : (f : ℕ → ℕ → ℕ) → ((x y : ℕ) → x + y < 2 ^ 32 → f x y ≡ x + y) → (word n : ℕ) (added xs : List ℕ) → length added ≡ n → length xs ≡ n
+lanes_added : (f : ℕ → ℕ → ℕ) → ((x y : ℕ) → x + y < 2 ^ 32 → f x y ≡ x + y) → (word n : ℕ) (added xs : List ℕ) → length added ≡ n → length xs ≡ n
     → ((i : ℕ) → i < n → get_or added i 0 ≡ bit_at word i) → ((i d : ℕ) → i < length xs → get_or xs i d < 2 ^ 31)
-    → AreRaised (bit_at word) xs (put_chunk 0 xs (zip2 f (take n xs) added))
-lanes_put f adds word n added xs many long lane_is low =
-    let whole : take n xs ≡ xs = take_all n xs (omega (arith, long)) in
-    let raised = zip2 f xs added in
-    let as_long = length-zip2 f xs added (long ∙ sym many) in
-    let put : put_chunk 0 xs (zip2 f (take n xs) added) ≡ raised = ap (λ ys. put_chunk 0 xs (zip2 f ys added)) whole ∙ put_chunk_whole xs raised (sym as_long) in
-    record {
-      long = length-put_chunk 0 xs (zip2 f (take n xs) added);
-      each = λ i within.
-          let inside : i < n = omega (arith, within, long) in
-          let lane = lane_is i inside in
-          let small = bit_at-lt word i in
-          ap (λ ys. get_or ys i 0) put ∙ get_or-zip2 f xs added i 0 0 0 within (omega (arith, inside, many))
-          ∙ adds (get_or xs i 0) (get_or added i 0) (omega (arith, lane, small, low i 0 within)) ∙ ap (λ b. get_or xs i 0 + b) lane;
-    }
+    → AreRaised (bit_at word) xs (zip2 f xs added)
+lanes_added f adds word n added xs many long lane_is low = record {
+  long = length-zip2 f xs added (long ∙ sym many);
+  each = λ i within.
+      let inside : i < n = omega (arith, within, long) in
+      let lane = lane_is i inside in
+      let small = bit_at-lt word i in
+      get_or-zip2 f xs added i 0 0 0 within (omega (arith, inside, many))
+      ∙ adds (get_or xs i 0) (get_or added i 0) (omega (arith, lane, small, low i 0 within)) ∙ ap (λ b. get_or xs i 0 + b) lane;
+}
 
 pub lanes_raised : (f : ℕ → ℕ → ℕ) → ((x y : ℕ) → x + y < 2 ^ 32 → f x y ≡ x + y) → (word : ℕ) (xs : List ℕ) → length xs ≡ 8
-    → ((i d : ℕ) → i < length xs → get_or xs i d < 2 ^ 31) → AreRaised (bit_at word) xs (put_chunk 0 xs (zip2 f (take 8 xs) (lanes word)))
-lanes_raised f adds word xs long low = lanes_put f adds word 8 (lanes word) xs refl long (lane_at word) low
+    → ((i d : ℕ) → i < length xs → get_or xs i d < 2 ^ 31) → AreRaised (bit_at word) xs (zip2 f xs (lanes word))
+lanes_raised f adds word xs long low = lanes_added f adds word 8 (lanes word) xs refl long (lane_at word) low
+
+-- numbers that are read, raised and put back
+pub raised_put : (added : ℕ → ℕ) (n : ℕ) (xs ys : List ℕ) → length xs ≡ n → AreRaised added (take n xs) ys → AreRaised added xs (put_chunk 0 xs ys)
+raised_put added n xs ys long raised =
+    let whole : take n xs ≡ xs = take_all n xs (omega (arith, long)) in
+    let same = subst (λ zs. AreRaised added zs ys) whole raised in
+    subst (AreRaised added xs) (sym (put_chunk_whole xs ys (sym same.long))) same
 
 pub four_raised : (f : ℕ → ℕ → ℕ) → ((x y : ℕ) → x + y < 2 ^ 32 → f x y ≡ x + y) → (word : ℕ) (xs : List ℕ) → length xs ≡ 4
     → ((i d : ℕ) → i < length xs → get_or xs i d < 2 ^ 31) → AreRaised (bit_at word) xs (put_chunk 0 xs (zip2 f (take 4 xs) (four_lanes word)))
-four_raised f adds word xs long low = lanes_put f adds word 4 (four_lanes word) xs refl long (four_lane_at word) low
+four_raised f adds word xs long low =
+    let whole : take 4 xs ≡ xs = take_all 4 xs (omega (arith, long)) in
+    raised_put (bit_at word) 4 xs (zip2 f (take 4 xs) (four_lanes word)) long
+    (subst (λ ys. AreRaised (bit_at word) ys (zip2 f ys (four_lanes word))) (sym whole) (lanes_added f adds word 4 (four_lanes word) xs refl long (four_lane_at word) low))
+
+-- counts to which marks are added
+pub counted_marks : (bits : List Bool) (begin count word : ℕ) (old new : List ℕ) → count ≤ length old → AreMarksFrom bits begin count word
+    → AreRaised (bit_at word) old new → AreCounted (λ i. bit_count bits (Some (begin + i))) count old new
+counted_marks bits begin count word old new few marks raised = record {
+  long = raised.long;
+  each = λ i within. raised.each i (omega (arith, within, few)) ∙ ap (λ b. get_or old i 0 + b) (marks.each i within);
+  most = λ i within. (let more = raised.each i within in let small = bit_at-lt word i in omega (arith, more, small));
+}
+
+-- what is added is the same
+pub counted_by : (f g : ℕ → ℕ) (count : ℕ) (old new : List ℕ) → ((i : ℕ) → i < count → f i ≡ g i) → AreCounted f count old new → AreCounted g count old new
+counted_by f g count old new same counted = record {
+  long = counted.long;
+  each = λ i within. counted.each i within ∙ ap (λ b. get_or old i 0 + b) (same i within);
+  most = counted.most;
+}
 
 -- numbers that are raised in two parts
 pub raised_parts : (added : ℕ → ℕ) (ys zs now later : List ℕ) (n : ℕ) → length ys ≡ n → AreRaised added ys now

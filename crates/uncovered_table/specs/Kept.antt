@@ -1,5 +1,5 @@
 -- What a table keeps of its parts.
-use Rattle.std.specs.Prelude.{◌≡◌, ℕ, ◌<◌, List, [], ◌∷◌, ◌++◌, map, length, Option, Some, None, slice_index_or, slice_set, nat_lt, if◌then◌else◌}
+use Rattle.std.specs.Prelude.{◌≡◌, ℕ, Bool, true, ◌<◌, List, [], ◌∷◌, ◌++◌, map, length, Option, Some, None, slice_index_or, slice_set, nat_lt, if◌then◌else◌}
 use Rattle.std.specs.List.{filter, last_or}
 use Rattle.cov_model.specs.declared.slice.Slice.{Slice}
 use Rattle.cov_model.specs.Sound.{ModelView}
@@ -11,7 +11,7 @@ use Rattle.definitions.specs.SliceRows.{IsSliceOf}
 use Rattle.tuple_index.specs.Plan.{PlanView, plan_of}
 use Rattle.uncovered_table.specs.declared.block.Block.{Block}
 use Rattle.uncovered_table.specs.Bits.{first_bit, sets_in_play, tuple_count}
-use Rattle.uncovered_table.specs.Digits.{digit_of, own_values}
+use Rattle.uncovered_table.specs.Digits.{HasAllValues, digit_of, own_values}
 use Rattle.uncovered_table.specs.Places.{set_at, slice_start}
 
 -- the model and the slice of a table
@@ -51,12 +51,14 @@ digits_of m slice p = map (digit_of (own_values m slice p)) (value_numbers m p)
 abbrev pub firsts_of : ModelView → Slice → ℕ → List ℕ
 firsts_of m slice p = map (first_bit m slice) (sets_in_play m slice p)
 
--- the bits of each set, the sets in play for each column and their first bits, and the digits of each parameter's values
-pub record AreTablesOf (v : SliceView) (blocks : List Block) (plays firsts : List (List ℕ)) (digits : List (List (Option ℕ))) : Type 0 where
+-- the bits of each set, the sets in play for each column and their first bits, and the digits of each parameter's values; in plain tables each value
+-- is its own digit
+pub record AreTablesOf (v : SliceView) (blocks : List Block) (plays firsts : List (List ℕ)) (digits : List (List (Option ℕ))) (plain : Bool) : Type 0 where
   pub blocks_are : AreBlocks v.model v.slice (length (demanded_sets v.model)) blocks
   pub plays_are : plays ≡ map (sets_in_play v.model v.slice) (param_numbers v.model)
   pub firsts_are : firsts ≡ map (firsts_of v.model v.slice) (param_numbers v.model)
   pub digits_are : digits ≡ map (digits_of v.model v.slice) (param_numbers v.model)
+  pub plain_is : plain ≡ true → (p : ℕ) → p < length v.model.params → HasAllValues v.model v.slice p
 
 -- the lists with a set added to that of a column, if there is one
 abbrev pub with_set : Option ℕ → ℕ → List (List ℕ) → List (List ℕ)

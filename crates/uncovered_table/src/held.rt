@@ -7,6 +7,7 @@ ghost use Rattle.uncovered_table.specs.Prepared.{AreLinesOf, AreReady, digit_in}
 ghost use Rattle.cov_model.specs.Sound.{param_at};
 
 use crate::block::Line;
+use crate::counts::put_ready;
 use crate::lanes::add_marks;
 use crate::prepared::{ColumnLines, NO_DIGIT};
 use crate::sets::SliceSets;
@@ -38,6 +39,7 @@ fn count_at(bits: &BitTable, bit: Option<u32>) -> u32
 }
 
 // Clears a bit, if there is one.
+#[inline]
 fn clear_at(bits: &mut BitTable, bit: Option<u32>)
     requires { IfSome bit (λ b. b < length bits.old) }
     ensures { bits.new ≡ cleared bit bits.old }
@@ -48,6 +50,7 @@ fn clear_at(bits: &mut BitTable, bit: Option<u32>)
 }
 
 // The bit of the tuple of a set in play that cells contain, with this digit in the column.
+#[inline(always)]
 fn tuple_bit(
     sets: &SliceSets<'_>,
     lines: Option<&ColumnLines>,
@@ -237,6 +240,9 @@ pub(crate) fn add_held(
     let walked = sets.walked(lines, bits, column);
     let mut row = [NO_DIGIT; 256];
     sets.put_digits(cells, &mut row);
+    if put_ready(sets, lines, bits, cells, &row, column, from, scores) {
+        return;
+    }
     let all = sets.has_all_values(column);
     for k in 0..walked.len() {
         add_set(

@@ -1,17 +1,51 @@
-ghost use Rattle.std.specs.Prelude.{◌≡◌, ◌+◌, ◌<◌, ◌≤◌, ◌^◌, All, Some, length};
+ghost use Rattle.std.specs.Prelude.{◌≡◌, ◌+◌, ◌<◌, ◌≤◌, ◌^◌, All, Some, length, take};
 ghost use Rattle.std.specs.Int.{bit_at};
 ghost use Rattle.uncovered_table.specs.Bits.{bit_count};
-ghost use Rattle.uncovered_table.specs.Words.{AreRaised};
+ghost use Rattle.uncovered_table.specs.Words.{AreCounted, AreRaised};
 
 use crate::words::WORD_BITS;
 use bit_table::BitTable;
 use std::simd::prelude::*;
 
 // The number of scores that are raised at once.
-const LANES: usize = 8;
+pub(crate) const LANES: usize = 8;
 
 // Half of it, for the scores that are left.
 const HALF: usize = 4;
+
+// 8 counts with the lowest bits of a word, each added to its count.
+#[inline(always)]
+fn with_lanes(word: u64, counts: u32x8) -> u32x8
+    requires long { length counts ≡ 8 }
+    requires low { All (λ count. count < 2 ^ 31) counts }
+    ensures { AreRaised (bit_at word) counts result }
+{
+    let places = u32x8::from_array([1, 2, 4, 8, 16, 32, 64, 128]);
+    let none = (u32x8::splat((word & 255) as u32) & places).simd_eq(u32x8::splat(0));
+    counts + none.select(u32x8::splat(0), u32x8::splat(1))
+}
+
+// 8 counts with the marks of a few neighbouring places, each added to its count.
+#[inline(always)]
+pub(crate) fn with_marks(bits: &BitTable, begin: u32, count: u32, counts: u32x8) -> u32x8
+    requires few { count ≤ 8 }
+    requires within { begin + count ≤ length bits.now }
+    requires long { length counts ≡ 8 }
+    requires low { All (λ count. count < 2 ^ 31) counts }
+    ensures { AreCounted (λ i. bit_count bits.now (Some (begin + i))) count counts result }
+{
+    with_lanes(bits.marks_from(begin, count), counts)
+}
+
+// Puts the first of 8 counts.
+pub(crate) fn put_counts(counts: u32x8, scores: &mut [u32])
+    requires few { length scores.old ≤ 8 }
+    requires long { length counts ≡ 8 }
+    ensures { scores.new ≡ take (length scores.old) counts }
+{
+    let first = counts.to_array();
+    scores.copy_from_slice(&first[..scores.len()]);
+}
 
 // Adds the lowest bits of a word to 8 scores at once.
 #[inline]
@@ -20,10 +54,7 @@ fn add_lanes(word: u64, scores: &mut [u32])
     requires low { All (λ score. score < 2 ^ 31) scores.old }
     ensures { AreRaised (bit_at word) scores.old scores.new }
 {
-    let places = u32x8::from_array([1, 2, 4, 8, 16, 32, 64, 128]);
-    let none = (u32x8::splat((word & 255) as u32) & places).simd_eq(u32x8::splat(0));
-    let bits = none.select(u32x8::splat(0), u32x8::splat(1));
-    (u32x8::from_slice(scores) + bits).copy_to_slice(scores);
+    with_lanes(word, u32x8::from_slice(scores)).copy_to_slice(scores);
 }
 
 // A bit of a word.

@@ -6,6 +6,7 @@
 #![tactic(auto)]
 
 mod block;
+mod counts;
 mod held;
 mod lanes;
 mod next;

@@ -1,4 +1,4 @@
-ghost use Rattle.std.specs.Prelude.{◌≡◌, ◌<◌, ◌≤◌, All, IfSome, None, length};
+ghost use Rattle.std.specs.Prelude.{◌≡◌, ◌<◌, ◌≤◌, All, IfSome, None, length, true};
 ghost use Rattle.cov_model.specs.Sound.{IsSound, param_at};
 ghost use Rattle.definitions.specs.Demand.{demanded_sets};
 ghost use Rattle.definitions.specs.SliceRows.{IsSliceOf};
@@ -6,7 +6,7 @@ ghost use Rattle.tuple_index.specs.Kept.{IsKept};
 ghost use Rattle.tuple_index.specs.Places.{RisesFrom, values_in};
 ghost use Rattle.tuple_index.specs.Plan.{plan_of};
 ghost use Rattle.uncovered_table.specs.Bits.{tuple_count};
-ghost use Rattle.uncovered_table.specs.Digits.{is_own, own_values};
+ghost use Rattle.uncovered_table.specs.Digits.{HasAllValues, is_own, own_values};
 ghost use Rattle.uncovered_table.specs.Kept.{last_column};
 ghost use Rattle.uncovered_table.specs.Lasts.{lower, lowest};
 ghost use Rattle.uncovered_table.specs.Places.{set_at, slice_start};
@@ -162,6 +162,15 @@ impl<'a> SlicePart<'a> {
         ensures { result ≡ length (param_at self.now.model.params p).values }
     {
         self.of.params().as_slice()[p as usize].values.len() as u16
+    }
+
+    // Whether each value of a parameter is one of the slice, and so its own digit.
+    pub(crate) fn has_all_values(&self, p: ParamNo) -> bool
+        requires { p < length self.now.model.params }
+        ensures { result ≡ true → HasAllValues self.now.model self.now.slice p }
+    {
+        self.assert_invariant();
+        self.value_count(p) == u32::from(self.all_values(p))
     }
 
     // Whether a value of a parameter is one of the slice.

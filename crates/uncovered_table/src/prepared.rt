@@ -29,8 +29,8 @@ pub(crate) struct Part {
 pub(crate) struct Prepared {
     pub(crate) first: u32,
     pub(crate) step: u32,
-    pub(crate) begin: usize,
-    pub(crate) end: usize,
+    pub(crate) begin: u32,
+    pub(crate) end: u32,
 }
 
 // The lines of the sets in play for a column, in order, and their parts one behind another. Sets without
@@ -177,13 +177,13 @@ impl<'a> SliceSets<'a> {
         let mut parts = Vec::new(alloc);
         let in_play = self.in_play(column);
         for set in in_play {
-            let begin = parts.len();
+            let begin = parts.len() as u32;
             let step = self.push_parts(*set, column, &mut parts)?;
             let line = Prepared {
                 first: self.block(*set).first,
                 step,
                 begin,
-                end: parts.len(),
+                end: parts.len() as u32,
             };
             sets.push(*set)?;
             lines.push(line)?;
@@ -255,7 +255,7 @@ impl<'a> SliceSets<'a> {
     // The bits of the tuples of a set in play that cells contain, for the digits of the column, by its
     // prepared line.
     #[inline(always)]
-    fn prepared_line(
+    pub(crate) fn prepared_line(
         &self,
         lines: &ColumnLines,
         k: usize,
@@ -279,7 +279,11 @@ impl<'a> SliceSets<'a> {
         self.assert_invariant();
         let _ = cells;
         let line = lines.lines[k];
-        let parts = between(lines.parts.as_slice(), line.begin, line.end);
+        let parts = between(
+            lines.parts.as_slice(),
+            line.begin as usize,
+            line.end as usize,
+        );
         match sum_of(parts, digits) {
             Some(sum) => Some(Line {
                 first: line.first + sum as u32,

@@ -39,7 +39,7 @@ impl<'a> Model for SliceSets<'a> {
     ghost view = { λ a. a.part };
 
     ghost invariant = { λ a. AreTablesOf a.part a.tables.blocks.items (map (λ list. list.items) a.tables.plays.items)
-        (map (λ list. list.items) a.tables.firsts.items) (map (λ list. list.items) a.tables.digits.items) };
+        (map (λ list. list.items) a.tables.firsts.items) (map (λ list. list.items) a.tables.digits.items) a.tables.plain };
 }
 
 impl<'a> SliceSets<'a> {
@@ -132,8 +132,7 @@ impl<'a> SliceSets<'a> {
         requires { p < length self.now.model.params }
         ensures { result ≡ true → HasAllValues self.now.model self.now.slice p }
     {
-        self.assert_invariant();
-        self.part.value_count(p) == u32::from(self.part.all_values(p))
+        self.part.has_all_values(p)
     }
 
     // The digit of a value, where it is one of the slice.
@@ -142,6 +141,9 @@ impl<'a> SliceSets<'a> {
         requires value { v < length (param_at self.now.model.params p).values }
         ensures { result ≡ digit_of (own_values self.now.model self.now.slice p) v }
     {
+        if self.tables.plain {
+            return Some(v);
+        }
         self.digits(p)[v as usize]
     }
 

@@ -1,7 +1,8 @@
-ghost use Rattle.std.specs.Prelude.{◌≡◌, ◌<◌, [], IfOk, IfSome, None, OnOk, Some, if◌then◌else◌, length, map, replicate};
+ghost use Rattle.std.specs.Prelude.{◌≡◌, ◌<◌, ℕ, [], IfOk, IfSome, None, OnOk, Some, if◌then◌else◌, length, map, replicate, true};
 ghost use Rattle.cov_model.specs.Valid.{param_numbers};
 ghost use Rattle.definitions.specs.Demand.{demanded_sets};
 ghost use Rattle.uncovered_table.specs.Bits.{sets_in_play, tuple_count};
+ghost use Rattle.uncovered_table.specs.Digits.{HasAllValues};
 ghost use Rattle.uncovered_table.specs.Kept.{AreBlocks, AreTablesOf, digits_of, firsts_of, play_column, with_set};
 
 use crate::block::Block;
@@ -21,6 +22,8 @@ pub(crate) struct SliceTables {
     pub(crate) firsts: Vec<Vec<u32>>,
     // For each parameter the digits of its values.
     pub(crate) digits: Vec<Vec<Option<u16>>>,
+    // Whether each value of each parameter is its own digit, so that none is looked up.
+    pub(crate) plain: bool,
 }
 
 // As many empty lists.
@@ -181,10 +184,23 @@ impl<'a> SlicePart<'a> {
         Ok(lists)
     }
 
+    // Whether all values of each parameter are in the slice.
+    fn is_plain(&self) -> bool
+        ensures { result ≡ true → (p : ℕ) → p < length self.now.model.params → HasAllValues self.now.model self.now.slice p }
+    {
+        self.assert_invariant();
+        for p in 0..self.param_count() {
+            if !self.has_all_values(p as ParamNo) {
+                return false;
+            }
+        }
+        true
+    }
+
     // The tables of the slice.
     pub(crate) fn tables(&self, alloc: Global) -> Result<SliceTables, NoMemory>
         ensures { IfOk result (λ tables. AreTablesOf self.now tables.blocks.items (map (λ list. list.items) tables.plays.items)
-            (map (λ list. list.items) tables.firsts.items) (map (λ list. list.items) tables.digits.items)) }
+            (map (λ list. list.items) tables.firsts.items) (map (λ list. list.items) tables.digits.items) tables.plain) }
     {
         let blocks = self.blocks(alloc)?;
         let plays = self.plays(alloc, blocks.as_slice())?;
@@ -195,6 +211,7 @@ impl<'a> SlicePart<'a> {
             plays,
             firsts,
             digits,
+            plain: self.is_plain(),
         })
     }
 }

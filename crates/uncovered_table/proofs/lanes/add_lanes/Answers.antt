@@ -1,6 +1,6 @@
-use Rattle.std.proofs.Math.Nat.{mod-eq_of_lt}
-use Rattle.uncovered_table.proofs.LaneLemmas.{lanes_raised}
+use Rattle.std.specs.Int.{bit_at}
+use Rattle.uncovered_table.proofs.LaneLemmas.{raised_put}
 use Rattle.uncovered_table.proofs.lanes.add_lanes.Goals as goal
 
 pub returns : goal.returns
-returns c = lanes_raised _ (λ x y small. mod-eq_of_lt small) c.args.word c.args.scores.now c.requires.long c.requires.low
+returns c = raised_put (bit_at c.args.word) 8 c.args.scores.now c.with_lanes.result c.requires.long c.with_lanes.ensures

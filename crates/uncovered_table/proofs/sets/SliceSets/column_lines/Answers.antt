@@ -22,6 +22,7 @@ loop-set-preserved c =
           lines-next v.model v.slice c.args.column c.loop-set.set-index in_play line c.loop-set.lines.items c.push-in-loop-set.new.self.items c.loop-set.parts.items
           c.push_parts.new.parts.items (omega arith) c.loop-set.invariant.lines c.in_ok-step.ensures.parts (omega (arith, c.loop-set.parts.ok.0))
           (omega (arith, c.push_parts.new.parts.ok.0)) c.block.ensures.first c.in_ok-step.ensures.step pushed;
+      few = omega (arith, c.loop-set.invariant.few, c.in_ok-step.ensures.parts.few);
     }
 
 pub returns-clause-ready : goal.returns-clause-ready

@@ -41,7 +41,7 @@ sum_of-requires-clause-few c =
     omega (arith, few, ap length ranged)
 
 -- what the sum of the parts makes of the line
-known : (c : goal.After-struct_known-1) → LineKnown c.args.self.now.model c.args.self.now.slice
+known : (c : goal.After-struct_known-in-Some-1) → LineKnown c.args.self.now.model c.args.self.now.slice
     (cell_digit (own_values c.args.self.now.model c.args.self.now.slice) c.args.cells.now) c.args.column c.args.set
     (c.index-line.result.now.first + c.in-Some.sum) c.index-line.result.now.step
 known c =
