@@ -1,15 +1,23 @@
 -- The parameters that have a value in a tuple: only they count where a partial row is to agree with it.
-use Rattle.std.proofs.Common.{◌≡◌, ℕ, zero, suc, ◌+◌, ◌<◌, ◌≤◌, Bool, true, false, ◌&&◌, List, [], ◌∷◌, ◌++◌, length, take, drop}
-use Rattle.std.proofs.Common.{Option, Some, None, is_some, get_or, set, All, ◌∙◌, sym, ap, subst, refl, arith}
+use Rattle.std.proofs.Common.{◌≡◌, ℕ, zero, suc, ◌+◌, ◌<◌, Bool, true, false, ◌&&◌, ◌||◌, cond, nat_eq, List, [], ◌∷◌, length, map, drop, zero-add}
+use Rattle.std.proofs.Common.{Option, Some, None, is_some, get_or, All, ◌∙◌, sym, ap, subst, refl, arith}
+use Rattle.std.specs.Prelude.{nat_le, nat_lt}
 use Rattle.std.specs.List.{filter, list_all, range_with_len}
-use Rattle.std.proofs.lemmas.List.{append-nil, drop_all, take_more, take-set, length-set, get_or-set_same}
-use Rattle.std.proofs.lemmas.List.Elements.{All-filter, filter-append}
-use Rattle.std.proofs.lemmas.List.FromFn.{length-range_with_len, get_or-range_with_len}
+use Rattle.std.proofs.lemmas.Bool.{and_from}
+use Rattle.std.proofs.lemmas.Bool.Decides.{nat_tests}
+use Rattle.std.proofs.lemmas.List.{drop_all}
+use Rattle.std.proofs.lemmas.List.Elements.{All-filter}
+use Rattle.std.proofs.lemmas.List.FromFn.{length-range_with_len, get_or-range_with_len, length-map-range_with_len, get_or-map-range_with_len}
 use Rattle.cov_model.specs.Rows.{is_assigned}
+use Rattle.tuple_index.specs.Places.{RisesFrom, rises_from}
+use Rattle.tuple_index.specs.Plan.{value_given}
+use Rattle.tuple_index.proofs.RisingLemmas.{rising_itself}
 use Rattle.uncovered_table.proofs.ColumnLemmas.{filter_yes, filter_no}
+use Rattle.definitions.specs.Demand.{is_among}
 use Rattle.definitions.specs.Growth.{agrees}
+use Rattle.definitions.proofs.Members.{of_among, of_range}
 use Rattle.ipog_grow.specs.Growing.{given_params}
-use Rattle.ipog_grow.proofs.SliceSteps.{range-more}
+use Rattle.ipog_grow.proofs.Falling.{filter-same_among}
 use Rattle.ipog_grow.proofs.Uniting.{cells_agree, agrees-at}
 
 -- a partial row and a tuple agree at a parameter
@@ -56,35 +64,34 @@ pub given_exist : (tuple row : List (Option ℕ)) (params : List ℕ) → params
 given_exist tuple row params given long =
     subst (All (λ p. p < length row)) (sym given) (subst (λ (n : ℕ). All (λ p. p < n) (given_params tuple)) long (given_within tuple))
 
--- one parameter more
-filter-more : (tuple : List (Option ℕ)) (p : ℕ) → filter (is_assigned tuple) (range_with_len 0 (p + 1)) ≡ filter (is_assigned tuple) (range_with_len 0 p)
-    ++ filter (is_assigned tuple) (p ∷ [])
-filter-more tuple p = ap (filter (is_assigned tuple)) (range-more p) ∙ filter-append (is_assigned tuple) (range_with_len 0 p) (p ∷ [])
+-- the members of a set are those to which values of it give values
+given_by : (set values : List ℕ) (p : ℕ) → length values ≡ length set → is_some (value_given set values p) ≡ is_among set p
+given_by [] values p long = refl
+given_by (q ∷ set) [] p long = absurd (omega (arith, long))
+given_by (q ∷ set) (v ∷ values) p long = by_test (nat_eq q p) (given_by set values p (omega (arith, long)))
+  where
+    by_test : (b : Bool) → is_some (value_given set values p) ≡ is_among set p
+        → is_some (cond b (Some v) (value_given set values p)) ≡ (b || is_among set p)
+    by_test true rest = refl
+    by_test false rest = rest
 
--- the parameters before p that have a value in the tuple stand in front
-pub record GivenBefore (tuple : List (Option ℕ)) (params : List ℕ) (count p : ℕ) : Type 0 where
-  pub few : count ≤ p
-  pub front : take count params ≡ filter (is_assigned tuple) (range_with_len 0 p)
+rises_test : (set : List ℕ) (p e : ℕ) → RisesFrom p e set → rises_from p e set ≡ true
+rises_test [] p e rises = refl
+rises_test (q ∷ set) p e rises =
+    and_from (nat_le p q) (nat_lt q e && rises_from (q + 1) e set) (grind (arith, nat_tests, rises.0))
+    (and_from (nat_lt q e) (rises_from (q + 1) e set) (grind (arith, nat_tests, rises.1)) (rises_test set (q + 1) e rises.2))
 
-pub given-start : (tuple : List (Option ℕ)) (params : List ℕ) → GivenBefore tuple params 0 0
-given-start tuple params = record { few = omega arith; front = refl }
+pub given_members : (set values : List ℕ) (n : ℕ) → RisesFrom 0 n set → length values ≡ length set
+    → set ≡ given_params (map (value_given set values) (range_with_len 0 n))
+given_members set values n rises long =
+    sym (ap (λ (count : ℕ). filter (is_assigned cells) (range_with_len 0 count)) (length-map-range_with_len (value_given set values) 0 n)
+    ∙ filter-same_among (is_assigned cells) (is_among set) (range_with_len 0 n) same ∙ rising_itself set n (rises_test set 0 n rises))
+  where
+    cells : List (Option ℕ)
+    cells = map (value_given set values) (range_with_len 0 n)
 
-pub given-yes : (tuple : List (Option ℕ)) (params : List ℕ) (count p : ℕ) → count < length params → GivenBefore tuple params count p
-    → is_assigned tuple p ≡ true
-    → GivenBefore tuple (set params count p) (count + 1) (p + 1)
-given-yes tuple params count p within before given = record {
-  few = omega (arith, before.few);
-  front = take_more (set params count p) count 0 (omega (arith, within, length-set params count p))
-      ∙ ap (λ (list : List ℕ). list ++ get_or (set params count p) count 0 ∷ []) (take-set params count p ∙ before.front)
-      ∙ ap (λ (q : ℕ). filter (is_assigned tuple) (range_with_len 0 p) ++ q ∷ []) (get_or-set_same params count p 0 within)
-      ∙ sym (filter-more tuple p ∙ ap (λ (list : List ℕ). filter (is_assigned tuple) (range_with_len 0 p) ++ list) (filter_yes (is_assigned tuple) p [] given));
-}
-
-pub given-no : (tuple : List (Option ℕ)) (params : List ℕ) (count p : ℕ) → GivenBefore tuple params count p → is_assigned tuple p ≡ false
-    → GivenBefore tuple params count (p + 1)
-given-no tuple params count p before none = record {
-  few = omega (arith, before.few);
-  front = before.front ∙ sym (filter-more tuple p ∙ ap (λ (list : List ℕ). filter (is_assigned tuple) (range_with_len 0 p) ++ list)
-      (filter_no (is_assigned tuple) p [] none)
-      ∙ append-nil (filter (is_assigned tuple) (range_with_len 0 p)));
-}
+    same : (q : ℕ) → is_among (range_with_len 0 n) q ≡ true → is_assigned cells q ≡ is_among set q
+    same q listed =
+        let within : q < n = omega (arith, (of_range 0 n q (of_among (range_with_len 0 n) q listed)).1) in
+        ap (λ (cell : Option ℕ). is_some cell) (get_or-map-range_with_len (value_given set values) 0 n q q None within (zero-add q))
+        ∙ given_by set values q long

@@ -1,5 +1,5 @@
 -- The tuple of a place is put into cells.
-use Rattle.std.proofs.Common.{◌≡◌, ℕ, zero, suc, ◌+◌, ◌<◌, ◌≤◌, Bool, true, cond, List, [], ◌∷◌, length, drop, get_or, nat_eq, Option, Some, None, All}
+use Rattle.std.proofs.Common.{◌≡◌, ℕ, zero, suc, ◌+◌, ◌<◌, ◌≤◌, Bool, true, cond, List, [], ◌∷◌, length, drop, get_or, nat_eq, Option, Some, None}
 use Rattle.std.proofs.Common.{set as list_set, replicate, take, refl, ◌∙◌, sym, ap, subst, arith, inl, inr, add-one, drop-cons}
 use Rattle.std.specs.List.{list_any}
 use Rattle.std.proofs.lemmas.Bool.{cases_eq, eq-eqb, ne_eqb}
@@ -7,10 +7,10 @@ use Rattle.std.proofs.lemmas.List.{get_or-set_other, get_or-set_same}
 use Rattle.cov_model.specs.Sound.{ModelView}
 use Rattle.cov_model.specs.declared.slice.Slice.{Slice}
 use Rattle.tuple_index.specs.Kept.{IsKept}
+use Rattle.tuple_index.specs.Places.{RisesFrom}
 use Rattle.tuple_index.specs.Plan.{PlanView, plan_of, value_given}
 use Rattle.uncovered_table.specs.Open.{OpenView, IsPlaceOf}
-use Rattle.tuple_index.proofs.LoopLemmas.{rises_within}
-use Rattle.uncovered_table.specs.Places.{is_place, set_at, slice_places}
+use Rattle.uncovered_table.specs.Places.{is_place, slice_places}
 use Rattle.uncovered_table.proofs.PlaceLemmas.{place_known, set_known}
 use Rattle.ipog_grow.specs.Asking.{SearchContext, IsTableOf, IsSoundContext}
 
@@ -53,7 +53,7 @@ pub record Placed (m : ModelView) (plan : PlanView) (place : ℕ × ℕ) : Type 
   pub known : place.0 < length plan.sets
   pub below : place.1 < get_or plan.sizes place.0 0
   pub few : length (get_or plan.sets place.0 []) ≤ 256
-  pub exist : All (λ p. p < length m.params) (get_or plan.sets place.0 [])
+  pub rise : RisesFrom 0 (length m.params) (get_or plan.sets place.0 [])
 
 pub placed : {context : SearchContext} {plan : PlanView} {place : ℕ × ℕ} (table : OpenView) → IsSoundContext context → IsTableOf context table
     → plan ≡ plan_of context.model → IsKept plan → IsPlaceOf table place → Placed context.model plan place
@@ -67,6 +67,5 @@ placed {context} {plan} {place} table is of planned kept own =
       known = found.known;
       below = found.below;
       few = omega (arith, ap length members.same, members.few, is.sound.few);
-      exist = subst (All (λ p. p < length context.model.params)) (sym members.same)
-          (rises_within (set_at context.model place.0) 0 (length context.model.params) members.rising);
+      rise = subst (RisesFrom 0 (length context.model.params)) (sym members.same) members.rising;
     }

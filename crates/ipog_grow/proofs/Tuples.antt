@@ -127,16 +127,16 @@ grows-with_value m slice cells p v is grows free value = record {
               ∙ grows.of.listed q (ap (λ (cell : Option ℕ). is_some cell) (sym there) ∙ has)
         ]
 
+pub cell_or_none : (cell : Option ℕ) → cell ≡ cond (is_some cell) cell None
+cell_or_none None = refl
+cell_or_none (Some v) = refl
+
 pub get_or-union : (row cells : List (Option ℕ)) (q : ℕ) → get_or (union row cells) q None ≡ cond (is_some (get_or row q None)) (get_or row q None)
     (get_or cells q None)
 get_or-union [] cells q = refl
 get_or-union (None ∷ row) [] zero = refl
 get_or-union (Some v ∷ row) [] zero = refl
-get_or-union (given ∷ row) [] (suc q) = at (get_or row q None)
-  where
-    at : (o : Option ℕ) → o ≡ cond (is_some o) o None
-    at None = refl
-    at (Some v) = refl
+get_or-union (given ∷ row) [] (suc q) = cell_or_none (get_or row q None)
 get_or-union (None ∷ row) (cell ∷ cells) zero = refl
 get_or-union (Some v ∷ row) (cell ∷ cells) zero = refl
 get_or-union (None ∷ row) (cell ∷ cells) (suc q) = get_or-union row cells q

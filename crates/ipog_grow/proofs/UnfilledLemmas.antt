@@ -20,18 +20,13 @@ use Rattle.definitions.specs.Demand.{is_among}
 use Rattle.definitions.specs.Growth.{agrees, union, is_uncovered}
 use Rattle.refutation.proofs.HolderLemmas.{among_last}
 use Rattle.tuple_index.specs.Places.{RisesFrom}
+use Rattle.uncovered_table.proofs.PartnerLemmas.{rises-wider}
 use Rattle.ipog_grow.specs.UnfilledRows.{HasUnfilled, UnfilledLists, candidates, is_candidate, is_filled, may_have, with_number, with_unfilled}
 use Rattle.ipog_grow.proofs.Falling.{among_cases}
 use Rattle.ipog_grow.proofs.Holding.{holds}
 use Rattle.ipog_grow.proofs.Merging.{merged-among, merged-rises}
 
--- rising numbers stay so below a greater bound, and with the bound behind them
-rises-more : (lo hi more : ℕ) (numbers : List ℕ) → hi ≤ more → RisesFrom lo hi numbers → RisesFrom lo more numbers
-rises-more lo hi more [] less rises = tt
-rises-more lo hi more (i ∷ numbers) less rises =
-    let within : i < hi = rises.1 in
-    (rises.0, omega arith, rises-more (i + 1) hi more numbers less rises.2)
-
+-- rising numbers rise with their bound behind them
 rises-push : (lo hi : ℕ) (numbers : List ℕ) → lo ≤ hi → RisesFrom lo hi numbers → RisesFrom lo (hi + 1) (numbers ++ hi ∷ [])
 rises-push lo hi [] least rises = (least, omega arith, tt)
 rises-push lo hi (i ∷ numbers) least rises =
@@ -233,7 +228,7 @@ unfilled-push columns p count rows unfilled row value are = by_filled (is_filled
     inside = subst (λ n. IfSome (get_or row p None) (λ v. v < n)) (sym are.values) value
 
     more : (numbers : List ℕ) → RisesFrom 0 (length rows) numbers → RisesFrom 0 (length (rows ++ row ∷ [])) numbers
-    more numbers rises = rises-more 0 (length rows) (length (rows ++ row ∷ [])) numbers (omega (arith, long)) rises
+    more numbers rises = rises-wider 0 (length rows) (length (rows ++ row ∷ [])) numbers (omega (arith, long)) rises
 
     behind : (numbers : List ℕ) → RisesFrom 0 (length rows) numbers → RisesFrom 0 (length (rows ++ row ∷ [])) (numbers ++ length rows ∷ [])
     behind numbers rises = subst (λ n. RisesFrom 0 n (numbers ++ length rows ∷ [])) (sym long) (rises-push 0 (length rows) numbers (omega arith) rises)

@@ -1,10 +1,9 @@
 -- Partial rows that agree and are united, place by place.
-use Rattle.std.proofs.Common.{◌≡◌, ◌≢◌, ℕ, ◌+◌, ◌<◌, Bool, true, false, cond, ◌&&◌, ◌||◌, ◌==◌, List, [], ◌∷◌, ◌++◌, length, drop, Option, Some, None, is_some}
+use Rattle.std.proofs.Common.{◌≡◌, ◌≢◌, ℕ, ◌+◌, ◌<◌, Bool, true, false, cond, ◌&&◌, List, [], ◌∷◌, ◌++◌, length, drop, Option, Some, None, is_some}
 use Rattle.std.proofs.Common.{get_or, nat_eq, ◌∙◌, sym, ap, refl, arith, inl, inr, add-one, drop-cons}
 use Rattle.std.specs.List.{range_with_len}
-use Rattle.std.proofs.lemmas.Bool.{cases_Bool, cases_eq, false_from_ne_true, false≢true, ne_eqb}
+use Rattle.std.proofs.lemmas.Bool.{cases_Bool, cases_eq, false_from_ne_true, false≢true}
 use Rattle.std.proofs.lemmas.List.{same_lists, get_or_default}
-use Rattle.std.proofs.lemmas.List.Folds.{list_any-append}
 use Rattle.value_text.proofs.ListLemmas.{none_of}
 use Rattle.cov_model.specs.Rows.{is_assigned}
 use Rattle.cov_model.proofs.CellLemmas.{assigned_within}
@@ -12,8 +11,9 @@ use Rattle.definitions.specs.Demand.{is_among}
 use Rattle.definitions.specs.Growth.{agrees, union}
 use Rattle.definitions.proofs.Members.{Has, among_has, has_filter, has_range}
 use Rattle.refutation.proofs.HolderLemmas.{among_last}
+use Rattle.feasibility.proofs.Looking.{among_other}
 use Rattle.ipog_grow.specs.Growing.{given_params}
-use Rattle.ipog_grow.proofs.Tuples.{get_or-union, length-union}
+use Rattle.ipog_grow.proofs.Tuples.{cell_or_none, get_or-union, length-union}
 
 -- two cells don't have different values
 abbrev pub cells_agree : Option ℕ → Option ℕ → Bool
@@ -44,20 +44,7 @@ pub record UnitedAt (row tuple cells : List (Option ℕ)) (done : List ℕ) : Ty
   pub each : (q : ℕ) → get_or cells q None ≡ united_cell row tuple done q
 
 pub united-start : (row tuple : List (Option ℕ)) → UnitedAt row tuple row []
-united-start row tuple = record { long = refl; each = λ q. own (get_or row q None) }
-  where
-    own : (cell : Option ℕ) → cell ≡ cond (is_some cell) cell None
-    own (Some v) = refl
-    own None = refl
-
-among-other : (done : List ℕ) (p q : ℕ) → q ≢ p → is_among (done ++ p ∷ []) q ≡ is_among done q
-among-other done p q differs =
-    list_any-append (λ k. k == q) done (p ∷ []) ∙ ap (λ (b : Bool). is_among done q || (b || false)) (ne_eqb p q (λ same. differs (sym same)))
-    ∙ or_none (is_among done q)
-  where
-    or_none : (b : Bool) → (b || (false || false)) ≡ b
-    or_none true = refl
-    or_none false = refl
+united-start row tuple = record { long = refl; each = λ q. cell_or_none (get_or row q None) }
 
 -- one parameter more, which keeps its value, or gets that of the tuple
 pub united-more : (row tuple cells new : List (Option ℕ)) (done : List ℕ) (p : ℕ) → UnitedAt row tuple cells done → length new ≡ length cells
@@ -74,7 +61,7 @@ united-more row tuple cells new done p to long others own = record {
         ∙ ap (united_cell row tuple (done ++ p ∷ [])) (sym same)
     | inr differs ↦
         others q differs ∙ to.each q
-        ∙ sym (ap (λ (b : Bool). cond (is_some (get_or row q None)) (get_or row q None) (cond b (get_or tuple q None) None)) (among-other done p q differs))
+        ∙ sym (ap (λ (b : Bool). cond (is_some (get_or row q None)) (get_or row q None) (cond b (get_or tuple q None) None)) (among_other done p q differs))
   ];
 }
   where
@@ -85,26 +72,27 @@ united-more row tuple cells new done p to long others own = record {
     twice None None true = refl
     twice None t false = refl
 
+-- a parameter that isn't among those to which a tuple gives values has none
+pub given_away : (tuple : List (Option ℕ)) (q : ℕ) → is_among (given_params tuple) q ≡ false → get_or tuple q None ≡ None
+given_away tuple q away =
+    none_of (get_or tuple q None)
+    (false_from_ne_true (is_assigned tuple q) (λ assigned. false≢true (sym away ∙ among_has (given_params tuple) q (listed assigned))))
+  where
+    listed : is_assigned tuple q ≡ true → Has (given_params tuple) q
+    listed assigned =
+        has_filter (is_assigned tuple) (range_with_len 0 (length tuple)) q
+        (has_range 0 (length tuple) q (omega arith) (omega (arith, assigned_within tuple q assigned))) assigned
+
 pub united-all : (row tuple cells : List (Option ℕ)) → length tuple ≡ length row → UnitedAt row tuple cells (given_params tuple) → cells ≡ union row tuple
 united-all row tuple cells long to =
     let same : length (union row tuple) ≡ length row = length-union row tuple (sym long) in
     same_lists cells (union row tuple) (to.long ∙ sym same) (λ q d within.
     get_or_default cells q d None within ∙ whole q ∙ get_or_default (union row tuple) q None d (omega (arith, within, to.long, same)))
   where
-    listed : (q : ℕ) → is_assigned tuple q ≡ true → Has (given_params tuple) q
-    listed q assigned =
-        has_filter (is_assigned tuple) (range_with_len 0 (length tuple)) q
-        (has_range 0 (length tuple) q (omega arith) (omega (arith, assigned_within tuple q assigned))) assigned
-
-    given : (q : ℕ) → is_among (given_params tuple) q ≡ false → get_or tuple q None ≡ None
-    given q away =
-        none_of (get_or tuple q None)
-        (false_from_ne_true (is_assigned tuple q) (λ assigned. false≢true (sym away ∙ among_has (given_params tuple) q (listed q assigned))))
-
     beside : (q : ℕ) → cond (is_among (given_params tuple) q) (get_or tuple q None) None ≡ get_or tuple q None
     beside q = elim (cases_Bool (is_among (given_params tuple) q)) [
       | inl among ↦ ap (λ (b : Bool). cond b (get_or tuple q None) None) among
-      | inr away ↦ ap (λ (b : Bool). cond b (get_or tuple q None) None) away ∙ sym (given q away)
+      | inr away ↦ ap (λ (b : Bool). cond b (get_or tuple q None) None) away ∙ sym (given_away tuple q away)
     ]
 
     whole : (q : ℕ) → get_or cells q None ≡ get_or (union row tuple) q None

@@ -2,24 +2,28 @@ ghost use Rattle.std.specs.Prelude.{◌≡◌, ◌<◌, ℕ, true, false, None, 
 ghost use Rattle.definitions.specs.Demand.{is_among};
 ghost use Rattle.tuple_index.specs.Places.{RisesFrom};
 ghost use Rattle.definitions.specs.Growth.{agrees, join, union};
+ghost use Rattle.ipog_grow.specs.Growing.{given_params};
 ghost use Rattle.ipog_grow.specs.Asking.{Grows, Told, IsUnionAt, extends, first_spent};
 
 use crate::asker::Asker;
 use crate::candidates::Candidates;
 use crate::stop::Stop;
-use crate::unions::{agree, put_given_params, unite};
-use cov_model::{Cells, Rows};
+use crate::unions::{agree, unite};
+use cov_model::{Cells, ParamNo, Rows};
 
 // The first partial row that agrees with a tuple, and whose union with it is extendable, becomes this
-// union; its number, if there is one. The room is for a union, and has this one then. Only the candidates may agree.
+// union; its number, if there is one. The tuple gives values to these parameters, and only the candidates may
+// agree. The room is for a union, and has this one then.
 pub(crate) fn join_first(
     asker: &mut Asker,
     tuple: &Cells,
+    given: &[ParamNo],
     room: &mut Cells,
     rows: &mut Rows,
     mut candidates: Candidates<'_>,
 ) -> Result<Option<usize>, Stop>
     requires tuple { Grows asker.old.context tuple.now }
+    requires given { given.now ≡ given_params tuple.now }
     requires rows { All (Grows asker.old.context) rows.old }
     requires candidates { RisesFrom 0 (length rows.old) candidates }
     requires others { (i : ℕ) → i < length rows.old → is_among candidates i ≡ false → agrees (slice_index_or rows.old i []) tuple.now ≡ false }
@@ -35,9 +39,6 @@ pub(crate) fn join_first(
     ensures long { length room.new ≡ length room.old }
 {
     asker.assert_invariant();
-    let mut params = [0; 256];
-    let count = put_given_params(tuple, &mut params);
-    let given = &params[..count];
     while let Some(i) = candidates.take_first() {
         let row = rows.row(i);
         if agree(row, tuple, given) {

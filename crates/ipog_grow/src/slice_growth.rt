@@ -11,7 +11,7 @@ ghost use Rattle.tuple_index.specs.Plan.{plan_of};
 ghost use Rattle.ipog_grow.specs.Completing.{completed};
 ghost use Rattle.ipog_grow.specs.Omissions.{AreOmissionsOf, IsOmittedIn};
 ghost use Rattle.ipog_grow.specs.Asking.{Grows, IsNew, IsNext, IsOpen, IsPassed, IsReady, Told, column_grown, columns_grown, extends, first_spent, omitted_alone, rows_alone};
-ghost use Rattle.ipog_grow.specs.Growing.{Keeps, columns_to, open_tuples};
+ghost use Rattle.ipog_grow.specs.Growing.{Keeps, columns_to, given_params, open_tuples};
 ghost use Rattle.ipog_grow.specs.UnfilledRows.{HasUnfilled};
 
 use crate::asker::Asker;
@@ -20,7 +20,7 @@ use crate::finish::finish_slice;
 use crate::horizontal::grow_horizontally;
 use crate::join::join_first;
 use crate::order::column_order;
-use crate::place_tuple::put_tuple;
+use crate::place_tuple::{clear_values, put_tuple, take_tuple};
 use crate::stop::Stop;
 use crate::unfilled::UnfilledRows;
 use crate::values::no_scores;
@@ -121,13 +121,15 @@ impl<'a> SliceGrowth<'a> {
     }
 
     // Puts the tuple of a place, which no row contains: the first row that takes it becomes the union
-    // with it, or it becomes a new row, or it is omitted. It is closed then. The columns are those up to
-    // this one, and only the rows of these numbers may have an empty cell there.
+    // with it, or it becomes a new row, or it is omitted. It is closed then. The tuple gives values to the
+    // given parameters, the columns are those up to this one, and only the rows of these numbers may have an
+    // empty cell there.
     fn settle(
         &mut self,
         alloc: Global,
         column: ParamNo,
         place: (u32, u32),
+        given: &[ParamNo],
         columns: &[ParamNo],
         unfilled: &mut UnfilledRows,
     ) -> Result<(), Stop>
@@ -136,6 +138,7 @@ impl<'a> SliceGrowth<'a> {
         requires columns { columns.now ≡ columns_to self.old.asker.context.model self.old.asker.context.slice column }
         requires exist { All (λ p. p < length self.old.asker.context.model.params) columns.now }
         requires unfilled { HasUnfilled columns.now column (length (param_at self.old.asker.context.model.params column).values) self.old.rows unfilled.old }
+        requires given { given.now ≡ given_params self.old.tuple }
         requires room { length self.old.room ≡ length self.old.asker.context.model.params }
         ensures asked { Told result self.new.asker.question
             (first_spent self.old.asker.context (settle (extends self.old.asker.context) self.old.tuple self.old.rows).asked) }
@@ -152,6 +155,7 @@ impl<'a> SliceGrowth<'a> {
         match join_first(
             &mut self.asker,
             &self.tuple,
+            given,
             &mut self.room,
             &mut self.rows,
             unfilled.candidates(&self.tuple, column),
@@ -194,11 +198,16 @@ impl<'a> SliceGrowth<'a> {
     {
         self.asker.assert_invariant();
         plan.assert_invariant();
+        if self.table.next_open(column, None).is_none() {
+            return Ok(());
+        }
         let mut unfilled = UnfilledRows::among(alloc, &self.rows, columns, column, count)?;
+        clear_values(&mut self.tuple);
         let mut from = None;
         while let Some(place) = self.table.next_open(column, from) {
-            put_tuple(plan, place, &mut self.tuple);
-            self.settle(alloc, column, place, columns, &mut unfilled)?;
+            let given = put_tuple(plan, place, &mut self.tuple);
+            self.settle(alloc, column, place, given, columns, &mut unfilled)?;
+            take_tuple(given, &mut self.tuple);
             from = Some(place);
         }
         Ok(())

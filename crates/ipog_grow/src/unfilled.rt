@@ -43,6 +43,7 @@ impl UnfilledRows {
         ensures { IfOk result (λ unfilled. unfilled ≡ record { without = []; by_value = replicate count [] }) }
     {
         let mut by_value = Vec::new(alloc);
+        by_value.reserve(count)?;
         for _ in 0..count {
             by_value.push(Vec::new(alloc))?;
         }

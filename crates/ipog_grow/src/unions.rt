@@ -5,24 +5,6 @@ ghost use Rattle.ipog_grow.specs.Growing.{given_params};
 
 use cov_model::{Cells, ParamNo, ValueNo};
 
-// Puts the parameters that have a value in a tuple to the front, rising, and tells how many there are.
-pub(crate) fn put_given_params(tuple: &Cells, into: &mut [ParamNo]) -> usize
-    requires room { length tuple.now ≤ length into.old }
-    requires few { length tuple.now ≤ 256 }
-    ensures within { result ≤ length into.new }
-    ensures given { take result into.new ≡ given_params tuple.now }
-{
-    let mut count = 0;
-    let end = tuple.len() as ParamNo;
-    for p in 0..end {
-        if tuple.get(p).is_some() {
-            into[count] = p;
-            count += 1;
-        }
-    }
-    count
-}
-
 // Whether no parameter has one value in a partial row and another in a tuple, which gives values to
 // these parameters.
 pub(crate) fn agree(row: &[Option<ValueNo>], tuple: &Cells, given: &[ParamNo]) -> bool

@@ -1,4 +1,4 @@
-use Rattle.std.proofs.Common.{false, ◌∙◌, ◌<◌, Bool, ℕ, List, Option, length, get_or, take, ap, refl, sym, subst, set, []}
+use Rattle.std.proofs.Common.{false, ◌∙◌, ◌<◌, Bool, ℕ, List, Option, length, get_or, ap, refl, sym, subst, set, []}
 use Rattle.std.proofs.lemmas.List.{get_or-set_same}
 use Rattle.std.proofs.lemmas.Result.{err_from_is_err_and}
 use Rattle.ipog_grow.specs.Asking.{SearchContext, Grows}
@@ -11,16 +11,14 @@ use Rattle.ipog_grow.proofs.join.join_first.Goals as goal
 pub agree-requires-clause-exist : goal.agree-requires-clause-exist
 agree-requires-clause-exist c =
     let within = (offering-first _ c.loop-i.invariant.offering (sym c.take_first.ensures.first ∙ c.in-Some.is)).0 in
-    given_exist c.args.tuple.now c.row-row.result.now (take c.put_given_params-count.result c.put_given_params-count.new.into)
-    c.put_given_params-count.ensures.given
+    given_exist c.args.tuple.now c.row-row.result.now c.args.given.now c.requires.given
     (c.requires.tuple.of.fits.as_long ∙ sym (c.requires.rows c.in-Some.i [] within).of.fits.as_long
     ∙ sym (ap length (read_row c.in-Some.i c.loop-i.invariant.rows c.row-row.ensures)))
 
 pub unite-requires-clause-exist : goal.unite-requires-clause-exist
 unite-requires-clause-exist c =
     let within = (offering-first _ c.loop-i.invariant.offering (sym c.take_first.ensures.first ∙ c.in-Some.is)).0 in
-    given_exist c.args.tuple.now c.row-row.result.now (take c.put_given_params-count.result c.put_given_params-count.new.into)
-    c.put_given_params-count.ensures.given
+    given_exist c.args.tuple.now c.row-row.result.now c.args.given.now c.requires.given
     (c.requires.tuple.of.fits.as_long ∙ sym (c.requires.rows c.in-Some.i [] within).of.fits.as_long
     ∙ sym (ap length (read_row c.in-Some.i c.loop-i.invariant.rows c.row-row.ensures)))
 

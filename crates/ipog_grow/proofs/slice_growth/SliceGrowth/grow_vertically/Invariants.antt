@@ -1,4 +1,4 @@
-use Rattle.std.proofs.Common.{◌≡◌, length, IfSome}
+use Rattle.std.proofs.Common.{◌≡◌, ℕ, None, get_or, length, IfSome}
 use Rattle.uncovered_table.specs.Open.{IsPlaceOf}
 use Rattle.ipog_grow.specs.UnfilledRows.{HasUnfilled}
 use Rattle.ipog_grow.specs.Growing.{open_tuples}
@@ -10,6 +10,7 @@ abbrev pub invariant-loop-place : goal.invariant-loop-place
 invariant-loop-place l = record {
   context : l.self.asker.context ≡ l.fn.self.asker.context;
   tuple : length l.self.tuple ≡ length l.fn.self.tuple;
+  blank : (p : ℕ) → get_or l.self.tuple p None ≡ None;
   room : length l.self.room ≡ length l.fn.self.room;
   unfilled : HasUnfilled l.columns l.column l.count l.self.rows l.unfilled;
   from : IfSome l.from (IsPlaceOf l.self.table);
