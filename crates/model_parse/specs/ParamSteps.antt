@@ -58,9 +58,9 @@ pub record Counts (read : ParamsRead) (count : ℕ) : Type 0 where
   pub as_known : length read.known ≡ count
 
 -- there is one parameter more, and one name
-pub record IsOneMore (params known : ℕ) (next : ParamsRead) : Type 0 where
-  pub more_params : length next.params ≡ params + 1
-  pub more_known : length next.known ≡ known + 1
+pub record IsOneMore (params known more_params more_known : ℕ) : Type 0 where
+  pub one_param : more_params ≡ params + 1
+  pub one_known : more_known ≡ known + 1
 
 abbrev pub no_params : ParamsRead
 no_params = record { params = []; known = []; notes = [] }

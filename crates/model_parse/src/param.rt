@@ -1,7 +1,8 @@
 //! Reading parameter lines.
-ghost use Rattle.std.specs.Prelude.{◌≡◌, ◌<◌, ◌≤◌, false, map, length, IfOk, OnOk};
+ghost use Rattle.std.specs.Prelude.{◌≡◌, ◌<◌, ◌≤◌, ◌++◌, ◌∷◌, [], false, map, length, IfOk, OnOk};
 ghost use Rattle.std.specs.List.{list_all};
 ghost use Rattle.value_text.specs.Numbers.{is_number};
+ghost use Rattle.value_text.specs.Texts.{folded};
 ghost use Rattle.cov_model.specs.Sound.{first_name, is_numeric};
 ghost use Rattle.model_lex.specs.Sections.{line_seen};
 ghost use Rattle.model_parse.specs.Rules.{Gives};
@@ -14,7 +15,7 @@ use crate::fault::bad;
 use crate::name_set::NameSet;
 use crate::piece::add_piece;
 use crate::reading::{ParamsRead, Reading};
-use cov_model::{Param, ParamList, Value};
+use cov_model::{Param, ParamList, Value, ValueList};
 use model_lex::{DiagCode, LimitName, ModelFault, ModelOpts, NoteList, NumLine, trimmed};
 use std::alloc::Global;
 use value_text::{FixedAnswer, NoMemory, OwnedList, Text, read_fixed};
@@ -48,18 +49,18 @@ fn add_pieces(
     line: u32,
     params: &[Param],
     known: &NameSet,
-    mut read: Reading,
+    read: &mut Reading,
     pieces: &[&str],
-) -> Result<Reading, ModelFault>
+) -> Result<(), ModelFault>
     requires alias { opts.now.marks.alias < 128 }
     requires prefix { opts.now.marks.prefix < 128 }
     requires numbered { length known.now ≤ length params.now }
-    ensures { Gives (and_each (add_piece opts.now line params.now known.now) read (map (λ piece. piece.now) pieces.now)) (λ next. next) result }
+    ensures { Gives (and_each (add_piece opts.now line params.now known.now) read.old (map (λ piece. piece.now) pieces.now)) (λ done. read.new) result }
 {
     for piece in pieces {
-        read = add_piece(alloc, opts, line, params, known, read, piece)?;
+        add_piece(alloc, opts, line, params, known, read, piece)?;
     }
-    Ok(read)
+    Ok(())
 }
 
 // The values of a list of values, with the notes so far.
@@ -79,12 +80,21 @@ fn read_values(
     ensures { Gives (read_values opts.now line params.now known.now notes list.now) (λ next. next) result }
 {
     let pieces = pieces(alloc, list, opts.marks.separator)?;
-    let start = Reading {
+    let mut read = Reading {
         values: OwnedList::new(alloc),
         known: NameSet::new(alloc),
         notes,
     };
-    add_pieces(alloc, opts, line, params, known, start, pieces.as_slice())
+    add_pieces(
+        alloc,
+        opts,
+        line,
+        params,
+        known,
+        &mut read,
+        pieces.as_slice(),
+    )?;
+    Ok(read)
 }
 
 // Whether the first name of each value is a number.
@@ -105,76 +115,88 @@ fn has_number(value: &Value) -> bool
 }
 
 // One more parameter of this name with these values.
+fn push_param(
+    alloc: Global,
+    fold: bool,
+    line: u32,
+    name: &str,
+    values: ValueList,
+    params: &mut ParamList,
+    known: &mut NameSet,
+) -> Result<(), NoMemory>
+    requires { is_known fold known.old name.now ≡ false }
+    ensures params { OnOk result (params.new ≡ params.old ++ record { name = name.now; line = line; numeric = is_numeric values; values = values } ∷ []) }
+    ensures known { OnOk result (known.new ≡ known.old ++ folded fold name.now ∷ []) }
+{
+    known.add(alloc, name, fold)?;
+    let numeric = is_numeric(values.as_slice());
+    params.push(Param {
+        name: Text::copy(alloc, name)?,
+        line,
+        numeric,
+        values,
+    })
+}
+
+// One more parameter of this name with the values that were read, unless these are too many. Gives the notes.
 fn add_param(
     alloc: Global,
     fold: bool,
     line: u32,
     name: &str,
-    mut params: ParamList,
-    mut known: NameSet,
-    values: Reading,
-) -> Result<ParamsRead, ModelFault>
-    requires { is_known fold known name.now ≡ false }
-    ensures value { Gives (add_param fold line name.now params known values) (λ next. next) result }
-    ensures more { IfOk result (λ next. IsOneMore (length params) (length known) next) }
+    params: &mut ParamList,
+    known: &mut NameSet,
+    read: Reading,
+) -> Result<NoteList, ModelFault>
+    requires { is_known fold known.old name.now ≡ false }
+    ensures value { Gives (add_param fold line name.now params.old known.old read) (λ notes. record { params = params.new; known = known.new; notes = notes }) result }
+    ensures more { OnOk result (IsOneMore (length params.old) (length known.old) (length params.new) (length known.new)) }
 {
     let Reading {
         values,
         notes,
         known: _,
-    } = values;
+    } = read;
     let count = values.len() as u64;
     if count > LimitName::Values.most() {
         return Err(ModelFault::Limit(LimitName::Values, count));
     }
-    known.add(alloc, name, fold)?;
-    params.push(Param {
-        name: Text::copy(alloc, name)?,
-        line,
-        numeric: is_numeric(values.as_slice()),
-        values,
-    })?;
-    Ok(ParamsRead {
-        params,
-        known,
-        notes,
-    })
+    push_param(alloc, fold, line, name, values, params, known)?;
+    Ok(notes)
 }
 
-// One more line.
+// One more line, behind parameters with these names. Takes the notes so far, and gives them with those on the line.
 fn read_param(
     alloc: Global,
     opts: &ModelOpts,
-    read: ParamsRead,
+    params: &mut ParamList,
+    known: &mut NameSet,
+    notes: NoteList,
     line: NumLine<'_>,
-) -> Result<ParamsRead, ModelFault>
+) -> Result<NoteList, ModelFault>
     requires separator { opts.now.marks.separator < 128 }
     requires alias { opts.now.marks.alias < 128 }
     requires prefix { opts.now.marks.prefix < 128 }
-    requires numbered { length read.known ≤ length read.params }
-    ensures value { Gives (read_param opts.now read (line_seen line.entry)) (λ next. next) result }
-    ensures more { IfOk result (λ next. IsOneMore (length read.params) (length read.known) next) }
+    requires numbered { length known.old ≤ length params.old }
+    ensures value { Gives (read_param opts.now (record { params = params.old; known = known.old; notes = notes }) (line_seen line.entry))
+        (λ notes. record { params = params.new; known = known.new; notes = notes }) result }
+    ensures more { OnOk result (IsOneMore (length params.old) (length known.old) (length params.new) (length known.new)) }
 {
     let (name, list) = cut_colon(line.text);
     let name = trimmed(name);
-    let ParamsRead {
-        params,
-        known,
-        notes,
-    } = read;
-    if let Some(code) = param_code(alloc, &known, name, opts.fold)? {
+    if let Some(code) = param_code(alloc, known, name, opts.fold)? {
         return Err(bad(line.line, code));
     }
-    let values = read_values(
+    let read = read_values(
         alloc,
         opts,
         line.line,
         params.as_slice(),
-        &known,
+        known,
         notes,
         list,
     )?;
-    add_param(alloc, opts.fold, line.line, name, params, known, values)
+    add_param(alloc, opts.fold, line.line, name, params, known, read)
 }
 
 // The parameters of these lines, one after another.
@@ -189,15 +211,17 @@ fn read_lines(
     ensures value { Gives (and_each (read_param opts.now) no_params (map line_seen lines.now)) (λ next. next) result }
     ensures count { IfOk result (λ read. Counts read (length lines.now)) }
 {
-    let mut read = ParamsRead {
-        params: OwnedList::new(alloc),
-        known: NameSet::new(alloc),
-        notes: OwnedList::new(alloc),
-    };
+    let mut params = OwnedList::new(alloc);
+    let mut known = NameSet::new(alloc);
+    let mut notes = OwnedList::new(alloc);
     for line in lines {
-        read = read_param(alloc, opts, read, *line)?;
+        notes = read_param(alloc, opts, &mut params, &mut known, notes, *line)?;
     }
-    Ok(read)
+    Ok(ParamsRead {
+        params,
+        known,
+        notes,
+    })
 }
 
 /// The parameters of all parameter lines.

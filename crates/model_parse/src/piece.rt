@@ -175,27 +175,26 @@ fn add_value(
     alloc: Global,
     fold: bool,
     line: u32,
-    mut read: Reading,
+    read: &mut Reading,
     names: &[&str],
     weight: u32,
     negative: bool,
-) -> Result<Reading, ModelFault>
-    ensures { Gives (add_value fold line read (record { names = map (λ name. name.now) names.now; weight = weight; negative = negative })) (λ next. next) result }
+) -> Result<(), ModelFault>
+    ensures { Gives (add_value fold line read.old (record { names = map (λ name. name.now) names.now; weight = weight; negative = negative })) (λ done. read.new) result }
 {
     let names = keep_names(alloc, fold, line, names, &mut read.known, &mut read.notes)?;
     let count = names.len() as u64;
     if count > LimitName::Names.most() {
         return Err(ModelFault::Limit(LimitName::Names, count));
     }
-    if count == 0 {
-        return Ok(read);
+    if count > 0 {
+        read.values.push(Value {
+            names,
+            weight,
+            negative,
+        })?;
     }
-    read.values.push(Value {
-        names,
-        weight,
-        negative,
-    })?;
-    Ok(read)
+    Ok(())
 }
 
 // One more value, copied.
@@ -203,10 +202,10 @@ fn add_copy(
     alloc: Global,
     fold: bool,
     line: u32,
-    read: Reading,
+    read: &mut Reading,
     value: &Value,
-) -> Result<Reading, ModelFault>
-    ensures { Gives (add_value fold line read value.now) (λ next. next) result }
+) -> Result<(), ModelFault>
+    ensures { Gives (add_value fold line read.old value.now) (λ done. read.new) result }
 {
     let names = borrowed(alloc, value.names.as_slice())?;
     add_value(
@@ -236,15 +235,15 @@ fn add_copies(
     alloc: Global,
     fold: bool,
     line: u32,
-    mut read: Reading,
+    read: &mut Reading,
     values: &[Value],
-) -> Result<Reading, ModelFault>
-    ensures { Gives (and_each (add_value fold line) read values.now) (λ next. next) result }
+) -> Result<(), ModelFault>
+    ensures { Gives (and_each (add_value fold line) read.old values.now) (λ done. read.new) result }
 {
     for value in values {
-        read = add_copy(alloc, fold, line, read, value)?;
+        add_copy(alloc, fold, line, read, value)?;
     }
-    Ok(read)
+    Ok(())
 }
 
 // The value that a piece spells.
@@ -252,12 +251,12 @@ fn add_spelled(
     alloc: Global,
     opts: &ModelOpts,
     line: u32,
-    read: Reading,
+    read: &mut Reading,
     piece: &str,
-) -> Result<Reading, ModelFault>
+) -> Result<(), ModelFault>
     requires alias { opts.now.marks.alias < 128 }
     requires prefix { opts.now.marks.prefix < 128 }
-    ensures { Gives (and_then (refused_or line (piece_code opts.now.marks piece.now) (Ok (value_of opts.now.marks piece.now))) (add_value opts.now.fold line read)) (λ next. next) result }
+    ensures { Gives (and_then (refused_or line (piece_code opts.now.marks piece.now) (Ok (value_of opts.now.marks piece.now))) (add_value opts.now.fold line read.old)) (λ done. read.new) result }
 {
     let prefix = opts.marks.prefix;
     let (text, weight) = read_weight(piece);
@@ -309,13 +308,13 @@ pub(crate) fn add_piece(
     line: u32,
     params: &[Param],
     known: &NameSet,
-    read: Reading,
+    read: &mut Reading,
     piece: &str,
-) -> Result<Reading, ModelFault>
+) -> Result<(), ModelFault>
     requires alias { opts.now.marks.alias < 128 }
     requires prefix { opts.now.marks.prefix < 128 }
     requires numbered { length known.now ≤ length params.now }
-    ensures { Gives (add_piece opts.now line params.now known.now read piece.now) (λ next. next) result }
+    ensures { Gives (add_piece opts.now line params.now known.now read.old piece.now) (λ done. read.new) result }
 {
     let Some(name) = referred(piece) else {
         return add_spelled(alloc, opts, line, read, piece);

@@ -4,6 +4,7 @@ ghost use Rattle.model_parse.specs.Rules.{Gives};
 ghost use Rattle.model_parse.specs.RawModels.{AreOpts, IsSoundRaw, order_in, raw_model_of};
 ghost use Rattle.model_parse.specs.ModelSteps.{with_demand};
 ghost use Rattle.model_parse.specs.GroupSteps.{read_groups};
+ghost use Rattle.model_parse.specs.Steps.{and_then};
 ghost use Rattle.model_parse.specs.Written.{ParamsReadBack};
 
 use crate::fault::bad;
@@ -36,46 +37,39 @@ fn order_in(order: OrderWord, count: u32) -> u32
     }
 }
 
-// The demand of the group lines, behind these parameters.
+// The order of a demand may not be above the number of parameters. Their last line is refused where it is.
+fn check_order(lines: &[NumLine<'_>], read: &ParamsRead, demand: &Demand) -> Result<(), ModelFault>
+    requires some { 0 < length lines.now }
+    requires few { length read.now.params ≤ 256 }
+    ensures { Gives (with_demand (map line_seen lines.now) read.now demand.now)
+        (λ done. record { params = read.now.params; demand = demand.now; notes = read.now.notes }) result }
+{
+    if demand.order > read.params.len() as u32 {
+        let last = &lines[lines.len() - 1];
+        return Err(bad(last.line, DiagCode::OrderTooLarge));
+    }
+    Ok(())
+}
+
+// The demand of the group lines, behind what was read of the parameter lines.
 fn read_demand(
     alloc: Global,
     opts: &ModelOpts,
+    lines: &[NumLine<'_>],
     read: &ParamsRead,
     groups: &[NumLine<'_>],
 ) -> Result<Demand, ModelFault>
     requires separator { opts.now.marks.separator < 128 }
     requires params { length read.now.params ≤ 256 }
     requires known { length read.now.known ≤ 256 }
-    ensures { Gives (read_groups opts.now read.now.known (order_in opts.now.order (length read.now.params)) (map line_seen groups.now)) (λ demand. demand) result }
+    requires some { 0 < length lines.now }
+    ensures { Gives (and_then (read_groups opts.now read.now.known (order_in opts.now.order (length read.now.params)) (map line_seen groups.now)) (with_demand (map line_seen lines.now) read.now))
+        (λ demand. record { params = read.now.params; demand = demand; notes = read.now.notes }) result }
 {
     let order = order_in(opts.order, read.params.len() as u32);
-    read_groups(alloc, opts, &read.known, order, groups)
-}
-
-// The raw model of what was read of the parameter lines and of the group lines.
-fn with_demand(
-    lines: &[NumLine<'_>],
-    read: ParamsRead,
-    demand: Demand,
-) -> Result<RawModel, ModelFault>
-    requires some { 0 < length lines.now }
-    requires few { length read.params ≤ 256 }
-    ensures { Gives (with_demand (map line_seen lines.now) read demand) (λ raw. raw) result }
-{
-    if demand.order > read.params.len() as u32 {
-        let last = &lines[lines.len() - 1];
-        return Err(bad(last.line, DiagCode::OrderTooLarge));
-    }
-    let ParamsRead {
-        params,
-        notes,
-        known: _,
-    } = read;
-    Ok(RawModel {
-        params,
-        demand,
-        notes,
-    })
+    let demand = read_groups(alloc, opts, &read.known, order, groups)?;
+    check_order(lines, read, &demand)?;
+    Ok(demand)
 }
 
 /// The parameters, the demand and the notes that the parameter lines and the group lines of a model
@@ -101,8 +95,17 @@ pub fn parse_params(
 {
     let lines = sections.params.as_slice();
     let read = read_params(alloc, opts, lines)?;
-    let demand = read_demand(alloc, opts, &read, sections.groups.as_slice())?;
-    with_demand(lines, read, demand)
+    let demand = read_demand(alloc, opts, lines, &read, sections.groups.as_slice())?;
+    let ParamsRead {
+        params,
+        notes,
+        known: _,
+    } = read;
+    Ok(RawModel {
+        params,
+        demand,
+        notes,
+    })
 }
 
 /// The parameters of a model read back: where a line is written for each, as `NAME: a | b (3), ~c, d`,

@@ -22,7 +22,7 @@ returns c =
     c.read_weight-weight.ensures.names c.read_weight-weight.ensures.weight c.if-weight-eq0.false c.if-weight-ge-WEIGHT_END.false c.in_ok-parts.ensures
     (c.in_ok-names.ensures ∙ ap (λ (ps : List (Bor (List ℕ))). map (without_prefix marks.prefix) (seen ps)) c.as_slice.ensures.value) code
     (c.is_negative-negative.ensures ∙ ap (λ (ps : List (Bor (List ℕ))). begins_with marks.prefix (slice_index_or (seen ps) 0 [])) c.as_slice-3.ensures.value) in
-    let add = add_value c.args.opts.now.fold c.args.line c.args.read in
-    gives_same (λ next. next) c.add_value.result _ _ (ap (λ (ns : List (Bor (List ℕ))). add
+    let add = add_value c.args.opts.now.fold c.args.line c.args.read.now in
+    gives_same (λ done. c.add_value.new.read) c.add_value.result _ _ (ap (λ (ns : List (Bor (List ℕ))). add
     (record { names = seen ns; weight = c.read_weight-weight.result.1; negative = c.is_negative-negative.result })) c.as_slice-4.ensures
     ∙ accepted_is c.args.line (piece_code marks c.args.piece.now) (value_of marks c.args.piece.now) value add spells.accepted spells.is) c.add_value.ensures
