@@ -6,8 +6,8 @@ use Rattle.model_lex.specs.declared.fault.ModelFault.{ModelFault}
 use Rattle.model_lex.specs.declared.fault.ModelFault.TheVariants.{Bad, BadRule, Limit, NoMemory}
 use Rattle.constraint_ast.specs.Trees.{body_tree, rule_tree}
 use Rattle.constraint_ast.specs.Grammar.{last_line, most_open}
-use Rattle.constraint_ast.specs.Machine.{Between, InPlain, run, with_rule, with_rules}
-use Rattle.constraint_ast.specs.Reading.{ReadsRule, RefusesBody, RefusesRules, begins_if, first_line, before_pred}
+use Rattle.constraint_ast.specs.Machine.{Between, InPlain, Spot, Top, run, with_rule, with_rules}
+use Rattle.constraint_ast.specs.Reading.{ReadsRule, RefusesBody, RefusesPred, RefusesRules, begins_if, first_line, before_pred}
 use Rattle.constraint_ast.specs.declared.token.LineToken.{LineToken}
 use Rattle.constraint_ast.specs.declared.tree.RawBody.{RawBody}
 use Rattle.constraint_ast.specs.declared.tree.RawRule.{RawRule}
@@ -27,6 +27,14 @@ pub plain_refused :
     → IfErr result (RefusesBody last tokens (λ line. before_pred (InPlain line))) → IfErr result (RefusesRules last tokens)
 plain_refused (Ok read) last tokens some no_if refused = tt
 plain_refused (Err fault) last tokens some no_if refused = fault_of_plain last tokens some no_if fault refused
+
+-- a predicate of a constraint that is refused refuses the rest of the constraint
+pub pred_refused : (last : ℕ) (tokens : List LineToken) (start : ℕ → Spot) (fault : ModelFault) → RefusesPred last most_open tokens fault
+    → RefusesBody last tokens (λ line. before_pred (start line)) fault
+pred_refused last tokens start (BadRule diag) refused = λ line. refused (Top (start line))
+pred_refused last tokens start (Bad diag) refused = refused
+pred_refused last tokens start (Limit limit count) refused = refused
+pred_refused last tokens start NoMemory refused = refused
 
 -- some constraints are read before others
 abbrev pub ReadsFirst : ℕ → List LineToken → List RawRule → List LineToken → Type 0

@@ -1,7 +1,7 @@
 ghost use Rattle.std.specs.Prelude.{◌≡◌, false, [], ◌∷◌, ℕ, ◌<◌, length, map, IfOk, IfErr, IfSome, IfNone, List, MatchOption, MatchResult};
 ghost use Rattle.model_lex.specs.Sections.{AreSections, line_seen};
 ghost use Rattle.constraint_ast.specs.Lexing.{AreRefused, Spell};
-ghost use Rattle.constraint_ast.specs.Trees.{RuleTree, tree_of, body_tree, rule_tree, Negated, End};
+ghost use Rattle.constraint_ast.specs.Trees.{RuleTree, Tree, Plain, IfElse, tree_of, body_tree, rule_tree, Negated, End};
 ghost use Rattle.constraint_ast.specs.Grammar.{AreRules, Refused, at, last_line, most_open, refusal_line};
 ghost use Rattle.constraint_ast.specs.Machine.{Around, Between, InElse, InIf, InPlain, InThen, Liked, Listed, Named, NamedNot, Need, Opened, Paren, Part, Related, Signed, SignOpened, Top, close, run};
 ghost use Rattle.constraint_ast.specs.Reading.{GoesOnAnd, GoesOnIf, GoesOnOr, IfRefused, ReadsRule, RefusesRules, before_pred, begins_and, begins_if, begins_or, first_line, ReadsBody, ReadsPred};
@@ -417,6 +417,22 @@ impl Parser {
         }
     }
 
+    // The last predicate of a constraint, to its `;`.
+    fn last_pred<'t>(&self, tokens: &'t [LineToken]) -> Read<'t, RawPred>
+        ensures plain { IfOk result (λ read. ReadsBody self.now.last tokens.now (λ line. before_pred (InPlain line)) (Plain (tree_of read.0)) read.1.now) }
+        ensures no_plain { IfErr result (RefusesBody self.now.last tokens.now (λ line. before_pred (InPlain line))) }
+        ensures other { IfOk result (λ read. (premise pred : Tree) → ReadsBody self.now.last tokens.now (λ line. before_pred (InElse line premise pred))
+            (IfElse premise pred (tree_of read.0)) read.1.now) }
+        ensures no_other { (premise pred : Tree) → IfErr result (RefusesBody self.now.last tokens.now (λ line. before_pred (InElse line premise pred))) }
+        ensures shorter { IfOk result (λ read. length read.1.now < length tokens.now) }
+    {
+        let (last, ahead) = self.pred(DEPTH, tokens)?;
+        match first(ahead) {
+            Some((RuleToken::Semicolon, rest)) => Ok((last, rest)),
+            _ => Err(self.refused(ahead, DiagCode::MarkExpected)),
+        }
+    }
+
     // The rest of a constraint behind ELSE.
     fn behind_else<'t>(
         &self,
@@ -429,11 +445,8 @@ impl Parser {
         ensures err { IfErr result (RefusesBody self.now.last tokens.now (λ line. before_pred (InElse line (tree_of premise) (tree_of pred)))) }
         ensures shorter { IfOk result (λ read. length read.1.now < length tokens.now) }
     {
-        let (other, ahead) = self.pred(DEPTH, tokens)?;
-        match first(ahead) {
-            Some((RuleToken::Semicolon, rest)) => Ok((RawBody::IfElse(premise, pred, other), rest)),
-            _ => Err(self.refused(ahead, DiagCode::MarkExpected)),
-        }
+        let (other, rest) = self.last_pred(tokens)?;
+        Ok((RawBody::IfElse(premise, pred, other), rest))
     }
 
     // A constraint that is a predicate, to its `;`.
@@ -442,11 +455,8 @@ impl Parser {
         ensures err { IfErr result (RefusesBody self.now.last tokens.now (λ line. before_pred (InPlain line))) }
         ensures shorter { IfOk result (λ read. length read.1.now < length tokens.now) }
     {
-        let (pred, ahead) = self.pred(DEPTH, tokens)?;
-        match first(ahead) {
-            Some((RuleToken::Semicolon, rest)) => Ok((RawBody::Plain(pred), rest)),
-            _ => Err(self.refused(ahead, DiagCode::MarkExpected)),
-        }
+        let (pred, rest) = self.last_pred(tokens)?;
+        Ok((RawBody::Plain(pred), rest))
     }
 
     // The body of a constraint.

@@ -1,7 +1,7 @@
 -- How names are looked up by their texts.
 use Rattle.std.proofs.Common.{◌≡◌, ℕ, suc, ◌+◌, ◌<◌, Bool, true, false, cond, ◌||◌, List, [], ◌∷◌, ◌++◌, map, length, get_or, take, All}
 use Rattle.std.proofs.Common.{Option, Some, None, is_some, position, refl, sym, ◌∙◌, ap, ap₂, subst, arith, add-zero}
-use Rattle.std.proofs.lemmas.Bool.{cond-false, false≢true, true≢false}
+use Rattle.std.proofs.lemmas.Bool.{cond-false, false≢true}
 use Rattle.std.proofs.lemmas.Iterator.Adapters.{position_from-zero}
 use Rattle.std.proofs.lemmas.List.{length-take-le, take_more}
 use Rattle.std.proofs.lemmas.List.Elements.{All-head, All-tail}

@@ -1,10 +1,10 @@
 -- How the names of a model are gathered parameter by parameter.
-use Rattle.std.proofs.Common.{◌≡◌, ℕ, ◌+◌, ◌<◌, ◌≤◌, List, [], ◌∷◌, ◌++◌, length, get_or, position, inl, inr, sym, ◌∙◌, ap, arith}
+use Rattle.std.proofs.Common.{◌≡◌, ℕ, ◌+◌, ◌<◌, List, [], ◌∷◌, ◌++◌, length, get_or, position, inl, inr, sym, ◌∙◌, ap, arith}
 use Rattle.std.proofs.lemmas.Bool.{cases_eq}
 use Rattle.std.proofs.lemmas.List.{get_or_append_left, get_or_default, get_or_push, length_push}
 use Rattle.cov_model.specs.declared.parameter.Param.{Param}
 use Rattle.cov_model.specs.Sound.{ModelView, no_param}
-use Rattle.row_text.specs.Lookups.{AreNamesOf, is_param_named, is_value_named, number_of}
+use Rattle.row_text.specs.Lookups.{is_value_named, number_of}
 
 -- the names of the values of the first parameters
 pub record ValuesSoFar (m : ModelView) (params : List Param) (k : ℕ) (texts : List (List (List ℕ × ℕ))) : Type 0 where
@@ -32,11 +32,10 @@ values_go_on m params k texts more own param so_far within is_param named pushed
       ];
 }
 
-pub values_end : (m : ModelView) (params : List Param) (k : ℕ) (own : List (List ℕ × ℕ)) (texts : List (List (List ℕ × ℕ))) → ValuesSoFar m params k texts → params ≡ m.params
-    → length params ≤ k → k ≤ length params → ((key : List ℕ) → number_of own key ≡ position (is_param_named m key) m.params) → AreNamesOf m own texts
-values_end m params k own texts so_far same all few named = record {
-  param_names = named;
-  as_many = so_far.many ∙ omega (arith, all, few, ap length same);
-  value_names = λ p key within.
+pub values_end : (m : ModelView) (params : List Param) (k : ℕ) (texts : List (List (List ℕ × ℕ))) → ValuesSoFar m params k texts → params ≡ m.params → k ≡ length params
+    → ValuesSoFar m m.params (length m.params) texts
+values_end m params k texts so_far same all = record {
+  many = so_far.many ∙ all ∙ ap length same;
+  each = λ p key within.
       so_far.each p key (omega (arith, within, all, ap length same)) ∙ ap (λ list. position (is_value_named m key) (get_or list p no_param).values) same;
 }

@@ -24,13 +24,13 @@ use Rattle.definitions.specs.Limits.{Rows, most_counted}
 use Rattle.definitions.specs.RowFile.{cell_at, cells_of_line, columns_of, filled_lines, named_param, named_value, row_of_line}
 use Rattle.definitions.specs.RowReading as defined
 use Rattle.definitions.specs.RowReading.{RowReading, column_count, column_notes, count_fault, first_fault, missing_fault, read_numbered}
-use Rattle.definitions.specs.RowReading.{read_rows, read_under, twice_fault, unless_fault, value_notes, width_fault}
+use Rattle.definitions.specs.RowReading.{read_under, twice_fault, unless_fault, value_notes, width_fault}
 use Rattle.definitions.proofs.Nothing.{none_found}
 use Rattle.model_lex.specs.Lines.{file_lines, without_mark}
 use Rattle.model_lex.specs.declared.note.Note.{Note}
 use Rattle.row_text.specs.Readings.{HoldsReading, IsFileOf, fault_of, note_told}
 use Rattle.row_text.specs.RowFiles.{row_seen, seeds_seen}
-use Rattle.row_text.specs.RowLines.{AreOnce, line_seen}
+use Rattle.row_text.specs.RowLines.{AreOnce}
 use Rattle.row_text.specs.declared.filled_lines.FilledLine.{FilledLine}
 use Rattle.row_text.specs.declared.row_file.FileRow.{FileRow}
 use Rattle.row_text.specs.declared.row_file.RowFile.{RowFile}
@@ -158,25 +158,17 @@ file_keeps m header file bytes first lines all same few =
 
 -- ---- under a header that is read
 
--- its line is the first that has a byte, and the columns, also as they are lent, are of the parameters that its cells name
-pub record UnderHeader (m : ModelView) (bytes : List ℕ) (first : FilledLine) (lines : List (ℕ × List ℕ)) (columns lent : List (Option ℕ)) : Type 0 where
-  pub all : filled_lines bytes ≡ line_seen first ∷ lines
+-- the columns, also as they are lent, are of the parameters that its cells name
+pub record UnderHeader (m : ModelView) (first : FilledLine) (columns lent : List (Option ℕ)) : Type 0 where
   pub named : columns ≡ map (named_param m) (cells_of_line first.text.now)
   pub lent_named : lent ≡ map (named_param m) (cells_of_line first.text.now)
   pub size : length (cells_of_line first.text.now) ≡ length lent
 
-pub under_header : (m names : ModelView) (bytes : List ℕ) (first : FilledLine) (whole lines : List (ℕ × List ℕ)) (columns lent : List (Option ℕ)) → whole ≡ filled_lines bytes
-    → whole ≡ line_seen first ∷ lines → names ≡ m → columns ≡ map (named_param names) (cells_of_line first.text.now) → lent ≡ columns
-    → UnderHeader m bytes first lines columns lent
-under_header m names bytes first whole lines columns lent is_whole taken same read is_lent =
+pub under_header : (m : ModelView) (first : FilledLine) (columns lent : List (Option ℕ)) → columns ≡ map (named_param m) (cells_of_line first.text.now) → lent ≡ columns
+    → UnderHeader m first columns lent
+under_header m first columns lent named is_lent =
     let cells = cells_of_line first.text.now in
-    let named : columns ≡ map (named_param m) cells = read ∙ ap (λ n. map (named_param n) cells) same in
-    record {
-      all = sym is_whole ∙ taken;
-      named = named;
-      lent_named = is_lent ∙ named;
-      size = sym (ap length (is_lent ∙ named) ∙ length-map cells (named_param m));
-    }
+    record { named = named; lent_named = is_lent ∙ named; size = sym (ap length (is_lent ∙ named) ∙ length-map cells (named_param m)) }
 
 -- ---- the answer
 
@@ -206,7 +198,7 @@ told : (o : Option defined.RowsFault) (found whole : Option defined.RowsFault) (
 told None found whole reading tells more = tt
 told (Some given) found whole reading tells more = ap (λ fault. unless_fault fault reading) (more given tells)
 
-module _ (m : ModelView) (mode : defined.RowMode) (bytes : List ℕ) (first : ℕ × List ℕ) (lines : List (ℕ × List ℕ)) (all : filled_lines bytes ≡ first ∷ lines) where
+module _ (m : ModelView) (mode : defined.RowMode) (first : ℕ × List ℕ) (lines : List (ℕ × List ℕ)) where
   abbrev header : List (List ℕ)
   header = cells_of_line first.1
 
@@ -216,32 +208,29 @@ module _ (m : ModelView) (mode : defined.RowMode) (bytes : List ℕ) (first : �
   abbrev under : Option defined.RowsFault
   under = option_or (count_fault (length lines)) (width_fault header lines)
 
-  read_is : read_rows m mode bytes ≡ unless_fault (first_fault m mode first.0 header lines) (read_under m first.0 header lines)
-  read_is = ap (read_numbered m mode) all
-
-  pub refused_above : (fault : RowsFault) → IfSome (fault_of fault) (λ given. above ≡ Some given) → IfSome (fault_of fault) (λ given. read_rows m mode bytes ≡ Err given)
+  pub refused_above : (fault : RowsFault) → IfSome (fault_of fault) (λ given. above ≡ Some given)
+      → IfSome (fault_of fault) (λ given. read_numbered m mode (first ∷ lines) ≡ Err given)
   refused_above fault finds =
-      subst (λ answer. IfSome (fault_of fault) (λ given. answer ≡ Err given)) (sym read_is)
-      (told (fault_of fault) above (first_fault m mode first.0 header lines) (read_under m first.0 header lines) finds
-      (λ given found. first_found (twice_fault m first.0 header) (missing_fault m mode header) under given found))
+      told (fault_of fault) above (first_fault m mode first.0 header lines) (read_under m first.0 header lines) finds
+      (λ given found. first_found (twice_fault m first.0 header) (missing_fault m mode header) under given found)
 
   none_above : above ≡ None → first_fault m mode first.0 header lines ≡ under
   none_above none =
       let parts = option_or_parts (twice_fault m first.0 header) (missing_fault m mode header) none in
       ap₂ (λ a b. option_or a (option_or b under)) parts.0 parts.1
 
-  pub refused_under : (fault : RowsFault) → above ≡ None → IfSome (fault_of fault) (λ given. under ≡ Some given) → IfSome (fault_of fault) (λ given. read_rows m mode bytes ≡ Err given)
+  pub refused_under : (fault : RowsFault) → above ≡ None → IfSome (fault_of fault) (λ given. under ≡ Some given)
+      → IfSome (fault_of fault) (λ given. read_numbered m mode (first ∷ lines) ≡ Err given)
   refused_under fault none finds =
-      subst (λ answer. IfSome (fault_of fault) (λ given. answer ≡ Err given)) (sym read_is)
-      (told (fault_of fault) under (first_fault m mode first.0 header lines) (read_under m first.0 header lines) finds (λ given found. none_above none ∙ found))
+      told (fault_of fault) under (first_fault m mode first.0 header lines) (read_under m first.0 header lines) finds (λ given found. none_above none ∙ found)
 
   pub accepted : (file : RowFile) (notes : List Note) → above ≡ None → under ≡ None
       → seeds_seen file ≡ map (numbered_row m header) lines → notes ≡ map note_told (column_notes m first.0 header)
       → file.notes ≡ notes ++ map note_told (flat_map (value_notes m header) lines)
-      → (read : RowReading) × (read_rows m mode bytes ≡ Ok read) × HoldsReading file read
+      → (read : RowReading) × (read_numbered m mode (first ∷ lines) ≡ Ok read) × HoldsReading file read
   accepted file notes none_first none_later rows on_header on_lines = (
     read_under m first.0 header lines,
-    read_is ∙ ap (λ fault. unless_fault fault (read_under m first.0 header lines)) (none_above none_first ∙ none_later),
+    ap (λ fault. unless_fault fault (read_under m first.0 header lines)) (none_above none_first ∙ none_later),
     record {
       rows = rows;
       notes =

@@ -1,7 +1,7 @@
-ghost use Rattle.std.specs.Prelude.{◌≡◌, ◌<◌, ◌≤◌, ℕ, List, [], ◌∷◌, Some, None, if◌then◌else◌, length, position, IfOk, OnOk};
+ghost use Rattle.std.specs.Prelude.{◌≡◌, ◌<◌, ◌≤◌, ℕ, List, [], ◌∷◌, Some, None, if◌then◌else◌, length, position, slice_index_or, IfOk, OnOk};
 ghost use Rattle.std.specs.Option.{option_or};
 ghost use Rattle.value_text.specs.Texts.{folded};
-ghost use Rattle.cov_model.specs.Sound.{IsSound};
+ghost use Rattle.cov_model.specs.Sound.{IsSound, param_at};
 ghost use Rattle.definitions.specs.Report.{printed};
 ghost use Rattle.definitions.specs.RowFile.{named_param, named_value};
 ghost use Rattle.row_text.specs.Lookups.{is_param_named, is_value_named, number_of};
@@ -112,6 +112,20 @@ fn value_texts(alloc: Global, model: &TestModel, param: &Param) -> Result<TextNu
     Ok(texts)
 }
 
+/// The names of the values of each parameter.
+fn all_value_texts(alloc: Global, model: &TestModel) -> Result<Vec<TextNumbers>, NoMemory>
+    ensures many { IfOk result (λ values. length values.items ≡ length model.now.params) }
+    ensures named { IfOk result (λ values. (p : ℕ) (key : List ℕ) → p < length model.now.params
+        → number_of (slice_index_or values.items p []) key ≡ position (is_value_named model.now key) (param_at model.now.params p).values) }
+{
+    let mut values = Vec::new(alloc);
+    for param in model.params().as_slice() {
+        let texts = value_texts(alloc, model, param)?;
+        values.push(texts)?;
+    }
+    Ok(values)
+}
+
 /// The names of the parameters.
 fn param_texts(alloc: Global, model: &TestModel) -> Result<TextNumbers, NoMemory>
     ensures { IfOk result (λ texts. (key : List ℕ) → number_of texts key ≡ position (is_param_named model.now key) model.now.params) }
@@ -134,15 +148,10 @@ impl<'a> ModelNames<'a> {
     pub(crate) fn new(alloc: Global, model: &'a TestModel) -> Result<ModelNames<'a>, NoMemory>
         ensures { IfOk result (λ names. names ≡ model.now) }
     {
-        let params = param_texts(alloc, model)?;
-        let mut values = Vec::new(alloc);
-        for param in model.params().as_slice() {
-            let texts = value_texts(alloc, model, param)?;
-            values.push(texts)?;
-        }
+        let values = all_value_texts(alloc, model)?;
         Ok(ModelNames {
             model,
-            params,
+            params: param_texts(alloc, model)?,
             values,
             key: Vec::new(alloc),
         })

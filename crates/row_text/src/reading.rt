@@ -1,15 +1,40 @@
-ghost use Rattle.std.specs.Prelude.{◌≤◌, ◌^◌, length, IfOk};
-ghost use Rattle.definitions.specs.RowReading.{read_rows};
+ghost use Rattle.std.specs.Prelude.{◌≡◌, ◌≤◌, ◌^◌, ℕ, List, ◌∷◌, length, IfOk};
+ghost use Rattle.definitions.specs.RowFile.{filled_lines};
+ghost use Rattle.definitions.specs.RowReading.{read_numbered, read_rows};
 ghost use Rattle.row_text.specs.Readings.{IsFileOf, Reads, mode_seen};
+ghost use Rattle.row_text.specs.RowLines.{line_seen};
 
 use crate::file_rows::{check_lines, read_lines};
-use crate::filled_lines::FilledLines;
+use crate::filled_lines::{FilledLine, FilledLines};
 use crate::header::{check_columns, read_header};
 use crate::model_names::ModelNames;
 use crate::row_file::{RowFile, RowMode};
 use crate::rows_fault::RowsFault;
 use cov_model::TestModel;
 use std::alloc::Global;
+
+/// What a header's line and the lines under it hold.
+///
+/// # Errors
+///
+/// As `read_rows`, but for `NoHeader`.
+fn read_under(
+    alloc: Global,
+    names: &mut ModelNames<'_>,
+    mode: RowMode,
+    first: FilledLine<'_>,
+    lines: FilledLines<'_>,
+) -> Result<RowFile, RowsFault>
+    ensures reads { Reads (read_numbered names.old (mode_seen mode) (line_seen first.entry ∷ lines.entry)) result }
+    ensures file { IfOk result (λ file. (bytes : List ℕ) → filled_lines bytes ≡ line_seen first.entry ∷ lines.entry → IsFileOf names.old file) }
+{
+    let header = read_header(alloc, names, first)?;
+    let columns = header.columns.as_slice();
+    check_columns(alloc, mode, first.number, columns, names.param_count())?;
+    check_lines(&lines, columns.len())?;
+    let file = read_lines(alloc, names, header, lines)?;
+    Ok(file)
+}
 
 /// The partial rows of a row file, each with its line, and notes on what was dropped (PICT's guide for seed files;
 /// the faults are this project's rules). The first line with a byte is the header, whose cells name parameters;
@@ -37,10 +62,5 @@ pub fn read_rows(
         return Err(RowsFault::NoHeader);
     };
     let mut names = ModelNames::new(alloc, model)?;
-    let header = read_header(alloc, &mut names, first)?;
-    let columns = header.columns.as_slice();
-    check_columns(alloc, mode, first.number, columns, model.params().len())?;
-    check_lines(&lines, columns.len())?;
-    let file = read_lines(alloc, &mut names, header, lines)?;
-    Ok(file)
+    read_under(alloc, &mut names, mode, first, lines)
 }

@@ -1,83 +1,12 @@
-use Rattle.std.proofs.Common.{◌≡◌, length, map, Err, sym, ◌∙◌, ap, rules, arith}
-use Rattle.value_text.proofs.ListLemmas.{option_or_parts}
-use Rattle.definitions.specs.RowFile.{cells_of_line}
-use Rattle.definitions.specs.RowReading.{column_notes, count_fault, missing_fault, twice_fault, width_fault}
-use Rattle.row_text.specs.Readings.{mode_seen, note_told}
-use Rattle.row_text.specs.RowFiles.{seeds_seen}
+use Rattle.std.proofs.Common.{◌∷◌, sym, ap, subst, ◌∙◌}
+use Rattle.definitions.specs.RowReading.{read_numbered}
+use Rattle.row_text.specs.Readings.{Reads, mode_seen}
 use Rattle.row_text.specs.RowLines.{line_seen}
-use Rattle.row_text.proofs.ReadingSteps.{accepted, few_from_fault, file_keeps, narrow_from_fault, notes_under_names, once_from_fault, refused_above, refused_under, rows_under, under_header}
 use Rattle.row_text.proofs.reading.read_rows.Goals as goal
-
-pub returns-in_err-check_columns-clause-reads : goal.returns-in_err-check_columns-clause-reads
-returns-in_err-check_columns-clause-reads c =
-    let m = c.args.model.now in
-    let cells = cells_of_line c.in-Some.first.text.now in
-    let read =
-    under_header m c.in_ok-names.names c.args.bytes.now c.in-Some.first c.new-lines.result c.take_line.new.self c.in_ok-header.header.columns c.as_slice-columns.result.now
-    c.new-lines.ensures c.in-Some.ensures c.in_ok-names.ensures c.in_ok-header.ensures.columns c.as_slice-columns.ensures in
-    let count : length m.params ≡ c.len.result = ap length (sym c.params.ensures.value) ∙ sym c.len.ensures in
-    let is : c.from_residual-in_err-check_columns.result ≡ Err c.in_err-check_columns.field-0.0 = search rules in
-    rw is
-    (refused_above m (mode_seen c.args.mode) c.args.bytes.now (line_seen c.in-Some.first) c.take_line.new.self read.all c.in_err-check_columns.field-0.0
-    (c.in_err-check_columns.ensures m cells count read.lent_named))
-
-pub returns-in_err-check_lines-clause-reads : goal.returns-in_err-check_lines-clause-reads
-returns-in_err-check_lines-clause-reads c =
-    let m = c.args.model.now in
-    let cells = cells_of_line c.in-Some.first.text.now in
-    let read =
-    under_header m c.in_ok-names.names c.args.bytes.now c.in-Some.first c.new-lines.result c.take_line.new.self c.in_ok-header.header.columns c.as_slice-columns.result.now
-    c.new-lines.ensures c.in-Some.ensures c.in_ok-names.ensures c.in_ok-header.ensures.columns c.as_slice-columns.ensures in
-    let count : length m.params ≡ c.len.result = ap length (sym c.params.ensures.value) ∙ sym c.len.ensures in
-    let above = c.in_ok-check_columns.ensures m cells count read.lent_named in
-    let is : c.from_residual-in_err-check_lines.result ≡ Err c.in_err-check_lines.field-0.0 = search rules in
-    rw is
-    (refused_under m (mode_seen c.args.mode) c.args.bytes.now (line_seen c.in-Some.first) c.take_line.new.self read.all c.in_err-check_lines.field-0.0 above
-    (c.in_err-check_lines.ensures cells read.size))
-
-pub read_lines-requires-clause-narrow : goal.read_lines-requires-clause-narrow
-read_lines-requires-clause-narrow c = λ k d within.
-    let m = c.args.model.now in
-    let cells = cells_of_line c.in-Some.first.text.now in
-    let read =
-    under_header m c.in_ok-names.names c.args.bytes.now c.in-Some.first c.new-lines.result c.take_line.new.self c.in_ok-header.header.columns c.as_slice-columns.result.now
-    c.new-lines.ensures c.in-Some.ensures c.in_ok-names.ensures c.in_ok-header.ensures.columns c.as_slice-columns.ensures in
-    let lines = c.take_line.new.self in
-    let under = option_or_parts (count_fault (length lines)) (width_fault cells lines) (c.in_ok-check_lines.ensures cells read.size) in
-    omega (arith, narrow_from_fault cells lines under.1 k d within, read.size, ap length c.as_slice-columns.ensures)
 
 pub returns-clause-reads : goal.returns-clause-reads
 returns-clause-reads c =
-    let m = c.args.model.now in
-    let cells = cells_of_line c.in-Some.first.text.now in
-    let read =
-    under_header m c.in_ok-names.names c.args.bytes.now c.in-Some.first c.new-lines.result c.take_line.new.self c.in_ok-header.header.columns c.as_slice-columns.result.now
-    c.new-lines.ensures c.in-Some.ensures c.in_ok-names.ensures c.in_ok-header.ensures.columns c.as_slice-columns.ensures in
-    let count : length m.params ≡ c.len.result = ap length (sym c.params.ensures.value) ∙ sym c.len.ensures in
-    let above = c.in_ok-check_columns.ensures m cells count read.lent_named in
-    let once = once_from_fault m c.in-Some.first.number cells (option_or_parts (twice_fault m c.in-Some.first.number cells) (missing_fault m (mode_seen c.args.mode) cells) above).0 in
-    let names = c.in_ok-header.ensures.same ∙ c.in_ok-names.ensures in
-    let rows =
-    rows_under m c.read_header.new.names cells c.in_ok-header.header.columns (seeds_seen c.in_ok-file.file) c.take_line.new.self names read.named once c.in_ok-file.ensures.rows in
-    accepted m (mode_seen c.args.mode) c.args.bytes.now (line_seen c.in-Some.first) c.take_line.new.self read.all c.in_ok-file.file c.in_ok-header.header.notes above
-    (c.in_ok-check_lines.ensures cells read.size) rows
-    (c.in_ok-header.ensures.notes ∙ ap (λ n. map note_told (column_notes n c.in-Some.first.number cells)) c.in_ok-names.ensures)
-    (notes_under_names m c.read_header.new.names cells c.in_ok-header.header.columns c.in_ok-header.header.notes c.in_ok-file.file.notes c.take_line.new.self names read.named
-    c.in_ok-file.ensures.notes)
-
-pub returns-clause-file : goal.returns-clause-file
-returns-clause-file c =
-    let m = c.args.model.now in
-    let cells = cells_of_line c.in-Some.first.text.now in
-    let read =
-    under_header m c.in_ok-names.names c.args.bytes.now c.in-Some.first c.new-lines.result c.take_line.new.self c.in_ok-header.header.columns c.as_slice-columns.result.now
-    c.new-lines.ensures c.in-Some.ensures c.in_ok-names.ensures c.in_ok-header.ensures.columns c.as_slice-columns.ensures in
-    let count : length m.params ≡ c.len.result = ap length (sym c.params.ensures.value) ∙ sym c.len.ensures in
-    let above = c.in_ok-check_columns.ensures m cells count read.lent_named in
-    let once = once_from_fault m c.in-Some.first.number cells (option_or_parts (twice_fault m c.in-Some.first.number cells) (missing_fault m (mode_seen c.args.mode) cells) above).0 in
-    let names = c.in_ok-header.ensures.same ∙ c.in_ok-names.ensures in
-    let rows =
-    rows_under m c.read_header.new.names cells c.in_ok-header.header.columns (seeds_seen c.in_ok-file.file) c.take_line.new.self names read.named once c.in_ok-file.ensures.rows in
-    let lines = c.take_line.new.self in
-    let under = option_or_parts (count_fault (length lines)) (width_fault cells lines) (c.in_ok-check_lines.ensures cells read.size) in
-    file_keeps m cells c.in_ok-file.file c.args.bytes.now (line_seen c.in-Some.first) lines read.all rows (few_from_fault (length lines) under.0)
+    let mode = mode_seen c.args.mode in
+    let lines = ap (read_numbered c.args.model.now mode) (sym c.in-Some.ensures ∙ c.new-lines.ensures) in
+    subst (λ reading. Reads reading c.read_under.result) (ap (λ m. read_numbered m mode (line_seen c.in-Some.first ∷ c.take_line.new.self)) c.in_ok-names.ensures ∙ lines)
+    c.read_under.ensures.reads

@@ -1,6 +1,6 @@
 use Rattle.std.proofs.Common.{◌∙◌, arith}
 use Rattle.row_text.proofs.NameSteps.{values_begin, values_end, values_go_on}
-use Rattle.row_text.proofs.model_names.ModelNames.new.Goals as goal
+use Rattle.row_text.proofs.model_names.all_value_texts.Goals as goal
 
 pub loop-param-init : goal.loop-param-init
 loop-param-init c = rw c.new-values.ensures.items (values_begin c.args.model.now c.as_slice-param-items.result.now)
@@ -10,8 +10,9 @@ loop-param-preserved c =
     values_go_on c.args.model.now c.as_slice-param-items.result.now c.loop-param.param-index c.loop-param.values.items c.push.new.self.items c.in_ok-texts.texts c.param-item.result
     c.loop-param.invariant c.loop-param-test.true c.param-item.is c.in_ok-texts.ensures c.in_ok-push.ensures.items
 
-pub invariant_of-result : goal.invariant_of-result
-invariant_of-result c =
-    let params = c.as_slice-param-items.result.now in
-    values_end c.args.model.now params c.loop-param.param-index c.in_ok-params.params c.loop-param.values.items c.loop-param.invariant
-    (c.as_slice-param-items.ensures ∙ c.params.ensures.value) (omega arith) (omega arith) c.in_ok-params.ensures
+pub returns : goal.returns
+returns c =
+    let whole =
+    values_end c.args.model.now c.as_slice-param-items.result.now c.loop-param.param-index c.loop-param.values.items c.loop-param.invariant
+    (c.as_slice-param-items.ensures ∙ c.params.ensures.value) (omega arith) in
+    record { many = whole.many; named = whole.each }
