@@ -34,3 +34,4 @@ pub mod Arrows
 pub mod Codes
 pub mod Adding
 pub mod Translating
+pub mod Loading
