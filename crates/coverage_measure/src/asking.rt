@@ -59,8 +59,8 @@ impl<'a> Asking<'a> {
         if let Some(place) = find_solver(kept, slice) {
             return Ok(place);
         }
-        let solver = Solver::new(self.alloc, self.model, self.prefs, slice)?;
         let values = slice_lists(self.alloc, self.model, slice)?;
+        let solver = Solver::new(self.alloc, self.model, self.prefs, slice)?;
         kept.truncate(MOST_KEPT - 1);
         let place = kept.len();
         kept.push(KeptSolver {
