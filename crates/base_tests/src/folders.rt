@@ -83,7 +83,7 @@ fn a_sure_folder_never_fails(rt: HostRuntime) -> Result<(), Fail> {
 
 #[test]
 fn a_real_folder_keeps_files(rt: HostRuntime) -> Result<(), Fail> {
-    let name = "io_tests_file";
+    let name = "base_tests_file";
     let mut folder = RealFolder::new(rt);
     let mut into = Vec::new(rt.alloc());
     assert!(rt; folder.write_file(name, b"old text") == WriteAnswer::Done);

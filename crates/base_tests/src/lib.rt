@@ -1,0 +1,17 @@
+//! Tests of the lowest crates: worked cases, and once each call that takes memory.
+//!
+//! - `texts` and `lists`: texts, numbers and patterns; lists, marks and packed lists.
+//! - `folders` and `sinks`: those in memory, those that never fail, and those over real files and streams.
+//! - `made_texts`: made models.
+#![tactic(auto)]
+
+#[cfg(test)]
+mod folders;
+#[cfg(test)]
+mod lists;
+#[cfg(test)]
+mod made_texts;
+#[cfg(test)]
+mod sinks;
+#[cfg(test)]
+mod texts;

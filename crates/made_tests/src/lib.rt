@@ -1,5 +1,0 @@
-//! Tests of made models.
-#![tactic(auto)]
-
-#[cfg(test)]
-mod texts;
