@@ -21,11 +21,21 @@ use value_text::NoMemory;
 
 // Asks whether partial rows of a slice are extendable, within a budget for each question, and keeps
 // the question that exceeds it. Contracts see what decides the answers, and that question.
-#[derive(Drop)]
 pub(crate) struct Asker<'a> {
     solver: Solver<'a>,
     budget: u64,
     question: Cells,
+}
+
+// Its solver is dropped here, and not anew wherever a growth may end.
+impl Drop for Asker<'_> {
+    fn drop(self) {
+        let Asker {
+            solver: _,
+            budget: _,
+            question: _,
+        } = self;
+    }
 }
 
 impl<'a> Model for Asker<'a> {

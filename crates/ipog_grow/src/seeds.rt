@@ -31,10 +31,19 @@ pub(crate) struct SortedSeeds {
 }
 
 // A solver, and the slice that it is for.
-#[derive(Drop)]
 struct SeedSolver<'a> {
     slice: Slice,
     solver: Solver<'a>,
+}
+
+// The solver is dropped here, and not anew wherever the seeds may end.
+impl Drop for SeedSolver<'_> {
+    fn drop(self) {
+        let SeedSolver {
+            slice: _,
+            solver: _,
+        } = self;
+    }
 }
 
 // Whether a partial row gives no parameter a value.

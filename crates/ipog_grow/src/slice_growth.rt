@@ -30,6 +30,7 @@ use feasibility::SearchFault;
 use outside_io::Gate;
 use refutation::{Omissions, ProofForm};
 use std::alloc::Global;
+use std::mem;
 use std::thread::Threads;
 use tuple_index::Plan;
 use uncovered_table::Uncovered;
@@ -37,7 +38,6 @@ use value_text::{NoMemory, OwnedList};
 
 // What grows in a slice: the partial rows, the table of the open tuples and the tuples that were
 // omitted; with room for a tuple and for a partial row.
-#[derive(Drop)]
 pub(crate) struct SliceGrowth<'a> {
     pub(crate) table: Uncovered<'a>,
     pub(crate) asker: Asker<'a>,
@@ -45,6 +45,20 @@ pub(crate) struct SliceGrowth<'a> {
     pub(crate) room: Cells,
     pub(crate) rows: Rows,
     pub(crate) omitted: OwnedList<Cells>,
+}
+
+// Its parts are dropped here, and not anew wherever a growth may end.
+impl Drop for SliceGrowth<'_> {
+    fn drop(self) {
+        let SliceGrowth {
+            table: _,
+            asker: _,
+            tuple: _,
+            room: _,
+            rows: _,
+            omitted: _,
+        } = self;
+    }
 }
 
 impl<'a> SliceGrowth<'a> {
@@ -295,36 +309,31 @@ impl<'a> SliceGrowth<'a> {
     // Ends the growth after the last column: completes the grown rows, and puts them and the omitted tuples
     // behind those of earlier slices.
     pub(crate) fn finish(
-        self,
+        &mut self,
         alloc: Global,
         proof: Option<ProofForm>,
         rows: &mut Rows,
         omissions: &mut Omissions,
     ) -> Result<(), SearchFault>
-        requires grows { All (Grows self.asker.context) self.rows }
-        requires omitted { All (IsOmittedIn self.asker.context) self.omitted }
-        requires earlier { AreOmissionsOf self.asker.context.model self.asker.context.prefs proof omissions.old }
-        requires few { length omissions.old.omissions + length self.omitted < 2 ^ 32 }
-        requires long { All (λ row. length row ≡ length self.asker.context.model.params) rows.old }
-        ensures rows { OnOk result (rows.new ≡ rows.old ++ distinct (filter_map (completed self.entry.asker.context) self.entry.rows)) }
-        ensures long { OnOk result (All (λ row. length row ≡ length self.entry.asker.context.model.params) rows.new) }
-        ensures tuples { OnOk result (earlier_tuples self.entry.asker.context.model omissions.new
-            ≡ earlier_tuples self.entry.asker.context.model omissions.old ++ self.entry.omitted) }
-        ensures omissions { OnOk result (AreOmissionsOf self.entry.asker.context.model self.entry.asker.context.prefs proof omissions.new) }
-        ensures asked { Ends result (first_spent self.entry.asker.context self.entry.rows) }
+        requires grows { All (Grows self.old.asker.context) self.old.rows }
+        requires omitted { All (IsOmittedIn self.old.asker.context) self.old.omitted }
+        requires earlier { AreOmissionsOf self.old.asker.context.model self.old.asker.context.prefs proof omissions.old }
+        requires few { length omissions.old.omissions + length self.old.omitted < 2 ^ 32 }
+        requires long { All (λ row. length row ≡ length self.old.asker.context.model.params) rows.old }
+        ensures rows { OnOk result (rows.new ≡ rows.old ++ distinct (filter_map (completed self.old.asker.context) self.old.rows)) }
+        ensures long { OnOk result (All (λ row. length row ≡ length self.old.asker.context.model.params) rows.new) }
+        ensures tuples { OnOk result (earlier_tuples self.old.asker.context.model omissions.new
+            ≡ earlier_tuples self.old.asker.context.model omissions.old ++ self.old.omitted) }
+        ensures omissions { OnOk result (AreOmissionsOf self.old.asker.context.model self.old.asker.context.prefs proof omissions.new) }
+        ensures asked { Ends result (first_spent self.old.asker.context self.old.rows) }
     {
-        let SliceGrowth {
-            mut asker,
-            rows: grown,
-            omitted,
-            ..
-        } = self;
+        let grown = mem::replace(&mut self.rows, Rows::new(alloc));
         finish_slice(
             alloc,
-            &mut asker,
+            &mut self.asker,
             proof,
             grown,
-            omitted.as_slice(),
+            self.omitted.as_slice(),
             rows,
             omissions,
         )
