@@ -19,7 +19,7 @@ if [ $remove = yes ]; then
     rm -rf "$doc"
     exit 0
 fi
-mkdir -p "$bin" "$man" "$doc" "$completions"
+mkdir -p "$bin" "$man" "$doc/docs" "$completions"
 for program in $programs; do
     # rt run builds a program and runs it once: without words, so with status 3
     (cd "$top/crates/$program" && rt run > /dev/null 2>&1) || true
@@ -31,8 +31,10 @@ for program in $programs; do
     install -m 644 "$top/man/$program.1" "$man/$program.1"
     install -m 644 "$top/completions/pict.bash" "$completions/$program"
 done
-for page in README.md docs/start.md docs/guide.md docs/troubles.md docs/differences.md docs/pictcheck.md docs/pictacts.md docs/pictseq.md; do
-    install -m 644 "$top/$page" "$doc/"
+# the pages name each other, and the examples, by their places in the repository
+install -m 644 "$top/README.md" "$doc/"
+for page in start.md guide.md troubles.md differences.md pictcheck.md pictacts.md pictseq.md definitions.md coverage.svg; do
+    install -m 644 "$top/docs/$page" "$doc/docs/"
 done
-install -m 644 "$top/docs/coverage.svg" "$doc/"
 cp -R "$top/examples" "$doc/"
+echo "installed: put $bin on the PATH"
