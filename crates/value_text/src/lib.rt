@@ -10,8 +10,8 @@
 //! - `read_count` reads a count of at most 20 digits, where it lies in a range.
 //! - `like` matches a text against a pattern with `*` and `?`, character by character.
 //!
-//! But for `Text::copy` and the `push` and `append` of a list, which answer `NoMemory` where it is
-//! refused, no call takes memory.
+//! But for `Text::copy` and `OwnedList::push`, which answer `NoMemory` where it is refused, no call
+//! takes memory.
 #![tactic(auto)]
 
 mod compare;
