@@ -1,4 +1,5 @@
 pub mod CodeLemmas
+pub mod SoundLemmas
 pub mod TermLemmas
 pub mod PairLemmas
 pub mod ListLemmas

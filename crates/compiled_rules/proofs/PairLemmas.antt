@@ -71,8 +71,9 @@ pairs_more m term room p q v added named fits first second pairs =
 -- the truths at each value of the first are the code
 pub two_is_code : (m : ModelView) (term : terms.Term) (p q start width : ℕ) (before added table : List Bool) → start ≡ length before → table ≡ before ++ added
     → width ≡ length (param_at m.params q).values → term_params term ≡ p ∷ q ∷ [] → PairTruths m term p q (length (param_at m.params p).values) added
-    → IsCodeOf m table (Leaf term) (codes.Both p q start width)
+    → IsCodeOf m table (Leaf term) (codes.TwoParameters p q start width)
 two_is_code m term p q start width before added table begin is wide named pairs = record {
+  sound = tt;
   same = λ longer cells extends fits.
       let all = all_two cells p q (term_params term) named in
       elim (cases_Bool (is_assigned cells p)) [

@@ -132,8 +132,9 @@ value_fits m cells p v fits is =
 -- a row of truths is the code of a term of one parameter
 pub one_is_code : (m : ModelView) (term : terms.Term) (room : List (Option ℕ)) (p start : ℕ) (before table : List Bool) → start ≡ length before
     → table ≡ before ++ truths_over m term room p → term_params term ≡ p ∷ [] → p < length m.params → FitsModel m room
-    → IsCodeOf m table (Leaf term) (codes.At p start)
+    → IsCodeOf m table (Leaf term) (codes.OneParameter p start)
 one_is_code m term room p start before table begin is named within room_fits = record {
+  sound = tt;
   same = λ longer cells extends fits.
       elim (cases_Bool (is_assigned cells p)) [
         | inl assigned ↦

@@ -1,19 +1,37 @@
-ghost use Rattle.std.specs.Prelude.{◌≡◌, None, false, slice_index_or};
-ghost use Rattle.cov_model.specs.Kleene.{known, not_of};
-ghost use Rattle.compiled_rules.specs.Codes.{all_codes, any_codes, at_truth, body_code_truth, both_truth, code_truth};
+ghost use Rattle.std.specs.Prelude.{◌≡◌, All, None, false, slice_index_or};
+ghost use Rattle.cov_model.specs.Fits.{FitsModel};
+ghost use Rattle.cov_model.specs.Kleene.{known, not_of, term_truth};
+ghost use Rattle.cov_model.specs.Sound.{IsSoundTerm};
+ghost use Rattle.compiled_rules.specs.Codes.{all_codes, any_codes, body_code_truth, code_truth, one_truth, two_truth};
+ghost use Rattle.compiled_rules.specs.SoundCodes.{IsSoundBodyCode, IsSoundCode};
 
 use crate::table::TruthTable;
-use cov_model::{ParamNo, Truth, ValueNo};
+use cov_model::{Cells, ParamNo, Rel, Term, TestModel, Truth, ValueNo};
 use value_text::OwnedList;
 
 /// A predicate whose terms are compiled.
 #[derive(Drop)]
 pub(crate) enum Code {
-    /// A term of one parameter: its truths at the values begin at this place of the table.
-    At(ParamNo, u32),
-    /// A term of two parameters, whose truths at the pairs of values begin at this place; so many
-    /// values has the second.
-    Both(ParamNo, ParamNo, u32, u16),
+    /// A term of one parameter, whose truths at the values begin at `start` in the table.
+    OneParameter {
+        parameter: ParamNo,
+        start: u32,
+    },
+    /// A term of two parameters, whose truths at the pairs of values begin at `start` in the table, a
+    /// row for each value of the first; `width` values has the second.
+    TwoParameters {
+        first: ParamNo,
+        second: ParamNo,
+        start: u32,
+        width: u16,
+    },
+    /// A comparison of two parameters with too many pairs of values for the table: it is told from the
+    /// model each time.
+    Comparison {
+        first: ParamNo,
+        relation: Rel,
+        second: ParamNo,
+    },
     /// The predicate doesn't hold.
     Not(Box<Code>),
     /// Each predicate holds.
@@ -46,10 +64,10 @@ fn truth_at(table: &TruthTable, place: usize) -> Truth
 
 // The value of a parameter, if it has one.
 #[inline]
-fn value_of(cells: &[Option<ValueNo>], p: ParamNo) -> Option<ValueNo>
+fn value_of(cells: &Cells, p: ParamNo) -> Option<ValueNo>
     ensures { result ≡ slice_index_or cells.now p None }
 {
-    match cells.get(p as usize) {
+    match cells.as_slice().get(p as usize) {
         Some(value) => *value,
         None => None,
     }
@@ -57,10 +75,10 @@ fn value_of(cells: &[Option<ValueNo>], p: ParamNo) -> Option<ValueNo>
 
 // What is known of a compiled term of one parameter.
 #[inline]
-fn at_truth(table: &TruthTable, p: ParamNo, start: u32, cells: &[Option<ValueNo>]) -> Truth
-    ensures { result ≡ at_truth table.now p start cells.now }
+fn one_truth(table: &TruthTable, parameter: ParamNo, start: u32, cells: &Cells) -> Truth
+    ensures { result ≡ one_truth table.now parameter start cells.now }
 {
-    match value_of(cells, p) {
+    match value_of(cells, parameter) {
         Some(v) => truth_at(table, start as usize + v as usize),
         None => Truth::Unknown,
     }
@@ -68,17 +86,17 @@ fn at_truth(table: &TruthTable, p: ParamNo, start: u32, cells: &[Option<ValueNo>
 
 // What is known of a compiled term of two parameters.
 #[inline]
-fn both_truth(
+fn two_truth(
     table: &TruthTable,
-    p: ParamNo,
-    q: ParamNo,
+    first: ParamNo,
+    second: ParamNo,
     start: u32,
     width: u16,
-    cells: &[Option<ValueNo>],
+    cells: &Cells,
 ) -> Truth
-    ensures { result ≡ both_truth table.now p q start width cells.now }
+    ensures { result ≡ two_truth table.now first second start width cells.now }
 {
-    match (value_of(cells, p), value_of(cells, q)) {
+    match (value_of(cells, first), value_of(cells, second)) {
         (Some(v), Some(w)) => {
             truth_at(
                 table,
@@ -89,39 +107,71 @@ fn both_truth(
     }
 }
 
-// What is known of a compiled predicate. Most are terms, which need no call.
+// What is known of a comparison that isn't in the table.
+#[inline(never)]
+fn comparison_truth(
+    model: &TestModel,
+    first: ParamNo,
+    relation: Rel,
+    second: ParamNo,
+    cells: &Cells,
+) -> Truth
+    requires sound { IsSoundTerm model.now.params (Term.ParamIs first relation second) }
+    requires fits { FitsModel model.now cells.now }
+    ensures { result ≡ term_truth model.now (Term.ParamIs first relation second) cells.now }
+{
+    model.term_truth(&Term::ParamIs(first, relation, second), cells)
+}
+
+// What is known of a compiled predicate. Most are terms in the table, which need no call.
 #[inline(always)]
 #[cycle(truths)]
-pub(crate) fn code_truth(table: &TruthTable, code: &Code, cells: &[Option<ValueNo>]) -> Truth
-    ensures { result ≡ code_truth table.now code.now cells.now }
+pub(crate) fn code_truth(model: &TestModel, table: &TruthTable, code: &Code, cells: &Cells) -> Truth
+    requires sound { IsSoundCode model.now.params code.now }
+    requires fits { FitsModel model.now cells.now }
+    ensures { result ≡ code_truth model.now table.now code.now cells.now }
 {
     match code {
-        Code::At(p, start) => at_truth(table, *p, *start, cells),
-        Code::Both(p, q, start, width) => both_truth(table, *p, *q, *start, *width, cells),
-        Code::Not(inner) => not_truth(table, inner, cells),
-        Code::All(parts) => all_codes(table, parts.as_slice(), cells),
-        Code::Any(parts) => any_codes(table, parts.as_slice(), cells),
+        Code::OneParameter { parameter, start } => one_truth(table, *parameter, *start, cells),
+        Code::TwoParameters {
+            first,
+            second,
+            start,
+            width,
+        } => two_truth(table, *first, *second, *start, *width, cells),
+        Code::Comparison {
+            first,
+            relation,
+            second,
+        } => comparison_truth(model, *first, *relation, *second, cells),
+        Code::Not(inner) => not_truth(model, table, inner, cells),
+        Code::All(parts) => all_codes(model, table, parts.as_slice(), cells),
+        Code::Any(parts) => any_codes(model, table, parts.as_slice(), cells),
     }
 }
 
 // What is known of the negation of a compiled predicate.
 #[inline(never)]
 #[cycle(truths)]
-fn not_truth(table: &TruthTable, code: &Code, cells: &[Option<ValueNo>]) -> Truth
-    ensures { result ≡ not_of (code_truth table.now code.now cells.now) }
+fn not_truth(model: &TestModel, table: &TruthTable, code: &Code, cells: &Cells) -> Truth
+    requires sound { IsSoundCode model.now.params code.now }
+    requires fits { FitsModel model.now cells.now }
+    ensures { result ≡ not_of (code_truth model.now table.now code.now cells.now) }
 {
-    code_truth(table, code, cells).negated()
+    code_truth(model, table, code, cells).negated()
 }
 
 // What is known of a list of compiled predicates: that each holds.
 #[inline(never)]
 #[cycle(truths)]
-fn all_codes(table: &TruthTable, parts: &[Code], cells: &[Option<ValueNo>]) -> Truth
-    ensures { result ≡ all_codes table.now parts.now cells.now }
+fn all_codes(model: &TestModel, table: &TruthTable, parts: &[Code], cells: &Cells) -> Truth
+    requires sound { All (IsSoundCode model.now.params) parts.now }
+    requires fits { FitsModel model.now cells.now }
+    ensures { result ≡ all_codes model.now table.now parts.now cells.now }
 {
     let mut so_far = Truth::Yes;
     for part in parts {
-        so_far = so_far.and(code_truth(table, part, cells));
+        so_far = so_far.and(code_truth(model, table, part, cells));
         if so_far == Truth::No {
             return Truth::No;
         }
@@ -132,12 +182,14 @@ fn all_codes(table: &TruthTable, parts: &[Code], cells: &[Option<ValueNo>]) -> T
 // What is known of a list of compiled predicates: that some of them holds.
 #[inline(never)]
 #[cycle(truths)]
-fn any_codes(table: &TruthTable, parts: &[Code], cells: &[Option<ValueNo>]) -> Truth
-    ensures { result ≡ any_codes table.now parts.now cells.now }
+fn any_codes(model: &TestModel, table: &TruthTable, parts: &[Code], cells: &Cells) -> Truth
+    requires sound { All (IsSoundCode model.now.params) parts.now }
+    requires fits { FitsModel model.now cells.now }
+    ensures { result ≡ any_codes model.now table.now parts.now cells.now }
 {
     let mut so_far = Truth::No;
     for part in parts {
-        so_far = so_far.or(code_truth(table, part, cells));
+        so_far = so_far.or(code_truth(model, table, part, cells));
         if so_far == Truth::Yes {
             return Truth::Yes;
         }
@@ -146,21 +198,28 @@ fn any_codes(table: &TruthTable, parts: &[Code], cells: &[Option<ValueNo>]) -> T
 }
 
 // What is known of a compiled constraint.
-pub(crate) fn body_truth(table: &TruthTable, body: &BodyCode, cells: &[Option<ValueNo>]) -> Truth
-    ensures { result ≡ body_code_truth table.now body.now cells.now }
+pub(crate) fn body_truth(
+    model: &TestModel,
+    table: &TruthTable,
+    body: &BodyCode,
+    cells: &Cells,
+) -> Truth
+    requires sound { IsSoundBodyCode model.now.params body.now }
+    requires fits { FitsModel model.now cells.now }
+    ensures { result ≡ body_code_truth model.now table.now body.now cells.now }
 {
     match body {
-        BodyCode::Plain(code) => code_truth(table, code, cells),
-        BodyCode::IfThen(premise, code) => match code_truth(table, premise, cells) {
+        BodyCode::Plain(code) => code_truth(model, table, code, cells),
+        BodyCode::IfThen(premise, code) => match code_truth(model, table, premise, cells) {
             Truth::No => Truth::Yes,
-            met => met.negated().or(code_truth(table, code, cells)),
+            met => met.negated().or(code_truth(model, table, code, cells)),
         },
-        BodyCode::IfElse(premise, code, other) => match code_truth(table, premise, cells) {
-            Truth::Yes => code_truth(table, code, cells),
-            Truth::No => code_truth(table, other, cells),
+        BodyCode::IfElse(premise, code, other) => match code_truth(model, table, premise, cells) {
+            Truth::Yes => code_truth(model, table, code, cells),
+            Truth::No => code_truth(model, table, other, cells),
             Truth::Unknown => {
-                let first = Truth::Unknown.or(code_truth(table, code, cells));
-                first.and(Truth::Unknown.or(code_truth(table, other, cells)))
+                let first = Truth::Unknown.or(code_truth(model, table, code, cells));
+                first.and(Truth::Unknown.or(code_truth(model, table, other, cells)))
             }
         },
     }

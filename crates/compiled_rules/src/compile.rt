@@ -7,9 +7,14 @@ ghost use Rattle.compiled_rules.specs.Codes.{AreCodesOf, Extends, IsBodyCodeOf, 
 
 use crate::code::{BodyCode, Code, CodeList};
 use crate::table::TruthTable;
-use cov_model::{Body, Cells, ParamNo, Pred, Term, TestModel, Truth, ValueNo};
+use cov_model::{Body, Cells, ParamNo, Pred, Rel, Term, TestModel, Truth, ValueNo};
 use std::alloc::Global;
 use value_text::{NoMemory, OwnedList};
+
+// The most places of the table with the pairs of values of a comparison: 8 MiB of bits. Two parameters of
+// 4,095 values have 16.8 million pairs, so 257 such comparisons, of 4,096 that a model may have, would have
+// more than a `u32` numbers.
+const MOST_PLACES: u64 = 1 << 26;
 
 // Whether something is known to hold.
 fn is_yes(truth: Truth) -> bool
@@ -70,7 +75,10 @@ fn compile_one(
 {
     let start = table.len();
     push_row(model, term, p, room, table)?;
-    Ok(Code::At(p, start))
+    Ok(Code::OneParameter {
+        parameter: p,
+        start,
+    })
 }
 
 // Compiles a term of two parameters.
@@ -98,7 +106,49 @@ fn compile_two(
         room.set_cell(p, v);
         push_row(model, term, q, room, table)?;
     }
-    Ok(Code::Both(p, q, start, width))
+    Ok(Code::TwoParameters {
+        first: p,
+        second: q,
+        start,
+        width,
+    })
+}
+
+// Whether the table has room for a truth at each pair of values of two parameters.
+fn has_room(model: &TestModel, p: ParamNo, q: ParamNo, table: &TruthTable) -> bool
+    requires first { p < length model.now.params }
+    requires second { q < length model.now.params }
+{
+    let pairs = u64::from(count_of(model, p)) * u64::from(count_of(model, q));
+    u64::from(table.len()) + pairs <= MOST_PLACES
+}
+
+// Compiles a comparison of two parameters: into the table where that has room, else as it stands.
+fn compile_comparison(
+    model: &TestModel,
+    term: &Term,
+    first: ParamNo,
+    relation: Rel,
+    second: ParamNo,
+    room: &mut Cells,
+    table: &mut TruthTable,
+) -> Result<Code, NoMemory>
+    requires sound { IsSoundTerm model.now.params term.now }
+    requires is { term.now ≡ Term.ParamIs first relation second }
+    requires fits { FitsModel model.now room.old }
+    ensures grows { IfOk result (λ _. Extends table.new table.old) }
+    ensures code { IfOk result (IsCodeOf model.now table.new (Leaf term.now)) }
+    ensures fits { FitsModel model.now room.new }
+{
+    if has_room(model, first, second, table) {
+        compile_two(model, term, first, second, room, table)
+    } else {
+        Ok(Code::Comparison {
+            first,
+            relation,
+            second,
+        })
+    }
 }
 
 // Compiles a term.
@@ -115,7 +165,9 @@ fn compile_term(
     ensures fits { FitsModel model.now room.new }
 {
     match term {
-        Term::ParamIs(p, _, q) => compile_two(model, term, *p, *q, room, table),
+        Term::ParamIs(p, relation, q) => {
+            compile_comparison(model, term, *p, *relation, *q, room, table)
+        }
         Term::ValueIs(p, _, _) => compile_one(model, term, *p, room, table),
         Term::OneOf(p, _) => compile_one(model, term, *p, room, table),
         Term::Like(p, _) => compile_one(model, term, *p, room, table),

@@ -11,8 +11,8 @@ use std::alloc::Global;
 use std::marker::Model;
 use value_text::{NoMemory, OwnedList};
 
-/// The constraints of a model, compiled: what is known of one is told without reading a text.
-/// Contracts see the model.
+/// The constraints of a model, compiled: what is known of one is told without reading a text, but for
+/// comparisons of two parameters with very many pairs of values. Contracts see the model.
 #[derive(Drop)]
 pub struct CompiledRules<'a> {
     model: &'a TestModel,
@@ -41,7 +41,8 @@ impl<'a> CompiledRules<'a> {
     ///
     /// # Errors
     ///
-    /// `NoMemory` where there is no room.
+    /// `NoMemory` where there is no room, or where the terms have more than 2^32 - 1 truths together, which
+    /// those of a model file of 4 MiB don't have.
     pub fn new(alloc: Global, model: &'a TestModel) -> Result<CompiledRules<'a>, NoMemory>
         ensures { IfOk result (λ rules. rules ≡ model.now) }
     {
@@ -77,6 +78,6 @@ impl<'a> CompiledRules<'a> {
         ensures { result ≡ body_truth self.now (rule_at self.now rule).body cells.now }
     {
         let code = &self.bodies.as_slice()[rule as usize - 1];
-        body_truth(&self.table, code, cells.as_slice())
+        body_truth(self.model, &self.table, code, cells)
     }
 }

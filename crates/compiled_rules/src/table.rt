@@ -41,9 +41,10 @@ fn longer(alloc: Global, bits: &BitTable) -> Result<BitTable, NoMemory>
     ensures same { IfOk result (λ more. take (length bits.now) more ≡ bits.now) }
 {
     let count = bits.len();
-    let Some(size) = count.checked_add(count / 2 + 64) else {
+    let size = count.saturating_add(count / 2 + 64);
+    if size == count {
         return Err(NoMemory);
-    };
+    }
     let mut more = BitTable::all_set(alloc, size)?;
     for i in 0..count {
         put(&mut more, i, bits.is_set(i));
@@ -87,7 +88,7 @@ impl TruthTable {
     ///
     /// # Errors
     ///
-    /// `NoMemory` where there is no room.
+    /// `NoMemory` where there is no room, or 2^32 - 1 are there.
     pub(crate) fn push(&mut self, holds: bool) -> Result<(), NoMemory>
         ensures { OnOk result (self.new ≡ self.old ++ holds ∷ []) }
     {

@@ -32,6 +32,7 @@ impl<'a> TreeCheck<'a> {
         ensures part { contains path.new (tuple_in self.now) ≡ true }
         ensures outside { is_negative_leaf self.now.model (tuple_in self.now) path.new ≡ false }
     {
+        // Only the proof uses them: it hears here that the model is sound.
         let _params = self.model().params();
         clear(path);
         set_all(self.tuple().as_slice(), path);

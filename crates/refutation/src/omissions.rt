@@ -12,7 +12,7 @@ use std::marker::Model;
 use std::slice::Iter;
 use value_text::NoMemory;
 
-/// The format of a proof (this project's rule).
+/// The form of a proof, which its first line gives as a format (this project's rule).
 #[derive(Debug, Drop, Clone, Copy, PartialEq, Eq)]
 pub enum ProofForm {
     /// Trees stand on constraints and negative values alone.
@@ -44,13 +44,13 @@ pub struct Omission {
     pub tree: TreeBuf,
 }
 
-/// A proof: its format, and the omitted tuples with their trees, in order. Contracts see both. For each
+/// A proof: its form, and the omitted tuples with their trees, in order. Contracts see both. For each
 /// pair of a parameter and a value it keeps the numbers of the omissions whose tuples end with it, and
 /// for all tuples how many parameters a model has at least that has theirs.
 #[derive(Drop)]
 pub struct Omissions {
     alloc: Global,
-    format: ProofForm,
+    form: ProofForm,
     listed: Vec<Omission>,
     holders: Holders,
     width: u32,
@@ -62,26 +62,26 @@ impl Model for Omissions {
 
     ghost Value = { ProofView };
 
-    ghost view = { λ a. record { form = a.format; omissions = a.listed.items } };
+    ghost view = { λ a. record { form = a.form; omissions = a.listed.items } };
 
     ghost invariant = { λ a. AreHolders a.listed.items a.holders a.width };
 }
 
 impl Omissions {
-    /// A proof of this format without omissions. Takes no memory.
+    /// A proof of this form without omissions. Takes no memory.
     pub fn empty(alloc: Global, form: ProofForm) -> Omissions
         ensures { result ≡ record { form = form; omissions = [] } }
     {
         Omissions {
             alloc,
-            format: form,
+            form,
             listed: Vec::new(alloc),
             holders: Holders::new(alloc),
             width: 0,
         }
     }
 
-    // A proof of this format without omissions, with room for so many.
+    // A proof of this form without omissions, with room for so many.
     pub(crate) fn with_room(
         alloc: Global,
         form: ProofForm,
@@ -92,18 +92,18 @@ impl Omissions {
         let listed = Vec::with_capacity(alloc, count)?;
         Ok(Omissions {
             alloc,
-            format: form,
+            form,
             listed,
             holders: Holders::new(alloc),
             width: 0,
         })
     }
 
-    /// The format. Takes no memory.
+    /// The form. Takes no memory.
     pub fn form(&self) -> ProofForm
         ensures { result ≡ self.now.form }
     {
-        self.format
+        self.form
     }
 
     /// The number of omissions. Takes no memory.

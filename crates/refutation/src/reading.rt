@@ -153,7 +153,7 @@ impl<'a> Spelling<'a> {
         if !words.are_of(known.text) {
             return Ok(None);
         }
-        let tree = known.tree.again(alloc)?;
+        let tree = known.tree.copy(alloc)?;
         Ok(Some(tree))
     }
 
@@ -180,7 +180,7 @@ impl<'a> Spelling<'a> {
         if let Some(text) = left {
             *before = Some(ReadTree {
                 text,
-                tree: tree.again(alloc)?,
+                tree: tree.copy(alloc)?,
             });
         }
         Ok(Some(tree))

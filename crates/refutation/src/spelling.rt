@@ -13,7 +13,7 @@ use crate::tree_check::has_rule;
 use cov_model::{ParamNo, TestModel, ValueNo};
 use std::marker::Model;
 
-/// What pairs and tokens of a proof file are spelled for: a model, and the format of the file.
+/// What pairs and tokens of a proof file are spelled for: a model, and the form of the file.
 #[derive(Drop)]
 pub(crate) struct Spelling<'a> {
     model: &'a TestModel,
@@ -54,7 +54,7 @@ fn read_place(text: &[u8]) -> Option<u32>
 }
 
 impl<'a> Spelling<'a> {
-    // Spellings for a model in a format.
+    // Spellings for a model in a form.
     pub(crate) fn new(model: &'a TestModel, form: ProofForm) -> Spelling<'a>
         ensures { result ≡ record { model = model.now; form = form } }
     {
@@ -70,7 +70,7 @@ impl<'a> Spelling<'a> {
         self.model
     }
 
-    // The format.
+    // The form.
     pub(crate) fn form(&self) -> ProofForm
         ensures { result ≡ self.now.form }
     {
@@ -129,7 +129,7 @@ impl<'a> Spelling<'a> {
         }
     }
 
-    // The citation whose number a text spells, where the format has them.
+    // The citation whose number a text spells, where the form has them.
     fn read_citation(&self, text: &[u8]) -> Option<TreeToken>
         ensures { option_map meant result ≡ (if format_of self.now.form == 2 then option_map ByOmission (number_where (λ n. nat_le 1 n && nat_le n (2 ^ 32 - 1)) text.now) else None) }
     {

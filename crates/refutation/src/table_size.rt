@@ -55,7 +55,8 @@ fn body_size(model: &TestModel, body: &Body) -> u64 {
     }
 }
 
-// How many truths the compiled constraints of a model have.
+// How many truths the compiled constraints of a model have at most: a comparison counts also where the
+// table has no room for its pairs and it stays as it is.
 pub(crate) fn table_size(model: &TestModel) -> u64 {
     let mut size: u64 = 0;
     for rule in model.rules().as_slice() {

@@ -93,12 +93,12 @@ impl TreeBuf {
         Ok(TreeBuf { tokens })
     }
 
-    /// The same tree once more, which shares its tokens if others can.
+    /// A copy of the tree, which shares its tokens if others can.
     ///
     /// # Errors
     ///
     /// `NoMemory` where there is no room.
-    pub fn again(&self, alloc: Global) -> Result<Self, NoMemory>
+    pub fn copy(&self, alloc: Global) -> Result<Self, NoMemory>
         ensures { IfOk result (λ tree. tree ≡ self.now) }
     {
         let tokens = match &self.tokens {

@@ -18,7 +18,7 @@ use crate::pairs::{gives_all, has_param};
 use cov_model::{Cells, ParamNo, TestModel, Tuple, Value, ValueNo};
 use std::marker::Model;
 
-/// What a tree is checked against: a model, the format of the proof, the omissions that may be cited,
+/// What a tree is checked against: a model, the form of the proof, the omissions that may be cited,
 /// and the tuple that the tree has to refute.
 #[derive(Drop)]
 pub(crate) struct TreeCheck<'a> {
@@ -101,7 +101,7 @@ impl<'a> TreeCheck<'a> {
         self.checker.model()
     }
 
-    // The format of the proof.
+    // The form of the proof.
     fn form(&self) -> ProofForm
         ensures { result ≡ self.now.form }
     {
@@ -116,7 +116,7 @@ impl<'a> TreeCheck<'a> {
         self.tuple
     }
 
-    // The omissions that may be cited, where the format allows it.
+    // The omissions that may be cited, where the form allows it.
     fn earlier(&self) -> &'a [Omission]
         ensures value { result.now ≡ self.now.earlier }
         ensures of_model { All (λ omission. AreOfModel self.now.model omission.tuple) self.now.earlier }

@@ -10,6 +10,9 @@ use cov_model::{ParamNo, ValueNo};
 use itoa::Buffer;
 use value_text::NoMemory;
 
+// The bytes of "omit", of " :" and of the line feed, which each line of an omission has.
+const FRAME_LEN: u64 = 7;
+
 // How many digits a number has.
 fn digit_count(number: u32) -> u64
     ensures value { result ≡ length (decimal number) }
@@ -181,7 +184,7 @@ pub fn omission_len(omission: &Omission) -> u64
 {
     let pairs = pairs_len(omission.tuple.as_slice());
     let tokens = tokens_len(omission.tree.as_slice());
-    pairs.saturating_add(tokens).saturating_add(7)
+    pairs.saturating_add(tokens).saturating_add(FRAME_LEN)
 }
 
 /// Appends the line of an omission (this project's rule). It is a line of a proof file where neither
