@@ -1,4 +1,4 @@
--- A question goes as another one that gives the parameters which constraints name the same values.
+-- A question has the answer and the cost of another one that gives the parameters which constraints name the same values.
 use Rattle.std.proofs.Common.{◌≡◌, ℕ, ◌-◌, ◌<◌, ◌≤◌, Bool, true, false, not, ◌&&◌, ◌||◌, List, [], ◌∷◌, length, replicate}
 use Rattle.std.proofs.Common.{Option, Some, None, is_some, get_or, ◌∙◌, sym, ap, subst, refl, arith, inl, inr}
 use Rattle.std.specs.List.{list_any}
@@ -124,7 +124,7 @@ visit_agree m lists (p ∷ params) a b many some named agree =
     (fails_agree m lists a b many some agree)
     ∙ ap (λ (tried : Outcome). node_told (is_assigned b p) (visit m lists params b) (is_failing m lists b) tried) below
 
--- what is known of a question tells the outcome of each that goes as it
+-- what is known of a question is the outcome of each that gives the same values
 pub answered_tells : (m : ModelView) (lists : List (List ℕ)) (cells : List (Option ℕ)) (answered : Answered) → ListsValues m lists
     → is_failing m lists (no_values m) ≡ false → IsAnswered m lists answered → answered.known ≡ true → AgreeOnNamed m cells answered.cells
     → visit m lists (constrained_params m) cells ≡ record { found = answered.found; cost = answered.cost }

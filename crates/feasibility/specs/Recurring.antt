@@ -1,4 +1,4 @@
--- What is kept of questions that were answered, and which questions go as they do. (This project's rule.)
+-- What is kept of questions that were answered, and which questions are the same as they. (This project's rule.)
 use Rattle.std.specs.Prelude.{◌≡◌, ℕ, true, false, List, length, replicate, All, Option, None, slice_index_or, slice_set}
 use Rattle.cov_model.specs.Sound.{ModelView}
 use Rattle.definitions.specs.Search.{constrained_params, visit}

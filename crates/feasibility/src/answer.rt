@@ -1,4 +1,7 @@
+ghost use Rattle.std.specs.Prelude.{◌≡◌};
+
 use cov_model::Tuple;
+use thiserror::Error;
 use value_text::NoMemory;
 
 /// Whether a partial row is extendable in a slice, as far as a budget goes.
@@ -29,7 +32,6 @@ pub enum SearchFault {
 }
 
 impl From<NoMemory> for SearchFault {
-    ghost use Rattle.std.specs.Prelude.{◌≡◌};
     ghost use Rattle.feasibility.specs.declared.answer.SearchFault.TheVariants.{NoMemory};
 
     ghost from_gives = { λ _ fault. fault ≡ NoMemory };
@@ -40,16 +42,17 @@ impl From<NoMemory> for SearchFault {
 }
 
 /// Why a tuple isn't refuted.
-#[derive(Debug, Drop, Clone, Copy, PartialEq, Eq)]
+#[derive(Debug, Drop, Clone, Copy, PartialEq, Eq, Error)]
 pub enum RefuteFault {
     /// The plain cost of the tuple exceeds the budget.
+    #[error("the plain cost exceeds the budget")]
     Spent,
     /// There was no room.
+    #[error("memory was refused")]
     NoMemory,
 }
 
 impl From<NoMemory> for RefuteFault {
-    ghost use Rattle.std.specs.Prelude.{◌≡◌};
     ghost use Rattle.feasibility.specs.declared.answer.RefuteFault.TheVariants.{NoMemory};
 
     ghost from_gives = { λ _ fault. fault ≡ NoMemory };

@@ -8,9 +8,9 @@ use std::alloc::Global;
 use std::marker::Model;
 use value_text::NoMemory;
 
-/// Some questions that were answered, each at its place. Contracts see the list of them.
+// Some questions that were answered, each at its place. Contracts see the list of them.
 #[derive(Drop)]
-pub struct AnswerTable {
+pub(crate) struct AnswerTable {
     places: Vec<Answered>,
 }
 

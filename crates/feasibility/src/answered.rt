@@ -7,18 +7,18 @@ use cov_model::Cells;
 use std::alloc::Global;
 use value_text::NoMemory;
 
-/// A question that was answered, if one is known: whether a search of it finds a completion, and the number
-/// of nodes that it visits.
+// A question that was answered, if one is known: whether a search of it finds a completion, and the number
+// of nodes that it visits.
 #[derive(Drop)]
-pub struct Answered {
-    /// Whether a question is known.
-    pub known: bool,
-    /// The values of its partial row.
-    pub cells: Cells,
-    /// Whether it has a completion.
-    pub found: bool,
-    /// Its plain cost.
-    pub cost: u64,
+pub(crate) struct Answered {
+    // Whether a question is known.
+    pub(crate) known: bool,
+    // The values of its partial row.
+    pub(crate) cells: Cells,
+    // Whether it has a completion.
+    pub(crate) found: bool,
+    // Its plain cost.
+    pub(crate) cost: u64,
 }
 
 impl Answered {
@@ -35,7 +35,7 @@ impl Answered {
         })
     }
 
-    // What a question that goes as this one is answered.
+    // The answer to this question, and to each that gives the parameters which constraints name the same values.
     pub(crate) fn answer(&self, budget: u64) -> Answer
         ensures { result ≡ answer_of self.now.found self.now.cost budget }
     {

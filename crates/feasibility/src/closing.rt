@@ -55,7 +55,7 @@ impl<'t> Refuter<'t> {
     }
 
     // Puts the leaf of a value that isn't live: it is negative, or a constraint is No with it.
-    fn close_dead(
+    fn put_value_leaf(
         &self,
         q: ParamNo,
         v: ValueNo,
@@ -80,7 +80,7 @@ impl<'t> Refuter<'t> {
     }
 
     // The first parameter without a value that has no live value.
-    fn stuck_param(&self, cells: &Cells, sets: &LiveSets) -> ParamNo
+    fn param_without_live_value(&self, cells: &Cells, sets: &LiveSets) -> ParamNo
         requires path { IsPath self.now cells.now }
         requires shape { HasShape self.now.model sets.now.live }
         requires some { HasUnmarked self.now.model cells.now sets.now.live }
@@ -97,7 +97,7 @@ impl<'t> Refuter<'t> {
     }
 
     // Branches on a parameter without a live value: each of its values is a leaf.
-    fn close_stuck(
+    fn put_branch_of_leaves(
         &self,
         cells: &mut Cells,
         sets: &LiveSets,
@@ -111,11 +111,11 @@ impl<'t> Refuter<'t> {
         ensures same { cells.new ≡ cells.old }
     {
         self.assert_invariant();
-        let q = self.stuck_param(cells, sets);
+        let q = self.param_without_live_value(cells, sets);
         tokens.push(TreeToken::Branch(q))?;
         let count = self.count_of(q);
         for v in 0..count {
-            self.close_dead(q, v, cells, tokens)?;
+            self.put_value_leaf(q, v, cells, tokens)?;
         }
         Ok(())
     }
@@ -179,7 +179,7 @@ impl<'t> Refuter<'t> {
         self.assert_invariant();
         let p = self.constrained_param(i);
         if !sets.is_live(p, v) {
-            return self.close_dead(p, v, cells, tokens);
+            return self.put_value_leaf(p, v, cells, tokens);
         }
         if let Some(number) = self.first_cited_with(p, v, cells) {
             return tokens.push(TreeToken::ByOmission(number));
@@ -221,7 +221,7 @@ impl<'t> Refuter<'t> {
         if self.tree().enter(i, v, cells, sets) {
             return self.close_node(i + 1, cells, sets, tokens);
         }
-        self.close_stuck(cells, sets, tokens)
+        self.put_branch_of_leaves(cells, sets, tokens)
     }
 
     // Puts the tree of a path whose node fails, as the sets show: a leaf if one is possible, else a branch
@@ -244,7 +244,7 @@ impl<'t> Refuter<'t> {
         if let Some(number) = self.first_cited(cells) {
             return tokens.push(TreeToken::ByOmission(number));
         }
-        self.close_stuck(cells, sets, tokens)
+        self.put_branch_of_leaves(cells, sets, tokens)
     }
 
     // Puts the tree of the tuple, given that the node without values doesn't fail. Values were taken away

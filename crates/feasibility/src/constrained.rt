@@ -13,12 +13,12 @@ use packed_lists::PackedLists;
 use std::alloc::Global;
 use value_text::NoMemory;
 
-/// A parameter that constraints name, and for each of its values the numbers of those of them that
-/// aren't known to hold where it alone has a value, this one.
+// A parameter that constraints name, and for each of its values the numbers of those of them that
+// aren't known to hold where it alone has a value, this one.
 #[derive(Drop)]
-pub struct Constrained {
-    pub param: ParamNo,
-    pub undecided: PackedLists,
+pub(crate) struct Constrained {
+    pub(crate) param: ParamNo,
+    pub(crate) undecided: PackedLists,
 }
 
 // The numbers of the constraints that name the parameter.

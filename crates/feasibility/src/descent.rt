@@ -1,8 +1,8 @@
-ghost use Rattle.std.specs.Prelude.{◌≡◌, ◌-◌, ◌<◌, false, true, length, slice_index_or, [], ◌+◌, IfSome};
+ghost use Rattle.std.specs.Prelude.{◌≡◌, ◌<◌, true, length, slice_index_or, [], ◌+◌, IfSome};
 ghost use Rattle.cov_model.specs.Rows.{is_assigned};
 ghost use Rattle.definitions.specs.Search.{constrained_params, visit};
 ghost use Rattle.live_sets.specs.Trail.{IsSince};
-ghost use Rattle.feasibility.specs.Answers.{VisitTells, answer_of};
+ghost use Rattle.feasibility.specs.Answers.{VisitTells};
 ghost use Rattle.feasibility.specs.Descent.{ComesTo, IsFirstLive, IsNode};
 ghost use Rattle.feasibility.specs.Live.{HasShape};
 ghost use Rattle.feasibility.specs.Path.{reached};
@@ -10,21 +10,9 @@ ghost use Rattle.feasibility.specs.Tree.{constrained_from};
 
 use crate::answer::Answer;
 use crate::tree::SearchTree;
+use crate::visiting::visit_nodes;
 use cov_model::{Cells, ParamNo};
 use live_sets::LiveSets;
-
-// Visits so many nodes, of which the last succeeds.
-fn visit_nodes(count: u64, left: &mut u64) -> Answer
-    ensures answer { result ≡ answer_of true count left.old }
-    ensures left { left.new ≡ left.old - count }
-{
-    if *left < count {
-        *left = 0;
-        return Answer::Spent;
-    }
-    *left -= count;
-    Answer::Yes
-}
 
 impl<'a> SearchTree<'a> {
     // The place of a parameter's first live value among those that are tried.
@@ -100,7 +88,7 @@ impl<'a> SearchTree<'a> {
         let descent = self.descend(room, sets);
         sets.undo(len);
         if let Some(count) = descent {
-            return visit_nodes(count, left);
+            return visit_nodes(true, count, left);
         }
         room.copy_from(cells);
         self.visit(0, room, sets, left)

@@ -8,15 +8,15 @@ use refutation::{TreeBuf, TreeToken};
 use std::alloc::Global;
 use value_text::NoMemory;
 
-/// The tree that was made last for a proof in format 1, if one is known, and the tuple that it refutes.
+// The tree that was made last for a proof in format 1, if one is known, and the tuple that it refutes.
 #[derive(Drop)]
-pub struct KeptTree {
-    /// Whether a tree is known.
-    pub known: bool,
-    /// The values of its tuple.
-    pub cells: Cells,
-    /// Its tokens.
-    pub tree: TreeBuf,
+pub(crate) struct KeptTree {
+    // Whether a tree is known.
+    pub(crate) known: bool,
+    // The values of its tuple.
+    pub(crate) cells: Cells,
+    // Its tokens.
+    pub(crate) tree: TreeBuf,
 }
 
 // Whether a token isn't a branch on a parameter to which the cells give a value.

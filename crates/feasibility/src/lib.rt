@@ -2,7 +2,7 @@
 //!
 //! - `Solver` asks and completes; `SearchTree` has the search, whose nodes, answers and rows are those
 //!   of the definition of plain search.
-//! - `over_budget` tells a run's caller of a question whose plain cost exceeds the budget.
+//! - `over_budget` makes the fault of a question whose plain cost exceeds the budget, and `tuple_of` its tuple.
 //! - `Solver::refute` gives a tree that refutes a tuple which no row serves.
 //! - That a search succeeds exactly on what is extendable, and reaches the first completion, is a law
 //!   over plain lists: `plain_search_is_exact`.

@@ -50,7 +50,7 @@ impl<'t> Refuter<'t> {
     }
 
     // Whether the tree that is kept refutes the tuple, of which the cells are a copy, in a proof in format 1.
-    fn goes_in_one(&self, cells: &Cells, kept: &KeptTree) -> bool
+    fn can_reuse_in_form_one(&self, cells: &Cells, kept: &KeptTree) -> bool
         requires tuple { cells.now ≡ self.now.tuple }
         requires fits { FitsModel self.now.model self.now.tuple }
         requires form { self.now.format ≡ 1 }
@@ -65,8 +65,8 @@ impl<'t> Refuter<'t> {
         kept.branches_freely(cells)
     }
 
-    // The same in a proof of the form asked for.
-    fn goes_by(&self, cells: &Cells, kept: &KeptTree) -> bool
+    // The same in a proof of the form asked for: trees are only kept for format 1.
+    fn can_reuse(&self, cells: &Cells, kept: &KeptTree) -> bool
         requires tuple { cells.now ≡ self.now.tuple }
         requires fits { FitsModel self.now.model self.now.tuple }
         requires node { is_failing self.now.model self.now.lists (no_values self.now.model) ≡ false }
@@ -74,7 +74,7 @@ impl<'t> Refuter<'t> {
         ensures { result ≡ true → IsTreeFor self.now kept.now.tree }
     {
         match self.omissions().form() {
-            ProofForm::One => self.goes_in_one(cells, kept),
+            ProofForm::One => self.can_reuse_in_form_one(cells, kept),
             ProofForm::Two => false,
         }
     }
@@ -109,7 +109,7 @@ impl<'t> Refuter<'t> {
         if let Answer::Spent = self.tree().search_from(fails, cells, sets, table, budget) {
             return Err(RefuteFault::Spent);
         }
-        if !fails && self.goes_by(cells, kept) {
+        if !fails && self.can_reuse(cells, kept) {
             return Ok(kept.tree.again(alloc)?);
         }
         Ok(self.make_tree(alloc, fails, cells, sets, kept)?)

@@ -13,11 +13,11 @@ fn term_names(term: &Term, p: ParamNo) -> bool
 {
     match term {
         Term::ParamIs(first, _, second) => *first == p || *second == p,
-        Term::ValueIs(q, _, _) => *q == p,
-        Term::OneOf(q, _) => *q == p,
-        Term::Like(q, _) => *q == p,
-        Term::Negative(q) => *q == p,
-        Term::Positive(q) => *q == p,
+        Term::ValueIs(q, _, _)
+        | Term::OneOf(q, _)
+        | Term::Like(q, _)
+        | Term::Negative(q)
+        | Term::Positive(q) => *q == p,
     }
 }
 

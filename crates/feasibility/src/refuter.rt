@@ -21,8 +21,8 @@ use cov_model::{Cells, ParamNo, Slice, Tuple, ValueNo};
 use refutation::{Omissions, ProofForm};
 use std::marker::Model;
 
-/// What the tree of a tuple is made from: what a search of the tuple's slice looks at, and the
-/// omissions that stand before it.
+// What the tree of a tuple is made from: what a search of the tuple's slice looks at, and the
+// omissions that stand before it.
 #[derive(Drop)]
 pub(crate) struct Refuter<'t> {
     tree: &'t SearchTree<'t>,

@@ -103,7 +103,7 @@ impl<'a> Solver<'a> {
         ensures answer { result ≡ answer_of (is_extendable self.old.model self.old.slice cells.now) (plain_cost self.old.model self.old.prefs self.old.slice cells.now) budget }
         ensures same { self.new ≡ self.old }
     {
-        self.tree.tell(
+        self.tree.ask_and_keep(
             self.fails,
             cells,
             &mut self.room,

@@ -20,11 +20,11 @@ use std::alloc::Global;
 use std::marker::Model;
 use value_text::NoMemory;
 
-/// What a plain search looks at in each node: the values of each parameter in the order in which
-/// they are tried, the parameters that each constraint names, with the values that alone leave it
-/// undecided, and the parameters that constraints name, with those that each value leaves undecided.
+// What a plain search looks at in each node: the values of each parameter in the order in which
+// they are tried, the parameters that each constraint names, with the values that alone leave it
+// undecided, and the parameters that constraints name, with those that each value leaves undecided.
 #[derive(Drop)]
-pub struct SearchTree<'a> {
+pub(crate) struct SearchTree<'a> {
     rules: CompiledRules<'a>,
     values: PackedLists,
     members: PackedLists,

@@ -19,28 +19,18 @@ use crate::tree::SearchTree;
 use cov_model::{Cells, ParamNo, ValueNo};
 use live_sets::LiveSets;
 
-// Visits a node that fails.
-fn visit_failing(left: &mut u64) -> Answer
-    ensures answer { result ≡ answer_of false 1 left.old }
-    ensures left { left.new ≡ left.old - 1 }
+// Visits so many nodes, and says whether the last of them succeeds; Spent where the budget that is left has
+// fewer, and then nothing of it is left.
+pub(crate) fn visit_nodes(found: bool, count: u64, left: &mut u64) -> Answer
+    ensures answer { result ≡ answer_of found count left.old }
+    ensures left { left.new ≡ left.old - count }
 {
-    if *left == 0 {
+    if *left < count {
+        *left = 0;
         return Answer::Spent;
     }
-    *left -= 1;
-    Answer::No
-}
-
-// Visits a node that succeeds.
-fn visit_leaf(left: &mut u64) -> Answer
-    ensures answer { result ≡ answer_of true 1 left.old }
-    ensures left { left.new ≡ left.old - 1 }
-{
-    if *left == 0 {
-        return Answer::Spent;
-    }
-    *left -= 1;
-    Answer::Yes
+    *left -= count;
+    if found { Answer::Yes } else { Answer::No }
 }
 
 impl<'a> SearchTree<'a> {
@@ -89,7 +79,7 @@ impl<'a> SearchTree<'a> {
     {
         self.assert_invariant();
         if i == self.constrained_len() {
-            return visit_leaf(left);
+            return visit_nodes(true, 1, left);
         }
         let p = self.constrained_at(i).param;
         if cells.get(p).is_some() {
@@ -132,13 +122,13 @@ impl<'a> SearchTree<'a> {
         self.assert_invariant();
         let p = self.constrained_at(i).param;
         if !sets.is_live(p, v) {
-            return visit_failing(left);
+            return visit_nodes(false, 1, left);
         }
         let len = sets.trail_len();
         if !self.enter(i, v, cells, sets) {
             sets.undo(len);
             cells.clear_cell(p);
-            return visit_failing(left);
+            return visit_nodes(false, 1, left);
         }
         let answer = self.visit(i + 1, cells, sets, left);
         sets.undo(len);
@@ -164,8 +154,9 @@ impl<'a> SearchTree<'a> {
         true
     }
 
-    // Whether the cells go as a question, if one is known.
-    fn goes_as(&self, cells: &Cells, answered: &Answered) -> bool
+    // Whether the cells ask the same as a question that was answered, if one is known: what no constraint names
+    // changes neither the answer nor the cost.
+    fn is_same_question(&self, cells: &Cells, answered: &Answered) -> bool
         requires long { length cells.now ≡ length self.now.model.params }
         requires also { length answered.now.cells ≡ length self.now.model.params }
         ensures known { result ≡ true → answered.now.known ≡ true }
@@ -213,7 +204,7 @@ impl<'a> SearchTree<'a> {
         let len = sets.trail_len();
         if !self.start(room, sets) {
             sets.undo(len);
-            return visit_failing(left);
+            return visit_nodes(false, 1, left);
         }
         let answer = self.visit(0, room, sets, left);
         sets.undo(len);
@@ -238,7 +229,7 @@ impl<'a> SearchTree<'a> {
         let len = sets.trail_len();
         if !self.start(room, sets) {
             sets.undo(len);
-            return visit_failing(left);
+            return visit_nodes(false, 1, left);
         }
         let answer = self.visit_node(cells, room, sets, left);
         sets.undo(len);
@@ -271,8 +262,8 @@ impl<'a> SearchTree<'a> {
         self.search_from(fails, room, sets, table, budget)
     }
 
-    // The same for the cells in the room, which after No are as before. A question without a completion
-    // that goes as one in the table isn't searched again.
+    // The same for the cells in the room, which after No are as before. A question without a completion that
+    // is the same as one in the table isn't searched again.
     pub(crate) fn search_from(
         &self,
         fails: bool,
@@ -295,19 +286,19 @@ impl<'a> SearchTree<'a> {
         self.assert_invariant();
         let mut left = budget;
         if fails {
-            return visit_failing(&mut left);
+            return visit_nodes(false, 1, &mut left);
         }
         let place = self.place_of(room, table.len());
         let answered = table.at(place);
-        if !answered.found && self.goes_as(room, answered) {
+        if !answered.found && self.is_same_question(room, answered) {
             return answered.answer(budget);
         }
         self.search_anew(room, sets, &mut left)
     }
 
-    // Tells whether the cells have a completion, given whether the node without values fails. What goes
-    // as a question in the table isn't searched again, and what is searched is kept there.
-    pub(crate) fn tell(
+    // Whether the cells have a completion, given whether the node without values fails. A question that is the
+    // same as one in the table isn't searched again, and what is searched is kept there.
+    pub(crate) fn ask_and_keep(
         &self,
         fails: bool,
         cells: &Cells,
@@ -330,11 +321,11 @@ impl<'a> SearchTree<'a> {
         self.assert_invariant();
         let mut left = budget;
         if fails {
-            return visit_failing(&mut left);
+            return visit_nodes(false, 1, &mut left);
         }
         let place = self.place_of(cells, table.len());
         let answered = table.at(place);
-        if self.goes_as(cells, answered) {
+        if self.is_same_question(cells, answered) {
             return answered.answer(budget);
         }
         room.copy_from(cells);

@@ -50,19 +50,19 @@ fn places_for(tree: &SearchTree) -> usize
     }
 }
 
-/// What a solver works in beside its tree.
+// What a solver works in beside its tree.
 #[derive(Drop)]
-pub struct Workspace {
-    /// Room for a partial row.
-    pub room: Cells,
-    /// The values that are live where no parameter has a value, or why that node fails.
-    pub sets: LiveSets,
-    /// Whether it fails.
-    pub fails: bool,
-    /// Questions that were answered.
-    pub answered: AnswerTable,
-    /// The tree that was made last.
-    pub kept: KeptTree,
+pub(crate) struct Workspace {
+    // Room for a partial row.
+    pub(crate) room: Cells,
+    // The values that are live where no parameter has a value, or why that node fails.
+    pub(crate) sets: LiveSets,
+    // Whether it fails.
+    pub(crate) fails: bool,
+    // Questions that were answered.
+    pub(crate) answered: AnswerTable,
+    // The tree that was made last.
+    pub(crate) kept: KeptTree,
 }
 
 impl Workspace {

@@ -1,6 +1,5 @@
-ghost use Rattle.std.specs.Prelude.{◌≡◌, ◌+◌, ◌^◌, ◌<◌, ◌≤◌, ◌∷◌, ◌++◌, [], true, false, length, slice_index_or, IfOk, IfSome, MatchOption};
+ghost use Rattle.std.specs.Prelude.{◌≡◌, ◌<◌, ◌≤◌, ◌∷◌, ◌++◌, [], true, false, length, slice_index_or, IfOk, IfSome};
 ghost use Rattle.std.specs.List.{count_by};
-ghost use Rattle.bit_table.specs.Marks.{IsFirstSet, NoneSet};
 ghost use Rattle.live_sets.specs.Trail.{live_count, mark_at, undone, with_mark};
 
 use bit_table::BitTable;
@@ -8,13 +7,13 @@ use std::alloc::Global;
 use std::marker::Model;
 use value_text::NoMemory;
 
-/// A value of a parameter that was taken away.
+// A value of a parameter that was taken away.
 #[derive(Drop, Clone, Copy)]
-pub struct Taken {
-    /// The number of the parameter.
-    pub param: u16,
-    /// The number of its value.
-    pub value: u16,
+pub(crate) struct Taken {
+    // The number of the parameter.
+    pub(crate) param: u16,
+    // The number of its value.
+    pub(crate) value: u16,
 }
 
 /// For each parameter its live values. A value that is taken away is written on a trail, and going
@@ -78,23 +77,6 @@ impl LiveSets {
     {
         let set = &self.sets[q as usize];
         set.is_set(w as u32)
-    }
-
-    /// The first live value of a parameter from one on; `None` where no such value is live.
-    #[inline]
-    pub fn next_live(&self, q: u16, from: u16) -> Option<u16>
-        requires parameter { q < length self.now.live }
-        requires few { length (slice_index_or self.now.live q []) < 2 ^ 16 }
-        requires within { from ≤ length (slice_index_or self.now.live q []) }
-        ensures { MatchOption result (NoneSet (slice_index_or self.now.live q []) from (length (slice_index_or self.now.live q [])))
-            (λ w. IsFirstSet (slice_index_or self.now.live q []) from (length (slice_index_or self.now.live q [])) w) }
-    {
-        let set = &self.sets[q as usize];
-        let end = set.len();
-        match set.next_set(from as u32, end) {
-            Some(w) => Some(w as u16),
-            None => None,
-        }
     }
 
     /// How many values of a parameter are live.

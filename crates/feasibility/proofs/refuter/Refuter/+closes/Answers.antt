@@ -96,29 +96,29 @@ close_live-returns-then-enter-clause-cells t c =
     c.close_node.ensures.cells ∙ c.enter.ensures.cells
     ∙ ap (λ (s : TreeView). with_value c.args.cells.now (get_or (constrained_params s.model) c.args.i 0) c.args.v) c.tree.ensures
 
-pub close_live-close_stuck-requires-clause-path : goal.close_live-close_stuck-requires-clause-path
-close_live-close_stuck-requires-clause-path t c =
+pub close_live-put_branch_of_leaves-requires-clause-path : goal.close_live-put_branch_of_leaves-requires-clause-path
+close_live-put_branch_of_leaves-requires-clause-path t c =
     let r = c.args.self.now in
     let is : c.enter.new.cells ≡ with_value c.args.cells.now (get_or (constrained_params r.model) c.args.i 0) c.args.v =
     c.enter.ensures.cells ∙ ap (λ (s : TreeView). with_value c.args.cells.now (get_or (constrained_params s.model) c.args.i 0) c.args.v) c.tree.ensures in
     subst (IsPath r) (sym is) c.requires.path
 
-pub close_live-close_stuck-requires-clause-unbroken : goal.close_live-close_stuck-requires-clause-unbroken
-close_live-close_stuck-requires-clause-unbroken t c =
+pub close_live-put_branch_of_leaves-requires-clause-unbroken : goal.close_live-put_branch_of_leaves-requires-clause-unbroken
+close_live-put_branch_of_leaves-requires-clause-unbroken t c =
     let r = c.args.self.now in
     let is : c.enter.new.cells ≡ with_value c.args.cells.now (get_or (constrained_params r.model) c.args.i 0) c.args.v =
     c.enter.ensures.cells ∙ ap (λ (s : TreeView). with_value c.args.cells.now (get_or (constrained_params s.model) c.args.i 0) c.args.v) c.tree.ensures in
     ap (breaks_a_rule r.model) is ∙ c.requires.unbroken
 
-pub close_live-close_stuck-requires-clause-leafless : goal.close_live-close_stuck-requires-clause-leafless
-close_live-close_stuck-requires-clause-leafless t c =
+pub close_live-put_branch_of_leaves-requires-clause-leafless : goal.close_live-put_branch_of_leaves-requires-clause-leafless
+close_live-put_branch_of_leaves-requires-clause-leafless t c =
     let r = c.args.self.now in
     let is : c.enter.new.cells ≡ with_value c.args.cells.now (get_or (constrained_params r.model) c.args.i 0) c.args.v =
     c.enter.ensures.cells ∙ ap (λ (s : TreeView). with_value c.args.cells.now (get_or (constrained_params s.model) c.args.i 0) c.args.v) c.tree.ensures in
     subst (HasNoLeaf r) (sym is) c.requires.leafless
 
-pub close_live-close_stuck-requires-clause-why : goal.close_live-close_stuck-requires-clause-why
-close_live-close_stuck-requires-clause-why t c =
+pub close_live-put_branch_of_leaves-requires-clause-why : goal.close_live-put_branch_of_leaves-requires-clause-why
+close_live-put_branch_of_leaves-requires-clause-why t c =
     let r = c.args.self.now in
     let row = with_value c.args.cells.now (get_or (constrained_params r.model) c.args.i 0) c.args.v in
     let is : c.enter.new.cells ≡ row =
@@ -141,12 +141,12 @@ close_live-returns-clause-closes t c =
     let one : (visit r.model r.lists params row).cost ≡ 1 =
     ap (λ (outcome : Outcome). outcome.cost)
     (failing_outcome r.model r.lists params row (not-false (is_failing r.model r.lists row) (sym node ∙ c.if-enter.false))) in
-    subst (λ (most : ℕ). OnOk c.close_stuck.result (Closes r (row ∷ []) most c.args.tokens.now c.close_stuck.new.tokens)) (sym one)
-    (subst (λ cells. OnOk c.close_stuck.result (Closes r (cells ∷ []) 1 c.args.tokens.now c.close_stuck.new.tokens)) is c.close_stuck.ensures.closes)
+    subst (λ (most : ℕ). OnOk c.put_branch_of_leaves.result (Closes r (row ∷ []) most c.args.tokens.now c.put_branch_of_leaves.new.tokens)) (sym one)
+    (subst (λ cells. OnOk c.put_branch_of_leaves.result (Closes r (cells ∷ []) 1 c.args.tokens.now c.put_branch_of_leaves.new.tokens)) is c.put_branch_of_leaves.ensures.closes)
 
 pub close_live-returns-clause-cells : goal.close_live-returns-clause-cells
 close_live-returns-clause-cells t c =
-    c.close_stuck.ensures.same ∙ c.enter.ensures.cells
+    c.put_branch_of_leaves.ensures.same ∙ c.enter.ensures.cells
     ∙ ap (λ (s : TreeView). with_value c.args.cells.now (get_or (constrained_params s.model) c.args.i 0) c.args.v) c.tree.ensures
 
 pub close_node-constrained_param-p-requires : goal.close_node-constrained_param-p-requires
@@ -300,8 +300,8 @@ close_node-returns-clause-closes t c =
     ))
     branch
 
-pub close_value-close_dead-requires-clause-dead : goal.close_value-close_dead-requires-clause-dead
-close_value-close_dead-requires-clause-dead t c =
+pub close_value-put_value_leaf-requires-clause-dead : goal.close_value-put_value_leaf-requires-clause-dead
+close_value-put_value_leaf-requires-clause-dead t c =
     let r = c.args.self.now in
     subst (λ (q : ℕ). (value_at r.model q c.args.v).negative ≡ false → breaks_a_rule r.model (with_value c.args.cells.now q c.args.v) ≡ true)
     (sym c.constrained_param-p.ensures)

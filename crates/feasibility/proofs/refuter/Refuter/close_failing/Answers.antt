@@ -27,11 +27,11 @@ returns-in-Some-first_cited-clause-closes c =
     (no_found r.model path (sym c.first_no.ensures ∙ c.in_default.is)) (sym c.first_cited.ensures ∙ c.in-Some-first_cited.is))))
     c.push-in-Some-first_cited.ensures.ok
 
-pub close_stuck-requires-clause-unbroken : goal.close_stuck-requires-clause-unbroken
-close_stuck-requires-clause-unbroken c = no_found c.args.self.now.model c.args.cells.now (sym c.first_no.ensures ∙ c.in_default.is)
+pub put_branch_of_leaves-requires-clause-unbroken : goal.put_branch_of_leaves-requires-clause-unbroken
+put_branch_of_leaves-requires-clause-unbroken c = no_found c.args.self.now.model c.args.cells.now (sym c.first_no.ensures ∙ c.in_default.is)
 
-pub close_stuck-requires-clause-leafless : goal.close_stuck-requires-clause-leafless
-close_stuck-requires-clause-leafless c =
+pub put_branch_of_leaves-requires-clause-leafless : goal.put_branch_of_leaves-requires-clause-leafless
+put_branch_of_leaves-requires-clause-leafless c =
     let r = c.args.self.now in
     record {
       none = no_leaf r.model r.format r.earlier r.tuple c.args.cells.now c.assert_invariant.ensures.sound c.requires.path.positive

@@ -48,8 +48,8 @@ returns-in-Spent-clause-spent c = λ spent.
 pub returns-in-Spent-clause-long : goal.returns-in-Spent-clause-long
 returns-in-Spent-clause-long c = c.search_from.ensures.long ∙ ap length c.begin.ensures ∙ c.requires.fits.as_long ∙ sym c.requires.long
 
-pub goes_by-requires : goal.goes_by-requires
-goes_by-requires c =
+pub can_reuse-requires : goal.can_reuse-requires
+can_reuse-requires c =
     let ends = search_ends c.args.self.now c.tree.result.now c.begin.new.cells c.args.budget c.search_from.result c.tree.ensures c.begin.ensures
     c.search_from.ensures.answer c.requires.unfound in
     record {
@@ -73,11 +73,11 @@ make_tree-requires c =
       kept = c.requires.kept;
     }
 
-pub returns-then-goes_by : goal.returns-then-goes_by
-returns-then-goes_by c =
+pub returns-then-can_reuse : goal.returns-then-can_reuse
+returns-then-can_reuse c =
     let r = c.args.self.now in
     record {
-      tree = subst (IsTreeFor r) (sym c.in_ok-again.ensures) (c.goes_by.ensures c.if-goes_by.true);
+      tree = subst (IsTreeFor r) (sym c.in_ok-again.ensures) (c.can_reuse.ensures c.if-can_reuse.true);
       within = (search_ends r c.tree.result.now c.begin.new.cells c.args.budget c.search_from.result c.tree.ensures c.begin.ensures
           c.search_from.ensures.answer c.requires.unfound).within c.in_default.not-Spent;
       spent = λ spent. cc;

@@ -29,7 +29,7 @@ visit-get-requires t c =
 pub visit-returns-then-i-constrained_len-clause-told : goal.visit-returns-then-i-constrained_len-clause-told
 visit-returns-then-i-constrained_len-clause-told t c =
     told_leaf c.args.self.now.model c.args.self.now.values (constrained_params c.args.self.now.model) c.args.i c.args.cells.now c.args.left.now
-    c.visit_leaf.new.left c.visit_leaf.result (omega arith) c.requires.node c.visit_leaf.ensures.answer c.visit_leaf.ensures.left
+    c.visit_nodes.new.left c.visit_nodes.result (omega arith) c.requires.node c.visit_nodes.ensures.answer c.visit_nodes.ensures.left
 
 pub visit-returns-then-is_some-clause-told : goal.visit-returns-then-is_some-clause-told
 visit-returns-then-is_some-clause-told t c =
@@ -163,10 +163,10 @@ visit_value-returns-then-not-is_live-clause-told t c =
     let dead : mark_at c.args.sets.now.live p c.args.v ≡ false =
     ap (λ entry. mark_at c.args.sets.now.live entry.param c.args.v) (sym c.constrained_at.ensures) ∙ sym c.is_live.ensures ∙ c.if-not-is_live.true in
     told_fails m c.args.self.now.values (drop (c.args.i + 1) (constrained_params m)) (with_value c.args.cells.now p c.args.v) _ c.args.cells.now
-    c.args.cells.now c.args.left.now c.visit_failing.new.left c.visit_failing.result
+    c.args.cells.now c.args.left.now c.visit_nodes.new.left c.visit_nodes.result
     (dead_fails m c.args.self.now.values c.args.cells.now p c.args.v c.args.sets.now c.assert_invariant.ensures.values c.requires.live
     (constrained_exists m c.args.i c.requires.place) c.requires.free c.requires.value dead)
-    c.visit_failing.ensures.answer c.visit_failing.ensures.left refl
+    c.visit_nodes.ensures.answer c.visit_nodes.ensures.left refl
 
 pub visit_value-returns-then-not-enter-clause-told : goal.visit_value-returns-then-not-enter-clause-told
 visit_value-returns-then-not-enter-clause-told t c =
@@ -178,10 +178,10 @@ visit_value-returns-then-not-enter-clause-told t c =
     ∙ set_clear c.args.cells.now p c.args.v (none_of (get_or c.args.cells.now p None) c.requires.free) in
     let params = drop (c.args.i + 1) (constrained_params m) in
     told_fails m c.args.self.now.values params (with_value c.args.cells.now p c.args.v)
-    (reached m c.args.self.now.values params (with_value c.args.cells.now p c.args.v)) c.args.cells.now c.clear_cell.new.self c.args.left.now c.visit_failing-then-not-enter.new.left
-    c.visit_failing-then-not-enter.result (not-false (is_failing m c.args.self.now.values (with_value c.args.cells.now p c.args.v))
+    (reached m c.args.self.now.values params (with_value c.args.cells.now p c.args.v)) c.args.cells.now c.clear_cell.new.self c.args.left.now c.visit_nodes-then-not-enter.new.left
+    c.visit_nodes-then-not-enter.result (not-false (is_failing m c.args.self.now.values (with_value c.args.cells.now p c.args.v))
     (sym c.enter.ensures.fails ∙ c.if-not-enter.true))
-    c.visit_failing-then-not-enter.ensures.answer c.visit_failing-then-not-enter.ensures.left back
+    c.visit_nodes-then-not-enter.ensures.answer c.visit_nodes-then-not-enter.ensures.left back
 
 pub visit_value-overflow_add-i : goal.visit_value-overflow_add-i
 visit_value-overflow_add-i t c =

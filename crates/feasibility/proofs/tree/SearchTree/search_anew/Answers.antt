@@ -11,5 +11,5 @@ returns-then-not-start-clause-told c =
     let fails : is_failing m c.args.self.now.values c.args.room.now ≡ true =
     not-false (is_failing m c.args.self.now.values c.args.room.now) (sym c.start.ensures.fails ∙ c.if-not-start.true) in
     told_fails m c.args.self.now.values (constrained_params m) c.args.room.now (reached m c.args.self.now.values (constrained_params m) c.args.room.now)
-    c.args.room.now c.start.new.cells c.args.left.now c.visit_failing.new.left c.visit_failing.result fails c.visit_failing.ensures.answer
-    c.visit_failing.ensures.left c.start.ensures.same
+    c.args.room.now c.start.new.cells c.args.left.now c.visit_nodes.new.left c.visit_nodes.result fails c.visit_nodes.ensures.answer
+    c.visit_nodes.ensures.left c.start.ensures.same

@@ -12,15 +12,15 @@ returns-then-fails-clause-answer c =
     let fails = fails_stays c.args.self.now.model c.args.self.now.values c.args.room.now c.requires.fits.as_long c.requires.listed
     (sym c.requires.ready.fails ∙ c.if-fails.true) in
     (told_fails c.args.self.now.model c.args.self.now.values (constrained_params c.args.self.now.model) c.args.room.now c.args.room.now c.args.room.now
-    c.args.room.now c.args.budget c.visit_failing.new.left c.visit_failing.result
-    fails c.visit_failing.ensures.answer c.visit_failing.ensures.left refl).answer
+    c.args.room.now c.args.budget c.visit_nodes.new.left c.visit_nodes.result
+    fails c.visit_nodes.ensures.answer c.visit_nodes.ensures.left refl).answer
 
-pub returns-then-goes_as-clause-answer : goal.returns-then-goes_as-clause-answer
-returns-then-goes_as-clause-answer c =
+pub returns-then-is_same_question-clause-answer : goal.returns-then-is_same_question-clause-answer
+returns-then-is_same_question-clause-answer c =
     let m = c.args.self.now.model in
     let lists = c.args.self.now.values in
     let known = subst (IsAnswered m lists) (sym c.at-answered.ensures)
     (answered_at m lists c.args.table.now c.place_of-place.result c.requires.kept (omega (arith, c.place_of-place.ensures, c.len.ensures.length))) in
     let tells = answered_tells m lists c.args.room.now c.at-answered.result.now c.assert_invariant.ensures.values
-    (sym c.requires.ready.fails ∙ c.if-fails.false) known (c.goes_as.ensures.known c.if-goes_as.true) (c.goes_as.ensures.agree c.if-goes_as.true) in
+    (sym c.requires.ready.fails ∙ c.if-fails.false) known (c.is_same_question.ensures.known c.if-is_same_question.true) (c.is_same_question.ensures.agree c.if-is_same_question.true) in
     c.answer.ensures ∙ sym (ap (λ (outcome : Outcome). answer_of outcome.found outcome.cost c.args.budget) tells)

@@ -12,5 +12,5 @@ returns-then-not-start-clause-told c =
     let fails : is_failing m lists c.args.cells.now ≡ true =
     ap (is_failing m lists) (sym c.requires.same) ∙ not-false (is_failing m lists c.args.room.now) (sym c.start.ensures.fails ∙ c.if-not-start.true) in
     told_fails m lists (constrained_params m) c.args.cells.now (reached m lists (constrained_params m) c.args.cells.now)
-    c.args.cells.now c.start.new.cells c.args.left.now c.visit_failing.new.left c.visit_failing.result fails c.visit_failing.ensures.answer
-    c.visit_failing.ensures.left (c.start.ensures.same ∙ c.requires.same)
+    c.args.cells.now c.start.new.cells c.args.left.now c.visit_nodes.new.left c.visit_nodes.result fails c.visit_nodes.ensures.answer
+    c.visit_nodes.ensures.left (c.start.ensures.same ∙ c.requires.same)

@@ -1,6 +1,6 @@
-use Rattle.std.proofs.Common.{◌≡◌, ◌-◌, ◌+◌, ◌<◌, ◌≤◌, ◌∙◌, ℕ, ap, sym, arith, length, get_or, take, drop, rules}
+use Rattle.std.proofs.Common.{◌≡◌, ◌-◌, ◌+◌, ◌<◌, ◌∙◌, ℕ, ap, sym, arith, length, get_or, take, drop, rules}
 use Rattle.std.proofs.lemmas.List.{get_or_read}
-use Rattle.live_sets.specs.Trail.{live_count, put_back, with_mark}
+use Rattle.live_sets.specs.Trail.{live_count, put_back}
 use Rattle.live_sets.proofs.TrailLemmas.{one_back, count_back}
 use Rattle.live_sets.proofs.sets.LiveSets.undo.Goals as goal
 

@@ -3,7 +3,7 @@ use Rattle.std.specs.List.{range_with_len}
 use Rattle.cov_model.specs.Sound.{param_at}
 use Rattle.definitions.specs.Completion.{with_value}
 use Rattle.feasibility.specs.Refuting.{Closes}
-use Rattle.feasibility.proofs.refuter.Refuter.close_stuck.Given as goal
+use Rattle.feasibility.proofs.refuter.Refuter.put_branch_of_leaves.Given as goal
 
 -- the trees of the values before this one were added
 abbrev pub invariant-loop-v : goal.invariant-loop-v

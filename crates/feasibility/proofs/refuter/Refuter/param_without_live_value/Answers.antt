@@ -3,8 +3,8 @@ use Rattle.std.specs.List.{count_by}
 use Rattle.std.proofs.lemmas.Bool.{cases_eq}
 use Rattle.cov_model.specs.Rows.{is_assigned}
 use Rattle.feasibility.proofs.Paths.{unmarked_from}
-use Rattle.feasibility.proofs.refuter.Refuter.stuck_param.Goals as goal
-use Rattle.feasibility.proofs.refuter.Refuter.stuck_param.Goals.{then-is_some, else-is_some+then-count-gt0}
+use Rattle.feasibility.proofs.refuter.Refuter.param_without_live_value.Goals as goal
+use Rattle.feasibility.proofs.refuter.Refuter.param_without_live_value.Goals.{then-is_some, else-is_some+then-count-gt0}
 
 pub overflow_add-q : goal.overflow_add-q
 overflow_add-q c =

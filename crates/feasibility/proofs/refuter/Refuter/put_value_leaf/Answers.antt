@@ -7,7 +7,7 @@ use Rattle.refutation.specs.declared.token.TreeToken.TheVariants.{ByRule, ByNega
 use Rattle.feasibility.proofs.AddedTrees.{closes_leaf}
 use Rattle.feasibility.proofs.Leaves.{negative_first, rule_first, some_no}
 use Rattle.feasibility.proofs.Paths.{negative_value, positive_value}
-use Rattle.feasibility.proofs.refuter.Refuter.close_dead.Goals as goal
+use Rattle.feasibility.proofs.refuter.Refuter.put_value_leaf.Goals as goal
 
 pub returns-then-is_negative-clause-closes : goal.returns-then-is_negative-clause-closes
 returns-then-is_negative-clause-closes c =

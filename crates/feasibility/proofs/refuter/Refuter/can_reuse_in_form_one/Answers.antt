@@ -5,7 +5,7 @@ use Rattle.feasibility.specs.KeptTrees.{is_free}
 use Rattle.feasibility.specs.Recurring.{AgreeOnNamed}
 use Rattle.feasibility.specs.Tree.{TreeView}
 use Rattle.feasibility.proofs.KeptTrees.{tree_again}
-use Rattle.feasibility.proofs.refuter.Refuter.goes_in_one.Goals as goal
+use Rattle.feasibility.proofs.refuter.Refuter.can_reuse_in_form_one.Goals as goal
 
 pub returns : goal.returns
 returns c free =
