@@ -34,7 +34,7 @@ use Rattle.model_lex.specs.declared.options.ModelOpts.{ModelOpts}
 use Rattle.model_lex.specs.declared.options.OrderWord.{OrderWord}
 use Rattle.model_parse.specs.ParamLines.{line_name}
 use Rattle.model_parse.specs.ParamSteps.{add_param, no_params, param_code, line_list, read_param, read_params, read_values}
-use Rattle.model_parse.specs.Pieces.{begins_with, ends_with, is_byte, is_unfit, pieces}
+use Rattle.model_parse.specs.Pieces.{begins_with, ends_with_byte, is_byte, is_unfit, pieces}
 use Rattle.model_parse.specs.RawModels.{AreMarks}
 use Rattle.model_parse.specs.Steps.{and_each, and_then}
 use Rattle.model_parse.specs.ValueSteps.{Kept, add_kept, add_piece, add_value, is_known, keep_name}
@@ -126,7 +126,7 @@ module _ (text : List ℕ) (symbolic : IsSymbolic text) where
   symbolic_first : (m : ℕ) → is_sign m ≡ true → (get_or text 0 0 == m) ≡ false
   symbolic_first m sign = symbol_other m (get_or text 0 0) sign (each_passes is_symbol_byte text symbolic.symbols 0 0 symbolic.some)
 
-  symbolic_ends : (m : ℕ) → is_sign m ≡ true → ends_with m text ≡ false
+  symbolic_ends : (m : ℕ) → is_sign m ≡ true → ends_with_byte m text ≡ false
   symbolic_ends m sign =
       let last : (get_or text (length text - 1) 0 == m) ≡ false =
       symbol_other m (get_or text (length text - 1) 0) sign (each_passes is_symbol_byte text symbolic.symbols (length text - 1) 0 (let some = symbolic.some in omega arith)) in

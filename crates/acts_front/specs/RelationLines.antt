@@ -4,7 +4,7 @@ use Rattle.std.specs.Prelude.{ℕ, ◌-◌, Bool, not, ◌&&◌, List, [], lengt
 use Rattle.std.specs.List.{list_all, before_first, after_first}
 use Rattle.value_text.specs.Numbers.{count_of}
 use Rattle.model_lex.specs.Blanks.{trimmed, without_first_blanks}
-use Rattle.model_parse.specs.Pieces.{is_byte, before_end, begins_with, ends_with, pieces}
+use Rattle.model_parse.specs.Pieces.{is_byte, before_end, begins_with, ends_with_byte, pieces}
 use Rattle.acts_front.specs.ParameterLines.{Scope, are_few_digits, is_declared, is_name, has_repeated}
 use Rattle.acts_front.specs.declared.code.ActsCode.{ActsCode}
 use Rattle.acts_front.specs.declared.code.ActsCode.TheVariants.{A5, A6, A7}
@@ -36,7 +36,7 @@ relation_in_parts parts =
 -- the relation of a line, where the line has the form of one
 abbrev pub relation_in : List ℕ → Option Relation
 relation_in text =
-    if is_name (trimmed (before_first (is_byte 58) text)) && (begins_with 40 (listed text) && ends_with 41 (listed text))
+    if is_name (trimmed (before_first (is_byte 58) text)) && (begins_with 40 (listed text) && ends_with_byte 41 (listed text))
     then relation_in_parts (parts_in text) else None
 
 -- the members of a relation are declared, and none is repeated

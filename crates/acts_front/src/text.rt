@@ -3,7 +3,7 @@ ghost use Rattle.std.specs.Prelude.{◌≡◌, ◌≤◌, ◌==◌, ◌&&◌, ma
 ghost use Rattle.std.specs.List.{after_first, before_first, position, prefix_len, suffix_len};
 ghost use Rattle.model_lex.specs.Blanks.{trimmed, without_first_blanks, without_last_blanks};
 ghost use Rattle.value_text.specs.Texts.{is_blank};
-ghost use Rattle.model_parse.specs.Pieces.{before_end, begins_with, ends_with, is_byte, pieces};
+ghost use Rattle.model_parse.specs.Pieces.{before_end, begins_with, ends_with_byte, is_byte, pieces};
 
 use std::alloc::Global;
 use value_text::NoMemory;
@@ -66,8 +66,8 @@ pub(crate) fn begins_with(text: &[u8], mark: u8) -> bool
 /// What stands between two marks with which a text begins and ends; `None` exactly where it doesn't.
 pub(crate) fn between(text: &[u8], first: u8, last: u8) -> Option<&[u8]>
     requires { ¬ (first ≡ last) }
-    ensures { MatchOption result (begins_with first text.now && ends_with last text.now ≡ false)
-        (λ inside. (begins_with first text.now && ends_with last text.now ≡ true) × (inside.now ≡ before_end (drop 1 text.now))) }
+    ensures { MatchOption result (begins_with first text.now && ends_with_byte last text.now ≡ false)
+        (λ inside. (begins_with first text.now && ends_with_byte last text.now ≡ true) × (inside.now ≡ before_end (drop 1 text.now))) }
 {
     match text {
         [begin, inside @ .., end] if *begin == first && *end == last => Some(inside),

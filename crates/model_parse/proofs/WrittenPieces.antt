@@ -20,7 +20,7 @@ use Rattle.model_lex.specs.Blanks.{trimmed}
 use Rattle.value_text.specs.Texts.{is_blank}
 use Rattle.model_lex.specs.declared.options.Marks.{Marks}
 use Rattle.model_lex.specs.declared.options.ModelOpts.{ModelOpts}
-use Rattle.model_parse.specs.Pieces.{is_byte, pieces, begins_with, ends_with, before_end}
+use Rattle.model_parse.specs.Pieces.{is_byte, pieces, begins_with, ends_with_byte, before_end}
 use Rattle.model_parse.specs.RawModels.{AreMarks}
 use Rattle.model_parse.specs.Steps.{refused_or}
 use Rattle.model_parse.specs.Values.{weight_text, has_weight, weight_of, names_text, without_prefix, names_of, value_of, piece_code, is_reference}
@@ -41,13 +41,13 @@ record IsPiece (marks : Marks) (body : List ℕ) (weight : ℕ) (piece : List �
   weighs : weight_of piece ≡ weight
 
 -- without a written weight
-plain_piece : (marks : Marks) (body : List ℕ) → IsWhole body → Lacks marks.separator body → ends_with 41 body ≡ false → ends_with 62 body ≡ false → IsPiece marks body 1 body
+plain_piece : (marks : Marks) (body : List ℕ) → IsWhole body → Lacks marks.separator body → ends_with_byte 41 body ≡ false → ends_with_byte 62 body ≡ false → IsPiece marks body 1 body
 plain_piece marks body whole lacks paren angle =
-    let none : has_weight body ≡ false = and_left (ends_with 41 body && list_any (is_byte 40) (before_end body)) (is_digits (weight_text body)) (and_left (ends_with 41 body) _ paren) in
+    let none : has_weight body ≡ false = and_left (ends_with_byte 41 body && list_any (is_byte 40) (before_end body)) (is_digits (weight_text body)) (and_left (ends_with_byte 41 body) _ paren) in
     record {
       whole = whole;
       lacks = lacks;
-      plain = and_right _ (ends_with 62 body) angle;
+      plain = and_right _ (ends_with_byte 62 body) angle;
       tail = [];
       blanks = All-nil (λ b. is_blank b ≡ true);
       names = cond-false (has_weight body) _ _ none ∙ sym (append-nil body);
@@ -55,7 +55,7 @@ plain_piece marks body whole lacks paren angle =
     }
 
 -- with one
-last_byte : (front : List ℕ) (byte mark : ℕ) → ends_with mark (front ++ byte ∷ []) ≡ eqb byte mark
+last_byte : (front : List ℕ) (byte mark : ℕ) → ends_with_byte mark (front ++ byte ∷ []) ≡ eqb byte mark
 last_byte front byte mark =
     let len : length (front ++ byte ∷ []) ≡ length front + 1 = length-append front (byte ∷ []) in
     let last : get_or (front ++ byte ∷ []) (length (front ++ byte ∷ []) - 1) 0 ≡ byte = ap (λ n. get_or (front ++ byte ∷ []) n 0) (omega arith) ∙ get_or-append_seam front byte [] 0 in
@@ -77,8 +77,8 @@ weighed_piece marks body digits weight mark whole lacks are value =
     let text : weight_text piece ≡ digits =
     ap (λ t. trimmed (after_last (is_byte 40) t)) before ∙ ap trimmed (after_last_back 40 (body ++ 32 ∷ []) digits none) ∙ ap trimmed (sym (append-nil digits))
     ∙ trimmed_back [] digits [] (All-nil (λ b. is_blank b ≡ true)) (digits_whole digits are) (All-nil (λ b. is_blank b ≡ true)) in
-    let paren : ends_with 41 piece ≡ true = ap (ends_with 41) split ∙ last_byte front 41 41 in
-    let angle : ends_with 62 piece ≡ false = ap (ends_with 62) split ∙ last_byte front 41 62 in
+    let paren : ends_with_byte 41 piece ≡ true = ap (ends_with_byte 41) split ∙ last_byte front 41 41 in
+    let angle : ends_with_byte 62 piece ≡ false = ap (ends_with_byte 62) split ∙ last_byte front 41 62 in
     let opens : list_any (is_byte 40) (before_end piece) ≡ true = ap (list_any (is_byte 40)) before ∙ stands_back 40 (body ++ 32 ∷ []) digits in
     let counts : is_digits (weight_text piece) ≡ true = ap is_digits text ∙ and_from _ _ (lt-ltb 0 (length digits) are.some) (all_digits digits are.each) in
     let has : has_weight piece ≡ true = and_from _ _ (and_from _ _ paren opens) counts in
@@ -90,7 +90,7 @@ weighed_piece marks body digits weight mark whole lacks are value =
           All-append apart body _ lacks (All-cons apart 32 (40 ∷ (digits ++ 41 ∷ [])) parens.0
           (All-cons apart 40 (digits ++ 41 ∷ []) parens.1 (All-append apart digits (41 ∷ [])
           (All-weaker (λ b. is_ascii_digit b ≡ true) apart (λ b digit. mark_digit marks.separator b mark digit) digits are.each) (All-cons apart 41 [] parens.2 (All-nil apart)))));
-      plain = and_right _ (ends_with 62 piece) angle;
+      plain = and_right _ (ends_with_byte 62 piece) angle;
       tail = 32 ∷ [];
       blanks = All-cons (λ b. is_blank b ≡ true) 32 [] refl (All-nil (λ b. is_blank b ≡ true));
       names = cond-true (has_weight piece) _ _ has ∙ ap (before_last (is_byte 40)) before ∙ before_last_back 40 (body ++ 32 ∷ []) digits none;
@@ -104,10 +104,10 @@ weight_in weight is = let most : weight ≤ 4294967295 = leb-true weight 4294967
 written_piece : (marks : Marks) (body : List ℕ) (weight : ℕ) → is_mark marks.separator ≡ true → is_weight weight ≡ true → IsWhole body → Lacks marks.separator body
     → IsPiece marks body weight (body ++ written_weight body weight)
 written_piece marks body weight mark is whole lacks =
-    cond_both (eqb weight 1 && not (ends_with 41 body || ends_with 62 body)) [] (32 ∷ 40 ∷ (decimal weight ++ 41 ∷ [])) (λ text. IsPiece marks body weight (body ++ text))
+    cond_both (eqb weight 1 && not (ends_with_byte 41 body || ends_with_byte 62 body)) [] (32 ∷ 40 ∷ (decimal weight ++ 41 ∷ [])) (λ text. IsPiece marks body weight (body ++ text))
     (λ plain.
     let tests = and_parts _ _ plain in
-    let ends = or_parts (ends_with 41 body) (ends_with 62 body) (not-true _ tests.1) in
+    let ends = or_parts (ends_with_byte 41 body) (ends_with_byte 62 body) (not-true _ tests.1) in
     subst (λ w. IsPiece marks body w (body ++ [])) (sym (eqb-true weight 1 tests.0)) (subst (IsPiece marks body 1) (sym (append-nil body)) (plain_piece marks body whole lacks ends.0 ends.1)))
     (λ weighed. weighed_piece marks body (decimal weight) weight mark whole lacks (decimal_digits weight (weight_in weight is)) (decimal_is_IsNumeral weight (weight_in weight is)).1)
 

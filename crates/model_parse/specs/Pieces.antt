@@ -17,8 +17,8 @@ pieces mark text = map trimmed (slice_split (is_byte mark) text)
 abbrev pub begins_with : ℕ → List ℕ → Bool
 begins_with mark text = nat_lt 0 (length text) && (slice_index text 0 == mark)
 
-abbrev pub ends_with : ℕ → List ℕ → Bool
-ends_with mark text = nat_lt 0 (length text) && (slice_index text (length text - 1) == mark)
+abbrev pub ends_with_byte : ℕ → List ℕ → Bool
+ends_with_byte mark text = nat_lt 0 (length text) && (slice_index text (length text - 1) == mark)
 
 -- a text without its last byte
 abbrev pub before_end : List ℕ → List ℕ

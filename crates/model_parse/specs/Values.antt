@@ -9,7 +9,7 @@ use Rattle.model_lex.specs.declared.diag.DiagCode.{DiagCode}
 use Rattle.model_lex.specs.declared.diag.DiagCode.TheVariants.{EmptyValueName, BadValueName, BadWeight}
 use Rattle.model_lex.specs.declared.options.Marks.{Marks}
 use Rattle.cov_model.specs.declared.parameter.Value.{Value}
-use Rattle.model_parse.specs.Pieces.{is_byte, pieces, begins_with, ends_with, before_end, is_unfit}
+use Rattle.model_parse.specs.Pieces.{is_byte, pieces, begins_with, ends_with_byte, before_end, is_unfit}
 use Rattle.model_parse.specs.Rules.{first_some}
 
 -- the digits of a piece's weight: what stands between its last `(` and the `)` at its end
@@ -17,7 +17,7 @@ abbrev pub weight_text : List ℕ → List ℕ
 weight_text piece = trimmed (after_last (is_byte 40) (before_end piece))
 
 abbrev pub has_weight : List ℕ → Bool
-has_weight piece = ends_with 41 piece && list_any (is_byte 40) (before_end piece) && is_digits (weight_text piece)
+has_weight piece = ends_with_byte 41 piece && list_any (is_byte 40) (before_end piece) && is_digits (weight_text piece)
 
 abbrev pub weight_of : List ℕ → ℕ
 weight_of piece = if has_weight piece then digits_value 10 (weight_text piece) else 1
@@ -52,7 +52,7 @@ piece_code marks piece = if nat_le 1 (weight_of piece) && nat_le (weight_of piec
 
 -- `<P>`: the values of the parameter P
 abbrev pub is_reference : List ℕ → Bool
-is_reference piece = nat_le 2 (length piece) && begins_with 60 piece && ends_with 62 piece
+is_reference piece = nat_le 2 (length piece) && begins_with 60 piece && ends_with_byte 62 piece
 
 abbrev pub referred : List ℕ → List ℕ
 referred piece = trimmed (drop 1 (before_end piece))

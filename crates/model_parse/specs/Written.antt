@@ -7,7 +7,7 @@ use Rattle.model_lex.specs.declared.options.ModelOpts.{ModelOpts}
 use Rattle.cov_model.specs.declared.parameter.Param.{Param}
 use Rattle.cov_model.specs.declared.parameter.Value.{Value}
 use Rattle.model_parse.specs.declared.raw_model.RawModel.{RawModel}
-use Rattle.model_parse.specs.Pieces.{is_byte, ends_with}
+use Rattle.model_parse.specs.Pieces.{is_byte, ends_with_byte}
 use Rattle.model_parse.specs.RawModels.{AreOpts, IsSoundRaw, order_in, raw_model_of}
 
 -- texts with another one between each two
@@ -22,7 +22,7 @@ written_names marks value = (if value.negative then marks.prefix ∷ [] else [])
 -- the weight behind names: ` (3)`; the weight 1 is left out, unless the names end with `)` or `>`
 abbrev pub written_weight : List ℕ → ℕ → List ℕ
 written_weight names weight =
-    if (weight == 1) && not (ends_with 41 names || ends_with 62 names) then []
+    if (weight == 1) && not (ends_with_byte 41 names || ends_with_byte 62 names) then []
     else 32 ∷ 40 ∷ (decimal weight ++ 41 ∷ [])
 
 abbrev pub written_value : Marks → Value → List ℕ

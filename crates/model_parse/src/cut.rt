@@ -3,7 +3,7 @@ ghost use Rattle.std.specs.Prelude.{◌≡◌, ◌<◌, map, drop, length, IfOk,
 ghost use Rattle.std.specs.List.{before_first, after_first, before_last, after_last, list_all, list_any, suffix_len};
 ghost use Rattle.std.specs.Str.{chars};
 ghost use Rattle.cov_model.specs.Names.{is_plain};
-ghost use Rattle.model_parse.specs.Pieces.{is_byte, pieces, begins_with, ends_with, before_end, is_unfit};
+ghost use Rattle.model_parse.specs.Pieces.{is_byte, pieces, begins_with, ends_with_byte, before_end, is_unfit};
 
 use model_lex::trimmed;
 use std::alloc::Global;
@@ -64,8 +64,8 @@ pub(crate) fn begins_with(text: &str, mark: u8) -> bool
 }
 
 /// Whether a text ends with a mark.
-pub(crate) fn ends_with(text: &str, mark: u8) -> bool
-    ensures { result ≡ ends_with mark text.now }
+pub(crate) fn ends_with_byte(text: &str, mark: u8) -> bool
+    ensures { result ≡ ends_with_byte mark text.now }
 {
     let bytes = text.as_bytes();
     !bytes.is_empty() && bytes[bytes.len() - 1] == mark
@@ -86,9 +86,9 @@ pub(crate) fn behind_mark(text: &str, mark: u8) -> Option<&str>
 /// What stands before the ASCII mark with which a text ends; `None` exactly where it doesn't.
 pub(crate) fn before_mark(text: &str, mark: u8) -> Option<&str>
     requires { mark < 128 }
-    ensures { MatchOption result (ends_with mark text.now ≡ false) (λ rest. (ends_with mark text.now ≡ true) × (rest.now ≡ before_end text.now)) }
+    ensures { MatchOption result (ends_with_byte mark text.now ≡ false) (λ rest. (ends_with_byte mark text.now ≡ true) × (rest.now ≡ before_end text.now)) }
 {
-    if ends_with(text, mark) {
+    if ends_with_byte(text, mark) {
         Some(&text[..text.len() - 1])
     } else {
         None

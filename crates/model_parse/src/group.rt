@@ -117,17 +117,18 @@ fn cut_group(text: &str) -> Result<Spelled<'_>, DiagCode>
     }
 }
 
-// One more member.
+// Adds the parameter of this name to the members; refused where there is none, or where it is a
+// member already.
 fn add_member(
     alloc: Global,
     fold: bool,
     known: &NameSet,
     line: u32,
-    mut members: NoList,
+    members: &mut NoList,
     piece: &str,
-) -> Result<NoList, ModelFault>
+) -> Result<(), ModelFault>
     requires { length known.now ≤ 256 }
-    ensures { Gives (add_member fold known.now line members piece.now) (λ next. next) result }
+    ensures { Gives (add_member fold known.now line members.old piece.now) (λ done. members.new) result }
 {
     let Some(p) = known.place(alloc, piece, fold)? else {
         return Err(bad(line, DiagCode::UnknownMember));
@@ -137,7 +138,7 @@ fn add_member(
         return Err(bad(line, DiagCode::RepeatedMember));
     }
     members.push(p)?;
-    Ok(members)
+    Ok(())
 }
 
 // Whether a parameter is among the members.
@@ -147,7 +148,7 @@ fn is_member(members: &[u16], p: u16) -> bool
     members.iter().any(|member| *member == p)
 }
 
-// The members of these names.
+// The parameters of these names.
 fn add_members(
     alloc: Global,
     fold: bool,
@@ -160,12 +161,12 @@ fn add_members(
 {
     let mut members = OwnedList::new(alloc);
     for piece in pieces {
-        members = add_member(alloc, fold, known, line, members, piece)?;
+        add_member(alloc, fold, known, line, &mut members, piece)?;
     }
     Ok(members)
 }
 
-// The members of a list.
+// The parameters that a list between braces names.
 fn read_members(
     alloc: Global,
     opts: &ModelOpts,
@@ -181,7 +182,8 @@ fn read_members(
     add_members(alloc, opts.fold, known, line, pieces.as_slice())
 }
 
-// The order of a group of so many members.
+// The order of a group of so many members: the written one, where it is from 1 to their number, and
+// without one that of the whole, but at most their number.
 fn group_order(whole: u32, text: Option<&str>, count: u32) -> Option<u32>
     ensures { result ≡ group_order whole (option_map (λ order. order.now) text.entry) count }
 {
@@ -191,15 +193,16 @@ fn group_order(whole: u32, text: Option<&str>, count: u32) -> Option<u32>
     }
 }
 
-// One more group of these members.
+// Adds a group of these members to the relations or to the sub-models of the demand; refused without
+// an order.
 fn add_group(
     line: u32,
     relation: bool,
-    mut demand: Demand,
+    demand: &mut Demand,
     members: NoList,
     order: Option<u32>,
-) -> Result<Demand, ModelFault>
-    ensures { Gives (add_group line relation demand members order) (λ next. next) result }
+) -> Result<(), ModelFault>
+    ensures { Gives (add_group line relation demand.old members order) (λ done. demand.new) result }
 {
     let Some(order) = order else {
         return Err(bad(line, DiagCode::BadGroupOrder));
@@ -207,23 +210,23 @@ fn add_group(
     let group = Group { order, members };
     if relation {
         demand.relations.push(group)?;
-        return Ok(demand);
+        return Ok(());
     }
     demand.subs.push(group)?;
-    Ok(demand)
+    Ok(())
 }
 
-// One more line.
+// Reads a group line into the demand.
 fn read_group(
     alloc: Global,
     opts: &ModelOpts,
     known: &NameSet,
-    demand: Demand,
+    demand: &mut Demand,
     line: NumLine<'_>,
-) -> Result<Demand, ModelFault>
+) -> Result<(), ModelFault>
     requires separator { opts.now.marks.separator < 128 }
     requires few { length known.now ≤ 256 }
-    ensures { Gives (read_group opts.now known.now demand (line_seen line.entry)) (λ next. next) result }
+    ensures { Gives (read_group opts.now known.now demand.old (line_seen line.entry)) (λ done. demand.new) result }
 {
     let group = match cut_group(line.text) {
         Ok(group) => group,
@@ -238,22 +241,22 @@ fn read_group(
     add_group(line.line, group.relation, demand, members, order)
 }
 
-// One more line, one after another.
+// Reads group lines into the demand, one after another.
 fn add_groups(
     alloc: Global,
     opts: &ModelOpts,
     known: &NameSet,
-    mut demand: Demand,
+    demand: &mut Demand,
     lines: &[NumLine<'_>],
-) -> Result<Demand, ModelFault>
+) -> Result<(), ModelFault>
     requires separator { opts.now.marks.separator < 128 }
     requires few { length known.now ≤ 256 }
-    ensures { Gives (and_each (read_group opts.now known.now) demand (map line_seen lines.now)) (λ next. next) result }
+    ensures { Gives (and_each (read_group opts.now known.now) demand.old (map line_seen lines.now)) (λ done. demand.new) result }
 {
     for line in lines {
-        demand = read_group(alloc, opts, known, demand, *line)?;
+        read_group(alloc, opts, known, demand, *line)?;
     }
-    Ok(demand)
+    Ok(())
 }
 
 /// The demand of all group lines, where the whole has this order and the parameters have these names.
@@ -268,10 +271,11 @@ pub(crate) fn read_groups(
     requires few { length known.now ≤ 256 }
     ensures { Gives (read_groups opts.now known.now order (map line_seen lines.now)) (λ next. next) result }
 {
-    let demand = Demand {
+    let mut demand = Demand {
         order,
         subs: OwnedList::new(alloc),
         relations: OwnedList::new(alloc),
     };
-    add_groups(alloc, opts, known, demand, lines)
+    add_groups(alloc, opts, known, &mut demand, lines)?;
+    Ok(demand)
 }

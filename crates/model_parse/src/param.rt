@@ -18,6 +18,7 @@ use crate::reading::{ParamsRead, Reading};
 use cov_model::{Param, ParamList, Value, ValueList};
 use model_lex::{DiagCode, LimitName, ModelFault, ModelOpts, NoteList, NumLine, trimmed};
 use std::alloc::Global;
+use std::mem;
 use value_text::{FixedAnswer, NoMemory, OwnedList, Text, read_fixed};
 
 // Why a parameter may not be called so, behind parameters with these names.
@@ -42,7 +43,7 @@ fn param_code(
     }
 }
 
-// The values of a list of values.
+// Reads the pieces of a list of values, one after another.
 fn add_pieces(
     alloc: Global,
     opts: &ModelOpts,
@@ -114,7 +115,7 @@ fn has_number(value: &Value) -> bool
     }
 }
 
-// One more parameter of this name with these values.
+// Adds a parameter of this name with these values, and its name to those that are known.
 fn push_param(
     alloc: Global,
     fold: bool,
@@ -138,65 +139,73 @@ fn push_param(
     })
 }
 
-// One more parameter of this name with the values that were read, unless these are too many. Gives the notes.
+// Adds a parameter of this name with the values of its line, unless these are too many. The notes
+// of the line hold those of the lines before.
 fn add_param(
     alloc: Global,
     fold: bool,
     line: u32,
     name: &str,
-    params: &mut ParamList,
-    known: &mut NameSet,
-    read: Reading,
-) -> Result<NoteList, ModelFault>
-    requires { is_known fold known.old name.now ≡ false }
-    ensures value { Gives (add_param fold line name.now params.old known.old read) (λ notes. record { params = params.new; known = known.new; notes = notes }) result }
-    ensures more { OnOk result (IsOneMore (length params.old) (length known.old) (length params.new) (length known.new)) }
+    read: &mut ParamsRead,
+    on_line: Reading,
+) -> Result<(), ModelFault>
+    requires { is_known fold read.old.known name.now ≡ false }
+    ensures value { Gives (add_param fold line name.now read.old.params read.old.known on_line) (λ done. read.new) result }
+    ensures more { OnOk result (IsOneMore (length read.old.params) (length read.old.known) (length read.new.params) (length read.new.known)) }
 {
     let Reading {
         values,
         notes,
         known: _,
-    } = read;
+    } = on_line;
     let count = values.len() as u64;
     if count > LimitName::Values.most() {
         return Err(ModelFault::Limit(LimitName::Values, count));
     }
-    push_param(alloc, fold, line, name, values, params, known)?;
-    Ok(notes)
+    push_param(
+        alloc,
+        fold,
+        line,
+        name,
+        values,
+        &mut read.params,
+        &mut read.known,
+    )?;
+    read.notes = notes;
+    Ok(())
 }
 
-// One more line, behind parameters with these names. Takes the notes so far, and gives them with those on the line.
+// Reads a parameter line behind what is read of the lines before it.
 fn read_param(
     alloc: Global,
     opts: &ModelOpts,
-    params: &mut ParamList,
-    known: &mut NameSet,
-    notes: NoteList,
+    read: &mut ParamsRead,
     line: NumLine<'_>,
-) -> Result<NoteList, ModelFault>
+) -> Result<(), ModelFault>
     requires separator { opts.now.marks.separator < 128 }
     requires alias { opts.now.marks.alias < 128 }
     requires prefix { opts.now.marks.prefix < 128 }
-    requires numbered { length known.old ≤ length params.old }
-    ensures value { Gives (read_param opts.now (record { params = params.old; known = known.old; notes = notes }) (line_seen line.entry))
-        (λ notes. record { params = params.new; known = known.new; notes = notes }) result }
-    ensures more { OnOk result (IsOneMore (length params.old) (length known.old) (length params.new) (length known.new)) }
+    requires numbered { length read.old.known ≤ length read.old.params }
+    ensures value { Gives (read_param opts.now read.old (line_seen line.entry)) (λ done. read.new) result }
+    ensures more { OnOk result (IsOneMore (length read.old.params) (length read.old.known) (length read.new.params) (length read.new.known)) }
 {
     let (name, list) = cut_colon(line.text);
     let name = trimmed(name);
-    if let Some(code) = param_code(alloc, known, name, opts.fold)? {
+    if let Some(code) = param_code(alloc, &read.known, name, opts.fold)? {
         return Err(bad(line.line, code));
     }
-    let read = read_values(
+    // The notes so far go along with the values of the line, and come back with them.
+    let notes = mem::replace(&mut read.notes, OwnedList::new(alloc));
+    let on_line = read_values(
         alloc,
         opts,
         line.line,
-        params.as_slice(),
-        known,
+        read.params.as_slice(),
+        &read.known,
         notes,
         list,
     )?;
-    add_param(alloc, opts.fold, line.line, name, params, known, read)
+    add_param(alloc, opts.fold, line.line, name, read, on_line)
 }
 
 // The parameters of these lines, one after another.
@@ -211,17 +220,15 @@ fn read_lines(
     ensures value { Gives (and_each (read_param opts.now) no_params (map line_seen lines.now)) (λ next. next) result }
     ensures count { IfOk result (λ read. Counts read (length lines.now)) }
 {
-    let mut params = OwnedList::new(alloc);
-    let mut known = NameSet::new(alloc);
-    let mut notes = OwnedList::new(alloc);
+    let mut read = ParamsRead {
+        params: OwnedList::new(alloc),
+        known: NameSet::new(alloc),
+        notes: OwnedList::new(alloc),
+    };
     for line in lines {
-        notes = read_param(alloc, opts, &mut params, &mut known, notes, *line)?;
+        read_param(alloc, opts, &mut read, *line)?;
     }
-    Ok(ParamsRead {
-        params,
-        known,
-        notes,
-    })
+    Ok(read)
 }
 
 /// The parameters of all parameter lines.

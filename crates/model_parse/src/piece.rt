@@ -170,7 +170,8 @@ fn keep_names(
     Ok(own)
 }
 
-// One more value of these names, unless none is kept.
+// Adds a value of these names without those that are known, unless none is left; refused where too
+// many are left.
 fn add_value(
     alloc: Global,
     fold: bool,
@@ -197,7 +198,7 @@ fn add_value(
     Ok(())
 }
 
-// One more value, copied.
+// Adds a copy of a value, as a reference asks for it: its names are kept or noted like written ones.
 fn add_copy(
     alloc: Global,
     fold: bool,
@@ -230,7 +231,7 @@ fn borrowed(alloc: Global, texts: &[Text]) -> Result<OwnedList<&str>, NoMemory>
     Ok(names)
 }
 
-// Copies of these values, one after another.
+// Adds copies of these values, one after another.
 fn add_copies(
     alloc: Global,
     fold: bool,
@@ -246,7 +247,7 @@ fn add_copies(
     Ok(())
 }
 
-// The value that a piece spells.
+// Adds the value that a piece spells.
 fn add_spelled(
     alloc: Global,
     opts: &ModelOpts,
@@ -301,7 +302,8 @@ fn referred(piece: &str) -> Option<&str>
     Some(trimmed(behind_mark(body, b'<')?))
 }
 
-/// One more piece of a parameter line, behind parameters with these names.
+/// Adds what a piece of a parameter line stands for, behind parameters with these names: one value, or
+/// copies of those of the parameter to which it refers.
 pub(crate) fn add_piece(
     alloc: Global,
     opts: &ModelOpts,

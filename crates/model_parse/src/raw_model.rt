@@ -110,7 +110,7 @@ pub fn parse_params(
 
 /// The parameters of a model read back: where a line is written for each, as `NAME: a | b (3), ~c, d`,
 /// reading these lines gives the parameters, and no note. Names may hold neither a separator nor an
-/// alias mark.
+/// alias mark, and each weight is from 1 to 4294967295: a value may have weight 0, but none is read.
 pub fn params_read_back()
     ensures { ParamsReadBack }
 {}

@@ -10,9 +10,9 @@ use Rattle.model_parse.proofs.group.add_groups.Goals as goal
 no_line : NumLine
 no_line = record { line = 0; text = record { ref_ptr = (0, 0); now = [] } }
 
-pub returns-in_err-demand : goal.returns-in_err-demand
+pub returns-in_err-read_group : goal.returns-in_err-read_group
 unfolding no_line
-returns-in_err-demand c =
-    gives_fault (λ demand. demand) _ c.from_residual.result c.in_err-demand.field-0.0 c.from_residual.ensures.1
-    (λ n. each_stops (read_group c.args.opts.now c.args.known.now) line_seen c.args.lines.now c.args.demand c.loop-line.line-index no_line c.loop-line.demand c.in_err-demand.field-0.0
-    c.loop-line-test.true c.loop-line.invariant (c.in_err-demand.ensures n))
+returns-in_err-read_group c =
+    gives_fault _ _ c.from_residual.result c.in_err-read_group.field-0.0 c.from_residual.ensures.1
+    (λ n. each_stops (read_group c.args.opts.now c.args.known.now) line_seen c.args.lines.now c.args.demand.now c.loop-line.line-index no_line c.loop-line.demand c.in_err-read_group.field-0.0
+    c.loop-line-test.true c.loop-line.invariant (c.in_err-read_group.ensures n))

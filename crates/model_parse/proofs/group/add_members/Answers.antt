@@ -11,5 +11,5 @@ pub loop-piece-preserved : goal.loop-piece-preserved
 unfolding no_text
 loop-piece-preserved c =
     each_next (add_member c.args.fold c.args.known.now c.args.line)
-    (λ (n : Bor (List ℕ)). n.now) c.args.pieces.now [] c.loop-piece.piece-index no_text c.loop-piece.members c.in_ok-members.members
-    c.loop-piece-test.true c.loop-piece.invariant c.in_ok-members.ensures
+    (λ (n : Bor (List ℕ)). n.now) c.args.pieces.now [] c.loop-piece.piece-index no_text c.loop-piece.members c.add_member.new.members
+    c.loop-piece-test.true c.loop-piece.invariant c.in_ok-add_member.ensures
