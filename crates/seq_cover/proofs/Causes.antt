@@ -6,9 +6,9 @@ use Rattle.outside_io.specs.Files.{Files}
 use Rattle.seq_check.specs.Events.{EventsView}
 use Rattle.seq_check.specs.EventFile.{events_of}
 use Rattle.seq_check.specs.declared.fault.EventsFault.{EventsFault}
-use Rattle.seq_cover.specs.Runs.{AreRead, Ends, HoldsReport, IsRead, IsReportRead, ReadsCalmly, Spells, answer_of, answers}
+use Rattle.seq_cover.specs.Runs.{AreRead, Ends, HoldsReport, IsRead, IsReportRead, ReadsCalmly, RoseOf, Spells, answer_of, answers}
 use Rattle.seq_cover.specs.Runs.{at_file, behind, cannot_read, is_refused, no_memory, no_report, not_read, too_long, wants_memory}
-use Rattle.seq_cover.specs.Steps.{CountsOut, Ran, RoseOf}
+use Rattle.seq_cover.specs.Steps.{CountsOut, Ran}
 use Rattle.seq_cover.specs.Stops.{end_status, ended_status, most_of, status_of, stop_of}
 use Rattle.seq_cover.specs.Words.{Asked}
 use Rattle.seq_cover.specs.declared.stop.Ended.{Ended}

@@ -1,6 +1,7 @@
 -- What is known of a run from how it ended.
-use Rattle.std.proofs.Common.{◌≡◌, ℕ, ◌<◌, ◌≤◌, List, length, Option, Some, None, Result, Ok, Err, inl, inr, refl, sym, ap, subst, ◌∙◌, arith}
+use Rattle.std.proofs.Common.{◌≡◌, ◌≢◌, ℕ, ◌<◌, ◌≤◌, List, length, Option, Some, None, Result, Ok, Err, inl, inr, refl, sym, ap, subst, ◌∙◌, arith}
 use Rattle.std.specs.Prelude.{IfSome, IsSomeAnd}
+use Rattle.outside_io.specs.Faults.{KeepsCounts}
 use Rattle.outside_io.specs.Files.{Files}
 use Rattle.outside_io.specs.Puts.{Puts}
 use Rattle.outside_io.specs.declared.answers.WriteAnswer.TheVariants.{Done}
@@ -13,8 +14,9 @@ use Rattle.seq_check.specs.declared.verdict.OrderVerdict.TheVariants.{Accepted, 
 use Rattle.seq_cover.specs.Covering.{IsAccepted}
 use Rattle.seq_cover.specs.OrderGrowth.{grown}
 use Rattle.seq_cover.specs.ReportText.{report_text}
-use Rattle.seq_cover.specs.Runs.{AreRead, Ends, HasVerdict, IsRead, IsReportRead, PrintsCovering, ReadFault, Spells, answer_of, answers, at_file, behind, ended_by}
-use Rattle.seq_cover.specs.Steps.{Ran, RoseOf}
+use Rattle.seq_cover.specs.Runs.{AreRead, Ends, HasVerdict, IsRead, IsReportRead, PrintsCovering, ReadFault, RoseOf, Spells, answer_of, answers}
+use Rattle.seq_cover.specs.Runs.{at_file, behind, ended_by}
+use Rattle.seq_cover.specs.Steps.{CountsOut, Ran}
 use Rattle.seq_cover.specs.Stops.{end_status, most_of}
 use Rattle.seq_cover.specs.Words.{Asked}
 use Rattle.seq_cover.specs.declared.stop.Ended.{Ended}
@@ -58,6 +60,16 @@ seven_is_end (Err (CannotRead input)) h = (input, refl)
 seven_is_end (Err CannotWrite) h = absurd (omega (arith, h))
 seven_is_end (Err (TooMany limit count)) h = absurd (omega (arith, h))
 seven_is_end (Err (TooLong input)) h = absurd (omega (arith, h))
+
+-- the count of faults of the output stays with every end but that of a write
+out_stays : (end : Result Ended Stop) (faults faults_after : ℕ) → end_status end ≢ 8 → CountsOut end faults faults_after → faults_after ≡ faults
+out_stays (Ok ended) faults faults_after apart counts = counts
+out_stays (Err OutOfMemory) faults faults_after apart counts = counts
+out_stays (Err (stops.BadLine line code)) faults faults_after apart counts = counts
+out_stays (Err (CannotRead input)) faults faults_after apart counts = counts
+out_stays (Err CannotWrite) faults faults_after apart counts = absurd (apart refl)
+out_stays (Err (TooMany limit count)) faults faults_after apart counts = counts
+out_stays (Err (TooLong input)) faults faults_after apart counts = counts
 
 -- ---- a run ended for what is asked
 
@@ -188,3 +200,10 @@ module _ {asked : Asked} {files : Files} {reads reads_after : List ℕ → ℕ} 
       of : (input : Input) → RoseOf asked input reads reads_after → ReadFault asked reads reads_after
       of EventFile rose = inl rose
       of ReportFile rose = inr rose
+
+  -- or none did
+  pub calm_end : status ≢ 7 → KeepsCounts reads reads_after
+  calm_end apart = ran.calm (λ input failed. apart (is ∙ ap end_status failed))
+
+  pub unbroken_end : status ≢ 8 → faults_after ≡ faults
+  unbroken_end apart = out_stays end faults faults_after (λ eight. apart (is ∙ eight)) ran.counts

@@ -1,5 +1,5 @@
 -- Why a step of a run stops, by what it was handed.
-use Rattle.std.proofs.Common.{◌≡◌, ℕ, List, Option, Some, None, Result, Ok, Err, inl, inr, ◌⊎◌, refl, sym, subst, ◌∙◌, ◌<◌, length}
+use Rattle.std.proofs.Common.{◌≡◌, ◌≢◌, ℕ, List, Option, Some, None, Result, Ok, Err, inl, inr, ◌⊎◌, refl, sym, ap, subst, ◌∙◌, ◌<◌, length}
 use Rattle.std.specs.Prelude.{IfErr, IfSome, IsErrAnd, IsSomeAnd}
 use Rattle.outside_io.specs.Faults.{KeepsCounts, Rose}
 use Rattle.outside_io.specs.Files.{Files, KeepsFiles}
@@ -10,8 +10,9 @@ use Rattle.seq_check.specs.EventFile.{events_of}
 use Rattle.seq_check.specs.Reading.{Reads}
 use Rattle.seq_check.specs.declared.fault.EventsFault.{EventsFault}
 use Rattle.seq_check.specs.declared.fault.EventsFault.TheVariants.{Bad, TooMany, NoMemory}
-use Rattle.seq_cover.specs.Runs.{AreRead, IsRead, IsReportRead, StopsAtFile, StopsBehind, StopsReading, answers, behind, cannot_read, is_refused, no_memory, no_report, too_long, wants_memory}
-use Rattle.seq_cover.specs.Steps.{CountsOut, IsAnswer, Ran, RoseOf}
+use Rattle.seq_cover.specs.Runs.{AreRead, IsRead, IsReportRead, RoseOf, StopsAtFile, StopsBehind, StopsReading, answers, behind, cannot_read}
+use Rattle.seq_cover.specs.Runs.{is_refused, no_memory, no_report, too_long, wants_memory}
+use Rattle.seq_cover.specs.Steps.{CountsOut, IsAnswer, Ran}
 use Rattle.seq_cover.specs.Stops.{most_of, stop_of}
 use Rattle.seq_cover.specs.Words.{Asked}
 use Rattle.seq_cover.specs.declared.stop.Ended.{Ended}
@@ -63,15 +64,20 @@ module _ (old new : Files) (keeps : KeepsFiles old new) where
 -- ---- the ends of a run whose events are read
 
 module _ (asked : Asked) (files later : Files) (keeps : KeepsFiles files later) (e : EventsView)
-    (read : AreRead asked files e) (reads reads_after : List ℕ → ℕ) (before after : Option (List ℕ))
+    (read : AreRead asked files e) (reads middle reads_after : List ℕ → ℕ) (stay : KeepsCounts reads middle) (before after : Option (List ℕ))
     (faults faults_after : ℕ) where
+  stays : KeepsCounts middle reads_after → KeepsCounts reads reads_after
+  stays later_stay = λ name. later_stay name ∙ stay name
+
   -- the report that is checked isn't read
-  pub ran_behind : (middle : List ℕ → ℕ) (end : Result Ended Stop) (stop : Stop) → IsErrAnd end (λ s. s ≡ stop) → StopsBehind asked later stop → KeepsCounts reads middle
-      → (stop ≡ CannotRead ReportFile → IsSomeAnd asked.report (λ name. Rose (middle name) (reads_after name))) → Ran asked files reads reads_after before before faults faults end
-  ran_behind middle end stop same stops stay rose = let is = is_err same in record {
+  pub ran_behind : (end : Result Ended Stop) (stop : Stop) → IsErrAnd end (λ s. s ≡ stop) → StopsBehind asked later stop
+      → (stop ≡ CannotRead ReportFile → IsSomeAnd asked.report (λ name. Rose (middle name) (reads_after name)))
+      → (stop ≢ CannotRead ReportFile → KeepsCounts middle reads_after) → Ran asked files reads reads_after before before faults faults end
+  ran_behind end stop same stops rose calm = let is = is_err same in record {
     ends = behind e read (subst (λ r. IsErrAnd r (StopsBehind asked files)) (sym is) (behind_before files later keeps asked stop stops)) refl;
     rose = λ input failed. of input (one_err is failed) stops;
-    counts = subst (λ r. CountsOut r faults faults) (sym is) (calm stop stops);
+    calm = λ other. stays (calm (λ failed. other ReportFile (is ∙ ap Err failed)));
+    counts = subst (λ r. CountsOut r faults faults) (sym is) (unwritten stop stops);
   }
     where
       risen : (name : Option (List ℕ)) → IsSomeAnd name (λ n. Rose (middle n) (reads_after n)) → IsSomeAnd name (λ n. Rose (reads n) (reads_after n))
@@ -84,18 +90,19 @@ module _ (asked : Asked) (files later : Files) (keeps : KeepsFiles files later) 
       of EventFile same (no_report name checked (cannot_read it)) = absurd (cc)
       of EventFile same (no_report name checked (too_long it long)) = absurd (cc)
 
-      calm : (s : Stop) → StopsBehind asked later s → CountsOut (Err s) faults faults
-      calm s (no_memory it) = subst (λ t. CountsOut (Err t) faults faults) (sym it) refl
-      calm s (no_report name checked (cannot_read it)) = subst (λ t. CountsOut (Err t) faults faults) (sym it) refl
-      calm s (no_report name checked (too_long it long)) = subst (λ t. CountsOut (Err t) faults faults) (sym it) refl
+      unwritten : (s : Stop) → StopsBehind asked later s → CountsOut (Err s) faults faults
+      unwritten s (no_memory it) = subst (λ t. CountsOut (Err t) faults faults) (sym it) refl
+      unwritten s (no_report name checked (cannot_read it)) = subst (λ t. CountsOut (Err t) faults faults) (sym it) refl
+      unwritten s (no_report name checked (too_long it long)) = subst (λ t. CountsOut (Err t) faults faults) (sym it) refl
 
-  module _ (text put : List ℕ) (ended : Ended) (answer : IsAnswer asked later e text ended) (same : put ≡ text) where
+  module _ (later_stay : KeepsCounts middle reads_after) (text put : List ℕ) (ended : Ended) (answer : IsAnswer asked later e text ended) (same : put ≡ text) where
     -- the text was written whole
     pub ran_whole : Puts Done before after put → CountsFaults Done faults faults_after → Ran asked files reads reads_after before after faults faults_after (Ok ended)
-    ran_whole puts stays = record {
+    ran_whole puts stands = record {
       ends = answers e answer.report read (report_before files later keeps asked.report answer.report answer.read) (answer.ended_is, subst (Puts Done before after) (same ∙ answer.text_is) puts);
       rose = λ input failed. absurd (cc);
-      counts = stays;
+      calm = λ other. stays later_stay;
+      counts = stands;
     }
 
     -- or not
@@ -103,5 +110,6 @@ module _ (asked : Asked) (files later : Files) (keeps : KeepsFiles files later) 
     ran_failed puts rises = record {
       ends = answers e answer.report read (report_before files later keeps asked.report answer.report answer.read) (refl, subst (Puts Failed before after) (same ∙ answer.text_is) puts);
       rose = λ input failed. absurd (cc);
+      calm = λ other. stays later_stay;
       counts = rises.0;
     }

@@ -91,10 +91,18 @@ pub data Ends (asked : Asked) (files : Files) (before after : Option (List ℕ))
       (e : EventsView) (report : Option (List ℕ)) → AreRead asked files e → IsReportRead files asked.report report
       → Writes (answer_of e report) before after end → Ends asked files before after end
 
--- a run on what words ask for: what it printed, what it told, and its status
-pub record IsRun (asked : Asked) (files : Files) (before after told_before told_after : Option (List ℕ)) (faults faults_after status : ℕ) : Type 0 where
+-- the count of faults of reading a file rose
+abbrev pub RoseOf : Asked → Input → (List ℕ → ℕ) → (List ℕ → ℕ) → Type 0
+RoseOf asked EventFile reads reads_after = Rose (reads asked.file) (reads_after asked.file)
+RoseOf asked ReportFile reads reads_after = IsSomeAnd asked.report (λ name. Rose (reads name) (reads_after name))
+
+-- a run on what words ask for: what it printed, which count of faults of reading rose where it blames a file, what it
+-- told, and its status
+pub record IsRun (asked : Asked) (files : Files) (reads reads_after : List ℕ → ℕ) (before after told_before told_after : Option (List ℕ))
+    (faults faults_after status : ℕ) : Type 0 where
   pub end : Result Ended Stop
   pub ends : Ends asked files before after end
+  pub rose : (input : Input) → end ≡ Err (CannotRead input) → RoseOf asked input reads reads_after
   pub told : Tells told_before told_after faults faults_after (end_text asked end)
   pub ended : status ≡ end_status end
 

@@ -1,13 +1,12 @@
 -- What the steps of a run of `pictseq` say of each other. (This project's rules.)
-use Rattle.std.specs.Prelude.{◌≡◌, ℕ, List, Option, Result, Err, IsSomeAnd}
-use Rattle.outside_io.specs.Faults.{Rose}
+use Rattle.std.specs.Prelude.{◌≡◌, ◌≢◌, ℕ, List, Option, Result, Err}
+use Rattle.outside_io.specs.Faults.{KeepsCounts, Rose}
 use Rattle.outside_io.specs.Files.{Files}
 use Rattle.seq_check.specs.Events.{EventsView}
-use Rattle.seq_cover.specs.Runs.{Ends, IsReportRead, answer_of}
+use Rattle.seq_cover.specs.Runs.{Ends, IsReportRead, RoseOf, answer_of}
 use Rattle.seq_cover.specs.Words.{Asked}
 use Rattle.seq_cover.specs.declared.stop.Ended.{Ended}
 use Rattle.seq_cover.specs.declared.stop.Input.{Input}
-use Rattle.seq_cover.specs.declared.stop.Input.TheVariants.{EventFile, ReportFile}
 use Rattle.seq_cover.specs.declared.stop.Stop.{Stop}
 use Rattle.seq_cover.specs.declared.stop.Stop.TheVariants.{CannotRead, CannotWrite}
 
@@ -23,14 +22,10 @@ abbrev pub CountsOut : Result Ended Stop → ℕ → ℕ → Type 0
 CountsOut (Err CannotWrite) before after = Rose before after
 CountsOut end before after = after ≡ before
 
--- the count of faults of reading a file rose
-abbrev pub RoseOf : Asked → Input → (List ℕ → ℕ) → (List ℕ → ℕ) → Type 0
-RoseOf asked EventFile reads reads_after = Rose (reads asked.file) (reads_after asked.file)
-RoseOf asked ReportFile reads reads_after = IsSomeAnd asked.report (λ name. Rose (reads name) (reads_after name))
-
 -- a run ended so, where the folder had these files and counts of faults of reading
 pub record Ran (asked : Asked) (files : Files) (reads reads_after : List ℕ → ℕ) (before after : Option (List ℕ)) (faults faults_after : ℕ)
     (end : Result Ended Stop) : Type 0 where
   pub ends : Ends asked files before after end
   pub rose : (input : Input) → end ≡ Err (CannotRead input) → RoseOf asked input reads reads_after
+  pub calm : ((input : Input) → end ≢ Err (CannotRead input)) → KeepsCounts reads reads_after
   pub counts : CountsOut end faults faults_after

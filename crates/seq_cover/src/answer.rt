@@ -76,6 +76,7 @@ pub(crate) fn make_answer<F: Folder>(
     ensures stops { IfErr result (StopsBehind (asked_seen command.now) (F.file files.old)) }
     ensures rose { result ≡ Err (Stop.CannotRead Input.ReportFile) →
         IsSomeAnd (asked_seen command.now).report (λ name. Rose (F.read_faults files.old name) (F.read_faults files.new name)) }
+    ensures no_fault { result ≢ Err (Stop.CannotRead Input.ReportFile) → KeepsCounts (F.read_faults files.old) (F.read_faults files.new) }
     ensures files { KeepsFiles (F.file files.old) (F.file files.new) }
     ensures write_faults { KeepsCounts (F.write_faults files.old) (F.write_faults files.new) }
 {

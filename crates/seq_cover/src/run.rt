@@ -76,9 +76,9 @@ pub fn run_seq<F: Folder, O: Sink, E: Sink>(
         F.file files.old name ≡ Some report → HasVerdict asked.len held report (λ verdict. ¬ IsAccepted verdict)) }
 
     // What a run does: how it ends on what the folder tells of its files, what `out` and `diag` get then, and its
-    // status. Premise: the words ask for this.
+    // status. And where it blames a file, the count of faults of reading that one rose. Premise: the words ask for this.
     ensures run { (asked : Asked) → asked_by (texts words.now) ≡ Ok asked → IsRun asked (F.file files.old)
-        (O.written out.old) (O.written out.new) (E.written diag.old) (E.written diag.new) (E.faults diag.old) (E.faults diag.new) result }
+        (F.read_faults files.old) (F.read_faults files.new) (O.written out.old) (O.written out.new) (E.written diag.old) (E.written diag.new) (E.faults diag.old) (E.faults diag.new) result }
 
     // Words that have no reading. Premise: the first that has none is told by this index. With words that have a
     // reading the status is another.
@@ -111,13 +111,15 @@ pub fn run_seq<F: Folder, O: Sink, E: Sink>(
         (result ≡ 7) ⊎ (result ≡ 1) }
 
     // Without such premises: with a status but 0, 8 and 10 `out` gets nothing, and with 0 and 10 `diag` gets nothing.
-    ensures nothing { result ≢ 0 → result ≢ 8 → result ≢ 10 → (O.written out.new ≡ O.written out.old) × (O.faults out.new ≡ O.faults out.old) }
+    ensures nothing { result ≢ 0 → result ≢ 8 → result ≢ 10 → O.written out.new ≡ O.written out.old }
     ensures quiet { (result ≡ 0) ⊎ (result ≡ 10) → (E.written diag.new ≡ E.written diag.old) × (E.faults diag.new ≡ E.faults diag.old) }
 
     // 7 comes only where the folder's count of faults of reading one of the files rose, 8 only where that of `out` did,
-    // and no status comes but those named above.
+    // no other status changes these counts, and no status comes but those named above.
     ensures read { result ≡ 7 → (asked : Asked) → asked_by (texts words.now) ≡ Ok asked → ReadFault asked (F.read_faults files.old) (F.read_faults files.new) }
     ensures write { result ≡ 8 → Rose (O.faults out.old) (O.faults out.new) }
+    ensures no_read_fault { result ≢ 7 → KeepsCounts (F.read_faults files.old) (F.read_faults files.new) }
+    ensures no_fault { result ≢ 8 → O.faults out.new ≡ O.faults out.old }
     ensures statuses { IsStatus result }
 
     // No told name changes, none becomes told or untold, and no count of faults of writing changes.

@@ -1,7 +1,7 @@
 use Rattle.std.proofs.Common.{subst}
 use Rattle.seq_cover.specs.Stops.{Tells, end_text}
 use Rattle.seq_cover.proofs.Causes.{complete_end, long_end, refused_end, report_long_end}
-use Rattle.seq_cover.proofs.RunEnds.{accepts_end, covers_end, ran_asked, read_end, refuses_end}
+use Rattle.seq_cover.proofs.RunEnds.{accepts_end, calm_end, covers_end, ran_asked, read_end, refuses_end, unbroken_end}
 use Rattle.seq_cover.proofs.run.run_seq.Goals as goal
 use Rattle.value_text.proofs.ListLemmas.{one_ok}
 
@@ -21,6 +21,7 @@ pub returns-clause-run : goal.returns-clause-run
 returns-clause-run g c = λ asked words. record {
   end = c.run-end.result;
   ends = (ran_asked c.in-Ok.ensures words c.run-end.ensures.ran).ends;
+  rose = (ran_asked c.in-Ok.ensures words c.run-end.ensures.ran).rose;
   told =
       subst (λ a. Tells (g.E.Sink.written c.args.diag.now) (g.E.Sink.written c.tell.new.diag) (g.E.Sink.faults c.args.diag.now) (g.E.Sink.faults c.tell.new.diag) (end_text a c.run-end.result))
       (one_ok c.in-Ok.ensures words) c.tell.ensures.told;
@@ -46,3 +47,9 @@ returns-clause-report_too_long g c = λ asked held e name report words at spells
 pub returns-clause-read : goal.returns-clause-read
 returns-clause-read g c = λ seven asked words.
     read_end (ran_asked c.in-Ok.ensures words c.run-end.ensures.ran) c.tell.result c.tell.ensures.status seven
+
+pub returns-clause-no_read_fault : goal.returns-clause-no_read_fault
+returns-clause-no_read_fault g c = calm_end c.run-end.ensures.ran c.tell.result c.tell.ensures.status
+
+pub returns-clause-no_fault : goal.returns-clause-no_fault
+returns-clause-no_fault g c = unbroken_end c.run-end.ensures.ran c.tell.result c.tell.ensures.status
