@@ -53,7 +53,7 @@ impl KeptTree {
         ensures ok { OnOk result (self.new ≡ record { known = true; cells = cells.now; tree = tree.now }) }
         ensures err { OnErr result (self.new ≡ self.old) }
     {
-        let again = tree.again(alloc)?;
+        let again = tree.copy(alloc)?;
         self.cells.copy_from(cells);
         self.tree = again;
         self.known = true;

@@ -110,7 +110,7 @@ impl<'t> Refuter<'t> {
             return Err(RefuteFault::Spent);
         }
         if !fails && self.can_reuse(cells, kept) {
-            return Ok(kept.tree.again(alloc)?);
+            return Ok(kept.tree.copy(alloc)?);
         }
         Ok(self.make_tree(alloc, fails, cells, sets, kept)?)
     }

@@ -77,7 +77,7 @@ pub returns-then-can_reuse : goal.returns-then-can_reuse
 returns-then-can_reuse c =
     let r = c.args.self.now in
     record {
-      tree = subst (IsTreeFor r) (sym c.in_ok-again.ensures) (c.can_reuse.ensures c.if-can_reuse.true);
+      tree = subst (IsTreeFor r) (sym c.in_ok-copy.ensures) (c.can_reuse.ensures c.if-can_reuse.true);
       within = (search_ends r c.tree.result.now c.begin.new.cells c.args.budget c.search_from.result c.tree.ensures c.begin.ensures
           c.search_from.ensures.answer c.requires.unfound).within c.in_default.not-Spent;
       spent = λ spent. cc;
