@@ -2,7 +2,7 @@ pub mod Omitting
 pub mod Beginning
 pub mod Slicing
 pub mod OfSlice
-pub mod Sorting
+pub mod Splitting
 pub mod Seeding
 pub mod SliceSteps
 pub mod Spending

@@ -16,8 +16,9 @@ use std::thread::Threads;
 use uncovered_table::Uncovered;
 
 // Fills the cell of the partial row at a place in a column, if it has no value there: of the values
-// that leave it extendable, it gets the one of the greatest gain, and among these the first in
-// preference order. What it then contains is closed. The scores are lost. The room is for the row.
+// with a gain that leave it extendable, it gets the one of the greatest gain, and among these the
+// first in preference order. Where there is none, the cell stays empty, so that vertical growth can
+// use it. What the row then contains is closed. The scores are lost. The room is for the row.
 pub(crate) fn fill_cell<R: Threads + Sync, G: Gate + Sync>(
     workers: &Workers<'_, R, G>,
     table: &mut Uncovered,

@@ -14,7 +14,7 @@ ghost use Rattle.feasibility.specs.Ends.{Ends};
 ghost use Rattle.ipog_grow.specs.Suites.{IsSuiteOf};
 
 use crate::input::GrowInput;
-use crate::seeds::sort_seeds;
+use crate::seeds::split_seeds;
 use crate::slice_suite::grow_slice;
 use crate::slices::slices_of;
 use crate::suite::{GrowOpts, Suite};
@@ -90,7 +90,7 @@ pub fn generate<R: Threads + Sync, G: Gate + Sync>(
         count: opts.workers,
         gate,
     };
-    let sorted = sort_seeds(alloc, model, prefs, seeds, opts.budget)?;
+    let split = split_seeds(alloc, model, prefs, seeds, opts.budget)?;
     let Ok(slices) = slices_of(alloc, model) else {
         return Err(SearchFault::NoMemory);
     };
@@ -104,7 +104,7 @@ pub fn generate<R: Threads + Sync, G: Gate + Sync>(
         model,
         plan,
         prefs,
-        kept: &sorted.kept,
+        kept: &split.kept,
         budget: opts.budget,
         proof: opts.proof,
     };
@@ -116,11 +116,11 @@ pub fn generate<R: Threads + Sync, G: Gate + Sync>(
         &mut rows,
         &mut omitted,
     )?;
-    let kept = sorted.kept.len() as u32;
+    let kept = split.kept.len() as u32;
     Ok(Suite {
         rows,
         omitted,
         kept,
-        dropped: sorted.dropped,
+        dropped: split.dropped,
     })
 }

@@ -14,18 +14,23 @@ use outside_io::Gate;
 use std::thread::Threads;
 use uncovered_table::Uncovered;
 
-// Lets complete sets leave before every 32nd row. Not before each, since it looks at all that are ready.
+// Complete sets leave before each row whose place is a multiple of this, and not before each row,
+// since all sets in play are looked at then.
+const ROWS_BETWEEN: usize = 32;
+
+// Lets complete sets leave before every 32nd row.
 fn leave_at_times(table: &mut Uncovered, column: ParamNo, i: usize)
     requires { column < length table.old.model.params }
     ensures { table.new ≡ table.old }
 {
-    if i % 32 == 0 {
+    if i % ROWS_BETWEEN == 0 {
         table.leave_complete(column);
     }
 }
 
-// Horizontal growth of a column: each partial row in order gets its best value there. The open tuples
-// in play are those that no row contains, before and after. The room is for a partial row.
+// Horizontal growth of a column: each partial row in order gets the value there that covers most, or
+// none where no value would cover anything. The open tuples in play are those that no row contains,
+// before and after. The room is for a partial row.
 pub(crate) fn grow_horizontally<R: Threads + Sync, G: Gate + Sync>(
     workers: &Workers<'_, R, G>,
     table: &mut Uncovered,

@@ -23,9 +23,9 @@ use row_text::{FileRow, FileRowList, RowFile};
 use std::alloc::Global;
 use value_text::NoMemory;
 
-// The seed rows that are kept, and the lines of those that aren't.
+// The seed rows, split: those that are kept, and the lines of those that aren't.
 #[derive(Drop)]
-pub(crate) struct SortedSeeds {
+pub(crate) struct SplitSeeds {
     pub(crate) kept: Rows,
     pub(crate) dropped: LineList,
 }
@@ -200,72 +200,72 @@ fn place_seed<'a>(
     seed: &FileRow,
     budget: u64,
     last: &mut Option<SeedSolver<'a>>,
-    sorted: &mut SortedSeeds,
+    split: &mut SplitSeeds,
 ) -> Result<(), SearchFault>
     requires fits { FitsModel model.now seed.now.cells }
     requires orders { OrdersValues model.now prefs.now }
     requires last { IfSome last.old (IsSolverFor model.now prefs.now) }
-    requires long { All (λ row. length row ≡ length model.now.params) sorted.old.kept }
+    requires long { All (λ row. length row ≡ length model.now.params) split.old.kept }
     ensures last { IfSome last.new (IsSolverFor model.now prefs.now) }
-    ensures kept { OnOk result (sorted.new.kept ≡ sorted.old.kept ++ filter (can_be_served model.now) (seed.now.cells ∷ [])) }
-    ensures dropped { OnOk result (sorted.new.dropped ≡ sorted.old.dropped ++ (if can_be_served model.now seed.now.cells then [] else seed.now.line ∷ [])) }
+    ensures kept { OnOk result (split.new.kept ≡ split.old.kept ++ filter (can_be_served model.now) (seed.now.cells ∷ [])) }
+    ensures dropped { OnOk result (split.new.dropped ≡ split.old.dropped ++ (if can_be_served model.now seed.now.cells then [] else seed.now.line ∷ [])) }
     ensures asked { Ends result (first_over model.now prefs.now budget (filter (has_slice model.now) (seed.now.cells ∷ []))) }
 {
     if !is_kept(alloc, model, prefs, &seed.cells, budget, last)? {
-        return match sorted.dropped.push(seed.line) {
+        return match split.dropped.push(seed.line) {
             Ok(()) => Ok(()),
             Err(_) => Err(SearchFault::NoMemory),
         };
     }
-    match sorted.kept.push(seed.cells.as_slice()) {
+    match split.kept.push(seed.cells.as_slice()) {
         Ok(()) => Ok(()),
         Err(_) => Err(SearchFault::NoMemory),
     }
 }
 
 // Asks of each of these seed rows, in order, whether it is kept.
-fn sort_each(
+fn split_each(
     alloc: Global,
     model: &TestModel,
     prefs: &Prefs,
     seeds: &[FileRow],
     budget: u64,
-) -> Result<SortedSeeds, SearchFault>
+) -> Result<SplitSeeds, SearchFault>
     requires fits { All (λ seed. FitsModel model.now seed.cells) seeds.now }
     requires orders { OrdersValues model.now prefs.now }
-    ensures kept { IfOk result (λ sorted. sorted.kept ≡ filter (can_be_served model.now) (map (λ seed. seed.1) (map row_seen seeds.now))) }
-    ensures dropped { IfOk result (λ sorted. sorted.dropped ≡ map (λ seed. seed.0) (filter (λ seed. not (can_be_served model.now seed.1)) (map row_seen seeds.now))) }
+    ensures kept { IfOk result (λ split. split.kept ≡ filter (can_be_served model.now) (map (λ seed. seed.1) (map row_seen seeds.now))) }
+    ensures dropped { IfOk result (λ split. split.dropped ≡ map (λ seed. seed.0) (filter (λ seed. not (can_be_served model.now seed.1)) (map row_seen seeds.now))) }
     ensures asked { Ends result (first_over model.now prefs.now budget (filter (has_slice model.now) (map (λ seed. seed.1) (map row_seen seeds.now)))) }
 {
-    let mut sorted = SortedSeeds {
+    let mut split = SplitSeeds {
         kept: Rows::new(alloc),
         dropped: LineList::new(alloc),
     };
     let mut last = None;
     for seed in seeds {
-        place_seed(alloc, model, prefs, seed, budget, &mut last, &mut sorted)?;
+        place_seed(alloc, model, prefs, seed, budget, &mut last, &mut split)?;
     }
-    Ok(sorted)
+    Ok(split)
 }
 
 // Asks of each seed row of a file that counts, in order, whether it is kept.
-pub(crate) fn sort_seeds(
+pub(crate) fn split_seeds(
     alloc: Global,
     model: &TestModel,
     prefs: &Prefs,
     seeds: &RowFile,
     budget: u64,
-) -> Result<SortedSeeds, SearchFault>
+) -> Result<SplitSeeds, SearchFault>
     requires fits { All (λ seed. FitsModel model.now seed.cells) seeds.now.rows }
     requires orders { OrdersValues model.now prefs.now }
-    ensures kept { IfOk result (λ sorted. sorted.kept ≡ kept_seeds model.now (seeds_seen seeds.now)) }
-    ensures dropped { IfOk result (λ sorted. sorted.dropped ≡ dropped_lines model.now (seeds_seen seeds.now)) }
+    ensures kept { IfOk result (λ split. split.kept ≡ kept_seeds model.now (seeds_seen seeds.now)) }
+    ensures dropped { IfOk result (λ split. split.dropped ≡ dropped_lines model.now (seeds_seen seeds.now)) }
     ensures asked { Ends result (first_over model.now prefs.now budget (asked_seeds model.now (seeds_seen seeds.now))) }
 {
     let Ok(distinct) = distinct_seeds(alloc, model, seeds.rows.as_slice()) else {
         return Err(SearchFault::NoMemory);
     };
-    sort_each(alloc, model, prefs, distinct.as_slice(), budget)
+    split_each(alloc, model, prefs, distinct.as_slice(), budget)
 }
 
 // Copies of the kept seeds of a slice, in order.

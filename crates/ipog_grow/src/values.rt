@@ -13,7 +13,7 @@ use cov_model::{Cells, ParamNo, ValueNo};
 use std::alloc::Global;
 use value_text::NoMemory;
 
-// A score of 0 for each of these many values.
+// Room for the scores of these many values, which begin as 0.
 pub(crate) fn no_scores(alloc: Global, count: usize) -> Result<Vec<u32>, NoMemory>
     ensures { IfOk result (λ scores. length scores.items ≡ count) }
 {
@@ -53,8 +53,8 @@ fn best_value(order: &[ValueNo], scores: &[u32]) -> Option<ValueNo>
     None
 }
 
-// Gives a row, which has no value in the column, the first value by falling score that leaves it
-// extendable; this value, if there is one. The scores are lost.
+// Gives a row, which has no value in the column, the first value by falling score, of those with a
+// score above 0, that leaves it extendable; this value, if there is one. The scores are lost.
 pub(crate) fn try_values(
     asker: &mut Asker,
     order: &[ValueNo],

@@ -11,7 +11,7 @@ use Rattle.ipog_grow.specs.Inputs.{context_in}
 use Rattle.ipog_grow.specs.Omissions.{met_count}
 use Rattle.ipog_grow.specs.SliceGrowing.{grown_from}
 use Rattle.ipog_grow.proofs.Slicing.{SlicesGrown, slices_grown-next, slices_grown-spent}
-use Rattle.ipog_grow.proofs.Sorting.{split_at, ends-by}
+use Rattle.ipog_grow.proofs.Splitting.{split_at, ends-by}
 use Rattle.ipog_grow.proofs.generating.grow_slices.Goals as goal
 
 pub returns-in_err-grow_slice-clause-asked : goal.returns-in_err-grow_slice-clause-asked

@@ -34,8 +34,8 @@ module _ (m : ModelView) (pref : List (List ℕ)) (budget : ℕ) where
   abbrev over : List (Option ℕ) → Bool
   over cells = nat_lt budget (question_cost m pref cells)
 
-  -- the seeds are sorted, and no question of theirs exceeded the budget
-  pub record Sorted (seeds : List (ℕ × List (Option ℕ))) (kept : List (List (Option ℕ))) (dropped : List ℕ) : Type 0 where
+  -- the seeds are split, and no question of theirs exceeded the budget
+  pub record Split (seeds : List (ℕ × List (Option ℕ))) (kept : List (List (Option ℕ))) (dropped : List ℕ) : Type 0 where
     pub kept_are : kept ≡ filter (can_be_served m) (map (λ seed. seed.1) seeds)
     pub dropped_are : dropped ≡ map (λ seed. seed.0) (filter (λ seed. not (can_be_served m seed.1)) seeds)
     pub unspent : first_over m pref budget (filter (has_slice m) (map (λ seed. seed.1) seeds)) ≡ None
@@ -44,18 +44,18 @@ module _ (m : ModelView) (pref : List (List ℕ)) (budget : ℕ) where
   asks-append seeds more =
       ap (filter (has_slice m)) (map-append (λ seed. seed.1) seeds more) ∙ filter-append (has_slice m) (map (λ seed. seed.1) seeds) (map (λ seed. seed.1) more)
 
-  pub sorted-next : (seeds : List (ℕ × List (Option ℕ))) (x : ℕ × List (Option ℕ)) (kept kept' : List (List (Option ℕ))) (dropped dropped' : List ℕ)
-      → Sorted seeds kept dropped
+  pub split-next : (seeds : List (ℕ × List (Option ℕ))) (x : ℕ × List (Option ℕ)) (kept kept' : List (List (Option ℕ))) (dropped dropped' : List ℕ)
+      → Split seeds kept dropped
       → kept' ≡ kept ++ filter (can_be_served m) (x.1 ∷ []) → dropped' ≡ dropped ++ cond (can_be_served m x.1) [] (x.0 ∷ [])
-      → first_over m pref budget (filter (has_slice m) (x.1 ∷ [])) ≡ None → Sorted (seeds ++ x ∷ []) kept' dropped'
-  sorted-next seeds x kept kept' dropped dropped' sorted keeps drops unspent = record {
-    kept_are = keeps ∙ ap (λ ks. ks ++ filter (can_be_served m) (x.1 ∷ [])) sorted.kept_are
+      → first_over m pref budget (filter (has_slice m) (x.1 ∷ [])) ≡ None → Split (seeds ++ x ∷ []) kept' dropped'
+  split-next seeds x kept kept' dropped dropped' split keeps drops unspent = record {
+    kept_are = keeps ∙ ap (λ ks. ks ++ filter (can_be_served m) (x.1 ∷ [])) split.kept_are
         ∙ sym (filter-append (can_be_served m) (map (λ seed. seed.1) seeds) (x.1 ∷ []))
         ∙ ap (filter (can_be_served m)) (sym (map-append (λ seed. seed.1) seeds (x ∷ [])));
-    dropped_are = drops ∙ ap (λ ks. ks ++ cond (can_be_served m x.1) [] (x.0 ∷ [])) sorted.dropped_are
+    dropped_are = drops ∙ ap (λ ks. ks ++ cond (can_be_served m x.1) [] (x.0 ∷ [])) split.dropped_are
         ∙ ap (λ ks. map line (filter drop_it seeds) ++ ks) (at (can_be_served m x.1)) ∙ sym (map-append line (filter drop_it seeds) (filter drop_it (x ∷ [])))
         ∙ ap (map line) (sym (filter-append drop_it seeds (x ∷ [])));
-    unspent = ap (find over) (asks-append seeds (x ∷ [])) ∙ find-later over (asks seeds) (asks (x ∷ [])) sorted.unspent ∙ unspent;
+    unspent = ap (find over) (asks-append seeds (x ∷ [])) ∙ find-later over (asks seeds) (asks (x ∷ [])) split.unspent ∙ unspent;
   }
     where
       line : ℕ × List (Option ℕ) → ℕ
@@ -68,10 +68,10 @@ module _ (m : ModelView) (pref : List (List ℕ)) (budget : ℕ) where
       at true = refl
       at false = refl
 
-  pub sorted-spent : (seeds : List (ℕ × List (Option ℕ))) (x : ℕ × List (Option ℕ)) (rest : List (ℕ × List (Option ℕ))) (kept : List (List (Option ℕ)))
-      (dropped : List ℕ) → Sorted seeds kept dropped
+  pub split-spent : (seeds : List (ℕ × List (Option ℕ))) (x : ℕ × List (Option ℕ)) (rest : List (ℕ × List (Option ℕ))) (kept : List (List (Option ℕ)))
+      (dropped : List ℕ) → Split seeds kept dropped
       → (q : List (Option ℕ)) → first_over m pref budget (filter (has_slice m) (x.1 ∷ [])) ≡ Some q
       → first_over m pref budget (filter (has_slice m) (map (λ seed. seed.1) (seeds ++ x ∷ rest))) ≡ Some q
-  sorted-spent seeds x rest kept dropped sorted q spent =
-      ap (find over) (asks-append seeds (x ∷ rest)) ∙ find-later over (asks seeds) (asks (x ∷ rest)) sorted.unspent
+  split-spent seeds x rest kept dropped split q spent =
+      ap (find over) (asks-append seeds (x ∷ rest)) ∙ find-later over (asks seeds) (asks (x ∷ rest)) split.unspent
       ∙ ap (find over) (asks-append (x ∷ []) rest) ∙ find-earlier over q (asks (x ∷ [])) (asks rest) spent
