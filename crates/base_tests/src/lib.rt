@@ -1,6 +1,6 @@
 //! Tests of the lowest crates: worked cases, and once each call that takes memory.
 //!
-//! - `texts` and `lists`: texts, numbers and patterns; lists, marks and packed lists.
+//! - `texts` and `lists`: texts, numbers and patterns; lists, marks, live values and packed lists.
 //! - `folders` and `sinks`: those in memory, those that never fail, and those over real files and streams.
 //! - `made_texts`: made models.
 #![tactic(auto)]

@@ -1,6 +1,7 @@
-//! Lists, marks and packed lists.
+//! Lists, marks, live values and packed lists.
 
 use bit_table::BitTable;
+use live_sets::LiveSets;
 use packed_lists::PackedLists;
 use std::test::Fail;
 use value_text::{OwnedList, Text, TextList};
@@ -38,6 +39,20 @@ fn marks_are_set_and_cleared(rt: HostRuntime) -> Result<(), Fail> {
     assert!(rt; table.next_set(64, 70) == Some(66));
     table.set(64);
     assert!(rt; table.is_set(64) && !table.is_set(65));
+    Ok(())
+}
+
+// Two parameters, of two and three values.
+#[test]
+fn live_values_are_taken_away_and_put_back(rt: HostRuntime) -> Result<(), Fail> {
+    let mut sets = Vec::new(rt.alloc());
+    sets.push(BitTable::all_set(rt.alloc(), 2)?)?;
+    sets.push(BitTable::all_set(rt.alloc(), 3)?)?;
+    let mut live = LiveSets::new(rt.alloc(), sets)?;
+    live.take_away(1, 0);
+    assert!(rt; live.trail_len() == 1 && live.count(0) == 2 && live.count(1) == 2);
+    live.undo(0);
+    assert!(rt; live.trail_len() == 0 && live.count(1) == 3);
     Ok(())
 }
 

@@ -1,5 +1,6 @@
 //! Constraints that are read from a file and written again.
 
+use crate::refusals::told;
 use constraint_ast::{RawRule, RawRuleList, parse_rules, rule_text};
 use model_lex::{ModelFault, split_model};
 use std::alloc::Global;
@@ -103,6 +104,19 @@ const REWRITTEN: &[(&str, &str)] = &[
         "[\u{e9}] LIKE \"\u{e9}*\";\n[] = \"\";\n",
     ),
 ];
+
+// Whether a file is refused whose third line ends where a constraint goes on.
+fn is_cut_refused(alloc: Global) -> bool {
+    match rules_of(alloc, "A: 1, 2\nB: x, y\nIF [A] = 1 THEN\n") {
+        Ok(_) => false,
+        Err(fault) => told(fault) == ("C7", 3),
+    }
+}
+
+#[test]
+fn refuses_a_constraint(rt: HostRuntime) {
+    assert!(rt; is_cut_refused(rt.alloc()));
+}
 
 #[test]
 fn writes_constraints(rt: HostRuntime) {

@@ -2,6 +2,7 @@
 
 ghost use Rattle.model_parse.specs.RawModels.{AreOpts};
 
+use crate::refusals::told;
 use cov_model::{Group, Param, TestModel, Value};
 use model_lex::{Marks, ModelFault, ModelOpts, NoteList, OrderWord, split_model};
 use model_parse::{RawModel, parse_params};
@@ -139,6 +140,15 @@ const MODELS: &[(&str, &str)] = &[
         "1A: ~-1 0|zero|null(7) ~x\n3B: ~-1 0|zero|null(7) ~x (1)x x()(4294967295)\norder 2\n0 1 @ 2\n1 @ 1\nand\n1 @ 1\nnote 1\n",
     ),
     (
+        "A: x (0000000000000000000000000000007), y\nB: z",
+        "1A: x(7) y\n2B: z\norder 2\nand\n",
+    ),
+    // A no-break space is no blank.
+    (
+        "A: \u{a0}1, 2\nB: x",
+        "1A: \u{a0}1 2\n2B: x\norder 2\nand\n",
+    ),
+    (
         "A: 99999999999999999999999999999\nB: 9999999999999999999999999999.5, ~1",
         "1A: 99999999999999999999999999999\n2#B: 9999999999999999999999999999.5 ~1\norder 2\nand\n",
     ),
@@ -181,8 +191,12 @@ fn reads_by_other_marks(rt: HostRuntime) {
     assert!(rt; is_shown(rt.alloc(), file, &other_options(), shown));
 }
 
-fn parsed(alloc: Global) -> Result<RawModel, ModelFault> {
-    let sections = split_model(alloc, b"A: 1, 2\nB: x, y\n")?;
+// What the parameter lines and group lines of a file say.
+fn parsed(alloc: Global, bytes: &[u8]) -> Result<RawModel, ModelFault> {
+    if bytes.len() > 100 {
+        return Err(ModelFault::NoMemory);
+    }
+    let sections = split_model(alloc, bytes)?;
     parse_params(alloc, &sections, &options(2))
 }
 
@@ -192,13 +206,22 @@ fn is_plain(raw: &RawModel) -> bool {
 
 // Whether two parameters are parsed, the order, and no note.
 fn is_parsed(alloc: Global) -> bool {
-    match parsed(alloc) {
+    match parsed(alloc, b"A: 1, 2\nB: x, y\n") {
         Ok(raw) => is_plain(&raw),
         Err(_) => false,
+    }
+}
+
+// Whether a file without a line is refused.
+fn is_empty_refused(alloc: Global) -> bool {
+    match parsed(alloc, b"") {
+        Ok(_) => false,
+        Err(fault) => told(fault) == ("M17", 1),
     }
 }
 
 #[test]
 fn parses_parameters(rt: HostRuntime) {
     assert!(rt; is_parsed(rt.alloc()));
+    assert!(rt; is_empty_refused(rt.alloc()));
 }

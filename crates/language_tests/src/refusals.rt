@@ -4,7 +4,8 @@ use model_lex::{LimitName, ModelFault};
 use std::alloc::Global;
 use test_models::{options, read};
 
-fn told(fault: ModelFault) -> (&'static str, u64) {
+// The code and the line of a refusal, or a limit that is passed and the count.
+pub fn told(fault: ModelFault) -> (&'static str, u64) {
     match fault {
         ModelFault::Bad(diag) | ModelFault::BadRule(diag) => {
             (diag.code.code(), u64::from(diag.line))
@@ -29,6 +30,8 @@ pub fn end_of(alloc: Global, file: &str) -> (&'static str, u64) {
 // A file, and the code and the line of its refusal.
 const REFUSALS: &[(&str, &str, u64)] = &[
     // Lines.
+    ("", "M17", 1),
+    ("A: 1, 2\nB: x, y\n\u{a0}[A] = 1;", "M3", 3),
     ("@ 1 { A }\nC 1", "M2", 2),
     (" \r\r\n", "M3", 1),
     (" \u{feff}# A", "M3", 1),

@@ -8,4 +8,4 @@ mod texts;
 
 pub use meeting::Meeting;
 pub use rows::{count_values, is_positive_row, row_of};
-pub use texts::{DISK, model_of, options, read};
+pub use texts::{DISK, OVERLAPPING, model_of, options, read};
