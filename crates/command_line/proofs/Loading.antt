@@ -60,10 +60,10 @@ refused_whole opts (Some held) bytes (Err stop) fault is whole short refusal =
 
 -- and its stop is one of the reading
 refused_stop : (fault : ModelFault) → IsOfReading kinds.Model (stop_of_model fault)
-refused_stop model_faults.NoMemory = record { words = λ i e. cc; rows = λ f e. cc; read = λ k e. cc; writes = λ k e. cc; report = λ e. cc }
-refused_stop (Bad diag) = record { words = λ i e. cc; rows = λ f e. cc; read = λ k e. cc; writes = λ k e. cc; report = λ e. cc }
-refused_stop (BadRule diag) = record { words = λ i e. cc; rows = λ f e. cc; read = λ k e. cc; writes = λ k e. cc; report = λ e. cc }
-refused_stop (Limit limit count) = record { words = λ i e. cc; rows = λ f e. cc; read = λ k e. cc; writes = λ k e. cc; report = λ e. cc }
+refused_stop model_faults.NoMemory = record { words = λ i e. cc; rows = λ f e. cc; results = (λ e. cc, λ l e. cc); questions = λ b q e. cc; read = λ k e. cc; writes = λ k e. cc; report = λ e. cc }
+refused_stop (Bad diag) = record { words = λ i e. cc; rows = λ f e. cc; results = (λ e. cc, λ l e. cc); questions = λ b q e. cc; read = λ k e. cc; writes = λ k e. cc; report = λ e. cc }
+refused_stop (BadRule diag) = record { words = λ i e. cc; rows = λ f e. cc; results = (λ e. cc, λ l e. cc); questions = λ b q e. cc; read = λ k e. cc; writes = λ k e. cc; report = λ e. cc }
+refused_stop (Limit limit count) = record { words = λ i e. cc; rows = λ f e. cc; results = (λ e. cc, λ l e. cc); questions = λ b q e. cc; read = λ k e. cc; writes = λ k e. cc; report = λ e. cc }
 
 pub refused_of_reading : {A : Type 0} (result : Result A Stop) (fault : ModelFault) → IsErrAnd result (λ stop. stop ≡ stop_of_model fault)
     → IfErr result (IsOfReading kinds.Model)
@@ -72,13 +72,13 @@ refused_of_reading (Err stop) fault is = subst (IsOfReading kinds.Model) (sym is
 
 -- the stops of a file that isn't read
 pub stop_of_room : (kind : FileKind) → IsOfReading kind OutOfMemory
-stop_of_room kind = record { words = λ i e. cc; rows = λ f e. cc; read = λ k e. cc; writes = λ k e. cc; report = λ e. cc }
+stop_of_room kind = record { words = λ i e. cc; rows = λ f e. cc; results = (λ e. cc, λ l e. cc); questions = λ b q e. cc; read = λ k e. cc; writes = λ k e. cc; report = λ e. cc }
 
 pub stop_of_folder : (kind : FileKind) → IsOfReading kind (CannotRead kind)
-stop_of_folder kind = record { words = λ i e. cc; rows = λ f e. cc; read = λ k e. cc; writes = λ k e. cc; report = λ e. cc }
+stop_of_folder kind = record { words = λ i e. cc; rows = λ f e. cc; results = (λ e. cc, λ l e. cc); questions = λ b q e. cc; read = λ k e. cc; writes = λ k e. cc; report = λ e. cc }
 
 pub stop_of_length : (kind : FileKind) → IsOfReading kind (TooLong kind)
-stop_of_length kind = record { words = λ i e. cc; rows = λ f e. cc; read = λ k e. cc; writes = λ k e. cc; report = λ e. cc }
+stop_of_length kind = record { words = λ i e. cc; rows = λ f e. cc; results = (λ e. cc, λ l e. cc); questions = λ b q e. cc; read = λ k e. cc; writes = λ k e. cc; report = λ e. cc }
 
 -- a model file that isn't read, where the stop goes on
 pub unread_whole : {A : Type 0} (opts : ModelOpts) (file : Option (Option (List ℕ))) (result : Result A Stop) (stop : Stop)

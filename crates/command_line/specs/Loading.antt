@@ -10,7 +10,7 @@ use Rattle.row_text.specs.declared.rows_fault.RowsFault.{RowsFault}
 use Rattle.command_line.specs.declared.files.FileKind.{FileKind}
 use Rattle.command_line.specs.declared.files.FileKind.TheVariants as kinds
 use Rattle.command_line.specs.declared.stop.Stop.{Stop}
-use Rattle.command_line.specs.declared.stop.Stop.TheVariants.{OutOfMemory, BadWord, BadRows, CannotRead, CannotWrite, CannotWriteReport, TooLong}
+use Rattle.command_line.specs.declared.stop.Stop.TheVariants.{OutOfMemory, Spent, BadWord, BadRows, NoResult, BadResult, CannotRead, CannotWrite, CannotWriteReport, TooLong}
 use Rattle.command_line.specs.Stops.{measured, stop_of_model}
 
 -- a file of this kind isn't read: for want of memory, where the folder failed, and where it has more bytes than it may
@@ -35,11 +35,13 @@ pub data StopsReading (opts : ModelOpts) (held : Option (List ℕ)) (stop : Stop
 abbrev pub IsLoaded : ModelOpts → Option (List ℕ) → ModelView → List Note → Type 0
 IsLoaded opts held m notes = IsSomeAnd held (λ bytes. (length bytes ≤ most_bytes ModelFile) × IsModelOf opts bytes m notes)
 
--- a stop of the reading of a file of this kind: none of the words or of rows, none of what is written, and no other
--- file is read
+-- a stop of the reading of a file of this kind: none of the words, of rows or of results, none of a question that is
+-- asked, none of what is written, and no other file is read
 pub record IsOfReading (kind : FileKind) (stop : Stop) : Type 0 where
   pub words : (index : ℕ) → stop ≢ BadWord index
   pub rows : (fault : RowsFault) → stop ≢ BadRows fault
+  pub results : (stop ≢ NoResult) × ((line : ℕ) → stop ≢ BadResult line)
+  pub questions : (budget : ℕ) (question : List (ℕ × ℕ)) → stop ≢ Spent budget question
   pub read : (other : FileKind) → stop ≡ CannotRead other → other ≡ kind
   pub writes : (other : FileKind) → stop ≢ CannotWrite other
   pub report : stop ≢ CannotWriteReport

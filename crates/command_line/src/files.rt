@@ -10,14 +10,14 @@ use std::marker::Model;
 pub enum FileKind {
     /// A model.
     Model,
-    /// Rows: seed rows, a suite, or a report.
+    /// Rows: seed rows, a suite, a file of results, or a report.
     Rows,
     /// A proof.
     Proof,
 }
 
 impl FileKind {
-    /// What its bytes are called.
+    // What its bytes are called.
     pub(crate) fn bytes_name(self) -> &'static str
         ensures { result.now ≡ bytes_name (measured self) }
     {

@@ -8,7 +8,7 @@ use cov_model::{ParamNo, ValueNo};
 use itoa::Buffer;
 use outside_io::{Sink, WriteAnswer, put_pieces};
 
-/// Writes the pair at a place of a list, behind a space unless it is the first.
+// Writes the pair at a place of a list, behind a space unless it is the first.
 fn put_pair<E: Sink>(sink: &mut E, place: usize, pair: (ParamNo, ValueNo)) -> WriteAnswer
     ensures puts { Puts result (E.written sink.old) (E.written sink.new) (pair_behind place (pair.0, pair.1)) }
     ensures counts { CountsFaults result (E.faults sink.old) (E.faults sink.new) }

@@ -11,8 +11,14 @@ use model_lex::OrderWord;
 use refutation::ProofForm;
 use value_text::{read_count, same_text};
 
-/// The most nodes that one question may visit, 2^40.
+// The most nodes that one question may visit, 2^40.
 const MOST_NODES: u64 = 1_099_511_627_776;
+
+// The greatest order, which is the most parameters that a model may have.
+const MOST_ORDER: u64 = 256;
+
+// The most workers.
+const MOST_WORKERS: u64 = 64;
 
 /// How values are shuffled (PICT's guide).
 #[derive(Debug, Drop, Clone, Copy, PartialEq, Eq)]
@@ -60,7 +66,7 @@ pub enum Setting<'w> {
     SuspectFile(&'w str),
 }
 
-/// Whether a word has a name before its first colon, in letters of either case.
+// Whether a word has a name before its first colon, in letters of either case.
 pub(crate) fn is_named(word: &str, name: &str) -> bool
     ensures { result ≡ defined.is_named word.now name.now }
 {
@@ -70,14 +76,14 @@ pub(crate) fn is_named(word: &str, name: &str) -> bool
     }
 }
 
-/// Whether a character may stand between values, between names, or before a negative value.
+// Whether a character may stand between values, between names, or before a negative value.
 fn is_mark(byte: u8) -> bool
     ensures { result ≡ is_mark byte }
 {
     byte.is_ascii_punctuation() && !b"\"#():<>@[\\]{}".contains(&byte)
 }
 
-/// The mark that a value gives.
+// The mark that a value gives.
 fn mark_of(value: &str) -> Option<u8>
     ensures { result ≡ defined.mark_of value.now }
 {
@@ -87,27 +93,27 @@ fn mark_of(value: &str) -> Option<u8>
     }
 }
 
-/// The file that a value names.
+// The file that a value names.
 fn file_of<'w>(value: &'w str) -> Option<&'w str>
     ensures { option_map (λ file. file.now) result ≡ defined.file_of value.now }
 {
     if value.is_empty() { None } else { Some(value) }
 }
 
-/// The order that a value gives.
+// The order that a value gives.
 fn order_word_of(value: &str) -> Option<OrderWord>
     ensures { option_map order_seen result ≡ defined.order_word_of value.now }
 {
     if same_text(value, "max", true) {
         return Some(OrderWord::Max);
     }
-    match read_count(value, 1, 256) {
+    match read_count(value, 1, MOST_ORDER) {
         Some(order) => Some(OrderWord::Number(order as u32)),
         None => None,
     }
 }
 
-/// The form of a proof file that a value gives.
+// The form of a proof file that a value gives.
 fn form_of(value: &str) -> Option<ProofForm>
     ensures { option_map format_of result ≡ count_of value.now 1 2 }
 {
@@ -118,7 +124,7 @@ fn form_of(value: &str) -> Option<ProofForm>
     }
 }
 
-/// What a word without a colon sets.
+// What a word without a colon sets.
 fn bare_setting<'w>(word: &str) -> Option<Setting<'w>>
     ensures { option_map setting_seen result ≡ defined.bare_setting word.now }
 {
@@ -133,7 +139,7 @@ fn bare_setting<'w>(word: &str) -> Option<Setting<'w>>
     }
 }
 
-/// What a word with a colon sets, by the value behind the colon.
+// What a word with a colon sets, by the value behind the colon.
 fn valued_setting<'w>(word: &str, value: &'w str) -> Option<Setting<'w>>
     ensures { option_map setting_seen result ≡ defined.valued_setting word.now value.now }
 {
@@ -150,7 +156,7 @@ fn valued_setting<'w>(word: &str, value: &'w str) -> Option<Setting<'w>>
     } else if is_named(word, "/r") {
         Some(Setting::ShuffleValues(Shuffle::Number(read_count(value, 0, u64::MAX)?)))
     } else if is_named(word, "/workers") {
-        Some(Setting::Workers(read_count(value, 1, 64)? as u32))
+        Some(Setting::Workers(read_count(value, 1, MOST_WORKERS)? as u32))
     } else if is_named(word, "/budget") {
         Some(Setting::Budget(read_count(value, 1, MOST_NODES)?))
     } else if is_named(word, "/proof") {

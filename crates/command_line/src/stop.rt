@@ -32,7 +32,7 @@ pub enum Quantity {
 }
 
 impl Quantity {
-    /// What it is called.
+    // What it is called.
     fn name(self) -> &'static str
         ensures { result.now ≡ counted_name (counted self) }
     {
@@ -48,7 +48,7 @@ impl Quantity {
         }
     }
 
-    /// The most there may be.
+    // The most there may be.
     fn most(self) -> u64
         ensures { result ≡ most_counted (counted self) }
     {
@@ -75,7 +75,7 @@ pub enum Stop {
     BadModel(Diag),
     /// A constraint of the model file is refused: status 5.
     BadConstraint(Diag),
-    /// The file of rows is refused: status 6.
+    /// The file of rows is refused: status 6. Too many rows and want of memory aren't among these faults.
     BadRows(RowsFault),
     /// The file of results has no result column: status 6.
     NoResult,
@@ -141,15 +141,12 @@ impl From<RowsFault> for Stop {
         match fault {
             RowsFault::TooManyRows(count) => Stop::TooMany(Quantity::Rows, count),
             RowsFault::NoMemory => Stop::OutOfMemory,
-            RowsFault::NoHeader => Stop::BadRows(RowsFault::NoHeader),
-            RowsFault::Twice(line) => Stop::BadRows(RowsFault::Twice(line)),
-            RowsFault::Missing(parameter) => Stop::BadRows(RowsFault::Missing(parameter)),
-            RowsFault::Width(line) => Stop::BadRows(RowsFault::Width(line)),
+            fault => Stop::BadRows(fault),
         }
     }
 }
 
-/// Writes the line of a refusal of the model file.
+// Writes the line of a refusal of the model file.
 fn put_diag<E: Sink>(diag: &Diag, sink: &mut E) -> WriteAnswer
     ensures puts { Puts result (E.written sink.old) (E.written sink.new) (model_line diag.now.line (diag_code diag.now.code) (diag_text diag.now.code)) }
     ensures counts { CountsFaults result (E.faults sink.old) (E.faults sink.new) }
@@ -164,7 +161,7 @@ fn put_diag<E: Sink>(diag: &Diag, sink: &mut E) -> WriteAnswer
     )
 }
 
-/// Writes the line of a limit.
+// Writes the line of a limit.
 fn put_limit<E: Sink>(quantity: Quantity, count: u64, sink: &mut E) -> WriteAnswer
     ensures puts { Puts result (E.written sink.old) (E.written sink.new) (count_limit_line (counted quantity) count) }
     ensures counts { CountsFaults result (E.faults sink.old) (E.faults sink.new) }
@@ -180,7 +177,7 @@ fn put_limit<E: Sink>(quantity: Quantity, count: u64, sink: &mut E) -> WriteAnsw
     )
 }
 
-/// Writes the line of a file that is too long.
+// Writes the line of a file that is too long.
 fn put_too_long<E: Sink>(kind: FileKind, sink: &mut E) -> WriteAnswer
     ensures puts { Puts result (E.written sink.old) (E.written sink.new) (bytes_limit_line (measured kind)) }
     ensures counts { CountsFaults result (E.faults sink.old) (E.faults sink.new) }
@@ -191,7 +188,7 @@ fn put_too_long<E: Sink>(kind: FileKind, sink: &mut E) -> WriteAnswer
     put_pieces(sink, &["error: limit: ", name, " above ", most, "\n"])
 }
 
-/// Writes the line of a refusal of a file of rows at a line, by the text behind the line's number.
+// Writes the line of a refusal of a file of rows at a line, by the text behind the line's number.
 fn put_row_line<E: Sink>(line: u32, text: &str, sink: &mut E) -> WriteAnswer
     ensures puts { Puts result (E.written sink.old) (E.written sink.new) (row_line line text.now) }
     ensures counts { CountsFaults result (E.faults sink.old) (E.faults sink.new) }
@@ -201,7 +198,7 @@ fn put_row_line<E: Sink>(line: u32, text: &str, sink: &mut E) -> WriteAnswer
     put_pieces(sink, &["error: row file line ", line, text])
 }
 
-/// Writes the line of a file of rows that has no column for a parameter.
+// Writes the line of a file of rows that has no column for a parameter.
 fn put_no_column<E: Sink>(parameter: ParamNo, sink: &mut E) -> WriteAnswer
     ensures puts { Puts result (E.written sink.old) (E.written sink.new) (no_column_line parameter) }
     ensures counts { CountsFaults result (E.faults sink.old) (E.faults sink.new) }
@@ -214,7 +211,7 @@ fn put_no_column<E: Sink>(parameter: ParamNo, sink: &mut E) -> WriteAnswer
     )
 }
 
-/// Writes the line of a refusal of a file of rows.
+// Writes the line of a refusal of a file of rows.
 fn put_rows_fault<E: Sink>(fault: RowsFault, sink: &mut E) -> WriteAnswer
     ensures puts { Puts result (E.written sink.old) (E.written sink.new) (rows_line fault) }
     ensures counts { CountsFaults result (E.faults sink.old) (E.faults sink.new) }
@@ -229,7 +226,7 @@ fn put_rows_fault<E: Sink>(fault: RowsFault, sink: &mut E) -> WriteAnswer
     }
 }
 
-/// Writes how the line of a question whose plain cost is above the budget begins.
+// Writes how the line of a question whose plain cost is above the budget begins.
 fn put_opening<E: Sink>(budget: u64, sink: &mut E) -> WriteAnswer
     ensures puts { Puts result (E.written sink.old) (E.written sink.new) (spent_opening budget) }
     ensures counts { CountsFaults result (E.faults sink.old) (E.faults sink.new) }
@@ -239,7 +236,7 @@ fn put_opening<E: Sink>(budget: u64, sink: &mut E) -> WriteAnswer
     put_pieces(sink, &["error: search budget ", number, " spent on "])
 }
 
-/// Writes the line of a question whose plain cost is above the budget.
+// Writes the line of a question whose plain cost is above the budget.
 fn put_spent<E: Sink>(budget: u64, question: &Tuple, sink: &mut E) -> WriteAnswer
     ensures puts { Puts result (E.written sink.old) (E.written sink.new) (spent_line budget question.now) }
     ensures counts { CountsFaults result (E.faults sink.old) (E.faults sink.new) }
@@ -254,7 +251,7 @@ fn put_spent<E: Sink>(budget: u64, question: &Tuple, sink: &mut E) -> WriteAnswe
     }
 }
 
-/// Writes the line of a word that has no reading.
+// Writes the line of a word that has no reading.
 fn put_word<E: Sink>(index: u32, sink: &mut E) -> WriteAnswer
     ensures puts { Puts result (E.written sink.old) (E.written sink.new) (word_line index) }
     ensures counts { CountsFaults result (E.faults sink.old) (E.faults sink.new) }

@@ -11,7 +11,7 @@ use itoa::Buffer;
 use model_lex::Note;
 use outside_io::{Sink, WriteAnswer, put_pieces};
 
-/// Writes the line of a seed that no word gave.
+// Writes the line of a seed that no word gave.
 fn put_seed<E: Sink>(seed: Option<u64>, sink: &mut E) -> WriteAnswer
     ensures puts { Puts result (E.written sink.old) (E.written sink.new) (seed_text seed) }
     ensures counts { CountsFaults result (E.faults sink.old) (E.faults sink.new) }
@@ -24,7 +24,7 @@ fn put_seed<E: Sink>(seed: Option<u64>, sink: &mut E) -> WriteAnswer
     put_pieces(sink, &["Used seed: ", seed, "\n"])
 }
 
-/// Writes the line of a note on a file, which begins with this text before the line's number.
+// Writes the line of a note on a file, which begins with this text before the line's number.
 fn put_note<E: Sink>(opening: &'static str, note: &Note, sink: &mut E) -> WriteAnswer
     ensures puts { Puts result (E.written sink.old) (E.written sink.new) (line_behind opening.now note.now) }
     ensures counts { CountsFaults result (E.faults sink.old) (E.faults sink.new) }
@@ -36,7 +36,7 @@ fn put_note<E: Sink>(opening: &'static str, note: &Note, sink: &mut E) -> WriteA
     put_pieces(sink, &[opening, line, ": ", code, " ", text, "\n"])
 }
 
-/// Writes the lines of notes on a file, which begin with this text.
+// Writes the lines of notes on a file, which begin with this text.
 fn put_notes<E: Sink>(opening: &'static str, notes: &[Note], sink: &mut E) -> WriteAnswer
     ensures puts { Puts result (E.written sink.old) (E.written sink.new) (flat_map (line_behind opening.now) notes.now) }
     ensures counts { CountsFaults result (E.faults sink.old) (E.faults sink.new) }
@@ -50,7 +50,7 @@ fn put_notes<E: Sink>(opening: &'static str, notes: &[Note], sink: &mut E) -> Wr
     WriteAnswer::Done
 }
 
-/// Writes the line of the stop, if there is one.
+// Writes the line of the stop, if there is one.
 fn put_end<E: Sink>(end: &Result<(), Stop>, names: &FileNames<'_>, sink: &mut E) -> WriteAnswer
     ensures puts { Puts result (E.written sink.old) (E.written sink.new) (end_text names.now end.now) }
     ensures counts { CountsFaults result (E.faults sink.old) (E.faults sink.new) }
@@ -61,7 +61,7 @@ fn put_end<E: Sink>(end: &Result<(), Stop>, names: &FileNames<'_>, sink: &mut E)
     }
 }
 
-/// Writes the lines of notes on the file of rows, and behind them that of the stop, if there is one.
+// Writes the lines of notes on the file of rows, and behind them that of the stop, if there is one.
 fn put_rows_end<E: Sink>(
     notes: &[Note],
     end: &Result<(), Stop>,

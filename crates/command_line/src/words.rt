@@ -31,14 +31,14 @@ pub fn has_equal_marks(marks: Marks) -> bool
     marks.separator == marks.alias || marks.separator == marks.prefix || marks.alias == marks.prefix
 }
 
-/// Whether a word sets a mark, even if its value is no mark.
+// Whether a word sets a mark, even if its value is no mark.
 fn is_mark_word(word: &str) -> bool
     ensures { result ≡ reading.is_mark_word word.now }
 {
     is_named(word, "/d") || is_named(word, "/a") || is_named(word, "/n")
 }
 
-/// Whether one of the words sets a mark.
+// Whether one of the words sets a mark.
 fn has_mark_word(words: &[String]) -> bool
     ensures { result ≡ list_any (λ word. reading.is_mark_word (string_bytes word)) words.now }
 {
