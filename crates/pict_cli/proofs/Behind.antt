@@ -25,7 +25,7 @@ use Rattle.pict_cli.specs.Ends.{CountsReads, End, IsEarly, Stopped, Unread, end_
 use Rattle.pict_cli.specs.Modes.{Generate, Measure, Mode, RowSource, Suspect, makes_plan, mode_of, row_file, row_mode}
 use Rattle.pict_cli.specs.RowSources.{later_notes, notes_on, read_bytes, read_row_bytes, read_source, reading_or_none, stop_in, without_results}
 use Rattle.pict_cli.specs.Runs.{EndsBehind, WritesProof, all_notes, cannot_write, cannot_write_proof, comes_whole, file_notes, given_of, limit_due}
-use Rattle.pict_cli.specs.Runs.{must_stop, no_memory, notes_behind, out_text, reading_of, rows_of_run, rows_unread, stop_due, text_in, work_in}
+use Rattle.pict_cli.specs.Runs.{must_stop, no_memory, notes_behind, notes_due, notes_told, out_text, reading_of, rows_of_run, rows_unread, stop_due, text_in, work_in}
 use Rattle.pict_cli.specs.Steps.{HoldsRows, IsOfRows, StopsRows, StopsWork}
 use Rattle.pict_cli.specs.Steps as steps
 
@@ -123,6 +123,16 @@ module _ (s : Settings) (seed : ℕ) (m : ModelView) (source : RowSource) (given
       ap (λ l. option_or l (option_or (stop_in (reading_of s m source)) (work_in (mode_of s) s seed m (given_of s m source)))) within
       ∙ ap (λ r. option_or (stop_in r) (work_in (mode_of s) s seed m (reading_or_none r))) read ∙ ap (λ other. work_in other s seed m given) is
 
+  due_notes : notes_due s m source ≡ notes
+  due_notes = ap (λ l. notes_behind l (file_notes s m source)) within ∙ notes_same
+
+  told_same : notes_told s seed m source ≡ notes ++ notes_behind (work_in mode s seed m given) (later_notes mode m given.rows.rows)
+  told_same =
+      ap (λ file. file ++ notes_behind (stop_due s seed m source) (later_notes (mode_of s) m (rows_of_run s m source))) due_notes
+      ∙ ap (λ due. notes ++ notes_behind due (later_notes (mode_of s) m (rows_of_run s m source))) due_same
+      ∙ ap (λ other. notes ++ notes_behind (work_in mode s seed m given) (later_notes other m (rows_of_run s m source))) is
+      ∙ ap (λ found. notes ++ notes_behind (work_in mode s seed m given) (later_notes mode m found.rows.rows)) given_same
+
   pub text_same : out_text s seed m (given_of s m source) ≡ text_in mode s seed m given
   text_same = ap (out_text s seed m) given_same ∙ ap (λ other. text_in other s seed m given) is
 
@@ -134,9 +144,10 @@ module _ (s : Settings) (seed : ℕ) (m : ModelView) (source : RowSource) (given
       → StopsWork (work_in mode s seed m given) (later_notes mode m given.rows.rows) notes row_notes stop → EndsBehind s seed m source row_notes end
   work_stopped stop end row_notes e (steps.no_memory count out added) =
       no_memory (length notes + count) (e ∙ ap Err out)
-      (added ∙ sym (take-append-add notes (later_notes mode m given.rows.rows) count) ∙ ap (take (length notes + count)) (sym all_same))
+      (added ∙ sym (take-append-add notes (notes_behind (work_in mode s seed m given) (later_notes mode m given.rows.rows)) count)
+      ∙ ap (take (length notes + count)) (sym told_same))
   work_stopped stop end row_notes e (steps.is_due due added) =
-      must_stop stop e (due_same ∙ due) (added ∙ sym notes_same ∙ sym (ap (λ l. notes_behind l (file_notes s m source)) within))
+      must_stop stop e (due_same ∙ due) (added ∙ sym due_notes)
 
   -- what was made was written, or not whole
   pub work_written : (end : Result (Unit {0}) Stop) (row_notes : List Note) → work_in mode s seed m given ≡ None

@@ -1,16 +1,21 @@
 -- What is known of a command that has a reading.
-use Rattle.std.proofs.Common.{◌≡◌, ℕ, false, List, [], ◌∷◌, ◌++◌, Ok, Some, None, refl, sym, ap, subst, ◌∙◌}
-use Rattle.std.specs.Prelude.{filter_map, drop, take, slice_index_or}
+use Rattle.std.proofs.Common.{◌≡◌, ℕ, false, List, [], ◌∷◌, ◌++◌, Result, Ok, Err, Some, None, refl, sym, ap, subst, ◌∙◌}
+use Rattle.std.specs.Prelude.{MatchResult, filter_map, drop, take, slice_index_or}
 use Rattle.std.specs.Option.{option_or}
+use Rattle.std.specs.declared.string.String.{String}
+use Rattle.std.specs.declared.alloc.Global.{Global}
 use Rattle.std.proofs.lemmas.Bool.{or_parts}
 use Rattle.value_text.proofs.ListLemmas.{option_or_parts}
 use Rattle.definitions.specs.Settings.{Setting, setting_of}
 use Rattle.definitions.specs.Words.{Command, first_faulty, is_faulty, missing_name, read_words, set_by}
 use Rattle.command_line.proofs.RangeLemmas.{words_fit}
 use Rattle.command_line.proofs.WordLemmas.{by_words, command_read}
-use Rattle.pict_cli.specs.Options.{kind_of, kinds_of}
+use Rattle.command_line.specs.Words.{TellsFault, settings_in, texts}
+use Rattle.pict_cli.specs.declared.options.Opts.{Opts}
+use Rattle.pict_cli.specs.declared.options.WordFault.{WordFault}
+use Rattle.pict_cli.specs.Options.{command_seen, kind_of, kinds_of, settings_seen}
 use Rattle.pict_cli.specs.Ranges.{FitRun}
-use Rattle.pict_cli.specs.Words.{model_name}
+use Rattle.pict_cli.specs.Words.{IsWordFault, asked_by, model_file, model_name}
 use Rattle.pict_cli.proofs.Alone.{is_torn, joined_whole, one_whole, whole_unproved}
 use Rattle.pict_cli.proofs.WordLemmas.{about-push, faulty-parts}
 
@@ -46,3 +51,12 @@ pub model_named : (words : List (List ℕ)) (command : Command) → read_words w
 model_named words command h =
     ap (λ names. slice_index_or names 0 []) (command_read 1 (option_or (missing_name 1 words) (first_faulty 2 [] (drop 1 words))) words command h).1
     ∙ first_taken words
+
+-- what a reading of words gives, in its ranges
+pub read_in_range : (words : List (String Global)) (read : Result Opts WordFault)
+    → MatchResult read (λ opts. read_words (texts words) ≡ Ok (command_seen opts)) (λ fault. TellsFault (read_words (texts words)) fault.index)
+    → MatchResult read (λ opts. (asked_by (texts words) ≡ Ok (settings_seen opts)) × FitRun (settings_seen opts) × (opts.model.now ≡ model_file words))
+    (λ fault. IsWordFault (texts words) fault.index)
+read_in_range words (Ok opts) is =
+    (ap settings_in is, command_fits (texts words) (command_seen opts) is, model_named (texts words) (command_seen opts) is)
+read_in_range words (Err fault) is = (is.0, ap settings_in is.1, is.2)

@@ -85,6 +85,7 @@ runs_early s seed m source row_notes before after end sound early keeps quiet en
   ends = ends;
   prints = prints_early (out_text s seed m (given_of s m source)) before.out after.out (end_of end) early quiet;
   writes = writes_early s seed m (rows_of_run s m source) before.files after.files (end_of end) early keeps;
+  others = λ file other. keeps file;
 }
 
 -- the counts of faults of reading after a step that ended so

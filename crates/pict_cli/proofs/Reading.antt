@@ -41,6 +41,7 @@ ends_read s seed held source m notes row_notes before loaded after end keeps qui
       ends = runs.ends;
       prints = subst (λ out. Prints (out_text s seed m (given_of s m source)) out after.out (end_of end)) quiet runs.prints;
       writes = proof_from s seed m (rows_of_run s m source) before.files loaded.files after.files (end_of end) keeps runs.writes;
+      others = λ file other. runs.others file other ∙ keeps file;
     })
 
 -- the reading stopped

@@ -23,7 +23,7 @@ use Rattle.command_line.specs.declared.stop.Stop.{Stop}
 use Rattle.command_line.specs.declared.stop.Stop.TheVariants.{OutOfMemory, Spent, BadWord, BadModel, BadConstraint, BadRows, NoResult}
 use Rattle.command_line.specs.declared.stop.Stop.TheVariants.{BadResult, CannotRead, CannotWrite, CannotWriteReport, TooMany, TooLong}
 use Rattle.pict_cli.specs.declared.options.Opts.{Opts}
-use Rattle.pict_cli.specs.Ends.{CountsOut, CountsWrites, End, IsEarly, IsQuiet, Misworded, Moment, StaysStill, Stopped, Unprinted, Unread, Unwritten, Whole, end_of}
+use Rattle.pict_cli.specs.Ends.{CountsOut, CountsReads, CountsWrites, End, IsEarly, IsQuiet, Misworded, Moment, StaysStill, Stopped, Unprinted, Unread, Unwritten, Whole, end_of}
 use Rattle.pict_cli.specs.Modes.{RowSource, is_report, makes_suite, mode_beside, mode_in, mode_of, model_source, output_of, prints_rows, row_source}
 use Rattle.pict_cli.specs.Options.{settings_seen}
 use Rattle.pict_cli.specs.Runs.{Ends, HasModel, HoldsWholeProof, IsStatus, PrintsAccepted, PrintsCovering, PrintsFewRows, PrintsSeeds, RunsModel, SpellsModel, rows_of_run, seeds_kept, told_proof}
@@ -195,21 +195,46 @@ unwritten_end s name (Err CannotWriteReport) writes after eight counts = counts
 unwritten_end s name (Err (TooMany quantity count)) writes after eight counts = counts
 unwritten_end s name (Err (TooLong kind)) writes after eight counts = counts
 
-quiet_of : (end : End) (out after : Option (List ℕ)) → IsEarly end → IsQuiet end out after → after ≡ out
+pub calm_end : (s : Settings) (name : List ℕ) (end : Result (Unit {0}) Stop) (reads after : List ℕ → ℕ) → end_status end ≢ 7 → CountsReads s name (end_of end) reads after
+    → KeepsCounts reads after
+calm_end s name (Ok done) reads after seven counts = counts
+calm_end s name (Err OutOfMemory) reads after seven counts = counts
+calm_end s name (Err (Spent budget question)) reads after seven counts = counts
+calm_end s name (Err (BadWord index)) reads after seven counts = counts
+calm_end s name (Err (BadModel diag)) reads after seven counts = counts
+calm_end s name (Err (BadConstraint diag)) reads after seven counts = counts
+calm_end s name (Err (BadRows fault)) reads after seven counts = counts
+calm_end s name (Err NoResult) reads after seven counts = counts
+calm_end s name (Err (BadResult line)) reads after seven counts = counts
+calm_end s name (Err (CannotRead kind)) reads after seven counts = absurd (seven refl)
+calm_end s name (Err (CannotWrite kind)) reads after seven counts = counts
+calm_end s name (Err CannotWriteReport) reads after seven counts = counts
+calm_end s name (Err (TooMany quantity count)) reads after seven counts = counts
+calm_end s name (Err (TooLong kind)) reads after seven counts = counts
+
+pub unbroken_end : (end : Result (Unit {0}) Stop) (faults after : ℕ) → end_status end ≢ 8 → CountsOut (end_of end) faults after → after ≡ faults
+unbroken_end (Ok done) faults after eight counts = counts
+unbroken_end (Err OutOfMemory) faults after eight counts = counts
+unbroken_end (Err (Spent budget question)) faults after eight counts = counts
+unbroken_end (Err (BadWord index)) faults after eight counts = counts
+unbroken_end (Err (BadModel diag)) faults after eight counts = counts
+unbroken_end (Err (BadConstraint diag)) faults after eight counts = counts
+unbroken_end (Err (BadRows fault)) faults after eight counts = counts
+unbroken_end (Err NoResult) faults after eight counts = counts
+unbroken_end (Err (BadResult line)) faults after eight counts = counts
+unbroken_end (Err (CannotRead kind)) faults after eight counts = counts
+unbroken_end (Err (CannotWrite kind)) faults after eight counts = absurd (eight refl)
+unbroken_end (Err CannotWriteReport) faults after eight counts = absurd (eight refl)
+unbroken_end (Err (TooMany quantity count)) faults after eight counts = counts
+unbroken_end (Err (TooLong kind)) faults after eight counts = counts
+
+pub quiet_of : (end : End) (out after : Option (List ℕ)) → IsEarly end → IsQuiet end out after → after ≡ out
 quiet_of Whole out after early quiet = absurd early
 quiet_of (Unread kind) out after early quiet = quiet
 quiet_of (Unwritten kind) out after early quiet = absurd early
 quiet_of Unprinted out after early quiet = absurd early
 quiet_of Misworded out after early quiet = absurd early
 quiet_of Stopped out after early quiet = quiet
-
-faults_of : (end : End) (faults after : ℕ) → IsEarly end → CountsOut end faults after → after ≡ faults
-faults_of Whole faults after early same = absurd early
-faults_of (Unread kind) faults after early same = same
-faults_of (Unwritten kind) faults after early same = absurd early
-faults_of Unprinted faults after early same = absurd early
-faults_of Misworded faults after early same = absurd early
-faults_of Stopped faults after early same = same
 
 pub still_of : (end : End) (files after : Files) → IsEarly end → StaysStill end files after → KeepsFiles files after
 still_of Whole files after early still = absurd early
@@ -218,10 +243,6 @@ still_of (Unwritten kind) files after early still = absurd early
 still_of Unprinted files after early still = absurd early
 still_of Misworded files after early still = absurd early
 still_of Stopped files after early still = still
-
-pub nothing_end : (end : Result (Unit {0}) Stop) (out after : Option (List ℕ)) (faults faults_after : ℕ) → IsEarly (end_of end) → IsQuiet (end_of end) out after
-    → CountsOut (end_of end) faults faults_after → (after ≡ out) × (faults_after ≡ faults)
-nothing_end end out after faults faults_after early quiet counts = (quiet_of (end_of end) out after early quiet, faults_of (end_of end) faults faults_after early counts)
 
 pub still_end : (end : Result (Unit {0}) Stop) (files after : Files) → IsEarly (end_of end) → StaysStill (end_of end) files after → KeepsFiles files after
 still_end end files after early still = still_of (end_of end) files after early still

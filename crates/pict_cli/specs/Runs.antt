@@ -44,9 +44,9 @@ use Rattle.command_line.specs.declared.stop.Stop.{Stop}
 use Rattle.command_line.specs.declared.stop.Stop.TheVariants.{OutOfMemory, Spent, CannotRead, CannotWrite, CannotWriteReport, TooMany}
 use Rattle.command_line.specs.declared.stop.Quantity.TheVariants.{SuspectCandidates}
 use Rattle.command_line.specs.declared.files.FileKind.TheVariants as kinds
-use Rattle.pict_cli.specs.Ends.{CountsReads, CountsWrites, End, Moment, Prints, Unprinted, Unwritten, Whole, end_of}
+use Rattle.pict_cli.specs.Ends.{CountsOut, CountsReads, CountsWrites, End, KeepsOthers, Moment, Prints, Unprinted, Unwritten, Whole, end_of}
 use Rattle.pict_cli.specs.Making.{EndsFrom}
-use Rattle.pict_cli.specs.Modes.{Generate, Measure, Mode, Output, Report, RowSource, Statistics, Suspect, makes_plan, mode_of, row_file}
+use Rattle.pict_cli.specs.Modes.{Generate, Measure, Mode, Output, Report, RowSource, Statistics, Suspect, makes_plan, mode_of, model_source, row_file, row_source}
 use Rattle.pict_cli.specs.RowSources.{later_notes, notes_on, read_bytes, read_source, reading_or_none, stop_in}
 
 -- what the values are shuffled by, where they are, and the seed that is told since no word gave it
@@ -146,6 +146,10 @@ notes_behind (Some stop) notes = []
 abbrev pub notes_due : Settings → ModelView → RowSource → List Note
 notes_due s m source = notes_behind (limit_due s m) (file_notes s m source)
 
+-- the notes on the row file of a run that finds memory: those that are told before its stop, or all where it needn't stop
+abbrev pub notes_told : Settings → ℕ → ModelView → RowSource → List Note
+notes_told s seed m source = notes_due s m source ++ notes_behind (stop_due s seed m source) (later_notes (mode_of s) m (rows_of_run s m source))
+
 -- the bytes of a model file are no more than they may be and spell a model, and P holds of it and its notes:
 -- of each that they spell, which is one alone (`FilesHaveOneModel` of `type_check`)
 pub record SpellsModel (opts : ModelOpts) (P : ModelView → List Note → Type 0) (bytes : List ℕ) : Type 0 where
@@ -160,11 +164,11 @@ abbrev pub HasModel : ModelOpts → Option (List ℕ) → (ModelView → List No
 HasModel opts held P = IsSomeAnd held (SpellsModel opts P)
 
 -- how a run may end once its model is read, and which notes on the row file it tells: it comes to its end; memory is
--- wanted, and the first of the notes are told; the folder fails to read the row file; it stops as it must; and, where it
--- needn't stop, the proof file or the output can't be written
+-- wanted, and the first of those notes are told that it tells where memory is found; the folder fails to read the row
+-- file; it stops as it must; and, where it needn't stop, the proof file or the output can't be written
 pub data EndsBehind (s : Settings) (seed : ℕ) (m : ModelView) (source : RowSource) (row_notes : List Note) (end : Result (Unit {0}) Stop) : Type 0 where
   comes_whole : end ≡ Ok tt → stop_due s seed m source ≡ None → row_notes ≡ all_notes s m source → EndsBehind s seed m source row_notes end
-  no_memory : (count : ℕ) → end ≡ Err OutOfMemory → row_notes ≡ take count (all_notes s m source) → EndsBehind s seed m source row_notes end
+  no_memory : (count : ℕ) → end ≡ Err OutOfMemory → row_notes ≡ take count (notes_told s seed m source) → EndsBehind s seed m source row_notes end
   rows_unread : end ≡ Err (CannotRead kinds.Rows) → limit_due s m ≡ None → row_notes ≡ [] → EndsBehind s seed m source row_notes end
   must_stop : (stop : Stop) → end ≡ Err stop → stop_due s seed m source ≡ Some stop → row_notes ≡ notes_due s m source
       → EndsBehind s seed m source row_notes end
@@ -186,12 +190,14 @@ HoldsProof s seed m seeds before after end = after ≡ before
 abbrev pub WritesProof : Settings → ℕ → ModelView → List (ℕ × List (Option ℕ)) → Files → Files → End → Type 0
 WritesProof s seed m seeds files files_after end = IfSome s.proof (λ name. HoldsProof s seed m seeds (files name) (files_after name) end)
 
--- a run whose model is read: how it may end, what it tells of the row file, what it prints, and what it writes
+-- a run whose model is read: how it may end, what it tells of the row file, what it prints, and what it writes: the
+-- proof file alone
 pub record RunsModel (s : Settings) (seed : ℕ) (m : ModelView) (source : RowSource) (row_notes : List Note) (before after : Moment) (end : Result (Unit {0}) Stop) : Type 0 where
   pub sound : IsSound m
   pub ends : EndsBehind s seed m source row_notes end
   pub prints : Prints (out_text s seed m (given_of s m source)) before.out after.out (end_of end)
   pub writes : WritesProof s seed m (rows_of_run s m source) before.files after.files (end_of end)
+  pub others : KeepsOthers s.proof before.files after.files
 
 -- how a run on a model file and a row file may end, with which notes, what it prints, and what it writes: the reading of
 -- the model stopped, or there is a model
@@ -200,16 +206,18 @@ Ends s seed held source notes row_notes before after end =
     (IsErrAnd end (StopsReading (opts_of s) held) × (notes ≡ []) × (row_notes ≡ []) × (after.out ≡ before.out) × KeepsFiles before.files after.files)
     ⊎ HasModel (opts_of s) held (λ m noted. (notes ≡ noted) × RunsModel s seed m source row_notes before after end)
 
--- a run on a model file of this name, whose model has these bytes: what it wrote and printed, whose fault a file that it
--- blames is, what it told, and its status
-pub record IsRun (s : Settings) (seed : ℕ) (held : Option (List ℕ)) (source : RowSource) (name : List ℕ) (before after : Moment)
-    (told_before told_after : Option (List ℕ)) (faults faults_after status : ℕ) : Type 0 where
+-- a run on a model file of this name: what it wrote and printed, by the bytes of its model and of its row file where the
+-- folder tells them; whose fault a file or an output that it blames is; what it told, and its status
+pub record IsRun (s : Settings) (seed : ℕ) (name : List ℕ) (before after : Moment) (told_before told_after : Option (List ℕ))
+    (faults faults_after status : ℕ) : Type 0 where
   pub notes : List Note
   pub row_notes : List Note
   pub end : Result (Unit {0}) Stop
-  pub ends : EndsFrom s.make name (λ start. Ends s seed held source notes row_notes start after end) notes row_notes before after end
+  pub ends : (held : Option (List ℕ)) (source : RowSource) → model_source s name before.files ≡ Some held → row_source s before.files ≡ Some source
+      → EndsFrom s.make name (λ start. Ends s seed held source notes row_notes start after end) notes row_notes before after end
   pub reads : CountsReads s name (end_of end) before.reads after.reads
   pub writes : CountsWrites s name (end_of end) before.writes after.writes
+  pub out : CountsOut (end_of end) before.faults after.faults
   pub told : Tells told_before told_after faults faults_after (told_text (used_seed s.shuffle seed) notes row_notes (file_names name s) end)
   pub ended : status ≡ end_status end
 

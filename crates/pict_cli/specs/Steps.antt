@@ -28,7 +28,7 @@ use Rattle.pict_cli.specs.Ends.{Leaves, LeavesAll, Moment, Stopped, end_of}
 use Rattle.pict_cli.specs.Making.{EndsFrom}
 use Rattle.pict_cli.specs.Modes.{RowSource, model_source, row_source}
 use Rattle.pict_cli.specs.RowSources.{read_result_bytes, read_row_bytes, read_source, without_results}
-use Rattle.pict_cli.specs.Runs.{Ends}
+use Rattle.pict_cli.specs.Runs.{Ends, notes_behind}
 
 -- the text of a proof of this form with these omissions
 abbrev pub written : ProofForm → List Omission → List ℕ
@@ -72,10 +72,10 @@ IsSpentOrNoMemory budget over stop = (stop ≡ OutOfMemory) ⊎ ((question : Lis
 abbrev pub IsDueOrNoMemory : Option Stop → Stop → Type 0
 IsDueOrNoMemory due stop = (stop ≡ OutOfMemory) ⊎ (due ≡ Some stop)
 
--- the work on what the row file gives stopped: for want of memory, or as it must, before which none of the later notes
--- are told
+-- the work on what the row file gives stopped: for want of memory, or as it must, and none of the later notes are told
+-- where it must
 pub data StopsWork (due : Option Stop) (later notes notes_after : List Note) (stop : Stop) : Type 0 where
-  no_memory : (count : ℕ) → stop ≡ OutOfMemory → notes_after ≡ notes ++ take count later → StopsWork due later notes notes_after stop
+  no_memory : (count : ℕ) → stop ≡ OutOfMemory → notes_after ≡ notes ++ take count (notes_behind due later) → StopsWork due later notes notes_after stop
   is_due : due ≡ Some stop → notes_after ≡ notes → StopsWork due later notes notes_after stop
 
 -- the made model of these bytes isn't written to the file of this name: memory is wanting, and no file changes, or the

@@ -24,7 +24,7 @@ use std::alloc::Global;
 use std::thread::Threads;
 use tuple_index::Plan;
 
-/// The number that values are shuffled by, where they are; `seed_word` where no word gives one.
+// The number that values are shuffled by, where they are; `seed_word` where no word gives one.
 fn shuffle_number(shuffle: Shuffle, seed_word: u64) -> Option<u64>
     ensures { result ≡ shuffled_by (shuffle_seen shuffle) seed_word }
 {

@@ -72,7 +72,7 @@ impl Kinds {
         }
     }
 
-    /// Whether settings of these kinds leave no place for others.
+    // Whether settings of these kinds leave no place for others.
     fn excludes(self, other: Kinds) -> bool
         ensures { result ≡ excludes_by_kinds self other }
     {

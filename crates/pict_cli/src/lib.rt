@@ -9,7 +9,7 @@
 //!   completeness has no premise on faults.
 //! - `read_words` is the definition's reading of words.
 //!
-//! All memory is taken before the first byte is written.
+//! But for the making and the writing of a model, which come first, all memory is taken before the first byte is written.
 #![tactic(auto)]
 
 mod generating;

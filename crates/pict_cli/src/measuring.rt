@@ -18,22 +18,19 @@ ghost use Rattle.pict_cli.specs.Steps.{IsSpentOrNoMemory};
 use crate::growing::stop_of_search;
 use crate::options::Opts;
 use crate::preparing::prepare;
+use crate::printing::written;
 use command_line::Stop;
 use cov_model::TestModel;
 use coverage_measure::measure;
 use model_lex::NoteList;
-use outside_io::{Folder, OpenGate, Sink, WriteAnswer};
+use outside_io::{Folder, OpenGate, Sink};
 use row_text::{Figures, RowFile, RowMode, put_figures};
 use std::alloc::Global;
 use std::thread::Threads;
 use tuple_index::Plan;
 use value_text::OwnedList;
 
-/// The figures of a suite of a model within its plan (NIST IR 7878).
-///
-/// # Errors
-///
-/// `Spent` where a question costs too much, `OutOfMemory` where memory was refused.
+// The figures of a suite of a model within its plan (NIST IR 7878).
 fn figures_of<R: Threads + Sync>(
     rt: &R,
     alloc: Global,
@@ -67,20 +64,13 @@ fn figures_of<R: Threads + Sync>(
     }
 }
 
-/// Writes figures.
-///
-/// # Errors
-///
-/// `CannotWriteReport` where `out` failed.
+// Writes figures.
 fn print_figures<O: Sink>(figures: &Figures, out: &mut O) -> Result<(), Stop>
     ensures prints { Prints (figures_text (figures_seen figures.now)) (O.written out.old) (O.written out.new) (end_of result) }
     ensures faults { CountsOut (end_of result) (O.faults out.old) (O.faults out.new) }
     ensures stops { IfErr result (λ stop. stop ≡ Stop.CannotWriteReport) }
 {
-    match put_figures(figures, out) {
-        WriteAnswer::Done => Ok(()),
-        WriteAnswer::Failed => Err(Stop::CannotWriteReport),
-    }
+    written(put_figures(figures, out))
 }
 
 /// Measures the suite in the row file of a run, and writes its figures, with the notes on the file. All memory is

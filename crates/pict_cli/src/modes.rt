@@ -25,7 +25,7 @@ pub(crate) enum Mode<'w> {
 }
 
 impl<'w> Opts<'w> {
-    /// What is printed of a suite.
+    // What is printed of a suite.
     fn output(&self) -> Output
         ensures { output_seen result ≡ output_of (settings_seen self.now) }
     {
@@ -36,7 +36,7 @@ impl<'w> Opts<'w> {
         }
     }
 
-    /// What a run on a model file does.
+    // What a run on a model file does.
     fn mode_on_file(&self) -> Mode<'w>
         ensures { mode_seen result ≡ mode_in (settings_seen self.now).suspect (settings_seen self.now).measure (output_of (settings_seen self.now)) }
     {
@@ -57,7 +57,7 @@ impl<'w> Opts<'w> {
         }
     }
 
-    /// The name of the file of seed rows, where there is one.
+    // The name of the file of seed rows, where there is one.
     fn seed_file(&self) -> Option<&'w str>
         ensures { option_map (λ name. name.now) result ≡ rows_beside (settings_seen self.now).make (settings_seen self.now).seeds }
     {

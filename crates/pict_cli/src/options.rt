@@ -14,6 +14,9 @@ use command_line::{
 use model_lex::ModelOpts;
 use refutation::ProofForm;
 
+// The most nodes that one question may visit where no word says it.
+const USUAL_BUDGET: u64 = 1_000_000;
+
 /// What the words of a command ask for (PICT's guide; this project's rules). It borrows the words.
 #[derive(Drop, Clone, Copy)]
 pub struct Opts<'w> {
@@ -51,7 +54,7 @@ pub struct WordFault {
 }
 
 impl<'w> Opts<'w> {
-    /// What holds for a model file without further words.
+    // What holds for a model file without further words.
     fn of(model: &'w str) -> Opts<'w>
         ensures model { result.model.now ≡ model.now }
         ensures settings { settings_seen result ≡ defined.defaults }
@@ -63,7 +66,7 @@ impl<'w> Opts<'w> {
             shuffle: Shuffle::Off,
             stats: false,
             workers: 1,
-            budget: 1_000_000,
+            budget: USUAL_BUDGET,
             proof: None,
             form: ProofForm::One,
             measure: None,
@@ -101,7 +104,7 @@ impl<'w> Opts<'w> {
         }
     }
 
-    /// Sets one thing more.
+    // Sets one thing more.
     fn set(&mut self, setting: Setting<'w>)
         ensures model { self.new.model ≡ self.old.model }
         ensures settings { settings_seen self.new ≡ defined.set (settings_seen self.old) (setting_seen setting.entry) }
@@ -126,7 +129,7 @@ impl<'w> Opts<'w> {
     }
 }
 
-/// What the options so far ask for, and what they are about.
+// What the options so far ask for, and what they are about.
 #[derive(Drop, Clone, Copy)]
 struct Reading<'w> {
     opts: Opts<'w>,
@@ -134,8 +137,8 @@ struct Reading<'w> {
 }
 
 impl<'w> Reading<'w> {
-    /// The reading with the option of this number from 0 behind those so far; `None` exactly where this option
-    /// has no reading.
+    // The reading with the option of this number from 0 behind those so far; `None` exactly where this option
+    // has no reading.
     fn with_option(self, options: &'w [String], place: usize) -> Option<Reading<'w>>
         requires place { place < length options.now }
         requires reads { IsReading self.opts self.kinds (take place (texts options.now)) }
@@ -163,7 +166,7 @@ impl<'w> Reading<'w> {
     }
 }
 
-/// What options ask for, of this model file; the first of them is the second word.
+// What options ask for, of this model file; the first of them is the second word.
 fn read_options<'w>(model: &'w str, options: &'w [String]) -> Result<Opts<'w>, WordFault>
     ensures { MatchResult result
         (λ opts. (reading.first_faulty 2 [] (texts options.now) ≡ None) × (opts.model.now ≡ model.now)

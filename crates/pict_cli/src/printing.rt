@@ -16,7 +16,7 @@ use cov_model::TestModel;
 use outside_io::{Folder, Sink, WriteAnswer};
 use row_text::{put_report, put_stats};
 
-/// Writes what is printed of a suite.
+// Writes what is printed of a suite.
 fn put_suite<O: Sink>(
     model: &TestModel,
     output: Output,
@@ -34,11 +34,19 @@ fn put_suite<O: Sink>(
     }
 }
 
-/// Writes what is printed of a suite.
-///
-/// # Errors
-///
-/// `CannotWriteReport` where `out` failed.
+// How a run ends whose text was written to `out` so.
+pub(crate) fn written(answer: WriteAnswer) -> Result<(), Stop>
+    ensures prints { (text : List ℕ) (before after : Option (List ℕ)) → Puts answer before after text → Prints text before after (end_of result) }
+    ensures faults { (before after : ℕ) → CountsFaults answer before after → CountsOut (end_of result) before after }
+    ensures stops { IfErr result (λ stop. stop ≡ Stop.CannotWriteReport) }
+{
+    match answer {
+        WriteAnswer::Done => Ok(()),
+        WriteAnswer::Failed => Err(Stop::CannotWriteReport),
+    }
+}
+
+// Writes what is printed of a suite, and ends the run.
 fn print<O: Sink>(
     model: &TestModel,
     output: Output,
@@ -51,10 +59,7 @@ fn print<O: Sink>(
     ensures faults { CountsOut (end_of result) (O.faults out.old) (O.faults out.new) }
     ensures stops { IfErr result (λ stop. stop ≡ Stop.CannotWriteReport) }
 {
-    match put_suite(model, output, ready, out) {
-        WriteAnswer::Done => Ok(()),
-        WriteAnswer::Failed => Err(Stop::CannotWriteReport),
-    }
+    written(put_suite(model, output, ready, out))
 }
 
 /// Writes the proof of a suite to its file, where the options ask for one, and then what is printed of it. Takes no

@@ -10,11 +10,7 @@ use refutation::{Omissions, format_len, omission_len, put_format, put_omission};
 use std::alloc::Global;
 use value_text::NoMemory;
 
-/// The number of bytes of the text of a proof.
-///
-/// # Errors
-///
-/// `NoMemory` where it is above 2^64 - 1.
+// The number of bytes of the text of a proof; `NoMemory` where it is above 2^64 - 1.
 fn proof_len(proof: &Omissions) -> Result<u64, NoMemory>
     ensures len { IfOk result (λ count. count ≡ length (written proof.now.form proof.now.omissions)) }
 {
@@ -25,11 +21,7 @@ fn proof_len(proof: &Omissions) -> Result<u64, NoMemory>
     Ok(count)
 }
 
-/// The text of a proof, in one piece of memory that is taken at once.
-///
-/// # Errors
-///
-/// `NoMemory` where there is no room.
+// The text of a proof, in one piece of memory that is taken at once.
 fn proof_text(alloc: Global, proof: &Omissions) -> Result<Vec<u8>, NoMemory>
     ensures text { IfOk result (λ bytes. bytes.items ≡ written proof.now.form proof.now.omissions) }
 {

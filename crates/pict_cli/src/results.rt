@@ -12,7 +12,7 @@ use outside_io::Folder;
 use std::alloc::Global;
 use suspect_tuples::{ResultFile, ResultsFault, read_results};
 
-/// Why a run stops whose file of results is refused.
+// Why a run stops whose file of results is refused.
 fn stop_of_results(fault: ResultsFault) -> Stop
     ensures stop { result ≡ stop_of_results_fault fault }
     ensures other { IsOfRows result }

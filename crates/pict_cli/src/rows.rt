@@ -13,12 +13,7 @@ use row_text::{RowFile, RowMode, read_rows};
 use std::alloc::Global;
 use value_text::OwnedList;
 
-/// The rows of the row file of this name.
-///
-/// # Errors
-///
-/// `CannotRead` where the folder failed, `TooLong` where the file has more bytes than it may have, its first
-/// refusal, or `OutOfMemory` where memory was refused.
+// The rows of the row file of this name, or why its reading stops.
 fn read_row_file<F: Folder>(
     alloc: Global,
     name: &str,

@@ -31,7 +31,7 @@ use std::alloc::Global;
 use std::thread::Threads;
 use value_text::OwnedList;
 
-/// The seed that is told, since no word gave it.
+// The seed that is told, since no word gave it.
 fn told_seed(shuffle: Shuffle, seed_word: u64) -> Option<u64>
     ensures { result ≡ used_seed (shuffle_seen shuffle) seed_word }
 {
@@ -41,7 +41,7 @@ fn told_seed(shuffle: Shuffle, seed_word: u64) -> Option<u64>
     }
 }
 
-/// The exit status of a run that ended so.
+// The exit status of a run that ended so.
 fn status_of(end: &Result<(), Stop>) -> u8
     ensures { result ≡ end_status end.now }
 {
@@ -51,19 +51,19 @@ fn status_of(end: &Result<(), Stop>) -> u8
     }
 }
 
-/// How a run ended, with the notes that are told.
+// How a run ended, with the notes that are told.
 #[derive(Drop)]
 struct Ended {
-    /// Those on the model file.
+    // Those on the model file.
     notes: NoteList,
-    /// Those on the row file.
+    // Those on the row file.
     row_notes: NoteList,
-    /// Its end.
+    // Its end.
     end: Result<(), Stop>,
 }
 
 impl Ended {
-    /// A run that stopped before it had a model.
+    // A run that stopped before it had a model.
     fn stopped(alloc: Global, stop: Stop) -> Ended
         ensures notes { result.notes ≡ [] }
         ensures row_notes { result.row_notes ≡ [] }
@@ -77,7 +77,7 @@ impl Ended {
     }
 }
 
-/// Does with a model that was read, with these notes, what the options ask for.
+// Does with a model that was read, with these notes, what the options ask for.
 fn go_on<R: Threads + Sync, F: Folder, O: Sink>(
     rt: &R,
     alloc: Global,
@@ -114,7 +114,7 @@ fn go_on<R: Threads + Sync, F: Folder, O: Sink>(
     }
 }
 
-/// Reads the model file, and does with its model what the options ask for.
+// Reads the model file, and does with its model what the options ask for.
 fn run_on_file<R: Threads + Sync, F: Folder, O: Sink>(
     rt: &R,
     alloc: Global,
@@ -135,7 +135,7 @@ fn run_on_file<R: Threads + Sync, F: Folder, O: Sink>(
     }
 }
 
-/// Reads a made model from its text, and does with it what the options ask for.
+// Reads a made model from its text, and does with it what the options ask for.
 fn run_on_text<R: Threads + Sync, F: Folder, O: Sink>(
     rt: &R,
     alloc: Global,
@@ -157,7 +157,7 @@ fn run_on_text<R: Threads + Sync, F: Folder, O: Sink>(
     }
 }
 
-/// Writes the made model of a number to the model file, and does with that model what the options ask for.
+// Writes the made model of a number to the model file, and does with that model what the options ask for.
 fn run_making<R: Threads + Sync, F: Folder, O: Sink>(
     rt: &R,
     alloc: Global,
@@ -179,7 +179,7 @@ fn run_making<R: Threads + Sync, F: Folder, O: Sink>(
     }
 }
 
-/// Gets the model, and does with it what the options ask for.
+// Gets the model, and does with it what the options ask for.
 fn run<R: Threads + Sync, F: Folder, O: Sink>(
     rt: &R,
     alloc: Global,
@@ -254,11 +254,12 @@ pub fn run_pict<R: Threads + Sync, F: Folder, O: Sink, E: Sink>(
     ensures proof { result ≡ 0 → (s : Settings) (held after : Option (List ℕ)) (source : RowSource) → IsGiven (texts words.now) (F.file files.old) s held source →
         told_proof s (F.file files.new) ≡ Some after → HasModel (opts_of s) held (λ m notes. HoldsWholeProof s seed_word m (rows_of_run s m source) after) }
 
-    // What a run does, by what its words ask for: why it ends so, what it prints, writes and tells. Premises: the run is
-    // given s, and the folder tells what its files held; of the model file a run that makes its model needn't be told. And
-    // what `out` and `diag` got is said of each that tells what it held before, and what the written files hold where the
+    // What a run does, by what its words ask for: why it ends so, what it prints, writes and tells, and whose count of
+    // faults rose where it blames a file or `out`. Premise: the words ask for s. And why it ends so and what it prints is
+    // said where the folder tells what its files held; of the model file a run that makes its model needn't be told. What
+    // `out` and `diag` got is said of each that tells what it held before, and what the written files hold where the
     // folder tells it at the end.
-    ensures run { (s : Settings) (held : Option (List ℕ)) (source : RowSource) → IsGiven (texts words.now) (F.file files.old) s held source → IsRun s seed_word held source (model_file words.now)
+    ensures run { (s : Settings) → asked_by (texts words.now) ≡ Ok s → IsRun s seed_word (model_file words.now)
         (moment (F.file files.old) (F.read_faults files.old) (F.write_faults files.old) (O.written out.old) (O.faults out.old))
         (moment (F.file files.new) (F.read_faults files.new) (F.write_faults files.new) (O.written out.new) (O.faults out.new))
         (E.written diag.old) (E.written diag.new) (E.faults diag.old) (E.faults diag.new) result }
@@ -307,23 +308,24 @@ pub fn run_pict<R: Threads + Sync, F: Folder, O: Sink, E: Sink>(
     ensures missing { (s : Settings) (source : RowSource) → IsGiven (texts words.now) (F.file files.old) s None source → (result ≡ 7) ⊎ (result ≡ 1) }
 
     // Without such premises: with a status but 0 and 8 `out` gets nothing.
-    ensures nothing { result ≢ 0 → result ≢ 8 → (O.written out.new ≡ O.written out.old) × (O.faults out.new ≡ O.faults out.old) }
+    ensures nothing { result ≢ 0 → result ≢ 8 → O.written out.new ≡ O.written out.old }
 
     // 7 comes only where the folder's count of faults of reading a file rose that the words give the run to read, 8 only
     // where the count of faults of `out` rose, or that of writing a file that they give it to write, and then `out` got
-    // nothing; and no status comes but those named above.
+    // nothing; no other status changes these counts; and no status comes but those named above.
     ensures read { result ≡ 7 → (kind : FileKind) × IsSomeAnd (file_to_read words.now kind) (λ name. Rose (F.read_faults files.old name) (F.read_faults files.new name)) }
     ensures write { result ≡ 8 → Rose (O.faults out.old) (O.faults out.new)
         ⊎ ((O.written out.new ≡ O.written out.old) × (O.faults out.new ≡ O.faults out.old)
         × ((kind : FileKind) × IsSomeAnd (file_to_write words.now kind) (λ name. Rose (F.write_faults files.old name) (F.write_faults files.new name)))) }
+    ensures no_read_fault { result ≢ 7 → KeepsCounts (F.read_faults files.old) (F.read_faults files.new) }
+    ensures no_fault { result ≢ 8 → O.faults out.new ≡ O.faults out.old }
+    ensures write_faults { result ≢ 8 → KeepsCounts (F.write_faults files.old) (F.write_faults files.new) }
     ensures statuses { IsStatus result }
 
     // No name but those of the files that the words give the run to write changes what is told of it, and with a status but
-    // 0 and 8 none but that of the made model does: the proof file is written once there is a suite. The counts of faults
-    // of writing change with status 8 alone.
+    // 0 and 8 none but that of the made model does: the proof file is written once there is a suite.
     ensures files { KeepsUnwritten (file_to_write words.now) (F.file files.old) (F.file files.new) }
     ensures unwritten { result ≢ 0 → result ≢ 8 → KeepsOthers (file_to_write words.now FileKind.Model) (F.file files.old) (F.file files.new) }
-    ensures write_faults { result ≢ 8 → KeepsCounts (F.write_faults files.old) (F.write_faults files.new) }
 {
     let opts = match read_command(words) {
         Ok(opts) => opts,

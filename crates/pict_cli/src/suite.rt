@@ -43,7 +43,7 @@ pub(crate) struct ReadySuite {
     pub turns: Turns,
 }
 
-/// The statistics of a suite.
+// The statistics of a suite.
 fn stats_of(plan: &Plan, suite: &Suite) -> Stats
     ensures sets { result.sets ≡ length plan.now.sets }
     ensures tuples { result.tuples ≡ sum plan.now.sizes }
@@ -60,11 +60,7 @@ fn stats_of(plan: &Plan, suite: &Suite) -> Stats
     }
 }
 
-/// Adds a note on each seed row that isn't kept.
-///
-/// # Errors
-///
-/// `NoMemory` where there is no room; then the first of the notes stand.
+// Adds a note on each seed row that isn't kept. Where there is no room the first of the notes stand.
 fn push_dropped(notes: &mut NoteList, lines: &[u32]) -> Result<(), NoMemory>
     ensures added { OnOk result (notes.new ≡ notes.old ++ map dropped_note lines.now) }
     ensures refused { IfErr result (λ _. (count : ℕ) × (notes.new ≡ notes.old ++ take count (map dropped_note lines.now))) }

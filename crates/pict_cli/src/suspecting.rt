@@ -10,19 +10,16 @@ ghost use Rattle.pict_cli.specs.Runs.{RunsModel, candidates_stop};
 ghost use Rattle.pict_cli.specs.Steps.{IsDueOrNoMemory};
 
 use crate::options::Opts;
+use crate::printing::written;
 use crate::results::load_results;
 use command_line::{Quantity, Stop};
 use cov_model::TestModel;
 use model_lex::NoteList;
-use outside_io::{Folder, Sink, WriteAnswer};
+use outside_io::{Folder, Sink};
 use std::alloc::Global;
 use suspect_tuples::{ResultFile, SuspectFault, Suspects, put_suspects, suspects};
 
-/// The suspicious tuples of results.
-///
-/// # Errors
-///
-/// `TooMany` where there are too many candidates, `OutOfMemory` where memory was refused.
+// The suspicious tuples of results.
 fn suspects_in(alloc: Global, model: &TestModel, results: &ResultFile) -> Result<Suspects, Stop>
     requires { AreResultsOf model.now results.now }
     ensures found { IfOk result (λ found. suspects_seen found ≡ suspects_of model.now results.now) }
@@ -37,20 +34,13 @@ fn suspects_in(alloc: Global, model: &TestModel, results: &ResultFile) -> Result
     }
 }
 
-/// Writes suspicious tuples.
-///
-/// # Errors
-///
-/// `CannotWriteReport` where `out` failed.
+// Writes suspicious tuples.
 fn print_suspects<O: Sink>(found: &Suspects, out: &mut O) -> Result<(), Stop>
     ensures prints { Prints (suspects_text (suspects_seen found.now)) (O.written out.old) (O.written out.new) (end_of result) }
     ensures faults { CountsOut (end_of result) (O.faults out.old) (O.faults out.new) }
     ensures stops { IfErr result (λ stop. stop ≡ Stop.CannotWriteReport) }
 {
-    match put_suspects(found, out) {
-        WriteAnswer::Done => Ok(()),
-        WriteAnswer::Failed => Err(Stop::CannotWriteReport),
-    }
+    written(put_suspects(found, out))
 }
 
 /// Looks for suspicious tuples in the results of the file of this name, and writes their list, with the notes on the

@@ -16,6 +16,5 @@ pub(crate) fn read_command<'w>(words: &'w [String]) -> Result<Opts<'w>, WordFaul
         (λ opts. (asked_by (texts words.now) ≡ Ok (settings_seen opts)) × FitRun (settings_seen opts) × (opts.model.now ≡ model_file words.now))
         (λ fault. IsWordFault (texts words.now) fault.index) }
 {
-    let opts = read_words(words)?;
-    Ok(opts)
+    read_words(words)
 }

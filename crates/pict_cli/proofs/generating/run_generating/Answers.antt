@@ -93,6 +93,7 @@ returns-clause-runs g c = λ source told.
           proof_from s seed m (rows_of_run s m source) before loaded after (end_of end) c.prepare.ensures.files
           (proof_same s seed m source given file.notes within (Generate output) c.requires.mode reads read.holds.notes loaded after (end_of end)
           (c.write_suite.ensures.writes seed seeds c.in_ok-suite.ensures.proof));
+      others = λ file other. (c.write_suite.ensures.leaves file).others file other ∙ c.prepare.ensures.files file;
     }
 
 pub returns-clause-leaves : goal.returns-clause-leaves

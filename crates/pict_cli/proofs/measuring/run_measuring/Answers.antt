@@ -81,6 +81,7 @@ returns-clause-runs g c = λ seed source told.
           ∙ sym (text_same s seed m source given file.notes within mode c.requires.mode.1 reads read.holds.notes))
           c.print_figures.ensures.prints;
       writes = writes_none s seed m (rows_of_run s m source) _ _ (end_of end) (c.requires.fit.unproved (ap makes_suite c.requires.mode.1));
+      others = λ file other. c.prepare.ensures.files file;
     }
 
 pub returns-clause-leaves : goal.returns-clause-leaves

@@ -3,7 +3,7 @@ use Rattle.std.specs.Prelude.{IfSome, IsSomeAnd}
 use Rattle.value_text.proofs.ListLemmas.{one_ok}
 use Rattle.outside_io.specs.Faults.{Rose}
 use Rattle.command_line.specs.declared.files.FileKind.TheVariants as kinds
-use Rattle.pict_cli.specs.Ends.{CountsOut, CountsReads, CountsWrites, IsQuiet, KeepsOthers, KeepsUnwritten}
+use Rattle.pict_cli.specs.Ends.{CountsOut, CountsReads, CountsWrites, IsQuiet, KeepsOthers, KeepsUnwritten, end_of}
 use Rattle.pict_cli.specs.Options.{settings_seen}
 use Rattle.pict_cli.specs.Ranges.{FitRun}
 use Rattle.pict_cli.specs.Steps.{HoldsMade}
@@ -12,8 +12,8 @@ use Rattle.pict_cli.specs.Runs.{IsStatus, file_names, used_seed}
 use Rattle.command_line.specs.Told.{Tells, end_status, told_text}
 use Rattle.command_line.specs.Words.{texts}
 use Rattle.pict_cli.proofs.Causes.{complete_end, long_end, missing_end, missing_rows_end, refused_end, stopped_end}
-use Rattle.pict_cli.proofs.RunEnds.{accepted_whole, covers_whole, eight_is_end, few_whole, form_known, not_three, nothing_end}
-use Rattle.pict_cli.proofs.RunEnds.{proof_whole, ran_asked, seeds_whole, seven_is_end, status_known, untouched_end, unwritten_end}
+use Rattle.pict_cli.proofs.RunEnds.{accepted_whole, calm_end, covers_whole, eight_is_end, few_whole, form_known, not_three, proof_whole, quiet_of}
+use Rattle.pict_cli.proofs.RunEnds.{ran_asked, seeds_whole, seven_is_end, status_known, unbroken_end, untouched_end, unwritten_end}
 use Rattle.pict_cli.proofs.run.run_pict.Goals as goal
 
 pub returns-clause-headline : goal.returns-clause-headline
@@ -42,25 +42,26 @@ returns-clause-proof g c = λ zero s held after source given told.
     (sym c.status_of.ensures ∙ zero)
 
 pub returns-clause-run : goal.returns-clause-run
-returns-clause-run g c = λ s held source given.
-    let ran = (ran_asked c.in-Ok.ensures.0 given.asked c.in-Ok.ensures.2 c.run-ended.ensures) in
+returns-clause-run g c = λ s asked.
+    let ran = ran_asked c.in-Ok.ensures.0 asked c.in-Ok.ensures.2 c.run-ended.ensures in
     let names = c.names.result in
     let end = c.run-ended.result.end in
     let notes = c.as_slice-notes.result.now in
     let row_notes = c.as_slice-row_notes.result.now in
     let text = ap (λ seed. told_text seed notes row_notes names end) c.told_seed-seed.ensures
-    ∙ ap (λ t. told_text (used_seed t.shuffle c.args.seed_word) notes row_notes names end) (one_ok c.in-Ok.ensures.0 given.asked)
+    ∙ ap (λ t. told_text (used_seed t.shuffle c.args.seed_word) notes row_notes names end) (one_ok c.in-Ok.ensures.0 asked)
     ∙ ap (λ told. told_text (used_seed s.shuffle c.args.seed_word) told row_notes names end) c.as_slice-notes.ensures
     ∙ ap (λ told. told_text (used_seed s.shuffle c.args.seed_word) c.run-ended.result.notes told names end) c.as_slice-row_notes.ensures
     ∙ ap (λ names. told_text (used_seed s.shuffle c.args.seed_word) c.run-ended.result.notes c.run-ended.result.row_notes names end)
-    (c.names.ensures ∙ ap (file_names c.in-Ok.opts.model.now) (one_ok c.in-Ok.ensures.0 given.asked) ∙ ap (λ name. file_names name s) c.in-Ok.ensures.2) in
+    (c.names.ensures ∙ ap (file_names c.in-Ok.opts.model.now) (one_ok c.in-Ok.ensures.0 asked) ∙ ap (λ name. file_names name s) c.in-Ok.ensures.2) in
     record {
       notes = c.run-ended.result.notes;
       row_notes = c.run-ended.result.row_notes;
       end = end;
-      ends = ran.ends held source given.model given.rows;
+      ends = ran.ends;
       reads = ran.leaves.reads;
       writes = ran.leaves.writes;
+      out = ran.leaves.faults;
       told =
           subst (Tells (g.E.Sink.written c.args.diag.now) (g.E.Sink.written c.tell-2.new.sink)
           (g.E.Sink.faults c.args.diag.now) (g.E.Sink.faults c.tell-2.new.sink)) text
@@ -98,8 +99,8 @@ returns-clause-missing g c = λ s source given.
 pub returns-clause-nothing : goal.returns-clause-nothing
 returns-clause-nothing g c = λ zero eight.
     let left = c.run-ended.ensures.leaves in
-    nothing_end c.run-ended.result.end _ _ _ _
-    (untouched_end c.run-ended.result.end (λ e. zero (c.status_of.ensures ∙ e)) (λ e. eight (c.status_of.ensures ∙ e)) left.worded) left.quiet left.faults
+    quiet_of (end_of c.run-ended.result.end) _ _
+    (untouched_end c.run-ended.result.end (λ e. zero (c.status_of.ensures ∙ e)) (λ e. eight (c.status_of.ensures ∙ e)) left.worded) left.quiet
 
 pub returns-clause-read : goal.returns-clause-read
 returns-clause-read g c = λ seven.
@@ -157,6 +158,15 @@ returns-clause-made g c = λ s n asked is.
     let name = model_file c.args.words.now in
     let after = g.F.Folder.file c.run-ended.new.files in
     subst (HoldsMade s n name after) (sym c.status_of.ensures) (subst (λ make. IfSome make (λ number. HoldsMade s number name after (end_status c.run-ended.result.end))) is ran.made)
+
+pub returns-clause-no_read_fault : goal.returns-clause-no_read_fault
+returns-clause-no_read_fault g c = λ seven.
+    calm_end (settings_seen c.in-Ok.opts) c.in-Ok.opts.model.now c.run-ended.result.end (g.F.Folder.read_faults c.args.files.now) (g.F.Folder.read_faults c.run-ended.new.files)
+    (λ e. seven (c.status_of.ensures ∙ e)) c.run-ended.ensures.leaves.reads
+
+pub returns-clause-no_fault : goal.returns-clause-no_fault
+returns-clause-no_fault g c = λ eight.
+    unbroken_end c.run-ended.result.end (g.O.Sink.faults c.args.out.now) (g.O.Sink.faults c.run-ended.new.out) (λ e. eight (c.status_of.ensures ∙ e)) c.run-ended.ensures.leaves.faults
 
 pub returns-clause-write_faults : goal.returns-clause-write_faults
 returns-clause-write_faults g c = λ eight.

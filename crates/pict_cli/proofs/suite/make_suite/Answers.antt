@@ -8,7 +8,7 @@ use Rattle.row_text.specs.Told.{statistics_seen}
 use Rattle.command_line.specs.declared.stop.Stop.TheVariants.{OutOfMemory}
 use Rattle.pict_cli.specs.Options.{settings_seen}
 use Rattle.pict_cli.specs.RowSources.{dropped_note, dropped_notes}
-use Rattle.pict_cli.specs.Runs.{growth_over, orders_of, spent_on}
+use Rattle.pict_cli.specs.Runs.{growth_over, notes_behind, orders_of, spent_on}
 use Rattle.pict_cli.specs.Steps.{StopsWork, no_memory}
 use Rattle.pict_cli.proofs.Suites.{if_err_of, omitted_count, proof_ready, same_statistics, search_stopped}
 use Rattle.pict_cli.proofs.suite.make_suite.Goals as goal
@@ -51,7 +51,8 @@ returns-in_err-push_dropped-clause-stops g c =
     if_err_of (StopsWork due (dropped_notes c.args.model.now seeds) c.args.notes.now c.push_dropped.new.notes) c.from_residual-in_err-push_dropped.result OutOfMemory
     c.from_residual-in_err-push_dropped.ensures.1
     (no_memory told.0 refl
-    (told.1 ∙ ap (λ lines. c.args.notes.now ++ take told.0 (map dropped_note lines)) (c.as_slice.ensures ∙ c.in_ok-suite.ensures.suite.dropped)))
+    (told.1 ∙ ap (λ lines. c.args.notes.now ++ take told.0 (map dropped_note lines)) (c.as_slice.ensures ∙ c.in_ok-suite.ensures.suite.dropped)
+    ∙ ap (λ o. c.args.notes.now ++ take told.0 (notes_behind (option_map (spent_on s) o) (dropped_notes c.args.model.now seeds))) (sym c.in_ok-suite.ensures.answered)))
 
 pub returns-clause-stats : goal.returns-clause-stats
 returns-clause-stats g c =

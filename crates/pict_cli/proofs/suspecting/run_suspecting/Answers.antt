@@ -95,6 +95,7 @@ returns-clause-runs g c = λ seed source told.
           ∙ sym (text_same s seed m source read.reading notes within (Suspect name) c.requires.mode reads read.holds.rows.notes))
           c.print_suspects.ensures.prints;
       writes = writes_none s seed m (rows_of_run s m source) _ _ (end_of end) (c.requires.fit.unproved (ap makes_suite c.requires.mode));
+      others = λ file other. c.load_results.ensures.files file;
     }
 
 pub returns-clause-leaves : goal.returns-clause-leaves
