@@ -19,5 +19,7 @@ pub mod Digits
 pub mod NumberText
 pub mod Contents
 pub mod TokenText
+pub mod Meanings
 pub mod RoundTrip
+pub mod OneLine
 pub mod Openers

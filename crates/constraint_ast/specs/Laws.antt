@@ -1,6 +1,8 @@
 -- What holds of the definitions together. (This project's rules.)
-use Rattle.std.specs.Prelude.{true, ◌≡◌, ◌⊎◌, ℕ, List, [], ◌∷◌, All}
-use Rattle.model_lex.specs.Sections.{opens_rule}
+use Rattle.std.specs.Prelude.{true, false, ◌≡◌, ◌⊎◌, ℕ, List, [], ◌∷◌, Ok, All}
+use Rattle.std.specs.List.{list_any}
+use Rattle.model_lex.specs.Lines.{is_line_feed, without_return}
+use Rattle.model_lex.specs.Sections.{Split, opens_rule, sections_of}
 use Rattle.model_lex.specs.declared.diag.Diag.{Diag}
 use Rattle.constraint_ast.specs.Trees.{RuleTree}
 use Rattle.constraint_ast.specs.Grammar.{AreRules, Refused}
@@ -42,6 +44,16 @@ LinesHaveOneReading = (lines : List (ℕ × List ℕ)) → HaveOneReading lines
 abbrev pub RuleTextReadsBack : Type 0
 RuleTextReadsBack = (lines : List (ℕ × List ℕ)) (rules : List RuleTree) (line : ℕ)
     → Spell lines rules → All (λ rule. Spell ((line, rule_text rule) ∷ []) (rule_at line rule ∷ [])) rules
+
+-- a text is one line of a file: no line feed stands in it, and no carriage return at its end, which would be left out
+pub record IsOneLine (text : List ℕ) : Type 0 where
+  pub unbroken : list_any is_line_feed text ≡ false
+  pub whole : without_return text ≡ text
+
+-- the line of a constraint that a model file spells is one line of a file
+abbrev pub RuleTextIsOneLine : Type 0
+RuleTextIsOneLine = (bytes : List ℕ) (split : Split) (rules : List RuleTree)
+    → sections_of bytes ≡ Ok split → Spell split.rules rules → All (λ rule. IsOneLine (rule_text rule)) rules
 
 -- and it opens the constraints of a file
 abbrev pub RuleTextOpens : Type 0

@@ -1,4 +1,4 @@
-ghost use Rattle.constraint_ast.specs.Laws.{GrammarHasOneReading, LinesHaveOneReading, RuleTextOpens, RuleTextReadsBack};
+ghost use Rattle.constraint_ast.specs.Laws.{GrammarHasOneReading, LinesHaveOneReading, RuleTextIsOneLine, RuleTextOpens, RuleTextReadsBack};
 
 /// Each list of tokens either spells one list of constraints, or is refused at one place with one
 /// code, with room for any number of open `(` and NOTs.
@@ -15,6 +15,12 @@ pub fn lines_have_one_reading()
 /// again: the same tree but for its lines (this project's rule).
 pub fn rule_text_reads_back()
     ensures { RuleTextReadsBack }
+{}
+
+/// The line of a constraint of a model file is one line of a file: it holds no line feed, and no
+/// carriage return at its end, which reading would leave out (this project's rule).
+pub fn rule_text_is_one_line()
+    ensures { RuleTextIsOneLine }
 {}
 
 /// The line of a constraint of a model file opens the constraints of a file: as its first line, it is

@@ -426,8 +426,9 @@ fn put_body(alloc: Global, line: &mut Line, body: &RawBody) -> Result<(), NoMemo
     }
 }
 
-/// The line of a constraint (the language of PICT's guide, written by this project's rules). Read by
-/// itself, it spells the same constraint.
+/// The line of a constraint (the language of PICT's guide, written by this project's rules). Of a
+/// constraint that a model file spells, it is one line, and read by itself it spells the same
+/// constraint.
 ///
 /// One blank stands between two tokens, but none behind `(` and `{`, and none before `)`, `}`, `,`
 /// and `;`. Parentheses stand round an `All` in an `All` or a `Not`, and round an `Any` in an `Any`, an

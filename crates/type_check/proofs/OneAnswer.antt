@@ -13,6 +13,7 @@ use Rattle.model_parse.specs.RawModels.{AreOpts, IsSoundRaw, raw_model_of}
 use Rattle.model_parse.specs.declared.raw_model.RawModel.{RawModel}
 use Rattle.model_parse.proofs.Refusing.{raw_refusal}
 use Rattle.model_parse.proofs.SoundGroups.{raw_ok}
+use Rattle.value_text.proofs.ListLemmas.{one_ok}
 use Rattle.constraint_ast.specs.Lexing.{AreRefused, Spell}
 use Rattle.constraint_ast.specs.Trees.{RuleTree}
 use Rattle.constraint_ast.proofs.OneReading.{lines_have_one_reading}
@@ -20,7 +21,7 @@ use Rattle.type_check.specs.Constraints.{rules_fault}
 use Rattle.type_check.specs.Laws.{FilesHaveOneAnswer, ModelsAreSound}
 use Rattle.type_check.specs.ModelOf.{Answer, IsAnswerIn, IsAnswerOf, IsModelOf, IsRefusalOf, by_grammar, by_model, by_params, by_rules, by_sections, in_sections, model_of}
 use Rattle.type_check.proofs.RuleLists.{rules_refusal}
-use Rattle.type_check.proofs.Soundness.{model_sound, one_ok}
+use Rattle.type_check.proofs.Soundness.{model_sound}
 
 -- lines spell trees, or they are refused
 abbrev Lines : List (ℕ × List ℕ) → Type 0
@@ -139,7 +140,7 @@ pub files_have_one_model :
     (opts : ModelOpts) (bytes : List ℕ) (m other : ModelView) (notes others : List Note) → IsModelOf opts bytes m notes → IsModelOf opts bytes other others
     → (m ≡ other) × (notes ≡ others)
 files_have_one_model opts bytes m other notes others is too =
-    let same = one_ok (Ok (m, notes)) (m, notes) (other, others) refl (one_answer opts bytes (Ok (m, notes)) (Ok (other, others)) is too) in
+    let same = one_ok {x = (m, notes)} {y = (other, others)} refl (one_answer opts bytes (Ok (m, notes)) (Ok (other, others)) is too) in
     (ap (λ read. read.0) same, ap (λ read. read.1) same)
 
 pub models_are_not_refused : (opts : ModelOpts) (bytes : List ℕ) (m : ModelView) (notes : List Note) (fault : ModelFault)

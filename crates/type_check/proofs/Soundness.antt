@@ -16,7 +16,7 @@ use Rattle.cov_model.specs.declared.constraint.Term.TheVariants as term
 use Rattle.model_lex.specs.declared.diag.DiagCode.{DiagCode}
 use Rattle.model_lex.specs.declared.diag.DiagCode.TheVariants.{UnknownParameter, TypeMismatch, LikeNeedsText}
 use Rattle.value_text.specs.Texts.{is_same_text}
-use Rattle.value_text.proofs.ListLemmas.{ok-err}
+use Rattle.value_text.proofs.ListLemmas.{ok-err, one_ok}
 use Rattle.constraint_ast.specs.Trees.{Tree, Trees, Leaf, Negated, Each, Either, End, More, BodyTree, Plain, IfThen, IfElse, RuleTree}
 use Rattle.constraint_ast.specs.declared.tree.RawLiteral.{RawLiteral}
 use Rattle.constraint_ast.specs.declared.tree.RawLiteral.TheVariants.{Number, Words}
@@ -32,13 +32,9 @@ use Rattle.type_check.specs.ModelOf.{model_of}
 use Rattle.type_check.proofs.Refusals.{no_diag, none_parts}
 use Rattle.type_check.proofs.RuleLists.{told_parts}
 
--- an answer is one
-pub one_ok : {A E : Type 0} (read : Result A E) (a b : A) → read ≡ Ok a → read ≡ Ok b → a ≡ b
-one_ok read a b one other = cc
-
 -- what a term that isn't refused has met
 met_of : (met : Bool) (code : DiagCode) (found term : terms.Term) → given_that met code found ≡ Ok term → (met ≡ true) × (found ≡ term)
-met_of true code found term e = (refl, one_ok (given_that true code found) found term refl e)
+met_of true code found term e = (refl, one_ok {r = given_that true code found} refl e)
 met_of false code found term e = absurd (ok-err term code e refl)
 
 found_of : (place : Option ℕ) (of : ℕ → Result terms.Term DiagCode) (term : terms.Term) → with_param place of ≡ Ok term → (p : ℕ) × (place ≡ Some p) × (of p ≡ Ok term)
@@ -84,10 +80,10 @@ module _ (fold : Bool) (params : List Param) where
       subst (IsSoundTerm params) met.1 (within name at.0 at.1, not-true (numeric_at params at.0) met.0)
   term_sound (Negative name) found e =
       let at = found_of (param_named fold params name) _ found e in
-      subst (IsSoundTerm params) (one_ok (Ok (term.Negative at.0)) (term.Negative at.0) found refl at.2) (within name at.0 at.1)
+      subst (IsSoundTerm params) (one_ok {x = term.Negative at.0} refl at.2) (within name at.0 at.1)
   term_sound (Positive name) found e =
       let at = found_of (param_named fold params name) _ found e in
-      subst (IsSoundTerm params) (one_ok (Ok (term.Positive at.0)) (term.Positive at.0) found refl at.2) (within name at.0 at.1)
+      subst (IsSoundTerm params) (one_ok {x = term.Positive at.0} refl at.2) (within name at.0 at.1)
 
   leaf_sound : (line : ℕ) (raw : RawTerm) (read : Result terms.Term DiagCode) → term_of fold params raw ≡ read → term_refusal_or line read None ≡ None → IsSoundTerm params (found_term read)
   leaf_sound line raw (Ok found) is none = term_sound raw found is

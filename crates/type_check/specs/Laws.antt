@@ -18,6 +18,6 @@ pub record HasOneAnswer (opts : ModelOpts) (bytes : List ℕ) : Type 0 where
 abbrev pub FilesHaveOneAnswer : Type 0
 FilesHaveOneAnswer = (opts : ModelOpts) (bytes : List ℕ) → HasOneAnswer opts bytes
 
--- the model of a file is sound
+-- the model of a file is sound, under options whose marks are marks and differ, and whose order isn't 0
 abbrev pub ModelsAreSound : Type 0
 ModelsAreSound = (opts : ModelOpts) (bytes : List ℕ) (m : ModelView) (notes : List Note) → AreOpts opts → IsModelOf opts bytes m notes → IsSound m

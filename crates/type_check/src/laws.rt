@@ -6,7 +6,8 @@ pub fn files_have_one_answer()
     ensures { FilesHaveOneAnswer }
 {}
 
-/// The model that a file spells is sound.
+/// The model that a file spells is sound, under options whose marks are marks and differ, and whose
+/// order isn't 0.
 pub fn models_are_sound()
     ensures { ModelsAreSound }
 {}

@@ -33,7 +33,7 @@ fn read_sections(
 }
 
 /// The model that a model file spells, with its notes (PICT's guide; the ACTS guide for relations;
-/// the details are this project's rules).
+/// the details are this project's rules). The file may have at most 2^28 bytes.
 ///
 /// # Errors
 ///
@@ -55,8 +55,6 @@ pub fn read_model(
     ensures err { IfErr result (λ fault. fault ≢ ModelFault.NoMemory → IsRefusalOf opts.now bytes.now fault) }
     ensures only { (answer : Answer) → IsAnswerOf opts.now bytes.now answer → (result ≡ answer) ⊎ (result ≡ Err ModelFault.NoMemory) }
 {
-    match split_model(alloc, bytes) {
-        Ok(sections) => read_sections(alloc, &sections, opts),
-        Err(fault) => Err(fault),
-    }
+    let sections = split_model(alloc, bytes)?;
+    read_sections(alloc, &sections, opts)
 }
