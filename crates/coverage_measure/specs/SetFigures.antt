@@ -16,7 +16,7 @@ set_figures m rows sets = record {
   at25 = length (filter (is_at m rows 25) sets);
 }
 
--- one for a set at a percentage
+-- one for a set of whose servable tuples at least this percentage is covered
 abbrev pub one_at : ℕ → ℕ → ℕ → ℕ
 one_at percent servable covered = if nat_le (percent * servable) (100 * covered) then 1 else 0
 

@@ -10,7 +10,7 @@ use packed_lists::PackedLists;
 use std::alloc::Global;
 use value_text::NoMemory;
 
-/// The most solvers that are kept at a time: a model may have more slices than there is room for solvers.
+// The most solvers that are kept at a time: a model may have more slices than there is room for solvers.
 const MOST_KEPT: usize = 256;
 
 // A solver, the slice that it is for, and each parameter's values there in declared order.
@@ -71,8 +71,8 @@ impl<'a> Asking<'a> {
         Ok(place)
     }
 
-    // One if the partial row is extendable in the solver's slice, and else none. Spent where the plain cost of
-    // the question exceeds the budget.
+    // One if the partial row is extendable in the solver's slice, and else none. Where the plain cost of the
+    // question exceeds the budget, that is the fault.
     pub(crate) fn count_row(
         &self,
         kept: &mut KeptSolver<'a>,

@@ -3,8 +3,9 @@
 //! - `measure` counts the rows of a file, marks by workers the demanded tuples that its tests serve, and asks
 //!   of each demanded tuple whether some row of the model serves it. Its promise is the clause `figures`: the
 //!   figures are those of the definition, for every number of workers from 1 to 64.
-//! - The questions of such a run are the demanded tuples in their order. The clause `ends` says that a run ends
-//!   at the first of them whose plain cost exceeds the budget, and without figures exactly where there is one.
+//! - The questions of such a run are the demanded tuples in their order. The clause `ends` says that figures come
+//!   only where no plain cost exceeds the budget, and that `Spent` names the first tuple whose plain cost does.
+//!   Want of memory is the only other end.
 #![tactic(auto)]
 
 mod asking;

@@ -46,14 +46,14 @@ fn measure_sets(asking: &Asking<'_>, plan: &Plan, marks: &Bits) -> Result<SetFig
 }
 
 /// The figures of a given suite: of its rows, and of the demanded tuples that its tests cover among those that
-/// some row of the model serves. The tests are marked by workers numbered from 1; the figures are the same
+/// some row of the model serves. Workers numbered from 1 mark what the tests serve; the figures are the same
 /// for every number of workers from 1 to 64. Each demanded tuple is a question of the run, with the
 /// preferences without a shuffle. Plan and suite have to be the model's; a suite has at most 2^20 rows.
 ///
 /// # Errors
 ///
-/// `Spent` with the first demanded tuple whose plain cost exceeds the budget, exactly where there is one;
-/// `NoMemory` where memory is refused.
+/// `Spent` with the first demanded tuple whose plain cost exceeds the budget; where there is one, no figures
+/// come. `NoMemory` where memory is refused.
 pub fn measure<R: Threads + Sync, G: Gate + Sync>(
     rt: &R,
     alloc: Global,

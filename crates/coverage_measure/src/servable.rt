@@ -82,7 +82,7 @@ impl<'a> Asking<'a> {
     }
 
     // How many of the demanded tuples of a set in a slice some row of the model serves. The cells have no value,
-    // before and after.
+    // and after a count have none again.
     fn count_in(
         &self,
         kept: &mut Vec<KeptSolver<'a>>,
@@ -107,7 +107,7 @@ impl<'a> Asking<'a> {
         self.count_from(&mut kept[place], members, 0, cells)
     }
 
-    // The same of those with a negative value of a member.
+    // The same of those with a negative value of this member.
     fn count_negative(
         &self,
         kept: &mut Vec<KeptSolver<'a>>,

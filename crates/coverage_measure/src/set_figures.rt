@@ -1,8 +1,8 @@
 ghost use Rattle.std.specs.Prelude.{◌≡◌, ◌*◌, ◌^◌, ◌≤◌, nat_le, if◌then◌else◌};
 ghost use Rattle.coverage_measure.specs.SetFigures.{IsWithin, with_set};
 
-// How well demanded sets are covered: the sums of their servable and of their covered tuples, and how many sets
-// are at each percentage.
+// How well demanded sets are covered: the sums of their servable and of their covered tuples, and of how many
+// sets at least so many percent of the servable tuples are covered: all, 75, 50, 25.
 #[derive(Drop, Clone, Copy)]
 pub(crate) struct SetFigures {
     pub(crate) servable: u64,
@@ -13,7 +13,8 @@ pub(crate) struct SetFigures {
     pub(crate) at25: u64,
 }
 
-// One for a set that is at a percentage, and else none.
+// One for a set of whose servable tuples at least so many percent are covered, and else none. A set without
+// servable tuples counts.
 fn one_at(percent: u64, servable: u32, covered: u32) -> u64
     requires { percent ≤ 100 }
     ensures { result ≡ (if nat_le (percent * servable) (100 * covered) then 1 else 0) }

@@ -1,17 +1,19 @@
 -- What the reading of the three files gives, from that of each.
-use Rattle.std.proofs.Common.{◌≡◌, ℕ, ◌<◌, ◌≤◌, cond, List, Option, None, Some, Ok, Err, length, sym, ap, subst, ◌∙◌}
+use Rattle.std.proofs.Common.{◌≡◌, ℕ, ◌<◌, ◌≤◌, true, cond, List, Option, None, Some, Ok, Err, length, refl, sym, ap, subst, ◌∙◌}
 use Rattle.std.specs.Prelude.{IfSome, IsSomeAnd}
 use Rattle.std.proofs.lemmas.Bool.{le-ltb, lt-ltb}
+use Rattle.outside_io.specs.Faults.{Rose, KeepsCounts}
 use Rattle.outside_io.specs.Files.{Files, KeepsFiles}
 use Rattle.definitions.specs.Limits.{most_bytes}
 use Rattle.model_lex.specs.declared.options.ModelOpts.{ModelOpts}
-use Rattle.command_line.specs.Loading.{IsUnread, no_room, folder_failed, has_more}
-use Rattle.command_line.specs.Stops.{NamesView, measured}
+use Rattle.command_line.specs.Loading.{IsOfReading, IsUnread, no_room, folder_failed, has_more}
+use Rattle.command_line.specs.Stops.{NamesView, measured, name_of}
 use Rattle.command_line.specs.declared.files.FileKind.{FileKind}
 use Rattle.command_line.specs.declared.files.FileKind.TheVariants as kinds
 use Rattle.command_line.specs.declared.stop.Stop.{Stop}
-use Rattle.command_line.specs.declared.stop.Stop.TheVariants.{TooLong}
-use Rattle.proof_check.specs.RunSteps.{StopsBefore, cannot_read, is_refused, no_memory}
+use Rattle.command_line.specs.declared.stop.Stop.TheVariants.{OutOfMemory, Spent, BadWord, BadModel, BadConstraint, BadRows, NoResult, BadResult, CannotRead}
+use Rattle.command_line.specs.declared.stop.Stop.TheVariants.{CannotWrite, CannotWriteReport, TooMany, TooLong}
+use Rattle.proof_check.specs.RunSteps.{StopsBefore, cannot_read, is_before, is_refused, no_memory}
 use Rattle.proof_check.specs.Runs.{HeldFiles, Holds, bytes_of, inputs_of, join_bytes, unread}
 
 -- a file that was read whole, and one with too many bytes
@@ -31,6 +33,31 @@ stops opts held kind file stop first (no_room is) = no_memory is
 stops opts held kind file stop first (folder_failed is) = cannot_read kind is
 stops opts held kind file stop first (has_more is more) =
     is_refused (unread (subst (λ s. inputs_of held ≡ Err s) (sym is) (first (long kind file more))))
+
+-- a file that isn't read stops a run before anything is written
+pub stops_before : {kind : FileKind} (stop : Stop) → IsOfReading kind stop → is_before stop ≡ true
+stops_before OutOfMemory of = refl
+stops_before (Spent budget question) of = absurd (of.questions budget question refl)
+stops_before (BadWord index) of = absurd (of.words index refl)
+stops_before (BadModel diag) of = refl
+stops_before (BadConstraint diag) of = refl
+stops_before (BadRows fault) of = refl
+stops_before NoResult of = absurd (of.results.0 refl)
+stops_before (BadResult line) of = absurd (of.results.1 line refl)
+stops_before (CannotRead other) of = refl
+stops_before (CannotWrite other) of = absurd (of.writes other refl)
+stops_before CannotWriteReport of = absurd (of.report refl)
+stops_before (TooMany quantity count) of = refl
+stops_before (TooLong other) of = refl
+
+-- where it is said that a file couldn't be read, it is this one, whose count of faults rose
+pub blames_itself : (kind : FileKind) (stop : Stop) (names : NamesView) (faults before after : List ℕ → ℕ) → IsOfReading kind stop → KeepsCounts faults before
+    → (stop ≡ CannotRead kind → Rose (before (name_of names kind)) (after (name_of names kind)))
+    → (other : FileKind) → stop ≡ CannotRead other → Rose (faults (name_of names other)) (after (name_of names other))
+blames_itself kind stop names faults before after of keeps rose other is =
+    let same = of.read other is in
+    let here = subst (λ n. Rose n (after (name_of names kind))) (keeps (name_of names kind)) (rose (subst (λ k. stop ≡ CannotRead k) same is)) in
+    subst (λ k. Rose (faults (name_of names k)) (after (name_of names k))) (sym same) here
 
 -- what is said of a told file
 pub told : (P : Option (List ℕ) → Type 0) {file : Option (Option (List ℕ))} {held : Option (List ℕ)} → file ≡ Some held → IfSome file P → P held

@@ -16,6 +16,7 @@ use crate::rows::first_bad_row;
 use crate::trees::first_bad_tree;
 use crate::uncovered::first_uncovered;
 use crate::verdict::{CheckFault, Verdict};
+use crate::workers::Workers;
 use cov_model::TestModel;
 use model_lex::ModelOpts;
 use outside_io::Gate;
@@ -29,29 +30,25 @@ use value_text::NoMemory;
 
 // The verdict on rows that are valid and a proof that was read.
 fn judge_proof<R: Threads + Sync, G: Gate + Sync>(
-    rt: &R,
+    workers: &Workers<'_, R, G>,
     alloc: Global,
     model: &TestModel,
     plan: &Plan,
     file: &RowFile,
     proof: &Omissions,
-    workers: u32,
-    gate: &G,
 ) -> Result<Verdict, NoMemory>
     requires plan { plan.now ≡ plan_of model.now }
     requires file { IsFileOf model.now file.now }
     requires valid { find (λ row. not (is_valid model.now row)) (suite_seen file.now) ≡ None }
     requires of_model { All (λ omission. AreOfModel model.now omission.tuple) proof.now.omissions }
     requires few { length proof.now.omissions ≤ 2 ^ 28 }
-    requires least { 1 ≤ workers }
-    requires most { workers ≤ 64 }
     ensures { IfOk result (λ given. given ≡ verdict_given (by_omission model.now (suite_seen file.now) (omissions_meant proof.now.omissions)
         (first_unrefuted model.now (format_of proof.now.form) [] 2 (as_cells model.now (omissions_meant proof.now.omissions))))) }
 {
     if let Some(line) = first_bad_tree(alloc, model, proof)? {
         return Ok(Verdict::BadOmission(line));
     }
-    match first_uncovered(rt, alloc, model, plan, file, proof, workers, gate)? {
+    match first_uncovered(workers, alloc, model, plan, file, proof)? {
         Some(tuple) => Ok(Verdict::Uncovered(tuple)),
         None => Ok(Verdict::Accepted(file.rows.len() as u32, proof.len() as u32)),
     }
@@ -59,27 +56,23 @@ fn judge_proof<R: Threads + Sync, G: Gate + Sync>(
 
 // The verdict on the rows of a report and the bytes of a proof.
 fn judge<R: Threads + Sync, G: Gate + Sync>(
-    rt: &R,
+    workers: &Workers<'_, R, G>,
     alloc: Global,
     model: &TestModel,
     plan: &Plan,
     file: &RowFile,
     proof: &[u8],
-    workers: u32,
-    gate: &G,
 ) -> Result<Verdict, NoMemory>
     requires plan { plan.now ≡ plan_of model.now }
     requires file { IsFileOf model.now file.now }
     requires proof { length proof.now ≤ 2 ^ 28 }
-    requires least { 1 ≤ workers }
-    requires most { workers ≤ 64 }
     ensures { IfOk result (λ given. given ≡ verdict_given (verdict model.now (seeds_seen file.now) proof.now)) }
 {
     if let Some(line) = first_bad_row(model, file) {
         return Ok(Verdict::BadRow(line));
     }
     match read_omissions(alloc, proof, model) {
-        Ok(omissions) => judge_proof(rt, alloc, model, plan, file, &omissions, workers, gate),
+        Ok(omissions) => judge_proof(workers, alloc, model, plan, file, &omissions),
         Err(ProofFault::Line(line)) => Ok(Verdict::BadProof(line)),
         Err(ProofFault::NoMemory) => Err(NoMemory),
     }
@@ -87,45 +80,37 @@ fn judge<R: Threads + Sync, G: Gate + Sync>(
 
 // The verdict on the bytes of a report and of a proof. The error is the refusal of the report.
 fn check_report<R: Threads + Sync, G: Gate + Sync>(
-    rt: &R,
+    workers: &Workers<'_, R, G>,
     alloc: Global,
     model: &TestModel,
     plan: &Plan,
     report: &[u8],
     proof: &[u8],
-    workers: u32,
-    gate: &G,
 ) -> Result<Verdict, RowsFault>
     requires plan { plan.now ≡ plan_of model.now }
-    requires report { length report.now ≤ 2 ^ 26 }
+    requires report { length report.now ≤ 2 ^ 28 }
     requires proof { length proof.now ≤ 2 ^ 28 }
-    requires least { 1 ≤ workers }
-    requires most { workers ≤ 64 }
     ensures { IsReportCheckOf model.now report.now proof.now result }
 {
     let file = read_rows(alloc, report, model, RowMode::Suite)?;
-    let verdict = judge(rt, alloc, model, plan, &file, proof, workers, gate)?;
+    let verdict = judge(workers, alloc, model, plan, &file, proof)?;
     Ok(verdict)
 }
 
 // The same for a model that may demand more than a plan holds.
 fn check_model<R: Threads + Sync, G: Gate + Sync>(
-    rt: &R,
+    workers: &Workers<'_, R, G>,
     alloc: Global,
     model: &TestModel,
     report: &[u8],
     proof: &[u8],
-    workers: u32,
-    gate: &G,
 ) -> Result<Verdict, CheckFault>
-    requires report { length report.now ≤ 2 ^ 26 }
+    requires report { length report.now ≤ 2 ^ 28 }
     requires proof { length proof.now ≤ 2 ^ 28 }
-    requires least { 1 ≤ workers }
-    requires most { workers ≤ 64 }
     ensures { IsModelCheckOf model.now report.now proof.now result }
 {
     let plan = Plan::new(alloc, model)?;
-    let verdict = check_report(rt, alloc, model, &plan, report, proof, workers, gate)?;
+    let verdict = check_report(workers, alloc, model, &plan, report, proof)?;
     Ok(verdict)
 }
 
@@ -134,8 +119,8 @@ fn check_model<R: Threads + Sync, G: Gate + Sync>(
 /// complete and valid row; the first line of the proof that isn't one of a proof; the first one whose tree doesn't
 /// refute its tuple after the tuples of the lines before; the first demanded tuple that no row serves and no line
 /// lists; and else that both are accepted. Repeated rows and lines are allowed. It is the same for every number of
-/// workers from 1 to 64, who mark what the rows serve. The model and the proof may have at most 2^28 bytes, the
-/// report at most 2^26.
+/// workers from 1 to 64, who mark what the rows serve. The model, the report and the proof may have at most 2^28
+/// bytes.
 ///
 /// # Errors
 ///
@@ -153,12 +138,17 @@ pub fn check_bytes<R: Threads + Sync, G: Gate + Sync>(
 ) -> Result<Verdict, CheckFault>
     requires model { length model.now ≤ 2 ^ 28 }
     requires opts { AreOpts opts.now }
-    requires report { length report.now ≤ 2 ^ 26 }
+    requires report { length report.now ≤ 2 ^ 28 }
     requires proof { length proof.now ≤ 2 ^ 28 }
     requires least { 1 ≤ workers }
     requires most { workers ≤ 64 }
     ensures { IsCheckOf opts.now model.now report.now proof.now result }
 {
     let (model, _notes) = read_model(alloc, model, opts)?;
-    check_model(rt, alloc, &model, report, proof, workers, gate)
+    let workers = Workers {
+        rt,
+        count: workers,
+        gate,
+    };
+    check_model(&workers, alloc, &model, report, proof)
 }

@@ -24,6 +24,7 @@ mod uncovered;
 mod verdict;
 mod without_faults;
 mod words;
+mod workers;
 
 pub use check::check_bytes;
 pub use in_memory::run_check_in_memory;

@@ -21,7 +21,7 @@ use std::cmp::Ordering;
 use tuple_index::Plan;
 use value_text::NoMemory;
 
-/// Where a demanded tuple stands: the number of its set, and its place among all demanded tuples.
+// Where a demanded tuple stands: the number of its set, and its place among all demanded tuples.
 #[derive(Drop, Clone, Copy)]
 struct DemandedPlace {
     set: u32,
@@ -156,13 +156,10 @@ fn clear_one(
     Ok(found.set)
 }
 
-/// Marks on the demanded tuples, at the place of each that no omission of a proof lists. The place of a tuple
-/// is the base of its set plus its rank. The plan and the tuples have to be of the model.
-///
-/// # Errors
-///
-/// `NoMemory` where there is no room for the marks, or for the parameters and values of one tuple.
-pub fn mark_unlisted(
+// Marks on the demanded tuples, at the place of each that no omission of a proof lists. The place of a tuple
+// is the base of its set plus its rank. Takes memory for the marks, and for the parameters and values of one
+// tuple.
+pub(crate) fn mark_unlisted(
     alloc: Global,
     model: &TestModel,
     plan: &Plan,

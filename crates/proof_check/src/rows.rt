@@ -18,9 +18,9 @@ fn is_valid(model: &TestModel, cells: &Cells) -> bool
     model.row_fault(cells).is_none()
 }
 
-/// The line of the first row of a file that isn't valid; a row that isn't complete isn't valid. Takes no
-/// memory.
-pub fn first_bad_row(model: &TestModel, file: &RowFile) -> Option<u32>
+// The line of the first row of a file that isn't valid; a row that isn't complete isn't valid. Takes no
+// memory.
+pub(crate) fn first_bad_row(model: &TestModel, file: &RowFile) -> Option<u32>
     requires { All (λ row. FitsModel model.now row.cells) file.now.rows }
     ensures { result ≡ option_map (λ line. line.0) (find (λ line. not (is_valid model.now line.1)) (seeds_seen file.now)) }
 {

@@ -1,16 +1,14 @@
-ghost use Rattle.std.specs.Prelude.{◌≡◌, ◌≢◌, ◌⊎◌, ◌≤◌, ℕ, true, length, Some, Ok, Err, IfOk, IfErr, IfSome, MatchResult};
+ghost use Rattle.std.specs.Prelude.{◌≡◌, ◌≢◌, ◌⊎◌, ℕ, true, Ok, Err, IfOk, IfErr, MatchResult};
 ghost use Rattle.outside_io.specs.Faults.{Rose, KeepsCounts};
 ghost use Rattle.outside_io.specs.Files.{KeepsFiles};
 ghost use Rattle.outside_io.specs.Puts.{CountsFaults, Puts};
 ghost use Rattle.outside_io.specs.declared.answers.WriteAnswer.TheVariants.{Done, Failed};
 ghost use Rattle.definitions.specs.Diagnostics.{word_line};
 ghost use Rattle.definitions.specs.Laws.{IsCertified};
-ghost use Rattle.definitions.specs.Limits.{most_bytes};
 ghost use Rattle.definitions.specs.Settings.{Settings};
 ghost use Rattle.definitions.specs.Verdict.{verdict, verdict_text};
-ghost use Rattle.command_line.specs.Loading.{IsUnread};
 ghost use Rattle.command_line.specs.Ranges.{AreFit};
-ghost use Rattle.command_line.specs.Stops.{measured, name_of};
+ghost use Rattle.command_line.specs.Stops.{name_of};
 ghost use Rattle.command_line.specs.Stops as stops;
 ghost use Rattle.command_line.specs.Told.{Tells};
 ghost use Rattle.command_line.specs.Words.{opts_of, texts};
@@ -22,13 +20,13 @@ ghost use Rattle.proof_check.specs.Words.{IsWordFault, asked_by, names_in, names
 use crate::check::check_bytes;
 use crate::verdict::{CheckFault, Verdict};
 use crate::words::{CheckOpts, WordFault, read_check_words};
-use command_line::{FileKind, FileNames, Stop};
-use outside_io::{Folder, OpenGate, ReadAnswer, Sink, WriteAnswer};
+use command_line::{FileKind, FileNames, Stop, read_whole};
+use outside_io::{Folder, OpenGate, Sink, WriteAnswer};
 use std::alloc::Global;
 use std::marker::Model;
 use std::thread::Threads;
 
-/// The bytes of the three files of a run.
+// The bytes of the three files of a run.
 #[derive(Drop)]
 struct Contents {
     model: Vec<u8>,
@@ -57,43 +55,7 @@ impl From<CheckFault> for Stop {
     }
 }
 
-/// The bytes of the file of this kind and name.
-///
-/// # Errors
-///
-/// `CannotRead` where the folder failed, `TooLong` where the file has more bytes than one of its kind may have,
-/// `OutOfMemory` where memory was refused.
-fn read_file<F: Folder>(
-    alloc: Global,
-    kind: FileKind,
-    name: &str,
-    files: &mut F,
-) -> Result<Vec<u8>, Stop>
-    ensures whole { IfOk result (λ bytes. IfSome (F.file files.old name.now) (λ held. held ≡ Some bytes.items)) }
-    ensures within { IfOk result (λ bytes. length bytes.items ≤ most_bytes (measured kind)) }
-    ensures stops { IfErr result (λ stop. IfSome (F.file files.old name.now) (λ held. IsUnread kind held stop)) }
-    ensures before { IfErr result (λ stop. is_before stop ≡ true) }
-    ensures cannot_read { (other : FileKind) → result ≡ Err (Stop.CannotRead other) →
-        (other ≡ kind) × Rose (F.read_faults files.old name.now) (F.read_faults files.new name.now) }
-    ensures no_fault { result ≢ Err (Stop.CannotRead kind) → KeepsCounts (F.read_faults files.old) (F.read_faults files.new) }
-    ensures files { KeepsFiles (F.file files.old) (F.file files.new) }
-    ensures write_faults { KeepsCounts (F.write_faults files.old) (F.write_faults files.new) }
-{
-    let mut bytes = Vec::new(alloc);
-    match files.read_file(name, &mut bytes, kind.most_bytes()) {
-        ReadAnswer::Whole => Ok(bytes),
-        ReadAnswer::TooLong => Err(Stop::TooLong(kind)),
-        ReadAnswer::Failed => Err(Stop::CannotRead(kind)),
-        ReadAnswer::NoMemory => Err(Stop::OutOfMemory),
-    }
-}
-
-/// The bytes of the three files, which are read in this order: model, report, proof.
-///
-/// # Errors
-///
-/// `CannotRead` where the folder failed, `TooLong` where a file has more bytes than one of its kind may have,
-/// `OutOfMemory` where memory was refused.
+// The bytes of the three files, which are read in this order: model, report, proof.
 fn read_files<F: Folder>(
     alloc: Global,
     opts: &CheckOpts<'_>,
@@ -108,9 +70,9 @@ fn read_files<F: Folder>(
     ensures files { KeepsFiles (F.file files.old) (F.file files.new) }
     ensures write_faults { KeepsCounts (F.write_faults files.old) (F.write_faults files.new) }
 {
-    let model = read_file(alloc, FileKind::Model, opts.model, files)?;
-    let report = read_file(alloc, FileKind::Rows, opts.report, files)?;
-    let proof = read_file(alloc, FileKind::Proof, opts.proof, files)?;
+    let model = read_whole(alloc, FileKind::Model, opts.model, files)?;
+    let report = read_whole(alloc, FileKind::Rows, opts.report, files)?;
+    let proof = read_whole(alloc, FileKind::Proof, opts.proof, files)?;
     Ok(Contents {
         model,
         report,
@@ -118,11 +80,8 @@ fn read_files<F: Folder>(
     })
 }
 
-/// The verdict on the bytes of the three files.
-///
-/// # Errors
-///
-/// The first refusal of the model file, of its demand, or of the report; `OutOfMemory` where memory was refused.
+// The verdict on the bytes of the three files, or the first refusal of the model file, of its demand, or of the
+// report.
 fn judge<R: Threads + Sync>(
     rt: &R,
     alloc: Global,
@@ -150,11 +109,7 @@ fn judge<R: Threads + Sync>(
     }
 }
 
-/// The verdict on the three files.
-///
-/// # Errors
-///
-/// As of `read_files`, and then as of `judge`.
+// The verdict on the three files, which are read whole before one of them is looked at.
 fn verdict_of<R: Threads + Sync, F: Folder>(
     rt: &R,
     alloc: Global,
@@ -173,11 +128,7 @@ fn verdict_of<R: Threads + Sync, F: Folder>(
     judge(rt, alloc, opts, &contents)
 }
 
-/// Writes the line of a verdict, and gives it back.
-///
-/// # Errors
-///
-/// `CannotWriteReport` where `out` failed.
+// Writes the line of a verdict, and gives it back.
 fn print<O: Sink>(verdict: Verdict, out: &mut O) -> Result<Verdict, Stop>
     ensures prints { MatchResult result
         (λ given. (given ≡ verdict) × Puts Done (O.written out.old) (O.written out.new) (answer_text verdict))
@@ -190,11 +141,7 @@ fn print<O: Sink>(verdict: Verdict, out: &mut O) -> Result<Verdict, Stop>
     }
 }
 
-/// Checks the three files, and writes the line of their verdict.
-///
-/// # Errors
-///
-/// As of `verdict_of`, and `CannotWriteReport` where `out` failed.
+// Checks the three files, and writes the line of their verdict.
 fn check<R: Threads + Sync, F: Folder, O: Sink>(
     rt: &R,
     alloc: Global,
@@ -215,7 +162,7 @@ fn check<R: Threads + Sync, F: Folder, O: Sink>(
     print(verdict, out)
 }
 
-/// The exit status of a run that ended so.
+// The exit status of a run that ended so.
 fn status_of(end: &Result<Verdict, Stop>) -> u8
     ensures { result ≡ end_status end.now }
 {
@@ -225,7 +172,7 @@ fn status_of(end: &Result<Verdict, Stop>) -> u8
     }
 }
 
-/// Writes why a run stopped, if it did.
+// Writes why a run stopped, if it did.
 fn tell<E: Sink>(end: &Result<Verdict, Stop>, names: &FileNames<'_>, diag: &mut E) -> WriteAnswer
     ensures puts { Puts result (E.written diag.old) (E.written diag.new) (end_text names.now end.now) }
     ensures counts { CountsFaults result (E.faults diag.old) (E.faults diag.new) }
@@ -237,7 +184,7 @@ fn tell<E: Sink>(end: &Result<Verdict, Stop>, names: &FileNames<'_>, diag: &mut 
     }
 }
 
-/// Writes why a run stopped, if it did, and gives its exit status.
+// Writes why a run stopped, if it did, and gives its exit status.
 fn finish<E: Sink>(end: &Result<Verdict, Stop>, names: &FileNames<'_>, diag: &mut E) -> u8
     ensures status { result ≡ end_status end.now }
     ensures tells { Tells (E.written diag.old) (E.written diag.new) (E.faults diag.old) (E.faults diag.new) (end_text names.now end.now) }
@@ -247,14 +194,14 @@ fn finish<E: Sink>(end: &Result<Verdict, Stop>, names: &FileNames<'_>, diag: &mu
     status_of(end)
 }
 
-/// Writes which word has no reading, and gives the status of such a run.
+// Writes which word has no reading, and gives the status of such a run.
 fn refuse_words<E: Sink>(fault: WordFault, diag: &mut E) -> u8
     ensures status { result ≡ 3 }
     ensures tells { Tells (E.written diag.old) (E.written diag.new) (E.faults diag.old) (E.faults diag.new) (word_line fault.index) }
 {
     let stop = Stop::BadWord(fault.index);
     let _ = stop.put_line(&FileNames::none(), diag);
-    3
+    stop.status()
 }
 
 /// Runs the checker on its words, those behind the program's name, and gives the exit status.

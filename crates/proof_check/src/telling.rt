@@ -11,7 +11,7 @@ use cov_model::Tuple;
 use itoa::Buffer;
 use outside_io::{Sink, WriteAnswer, put_pieces};
 
-/// Writes the line of an accepted report and proof.
+// Writes the line of an accepted report and proof.
 fn put_accepted<O: Sink>(rows: u32, omissions: u32, out: &mut O) -> WriteAnswer
     ensures puts { Puts result (O.written out.old) (O.written out.new) (verdict_text (defined.Accepted rows omissions)) }
     ensures counts { CountsFaults result (O.faults out.old) (O.faults out.new) }
@@ -26,7 +26,7 @@ fn put_accepted<O: Sink>(rows: u32, omissions: u32, out: &mut O) -> WriteAnswer
     )
 }
 
-/// Writes the line of a refusal at a line of the report or the proof, by the texts around the line's number.
+// Writes the line of a refusal at a line of the report or the proof, by the texts around the line's number.
 fn put_refused<O: Sink>(file: &str, line: u32, reason: &str, out: &mut O) -> WriteAnswer
     ensures puts { Puts result (O.written out.old) (O.written out.new) (file.now ++ decimal line ++ reason.now) }
     ensures counts { CountsFaults result (O.faults out.old) (O.faults out.new) }
@@ -36,7 +36,7 @@ fn put_refused<O: Sink>(file: &str, line: u32, reason: &str, out: &mut O) -> Wri
     put_pieces(out, &[file, number, reason])
 }
 
-/// Writes the line of a tuple that is neither served nor listed.
+// Writes the line of a tuple that is neither served nor listed.
 fn put_uncovered<O: Sink>(tuple: &Tuple, out: &mut O) -> WriteAnswer
     ensures puts { Puts result (O.written out.old) (O.written out.new) (codes "refused: uncovered " ++ pairs_text tuple.now ++ codes "\n") }
     ensures counts { CountsFaults result (O.faults out.old) (O.faults out.new) }
@@ -52,7 +52,7 @@ fn put_uncovered<O: Sink>(tuple: &Tuple, out: &mut O) -> WriteAnswer
 }
 
 impl Verdict {
-    /// The exit status of a run with this verdict.
+    // The exit status of a run with this verdict.
     pub(crate) fn status(&self) -> u8
         ensures { result ≡ answer_status self.now }
     {
@@ -65,7 +65,7 @@ impl Verdict {
         }
     }
 
-    /// Writes the line of this verdict. Takes no memory.
+    // Writes the line of this verdict. Takes no memory.
     pub(crate) fn put_line<O: Sink>(&self, out: &mut O) -> WriteAnswer
         ensures puts { Puts result (O.written out.old) (O.written out.new) (answer_text self.now) }
         ensures counts { CountsFaults result (O.faults out.old) (O.faults out.new) }

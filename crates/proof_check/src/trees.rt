@@ -32,31 +32,10 @@ fn first_refused(checker: &TreeChecker<'_>, proof: &Omissions, scratch: &mut Cel
     None
 }
 
-// The same, with what the trees are checked with made for it.
-fn first_bad_within(
-    alloc: Global,
-    model: &TestModel,
-    proof: &Omissions,
-    scratch: &mut Cells,
-) -> Result<Option<u32>, NoMemory>
-    requires of_model { All (λ omission. AreOfModel model.now omission.tuple) proof.now.omissions }
-    requires few { length proof.now.omissions ≤ 2 ^ 28 }
-    requires long { length scratch.old ≡ length model.now.params }
-    ensures { IfOk result (λ found. found ≡ first_unrefuted model.now (format_of proof.now.form) [] 2 (as_cells model.now (omissions_meant proof.now.omissions))) }
-{
-    match TreeChecker::new(alloc, model, proof) {
-        Ok(checker) => Ok(first_refused(&checker, proof, scratch)),
-        Err(NoMemory) => Err(NoMemory),
-    }
-}
-
-/// The line of the first omission of a proof whose tree doesn't refute its tuple after the tuples of the
-/// omissions before; the first omission stands on line 2.
-///
-/// # Errors
-///
-/// `NoMemory` where there is no room for one row, or for what the trees are checked with.
-pub fn first_bad_tree(
+// The line of the first omission of a proof whose tree doesn't refute its tuple after the tuples of the
+// omissions before; the first omission stands on line 2. Takes memory for one row, and for what the trees are
+// checked with.
+pub(crate) fn first_bad_tree(
     alloc: Global,
     model: &TestModel,
     proof: &Omissions,
@@ -66,5 +45,6 @@ pub fn first_bad_tree(
     ensures { IfOk result (λ found. found ≡ first_unrefuted model.now (format_of proof.now.form) [] 2 (as_cells model.now (omissions_meant proof.now.omissions))) }
 {
     let mut scratch = Cells::empty(alloc, model.params().len())?;
-    first_bad_within(alloc, model, proof, &mut scratch)
+    let checker = TreeChecker::new(alloc, model, proof)?;
+    Ok(first_refused(&checker, proof, &mut scratch))
 }

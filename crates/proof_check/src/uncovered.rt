@@ -13,6 +13,7 @@ ghost use Rattle.tuple_index.specs.Plan.{plan_of, set_at};
 ghost use Rattle.proof_check.specs.Left.{AreUnservedFrom, IsFirstLeft, IsPlaceOf, NoneLeft, pairs_with};
 
 use crate::listed::mark_unlisted;
+use crate::workers::Workers;
 use bit_table::BitTable;
 use cov_model::{ParamNo, TestModel, Tuple, ValueNo};
 use outside_io::Gate;
@@ -24,7 +25,7 @@ use std::thread::Threads;
 use tuple_index::Plan;
 use value_text::NoMemory;
 
-/// The number of places that a word tells of.
+// The number of places that a word tells of.
 const WORD_BITS: u32 = 64;
 
 // Which of so many places from one on are left and not served, as the lowest bits of a word.
@@ -137,34 +138,33 @@ fn tuple_if_any(
     }
 }
 
-/// The first demanded tuple that no row of a file serves and no omission of a proof lists, by the order of the
-/// demanded tuples. Each row is marked once, by these workers, and each omission is looked up once: no tuple is
-/// compared with each of them. The rows have to be valid rows; the plan, the file and the proof have to be of
-/// the model.
-///
-/// # Errors
-///
-/// `NoMemory` where memory is refused.
-pub fn first_uncovered<R: Threads + Sync, G: Gate + Sync>(
-    rt: &R,
+// The first demanded tuple that no row of a file serves and no omission of a proof lists, by the order of the
+// demanded tuples. Each row is marked once, by these workers, and each omission is looked up once: no tuple is
+// compared with each of them.
+pub(crate) fn first_uncovered<R: Threads + Sync, G: Gate + Sync>(
+    workers: &Workers<'_, R, G>,
     alloc: Global,
     model: &TestModel,
     plan: &Plan,
     file: &RowFile,
     proof: &Omissions,
-    workers: u32,
-    gate: &G,
 ) -> Result<Option<Tuple>, NoMemory>
     requires plan { plan.now ≡ plan_of model.now }
     requires fits { All (λ row. FitsModel model.now row.cells) file.now.rows }
     requires few { length file.now.rows ≤ 2 ^ 20 }
     requires valid { find (λ row. not (is_valid model.now row)) (suite_seen file.now) ≡ None }
     requires of_model { All (λ omission. AreOfModel model.now omission.tuple) proof.now.omissions }
-    requires least { 1 ≤ workers }
-    requires most { workers ≤ 64 }
     ensures { IfOk result (λ found. found ≡ option_map pairs_of (first_uncovered model.now (suite_seen file.now) (omissions_meant proof.now.omissions))) }
 {
     let left = mark_unlisted(alloc, model, plan, proof)?;
-    let served = mark_rows(rt, alloc, model, plan, file, workers, gate)?;
+    let served = mark_rows(
+        workers.rt,
+        alloc,
+        model,
+        plan,
+        file,
+        workers.count,
+        workers.gate,
+    )?;
     tuple_if_any(alloc, model, plan, first_place(&left, &served))
 }

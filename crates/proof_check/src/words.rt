@@ -34,7 +34,7 @@ pub struct WordFault {
 }
 
 impl<'w> CheckOpts<'w> {
-    /// What holds for three files without further words.
+    // What holds for three files without further words.
     fn of(model: &'w str, report: &'w str, proof: &'w str) -> CheckOpts<'w>
         ensures names { names_seen result ≡ record { model = model.now; rows = report.now; proof = proof.now } }
         ensures settings { settings_seen result ≡ defined.defaults }
@@ -48,7 +48,7 @@ impl<'w> CheckOpts<'w> {
         }
     }
 
-    /// The names of the files of the run; the report is its file of rows.
+    // The names of the files of the run; the report is its file of rows.
     pub(crate) fn names(&self) -> FileNames<'w>
         ensures { result ≡ names_seen self.now }
     {
@@ -59,7 +59,7 @@ impl<'w> CheckOpts<'w> {
         }
     }
 
-    /// Sets one thing more, if the checker knows it; whether it does.
+    // Sets one thing more, if the checker knows it; whether it does.
     fn set(&mut self, setting: Setting<'_>) -> bool
         ensures known { result ≡ reading.is_of_checker (setting_seen setting.entry) }
         ensures names { names_seen self.new ≡ names_seen self.old }
@@ -85,7 +85,7 @@ impl<'w> CheckOpts<'w> {
         true
     }
 
-    /// The options with that of this number from 0 behind those so far; `None` exactly where this one has no reading.
+    // The options with that of this number from 0 behind those so far; `None` exactly where this one has no reading.
     fn with_option(self, options: &'w [String], place: usize) -> Option<CheckOpts<'w>>
         requires place { place < length options.now }
         requires reads { IsReading self (take place (texts options.now)) }
@@ -108,7 +108,7 @@ impl<'w> CheckOpts<'w> {
     }
 }
 
-/// What options ask for behind those so far, of which the first is the fourth word.
+// What options ask for behind those so far, of which the first is the fourth word.
 fn read_options<'w>(names: CheckOpts<'w>, options: &'w [String]) -> Result<CheckOpts<'w>, WordFault>
     requires { settings_seen names ≡ defined.defaults }
     ensures { MatchResult result
@@ -128,7 +128,7 @@ fn read_options<'w>(names: CheckOpts<'w>, options: &'w [String]) -> Result<Check
     Ok(opts)
 }
 
-/// Whether the word of this number from 0 is missing or empty.
+// Whether the word of this number from 0 is missing or empty.
 fn is_missing(words: &[String], place: usize) -> bool
     ensures { result ≡ (length (slice_index_or (texts words.now) place []) == 0) }
 {
@@ -138,7 +138,7 @@ fn is_missing(words: &[String], place: usize) -> bool
     }
 }
 
-/// The place of the first of the three names, from 0, that is missing or empty.
+// The place of the first of the three names, from 0, that is missing or empty.
 fn missing_name(words: &[String]) -> Option<usize>
     ensures { option_map (λ place. place + 1) result ≡ reading.missing_name 3 (texts words.now) }
 {

@@ -232,3 +232,23 @@ fn cites_earlier_tuples(rt: HostRuntime) {
         IF [A] = 1 THEN [B] = [C];\nIF [A] = 1 THEN [B] <> [C];\n";
     assert!(rt; cite(rt.alloc(), text));
 }
+
+// Whether a fault is told as this.
+fn is_told_as(alloc: Global, fault: RefuteFault, text: &str) -> bool {
+    match format!(in alloc; "{fault}") {
+        Ok(told) => told.as_str() == text,
+        Err(_) => false,
+    }
+}
+
+#[test]
+fn faults_say_what_they_are(rt: HostRuntime) {
+    assert!(rt;
+        is_told_as(
+            rt.alloc(),
+            RefuteFault::Spent,
+            "the plain cost exceeds the budget"
+        )
+    );
+    assert!(rt; is_told_as(rt.alloc(), RefuteFault::NoMemory, "memory was refused"));
+}
