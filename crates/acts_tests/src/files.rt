@@ -21,6 +21,10 @@ const TRANSLATED: &[(&str, &str)] = &[
         "\nA: 1\nB: TRUE, FALSE\n\nIF NOT NOT ( [A] <> -1 OR NOT [B] = \"TRUE\" ) AND [a] <= [A] THEN ( [A] > 0 OR [A] < 9 ) AND [B] <> \"FALSE\";\n",
     ),
     (
+        "[Parameter]\nA (int): 1, 01\nB (int): 3\n[Relation]\nR: (A, B, 02)\n",
+        "\nA: 1, 01\nB: 3\n\n@ 02 { A, B }\n",
+    ),
+    (
         "[Parameter]\nB (enum): x\n[Constraint]\nB = \"a -- b\" -- c\nB != \"\" -- \"\n",
         "\nB: x\n\n[B] = \"a -- b\";\n[B] <> \"\";\n",
     ),
@@ -44,6 +48,13 @@ const REFUSED: &[(&str, bool, u32, ActsCode)] = &[
     ("[Parameter]\nA (int): 1\n[System]\n", true, 3, ActsCode::A2),
     ("[Parameter]\n[Parameter]\n", true, 2, ActsCode::A2),
     ("[Parameters]\n", true, 1, ActsCode::A2),
+    ("[ Parameter ]\n", true, 1, ActsCode::A2),
+    (
+        "[System]\n[Foo]\n[Parameter]\nA (int): 1\n",
+        true,
+        2,
+        ActsCode::A2,
+    ),
     ("A (int): 1\n[Parameter]\n", true, 1, ActsCode::A2),
     ("[Parameter]\nA int: 1\n", true, 2, ActsCode::A3),
     ("[Parameter]\nA (int): 1,\n", true, 2, ActsCode::A3),

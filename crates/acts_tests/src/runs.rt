@@ -9,103 +9,206 @@ use value_text::NoMemory;
 const DEMO: &str =
     "[System]\nName: demo\n[Parameter]\nA (int): 1, 2\nB (enum): x, y\n[Constraint]\nA = 1 => B = \"x\"\n";
 
-// A run of `pictacts`: its words, the bytes of the file `in`, the number of the call of the folder that fails, from 1,
-// or 0 where none does, and what it leaves: its status, the file `out`, and standard error. The file `out` holds `old`
-// before, and has room for 100 bytes.
-type Run<'a> = (&'a [&'a str], &'a str, u64, u8, &'a str, &'a str);
+// A run of `pictacts`. The file `out` holds `old` before, and has room for 100 bytes.
+struct Run<'a> {
+    words: &'a [&'a str],
+    // The bytes of the file `in`.
+    file: &'a str,
+    // The number of the call of the folder that fails, from 1, or 0 where none does.
+    fail: u64,
+    // What it leaves: its status, the file `out`, and standard error.
+    status: u8,
+    out: &'a str,
+    line: &'a str,
+}
 
 const RUNS: &[Run<'static>] = &[
-    (
-        &["in", "out"],
-        DEMO,
-        0,
-        0,
-        "\n\n\nA: 1, 2\nB: x, y\n\nIF [A] = 1 THEN [B] = \"x\";\n",
-        "",
-    ),
-    (&[], DEMO, 0, 3, "old", "error: word 1 is not understood\n"),
-    (
-        &["", "out"],
-        DEMO,
-        0,
-        3,
-        "old",
-        "error: word 1 is not understood\n",
-    ),
-    (
-        &["in"],
-        DEMO,
-        0,
-        3,
-        "old",
-        "error: word 2 is not understood\n",
-    ),
-    (
-        &["in", ""],
-        DEMO,
-        0,
-        3,
-        "old",
-        "error: word 2 is not understood\n",
-    ),
-    (
-        &["in", "out", "/C", "/s"],
-        DEMO,
-        0,
-        3,
-        "old",
-        "error: word 4 is not understood\n",
-    ),
-    (
-        &["in", "out", "/c"],
-        "[Parameter]\nA (enum): x, X\n",
-        0,
-        0,
-        "\nA: x, X\n",
-        "",
-    ),
-    (
-        &["in", "out"],
-        "[Parameter]\nA (enum): x, X\n",
-        0,
-        4,
-        "old",
-        "error: model line 2: A4 repeated name\n",
-    ),
-    (
-        &["in", "out"],
-        "[System]\nName: demo\n[Parameter]\nA (int): 1, 2\nB (enum): x, y\n[Constraint]\nA = 1 => B = 2\n",
-        0,
-        5,
-        "old",
-        "error: model line 7: A11 types differ\n",
-    ),
-    (
-        &["in", "out"],
-        "",
-        0,
-        4,
-        "old",
-        "error: model line 1: A8 no parameters\n",
-    ),
-    (
-        &["none", "out"],
-        DEMO,
-        0,
-        7,
-        "old",
-        "error: cannot read none\n",
-    ),
-    (&["in", "out"], DEMO, 1, 7, "old", "error: cannot read in\n"),
-    (
-        &["in", "out"],
-        DEMO,
-        2,
-        8,
-        "old",
-        "error: cannot write out\n",
-    ),
-    (&["in", "/c"], DEMO, 0, 8, "old", "error: cannot write /c\n"),
+    Run {
+        words: &["in", "out"],
+        file: DEMO,
+        fail: 0,
+        status: 0,
+        out: "\n\n\nA: 1, 2\nB: x, y\n\nIF [A] = 1 THEN [B] = \"x\";\n",
+        line: "",
+    },
+    Run {
+        words: &[],
+        file: DEMO,
+        fail: 0,
+        status: 3,
+        out: "old",
+        line: "error: word 1 is not understood\n",
+    },
+    Run {
+        words: &["", "out"],
+        file: DEMO,
+        fail: 0,
+        status: 3,
+        out: "old",
+        line: "error: word 1 is not understood\n",
+    },
+    Run {
+        words: &["in"],
+        file: DEMO,
+        fail: 0,
+        status: 3,
+        out: "old",
+        line: "error: word 2 is not understood\n",
+    },
+    Run {
+        words: &["in", ""],
+        file: DEMO,
+        fail: 0,
+        status: 3,
+        out: "old",
+        line: "error: word 2 is not understood\n",
+    },
+    Run {
+        words: &["in", "out", "/C", "/s"],
+        file: DEMO,
+        fail: 0,
+        status: 3,
+        out: "old",
+        line: "error: word 4 is not understood\n",
+    },
+    Run {
+        words: &["in", "out", "/c"],
+        file: "[Parameter]\nA (enum): x, X\n",
+        fail: 0,
+        status: 0,
+        out: "\nA: x, X\n",
+        line: "",
+    },
+    Run {
+        words: &["in", "out"],
+        file: "[Parameter]\nA (enum): x, X\n",
+        fail: 0,
+        status: 4,
+        out: "old",
+        line: "error: model line 2: A4 repeated name\n",
+    },
+    Run {
+        words: &["in", "out"],
+        file: "[System]\nName: demo\n[Parameter]\nA (int): 1, 2\nB (enum): x, y\n[Constraint]\nA = 1 => B = 2\n",
+        fail: 0,
+        status: 5,
+        out: "old",
+        line: "error: model line 7: A11 types differ\n",
+    },
+    Run {
+        words: &["in", "out"],
+        file: "",
+        fail: 0,
+        status: 4,
+        out: "old",
+        line: "error: model line 1: A8 no parameters\n",
+    },
+    Run {
+        words: &["none", "out"],
+        file: DEMO,
+        fail: 0,
+        status: 7,
+        out: "old",
+        line: "error: cannot read none\n",
+    },
+    Run {
+        words: &["in", "out"],
+        file: DEMO,
+        fail: 1,
+        status: 7,
+        out: "old",
+        line: "error: cannot read in\n",
+    },
+    Run {
+        words: &["in", "out"],
+        file: DEMO,
+        fail: 2,
+        status: 8,
+        out: "old",
+        line: "error: cannot write out\n",
+    },
+    Run {
+        words: &["in", "/c"],
+        file: DEMO,
+        fail: 0,
+        status: 8,
+        out: "old",
+        line: "error: cannot write /c\n",
+    },
+    // What the other codes say.
+    Run {
+        words: &["in", "out"],
+        file: "[Parameter]\nA (int): 1 -- \u{7}\n",
+        fail: 0,
+        status: 4,
+        out: "old",
+        line: "error: model line 2: A1 bad byte\n",
+    },
+    Run {
+        words: &["in", "out"],
+        file: "A (int): 1\n",
+        fail: 0,
+        status: 4,
+        out: "old",
+        line: "error: model line 1: A2 section out of place\n",
+    },
+    Run {
+        words: &["in", "out"],
+        file: "[Parameter]\nA int: 1\n",
+        fail: 0,
+        status: 4,
+        out: "old",
+        line: "error: model line 2: A3 not a parameter line\n",
+    },
+    Run {
+        words: &["in", "out"],
+        file: "[Parameter]\nA (int): 1\n[Relation]\nR: (2)\n",
+        fail: 0,
+        status: 4,
+        out: "old",
+        line: "error: model line 4: A5 not a relation line\n",
+    },
+    Run {
+        words: &["in", "out"],
+        file: "[Parameter]\nA (int): 1\n[Relation]\nR: (B, 1)\n",
+        fail: 0,
+        status: 4,
+        out: "old",
+        line: "error: model line 4: A6 bad member\n",
+    },
+    Run {
+        words: &["in", "out"],
+        file: "[Parameter]\nA (int): 1\n[Relation]\nR: (A, 2)\n",
+        fail: 0,
+        status: 4,
+        out: "old",
+        line: "error: model line 4: A7 strength out of range\n",
+    },
+    Run {
+        words: &["in", "out"],
+        file: "[Parameter]\nA (int): 1\n[Constraint]\nA = \n",
+        fail: 0,
+        status: 5,
+        out: "old",
+        line: "error: model line 4: A9 not a constraint\n",
+    },
+    Run {
+        words: &["in", "out"],
+        file: "[Parameter]\nA (int): 1\n[Constraint]\nZ = 1\n",
+        fail: 0,
+        status: 5,
+        out: "old",
+        line: "error: model line 4: A10 unknown parameter\n",
+    },
+    // The first two words are names, whatever their first character.
+    Run {
+        words: &["/c", "out"],
+        file: DEMO,
+        fail: 0,
+        status: 7,
+        out: "old",
+        line: "error: cannot read /c\n",
+    },
 ];
 
 fn words_of(alloc: Global, words: &[&str]) -> Result<Vec<String>, NoMemory> {
@@ -116,13 +219,13 @@ fn words_of(alloc: Global, words: &[&str]) -> Result<Vec<String>, NoMemory> {
     Ok(all)
 }
 
-fn folder_of(alloc: Global, file: &str, call: u64) -> Result<MemFolder, NoMemory> {
+fn folder_of(alloc: Global, file: &[u8], call: u64) -> Result<MemFolder, NoMemory> {
     let mut fail = Calls::new(alloc);
     if call > 0 {
         fail.push(call)?;
     }
     let mut folder = MemFolder::new(alloc, fail);
-    folder.add("in", file.as_bytes())?;
+    folder.add("in", file)?;
     folder.add("out", b"old")?;
     folder.room_for("out", 100)?;
     Ok(folder)
@@ -130,14 +233,13 @@ fn folder_of(alloc: Global, file: &str, call: u64) -> Result<MemFolder, NoMemory
 
 // Whether a run leaves what it says.
 fn leaves(alloc: Global, run: &Run) -> Result<bool, NoMemory> {
-    let (words, file, fail, status, out, line) = run;
-    let words = words_of(alloc, words)?;
-    let mut files = folder_of(alloc, file, *fail)?;
+    let words = words_of(alloc, run.words)?;
+    let mut files = folder_of(alloc, run.file.as_bytes(), run.fail)?;
     let mut told = MemSink::up_to(alloc, 100)?;
     let ended = run_acts(alloc, words.as_slice(), &mut files, &mut told);
-    let is_written = files.held("out") == Some(out.as_bytes());
-    let is_told = told.bytes() == line.as_bytes();
-    Ok(ended == *status && is_written && is_told)
+    let is_written = files.held("out") == Some(run.out.as_bytes());
+    let is_told = told.bytes() == run.line.as_bytes();
+    Ok(ended == run.status && is_written && is_told)
 }
 
 #[test]
@@ -145,5 +247,23 @@ fn runs_leave_what_they_say(rt: HostRuntime) -> Result<(), Fail> {
     for (place, run) in RUNS.iter().enumerate() {
         assert!(rt; leaves(rt.alloc(), run)?, "run {place}");
     }
+    Ok(())
+}
+
+// Whether a run on so many line feeds ends at the limit of a model file, and leaves the file `out` as it was.
+fn is_too_long(alloc: Global, count: usize) -> Result<bool, NoMemory> {
+    let feeds = vec![in alloc; b'\n'; count]?;
+    let words = words_of(alloc, &["in", "out"])?;
+    let mut files = folder_of(alloc, feeds.as_slice(), 0)?;
+    let mut told = MemSink::up_to(alloc, 100)?;
+    let ended = run_acts(alloc, words.as_slice(), &mut files, &mut told);
+    let line = b"error: limit: model bytes above 4194304\n";
+    let is_left = files.held("out") == Some(b"old".as_slice());
+    Ok(ended == 9 && is_left && told.bytes() == line.as_slice())
+}
+
+#[test]
+fn a_file_has_at_most_4194304_bytes(rt: HostRuntime) -> Result<(), Fail> {
+    assert!(rt; is_too_long(rt.alloc(), 4_194_305)?);
     Ok(())
 }

@@ -4,7 +4,7 @@ use crate::checks::check;
 use crate::disk::{REPORT, ROWS};
 use outside_io::OpenGate;
 use std::test::Fail;
-use test_models::DISK;
+use test_models::{DISK, OVERLAPPING};
 
 // The second value of B doesn't go with the first of A.
 const PAIR: &str = "A: 1, 2\nB: x, y\nIF [A] = 1 THEN [B] = \"x\";\n";
@@ -18,88 +18,161 @@ const TWIN: &str = "A: 1, 2\nB: 1, 2\nC: 1, 2\nD: 1, 2\nIF [A] = 1 THEN [B] = [C
 const TWIN_REPORT: &str =
     "A\tB\tC\tD\n2\t1\t1\t1\n2\t2\t2\t2\n2\t1\t2\t1\n2\t2\t1\t1\n2\t1\t1\t2\n";
 
-// A model, a report, a proof, and the answer.
-const ANSWERS: &[(&str, &str, &str, &str)] = &[
-    (PAIR, "A\tB\n1\tx\n2\tx\n2\ty\n", PAIR_PROOF, "accepted 3 1"),
-    (PAIR, "A\tB\n1\tx\n2\tx\n", PAIR_PROOF, "uncovered 0=1 1=1"),
-    (PAIR, "A\tB\n1\ty\n2\tx\n2\ty\n", PAIR_PROOF, "row 2"),
-    (PAIR, "A\n1\n2\n2\n", PAIR_PROOF, "missing 1"),
+// What is checked, and the answer.
+struct Case<'a> {
+    model: &'a str,
+    report: &'a str,
+    proof: &'a str,
+    answer: &'a str,
+}
+
+const ANSWERS: &[Case<'static>] = &[
+    Case {
+        model: PAIR,
+        report: "A\tB\n1\tx\n2\tx\n2\ty\n",
+        proof: PAIR_PROOF,
+        answer: "accepted 3 1",
+    },
+    Case {
+        model: PAIR,
+        report: "A\tB\n1\tx\n2\tx\n",
+        proof: PAIR_PROOF,
+        answer: "uncovered 0=1 1=1",
+    },
+    Case {
+        model: PAIR,
+        report: "A\tB\n1\ty\n2\tx\n2\ty\n",
+        proof: PAIR_PROOF,
+        answer: "row 2",
+    },
+    Case {
+        model: PAIR,
+        report: "A\n1\n2\n2\n",
+        proof: PAIR_PROOF,
+        answer: "missing 1",
+    },
     // an incomplete row is no row of a suite, though it serves nothing
-    (PAIR, "A\tB\n1\tx\n2\tx\n2\ty\n2\n", PAIR_PROOF, "row 5"),
+    Case {
+        model: PAIR,
+        report: "A\tB\n1\tx\n2\tx\n2\ty\n2\n",
+        proof: PAIR_PROOF,
+        answer: "row 5",
+    },
     // a listed tuple isn't another of the same parameters
-    (
-        PAIR,
-        "A\tB\n1\tx\n2\tx\n2\ty\n",
-        "pict-proof 1\nomit 0=0 : B1 L1 L1\n",
-        "tree 2",
-    ),
-    (
-        PAIR,
-        "A\tB\n1\tx\n2\tx\n2\ty\n",
-        "pict-proof 1\n",
-        "uncovered 0=0 1=1",
-    ),
+    Case {
+        model: PAIR,
+        report: "A\tB\n1\tx\n2\tx\n2\ty\n",
+        proof: "pict-proof 1\nomit 0=0 : B1 L1 L1\n",
+        answer: "tree 2",
+    },
+    Case {
+        model: PAIR,
+        report: "A\tB\n1\tx\n2\tx\n2\ty\n",
+        proof: "pict-proof 1\n",
+        answer: "uncovered 0=0 1=1",
+    },
     // repeated rows and lines count each
-    (
-        PAIR,
-        "A\tB\n1\tx\n1\tx\n2\tx\n2\ty\n",
-        "pict-proof 1\nomit 0=0 1=1 : L1\nomit 0=0 1=1 : L1\n",
-        "accepted 4 2",
-    ),
+    Case {
+        model: PAIR,
+        report: "A\tB\n1\tx\n1\tx\n2\tx\n2\ty\n",
+        proof: "pict-proof 1\nomit 0=0 1=1 : L1\nomit 0=0 1=1 : L1\n",
+        answer: "accepted 4 2",
+    },
     // a bad row comes before a bad proof, and a line that is no spelling before a bad tree
-    (PAIR, "A\tB\n1\ty\n", "", "row 2"),
-    (PAIR, "A\tB\n1\tx\n", "", "proof 1"),
-    (
-        PAIR,
-        "A\tB\n1\tx\n",
-        "pict-proof 1\nomit 0=1 1=1 : L1\nomit\n",
-        "proof 3",
-    ),
-    (
-        PAIR,
-        "A\tB\n1\tx\n",
-        "pict-proof 1\nomit 0=1 1=1 : L1\n",
-        "tree 2",
-    ),
-    ("A: 1, 2\n", "A\n", "pict-proof 1\n", "model 1 M18"),
-    ("A 1\n", "", "", "model 1 M3"),
-    (PAIR, "", "pict-proof 1\n", "no header"),
-    (PAIR, "A\tB\tA\n", "pict-proof 1\n", "twice 1"),
-    (PAIR, "A\tB\n1\tx\t\n", "pict-proof 1\n", "width 2"),
-    (
-        TWIN,
-        TWIN_REPORT,
-        "pict-proof 2\nomit 0=0 1=0 : B2 L2 L1\nomit 0=0 1=1 : B2 L1 L2\nomit 0=0 2=0 : B1 L2 L1\n\
+    Case {
+        model: PAIR,
+        report: "A\tB\n1\ty\n",
+        proof: "",
+        answer: "row 2",
+    },
+    Case {
+        model: PAIR,
+        report: "A\tB\n1\tx\n",
+        proof: "",
+        answer: "proof 1",
+    },
+    Case {
+        model: PAIR,
+        report: "A\tB\n1\tx\n",
+        proof: "pict-proof 1\nomit 0=1 1=1 : L1\nomit\n",
+        answer: "proof 3",
+    },
+    Case {
+        model: PAIR,
+        report: "A\tB\n1\tx\n",
+        proof: "pict-proof 1\nomit 0=1 1=1 : L1\n",
+        answer: "tree 2",
+    },
+    Case {
+        model: "A: 1, 2\n",
+        report: "A\n",
+        proof: "pict-proof 1\n",
+        answer: "model 1 M18",
+    },
+    Case {
+        model: "A 1\n",
+        report: "",
+        proof: "",
+        answer: "model 1 M3",
+    },
+    Case {
+        model: OVERLAPPING,
+        report: "",
+        proof: "",
+        answer: "11778624 sets",
+    },
+    Case {
+        model: PAIR,
+        report: "",
+        proof: "pict-proof 1\n",
+        answer: "no header",
+    },
+    Case {
+        model: PAIR,
+        report: "A\tB\tA\n",
+        proof: "pict-proof 1\n",
+        answer: "twice 1",
+    },
+    Case {
+        model: PAIR,
+        report: "A\tB\n1\tx\t\n",
+        proof: "pict-proof 1\n",
+        answer: "width 2",
+    },
+    Case {
+        model: TWIN,
+        report: TWIN_REPORT,
+        proof: "pict-proof 2\nomit 0=0 1=0 : B2 L2 L1\nomit 0=0 1=1 : B2 L1 L2\nomit 0=0 2=0 : B1 L2 L1\n\
          omit 0=0 2=1 : B1 L1 L2\nomit 0=0 3=0 : B1 O1 O2\nomit 0=0 3=1 : B1 O1 O2\n",
-        "accepted 5 6",
-    ),
+        answer: "accepted 5 6",
+    },
     // a line that cites itself
-    (
-        TWIN,
-        TWIN_REPORT,
-        "pict-proof 2\nomit 0=0 1=0 : B2 L2 L1\nomit 0=0 1=1 : B2 L1 L2\nomit 0=0 2=0 : B1 L2 L1\n\
+    Case {
+        model: TWIN,
+        report: TWIN_REPORT,
+        proof: "pict-proof 2\nomit 0=0 1=0 : B2 L2 L1\nomit 0=0 1=1 : B2 L1 L2\nomit 0=0 2=0 : B1 L2 L1\n\
          omit 0=0 2=1 : B1 L1 L2\nomit 0=0 3=0 : B1 O5 O2\nomit 0=0 3=1 : B1 O1 O2\n",
-        "tree 6",
-    ),
+        answer: "tree 6",
+    },
     // format 1 has no citations
-    (
-        TWIN,
-        TWIN_REPORT,
-        "pict-proof 1\nomit 0=0 1=0 : B2 L2 L1\nomit 0=0 1=1 : B2 L1 L2\nomit 0=0 2=0 : B1 L2 L1\n\
+    Case {
+        model: TWIN,
+        report: TWIN_REPORT,
+        proof: "pict-proof 1\nomit 0=0 1=0 : B2 L2 L1\nomit 0=0 1=1 : B2 L1 L2\nomit 0=0 2=0 : B1 L2 L1\n\
          omit 0=0 2=1 : B1 L1 L2\nomit 0=0 3=0 : B1 O1 O2\nomit 0=0 3=1 : B1 O1 O2\n",
-        "proof 6",
-    ),
+        answer: "proof 6",
+    },
 ];
 
 const WORKERS: &[u32] = &[1, 2, 7, 64];
 
 #[test]
 fn answers_are_those_of_the_definition(rt: HostRuntime) -> Result<(), Fail> {
-    for (model, report, proof, wanted) in ANSWERS {
+    for case in ANSWERS {
         for workers in WORKERS {
-            let texts = (*model, *report, *proof);
+            let texts = (case.model, case.report, case.proof);
             let answer = check(&rt, rt.alloc(), texts, *workers, &OpenGate)?;
-            assert!(rt; answer.as_str() == *wanted, "{wanted}: {answer}");
+            assert!(rt; answer.as_str() == case.answer, "{}: {answer}", case.answer);
         }
     }
     Ok(())

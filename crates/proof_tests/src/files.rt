@@ -198,6 +198,26 @@ fn trees_are_made_by_hand(rt: HostRuntime) {
     assert!(rt; is_made(rt.alloc()));
 }
 
+// Whether a tree of so many times the tokens keeps them where others share them.
+fn shares(alloc: Global, times: usize) -> Result<bool, NoMemory> {
+    let mut tree = TreeBuf::new(alloc);
+    for _ in 0..times {
+        push_tokens(&mut tree)?;
+    }
+    let mut tokens = Vec::new(alloc);
+    tokens.extend_from_slice(tree.as_slice())?;
+    let tree = tree.shareable(alloc)?;
+    let other = tree.copy(alloc)?;
+    Ok(tree.as_slice() == tokens.as_slice() && other.as_slice() == tokens.as_slice())
+}
+
+// The tokens of a short tree stand in the value itself.
+#[test]
+fn trees_share_their_tokens(rt: HostRuntime) {
+    assert!(rt; shares(rt.alloc(), 1) == Ok(true));
+    assert!(rt; shares(rt.alloc(), 20) == Ok(true));
+}
+
 fn proof_by_hand(alloc: Global) -> Result<Omissions, NoMemory> {
     let tuple = Tuple::of(alloc, &[(0, 10), (1, 1)])?;
     let tree = tree_by_hand(alloc)?;

@@ -1,142 +1,255 @@
-//! Suites that are grown without seeds.
+//! Suites that are grown, with and without seeds and proofs.
 
-ghost use Rattle.std.specs.Prelude.{◌≡◌, ◌≤◌, ◌^◌, All, length};
+ghost use Rattle.std.specs.Prelude.{◌≡◌, ◌≤◌, ◌^◌, All, IfSome, length};
 ghost use Rattle.cov_model.specs.Fits.{FitsModel};
 ghost use Rattle.cov_model.specs.Preference.{OrdersValues};
 ghost use Rattle.tuple_index.specs.Plan.{plan_of};
 
 use crate::search::NONE_LIVE;
-use cov_model::{ParamNo, Prefs, TestModel, ValueNo};
+use cov_model::{ParamNo, Prefs, Rows, TestModel, ValueNo};
 use ipog_grow::{GrowOpts, Suite, generate};
-use model_lex::NoteList;
 use outside_io::OpenGate;
-use refutation::{Omissions, ProofForm};
-use row_text::{FileRowList, RowFile};
+use refutation::{Omissions, ProofForm, TreeToken};
+use row_text::{RowFile, RowMode, read_rows};
 use std::alloc::Global;
 use std::thread::Threads;
 use test_models::model_of;
 use tuple_index::Plan;
 
-// A file without rows. Callers know no more of it than that its rows are of the model.
-fn no_seeds(alloc: Global, model: &TestModel) -> RowFile
-    ensures of_model { All (λ seed. FitsModel model.now seed.cells) result.rows }
-    ensures few { length result.rows ≤ 2 ^ 20 }
-{
-    let _ = model;
-    RowFile {
-        rows: FileRowList::new(alloc),
-        notes: NoteList::new(alloc),
-    }
+// A tuple that is omitted, and its tree; no tokens where no proof is asked for.
+struct Omitted<'a> {
+    tuple: &'a [(ParamNo, ValueNo)],
+    tree: &'a [TreeToken],
 }
 
-// The suite of a model that grows without seeds; nothing where the search ends early.
-fn grown<R: Threads + Sync>(
-    rt: &R,
-    alloc: Global,
-    model: &TestModel,
-    plan: &Plan,
-    prefs: &Prefs,
-    opts: &GrowOpts,
-) -> Option<Suite>
-    requires plan { plan.now ≡ plan_of model.now }
-    requires orders { OrdersValues model.now prefs.now }
-    requires some_workers { 1 ≤ opts.now.workers }
-    requires few_workers { opts.now.workers ≤ 64 }
-{
-    let seeds = no_seeds(alloc, model);
-    match generate(rt, alloc, model, plan, prefs, &seeds, opts, &OpenGate) {
-        Ok(suite) => Some(suite),
-        Err(_) => None,
-    }
+// A model of three parameters, the file of its seed rows, and the suite that is grown.
+struct Grown<'a> {
+    model: &'a str,
+    seeds: &'a str,
+    proof: Option<ProofForm>,
+    rows: &'a [[ValueNo; 3]],
+    omitted: &'a [Omitted<'a>],
+    // How many seed rows are kept, and the lines of those that aren't.
+    kept: u32,
+    dropped: &'a [u32],
 }
 
-// The suite of a model and its plan, grown by so many workers within a budget; nothing too where memory was refused.
-fn suite_by<R: Threads + Sync>(
-    rt: &R,
-    alloc: Global,
-    model: &TestModel,
-    plan: &Plan,
-    budget: u64,
-    workers: u32,
-) -> Option<Suite>
-    requires plan { plan.now ≡ plan_of model.now }
-    requires some_workers { 1 ≤ workers }
-    requires few_workers { workers ≤ 64 }
-{
-    let opts = GrowOpts {
-        budget,
-        workers,
-        proof: None,
-    };
-    match Prefs::new(alloc, model, None) {
-        Ok(prefs) => grown(rt, alloc, model, plan, &prefs, &opts),
-        Err(_) => None,
-    }
-}
-
-// The same; nothing too where there is no plan.
-fn suite_of<R: Threads + Sync>(
-    rt: &R,
-    alloc: Global,
-    model: &TestModel,
-    budget: u64,
-    workers: u32,
-) -> Option<Suite>
-    requires some_workers { 1 ≤ workers }
-    requires few_workers { workers ≤ 64 }
-{
-    match Plan::new(alloc, model) {
-        Ok(plan) => suite_by(rt, alloc, model, &plan, budget, workers),
-        Err(_) => None,
-    }
-}
-
-// The omitted tuples of the model, in the order in which they are asked for.
-const OMITTED: &[&[(ParamNo, ValueNo)]] = &[
-    &[(0, 0), (2, 0)],
-    &[(0, 0), (2, 1)],
-    &[(0, 0), (2, 2)],
-    &[(0, 0), (1, 0)],
-    &[(0, 0), (1, 1)],
+// Each value of C is barred with the first of A by a constraint of its own, so the values of B are too.
+const NONE_LIVE_ROWS: &[[ValueNo; 3]] = &[
+    [1, 0, 0],
+    [1, 1, 1],
+    [1, 0, 2],
+    [1, 0, 1],
+    [1, 1, 0],
+    [1, 1, 2],
 ];
 
-// Whether the omissions have these tuples, and no trees.
-fn are_tuples(omitted: &Omissions, tuples: &[&[(ParamNo, ValueNo)]]) -> bool {
-    if omitted.len() != tuples.len() {
+const GROWN: &[Grown<'static>] = &[
+    Grown {
+        model: "A: 1, 2\nB: x, y\nC: u, v\n",
+        seeds: "A\n",
+        proof: None,
+        rows: &[[0, 0, 0], [0, 1, 1], [1, 0, 1], [1, 1, 0]],
+        omitted: &[],
+        kept: 0,
+        dropped: &[],
+    },
+    // The omitted tuples stand in the order in which they are asked for.
+    Grown {
+        model: NONE_LIVE,
+        seeds: "A\n",
+        proof: None,
+        rows: NONE_LIVE_ROWS,
+        omitted: &[
+            Omitted {
+                tuple: &[(0, 0), (2, 0)],
+                tree: &[],
+            },
+            Omitted {
+                tuple: &[(0, 0), (2, 1)],
+                tree: &[],
+            },
+            Omitted {
+                tuple: &[(0, 0), (2, 2)],
+                tree: &[],
+            },
+            Omitted {
+                tuple: &[(0, 0), (1, 0)],
+                tree: &[],
+            },
+            Omitted {
+                tuple: &[(0, 0), (1, 1)],
+                tree: &[],
+            },
+        ],
+        kept: 0,
+        dropped: &[],
+    },
+    Grown {
+        model: NONE_LIVE,
+        seeds: "A\n",
+        proof: Some(ProofForm::One),
+        rows: NONE_LIVE_ROWS,
+        omitted: &[
+            Omitted {
+                tuple: &[(0, 0), (2, 0)],
+                tree: &[TreeToken::ByRule(1)],
+            },
+            Omitted {
+                tuple: &[(0, 0), (2, 1)],
+                tree: &[TreeToken::ByRule(2)],
+            },
+            Omitted {
+                tuple: &[(0, 0), (2, 2)],
+                tree: &[TreeToken::ByRule(3)],
+            },
+            Omitted {
+                tuple: &[(0, 0), (1, 0)],
+                tree: THREE_LEAVES,
+            },
+            Omitted {
+                tuple: &[(0, 0), (1, 1)],
+                tree: THREE_LEAVES,
+            },
+        ],
+        kept: 0,
+        dropped: &[],
+    },
+    // Of the seed rows one is repeated, and two go with no row.
+    Grown {
+        model: "A: 1, 2\nB: x, ~n\nC: v, ~m\nIF [A] = 2 THEN [C] = \"v\";\n",
+        seeds: "C\tZ\tA\tB\nv\tq\t2\t\nv\tq\t2\t\n\n~m\tq\t2\t\n~m\tq\t1\t~n\nk\tq\t1\t\n",
+        proof: None,
+        rows: &[[1, 0, 0], [0, 0, 0], [0, 1, 0], [1, 1, 0], [0, 0, 1]],
+        omitted: &[Omitted {
+            tuple: &[(0, 1), (2, 1)],
+            tree: &[],
+        }],
+        kept: 2,
+        dropped: &[5, 6],
+    },
+];
+
+const THREE_LEAVES: &[TreeToken] = &[
+    TreeToken::Branch(2),
+    TreeToken::ByRule(1),
+    TreeToken::ByRule(2),
+    TreeToken::ByRule(3),
+];
+
+// Whether the rows have these values.
+fn are_rows(rows: &Rows, wanted: &[[ValueNo; 3]]) -> bool {
+    if rows.len() != wanted.len() {
         return false;
     }
-    for (omission, tuple) in omitted.as_slice().iter().zip(tuples) {
-        if omission.tuple.as_slice() != *tuple || !omission.tree.is_empty() {
+    for i in 0..rows.len() {
+        let [a, b, c] = wanted[i];
+        if rows.row(i) != [Some(a), Some(b), Some(c)].as_slice() {
             return false;
         }
     }
     true
 }
 
-// Whether the suite has six rows and these omitted tuples, in a proof of the first form.
-fn has_omitted(suite: &Suite) -> bool {
-    suite.rows.len() == 6
-        && suite.omitted.form() == ProofForm::One
-        && are_tuples(&suite.omitted, OMITTED)
+// Whether these are the omissions, with their trees.
+fn are_omitted(omissions: &Omissions, wanted: &[Omitted]) -> bool {
+    if omissions.len() != wanted.len() {
+        return false;
+    }
+    for (omission, omitted) in omissions.as_slice().iter().zip(wanted) {
+        if omission.tuple.as_slice() != omitted.tuple || omission.tree.as_slice() != omitted.tree {
+            return false;
+        }
+    }
+    true
 }
 
-// The same for the suite of a model.
-fn tells_omitted_of<R: Threads + Sync>(rt: &R, alloc: Global, model: &TestModel) -> bool {
-    match suite_of(rt, alloc, model, 1000, 2) {
-        Some(suite) => has_omitted(&suite),
-        None => false,
+// Whether the suite is this one, with omissions of the first form.
+fn is_suite(suite: &Suite, grown: &Grown) -> bool {
+    are_rows(&suite.rows, grown.rows)
+        && suite.omitted.form() == ProofForm::One
+        && are_omitted(&suite.omitted, grown.omitted)
+        && suite.kept == grown.kept
+        && suite.dropped.as_slice() == grown.dropped
+}
+
+// The seed rows of a file; nothing where it is refused. Callers know no more of them than that they are of the model.
+fn seeds_of(alloc: Global, model: &TestModel, text: &str) -> Option<RowFile>
+    ensures { IfSome result (λ file. All (λ seed. FitsModel model.now seed.cells) file.rows × (length file.rows ≤ 2 ^ 20)) }
+{
+    if text.len() > 1000 {
+        return None;
+    }
+    match read_rows(alloc, text.as_bytes(), model, RowMode::Seed) {
+        Ok(file) => Some(file),
+        Err(_) => None,
     }
 }
 
-// The same for the model of which no value of C goes with the first value of A.
-fn tells_omitted<R: Threads + Sync>(rt: &R, alloc: Global) -> bool {
-    match model_of(alloc, NONE_LIVE) {
-        Ok(model) => tells_omitted_of(rt, alloc, &model),
+// Whether the suite that two workers grow within a budget is this one.
+fn grows_from<R: Threads + Sync>(
+    rt: &R,
+    alloc: Global,
+    model: &TestModel,
+    plan: &Plan,
+    prefs: &Prefs,
+    seeds: &RowFile,
+    grown: &Grown,
+) -> bool
+    requires plan { plan.now ≡ plan_of model.now }
+    requires orders { OrdersValues model.now prefs.now }
+    requires seeds { All (λ seed. FitsModel model.now seed.cells) seeds.now.rows }
+    requires few { length seeds.now.rows ≤ 2 ^ 20 }
+{
+    let opts = GrowOpts {
+        budget: 1000,
+        workers: 2,
+        proof: grown.proof,
+    };
+    match generate(rt, alloc, model, plan, prefs, seeds, &opts, &OpenGate) {
+        Ok(suite) => is_suite(&suite, grown),
+        Err(_) => false,
+    }
+}
+
+// The same by the order of the values in the model; false too where the seed rows are refused, or memory is.
+fn grows_by<R: Threads + Sync>(
+    rt: &R,
+    alloc: Global,
+    model: &TestModel,
+    plan: &Plan,
+    grown: &Grown,
+) -> bool
+    requires { plan.now ≡ plan_of model.now }
+{
+    let Some(seeds) = seeds_of(alloc, model, grown.seeds) else {
+        return false;
+    };
+    match Prefs::new(alloc, model, None) {
+        Ok(prefs) => grows_from(rt, alloc, model, plan, &prefs, &seeds, grown),
+        Err(_) => false,
+    }
+}
+
+// The same; false too where there is no plan.
+fn grows<R: Threads + Sync>(rt: &R, alloc: Global, model: &TestModel, grown: &Grown) -> bool {
+    match Plan::new(alloc, model) {
+        Ok(plan) => grows_by(rt, alloc, model, &plan, grown),
+        Err(_) => false,
+    }
+}
+
+// The same under the model of its text.
+fn is_grown<R: Threads + Sync>(rt: &R, alloc: Global, grown: &Grown) -> bool {
+    match model_of(alloc, grown.model) {
+        Ok(model) => grows(rt, alloc, &model, grown),
         Err(_) => false,
     }
 }
 
 #[test]
-fn tells_what_no_row_serves(rt: HostRuntime) {
-    assert!(rt; tells_omitted(&rt, rt.alloc()));
+fn grows_suites(rt: HostRuntime) {
+    for (place, grown) in GROWN.iter().enumerate() {
+        assert!(rt; is_grown(&rt, rt.alloc(), grown), "{place}");
+    }
 }

@@ -1,11 +1,11 @@
-//! Questions to the search, with budgets.
+//! Questions to the search, with budgets, and the values that it looks at.
 
 ghost use Rattle.std.specs.Prelude.{◌≡◌, IfSome, length};
 ghost use Rattle.cov_model.specs.Preference.{OrdersValues};
 ghost use Rattle.definitions.specs.SliceRows.{IsOfSlice};
 
 use cov_model::{Cells, ParamNo, Prefs, Slice, TestModel, ValueNo};
-use feasibility::{Answer, Solver};
+use feasibility::{Answer, SearchFault, Solver, over_budget, slice_lists, tuple_of};
 use std::alloc::Global;
 use test_models::{is_positive_row, model_of};
 use value_text::NoMemory;
@@ -136,9 +136,9 @@ fn says_in_order(
     }
 }
 
-// The same under the model of which no value of C goes with the first value of A.
-fn says(alloc: Global, pairs: &[(ParamNo, ValueNo)], question: Question) -> bool {
-    match model_of(alloc, NONE_LIVE) {
+// The same under the model of a text.
+fn says(alloc: Global, text: &str, pairs: &[(ParamNo, ValueNo)], question: Question) -> bool {
+    match model_of(alloc, text) {
         Ok(model) => says_in_order(alloc, &model, pairs, question),
         Err(_) => false,
     }
@@ -147,20 +147,94 @@ fn says(alloc: Global, pairs: &[(ParamNo, ValueNo)], question: Question) -> bool
 // The values of B and C.
 const WITHOUT_A: &[(ParamNo, ValueNo)] = &[(1, 0), (2, 1)];
 
-// The values of A and B.
-const WITHOUT_C: &[(ParamNo, ValueNo)] = &[(0, 0), (1, 0)];
-
 // The plain cost of the values of B and C is 3: the row, the first value of A and the second one.
 #[test]
 fn completes_a_row_within_its_budget(rt: HostRuntime) {
     let extends = Question::Extends((2, Answer::Spent), (3, Answer::Yes));
-    assert!(rt; says(rt.alloc(), WITHOUT_A, extends));
-    assert!(rt; says(rt.alloc(), WITHOUT_A, Question::Completes(3, [1, 0, 1])));
+    assert!(rt; says(rt.alloc(), NONE_LIVE, WITHOUT_A, extends));
+    let completes = Question::Completes(3, [1, 0, 1]);
+    assert!(rt; says(rt.alloc(), NONE_LIVE, WITHOUT_A, completes));
 }
 
-// No value of C is live with the first value of A, so the search visits one node.
+// A has negative values alone, and no constraint names it.
+const NO_POSITIVE: &str = "A: ~1, ~2\nB: x, y\nC: u, v\n";
+
+// Models, and rows with which some parameter has no live value: C with the first value of A, and A in each row.
+const NOT_LIVE: &[(&str, &[(ParamNo, ValueNo)])] = &[
+    (NONE_LIVE, &[(0, 0), (1, 0)]),
+    (NONE_LIVE, &[(0, 0), (1, 1)]),
+    (NO_POSITIVE, &[(1, 0), (2, 0)]),
+];
+
+// So the search visits one node.
 #[test]
 fn looks_one_value_ahead(rt: HostRuntime) {
-    let extends = Question::Extends((0, Answer::Spent), (1, Answer::No));
-    assert!(rt; says(rt.alloc(), WITHOUT_C, extends));
+    for (text, pairs) in NOT_LIVE {
+        let extends = Question::Extends((0, Answer::Spent), (1, Answer::No));
+        assert!(rt; says(rt.alloc(), text, pairs, extends), "{pairs:?}");
+    }
+}
+
+// Whether a row gives this tuple, and it is told where the row costs too much.
+fn gives(alloc: Global, row: &Cells, pairs: &[(ParamNo, ValueNo)]) -> bool
+    requires { length row.now ≡ 3 }
+{
+    let is_told = match over_budget(alloc, row) {
+        SearchFault::Spent(question) => question.cells.as_slice() == pairs,
+        SearchFault::NoMemory => false,
+    };
+    match tuple_of(alloc, row) {
+        Ok(tuple) => is_told && tuple.as_slice() == pairs,
+        Err(NoMemory) => false,
+    }
+}
+
+// Whether this is so of a row without a value of its second parameter.
+fn gives_two(alloc: Global) -> bool {
+    let Ok(mut row) = Cells::empty(alloc, 3) else {
+        return false;
+    };
+    row.set_cell(2, 1);
+    row.set_cell(0, 4);
+    gives(alloc, &row, &[(0, 4), (2, 1)])
+}
+
+#[test]
+fn tells_the_values_of_a_row(rt: HostRuntime) {
+    assert!(rt; gives_two(rt.alloc()));
+}
+
+// Slices of a model with two negative values, and the values of its parameters in them.
+const SLICES: &[(Slice, [&[ValueNo]; 3])] = &[
+    (Slice::Positive, [&[0, 1], &[0], &[0]]),
+    (Slice::Negative(1, 1), [&[0, 1], &[1], &[0]]),
+    (Slice::Negative(2, 1), [&[0, 1], &[0], &[1]]),
+];
+
+// Whether these are the values in a slice of the model.
+fn are_values(alloc: Global, model: &TestModel, slice: Slice, values: [&[ValueNo]; 3]) -> bool {
+    match slice_lists(alloc, model, slice) {
+        Ok(lists) => {
+            lists.len() == 3
+                && lists.list(0) == values[0]
+                && lists.list(1) == values[1]
+                && lists.list(2) == values[2]
+        }
+        Err(NoMemory) => false,
+    }
+}
+
+// The same for the model.
+fn has_values_in(alloc: Global, slice: Slice, values: [&[ValueNo]; 3]) -> bool {
+    match model_of(alloc, "A: 1, 2\nB: x, ~n\nC: v, ~m\n") {
+        Ok(model) => are_values(alloc, &model, slice, values),
+        Err(_) => false,
+    }
+}
+
+#[test]
+fn lists_the_values_of_slices(rt: HostRuntime) {
+    for (slice, values) in SLICES {
+        assert!(rt; has_values_in(rt.alloc(), *slice, *values), "{slice:?}");
+    }
 }

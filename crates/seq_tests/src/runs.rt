@@ -1,7 +1,7 @@
 //! Whole runs of `pictseq`, over a folder and sinks in memory.
 
 use outside_io::{Calls, MemFolder, MemSink};
-use seq_cover::run_seq;
+use seq_cover::{run_seq, run_seq_in_memory};
 use std::alloc::Global;
 use value_text::NoMemory;
 
@@ -91,50 +91,65 @@ pub(crate) const THREE: &str = "a\nb\nc\na < b\n";
 /// Their report.
 pub(crate) const REPORT: &str = "a\tb\tc\nc\ta\tb\nnever b a : a b a\n";
 
-// The words, the file and the report, and the status and what the two streams get.
-type Run<'a> = (&'a str, &'a str, &'a str, u8, &'a str, &'a str);
+// A run on a file, and on a report, where it has a byte.
+struct Run<'a> {
+    words: &'a str,
+    file: &'a str,
+    report: &'a str,
+    // The status, and what the two streams get.
+    status: u8,
+    written: &'a str,
+    told: &'a str,
+}
 
 const RUNS: &[Run<'static>] = &[
     // Reports.
-    ("f", THREE, "", 0, REPORT, ""),
-    (
-        "f",
-        "a\nb\na < a\n",
-        "",
-        0,
-        "never a b : a a\nnever b a : a a\n",
-        "",
-    ),
-    (
-        "f",
-        "a\nb\nc\nd\n",
-        "",
-        0,
-        "a\tb\tc\td\nb\ta\tc\td\nb\tc\ta\td\na\tc\tb\td\nb\tc\td\ta\na\tc\td\tb\na\tb\td\tc\n",
-        "",
-    ),
-    (
-        "f",
-        "a\nb\nc\nd\nd < c\nc < b\n",
-        "",
-        0,
-        "a\td\tc\tb\nd\tc\tb\ta\nnever b c : b c b\nnever b d : b d c b\nnever c d : c d c\n",
-        "",
-    ),
-    (
-        "f /t:3",
-        "a\nb\nc\n",
-        "",
-        0,
-        "a\tb\tc\na\tc\tb\nb\ta\tc\nb\tc\ta\nc\ta\tb\nc\tb\ta\n",
-        "",
-    ),
-    (
-        "f /t:3",
-        "a\nb\nc\nd\na < b\nb < c\n",
-        "",
-        0,
-        "a\tb\tc\td\n\
+    Run {
+        words: "f",
+        file: THREE,
+        report: "",
+        status: 0,
+        written: REPORT,
+        told: "",
+    },
+    Run {
+        words: "f",
+        file: "a\nb\na < a\n",
+        report: "",
+        status: 0,
+        written: "never a b : a a\nnever b a : a a\n",
+        told: "",
+    },
+    Run {
+        words: "f",
+        file: "a\nb\nc\nd\n",
+        report: "",
+        status: 0,
+        written: "a\tb\tc\td\nb\ta\tc\td\nb\tc\ta\td\na\tc\tb\td\nb\tc\td\ta\na\tc\td\tb\na\tb\td\tc\n",
+        told: "",
+    },
+    Run {
+        words: "f",
+        file: "a\nb\nc\nd\nd < c\nc < b\n",
+        report: "",
+        status: 0,
+        written: "a\td\tc\tb\nd\tc\tb\ta\nnever b c : b c b\nnever b d : b d c b\nnever c d : c d c\n",
+        told: "",
+    },
+    Run {
+        words: "f /t:3",
+        file: "a\nb\nc\n",
+        report: "",
+        status: 0,
+        written: "a\tb\tc\na\tc\tb\nb\ta\tc\nb\tc\ta\nc\ta\tb\nc\tb\ta\n",
+        told: "",
+    },
+    Run {
+        words: "f /t:3",
+        file: "a\nb\nc\nd\na < b\nb < c\n",
+        report: "",
+        status: 0,
+        written: "a\tb\tc\td\n\
         a\td\tb\tc\n\
         a\tb\td\tc\n\
         d\ta\tb\tc\n\
@@ -152,165 +167,213 @@ const RUNS: &[Run<'static>] = &[
         never d b a : a b a\n\
         never d c a : a b c a\n\
         never d c b : b c b\n",
-        "",
-    ),
+        told: "",
+    },
     // Verdicts.
-    (
-        "f /check:r",
-        THREE,
-        REPORT,
-        0,
-        "accepted: 2 rows, 1 omissions\n",
-        "",
-    ),
-    (
-        "f /check:r",
-        THREE,
-        "a\tb\tc\nnever b a : a b a\n",
-        10,
-        "refused: uncovered c a\n",
-        "",
-    ),
-    (
-        "f /check:r",
-        THREE,
-        "a\tb\tc\na\n",
-        10,
-        "refused: report line 2\n",
-        "",
-    ),
+    Run {
+        words: "f /check:r",
+        file: THREE,
+        report: REPORT,
+        status: 0,
+        written: "accepted: 2 rows, 1 omissions\n",
+        told: "",
+    },
+    Run {
+        words: "f /check:r",
+        file: THREE,
+        report: "a\tb\tc\nnever b a : a b a\n",
+        status: 10,
+        written: "refused: uncovered c a\n",
+        told: "",
+    },
+    Run {
+        words: "f /check:r",
+        file: THREE,
+        report: "a\tb\tc\na\n",
+        status: 10,
+        written: "refused: report line 2\n",
+        told: "",
+    },
     // Words.
-    ("", THREE, "", 3, "", "error: word 1 is not understood\n"),
-    (
-        " /t:2",
-        THREE,
-        "",
-        3,
-        "",
-        "error: word 1 is not understood\n",
-    ),
-    (
-        "f /t:4",
-        THREE,
-        "",
-        3,
-        "",
-        "error: word 2 is not understood\n",
-    ),
-    (
-        "f /t:1",
-        THREE,
-        "",
-        3,
-        "",
-        "error: word 2 is not understood\n",
-    ),
-    (
-        "f /t:",
-        THREE,
-        "",
-        3,
-        "",
-        "error: word 2 is not understood\n",
-    ),
-    (
-        "f /t",
-        THREE,
-        "",
-        3,
-        "",
-        "error: word 2 is not understood\n",
-    ),
-    ("f f", THREE, "", 3, "", "error: word 2 is not understood\n"),
-    (
-        "f /check:",
-        THREE,
-        "",
-        3,
-        "",
-        "error: word 2 is not understood\n",
-    ),
-    (
-        "f /t:3 /o:2",
-        THREE,
-        "",
-        3,
-        "",
-        "error: word 3 is not understood\n",
-    ),
-    ("f /t:3 /T:02", THREE, "", 0, REPORT, ""),
-    (
-        "f /check:q /Check:r",
-        THREE,
-        REPORT,
-        0,
-        "accepted: 2 rows, 1 omissions\n",
-        "",
-    ),
-    ("/t:2", THREE, "", 7, "", "error: cannot read /t:2\n"),
+    Run {
+        words: "",
+        file: THREE,
+        report: "",
+        status: 3,
+        written: "",
+        told: "error: word 1 is not understood\n",
+    },
+    Run {
+        words: " /t:2",
+        file: THREE,
+        report: "",
+        status: 3,
+        written: "",
+        told: "error: word 1 is not understood\n",
+    },
+    Run {
+        words: "f /t:4",
+        file: THREE,
+        report: "",
+        status: 3,
+        written: "",
+        told: "error: word 2 is not understood\n",
+    },
+    Run {
+        words: "f /t:1",
+        file: THREE,
+        report: "",
+        status: 3,
+        written: "",
+        told: "error: word 2 is not understood\n",
+    },
+    Run {
+        words: "f /t:",
+        file: THREE,
+        report: "",
+        status: 3,
+        written: "",
+        told: "error: word 2 is not understood\n",
+    },
+    Run {
+        words: "f /t",
+        file: THREE,
+        report: "",
+        status: 3,
+        written: "",
+        told: "error: word 2 is not understood\n",
+    },
+    Run {
+        words: "f f",
+        file: THREE,
+        report: "",
+        status: 3,
+        written: "",
+        told: "error: word 2 is not understood\n",
+    },
+    Run {
+        words: "f /check:",
+        file: THREE,
+        report: "",
+        status: 3,
+        written: "",
+        told: "error: word 2 is not understood\n",
+    },
+    Run {
+        words: "f /t:3 /o:2",
+        file: THREE,
+        report: "",
+        status: 3,
+        written: "",
+        told: "error: word 3 is not understood\n",
+    },
+    Run {
+        words: "f /t:3 /T:02",
+        file: THREE,
+        report: "",
+        status: 0,
+        written: REPORT,
+        told: "",
+    },
+    Run {
+        words: "f /check:q /Check:r",
+        file: THREE,
+        report: REPORT,
+        status: 0,
+        written: "accepted: 2 rows, 1 omissions\n",
+        told: "",
+    },
+    Run {
+        words: "/t:2",
+        file: THREE,
+        report: "",
+        status: 7,
+        written: "",
+        told: "error: cannot read /t:2\n",
+    },
     // Refused files.
-    (
-        "f",
-        "a b\n",
-        "",
-        4,
-        "",
-        "error: model line 1: Q1 not an event line\n",
-    ),
-    (
-        "f",
-        "a\na\n",
-        "",
-        4,
-        "",
-        "error: model line 2: Q2 repeated event\n",
-    ),
-    (
-        "f",
-        "a\na < b\n",
-        "",
-        4,
-        "",
-        "error: model line 2: Q3 unknown event\n",
-    ),
-    ("f", "\n", "", 4, "", "error: model line 1: Q4 no events\n"),
-    (
-        "f /t:3",
-        "a\nb\n\n",
-        "",
-        4,
-        "",
-        "error: model line 2: Q5 fewer events than the length\n",
-    ),
+    Run {
+        words: "f",
+        file: "a b\n",
+        report: "",
+        status: 4,
+        written: "",
+        told: "error: model line 1: Q1 not an event line\n",
+    },
+    Run {
+        words: "f",
+        file: "a\na\n",
+        report: "",
+        status: 4,
+        written: "",
+        told: "error: model line 2: Q2 repeated event\n",
+    },
+    Run {
+        words: "f",
+        file: "a\na < b\n",
+        report: "",
+        status: 4,
+        written: "",
+        told: "error: model line 2: Q3 unknown event\n",
+    },
+    Run {
+        words: "f",
+        file: "\n",
+        report: "",
+        status: 4,
+        written: "",
+        told: "error: model line 1: Q4 no events\n",
+    },
+    Run {
+        words: "f /t:3",
+        file: "a\nb\n\n",
+        report: "",
+        status: 4,
+        written: "",
+        told: "error: model line 2: Q5 fewer events than the length\n",
+    },
     // A refused file comes before the report is read.
-    (
-        "f /check:q",
-        "a\na\n",
-        "",
-        4,
-        "",
-        "error: model line 2: Q2 repeated event\n",
-    ),
-    ("f /check:q", THREE, "", 7, "", "error: cannot read q\n"),
-    ("g", THREE, "", 7, "", "error: cannot read g\n"),
+    Run {
+        words: "f /check:q",
+        file: "a\na\n",
+        report: "",
+        status: 4,
+        written: "",
+        told: "error: model line 2: Q2 repeated event\n",
+    },
+    Run {
+        words: "f /check:q",
+        file: THREE,
+        report: "",
+        status: 7,
+        written: "",
+        told: "error: cannot read q\n",
+    },
+    Run {
+        words: "g",
+        file: THREE,
+        report: "",
+        status: 7,
+        written: "",
+        told: "error: cannot read g\n",
+    },
 ];
 
 fn ends_so(alloc: Global, run: &Run) -> bool {
-    let (text, file, report, status, written, told) = run;
     let given = Given {
-        words: Some(text),
-        file: file.as_bytes(),
-        report: report.as_bytes(),
+        words: Some(run.words),
+        file: run.file.as_bytes(),
+        report: run.report.as_bytes(),
         fail: &[],
         room: (1 << 12, 1 << 8),
     };
-    ends_as(alloc, &given, (*status, written, told))
+    ends_as(alloc, &given, (run.status, run.written, run.told))
 }
 
 #[test]
 fn runs(rt: HostRuntime) {
     for run in RUNS {
-        assert!(rt; ends_so(rt.alloc(), run), "{} {}", run.0, run.1);
+        assert!(rt; ends_so(rt.alloc(), run), "{} {}", run.words, run.file);
     }
 }
 
@@ -325,4 +388,21 @@ fn runs_without_words(rt: HostRuntime) {
     };
     let end = (3, "", "error: word 1 is not understood\n");
     assert!(rt; ends_as(rt.alloc(), &none, end));
+}
+
+// Whether a run of the call for files in memory ends with status 0, prints the report and tells nothing.
+fn runs_in_memory(alloc: Global) -> Result<bool, NoMemory> {
+    let words = words_of(alloc, Some("f"))?;
+    let mut files = MemFolder::new(alloc, calls_of(alloc, &[])?);
+    files.add("f", THREE.as_bytes())?;
+    let mut out = MemSink::up_to(alloc, 100)?;
+    let mut diag = MemSink::up_to(alloc, 100)?;
+    let status = run_seq_in_memory(alloc, words.as_slice(), &mut files, &mut out, &mut diag);
+    let is_written = out.bytes() == REPORT.as_bytes();
+    Ok(status == 0 && is_written && diag.bytes().is_empty())
+}
+
+#[test]
+fn prints_the_report_from_memory_to_memory(rt: HostRuntime) {
+    assert!(rt; runs_in_memory(rt.alloc()) == Ok(true));
 }
