@@ -1,8 +1,10 @@
-//! The orders in which values are taken, and the faults of rows.
+//! The orders in which values are taken, the faults of rows, and a constraint that is compiled.
 
-ghost use Rattle.std.specs.Prelude.{◌≡◌, All, IfOk, length};
+ghost use Rattle.std.specs.Prelude.{◌≡◌, true, All, IfOk, length};
+ghost use Rattle.cov_model.specs.Valid.{is_row};
 
-use cov_model::{Cells, Prefs, RowWhy, Rows, TestModel, Tuple, ValueNo};
+use compiled_rules::CompiledRules;
+use cov_model::{Cells, Prefs, RowWhy, Rows, TestModel, Truth, Tuple, ValueNo};
 use std::alloc::Global;
 use test_models::{model_of, row_of};
 use value_text::NoMemory;
@@ -100,6 +102,36 @@ fn finds_the_fault_of_a_row(rt: HostRuntime) {
             "{first} {second}"
         );
     }
+}
+
+// What the first constraint of a model, compiled, says of a row.
+fn compiled_truth(alloc: Global, model: &TestModel, row: &Cells) -> Option<Truth>
+    requires { is_row model.now row.now ≡ true }
+{
+    if model.rules().is_empty() {
+        return None;
+    }
+    match CompiledRules::new(alloc, model) {
+        Ok(rules) => Some(rules.truth(1, row)),
+        Err(NoMemory) => None,
+    }
+}
+
+// The same of the row of these values under the model with a constraint.
+fn compiled_truth_of(alloc: Global, first: ValueNo, second: ValueNo) -> Option<Truth> {
+    let Ok(model) = model_of(alloc, MODEL) else {
+        return None;
+    };
+    match row_of(alloc, &model, first, second) {
+        Some(row) => compiled_truth(alloc, &model, &row),
+        None => None,
+    }
+}
+
+#[test]
+fn compiles_a_constraint(rt: HostRuntime) {
+    assert!(rt; compiled_truth_of(rt.alloc(), 0, 2) == Some(Truth::Yes));
+    assert!(rt; compiled_truth_of(rt.alloc(), 1, 2) == Some(Truth::No));
 }
 
 // Whether a copy of a row has these cells; `false` too where memory was refused.

@@ -4,8 +4,10 @@ ghost use Rattle.std.specs.Prelude.{◌≡◌, length};
 ghost use Rattle.tuple_index.specs.Plan.{plan_of};
 
 use cov_model::{Cells, Slice, TestModel};
+use outside_io::Gate;
 use scoring::score_all;
 use std::alloc::Global;
+use std::sync::atomic::{AtomicU32, AtomicU64, Ordering};
 use std::thread::Threads;
 use test_models::{Meeting, count_values, is_positive_row, model_of};
 use tuple_index::Plan;
@@ -30,14 +32,15 @@ fn close_first(model: &TestModel, table: &mut Uncovered, row: &mut Cells) -> boo
     true
 }
 
-// The scores that two workers give who come to this gate: those of the values of C in the row with the second value
-// of B.
-fn scores_of<R: Threads + Sync>(
+// The scores that so many workers give who come to this gate: those of the values of C in the row with the second
+// value of B; nothing where there are no workers or more than 64.
+fn scores_of<R: Threads + Sync, G: Gate + Sync>(
     rt: &R,
     model: &TestModel,
     table: &Uncovered,
     row: &mut Cells,
-    gate: &Meeting,
+    workers: u32,
+    gate: &G,
 ) -> Option<[u32; 2]>
     requires model { table.now.model ≡ model.now }
     requires slice { table.now.slice ≡ Slice.Positive }
@@ -48,18 +51,22 @@ fn scores_of<R: Threads + Sync>(
     if model.params().len() != 3 || count_values(model, 2) != 2 || !is_positive_row(model, row) {
         return None;
     }
+    if workers == 0 || workers > 64 {
+        return None;
+    }
     let mut scores = [0, 0];
-    score_all(rt, table, row, 2, &mut scores, 2, gate);
+    score_all(rt, table, row, 2, &mut scores, workers, gate);
     Some(scores)
 }
 
 // The scores that they give once the first row is closed; nothing where memory was refused.
-fn scores_in<R: Threads + Sync>(
+fn scores_in<R: Threads + Sync, G: Gate + Sync>(
     rt: &R,
     alloc: Global,
     model: &TestModel,
     table: &mut Uncovered,
-    gate: &Meeting,
+    workers: u32,
+    gate: &G,
 ) -> Option<[u32; 2]>
     requires model { table.old.model ≡ model.now }
     requires slice { table.old.slice ≡ Slice.Positive }
@@ -68,45 +75,52 @@ fn scores_in<R: Threads + Sync>(
         return None;
     };
     if close_first(model, table, &mut row) {
-        scores_of(rt, model, table, &mut row, gate)
+        scores_of(rt, model, table, &mut row, workers, gate)
     } else {
         None
     }
 }
 
 // The same for a table in which all is open.
-fn scores_at<R: Threads + Sync>(
+fn scores_at<R: Threads + Sync, G: Gate + Sync>(
     rt: &R,
     alloc: Global,
     model: &TestModel,
     plan: &Plan,
-    gate: &Meeting,
+    workers: u32,
+    gate: &G,
 ) -> Option<[u32; 2]>
     requires { plan.now ≡ plan_of model.now }
 {
     match Uncovered::new(alloc, model, plan, Slice::Positive) {
-        Ok(mut table) => scores_in(rt, alloc, model, &mut table, gate),
+        Ok(mut table) => scores_in(rt, alloc, model, &mut table, workers, gate),
         Err(_) => None,
     }
 }
 
 // The same for the plan of the model.
-fn scores_of_model<R: Threads + Sync>(
+fn scores_of_model<R: Threads + Sync, G: Gate + Sync>(
     rt: &R,
     alloc: Global,
     model: &TestModel,
-    gate: &Meeting,
+    workers: u32,
+    gate: &G,
 ) -> Option<[u32; 2]> {
     match Plan::new(alloc, model) {
-        Ok(plan) => scores_at(rt, alloc, model, &plan, gate),
+        Ok(plan) => scores_at(rt, alloc, model, &plan, workers, gate),
         Err(_) => None,
     }
 }
 
 // The same for a model of three parameters.
-fn scores_by_two<R: Threads + Sync>(rt: &R, alloc: Global, gate: &Meeting) -> Option<[u32; 2]> {
+fn scores<R: Threads + Sync, G: Gate + Sync>(
+    rt: &R,
+    alloc: Global,
+    workers: u32,
+    gate: &G,
+) -> Option<[u32; 2]> {
     match model_of(alloc, "A: 1, 2\nB: x, y\nC: u, v\n") {
-        Ok(model) => scores_of_model(rt, alloc, &model, gate),
+        Ok(model) => scores_of_model(rt, alloc, &model, workers, gate),
         Err(_) => None,
     }
 }
@@ -116,6 +130,55 @@ fn scores_by_two<R: Threads + Sync>(rt: &R, alloc: Global, gate: &Meeting) -> Op
 #[test]
 fn two_workers_meet(rt: HostRuntime) {
     let gate = Meeting::new();
-    assert!(rt; scores_by_two(&rt, rt.alloc(), &gate) == Some([1, 2]));
+    assert!(rt; scores(&rt, rt.alloc(), 2, &gate) == Some([1, 2]));
     assert!(rt; gate.has_met());
+}
+
+// A gate that keeps which workers come.
+#[derive(Drop)]
+struct Counting {
+    // The bit of each number that came.
+    numbers: AtomicU64,
+    // How many came.
+    count: AtomicU32,
+}
+
+impl Counting {
+    fn new() -> Counting {
+        Counting {
+            numbers: AtomicU64::new(0),
+            count: AtomicU32::new(0),
+        }
+    }
+
+    // Whether the numbers from 1 to this came, each once.
+    fn has_each_once(&self, workers: u32) -> bool {
+        if workers == 0 || workers > 64 {
+            return false;
+        }
+        self.count.load(Ordering::SeqCst) == workers
+            && self.numbers.load(Ordering::SeqCst) == u64::MAX >> (64 - workers)
+    }
+}
+
+impl Gate for Counting {
+    fn come(&self, worker: u32) {
+        self.count.fetch_add(1, Ordering::SeqCst);
+        if worker > 0 && worker <= 64 {
+            self.numbers.fetch_or(1 << (worker - 1), Ordering::SeqCst);
+        }
+    }
+}
+
+// One worker scores both values, each of two scores one, and of more some score none.
+const WORKERS: &[u32] = &[1, 2, 7, 64];
+
+#[test]
+fn each_worker_comes_once(rt: HostRuntime) {
+    for workers in WORKERS {
+        let gate = Counting::new();
+        let scores = scores(&rt, rt.alloc(), *workers, &gate);
+        assert!(rt; scores == Some([1, 2]), "{workers}");
+        assert!(rt; gate.has_each_once(*workers), "{workers}");
+    }
 }
