@@ -19,7 +19,8 @@ pub const DISK: &str = "Type: Primary, Logical, Single, Span, Stripe, Mirror, RA
 
 /// Fourteen parameters of one value, and twice the sub-model of all of them at order 7: at order 2 there are
 /// 3,432 times 3,432 choices of demanded sets, and 9,908 sets.
-pub const OVERLAPPING: &str = "A: 1\nB: 1\nC: 1\nD: 1\nE: 1\nF: 1\nG: 1\nH: 1\nI: 1\nJ: 1\nK: 1\nL: 1\n\
+pub const OVERLAPPING: &str =
+    "A: 1\nB: 1\nC: 1\nD: 1\nE: 1\nF: 1\nG: 1\nH: 1\nI: 1\nJ: 1\nK: 1\nL: 1\n\
     M: 1\nN: 1\n\
     { A, B, C, D, E, F, G, H, I, J, K, L, M, N } @ 7\n\
     { A, B, C, D, E, F, G, H, I, J, K, L, M, N } @ 7\n";
