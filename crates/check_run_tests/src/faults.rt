@@ -1,12 +1,12 @@
 //! Folders and sinks that fail.
 
 use crate::runs::{ACCEPTED, FILES, Given, MODEL, PROOF, REPORT, ends_as, on_files};
-use outside_io::{FileHeld, FileList, SureFolder, SureSink};
+use outside_io::{SureFolder, SureSink};
 use proof_check::run_check_without_faults;
 use std::alloc::Global;
 use std::thread::Threads;
-use test_runs::words_of;
-use value_text::{NoMemory, OwnedList, Text};
+use test_runs::{sure_folder, words_of};
+use value_text::NoMemory;
 
 // The calls of the folder that fail, and the line.
 const READS: &[(&[u64], &str)] = &[
@@ -84,23 +84,6 @@ fn a_fault_of_standard_error_changes_nothing(rt: HostRuntime) {
     assert!(rt; ends_as(&rt, rt.alloc(), &given, 7, "", "error: cann"));
 }
 
-fn bytes_of(alloc: Global, bytes: &[u8]) -> Result<OwnedList<u8>, NoMemory> {
-    let mut list = OwnedList::new(alloc);
-    for byte in bytes {
-        list.push(*byte)?;
-    }
-    Ok(list)
-}
-
-// A folder that never fails, with the model in the file `m`; every other name reads as no bytes.
-fn folder_of(alloc: Global) -> Result<SureFolder, NoMemory> {
-    let name = Text::copy(alloc, "m")?;
-    let bytes = bytes_of(alloc, MODEL)?;
-    let mut files = FileList::new(alloc);
-    files.push(FileHeld { name, bytes })?;
-    Ok(SureFolder::new(files))
-}
-
 // Whether a run of these words in this folder ends with status 6, prints nothing and tells something.
 fn is_refused_in<R: Threads + Sync>(
     rt: &R,
@@ -116,7 +99,7 @@ fn is_refused_in<R: Threads + Sync>(
 
 fn is_refused<R: Threads + Sync>(rt: &R, alloc: Global) -> Result<bool, NoMemory> {
     let words = words_of(alloc, &["m", "r", "p"])?;
-    let mut folder = folder_of(alloc)?;
+    let mut folder = sure_folder(alloc, MODEL)?;
     Ok(is_refused_in(rt, alloc, words.as_slice(), &mut folder))
 }
 

@@ -109,6 +109,55 @@ fn refuses_prefixes<R: Threads + Sync>(rt: &R, alloc: Global, report: &[u8], res
     true
 }
 
+// How the verdict begins on the header and so many rows: the first tuple that no row serves. The last of the 60 rows
+// alone serves the last of these.
+fn verdict_behind(rows: usize) -> &'static str {
+    match rows {
+        0 => "refused: uncovered 0=0 1=0\n",
+        1 => "refused: uncovered 0=0 1=1\n",
+        59 => "refused: uncovered 1=6 4=1\n",
+        _ => "refused: uncovered ",
+    }
+}
+
+// Whether that is the verdict on a prefix with so many rows, and nothing is told.
+fn lacks_rows<R: Threads + Sync>(rt: &R, alloc: Global, report: &[u8], rows: usize) -> bool {
+    let files = [
+        ("m", DISK.as_bytes()),
+        ("r", report),
+        ("p", PROOF.as_bytes()),
+    ];
+    match run(rt, alloc, &on_files(&files)) {
+        Ok(ended) => {
+            let verdict = verdict_behind(rows).as_bytes();
+            ended.status == 10
+                && ended.written.bytes().starts_with(verdict)
+                && ended.told.bytes().is_empty()
+        }
+        Err(NoMemory) => false,
+    }
+}
+
+// Whether none of the prefixes is accepted that end before the line feed of an earlier line, or behind it.
+fn refuses_whole_lines<R: Threads + Sync>(rt: &R, alloc: Global, report: &[u8]) -> bool {
+    let Some((_last, report)) = report.split_last() else {
+        return false;
+    };
+    let mut rows = 0usize;
+    for (i, byte) in report.iter().enumerate() {
+        if *byte == b'\n' {
+            if !lacks_rows(rt, alloc, &report[..i], rows) {
+                return false;
+            }
+            if !lacks_rows(rt, alloc, &report[..i + 1], rows) {
+                return false;
+            }
+            rows = rows.saturating_add(1);
+        }
+    }
+    rows == 60
+}
+
 // Whether the report is accepted without its last byte.
 fn accepts_cut<R: Threads + Sync>(rt: &R, alloc: Global, report: &[u8]) -> bool {
     match report.split_last() {
@@ -125,6 +174,7 @@ enum Shown {
     CutProofs,
     CutLine,
     CutReports(usize),
+    CutRows,
     CutEnd,
 }
 
@@ -135,6 +185,7 @@ fn is_so<R: Threads + Sync>(rt: &R, alloc: Global, report: &[u8], shown: Shown) 
         Shown::CutProofs => refuses_proofs(rt, alloc, report),
         Shown::CutLine => names_cut_line(rt, alloc, report),
         Shown::CutReports(rest) => refuses_prefixes(rt, alloc, report, rest),
+        Shown::CutRows => refuses_whole_lines(rt, alloc, report),
         Shown::CutEnd => accepts_cut(rt, alloc, report),
     }
 }
@@ -189,7 +240,12 @@ fn accepts_none_of_three_bytes_more(rt: HostRuntime) {
     assert!(rt; is_so_of_made(&rt, rt.alloc(), Shown::CutReports(3)));
 }
 
-// A prefix that ends with an earlier line may be accepted, since a row at the end may be needless.
+// One that ends with an earlier line could be accepted, if the rows behind it were needless. None of them is.
+#[test]
+fn accepts_no_report_without_its_last_rows(rt: HostRuntime) {
+    assert!(rt; is_so_of_made(&rt, rt.alloc(), Shown::CutRows));
+}
+
 #[test]
 fn reads_a_report_without_its_last_line_feed(rt: HostRuntime) {
     assert!(rt; is_so_of_made(&rt, rt.alloc(), Shown::CutEnd));

@@ -52,7 +52,8 @@ fn add_files(files: &[(&str, &[u8])], folder: &mut MemFolder) -> Result<(), NoMe
     Ok(())
 }
 
-fn folder_of(alloc: Global, given: &Given) -> Result<MemFolder, NoMemory> {
+/// The folder of a run.
+pub fn folder_of(alloc: Global, given: &Given) -> Result<MemFolder, NoMemory> {
     let mut folder = MemFolder::new(alloc, calls_of(alloc, given.fail)?);
     add_files(given.files, &mut folder)?;
     Ok(folder)

@@ -1,6 +1,14 @@
 //! Verdicts on reports and proofs.
 
-use crate::runs::{ACCEPTED, Given, MODEL, PROOF, REPORT, ends_as, ends_on, on_files};
+use crate::runs::{
+    ACCEPTED, FILES, Given, MODEL, PROOF, REPORT, ends_as, ends_on, folder_of, on_files,
+};
+use outside_io::{MemFolder, MemSink};
+use proof_check::run_check_in_memory;
+use std::alloc::Global;
+use std::thread::Threads;
+use test_runs::words_of;
+use value_text::NoMemory;
 
 // A model in which the first value of A goes with no row, and a parameter that no constraint names.
 const TWIN: &[u8] = b"A: 1, 2\nB: 1, 2\nC: 1, 2\nD: 1, 2\n\
@@ -114,4 +122,29 @@ fn is_the_same_for_any_number_of_workers(rt: HostRuntime) {
             "{word}"
         );
     }
+}
+
+// Whether a run of the call for files in memory accepts, and tells nothing.
+fn accepts_in<R: Threads + Sync>(
+    rt: &R,
+    alloc: Global,
+    words: &[String],
+    files: &mut MemFolder,
+) -> Result<bool, NoMemory> {
+    let mut out = MemSink::up_to(alloc, 100)?;
+    let mut diag = MemSink::up_to(alloc, 100)?;
+    let status = run_check_in_memory(rt, alloc, words, files, &mut out, &mut diag);
+    let is_written = out.bytes() == ACCEPTED.as_bytes();
+    Ok(status == 0 && is_written && diag.bytes().is_empty())
+}
+
+fn accepts_in_memory<R: Threads + Sync>(rt: &R, alloc: Global) -> Result<bool, NoMemory> {
+    let words = words_of(alloc, &["m", "r", "p"])?;
+    let mut files = folder_of(alloc, &on_files(FILES))?;
+    accepts_in(rt, alloc, words.as_slice(), &mut files)
+}
+
+#[test]
+fn accepts_from_memory_to_memory(rt: HostRuntime) {
+    assert!(rt; accepts_in_memory(&rt, rt.alloc()) == Ok(true));
 }

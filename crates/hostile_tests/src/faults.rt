@@ -1,13 +1,15 @@
 //! Folders and sinks that fail.
 
-use outside_io::{FileHeld, FileList, SureFolder, SureSink};
+use outside_io::{SureFolder, SureSink};
 use pict_cli::run_pict_without_faults;
 use std::alloc::Global;
 use std::thread::Threads;
-use test_runs::{Given, ends_as, on_model, words_of};
-use value_text::{NoMemory, OwnedList, Text};
+use test_runs::{Given, ends_as, on_model, sure_folder, words_of};
+use value_text::NoMemory;
 
-const MODEL: &str = "A: 1, 2\nB: x, y\n";
+const PAIRS: &[u8] = b"A: 1, 2\nB: x, y\n";
+
+const GUARDED: &[u8] = b"A: 1, 2\nB: x, y\nIF [A] = 1 THEN [B] = \"x\";\n";
 
 const REPORT: &str = "A\tB\n1\tx\n1\ty\n2\tx\n2\ty\n";
 
@@ -15,7 +17,7 @@ const REPORT: &str = "A\tB\n1\tx\n1\ty\n2\tx\n2\ty\n";
 fn keeps<R: Threads + Sync>(rt: &R, alloc: Global, room: usize) -> bool {
     let given = Given {
         room: (room, 1 << 10),
-        ..on_model(&["m"], MODEL.as_bytes())
+        ..on_model(&["m"], PAIRS)
     };
     match REPORT.get(..room) {
         Some(kept) => ends_as(
@@ -37,78 +39,126 @@ fn keeps_what_fits_of_the_report(rt: HostRuntime) {
     }
 }
 
-// The name of the one file, the calls of the folder that fail, how many bytes fit into standard error,
-// the words, and the status, the report and the line.
-type Fault<'a> = (
-    &'a str,
-    &'a [u64],
-    usize,
-    &'a [&'a str],
-    u8,
-    &'a str,
-    &'a str,
-);
+// A run on one file.
+struct Fault<'a> {
+    // The name of the file.
+    name: &'a str,
+    model: &'a [u8],
+    // The calls of the folder that fail, from 1.
+    fail: &'a [u64],
+    // How many bytes fit into standard error.
+    room: usize,
+    words: &'a [&'a str],
+    // The status, and what the two streams get.
+    status: u8,
+    report: &'a str,
+    line: &'a str,
+}
 
 const FAULTS: &[Fault<'static>] = &[
-    ("m", &[1], 100, &["m"], 7, "", "error: cannot read m\n"),
-    ("n", &[], 100, &["m"], 7, "", "error: cannot read m\n"),
-    (
-        "m",
-        &[2],
-        100,
-        &["m", "/proof:p"],
-        8,
-        "",
-        "error: cannot write p\n",
-    ),
-    (
-        "m",
-        &[],
-        100,
-        &["m", "/proof:q"],
-        8,
-        "",
-        "error: cannot write q\n",
-    ),
+    Fault {
+        name: "m",
+        model: PAIRS,
+        fail: &[1],
+        room: 100,
+        words: &["m"],
+        status: 7,
+        report: "",
+        line: "error: cannot read m\n",
+    },
+    Fault {
+        name: "n",
+        model: PAIRS,
+        fail: &[],
+        room: 100,
+        words: &["m"],
+        status: 7,
+        report: "",
+        line: "error: cannot read m\n",
+    },
+    Fault {
+        name: "m",
+        model: PAIRS,
+        fail: &[2],
+        room: 100,
+        words: &["m", "/proof:p"],
+        status: 8,
+        report: "",
+        line: "error: cannot write p\n",
+    },
+    Fault {
+        name: "m",
+        model: PAIRS,
+        fail: &[],
+        room: 100,
+        words: &["m", "/proof:q"],
+        status: 8,
+        report: "",
+        line: "error: cannot write q\n",
+    },
+    Fault {
+        name: "m",
+        model: GUARDED,
+        fail: &[2],
+        room: 100,
+        words: &["m", "/proof:p"],
+        status: 8,
+        report: "",
+        line: "error: cannot write p\n",
+    },
     // A fault of standard error changes nothing.
-    ("m", &[], 0, &["m", "/o:3"], 4, "", ""),
-    ("m", &[], 11, &["m", "/o:3"], 4, "", "error: mode"),
-    ("m", &[], 0, &["m"], 0, REPORT, ""),
+    Fault {
+        name: "m",
+        model: PAIRS,
+        fail: &[],
+        room: 0,
+        words: &["m", "/o:3"],
+        status: 4,
+        report: "",
+        line: "",
+    },
+    Fault {
+        name: "m",
+        model: PAIRS,
+        fail: &[],
+        room: 11,
+        words: &["m", "/o:3"],
+        status: 4,
+        report: "",
+        line: "error: mode",
+    },
+    Fault {
+        name: "m",
+        model: PAIRS,
+        fail: &[],
+        room: 0,
+        words: &["m"],
+        status: 0,
+        report: REPORT,
+        line: "",
+    },
 ];
 
 fn ends_so<R: Threads + Sync>(rt: &R, alloc: Global, fault: &Fault) -> bool {
-    let (name, fail, room, words, status, report, line) = fault;
     let given = Given {
-        name,
-        fail,
-        room: (100, *room),
-        ..on_model(words, MODEL.as_bytes())
+        name: fault.name,
+        fail: fault.fail,
+        room: (100, fault.room),
+        ..on_model(fault.words, fault.model)
     };
-    ends_as(rt, alloc, &given, *status, report, line)
+    ends_as(rt, alloc, &given, fault.status, fault.report, fault.line)
 }
 
 #[test]
 fn ends_with_the_status_of_a_fault(rt: HostRuntime) {
     for fault in FAULTS {
-        assert!(rt; ends_so(&rt, rt.alloc(), fault), "{} {}", fault.4, fault.6);
+        assert!(rt;
+            ends_so(&rt, rt.alloc(), fault),
+            "{} {}",
+            fault.status,
+            fault.line
+        );
     }
-}
-
-fn bytes_of(alloc: Global, text: &str) -> Result<OwnedList<u8>, NoMemory> {
-    let mut bytes = OwnedList::new(alloc);
-    for byte in text.as_bytes() {
-        bytes.push(*byte)?;
-    }
-    Ok(bytes)
-}
-
-// A folder that never fails, with the model in the file `m`.
-fn folder_of(alloc: Global) -> Result<SureFolder, NoMemory> {
-    let name = Text::copy(alloc, "m")?;
-    let bytes = bytes_of(alloc, MODEL)?;
-    let mut files = FileList::new(alloc);
-    files.push(FileHeld { name, bytes })?;
-    Ok(SureFolder::new(files))
 }
 
 // Whether a run of these words in this folder ends with status 0, prints 20 bytes and tells nothing.
@@ -126,7 +176,7 @@ fn runs_in<R: Threads + Sync>(
 
 fn runs<R: Threads + Sync>(rt: &R, alloc: Global) -> Result<bool, NoMemory> {
     let words = words_of(alloc, &["m"])?;
-    let mut folder = folder_of(alloc)?;
+    let mut folder = sure_folder(alloc, PAIRS)?;
     Ok(runs_in(rt, alloc, words.as_slice(), &mut folder))
 }
 

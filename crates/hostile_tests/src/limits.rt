@@ -1,4 +1,4 @@
-//! Models at their limits and above.
+//! Models and row files at their limits and above.
 
 use std::alloc::{AllocError, Global};
 use std::thread::Threads;
@@ -79,34 +79,205 @@ fn a_parameter_may_have_4095_values(rt: HostRuntime) {
     assert!(rt; matches!(prints_4095_values(&rt, rt.alloc()), Ok(true)));
 }
 
-// Whether a run at this order on a model of so many parameters with so many values each ends at a limit, and tells this.
-fn ends_at_limit<R: Threads + Sync>(
-    rt: &R,
-    alloc: Global,
-    order: &str,
+// A model of so many parameters with so many values each, and the line on the limit that it passes.
+struct Large<'a> {
     params: u32,
     values: u32,
-    line: &str,
-) -> bool {
-    match model_of(alloc, params, values) {
+    words: &'a [&'a str],
+    line: &'a str,
+}
+
+// The demanded sets are counted before they are made, and before the row file is looked at: there is no file `t`.
+const LARGE: &[Large<'static>] = &[
+    Large {
+        params: 1,
+        values: 4096,
+        words: &["m", "/o:1"],
+        line: "error: limit: values 4096 above 4095\n",
+    },
+    Large {
+        params: 257,
+        values: 1,
+        words: &["m", "/o:1"],
+        line: "error: limit: parameters 257 above 256\n",
+    },
+    Large {
+        params: 256,
+        values: 2,
+        words: &["m", "/o:3"],
+        line: "error: limit: demanded sets 2763520 above 1048576\n",
+    },
+    Large {
+        params: 256,
+        values: 2,
+        words: &["m", "/o:3", "/e:t"],
+        line: "error: limit: demanded sets 2763520 above 1048576\n",
+    },
+    Large {
+        params: 4,
+        values: 4095,
+        words: &["m"],
+        line: "error: limit: demanded tuples 100614150 above 67108864\n",
+    },
+];
+
+// Whether a run on such a model ends with status 9, and tells this.
+fn is_too_large<R: Threads + Sync>(rt: &R, alloc: Global, large: &Large) -> bool {
+    match model_of(alloc, large.params, large.values) {
         Ok(model) => {
-            let words = ["m", order];
-            ends_as(rt, alloc, &on_model(&words, model.as_bytes()), 9, "", line)
+            let given = on_model(large.words, model.as_bytes());
+            ends_as(rt, alloc, &given, 9, "", large.line)
         }
         Err(AllocError) => false,
     }
 }
 
 #[test]
-fn values_are_counted(rt: HostRuntime) {
-    let line = "error: limit: values 4096 above 4095\n";
-    assert!(rt; ends_at_limit(&rt, rt.alloc(), "/o:1", 1, 4096, line));
+fn tells_what_is_above_a_limit(rt: HostRuntime) {
+    for large in LARGE {
+        assert!(rt; is_too_large(&rt, rt.alloc(), large), "{}", large.line);
+    }
+}
+
+// The results of a model of so many parameters: the header, and so many failing rows of first values.
+fn results_of(alloc: Global, params: u32, rows: u32) -> Result<String, AllocError> {
+    let mut results = String::new(alloc);
+    for name in 0..params {
+        results.push_str("P")?;
+        push_number(&mut results, name)?;
+        results.push_str("\t")?;
+    }
+    results.push_str(":result\n")?;
+    for _ in 0..rows {
+        push_times(&mut results, "0\t", params as usize)?;
+        results.push_str("fail\n")?;
+    }
+    Ok(results)
+}
+
+// Results of a model of so many parameters with so many values each, and how a run on them ends.
+struct Results<'a> {
+    params: u32,
+    values: u32,
+    order: &'a str,
+    rows: u32,
+    // The status, and what the two streams get.
+    status: u8,
+    written: &'a str,
+    told: &'a str,
+}
+
+// There is no plan, whose sets would be too many. The candidates are all sets of 1 to 20 of the 40 parameters.
+const RESULTS: &[Results<'static>] = &[
+    Results {
+        params: 256,
+        values: 2,
+        order: "/o:3",
+        rows: 0,
+        status: 0,
+        written: "Passing tests: 0\nFailing tests: 0\nIncomplete tests: 0\nSuspicious tuples: 0\n",
+        told: "",
+    },
+    Results {
+        params: 40,
+        values: 1,
+        order: "/o:20",
+        rows: 1,
+        status: 9,
+        written: "",
+        told: "error: limit: suspect candidates 618679078297 above 4194304\n",
+    },
+];
+
+// Whether a run on these texts ends so.
+fn ends_on_results<R: Threads + Sync>(
+    rt: &R,
+    alloc: Global,
+    model: &str,
+    rows: &str,
+    results: &Results,
+) -> bool {
+    let words = ["m", results.order, "/suspect:t"];
+    let given = Given {
+        rows: Some(("t", rows.as_bytes())),
+        ..on_model(&words, model.as_bytes())
+    };
+    ends_as(
+        rt,
+        alloc,
+        &given,
+        results.status,
+        results.written,
+        results.told,
+    )
+}
+
+fn ends_so<R: Threads + Sync>(
+    rt: &R,
+    alloc: Global,
+    results: &Results,
+) -> Result<bool, AllocError> {
+    let model = model_of(alloc, results.params, results.values)?;
+    let rows = results_of(alloc, results.params, results.rows)?;
+    Ok(ends_on_results(rt, alloc, model.as_str(), rows.as_str(), results))
 }
 
 #[test]
-fn demanded_sets_are_counted_before_they_are_made(rt: HostRuntime) {
-    let line = "error: limit: demanded sets 2763520 above 1048576\n";
-    assert!(rt; ends_at_limit(&rt, rt.alloc(), "/o:3", 256, 2, line));
+fn candidates_are_counted_and_sets_are_not(rt: HostRuntime) {
+    for results in RESULTS {
+        assert!(rt;
+            ends_so(&rt, rt.alloc(), results) == Ok(true),
+            "{}",
+            results.order
+        );
+    }
+}
+
+// A row file that is too long, with a text 1,048,577 times behind its header.
+struct Long<'a> {
+    header: &'a str,
+    again: &'a str,
+    line: &'a str,
+}
+
+const LONG: &[Long<'static>] = &[
+    Long {
+        header: "P0\n",
+        again: "0\n",
+        line: "error: limit: rows 1048577 above 1048576\n",
+    },
+    Long {
+        header: "",
+        again: "\n\n\n\n\n\n\n\n\n\n\n\n\n\n\n\n\n\n\n\n\n\n\n\n\n\n\n\n\n\n\n\n\n\n\n\n\n\n\n\n\n\n\n\n\n\n\n\n\n\n\n\n\n\n\n\n\n\n\n\n\n\n\n\n",
+        line: "error: limit: row file bytes above 67108864\n",
+    },
+];
+
+fn long_rows(alloc: Global, long: &Long) -> Result<String, AllocError> {
+    let mut rows = String::from_str(alloc, long.header)?;
+    push_times(&mut rows, long.again, 1_048_577)?;
+    Ok(rows)
+}
+
+// Whether a run from such seed rows ends with status 9, and tells this.
+fn is_too_long<R: Threads + Sync>(rt: &R, alloc: Global, long: &Long) -> bool {
+    match long_rows(alloc, long) {
+        Ok(rows) => {
+            let given = Given {
+                rows: Some(("t", rows.as_bytes())),
+                ..on_model(&["m", "/o:1", "/e:t"], b"P0: 0\n")
+            };
+            ends_as(rt, alloc, &given, 9, "", long.line)
+        }
+        Err(AllocError) => false,
+    }
+}
+
+#[test]
+fn tells_row_files_that_are_too_long(rt: HostRuntime) {
+    for long in LONG {
+        assert!(rt; is_too_long(&rt, rt.alloc(), long), "{}", long.line);
+    }
 }
 
 /// Adds a text so many times.

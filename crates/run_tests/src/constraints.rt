@@ -4,54 +4,54 @@ use test_runs::{Report, other_report};
 
 // Models of one constraint, with their reports. A row with the negative values of both parameters is never valid.
 const REPORTS: &[Report<'static>] = &[
-    (
-        &["m"],
-        b"A: 1, 2.50, ~-3\nB: red, ~Green\n[A] > 1.5;\n",
-        "A\tB\n2.50\tred\n2.50\t~Green\n",
-    ),
-    (
-        &["m"],
-        b"A: 1, 2.50, ~-3\nB: red, ~Green\n[A] = 2.5 OR [A] = -3.0;\n",
-        "A\tB\n2.50\tred\n~-3\tred\n2.50\t~Green\n",
-    ),
-    (
-        &["m"],
-        b"A: 1, 2.50, ~-3\nB: red, ~Green\n[B] = \"RED\";\n",
-        "A\tB\n1\tred\n2.50\tred\n~-3\tred\n",
-    ),
-    (
-        &["m"],
-        b"A: 1, 2.50, ~-3\nB: red, ~Green\n[A] = [A];\n",
-        "A\tB\n1\tred\n2.50\tred\n~-3\tred\n1\t~Green\n2.50\t~Green\n",
-    ),
+    Report {
+        words: &["m"],
+        model: b"A: 1, 2.50, ~-3\nB: red, ~Green\n[A] > 1.5;\n",
+        report: "A\tB\n2.50\tred\n2.50\t~Green\n",
+    },
+    Report {
+        words: &["m"],
+        model: b"A: 1, 2.50, ~-3\nB: red, ~Green\n[A] = 2.5 OR [A] = -3.0;\n",
+        report: "A\tB\n2.50\tred\n~-3\tred\n2.50\t~Green\n",
+    },
+    Report {
+        words: &["m"],
+        model: b"A: 1, 2.50, ~-3\nB: red, ~Green\n[B] = \"RED\";\n",
+        report: "A\tB\n1\tred\n2.50\tred\n~-3\tred\n",
+    },
+    Report {
+        words: &["m"],
+        model: b"A: 1, 2.50, ~-3\nB: red, ~Green\n[A] = [A];\n",
+        report: "A\tB\n1\tred\n2.50\tred\n~-3\tred\n1\t~Green\n2.50\t~Green\n",
+    },
     // Only the first name of a value counts.
-    (
-        &["m"],
-        b"A: 1, 2.50, ~-3\nB: red | rot, ~Green\n[B] IN {\"rot\", \"GREEN\"};\n",
-        "A\tB\n1\t~Green\n2.50\t~Green\n",
-    ),
-    (
-        &["m"],
-        b"A: 1, 2.50, ~-3\nB: red, ~Green\n[B] LIKE \"r?d\";\n",
-        "A\tB\n1\tred\n2.50\tred\n~-3\tred\n",
-    ),
-    (
-        &["m"],
-        b"A: 1, 2.50, ~-3\nB: red, ~Green\nIF ISNEGATIVE([A]) THEN [B] = \"green\";\n",
-        "A\tB\n1\tred\n2.50\tred\n1\t~Green\n2.50\t~Green\n",
-    ),
-    (
-        &["m"],
-        b"A: 1, 2.50, ~-3\nB: red, ~Green\n\
+    Report {
+        words: &["m"],
+        model: b"A: 1, 2.50, ~-3\nB: red | rot, ~Green\n[B] IN {\"rot\", \"GREEN\"};\n",
+        report: "A\tB\n1\t~Green\n2.50\t~Green\n",
+    },
+    Report {
+        words: &["m"],
+        model: b"A: 1, 2.50, ~-3\nB: red, ~Green\n[B] LIKE \"r?d\";\n",
+        report: "A\tB\n1\tred\n2.50\tred\n~-3\tred\n",
+    },
+    Report {
+        words: &["m"],
+        model: b"A: 1, 2.50, ~-3\nB: red, ~Green\nIF ISNEGATIVE([A]) THEN [B] = \"green\";\n",
+        report: "A\tB\n1\tred\n2.50\tred\n1\t~Green\n2.50\t~Green\n",
+    },
+    Report {
+        words: &["m"],
+        model: b"A: 1, 2.50, ~-3\nB: red, ~Green\n\
             IF ISPOSITIVE([A]) THEN [B] = \"red\" ELSE [B] = \"green\";\n",
-        "A\tB\n1\tred\n2.50\tred\n",
-    ),
-    (
-        &["m"],
-        b"A: 1, 2.50, ~-3\nB: red, ~Green\n\
+        report: "A\tB\n1\tred\n2.50\tred\n",
+    },
+    Report {
+        words: &["m"],
+        model: b"A: 1, 2.50, ~-3\nB: red, ~Green\n\
             NOT (ISPOSITIVE([A]) AND ([B] = \"red\" OR [A] > 1.5));\n",
-        "A\tB\n~-3\tred\n1\t~Green\n",
-    ),
+        report: "A\tB\n~-3\tred\n1\t~Green\n",
+    },
 ];
 
 #[test]

@@ -14,59 +14,66 @@ const FIGURES: &str =
 
 // Runs on a suite in the file t.
 const MEASURED: &[End<'static>] = &[
-    (&["m", "/measure:t"], GUARDED, SUITE, 0, FIGURES, ""),
+    End {
+        words: &["m", "/measure:t"],
+        model: GUARDED,
+        rows: SUITE,
+        status: 0,
+        written: FIGURES,
+        told: "",
+    },
     // The number of workers doesn't matter.
-    (
-        &["m", "/measure:t", "/workers:2"],
-        GUARDED,
-        SUITE,
-        0,
-        FIGURES,
-        "",
-    ),
-    (
-        &["m", "/measure:t", "/workers:7"],
-        GUARDED,
-        SUITE,
-        0,
-        FIGURES,
-        "",
-    ),
-    (
-        &["m", "/measure:t", "/workers:64"],
-        GUARDED,
-        SUITE,
-        0,
-        FIGURES,
-        "",
-    ),
+    End {
+        words: &["m", "/measure:t", "/workers:2"],
+        model: GUARDED,
+        rows: SUITE,
+        status: 0,
+        written: FIGURES,
+        told: "",
+    },
+    End {
+        words: &["m", "/measure:t", "/workers:7"],
+        model: GUARDED,
+        rows: SUITE,
+        status: 0,
+        written: FIGURES,
+        told: "",
+    },
+    End {
+        words: &["m", "/measure:t", "/workers:64"],
+        model: GUARDED,
+        rows: SUITE,
+        status: 0,
+        written: FIGURES,
+        told: "",
+    },
     // The first demanded tuple that costs too much, and what is told of the file before it.
-    (
-        &["m", "/measure:t", "/o:1", "/budget:1"],
-        GUARDED,
-        b"A\tB\tQ\n1\tz\t\n",
-        2,
-        "",
-        "warning: row file line 1: V2 unknown column\nwarning: row file line 2: V3 unknown value\n\
+    End {
+        words: &["m", "/measure:t", "/o:1", "/budget:1"],
+        model: GUARDED,
+        rows: b"A\tB\tQ\n1\tz\t\n",
+        status: 2,
+        written: "",
+        told: "warning: row file line 1: V2 unknown column\nwarning: row file line 2: V3 unknown value\n\
         error: search budget 1 spent on 0=0\n",
-    ),
+    },
     // A suite has a column for each parameter.
-    (
-        &["m", "/measure:t"],
-        GUARDED,
-        b"A\n1\n",
-        6,
-        "",
-        "error: row file: F3 no column for parameter 1\n",
-    ),
-    (
-        &["m", "/measure:u"],
-        GUARDED,
-        SUITE,
-        7,
-        "",
-        "error: cannot read u\n",
-    ),
+    End {
+        words: &["m", "/measure:t"],
+        model: GUARDED,
+        rows: b"A\n1\n",
+        status: 6,
+        written: "",
+        told: "error: row file: F3 no column for parameter 1\n",
+    },
+    End {
+        words: &["m", "/measure:u"],
+        model: GUARDED,
+        rows: SUITE,
+        status: 7,
+        written: "",
+        told: "error: cannot read u\n",
+    },
 ];
 
 #[test]
@@ -85,59 +92,74 @@ const SUSPECTS: &str =
 
 // Runs on results in the file t.
 const SUSPECTED: &[End<'static>] = &[
-    (&["m", "/suspect:t"], TRIPLES, RESULTS, 0, SUSPECTS, ""),
+    End {
+        words: &["m", "/suspect:t"],
+        model: TRIPLES,
+        rows: RESULTS,
+        status: 0,
+        written: SUSPECTS,
+        told: "",
+    },
     // One more passing test takes the last tuple out.
-    (
-        &["m", "/suspect:t"],
-        TRIPLES,
-        b"A\tB\tC\t:result\n1\tx\tu\tpass\n1\ty\tv\tfail\n2\tx\tv\tpass\n2\ty\tu\tpass\n2\ty\tv\tpass\n",
-        0,
-        "Passing tests: 4\nFailing tests: 1\nIncomplete tests: 0\nSuspicious tuples: 2\n\
+    End {
+        words: &["m", "/suspect:t"],
+        model: TRIPLES,
+        rows: b"A\tB\tC\t:result\n1\tx\tu\tpass\n1\ty\tv\tfail\n2\tx\tv\tpass\n2\ty\tu\tpass\n2\ty\tv\tpass\n",
+        status: 0,
+        written: "Passing tests: 4\nFailing tests: 1\nIncomplete tests: 0\nSuspicious tuples: 2\n\
         suspect 0=0 1=1 : 1 failing\nsuspect 0=0 2=1 : 1 failing\n",
-        "",
-    ),
+        told: "",
+    },
     // The result column is told by no note, other unknown columns are; the case of results doesn't count.
-    (
-        &["m", "/suspect:t", "/o:1"],
-        TRIPLES,
-        b"A\tB\tQ\tC\t:RESULT\n1\tx\tq\tu\tPASS\n2\tx\t\tz\tfail\n",
-        0,
-        "Passing tests: 1\nFailing tests: 0\nIncomplete tests: 1\nSuspicious tuples: 0\n",
-        "warning: row file line 1: V2 unknown column\nwarning: row file line 3: V3 unknown value\n",
-    ),
+    End {
+        words: &["m", "/suspect:t", "/o:1"],
+        model: TRIPLES,
+        rows: b"A\tB\tQ\tC\t:RESULT\n1\tx\tq\tu\tPASS\n2\tx\t\tz\tfail\n",
+        status: 0,
+        written: "Passing tests: 1\nFailing tests: 0\nIncomplete tests: 1\nSuspicious tuples: 0\n",
+        told: "warning: row file line 1: V2 unknown column\nwarning: row file line 3: V3 unknown value\n",
+    },
     // Results that are refused, of which no note is told.
-    (
-        &["m", "/suspect:t"],
-        TRIPLES,
-        b"A\tB\tC\tQ\t:result\n1\tx\tu\t\tpass\n1\ty\tv\t\tmaybe\n",
-        6,
-        "",
-        "error: row file line 3: F6 neither pass nor fail\n",
-    ),
-    (
-        &["m", "/suspect:t"],
-        TRIPLES,
-        b"A\tB\tC\n1\tx\tu\n",
-        6,
-        "",
-        "error: row file: F5 no result column\n",
-    ),
-    (
-        &["m", "/suspect:t"],
-        TRIPLES,
-        b"A\tB\t:result\n1\tx\tmaybe\n",
-        6,
-        "",
-        "error: row file: F3 no column for parameter 2\n",
-    ),
-    (
-        &["m", "/suspect:u"],
-        TRIPLES,
-        RESULTS,
-        7,
-        "",
-        "error: cannot read u\n",
-    ),
+    End {
+        words: &["m", "/suspect:t"],
+        model: TRIPLES,
+        rows: b"A\tB\tC\t:result\n1\tx\tu\tpass\n1\ty\tv\tmaybe\n2\tx\tv\tpass\n2\ty\tu\tpass\n",
+        status: 6,
+        written: "",
+        told: "error: row file line 3: F6 neither pass nor fail\n",
+    },
+    End {
+        words: &["m", "/suspect:t"],
+        model: TRIPLES,
+        rows: b"A\tB\tC\tQ\t:result\n1\tx\tu\t\tpass\n1\ty\tv\t\tmaybe\n",
+        status: 6,
+        written: "",
+        told: "error: row file line 3: F6 neither pass nor fail\n",
+    },
+    End {
+        words: &["m", "/suspect:t"],
+        model: TRIPLES,
+        rows: b"A\tB\tC\n1\tx\tu\n",
+        status: 6,
+        written: "",
+        told: "error: row file: F5 no result column\n",
+    },
+    End {
+        words: &["m", "/suspect:t"],
+        model: TRIPLES,
+        rows: b"A\tB\t:result\n1\tx\tmaybe\n",
+        status: 6,
+        written: "",
+        told: "error: row file: F3 no column for parameter 2\n",
+    },
+    End {
+        words: &["m", "/suspect:u"],
+        model: TRIPLES,
+        rows: RESULTS,
+        status: 7,
+        written: "",
+        told: "error: cannot read u\n",
+    },
 ];
 
 #[test]

@@ -14,42 +14,51 @@ const FIRST_PARAMETER: &str = "P0: v0, v1";
 
 const LAST_CONSTRAINT: &str = "IF [P19] = \"v4\" THEN [P53] <> \"v2\";\n";
 
-// A number, the number of bytes of its made model, and how the statistics begin.
-type Made<'a> = (&'a str, usize, &'a str);
+// A made model.
+struct Made<'a> {
+    // The word that asks for it.
+    word: &'a str,
+    // How many bytes it has.
+    bytes: usize,
+    // How the statistics begin.
+    statistics: &'a str,
+}
 
 const MADE: &[Made<'static>] = &[
-    (
-        "/make:1",
-        2354,
-        "Demanded sets: 1770\nDemanded tuples: 33929\nOmitted tuples: 30\nKept seeds: 0\nGenerated tests: ",
-    ),
-    (
-        "/make:2",
-        2381,
-        "Demanded sets: 1770\nDemanded tuples: 36003\nOmitted tuples: 30\nKept seeds: 0\nGenerated tests: ",
-    ),
-    (
-        "/make:3",
-        2415,
-        "Demanded sets: 1770\nDemanded tuples: 38179\nOmitted tuples: 30\nKept seeds: 0\nGenerated tests: ",
-    ),
-    (
-        "/MAKE:7",
-        2345,
-        "Demanded sets: 1770\nDemanded tuples: 33431\nOmitted tuples: 30\nKept seeds: 0\nGenerated tests: ",
-    ),
+    Made {
+        word: "/make:1",
+        bytes: 2354,
+        statistics: "Demanded sets: 1770\nDemanded tuples: 33929\nOmitted tuples: 30\nKept seeds: 0\nGenerated tests: ",
+    },
+    Made {
+        word: "/make:2",
+        bytes: 2381,
+        statistics: "Demanded sets: 1770\nDemanded tuples: 36003\nOmitted tuples: 30\nKept seeds: 0\nGenerated tests: ",
+    },
+    Made {
+        word: "/make:3",
+        bytes: 2415,
+        statistics: "Demanded sets: 1770\nDemanded tuples: 38179\nOmitted tuples: 30\nKept seeds: 0\nGenerated tests: ",
+    },
+    Made {
+        word: "/MAKE:7",
+        bytes: 2345,
+        statistics: "Demanded sets: 1770\nDemanded tuples: 33431\nOmitted tuples: 30\nKept seeds: 0\nGenerated tests: ",
+    },
 ];
 
 // Whether a run ends with status 0 and the statistics of one of these, and leaves its made model in the model file.
 fn is_made(ended: &Ended, made: &Made) -> bool {
-    let (_, count, statistics) = made;
     let Some(held) = ended.files.held("m") else {
         return false;
     };
     ended.status == 0
         && ended.told.bytes().is_empty()
-        && ended.written.bytes().starts_with(statistics.as_bytes())
-        && held.len() == *count
+        && ended
+            .written
+            .bytes()
+            .starts_with(made.statistics.as_bytes())
+        && held.len() == made.bytes
         && held.starts_with(FIRST_PARAMETER.as_bytes())
 }
 
@@ -60,7 +69,7 @@ fn are_alike(first: &Ended, second: &Ended) -> bool {
 
 // Two runs of one of these are alike, and leave the made model in the model file.
 fn makes_twice<R: Threads + Sync>(rt: &R, alloc: Global, made: &Made) -> Result<bool, NoMemory> {
-    let words = ["m", made.0];
+    let words = ["m", made.word];
     let given = on_model(&words, OLD);
     let first = run(rt, alloc, &given)?;
     let second = run(rt, alloc, &given)?;
@@ -93,6 +102,23 @@ fn makes_the_model_of_3(rt: HostRuntime) {
 #[test]
 fn makes_the_model_of_7(rt: HostRuntime) {
     assert!(rt; makes(&rt, rt.alloc(), 3));
+}
+
+// Whether runs where more workers may score are alike too.
+fn makes_by_any<R: Threads + Sync>(rt: &R, alloc: Global) -> Result<bool, NoMemory> {
+    let first = run(rt, alloc, &on_model(&["m", "/make:7"], OLD))?;
+    for workers in ["/workers:2", "/workers:7", "/workers:64"] {
+        let other = run(rt, alloc, &on_model(&["m", "/make:7", workers], OLD))?;
+        if other.status != 0 || !are_alike(&first, &other) {
+            return Ok(false);
+        }
+    }
+    Ok(first.status == 0)
+}
+
+#[test]
+fn the_number_of_workers_makes_no_difference(rt: HostRuntime) {
+    assert!(rt; makes_by_any(&rt, rt.alloc()) == Ok(true));
 }
 
 // Whether a run leaves a model file that begins and ends so.
@@ -135,60 +161,68 @@ fn needs_no_model_file(rt: HostRuntime) {
     assert!(rt; leaves(&rt, rt.alloc(), &given, report, b"", last));
 }
 
-// Words, the calls of the folder that fail, how many bytes fit into standard output, the status, the line, and how the
-// model file ends: as what it held, as the made model, or as a proof.
-type End<'a> = (&'a [&'a str], &'a [u64], usize, u8, &'a str, &'a str);
+// A run that ends once the model is made.
+struct End<'a> {
+    words: &'a [&'a str],
+    // The calls of the folder that fail, from 1.
+    fail: &'a [u64],
+    // How many bytes fit into standard output.
+    room: usize,
+    status: u8,
+    line: &'a str,
+    // How the model file ends: as what it held, or as the made model.
+    last: &'a str,
+}
 
 const ENDS: &[End<'static>] = &[
-    (
-        &["m", "/make:7"],
-        &[1],
-        100,
-        8,
-        "error: cannot write m\n",
-        "xxxx",
-    ),
-    (
-        &["m", "/make:7", "/proof:p"],
-        &[2],
-        100,
-        8,
-        "error: cannot write p\n",
-        LAST_CONSTRAINT,
-    ),
-    (
-        &["m", "/make:7"],
-        &[],
-        0,
-        8,
-        "error: cannot write the report\n",
-        LAST_CONSTRAINT,
-    ),
-    (
-        &["m", "/make:7", "/o:61"],
-        &[],
-        100,
-        4,
-        "error: model line 60: M18 order above the number of parameters\n",
-        LAST_CONSTRAINT,
-    ),
+    End {
+        words: &["m", "/make:7"],
+        fail: &[1],
+        room: 100,
+        status: 8,
+        line: "error: cannot write m\n",
+        last: "xxxx",
+    },
+    End {
+        words: &["m", "/make:7", "/proof:p"],
+        fail: &[2],
+        room: 100,
+        status: 8,
+        line: "error: cannot write p\n",
+        last: LAST_CONSTRAINT,
+    },
+    End {
+        words: &["m", "/make:7"],
+        fail: &[],
+        room: 0,
+        status: 8,
+        line: "error: cannot write the report\n",
+        last: LAST_CONSTRAINT,
+    },
+    End {
+        words: &["m", "/make:7", "/o:61"],
+        fail: &[],
+        room: 100,
+        status: 4,
+        line: "error: model line 60: M18 order above the number of parameters\n",
+        last: LAST_CONSTRAINT,
+    },
 ];
 
 // Whether a run ends so, and writes no report.
 fn stops<R: Threads + Sync>(rt: &R, alloc: Global, given: &Given, end: &End) -> bool {
-    let (_, _, _, status, line, last) = end;
     match run(rt, alloc, given) {
-        Ok(ended) => ended.is(*status, "", line) && is_left(&ended, b"", last.as_bytes()),
+        Ok(ended) => ended.is(end.status, "", end.line)
+            && is_left(&ended, b"", end.last.as_bytes()),
         Err(NoMemory) => false,
     }
 }
 
 fn ends_so<R: Threads + Sync>(rt: &R, alloc: Global, end: &End) -> bool {
-    let (words, fail, room, _, _, _) = end;
     let given = Given {
-        fail,
-        room: (*room, 1 << 10),
-        ..on_model(words, OLD)
+        fail: end.fail,
+        room: (end.room, 1 << 10),
+        ..on_model(end.words, OLD)
     };
     stops(rt, alloc, &given, end)
 }
@@ -196,7 +230,7 @@ fn ends_so<R: Threads + Sync>(rt: &R, alloc: Global, end: &End) -> bool {
 #[test]
 fn leaves_the_made_model_where_it_stops_later(rt: HostRuntime) {
     for end in ENDS {
-        assert!(rt; ends_so(&rt, rt.alloc(), end), "{}", end.4);
+        assert!(rt; ends_so(&rt, rt.alloc(), end), "{}", end.line);
     }
 }
 

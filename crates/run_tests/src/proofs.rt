@@ -14,74 +14,113 @@ const TWIN_AND_ONE: &[u8] = b"A: 1, 2\nB: 1, 2\nC: 1, 2\nD: 1, 2\n\
 const TWIN_AND_ONE_REPORT: &str =
     "A\tB\tC\tD\n2\t1\t1\t1\n2\t2\t2\t2\n2\t1\t2\t1\n2\t2\t1\t1\n2\t1\t1\t2\n";
 
+const TWIN_REPORT: &str = "A\tB\tC\n2\t1\t1\n2\t2\t2\n";
+
+const TWIN_PROOF: &str = "pict-proof 1\nomit 0=0 : B1 B2 L2 L1 B2 L1 L2\n";
+
+// A parameter with negative values alone.
+const NO_POSITIVE: &[u8] = b"A: ~1, ~2\nB: x, y\nC: u, v\n";
+
+const NO_POSITIVE_REPORT: &str = "A\tB\tC\n~1\tx\tu\n~1\ty\tv\n~2\tx\tu\n~2\ty\tv\n";
+
+const NO_POSITIVE_PROOF: &str =
+    "pict-proof 1\nomit 1=0 2=0 : B0 N N\nomit 1=0 2=1 : B0 N N\nomit 1=1 2=0 : B0 N N\nomit 1=1 2=1 : B0 N N\n";
+
 const NONE_LIVE_PROOF: &str =
     "pict-proof 1\nomit 0=0 2=0 : L1\nomit 0=0 2=1 : L2\nomit 0=0 2=2 : L3\n\
     omit 0=0 1=0 : B2 L1 L2 L3\nomit 0=0 1=1 : B2 L1 L2 L3\n";
 
-// Words, a model, its report, and its proof.
-const PROOFS: &[(&[&str], &[u8], &str, &str)] = &[
-    (
-        &["m", "/proof:p"],
-        b"A: 1, 2\nB: x, y\n",
-        "A\tB\n1\tx\n1\ty\n2\tx\n2\ty\n",
-        "pict-proof 1\n",
-    ),
-    (
-        &["m", "/proof:p"],
-        b"A: 1, 2\nB: x, y\nIF [A] = 1 THEN [B] = \"x\";\n",
-        "A\tB\n1\tx\n2\tx\n2\ty\n",
-        "pict-proof 1\nomit 0=0 1=1 : L1\n",
-    ),
-    (
-        &["m", "/proof:p"],
-        b"A: ~1, ~2\nB: x, y\nC: u, v\n",
-        "A\tB\tC\n~1\tx\tu\n~1\ty\tv\n~2\tx\tu\n~2\ty\tv\n",
-        "pict-proof 1\nomit 1=0 2=0 : B0 N N\nomit 1=0 2=1 : B0 N N\nomit 1=1 2=0 : B0 N N\nomit 1=1 2=1 : B0 N N\n",
-    ),
-    (
-        &["m", "/proof:p"],
-        NONE_LIVE,
-        NONE_LIVE_REPORT,
-        NONE_LIVE_PROOF,
-    ),
-    (
-        &["m", "/budget:3", "/Proof:p"],
-        NONE_LIVE,
-        NONE_LIVE_REPORT,
-        NONE_LIVE_PROOF,
-    ),
-    (
-        &["m", "/o:1", "/proof:p"],
-        b"A: 1, 2\n[A] > 5;\n",
-        "A\n",
-        "pict-proof 1\nomit 0=0 : L1\nomit 0=1 : L1\n",
-    ),
-    (
-        &["m", "/proof:p"],
-        b"A: ~1, 2\nB: x, ~y\nNOT ISNEGATIVE([A]);\n",
-        "A\tB\n2\tx\n2\t~y\n",
-        "pict-proof 1\nomit 0=0 1=0 : L1\n",
-    ),
-    (
-        &["m", "/o:1", "/proof:p", "/budget:4"],
-        TWIN,
-        "A\tB\tC\n2\t1\t1\n2\t2\t2\n",
-        "pict-proof 1\nomit 0=0 : B1 B2 L2 L1 B2 L1 L2\n",
-    ),
-    (
-        &["m", "/proofformat:2", "/proof:p"],
-        TWIN_AND_ONE,
-        TWIN_AND_ONE_REPORT,
-        "pict-proof 2\nomit 0=0 1=0 : B2 L2 L1\nomit 0=0 1=1 : B2 L1 L2\nomit 0=0 2=0 : B1 L2 L1\n\
+// A run with a proof.
+struct Proof<'a> {
+    words: &'a [&'a str],
+    model: &'a [u8],
+    report: &'a str,
+    proof: &'a str,
+}
+
+const PROOFS: &[Proof<'static>] = &[
+    Proof {
+        words: &["m", "/proof:p"],
+        model: b"A: 1, 2\nB: x, y\n",
+        report: "A\tB\n1\tx\n1\ty\n2\tx\n2\ty\n",
+        proof: "pict-proof 1\n",
+    },
+    Proof {
+        words: &["m", "/proof:p"],
+        model: b"A: 1, 2\nB: x, y\nIF [A] = 1 THEN [B] = \"x\";\n",
+        report: "A\tB\n1\tx\n2\tx\n2\ty\n",
+        proof: "pict-proof 1\nomit 0=0 1=1 : L1\n",
+    },
+    Proof {
+        words: &["m", "/proof:p"],
+        model: NO_POSITIVE,
+        report: NO_POSITIVE_REPORT,
+        proof: NO_POSITIVE_PROOF,
+    },
+    // Without a positive value of A each question visits one node.
+    Proof {
+        words: &["m", "/budget:1", "/proof:p"],
+        model: NO_POSITIVE,
+        report: NO_POSITIVE_REPORT,
+        proof: NO_POSITIVE_PROOF,
+    },
+    Proof {
+        words: &["m", "/proof:p"],
+        model: NONE_LIVE,
+        report: NONE_LIVE_REPORT,
+        proof: NONE_LIVE_PROOF,
+    },
+    Proof {
+        words: &["m", "/budget:3", "/Proof:p"],
+        model: NONE_LIVE,
+        report: NONE_LIVE_REPORT,
+        proof: NONE_LIVE_PROOF,
+    },
+    Proof {
+        words: &["m", "/o:1", "/proof:p"],
+        model: b"A: 1, 2\n[A] > 5;\n",
+        report: "A\n",
+        proof: "pict-proof 1\nomit 0=0 : L1\nomit 0=1 : L1\n",
+    },
+    Proof {
+        words: &["m", "/proof:p"],
+        model: b"A: ~1, 2\nB: x, ~y\nNOT ISNEGATIVE([A]);\n",
+        report: "A\tB\n2\tx\n2\t~y\n",
+        proof: "pict-proof 1\nomit 0=0 1=0 : L1\n",
+    },
+    Proof {
+        words: &["m", "/o:1", "/proof:p", "/budget:4"],
+        model: TWIN,
+        report: TWIN_REPORT,
+        proof: TWIN_PROOF,
+    },
+    Proof {
+        words: &["m", "/o:1", "/proof:p", "/budget:5"],
+        model: TWIN,
+        report: TWIN_REPORT,
+        proof: TWIN_PROOF,
+    },
+    Proof {
+        words: &["m", "/o:1", "/proof:p"],
+        model: TWIN,
+        report: TWIN_REPORT,
+        proof: TWIN_PROOF,
+    },
+    Proof {
+        words: &["m", "/proofformat:2", "/proof:p"],
+        model: TWIN_AND_ONE,
+        report: TWIN_AND_ONE_REPORT,
+        proof: "pict-proof 2\nomit 0=0 1=0 : B2 L2 L1\nomit 0=0 1=1 : B2 L1 L2\nomit 0=0 2=0 : B1 L2 L1\n\
         omit 0=0 2=1 : B1 L1 L2\nomit 0=0 3=0 : B1 O1 O2\nomit 0=0 3=1 : B1 O1 O2\n",
-    ),
+    },
 ];
 
 #[test]
 fn lists_what_no_row_serves(rt: HostRuntime) {
-    for (words, model, report, proof) in PROOFS {
-        let given = on_model(words, model);
-        assert!(rt; writes(&rt, rt.alloc(), &given, report, proof), "{proof}");
+    for run in PROOFS {
+        let given = on_model(run.words, run.model);
+        let writes = writes(&rt, rt.alloc(), &given, run.report, run.proof);
+        assert!(rt; writes, "{:?}: {}", run.words, run.proof);
     }
 }
 

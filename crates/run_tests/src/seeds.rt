@@ -1,5 +1,6 @@
 //! Runs from seed rows, and statistics.
 
+use crate::growth::TWIN;
 use std::alloc::Global;
 use std::thread::Threads;
 use test_models::DISK;
@@ -24,93 +25,152 @@ const NEGATIVE_NOTES: &str = "warning: row file line 1: V2 unknown column\n\
 
 // Runs with the row file s.
 const SEEDED: &[End<'static>] = &[
-    (
-        &["m", "/e:s"],
-        SYSTEMS,
-        b"OS\tB\nWin10\t3\n",
-        0,
-        "OS\tB\nWin8\t3\nWin10\t1\nWin8\t2\nLinux\t1\nLinux\t2\nLinux\t3\n",
-        "",
-    ),
-    (
-        &["m", "/e:s"],
-        NEGATIVES,
-        NEGATIVE_SEEDS,
-        0,
-        NEGATIVE_REPORT,
-        NEGATIVE_NOTES,
-    ),
+    End {
+        words: &["m", "/e:s"],
+        model: SYSTEMS,
+        rows: b"OS\tB\nWin10\t3\n",
+        status: 0,
+        written: "OS\tB\nWin8\t3\nWin10\t1\nWin8\t2\nLinux\t1\nLinux\t2\nLinux\t3\n",
+        told: "",
+    },
+    End {
+        words: &["m", "/e:s"],
+        model: NEGATIVES,
+        rows: NEGATIVE_SEEDS,
+        status: 0,
+        written: NEGATIVE_REPORT,
+        told: NEGATIVE_NOTES,
+    },
+    // The number of workers that may score doesn't matter.
+    End {
+        words: &["m", "/e:s", "/workers:2"],
+        model: NEGATIVES,
+        rows: NEGATIVE_SEEDS,
+        status: 0,
+        written: NEGATIVE_REPORT,
+        told: NEGATIVE_NOTES,
+    },
+    End {
+        words: &["m", "/e:s", "/workers:7"],
+        model: NEGATIVES,
+        rows: NEGATIVE_SEEDS,
+        status: 0,
+        written: NEGATIVE_REPORT,
+        told: NEGATIVE_NOTES,
+    },
+    End {
+        words: &["m", "/e:s", "/workers:64"],
+        model: NEGATIVES,
+        rows: NEGATIVE_SEEDS,
+        status: 0,
+        written: NEGATIVE_REPORT,
+        told: NEGATIVE_NOTES,
+    },
     // What is told of the row file once it is read, and once there is a suite.
-    (
-        &["m", "/e:s", "/budget:1"],
-        NEGATIVES,
-        b"A\tQ\n2\t\n",
-        2,
-        "",
-        "warning: row file line 1: V2 unknown column\nerror: search budget 1 spent on 0=1\n",
-    ),
-    (
-        &["m", "/e:s", "/proof:q"],
-        NEGATIVES,
-        NEGATIVE_SEEDS,
-        8,
-        "",
-        "warning: row file line 1: V2 unknown column\n\
+    End {
+        words: &["m", "/e:s", "/budget:1"],
+        model: NEGATIVES,
+        rows: b"A\tQ\n2\t\n",
+        status: 2,
+        written: "",
+        told: "warning: row file line 1: V2 unknown column\nerror: search budget 1 spent on 0=1\n",
+    },
+    End {
+        words: &["m", "/e:s", "/proof:q"],
+        model: NEGATIVES,
+        rows: NEGATIVE_SEEDS,
+        status: 8,
+        written: "",
+        told: "warning: row file line 1: V2 unknown column\n\
         warning: row file line 7: V3 unknown value\n\
         warning: row file line 5: V4 no valid row serves this row\n\
         warning: row file line 6: V4 no valid row serves this row\n\
         error: cannot write q\n",
-    ),
+    },
     // Row files that are refused.
-    (
-        &["m", "/e:s"],
-        PAIRS,
-        b"\n\n",
-        6,
-        "",
-        "error: row file: F1 no header\n",
-    ),
-    (
-        &["m", "/e:s"],
-        PAIRS,
-        b"A\tB\tA\n",
-        6,
-        "",
-        "error: row file line 1: F2 parameter in two columns\n",
-    ),
-    (
-        &["m", "/e:s"],
-        PAIRS,
-        b"Q\n1\tx\n",
-        6,
-        "",
-        "error: row file line 2: F4 more cells than the header\n",
-    ),
-    (
-        &["m", "/e:t"],
-        PAIRS,
-        b"A\n",
-        7,
-        "",
-        "error: cannot read t\n",
-    ),
+    End {
+        words: &["m", "/e:s"],
+        model: PAIRS,
+        rows: b"\n\n",
+        status: 6,
+        written: "",
+        told: "error: row file: F1 no header\n",
+    },
+    End {
+        words: &["m", "/e:s"],
+        model: PAIRS,
+        rows: b"A\tB\tA\n",
+        status: 6,
+        written: "",
+        told: "error: row file line 1: F2 parameter in two columns\n",
+    },
+    End {
+        words: &["m", "/e:s"],
+        model: PAIRS,
+        rows: b"Q\n1\tx\n",
+        status: 6,
+        written: "",
+        told: "error: row file line 2: F4 more cells than the header\n",
+    },
+    End {
+        words: &["m", "/e:t"],
+        model: PAIRS,
+        rows: b"A\n",
+        status: 7,
+        written: "",
+        told: "error: cannot read t\n",
+    },
+    // A row file is looked at once the model has its reading.
+    End {
+        words: &["m", "/e:t"],
+        model: b"A 1\n",
+        rows: b"",
+        status: 4,
+        written: "",
+        told: "error: model line 1: M3 no colon\n",
+    },
+    End {
+        words: &["m", "/e:t"],
+        model: b"A: a, A, b\nB: x\n",
+        rows: b"",
+        status: 7,
+        written: "",
+        told: "warning: model line 1: V1 repeated value name dropped\nerror: cannot read t\n",
+    },
+    // Seed rows that are left out are told once there is a suite.
+    End {
+        words: &["m", "/o:1", "/e:s", "/budget:3"],
+        model: TWIN,
+        rows: b"A\n1\n",
+        status: 2,
+        written: "",
+        told: "error: search budget 3 spent on 1=1\n",
+    },
+    End {
+        words: &["m", "/o:1", "/e:s", "/budget:4"],
+        model: TWIN,
+        rows: b"A\n1\n",
+        status: 0,
+        written: "A\tB\tC\n2\t1\t1\n2\t2\t2\n",
+        told: "warning: row file line 2: V4 no valid row serves this row\n",
+    },
     // Statistics in place of rows.
-    (
-        &["m", "/s"],
-        PAIRS,
-        b"",
-        0,
-        "Demanded sets: 1\nDemanded tuples: 4\nOmitted tuples: 0\nKept seeds: 0\nGenerated tests: 4\n",
-        "",
-    ),
-    (
-        &["m", "/S", "/e:s"],
-        NEGATIVES,
-        b"C\tA\nv\t2\nv\t2\n\t1\n",
-        0,
-        "Demanded sets: 3\nDemanded tuples: 11\nOmitted tuples: 1\nKept seeds: 2\nGenerated tests: 5\n",
-        "",
-    ),
+    End {
+        words: &["m", "/s"],
+        model: PAIRS,
+        rows: b"",
+        status: 0,
+        written: "Demanded sets: 1\nDemanded tuples: 4\nOmitted tuples: 0\nKept seeds: 0\nGenerated tests: 4\n",
+        told: "",
+    },
+    End {
+        words: &["m", "/S", "/e:s"],
+        model: NEGATIVES,
+        rows: b"C\tA\nv\t2\nv\t2\n\t1\n",
+        status: 0,
+        written: "Demanded sets: 3\nDemanded tuples: 11\nOmitted tuples: 1\nKept seeds: 2\nGenerated tests: 5\n",
+        told: "",
+    },
 ];
 
 #[test]

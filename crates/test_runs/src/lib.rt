@@ -4,5 +4,5 @@
 mod runs;
 mod tables;
 
-pub use runs::{Ended, Given, calls_of, ends_as, on_model, run, words_of, writes};
+pub use runs::{Ended, Given, calls_of, ends_as, on_model, run, sure_folder, words_of, writes};
 pub use tables::{End, Report, other_end, other_report};

@@ -1,8 +1,8 @@
-use outside_io::{Calls, MemFolder, MemSink};
+use outside_io::{ByteList, Calls, FileHeld, FileList, MemFolder, MemSink, SureFolder};
 use pict_cli::run_pict;
 use std::alloc::Global;
 use std::thread::Threads;
-use value_text::NoMemory;
+use value_text::{NoMemory, Text};
 
 /// What a run is given.
 #[derive(Clone, Copy)]
@@ -52,6 +52,23 @@ pub fn words_of(alloc: Global, words: &[&str]) -> Result<Vec<String>, NoMemory> 
         all.push(String::from_str(alloc, word)?)?;
     }
     Ok(all)
+}
+
+fn bytes_of(alloc: Global, bytes: &[u8]) -> Result<ByteList, NoMemory> {
+    let mut list = ByteList::new(alloc);
+    for byte in bytes {
+        list.push(*byte)?;
+    }
+    Ok(list)
+}
+
+/// A folder that never fails, with these bytes in the file `m`; every other name reads as no bytes.
+pub fn sure_folder(alloc: Global, model: &[u8]) -> Result<SureFolder, NoMemory> {
+    let name = Text::copy(alloc, "m")?;
+    let bytes = bytes_of(alloc, model)?;
+    let mut files = FileList::new(alloc);
+    files.push(FileHeld { name, bytes })?;
+    Ok(SureFolder::new(files))
 }
 
 fn folder_of(alloc: Global, given: &Given) -> Result<MemFolder, NoMemory> {

@@ -2,21 +2,44 @@ use crate::runs::{Given, ends_as, on_model};
 use std::alloc::Global;
 use std::thread::Threads;
 
-/// Words, a model, and the report of a run that ends with status 0 and tells nothing.
-pub type Report<'a> = (&'a [&'a str], &'a [u8], &'a str);
+/// A run on a model that ends with status 0 and tells nothing.
+#[derive(Clone, Copy)]
+pub struct Report<'a> {
+    /// The words behind the program's name.
+    pub words: &'a [&'a str],
+    /// The bytes of the model file `m`.
+    pub model: &'a [u8],
+    /// What standard output gets.
+    pub report: &'a str,
+}
 
 /// The number of the first of these runs, from 0, that ends otherwise.
 pub fn other_report<R: Threads + Sync>(rt: &R, alloc: Global, runs: &[Report]) -> Option<usize> {
-    for (i, (words, model, report)) in runs.iter().enumerate() {
-        if !ends_as(rt, alloc, &on_model(words, model), 0, report, "") {
+    for (i, run) in runs.iter().enumerate() {
+        let given = on_model(run.words, run.model);
+        if !ends_as(rt, alloc, &given, 0, run.report, "") {
             return Some(i);
         }
     }
     None
 }
 
-/// Words, a model, a row file, a status, and what standard output and standard error get.
-pub type End<'a> = (&'a [&'a str], &'a [u8], &'a [u8], u8, &'a str, &'a str);
+/// A run on a model and a row file.
+#[derive(Clone, Copy)]
+pub struct End<'a> {
+    /// The words behind the program's name.
+    pub words: &'a [&'a str],
+    /// The bytes of the model file `m`.
+    pub model: &'a [u8],
+    /// Those of the row file.
+    pub rows: &'a [u8],
+    /// The status.
+    pub status: u8,
+    /// What standard output gets.
+    pub written: &'a str,
+    /// What standard error gets.
+    pub told: &'a str,
+}
 
 /// The number of the first of these runs, from 0, that ends otherwise. The row file of each has this name.
 pub fn other_end<R: Threads + Sync>(
@@ -25,12 +48,12 @@ pub fn other_end<R: Threads + Sync>(
     name: &str,
     runs: &[End],
 ) -> Option<usize> {
-    for (i, (words, model, rows, status, written, told)) in runs.iter().enumerate() {
+    for (i, run) in runs.iter().enumerate() {
         let given = Given {
-            rows: Some((name, rows)),
-            ..on_model(words, model)
+            rows: Some((name, run.rows)),
+            ..on_model(run.words, run.model)
         };
-        if !ends_as(rt, alloc, &given, *status, written, told) {
+        if !ends_as(rt, alloc, &given, run.status, run.written, run.told) {
             return Some(i);
         }
     }
