@@ -43,7 +43,8 @@ fn across(low: u64, high: u64, bit: usize) -> u64
     (low >> bit) | (high << (WORD_BITS - bit))
 }
 
-// The bits of a word from one on, and those of the next word behind them where so many reach into it.
+// The `count` bits from bit `bit` of word `at` on, as the lowest bits of a word. They reach into the next word where
+// this one has fewer. The other bits mean nothing.
 #[inline]
 fn bits_from(words: &[u64], at: usize, bit: usize, count: usize) -> u64
     requires some { 0 < count }
@@ -151,8 +152,8 @@ impl BitTable {
         None
     }
 
-    /// The marks of up to 64 neighbouring places from one on, as the lowest bits of a word, whose other
-    /// bits are 0.
+    /// The marks of the `count` neighbouring places from `from` on, at most 64, as the lowest bits of a word,
+    /// whose other bits are 0.
     #[inline]
     pub fn marks_from(&self, from: u32, count: u32) -> u64
         requires few { count ≤ 64 }

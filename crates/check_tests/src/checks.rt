@@ -16,7 +16,7 @@ use tuple_index::PlanFault;
 // The most bytes of a text.
 const MOST_BYTES: usize = 1 << 20;
 
-/// The answer for the texts of a model, a report and a proof, with these many workers.
+/// The answer for the texts of a model, a report and a proof, with so many workers.
 pub(crate) fn check<R: Threads + Sync, G: Gate + Sync>(
     rt: &R,
     alloc: Global,

@@ -25,7 +25,7 @@ impl Model for Rows {
     ghost invariant = { λ rows. length rows.places.items ≡ rows.count * rows.width };
 }
 
-// The places from one on, of which there are so many.
+// The `width` neighbouring places from `begin` on.
 #[inline]
 fn part(places: &[Option<ValueNo>], begin: usize, width: usize) -> &[Option<ValueNo>]
     requires { begin + width ≤ length places.now }
@@ -34,7 +34,7 @@ fn part(places: &[Option<ValueNo>], begin: usize, width: usize) -> &[Option<Valu
     &places[begin..begin + width]
 }
 
-// The places from one on become those of a row.
+// Writes a row over as many places, from `begin` on.
 fn put_part(places: &mut [Option<ValueNo>], begin: usize, row: &[Option<ValueNo>])
     requires { begin + length row.now ≤ length places.old }
     ensures { places.new ≡ take begin places.old ++ (row.now ++ drop (begin + length row.now) places.old) }
@@ -43,7 +43,7 @@ fn put_part(places: &mut [Option<ValueNo>], begin: usize, row: &[Option<ValueNo>
     places[begin..end].copy_from_slice(row);
 }
 
-// The places from one on become those from another one on, of which there are so many.
+// Copies the `width` places from `from` on over those from `to` on.
 fn copy_part(places: &mut [Option<ValueNo>], from: usize, to: usize, width: usize)
     requires from { from + width ≤ length places.old }
     requires to { to + width ≤ length places.old }
@@ -130,7 +130,7 @@ impl Rows {
         copy_part(self.places.as_mut_slice(), begin, end, self.width);
     }
 
-    /// Keeps the first rows, of which there are so many.
+    /// Keeps the first `count` rows; all where there are no more.
     pub fn truncate(&mut self, count: usize)
         ensures { self.new ≡ take count self.old }
     {

@@ -50,7 +50,7 @@ abbrev pub with_unfilled : List ℕ → ℕ → List (Option ℕ) → ℕ → Un
 with_unfilled columns p row number unfilled =
     if is_filled columns row then unfilled else with_number (slice_index_or row p None) number unfilled
 
--- rising numbers of partial rows by the values of a column, of which there are so many: each row with an empty cell in
+-- rising numbers of partial rows by the values of a column, which has so many values: each row with an empty cell in
 -- one of these columns is a candidate for the tuples with the value that it may have
 pub record HasUnfilled (columns : List ℕ) (p count : ℕ) (rows : List (List (Option ℕ))) (unfilled : UnfilledLists) : Type 0 where
   pub values : length unfilled.by_value ≡ count

@@ -13,7 +13,7 @@ use cov_model::{Cells, ParamNo, ValueNo};
 use std::alloc::Global;
 use value_text::NoMemory;
 
-// Room for the scores of these many values, which begin as 0.
+// Room for the scores of `count` values, which begin as 0.
 pub(crate) fn no_scores(alloc: Global, count: usize) -> Result<Vec<u32>, NoMemory>
     ensures { IfOk result (λ scores. length scores.items ≡ count) }
 {

@@ -13,7 +13,7 @@ use std::thread::Threads;
 use test_models::model_of;
 use tuple_index::Plan;
 
-// The marks of the tuples that the rows of a file serve, by these many workers, who come to this gate; nothing where
+// The marks of the tuples that the rows of a file serve, by so many workers, who come to this gate; nothing where
 // there are no workers or more than 64, or memory was refused.
 fn marks_of_file<R: Threads + Sync, G: Gate + Sync>(
     rt: &R,

@@ -74,7 +74,7 @@ fn read_line<'a>(before: LineKind, text: &'a [u8]) -> Result<(LineKind, &'a str)
 /// The lines of a model file by what they are: parameter lines, behind them group lines, and from
 /// the first line that opens a constraint on constraint lines. Lines of blanks alone and comments
 /// are left out but counted (PICT's guide; the details are this project's rules). The texts are
-/// slices of the file. In time it is one pass.
+/// slices of the file, which may have at most 2^28 bytes.
 ///
 /// # Errors
 ///

@@ -38,7 +38,8 @@ pub record IsFirstLeft (left served : List Bool) (place : ℕ) : Type 0 where
   pub unserved : (slice_index_or left place false && not (slice_index_or served place false)) ≡ true
   pub none_before : NoneLeft left served place
 
--- the lowest bits of a word tell which of so many places from one on are left and not served, and the others are 0
+-- the lowest bits of a word tell which of so many neighbouring places, from a given one on, are left and not served; its
+-- other bits are 0
 pub record AreUnservedFrom (left served : List Bool) (from count word : ℕ) : Type 0 where
   pub each : (i : ℕ) → i < count → (bit_at word i == 1) ≡ (slice_index_or left (from + i) false && not (slice_index_or served (from + i) false))
   pub no_other : (i : ℕ) → count ≤ i → bit_at word i ≡ 0

@@ -28,7 +28,7 @@ use value_text::NoMemory;
 // The number of places that a word tells of.
 const WORD_BITS: u32 = 64;
 
-// Which of so many places from one on are left and not served, as the lowest bits of a word.
+// Which of the `count` places from `from` on are left and not served, as the lowest bits of a word.
 fn unserved_from(left: &BitTable, served: &Bits, from: u32, count: u32) -> u64
     requires long { length served.now ≡ length left.now }
     requires aligned { from % 64 ≡ 0 }

@@ -32,10 +32,10 @@ pub struct Figures {
     pub covered: u64,
     /// The demanded sets whose servable tuples are all covered.
     pub complete: u64,
-    /// The demanded sets of which three quarters are.
+    /// The demanded sets of which at least three quarters of the servable tuples are covered.
     pub at75: u64,
-    /// The demanded sets of which half are.
+    /// The demanded sets of which at least half of the servable tuples are covered.
     pub at50: u64,
-    /// The demanded sets of which a quarter is.
+    /// The demanded sets of which at least a quarter of the servable tuples are covered.
     pub at25: u64,
 }

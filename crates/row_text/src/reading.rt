@@ -39,7 +39,7 @@ fn read_under(
 /// The partial rows of a row file, each with its line, and notes on what was dropped (PICT's guide for seed files;
 /// the faults are this project's rules). The first line with a byte is the header, whose cells name parameters;
 /// each further one is a row, whose cells are printed names of values. Cells are parted by tabs, and spaces at
-/// their ends don't count. In time it is linear in the bytes and in the cells of the rows.
+/// their ends don't count. The file may have at most 2^28 bytes.
 ///
 /// # Errors
 ///

@@ -46,7 +46,8 @@ fn share(count: usize, first: u32, workers: u32) -> usize
     (count * first as usize + whole - 1) / whole
 }
 
-// Puts the gains of the values from one on, by these many workers from one on.
+// Puts the gains of the values from `from` on, as many as there are scores, by so many workers, the first of which has
+// the number `worker`.
 fn score_values<R: Threads + Sync, G: Gate + Sync>(
     rt: &R,
     table: &Uncovered<'_>,

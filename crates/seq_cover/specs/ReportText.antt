@@ -5,7 +5,7 @@ use Rattle.seq_check.specs.Events.{EventsView}
 use Rattle.seq_check.specs.OrderReport.{never_line, row_line}
 use Rattle.seq_cover.specs.declared.suite.OrderSuite.{OrderSuite}
 
--- what a part of a line adds to those before it, of which there are so many: a mark before it, unless it is the first
+-- what a part of a line adds to so many parts before it: a mark before it, unless it is the first
 abbrev pub part_behind : ℕ → ℕ → List ℕ → List ℕ
 part_behind mark zero part = part
 part_behind mark (suc before) part = mark ∷ part

@@ -47,7 +47,7 @@ fn grow(alloc: Global, events: &Events) -> Result<Answer, NoMemory>
     })
 }
 
-/// The verdict on a report.
+/// The verdict on a report, which may have at most 2^28 bytes.
 fn check(alloc: Global, events: &Events, report: &[u8]) -> Result<Answer, NoMemory>
     requires { length report.now ≤ 2 ^ 28 }
     ensures text { IfOk result (λ answer. answer.text.items ≡ (answer_of events.now (Some report.now)).text) }

@@ -29,7 +29,7 @@ bit_more before now next base i d ranks within are more place =
     ∙ or_assoc (mark_at before place) (are_behind base (take i ranks) place) (base + get_or ranks i d == place)
     ∙ ap (λ t. mark_at before place || t) (sym (list_any_more (λ rank. base + rank == place) ranks i d within))
 
--- one word more, of words from one on
+-- of words that stand for those of a table from a given one on: none, and one more
 pub words_begin : (first : ℕ) (words : List ℕ) (place : ℕ) → (nat_lt place (64 * (first + 0)) && is_in_words first words place) ≡ false
 words_begin first words place = elim (cases_lt place (64 * first)) [
   | inl before ↦

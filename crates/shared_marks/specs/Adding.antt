@@ -31,7 +31,8 @@ pub record Adds (adds : ℕ → Bool) (before after : SeatView) : Type 0 where
 abbrev pub are_behind : ℕ → List ℕ → ℕ → Bool
 are_behind base ranks place = list_any (λ rank. base + rank == place) ranks
 
--- the place is one of a word whose bits a number has, or of the words from one on whose bits these words have
+-- the place is one of this word, and its bit is set in a number; or it is one of the words from a given one on, and its
+-- bit is set in these words, which stand for them
 abbrev pub is_of_word : ℕ → ℕ → ℕ → Bool
 is_of_word word bits place = (place / 64 == word) && has_bit bits place
 

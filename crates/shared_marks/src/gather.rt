@@ -49,7 +49,7 @@ impl SharedMarks {
         }
     }
 
-    // Marks the places of the words from one on whose bits these words have.
+    // Marks the places whose bits are set in these words, which stand for the words of the table from `first` on.
     fn mark_words(&self, seat: &mut MarkSeat, first: u32, words: &[u64])
         requires table { seat.old.table ≡ self.now.table }
         requires within { 64 * (first + length words.now) ≤ self.now.bits + 64 }

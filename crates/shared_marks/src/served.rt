@@ -129,7 +129,7 @@ impl SharedMarks {
         }
     }
 
-    // Marks the places of the demanded tuples of the sets from one on that a test serves.
+    // Marks the places of the demanded tuples that a test serves, of the sets from number `from` on.
     fn mark_sets(
         &self,
         seat: &mut MarkSeat,

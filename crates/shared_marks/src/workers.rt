@@ -99,8 +99,8 @@ fn share(count: u32, first: u32, workers: u32) -> u32
     (u64::from(count) * u64::from(first) / u64::from(workers)) as u32
 }
 
-// Marks what the tests of a range of the rows serve, by these many workers from one on. The seat comes back
-// with all that they marked, and with its share.
+// Marks what the tests of a range of the rows serve, by so many workers, the first of which has the number
+// `worker`. The seat comes back with all that they marked, and with its share.
 fn mark_range<R: Threads + Sync, G: Gate + Sync>(
     rt: &R,
     alloc: Global,

@@ -1,5 +1,6 @@
--- Edges, and how they are looked for set by set. (How this program finds the smallest suspicious tuples; no public
--- clause speaks of it.)
+-- Edges, and how they are looked for set by set. An edge is a tuple that no passing row contains, while each proper
+-- part of it is in some passing row. The smallest suspicious tuples are the edges that a failing row contains. (How
+-- this program finds them; no public clause speaks of it.)
 use Rattle.std.specs.Prelude.{ℕ, Bool, ◌&&◌, not, List, ◌++◌, map, filter, flat_map, count_by, Option}
 use Rattle.std.specs.List.{list_all, list_any}
 use Rattle.cov_model.specs.Sound.{ModelView}
@@ -9,7 +10,7 @@ use Rattle.suspect_tuples.specs.Suspects.{has_tuple, proper_parts, tuples_on}
 abbrev pub is_had : List (List (Option ℕ)) → List (ℕ × ℕ) → Bool
 is_had rows tuple = list_any (has_tuple tuple) rows
 
--- a tuple that no passing row contains, while one contains each proper part of it
+-- no passing row contains the tuple, and each proper part of it is in some passing row
 abbrev pub is_edge : List (List (Option ℕ)) → List (ℕ × ℕ) → Bool
 is_edge passing tuple = not (is_had passing tuple) && list_all (is_had passing) (proper_parts tuple)
 

@@ -26,8 +26,8 @@ fn has_each_without(rows: &RowBits<'_, '_>, tuple: &[(ParamNo, ValueNo)]) -> boo
     true
 }
 
-// Whether no passing row contains the tuple, while one contains each proper part of it. Parts of one pair less are
-// enough, since a row that contains a tuple contains its parts.
+// Whether the tuple is an edge: no passing row contains it, while each proper part of it is in some passing row. Parts
+// of one pair less are enough, since a row that contains a tuple contains its parts.
 fn is_edge(passing: &RowBits<'_, '_>, tuple: &[(ParamNo, ValueNo)]) -> bool
     ensures { result ≡ is_edge passing.now tuple.now }
 {

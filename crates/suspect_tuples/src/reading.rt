@@ -102,7 +102,8 @@ fn later_notes(alloc: Global, notes: &[Note]) -> Result<NoteList, NoMemory>
 
 /// The rows of a file of results, and of each whether its test failed (this project's rules). It is a row file in the
 /// mode of suites. The first cell of its header that is `:result` under the case rule is the result column, and gets
-/// no note. The cells under it are `pass` or `fail` in any case, without the spaces at their ends.
+/// no note. The cells under it are `pass` or `fail` in any case, without the spaces at their ends. The file may have at
+/// most 2^28 bytes.
 ///
 /// # Errors
 ///

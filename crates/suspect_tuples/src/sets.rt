@@ -16,8 +16,8 @@ use cov_model::{ParamNo, TestModel};
 use std::alloc::Global;
 use value_text::NoMemory;
 
-// Adds the edges of all sets that begin with these parameters and go on with so many of those from one on, each with
-// the number of failing rows that contain it.
+// Adds the edges of all sets that begin with these parameters and go on with `more` of the parameters from `first` on,
+// each edge with the number of failing rows that contain it.
 fn add_sets(
     alloc: Global,
     model: &TestModel,

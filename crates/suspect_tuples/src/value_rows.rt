@@ -47,7 +47,7 @@ fn add_number(
     Ok(())
 }
 
-// For each value of a parameter, of which there are so many, the numbers of the rows that give it.
+// For each of the `count` values of a parameter, the numbers of the rows that give it.
 fn numbers_by_value(
     alloc: Global,
     rows: &RowList<'_>,
@@ -76,7 +76,7 @@ fn kept_rows(alloc: Global, count: usize, numbers: &[u32]) -> Result<ValueRows, 
     Ok(ValueRows::Many(RowSet::of(alloc, count, numbers)?))
 }
 
-// The rows that give a parameter each of its values, of which there are so many. The rows are walked once.
+// The rows that give a parameter each of its `count` values. The rows are walked once.
 pub(crate) fn value_rows(
     alloc: Global,
     rows: &RowList<'_>,

@@ -266,7 +266,7 @@ pub joined-None : (digit : Option ℕ) (w : ℕ) → joined digit w None ≡ Non
 joined-None None w = refl
 joined-None (Some d) w = refl
 
--- the choices for the members from one on are no more than all
+-- the choices for the members from a given place on are no more than those for all members
 pub fewer_ways : (values : ℕ → List ℕ) (i : ℕ) (set : List ℕ) → 0 < ways values set → ways values (drop i set) ≤ ways values set
 fewer_ways values zero set some = omega arith
 fewer_ways values (suc i) [] some = omega arith

@@ -187,7 +187,7 @@ value_line m slice bits cells column v set line value = by_digit (digit_of (own_
     by_digit None = refl
     by_digit (Some d) = ap (bit_count bits) (sym (value d))
 
--- the digits of the values from one on
+-- the digits of the values from a given one on
 pub digit_from : (m : ModelView) (slice : Slice) (column from i : ℕ) → from + i < length (param_at m.params column).values
     → get_or (drop from (digits_of m slice column)) i None ≡ digit_of (own_values m slice column) (from + i)
 digit_from m slice column from i within =

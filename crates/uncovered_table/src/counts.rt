@@ -15,8 +15,8 @@ use cov_model::{Cells, ParamNo, ValueNo};
 use std::simd::prelude::*;
 
 // Adds to each of 8 counts whether a tuple of a set that is ready is open that cells contain, with its value in
-// the column. There are a few values in order, from one on; the other counts mean nothing. Tells whether it
-// could: the bits of the values have to stand side by side.
+// the column. The first `count` counts are for the values from `from` on; the others mean nothing. Tells whether
+// it could: the bits of the values have to stand side by side.
 #[inline(always)]
 fn count_set(
     sets: &SliceSets<'_>,
@@ -58,8 +58,8 @@ fn count_set(
     }
 }
 
-// Puts how many open tuples of the sets that are ready cells contain, with each of a few values from one on in
-// the column. Tells whether it did: the bits of the values have to stand side by side.
+// Puts how many open tuples of the sets that are ready cells contain, with each of a few values in the column,
+// from `from` on. Tells whether it did: the bits of the values have to stand side by side.
 fn put_few(
     sets: &SliceSets<'_>,
     lines: &ColumnLines,
@@ -108,9 +108,9 @@ fn put_few(
     true
 }
 
-// Puts the counts of open tuples of the sets in play that cells contain, with each of as many values from one
-// on in the column, where the column is ready, all its values are in the slice, and the values are few and
-// their bits stand side by side. Tells whether it did.
+// Puts the counts of open tuples of the sets in play that cells contain, with each of as many values in the
+// column, from `from` on, where the column is ready, all its values are in the slice, and the values are few
+// and their bits stand side by side. Tells whether it did.
 pub(crate) fn put_ready(
     sets: &SliceSets<'_>,
     lines: Option<&ColumnLines>,

@@ -151,7 +151,7 @@ fn add_line(bits: &BitTable, line: Line, digits: &[Option<u16>], scores: &mut [u
 }
 
 // Adds 1 to each score whose bit is set. The bits of the values stand side by side, and the scores are
-// those of the values from one on.
+// those of the values from `from` on.
 fn add_bits(bits: &BitTable, first: u32, from: ValueNo, scores: &mut [u32])
     requires within { 0 < length scores.old → first + from + length scores.old ≤ length bits.now }
     requires few { length bits.now ≤ 2 ^ 26 }
@@ -164,7 +164,7 @@ fn add_bits(bits: &BitTable, first: u32, from: ValueNo, scores: &mut [u32])
     }
 }
 
-// The digits of the values from one on.
+// The digits of the values from `from` on.
 pub(crate) fn from_value(digits: &[Option<u16>], from: ValueNo) -> &[Option<u16>]
     requires { from ≤ length digits.now }
     ensures { result.now ≡ drop from digits.now }
@@ -173,8 +173,8 @@ pub(crate) fn from_value(digits: &[Option<u16>], from: ValueNo) -> &[Option<u16>
 }
 
 // Adds to each score whether a tuple of a set is open that cells contain, with its value in the column.
-// The values stand in order, from one on. Where all values of the column are in the slice, and its digit is
-// the last one, their bits stand side by side.
+// The scores are for the values from `from` on, in order. Where all values of the column are in the slice, and
+// its digit is the last one, their bits stand side by side.
 fn add_set(
     sets: &SliceSets<'_>,
     lines: Option<&ColumnLines>,

@@ -135,7 +135,7 @@ fn add_some(bits: &BitTable, begin: u32, scores: &mut [u32])
     }
 }
 
-// Adds to scores the marks of as many neighbouring places from one on.
+// Adds to scores the marks of as many neighbouring places, from `begin` on.
 pub(crate) fn add_marks(bits: &BitTable, begin: u32, scores: &mut [u32])
     requires within { begin + length scores.old ≤ length bits.now }
     requires few { length bits.now ≤ 2 ^ 26 }

@@ -9,7 +9,7 @@ use crate::sets::SliceSets;
 use bit_table::BitTable;
 use cov_model::ParamNo;
 
-// Where the sets from one on begin in a rising list.
+// Where in a rising list the sets begin whose number isn't below `set`.
 fn first_from(sets: &[u32], set: u32) -> usize
     requires { IsNonDecreasingBy (λ s. s) sets.now }
     ensures within { result ≤ length sets.now }

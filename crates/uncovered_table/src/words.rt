@@ -62,7 +62,7 @@ pub(crate) fn used(words: &[u64]) -> usize
     count
 }
 
-// Sets the bits from one on and before another.
+// Sets the bits from `from` up to but not including `to`.
 pub(crate) fn set_bits(words: &mut [u64], from: usize, to: usize)
     requires { to ≤ 64 * length words.old }
     ensures long { length words.new ≡ length words.old }

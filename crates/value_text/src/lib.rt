@@ -2,7 +2,7 @@
 //!
 //! - `Text` is an owned UTF-8 text, which contracts see as its bytes.
 //! - `OwnedList<T>` is the list type of every crate: contracts see the list of its items, and a
-//!   refused `push` changes nothing.
+//!   refused `push` or `append` changes nothing.
 //! - `same_text` and `order_text` compare two texts by their bytes, with the ASCII letters folded
 //!   to lower case or not.
 //! - `read_fixed` reads a decimal number exactly, and tells a text that is none from one with too
@@ -10,8 +10,8 @@
 //! - `read_count` reads a count of at most 20 digits, where it lies in a range.
 //! - `like` matches a text against a pattern with `*` and `?`, character by character.
 //!
-//! But for `Text::copy` and `OwnedList::push`, which answer `NoMemory` where it is refused, no call
-//! takes memory.
+//! Only `Text::copy`, `OwnedList::push` and `OwnedList::append` take memory, and answer `NoMemory`
+//! where it is refused.
 #![tactic(auto)]
 
 mod compare;
