@@ -1,25 +1,16 @@
 -- What words set one after another, and what is known of words that have a reading.
-use Rattle.std.proofs.Common.{◌≡◌, ℕ, ◌+◌, ◌<◌, Bool, true, false, not, ◌&&◌, ◌||◌, if◌then◌else◌, List, [], ◌∷◌, ◌++◌, take, drop, length}
-use Rattle.std.proofs.Common.{get_or, Ok, Err, Result, Option, Some, None, refl, sym, ap, subst, ◌∙◌, append_assoc}
+use Rattle.std.proofs.Common.{◌≡◌, ℕ, ◌+◌, Bool, true, false, not, ◌&&◌, ◌||◌, if◌then◌else◌, List, [], ◌∷◌, ◌++◌, take, drop}
+use Rattle.std.proofs.Common.{Ok, Err, Result, Option, Some, None, refl, sym, ap, subst, ◌∙◌, append_assoc}
 use Rattle.std.specs.Prelude.{filter_map}
 use Rattle.std.specs.List.{list_any, cons_option}
 use Rattle.std.specs.Option.{option_map_or}
-use Rattle.std.specs.String.{string_bytes}
-use Rattle.std.specs.declared.string.String.{String}
-use Rattle.std.specs.declared.alloc.Global.{Global}
 use Rattle.std.proofs.lemmas.Bool.{false≢true}
-use Rattle.std.proofs.lemmas.List.{append-nil, get_or-map}
+use Rattle.std.proofs.lemmas.List.{append-nil}
 use Rattle.std.proofs.lemmas.List.Elements.{filter_map-append}
 use Rattle.std.proofs.lemmas.List.Sums.{fold-append}
 use Rattle.std.proofs.lemmas.Option.{none-some}
 use Rattle.definitions.specs.Settings.{Setting, defaults, set, setting_of, settings_of}
 use Rattle.definitions.specs.Words.{Command, exclude_each_other, is_mark_word, has_equal_marks, set_by, is_faulty, first_faulty, read_command}
-use Rattle.command_line.specs.Words.{texts}
-
--- a word as it is passed
-pub word_at : (words : List (String Global)) (place : ℕ) (item : String Global) (text : List ℕ) → place < length words → item ≡ get_or words place item
-    → text ≡ string_bytes item → text ≡ get_or (texts words) place []
-word_at words place item text inside is e = e ∙ ap string_bytes is ∙ sym (get_or-map string_bytes words place item [] inside)
 
 -- what the words so far set, and one more
 pub settings-push : (before : List (List ℕ)) (word : List ℕ) (setting : Setting) → setting_of word ≡ Some setting

@@ -3,10 +3,10 @@ use Rattle.std.proofs.Common.{◌≡◌, ℕ, ◌+◌, ◌-◌, ◌<◌, ◌≤�
 use Rattle.std.proofs.Common.{is_some, get_or, set, replicate, if◌then◌else◌, ◌⊎◌, ◌∙◌, sym, ap, subst, arith, inl, inr}
 use Rattle.std.specs.List.{list_any}
 use Rattle.std.proofs.lemmas.Bool.{false≢true, cases_Bool, cases_eq, cases_lt, false_from_ne_true, not-false}
-use Rattle.std.proofs.lemmas.List.{get_or-replicate, get_or-set_other, get_or-set_same, get_or_default, get_or_past, length-replicate, length-set}
+use Rattle.std.proofs.lemmas.List.{get_or-set_other, get_or-set_same, get_or_default, get_or_past, length-replicate, length-set}
 use Rattle.std.proofs.lemmas.List.Elements.{Contains-get_or}
 use Rattle.std.proofs.lemmas.List.Folds.{Any-from_list_any, list_any_at}
-use Rattle.value_text.proofs.ListLemmas.{Some-unwrap_or}
+use Rattle.value_text.proofs.ListLemmas.{Some-unwrap_or, none_at, none_of}
 use Rattle.cov_model.specs.Sound.{ModelView, IsSound, no_rule, rule_at}
 use Rattle.cov_model.specs.Kleene.{body_truth}
 use Rattle.cov_model.specs.Rows.{is_assigned, value_in}
@@ -22,7 +22,6 @@ use Rattle.feasibility.specs.Live.{AreRules, breaks_one, no_on, undecided_of}
 use Rattle.feasibility.specs.Tree.{is_named, naming, no_values, undecided}
 use Rattle.feasibility.proofs.Growing.{Longer, no_from_no, not_no, stays_body, yes_from_yes}
 use Rattle.feasibility.proofs.Local.{AgreeOn, agree_each, agree_set, local_body}
-use Rattle.value_text.proofs.ListLemmas.{none_of}
 
 -- where one is No, it has a number
 pub record IsBroken (m : ModelView) (cells : List (Option ℕ)) : Type 0 where
@@ -92,13 +91,6 @@ longer_set cells p v free q assigned = get_or-set_other cells p q (Some v) None 
 
 pub shorter_free : (a b : List (Option ℕ)) (q : ℕ) → Longer a b → is_assigned b q ≡ false → is_assigned a q ≡ false
 shorter_free a b q longer free = false_from_ne_true (is_assigned a q) (λ given. false≢true (sym free ∙ ap is_some (longer q given) ∙ given))
-
-pub none_at : (n q : ℕ) → get_or {A = Option ℕ} (replicate n None) q None ≡ None
-none_at n q =
-    elim (cases_lt q n) [
-      | inl within ↦ get_or-replicate n q None None within
-      | inr past ↦ get_or_past (replicate n None) q None (omega (arith, past, length-replicate {A = Option ℕ} n None))
-    ]
 
 pub longer_none : (n : ℕ) (cells : List (Option ℕ)) → Longer (replicate n None) cells
 longer_none n cells p assigned = absurd (false≢true (ap is_some (sym (none_at n p)) ∙ assigned))

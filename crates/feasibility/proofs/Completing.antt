@@ -5,7 +5,7 @@ use Rattle.std.specs.Option.{option_or, option_map}
 use Rattle.std.specs.List.{filter, flat_map}
 use Rattle.std.proofs.lemmas.Bool.{false≢true, eqb-true, eq-eqb}
 use Rattle.std.proofs.lemmas.List.Folds.{find-append}
-use Rattle.value_text.proofs.ListLemmas.{is_some-map, none_of}
+use Rattle.value_text.proofs.ListLemmas.{is_some-map, none_of, option_or-None}
 use Rattle.cov_model.specs.Rows.{contains, is_assigned}
 use Rattle.definitions.specs.Demand.{is_among}
 use Rattle.definitions.specs.Completion.{cell_values, completions}
@@ -40,10 +40,6 @@ or_same : {X : Type 0} (o : Option X) → option_or o o ≡ o
 or_same (Some x) = refl
 or_same None = refl
 
-or_none : {X : Type 0} (o : Option X) → option_or o None ≡ o
-or_none (Some x) = refl
-or_none None = refl
-
 -- of the values that equal one
 pub tried_equal : {X : Type 0} (f : ℕ → Option X) (w : ℕ) (values : List ℕ)
     → tried f (filter (λ v. v == w) values) ≡ (if is_among values w then f w else None)
@@ -52,7 +48,7 @@ tried_equal f w (v ∷ values) = by_case (v == w) (is_among values w) (eqb-true 
   where
     inner : {X : Type 0} (f : ℕ → Option X) (w : ℕ) (listed : Bool) (rest : Option X) → rest ≡ (if listed then f w else None) → option_or (f w) rest ≡ f w
     inner f w true rest is = ap (option_or (f w)) is ∙ or_same (f w)
-    inner f w false rest is = ap (option_or (f w)) is ∙ or_none (f w)
+    inner f w false rest is = ap (option_or (f w)) is ∙ option_or-None (f w)
 
     by_case : (equal listed : Bool) → (equal ≡ true → v ≡ w) → tried f (filter (λ v. v == w) values) ≡ (if listed then f w else None)
         → tried f (cond equal (v ∷ filter (λ v. v == w) values) (filter (λ v. v == w) values)) ≡ (if equal || listed then f w else None)

@@ -7,7 +7,7 @@ use Rattle.std.proofs.Math.Numerals.{add-one}
 use Rattle.std.proofs.lemmas.Option.{slice_get-get_or}
 use Rattle.std.proofs.lemmas.Bool.{false≢true, cases_Bool, cases_eq, and_parts, cases_lt, false_from_ne_true, leb-true, not-false, not-true}
 use Rattle.std.proofs.lemmas.List.{get_or-set_other, get_or-set_same, length-replicate}
-use Rattle.value_text.proofs.ListLemmas.{Some-unwrap_or, nothing_found}
+use Rattle.value_text.proofs.ListLemmas.{Some-unwrap_or, none_at, nothing_found}
 use Rattle.cov_model.specs.declared.slice.Slice.{Slice}
 use Rattle.cov_model.specs.declared.slice.Slice.TheVariants.{Positive, Negative}
 use Rattle.cov_model.specs.Sound.{ModelView, param_at}
@@ -30,7 +30,7 @@ use Rattle.feasibility.specs.Live.{HasUnmarked, ShowsFailure, ShowsLive}
 use Rattle.feasibility.specs.Refuting.{IsPath, IsRefuter, RefuterView, TriesPositive, fixed_params, is_cited}
 use Rattle.feasibility.specs.Solving.{IsSolver, SolverView}
 use Rattle.feasibility.specs.Tree.{IsListed, no_values}
-use Rattle.feasibility.proofs.Broken.{broken_stays, longer_alone, longer_none, longer_with, none_at}
+use Rattle.feasibility.proofs.Broken.{broken_stays, longer_alone, longer_none, longer_with}
 use Rattle.feasibility.proofs.Extendable.{preferred_listed, slice_listed, slice_other, slice_positive}
 use Rattle.feasibility.proofs.NarrowedSets.{count_none}
 use Rattle.feasibility.proofs.Nodes.{FitsModel-with_value}

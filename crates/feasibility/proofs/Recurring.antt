@@ -5,6 +5,7 @@ use Rattle.std.specs.List.{list_any}
 use Rattle.std.proofs.lemmas.Bool.{false≢true, cases_Bool, cases_eq, cases_lt, and_right, or_left}
 use Rattle.std.proofs.lemmas.List.Elements.{All-get_or, All-replicate, All-set}
 use Rattle.std.proofs.lemmas.List.{get_or-set_other, get_or_default, get_or_past, length-replicate, length-set}
+use Rattle.value_text.proofs.ListLemmas.{none_at}
 use Rattle.cov_model.specs.Sound.{ModelView}
 use Rattle.cov_model.specs.Rows.{is_assigned}
 use Rattle.cov_model.specs.Valid.{param_numbers}
@@ -21,7 +22,6 @@ use Rattle.feasibility.specs.Answers.{Told}
 use Rattle.feasibility.specs.Recurring.{AgreeOnNamed, AreAnswered, IsAnswered, kept_at, none_answered, unanswered}
 use Rattle.feasibility.specs.Tree.{ListsValues, is_named, no_values}
 use Rattle.feasibility.proofs.Alike.{any_same, breaks_same, leaf_told, node_told, same_with, try_alike}
-use Rattle.feasibility.proofs.Broken.{none_at}
 use Rattle.feasibility.proofs.Deciding.{stuck_fails}
 use Rattle.feasibility.proofs.Extendable.{among_filter_test}
 use Rattle.feasibility.proofs.Visits.{told_no, told_yes}

@@ -7,6 +7,7 @@ use Rattle.std.specs.Option.{option_eq}
 use Rattle.std.proofs.lemmas.Bool.{false≢true, cases_eq, cases_lt, eq-eqb, eqb-true, ne_eqb, or_parts, false_from_ne_true, and_parts, and_from}
 use Rattle.std.proofs.lemmas.Option.{none-some, same_Some}
 use Rattle.std.proofs.lemmas.List.{drop_more, get_or-set_other, get_or-set_same, length-replicate, set_past}
+use Rattle.value_text.proofs.ListLemmas.{none_at}
 use Rattle.cov_model.specs.Rows.{contains, is_assigned}
 use Rattle.cov_model.specs.Tuples.{IsRising}
 use Rattle.cov_model.proofs.CellLemmas.{contains-from, contains-get_or, contains-trans}
@@ -15,7 +16,7 @@ use Rattle.definitions.specs.Pairs.{cells_of}
 use Rattle.definitions.proofs.Members.{same_answer}
 use Rattle.definitions.proofs.NamedPairs.{length-cells_of, behind_first}
 use Rattle.refutation.proofs.PairLemmas.{none_again}
-use Rattle.feasibility.proofs.Broken.{longer_none, longer_set, longer_with, none_at}
+use Rattle.feasibility.proofs.Broken.{longer_none, longer_set, longer_with}
 use Rattle.feasibility.proofs.Searching.{contains-with_value}
 
 -- one of the pairs is of the parameter

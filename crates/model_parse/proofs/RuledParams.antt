@@ -12,7 +12,7 @@ use Rattle.std.specs.List.{list_any, filter}
 use Rattle.std.specs.Option.{option_or, option_map, option_map_or}
 use Rattle.std.specs.Str.{bytes_eq}
 use Rattle.value_text.specs.Texts.{folded}
-use Rattle.value_text.proofs.ListLemmas.{list_any-map, place_text}
+use Rattle.value_text.proofs.ListLemmas.{list_any-map, option_or-None, place_text}
 use Rattle.cov_model.specs.declared.parameter.Param.{Param}
 use Rattle.cov_model.specs.declared.parameter.Value.{Value}
 use Rattle.cov_model.specs.Sound.{param_at}
@@ -46,13 +46,9 @@ first-append [] ys = refl
 first-append (None ∷ xs) ys = first-append xs ys
 first-append (Some x ∷ xs) ys = refl
 
-or_none : {A : Type 0} (o : Option A) → option_or o None ≡ o
-or_none None = refl
-or_none (Some x) = refl
-
 -- the last of some refusals
 pub first_last : {A : Type 0} (xs : List (Option A)) (y : Option A) → first_some (xs ++ y ∷ []) ≡ option_or (first_some xs) y
-first_last xs y = first-append xs (y ∷ []) ∙ ap (option_or (first_some xs)) (or_none y)
+first_last xs y = first-append xs (y ∷ []) ∙ ap (option_or (first_some xs)) (option_or-None y)
 
 -- ---- steps and refusals
 
@@ -252,7 +248,7 @@ module _ (opts : ModelOpts) (line : ℕ) (params : List Param) where
         ≡ read_unless (option_map (bad_line line) (cond b (cond (is_some place) None (Some UnknownReference)) (piece_code opts.marks piece)))
         (cond b (option_map_or (λ p. (param_at params p).values) place []) spelled)
     gives_by true = ap (values_at line params) (place_same opts.fold params (referred piece)) ∙ at_place place
-    gives_by false = refused_is line (piece_code opts.marks piece) None spelled (Ok spelled) refl ∙ ap (λ o. read_unless o spelled) (or_none (option_map (bad_line line) (piece_code opts.marks piece)))
+    gives_by false = refused_is line (piece_code opts.marks piece) None spelled (Ok spelled) refl ∙ ap (λ o. read_unless o spelled) (option_or-None (option_map (bad_line line) (piece_code opts.marks piece)))
 
     gives_is : piece_values opts line params (known_names opts.fold params) piece ≡ read_unless (option_map (bad_line line) (values_code opts params piece)) (values_of opts params piece)
     gives_is = gives_by (is_reference piece)

@@ -1,8 +1,9 @@
 -- Which settings exclude each other, told by what they are about.
-use Rattle.std.proofs.Common.{◌≡◌, Bool, true, false, ◌&&◌, ◌||◌, List, [], ◌∷◌, ◌++◌, refl, sym, ap, ◌∙◌}
+use Rattle.std.proofs.Common.{◌≡◌, Bool, false, ◌&&◌, ◌||◌, List, [], ◌∷◌, ◌++◌, refl, sym, ap, ◌∙◌}
 use Rattle.std.specs.List.{list_any}
 use Rattle.std.proofs.Math.Bool.{and-false, and-or_distrib_left, and-or_distrib_right, or-false}
 use Rattle.std.proofs.lemmas.List.Folds.{list_any-append}
+use Rattle.value_text.proofs.ListLemmas.{or_or}
 use Rattle.definitions.specs.Settings.{Setting, Order, Separator, Alias, Prefix, SeedFile, ShuffleValues, CaseCounts}
 use Rattle.definitions.specs.Settings.{Statistics, Workers, Budget, ProofFile, ProofFormat, MeasureFile, Make, SuspectFile}
 use Rattle.definitions.specs.Words.{excludes, exclude_each_other, is_generating, is_measuring, is_of_a_file}
@@ -30,12 +31,6 @@ abbrev pub clash : Kinds → Kinds → Bool
 clash a b = excludes_by_kinds a b || excludes_by_kinds b a
 
 -- kinds that are joined clash with what one of them clashes with
-pub or_or : (a b c d : Bool) → ((a || b) || (c || d)) ≡ ((a || c) || (b || d))
-or_or true b c d = refl
-or_or false true true d = refl
-or_or false true false d = refl
-or_or false false c d = refl
-
 regroup : (a b c d e f : Bool) → (((a || b) || (c || d)) || (e || f)) ≡ (((a || c) || e) || ((b || d) || f))
 regroup a b c d e f = ap (λ x. x || (e || f)) (or_or a b c d) ∙ or_or (a || c) (b || d) e f
 

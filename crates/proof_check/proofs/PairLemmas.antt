@@ -1,12 +1,13 @@
 -- Tuples as pairs, as values of a set, and as partial rows.
-use Rattle.std.proofs.Common.{◌≡◌, ℕ, ◌+◌, ◌<◌, Bool, true, false, ◌||◌, cond, List, [], ◌∷◌, map, length, get_or, replicate}
-use Rattle.std.proofs.Common.{Option, Some, None, is_some, inl, inr, ◌∙◌, refl, sym, ap, arith, zero-add}
+use Rattle.std.proofs.Common.{◌≡◌, ℕ, ◌+◌, ◌<◌, Bool, true, false, ◌||◌, cond, List, [], ◌∷◌, map, length, get_or}
+use Rattle.std.proofs.Common.{Some, None, is_some, inl, inr, ◌∙◌, refl, sym, ap, arith, zero-add}
 use Rattle.std.specs.Prelude.{◌==◌}
 use Rattle.std.specs.List.{count_by}
-use Rattle.std.proofs.lemmas.Bool.{and_from, cases_eq, cases_lt, eq-eqb, ne_eqb}
-use Rattle.std.proofs.lemmas.List.{get_or-replicate, get_or-set_other, get_or-set_same, get_or_past, get_or_default, length-replicate, same_lists}
+use Rattle.std.proofs.lemmas.Bool.{and_from, cases_eq, eq-eqb, ne_eqb}
+use Rattle.std.proofs.lemmas.List.{get_or-set_other, get_or-set_same, get_or_default, same_lists}
 use Rattle.std.proofs.lemmas.List.FromFn.{get_or-map-range_with_len, length-map-range_with_len}
 use Rattle.std.proofs.lemmas.List.Sums.{sum_by-cons}
+use Rattle.value_text.proofs.ListLemmas.{none_at}
 use Rattle.cov_model.specs.Meaning.{value_at}
 use Rattle.cov_model.specs.Slices.{negative_values, value_numbers}
 use Rattle.cov_model.specs.Sound.{ModelView, param_at}
@@ -24,12 +25,6 @@ params pairs = map (λ pair. pair.0) pairs
 
 abbrev pub values : List (ℕ × ℕ) → List ℕ
 values pairs = map (λ pair. pair.1) pairs
-
-none_at : (n p : ℕ) → get_or {A = Option ℕ} (replicate n None) p None ≡ None
-none_at n p = elim (cases_lt p n) [
-  | inl within ↦ get_or-replicate n p None None within
-  | inr past ↦ get_or_past (replicate n None) p None (omega (arith, past, length-replicate {A = Option ℕ} n None))
-]
 
 pair_given : (n : ℕ) (pairs : List (ℕ × ℕ)) (p : ℕ) → p < n → get_or (cells_of n pairs) p None ≡ value_given (params pairs) (values pairs) p
 pair_given n [] p within = none_at n p

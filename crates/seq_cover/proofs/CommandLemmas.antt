@@ -6,9 +6,10 @@ use Rattle.std.specs.String.{string_bytes}
 use Rattle.std.specs.declared.string.String.{String}
 use Rattle.std.specs.declared.alloc.Global.{Global}
 use Rattle.std.proofs.lemmas.Bool.{le-ltb}
-use Rattle.std.proofs.lemmas.List.{get_or-map, length-map, take_more}
+use Rattle.std.proofs.lemmas.List.{length-map, take_more}
 use Rattle.std.proofs.lemmas.List.Elements.{filter_map-append}
 use Rattle.std.proofs.lemmas.List.Sums.{fold_push, position_or_len_is}
+use Rattle.value_text.proofs.StringLemmas.{word_at}
 use Rattle.seq_cover.specs.Words.{Setting, asked_by, asked_of, set, set_by, setting_of, texts}
 
 -- none passes, by all of them
@@ -27,11 +28,6 @@ set_more file words place setting within is =
     ap (set_by file) (take_more words place [] within)
     ∙ ap (fold set (asked_of file)) (filter_map-append setting_of before (word ∷ []) ∙ ap (λ o. filter_map setting_of before ++ cons_option o []) is)
     ∙ fold_push set (asked_of file) (filter_map setting_of before) setting
-
--- a word as it is passed
-pub word_at : (words : List (String Global)) (place : ℕ) (item : String Global) (text : List ℕ) → place < length words → item ≡ get_or words place item
-    → text ≡ string_bytes item → text ≡ get_or (texts words) place []
-word_at words place item text inside is e = e ∙ ap string_bytes is ∙ sym (get_or-map string_bytes words place item [] inside)
 
 pub many_words : (words : List (String Global)) (place : ℕ) → place < length words → place < length (texts words)
 many_words words place within = omega (arith, within, length-map words string_bytes)

@@ -8,6 +8,7 @@ use Rattle.std.proofs.Math.Bool.{or-false}
 use Rattle.std.proofs.lemmas.Bool.{and_parts, cases_eq, false≢true}
 use Rattle.std.proofs.lemmas.List.{get_or-map, get_or-replicate, get_or-set_other, get_or-set_same, get_or_default, length-map, length-replicate, length-set, map-append, map-set, same_lists}
 use Rattle.std.proofs.lemmas.List.Elements.{All-get_or, All-nil, All-push}
+use Rattle.value_text.proofs.ListLemmas.{or_or}
 use Rattle.cov_model.specs.declared.slice.Slice.{Slice}
 use Rattle.cov_model.specs.declared.slice.Slice.TheVariants.{Positive, Negative}
 use Rattle.cov_model.specs.Sound.{ModelView}
@@ -201,12 +202,6 @@ places_end m tests members numbers i past so_far =
     ∙ sym (get_or-map (place_in m members) tests at [] other inside))
 
 -- what rows serve is what those without a negative value serve, and those with one
-swapped : (a b c d : Bool) → ((a || b) || (c || d)) ≡ ((a || c) || (b || d))
-swapped true b c d = refl
-swapped false true true d = refl
-swapped false true false d = refl
-swapped false false c d = refl
-
 any_filter : {X : Type 0} (s f : X → Bool) (xs : List X) → list_any s (filter f xs) ≡ list_any (λ x. f x && s x) xs
 any_filter s f [] = refl
 any_filter s f (x ∷ xs) = by_test (f x) (any_filter s f xs)
@@ -219,7 +214,7 @@ any_filter s f (x ∷ xs) = by_test (f x) (any_filter s f xs)
 any_either : {X : Type 0} (f g h : X → Bool) (xs : List X) → ((x : X) → (f x || g x) ≡ h x) → (list_any f xs || list_any g xs) ≡ list_any h xs
 any_either f g h [] each = refl
 any_either f g h (x ∷ xs) each =
-    swapped (f x) (list_any f xs) (g x) (list_any g xs) ∙ ap (λ t. t || (list_any f xs || list_any g xs)) (each x)
+    or_or (f x) (list_any f xs) (g x) (list_any g xs) ∙ ap (λ t. t || (list_any f xs || list_any g xs)) (each x)
     ∙ ap (λ t. h x || t) (any_either f g h xs each)
 
 any_parts : {X : Type 0} (serves test positive : X → Bool) (rows : List X)

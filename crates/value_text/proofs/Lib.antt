@@ -3,4 +3,5 @@ pub mod DigitLemmas
 pub mod NumberLemmas
 pub mod CharLemmas
 pub mod LikeLemmas
+pub mod StringLemmas
 pub mod Laws

@@ -1,9 +1,10 @@
 -- Facts of Bool, Option, Result, lists and numbers that several crates need and the standard library has not.
 use Rattle.std.proofs.Common.{◌≡◌, ℕ, zero, suc, ◌+◌, ◌*◌, ◌<◌, ◌≤◌, Bool, true, false, not, cond, ◌&&◌, ◌||◌, ◌==◌, nat_lt, nat_eq, Option, Some, None, is_some}
-use Rattle.std.proofs.Common.{unwrap_or, Result, Ok, Err, List, [], ◌∷◌, ◌++◌, map, filter, length, get_or, All, refl, sym, ◌∙◌, ap, arith, position, find, count_by}
-use Rattle.std.proofs.lemmas.Bool.{false≢true, cond-true, eqb-true, lt-ltb, cond-false}
+use Rattle.std.proofs.Common.{unwrap_or, Result, Ok, Err, List, [], ◌∷◌, ◌++◌, map, filter, length, replicate, get_or, All, inl, inr, refl, sym, ◌∙◌, ap, arith}
+use Rattle.std.proofs.Common.{position, find, count_by}
+use Rattle.std.proofs.lemmas.Bool.{false≢true, cond-true, eqb-true, lt-ltb, cases_lt, cond-false}
 use Rattle.std.proofs.lemmas.Bool.Decides.{nat_tests}
-use Rattle.std.proofs.lemmas.List.{map-id, same_lists, get_or_default, length-map}
+use Rattle.std.proofs.lemmas.List.{map-id, same_lists, get_or-replicate, get_or_default, get_or_past, length-map, length-replicate}
 use Rattle.std.proofs.lemmas.List.Elements.{All-head, All-tail}
 use Rattle.std.proofs.lemmas.List.FromFn.{map-range_with_len_more, length-map-range_with_len, get_or-map-range_with_len}
 use Rattle.std.proofs.lemmas.List.Sums.{length-filter, count_by-le-length, position_or_len_is}
@@ -19,6 +20,13 @@ use Rattle.std.specs.Result.{IsErrAnd}
 -- a test that stands twice
 pub or_twice : (a b : Bool) → (a || b) ≡ (a || (a || b))
 or_twice a b = ap (λ c. c || b) (sym (or_self a)) ∙ or_assoc a a b
+
+-- two pairs of tests, paired the other way
+pub or_or : (a b c d : Bool) → ((a || b) || (c || d)) ≡ ((a || c) || (b || d))
+or_or true b c d = refl
+or_or false true true d = refl
+or_or false true false d = refl
+or_or false false c d = refl
 
 -- neither of two; what two tests take away together
 pub not_or : (a b : Bool) → not (a || b) ≡ (not a && not b)
@@ -55,6 +63,11 @@ list_any-find test (x ∷ xs) = by_case (test x) (list_any-find test xs)
 pub is_some-map : {X Y : Type 0} (f : X → Y) (o : Option X) → is_some (option_map f o) ≡ is_some o
 is_some-map f (Some x) = refl
 is_some-map f None = refl
+
+-- an option, or none
+pub option_or-None : {X : Type 0} (o : Option X) → option_or o None ≡ o
+option_or-None None = refl
+option_or-None (Some x) = refl
 
 -- neither of two options is given
 pub option_or_parts : {X : Type 0} (a b : Option X) → option_or a b ≡ None → (a ≡ None) × (b ≡ None)
@@ -172,6 +185,13 @@ module _ {K : Type 0} (text : K → List ℕ) (q : List ℕ) where
   place_text keys =
       ap (λ n. cond (nat_lt n (length keys)) (Some n) None) (others_text keys)
       ∙ ap (λ n. cond (nat_lt (position_or_len (bytes_eq q) (map text keys)) n) (Some (position_or_len (bytes_eq q) (map text keys))) None) (sym (length-map keys text))
+
+-- where each cell is empty there is no value at any place, past the end too
+pub none_at : (n p : ℕ) → get_or {A = Option ℕ} (replicate n None) p None ≡ None
+none_at n p = elim (cases_lt p n) [
+  | inl within ↦ get_or-replicate n p None None within
+  | inr past ↦ get_or_past (replicate n None) p None (omega (arith, past, length-replicate {A = Option ℕ} n None))
+]
 
 -- one number more
 pub range_with_len_more : (a n : ℕ) → range_with_len a (n + 1) ≡ range_with_len a n ++ (a + n) ∷ []

@@ -2,10 +2,10 @@ use Rattle.std.proofs.Common.{ℕ, ◌<◌, length, ◌++◌, ◌∷◌, ◌∙�
 use Rattle.std.specs.List.{range_with_len}
 use Rattle.std.proofs.lemmas.List.{length-set}
 use Rattle.std.proofs.lemmas.List.FromFn.{map-range_with_len_more}
+use Rattle.value_text.proofs.ListLemmas.{none_at}
 use Rattle.cov_model.specs.Sound.{ModelView}
 use Rattle.feasibility.specs.Live.{AreRules}
 use Rattle.feasibility.specs.Tree.{naming, undecided, undecided_on}
-use Rattle.feasibility.proofs.Broken.{none_at}
 use Rattle.feasibility.proofs.Naming.{naming_exist}
 use Rattle.feasibility.proofs.Nodes.{length-none, set_clear}
 use Rattle.feasibility.proofs.constrained.undecided_lists.Goals as goal

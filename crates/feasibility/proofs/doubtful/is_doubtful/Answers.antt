@@ -1,12 +1,12 @@
 use Rattle.std.proofs.Common.{ℕ, ◌<◌, ◌∙◌, Some, None, not, get_or, set, length, is_some, sym, ap, subst}
 use Rattle.std.proofs.lemmas.Bool.{false≢true}
 use Rattle.std.proofs.lemmas.List.{length-replicate, length-set}
+use Rattle.value_text.proofs.ListLemmas.{none_at}
 use Rattle.compiled_rules.specs.Codes.{is_yes}
 use Rattle.cov_model.specs.Fits.{FitsModel}
 use Rattle.cov_model.specs.Kleene.{body_truth}
 use Rattle.cov_model.specs.Sound.{ModelView, rule_at}
 use Rattle.feasibility.specs.Tree.{no_values}
-use Rattle.feasibility.proofs.Broken.{none_at}
 use Rattle.feasibility.proofs.Nodes.{FitsModel-with_value, length-none, set_clear}
 use Rattle.feasibility.proofs.doubtful.is_doubtful.Goals as goal
 

@@ -3,9 +3,10 @@ use Rattle.std.proofs.lemmas.List.{length-map, take_all}
 use Rattle.std.specs.String.{string_bytes}
 use Rattle.seq_cover.specs.Commands.{setting_seen}
 use Rattle.seq_cover.specs.Words.{set, set_by, setting_of, texts}
-use Rattle.seq_cover.proofs.CommandLemmas.{many_words, placed_nowhere, set_more, word_at}
+use Rattle.seq_cover.proofs.CommandLemmas.{many_words, placed_nowhere, set_more}
 use Rattle.seq_cover.proofs.command.read_options.Goals as goal
 use Rattle.value_text.proofs.ListLemmas.{position_is}
+use Rattle.value_text.proofs.StringLemmas.{word_at}
 
 pub returns-in_default : goal.returns-in_default
 returns-in_default c =

@@ -2,11 +2,12 @@ use Rattle.std.proofs.Common.{◌≡◌, ◌+◌, ◌<◌, [], Bool, true, false
 use Rattle.std.specs.Prelude.{All, filter_map}
 use Rattle.std.specs.String.{string_bytes}
 use Rattle.std.proofs.lemmas.List.{take_more, length-map}
+use Rattle.value_text.proofs.StringLemmas.{word_at}
 use Rattle.definitions.specs.Settings.{set, setting_of}
 use Rattle.definitions.specs.Words.{has_equal_marks, is_of_checker, set_by}
 use Rattle.command_line.specs.Settings.{setting_seen}
 use Rattle.command_line.specs.Words.{texts}
-use Rattle.command_line.proofs.WordLemmas.{set_by-push, word_at}
+use Rattle.command_line.proofs.WordLemmas.{set_by-push}
 use Rattle.proof_check.proofs.WordLemmas.{faulty-by, known-push}
 use Rattle.proof_check.proofs.words.CheckOpts.with_option.Goals as goal
 use Rattle.proof_check.proofs.words.CheckOpts.with_option.Goals.{else-is_last_mark-via-then-is_last_mark+else-has_equal_marks, else-is_last_mark-via-else-is_last_mark}
