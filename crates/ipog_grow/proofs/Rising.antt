@@ -5,12 +5,13 @@ use Rattle.std.specs.Cmp.Lexicographic.{slice_cmp, lists_total, options_total}
 use Rattle.std.specs.Option.{option_cmp}
 use Rattle.std.specs.Ordering.{nat_cmp, is_lt}
 use Rattle.std.specs.declared.cmp.Ordering.{Ordering}
-use Rattle.std.specs.declared.cmp.Ordering.TheVariants.{Less, Equal, Greater}
+use Rattle.std.specs.declared.cmp.Ordering.TheVariants.{Less, Equal}
 use Rattle.std.proofs.lemmas.Bool.{false≢true}
 use Rattle.std.proofs.lemmas.Cmp.{nat_cmp_total, tied_itself}
 use Rattle.std.proofs.lemmas.List.Elements.{All-head, All-tail}
 use Rattle.definitions.specs.Seeds.{distinct, is_same_row}
 use Rattle.definitions.proofs.PartialRowLemmas.{same_row_is}
+use Rattle.tuple_index.proofs.OrderLemmas.{is_less}
 use Rattle.ipog_grow.specs.Rows.{AreAsLong, AreRising, stands_before}
 
 abbrev Row : Type 0
@@ -21,14 +22,6 @@ compared row other = slice_cmp (option_cmp nat_cmp) row other
 
 compared_total : IsTotalOrder compared
 compared_total = lists_total (options_total nat_cmp_total)
-
-is_less : (row other : Row) → stands_before row other ≡ true → compared row other ≡ Less
-is_less row other before = less (compared row other) before
-  where
-    less : (order : Ordering) → is_lt order ≡ true → order ≡ Less
-    less Less e = refl
-    less Equal e = absurd (false≢true e)
-    less Greater e = absurd (false≢true e)
 
 differs : (row other : Row) → length row ≡ length other → compared row other ≡ Less → is_same_row row other ≡ false
 differs row other long less = by_case (is_same_row row other) refl
@@ -49,7 +42,7 @@ Chain (row ∷ next ∷ rows) = (compared row next ≡ Less) × Chain (next ∷ 
 chain : (rows : List Row) → AreRising rows → Chain rows
 chain [] rising = tt
 chain (row ∷ []) rising = tt
-chain (row ∷ next ∷ rows) rising = (is_less row next (rising 0 (omega arith)), chain (next ∷ rows) later)
+chain (row ∷ next ∷ rows) rising = (is_less (compared row next) (rising 0 (omega arith)), chain (next ∷ rows) later)
   where
     later : AreRising (next ∷ rows)
     later i within =

@@ -174,17 +174,18 @@ ordered_parts f before sorted after moved rises left =
     (sorted_parts f after (subst (IsStrictlySortedBy (λ x y. lex (f x) (f y))) (sym left) strictly))
     (sorted_in_order (map f before)) alike
 
+-- an order that passes the test for less
+pub is_less : (order : Ordering) → is_lt order ≡ true → order ≡ Less
+is_less Less e = refl
+is_less Equal e = absurd (false≢true e)
+is_less Greater e = absurd (false≢true e)
+
 -- each set stands before the next one
 abbrev pub Steps : List (List ℕ) → Type 0
 Steps sets = (i : ℕ) → i + 1 < length sets → is_lt (lex (get_or sets i []) (get_or sets (i + 1) [])) ≡ true
 
 first_step : (set next : List ℕ) (sets : List (List ℕ)) → Steps (set ∷ next ∷ sets) → lex set next ≡ Less
 first_step set next sets steps = is_less (lex set next) (steps 0 (omega arith))
-  where
-    is_less : (order : Ordering) → is_lt order ≡ true → order ≡ Less
-    is_less Less e = refl
-    is_less Equal e = absurd (false≢true e)
-    is_less Greater e = absurd (false≢true e)
 
 later_steps : (set : List ℕ) (sets : List (List ℕ)) → Steps (set ∷ sets) → Steps sets
 later_steps set sets steps i within =
