@@ -244,9 +244,6 @@ still_of Unprinted files after early still = absurd early
 still_of Misworded files after early still = absurd early
 still_of Stopped files after early still = still
 
-pub still_end : (end : Result (Unit {0}) Stop) (files after : Files) → IsEarly (end_of end) → StaysStill (end_of end) files after → KeepsFiles files after
-still_end end files after early still = still_of (end_of end) files after early still
-
 -- the format that is asked for is 1 or 2
 a_form : (form : ProofForm) → (format_of form ≡ 1) ⊎ (format_of form ≡ 2)
 a_form One = inl refl
