@@ -2,11 +2,11 @@
 use Rattle.std.specs.Prelude.{◌≡◌, ℕ, ◌+◌, ◌<◌, ◌≤◌, Bool, true, false, List, slice_index_or, if◌then◌else◌}
 use Rattle.std.specs.Int.{bit_at}
 
--- no place is marked that isn't below the first bound and is below the second
+-- no place at or above the first bound and below the second is marked
 abbrev pub NoneSet : List Bool → ℕ → ℕ → Type 0
 NoneSet marks from to = (place : ℕ) → from ≤ place → place < to → slice_index_or marks place false ≡ false
 
--- the place is the first marked one that isn't below the first bound, and it is below the second
+-- the place is the first marked one at or above the first bound, and it is below the second
 pub record IsFirstSet (marks : List Bool) (from to place : ℕ) : Type 0 where
   pub lowest : from ≤ place
   pub below : place < to

@@ -21,7 +21,7 @@ abbrev pub PlacesAreRanks : Type 0
 PlacesAreRanks = (m : ModelView) (set rank : ℕ) → set < length (demanded_sets m) → rank < length (tuples_of m (set_at (plan_of m) set))
     → slice_get (demanded_tuples m) (base_of m set + rank) ≡ slice_get (tuples_of m (set_at (plan_of m) set)) rank
 
--- whether the place isn't below the first bound and is below the second, and the rows serve its tuple
+-- whether the place is at or above the first bound and below the second, and the rows serve its tuple
 abbrev pub served_between : ModelView → List (List (Option ℕ)) → ℕ → ℕ → ℕ → Bool
 served_between m rows from to place = (nat_le from place && nat_lt place to) && is_served_at m rows place
 

@@ -9,7 +9,7 @@ use crate::sets::SliceSets;
 use bit_table::BitTable;
 use cov_model::ParamNo;
 
-// Where in a rising list the sets begin whose number isn't below `set`.
+// The place in a rising list from which on the sets have number `set` or above.
 fn first_from(sets: &[u32], set: u32) -> usize
     requires { IsNonDecreasingBy (λ s. s) sets.now }
     ensures within { result ≤ length sets.now }
