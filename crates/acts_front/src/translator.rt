@@ -9,13 +9,14 @@ ghost use Rattle.acts_front.specs.Tokens.{tokens_found};
 ghost use Rattle.acts_front.specs.Translation.{parameter_text, translated_text, translation};
 
 use crate::code::{ActsCode, ActsFault};
-use crate::line::{are_allowed, cut_line, line_text, without_mark};
+use crate::line::{are_allowed, line_text};
 use crate::parameter::Parameter;
 use crate::scope::Scope;
 use crate::section::Section;
 use crate::text::begins_with;
 use crate::token::{Token, tokens_found};
 use crate::write::{end_line, put_constraint};
+use model_lex::{cut_line, without_mark};
 use std::alloc::Global;
 use value_text::NoMemory;
 

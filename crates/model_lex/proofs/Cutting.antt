@@ -1,5 +1,5 @@
 -- How a file is cut into lines, one after another.
-use Rattle.std.proofs.Common.{◌≡◌, ℕ, suc, ◌+◌, ◌<◌, ◌≤◌, Bool, true, false, cond, List, [], ◌∷◌, length, take, drop, refl, arith}
+use Rattle.std.proofs.Common.{◌≡◌, ℕ, suc, ◌+◌, ◌<◌, ◌≤◌, Bool, true, false, cond, List, [], ◌∷◌, map, length, take, drop, refl, ap, arith}
 use Rattle.std.proofs.lemmas.Bool.{ltb-true, ltb-false, ne_eqb}
 use Rattle.std.proofs.lemmas.List.Splits.{slice_split_first, length-slice_split}
 use Rattle.std.specs.List.{slice_split, position, position_or_len, before_first, after_first}
@@ -20,9 +20,10 @@ one_piece (b ∷ text) whole = at (is_line_feed b) refl (one_piece text)
     at true e rest = let over : suc (length text) ≤ 0 = rw e at whole in absurd (omega arith)
     at false e rest = let left : suc (length text) ≤ 1 + position_or_len is_line_feed text = rw e at whole in rw (e, rest (omega arith)) refl
 
--- the line before the first line feed, and those behind it
-pub first_line : (text : List ℕ) (end : ℕ) → position is_line_feed text ≡ Some end → file_lines text ≡ without_return (take end text) ∷ file_lines (drop (end + 1) text)
-first_line text end found = at (nat_lt (position_or_len is_line_feed text) (length text)) refl found
+-- what stands before the first line feed, and the lines behind it
+pub first_ended : (text : List ℕ) (end : ℕ) → position is_line_feed text ≡ Some end
+    → ended_lines (slice_split is_line_feed text) ≡ take end text ∷ ended_lines (slice_split is_line_feed (drop (end + 1) text))
+first_ended text end found = at (nat_lt (position_or_len is_line_feed text) (length text)) refl found
   where
     behind : List ℕ
     behind = after_first is_line_feed text
@@ -30,7 +31,7 @@ first_line text end found = at (nat_lt (position_or_len is_line_feed text) (leng
     at :
         (within : Bool) → nat_lt (position_or_len is_line_feed text) (length text) ≡ within
         → cond within (Some (position_or_len is_line_feed text)) None ≡ Some end
-        → file_lines text ≡ without_return (take end text) ∷ file_lines (drop (end + 1) text)
+        → ended_lines (slice_split is_line_feed text) ≡ take end text ∷ ended_lines (slice_split is_line_feed (drop (end + 1) text))
     at true e is_end =
         let place : position_or_len is_line_feed text ≡ end = cc in
         rw (
@@ -41,12 +42,17 @@ first_line text end found = at (nat_lt (position_or_len is_line_feed text) (leng
     at false e is_end = cc
 
 -- without a line feed there is one line
-pub last_line : (text : List ℕ) → 0 < length text → position is_line_feed text ≡ None → file_lines text ≡ without_return text ∷ file_lines []
-last_line text some none = at (nat_lt (position_or_len is_line_feed text) (length text)) refl none
+pub only_ended : (text : List ℕ) → 0 < length text → position is_line_feed text ≡ None
+    → ended_lines (slice_split is_line_feed text) ≡ text ∷ ended_lines (slice_split is_line_feed [])
+only_ended text some none = at (nat_lt (position_or_len is_line_feed text) (length text)) refl none
   where
     at :
         (within : Bool) → nat_lt (position_or_len is_line_feed text) (length text) ≡ within
         → cond within (Some (position_or_len is_line_feed text)) None ≡ None
-        → file_lines text ≡ without_return text ∷ file_lines []
+        → ended_lines (slice_split is_line_feed text) ≡ text ∷ ended_lines (slice_split is_line_feed [])
     at true e is_none = cc
     at false e is_none = rw (one_piece text (ltb-false _ _ e), ne_eqb (length text) 0 (λ z. omega arith)) refl
+
+-- the same of the lines of a file
+pub first_line : (text : List ℕ) (end : ℕ) → position is_line_feed text ≡ Some end → file_lines text ≡ without_return (take end text) ∷ file_lines (drop (end + 1) text)
+first_line text end found = ap (map without_return) (first_ended text end found)

@@ -6,6 +6,8 @@
 //!   file that is accepted.
 //! - `ModelOpts` is how a file is to be read.
 //! - `trimmed` is a text without the blanks at its ends.
+//! - `cut_line` takes the first line from a file, of whatever form, and `cut_at_line_feed` leaves it its carriage
+//!   return; `without_mark` is a file without a byte-order mark.
 //!
 //! The texts of `Sections` are slices of the file, and tokens are places in their line. But for
 //! `split_model`, which answers `NoMemory` where a list could not grow, no call takes memory.
@@ -25,6 +27,7 @@ mod trim;
 
 pub use diag::{Diag, DiagCode};
 pub use fault::{LimitName, ModelFault};
+pub use lines::{cut_at_line_feed, cut_line, without_mark};
 pub use note::{Note, NoteCode, NoteList};
 pub use options::{Marks, ModelOpts, OrderWord};
 pub use sections::{NumLine, NumLineList, Sections, split_model};

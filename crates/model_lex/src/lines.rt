@@ -1,6 +1,7 @@
+//! Cutting a file into lines, one after another.
 ghost use Rattle.std.specs.Prelude.{◌≡◌, ◌<◌, ◌∷◌, length};
-ghost use Rattle.std.specs.List.{position};
-ghost use Rattle.model_lex.specs.Lines.{is_line_feed, without_mark, without_return, file_lines};
+ghost use Rattle.std.specs.List.{position, slice_split};
+ghost use Rattle.model_lex.specs.Lines.{ended_lines, file_lines, is_line_feed, without_mark, without_return};
 
 /// The bytes of a file without a byte-order mark at the start.
 pub fn without_mark(bytes: &[u8]) -> &[u8]
@@ -29,14 +30,31 @@ fn line_end(bytes: &[u8]) -> Option<usize>
     bytes.iter().position(|byte| *byte == b'\n')
 }
 
-/// The first line, and what stands behind its line feed.
+/// What stands before the first line feed, or all bytes where there is none, and what stands behind it.
+///
+/// There is a byte.
+pub fn cut_at_line_feed(bytes: &[u8]) -> (&[u8], &[u8])
+    requires { 0 < length bytes.now }
+    ensures lines {
+        ended_lines (slice_split is_line_feed bytes.now)
+        ≡ result.0.now ∷ ended_lines (slice_split is_line_feed result.1.now)
+    }
+    ensures shorter { length result.1.now < length bytes.now }
+{
+    match line_end(bytes) {
+        Some(end) => (&bytes[..end], &bytes[end + 1..]),
+        None => (bytes, &[]),
+    }
+}
+
+/// The first line, without a carriage return at its end, and what stands behind its line feed.
+///
+/// There is a byte.
 pub fn cut_line(bytes: &[u8]) -> (&[u8], &[u8])
     requires { 0 < length bytes.now }
     ensures lines { file_lines bytes.now ≡ result.0.now ∷ file_lines result.1.now }
     ensures shorter { length result.1.now < length bytes.now }
 {
-    match line_end(bytes) {
-        Some(end) => (without_return(&bytes[..end]), &bytes[end + 1..]),
-        None => (without_return(bytes), &[]),
-    }
+    let (line, behind) = cut_at_line_feed(bytes);
+    (without_return(line), behind)
 }

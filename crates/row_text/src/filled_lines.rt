@@ -2,7 +2,7 @@ ghost use Rattle.std.specs.Prelude.{◌≡◌, ◌+◌, ◌<◌, ◌≤◌, ◌^
 ghost use Rattle.definitions.specs.RowFile.{filled_lines};
 ghost use Rattle.row_text.specs.RowLines.{filled_from, line_seen};
 
-use crate::cuts::{cut_line, without_mark};
+use model_lex::{cut_line, without_mark};
 use std::marker::Model;
 
 /// A line of a row file that has a byte.

@@ -1,4 +1,3 @@
-pub mod LineCuts
 pub mod SetLemmas
 pub mod Counting
 pub mod OnesLemmas

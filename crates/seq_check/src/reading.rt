@@ -3,11 +3,11 @@ ghost use Rattle.seq_check.specs.Events.{AreEvents, is_name};
 ghost use Rattle.seq_check.specs.EventFile.{Event, Precedence, events_of, events_with, line_of, number_of, refusal};
 ghost use Rattle.seq_check.specs.Reading.{AreKnown, Declared, Reads, Refuses, SoFar, nothing_declared, with_line};
 
-use crate::cut::{cut_line, without_mark, without_return};
 use crate::event_line::{EventLine, line_of};
 use crate::event_names::EventNames;
 use crate::events::{Events, PairList};
 use crate::fault::{EventCode, EventLimit, EventsFault, MOST_EVENTS, MOST_PRECEDENCES};
+use model_lex::{cut_line, without_mark};
 use std::alloc::Global;
 use std::marker::Model;
 use value_text::{NoMemory, OwnedList, Text, TextList};
@@ -185,7 +185,7 @@ pub fn read_events(alloc: Global, bytes: &[u8], t: u32) -> Result<Events, Events
         let (text, behind) = cut_line(rest);
         rest = behind;
         line += 1;
-        reading.read_line(alloc, line, without_return(text))?;
+        reading.read_line(alloc, line, text)?;
     }
     reading.finish(alloc, t)
 }

@@ -2,11 +2,11 @@ ghost use Rattle.std.specs.Prelude.{◌≡◌, ◌≤◌, ◌^◌, length, IfOk}
 ghost use Rattle.seq_check.specs.Verdicts.{verdict};
 
 use crate::arrows::Arrows;
-use crate::cut::cut_line;
 use crate::events::Events;
 use crate::open::OpenSequences;
 use crate::report_line::{ReportLine, read_line};
 use cov_model::NoList;
+use model_lex::cut_at_line_feed;
 use std::alloc::Global;
 use value_text::NoMemory;
 
@@ -39,7 +39,7 @@ pub fn check_orders(alloc: Global, events: &Events, report: &[u8]) -> Result<Ord
     let (mut line, mut rows, mut omissions) = (0, 0, 0);
     let mut rest = report;
     while !rest.is_empty() {
-        let (text, behind) = cut_line(rest);
+        let (text, behind) = cut_at_line_feed(rest);
         rest = behind;
         line += 1;
         match read_line(alloc, events, &precedences, text)? {

@@ -14,7 +14,7 @@ use Rattle.std.proofs.lemmas.Slice.Eq.{bytes_eq-Decides}
 use Rattle.value_text.proofs.ListLemmas.{list_any-position}
 use Rattle.definitions.proofs.Cells.{split_joined_by}
 use Rattle.model_lex.specs.Lines.{is_line_feed}
-use Rattle.seq_check.proofs.LineCuts.{first_line}
+use Rattle.model_lex.proofs.Cutting.{first_ended}
 use Rattle.seq_check.proofs.StepLemmas.{never_when}
 use Rattle.seq_check.specs.Events.{AreEvents, EventsView, is_name}
 use Rattle.seq_check.specs.EventFile.{is_space, number_of}
@@ -51,7 +51,7 @@ lines_back (line ∷ lines) lacks =
     let joined : text_of_lines (line ∷ lines) ≡ line ++ 10 ∷ rest = append_assoc line (10 ∷ []) rest in
     let behind : drop (length line + 1) (line ++ 10 ∷ rest) ≡ rest =
     ap (drop (length line + 1)) (sym (append_assoc line (10 ∷ []) rest)) ∙ drop_at (line ++ 10 ∷ []) rest (length line + 1) (length_push line 10) in
-    ap report_lines joined ∙ first_line (line ++ 10 ∷ rest) (length line) (place_of_end line rest (All-head (Lacks 10) line lines lacks))
+    ap report_lines joined ∙ first_ended (line ++ 10 ∷ rest) (length line) (place_of_end line rest (All-head (Lacks 10) line lines lacks))
     ∙ ap (λ l. l ∷ report_lines (drop (length line + 1) (line ++ 10 ∷ rest))) (take_at line (10 ∷ rest) (length line) refl)
     ∙ ap (λ l. line ∷ report_lines l) behind ∙ ap (λ l. line ∷ l) (lines_back lines (All-tail (Lacks 10) line lines lacks))
 

@@ -1,6 +1,6 @@
-use Rattle.std.proofs.Common.{◌≡◌, ◌∙◌, ◌∷◌, ap, map, sym, arith, rules, ◌≤◌, length, ◌^◌, Err}
+use Rattle.std.proofs.Common.{◌≡◌, ◌∙◌, sym, arith, rules, ◌≤◌, length, ◌^◌, Err}
 use Rattle.std.proofs.lemmas.Bool.{eqb-true}
-use Rattle.model_lex.specs.Lines.{file_lines, without_mark, without_return}
+use Rattle.model_lex.specs.Lines.{without_mark}
 use Rattle.seq_check.proofs.ReadingSteps.{begins, reads, stops, ends}
 use Rattle.seq_check.proofs.reading.read_events.Goals as goal
 use Rattle.model_lex.proofs.OrderMark.{unmarked_within}
@@ -13,17 +13,15 @@ loop-rest-init c =
 pub loop-rest-preserved : goal.loop-rest-preserved
 loop-rest-preserved c =
     let behind = c.cut_line.result.1.now in
-    let cut = ap (map without_return) c.cut_line.ensures.lines ∙ ap (λ text. text ∷ file_lines behind) (sym c.without_return.ensures) in
     rw c.in_ok-read_line.ensures.ok.1
-    (reads behind c.loop-rest.invariant cut c.cut_line.ensures.shorter c.in_ok-read_line.ensures.ok.0)
+    (reads behind c.loop-rest.invariant c.cut_line.ensures.lines c.cut_line.ensures.shorter c.in_ok-read_line.ensures.ok.0)
 
 pub returns-in_err-read_line : goal.returns-in_err-read_line
 returns-in_err-read_line c =
     let behind = c.cut_line.result.1.now in
-    let cut = ap (map without_return) c.cut_line.ensures.lines ∙ ap (λ text. text ∷ file_lines behind) (sym c.without_return.ensures) in
     let is : c.from_residual.result ≡ Err c.in_err-read_line.field-0.0 = search rules in
     rw is
-    (stops behind c.loop-rest.invariant cut c.cut_line.ensures.shorter c.args.t c.in_err-read_line.field-0.0 c.in_err-read_line.ensures.err)
+    (stops behind c.loop-rest.invariant c.cut_line.ensures.lines c.cut_line.ensures.shorter c.args.t c.in_err-read_line.field-0.0 c.in_err-read_line.ensures.err)
 
 pub returns : goal.returns
 returns c =

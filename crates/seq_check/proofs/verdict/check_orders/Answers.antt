@@ -25,7 +25,7 @@ loop-rest-init c =
 pub close_row-requires : goal.close_row-requires
 close_row-requires c =
     let e = c.args.events.now in
-    let row = subst (IsLine e (report_line_of e c.cut_line.result.0.now)) c.in-Row.is c.in_ok-places.ensures in
+    let row = subst (IsLine e (report_line_of e c.cut_at_line_feed.result.0.now)) c.in-Row.is c.in_ok-places.ensures in
     let most = c.assert_invariant.ensures.few in
     let long = ap length (c.as_slice-in-Row.ensures.value ∙ row.2) ∙ length-map-range_with_len (place row.0) 0 (length e.names) in
     record { few = omega (arith, long) }
@@ -33,40 +33,40 @@ close_row-requires c =
 pub loop-rest-preserved-in-Row : goal.loop-rest-preserved-in-Row
 loop-rest-preserved-in-Row c =
     let e = c.args.events.now in
-    let row = subst (IsLine e (report_line_of e c.cut_line.result.0.now)) c.in-Row.is c.in_ok-places.ensures in
+    let row = subst (IsLine e (report_line_of e c.cut_at_line_feed.result.0.now)) c.in-Row.is c.in_ok-places.ensures in
     let o = c.loop-rest.opened in
     let closed = subst (λ at. (front : List ℕ) (last : ℕ) → IsFront o.len (length at) front → last < length at
     → is_open c.close_row.new.self front last ≡ (is_open o front last && not (rises at (front ++ last ∷ [])))) (c.as_slice-in-Row.ensures.value ∙ row.2) c.close_row.ensures.closed in
-    after_row e c.args.report.now c.assert_invariant.ensures c.cut_line.result.1.now c.loop-rest.invariant c.cut_line.ensures.lines c.cut_line.ensures.shorter
+    after_row e c.args.report.now c.assert_invariant.ensures c.cut_at_line_feed.result.1.now c.loop-rest.invariant c.cut_at_line_feed.ensures.lines c.cut_at_line_feed.ensures.shorter
     c.close_row.new.self row.0 row.1 c.close_row.ensures.len closed
 
 pub close-requires-clause-long : goal.close-requires-clause-long
 close-requires-clause-long c =
     let e = c.args.events.now in
-    let never = subst (IsLine e (report_line_of e c.cut_line.result.0.now)) c.in-Never.is c.in_ok-places.ensures in
+    let never = subst (IsLine e (report_line_of e c.cut_at_line_feed.result.0.now)) c.in-Never.is c.in_ok-places.ensures in
     ap length c.as_slice-in-Never.ensures ∙ (sequence_fits e c.in-Never.sequence c.assert_invariant.ensures never.1).0 ∙ sym c.loop-rest.invariant.len
 
 pub close-requires-clause-exist : goal.close-requires-clause-exist
 close-requires-clause-exist c =
     let e = c.args.events.now in
-    let never = subst (IsLine e (report_line_of e c.cut_line.result.0.now)) c.in-Never.is c.in_ok-places.ensures in
+    let never = subst (IsLine e (report_line_of e c.cut_at_line_feed.result.0.now)) c.in-Never.is c.in_ok-places.ensures in
     subst (All (λ event. event < 64)) (sym c.as_slice-in-Never.ensures) (sequence_fits e c.in-Never.sequence c.assert_invariant.ensures never.1).1
 
 pub loop-rest-preserved : goal.loop-rest-preserved
 loop-rest-preserved c =
     let e = c.args.events.now in
-    let never = subst (IsLine e (report_line_of e c.cut_line.result.0.now)) c.in-Never.is c.in_ok-places.ensures in
+    let never = subst (IsLine e (report_line_of e c.cut_at_line_feed.result.0.now)) c.in-Never.is c.in_ok-places.ensures in
     let o = c.loop-rest.opened in
     let closed = subst (λ named. (front : List ℕ) (last : ℕ) → IsFront o.len 64 front → last < 64
     → is_open c.close.new.self front last ≡ (is_open o front last && not (bytes_eq (front ++ last ∷ []) named))) c.as_slice-in-Never.ensures c.close.ensures.closed in
-    after_never e c.args.report.now c.assert_invariant.ensures c.cut_line.result.1.now c.loop-rest.invariant c.cut_line.ensures.lines c.cut_line.ensures.shorter
+    after_never e c.args.report.now c.assert_invariant.ensures c.cut_at_line_feed.result.1.now c.loop-rest.invariant c.cut_at_line_feed.ensures.lines c.cut_at_line_feed.ensures.shorter
     c.close.new.self c.in-Never.sequence never.0 c.close.ensures.len closed
 
 pub returns-in-Wrong : goal.returns-in-Wrong
 returns-in-Wrong c =
     let e = c.args.events.now in
-    let wrong = subst (IsLine e (report_line_of e c.cut_line.result.0.now)) c.in-Wrong.is c.in_ok-places.ensures in
-    at_wrong e c.args.report.now c.assert_invariant.ensures c.cut_line.result.1.now c.loop-rest.invariant c.cut_line.ensures.lines c.cut_line.ensures.shorter wrong
+    let wrong = subst (IsLine e (report_line_of e c.cut_at_line_feed.result.0.now)) c.in-Wrong.is c.in_ok-places.ensures in
+    at_wrong e c.args.report.now c.assert_invariant.ensures c.cut_at_line_feed.result.1.now c.loop-rest.invariant c.cut_at_line_feed.ensures.lines c.cut_at_line_feed.ensures.shorter wrong
 
 pub returns-in-Some : goal.returns-in-Some
 returns-in-Some c =
