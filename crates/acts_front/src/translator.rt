@@ -144,7 +144,8 @@ impl<'a> Translator<'a> {
 }
 
 /// Translates a file in the form of ACTS to a model file for `pict`, line by line (ACTS guide, PICT's guide; the
-/// form and the texts are this project's rules). Letters of either case are one where `fold` is set.
+/// form and the texts are this project's rules). Letters of either case are one where `fold` is set. The file may
+/// have at most 2^28 bytes.
 ///
 /// # Errors
 ///

@@ -164,7 +164,7 @@ fn short_pairs(alloc: Global, pairs: &[(usize, usize)]) -> Result<PairList, NoMe
 
 /// The events of a file (this project's rules): a line is a name, which declares an event, or `name < name`, a
 /// precedence; lines of blanks alone and comments are left out. `t` is the length of the sequences of events
-/// that are to be covered.
+/// that are to be covered. The file may have at most 2^28 bytes.
 ///
 /// # Errors
 ///

@@ -24,7 +24,7 @@ pub enum OrderVerdict {
 
 /// What is said of the bytes of a report on the orders of events (this project's rules): the first line that is
 /// neither that of a permitted order nor that of a sequence with a good cycle, else the first sequence that no
-/// row has and no line names, else that the report is accepted.
+/// row has and no line names, else that the report is accepted. The report may have at most 2^28 bytes.
 ///
 /// # Errors
 ///
