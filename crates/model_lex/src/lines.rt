@@ -32,13 +32,11 @@ fn line_end(bytes: &[u8]) -> Option<usize>
 
 /// What stands before the first line feed, or all bytes where there is none, and what stands behind it.
 ///
-/// There is a byte.
+/// There has to be a byte.
 pub fn cut_at_line_feed(bytes: &[u8]) -> (&[u8], &[u8])
     requires { 0 < length bytes.now }
-    ensures lines {
-        ended_lines (slice_split is_line_feed bytes.now)
-        ≡ result.0.now ∷ ended_lines (slice_split is_line_feed result.1.now)
-    }
+    ensures lines { ended_lines (slice_split is_line_feed bytes.now)
+        ≡ result.0.now ∷ ended_lines (slice_split is_line_feed result.1.now) }
     ensures shorter { length result.1.now < length bytes.now }
 {
     match line_end(bytes) {
@@ -49,7 +47,7 @@ pub fn cut_at_line_feed(bytes: &[u8]) -> (&[u8], &[u8])
 
 /// The first line, without a carriage return at its end, and what stands behind its line feed.
 ///
-/// There is a byte.
+/// There has to be a byte.
 pub fn cut_line(bytes: &[u8]) -> (&[u8], &[u8])
     requires { 0 < length bytes.now }
     ensures lines { file_lines bytes.now ≡ result.0.now ∷ file_lines result.1.now }
