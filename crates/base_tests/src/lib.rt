@@ -3,6 +3,7 @@
 //! - `texts` and `lists`: texts, numbers and patterns; lists, marks, live values and packed lists.
 //! - `folders` and `sinks`: those in memory, those that never fail, and those over real files and streams.
 //! - `made_texts`: made models.
+//! - `words`: the words of a command line.
 #![tactic(auto)]
 
 #[cfg(test)]
@@ -15,3 +16,5 @@ mod made_texts;
 mod sinks;
 #[cfg(test)]
 mod texts;
+#[cfg(test)]
+mod words;

@@ -1,5 +1,6 @@
 -- Slots found by their name, and what a write of one slot does to the others.
-use Rattle.std.proofs.Common.{◌≡◌, ℕ, ◌<◌, Bool, true, false, cond, max, Option, Some, None, List, [], ◌∷◌, ◌++◌, length, get_or, set, position, nat_lt, nat_le, unwrap_or, refl, ap, sym, ◌∙◌, subst, inl, inr, arith}
+use Rattle.std.proofs.Common.{◌≡◌, ℕ, ◌<◌, Bool, true, false, cond, max, Option, Some, None, List, [], ◌∷◌, ◌++◌, length, get_or, set, position, nat_lt, nat_le, unwrap_or}
+use Rattle.std.proofs.Common.{refl, ap, sym, ◌∙◌, subst, inl, inr, arith}
 use Rattle.std.specs.List.{position_or_len, slice_get}
 use Rattle.std.specs.Option.{option_map, option_and_then, option_or}
 use Rattle.std.specs.Str.{bytes_eq}

@@ -1,4 +1,5 @@
-ghost use Rattle.std.specs.Prelude.{◌≤◌, vec_len, IfOk, IfSome};
+ghost use Rattle.std.specs.Prelude.{◌≡◌, ◌≤◌, [], if◌then◌else◌, vec_len, IfOk, IfSome};
+ghost use Rattle.std.specs.Str.{is_utf8};
 
 use std::alloc::Global;
 use std::env::FillError;
@@ -27,6 +28,16 @@ fn word_bytes<R: Env>(
     Err(NoMemory)
 }
 
+// The text of a word; no character where it isn't UTF-8.
+fn text_of(word: &[u8]) -> &str
+    ensures { result.now ≡ (if is_utf8 word.now then word.now else []) }
+{
+    match str::from_utf8(word) {
+        Ok(text) => text,
+        Err(_) => "",
+    }
+}
+
 /// The words of the command line behind the program's name.
 ///
 /// A word that isn't UTF-8 stands as the empty word, which has no reading in any place: so the
@@ -42,8 +53,7 @@ pub fn command_words<R: Env>(rt: &R, alloc: Global) -> Result<Vec<String>, NoMem
         let Some(len) = word_bytes(rt, number, &mut buffer)? else {
             break;
         };
-        let word = str::from_utf8(&buffer[..len]).unwrap_or("");
-        words.push(String::from_str(alloc, word)?)?;
+        words.push(String::from_str(alloc, text_of(&buffer[..len]))?)?;
     }
     Ok(words)
 }
