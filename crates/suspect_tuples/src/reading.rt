@@ -1,4 +1,4 @@
-ghost use Rattle.std.specs.Prelude.{◌≡◌, ◌+◌, ◌≤◌, ◌<◌, ◌^◌, Some, None, if◌then◌else◌, [], codes, drop};
+ghost use Rattle.std.specs.Prelude.{◌≡◌, ◌≢◌, ◌+◌, ◌≤◌, ◌<◌, ◌^◌, Some, None, if◌then◌else◌, [], codes, drop};
 ghost use Rattle.std.specs.Prelude.{false, find, is_none, length, map, position, slice_index_or, unwrap_or, IfOk, IfErr, IfSome, OnOk};
 ghost use Rattle.definitions.specs.RowFile.{cells_of_line};
 ghost use Rattle.suspect_tuples.specs.ResultReading.{has_failed, read_results, result_fault, result_of_line};
@@ -9,7 +9,7 @@ use crate::result_file::{FlagList, ResultFile};
 use crate::results_fault::ResultsFault;
 use cov_model::TestModel;
 use model_lex::{Note, NoteList};
-use row_text::{FilledLines, LineCells, RowFile, RowMode, read_rows};
+use row_text::{FilledLines, LineCells, RowFile, RowMode, RowsFault, read_rows};
 use std::alloc::Global;
 use value_text::NoMemory;
 
@@ -77,6 +77,7 @@ fn read_failed(
     ensures flags { IfOk result (λ failed. failed ≡ map (λ line. unwrap_or (result_of_line column line.1) false) lines.entry) }
     ensures good { OnOk result (result_fault column lines.entry ≡ None) }
     ensures bad { IfErr result (λ fault. IfSome (result_fault_of fault) (λ given. result_fault column lines.entry ≡ Some given)) }
+    ensures apart { IfErr result (λ fault. fault ≢ ResultsFault.Rows RowsFault.NoMemory) }
 {
     let mut failed = FlagList::new(alloc);
     while let Some(line) = lines.take_line() {
@@ -109,7 +110,7 @@ fn later_notes(alloc: Global, notes: &[Note]) -> Result<NoteList, NoMemory>
 ///
 /// The first of these: `Rows` where the row file is refused; `NoResult` where no cell of the header is `:result`;
 /// `BadResult` with the first line under the header whose cell in the result column is another text, empty or
-/// missing. `NoMemory` where memory was refused.
+/// missing. `NoMemory` where memory was refused, also where the rows are read.
 pub fn read_results(
     alloc: Global,
     bytes: &[u8],
@@ -117,6 +118,7 @@ pub fn read_results(
 ) -> Result<ResultFile, ResultsFault>
     requires { length bytes.now ≤ 2 ^ 28 }
     ensures reads { ReadsResults (read_results model.now bytes.now) result }
+    ensures apart { IfErr result (λ fault. fault ≢ ResultsFault.Rows RowsFault.NoMemory) }
     ensures file { IfOk result (AreResultsOf model.now) }
 {
     let file = read_rows(alloc, bytes, model, RowMode::Suite)?;

@@ -10,7 +10,7 @@ use value_text::{NoMemory, OwnedList};
 // The rows of a list that give a parameter a value.
 #[derive(Drop)]
 pub(crate) enum ValueRows {
-    // Their numbers, where they are fewer than one row in 64.
+    // Their numbers, where they are fewer than one row in 64, rounded down.
     Few(Vec<u32>),
     // A bit for each row of the list.
     Many(RowSet),
