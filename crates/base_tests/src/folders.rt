@@ -64,6 +64,18 @@ fn a_folder_in_memory_keeps_what_has_room(rt: HostRuntime) -> Result<(), Fail> {
 }
 
 #[test]
+fn a_folder_in_memory_gives_a_file_whole(rt: HostRuntime) -> Result<(), Fail> {
+    let text = Text::copy(rt.alloc(), "A: 1, 2\nB: x, y\n")?;
+    assert!(rt; text.as_str() == "A: 1, 2\nB: x, y\n");
+    let mut folder = MemFolder::new(rt.alloc(), Calls::new(rt.alloc()));
+    folder.add("m", text.as_str().as_bytes())?;
+    let mut into = Vec::new(rt.alloc());
+    assert!(rt; folder.read_file("m", &mut into, 1 << 22) == ReadAnswer::Whole);
+    assert!(rt; into.as_slice() == text.as_str().as_bytes());
+    Ok(())
+}
+
+#[test]
 fn a_sure_folder_never_fails(rt: HostRuntime) -> Result<(), Fail> {
     let mut bytes = ByteList::new(rt.alloc());
     bytes.push(b'x')?;

@@ -431,9 +431,9 @@ fn put_body(alloc: Global, line: &mut Line, body: &RawBody) -> Result<(), NoMemo
 /// constraint.
 ///
 /// One blank stands between two tokens, but none behind `(` and `{`, and none before `)`, `}`, `,`
-/// and `;`. Parentheses stand round an `All` in an `All` or a `Not`, and round an `Any` in an `Any`, an
-/// `All` or a `Not`, and nowhere else. A backslash stands before each `"`, `]` and backslash of a
-/// name or a text, and numbers have no needless zeros.
+/// and `;`. Parentheses stand round an `All` in an `All` or a `Not`, round an `Any` in an `Any`, an
+/// `All` or a `Not`, and round the name of a sign term, and nowhere else. A backslash stands before
+/// each `"`, `]` and backslash of a name or a text, and numbers have no needless zeros.
 ///
 /// # Errors
 ///

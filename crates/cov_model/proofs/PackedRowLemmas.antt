@@ -1,5 +1,6 @@
 -- Partial rows of one length, one behind another in one list.
-use Rattle.std.proofs.Common.{◌≡◌, ℕ, zero, suc, ◌+◌, ◌*◌, ◌<◌, ◌≤◌, List, [], ◌∷◌, ◌++◌, length, get_or, set, take, drop, Option, All, ◌∙◌, refl, sym, ap, arith, subst, length-append, length-drop, zero-add}
+use Rattle.std.proofs.Common.{◌≡◌, ℕ, zero, suc, ◌+◌, ◌*◌, ◌<◌, ◌≤◌, List, [], ◌∷◌, ◌++◌, length, get_or, set, take, drop, Option, All}
+use Rattle.std.proofs.Common.{◌∙◌, refl, sym, ap, arith, subst, length-append, length-drop, zero-add}
 use Rattle.std.proofs.Math.Nat.{suc-mul}
 use Rattle.std.proofs.Math.Seq.{take-length}
 use Rattle.std.proofs.lemmas.List.{nil_from_length, take-append-le, drop-append-le, drop-drop, length-take-le, take-take, drop-take, take-set-le, drop-set-lt, drop-set-add, take_at, drop_at}

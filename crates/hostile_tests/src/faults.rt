@@ -79,6 +79,16 @@ const FAULTS: &[Fault<'static>] = &[
     Fault {
         name: "m",
         model: PAIRS,
+        fail: &[],
+        room: 100,
+        words: &["m", "/e:s"],
+        status: 7,
+        report: "",
+        line: "error: cannot read s\n",
+    },
+    Fault {
+        name: "m",
+        model: PAIRS,
         fail: &[2],
         room: 100,
         words: &["m", "/proof:p"],

@@ -19,7 +19,7 @@ const REFUSALS: &[Refusal<'static>] = &[
         line: "error: model line 1: M17 no parameters\n",
     },
     Refusal {
-        model: b"A: \xff\nB: x\n",
+        model: b"A: 1, 2\xff\nB: x, y\n",
         status: 4,
         line: "error: model line 1: M1 not UTF-8\n",
     },

@@ -3,7 +3,7 @@
 ghost use Rattle.model_parse.specs.RawModels.{AreOpts};
 
 use crate::refusals::told;
-use cov_model::{Group, Param, TestModel, Value};
+use cov_model::{Demand, Group, Param, TestModel, Value};
 use model_lex::{Marks, ModelFault, ModelOpts, NoteList, OrderWord, split_model};
 use model_parse::{RawModel, parse_params};
 use std::alloc::{AllocError, Global};
@@ -77,20 +77,35 @@ fn show_notes(alloc: Global, notes: &NoteList, into: &mut String) -> Result<(), 
 // The parameters, the order, the sub-models, behind `and` the relations, and the lines of the notes.
 fn show(
     alloc: Global,
-    model: &TestModel,
+    params: &[Param],
+    demand: &Demand,
     notes: &NoteList,
     into: &mut String,
 ) -> Result<(), AllocError> {
-    for param in model.params().as_slice() {
+    for param in params {
         show_param(alloc, param, into)?;
     }
-    let demand = model.demand();
     into.push_str("order ")?;
     put(alloc, demand.order, "\n", into)?;
     show_groups(alloc, demand.subs.as_slice(), into)?;
     into.push_str("and\n")?;
     show_groups(alloc, demand.relations.as_slice(), into)?;
     show_notes(alloc, notes, into)
+}
+
+// Whether parameters, a demand and notes are shown so.
+fn are_shown_so(
+    alloc: Global,
+    params: &[Param],
+    demand: &Demand,
+    notes: &NoteList,
+    shown: &str,
+) -> bool {
+    let mut text = String::new(alloc);
+    match show(alloc, params, demand, notes, &mut text) {
+        Ok(()) => text.as_str() == shown,
+        Err(AllocError) => false,
+    }
 }
 
 // Whether a model keeps the prefix and the letters of these options, and is shown so with its notes.
@@ -104,11 +119,13 @@ fn are_shown(
     if model.prefix() != opts.marks.prefix || model.fold() != opts.fold {
         return false;
     }
-    let mut text = String::new(alloc);
-    match show(alloc, model, notes, &mut text) {
-        Ok(()) => text.as_str() == shown,
-        Err(AllocError) => false,
-    }
+    are_shown_so(
+        alloc,
+        model.params().as_slice(),
+        model.demand(),
+        notes,
+        shown,
+    )
 }
 
 // The same of the model of a file.
@@ -200,14 +217,11 @@ fn parsed(alloc: Global, bytes: &[u8]) -> Result<RawModel, ModelFault> {
     parse_params(alloc, &sections, &options(2))
 }
 
-fn is_plain(raw: &RawModel) -> bool {
-    raw.params.len() == 2 && raw.demand.order == 2 && raw.notes.is_empty()
-}
-
 // Whether two parameters are parsed, the order, and no note.
 fn is_parsed(alloc: Global) -> bool {
+    let shown = "1#A: 1 2\n2B: x y\norder 2\nand\n";
     match parsed(alloc, b"A: 1, 2\nB: x, y\n") {
-        Ok(raw) => is_plain(&raw),
+        Ok(raw) => are_shown_so(alloc, raw.params.as_slice(), &raw.demand, &raw.notes, shown),
         Err(_) => false,
     }
 }

@@ -7,7 +7,8 @@ use Rattle.cov_model.specs.declared.parameter.Param.{Param}
 use Rattle.cov_model.specs.declared.parameter.Value.{Value}
 use Rattle.cov_model.specs.declared.demand.Demand.{Demand}
 use Rattle.model_lex.specs.declared.diag.DiagCode.{DiagCode}
-use Rattle.model_lex.specs.declared.diag.DiagCode.TheVariants.{EmptyParameterName, BadParameterName, RepeatedParameter, EmptyValueName, BadValueName, BadWeight, UnknownReference, GroupNotClosed, UnknownMember}
+use Rattle.model_lex.specs.declared.diag.DiagCode.TheVariants.{EmptyParameterName, BadParameterName, RepeatedParameter, EmptyValueName, BadValueName}
+use Rattle.model_lex.specs.declared.diag.DiagCode.TheVariants.{BadWeight, UnknownReference, GroupNotClosed, UnknownMember}
 use Rattle.model_lex.specs.declared.diag.DiagCode.TheVariants.{RepeatedMember, BadGroupOrder, TextAfterGroup, RelationNoOrder, NoParameters, OrderTooLarge}
 use Rattle.model_lex.specs.declared.fault.LimitName.TheVariants.{Params, Names, Values}
 use Rattle.model_lex.specs.declared.fault.ModelFault.{ModelFault}

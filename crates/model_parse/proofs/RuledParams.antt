@@ -248,7 +248,9 @@ module _ (opts : ModelOpts) (line : ℕ) (params : List Param) where
         ≡ read_unless (option_map (bad_line line) (cond b (cond (is_some place) None (Some UnknownReference)) (piece_code opts.marks piece)))
         (cond b (option_map_or (λ p. (param_at params p).values) place []) spelled)
     gives_by true = ap (values_at line params) (place_same opts.fold params (referred piece)) ∙ at_place place
-    gives_by false = refused_is line (piece_code opts.marks piece) None spelled (Ok spelled) refl ∙ ap (λ o. read_unless o spelled) (option_or-None (option_map (bad_line line) (piece_code opts.marks piece)))
+    gives_by false =
+        refused_is line (piece_code opts.marks piece) None spelled (Ok spelled) refl
+        ∙ ap (λ o. read_unless o spelled) (option_or-None (option_map (bad_line line) (piece_code opts.marks piece)))
 
     gives_is : piece_values opts line params (known_names opts.fold params) piece ≡ read_unless (option_map (bad_line line) (values_code opts params piece)) (values_of opts params piece)
     gives_is = gives_by (is_reference piece)

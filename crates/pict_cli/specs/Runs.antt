@@ -151,7 +151,7 @@ abbrev pub notes_told : Settings → ℕ → ModelView → RowSource → List No
 notes_told s seed m source = notes_due s m source ++ notes_behind (stop_due s seed m source) (later_notes (mode_of s) m (rows_of_run s m source))
 
 -- the bytes of a model file are no more than they may be and spell a model, and P holds of it and its notes:
--- of each that they spell, which is one alone (`FilesHaveOneModel` of `type_check`)
+-- of each that they spell, which is one alone (`FilesHaveOneAnswer` of `type_check`)
 pub record SpellsModel (opts : ModelOpts) (P : ModelView → List Note → Type 0) (bytes : List ℕ) : Type 0 where
   pub within : length bytes ≤ most_bytes ModelFile
   pub model : ModelView

@@ -60,6 +60,30 @@ fn shuffles_by_a_number(rt: HostRuntime) {
     }
 }
 
+// Whether the values of a model's two parameters stand in its own order.
+fn keeps_order(alloc: Global, model: &TestModel) -> bool {
+    match Prefs::new(alloc, model, None) {
+        Ok(prefs) => {
+            model.params().len() == 2
+                && prefs.of(0) == [0, 1].as_slice()
+                && prefs.of(1) == [0, 1].as_slice()
+        }
+        Err(NoMemory) => false,
+    }
+}
+
+fn keeps_order_of_pairs(alloc: Global) -> bool {
+    match model_of(alloc, "A: 1, 2\nB: x, y\n") {
+        Ok(model) => keeps_order(alloc, &model),
+        Err(_) => false,
+    }
+}
+
+#[test]
+fn values_of_one_weight_stay_in_order(rt: HostRuntime) {
+    assert!(rt; keeps_order_of_pairs(rt.alloc()));
+}
+
 const MODEL: &str = "A: 1, 2.50, ~-3\nB: red, ~Green, blue\n[A] < 2 OR [B] = \"red\";\n";
 
 // The values of a row, and why it isn't valid.

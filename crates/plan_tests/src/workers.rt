@@ -7,9 +7,8 @@ use cov_model::{Cells, Slice, TestModel};
 use outside_io::Gate;
 use scoring::score_all;
 use std::alloc::Global;
-use std::sync::atomic::{AtomicU32, AtomicU64, Ordering};
 use std::thread::Threads;
-use test_models::{Meeting, count_values, is_positive_row, model_of};
+use test_models::{Counting, Meeting, count_values, is_positive_row, model_of};
 use tuple_index::Plan;
 use uncovered_table::Uncovered;
 
@@ -132,42 +131,6 @@ fn two_workers_meet(rt: HostRuntime) {
     let gate = Meeting::new();
     assert!(rt; scores(&rt, rt.alloc(), 2, &gate) == Some([1, 2]));
     assert!(rt; gate.has_met());
-}
-
-// A gate that keeps which workers come.
-#[derive(Drop)]
-struct Counting {
-    // The bit of each number that came.
-    numbers: AtomicU64,
-    // How many came.
-    count: AtomicU32,
-}
-
-impl Counting {
-    fn new() -> Counting {
-        Counting {
-            numbers: AtomicU64::new(0),
-            count: AtomicU32::new(0),
-        }
-    }
-
-    // Whether the numbers from 1 to this came, each once.
-    fn has_each_once(&self, workers: u32) -> bool {
-        if workers == 0 || workers > 64 {
-            return false;
-        }
-        self.count.load(Ordering::SeqCst) == workers
-            && self.numbers.load(Ordering::SeqCst) == u64::MAX >> (64 - workers)
-    }
-}
-
-impl Gate for Counting {
-    fn come(&self, worker: u32) {
-        self.count.fetch_add(1, Ordering::SeqCst);
-        if worker > 0 && worker <= 64 {
-            self.numbers.fetch_or(1 << (worker - 1), Ordering::SeqCst);
-        }
-    }
 }
 
 // One worker scores both values, each of two scores one, and of more some score none.

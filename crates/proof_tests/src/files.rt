@@ -1,6 +1,7 @@
 //! Proof files that are written and read back, and lines that are none.
 
 use crate::proofs::proof_of;
+use crate::trees::BARRED;
 use cov_model::{TestModel, Tuple};
 use refutation::{
     Omission, Omissions, ProofFault, ProofForm, TreeBuf, TreeToken, format_len, omission_len,
@@ -22,6 +23,10 @@ const FILES: &[&str] = &[
     "pict-proof 1\nomit 0=1 1=1 : L1\nomit 0=2 1=1 : L2\nomit 0=10 : B1 B0 N L1 L2 N\n",
     "pict-proof 2\nomit 0=0 : O1\nomit 1=0 : O4294967295 O10 O2\n",
 ];
+
+// The whole proof of the model in which no value of C goes with the first value of A.
+const BARRED_PROOF: &str = "pict-proof 1\nomit 0=0 2=0 : L1\nomit 0=0 2=1 : L2\nomit 0=0 2=2 : L3\n\
+    omit 0=0 1=0 : B2 L1 L2 L3\nomit 0=0 1=1 : B2 L1 L2 L3\n";
 
 // Files that are none, each with the number of the first line that is none.
 const BROKEN: &[(&str, u32)] = &[
@@ -144,11 +149,16 @@ fn end_for(alloc: Global, model: &TestModel, text: &str) -> Option<u32> {
     }
 }
 
-fn end_of(alloc: Global, text: &str) -> Option<u32> {
-    match model_of(alloc, MODEL) {
+// The same for the model of a text.
+fn end_under(alloc: Global, model: &str, text: &str) -> Option<u32> {
+    match model_of(alloc, model) {
         Ok(model) => end_for(alloc, &model, text),
         Err(_) => None,
     }
+}
+
+fn end_of(alloc: Global, text: &str) -> Option<u32> {
+    end_under(alloc, MODEL, text)
 }
 
 #[test]
@@ -156,6 +166,7 @@ fn proofs_are_written_as_they_were_read(rt: HostRuntime) {
     for text in FILES {
         assert!(rt; end_of(rt.alloc(), text) == Some(0), "{text}");
     }
+    assert!(rt; end_under(rt.alloc(), BARRED, BARRED_PROOF) == Some(0));
 }
 
 const TOKENS: &[TreeToken] = &[

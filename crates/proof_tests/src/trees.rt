@@ -4,12 +4,12 @@ ghost use Rattle.refutation.specs.Checking.{AreOfModel};
 
 use crate::proofs::proof_of;
 use cov_model::{Cells, TestModel};
-use refutation::{Omissions, TreeChecker, tree_ok};
+use refutation::{Omissions, ProofForm, TreeChecker, tree_ok};
 use std::alloc::Global;
 use test_models::model_of;
 
-// No value of C goes with the first value of A.
-const BARRED: &str = "A: 1, 2\nB: x, y\nC: p, q, r\nIF [A] = 1 THEN [C] <> \"p\";\n\
+/// A model in which no value of C goes with the first value of A.
+pub const BARRED: &str = "A: 1, 2\nB: x, y\nC: p, q, r\nIF [A] = 1 THEN [C] <> \"p\";\n\
     IF [A] = 1 THEN [C] <> \"q\";\nIF [A] = 1 THEN [C] <> \"r\";\n";
 
 // With the first value of A, B and C have to be equal and not equal.
@@ -120,10 +120,27 @@ fn checker_says(alloc: Global, model: &TestModel, proof: &Omissions) -> Option<b
     ))
 }
 
-// What says whether a tree refutes a tuple: the plain check, or a checker.
+// Whether the tree of the only omission refutes its tuple after none; nothing where there isn't one, or memory was
+// refused.
+fn refutes_alone(alloc: Global, model: &TestModel, proof: &Omissions) -> Option<bool>
+    requires { All (λ omission. AreOfModel model.now omission.tuple) proof.now.omissions }
+{
+    let [only] = proof.as_slice() else {
+        return None;
+    };
+    let Ok(mut scratch) = Cells::empty(alloc, model.params().len()) else {
+        return None;
+    };
+    let none = Omissions::empty(alloc, ProofForm::One);
+    let tree = only.tree.as_slice();
+    Some(tree_ok(model, &only.tuple, tree, &none, 0, &mut scratch))
+}
+
+// What says whether a tree refutes a tuple: the plain check, the same after no omission at all, or a checker.
 #[derive(Clone, Copy)]
 enum Judge {
     Plain,
+    Alone,
     Checker,
 }
 
@@ -134,6 +151,7 @@ fn judged(alloc: Global, judge: Judge, model: &TestModel, proof: &Omissions) -> 
 {
     match judge {
         Judge::Plain => Some(last_refutes(alloc, model, proof)),
+        Judge::Alone => refutes_alone(alloc, model, proof),
         Judge::Checker => checker_says(alloc, model, proof),
     }
 }
@@ -166,8 +184,10 @@ fn refutes(alloc: Global, judge: Judge, model: &str, text: &str, line: &str) -> 
 #[test]
 fn trees_refute_their_tuples(rt: HostRuntime) {
     for (model, lines, expected) in TREES {
-        let refutes = refutes(rt.alloc(), Judge::Plain, model, "pict-proof 1\n", lines);
-        assert!(rt; refutes == Some(*expected), "{lines}");
+        for judge in [Judge::Plain, Judge::Alone] {
+            let refutes = refutes(rt.alloc(), judge, model, "pict-proof 1\n", lines);
+            assert!(rt; refutes == Some(*expected), "{lines}");
+        }
     }
 }
 

@@ -1,5 +1,6 @@
 //! Runs that make their model. The numbers are those of a script that draws made models by the generator's published
-//! step; the forbidden pairs of each are counted once.
+//! step; the forbidden pairs of each are counted once. No question costs more than 421 nodes: by first values each node
+//! of plain search has a child that goes on, and there are at most 420 values.
 
 use std::alloc::Global;
 use std::thread::Threads;
@@ -69,7 +70,7 @@ fn are_alike(first: &Ended, second: &Ended) -> bool {
 
 // Two runs of one of these are alike, and leave the made model in the model file.
 fn makes_twice<R: Threads + Sync>(rt: &R, alloc: Global, made: &Made) -> Result<bool, NoMemory> {
-    let words = ["m", made.word];
+    let words = ["m", made.word, "/budget:421"];
     let given = on_model(&words, OLD);
     let first = run(rt, alloc, &given)?;
     let second = run(rt, alloc, &given)?;
@@ -102,6 +103,51 @@ fn makes_the_model_of_3(rt: HostRuntime) {
 #[test]
 fn makes_the_model_of_7(rt: HostRuntime) {
     assert!(rt; makes(&rt, rt.alloc(), 3));
+}
+
+// The forbidden pairs of the made model of 7, in the order of growth, each with its constraint.
+const FORBIDDEN_OF_7: &[u8] = b"\
+    pict-proof 1\n\
+    omit 3=3 34=3 : L3\n\
+    omit 13=4 54=3 : L17\n\
+    omit 18=3 33=2 : L19\n\
+    omit 18=3 53=5 : L20\n\
+    omit 19=4 53=2 : L30\n\
+    omit 37=4 54=4 : L4\n\
+    omit 1=3 44=2 : L25\n\
+    omit 38=2 59=2 : L12\n\
+    omit 57=6 59=1 : L29\n\
+    omit 9=1 18=4 : L5\n\
+    omit 27=3 44=4 : L24\n\
+    omit 7=3 32=2 : L8\n\
+    omit 5=2 36=1 : L7\n\
+    omit 36=2 57=3 : L2\n\
+    omit 2=2 10=1 : L11\n\
+    omit 14=2 53=5 : L27\n\
+    omit 2=1 21=2 : L1\n\
+    omit 13=2 24=2 : L23\n\
+    omit 7=4 42=2 : L28\n\
+    omit 22=1 42=2 : L9\n\
+    omit 45=2 59=1 : L6\n\
+    omit 14=1 47=1 : L26\n\
+    omit 47=2 50=2 : L22\n\
+    omit 33=1 58=1 : L21\n\
+    omit 12=1 33=2 : L10\n\
+    omit 7=4 20=1 : L13\n\
+    omit 19=3 20=1 : L18\n\
+    omit 26=1 54=1 : L14\n\
+    omit 14=2 30=1 : L15\n\
+    omit 16=1 51=1 : L16\n";
+
+// Whether a run leaves them in the proof file.
+fn omits_forbidden<R: Threads + Sync>(rt: &R, alloc: Global) -> Result<bool, NoMemory> {
+    let ended = run(rt, alloc, &on_model(&["m", "/make:7", "/proof:p"], OLD))?;
+    Ok(ended.status == 0 && ended.holds("p", FORBIDDEN_OF_7))
+}
+
+#[test]
+fn exactly_the_forbidden_pairs_are_omitted(rt: HostRuntime) {
+    assert!(rt; omits_forbidden(&rt, rt.alloc()) == Ok(true));
 }
 
 // Whether runs where more workers may score are alike too.

@@ -124,7 +124,7 @@ fn lists_what_no_row_serves(rt: HostRuntime) {
     }
 }
 
-// Whether a run ends with status 0, and leaves these bytes under this name.
+// Whether a run ends with status 0, tells nothing, and leaves these bytes under this name.
 fn leaves<R: Threads + Sync>(
     rt: &R,
     alloc: Global,
@@ -133,7 +133,9 @@ fn leaves<R: Threads + Sync>(
     bytes: &[u8],
 ) -> bool {
     match run(rt, alloc, given) {
-        Ok(ended) => ended.status == 0 && ended.holds(name, bytes),
+        Ok(ended) => {
+            ended.status == 0 && ended.told.bytes().is_empty() && ended.holds(name, bytes)
+        }
         Err(NoMemory) => false,
     }
 }

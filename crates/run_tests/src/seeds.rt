@@ -203,6 +203,7 @@ fn counts_disk<R: Threads + Sync>(rt: &R, alloc: Global) -> bool {
         Ok(ended) => {
             ended.status == 0
                 && are_disk_statistics(ended.written.bytes())
+                && ended.told.bytes().is_empty()
                 && ended.holds("p", DISK_PROOF)
         }
         Err(NoMemory) => false,

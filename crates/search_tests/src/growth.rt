@@ -8,12 +8,11 @@ ghost use Rattle.tuple_index.specs.Plan.{plan_of};
 use crate::search::NONE_LIVE;
 use cov_model::{ParamNo, Prefs, Rows, TestModel, ValueNo};
 use ipog_grow::{GrowOpts, Suite, generate};
-use outside_io::OpenGate;
 use refutation::{Omissions, ProofForm, TreeToken};
 use row_text::{RowFile, RowMode, read_rows};
 use std::alloc::Global;
 use std::thread::Threads;
-use test_models::model_of;
+use test_models::{Counting, model_of};
 use tuple_index::Plan;
 
 // A tuple that is omitted, and its tree; no tokens where no proof is asked for.
@@ -186,7 +185,8 @@ fn seeds_of(alloc: Global, model: &TestModel, text: &str) -> Option<RowFile>
     }
 }
 
-// Whether the suite that two workers grow within a budget is this one.
+// Whether the suite that two workers may grow within a budget is this one, and the first of them comes alone: there
+// are few values to score.
 fn grows_from<R: Threads + Sync>(
     rt: &R,
     alloc: Global,
@@ -206,8 +206,9 @@ fn grows_from<R: Threads + Sync>(
         workers: 2,
         proof: grown.proof,
     };
-    match generate(rt, alloc, model, plan, prefs, seeds, &opts, &OpenGate) {
-        Ok(suite) => is_suite(&suite, grown),
+    let gate = Counting::new();
+    match generate(rt, alloc, model, plan, prefs, seeds, &opts, &gate) {
+        Ok(suite) => is_suite(&suite, grown) && gate.has_all(1),
         Err(_) => false,
     }
 }
@@ -252,4 +253,64 @@ fn grows_suites(rt: HostRuntime) {
     for (place, grown) in GROWN.iter().enumerate() {
         assert!(rt; is_grown(&rt, rt.alloc(), grown), "{place}");
     }
+}
+
+// Each eight of the first eighteen parameters are combined with the last one, whose column so has 43,758 sets in play:
+// more than one worker is to score where there are others.
+const WIDE: &str = "\
+    A: 1\nB: 1\nC: 1\nD: 1\nE: 1\nF: 1\nG: 1\nH: 1\nI: 1\n\
+    J: 1\nK: 1\nL: 1\nM: 1\nN: 1\nO: 1\nP: 1\nQ: 1\nR: 1\nZ: 1\n\
+    { A, B, C, D, E, F, G, H, I, J, K, L, M, N, O, P, Q, R } @ 8\n";
+
+// A row of the first eighteen.
+const WIDE_SEED: &str = "A\tB\tC\tD\tE\tF\tG\tH\tI\tJ\tK\tL\tM\tN\tO\tP\tQ\tR\n\
+    1\t1\t1\t1\t1\t1\t1\t1\t1\t1\t1\t1\t1\t1\t1\t1\t1\t1\n";
+
+// Whether both of two workers come where the suite of the wide model is grown.
+fn come_to<R: Threads + Sync>(
+    rt: &R,
+    alloc: Global,
+    model: &TestModel,
+    plan: &Plan,
+    prefs: &Prefs,
+) -> bool
+    requires plan { plan.now ≡ plan_of model.now }
+    requires orders { OrdersValues model.now prefs.now }
+{
+    let Some(seeds) = seeds_of(alloc, model, WIDE_SEED) else {
+        return false;
+    };
+    let opts = GrowOpts {
+        budget: 1000,
+        workers: 2,
+        proof: None,
+    };
+    let gate = Counting::new();
+    match generate(rt, alloc, model, plan, prefs, &seeds, &opts, &gate) {
+        Ok(suite) => suite.rows.len() == 1 && gate.has_all(2),
+        Err(_) => false,
+    }
+}
+
+// The same by its plan and the order of its values.
+fn both_come_to<R: Threads + Sync>(rt: &R, alloc: Global, model: &TestModel) -> bool {
+    let Ok(plan) = Plan::new(alloc, model) else {
+        return false;
+    };
+    match Prefs::new(alloc, model, None) {
+        Ok(prefs) => come_to(rt, alloc, model, &plan, &prefs),
+        Err(_) => false,
+    }
+}
+
+fn both_come<R: Threads + Sync>(rt: &R, alloc: Global) -> bool {
+    match model_of(alloc, WIDE) {
+        Ok(model) => both_come_to(rt, alloc, &model),
+        Err(_) => false,
+    }
+}
+
+#[test]
+fn two_workers_score_a_wide_column(rt: HostRuntime) {
+    assert!(rt; both_come(&rt, rt.alloc()));
 }

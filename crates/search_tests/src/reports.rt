@@ -114,8 +114,8 @@ const REPORTS: &[(&str, &[(ValueNo, ValueNo)], &str)] = &[
     ),
     (
         "OS: Win8 | Win10, Linux\nB: 1, 2, 3\n",
-        &[(0, 0), (0, 1), (0, 2), (1, 0)],
-        "OS\tB\nWin8\t1\nWin10\t2\nWin8\t3\nLinux\t1\n",
+        &[(0, 0), (0, 1), (0, 2), (1, 0), (1, 1), (1, 2)],
+        "OS\tB\nWin8\t1\nWin10\t2\nWin8\t3\nLinux\t1\nLinux\t2\nLinux\t3\n",
     ),
 ];
 

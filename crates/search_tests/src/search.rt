@@ -175,6 +175,33 @@ fn looks_one_value_ahead(rt: HostRuntime) {
     }
 }
 
+// With the first value of A, B and C have to be equal and not equal.
+const TWIN: &str = "A: 1, 2\nB: 1, 2\nC: 1, 2\nIF [A] = 1 THEN [B] = [C];\n\
+    IF [A] = 1 THEN [B] <> [C];\n";
+
+// The rows about which the growth of that model asks at order 1, each with its plain cost and the answer.
+const COSTS: &[(&[(ParamNo, ValueNo)], u64, Answer)] = &[
+    (&[(0, 0)], 3, Answer::No),
+    (&[(0, 1)], 3, Answer::Yes),
+    (&[(0, 1), (1, 0)], 2, Answer::Yes),
+    (&[(1, 1)], 4, Answer::Yes),
+    (&[(0, 1), (1, 0), (2, 0)], 1, Answer::Yes),
+    (&[(1, 1), (2, 1)], 3, Answer::Yes),
+];
+
+// Whether a question has this cost: it takes no less.
+fn costs(alloc: Global, pairs: &[(ParamNo, ValueNo)], cost: u64, answer: Answer) -> bool {
+    let extends = Question::Extends((cost.saturating_sub(1), Answer::Spent), (cost, answer));
+    says(alloc, TWIN, pairs, extends)
+}
+
+#[test]
+fn visits_as_many_nodes_as_plain_search(rt: HostRuntime) {
+    for (pairs, cost, answer) in COSTS {
+        assert!(rt; costs(rt.alloc(), pairs, *cost, *answer), "{pairs:?}");
+    }
+}
+
 // Whether a row gives this tuple, and it is told where the row costs too much.
 fn gives(alloc: Global, row: &Cells, pairs: &[(ParamNo, ValueNo)]) -> bool
     requires { length row.now ≡ 3 }

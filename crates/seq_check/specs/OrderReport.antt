@@ -53,7 +53,7 @@ never_of e (Some sequence) (Some cycle) = if is_sequence e sequence && is_cycle 
 never_of e (Some sequence) None = Wrong
 never_of e None cycle = Wrong
 
--- the parts of a line between blanks: `never`, the events of the sequence, `:`, the events of the cycle
+-- the parts of a line between spaces: `never`, the events of the sequence, `:`, the events of the cycle
 abbrev pub has_marks : ℕ → List (List ℕ) → Bool
 has_marks len parts = bytes_eq (slice_index_or parts 0 []) (codes "never") && bytes_eq (slice_index_or parts (len + 1) []) (codes ":")
 

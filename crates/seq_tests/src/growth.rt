@@ -3,7 +3,7 @@
 use crate::events::read;
 use cov_model::NoList;
 use seq_check::{Arrows, Events, OpenSequences, distinct_lists, places_of, with_event};
-use seq_cover::{OrderSuite, cover_orders};
+use seq_cover::{Never, OrderSuite, cover_orders};
 use std::alloc::Global;
 use value_text::NoMemory;
 
@@ -20,13 +20,26 @@ fn are(lists: &[NoList], wanted: &[&[u16]]) -> bool {
     true
 }
 
-// Whether a suite has these rows, and as many sequences that are set aside.
-fn has_rows(suite: &OrderSuite, rows: &[&[u16]], aside: usize) -> bool {
-    are(suite.rows.as_slice(), rows) && suite.never.len() == aside
+// Whether these sequences are set aside, each with its cycle.
+fn are_aside(never: &[Never], wanted: &[(&[u16], &[u16])]) -> bool {
+    if never.len() != wanted.len() {
+        return false;
+    }
+    for (aside, (sequence, cycle)) in never.iter().zip(wanted) {
+        if aside.sequence.as_slice() != *sequence || aside.cycle.as_slice() != *cycle {
+            return false;
+        }
+    }
+    true
+}
+
+// Whether a suite has these rows, and sets these sequences aside.
+fn has_rows(suite: &OrderSuite, rows: &[&[u16]], aside: &[(&[u16], &[u16])]) -> bool {
+    are(suite.rows.as_slice(), rows) && are_aside(suite.never.as_slice(), aside)
 }
 
 // Whether such a suite is grown for these events.
-fn is_grown(alloc: Global, events: &Events, rows: &[&[u16]], aside: usize) -> bool {
+fn is_grown(alloc: Global, events: &Events, rows: &[&[u16]], aside: &[(&[u16], &[u16])]) -> bool {
     match cover_orders(alloc, events) {
         Ok(suite) => has_rows(&suite, rows, aside),
         Err(NoMemory) => false,
@@ -34,24 +47,34 @@ fn is_grown(alloc: Global, events: &Events, rows: &[&[u16]], aside: usize) -> bo
 }
 
 // The same for a file of events and sequences of two of them.
-fn grows(alloc: Global, file: &str, rows: &[&[u16]], aside: usize) -> bool {
+fn grows(alloc: Global, file: &str, rows: &[&[u16]], aside: &[(&[u16], &[u16])]) -> bool {
     match read(alloc, file, 2) {
         Ok(events) => is_grown(alloc, &events, rows, aside),
         Err(_) => false,
     }
 }
 
-// Files of events, their rows, and the number of sequences that are set aside.
-const GROWN: &[(&str, &[&[u16]], usize)] = &[
-    ("a\nb\nc\na < b\n", &[&[0, 1, 2], &[2, 0, 1]], 1),
-    ("a\nb\na < a\n", &[], 2),
-    ("a\nb\n", &[&[0, 1], &[1, 0]], 0),
+// A file of events, its rows, and the sequences that are set aside, each with its cycle.
+type Grown<'a> = (&'a str, &'a [&'a [u16]], &'a [(&'a [u16], &'a [u16])]);
+
+const GROWN: &[Grown<'static>] = &[
+    (
+        "a\nb\nc\na < b\n",
+        &[&[0, 1, 2], &[2, 0, 1]],
+        &[(&[1, 0], &[0, 1, 0])],
+    ),
+    (
+        "a\nb\na < a\n",
+        &[],
+        &[(&[0, 1], &[0, 0]), (&[1, 0], &[0, 0])],
+    ),
+    ("a\nb\n", &[&[0, 1], &[1, 0]], &[]),
 ];
 
 #[test]
 fn grows_rows(rt: HostRuntime) {
     for (file, rows, aside) in GROWN {
-        assert!(rt; grows(rt.alloc(), file, rows, *aside), "{file}");
+        assert!(rt; grows(rt.alloc(), file, rows, aside), "{file}");
     }
 }
 

@@ -7,12 +7,12 @@ use std::alloc::Global;
 use type_check::read_model;
 
 /// Two types of disk, sizes, and what goes with them: 15 demanded sets, 331 demanded pairs.
-pub const DISK: &str = "Type: Primary, Logical, Single, Span, Stripe, Mirror, RAID-5\n\
-    Size: 10, 100, 500, 1000, 5000, 10000, 40000\n\
+pub const DISK: &str = "Type:          Primary, Logical, Single, Span, Stripe, Mirror, RAID-5\n\
+    Size:          10, 100, 500, 1000, 5000, 10000, 40000\n\
     Format method: quick, slow\n\
-    File system: FAT, FAT32, NTFS\n\
-    Cluster size: 512, 1024, 2048, 4096, 8192, 16384, 32768, 65536\n\
-    Compression: on, off\n\
+    File system:   FAT, FAT32, NTFS\n\
+    Cluster size:  512, 1024, 2048, 4096, 8192, 16384, 32768, 65536\n\
+    Compression:   on, off\n\
     \n\
     IF [File system] = \"FAT\" THEN [Size] <= 4096;\n\
     IF [File system] = \"FAT32\" THEN [Size] <= 32000;\n";

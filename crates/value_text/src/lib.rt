@@ -1,7 +1,7 @@
 //! Texts, exact decimal numbers and patterns: what the values of a test model are made of.
 //!
 //! - `Text` is an owned UTF-8 text, which contracts see as its bytes.
-//! - `OwnedList<T>` is the list type of every crate: contracts see the list of its items, and a
+//! - `OwnedList<T>` is the list type of most crates: contracts see the list of its items, and a
 //!   refused `push` or `append` changes nothing.
 //! - `same_text` and `order_text` compare two texts by their bytes, with the ASCII letters folded
 //!   to lower case or not.
