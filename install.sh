@@ -20,11 +20,15 @@ if [ $remove = yes ]; then
     exit 0
 fi
 mkdir -p "$bin" "$man" "$doc/docs" "$completions"
+log=$(mktemp)
+trap 'rm -f "$log"' EXIT
 for program in $programs; do
-    # rt run builds a program and runs it once: without words, so with status 3
-    (cd "$top/crates/$program" && rt run > /dev/null 2>&1) || true
-    if [ ! -x "$top/crates/$program/out/$program" ]; then
-        echo "install.sh: $program could not be built; (cd crates/$program && rt run) says why" >&2
+    echo "proving and building $program; from nothing this takes half an hour or more"
+    # rt run builds a program and runs it once: without words, which it refuses
+    (cd "$top/crates/$program" && rt run > "$log" 2>&1) || true
+    if ! grep -qx "error: word 1 is not understood" "$log"; then
+        tail -n 20 "$log" >&2
+        echo "install.sh: $program could not be built: (cd crates/$program && rt run) shows the whole" >&2
         exit 1
     fi
     install -m 755 "$top/crates/$program/out/$program" "$bin/$program"

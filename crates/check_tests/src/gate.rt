@@ -2,7 +2,7 @@
 
 use crate::checks::check;
 use std::test::Fail;
-use test_models::{Counting, Meeting};
+use test_models::{Counting, Meeting, WORKERS};
 
 const TEXTS: (&str, &str, &str) = ("A: 1, 2\nB: x, y\n", "A\tB\n1\tx\n2\ty\n", "pict-proof 1\n");
 
@@ -15,8 +15,6 @@ fn two_workers_meet(rt: HostRuntime) -> Result<(), Fail> {
     assert!(rt; gate.has_met());
     Ok(())
 }
-
-const WORKERS: &[u32] = &[1, 2, 7, 64];
 
 #[test]
 fn each_worker_comes_once(rt: HostRuntime) -> Result<(), Fail> {

@@ -4,7 +4,7 @@ use crate::checks::check;
 use crate::disk::{REPORT, ROWS};
 use outside_io::OpenGate;
 use std::test::Fail;
-use test_models::{DISK, OVERLAPPING};
+use test_models::{DISK, OVERLAPPING, WORKERS};
 
 // The second value of B doesn't go with the first of A.
 const PAIR: &str = "A: 1, 2\nB: x, y\nIF [A] = 1 THEN [B] = \"x\";\n";
@@ -163,8 +163,6 @@ const ANSWERS: &[Case<'static>] = &[
         answer: "proof 6",
     },
 ];
-
-const WORKERS: &[u32] = &[1, 2, 7, 64];
 
 #[test]
 fn answers_are_those_of_the_definition(rt: HostRuntime) -> Result<(), Fail> {

@@ -2,7 +2,7 @@
 
 use crate::files::RowValues;
 use crate::marks::{are_marked, marks_of};
-use test_models::{Counting, Meeting};
+use test_models::{Counting, Meeting, WORKERS};
 
 const PAIRS: &str = "A: 1, 2\nB: x, y\n";
 
@@ -20,10 +20,10 @@ fn two_workers_meet(rt: HostRuntime) {
 // Of more workers than rows some mark none.
 #[test]
 fn each_worker_comes_once(rt: HostRuntime) {
-    for workers in [1, 2, 7, 64] {
+    for workers in WORKERS {
         let gate = Counting::new();
-        let marks = marks_of(&rt, rt.alloc(), PAIRS, ROWS, workers, &gate);
+        let marks = marks_of(&rt, rt.alloc(), PAIRS, ROWS, *workers, &gate);
         assert!(rt; are_marked(marks, 4, &[0, 3]), "{workers}");
-        assert!(rt; gate.has_each_once(workers), "{workers}");
+        assert!(rt; gate.has_each_once(*workers), "{workers}");
     }
 }

@@ -5,6 +5,7 @@ use crate::marks::{are_marked, marks_of};
 use outside_io::OpenGate;
 use std::alloc::Global;
 use std::thread::Threads;
+use test_models::WORKERS;
 
 // A model, the rows of a file, how many tuples are demanded, and the places of those that are served. In the
 // first an invalid row and an incomplete one count for nothing. In the second every row has a negative value
@@ -28,8 +29,6 @@ const SERVED: &[(&str, &[RowValues<'static>], u32, &[u32])] = &[
         &[0, 3, 4, 6],
     ),
 ];
-
-const WORKERS: &[u32] = &[1, 2, 7, 64];
 
 #[test]
 fn workers_mark_what_is_served(rt: HostRuntime) {

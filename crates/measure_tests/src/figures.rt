@@ -4,11 +4,10 @@ use crate::suites::{Suite, measured};
 use outside_io::OpenGate;
 use row_text::Figures;
 use std::test::Fail;
+use test_models::WORKERS;
 
 /// Enough for each question of these models.
 const BUDGET: u64 = 1000;
-
-const WORKERS: &[u32] = &[1, 2, 7, 64];
 
 // In the first suite one row breaks the constraint and one has no value of B, and the tuple of 1 and y is out of
 // the denominator. In the second each row has a negative value of A and one row stands twice; no row serves a

@@ -2,7 +2,7 @@
 
 use crate::suites::{Suite, measured};
 use std::test::Fail;
-use test_models::{Counting, Meeting};
+use test_models::{Counting, Meeting, WORKERS};
 
 const SUITE: Suite<'static> = Suite {
     model: "A: 1, 2\nB: x, y\n",
@@ -21,8 +21,6 @@ fn two_workers_meet(rt: HostRuntime) -> Result<(), Fail> {
     assert!(rt; gate.has_met());
     Ok(())
 }
-
-const WORKERS: &[u32] = &[1, 2, 7, 64];
 
 #[test]
 fn each_worker_comes_once(rt: HostRuntime) -> Result<(), Fail> {

@@ -8,7 +8,7 @@ use outside_io::Gate;
 use scoring::score_all;
 use std::alloc::Global;
 use std::thread::Threads;
-use test_models::{Counting, Meeting, count_values, is_positive_row, model_of};
+use test_models::{Counting, Meeting, WORKERS, count_values, is_positive_row, model_of};
 use tuple_index::Plan;
 use uncovered_table::Uncovered;
 
@@ -134,8 +134,6 @@ fn two_workers_meet(rt: HostRuntime) {
 }
 
 // One worker scores both values, each of two scores one, and of more some score none.
-const WORKERS: &[u32] = &[1, 2, 7, 64];
-
 #[test]
 fn each_worker_comes_once(rt: HostRuntime) {
     for workers in WORKERS {

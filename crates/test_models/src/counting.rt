@@ -1,6 +1,9 @@
 use outside_io::Gate;
 use std::sync::atomic::{AtomicU32, AtomicU64, Ordering};
 
+/// The numbers of workers that tests try: one, two, a few, and the most.
+pub const WORKERS: &[u32] = &[1, 2, 7, 64];
+
 /// A gate that keeps which workers come.
 #[derive(Drop)]
 pub struct Counting {

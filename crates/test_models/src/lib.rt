@@ -7,7 +7,7 @@ mod meeting;
 mod rows;
 mod texts;
 
-pub use counting::Counting;
+pub use counting::{Counting, WORKERS};
 pub use meeting::Meeting;
 pub use rows::{count_values, is_positive_row, row_of};
 pub use texts::{DISK, OVERLAPPING, model_of, options, read};
