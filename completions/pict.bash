@@ -1,5 +1,11 @@
 # Completion of the four programs for bash: options by their letters, files behind a colon.
 
+# Names of files: a directory gets its slash, and a space in a name its backslash.
+_jeldroft_files() {
+    compopt -o filenames
+    mapfile -t COMPREPLY < <(compgen -f -- "$1")
+}
+
 _jeldroft_options() {
     local word=${COMP_WORDS[COMP_CWORD]} options=$1 files=$2
     # bash parts words at a colon; what stands before it is the word before
@@ -7,14 +13,14 @@ _jeldroft_options() {
         [[ $word == : ]] && word=
         local option=${COMP_WORDS[COMP_CWORD - 1]}
         [[ $option == : ]] && option=${COMP_WORDS[COMP_CWORD - 2]}
-        case " $files " in *" $option: "*) COMPREPLY=($(compgen -f -- "$word")) ;; esac
+        case " $files " in *" $option: "*) _jeldroft_files "$word" ;; esac
         return
     fi
     if [[ $word == /* && COMP_CWORD -gt 1 ]]; then
         COMPREPLY=($(compgen -W "$options" -- "$word"))
         [[ ${COMPREPLY[0]} == *: ]] && compopt -o nospace
     fi
-    [[ ${#COMPREPLY[@]} -eq 0 ]] && COMPREPLY=($(compgen -f -- "$word"))
+    [[ ${#COMPREPLY[@]} -eq 0 ]] && _jeldroft_files "$word"
 }
 
 _pict() {

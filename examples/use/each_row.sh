@@ -1,7 +1,9 @@
 #!/bin/sh
 # Runs a command once for each row of a table, with the cells as its words, and counts the rows on which it fails.
+# A table without rows is a failure too.
 # Usage: each_row.sh TABLE COMMAND [WORD..]        as in: pict build.txt > jobs.txt; each_row.sh jobs.txt ./run_job
 table=$1; shift
+[ -n "$(tail -n +2 "$table")" ] || { echo "no rows in $table" >&2; exit 1; }
 failed=0
 row=1
 while IFS= read -r line; do
