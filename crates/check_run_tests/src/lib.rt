@@ -2,6 +2,8 @@
 #![tactic(auto)]
 
 #[cfg(test)]
+mod every_question;
+#[cfg(test)]
 mod faults;
 #[cfg(test)]
 mod prefixes;

@@ -24,6 +24,10 @@ const FAULTS: &[(&[&str], &str)] = &[
         "error: word 4 is not understood\n",
     ),
     (
+        &["m", "r", "p", "/budget:max"],
+        "error: word 4 is not understood\n",
+    ),
+    (
         &["m", "r", "p", "/o:0"],
         "error: word 4 is not understood\n",
     ),

@@ -12,7 +12,7 @@ use Rattle.cov_model.specs.Names.{is_mark}
 use Rattle.model_lex.specs.Sections.{has_colon}
 use Rattle.definitions.specs.Settings.{OrderWord, OrderOf, OrderMax, Setting, Order, Separator, Alias, Prefix, SeedFile, ShuffleValues, ShuffleBy, AnyShuffle}
 use Rattle.definitions.specs.Settings.{CaseCounts, Statistics, Workers, Budget, ProofFile, ProofFormat, MeasureFile, Make, SuspectFile, Settings, set}
-use Rattle.definitions.specs.Settings.{setting_of, is_named, is_colon, valued_setting, bare_setting, mark_of, order_word_of, file_of}
+use Rattle.definitions.specs.Settings.{setting_of, is_named, is_colon, valued_setting, bare_setting, mark_of, order_word_of, effort_of, file_of}
 use Rattle.definitions.specs.Words.{has_equal_marks, is_mark_word, set_by, is_faulty, first_faulty}
 use Rattle.model_parse.specs.RawModels.{AreMarks, IsOrder}
 use Rattle.command_line.specs.Ranges.{AreFit, AreWorkers}
@@ -30,7 +30,7 @@ IsInRange (SeedFile name) = Unit {0}
 IsInRange (ShuffleValues _) = Unit {0}
 IsInRange CaseCounts = Unit {0}
 IsInRange Statistics = Unit {0}
-IsInRange (Budget n) = Unit {0}
+IsInRange (Budget effort) = Unit {0}
 IsInRange (ProofFile name) = Unit {0}
 IsInRange (ProofFormat n) = Unit {0}
 IsInRange (MeasureFile name) = Unit {0}
@@ -97,7 +97,7 @@ valued word value s h =
     (either P (is_named word (codes "/e")) _ _ s (read SeedFile (file_of value) s (λ x e. tt))
     (either P (is_named word (codes "/r")) _ _ s (read (λ n. ShuffleValues (ShuffleBy n)) (count_of value 0 (2 ^ 64 - 1)) s (λ x e. tt))
     (either P (is_named word (codes "/workers")) _ _ s (read Workers (count_of value 1 64) s (within value 1 64))
-    (either P (is_named word (codes "/budget")) _ _ s (read Budget (count_of value 1 (2 ^ 40)) s (λ x e. tt))
+    (either P (is_named word (codes "/budget")) _ _ s (read Budget (effort_of value) s (λ x e. tt))
     (either P (is_named word (codes "/proof")) _ _ s (read ProofFile (file_of value) s (λ x e. tt))
     (either P (is_named word (codes "/proofformat")) _ _ s (read ProofFormat (count_of value 1 2) s (λ x e. tt))
     (either P (is_named word (codes "/measure")) _ _ s (read MeasureFile (file_of value) s (λ x e. tt))
@@ -127,7 +127,7 @@ set_ranged s (SeedFile name) r h = record { order = r.order; separator = r.separ
 set_ranged s (ShuffleValues _) r h = record { order = r.order; separator = r.separator; alias = r.alias; prefix = r.prefix; workers = r.workers }
 set_ranged s CaseCounts r h = record { order = r.order; separator = r.separator; alias = r.alias; prefix = r.prefix; workers = r.workers }
 set_ranged s Statistics r h = record { order = r.order; separator = r.separator; alias = r.alias; prefix = r.prefix; workers = r.workers }
-set_ranged s (Budget n) r h = record { order = r.order; separator = r.separator; alias = r.alias; prefix = r.prefix; workers = r.workers }
+set_ranged s (Budget effort) r h = record { order = r.order; separator = r.separator; alias = r.alias; prefix = r.prefix; workers = r.workers }
 set_ranged s (ProofFile name) r h = record { order = r.order; separator = r.separator; alias = r.alias; prefix = r.prefix; workers = r.workers }
 set_ranged s (ProofFormat n) r h = record { order = r.order; separator = r.separator; alias = r.alias; prefix = r.prefix; workers = r.workers }
 set_ranged s (MeasureFile name) r h = record { order = r.order; separator = r.separator; alias = r.alias; prefix = r.prefix; workers = r.workers }
@@ -164,7 +164,7 @@ valued_apart word value s none h =
     (either P (is_named word (codes "/e")) _ _ s (of_kind SeedFile (file_of value) s (λ x. refl))
     (either P (is_named word (codes "/r")) _ _ s (of_kind (λ n. ShuffleValues (ShuffleBy n)) (count_of value 0 (2 ^ 64 - 1)) s (λ x. refl))
     (either P (is_named word (codes "/workers")) _ _ s (of_kind Workers (count_of value 1 64) s (λ x. refl))
-    (either P (is_named word (codes "/budget")) _ _ s (of_kind Budget (count_of value 1 (2 ^ 40)) s (λ x. refl))
+    (either P (is_named word (codes "/budget")) _ _ s (of_kind Budget (effort_of value) s (λ x. refl))
     (either P (is_named word (codes "/proof")) _ _ s (of_kind ProofFile (file_of value) s (λ x. refl))
     (either P (is_named word (codes "/proofformat")) _ _ s (of_kind ProofFormat (count_of value 1 2) s (λ x. refl))
     (either P (is_named word (codes "/measure")) _ _ s (of_kind MeasureFile (file_of value) s (λ x. refl))
@@ -193,7 +193,7 @@ same_marks s (SeedFile name) h apart = apart
 same_marks s (ShuffleValues _) h apart = apart
 same_marks s CaseCounts h apart = apart
 same_marks s Statistics h apart = apart
-same_marks s (Budget n) h apart = apart
+same_marks s (Budget effort) h apart = apart
 same_marks s (ProofFile name) h apart = apart
 same_marks s (ProofFormat n) h apart = apart
 same_marks s (MeasureFile name) h apart = apart

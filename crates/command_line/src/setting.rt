@@ -7,6 +7,7 @@ ghost use Rattle.value_text.specs.Numbers.{count_of};
 ghost use Rattle.refutation.specs.Proofs.{format_of};
 ghost use Rattle.command_line.specs.Settings.{setting_seen, order_seen};
 
+use definitions::Effort;
 use model_lex::OrderWord;
 use refutation::ProofForm;
 use value_text::{read_count, same_text};
@@ -52,8 +53,8 @@ pub enum Setting<'w> {
     Statistics,
     /// The number of workers.
     Workers(u32),
-    /// The most nodes that one question may visit.
-    Budget(u64),
+    /// What one question may cost.
+    Budget(Effort),
     /// The file that the proof is written to.
     ProofFile(&'w str),
     /// The form of the proof file.
@@ -113,6 +114,19 @@ fn order_word_of(value: &str) -> Option<OrderWord>
     }
 }
 
+// What one question may cost, as a value gives it.
+fn effort_of(value: &str) -> Option<Effort>
+    ensures { result ≡ defined.effort_of value.now }
+{
+    if same_text(value, "max", true) {
+        return Some(Effort::Full);
+    }
+    match read_count(value, 1, MOST_NODES) {
+        Some(nodes) => Some(Effort::Within(nodes)),
+        None => None,
+    }
+}
+
 // The form of a proof file that a value gives.
 fn form_of(value: &str) -> Option<ProofForm>
     ensures { option_map format_of result ≡ count_of value.now 1 2 }
@@ -158,7 +172,7 @@ fn valued_setting<'w>(word: &str, value: &'w str) -> Option<Setting<'w>>
     } else if is_named(word, "/workers") {
         Some(Setting::Workers(read_count(value, 1, MOST_WORKERS)? as u32))
     } else if is_named(word, "/budget") {
-        Some(Setting::Budget(read_count(value, 1, MOST_NODES)?))
+        Some(Setting::Budget(effort_of(value)?))
     } else if is_named(word, "/proof") {
         Some(Setting::ProofFile(file_of(value)?))
     } else if is_named(word, "/proofformat") {

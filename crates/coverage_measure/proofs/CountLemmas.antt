@@ -1,7 +1,7 @@
 -- Counts over items one after another: of a parameter's values, of its negative values, and of a set's members.
 use Rattle.std.proofs.Common.{◌≡◌, ℕ, ◌+◌, ◌*◌, ◌^◌, ◌<◌, ◌≤◌, Bool, true, false, cond, List, [], ◌∷◌, ◌++◌, map, length, get_or, take, drop, find, sum_by, min}
 use Rattle.std.proofs.Common.{Option, None, refl, ◌∙◌, sym, ap, subst, arith, length-append}
-use Rattle.std.specs.Prelude.{◌==◌, nat_lt, sum}
+use Rattle.std.specs.Prelude.{◌==◌, sum}
 use Rattle.std.specs.List.{filter, flat_map}
 use Rattle.std.proofs.Math.Nat.{mul-add, mul-le-mul_left}
 use Rattle.std.proofs.lemmas.Bool.{eq-eqb, or_left}
@@ -14,15 +14,16 @@ use Rattle.cov_model.specs.declared.slice.Slice.TheVariants.{Negative, Positive}
 use Rattle.cov_model.specs.Meaning.{value_at}
 use Rattle.cov_model.specs.Sound.{ModelView}
 use Rattle.cov_model.specs.Slices.{negative_values, slice_values, value_numbers}
+use Rattle.definitions.specs.declared.effort.Effort.{Effort}
 use Rattle.definitions.specs.Completion.{preferred_values, with_value}
 use Rattle.definitions.specs.Demand.{demanded_sets, is_among, tuples_in, tuples_of}
-use Rattle.definitions.specs.Search.{Outcome, constrained_params, question_cost}
+use Rattle.definitions.specs.Search.{Outcome, constrained_params, exceeds, question_cost}
 use Rattle.definitions.proofs.Members.{of_among}
 use Rattle.definitions.specs.SliceRows.{IsSliceOf}
 use Rattle.definitions.proofs.Totals.{count_flat}
 use Rattle.feasibility.specs.declared.answer.SearchFault.{SearchFault}
 use Rattle.feasibility.specs.Ends.{EndsBy}
-use Rattle.feasibility.specs.Solving.{SolverView}
+use Rattle.full_search.specs.Questions.{QuestionsView}
 use Rattle.feasibility.proofs.Alike.{visit_alike}
 use Rattle.feasibility.proofs.Nodes.{listed_at}
 use Rattle.tuple_index.specs.Kept.{IsKept}
@@ -33,17 +34,17 @@ use Rattle.tuple_index.proofs.OrderLemmas.{demanded_rise}
 use Rattle.tuple_index.proofs.TupleLemmas.{tuples_by_member}
 use Rattle.value_text.proofs.ListLemmas.{length-filter-le}
 use Rattle.coverage_measure.specs.Asking.{IsBefore, IsFor, is_above, is_found, tally, with_values}
-use Rattle.coverage_measure.specs.declared.asking.KeptSolver.{KeptSolver}
+use Rattle.coverage_measure.specs.declared.asking.KeptQuestions.{KeptQuestions}
 use Rattle.coverage_measure.proofs.EndLemmas.{ends_item, none_more}
 use Rattle.coverage_measure.proofs.QuestionLemmas.{part_few}
 use Rattle.coverage_measure.proofs.ValueLemmas.{before_more}
 use Rattle.coverage_measure.proofs.StandsLemmas.{IsSameOnAlike, StandFor, ends_tried, none_stands, stand_for}
 
--- the plain cost of a question is above the budget
-abbrev pub is_over : ModelView → List (List ℕ) → ℕ → List (Option ℕ) → Bool
-is_over m pref budget cells = nat_lt budget (question_cost m pref cells)
+-- the plain cost of a question is above what one may cost
+abbrev pub is_over : ModelView → List (List ℕ) → Effort → List (Option ℕ) → Bool
+is_over m pref effort cells = exceeds effort (question_cost m pref cells)
 
--- the rows of so many of the items are counted, each row that passes for so many, and none of them is above the budget
+-- the rows of so many of the items are counted, each row that passes for so many, and none of them costs more than it may
 pub record IsCounted {X : Type 0} (passes above : List (Option ℕ) → Bool) (rows : X → List (List (Option ℕ))) (items : List X) (each i count : ℕ) : Type 0 where
   pub counted : count ≡ each * sum_by (λ x. tally passes (rows x)) (take i items)
   pub none : find above (flat_map rows (take i items)) ≡ None
@@ -120,60 +121,60 @@ free_here m slice members place cells within before =
 found_alike : (m : ModelView) (pref : List (List ℕ)) (slice : Slice) → IsSameOnAlike m (is_found m pref slice)
 found_alike m pref slice a b alike = ap (λ (o : Outcome). o.found) (visit_alike m (preferred_values m pref slice) (constrained_params m) a b alike)
 
-above_alike : (m : ModelView) (pref : List (List ℕ)) (slice : Slice) (budget : ℕ) → IsSameOnAlike m (is_above m pref slice budget)
-above_alike m pref slice budget a b alike =
-    ap (λ (o : Outcome). nat_lt budget o.cost) (visit_alike m (preferred_values m pref slice) (constrained_params m) a b alike)
+above_alike : (m : ModelView) (pref : List (List ℕ)) (slice : Slice) (effort : Effort) → IsSameOnAlike m (is_above m pref slice effort)
+above_alike m pref slice effort a b alike =
+    ap (λ (o : Outcome). exceeds effort o.cost) (visit_alike m (preferred_values m pref slice) (constrained_params m) a b alike)
 
 -- the first of a member's values are tried, each for so many
-pub record AreTried (m : ModelView) (pref : List (List ℕ)) (slice : Slice) (budget : ℕ) (members : List ℕ) (place : ℕ) (cells : List (Option ℕ))
+pub record AreTried (m : ModelView) (pref : List (List ℕ)) (slice : Slice) (effort : Effort) (members : List ℕ) (place : ℕ) (cells : List (Option ℕ))
     (tried each : ℕ) : Type 0 where
   pub found : StandFor (is_found m pref slice) (rows_with m slice members place cells) (values_of m slice members place) tried each
-  pub above : StandFor (is_above m pref slice budget) (rows_with m slice members place cells) (values_of m slice members place) tried each
+  pub above : StandFor (is_above m pref slice effort) (rows_with m slice members place cells) (values_of m slice members place) tried each
 
-pub are_tried : (m : ModelView) (pref : List (List ℕ)) (slice : Slice) (budget : ℕ) (members : List ℕ) (place : ℕ) (cells : List (Option ℕ)) (named : Bool)
+pub are_tried : (m : ModelView) (pref : List (List ℕ)) (slice : Slice) (effort : Effort) (members : List ℕ) (place : ℕ) (cells : List (Option ℕ)) (named : Bool)
     (tried each : ℕ)
     → get_or members place 0 < length m.params → is_among (constrained_params m) (get_or members place 0) ≡ named
     → tried ≡ cond named (length (values_of m slice members place)) (min (length (values_of m slice members place)) 1)
-    → each ≡ cond named 1 (length (values_of m slice members place)) → AreTried m pref slice budget members place cells tried each
-are_tried m pref slice budget members place cells named tried each within is tried_is each_is = record {
+    → each ≡ cond named 1 (length (values_of m slice members place)) → AreTried m pref slice effort members place cells tried each
+are_tried m pref slice effort members place cells named tried each within is tried_is each_is = record {
   found = stand_for m (is_found m pref slice) (slice_values m slice) (get_or members place 0) (drop (place + 1) members) cells named tried each
       (found_alike m pref slice) within is tried_is each_is;
-  above = stand_for m (is_above m pref slice budget) (slice_values m slice) (get_or members place 0) (drop (place + 1) members) cells named tried each
-      (above_alike m pref slice budget) within is tried_is each_is;
+  above = stand_for m (is_above m pref slice effort) (slice_values m slice) (get_or members place 0) (drop (place + 1) members) cells named tried each
+      (above_alike m pref slice effort) within is tried_is each_is;
 }
 
--- as a solver that is kept has them
-pub member_tried : (m : ModelView) (pref : List (List ℕ)) (budget : ℕ) (one : KeptSolver) (members : List ℕ) (place : ℕ) (cells : List (Option ℕ))
+-- as they are kept with the questions
+pub member_tried : (m : ModelView) (pref : List (List ℕ)) (effort : Effort) (one : KeptQuestions) (members : List ℕ) (place : ℕ) (cells : List (Option ℕ))
     (tried each : ℕ)
-    → IsFor m pref one → get_or members place 0 < length m.params
-    → tried ≡ cond (is_among (constrained_params one.solver.model) (get_or members place 0)) (length (get_or one.values (get_or members place 0) []))
+    → IsFor m pref effort one → get_or members place 0 < length m.params
+    → tried ≡ cond (is_among (constrained_params one.questions.model) (get_or members place 0)) (length (get_or one.values (get_or members place 0) []))
     (min (length (get_or one.values (get_or members place 0) [])) 1)
-    → each ≡ cond (is_among (constrained_params one.solver.model) (get_or members place 0)) 1 (length (get_or one.values (get_or members place 0) []))
-    → AreTried m pref one.slice budget members place cells tried each
-member_tried m pref budget one members place cells tried each is within tried_is each_is =
+    → each ≡ cond (is_among (constrained_params one.questions.model) (get_or members place 0)) 1 (length (get_or one.values (get_or members place 0) []))
+    → AreTried m pref one.slice effort members place cells tried each
+member_tried m pref effort one members place cells tried each is within tried_is each_is =
     let p = get_or members place 0 in
-    let named : is_among (constrained_params one.solver.model) p ≡ is_among (constrained_params m) p =
-    ap (λ (s : SolverView). is_among (constrained_params s.model) p) is.solver in
+    let named : is_among (constrained_params one.questions.model) p ≡ is_among (constrained_params m) p =
+    ap (λ (s : QuestionsView). is_among (constrained_params s.model) p) is.questions in
     let count : length (get_or one.values p []) ≡ length (values_of m one.slice members place) = ap (λ lists. length (get_or lists p [])) is.values in
-    are_tried m pref one.slice budget members place cells (is_among (constrained_params m) p) tried each within refl
+    are_tried m pref one.slice effort members place cells (is_among (constrained_params m) p) tried each within refl
     (tried_is ∙ ap (λ b. cond b (length (get_or one.values p [])) (min (length (get_or one.values p [])) 1)) named
     ∙ ap (λ n. cond (is_among (constrained_params m) p) n (min n 1)) count)
     (each_is ∙ ap (λ b. cond b 1 (length (get_or one.values p []))) named ∙ ap (λ n. cond (is_among (constrained_params m) p) 1 n) count)
 
 -- and these are for no more than all the rows
-pub tried_few : (m : ModelView) (pref : List (List ℕ)) (slice : Slice) (budget : ℕ) (members : List ℕ) (place : ℕ) (cells : List (Option ℕ)) (tried each : ℕ)
-    → place < length members → AreTried m pref slice budget members place cells tried each
+pub tried_few : (m : ModelView) (pref : List (List ℕ)) (slice : Slice) (effort : Effort) (members : List ℕ) (place : ℕ) (cells : List (Option ℕ)) (tried each : ℕ)
+    → place < length members → AreTried m pref slice effort members place cells tried each
     → each * sum_by (λ v. tally (is_found m pref slice) (rows_with m slice members place cells v)) (take tried (values_of m slice members place))
     ≤ length (with_values (slice_values m slice) (drop place members) cells)
-tried_few m pref slice budget members place cells tried each within are =
+tried_few m pref slice effort members place cells tried each within are =
     let rows = rows_with m slice members place cells in
     let values = values_of m slice members place in
     omega (arith, are.found.whole, length-filter-le (is_found m pref slice) (flat_map rows values), ap length (rows_split m slice members place cells within))
 
 -- those that are tried before a number of them are counted
-abbrev pub IsCountedTo : ModelView → List (List ℕ) → Slice → ℕ → List ℕ → ℕ → List (Option ℕ) → ℕ → ℕ → ℕ → ℕ → Type 0
-IsCountedTo m pref slice budget members place cells tried each i count =
-    IsCounted (is_found m pref slice) (is_above m pref slice budget) (rows_with m slice members place cells)
+abbrev pub IsCountedTo : ModelView → List (List ℕ) → Slice → Effort → List ℕ → ℕ → List (Option ℕ) → ℕ → ℕ → ℕ → ℕ → Type 0
+IsCountedTo m pref slice effort members place cells tried each i count =
+    IsCounted (is_found m pref slice) (is_above m pref slice effort) (rows_with m slice members place cells)
     (take tried (values_of m slice members place)) each i count
 
 -- one that is tried is a value of the member
@@ -211,29 +212,29 @@ next_few m slice members place tried i v cells within at =
       ap length (rows_split m slice members place cells within),
     )
 
--- a step of the loop over those that are tried: the solver, the cells and the values are the first ones, and the cells get the value
-pub record IsStep (m : ModelView) (pref : List (List ℕ)) (slice : Slice) (budget : ℕ) (members : List ℕ) (place : ℕ) (cells row : List (Option ℕ))
+-- a step of the loop over those that are tried: the questions, the cells and the values are the first ones, and the cells get the value
+pub record IsStep (m : ModelView) (pref : List (List ℕ)) (slice : Slice) (effort : Effort) (members : List ℕ) (place : ℕ) (cells row : List (Option ℕ))
     (tried each i v : ℕ) : Type 0 where
   pub within : place < length members
-  pub are : AreTried m pref slice budget members place cells tried each
+  pub are : AreTried m pref slice effort members place cells tried each
   pub at : IsTriedAt m slice members place tried i v
   pub given : row ≡ with_value cells (get_or members place 0) v
 
-pub is_step : (m : ModelView) (pref : List (List ℕ)) (budget : ℕ) (one now : KeptSolver) (members : List ℕ) (place : ℕ) (cells here row : List (Option ℕ))
+pub is_step : (m : ModelView) (pref : List (List ℕ)) (effort : Effort) (one now : KeptQuestions) (members : List ℕ) (place : ℕ) (cells here row : List (Option ℕ))
     (values : List ℕ)
-    (tried each i : ℕ) → IsFor m pref one → IsBefore m one.slice (drop place members) cells → place < length members
-    → tried ≡ cond (is_among (constrained_params one.solver.model) (get_or members place 0)) (length (get_or one.values (get_or members place 0) []))
+    (tried each i : ℕ) → IsFor m pref effort one → IsBefore m one.slice (drop place members) cells → place < length members
+    → tried ≡ cond (is_among (constrained_params one.questions.model) (get_or members place 0)) (length (get_or one.values (get_or members place 0) []))
     (min (length (get_or one.values (get_or members place 0) [])) 1)
-    → each ≡ cond (is_among (constrained_params one.solver.model) (get_or members place 0)) 1 (length (get_or one.values (get_or members place 0) []))
+    → each ≡ cond (is_among (constrained_params one.questions.model) (get_or members place 0)) 1 (length (get_or one.values (get_or members place 0) []))
     → i < tried → now ≡ one → here ≡ cells → values ≡ get_or now.values (get_or members place 0) []
     → row ≡ with_value here (get_or members place 0) (get_or values i 0)
-    → IsStep m pref one.slice budget members place cells row tried each i (get_or values i 0)
-is_step m pref budget one now members place cells here row values tried each i is before within tried_is each_is below same_one same_cells values_are row_is =
+    → IsStep m pref one.slice effort members place cells row tried each i (get_or values i 0)
+is_step m pref effort one now members place cells here row values tried each i is before within tried_is each_is below same_one same_cells values_are row_is =
     let p = get_or members place 0 in
-    let are = member_tried m pref budget one members place cells tried each is (before_here m one.slice members place cells within before).rising.1 tried_is
+    let are = member_tried m pref effort one members place cells tried each is (before_here m one.slice members place cells within before).rising.1 tried_is
     each_is in
     let all : values ≡ values_of m one.slice members place =
-    values_are ∙ ap (λ (solver : KeptSolver). get_or solver.values p []) same_one ∙ ap (λ lists. get_or lists p []) is.values in
+    values_are ∙ ap (λ (kept : KeptQuestions). get_or kept.values p []) same_one ∙ ap (λ lists. get_or lists p []) is.values in
     record {
       within = within;
       are = are;
@@ -242,60 +243,60 @@ is_step m pref budget one now members place cells here row values tried each i i
     }
 
 -- what is asked then
-pub step_asks : {A : Type 0} (told : Slice → List (List (Option ℕ)) → A) (m : ModelView) (one now : KeptSolver) (members : List ℕ) (place : ℕ)
+pub step_asks : {A : Type 0} (told : Slice → List (List (Option ℕ)) → A) (m : ModelView) (one now : KeptQuestions) (members : List ℕ) (place : ℕ)
     (cells row : List (Option ℕ)) (v : ℕ)
     → now ≡ one → row ≡ with_value cells (get_or members place 0) v
     → told now.slice (with_values (slice_values m now.slice) (drop (place + 1) members) row) ≡ told one.slice (rows_with m one.slice members place cells v)
 step_asks told m one now members place cells row v same row_is =
-    ap (λ (solver : KeptSolver). told solver.slice (with_values (slice_values m solver.slice) (drop (place + 1) members) row)) same
+    ap (λ (kept : KeptQuestions). told kept.slice (with_values (slice_values m kept.slice) (drop (place + 1) members) row)) same
     ∙ ap (λ start. told one.slice (with_values (slice_values m one.slice) (drop (place + 1) members) start)) row_is
 
 -- the count with it is no more than all the rows
-pub step_few : (m : ModelView) (pref : List (List ℕ)) (slice : Slice) (budget : ℕ) (members : List ℕ) (place : ℕ) (cells row : List (Option ℕ))
+pub step_few : (m : ModelView) (pref : List (List ℕ)) (slice : Slice) (effort : Effort) (members : List ℕ) (place : ℕ) (cells row : List (Option ℕ))
     (tried each i v count inner : ℕ)
-    → IsStep m pref slice budget members place cells row tried each i v → IsCountedTo m pref slice budget members place cells tried each i count
+    → IsStep m pref slice effort members place cells row tried each i v → IsCountedTo m pref slice effort members place cells tried each i count
     → inner ≡ tally (is_found m pref slice) (rows_with m slice members place cells v)
     → count + each * inner ≤ length (with_values (slice_values m slice) (drop place members) cells)
-step_few m pref slice budget members place cells row tried each i v count inner step so_far inner_is =
-    counted_within (is_found m pref slice) (is_above m pref slice budget) (rows_with m slice members place cells)
+step_few m pref slice effort members place cells row tried each i v count inner step so_far inner_is =
+    counted_within (is_found m pref slice) (is_above m pref slice effort) (rows_with m slice members place cells)
     (take tried (values_of m slice members place)) each i count inner
     (length (with_values (slice_values m slice) (drop place members) cells)) v step.at.within step.at.is so_far inner_is
-    (tried_few m pref slice budget members place cells tried each step.within step.are)
+    (tried_few m pref slice effort members place cells tried each step.within step.are)
 
 -- all that are tried
-pub record AreCounted (m : ModelView) (pref : List (List ℕ)) (slice : Slice) (budget : ℕ) (params : List ℕ) (cells : List (Option ℕ)) (count : ℕ) : Type 0 where
+pub record AreCounted (m : ModelView) (pref : List (List ℕ)) (slice : Slice) (effort : Effort) (params : List ℕ) (cells : List (Option ℕ)) (count : ℕ) : Type 0 where
   pub counted : count ≡ tally (is_found m pref slice) (with_values (slice_values m slice) params cells)
-  pub none : find (is_above m pref slice budget) (with_values (slice_values m slice) params cells) ≡ None
+  pub none : find (is_above m pref slice effort) (with_values (slice_values m slice) params cells) ≡ None
 
-pub tried_all : (m : ModelView) (pref : List (List ℕ)) (slice : Slice) (budget : ℕ) (members : List ℕ) (place : ℕ) (cells : List (Option ℕ))
+pub tried_all : (m : ModelView) (pref : List (List ℕ)) (slice : Slice) (effort : Effort) (members : List ℕ) (place : ℕ) (cells : List (Option ℕ))
     (tried each i count : ℕ)
-    → place < length members → tried ≤ i → AreTried m pref slice budget members place cells tried each
-    → IsCountedTo m pref slice budget members place cells tried each i count → AreCounted m pref slice budget (drop place members) cells count
-tried_all m pref slice budget members place cells tried each i count within past are so_far =
+    → place < length members → tried ≤ i → AreTried m pref slice effort members place cells tried each
+    → IsCountedTo m pref slice effort members place cells tried each i count → AreCounted m pref slice effort (drop place members) cells count
+tried_all m pref slice effort members place cells tried each i count within past are so_far =
     let rows = rows_with m slice members place cells in
     let values = values_of m slice members place in
     let split = rows_split m slice members place cells within in
-    let all = counted_all (is_found m pref slice) (is_above m pref slice budget) rows (take tried values) each i count
+    let all = counted_all (is_found m pref slice) (is_above m pref slice effort) rows (take tried values) each i count
     (omega (arith, past, length-take-le tried values are.found.some)) so_far in
     record {
       counted = all.0 ∙ are.found.whole ∙ ap (tally (is_found m pref slice)) (sym split);
-      none = ap (find (is_above m pref slice budget)) split ∙ none_stands (is_above m pref slice budget) rows values tried each are.above all.1;
+      none = ap (find (is_above m pref slice effort)) split ∙ none_stands (is_above m pref slice effort) rows values tried each are.above all.1;
     }
 
--- or the first above the budget is among those that a value that is tried leads to
-pub tried_ends : (m : ModelView) (pref : List (List ℕ)) (slice : Slice) (budget : ℕ) (members : List ℕ) (place : ℕ) (cells : List (Option ℕ))
+-- or the first that costs more than it may is among those that a value that is tried leads to
+pub tried_ends : (m : ModelView) (pref : List (List ℕ)) (slice : Slice) (effort : Effort) (members : List ℕ) (place : ℕ) (cells : List (Option ℕ))
     (tried each i count v : ℕ)
     (fault : SearchFault) → place < length members → IsTriedAt m slice members place tried i v
-    → IsCountedTo m pref slice budget members place cells tried each i count
-    → EndsBy (find (is_above m pref slice budget) (rows_with m slice members place cells v)) fault
-    → EndsBy (find (is_above m pref slice budget) (with_values (slice_values m slice) (drop place members) cells)) fault
-tried_ends m pref slice budget members place cells tried each i count v fault within at so_far ends =
+    → IsCountedTo m pref slice effort members place cells tried each i count
+    → EndsBy (find (is_above m pref slice effort) (rows_with m slice members place cells v)) fault
+    → EndsBy (find (is_above m pref slice effort) (with_values (slice_values m slice) (drop place members) cells)) fault
+tried_ends m pref slice effort members place cells tried each i count v fault within at so_far ends =
     let rows = rows_with m slice members place cells in
     let values = values_of m slice members place in
-    subst (λ all. EndsBy (find (is_above m pref slice budget) all) fault) (sym (rows_split m slice members place cells within))
-    (ends_tried (is_above m pref slice budget) rows values tried fault
-    (ends_item (is_above m pref slice budget) rows (take tried values) i v fault at.within so_far.none
-    (subst (λ w. EndsBy (find (is_above m pref slice budget) (rows w)) fault) at.is ends)))
+    subst (λ all. EndsBy (find (is_above m pref slice effort) all) fault) (sym (rows_split m slice members place cells within))
+    (ends_tried (is_above m pref slice effort) rows values tried fault
+    (ends_item (is_above m pref slice effort) rows (take tried values) i v fault at.within so_far.none
+    (subst (λ w. EndsBy (find (is_above m pref slice effort) (rows w)) fault) at.is ends)))
 
 -- the tuples of a set with a value of a member, if it is a negative one
 abbrev pub tuples_with : ModelView → List ℕ → ℕ → ℕ → List (List (Option ℕ))

@@ -12,7 +12,7 @@ use Rattle.feasibility.specs.declared.answer.SearchFault.{SearchFault}
 use Rattle.feasibility.specs.declared.answer.SearchFault.TheVariants.{Spent, NoMemory}
 use Rattle.feasibility.specs.Ends.{EndsBy}
 
--- a run whose questions stand behind others of which none is above the budget, and before more
+-- a run whose questions stand behind others of which none costs more than it may, and before more
 pub ends_whole : (test : List (Option ℕ) → Bool) (before here after : List (List (Option ℕ))) (fault : SearchFault) → find test before ≡ None
     → EndsBy (find test here) fault → EndsBy (find test (before ++ (here ++ after))) fault
 ends_whole test before here after NoMemory none ends = tt
@@ -37,7 +37,7 @@ ends_item test questions items i d fault within none ends =
         ap (flat_map questions) (sym (take-append-drop i items) ∙ ap (λ rest. take i items ++ rest) (drop_more items i d within))
         ∙ flat_map-append questions (take i items) (get_or items i d ∷ drop (i + 1) items)
 
--- of one more item none is above the budget
+-- of one more item none costs more than it may
 pub none_more : {X : Type 0} (test : List (Option ℕ) → Bool) (questions : X → List (List (Option ℕ))) (items : List X) (i : ℕ) (d : X)
     → i < length items → find test (flat_map questions (take i items)) ≡ None → find test (questions (get_or items i d)) ≡ None
     → find test (flat_map questions (take (i + 1) items)) ≡ None

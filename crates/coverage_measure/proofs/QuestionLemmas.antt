@@ -2,17 +2,17 @@
 use Rattle.std.proofs.Common.{◌≡◌, ℕ, ◌<◌, ◌≤◌, Bool, true, cond, List, [], ◌∷◌, length, get_or, find, Option, Some, inl, inr, refl, ◌∙◌, sym, ap}
 use Rattle.std.proofs.Common.{arith, length-append}
 use Rattle.std.specs.List.{filter, flat_map}
-use Rattle.std.specs.Prelude.{nat_lt}
 use Rattle.cov_model.specs.declared.slice.Slice.{Slice}
 use Rattle.cov_model.specs.Preference.{OrdersValues}
 use Rattle.cov_model.specs.Sound.{ModelView, IsSound}
 use Rattle.cov_model.specs.Rows.{is_assigned, value_in}
 use Rattle.cov_model.specs.Slices.{slice_of, slice_values, slices}
 use Rattle.cov_model.proofs.CellLemmas.{assigned_within, length-slice_values}
+use Rattle.definitions.specs.declared.effort.Effort.{Effort}
 use Rattle.definitions.specs.Completion.{is_extendable}
 use Rattle.definitions.specs.Demand.{tuples_in, tuples_of}
 use Rattle.definitions.specs.Figures.{all_rows, is_served}
-use Rattle.definitions.specs.Search.{first_over, plain_cost}
+use Rattle.definitions.specs.Search.{exceeds, first_over, plain_cost}
 use Rattle.definitions.specs.SliceRows.{IsOfSlice, IsSliceOf}
 use Rattle.definitions.proofs.InPlay.{IsTupleOf, tuple_is}
 use Rattle.definitions.proofs.Members.{Has, among_has}
@@ -68,18 +68,18 @@ find_agree f g (row ∷ rows) same =
     ap (λ b. cond b (Some row) (find f rows)) (same row (inl refl)) ∙ ap (λ found. cond (g row) (Some row) found)
     (find_agree f g rows (λ r has. same r (inr has)))
 
--- so many of them are served, and this is the first above the budget
+-- so many of them are served, and this is the first that costs more than it may
 pub found_are_served : (m : ModelView) (pref : List (List ℕ)) (set : List ℕ) (slice : Slice) → IsSound m → OrdersValues m pref → IsSliceOf m slice
     → tally (is_found m pref slice) (tuples_in m set slice) ≡ tally (is_served m (all_rows m)) (tuples_in m set slice)
 found_are_served m pref set slice sound orders is =
     ap (λ rows. length rows) (filter_agree (is_found m pref slice) (is_served m (all_rows m)) (tuples_in m set slice)
     (λ tuple has. (is_question m pref set slice tuple sound orders is has).served))
 
-pub above_are_over : (m : ModelView) (pref : List (List ℕ)) (set : List ℕ) (slice : Slice) (budget : ℕ) → IsSound m → OrdersValues m pref → IsSliceOf m slice
-    → find (is_above m pref slice budget) (tuples_in m set slice) ≡ first_over m pref budget (tuples_in m set slice)
-above_are_over m pref set slice budget sound orders is =
-    find_agree (is_above m pref slice budget) (λ tuple. nat_lt budget (plain_cost m pref (slice_of m tuple) tuple)) (tuples_in m set slice)
-    (λ tuple has. ap (λ s. nat_lt budget (plain_cost m pref s tuple)) (sym (is_question m pref set slice tuple sound orders is has).own))
+pub above_are_over : (m : ModelView) (pref : List (List ℕ)) (set : List ℕ) (slice : Slice) (effort : Effort) → IsSound m → OrdersValues m pref → IsSliceOf m slice
+    → find (is_above m pref slice effort) (tuples_in m set slice) ≡ first_over m pref effort (tuples_in m set slice)
+above_are_over m pref set slice effort sound orders is =
+    find_agree (is_above m pref slice effort) (λ tuple. exceeds effort (plain_cost m pref (slice_of m tuple) tuple)) (tuples_in m set slice)
+    (λ tuple has. ap (λ s. exceeds effort (plain_cost m pref s tuple)) (sym (is_question m pref set slice tuple sound orders is has).own))
 
 -- an item has no more than all have
 pub part_few : {X Y : Type 0} (f : X → List Y) (xs : List X) (x : X) → Has xs x → length (f x) ≤ length (flat_map f xs)

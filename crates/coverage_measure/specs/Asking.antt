@@ -1,30 +1,31 @@
--- What is asked of the demanded tuples: solvers that are kept, each for a slice, and the partial rows that are asked.
+-- What is asked of the demanded tuples: questions that are kept, about a slice each, and the partial rows that are asked.
 -- (This project's rule.)
-use Rattle.std.specs.Prelude.{◌≡◌, ℕ, Bool, true, List, [], ◌∷◌, length, Option, None, nat_lt, slice_index_or}
+use Rattle.std.specs.Prelude.{◌≡◌, ℕ, Bool, true, List, [], ◌∷◌, length, Option, None, slice_index_or}
 use Rattle.std.specs.List.{filter, flat_map}
 use Rattle.cov_model.specs.declared.slice.Slice.{Slice}
 use Rattle.cov_model.specs.Slices.{slice_values}
 use Rattle.cov_model.specs.Sound.{ModelView}
+use Rattle.definitions.specs.declared.effort.Effort.{Effort}
 use Rattle.definitions.specs.Completion.{with_value}
 use Rattle.definitions.specs.Demand.{is_among}
-use Rattle.definitions.specs.Search.{plain_cost, plain_search}
+use Rattle.definitions.specs.Search.{exceeds, plain_cost, plain_search}
 use Rattle.definitions.specs.SliceRows.{IsOfSlice, IsSliceOf}
 use Rattle.tuple_index.specs.Places.{RisesFrom}
-use Rattle.coverage_measure.specs.declared.asking.KeptSolver.{KeptSolver}
+use Rattle.coverage_measure.specs.declared.asking.KeptQuestions.{KeptQuestions}
 
--- a solver is for its slice of the model, with these preferences and the values of the slice
-pub record IsFor (m : ModelView) (pref : List (List ℕ)) (one : KeptSolver) : Type 0 where
+-- they are about their slice of the model, with these preferences, what a question may cost, and the values of the slice
+pub record IsFor (m : ModelView) (pref : List (List ℕ)) (effort : Effort) (one : KeptQuestions) : Type 0 where
   pub slice : IsSliceOf m one.slice
-  pub solver : one.solver ≡ record { model = m; prefs = pref; slice = one.slice }
+  pub questions : one.questions ≡ record { model = m; prefs = pref; slice = one.slice; effort = effort }
   pub values : one.values ≡ slice_values m one.slice
 
 -- a search from the partial row succeeds
 abbrev pub is_found : ModelView → List (List ℕ) → Slice → List (Option ℕ) → Bool
 is_found m pref slice cells = (plain_search m pref slice cells).found
 
--- its plain cost is above the budget
-abbrev pub is_above : ModelView → List (List ℕ) → Slice → ℕ → List (Option ℕ) → Bool
-is_above m pref slice budget cells = nat_lt budget (plain_cost m pref slice cells)
+-- its plain cost is above what a question may cost
+abbrev pub is_above : ModelView → List (List ℕ) → Slice → Effort → List (Option ℕ) → Bool
+is_above m pref slice effort cells = exceeds effort (plain_cost m pref slice cells)
 
 -- how many of the partial rows pass a test
 abbrev pub tally : (List (Option ℕ) → Bool) → List (List (Option ℕ)) → ℕ

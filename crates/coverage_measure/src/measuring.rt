@@ -16,6 +16,7 @@ use crate::servable::count_servable;
 use crate::set_figures::SetFigures;
 use crate::suite_rows::count_rows;
 use cov_model::{Prefs, TestModel};
+use definitions::Effort;
 use feasibility::SearchFault;
 use outside_io::Gate;
 use row_text::{Figures, RowFile};
@@ -32,7 +33,7 @@ fn measure_sets(asking: &Asking<'_>, plan: &Plan, marks: &Bits) -> Result<SetFig
     ensures figures { (rows : List (List (Option ℕ)))
         → marks.now ≡ map (defined.is_served asking.now.model.now (defined.tests_of asking.now.model.now rows)) (demanded_tuples asking.now.model.now)
         → IfOk result (λ figures. figures ≡ set_figures asking.now.model.now rows (demanded_sets asking.now.model.now)) }
-    ensures ends { Ends result (first_over asking.now.model.now asking.now.prefs.now asking.now.budget (demanded_tuples asking.now.model.now)) }
+    ensures ends { Ends result (first_over asking.now.model.now asking.now.prefs.now asking.now.effort (demanded_tuples asking.now.model.now)) }
 {
     plan.assert_invariant();
     let mut kept = Vec::new(asking.alloc);
@@ -52,8 +53,8 @@ fn measure_sets(asking: &Asking<'_>, plan: &Plan, marks: &Bits) -> Result<SetFig
 ///
 /// # Errors
 ///
-/// `Spent` with the first demanded tuple whose plain cost exceeds the budget; where there is one, no figures
-/// come. `NoMemory` where memory is refused.
+/// `Spent` with the first demanded tuple whose plain cost is above what a question may cost; where there is
+/// one, no figures come. `NoMemory` where memory is refused.
 pub fn measure<R: Threads + Sync, G: Gate + Sync>(
     rt: &R,
     alloc: Global,
@@ -61,7 +62,7 @@ pub fn measure<R: Threads + Sync, G: Gate + Sync>(
     plan: &Plan,
     suite: &RowFile,
     workers: u32,
-    budget: u64,
+    effort: Effort,
     gate: &G,
 ) -> Result<Figures, SearchFault>
     requires plan { plan.now ≡ plan_of model.now }
@@ -70,7 +71,7 @@ pub fn measure<R: Threads + Sync, G: Gate + Sync>(
     requires least { 1 ≤ workers }
     requires most { workers ≤ 64 }
     ensures figures { IfOk result (λ figures. figures_seen figures ≡ defined.figures model.now (suite_seen suite.now)) }
-    ensures ends { Ends result (first_measured_over model.now budget) }
+    ensures ends { Ends result (first_measured_over model.now effort) }
 {
     let marks = mark_rows(rt, alloc, model, plan, suite, workers, gate)?;
     let prefs = Prefs::new(alloc, model, None)?;
@@ -78,7 +79,7 @@ pub fn measure<R: Threads + Sync, G: Gate + Sync>(
         alloc,
         model,
         prefs: &prefs,
-        budget,
+        effort,
     };
     let sets = measure_sets(&asking, plan, &marks)?;
     let rows = count_rows(model, suite);

@@ -15,20 +15,21 @@ ghost use Rattle.tuple_index.specs.Places.{RisesFrom, has_part};
 ghost use Rattle.tuple_index.specs.Plan.{plan_of, set_at};
 ghost use Rattle.coverage_measure.specs.Asking.{IsBefore, IsFor, is_above, is_found, tally, with_values};
 
-use crate::asking::{Asking, KeptSolver};
+use crate::asking::{Asking, KeptQuestions};
 use cov_model::{Cells, ParamNo, Slice, TestModel, ValueNo};
 use feasibility::SearchFault;
 use tuple_index::Plan;
 
 // How many of the values of a parameter are tried, and for how many of them each of these stands. All give the
 // same where no constraint names the parameter, so then the first stands for all.
-fn values_tried(kept: &KeptSolver<'_>, p: ParamNo) -> (usize, u64)
+fn values_tried(kept: &KeptQuestions<'_>, p: ParamNo) -> (usize, u64)
     requires { p < length kept.now.values }
-    ensures tried { result.0 ≡ (if is_among (constrained_params kept.now.solver.model) p then length (slice_index_or kept.now.values p []) else min (length (slice_index_or kept.now.values p [])) 1) }
-    ensures each { result.1 ≡ (if is_among (constrained_params kept.now.solver.model) p then 1 else length (slice_index_or kept.now.values p [])) }
+    ensures tried { result.0 ≡ (if is_among (constrained_params kept.now.questions.model) p then length (slice_index_or kept.now.values p [])
+        else min (length (slice_index_or kept.now.values p [])) 1) }
+    ensures each { result.1 ≡ (if is_among (constrained_params kept.now.questions.model) p then 1 else length (slice_index_or kept.now.values p [])) }
 {
     let count = kept.values.list(p as usize).len();
-    if kept.solver.is_constrained(p) {
+    if kept.questions.is_constrained(p) {
         return (count, 1);
     }
     (count.min(1), count as u64)
@@ -45,23 +46,23 @@ fn is_negative(model: &TestModel, p: ParamNo, v: ValueNo) -> bool
 }
 
 impl<'a> Asking<'a> {
-    // How many of the tuples of a set in the solver's slice some row serves, of those that the cells lead to when
-    // the members from a place on get values too. Ends at the first of them whose plain cost exceeds the budget.
+    // How many of the tuples of a set in the slice of the questions some row serves, of those that the cells lead
+    // to when the members from a place on get values too. Ends at the first of them that costs more than it may.
     fn count_from(
         &self,
-        kept: &mut KeptSolver<'a>,
+        kept: &mut KeptQuestions<'a>,
         members: &[ParamNo],
         place: usize,
         cells: &mut Cells,
     ) -> Result<u64, SearchFault>
         requires orders { OrdersValues self.now.model.now self.now.prefs.now }
-        requires kept { IsFor self.now.model.now self.now.prefs.now kept.old }
+        requires kept { IsFor self.now.model.now self.now.prefs.now self.now.effort kept.old }
         requires place { place ≤ length members.now }
         requires before { IsBefore self.now.model.now kept.old.slice (drop place members.now) cells.old }
         requires few { length (with_values (slice_values self.now.model.now kept.old.slice) (drop place members.now) cells.old) < 2 ^ 32 }
         ensures count { IfOk result (λ count. count ≡ tally (is_found self.now.model.now self.now.prefs.now kept.old.slice)
             (with_values (slice_values self.now.model.now kept.old.slice) (drop place members.now) cells.old)) }
-        ensures ends { Ends result (find (is_above self.now.model.now self.now.prefs.now kept.old.slice self.now.budget)
+        ensures ends { Ends result (find (is_above self.now.model.now self.now.prefs.now kept.old.slice self.now.effort)
             (with_values (slice_values self.now.model.now kept.old.slice) (drop place members.now) cells.old)) }
         ensures cells { IfOk result (λ _. cells.new ≡ cells.old) }
         ensures kept { kept.new ≡ kept.old }
@@ -85,22 +86,22 @@ impl<'a> Asking<'a> {
     // and after a count have none again.
     fn count_in(
         &self,
-        kept: &mut Vec<KeptSolver<'a>>,
+        kept: &mut Vec<KeptQuestions<'a>>,
         members: &[ParamNo],
         slice: Slice,
         cells: &mut Cells,
     ) -> Result<u64, SearchFault>
         requires orders { OrdersValues self.now.model.now self.now.prefs.now }
-        requires kept { All (IsFor self.now.model.now self.now.prefs.now) kept.old.items }
+        requires kept { All (IsFor self.now.model.now self.now.prefs.now self.now.effort) kept.old.items }
         requires slice { IsSliceOf self.now.model.now slice }
         requires part { has_part members.now slice ≡ true }
         requires rising { RisesFrom 0 (length self.now.model.now.params) members.now }
         requires few { length (tuples_of self.now.model.now members.now) < 2 ^ 32 }
         requires cells { cells.old ≡ no_values self.now.model.now }
         ensures count { IfOk result (λ count. count ≡ tally (is_served self.now.model.now (all_rows self.now.model.now)) (tuples_in self.now.model.now members.now slice)) }
-        ensures ends { Ends result (first_over self.now.model.now self.now.prefs.now self.now.budget (tuples_in self.now.model.now members.now slice)) }
+        ensures ends { Ends result (first_over self.now.model.now self.now.prefs.now self.now.effort (tuples_in self.now.model.now members.now slice)) }
         ensures cells { IfOk result (λ _. cells.new ≡ cells.old) }
-        ensures kept { All (IsFor self.now.model.now self.now.prefs.now) kept.new.items }
+        ensures kept { All (IsFor self.now.model.now self.now.prefs.now self.now.effort) kept.new.items }
     {
         self.model.assert_invariant();
         let place = self.place_of(kept, slice)?;
@@ -110,23 +111,23 @@ impl<'a> Asking<'a> {
     // The same of those with a negative value of this member.
     fn count_negative(
         &self,
-        kept: &mut Vec<KeptSolver<'a>>,
+        kept: &mut Vec<KeptQuestions<'a>>,
         members: &[ParamNo],
         q: ParamNo,
         cells: &mut Cells,
     ) -> Result<u64, SearchFault>
         requires orders { OrdersValues self.now.model.now self.now.prefs.now }
-        requires kept { All (IsFor self.now.model.now self.now.prefs.now) kept.old.items }
+        requires kept { All (IsFor self.now.model.now self.now.prefs.now self.now.effort) kept.old.items }
         requires member { is_among members.now q ≡ true }
         requires rising { RisesFrom 0 (length self.now.model.now.params) members.now }
         requires few { length (tuples_of self.now.model.now members.now) < 2 ^ 32 }
         requires cells { cells.old ≡ no_values self.now.model.now }
         ensures count { IfOk result (λ count. count ≡ tally (is_served self.now.model.now (all_rows self.now.model.now))
             (flat_map (λ v. tuples_in self.now.model.now members.now (Negative q v)) (negative_values self.now.model.now q))) }
-        ensures ends { Ends result (first_over self.now.model.now self.now.prefs.now self.now.budget
+        ensures ends { Ends result (first_over self.now.model.now self.now.prefs.now self.now.effort
             (flat_map (λ v. tuples_in self.now.model.now members.now (Negative q v)) (negative_values self.now.model.now q))) }
         ensures cells { IfOk result (λ _. cells.new ≡ cells.old) }
-        ensures kept { All (IsFor self.now.model.now self.now.prefs.now) kept.new.items }
+        ensures kept { All (IsFor self.now.model.now self.now.prefs.now self.now.effort) kept.new.items }
     {
         let values = self.model.params().as_slice()[q as usize].values.len() as ValueNo;
         let mut count = 0;
@@ -142,17 +143,17 @@ impl<'a> Asking<'a> {
 // How many of the demanded tuples of a set some row of the model serves.
 pub(crate) fn count_servable<'a>(
     asking: &Asking<'a>,
-    kept: &mut Vec<KeptSolver<'a>>,
+    kept: &mut Vec<KeptQuestions<'a>>,
     plan: &Plan,
     set: u32,
 ) -> Result<u32, SearchFault>
     requires orders { OrdersValues asking.now.model.now asking.now.prefs.now }
-    requires kept { All (IsFor asking.now.model.now asking.now.prefs.now) kept.old.items }
+    requires kept { All (IsFor asking.now.model.now asking.now.prefs.now asking.now.effort) kept.old.items }
     requires plan { plan.now ≡ plan_of asking.now.model.now }
     requires set { set < length plan.now.sets }
     ensures count { IfOk result (λ count. count ≡ servable asking.now.model.now (set_at plan.now set)) }
-    ensures ends { Ends result (first_over asking.now.model.now asking.now.prefs.now asking.now.budget (tuples_of asking.now.model.now (set_at plan.now set))) }
-    ensures kept { All (IsFor asking.now.model.now asking.now.prefs.now) kept.new.items }
+    ensures ends { Ends result (first_over asking.now.model.now asking.now.prefs.now asking.now.effort (tuples_of asking.now.model.now (set_at plan.now set))) }
+    ensures kept { All (IsFor asking.now.model.now asking.now.prefs.now asking.now.effort) kept.new.items }
 {
     asking.model.assert_invariant();
     plan.assert_invariant();

@@ -2,6 +2,7 @@
 use Rattle.std.specs.Prelude.{◌≡◌, ℕ, false, List, [], ◌∷◌, map, Option, codes, refl, Some, None}
 use Rattle.cov_model.specs.declared.slice.Slice.TheVariants.{Positive}
 use Rattle.cov_model.specs.Sound.{ModelView}
+use Rattle.definitions.specs.declared.effort.Effort.TheVariants.{Within, Full}
 use Rattle.definitions.specs.Search.{question_cost, first_over}
 use Rattle.definitions.specs.Seeds.{kept_seeds, dropped_lines, asked_seeds}
 use Rattle.definitions.specs.Growth.{growth, Grown, gain, values_by_gain, tuples_in_play}
@@ -111,7 +112,11 @@ twin-costs = refl
 
 -- the first question above a budget
 abbrev spent : ModelView → ℕ → Option (List (Option ℕ))
-spent m budget = first_over m (declared m) budget (plain m).asked
+spent m budget = first_over m (declared m) (Within budget) (plain m).asked
+
+-- without one there is none
+twin-answered : first_over twin (declared twin) Full (plain twin).asked ≡ None
+twin-answered = refl
 
 twin-spent : spent twin 2 ≡ Some (row (codes "0__"))
 twin-spent = refl

@@ -5,6 +5,7 @@ use Rattle.cov_model.specs.declared.constraint.Rel.TheVariants.{Eq, Lt}
 use Rattle.cov_model.specs.declared.slice.Slice.TheVariants.{Positive, Negative}
 use Rattle.cov_model.specs.Sound.{ModelView}
 use Rattle.cov_model.specs.Rows.{is_assigned}
+use Rattle.definitions.specs.declared.effort.Effort.TheVariants.{Within}
 use Rattle.definitions.specs.Search.{plain_search, plain_cost, first_measured_over, constrained_params, breaks_a_rule, try_values, Outcome}
 use Rattle.definitions.specs.Completion.{preferred_values}
 use Rattle.definitions.proofs.Models.{twin, barred}
@@ -86,11 +87,11 @@ turned-cost : plain_cost turned (declared turned) Positive (None ∷ None ∷ []
 turned-cost = refl
 
 -- the first demanded tuple that costs more than 4, 3 and 2 nodes
-twin-measured-four : first_measured_over twin 4 ≡ None
+twin-measured-four : first_measured_over twin (Within 4) ≡ None
 twin-measured-four = refl
 
-twin-measured-three : first_measured_over twin 3 ≡ Some (None ∷ Some 0 ∷ None ∷ [])
+twin-measured-three : first_measured_over twin (Within 3) ≡ Some (None ∷ Some 0 ∷ None ∷ [])
 twin-measured-three = refl
 
-twin-measured-two : first_measured_over twin 2 ≡ Some (Some 0 ∷ None ∷ None ∷ [])
+twin-measured-two : first_measured_over twin (Within 2) ≡ Some (Some 0 ∷ None ∷ None ∷ [])
 twin-measured-two = refl

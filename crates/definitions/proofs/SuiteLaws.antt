@@ -12,6 +12,7 @@ use Rattle.std.proofs.lemmas.Map.Made.{length-le_from_is_member}
 use Rattle.cov_model.specs.Sound.{ModelView}
 use Rattle.cov_model.specs.Tuples.{IsRising}
 use Rattle.cov_model.specs.Valid.{is_valid, serves}
+use Rattle.definitions.specs.declared.effort.Effort.{Effort}
 use Rattle.definitions.specs.Demand.{demanded_tuples}
 use Rattle.definitions.specs.Seeds.{is_same_row}
 use Rattle.definitions.specs.Growth.{growth}
@@ -36,8 +37,8 @@ use Rattle.definitions.proofs.TreeTokens.{eager_refute, member_has_tree, tokens_
 use Rattle.value_text.proofs.ListLemmas.{nothing_found}
 
 pub suite_proofs_refute : SuiteProofsRefute
-suite_proofs_refute m pref seeds format bytes is =
-    ap is_none (eager_refute m pref format [] 1 (as_cells m is.proof.omissions) is.proof.omitted.trees)
+suite_proofs_refute m pref seeds effort format bytes is =
+    ap is_none (eager_refute m pref effort format [] 1 (as_cells m is.proof.omissions) is.proof.omitted.trees)
 
 -- rows that are the same, as an equality of rows
 same_row_laws : IsEquivalence is_same_row
@@ -71,9 +72,9 @@ pub record IsOfOmitted (m : ModelView) (omission : Omission) : Type 0 where
   pub is : IsOmitted m row
   pub tuple : omission.tuple ≡ pairs_of row
 
-of_tuple : (m : ModelView) (pref : List (List ℕ)) (seeds : List (ℕ × List (Option ℕ))) (format : ℕ) (bytes : List ℕ)
-    (is : IsSoundProof m pref seeds format bytes) (omission : Omission) → Has is.proof.omissions omission → IsOfOmitted m omission
-of_tuple m pref seeds format bytes is omission has =
+of_tuple : (m : ModelView) (pref : List (List ℕ)) (seeds : List (ℕ × List (Option ℕ))) (effort : Effort) (format : ℕ) (bytes : List ℕ)
+    (is : IsSoundProof m pref seeds effort format bytes) (omission : Omission) → Has is.proof.omissions omission → IsOfOmitted m omission
+of_tuple m pref seeds effort format bytes is omission has =
     let listed_one = subst (λ tuples. Has tuples omission.tuple) is.proof.omitted.tuples (has_map (λ o. o.tuple) is.proof.omissions omission has) in
     let found = of_map pairs_of (growth m pref seeds).omitted omission.tuple listed_one in
     record { row = found.0; is = of_omitted m pref seeds found.0 is.orders found.1; tuple = sym found.2 }
@@ -93,34 +94,34 @@ tuples_cells : (m : ModelView) (omissions : List Omission) → listed m omission
 tuples_cells m [] = refl
 tuples_cells m (omission ∷ omissions) = ap (λ rest. cells_of (length m.params) omission.tuple ∷ rest) (tuples_cells m omissions)
 
-listed_is : (m : ModelView) (pref : List (List ℕ)) (seeds : List (ℕ × List (Option ℕ))) (format : ℕ) (bytes : List ℕ)
-    (is : IsSoundProof m pref seeds format bytes) → listed m is.proof.omissions ≡ (growth m pref seeds).omitted
-listed_is m pref seeds format bytes is =
+listed_is : (m : ModelView) (pref : List (List ℕ)) (seeds : List (ℕ × List (Option ℕ))) (effort : Effort) (format : ℕ) (bytes : List ℕ)
+    (is : IsSoundProof m pref seeds effort format bytes) → listed m is.proof.omissions ≡ (growth m pref seeds).omitted
+listed_is m pref seeds effort format bytes is =
     tuples_cells m is.proof.omissions
     ∙ ap (map (cells_of (length m.params))) is.proof.omitted.tuples
     ∙ all_given_again m (growth m pref seeds).omitted (λ row. of_omitted m pref seeds row is.orders)
 
-few_omissions : (m : ModelView) (pref : List (List ℕ)) (seeds : List (ℕ × List (Option ℕ))) (format : ℕ) (bytes : List ℕ)
-    (is : IsSoundProof m pref seeds format bytes) → length (as_cells m is.proof.omissions) < 2 ^ 32
-few_omissions m pref seeds format bytes is =
+few_omissions : (m : ModelView) (pref : List (List ℕ)) (seeds : List (ℕ × List (Option ℕ))) (effort : Effort) (format : ℕ) (bytes : List ℕ)
+    (is : IsSoundProof m pref seeds effort format bytes) → length (as_cells m is.proof.omissions) < 2 ^ 32
+few_omissions m pref seeds effort format bytes is =
     let omissions = is.proof.omissions in
     omega (
       arith,
       length-map omissions (with_tokens m),
       length-map omissions (cells m),
-      ap length (listed_is m pref seeds format bytes is),
+      ap length (listed_is m pref seeds effort format bytes is),
       few_omitted m pref seeds (growth_covers m pref seeds is.sound is.orders),
       is.few,
     )
 
-omission_is : (m : ModelView) (pref : List (List ℕ)) (seeds : List (ℕ × List (Option ℕ))) (format : ℕ) (bytes : List ℕ)
-    (is : IsSoundProof m pref seeds format bytes) (omission : Omission) → Has is.proof.omissions omission → IsOmissionOf m format omission
-omission_is m pref seeds format bytes is omission has =
+omission_is : (m : ModelView) (pref : List (List ℕ)) (seeds : List (ℕ × List (Option ℕ))) (effort : Effort) (format : ℕ) (bytes : List ℕ)
+    (is : IsSoundProof m pref seeds effort format bytes) (omission : Omission) → Has is.proof.omissions omission → IsOmissionOf m format omission
+omission_is m pref seeds effort format bytes is omission has =
     let omissions = is.proof.omissions in
     let tuple = cells m omission in
-    let of = of_tuple m pref seeds format bytes is omission has in
+    let of = of_tuple m pref seeds effort format bytes is omission has in
     let demanded : IsDemanded m tuple = subst (IsDemanded m) (sym (ap (cells_of (length m.params)) of.tuple ∙ given_again m of.row of.is)) of.is.demanded in
-    let own = member_has_tree m pref format (length (as_cells m omissions)) [] (as_cells m omissions) (with_tokens m omission) is.proof.omitted.trees (omega arith)
+    let own = member_has_tree m pref effort format (length (as_cells m omissions)) [] (as_cells m omissions) (with_tokens m omission) is.proof.omitted.trees (omega arith)
     (has_map (with_tokens m) omissions omission has) in
     let refuting = left (refutes m format own.earlier tuple omission.tree) (are_eager m format own.earlier tuple (tuple ∷ []) omission.tree) own.tree.eager in
     let rising = subst IsRising (sym of.tuple) (pairs_of-rise of.row) in
@@ -134,17 +135,17 @@ omission_is m pref seeds format bytes is omission has =
           (within, pair_exists m omission.tuple pair rising demanded within listed));
       tokens = all_members (IsTokenOf m format) omission.tree (λ token listed.
           tokens_are m format own.earlier tuple (tuple ∷ []) omission.tree token is.sound
-          (omega (arith, own.few, few_omissions m pref seeds format bytes is)) refuting listed);
+          (omega (arith, own.few, few_omissions m pref seeds effort format bytes is)) refuting listed);
     }
 
 pub suite_proofs_are_of_models : SuiteProofsAreOfModels
-suite_proofs_are_of_models m pref seeds format bytes is =
-    all_members (IsOmissionOf m format) is.proof.omissions (omission_is m pref seeds format bytes is)
+suite_proofs_are_of_models m pref seeds effort format bytes is =
+    all_members (IsOmissionOf m format) is.proof.omissions (omission_is m pref seeds effort format bytes is)
 
 pub suite_proofs_read_back : SuiteProofsReadBack
-suite_proofs_read_back m pref seeds format bytes is =
+suite_proofs_read_back m pref seeds effort format bytes is =
     ap (omissions_of m) is.proof.text
-    ∙ proofs_read_back m format is.proof.omissions is.sound is.known (suite_proofs_are_of_models m pref seeds format bytes is)
+    ∙ proofs_read_back m format is.proof.omissions is.sound is.known (suite_proofs_are_of_models m pref seeds effort format bytes is)
 
 -- the tuples that growth omits are the demanded ones that no row serves
 omitted_unserved : (m : ModelView) (pref : List (List ℕ)) (seeds : List (ℕ × List (Option ℕ))) → IsGrownSuite m pref seeds
@@ -165,30 +166,30 @@ unserved_omitted m pref seeds grown =
     let omits = member_of_all (λ tuple. Contains omitted tuple ↔ IsUnserved m tuple) (demanded_tuples m) tuple grown.omitted has in
     any_member (is_same_row tuple) omitted tuple (has_contained omitted tuple (omits.1 none)) (same-refl tuple))
 
-unserved_listed : (m : ModelView) (pref : List (List ℕ)) (seeds : List (ℕ × List (Option ℕ))) (format : ℕ) (bytes : List ℕ)
-    (is : IsSoundProof m pref seeds format bytes)
+unserved_listed : (m : ModelView) (pref : List (List ℕ)) (seeds : List (ℕ × List (Option ℕ))) (effort : Effort) (format : ℕ) (bytes : List ℕ)
+    (is : IsSoundProof m pref seeds effort format bytes)
     → All (λ tuple. IsUnserved m tuple → list_any (is_same_row tuple) (listed m is.proof.omissions) ≡ true) (demanded_tuples m)
-unserved_listed m pref seeds format bytes is =
-    subst (λ tuples. All (λ tuple. IsUnserved m tuple → list_any (is_same_row tuple) tuples ≡ true) (demanded_tuples m)) (sym (listed_is m pref seeds format bytes is))
+unserved_listed m pref seeds effort format bytes is =
+    subst (λ tuples. All (λ tuple. IsUnserved m tuple → list_any (is_same_row tuple) tuples ≡ true) (demanded_tuples m)) (sym (listed_is m pref seeds effort format bytes is))
     (unserved_omitted m pref seeds (growth_covers m pref seeds is.sound is.orders))
 
 pub suite_proofs_list : SuiteProofsList
-suite_proofs_list m pref seeds format bytes is =
+suite_proofs_list m pref seeds effort format bytes is =
     let grown = growth_covers m pref seeds is.sound is.orders in
-    let same = sym (listed_is m pref seeds format bytes is) in
+    let same = sym (listed_is m pref seeds effort format bytes is) in
     record {
       omissions = is.proof.omissions;
-      read = suite_proofs_read_back m pref seeds format bytes is;
+      read = suite_proofs_read_back m pref seeds effort format bytes is;
       unserved = subst (All (λ tuple. Contains (demanded_tuples m) tuple × IsUnserved m tuple)) same (omitted_unserved m pref seeds grown);
       once = subst (AllPairs (λ a b. is_same_row a b ≡ false)) same grown.once;
-      complete = unserved_listed m pref seeds format bytes is;
-      refute = suite_proofs_refute m pref seeds format bytes is;
+      complete = unserved_listed m pref seeds effort format bytes is;
+      refute = suite_proofs_refute m pref seeds effort format bytes is;
     }
 
 pub suites_serve_or_refute : SuitesServeOrRefute
-suites_serve_or_refute m pref seeds format bytes is =
+suites_serve_or_refute m pref seeds effort format bytes is =
     let rows = (growth m pref seeds).rows in
-    let lists = suite_proofs_list m pref seeds format bytes is in
+    let lists = suite_proofs_list m pref seeds effort format bytes is in
     let covers = suites_cover m pref seeds is.sound is.orders in
     all_members (λ tuple. Any (λ row. serves m row tuple ≡ true) rows ⊎ (IsUnserved m tuple × IsRefutedIn m format bytes tuple)) (demanded_tuples m)
     (λ tuple has. elim (member_of_all (λ tuple. Any (λ row. serves m row tuple ≡ true) rows ⊎ IsUnserved m tuple) (demanded_tuples m) tuple covers.served has) [
@@ -231,14 +232,14 @@ none_left m rows omissions served complete =
     ])))
 
 pub suite_proofs_are_accepted : SuiteProofsAreAccepted
-suite_proofs_are_accepted m pref seeds format bytes lines is same =
+suite_proofs_are_accepted m pref seeds effort format bytes lines is same =
     let omissions = is.proof.omissions in
     let rows = map (λ line. line.1) lines in
     let covers = suites_cover m pref seeds is.sound is.orders in
     let valid = subst (All (λ row. is_valid m row ≡ true)) (sym same) covers.valid in
     let served = subst (λ rows. All (λ tuple. Any (λ row. serves m row tuple ≡ true) rows ⊎ IsUnserved m tuple) (demanded_tuples m)) (sym same) covers.served in
     ap (by_row m rows bytes) (good_lines m lines valid)
-    ∙ ap (by_proof m rows) (suite_proofs_read_back m pref seeds format bytes is)
-    ∙ ap (by_omission m rows omissions) (eager_refute m pref format [] 2 (as_cells m omissions) is.proof.omitted.trees)
-    ∙ ap (by_tuple (length rows) (length omissions)) (none_left m rows omissions served (unserved_listed m pref seeds format bytes is))
+    ∙ ap (by_proof m rows) (suite_proofs_read_back m pref seeds effort format bytes is)
+    ∙ ap (by_omission m rows omissions) (eager_refute m pref effort format [] 2 (as_cells m omissions) is.proof.omitted.trees)
+    ∙ ap (by_tuple (length rows) (length omissions)) (none_left m rows omissions served (unserved_listed m pref seeds effort format bytes is))
     ∙ ap (λ count. Accepted count (length omissions)) (length-map lines (λ line. line.1))

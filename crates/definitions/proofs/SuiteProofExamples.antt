@@ -3,6 +3,7 @@ use Rattle.std.specs.Prelude.{ℕ, List, [], ◌∷◌, codes, refl}
 use Rattle.std.specs.Fmt.{digits}
 use Rattle.std.proofs.Common.{lit≤}
 use Rattle.cov_model.specs.Sound.{ModelView}
+use Rattle.definitions.specs.declared.effort.Effort.TheVariants.{Within}
 use Rattle.definitions.specs.ProofText.{Omission}
 use Rattle.definitions.specs.Refutation.{Token, Branch, ByRule, ByNegative, ByOmission}
 use Rattle.definitions.specs.SuiteProof.{AreOmitted, IsProofOfSuite}
@@ -11,7 +12,7 @@ use Rattle.definitions.proofs.Models.{bound, negative, impossible, twin, twin_an
 
 -- the proof of the suite without seeds, with the values in declared order
 abbrev IsPlainProof : ModelView → ℕ → List ℕ → Type 0
-IsPlainProof m format bytes = IsProofOfSuite m (declared m) [] format bytes
+IsPlainProof m format bytes = IsProofOfSuite m (declared m) [] (Within 9) format bytes
 
 abbrev omit : List (ℕ × ℕ) → List Token → Omission
 omit tuple tree = record { tuple = tuple; tree = tree }
@@ -85,7 +86,7 @@ and_one last =
     ∷ omit ((0, 0) ∷ (2, 0) ∷ []) (Branch 1 ∷ ByRule 2 ∷ ByRule 1 ∷ []) ∷ omit ((0, 0) ∷ (2, 1) ∷ []) (Branch 1 ∷ ByRule 1 ∷ ByRule 2 ∷ [])
     ∷ omit ((0, 0) ∷ (3, 0) ∷ []) last ∷ omit ((0, 0) ∷ (3, 1) ∷ []) last ∷ []
 
-twin_and_one-first : AreOmitted twin_and_one (declared twin_and_one) [] 1 (and_one both)
+twin_and_one-first : AreOmitted twin_and_one (declared twin_and_one) [] (Within 9) 1 (and_one both)
 twin_and_one-first = record {
   tuples = refl;
   trees = (
@@ -100,7 +101,7 @@ twin_and_one-first = record {
   );
 }
 
-twin_and_one-second : AreOmitted twin_and_one (declared twin_and_one) [] 2 (and_one (Branch 1 ∷ ByOmission 1 ∷ ByOmission 2 ∷ []))
+twin_and_one-second : AreOmitted twin_and_one (declared twin_and_one) [] (Within 9) 2 (and_one (Branch 1 ∷ ByOmission 1 ∷ ByOmission 2 ∷ []))
 twin_and_one-second = record {
   tuples = refl;
   trees = (

@@ -9,6 +9,7 @@ use Rattle.cov_model.specs.Sound.{ModelView, IsSound}
 use Rattle.cov_model.specs.Kleene.{body_truth}
 use Rattle.cov_model.specs.Rows.{contains, is_assigned}
 use Rattle.cov_model.specs.Valid.{negatives}
+use Rattle.definitions.specs.declared.effort.Effort.{Effort}
 use Rattle.definitions.specs.Search.{is_no}
 use Rattle.definitions.specs.Refutation.{Token, Branch, ByRule, ByNegative, ByOmission, is_branch, branches, is_rule_leaf}
 use Rattle.definitions.specs.Refutation.{is_negative_leaf, is_omission_leaf, refute_paths, refutes, are_eager, first_unrefuted}
@@ -19,30 +20,30 @@ use Rattle.definitions.proofs.Members.{Has, of_any, member_of_all}
 use Rattle.definitions.proofs.ProofWords.{rule_numbers}
 
 -- eager trees refute, from whichever number the omissions are counted
-pub eager_refute : (m : ModelView) (pref : List (List ℕ)) (format : ℕ) (earlier : List (List (Option ℕ))) (n : ℕ)
+pub eager_refute : (m : ModelView) (pref : List (List ℕ)) (effort : Effort) (format : ℕ) (earlier : List (List (Option ℕ))) (n : ℕ)
     (omissions : List (List (Option ℕ) × List Token))
-    → AreEagerTrees m pref format earlier omissions → first_unrefuted m format earlier n omissions ≡ None
-eager_refute m pref format earlier n [] trees = refl
-eager_refute m pref format earlier n (omission ∷ omissions) trees =
+    → AreEagerTrees m pref effort format earlier omissions → first_unrefuted m format earlier n omissions ≡ None
+eager_refute m pref effort format earlier n [] trees = refl
+eager_refute m pref effort format earlier n (omission ∷ omissions) trees =
     let own = left (refutes m format earlier omission.0 omission.1) (are_eager m format earlier omission.0 (omission.0 ∷ []) omission.1) trees.0.eager in
     ap (λ b. cond b (first_unrefuted m format (earlier ++ omission.0 ∷ []) (n + 1) omissions) (Some n)) own
-    ∙ eager_refute m pref format (earlier ++ omission.0 ∷ []) (n + 1) omissions trees.1
+    ∙ eager_refute m pref effort format (earlier ++ omission.0 ∷ []) (n + 1) omissions trees.1
 
 -- the tree of a member stands behind fewer tuples than there are
-pub record HasTree (m : ModelView) (pref : List (List ℕ)) (format bound : ℕ) (omission : List (Option ℕ) × List Token) : Type 0 where
+pub record HasTree (m : ModelView) (pref : List (List ℕ)) (effort : Effort) (format bound : ℕ) (omission : List (Option ℕ) × List Token) : Type 0 where
   pub earlier : List (List (Option ℕ))
   pub few : length earlier < bound
-  pub tree : IsEagerTree m pref format earlier omission.0 omission.1
+  pub tree : IsEagerTree m pref effort format earlier omission.0 omission.1
 
-pub member_has_tree : (m : ModelView) (pref : List (List ℕ)) (format bound : ℕ) (earlier : List (List (Option ℕ)))
+pub member_has_tree : (m : ModelView) (pref : List (List ℕ)) (effort : Effort) (format bound : ℕ) (earlier : List (List (Option ℕ)))
     (omissions : List (List (Option ℕ) × List Token)) (omission : List (Option ℕ) × List Token)
-    → AreEagerTrees m pref format earlier omissions → length earlier + length omissions ≤ bound → Has omissions omission
-    → HasTree m pref format bound omission
-member_has_tree m pref format bound earlier [] omission trees most has = absurd has
-member_has_tree m pref format bound earlier (first ∷ omissions) omission trees most (inl same) =
-    subst (HasTree m pref format bound) same (record { earlier = earlier; few = omega (arith, most); tree = trees.0 })
-member_has_tree m pref format bound earlier (first ∷ omissions) omission trees most (inr has) =
-    member_has_tree m pref format bound (earlier ++ first.0 ∷ []) omissions omission trees.1
+    → AreEagerTrees m pref effort format earlier omissions → length earlier + length omissions ≤ bound → Has omissions omission
+    → HasTree m pref effort format bound omission
+member_has_tree m pref effort format bound earlier [] omission trees most has = absurd has
+member_has_tree m pref effort format bound earlier (first ∷ omissions) omission trees most (inl same) =
+    subst (HasTree m pref effort format bound) same (record { earlier = earlier; few = omega (arith, most); tree = trees.0 })
+member_has_tree m pref effort format bound earlier (first ∷ omissions) omission trees most (inr has) =
+    member_has_tree m pref effort format bound (earlier ++ first.0 ∷ []) omissions omission trees.1
     (omega (arith, most, length-append earlier (first.0 ∷ []))) has
 
 -- a leaf by a constraint names one of the model

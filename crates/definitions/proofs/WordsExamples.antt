@@ -1,6 +1,7 @@
 -- Words of a command and their readings, computed.
 use Rattle.std.specs.Prelude.{◌≡◌, ℕ, true, false, ◌==◌, List, [], ◌∷◌, Some, Result, Ok, Err, codes, refl}
 use Rattle.std.specs.List.{slice_split}
+use Rattle.definitions.specs.declared.effort.Effort.TheVariants.{Within, Full}
 use Rattle.definitions.specs.Settings.{OrderOf, OrderMax, AnyShuffle, ShuffleBy, Settings, defaults}
 use Rattle.definitions.specs.Words.{Command, read_words, read_check_words}
 
@@ -38,7 +39,7 @@ every : reads (codes "m /O:MAX /d:; /a:! /N:- /c /e:a:b /R:18446744073709551615 
       shuffle = ShuffleBy 18446744073709551615;
       stats = true;
       workers = 64;
-      budget = 1099511627776;
+      effort = Within 1099511627776;
       proof = Some (codes "p");
       form = 2;
     })
@@ -47,6 +48,13 @@ every = refl
 -- the last of a repeated option counts
 repeated : reads (codes "m /o:3 /o:1 /r:0 /r") (record defaults { order = OrderOf 1; shuffle = AnyShuffle })
 repeated = refl
+
+-- no bound, in letters of either case; here too the last counts
+unbounded : reads (codes "m /budget:5 /Budget:Max") (record defaults { effort = Full })
+unbounded = refl
+
+bounded_again : reads (codes "m /budget:max /budget:5") (record defaults { effort = Within 5 })
+bounded_again = refl
 
 measured : reads (codes "m /measure:t /o:256 /d:;") (record defaults { order = OrderOf 256; separator = 59; measure = Some (codes "t") })
 measured = refl
@@ -119,6 +127,9 @@ workers_large = refl
 
 budget_large : faulty (codes "m /budget:1099511627777") 2
 budget_large = refl
+
+budget_maximal : faulty (codes "m /budget:maximal") 2
+budget_maximal = refl
 
 shuffle_large : faulty (codes "m /r:18446744073709551616") 2
 shuffle_large = refl

@@ -12,6 +12,8 @@ use Rattle.cov_model.specs.Rows.{is_assigned}
 use Rattle.cov_model.specs.Kleene.{term_params, body_truth}
 use Rattle.cov_model.specs.Valid.{param_numbers}
 use Rattle.cov_model.specs.Slices.{slice_of}
+use Rattle.definitions.specs.declared.effort.Effort.{Effort}
+use Rattle.definitions.specs.declared.effort.Effort.TheVariants.{Within, Full}
 use Rattle.definitions.specs.Demand.{demanded_tuples, is_among}
 use Rattle.definitions.specs.Completion.{preferred_values, with_value}
 
@@ -92,11 +94,16 @@ plain_cost m pref slice cells = (plain_search m pref slice cells).cost
 abbrev pub question_cost : ModelView → List (List ℕ) → List (Option ℕ) → ℕ
 question_cost m pref cells = plain_cost m pref (slice_of m cells) cells
 
--- the first of the questions whose plain cost is above the budget
-abbrev pub first_over : ModelView → List (List ℕ) → ℕ → List (List (Option ℕ)) → Option (List (Option ℕ))
-first_over m pref budget questions = find (λ cells. nat_lt budget (question_cost m pref cells)) questions
+-- a plain cost is above what a question may cost; without a bound none is
+abbrev pub exceeds : Effort → ℕ → Bool
+exceeds (Within budget) cost = nat_lt budget cost
+exceeds Full cost = false
+
+-- the first of the questions whose plain cost is above what a question may cost
+abbrev pub first_over : ModelView → List (List ℕ) → Effort → List (List (Option ℕ)) → Option (List (Option ℕ))
+first_over m pref effort questions = find (λ cells. exceeds effort (question_cost m pref cells)) questions
 
 -- a run that measures a suite asks the demanded tuples in order, with the preferences without a shuffle;
--- the first of them whose plain cost is above the budget
-abbrev pub first_measured_over : ModelView → ℕ → Option (List (Option ℕ))
-first_measured_over m budget = first_over m (preference m None) budget (demanded_tuples m)
+-- the first of them whose plain cost is above what a question may cost
+abbrev pub first_measured_over : ModelView → Effort → Option (List (Option ℕ))
+first_measured_over m effort = first_over m (preference m None) effort (demanded_tuples m)

@@ -6,6 +6,8 @@ use Rattle.value_text.specs.Texts.{is_same_text}
 use Rattle.value_text.specs.Numbers.{count_of}
 use Rattle.cov_model.specs.Names.{is_mark}
 use Rattle.model_lex.specs.Sections.{has_colon}
+use Rattle.definitions.specs.declared.effort.Effort.{Effort}
+use Rattle.definitions.specs.declared.effort.Effort.TheVariants.{Within, Full}
 
 -- the order as it is given: a number, or the number of parameters
 pub data OrderWord : Type 0 where
@@ -29,7 +31,7 @@ pub data Setting : Type 0 where
   CaseCounts : Setting
   Statistics : Setting
   Workers : ℕ → Setting
-  Budget : ℕ → Setting
+  Budget : Effort → Setting
   ProofFile : List ℕ → Setting
   ProofFormat : ℕ → Setting
   MeasureFile : List ℕ → Setting
@@ -57,6 +59,10 @@ mark_of (c ∷ d ∷ rest) = None
 abbrev pub order_word_of : List ℕ → Option OrderWord
 order_word_of value = if is_same_text true value (codes "max") then Some OrderMax else option_map OrderOf (count_of value 1 256)
 
+-- a number of nodes, or no bound on them
+abbrev pub effort_of : List ℕ → Option Effort
+effort_of value = if is_same_text true value (codes "max") then Some Full else option_map Within (count_of value 1 (2 ^ 40))
+
 -- what a word without a colon sets
 abbrev pub bare_setting : List ℕ → Option Setting
 bare_setting word =
@@ -75,7 +81,7 @@ valued_setting word value =
     else if is_named word (codes "/e") then option_map SeedFile (file_of value)
     else if is_named word (codes "/r") then option_map (λ n. ShuffleValues (ShuffleBy n)) (count_of value 0 (2 ^ 64 - 1))
     else if is_named word (codes "/workers") then option_map Workers (count_of value 1 64)
-    else if is_named word (codes "/budget") then option_map Budget (count_of value 1 (2 ^ 40))
+    else if is_named word (codes "/budget") then option_map Budget (effort_of value)
     else if is_named word (codes "/proof") then option_map ProofFile (file_of value)
     else if is_named word (codes "/proofformat") then option_map ProofFormat (count_of value 1 2)
     else if is_named word (codes "/measure") then option_map MeasureFile (file_of value)
@@ -98,7 +104,7 @@ pub record Settings : Type 0 where
   pub shuffle : Shuffle
   pub stats : Bool
   pub workers : ℕ
-  pub budget : ℕ
+  pub effort : Effort
   pub proof : Option (List ℕ)
   pub form : ℕ
   pub measure : Option (List ℕ)
@@ -117,7 +123,7 @@ defaults = record {
   shuffle = NoShuffle;
   stats = false;
   workers = 1;
-  budget = 1000000;
+  effort = Within 1000000;
   proof = None;
   form = 1;
   measure = None;
@@ -136,7 +142,7 @@ set s (ShuffleValues shuffle) = record s { shuffle = shuffle }
 set s CaseCounts = record s { fold_case = false }
 set s Statistics = record s { stats = true }
 set s (Workers n) = record s { workers = n }
-set s (Budget n) = record s { budget = n }
+set s (Budget effort) = record s { effort = effort }
 set s (ProofFile name) = record s { proof = Some name }
 set s (ProofFormat n) = record s { form = n }
 set s (MeasureFile name) = record s { measure = Some name }

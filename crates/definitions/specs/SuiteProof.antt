@@ -2,6 +2,8 @@
 -- (This project's rule.)
 use Rattle.std.specs.Prelude.{◌≡◌, ℕ, ◌≤◌, Bool, true, false, List, [], ◌∷◌, ◌++◌, map, length, filter, Option}
 use Rattle.cov_model.specs.Sound.{ModelView}
+use Rattle.definitions.specs.declared.effort.Effort.{Effort}
+use Rattle.definitions.specs.declared.effort.Effort.TheVariants.{Within, Full}
 use Rattle.definitions.specs.Growth.{growth}
 use Rattle.definitions.specs.Pairs.{pairs_of}
 use Rattle.definitions.specs.ProofText.{Omission, proof_text}
@@ -20,26 +22,31 @@ is_branching (ByOmission n) = false
 abbrev pub branch_count : List Token → ℕ
 branch_count tokens = length (filter is_branching tokens)
 
--- the tokens are an eager tree that refutes the tuple after the earlier ones, with no more branches than plain
--- search visits nodes
-pub record IsEagerTree (m : ModelView) (pref : List (List ℕ)) (format : ℕ) (earlier : List (List (Option ℕ))) (tuple : List (Option ℕ)) (tokens : List Token) : Type 0 where
+-- within a budget a tree has no more branches than plain search visits nodes
+abbrev pub HasFewBranches : Effort → List Token → ℕ → Type 0
+HasFewBranches (Within budget) tokens cost = branch_count tokens ≤ cost
+HasFewBranches Full tokens cost = Unit {0}
+
+-- the tokens are an eager tree that refutes the tuple after the earlier ones, within a budget with no more branches
+-- than plain search visits nodes
+pub record IsEagerTree (m : ModelView) (pref : List (List ℕ)) (effort : Effort) (format : ℕ) (earlier : List (List (Option ℕ))) (tuple : List (Option ℕ)) (tokens : List Token) : Type 0 where
   pub eager : is_eager m format earlier tuple tokens ≡ true
-  pub few : branch_count tokens ≤ question_cost m pref tuple
+  pub few : HasFewBranches effort tokens (question_cost m pref tuple)
 
 -- each tuple has such a tree, after those before it
-abbrev pub AreEagerTrees : ModelView → List (List ℕ) → ℕ → List (List (Option ℕ)) → List (List (Option ℕ) × List Token) → Type 0
-AreEagerTrees m pref format earlier [] = Unit {0}
-AreEagerTrees m pref format earlier (omission ∷ omissions) =
-    IsEagerTree m pref format earlier omission.0 omission.1 × AreEagerTrees m pref format (earlier ++ omission.0 ∷ []) omissions
+abbrev pub AreEagerTrees : ModelView → List (List ℕ) → Effort → ℕ → List (List (Option ℕ)) → List (List (Option ℕ) × List Token) → Type 0
+AreEagerTrees m pref effort format earlier [] = Unit {0}
+AreEagerTrees m pref effort format earlier (omission ∷ omissions) =
+    IsEagerTree m pref effort format earlier omission.0 omission.1 × AreEagerTrees m pref effort format (earlier ++ omission.0 ∷ []) omissions
 
 -- the omissions are the tuples that growth omits with these preferences and seeds, in its order, each with such a
 -- tree
-pub record AreOmitted (m : ModelView) (pref : List (List ℕ)) (seeds : List (ℕ × List (Option ℕ))) (format : ℕ) (omissions : List Omission) : Type 0 where
+pub record AreOmitted (m : ModelView) (pref : List (List ℕ)) (seeds : List (ℕ × List (Option ℕ))) (effort : Effort) (format : ℕ) (omissions : List Omission) : Type 0 where
   pub tuples : map (λ omission. omission.tuple) omissions ≡ map pairs_of (growth m pref seeds).omitted
-  pub trees : AreEagerTrees m pref format [] (as_cells m omissions)
+  pub trees : AreEagerTrees m pref effort format [] (as_cells m omissions)
 
 -- the bytes are the proof of the suite in this format
-pub record IsProofOfSuite (m : ModelView) (pref : List (List ℕ)) (seeds : List (ℕ × List (Option ℕ))) (format : ℕ) (bytes : List ℕ) : Type 0 where
+pub record IsProofOfSuite (m : ModelView) (pref : List (List ℕ)) (seeds : List (ℕ × List (Option ℕ))) (effort : Effort) (format : ℕ) (bytes : List ℕ) : Type 0 where
   pub omissions : List Omission
-  pub omitted : AreOmitted m pref seeds format omissions
+  pub omitted : AreOmitted m pref seeds effort format omissions
   pub text : bytes ≡ proof_text format omissions

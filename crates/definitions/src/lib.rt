@@ -6,8 +6,10 @@
 //! each on small models; docs/definitions.md says each in prose.
 #![tactic(auto)]
 
+mod effort;
 mod laws;
 
+pub use effort::Effort;
 pub use laws::{
     accepted_are_certified, completions_are_rows, extendable_contains, growth_covers,
     proofs_have_one_text, proofs_read_back, refuted_are_unserved, reports_are_read,

@@ -114,7 +114,7 @@ is_free m p away row a b = free_rules m m.rules p row a b away
 abbrev pub AssignedBelow : ModelView → List (Option ℕ) → ℕ → Type 0
 AssignedBelow m cells k = (q : ℕ) → q < k → is_named m q ≡ true → is_assigned cells q ≡ true
 
-decided : (m : ModelView) (cells : List (Option ℕ)) (k : ℕ) → AssignedBelow m cells k → Decided (meets_rules m) cells k
+pub decided : (m : ModelView) (cells : List (Option ℕ)) (k : ℕ) → AssignedBelow m cells k → Decided (meets_rules m) cells k
 decided m cells k below q before = by_case (is_named m q) refl
   where
     by_case : (b : Bool) → is_named m q ≡ b → (is_assigned cells q ≡ true) ⊎ IsFree (meets_rules m) q
@@ -253,13 +253,13 @@ below_set m cells k v below within q before named =
       | inr differs ↦ ap (λ (cell : Option ℕ). is_some cell) (get_or-set_other cells k q (Some v) None differs) ∙ below q (omega (arith, differs)) named
     ]
 
-failing_gives : (m : ModelView) (lists : List (List ℕ)) (cells : List (Option ℕ)) → ListsValues m lists → IsListed lists cells
+pub failing_gives : (m : ModelView) (lists : List (List ℕ)) (cells : List (Option ℕ)) → ListsValues m lists → IsListed lists cells
     → is_failing m lists cells ≡ true
     → first_of lists cells (meets_rules m) ≡ None
 failing_gives m lists cells values is failing =
     first_of-none lists cells (meets_rules m) is.long (λ row completes. failing_fails m lists cells row values.as_many failing completes)
 
-leaf_gives : (m : ModelView) (lists : List (List ℕ)) (cells : List (Option ℕ)) → IsSound m → ListsValues m lists → IsListed lists cells
+pub leaf_gives : (m : ModelView) (lists : List (List ℕ)) (cells : List (Option ℕ)) → IsSound m → ListsValues m lists → IsListed lists cells
     → AssignedBelow m cells (length m.params) → is_failing m lists cells ≡ false → first_of lists cells (meets_rules m) ≡ Some (filled lists cells)
 leaf_gives m lists cells sound values is below failing =
     let parts = or_parts (breaks_a_rule m cells) (list_any (is_stuck m lists cells) (param_numbers m)) failing in

@@ -21,9 +21,9 @@ use refutation::{TreeBuf, TreeToken};
 use value_text::NoMemory;
 
 impl<'t> Refuter<'t> {
-    // The least number of a constraint that is No with this value of a parameter, where without it
-    // none is: it is one that the value leaves undecided.
-    fn first_no_with(&self, q: ParamNo, v: ValueNo, cells: &mut Cells) -> Option<u32>
+    /// The least number of a constraint that is No with this value of a parameter, where without it
+    /// none is: it is one that the value leaves undecided.
+    pub fn first_no_with(&self, q: ParamNo, v: ValueNo, cells: &mut Cells) -> Option<u32>
         requires parameter { q < length self.now.model.params }
         requires value { v < length (param_at self.now.model.params q).values }
         requires free { is_assigned cells.old q ≡ false }
@@ -40,8 +40,8 @@ impl<'t> Refuter<'t> {
         rule
     }
 
-    // The least number of an omission that is a leaf with this value of a parameter.
-    fn first_cited_with(&self, q: ParamNo, v: ValueNo, cells: &mut Cells) -> Option<u32>
+    /// The least number of an omission that is a leaf with this value of a parameter.
+    pub fn first_cited_with(&self, q: ParamNo, v: ValueNo, cells: &mut Cells) -> Option<u32>
         requires parameter { q < length self.now.model.params }
         requires free { is_assigned cells.old q ≡ false }
         requires path { IsPath self.now cells.old }

@@ -13,12 +13,14 @@ use packed_lists::PackedLists;
 use std::alloc::Global;
 use value_text::NoMemory;
 
-// A parameter that constraints name, and for each of its values the numbers of those of them that
-// aren't known to hold where it alone has a value, this one.
+/// A parameter that constraints name, and for each of its values the numbers of those of them that
+/// aren't known to hold where it alone has a value, this one.
 #[derive(Drop)]
-pub(crate) struct Constrained {
-    pub(crate) param: ParamNo,
-    pub(crate) undecided: PackedLists,
+pub struct Constrained {
+    /// The parameter.
+    pub param: ParamNo,
+    /// By each of its values the numbers of these constraints, in rising order.
+    pub undecided: PackedLists,
 }
 
 // The numbers of the constraints that name the parameter.

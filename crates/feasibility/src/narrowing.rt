@@ -32,8 +32,12 @@ fn marks_of(alloc: Global, count: ValueNo, list: &[ValueNo]) -> Result<BitTable,
 }
 
 impl<'a> SearchTree<'a> {
-    // Sets of all values that are listed. Takes all room that a search needs.
-    pub(crate) fn listed_sets(&self, alloc: Global) -> Result<LiveSets, NoMemory>
+    /// Sets of all values that are listed. Takes all room that a search needs.
+    ///
+    /// # Errors
+    ///
+    /// `NoMemory` where there is no room.
+    pub fn listed_sets(&self, alloc: Global) -> Result<LiveSets, NoMemory>
         ensures { IfOk result (ShowsListed self.now.model self.now.values) }
     {
         self.assert_invariant();
@@ -47,8 +51,8 @@ impl<'a> SearchTree<'a> {
         Ok(all)
     }
 
-    // Whether the constraint is No on the cells.
-    pub(crate) fn is_no(&self, rule: u32, cells: &Cells) -> bool
+    /// Whether the constraint is No on the cells.
+    pub fn is_no(&self, rule: u32, cells: &Cells) -> bool
         requires first { 0 < rule }
         requires last { rule ≤ length self.now.model.rules }
         requires fits { FitsModel self.now.model cells.now }
@@ -285,9 +289,9 @@ impl<'a> SearchTree<'a> {
         true
     }
 
-    // Takes the values away that aren't live where no parameter has a value. Whether this node fails;
-    // then the sets show why.
-    pub(crate) fn begin(&self, cells: &mut Cells, sets: &mut LiveSets) -> bool
+    /// Takes the values away that aren't live where no parameter has a value. Whether this node fails;
+    /// then the sets show why.
+    pub fn begin(&self, cells: &mut Cells, sets: &mut LiveSets) -> bool
         requires none { cells.old ≡ no_values self.now.model }
         requires listed { ShowsListed self.now.model self.now.values sets.old }
         ensures fails { result ≡ is_failing self.now.model self.now.values cells.old }
@@ -308,10 +312,10 @@ impl<'a> SearchTree<'a> {
         false
     }
 
-    // Takes the values away that aren't live on the cells, from those that are where no parameter has
-    // a value: looks at the constraints that the cells' values leave undecided. Whether the node
-    // doesn't fail; else the sets show why.
-    pub(crate) fn start(&self, cells: &mut Cells, sets: &mut LiveSets) -> bool
+    /// Takes the values away that aren't live on the cells, from those that are where no parameter has
+    /// a value: looks at the constraints that the cells' values leave undecided. Whether the node
+    /// doesn't fail; else the sets show why.
+    pub fn start(&self, cells: &mut Cells, sets: &mut LiveSets) -> bool
         requires fits { FitsModel self.now.model cells.old }
         requires node { is_failing self.now.model self.now.values (no_values self.now.model) ≡ false }
         requires live { ShowsLive self.now.model self.now.values (no_values self.now.model) sets.old }
@@ -335,9 +339,9 @@ impl<'a> SearchTree<'a> {
         true
     }
 
-    // Gives the constrained parameter at a place a live value, and takes the values away that so stop
-    // being live. Whether the node doesn't fail; else the sets show why.
-    pub(crate) fn enter(&self, i: usize, v: ValueNo, cells: &mut Cells, sets: &mut LiveSets) -> bool
+    /// Gives the constrained parameter at a place a live value, and takes the values away that so stop
+    /// being live. Whether the node doesn't fail; else the sets show why.
+    pub fn enter(&self, i: usize, v: ValueNo, cells: &mut Cells, sets: &mut LiveSets) -> bool
         requires place { i < length (constrained_params self.now.model) }
         requires value { v < length (param_at self.now.model.params (constrained_at self.now.model i)).values }
         requires fits { FitsModel self.now.model cells.old }

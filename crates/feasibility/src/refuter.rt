@@ -21,10 +21,10 @@ use cov_model::{Cells, ParamNo, Slice, Tuple, ValueNo};
 use refutation::{Omissions, ProofForm};
 use std::marker::Model;
 
-// What the tree of a tuple is made from: what a search of the tuple's slice looks at, and the
-// omissions that stand before it.
+/// What the tree of a tuple is made from: what a search of the tuple's slice looks at, and the
+/// omissions that stand before it.
 #[derive(Drop)]
-pub(crate) struct Refuter<'t> {
+pub struct Refuter<'t> {
     tree: &'t SearchTree<'t>,
     slice: Slice,
     tuple: &'t Tuple,
@@ -71,8 +71,8 @@ fn is_less(number: u32, other: Option<u32>) -> bool
 }
 
 impl<'t> Refuter<'t> {
-    // A refuter of the tuple of a slice, after these omissions.
-    pub(crate) fn new(
+    /// A refuter of the tuple of a slice, after these omissions.
+    pub fn new(
         tree: &'t SearchTree<'t>,
         slice: Slice,
         tuple: &'t Tuple,
@@ -101,8 +101,8 @@ impl<'t> Refuter<'t> {
         }
     }
 
-    // What a refuter keeps.
-    pub(crate) fn assert_invariant(&self)
+    /// What a refuter keeps.
+    pub fn assert_invariant(&self)
         ensures sound { IsSound self.now.model }
         ensures values { ListsValues self.now.model self.now.lists }
         ensures positive { TriesPositive self.now }
@@ -110,8 +110,8 @@ impl<'t> Refuter<'t> {
         self.tree.assert_invariant();
     }
 
-    // What a search of the tuple's slice looks at.
-    pub(crate) fn tree(&self) -> &'t SearchTree<'t>
+    /// What a search of the tuple's slice looks at.
+    pub fn tree(&self) -> &'t SearchTree<'t>
         ensures { result.now ≡ record { model = self.now.model; values = self.now.lists } }
     {
         self.tree
@@ -125,16 +125,16 @@ impl<'t> Refuter<'t> {
         self.tree().constrained_at(i).param
     }
 
-    // How many values a parameter has.
-    pub(crate) fn count_of(&self, q: ParamNo) -> ValueNo
+    /// How many values a parameter has.
+    pub fn count_of(&self, q: ParamNo) -> ValueNo
         requires { q < length self.now.model.params }
         ensures { result ≡ length (param_at self.now.model.params q).values }
     {
         self.tree().count_of(q)
     }
 
-    // Whether a value is negative.
-    pub(crate) fn is_negative(&self, q: ParamNo, v: ValueNo) -> bool
+    /// Whether a value is negative.
+    pub fn is_negative(&self, q: ParamNo, v: ValueNo) -> bool
         requires parameter { q < length self.now.model.params }
         requires value { v < length (param_at self.now.model.params q).values }
         ensures { result ≡ (value_at self.now.model q v).negative }
@@ -142,8 +142,8 @@ impl<'t> Refuter<'t> {
         !is_positive(self.tree().model(), q, v)
     }
 
-    // The cells become the tuple.
-    pub(crate) fn begin(&self, cells: &mut Cells)
+    /// The cells become the tuple.
+    pub fn begin(&self, cells: &mut Cells)
         requires { length cells.old ≡ length self.now.model.params }
         ensures { cells.new ≡ self.now.tuple }
     {
@@ -161,8 +161,8 @@ impl<'t> Refuter<'t> {
         self.tree.undecided(q, v)
     }
 
-    // The least number of a constraint that is No on the cells.
-    pub(crate) fn first_no(&self, cells: &Cells) -> Option<u32>
+    /// The least number of a constraint that is No on the cells.
+    pub fn first_no(&self, cells: &Cells) -> Option<u32>
         requires { FitsModel self.now.model cells.now }
         ensures { result ≡ find (no_on self.now.model cells.now) (range_with_len 1 (length self.now.model.rules)) }
     {
@@ -242,8 +242,8 @@ impl<'t> Refuter<'t> {
         least
     }
 
-    // The omissions that stand before the tree.
-    pub(crate) fn omissions(&self) -> &'t Omissions
+    /// The omissions that stand before the tree.
+    pub fn omissions(&self) -> &'t Omissions
         ensures format { self.now.format ≡ format_of result.now.form }
         ensures earlier { self.now.earlier ≡ earlier_tuples self.now.model result.now }
     {
@@ -301,8 +301,8 @@ impl<'t> Refuter<'t> {
         }
     }
 
-    // The least number of an omission that is a leaf on the cells.
-    pub(crate) fn first_cited(&self, cells: &Cells) -> Option<u32>
+    /// The least number of an omission that is a leaf on the cells.
+    pub fn first_cited(&self, cells: &Cells) -> Option<u32>
         requires { length cells.now ≡ length self.now.model.params }
         ensures { result ≡ find (is_omission_leaf self.now.model self.now.format self.now.earlier self.now.tuple cells.now) (range_with_len 1 (length self.now.earlier)) }
     {

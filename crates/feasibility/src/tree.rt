@@ -20,11 +20,11 @@ use std::alloc::Global;
 use std::marker::Model;
 use value_text::NoMemory;
 
-// What a plain search looks at in each node: the values of each parameter in the order in which
-// they are tried, the parameters that each constraint names, with the values that alone leave it
-// undecided, and the parameters that constraints name, with those that each value leaves undecided.
+/// What a plain search looks at in each node: the values of each parameter in the order in which
+/// they are tried, the parameters that each constraint names, with the values that alone leave it
+/// undecided, and the parameters that constraints name, with those that each value leaves undecided.
 #[derive(Drop)]
-pub(crate) struct SearchTree<'a> {
+pub struct SearchTree<'a> {
     rules: CompiledRules<'a>,
     values: PackedLists,
     members: PackedLists,
@@ -47,8 +47,13 @@ impl<'a> Model for SearchTree<'a> {
 }
 
 impl<'a> SearchTree<'a> {
-    // What a search of a slice needs, in the order of the preferences.
-    pub(crate) fn new(
+    /// What a search of a slice of the model needs, each parameter's values in the order of the
+    /// preferences, which have to be the model's.
+    ///
+    /// # Errors
+    ///
+    /// `NoMemory` where there is no room.
+    pub fn new(
         alloc: Global,
         model: &'a TestModel,
         prefs: &Prefs,
@@ -72,23 +77,23 @@ impl<'a> SearchTree<'a> {
         })
     }
 
-    // What the tree keeps.
-    pub(crate) fn assert_invariant(&self)
+    /// What the tree keeps.
+    pub fn assert_invariant(&self)
         ensures values { ListsValues self.now.model self.now.values }
         ensures sound { IsSound self.now.model }
     {
         let _model = self.rules.model();
     }
 
-    // The model.
-    pub(crate) fn model(&self) -> &'a TestModel
+    /// The model.
+    pub fn model(&self) -> &'a TestModel
         ensures { result.now ≡ self.now.model }
     {
         self.rules.model()
     }
 
-    // What is known of the constraint of this number on the cells.
-    pub(crate) fn truth(&self, rule: u32, cells: &Cells) -> Truth
+    /// What is known of the constraint of this number on the cells.
+    pub fn truth(&self, rule: u32, cells: &Cells) -> Truth
         requires first { 0 < rule }
         requires last { rule ≤ length self.now.model.rules }
         requires fits { FitsModel self.now.model cells.now }
@@ -97,24 +102,24 @@ impl<'a> SearchTree<'a> {
         self.rules.truth(rule, cells)
     }
 
-    // How many values a parameter has.
-    pub(crate) fn count_of(&self, q: ParamNo) -> ValueNo
+    /// How many values a parameter has.
+    pub fn count_of(&self, q: ParamNo) -> ValueNo
         requires { q < length self.now.model.params }
         ensures { result ≡ length (param_at self.now.model.params q).values }
     {
         value_count(self.model(), q)
     }
 
-    // The values of a parameter in the order in which they are tried.
-    pub(crate) fn values_of(&self, p: ParamNo) -> &[ValueNo]
+    /// The values of a parameter in the order in which they are tried.
+    pub fn values_of(&self, p: ParamNo) -> &[ValueNo]
         requires { p < length self.now.model.params }
         ensures { result.now ≡ slice_index_or self.now.values p [] }
     {
         self.values.list(p as usize)
     }
 
-    // The parameters that the constraint of this number names.
-    pub(crate) fn members_of(&self, rule: u32) -> &[ParamNo]
+    /// The parameters that the constraint of this number names.
+    pub fn members_of(&self, rule: u32) -> &[ParamNo]
         requires first { 0 < rule }
         requires last { rule ≤ length self.now.model.rules }
         ensures { result.now ≡ members (length self.now.model.params) (rule_at self.now.model rule).body }
@@ -134,23 +139,23 @@ impl<'a> SearchTree<'a> {
         lists.list(j)
     }
 
-    // How many parameters constraints name.
-    pub(crate) fn constrained_len(&self) -> usize
+    /// How many parameters constraints name.
+    pub fn constrained_len(&self) -> usize
         ensures { result ≡ length (constrained_params self.now.model) }
     {
         self.constrained.len()
     }
 
-    // The constrained parameter at a place, and what its values leave undecided.
-    pub(crate) fn constrained_at(&self, i: usize) -> &Constrained
+    /// The constrained parameter at a place, and what its values leave undecided.
+    pub fn constrained_at(&self, i: usize) -> &Constrained
         requires { i < length (constrained_params self.now.model) }
         ensures { result.now ≡ undecided_by self.now.model (constrained_at self.now.model i) }
     {
         &self.constrained[i]
     }
 
-    // Whether a constraint names a parameter.
-    pub(crate) fn is_constrained(&self, q: ParamNo) -> bool
+    /// Whether a constraint names a parameter.
+    pub fn is_constrained(&self, q: ParamNo) -> bool
         ensures { result ≡ is_among (constrained_params self.now.model) q }
     {
         let count = self.constrained_len();
@@ -163,9 +168,9 @@ impl<'a> SearchTree<'a> {
         false
     }
 
-    // The constraints that this value of a parameter leaves undecided, of those that name the
-    // parameter.
-    pub(crate) fn undecided(&self, q: ParamNo, v: ValueNo) -> &[u16]
+    /// The constraints that this value of a parameter leaves undecided, of those that name the
+    /// parameter.
+    pub fn undecided(&self, q: ParamNo, v: ValueNo) -> &[u16]
         requires parameter { q < length self.now.model.params }
         requires value { v < length (param_at self.now.model.params q).values }
         ensures { result.now ≡ undecided self.now.model q v }

@@ -48,8 +48,8 @@ impl<'a> SearchTree<'a> {
         }
     }
 
-    // Gives each parameter without a value the first of its list.
-    pub(crate) fn fill(&self, cells: &mut Cells)
+    /// Gives each parameter without a value the first of its list.
+    pub fn fill(&self, cells: &mut Cells)
         requires { length cells.old ≡ length self.now.model.params }
         ensures { cells.new ≡ filled self.now.values cells.old }
     {
@@ -138,8 +138,8 @@ impl<'a> SearchTree<'a> {
         answer
     }
 
-    // Whether two partial rows give each parameter that constraints name the same value, or none.
-    pub(crate) fn agree_on_named(&self, cells: &Cells, others: &Cells) -> bool
+    /// Whether two partial rows give each parameter that constraints name the same value, or none.
+    pub fn agree_on_named(&self, cells: &Cells, others: &Cells) -> bool
         requires long { length cells.now ≡ length self.now.model.params }
         requires also { length others.now ≡ length self.now.model.params }
         ensures { result ≡ true → AgreeOnNamed self.now.model cells.now others.now }

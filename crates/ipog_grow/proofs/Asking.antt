@@ -1,23 +1,23 @@
--- What the answer to a question tells of the budget.
-use Rattle.std.proofs.Common.{◌≡◌, ℕ, Bool, true, false, cond, nat_lt, List, [], ◌∷◌, Option, Some, None, ◌∙◌, sym, subst, refl, ap}
+-- What the answer to a question tells of its cost.
+use Rattle.std.proofs.Common.{◌≡◌, ℕ, Bool, true, false, cond, List, [], ◌∷◌, Option, Some, None, ◌∙◌, sym, subst, refl, ap}
 use Rattle.cov_model.specs.declared.slice.Slice.{Slice}
-use Rattle.definitions.specs.Search.{plain_cost}
+use Rattle.definitions.specs.Search.{exceeds, plain_cost}
 use Rattle.std.specs.Prelude.{Err}
 use Rattle.ipog_grow.specs.declared.stop.Stop.{Stop}
 use Rattle.ipog_grow.specs.declared.stop.Stop.TheVariants as stops
 use Rattle.feasibility.specs.declared.answer.Answer.{Answer}
 use Rattle.feasibility.specs.declared.answer.Answer.TheVariants.{Yes, No, Spent}
-use Rattle.feasibility.specs.Answers.{answer_of}
-use Rattle.ipog_grow.specs.Asking.{SearchContext, IsSoundContext, Grows, Told, extends, first_spent}
+use Rattle.full_search.specs.Questions.{QuestionsView, answer_within}
+use Rattle.ipog_grow.specs.Asking.{IsSoundContext, Grows, Told, extends, first_spent}
 use Rattle.ipog_grow.proofs.Tuples.{grows-slice}
 
 -- what an answer tells of one question
-pub record Asked (context : SearchContext) (cells : List (Option ℕ)) (answer : Answer) : Type 0 where
+pub record Asked (context : QuestionsView) (cells : List (Option ℕ)) (answer : Answer) : Type 0 where
   pub yes : answer ≡ Yes → first_spent context (cells ∷ []) ≡ None
   pub no : answer ≡ No → first_spent context (cells ∷ []) ≡ None
   pub spent : answer ≡ Spent → first_spent context (cells ∷ []) ≡ Some cells
 
--- the same, where it is known whether the cost exceeds the budget
+-- the same, where it is known whether the cost is above what a question may cost
 record Parts (cells : List (Option ℕ)) (answer : Answer) (over : Bool) : Type 0 where
   yes : answer ≡ Yes → cond over (Some cells) None ≡ None
   no : answer ≡ No → cond over (Some cells) None ≡ None
@@ -37,12 +37,12 @@ by_cost cells answer false found told = record { yes = λ e. refl; no = λ e. re
     other true e = cc
     other false e = cc
 
-pub asked : (context : SearchContext) (cells : List (Option ℕ)) (answer : Answer) → IsSoundContext context → Grows context cells
-    → answer ≡ answer_of (extends context cells) (plain_cost context.model context.prefs context.slice cells) context.budget → Asked context cells answer
+pub asked : (context : QuestionsView) (cells : List (Option ℕ)) (answer : Answer) → IsSoundContext context → Grows context cells
+    → answer ≡ answer_within (extends context cells) (plain_cost context.model context.prefs context.slice cells) context.effort → Asked context cells answer
 asked context cells answer is grows told =
-    let parts = subst (λ (slice : Slice). Parts cells answer (nat_lt context.budget (plain_cost context.model context.prefs slice cells)))
+    let parts = subst (λ (slice : Slice). Parts cells answer (exceeds context.effort (plain_cost context.model context.prefs slice cells)))
     (sym (grows-slice context.model context.slice cells is.slice grows))
-    (by_cost cells answer (nat_lt context.budget (plain_cost context.model context.prefs context.slice cells)) (extends context cells) told) in
+    (by_cost cells answer (exceeds context.effort (plain_cost context.model context.prefs context.slice cells)) (extends context cells) told) in
     record { yes = parts.yes; no = parts.no; spent = parts.spent }
 
 -- a fault of a part is one of the whole, where its question is
@@ -53,22 +53,22 @@ told-err A B stops.Spent question part whole more told = more told
 told-err A B stops.NoMemory question part whole more told = tt
 
 -- what the answer about a partial row tells, where it was put in other words
-pub record IsAnswered (context : SearchContext) (cells : List (Option ℕ)) (found : Bool) : Type 0 where
+pub record IsAnswered (context : QuestionsView) (cells : List (Option ℕ)) (found : Bool) : Type 0 where
   pub value : found ≡ extends context cells
   pub unspent : first_spent context (cells ∷ []) ≡ None
 
-pub answered : {context now : SearchContext} {cells put : List (Option ℕ)} {found : Bool} → now ≡ context → put ≡ cells
+pub answered : {context now : QuestionsView} {cells put : List (Option ℕ)} {found : Bool} → now ≡ context → put ≡ cells
     → found ≡ extends now put → first_spent now (put ∷ []) ≡ None → IsAnswered context cells found
 answered {context} {now} {cells} {put} {found} same is value unspent = record {
-  value = value ∙ ap (λ (w : SearchContext). extends w put) same ∙ ap (extends context) is;
-  unspent = ap (λ (c : List (Option ℕ)). first_spent context (c ∷ [])) (sym is) ∙ ap (λ (w : SearchContext). first_spent w (put ∷ [])) (sym same) ∙ unspent;
+  value = value ∙ ap (λ (w : QuestionsView). extends w put) same ∙ ap (extends context) is;
+  unspent = ap (λ (c : List (Option ℕ)). first_spent context (c ∷ [])) (sym is) ∙ ap (λ (w : QuestionsView). first_spent w (put ∷ [])) (sym same) ∙ unspent;
 }
 
--- a question about it that exceeds the budget is one of the whole
-pub told-answer : (A B : Type 0) (stop : Stop) (question : List (Option ℕ)) {context now : SearchContext} {cells put : List (Option ℕ)}
+-- a question about it that costs more than it may is one of the whole
+pub told-answer : (A B : Type 0) (stop : Stop) (question : List (Option ℕ)) {context now : QuestionsView} {cells put : List (Option ℕ)}
     {whole : Option (List (Option ℕ))} → now ≡ context → put ≡ cells → (first_spent context (cells ∷ []) ≡ Some question → whole ≡ Some question)
     → Told {A = A} (Err stop) question (first_spent now (put ∷ [])) → Told {A = B} (Err stop) question whole
 told-answer A B stop question {context} {now} {cells} {put} {whole} same is more told =
     told-err A B stop question (first_spent context (cells ∷ [])) whole more
-    (subst (λ (w : SearchContext). Told {A = A} (Err stop) question (first_spent w (cells ∷ []))) same
+    (subst (λ (w : QuestionsView). Told {A = A} (Err stop) question (first_spent w (cells ∷ []))) same
     (subst (λ (c : List (Option ℕ)). Told {A = A} (Err stop) question (first_spent now (c ∷ []))) is told))

@@ -14,7 +14,8 @@ use Rattle.definitions.specs.Growth.{Grown, agrees, join, settle, is_uncovered, 
 use Rattle.uncovered_table.specs.Open.{OpenView, closed, row_closed}
 use Rattle.uncovered_table.specs.Places.{is_behind, is_in_play, is_place, tuple_at}
 use Rattle.ipog_grow.specs.Growing.{columns_to, IsInPlay, Keeps, Rises, open_places, open_tuples}
-use Rattle.ipog_grow.specs.Asking.{SearchContext, Grows, IsNext, IsPassed, IsUnionAt, extends, first_spent}
+use Rattle.full_search.specs.Questions.{QuestionsView}
+use Rattle.ipog_grow.specs.Asking.{Grows, IsNext, IsPassed, IsUnionAt, extends, first_spent}
 use Rattle.definitions.specs.Demand.{is_among}
 use Rattle.cov_model.specs.Sound.{param_at}
 use Rattle.tuple_index.specs.Places.{RisesFrom}
@@ -39,14 +40,14 @@ split table p place first = by_places (open_places table p) refl first
     by_places (a ∷ rest) is e = record { rest = rest; is = is ∙ ap (λ (b : ℕ × ℕ). b ∷ rest) (same_Some a place e) }
 
 -- the other open tuples
-others : (context : SearchContext) (table : OpenView) (p : ℕ) (place : ℕ × ℕ) (tuple : List (Option ℕ)) (rows : List (List (Option ℕ)))
+others : (context : QuestionsView) (table : OpenView) (p : ℕ) (place : ℕ × ℕ) (tuple : List (Option ℕ)) (rows : List (List (Option ℕ)))
     (next : IsNext context table p place tuple rows) (parts : Split table p place)
     → open_tuples table p ≡ tuple ∷ map (tuple_at table.model) parts.rest
 others context table p place tuple rows next parts =
     ap (map (tuple_at table.model)) parts.is ∙ ap (λ (t : List (Option ℕ)). t ∷ map (tuple_at table.model) parts.rest) (sym next.tuple_is)
 
 -- none of them is contained in a row
-others-open : (context : SearchContext) (table : OpenView) (p : ℕ) (place : ℕ × ℕ) (tuple : List (Option ℕ)) (rows : List (List (Option ℕ)))
+others-open : (context : QuestionsView) (table : OpenView) (p : ℕ) (place : ℕ × ℕ) (tuple : List (Option ℕ)) (rows : List (List (Option ℕ)))
     (next : IsNext context table p place tuple rows) (parts : Split table p place)
     → filter (is_uncovered rows) (map (tuple_at table.model) parts.rest) ≡ map (tuple_at table.model) parts.rest
 others-open context table p place tuple rows next parts =
@@ -59,7 +60,7 @@ behind_rest : (table : OpenView) (p : ℕ) (place : ℕ × ℕ) (parts : Split t
 behind_rest table p place parts rises = (subst Rises parts.is (Rises-filter (is_in_play table.model table.slice p) table.places rises)).0
 
 -- by a row that contains it
-pub passed-row : (context : SearchContext) (table after : OpenView) (p : ℕ) (place : ℕ × ℕ) (tuple row : List (Option ℕ)) (rows grown : List (List (Option ℕ)))
+pub passed-row : (context : QuestionsView) (table after : OpenView) (p : ℕ) (place : ℕ × ℕ) (tuple row : List (Option ℕ)) (rows grown : List (List (Option ℕ)))
     → IsNext context table p place tuple rows → after ≡ row_closed table p row → contains row tuple ≡ true
     → ((t : List (Option ℕ)) → holds grown t ≡ (holds rows t || contains row t)) → All (Grows context) grown → IsPassed context table after p place grown
 passed-row context table after p place tuple row rows grown next is held more grows =
@@ -86,7 +87,7 @@ passed-row context table after p place tuple row rows grown next is held more gr
     }
 
 -- as a new row
-pub passed-new : {context : SearchContext} {table after : OpenView} {p : ℕ} {place : ℕ × ℕ} {tuple : List (Option ℕ)} {rows : List (List (Option ℕ))}
+pub passed-new : {context : QuestionsView} {table after : OpenView} {p : ℕ} {place : ℕ × ℕ} {tuple : List (Option ℕ)} {rows : List (List (Option ℕ))}
     → IsNext context table p place tuple rows → after ≡ row_closed table p tuple → Grows context tuple
     → IsPassed context table after p place (rows ++ tuple ∷ [])
 passed-new {context} {table} {after} {p} {place} {tuple} {rows} next is grows =
@@ -94,7 +95,7 @@ passed-new {context} {table} {after} {p} {place} {tuple} {rows} next is grows =
     (All-push (Grows context) rows tuple next.grows grows)
 
 -- by a row that takes it
-pub passed-union : {context : SearchContext} {table after : OpenView} {p i : ℕ} {place : ℕ × ℕ} {tuple : List (Option ℕ)} {rows grown : List (List (Option ℕ))}
+pub passed-union : {context : QuestionsView} {table after : OpenView} {p i : ℕ} {place : ℕ × ℕ} {tuple : List (Option ℕ)} {rows grown : List (List (Option ℕ))}
     → IsNext context table p place tuple rows → IsUnionAt rows grown tuple i → after ≡ row_closed table p (get_or grown i [])
     → get_or grown i [] ≡ union (get_or rows i []) tuple → All (Grows context) grown
     → IsPassed context table after p place grown
@@ -124,7 +125,7 @@ first-in_play table p place parts = at (is_in_play table.model table.slice p) pl
         by_test false is h later = later h
 
 -- where it is omitted
-pub passed-omitted : {context : SearchContext} {table after : OpenView} {p : ℕ} {place : ℕ × ℕ} {tuple : List (Option ℕ)} {rows : List (List (Option ℕ))}
+pub passed-omitted : {context : QuestionsView} {table after : OpenView} {p : ℕ} {place : ℕ × ℕ} {tuple : List (Option ℕ)} {rows : List (List (Option ℕ))}
     → IsNext context table p place tuple rows → after ≡ closed table place → IsPassed context table after p place rows
 passed-omitted {context} {table} {after} {p} {place} {tuple} {rows} next is =
     let parts = split table p place next.first in
@@ -147,7 +148,7 @@ passed-omitted {context} {table} {after} {p} {place} {tuple} {rows} next is =
     }
 
 -- the tuple is a partial row of the slice
-pub next-grows : {context : SearchContext} {table : OpenView} {p : ℕ} {place : ℕ × ℕ} {tuple : List (Option ℕ)} {rows : List (List (Option ℕ))}
+pub next-grows : {context : QuestionsView} {table : OpenView} {p : ℕ} {place : ℕ × ℕ} {tuple : List (Option ℕ)} {rows : List (List (Option ℕ))}
     → IsNext context table p place tuple rows → Grows context tuple
 next-grows {context} {table} {p} {place} {tuple} {rows} next =
     let parts = split table p place next.first in
@@ -155,7 +156,7 @@ next-grows {context} {table} {p} {place} {tuple} {rows} next =
     (subst (All (IsInPlay context.model context.slice p)) (others context table p place tuple rows next parts) next.in_play)).grows
 
 -- it is in play, no row contains it, and the rows that aren't among the unfilled can't agree with it
-pub next-in_play : (context : SearchContext) (table : OpenView) (p : ℕ) (place : ℕ × ℕ) (tuple : List (Option ℕ)) (rows : List (List (Option ℕ)))
+pub next-in_play : (context : QuestionsView) (table : OpenView) (p : ℕ) (place : ℕ × ℕ) (tuple : List (Option ℕ)) (rows : List (List (Option ℕ)))
     → IsNext context table p place tuple rows
     → IsInPlay context.model context.slice p tuple × (is_uncovered rows tuple ≡ true)
 next-in_play context table p place tuple rows next =
@@ -172,7 +173,7 @@ pub record Joinable (rows : List (List (Option ℕ))) (tuple : List (Option ℕ)
   pub rise : RisesFrom 0 (length rows) numbers
   pub others : (i : ℕ) → i < length rows → is_among numbers i ≡ false → agrees (get_or rows i []) tuple ≡ false
 
-pub joinable : {context : SearchContext} {table : OpenView} {p : ℕ} {place : ℕ × ℕ} {tuple : List (Option ℕ)} {rows : List (List (Option ℕ))}
+pub joinable : {context : QuestionsView} {table : OpenView} {p : ℕ} {place : ℕ × ℕ} {tuple : List (Option ℕ)} {rows : List (List (Option ℕ))}
     {columns numbers : List ℕ} {unfilled : UnfilledLists}
     → IsNext context table p place tuple rows → columns ≡ columns_to context.model context.slice p
     → HasUnfilled columns p (length (param_at context.model.params p).values) rows unfilled
@@ -196,7 +197,7 @@ joinable {context} {table} {p} {place} {tuple} {rows} {columns} {numbers} {unfil
     }
 
 -- joining asks first
-pub settle-stops : (context : SearchContext) (tuple question : List (Option ℕ)) (rows : List (List (Option ℕ)))
+pub settle-stops : (context : QuestionsView) (tuple question : List (Option ℕ)) (rows : List (List (Option ℕ)))
     → first_spent context (join (extends context) tuple rows).asked ≡ Some question
     → first_spent context (settle (extends context) tuple rows).asked ≡ Some question
 settle-stops context tuple question rows over = by_taken (join (extends context) tuple rows).taken refl
@@ -208,7 +209,7 @@ settle-stops context tuple question rows over = by_taken (join (extends context)
         ∙ find-earlier (is_over context) question (join (extends context) tuple rows).asked (tuple ∷ []) over
 
 -- and then it is asked of the tuple alone
-pub settle-asks : (context : SearchContext) (tuple : List (Option ℕ)) (rows : List (List (Option ℕ))) → false ≡ (join (extends context) tuple rows).taken
+pub settle-asks : (context : QuestionsView) (tuple : List (Option ℕ)) (rows : List (List (Option ℕ))) → false ≡ (join (extends context) tuple rows).taken
     → first_spent context (join (extends context) tuple rows).asked ≡ None → first_spent context (settle (extends context) tuple rows).asked
     ≡ first_spent context (tuple ∷ [])
 settle-asks context tuple rows alone none =
@@ -232,10 +233,10 @@ taken_at {rows} {grown} {tuple} {read} {i} {at} found union_at is =
     }
 
 -- no row took it
-pub record IsAlone (context : SearchContext) (tuple : List (Option ℕ)) (rows : List (List (Option ℕ))) : Type 0 where
+pub record IsAlone (context : QuestionsView) (tuple : List (Option ℕ)) (rows : List (List (Option ℕ))) : Type 0 where
   pub alone : false ≡ (join (extends context) tuple rows).taken
   pub unspent : first_spent context (join (extends context) tuple rows).asked ≡ None
 
-pub is_alone : (context : SearchContext) (tuple : List (Option ℕ)) (rows : List (List (Option ℕ))) {at : Option ℕ} → at ≡ None
+pub is_alone : (context : QuestionsView) (tuple : List (Option ℕ)) (rows : List (List (Option ℕ))) {at : Option ℕ} → at ≡ None
     → is_some at ≡ (join (extends context) tuple rows).taken → first_spent context (join (extends context) tuple rows).asked ≡ None → IsAlone context tuple rows
 is_alone context tuple rows {at} none taken unspent = record { alone = ap (λ (o : Option ℕ). is_some o) (sym none) ∙ taken; unspent = unspent }

@@ -1,5 +1,5 @@
 -- Completing partial rows one after another.
-use Rattle.std.proofs.Common.{◌≡◌, ℕ, ◌+◌, ◌<◌, ◌≤◌, Bool, true, false, cond, nat_lt, All, List, [], ◌∷◌, ◌++◌, take, get_or, length, filter_map}
+use Rattle.std.proofs.Common.{◌≡◌, ℕ, ◌+◌, ◌<◌, ◌≤◌, Bool, true, false, cond, All, List, [], ◌∷◌, ◌++◌, take, get_or, length, filter_map}
 use Rattle.std.proofs.Common.{Option, Some, None, is_some, ◌∙◌, sym, ap, subst, refl}
 use Rattle.std.specs.List.{cons_option}
 use Rattle.std.proofs.lemmas.Bool.{false≢true}
@@ -7,23 +7,23 @@ use Rattle.std.proofs.lemmas.List.{get_or_default, take_all, take_more}
 use Rattle.std.proofs.lemmas.List.Elements.{All-weaker, filter_map-append}
 use Rattle.feasibility.specs.declared.answer.Answer.{Answer}
 use Rattle.feasibility.specs.declared.answer.Answer.TheVariants.{Yes, No, Spent}
-use Rattle.feasibility.specs.Answers.{answer_of}
 use Rattle.feasibility.proofs.Extendable.{completed_is_extendable}
-use Rattle.definitions.specs.Search.{plain_cost, question_cost}
-use Rattle.ipog_grow.specs.Asking.{SearchContext, IsSoundContext, Grows, extends, first_spent}
+use Rattle.definitions.specs.Search.{exceeds, plain_cost, question_cost}
+use Rattle.full_search.specs.Questions.{QuestionsView, answer_within}
+use Rattle.ipog_grow.specs.Asking.{IsSoundContext, Grows, extends, first_spent}
 use Rattle.ipog_grow.specs.Completing.{completed}
 use Rattle.ipog_grow.specs.Rows.{AreDone}
 use Rattle.ipog_grow.proofs.InPlace.{done-more, done-none, done-read}
 use Rattle.ipog_grow.proofs.Spending.{find-more, find-at}
 
 -- what isn't extendable has no completion
-pub none_completed : (context : SearchContext) (cells : List (Option ℕ)) (answer : Answer) → IsSoundContext context → Grows context cells
-    → answer ≡ answer_of (extends context cells) (plain_cost context.model context.prefs context.slice cells) context.budget → answer ≡ No
+pub none_completed : (context : QuestionsView) (cells : List (Option ℕ)) (answer : Answer) → IsSoundContext context → Grows context cells
+    → answer ≡ answer_within (extends context cells) (plain_cost context.model context.prefs context.slice cells) context.effort → answer ≡ No
     → completed context cells ≡ None
 none_completed context cells answer is grows told fails =
     none (completed context cells)
     (completed_is_extendable context.model context.prefs context.slice cells is.orders is.slice grows.of
-    ∙ found (nat_lt context.budget (plain_cost context.model context.prefs context.slice cells)) (extends context cells) (sym told ∙ fails))
+    ∙ found (exceeds context.effort (plain_cost context.model context.prefs context.slice cells)) (extends context cells) (sym told ∙ fails))
   where
     found : (over b : Bool) → cond over Spent (cond b Yes No) ≡ No → b ≡ false
     found true b e = absurd (spent_no e)
@@ -46,17 +46,17 @@ completed-more : (f : List (Option ℕ) → Option (List (Option ℕ))) (grown :
 completed-more f grown i within =
     ap (filter_map f) (take_more grown i [] within) ∙ filter_map-append f (take i grown) (get_or grown i [] ∷ [])
 
--- the grown rows before this place are completed, and no question of theirs exceeded the budget
-pub record Completes (context : SearchContext) (grown rows : List (List (Option ℕ))) (i count : ℕ) (room : List (Option ℕ)) : Type 0 where
+-- the grown rows before this place are completed, and no question of theirs cost more than it may
+pub record Completes (context : QuestionsView) (grown rows : List (List (Option ℕ))) (i count : ℕ) (room : List (Option ℕ)) : Type 0 where
   pub done : AreDone grown rows i count (filter_map (completed context) (take i grown))
   pub unspent : first_spent context (take i grown) ≡ None
   pub long : All (λ row. length row ≡ length context.model.params) rows
   pub room_fits : length room ≡ length context.model.params
 
-abbrev is_over : SearchContext → List (Option ℕ) → Bool
-is_over context cells = nat_lt context.budget (question_cost context.model context.prefs cells)
+abbrev is_over : QuestionsView → List (Option ℕ) → Bool
+is_over context cells = exceeds context.effort (question_cost context.model context.prefs cells)
 
-pub completes-none : (context : SearchContext) (grown : List (List (Option ℕ))) (room : List (Option ℕ))
+pub completes-none : (context : QuestionsView) (grown : List (List (Option ℕ))) (room : List (Option ℕ))
     → All (Grows context) grown → length room ≡ length context.model.params → Completes context grown grown 0 0 room
 completes-none context grown room grows fits = record {
   done = done-none grown;
@@ -65,7 +65,7 @@ completes-none context grown room grows fits = record {
   room_fits = fits;
 }
 
-module _ (context now : SearchContext) (same : now ≡ context) (grown rows : List (List (Option ℕ))) (i count : ℕ) (room : List (Option ℕ))
+module _ (context now : QuestionsView) (same : now ≡ context) (grown rows : List (List (Option ℕ))) (i count : ℕ) (room : List (Option ℕ))
     (before : Completes context grown rows i count room) (within : i < length grown) where
   abbrev cells : List (Option ℕ)
   cells = get_or rows i []
@@ -88,7 +88,7 @@ module _ (context now : SearchContext) (same : now ≡ context) (grown rows : Li
     done = subst (AreDone grown rows' (i + 1) count') more (done-more before.done within done);
     unspent = find-more (is_over context) grown i cells within before.unspent ∙ ap (λ c. first_spent context (c ∷ [])) (sym here)
         ∙ ap (λ w. first_spent w (cells ∷ [])) (sym same) ∙ unspent;
-    long = subst (λ (w : SearchContext). All (λ row. length row ≡ length w.model.params) rows') same long;
+    long = subst (λ (w : QuestionsView). All (λ row. length row ≡ length w.model.params) rows') same long;
     room_fits = fits ∙ before.room_fits;
   }
     where
@@ -98,14 +98,14 @@ module _ (context now : SearchContext) (same : now ≡ context) (grown rows : Li
           ∙ ap (λ c. filter_map (completed context) (take i grown) ++ cons_option (completed context c) []) completes-read
           ∙ sym (completed-more (completed context) grown i within)
 
-  -- or its question is the first above the budget
+  -- or its question is the first that costs more than it may
   pub completes-spent : (question : List (Option ℕ)) → first_spent now (cells ∷ []) ≡ Some question → first_spent context grown ≡ Some question
   completes-spent question spent =
       find-at (is_over context) grown i cells question within before.unspent
       (ap (λ c. first_spent context (c ∷ [])) (sym here) ∙ ap (λ w. first_spent w (cells ∷ [])) (sym same) ∙ spent)
 
 -- all are completed
-module _ (context : SearchContext) (grown rows : List (List (Option ℕ))) (i count : ℕ) (room : List (Option ℕ))
+module _ (context : QuestionsView) (grown rows : List (List (Option ℕ))) (i count : ℕ) (room : List (Option ℕ))
     (before : Completes context grown rows i count room) (all : length grown ≤ i) where
   pub completes-rows : take count rows ≡ filter_map (completed context) grown
   completes-rows = before.done.given_are ∙ ap (filter_map (completed context)) (take_all i grown all)

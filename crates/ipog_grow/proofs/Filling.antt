@@ -19,7 +19,8 @@ use Rattle.definitions.proofs.PartialRowLemmas.{get_or-preferred_values}
 use Rattle.feasibility.proofs.Extendable.{preferred_listed, slice_exist}
 use Rattle.uncovered_table.specs.Open.{OpenView, gain}
 use Rattle.ipog_grow.specs.Growing.{IsInPlay, open_tuples}
-use Rattle.ipog_grow.specs.Asking.{SearchContext, IsSoundContext, extends, tried, filled, Grows}
+use Rattle.full_search.specs.Questions.{QuestionsView}
+use Rattle.ipog_grow.specs.Asking.{IsSoundContext, extends, tried, filled, Grows}
 use Rattle.ipog_grow.proofs.Falling.{falling-same, falling-filter}
 use Rattle.ipog_grow.proofs.Table.{gain-counts}
 
@@ -48,12 +49,12 @@ gain-none m slice tuples row p v within are other =
         by_case false held = refl
 
 -- the scores of the values of a column in a row
-pub record Scored (context : SearchContext) (table : OpenView) (p : ℕ) (row : List (Option ℕ)) (scores : List ℕ) : Type 0 where
+pub record Scored (context : QuestionsView) (table : OpenView) (p : ℕ) (row : List (Option ℕ)) (scores : List ℕ) : Type 0 where
   pub gains : (v : ℕ) → v < length scores → get_or scores v 0 ≡ length (filter (contains (with_value row p v)) (open_tuples table p))
   pub listed : (v : ℕ) → 0 < get_or scores v 0 → is_among (get_or (slice_values context.model context.slice) p []) v ≡ true
   pub bounded : All (λ score. score ≤ length (open_tuples table p)) scores
 
-pub scored : (context : SearchContext) (table : OpenView) (p : ℕ) (row : List (Option ℕ)) (n : ℕ) (scores : List ℕ) → p < length row
+pub scored : (context : QuestionsView) (table : OpenView) (p : ℕ) (row : List (Option ℕ)) (n : ℕ) (scores : List ℕ) → p < length row
     → All (IsInPlay context.model context.slice p) (open_tuples table p) → scores ≡ map (gain table row p) (range_with_len 0 n)
     → Scored context table p row scores
 scored context table p row n scores within are is = record {
@@ -85,7 +86,7 @@ scored context table p row n scores within are is = record {
     bound i d below = omega (arith, gain_or i d below, length-filter-le (contains (with_value row p i)) (open_tuples table p))
 
 -- a partial row that has a value in the column stays
-pub filled-given : (context : SearchContext) (p : ℕ) (rows tuples : List (List (Option ℕ))) (row : List (Option ℕ)) → is_assigned row p ≡ true
+pub filled-given : (context : QuestionsView) (p : ℕ) (rows tuples : List (List (Option ℕ))) (row : List (Option ℕ)) → is_assigned row p ≡ true
     → filled context p rows tuples row ≡ record { row = row; asked = [] }
 filled-given context p rows tuples row given =
     ap (λ (b : Bool). cond b (record { row = row; asked = [] })
@@ -94,7 +95,7 @@ filled-given context p rows tuples row given =
     (get_or (preferred_values context.model context.prefs context.slice) p []))))) given
 
 -- else its values are tried by their scores
-pub filled-tried : (context : SearchContext) (table : OpenView) (p : ℕ) (rows tuples : List (List (Option ℕ))) (row : List (Option ℕ))
+pub filled-tried : (context : QuestionsView) (table : OpenView) (p : ℕ) (rows tuples : List (List (Option ℕ))) (row : List (Option ℕ))
     (scores order : List ℕ) → IsSoundContext context
     → p < length context.model.params → order ≡ get_or context.prefs p [] → length scores ≡ length (param_at context.model.params p).values
     → open_tuples table p ≡ filter (is_uncovered rows) tuples → Scored context table p row scores → is_assigned row p ≡ false
@@ -136,11 +137,11 @@ filled-tried context table p rows tuples row scores order is within own long mom
         ]
 
 -- what a cell gets, by the scores of its values
-pub record IsFilledBy (context : SearchContext) (p : ℕ) (rows tuples : List (List (Option ℕ))) (row : List (Option ℕ)) (scores order : List ℕ) : Type 0 where
+pub record IsFilledBy (context : QuestionsView) (p : ℕ) (rows tuples : List (List (Option ℕ))) (row : List (Option ℕ)) (scores order : List ℕ) : Type 0 where
   pub same : filled context p rows tuples row ≡ tried context (length tuples) scores order p row
   pub most : All (λ score. score ≤ length tuples) scores
 
-pub fills : {context : SearchContext} {p : ℕ} {row : List (Option ℕ)} {scores order : List ℕ} {rows tuples : List (List (Option ℕ))} (table : OpenView) (n : ℕ)
+pub fills : {context : QuestionsView} {p : ℕ} {row : List (Option ℕ)} {scores order : List ℕ} {rows tuples : List (List (Option ℕ))} (table : OpenView) (n : ℕ)
     → IsSoundContext context → p < length context.model.params → order ≡ get_or context.prefs p []
     → length scores ≡ length (param_at context.model.params p).values
     → All (IsInPlay context.model context.slice p) (open_tuples table p) → Grows context row → scores ≡ map (gain table row p) (range_with_len 0 n)
@@ -167,11 +168,11 @@ put_back {rows} {after} {i} {copy} {row} p v within read given put =
     record { is = there; others = put ∙ ap (set rows i) (same ∙ sym there) }
 
 -- the same of a copy of the row
-pub record IsFilledFrom (context : SearchContext) (p : ℕ) (rows tuples : List (List (Option ℕ))) (row copy : List (Option ℕ)) (scores order : List ℕ) : Type 0 where
+pub record IsFilledFrom (context : QuestionsView) (p : ℕ) (rows tuples : List (List (Option ℕ))) (row copy : List (Option ℕ)) (scores order : List ℕ) : Type 0 where
   pub same : filled context p rows tuples row ≡ tried context (length tuples) scores order p copy
   pub most : All (λ score. score ≤ length tuples) scores
 
-pub fills_copy : {context : SearchContext} {p : ℕ} {row copy : List (Option ℕ)} {scores order : List ℕ} {rows tuples : List (List (Option ℕ))} (table : OpenView) (n : ℕ)
+pub fills_copy : {context : QuestionsView} {p : ℕ} {row copy : List (Option ℕ)} {scores order : List ℕ} {rows tuples : List (List (Option ℕ))} (table : OpenView) (n : ℕ)
     → IsSoundContext context → p < length context.model.params → order ≡ get_or context.prefs p []
     → length scores ≡ length (param_at context.model.params p).values
     → All (IsInPlay context.model context.slice p) (open_tuples table p) → Grows context row → copy ≡ row

@@ -7,7 +7,8 @@ use Rattle.cov_model.specs.Rows.{contains}
 use Rattle.definitions.specs.Growth.{Grown, is_uncovered}
 use Rattle.uncovered_table.specs.Open.{OpenView, row_closed, is_held}
 use Rattle.ipog_grow.specs.Growing.{IsClosedBy, IsInPlay, Keeps, open_tuples}
-use Rattle.ipog_grow.specs.Asking.{SearchContext, Grows, first_spent, filled, crossed}
+use Rattle.full_search.specs.Questions.{QuestionsView}
+use Rattle.ipog_grow.specs.Asking.{Grows, first_spent, filled, crossed}
 use Rattle.ipog_grow.proofs.Holding.{holds-set, open_after}
 use Rattle.ipog_grow.proofs.Table.{open_tuples-row_closed, open_places-row_closed_other, Rises-filter}
 use Rattle.ipog_grow.proofs.Trying.{is_over}
@@ -49,7 +50,7 @@ moment-set table after p i row rows tuples is within more moment =
     ∙ sym (open_after rows (set rows i row) row tuples (λ tuple. holds-set rows i row tuple within more))
 
 -- what a step on a cell told
-pub record Step (context : SearchContext) (p : ℕ) (table after : OpenView) (row grown : List (Option ℕ)) : Type 0 where
+pub record Step (context : QuestionsView) (p : ℕ) (table after : OpenView) (row grown : List (Option ℕ)) : Type 0 where
   pub asked : (rows tuples : List (List (Option ℕ))) → open_tuples table p ≡ filter (is_uncovered rows) tuples
       → first_spent context (filled context p rows tuples row).asked ≡ None
   pub given : (rows tuples : List (List (Option ℕ))) → open_tuples table p ≡ filter (is_uncovered rows) tuples → grown ≡ (filled context p rows tuples row).row
@@ -58,7 +59,7 @@ pub record Step (context : SearchContext) (p : ℕ) (table after : OpenView) (ro
   pub more : contains grown row ≡ true
 
 -- the rows that are left decide
-pub record Crossing (context : SearchContext) (p : ℕ) (start table : OpenView) (initial rows : List (List (Option ℕ))) (i : ℕ) : Type 0 where
+pub record Crossing (context : QuestionsView) (p : ℕ) (start table : OpenView) (initial rows : List (List (Option ℕ))) (i : ℕ) : Type 0 where
   pub moment : (tuples : List (List (Option ℕ))) → open_tuples start p ≡ filter (is_uncovered initial) tuples
       → open_tuples table p ≡ filter (is_uncovered rows) tuples
   pub given : (tuples : List (List (Option ℕ))) → open_tuples start p ≡ filter (is_uncovered initial) tuples
@@ -70,7 +71,7 @@ pub record Crossing (context : SearchContext) (p : ℕ) (start table : OpenView)
   pub grows : All (Grows context) rows
   pub long : length rows ≡ length initial
 
-pub crossing-start : (context : SearchContext) (p : ℕ) (table : OpenView) (rows : List (List (Option ℕ)))
+pub crossing-start : (context : QuestionsView) (p : ℕ) (table : OpenView) (rows : List (List (Option ℕ)))
     → All (IsInPlay context.model context.slice p) (open_tuples table p) → All (Grows context) rows
     → Crossing context p table table rows rows 0
 crossing-start context p table rows in_play grows = record {
@@ -84,13 +85,13 @@ crossing-start context p table rows in_play grows = record {
 }
 
 -- what the rows that are left give, by the first of them
-abbrev by_row : SearchContext → ℕ → List (List (Option ℕ)) → List (List (Option ℕ)) → ℕ → Grown
+abbrev by_row : QuestionsView → ℕ → List (List (Option ℕ)) → List (List (Option ℕ)) → ℕ → Grown
 by_row context p tuples rows i =
     let step = filled context p rows tuples (get_or rows i []) in
     let later = crossed context p tuples (take i rows ++ step.row ∷ []) (drop (i + 1) rows) in
     record { rows = later.rows; omitted = later.omitted; asked = step.asked ++ later.asked }
 
-at_row : (context : SearchContext) (p : ℕ) (tuples rows : List (List (Option ℕ))) (i : ℕ) → i < length rows
+at_row : (context : QuestionsView) (p : ℕ) (tuples rows : List (List (Option ℕ))) (i : ℕ) → i < length rows
     → crossed context p tuples (take i rows) (drop i rows) ≡ by_row context p tuples rows i
 at_row context p tuples rows i within =
     ap (crossed context p tuples (take i rows)) (drop_more rows i [] within)
@@ -102,7 +103,7 @@ at_row context p tuples rows i within =
         let later = crossed context p tuples (take i rows ++ step.row ∷ []) (drop (i + 1) rows) in
         record { rows = later.rows; omitted = later.omitted; asked = step.asked ++ later.asked }
 
-same_rest : (rows : List (List (Option ℕ))) (i : ℕ) (grown : List (Option ℕ)) (context : SearchContext) (p : ℕ) (tuples : List (List (Option ℕ)))
+same_rest : (rows : List (List (Option ℕ))) (i : ℕ) (grown : List (Option ℕ)) (context : QuestionsView) (p : ℕ) (tuples : List (List (Option ℕ)))
     (given : List (Option ℕ)) → i < length rows → grown ≡ given
     → crossed context p tuples (take i rows ++ given ∷ []) (drop (i + 1) rows) ≡ crossed context p tuples (take (i + 1) (set rows i grown))
     (drop (i + 1) (set rows i grown))
@@ -112,7 +113,7 @@ same_rest rows i grown context p tuples given within same =
     ∙ ap (crossed context p tuples (take (i + 1) (set rows i grown))) (sym (drop-set-lt (i + 1) rows i grown (omega arith)))
 
 -- one row more
-pub crossing-more : (context : SearchContext) (p : ℕ) (start table after : OpenView) (initial rows : List (List (Option ℕ))) (i : ℕ)
+pub crossing-more : (context : QuestionsView) (p : ℕ) (start table after : OpenView) (initial rows : List (List (Option ℕ))) (i : ℕ)
     (grown : List (Option ℕ)) → i < length rows
     → Crossing context p start table initial rows i → Step context p table after (get_or rows i []) grown
     → Crossing context p start after initial (set rows i grown) (i + 1)
@@ -150,8 +151,8 @@ crossing-more context p start table after initial rows i grown within crossing s
     in_play_of (inl same) = subst (λ (next : OpenView). All (IsInPlay context.model context.slice p) (open_tuples next p)) (sym same.1) crossing.in_play
     in_play_of (inr is) = in_play-row (IsInPlay context.model context.slice p) table after p grown is crossing.in_play
 
--- a row whose question exceeds the budget
-pub crossing-spent : (context : SearchContext) (p : ℕ) (start table : OpenView) (initial rows : List (List (Option ℕ))) (i : ℕ) (question : List (Option ℕ))
+-- a row whose question costs more than it may
+pub crossing-spent : (context : QuestionsView) (p : ℕ) (start table : OpenView) (initial rows : List (List (Option ℕ))) (i : ℕ) (question : List (Option ℕ))
     (tuples : List (List (Option ℕ))) → i < length rows
     → Crossing context p start table initial rows i → open_tuples start p ≡ filter (is_uncovered initial) tuples
     → first_spent context (filled context p rows tuples (get_or rows i [])).asked ≡ Some question
@@ -162,11 +163,11 @@ crossing-spent context p start table initial rows i question tuples within cross
     (crossed context p tuples (take i rows ++ (filled context p rows tuples (get_or rows i [])).row ∷ []) (drop (i + 1) rows)).asked over
 
 -- no row is left
-pub record Crossed (context : SearchContext) (p : ℕ) (start : OpenView) (initial rows tuples : List (List (Option ℕ))) : Type 0 where
+pub record Crossed (context : QuestionsView) (p : ℕ) (start : OpenView) (initial rows tuples : List (List (Option ℕ))) : Type 0 where
   pub asked : first_spent context (crossed context p tuples [] initial).asked ≡ None
   pub given : rows ≡ (crossed context p tuples [] initial).rows
 
-pub crossing-end : (context : SearchContext) (p : ℕ) (start table : OpenView) (initial rows : List (List (Option ℕ))) (i : ℕ)
+pub crossing-end : (context : QuestionsView) (p : ℕ) (start table : OpenView) (initial rows : List (List (Option ℕ))) (i : ℕ)
     (tuples : List (List (Option ℕ))) → length rows ≤ i
     → Crossing context p start table initial rows i → open_tuples start p ≡ filter (is_uncovered initial) tuples → Crossed context p start initial rows tuples
 crossing-end context p start table initial rows i tuples past crossing moment =

@@ -10,27 +10,28 @@ use Rattle.std.proofs.lemmas.List.Elements.{All-set}
 use Rattle.ipog_grow.proofs.Asking.{IsAnswered}
 use Rattle.ipog_grow.proofs.Spending.{find-later, find-earlier}
 use Rattle.definitions.specs.Growth.{Joined, agrees, join, union}
-use Rattle.ipog_grow.specs.Asking.{SearchContext, IsSoundContext, Grows, extends, first_spent, IsUnionAt}
+use Rattle.full_search.specs.Questions.{QuestionsView}
+use Rattle.ipog_grow.specs.Asking.{IsSoundContext, Grows, extends, first_spent, IsUnionAt}
 use Rattle.definitions.specs.Demand.{is_among}
 use Rattle.tuple_index.specs.Places.{RisesFrom}
 use Rattle.ipog_grow.proofs.Settling.{joined}
 use Rattle.ipog_grow.proofs.Trying.{is_over}
 use Rattle.ipog_grow.proofs.Tuples.{grows-union}
 
-abbrev joins : SearchContext → List (Option ℕ) → List (List (Option ℕ)) → Joined
+abbrev joins : QuestionsView → List (Option ℕ) → List (List (Option ℕ)) → Joined
 joins context tuple rows = join (extends context) tuple rows
 
 -- the rows that are left decide
-pub record Joining (context : SearchContext) (tuple : List (Option ℕ)) (rows : List (List (Option ℕ))) (i : ℕ) : Type 0 where
+pub record Joining (context : QuestionsView) (tuple : List (Option ℕ)) (rows : List (List (Option ℕ))) (i : ℕ) : Type 0 where
   pub asked : first_spent context (join (extends context) tuple rows).asked ≡ first_spent context (join (extends context) tuple (drop i rows)).asked
   pub taken : (join (extends context) tuple rows).taken ≡ (join (extends context) tuple (drop i rows)).taken
   pub placed : (join (extends context) tuple rows).rows ≡ take i rows ++ (join (extends context) tuple (drop i rows)).rows
 
-pub joining-start : (context : SearchContext) (tuple : List (Option ℕ)) (rows : List (List (Option ℕ))) → Joining context tuple rows 0
+pub joining-start : (context : QuestionsView) (tuple : List (Option ℕ)) (rows : List (List (Option ℕ))) → Joining context tuple rows 0
 joining-start context tuple rows = record { asked = refl; taken = refl; placed = refl }
 
 -- what the rows that are left give, by the first of them
-at : (context : SearchContext) (tuple : List (Option ℕ)) (rows : List (List (Option ℕ))) (i : ℕ) (agree able : Bool) → i < length rows
+at : (context : QuestionsView) (tuple : List (Option ℕ)) (rows : List (List (Option ℕ))) (i : ℕ) (agree able : Bool) → i < length rows
     → agrees (get_or rows i []) tuple ≡ agree → extends context (union (get_or rows i []) tuple) ≡ able
     → join (extends context) tuple (drop i rows) ≡ joined agree able (get_or rows i []) (union (get_or rows i []) tuple) (drop (i + 1) rows)
     (join (extends context) tuple (drop (i + 1) rows))
@@ -45,7 +46,7 @@ push_front : (rows rest : List (List (Option ℕ))) (i : ℕ) → i < length row
 push_front rows rest i within = sym (ap (λ list. list ++ rest) (take_more rows i [] within) ∙ append_assoc (take i rows) (get_or rows i [] ∷ []) rest)
 
 -- a row that doesn't agree
-pub joining-other : (context : SearchContext) (tuple : List (Option ℕ)) (rows : List (List (Option ℕ))) (i : ℕ) → i < length rows → Joining context tuple rows i
+pub joining-other : (context : QuestionsView) (tuple : List (Option ℕ)) (rows : List (List (Option ℕ))) (i : ℕ) → i < length rows → Joining context tuple rows i
     → agrees (get_or rows i []) tuple ≡ false → Joining context tuple rows (i + 1)
 joining-other context tuple rows i within joining other =
     let here = at context tuple rows i false (extends context (union (get_or rows i []) tuple)) within other refl in
@@ -57,7 +58,7 @@ joining-other context tuple rows i within joining other =
     }
 
 -- several that don't
-joining-skip : (context : SearchContext) (tuple : List (Option ℕ)) (rows : List (List (Option ℕ))) (i j : ℕ) → i ≤ j → j ≤ length rows
+joining-skip : (context : QuestionsView) (tuple : List (Option ℕ)) (rows : List (List (Option ℕ))) (i j : ℕ) → i ≤ j → j ≤ length rows
     → Joining context tuple rows i
     → ((m : ℕ) → i ≤ m → m < j → agrees (get_or rows m []) tuple ≡ false) → Joining context tuple rows j
 joining-skip context tuple rows i zero less within joining others = let same : i ≡ 0 = omega arith in subst (Joining context tuple rows) same joining
@@ -76,7 +77,7 @@ MayAgree tuple rows candidates = (i : ℕ) → i < length rows → is_among cand
 
 -- the rows before the first of the candidates that are left are passed, and those behind it may agree only if they are
 -- candidates
-pub record Offering (context : SearchContext) (tuple : List (Option ℕ)) (rows : List (List (Option ℕ))) (candidates : List ℕ) : Type 0 where
+pub record Offering (context : QuestionsView) (tuple : List (Option ℕ)) (rows : List (List (Option ℕ))) (candidates : List ℕ) : Type 0 where
   pub rise : RisesFrom 0 (length rows) candidates
   pub others : (i : ℕ) → get_or candidates 0 (length rows) ≤ i → i < length rows → is_among candidates i ≡ false → agrees (get_or rows i []) tuple ≡ false
   pub joining : Joining context tuple rows (get_or candidates 0 (length rows))
@@ -105,7 +106,7 @@ lower : (lo hi : ℕ) (numbers : List ℕ) → RisesFrom lo hi numbers → Rises
 lower lo hi [] rises = tt
 lower lo hi (i ∷ numbers) rises = (omega arith, rises.1, rises.2)
 
-pub offering-start : {context : SearchContext} {tuple : List (Option ℕ)} {rows : List (List (Option ℕ))} {candidates : List ℕ}
+pub offering-start : {context : QuestionsView} {tuple : List (Option ℕ)} {rows : List (List (Option ℕ))} {candidates : List ℕ}
     → RisesFrom 0 (length rows) candidates → MayAgree tuple rows candidates → Offering context tuple rows candidates
 offering-start {context} {tuple} {rows} {candidates} rises others = record {
   rise = rises;
@@ -118,7 +119,7 @@ offering-start {context} {tuple} {rows} {candidates} rises others = record {
 }
 
 -- the first candidate is a row, and the rows before it are passed
-pub offering-first : {context : SearchContext} {tuple : List (Option ℕ)} {rows : List (List (Option ℕ))} {i : ℕ} (candidates : List ℕ)
+pub offering-first : {context : QuestionsView} {tuple : List (Option ℕ)} {rows : List (List (Option ℕ))} {i : ℕ} (candidates : List ℕ)
     → Offering context tuple rows candidates → slice_get candidates 0 ≡ Some i → (i < length rows) × Joining context tuple rows i
 offering-first {context} {tuple} {rows} {i} [] offering first = absurd (none-some i first)
 offering-first {context} {tuple} {rows} {i} (j ∷ candidates) offering first =
@@ -126,7 +127,7 @@ offering-first {context} {tuple} {rows} {i} (j ∷ candidates) offering first =
     subst (λ n. (n < length rows) × Joining context tuple rows n) same (offering.rise.1, offering.joining)
 
 -- once it is passed too, the others are left
-offering-on : {context : SearchContext} {tuple : List (Option ℕ)} {rows : List (List (Option ℕ))} {rest : List ℕ} {i : ℕ} (candidates : List ℕ)
+offering-on : {context : QuestionsView} {tuple : List (Option ℕ)} {rows : List (List (Option ℕ))} {rest : List ℕ} {i : ℕ} (candidates : List ℕ)
     → Offering context tuple rows candidates → slice_get candidates 0 ≡ Some i → rest ≡ drop 1 candidates → Joining context tuple rows (i + 1)
     → Offering context tuple rows rest
 offering-on {context} {tuple} {rows} {rest} {i} [] offering first is joining = absurd (none-some i first)
@@ -153,13 +154,13 @@ offering-on {context} {tuple} {rows} {rest} {i} (j ∷ candidates) offering firs
         }
 
 -- no candidate is left
-offering-end : {context : SearchContext} {tuple : List (Option ℕ)} {rows : List (List (Option ℕ))} (candidates : List ℕ)
+offering-end : {context : QuestionsView} {tuple : List (Option ℕ)} {rows : List (List (Option ℕ))} (candidates : List ℕ)
     → Offering context tuple rows candidates → slice_get candidates 0 ≡ None → Joining context tuple rows (length rows)
 offering-end {context} {tuple} {rows} [] offering none = offering.joining
 offering-end {context} {tuple} {rows} (j ∷ candidates) offering none = absurd (none-some j (sym none))
 
 -- a row whose union isn't extendable
-pub joining-unable : (context : SearchContext) (tuple : List (Option ℕ)) (rows : List (List (Option ℕ))) (i : ℕ) → i < length rows
+pub joining-unable : (context : QuestionsView) (tuple : List (Option ℕ)) (rows : List (List (Option ℕ))) (i : ℕ) → i < length rows
     → Joining context tuple rows i
     → agrees (get_or rows i []) tuple ≡ true → extends context (union (get_or rows i []) tuple) ≡ false
     → first_spent context (union (get_or rows i []) tuple ∷ []) ≡ None
@@ -175,8 +176,8 @@ joining-unable context tuple rows i within joining agree unable spent =
           ∙ push_front rows (join (extends context) tuple (drop (i + 1) rows)).rows i within;
     }
 
--- a row whose question exceeds the budget
-pub joining-spent : {context : SearchContext} {tuple question : List (Option ℕ)} {rows : List (List (Option ℕ))} {i : ℕ} → i < length rows
+-- a row whose question costs more than it may
+pub joining-spent : {context : QuestionsView} {tuple question : List (Option ℕ)} {rows : List (List (Option ℕ))} {i : ℕ} → i < length rows
     → Joining context tuple rows i
     → agrees (get_or rows i []) tuple ≡ true → first_spent context (union (get_or rows i []) tuple ∷ []) ≡ Some question
     → first_spent context (join (extends context) tuple rows).asked ≡ Some question
@@ -192,7 +193,7 @@ joining-spent {context} {tuple} {question} {rows} {i} within joining agree over 
         over
 
 -- an end: what was asked, whether a row took the tuple, and the rows
-pub record Joins (context : SearchContext) (tuple : List (Option ℕ)) (rows after : List (List (Option ℕ))) (taken : Bool) : Type 0 where
+pub record Joins (context : QuestionsView) (tuple : List (Option ℕ)) (rows after : List (List (Option ℕ))) (taken : Bool) : Type 0 where
   pub asked : first_spent context (join (extends context) tuple rows).asked ≡ None
   pub taken_is : taken ≡ (join (extends context) tuple rows).taken
   pub rows_are : after ≡ (join (extends context) tuple rows).rows
@@ -203,7 +204,7 @@ set_rows rows i row within =
     ∙ ap (λ list. take i rows ++ list) (drop-set rows i row within)
 
 -- a row takes the tuple
-pub joining-yes : (context : SearchContext) (tuple : List (Option ℕ)) (rows : List (List (Option ℕ))) (i : ℕ) → i < length rows → Joining context tuple rows i
+pub joining-yes : (context : QuestionsView) (tuple : List (Option ℕ)) (rows : List (List (Option ℕ))) (i : ℕ) → i < length rows → Joining context tuple rows i
     → agrees (get_or rows i []) tuple ≡ true → extends context (union (get_or rows i []) tuple) ≡ true
     → first_spent context (union (get_or rows i []) tuple ∷ []) ≡ None
     → Joins context tuple rows (set rows i (union (get_or rows i []) tuple)) true
@@ -216,7 +217,7 @@ joining-yes context tuple rows i within joining agree able spent =
     }
 
 -- no row takes it
-pub joining-end : (context : SearchContext) (tuple : List (Option ℕ)) (rows : List (List (Option ℕ))) (i : ℕ) → length rows ≤ i
+pub joining-end : (context : QuestionsView) (tuple : List (Option ℕ)) (rows : List (List (Option ℕ))) (i : ℕ) → length rows ≤ i
     → Joining context tuple rows i → Joins context tuple rows rows false
 joining-end context tuple rows i past joining =
     let none : drop i rows ≡ [] = drop_all i rows past in
@@ -232,7 +233,7 @@ pub read_row : {rows held : List (List (Option ℕ))} {row : List (Option ℕ)} 
 read_row {rows} {held} {row} i same is = is ∙ ap (λ list. get_or list i []) same
 
 -- a candidate that agrees with the tuple: the rows before it are passed, and the union with it is a partial row of the slice
-pub record IsOffered (context : SearchContext) (tuple : List (Option ℕ)) (rows : List (List (Option ℕ))) (i : ℕ) (put : List (Option ℕ)) : Type 0 where
+pub record IsOffered (context : QuestionsView) (tuple : List (Option ℕ)) (rows : List (List (Option ℕ))) (i : ℕ) (put : List (Option ℕ)) : Type 0 where
   pub within : i < length rows
   pub joining : Joining context tuple rows i
   pub agree : agrees (get_or rows i []) tuple ≡ true
@@ -240,7 +241,7 @@ pub record IsOffered (context : SearchContext) (tuple : List (Option ℕ)) (rows
   pub grows : Grows context put
   pub long : length put ≡ length context.model.params
 
-pub offered : {context : SearchContext} {tuple put row other : List (Option ℕ)} {rows held : List (List (Option ℕ))} {candidates : List ℕ} {i : ℕ} {found : Bool}
+pub offered : {context : QuestionsView} {tuple put row other : List (Option ℕ)} {rows held : List (List (Option ℕ))} {candidates : List ℕ} {i : ℕ} {found : Bool}
     → IsSoundContext context → Grows context tuple → All (Grows context) rows → held ≡ rows → Offering context tuple rows candidates
     → slice_get candidates 0 ≡ Some i → row ≡ get_or held i [] → other ≡ get_or held i [] → found ≡ agrees row tuple → found ≡ true → put ≡ union other tuple
     → IsOffered context tuple rows i put
@@ -258,12 +259,12 @@ offered {context} {tuple} {put} {row} {other} {rows} {held} {candidates} {i} {fo
     }
 
 -- it takes the tuple
-pub record Takes (context : SearchContext) (tuple : List (Option ℕ)) (rows after : List (List (Option ℕ))) (i : ℕ) : Type 0 where
+pub record Takes (context : QuestionsView) (tuple : List (Option ℕ)) (rows after : List (List (Option ℕ))) (i : ℕ) : Type 0 where
   pub joins : Joins context tuple rows after true
   pub union_at : IsUnionAt rows after tuple i
   pub grows : All (Grows context) after
 
-pub takes : {context : SearchContext} {tuple put : List (Option ℕ)} {rows held after : List (List (Option ℕ))} {i : ℕ} → All (Grows context) rows → held ≡ rows
+pub takes : {context : QuestionsView} {tuple put : List (Option ℕ)} {rows held after : List (List (Option ℕ))} {i : ℕ} → All (Grows context) rows → held ≡ rows
     → IsOffered context tuple rows i put → IsAnswered context put true → after ≡ set held i put → Takes context tuple rows after i
 takes {context} {tuple} {put} {rows} {held} {after} {i} all same offer answer is =
     let put_in : after ≡ set rows i (union (get_or rows i []) tuple) = is ∙ ap (λ list. set list i put) same ∙ ap (set rows i) offer.is in
@@ -279,7 +280,7 @@ takes {context} {tuple} {put} {rows} {held} {after} {i} all same offer answer is
     }
 
 -- or it doesn't, and the next candidate is tried
-pub left : {context : SearchContext} {tuple put : List (Option ℕ)} {rows : List (List (Option ℕ))} {candidates rest : List ℕ} {i : ℕ}
+pub left : {context : QuestionsView} {tuple put : List (Option ℕ)} {rows : List (List (Option ℕ))} {candidates rest : List ℕ} {i : ℕ}
     → Offering context tuple rows candidates → slice_get candidates 0 ≡ Some i → rest ≡ drop 1 candidates
     → IsOffered context tuple rows i put → IsAnswered context put false → Offering context tuple rows rest
 left {context} {tuple} {put} {rows} {candidates} {rest} {i} offering first is offer answer =
@@ -288,7 +289,7 @@ left {context} {tuple} {put} {rows} {candidates} {rest} {i} offering first is of
     (ap (λ (c : List (Option ℕ)). first_spent context (c ∷ [])) (sym offer.is) ∙ answer.unspent))
 
 -- a candidate that doesn't agree
-pub passed_over : {context : SearchContext} {tuple row : List (Option ℕ)} {rows held : List (List (Option ℕ))} {candidates rest : List ℕ} {i : ℕ} {found : Bool}
+pub passed_over : {context : QuestionsView} {tuple row : List (Option ℕ)} {rows held : List (List (Option ℕ))} {candidates rest : List ℕ} {i : ℕ} {found : Bool}
     → Offering context tuple rows candidates → slice_get candidates 0 ≡ Some i → rest ≡ drop 1 candidates → held ≡ rows
     → row ≡ get_or held i [] → found ≡ agrees row tuple → found ≡ false → Offering context tuple rows rest
 passed_over {context} {tuple} {row} {rows} {held} {candidates} {rest} {i} {found} offering first is same read tested differs =
@@ -297,7 +298,7 @@ passed_over {context} {tuple} {row} {rows} {held} {candidates} {rest} {i} {found
     (joining-other context tuple rows i passed.0 passed.1 (ap (λ r. agrees r tuple) (sym (read_row i same read)) ∙ sym tested ∙ differs))
 
 -- no candidate is left
-pub joining-none : {context : SearchContext} {tuple : List (Option ℕ)} {rows : List (List (Option ℕ))} {candidates : List ℕ}
+pub joining-none : {context : QuestionsView} {tuple : List (Option ℕ)} {rows : List (List (Option ℕ))} {candidates : List ℕ}
     → Offering context tuple rows candidates → slice_get candidates 0 ≡ None → Joins context tuple rows rows false
 joining-none {context} {tuple} {rows} {candidates} offering none =
     joining-end context tuple rows (length rows) (omega arith) (offering-end candidates offering none)

@@ -1,5 +1,5 @@
--- The tuples that columns omit: they grow in the slice, aren't extendable there, and were asked within the budget.
-use Rattle.std.proofs.Common.{◌≡◌, ℕ, ◌+◌, ◌≤◌, Bool, true, false, cond, List, [], ◌∷◌, ◌++◌, length, find, flat_map, nat_lt, Option, None, All, ◌∙◌, sym, ap, subst, refl, arith, length-append}
+-- The tuples that columns omit: they grow in the slice, aren't extendable there, and were asked at no more than a question may cost.
+use Rattle.std.proofs.Common.{◌≡◌, ℕ, ◌+◌, ◌≤◌, Bool, true, false, cond, List, [], ◌∷◌, ◌++◌, length, find, flat_map, Option, None, All, ◌∙◌, sym, ap, subst, refl, arith, length-append}
 use Rattle.std.specs.Prelude.{slice_index_or}
 use Rattle.std.proofs.lemmas.List.Elements.{All-nil, All-cons, All-head, All-tail, All-append}
 use Rattle.cov_model.specs.declared.slice.Slice.{Slice}
@@ -7,18 +7,19 @@ use Rattle.cov_model.specs.Sound.{ModelView}
 use Rattle.definitions.specs.Completion.{column_order, preferred_values}
 use Rattle.definitions.specs.Demand.{tuples_in}
 use Rattle.definitions.specs.Growth.{Grown, across, down, is_uncovered, join, settle, sets_in_play, tuples_in_play}
-use Rattle.definitions.specs.Search.{question_cost}
+use Rattle.definitions.specs.Search.{exceeds, question_cost}
 use Rattle.definitions.specs.SliceRows.{IsSliceOf}
 use Rattle.definitions.proofs.InPlay.{tuple_is}
 use Rattle.definitions.proofs.Members.{all_members, of_flat}
-use Rattle.ipog_grow.specs.Asking.{SearchContext, Grows, columns_grown, extends, first_spent}
+use Rattle.full_search.specs.Questions.{QuestionsView}
+use Rattle.ipog_grow.specs.Asking.{Grows, columns_grown, extends, first_spent}
 use Rattle.ipog_grow.specs.Growing.{GrowsIn}
 use Rattle.ipog_grow.specs.Omissions.{IsOmittedIn}
 use Rattle.ipog_grow.proofs.Spending.{find-none}
 use Rattle.ipog_grow.proofs.Tuples.{tuple-grows}
 use Rattle.feasibility.proofs.Paths.{slice_exists}
 
--- what holds of a tuple that isn't extendable, and was asked within the budget, holds of those that vertical growth
+-- what holds of a tuple that isn't extendable, and was asked at no more than a question may cost, holds of those that vertical growth
 -- omits
 module _ (Q P : List (Option ℕ) → Type 0) (extends over : List (Option ℕ) → Bool)
     (holds : (tuple : List (Option ℕ)) → Q tuple → extends tuple ≡ false → find over (tuple ∷ []) ≡ None → P tuple) where
@@ -67,12 +68,12 @@ in_play-grow m slice p is =
     let at = of_flat (λ set. tuples_in m set slice) (sets_in_play m (column_order m slice) p) tuple has in
     tuple-grows m slice at.0 tuple is (tuple_is m at.0 slice tuple (slice_exists m slice is) at.2))
 
--- so what columns omit, where no question exceeded the budget, is omitted in the slice
-pub omitted-in : (context : SearchContext) (params : List ℕ) (rows : List (List (Option ℕ))) → IsSliceOf context.model context.slice
+-- so what columns omit, where no question cost more than it may, is omitted in the slice
+pub omitted-in : (context : QuestionsView) (params : List ℕ) (rows : List (List (Option ℕ))) → IsSliceOf context.model context.slice
     → first_spent context (columns_grown context params rows).asked ≡ None → All (IsOmittedIn context) (columns_grown context params rows).omitted
 omitted-in context [] rows is unspent = All-nil (IsOmittedIn context)
 omitted-in context (p ∷ params) rows is unspent =
-    let over : List (Option ℕ) → Bool = λ cells. nat_lt context.budget (question_cost context.model context.prefs cells) in
+    let over : List (Option ℕ) → Bool = λ cells. exceeds context.effort (question_cost context.model context.prefs cells) in
     let values : List ℕ = slice_index_or (preferred_values context.model context.prefs context.slice) p [] in
     let tuples : List (List (Option ℕ)) = tuples_in_play context.model context.slice p in
     let filled : Grown = across (extends context) p values tuples [] rows in
@@ -115,7 +116,7 @@ module _ (extends : List (Option ℕ) → Bool) where
       (length tuples) (settle-few tuple rows) refl (down-few tuples) in
       omega (arith, more)
 
-pub omitted-few : (context : SearchContext) (params : List ℕ) (rows : List (List (Option ℕ)))
+pub omitted-few : (context : QuestionsView) (params : List ℕ) (rows : List (List (Option ℕ)))
     → length (columns_grown context params rows).omitted ≤ length (flat_map (tuples_in_play context.model context.slice) params)
 omitted-few context [] rows = omega arith
 omitted-few context (p ∷ params) rows =

@@ -12,7 +12,8 @@ use Rattle.tuple_index.specs.Plan.{PlanView, plan_of, value_given}
 use Rattle.uncovered_table.specs.Open.{OpenView, IsPlaceOf}
 use Rattle.uncovered_table.specs.Places.{is_place, slice_places}
 use Rattle.uncovered_table.proofs.PlaceLemmas.{place_known, set_known}
-use Rattle.ipog_grow.specs.Asking.{SearchContext, IsTableOf, IsSoundContext}
+use Rattle.full_search.specs.Questions.{QuestionsView}
+use Rattle.ipog_grow.specs.Asking.{IsTableOf, IsSoundContext}
 
 pub given-at : (set values : List ℕ) (p i : ℕ) → i < length set → length values ≡ length set
     → value_given (drop i set) (drop i values) p ≡ cond (nat_eq (get_or set i 0) p) (Some (get_or values i 0))
@@ -55,7 +56,7 @@ pub record Placed (m : ModelView) (plan : PlanView) (place : ℕ × ℕ) : Type 
   pub few : length (get_or plan.sets place.0 []) ≤ 256
   pub rise : RisesFrom 0 (length m.params) (get_or plan.sets place.0 [])
 
-pub placed : {context : SearchContext} {plan : PlanView} {place : ℕ × ℕ} (table : OpenView) → IsSoundContext context → IsTableOf context table
+pub placed : {context : QuestionsView} {plan : PlanView} {place : ℕ × ℕ} (table : OpenView) → IsSoundContext context → IsTableOf context table
     → plan ≡ plan_of context.model → IsKept plan → IsPlaceOf table place → Placed context.model plan place
 placed {context} {plan} {place} table is of planned kept own =
     let listed : list_any (is_place place) (slice_places context.model context.slice) ≡ true =

@@ -1,5 +1,5 @@
 -- What the refutation of an omitted tuple stands on.
-use Rattle.std.proofs.Common.{◌≡◌, ℕ, ◌<◌, ◌≤◌, Bool, true, false, cond, nat_lt, List, [], get_or, Option, Some, None, ◌∙◌, sym, ap, subst, lt-ltb}
+use Rattle.std.proofs.Common.{◌≡◌, ℕ, Bool, true, false, cond, List, [], get_or, Option, Some, None, ◌∙◌, sym, ap, subst}
 use Rattle.std.proofs.lemmas.Bool.{false≢true, false_from_ne_true}
 use Rattle.std.proofs.lemmas.Option.{none-some}
 use Rattle.cov_model.specs.declared.slice.Slice.{Slice}
@@ -11,13 +11,14 @@ use Rattle.cov_model.specs.Valid.{serves}
 use Rattle.definitions.specs.Completion.{is_extendable}
 use Rattle.definitions.specs.Covering.{IsUnserved}
 use Rattle.definitions.specs.Refutation.{Token, is_eager}
-use Rattle.definitions.specs.Search.{plain_cost, question_cost}
-use Rattle.definitions.specs.SuiteProof.{IsEagerTree, branch_count}
+use Rattle.definitions.specs.Search.{exceeds, plain_cost, question_cost}
+use Rattle.definitions.specs.SuiteProof.{HasFewBranches, IsEagerTree}
 use Rattle.definitions.proofs.Members.{of_among}
 use Rattle.definitions.proofs.Serving.{served_extends}
 use Rattle.definitions.proofs.SliceLemmas.{InSlice, slice_is}
 use Rattle.definitions.proofs.SliceLemmas as slices
-use Rattle.ipog_grow.specs.Asking.{SearchContext, IsSoundContext}
+use Rattle.full_search.specs.Questions.{QuestionsView}
+use Rattle.ipog_grow.specs.Asking.{IsSoundContext}
 use Rattle.ipog_grow.specs.Growing.{GrowsIn, HasFixed}
 use Rattle.ipog_grow.specs.Omissions.{IsOmittedIn}
 use Rattle.ipog_grow.proofs.Tuples.{grows-slice}
@@ -35,7 +36,7 @@ grows-belongs m slice cells grows = record {
     fixed (Negative q v) has = has
 
 -- no row serves an omitted tuple
-pub omitted-unserved : (context : SearchContext) (tuple : List (Option ℕ)) → IsSoundContext context → IsOmittedIn context tuple
+pub omitted-unserved : (context : QuestionsView) (tuple : List (Option ℕ)) → IsSoundContext context → IsOmittedIn context tuple
     → IsUnserved context.model tuple
 omitted-unserved context tuple is omitted row =
     let own = slice_is context.model context.slice tuple (slice_exists context.model context.slice is.slice)
@@ -46,29 +47,28 @@ omitted-unserved context tuple is omitted row =
     ∙ served_extends context.model row tuple own.few holds))
 
 -- its plain cost is that of its question
-pub omitted-cost : (context : SearchContext) (tuple : List (Option ℕ)) → IsSoundContext context → IsOmittedIn context tuple
+pub omitted-cost : (context : QuestionsView) (tuple : List (Option ℕ)) → IsSoundContext context → IsOmittedIn context tuple
     → question_cost context.model context.prefs tuple ≡ plain_cost context.model context.prefs context.slice tuple
 omitted-cost context tuple is omitted =
     ap (λ slice. plain_cost context.model context.prefs slice tuple) (grows-slice context.model context.slice tuple is.slice omitted.grows)
 
--- which is within the budget
-pub omitted-within : (context : SearchContext) (tuple : List (Option ℕ)) → IsSoundContext context → IsOmittedIn context tuple
-    → context.budget < plain_cost context.model context.prefs context.slice tuple → ⊥
+-- which is no more than a question may cost
+pub omitted-within : (context : QuestionsView) (tuple : List (Option ℕ)) → IsSoundContext context → IsOmittedIn context tuple
+    → exceeds context.effort (plain_cost context.model context.prefs context.slice tuple) ≡ true → ⊥
 omitted-within context tuple is omitted above =
-    let cost = question_cost context.model context.prefs tuple in
-    not_over (nat_lt context.budget cost)
-    (lt-ltb context.budget cost (subst (λ (n : ℕ). context.budget < n) (sym (omitted-cost context tuple is omitted)) above)) omitted.within
+    not_over (exceeds context.effort (question_cost context.model context.prefs tuple))
+    (ap (exceeds context.effort) (omitted-cost context tuple is omitted) ∙ above) omitted.within
   where
     not_over : (b : Bool) → b ≡ true → cond b (Some tuple) None ≡ None → ⊥
     not_over true is unspent = none-some tuple (sym unspent)
     not_over false is unspent = false≢true is
 
--- so an eager tree with no more branches than its plain cost is one of a proof
-pub omitted-tree : (context : SearchContext) (tuple : List (Option ℕ)) (format : ℕ) (earlier : List (List (Option ℕ))) (tokens : List Token)
+-- so an eager tree with as few branches as its plain cost allows is one of a proof
+pub omitted-tree : (context : QuestionsView) (tuple : List (Option ℕ)) (format : ℕ) (earlier : List (List (Option ℕ))) (tokens : List Token)
     → IsSoundContext context → IsOmittedIn context tuple → is_eager context.model format earlier tuple tokens ≡ true
-    → branch_count tokens ≤ plain_cost context.model context.prefs context.slice tuple
-    → IsEagerTree context.model context.prefs format earlier tuple tokens
+    → HasFewBranches context.effort tokens (plain_cost context.model context.prefs context.slice tuple)
+    → IsEagerTree context.model context.prefs context.effort format earlier tuple tokens
 omitted-tree context tuple format earlier tokens is omitted eager few = record {
   eager = eager;
-  few = subst (λ (n : ℕ). branch_count tokens ≤ n) (sym (omitted-cost context tuple is omitted)) few;
+  few = subst (HasFewBranches context.effort tokens) (sym (omitted-cost context tuple is omitted)) few;
 }

@@ -1,5 +1,5 @@
 -- Slices one after another, and the suite that they make.
-use Rattle.std.proofs.Common.{◌≡◌, ℕ, Bool, true, false, cond, nat_lt, List, [], ◌∷◌, ◌++◌, filter, flat_map, find, All, Option, Some, None, ◌∙◌, sym, ap, subst, refl}
+use Rattle.std.proofs.Common.{◌≡◌, ℕ, Bool, true, false, cond, List, [], ◌∷◌, ◌++◌, filter, flat_map, find, All, Option, Some, None, ◌∙◌, sym, ap, subst, refl}
 use Rattle.std.specs.Prelude.{Err}
 use Rattle.std.proofs.lemmas.List.{append-nil}
 use Rattle.std.proofs.lemmas.Grind.{flat_map-append}
@@ -8,9 +8,10 @@ use Rattle.definitions.proofs.PartialRowLemmas.{of_slice-is}
 use Rattle.cov_model.specs.declared.slice.Slice.{Slice}
 use Rattle.cov_model.specs.Sound.{ModelView}
 use Rattle.cov_model.specs.Fits.{FitsModel}
+use Rattle.definitions.specs.declared.effort.Effort.{Effort}
 use Rattle.definitions.specs.Completion.{has_slice}
 use Rattle.definitions.specs.Growth.{is_of_slice, slice_growth, slices_growth}
-use Rattle.definitions.specs.Search.{first_over, question_cost}
+use Rattle.definitions.specs.Search.{exceeds, first_over, question_cost}
 use Rattle.definitions.proofs.Grown.{rows_of_slice, omitted_in_slice, rows_by_slice, omitted_by_slice}
 use Rattle.ipog_grow.specs.declared.stop.Stop.{Stop}
 use Rattle.ipog_grow.specs.declared.stop.Stop.TheVariants as stops
@@ -25,7 +26,7 @@ pub of_slice-grows : (m : ModelView) (slice : Slice) (cells : List (Option ℕ))
     → is_of_slice m slice cells ≡ true → GrowsIn m slice cells
 of_slice-grows m slice cells fits few of = subst (λ (s : Slice). GrowsIn m s cells) (of_slice-is m slice cells few of) (slice_of-grows m cells fits few)
 
-module _ (m : ModelView) (pref : List (List ℕ)) (budget : ℕ) (seeds : List (ℕ × List (Option ℕ))) where
+module _ (m : ModelView) (pref : List (List ℕ)) (effort : Effort) (seeds : List (ℕ × List (Option ℕ))) where
   abbrev asked_in_slice : Slice → List (List (Option ℕ))
   asked_in_slice slice = (slice_growth m pref seeds slice).asked
 
@@ -34,16 +35,16 @@ module _ (m : ModelView) (pref : List (List ℕ)) (budget : ℕ) (seeds : List (
   asked_by_slice (slice ∷ parts) = ap (λ tuples. asked_in_slice slice ++ tuples) (asked_by_slice parts)
 
   abbrev over : List (Option ℕ) → Bool
-  over cells = nat_lt budget (question_cost m pref cells)
+  over cells = exceeds effort (question_cost m pref cells)
 
   flat-push : (f : Slice → List (List (Option ℕ))) (parts : List Slice) (slice : Slice) → flat_map f (parts ++ slice ∷ []) ≡ flat_map f parts ++ f slice
   flat-push f parts slice = flat_map-append f parts (slice ∷ []) ∙ ap (λ last. flat_map f parts ++ last) (append-nil (f slice))
 
-  -- the slices are grown, and no question of theirs exceeded the budget
+  -- the slices are grown, and no question of theirs cost more than it may
   pub record SlicesGrown (parts : List Slice) (rows omitted : List (List (Option ℕ))) : Type 0 where
     pub rows_are : rows ≡ (slices_growth m pref seeds parts).rows
     pub omitted_are : omitted ≡ (slices_growth m pref seeds parts).omitted
-    pub unspent : first_over m pref budget (slices_growth m pref seeds parts).asked ≡ None
+    pub unspent : first_over m pref effort (slices_growth m pref seeds parts).asked ≡ None
 
   pub slices_grown-none : SlicesGrown [] [] []
   slices_grown-none = record { rows_are = refl; omitted_are = refl; unspent = refl }
@@ -51,7 +52,7 @@ module _ (m : ModelView) (pref : List (List ℕ)) (budget : ℕ) (seeds : List (
   -- one more slice
   pub slices_grown-next : (parts : List Slice) (slice : Slice) (rows rows' omitted omitted' : List (List (Option ℕ))) → SlicesGrown parts rows omitted
       → rows' ≡ rows ++ (slice_growth m pref seeds slice).rows → omitted' ≡ omitted ++ (slice_growth m pref seeds slice).omitted
-      → first_over m pref budget (slice_growth m pref seeds slice).asked ≡ None → SlicesGrown (parts ++ slice ∷ []) rows' omitted'
+      → first_over m pref effort (slice_growth m pref seeds slice).asked ≡ None → SlicesGrown (parts ++ slice ∷ []) rows' omitted'
   slices_grown-next parts slice rows rows' omitted omitted' grown row_put omitted_put unspent = record {
     rows_are = row_put ∙ ap (λ rs. rs ++ rows_of_slice m pref seeds slice) (grown.rows_are ∙ rows_by_slice m pref seeds parts)
         ∙ sym (rows_by_slice m pref seeds (parts ++ slice ∷ []) ∙ flat-push (rows_of_slice m pref seeds) parts slice);
@@ -61,10 +62,10 @@ module _ (m : ModelView) (pref : List (List ℕ)) (budget : ℕ) (seeds : List (
         ∙ find-later over (flat_map asked_in_slice parts) (asked_in_slice slice) (ap (find over) (sym (asked_by_slice parts)) ∙ grown.unspent) ∙ unspent;
   }
 
-  -- or its first question above the budget is the first of all
+  -- or its first question that costs more than it may is the first of all
   pub slices_grown-spent : (parts : List Slice) (slice : Slice) (rest : List Slice) (rows omitted : List (List (Option ℕ))) → SlicesGrown parts rows omitted
-      → (q : List (Option ℕ)) → first_over m pref budget (slice_growth m pref seeds slice).asked ≡ Some q
-      → first_over m pref budget (slices_growth m pref seeds (parts ++ slice ∷ rest)).asked ≡ Some q
+      → (q : List (Option ℕ)) → first_over m pref effort (slice_growth m pref seeds slice).asked ≡ Some q
+      → first_over m pref effort (slices_growth m pref seeds (parts ++ slice ∷ rest)).asked ≡ Some q
   slices_grown-spent parts slice rest rows omitted grown q spent =
       ap (find over) (asked_by_slice (parts ++ slice ∷ rest) ∙ flat_map-append asked_in_slice parts (slice ∷ rest))
       ∙ find-later over (flat_map asked_in_slice parts) (flat_map asked_in_slice (slice ∷ rest)) (ap (find over) (sym (asked_by_slice parts)) ∙ grown.unspent)

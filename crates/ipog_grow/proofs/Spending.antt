@@ -1,4 +1,4 @@
--- The first question above the budget, as the questions are asked one after another.
+-- The first question that costs more than it may, as the questions are asked one after another.
 use Rattle.std.proofs.Common.{◌≡◌, ℕ, ◌+◌, ◌<◌, Bool, List, [], ◌∷◌, ◌++◌, take, drop, get_or, length, find, Option, Some, None, ◌∙◌, sym, ap, refl}
 use Rattle.std.specs.Option.{option_or}
 use Rattle.std.proofs.lemmas.List.{take_more, take-append-drop}

@@ -1,19 +1,20 @@
 -- Seed rows that are asked one after another, and how runs of questions end.
-use Rattle.std.proofs.Common.{◌≡◌, ℕ, ◌+◌, ◌<◌, Bool, true, false, cond, not, nat_lt, List, [], ◌∷◌, ◌++◌, map, length, filter}
+use Rattle.std.proofs.Common.{◌≡◌, ℕ, ◌+◌, ◌<◌, Bool, true, false, cond, not, List, [], ◌∷◌, ◌++◌, map, length, filter}
 use Rattle.std.proofs.Common.{find, take, drop, get_or, Option, Some, None, option_map, ◌∙◌, sym, ap, refl}
 use Rattle.std.proofs.lemmas.List.{map-append, append_assoc, take_more, take-append-drop}
 use Rattle.std.proofs.lemmas.List.Elements.{filter-append}
 use Rattle.std.proofs.lemmas.Option.{none-some}
 use Rattle.cov_model.specs.Sound.{ModelView}
+use Rattle.definitions.specs.declared.effort.Effort.{Effort}
 use Rattle.definitions.specs.Completion.{has_slice, can_be_served}
 use Rattle.definitions.specs.Pairs.{pairs_of}
-use Rattle.definitions.specs.Search.{first_over, question_cost}
+use Rattle.definitions.specs.Search.{exceeds, first_over, question_cost}
 use Rattle.feasibility.specs.declared.answer.SearchFault.{SearchFault}
 use Rattle.feasibility.specs.declared.answer.SearchFault.TheVariants.{Spent, NoMemory}
 use Rattle.feasibility.specs.Ends.{EndsBy}
 use Rattle.ipog_grow.proofs.Spending.{find-later, find-earlier}
 
--- a run ends as its part does, where the part's first question above the budget is the run's
+-- a run ends as its part does, where the part's first question that costs more than it may is the run's
 pub ends-by : (fault : SearchFault) (part whole : Option (List (Option ℕ))) → ((q : List (Option ℕ)) → part ≡ Some q → whole ≡ Some q) → EndsBy part fault
     → EndsBy whole fault
 ends-by NoMemory part whole more ends = tt
@@ -26,19 +27,19 @@ split_at xs i d within =
     sym (take-append-drop (i + 1) xs) ∙ ap (λ front. front ++ drop (i + 1) xs) (take_more xs i d within)
     ∙ append_assoc (take i xs) (get_or xs i d ∷ []) (drop (i + 1) xs)
 
-module _ (m : ModelView) (pref : List (List ℕ)) (budget : ℕ) where
+module _ (m : ModelView) (pref : List (List ℕ)) (effort : Effort) where
   -- the questions of some seeds
   abbrev asks : List (ℕ × List (Option ℕ)) → List (List (Option ℕ))
   asks seeds = filter (has_slice m) (map (λ seed. seed.1) seeds)
 
   abbrev over : List (Option ℕ) → Bool
-  over cells = nat_lt budget (question_cost m pref cells)
+  over cells = exceeds effort (question_cost m pref cells)
 
-  -- the seeds are split, and no question of theirs exceeded the budget
+  -- the seeds are split, and no question of theirs cost more than it may
   pub record Split (seeds : List (ℕ × List (Option ℕ))) (kept : List (List (Option ℕ))) (dropped : List ℕ) : Type 0 where
     pub kept_are : kept ≡ filter (can_be_served m) (map (λ seed. seed.1) seeds)
     pub dropped_are : dropped ≡ map (λ seed. seed.0) (filter (λ seed. not (can_be_served m seed.1)) seeds)
-    pub unspent : first_over m pref budget (filter (has_slice m) (map (λ seed. seed.1) seeds)) ≡ None
+    pub unspent : first_over m pref effort (filter (has_slice m) (map (λ seed. seed.1) seeds)) ≡ None
 
   asks-append : (seeds more : List (ℕ × List (Option ℕ))) → asks (seeds ++ more) ≡ asks seeds ++ asks more
   asks-append seeds more =
@@ -47,7 +48,7 @@ module _ (m : ModelView) (pref : List (List ℕ)) (budget : ℕ) where
   pub split-next : (seeds : List (ℕ × List (Option ℕ))) (x : ℕ × List (Option ℕ)) (kept kept' : List (List (Option ℕ))) (dropped dropped' : List ℕ)
       → Split seeds kept dropped
       → kept' ≡ kept ++ filter (can_be_served m) (x.1 ∷ []) → dropped' ≡ dropped ++ cond (can_be_served m x.1) [] (x.0 ∷ [])
-      → first_over m pref budget (filter (has_slice m) (x.1 ∷ [])) ≡ None → Split (seeds ++ x ∷ []) kept' dropped'
+      → first_over m pref effort (filter (has_slice m) (x.1 ∷ [])) ≡ None → Split (seeds ++ x ∷ []) kept' dropped'
   split-next seeds x kept kept' dropped dropped' split keeps drops unspent = record {
     kept_are = keeps ∙ ap (λ ks. ks ++ filter (can_be_served m) (x.1 ∷ [])) split.kept_are
         ∙ sym (filter-append (can_be_served m) (map (λ seed. seed.1) seeds) (x.1 ∷ []))
@@ -70,8 +71,8 @@ module _ (m : ModelView) (pref : List (List ℕ)) (budget : ℕ) where
 
   pub split-spent : (seeds : List (ℕ × List (Option ℕ))) (x : ℕ × List (Option ℕ)) (rest : List (ℕ × List (Option ℕ))) (kept : List (List (Option ℕ)))
       (dropped : List ℕ) → Split seeds kept dropped
-      → (q : List (Option ℕ)) → first_over m pref budget (filter (has_slice m) (x.1 ∷ [])) ≡ Some q
-      → first_over m pref budget (filter (has_slice m) (map (λ seed. seed.1) (seeds ++ x ∷ rest))) ≡ Some q
+      → (q : List (Option ℕ)) → first_over m pref effort (filter (has_slice m) (x.1 ∷ [])) ≡ Some q
+      → first_over m pref effort (filter (has_slice m) (map (λ seed. seed.1) (seeds ++ x ∷ rest))) ≡ Some q
   split-spent seeds x rest kept dropped split q spent =
       ap (find over) (asks-append seeds (x ∷ rest)) ∙ find-later over (asks seeds) (asks (x ∷ rest)) split.unspent
       ∙ ap (find over) (asks-append (x ∷ []) rest) ∙ find-earlier over q (asks (x ∷ [])) (asks rest) spent

@@ -15,7 +15,8 @@ use Rattle.definitions.specs.Growth.{tuples_in_play}
 use Rattle.uncovered_table.specs.Open.{OpenView, all_open}
 use Rattle.uncovered_table.specs.Places.{tuple_at}
 use Rattle.ipog_grow.specs.Growing.{Keeps, Rises, open_places, open_tuples}
-use Rattle.ipog_grow.specs.Asking.{SearchContext, IsSoundContext, IsTableOf, IsReady, Grows, first_spent, column_grown, columns_grown}
+use Rattle.full_search.specs.Questions.{QuestionsView}
+use Rattle.ipog_grow.specs.Asking.{IsSoundContext, IsTableOf, IsReady, Grows, first_spent, column_grown, columns_grown}
 use Rattle.ipog_grow.specs.Growing.{up_to}
 use Rattle.ipog_grow.proofs.ColumnLemmas.{take-up_to}
 use Rattle.ipog_grow.proofs.Falling.{Distinct}
@@ -23,7 +24,7 @@ use Rattle.ipog_grow.proofs.Table.{open_tuples-all_open, slice_places-rise}
 use Rattle.ipog_grow.proofs.Trying.{distinct-permuted, is_over}
 
 -- all tuples of the columns that are left are open
-pub record AreReady (context : SearchContext) (table : OpenView) (rest : List ℕ) (rows : List (List (Option ℕ))) : Type 0 where
+pub record AreReady (context : QuestionsView) (table : OpenView) (rest : List ℕ) (rows : List (List (Option ℕ))) : Type 0 where
   pub of : IsTableOf context table
   pub rises : Rises table.places
   pub all_open : All (λ p. open_tuples table p ≡ tuples_in_play context.model context.slice p) rest
@@ -32,7 +33,7 @@ pub record AreReady (context : SearchContext) (table : OpenView) (rest : List �
   pub exist : All (λ p. p < length context.model.params) rest
 
 -- the columns that are left decide
-pub record Taking (context : SearchContext) (order rest : List ℕ) (table : OpenView) (initial rows before omitted : List (List (Option ℕ))) : Type 0 where
+pub record Taking (context : QuestionsView) (order rest : List ℕ) (table : OpenView) (initial rows before omitted : List (List (Option ℕ))) : Type 0 where
   pub given : (columns_grown context order initial).rows ≡ (columns_grown context rest rows).rows
   pub asked : first_spent context (columns_grown context order initial).asked ≡ first_spent context (columns_grown context rest rows).asked
   pub left_out : before ++ (columns_grown context order initial).omitted ≡ omitted ++ (columns_grown context rest rows).omitted
@@ -48,7 +49,7 @@ exists_range a n k within =
     subst (λ q. q < k) (sym (get_or-range_with_len a n i d place)) (omega (arith, place))
 
 -- at first
-pub taking-start : (context : SearchContext) (order : List ℕ) (table : OpenView) (rows omitted : List (List (Option ℕ))) → IsSoundContext context
+pub taking-start : (context : QuestionsView) (order : List ℕ) (table : OpenView) (rows omitted : List (List (Option ℕ))) → IsSoundContext context
     → table ≡ all_open context.model context.slice
     → IsPermutation (range_with_len 0 (length context.model.params)) order → All (Grows context) rows
     → Taking context order order table rows rows omitted omitted
@@ -70,7 +71,7 @@ taking-start context order table rows omitted is fresh moved grows = record {
 }
 
 -- the next column
-pub taking-next : {context : SearchContext} {p : ℕ} {rest : List ℕ} {table : OpenView} {rows : List (List (Option ℕ))}
+pub taking-next : {context : QuestionsView} {p : ℕ} {rest : List ℕ} {table : OpenView} {rows : List (List (Option ℕ))}
     → AreReady context table (p ∷ rest) rows → IsReady context table p rows
 taking-next {context} {p} {rest} {table} {rows} ready = record {
   of = ready.of;
@@ -79,7 +80,7 @@ taking-next {context} {p} {rest} {table} {rows} ready = record {
   grows = ready.grows;
 }
 
-others_open : (context : SearchContext) (p : ℕ) (rest : List ℕ) (table after : OpenView) → Keeps table after p → is_among rest p ≡ false
+others_open : (context : QuestionsView) (p : ℕ) (rest : List ℕ) (table after : OpenView) → Keeps table after p → is_among rest p ≡ false
     → All (λ q. open_tuples table q ≡ tuples_in_play context.model context.slice q) rest
     → All (λ q. open_tuples after q ≡ tuples_in_play context.model context.slice q) rest
 others_open context p [] table after keeps apart all = All-nil (λ q. open_tuples after q ≡ tuples_in_play context.model context.slice q)
@@ -95,7 +96,7 @@ others_open context p (q ∷ rest) table after keeps apart all =
     later true h = absurd (false≢true (sym h))
     later false h = h
 
-pub taking-more : {context : SearchContext} {order : List ℕ} {p : ℕ} {rest : List ℕ} {table after : OpenView}
+pub taking-more : {context : QuestionsView} {order : List ℕ} {p : ℕ} {rest : List ℕ} {table after : OpenView}
     {initial rows grown before omitted more : List (List (Option ℕ))}
     → Taking context order (p ∷ rest) table initial rows before omitted
     → first_spent context (column_grown context p rows).asked ≡ None → grown ≡ (column_grown context p rows).rows
@@ -122,8 +123,8 @@ taking-more {context} {order} {p} {rest} {table} {after} {initial} {rows} {grown
   };
 }
 
--- a question exceeds the budget
-pub taking-spent : {context : SearchContext} {order : List ℕ} {p : ℕ} {rest : List ℕ} {table : OpenView}
+-- a question costs more than it may
+pub taking-spent : {context : QuestionsView} {order : List ℕ} {p : ℕ} {rest : List ℕ} {table : OpenView}
     {initial rows before omitted : List (List (Option ℕ))} {question : List (Option ℕ)}
     → Taking context order (p ∷ rest) table initial rows before omitted
     → first_spent context (column_grown context p rows).asked ≡ Some question → first_spent context (columns_grown context order initial).asked ≡ Some question
@@ -132,7 +133,7 @@ taking-spent {context} {order} {p} {rest} {table} {initial} {rows} {before} {omi
     (columns_grown context rest (column_grown context p rows).rows).asked over
 
 -- the next column, by its place
-pub taking-at : (context : SearchContext) (order : List ℕ) (k p : ℕ) (table : OpenView) (initial rows before omitted : List (List (Option ℕ)))
+pub taking-at : (context : QuestionsView) (order : List ℕ) (k p : ℕ) (table : OpenView) (initial rows before omitted : List (List (Option ℕ)))
     → k < length order → p ≡ get_or order k 0
     → Taking context order (drop k order) table initial rows before omitted → Taking context order (p ∷ drop (k + 1) order) table initial rows before omitted
 taking-at context order k p table initial rows before omitted within is taking =

@@ -4,6 +4,7 @@ use Rattle.std.proofs.lemmas.List.{append-nil, append_assoc, length-map, map-app
 use Rattle.std.proofs.lemmas.List.Elements.{All-nil, All-cons, All-append}
 use Rattle.cov_model.specs.Fits.{FitsModel}
 use Rattle.cov_model.specs.Sound.{ModelView}
+use Rattle.definitions.specs.declared.effort.Effort.{Effort}
 use Rattle.definitions.specs.Covering.{IsUnserved}
 use Rattle.definitions.specs.Pairs.{cells_of, pairs_of}
 use Rattle.definitions.specs.Refutation.{Token}
@@ -17,15 +18,15 @@ use Rattle.ipog_grow.specs.Omissions.{AreOmissionsOf, IsTreeOf}
 use Rattle.ipog_grow.specs.Suites.{HasNoTree, HasTrees, omitted_cells}
 
 -- trees after trees
-trees-append : (m : ModelView) (pref : List (List ℕ)) (format : ℕ) (earlier : List (List (Option ℕ))) (first second : List (List (Option ℕ) × List Token))
-    → AreEagerTrees m pref format earlier first → AreEagerTrees m pref format (earlier ++ map (λ omission. omission.0) first) second
-    → AreEagerTrees m pref format earlier (first ++ second)
-trees-append m pref format earlier [] second one two =
-    subst (λ (tuples : List (List (Option ℕ))). AreEagerTrees m pref format tuples second) (append-nil earlier) two
-trees-append m pref format earlier (omission ∷ first) second one two = (
+trees-append : (m : ModelView) (pref : List (List ℕ)) (effort : Effort) (format : ℕ) (earlier : List (List (Option ℕ))) (first second : List (List (Option ℕ) × List Token))
+    → AreEagerTrees m pref effort format earlier first → AreEagerTrees m pref effort format (earlier ++ map (λ omission. omission.0) first) second
+    → AreEagerTrees m pref effort format earlier (first ++ second)
+trees-append m pref effort format earlier [] second one two =
+    subst (λ (tuples : List (List (Option ℕ))). AreEagerTrees m pref effort format tuples second) (append-nil earlier) two
+trees-append m pref effort format earlier (omission ∷ first) second one two = (
   one.0,
-  trees-append m pref format (earlier ++ omission.0 ∷ []) first second one.1
-      (subst (λ (tuples : List (List (Option ℕ))). AreEagerTrees m pref format tuples second)
+  trees-append m pref effort format (earlier ++ omission.0 ∷ []) first second one.1
+      (subst (λ (tuples : List (List (Option ℕ))). AreEagerTrees m pref effort format tuples second)
       (sym (append_assoc earlier (omission.0 ∷ []) (map (λ omission. omission.0) first))) two),
 )
 
@@ -44,31 +45,31 @@ with_cells-append m omissions more =
     ∙ map-append (λ omission. (cells_of (length m.params) omission.tuple, omission.tree)) (map omission_meant omissions) (map omission_meant more)
 
 -- one more omission
-trees-push : (m : ModelView) (pref : List (List ℕ)) (proof : Option ProofForm) (omissions : List Omission) (omission : Omission)
-    → HasTrees m pref proof omissions
-    → IsTreeOf m pref proof (map (omitted_cells (length m.params)) omissions) (omitted_cells (length m.params) omission) omission.tree
-    → HasTrees m pref proof (omissions ++ omission ∷ [])
-trees-push m pref None omissions omission trees tree =
+trees-push : (m : ModelView) (pref : List (List ℕ)) (effort : Effort) (proof : Option ProofForm) (omissions : List Omission) (omission : Omission)
+    → HasTrees m pref effort proof omissions
+    → IsTreeOf m pref effort proof (map (omitted_cells (length m.params)) omissions) (omitted_cells (length m.params) omission) omission.tree
+    → HasTrees m pref effort proof (omissions ++ omission ∷ [])
+trees-push m pref effort None omissions omission trees tree =
     All-append HasNoTree omissions (omission ∷ []) trees (All-cons HasNoTree omission [] tree (All-nil HasNoTree))
-trees-push m pref (Some form) omissions omission trees tree =
-    subst (AreEagerTrees m pref (format_of form) []) (sym (with_cells-append m omissions (omission ∷ [])))
-    (trees-append m pref (format_of form) [] (with_cells m omissions) (with_cells m (omission ∷ [])) trees (
+trees-push m pref effort (Some form) omissions omission trees tree =
+    subst (AreEagerTrees m pref effort (format_of form) []) (sym (with_cells-append m omissions (omission ∷ [])))
+    (trees-append m pref effort (format_of form) [] (with_cells m omissions) (with_cells m (omission ∷ [])) trees (
       subst (λ (earlier : List (List (Option ℕ))).
-          IsEagerTree m pref (format_of form) earlier (omitted_cells (length m.params) omission) (map meant omission.tree)) (sym (tuples-with_cells m omissions))
+          IsEagerTree m pref effort (format_of form) earlier (omitted_cells (length m.params) omission) (map meant omission.tree)) (sym (tuples-with_cells m omissions))
           tree,
       tt,
     ))
 
-pub omissions-push : (m : ModelView) (pref : List (List ℕ)) (proof : Option ProofForm) (omissions after : ProofView) (omission : Omission)
-    → AreOmissionsOf m pref proof omissions → after ≡ record { form = omissions.form; omissions = omissions.omissions ++ omission ∷ [] }
+pub omissions-push : (m : ModelView) (pref : List (List ℕ)) (effort : Effort) (proof : Option ProofForm) (omissions after : ProofView) (omission : Omission)
+    → AreOmissionsOf m pref effort proof omissions → after ≡ record { form = omissions.form; omissions = omissions.omissions ++ omission ∷ [] }
     → omission.tuple ≡ pairs_of (omitted_cells (length m.params) omission)
     → FitsModel m (omitted_cells (length m.params) omission) → IsUnserved m (omitted_cells (length m.params) omission)
-    → IsTreeOf m pref proof (earlier_tuples m omissions) (omitted_cells (length m.params) omission) omission.tree → AreOmissionsOf m pref proof after
-omissions-push m pref proof omissions after omission are put pairs fits unserved tree =
+    → IsTreeOf m pref effort proof (earlier_tuples m omissions) (omitted_cells (length m.params) omission) omission.tree → AreOmissionsOf m pref effort proof after
+omissions-push m pref effort proof omissions after omission are put pairs fits unserved tree =
     let cells : Omission → List (Option ℕ) = omitted_cells (length m.params) in
     let tuples : List (List (Option ℕ)) = map cells omissions.omissions in
     let more : map cells (omissions.omissions ++ omission ∷ []) ≡ tuples ++ cells omission ∷ [] = map-append cells omissions.omissions (omission ∷ []) in
-    subst (AreOmissionsOf m pref proof) (sym put) (record {
+    subst (AreOmissionsOf m pref effort proof) (sym put) (record {
       form = are.form;
       pairs =
           map-append (λ omission. omission.tuple) omissions.omissions (omission ∷ [])
@@ -79,7 +80,7 @@ omissions-push m pref proof omissions after omission are put pairs fits unserved
           (All-append (FitsModel m) tuples (cells omission ∷ []) are.fit (All-cons (FitsModel m) (cells omission) [] fits (All-nil (FitsModel m))));
       unserved = subst (All (IsUnserved m)) (sym more)
           (All-append (IsUnserved m) tuples (cells omission ∷ []) are.unserved (All-cons (IsUnserved m) (cells omission) [] unserved (All-nil (IsUnserved m))));
-      trees = trees-push m pref proof omissions.omissions omission are.trees tree;
+      trees = trees-push m pref effort proof omissions.omissions omission are.trees tree;
     })
 
 -- how many there are, where there are more tuples

@@ -1,6 +1,6 @@
 -- Values tried in a column, the best one first.
 use Rattle.std.proofs.Common.{◌≡◌, ℕ, suc, ◌<◌, ◌≤◌, Bool, true, false, cond, List, [], ◌∷◌, map, length, Option, Some, None, get_or, set}
-use Rattle.std.proofs.Common.{nat_eq, nat_lt, All, IsPermutation, sum, ◌∙◌, sym, ap, subst, refl, arith, inl, inr}
+use Rattle.std.proofs.Common.{nat_eq, All, IsPermutation, sum, ◌∙◌, sym, ap, subst, refl, arith, inl, inr}
 use Rattle.std.specs.List.{range_with_len, IsDistinct}
 use Rattle.std.proofs.lemmas.Bool.{cases_eq}
 use Rattle.std.proofs.lemmas.Bool.Decides.{nat_tests}
@@ -16,10 +16,11 @@ use Rattle.cov_model.specs.Rows.{contains, is_assigned}
 use Rattle.cov_model.specs.Slices.{slice_values}
 use Rattle.definitions.specs.Demand.{is_among}
 use Rattle.definitions.specs.Completion.{with_value}
-use Rattle.definitions.specs.Search.{question_cost}
+use Rattle.definitions.specs.Search.{exceeds, question_cost}
 use Rattle.definitions.specs.Growth.{Filled, first_extendable}
 use Rattle.ipog_grow.specs.Growing.{best}
-use Rattle.ipog_grow.specs.Asking.{SearchContext, IsSoundContext, Grows, extends, first_spent, tried}
+use Rattle.full_search.specs.Questions.{QuestionsView}
+use Rattle.ipog_grow.specs.Asking.{IsSoundContext, Grows, extends, first_spent, tried}
 use Rattle.ipog_grow.proofs.Tuples.{grows-with_value}
 use Rattle.ipog_grow.proofs.Falling.{Distinct, IsBest, without, best_is, best_none, falling-best, falling-none, falling-same}
 use Rattle.refutation.proofs.TreeLemmas.{set_clear}
@@ -47,12 +48,12 @@ distinct-permuted n values moved =
         let second = get_or-range_with_len 0 n j d inside in
         grind (arith, nat_tests)
 
-pub distinct-order : (context : SearchContext) (p : ℕ) → IsSoundContext context → p < length context.model.params → Distinct (get_or context.prefs p [])
+pub distinct-order : (context : QuestionsView) (p : ℕ) → IsSoundContext context → p < length context.model.params → Distinct (get_or context.prefs p [])
 distinct-order context p is within = distinct-permuted (length (param_at context.model.params p).values) (get_or context.prefs p []) (is.orders.each p within)
 
--- the plain cost of a question exceeds the budget
-abbrev pub is_over : SearchContext → List (Option ℕ) → Bool
-is_over context cells = nat_lt context.budget (question_cost context.model context.prefs cells)
+-- the plain cost of a question costs more than it may
+abbrev pub is_over : QuestionsView → List (Option ℕ) → Bool
+is_over context cells = exceeds context.effort (question_cost context.model context.prefs cells)
 
 -- what trying gives by its first candidate
 abbrev pub by_first : Bool → List (Option ℕ) → Filled → Filled
@@ -70,7 +71,7 @@ score_set scores v w within =
     ]
 
 -- the best value is tried first, then the others as if it had no score
-tried-next : (context : SearchContext) (n : ℕ) (scores order : List ℕ) (p v : ℕ) (row : List (Option ℕ)) → IsBest (λ u. get_or scores u 0) order v
+tried-next : (context : QuestionsView) (n : ℕ) (scores order : List ℕ) (p v : ℕ) (row : List (Option ℕ)) → IsBest (λ u. get_or scores u 0) order v
     → get_or scores v 0 ≤ n → v < length scores
     → tried context n scores order p row ≡ by_first (extends context (with_value row p v)) (with_value row p v) (tried context n (set scores v 0) order p row)
 tried-next context n scores order p v row is most within =
@@ -80,7 +81,7 @@ tried-next context n scores order p v row is most within =
     (λ w among. score_set scores v w within)))
 
 -- the scores that are left decide what trying the values gives
-pub record Trying (context : SearchContext) (order : List ℕ) (p : ℕ) (row : List (Option ℕ)) (start scores : List ℕ) : Type 0 where
+pub record Trying (context : QuestionsView) (order : List ℕ) (p : ℕ) (row : List (Option ℕ)) (start scores : List ℕ) : Type 0 where
   pub long : length scores ≡ length start
   pub fewer : (v : ℕ) → 0 < get_or scores v 0 → 0 < get_or start v 0
   pub bounded : (n : ℕ) → All (λ score. score ≤ n) start → All (λ score. score ≤ n) scores
@@ -88,16 +89,16 @@ pub record Trying (context : SearchContext) (order : List ℕ) (p : ℕ) (row : 
   pub asked : (n : ℕ) → All (λ score. score ≤ n) start → first_spent context (tried context n start order p row).asked
       ≡ first_spent context (tried context n scores order p row).asked
 
-pub trying-start : (context : SearchContext) (order : List ℕ) (p : ℕ) (row : List (Option ℕ)) (start : List ℕ) → Trying context order p row start start
+pub trying-start : (context : QuestionsView) (order : List ℕ) (p : ℕ) (row : List (Option ℕ)) (start : List ℕ) → Trying context order p row start start
 trying-start context order p row start = record { long = refl; fewer = λ v some. some; bounded = λ n all. all; given = λ n all. refl; asked = λ n all. refl }
 
 -- an end of the trying
-pub record Tried (context : SearchContext) (order : List ℕ) (p : ℕ) (row after : List (Option ℕ)) (start : List ℕ) : Type 0 where
+pub record Tried (context : QuestionsView) (order : List ℕ) (p : ℕ) (row after : List (Option ℕ)) (start : List ℕ) : Type 0 where
   pub given : (n : ℕ) → All (λ score. score ≤ n) start → after ≡ (tried context n start order p row).row
   pub asked : (n : ℕ) → All (λ score. score ≤ n) start → first_spent context (tried context n start order p row).asked ≡ None
 
 -- no value is left
-pub trying-end : {context : SearchContext} {order : List ℕ} {p : ℕ} {row : List (Option ℕ)} {start scores : List ℕ} → Trying context order p row start scores
+pub trying-end : {context : QuestionsView} {order : List ℕ} {p : ℕ} {row : List (Option ℕ)} {start scores : List ℕ} → Trying context order p row start scores
     → best (λ v. get_or scores v 0) order ≡ None → Tried context order p row row start
 trying-end {context} {order} {p} {row} {start} {scores} trying none = record {
   given = λ n all. sym (trying.given n all ∙ ap (λ (filled : Filled). filled.row) (nothing n));
@@ -110,7 +111,7 @@ trying-end {context} {order} {p} {row} {start} {scores} trying none = record {
         (falling-none n (λ v. get_or scores v 0) order (λ w among. best_none (λ v. get_or scores v 0) order none w among))
 
 -- the best value, given that it is the next to be tried
-pub record Next (context : SearchContext) (order : List ℕ) (p v : ℕ) (row : List (Option ℕ)) (start scores : List ℕ) : Type 0 where
+pub record Next (context : QuestionsView) (order : List ℕ) (p v : ℕ) (row : List (Option ℕ)) (start scores : List ℕ) : Type 0 where
   pub given : (n : ℕ) → All (λ score. score ≤ n) start
       → (tried context n start order p row).row ≡ (by_first (extends context (with_value row p v)) (with_value row p v)
       (tried context n (set scores v 0) order p row)).row
@@ -119,7 +120,7 @@ pub record Next (context : SearchContext) (order : List ℕ) (p v : ℕ) (row : 
       ≡ first_spent context (by_first (extends context (with_value row p v)) (with_value row p v) (tried context n (set scores v 0) order p row)).asked
   pub some : 0 < get_or scores v 0
 
-pub trying-next : (context : SearchContext) (order : List ℕ) (p v : ℕ) (row : List (Option ℕ)) (start scores : List ℕ) → Distinct order
+pub trying-next : (context : QuestionsView) (order : List ℕ) (p v : ℕ) (row : List (Option ℕ)) (start scores : List ℕ) → Distinct order
     → Trying context order p row start scores
     → best (λ u. get_or scores u 0) order ≡ Some v → v < length scores → Next context order p v row start scores
 trying-next context order p v row start scores distinct trying found within =
@@ -133,7 +134,7 @@ trying-next context order p v row start scores distinct trying found within =
     }
 
 -- it leaves the row extendable
-pub trying-yes : {context : SearchContext} {order : List ℕ} {p v : ℕ} {row : List (Option ℕ)} {start scores : List ℕ} → Next context order p v row start scores
+pub trying-yes : {context : QuestionsView} {order : List ℕ} {p v : ℕ} {row : List (Option ℕ)} {start scores : List ℕ} → Next context order p v row start scores
     → extends context (with_value row p v) ≡ true → first_spent context (with_value row p v ∷ []) ≡ None → Tried context order p row (with_value row p v) start
 trying-yes {context} {order} {p} {v} {row} {start} {scores} next able within = record {
   given = λ n all. sym (next.given n all ∙ ap (λ (b : Bool). (by_first b (with_value row p v) (tried context n (set scores v 0) order p row)).row) able);
@@ -141,8 +142,8 @@ trying-yes {context} {order} {p} {v} {row} {start} {scores} next able within = r
       (by_first b (with_value row p v) (tried context n (set scores v 0) order p row)).asked) able ∙ within;
 }
 
--- its question exceeds the budget
-pub trying-spent : {context : SearchContext} {order : List ℕ} {p v : ℕ} {row question : List (Option ℕ)} {start scores : List ℕ}
+-- its question costs more than it may
+pub trying-spent : {context : QuestionsView} {order : List ℕ} {p v : ℕ} {row question : List (Option ℕ)} {start scores : List ℕ}
     → Next context order p v row start scores
     → first_spent context (with_value row p v ∷ []) ≡ Some question
     → (n : ℕ) → All (λ score. score ≤ n) start → first_spent context (tried context n start order p row).asked ≡ Some question
@@ -153,7 +154,7 @@ trying-spent {context} {order} {p} {v} {row} {question} {start} {scores} next ov
     at false = find-earlier (is_over context) question ((with_value row p v) ∷ []) (tried context n (set scores v 0) order p row).asked over
 
 -- it doesn't leave the row extendable, so the others are tried
-pub trying-more : {context : SearchContext} {order : List ℕ} {p v : ℕ} {row : List (Option ℕ)} {start scores : List ℕ}
+pub trying-more : {context : QuestionsView} {order : List ℕ} {p v : ℕ} {row : List (Option ℕ)} {start scores : List ℕ}
     → Trying context order p row start scores → Next context order p v row start scores
     → v < length scores → extends context (with_value row p v) ≡ false → first_spent context (with_value row p v ∷ []) ≡ None
     → Trying context order p row start (set scores v 0)
@@ -186,14 +187,14 @@ pub trying-falls : (scores : List ℕ) (v : ℕ) → v < length scores → 0 < g
 trying-falls scores v within some = omega (arith, sum_by-set (λ x. x) scores v 0 0 within)
 
 -- a value that is tried
-pub record Put (context : SearchContext) (order : List ℕ) (p v : ℕ) (row held put : List (Option ℕ)) (start scores : List ℕ) : Type 0 where
+pub record Put (context : QuestionsView) (order : List ℕ) (p v : ℕ) (row held put : List (Option ℕ)) (start scores : List ℕ) : Type 0 where
   pub is : put ≡ with_value row p v
   pub grows : Grows context put
   pub more : contains put row ≡ true
   pub cleared : set put p None ≡ row
   pub next : Next context order p v row start scores
 
-pub trying-put : {context : SearchContext} {order : List ℕ} {p v : ℕ} {row held put : List (Option ℕ)} {start scores : List ℕ}
+pub trying-put : {context : QuestionsView} {order : List ℕ} {p v : ℕ} {row held put : List (Option ℕ)} {start scores : List ℕ}
     → IsSoundContext context → p < length context.model.params
     → order ≡ get_or context.prefs p [] → ((w : ℕ) → 0 < get_or start w 0 → is_among (get_or (slice_values context.model context.slice) p []) w ≡ true)
     → Grows context row → is_assigned row p ≡ false → Trying context order p row start scores → best (λ u. get_or scores u 0) order ≡ Some v → v < length scores

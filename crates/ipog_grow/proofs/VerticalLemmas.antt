@@ -10,14 +10,15 @@ use Rattle.definitions.specs.Growth.{Grown, down, settle, is_uncovered}
 use Rattle.uncovered_table.specs.Open.{OpenView, IsPlaceOf, is_after, next_open}
 use Rattle.uncovered_table.specs.Places.{tuple_at}
 use Rattle.ipog_grow.specs.Growing.{IsInPlay, Keeps, open_places, open_tuples}
-use Rattle.ipog_grow.specs.Asking.{SearchContext, IsNext, IsOpen, IsPassed, extends, first_spent}
+use Rattle.full_search.specs.Questions.{QuestionsView}
+use Rattle.ipog_grow.specs.Asking.{IsNext, IsOpen, IsPassed, extends, first_spent}
 use Rattle.ipog_grow.proofs.HorizontalLemmas.{keeps-same, keeps-both}
 use Rattle.ipog_grow.proofs.Settling.{passed, followed, down-uncovered}
 use Rattle.ipog_grow.proofs.Table.{next_open-first}
 use Rattle.ipog_grow.proofs.Trying.{is_over}
 
 -- the open tuples that are left decide
-pub record Downing (context : SearchContext) (p : ℕ) (start table : OpenView) (initial rows before omitted : List (List (Option ℕ)))
+pub record Downing (context : QuestionsView) (p : ℕ) (start table : OpenView) (initial rows before omitted : List (List (Option ℕ)))
     (from : Option (ℕ × ℕ)) : Type 0 where
   pub given : (down (extends context) (open_tuples start p) initial).rows ≡ (down (extends context) (open_tuples table p) rows).rows
   pub asked : first_spent context (down (extends context) (open_tuples start p) initial).asked
@@ -28,7 +29,7 @@ pub record Downing (context : SearchContext) (p : ℕ) (start table : OpenView) 
   pub keeps : Keeps start table p
   pub behind : All (λ place. is_after from place ≡ true) (open_places table p)
 
-pub downing-start : (context : SearchContext) (p : ℕ) (table : OpenView) (rows omitted : List (List (Option ℕ))) → IsOpen context table p rows
+pub downing-start : (context : QuestionsView) (p : ℕ) (table : OpenView) (rows omitted : List (List (Option ℕ))) → IsOpen context table p rows
     → Downing context p table table rows rows omitted omitted None
 downing-start context p table rows omitted is = record {
   given = refl;
@@ -40,7 +41,7 @@ downing-start context p table rows omitted is = record {
 }
 
 -- the tuple of the next place
-pub downing-next : {context : SearchContext} {p : ℕ} {start table : OpenView} {initial rows before omitted : List (List (Option ℕ))} {from : Option (ℕ × ℕ)}
+pub downing-next : {context : QuestionsView} {p : ℕ} {start table : OpenView} {initial rows before omitted : List (List (Option ℕ))} {from : Option (ℕ × ℕ)}
     {place : ℕ × ℕ} {tuple : List (Option ℕ)}
     → Downing context p start table initial rows before omitted from → next_open table p from ≡ Some place → IsPlaceOf table place
     → tuple ≡ tuple_at table.model place
@@ -57,12 +58,12 @@ downing-next {context} {p} {start} {table} {initial} {rows} {before} {omitted} {
 }
 
 -- the open tuples by the first
-record Parts (context : SearchContext) (table : OpenView) (p : ℕ) (tuple : List (Option ℕ)) (rows : List (List (Option ℕ))) : Type 0 where
+record Parts (context : QuestionsView) (table : OpenView) (p : ℕ) (tuple : List (Option ℕ)) (rows : List (List (Option ℕ))) : Type 0 where
   rest : List (List (Option ℕ))
   all : open_tuples table p ≡ tuple ∷ rest
   first : is_uncovered rows tuple ≡ true
 
-parts : (context : SearchContext) (table : OpenView) (p : ℕ) (place : ℕ × ℕ) (tuple : List (Option ℕ)) (rows : List (List (Option ℕ)))
+parts : (context : QuestionsView) (table : OpenView) (p : ℕ) (place : ℕ × ℕ) (tuple : List (Option ℕ)) (rows : List (List (Option ℕ)))
     → IsNext context table p place tuple rows → Parts context table p tuple rows
 parts context table p place tuple rows next = by_places (open_places table p) refl next.first
   where
@@ -80,7 +81,7 @@ parts context table p place tuple rows next = by_places (open_places table p) re
         }
 
 -- what they give by the first
-down_first : (context : SearchContext) (table : OpenView) (p : ℕ) (tuple : List (Option ℕ)) (rows : List (List (Option ℕ)))
+down_first : (context : QuestionsView) (table : OpenView) (p : ℕ) (tuple : List (Option ℕ)) (rows : List (List (Option ℕ)))
     (some : Parts context table p tuple rows)
     → down (extends context) (open_tuples table p) rows ≡ followed (settle (extends context) tuple rows)
     (down (extends context) some.rest (settle (extends context) tuple rows).rows)
@@ -94,7 +95,7 @@ All-drop_first P [] all = all
 All-drop_first P (x ∷ xs) all = All-tail P x xs all
 
 -- one tuple more
-pub downing-more : {context : SearchContext} {p : ℕ} {start table after : OpenView} {initial rows before omitted grown more : List (List (Option ℕ))}
+pub downing-more : {context : QuestionsView} {p : ℕ} {start table after : OpenView} {initial rows before omitted grown more : List (List (Option ℕ))}
     {from : Option (ℕ × ℕ)} {place : ℕ × ℕ} {tuple : List (Option ℕ)}
     → Downing context p start table initial rows before omitted from → IsNext context table p place tuple rows
     → first_spent context (settle (extends context) tuple rows).asked ≡ None → grown ≡ (settle (extends context) tuple rows).rows
@@ -133,8 +134,8 @@ downing-more {context} {p} {start} {table} {after} {initial} {rows} {before} {om
       behind = passes.behind;
     }
 
--- a question exceeds the budget
-pub downing-spent : {context : SearchContext} {p : ℕ} {start table : OpenView} {initial rows before omitted : List (List (Option ℕ))} {from : Option (ℕ × ℕ)}
+-- a question costs more than it may
+pub downing-spent : {context : QuestionsView} {p : ℕ} {start table : OpenView} {initial rows before omitted : List (List (Option ℕ))} {from : Option (ℕ × ℕ)}
     {place : ℕ × ℕ} {tuple question : List (Option ℕ)}
     → Downing context p start table initial rows before omitted from → IsNext context table p place tuple rows
     → first_spent context (settle (extends context) tuple rows).asked ≡ Some question
@@ -146,12 +147,12 @@ downing-spent {context} {p} {start} {table} {initial} {rows} {before} {omitted} 
     (down (extends context) some.rest (settle (extends context) tuple rows).rows).asked over
 
 -- no tuple is left
-pub record Downed (context : SearchContext) (p : ℕ) (start : OpenView) (initial rows before omitted : List (List (Option ℕ))) : Type 0 where
+pub record Downed (context : QuestionsView) (p : ℕ) (start : OpenView) (initial rows before omitted : List (List (Option ℕ))) : Type 0 where
   pub asked : first_spent context (down (extends context) (open_tuples start p) initial).asked ≡ None
   pub given : rows ≡ (down (extends context) (open_tuples start p) initial).rows
   pub left_out : omitted ≡ before ++ (down (extends context) (open_tuples start p) initial).omitted
 
-pub downing-end : {context : SearchContext} {p : ℕ} {start table : OpenView} {initial rows before omitted : List (List (Option ℕ))} {from : Option (ℕ × ℕ)}
+pub downing-end : {context : QuestionsView} {p : ℕ} {start table : OpenView} {initial rows before omitted : List (List (Option ℕ))} {from : Option (ℕ × ℕ)}
     → Downing context p start table initial rows before omitted from → next_open table p from ≡ None → Downed context p start initial rows before omitted
 downing-end {context} {p} {start} {table} {initial} {rows} {before} {omitted} {from} downing none =
     let nothing : open_tuples table p ≡ [] = ap (map (tuple_at table.model))
@@ -170,7 +171,7 @@ downing-end {context} {p} {start} {table} {initial} {rows} {before} {omitted} {f
         some_none h = cc
 
 -- with each tuple the open ones become fewer
-pub downing-falls : {context : SearchContext} {p : ℕ} {table after : OpenView} {place : ℕ × ℕ} {tuple : List (Option ℕ)}
+pub downing-falls : {context : QuestionsView} {p : ℕ} {table after : OpenView} {place : ℕ × ℕ} {tuple : List (Option ℕ)}
     {rows grown : List (List (Option ℕ))} → IsNext context table p place tuple rows
     → IsPassed context table after p place grown → length (open_tuples after p) < length (open_tuples table p)
 downing-falls {context} {p} {table} {after} {place} {tuple} {rows} {grown} next passes =

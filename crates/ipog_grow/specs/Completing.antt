@@ -1,8 +1,8 @@
 -- Completing the grown rows of a slice. (This project's rules.)
 use Rattle.std.specs.Prelude.{ℕ, List, Option}
 use Rattle.definitions.specs.Completion.{first_completion}
-use Rattle.ipog_grow.specs.Asking.{SearchContext}
+use Rattle.full_search.specs.Questions.{QuestionsView}
 
 -- the first completion of a partial row
-abbrev pub completed : SearchContext → List (Option ℕ) → Option (List (Option ℕ))
+abbrev pub completed : QuestionsView → List (Option ℕ) → Option (List (Option ℕ))
 completed context cells = first_completion context.model context.prefs context.slice cells

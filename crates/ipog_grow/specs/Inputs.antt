@@ -6,7 +6,7 @@ use Rattle.cov_model.specs.Preference.{OrdersValues}
 use Rattle.definitions.specs.Completion.{has_slice}
 use Rattle.tuple_index.specs.Plan.{plan_of}
 use Rattle.ipog_grow.specs.declared.input.GrowInput.{GrowInput}
-use Rattle.ipog_grow.specs.Asking.{SearchContext}
+use Rattle.full_search.specs.Questions.{QuestionsView}
 
 -- the plan and the preferences are the model's, and the kept seeds are partial rows of its slices
 pub record IsSoundInput (input : GrowInput) : Type 0 where
@@ -16,5 +16,5 @@ pub record IsSoundInput (input : GrowInput) : Type 0 where
   pub few : All (λ seed. has_slice input.model.now seed ≡ true) input.kept.now
 
 -- what decides the answers in a slice
-abbrev pub context_in : GrowInput → Slice → SearchContext
-context_in input slice = record { model = input.model.now; prefs = input.prefs.now; slice = slice; budget = input.budget }
+abbrev pub context_in : GrowInput → Slice → QuestionsView
+context_in input slice = record { model = input.model.now; prefs = input.prefs.now; slice = slice; effort = input.effort }

@@ -9,4 +9,4 @@ pub mod Growing
 pub mod Asking
 pub mod Omissions
 pub mod Inputs
-pub mod SeedSolvers
+pub mod SeedQuestions

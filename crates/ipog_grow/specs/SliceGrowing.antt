@@ -1,8 +1,8 @@
 -- The growth of one slice from given rows. (This project's rules.)
 use Rattle.std.specs.Prelude.{ℕ, List, Option}
 use Rattle.definitions.specs.Growth.{Grown, slice_grown_from}
-use Rattle.ipog_grow.specs.Asking.{SearchContext}
+use Rattle.full_search.specs.Questions.{QuestionsView}
 
 -- what the slice gives from these partial rows
-abbrev pub grown_from : SearchContext → List (List (Option ℕ)) → Grown
+abbrev pub grown_from : QuestionsView → List (List (Option ℕ)) → Grown
 grown_from context rows = slice_grown_from context.model context.prefs context.slice rows

@@ -1,6 +1,7 @@
 -- When a suite is the one that growth gives, and where a run of questions stopped. (This project's rules.)
 use Rattle.std.specs.Prelude.{◌≡◌, ℕ, [], List, map, length, Option, Some, None, All, unwrap_or}
 use Rattle.cov_model.specs.Sound.{ModelView}
+use Rattle.definitions.specs.declared.effort.Effort.{Effort}
 use Rattle.definitions.specs.Growth.{growth}
 use Rattle.definitions.specs.Pairs.{cells_of, pairs_of}
 use Rattle.definitions.specs.Seeds.{kept_seeds, dropped_lines}
@@ -23,22 +24,22 @@ abbrev pub HasNoTree : Omission → Type 0
 HasNoTree omission = omission.tree ≡ []
 
 -- without a proof there are no trees; with one, in its form, each omission has an eager tree that refutes its tuple
--- after those before it, with no more branches than the plain cost of the tuple
-abbrev pub HasTrees : ModelView → List (List ℕ) → Option ProofForm → List Omission → Type 0
-HasTrees m pref None omissions = All HasNoTree omissions
-HasTrees m pref (Some form) omissions = AreEagerTrees m pref (format_of form) [] (as_cells m (map omission_meant omissions))
+-- after those before it, within a budget with no more branches than the plain cost of the tuple
+abbrev pub HasTrees : ModelView → List (List ℕ) → Effort → Option ProofForm → List Omission → Type 0
+HasTrees m pref effort None omissions = All HasNoTree omissions
+HasTrees m pref effort (Some form) omissions = AreEagerTrees m pref effort (format_of form) [] (as_cells m (map omission_meant omissions))
 
 -- a suite is what growth gives with these preferences and seeds; its omissions have the trees that are asked for, and
 -- their form is the one asked for, or the first where none was
-pub record IsSuiteOf (m : ModelView) (pref : List (List ℕ)) (seeds : List (ℕ × List (Option ℕ))) (proof : Option ProofForm) (suite : Suite) : Type 0 where
+pub record IsSuiteOf (m : ModelView) (pref : List (List ℕ)) (seeds : List (ℕ × List (Option ℕ))) (effort : Effort) (proof : Option ProofForm) (suite : Suite) : Type 0 where
   pub rows : suite.rows ≡ (growth m pref seeds).rows
   pub omitted : map (λ omission. omission.tuple) suite.omitted.omissions ≡ map pairs_of (growth m pref seeds).omitted
   pub form : suite.omitted.form ≡ unwrap_or proof One
-  pub trees : HasTrees m pref proof suite.omitted.omissions
+  pub trees : HasTrees m pref effort proof suite.omitted.omissions
   pub kept : suite.kept ≡ length (kept_seeds m seeds)
   pub dropped : suite.dropped ≡ dropped_lines m seeds
 
--- a run stopped at this question, the first whose cost is above the budget, or for want of memory
+-- a run stopped at this question, the first that costs more than it may, or for want of memory
 abbrev pub IsStopped : Stop → List (Option ℕ) → Option (List (Option ℕ)) → Type 0
 IsStopped stops.Spent question over = over ≡ Some question
 IsStopped stops.NoMemory question over = Unit {0}

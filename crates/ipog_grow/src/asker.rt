@@ -13,26 +13,26 @@ ghost use Rattle.ipog_grow.specs.Omissions.{IsOmittedIn};
 
 use crate::stop::Stop;
 use cov_model::{Cells, Prefs, Slice, TestModel, Tuple};
-use feasibility::{Answer, RefuteFault, Solver};
+use definitions::Effort;
+use feasibility::{Answer, RefuteFault};
+use full_search::Questions;
 use refutation::{Omissions, TreeBuf};
 use std::alloc::Global;
 use std::marker::Model;
 use value_text::NoMemory;
 
-// Asks whether partial rows of a slice are extendable, within a budget for each question, and keeps
-// the question that exceeds it. Contracts see what decides the answers, and that question.
+// Asks whether partial rows of a slice are extendable, and keeps the question that costs more than it
+// may. Contracts see what decides the answers, and that question.
 pub(crate) struct Asker<'a> {
-    solver: Solver<'a>,
-    budget: u64,
+    questions: Questions<'a>,
     question: Cells,
 }
 
-// Its solver is dropped here, and not anew wherever a growth may end.
+// Its questions are dropped here, and not anew wherever a growth may end.
 impl Drop for Asker<'_> {
     fn drop(self) {
         let Asker {
-            solver: _,
-            budget: _,
+            questions: _,
             question: _,
         } = self;
     }
@@ -48,9 +48,9 @@ impl<'a> Model for Asker<'a> {
 
     ghost coded = { Prim.hlevel (codes, tested.the_row.coded) };
 
-    ghost view = { λ a. record { context = record { model = a.solver.model; prefs = a.solver.prefs; slice = a.solver.slice; budget = a.budget }; question = a.question } };
+    ghost view = { λ a. record { context = a.questions; question = a.question } };
 
-    ghost invariant = { λ a. IsAsker (record { context = record { model = a.solver.model; prefs = a.solver.prefs; slice = a.solver.slice; budget = a.budget }; question = a.question }) };
+    ghost invariant = { λ a. IsAsker (record { context = a.questions; question = a.question }) };
 }
 
 impl<'a> Asker<'a> {
@@ -61,17 +61,16 @@ impl<'a> Asker<'a> {
         model: &'a TestModel,
         prefs: &'a Prefs,
         slice: Slice,
-        budget: u64,
+        effort: Effort,
     ) -> Result<Asker<'a>, NoMemory>
         requires slice { IsSliceOf model.now slice }
         requires orders { OrdersValues model.now prefs.now }
-        ensures { IfOk result (λ asker. asker.context ≡ record { model = model.now; prefs = prefs.now; slice = slice; budget = budget }) }
+        ensures { IfOk result (λ asker. asker.context ≡ record { model = model.now; prefs = prefs.now; slice = slice; effort = effort }) }
     {
         let question = Cells::empty(alloc, model.params().len())?;
-        let solver = Solver::new(alloc, model, prefs, slice)?;
+        let questions = Questions::new(alloc, model, prefs, slice, effort)?;
         Ok(Asker {
-            solver,
-            budget,
+            questions,
             question,
         })
     }
@@ -81,7 +80,7 @@ impl<'a> Asker<'a> {
         ensures { IsAsker self.now }
     {
         // a use of a field brings into a proof what the type keeps
-        let _ = &self.solver;
+        let _ = &self.questions;
     }
 
     // Whether a partial row of the slice is extendable.
@@ -91,7 +90,7 @@ impl<'a> Asker<'a> {
         ensures value { IfOk result (λ yes. yes ≡ extends self.old.context cells.now) }
         ensures same { self.new.context ≡ self.old.context }
     {
-        match self.solver.ask(cells, self.budget) {
+        match self.questions.ask(cells) {
             Answer::Yes => Ok(true),
             Answer::No => Ok(false),
             Answer::Spent => {
@@ -111,7 +110,7 @@ impl<'a> Asker<'a> {
         ensures room { length into.new ≡ length into.old }
         ensures same { self.new.context ≡ self.old.context }
     {
-        match self.solver.complete(cells, self.budget, into) {
+        match self.questions.complete(cells, into) {
             Answer::Yes => Ok(true),
             Answer::No => Ok(false),
             Answer::Spent => {
@@ -133,20 +132,20 @@ impl<'a> Asker<'a> {
         requires fit { All (FitsModel self.old.context.model) (earlier_tuples self.old.context.model earlier.now) }
         requires unserved { All (IsUnserved self.old.context.model) (earlier_tuples self.old.context.model earlier.now) }
         requires few { length earlier.now.omissions < 2 ^ 32 }
-        ensures tree { IfOk result (λ tree. IsEagerTree self.old.context.model self.old.context.prefs (format_of earlier.now.form)
+        ensures tree { IfOk result (λ tree. IsEagerTree self.old.context.model self.old.context.prefs self.old.context.effort (format_of earlier.now.form)
             (earlier_tuples self.old.context.model earlier.now) (cells_of (length self.old.context.model.params) tuple.now) (map meant tree)) }
         ensures same { self.new.context ≡ self.old.context }
     {
         let mut tree = TreeBuf::new(alloc);
-        match self.solver.refute(tuple, self.budget, earlier, &mut tree) {
+        match self.questions.refute(tuple, earlier, &mut tree) {
             Ok(()) => Ok(tree),
             Err(RefuteFault::NoMemory) => Err(NoMemory),
-            // the tuple was asked before, and its cost didn't exceed the budget
+            // the tuple was asked before, and didn't cost more than it may
             Err(RefuteFault::Spent) => unreachable!(),
         }
     }
 
-    // The last question whose cost exceeded the budget.
+    // The last question that cost more than it may.
     pub(crate) fn question(&self) -> &Cells
         ensures value { result.now ≡ self.now.question }
         ensures long { length result.now ≡ length self.now.context.model.params }

@@ -26,9 +26,9 @@ fn tree_of(
     earlier: &Omissions,
 ) -> Result<TreeBuf, NoMemory>
     requires omitted { IsOmittedIn asker.old.context (cells_of (length asker.old.context.model.params) tuple.now) }
-    requires earlier { AreOmissionsOf asker.old.context.model asker.old.context.prefs proof earlier.now }
+    requires earlier { AreOmissionsOf asker.old.context.model asker.old.context.prefs asker.old.context.effort proof earlier.now }
     requires few { length earlier.now.omissions < 2 ^ 32 }
-    ensures tree { IfOk result (IsTreeOf asker.old.context.model asker.old.context.prefs proof
+    ensures tree { IfOk result (IsTreeOf asker.old.context.model asker.old.context.prefs asker.old.context.effort proof
         (earlier_tuples asker.old.context.model earlier.now) (cells_of (length asker.old.context.model.params) tuple.now)) }
     ensures same { asker.new.context ≡ asker.old.context }
 {
@@ -47,11 +47,11 @@ fn push_omission(
     into: &mut Omissions,
 ) -> Result<(), NoMemory>
     requires omitted { IsOmittedIn asker.old.context cells.now }
-    requires earlier { AreOmissionsOf asker.old.context.model asker.old.context.prefs proof into.old }
+    requires earlier { AreOmissionsOf asker.old.context.model asker.old.context.prefs asker.old.context.effort proof into.old }
     requires few { length into.old.omissions < 2 ^ 32 }
     ensures tuples { OnOk result (earlier_tuples asker.old.context.model into.new
         ≡ earlier_tuples asker.old.context.model into.old ++ cells.now ∷ []) }
-    ensures omissions { OnOk result (AreOmissionsOf asker.old.context.model asker.old.context.prefs proof into.new) }
+    ensures omissions { OnOk result (AreOmissionsOf asker.old.context.model asker.old.context.prefs asker.old.context.effort proof into.new) }
     ensures same { asker.new.context ≡ asker.old.context }
 {
     asker.assert_invariant();
@@ -69,11 +69,11 @@ fn push_omitted(
     into: &mut Omissions,
 ) -> Result<(), NoMemory>
     requires omitted { All (IsOmittedIn asker.old.context) omitted.now }
-    requires earlier { AreOmissionsOf asker.old.context.model asker.old.context.prefs proof into.old }
+    requires earlier { AreOmissionsOf asker.old.context.model asker.old.context.prefs asker.old.context.effort proof into.old }
     requires few { length into.old.omissions + length omitted.now < 2 ^ 32 }
     ensures tuples { OnOk result (earlier_tuples asker.old.context.model into.new
         ≡ earlier_tuples asker.old.context.model into.old ++ omitted.now) }
-    ensures omissions { OnOk result (AreOmissionsOf asker.old.context.model asker.old.context.prefs proof into.new) }
+    ensures omissions { OnOk result (AreOmissionsOf asker.old.context.model asker.old.context.prefs asker.old.context.effort proof into.new) }
 {
     for cells in omitted {
         push_omission(alloc, asker, proof, cells, into)?;
@@ -94,14 +94,14 @@ pub(crate) fn finish_slice(
 ) -> Result<(), SearchFault>
     requires grows { All (Grows asker.old.context) grown }
     requires omitted { All (IsOmittedIn asker.old.context) omitted.now }
-    requires earlier { AreOmissionsOf asker.old.context.model asker.old.context.prefs proof omissions.old }
+    requires earlier { AreOmissionsOf asker.old.context.model asker.old.context.prefs asker.old.context.effort proof omissions.old }
     requires few { length omissions.old.omissions + length omitted.now < 2 ^ 32 }
     requires long { All (λ row. length row ≡ length asker.old.context.model.params) rows.old }
     ensures rows { OnOk result (rows.new ≡ rows.old ++ distinct (filter_map (completed asker.old.context) grown)) }
     ensures long { OnOk result (All (λ row. length row ≡ length asker.old.context.model.params) rows.new) }
     ensures tuples { OnOk result (earlier_tuples asker.old.context.model omissions.new
         ≡ earlier_tuples asker.old.context.model omissions.old ++ omitted.now) }
-    ensures omissions { OnOk result (AreOmissionsOf asker.old.context.model asker.old.context.prefs proof omissions.new) }
+    ensures omissions { OnOk result (AreOmissionsOf asker.old.context.model asker.old.context.prefs asker.old.context.effort proof omissions.new) }
     ensures asked { Ends result (first_spent asker.old.context grown) }
 {
     asker.assert_invariant();

@@ -46,9 +46,9 @@ fn grow_slices<R: Threads + Sync, G: Gate + Sync>(
         → rows.new ≡ (slices_growth input.now.model.now input.now.prefs.now seeds slices.now).rows) }
     ensures tuples { OnOk result ((seeds : List (ℕ × List (Option ℕ))) → input.now.kept.now ≡ kept_seeds input.now.model.now seeds
         → earlier_tuples input.now.model.now omissions.new ≡ (slices_growth input.now.model.now input.now.prefs.now seeds slices.now).omitted) }
-    ensures omissions { OnOk result (AreOmissionsOf input.now.model.now input.now.prefs.now input.now.proof omissions.new) }
+    ensures omissions { OnOk result (AreOmissionsOf input.now.model.now input.now.prefs.now input.now.effort input.now.proof omissions.new) }
     ensures asked { (seeds : List (ℕ × List (Option ℕ))) → input.now.kept.now ≡ kept_seeds input.now.model.now seeds
-        → Ends result (first_over input.now.model.now input.now.prefs.now input.now.budget
+        → Ends result (first_over input.now.model.now input.now.prefs.now input.now.effort
         (slices_growth input.now.model.now input.now.prefs.now seeds slices.now).asked) }
 {
     for slice in slices {
@@ -63,7 +63,7 @@ fn grow_slices<R: Threads + Sync, G: Gate + Sync>(
 ///
 /// # Errors
 ///
-/// `Spent` with the first question whose plain cost exceeds the budget, exactly where there is one;
+/// `Spent` with the first question whose plain cost is above what one may cost, exactly where there is one;
 /// `NoMemory` where there is no room.
 pub fn generate<R: Threads + Sync, G: Gate + Sync>(
     rt: &R,
@@ -81,8 +81,8 @@ pub fn generate<R: Threads + Sync, G: Gate + Sync>(
     requires few { length seeds.now.rows ≤ 2 ^ 20 }
     requires some_workers { 1 ≤ opts.now.workers }
     requires few_workers { opts.now.workers ≤ 64 }
-    ensures suite { IfOk result (IsSuiteOf model.now prefs.now (seeds_seen seeds.now) opts.now.proof) }
-    ensures asked { Ends result (first_over model.now prefs.now opts.now.budget (growth model.now prefs.now (seeds_seen seeds.now)).asked) }
+    ensures suite { IfOk result (IsSuiteOf model.now prefs.now (seeds_seen seeds.now) opts.now.effort opts.now.proof) }
+    ensures asked { Ends result (first_over model.now prefs.now opts.now.effort (growth model.now prefs.now (seeds_seen seeds.now)).asked) }
 {
     plan.assert_invariant();
     let workers = Workers {
@@ -90,7 +90,7 @@ pub fn generate<R: Threads + Sync, G: Gate + Sync>(
         count: opts.workers,
         gate,
     };
-    let split = split_seeds(alloc, model, prefs, seeds, opts.budget)?;
+    let split = split_seeds(alloc, model, prefs, seeds, opts.effort)?;
     let Ok(slices) = slices_of(alloc, model) else {
         return Err(SearchFault::NoMemory);
     };
@@ -105,7 +105,7 @@ pub fn generate<R: Threads + Sync, G: Gate + Sync>(
         plan,
         prefs,
         kept: &split.kept,
-        budget: opts.budget,
+        effort: opts.effort,
         proof: opts.proof,
     };
     grow_slices(

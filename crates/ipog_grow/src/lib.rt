@@ -6,7 +6,8 @@
 //!   where a proof is asked for, it gets a tree. At the end each partial row is completed. Its promise
 //!   is the clause `suite`: rows and omitted tuples are exactly those of the definition of growth.
 //! - Its questions are told by the same definition. The clause `asked` says that a run ends at the
-//!   first of them whose plain cost exceeds the budget, and with a suite only where there is none.
+//!   first of them whose plain cost is above what one may cost, and with a suite only where there is
+//!   none.
 #![tactic(auto)]
 
 mod asker;

@@ -7,7 +7,7 @@ use cov_model::Cells;
 use feasibility::{SearchFault, over_budget};
 use std::alloc::Global;
 
-// The fault of a run that stopped, at this question where its cost exceeds the budget.
+// The fault of a run that stopped, at this question where it costs more than it may.
 pub(crate) fn fault_of(alloc: Global, stop: Stop, question: &Cells) -> SearchFault
     requires { length question.now < 2 ^ 16 }
     ensures { (over : Option (List (Option ℕ))) → IsStopped stop question.now over → EndsBy over result }

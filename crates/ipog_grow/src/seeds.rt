@@ -12,13 +12,15 @@ ghost use Rattle.definitions.specs.Growth.{is_of_slice};
 ghost use Rattle.definitions.specs.SliceRows.{IsSliceOf};
 ghost use Rattle.row_text.specs.RowFiles.{row_seen, seeds_seen};
 ghost use Rattle.ipog_grow.specs.Rows.{with_row, with_seed};
-ghost use Rattle.ipog_grow.specs.SeedSolvers.{IsSolverFor};
+ghost use Rattle.ipog_grow.specs.SeedQuestions.{AreQuestionsFor};
 ghost use Rattle.feasibility.specs.Ends.{Ends};
 
 use crate::distinct::RowSet;
 use crate::suite::LineList;
 use cov_model::{Cells, ParamNo, Prefs, Rows, Slice, TestModel};
-use feasibility::{Answer, SearchFault, Solver, over_budget};
+use definitions::Effort;
+use feasibility::{Answer, SearchFault, over_budget};
+use full_search::Questions;
 use row_text::{FileRow, FileRowList, RowFile};
 use std::alloc::Global;
 use value_text::NoMemory;
@@ -30,18 +32,18 @@ pub(crate) struct SplitSeeds {
     pub(crate) dropped: LineList,
 }
 
-// A solver, and the slice that it is for.
-struct SeedSolver<'a> {
+// Questions, and the slice that they are about.
+struct SeedQuestions<'a> {
     slice: Slice,
-    solver: Solver<'a>,
+    questions: Questions<'a>,
 }
 
-// The solver is dropped here, and not anew wherever the seeds may end.
-impl Drop for SeedSolver<'_> {
+// The questions are dropped here, and not anew wherever the seeds may end.
+impl Drop for SeedQuestions<'_> {
     fn drop(self) {
-        let SeedSolver {
+        let SeedQuestions {
             slice: _,
-            solver: _,
+            questions: _,
         } = self;
     }
 }
@@ -135,55 +137,56 @@ fn distinct_seeds(
     Ok(list)
 }
 
-// The solver of a slice: the last one, if it is for this slice, else a new one.
-fn solver_of<'a>(
+// The questions about a slice: the last ones, if they are about this slice, else new ones.
+fn questions_of<'a>(
     alloc: Global,
     model: &'a TestModel,
     prefs: &'a Prefs,
     slice: Slice,
-    last: Option<SeedSolver<'a>>,
-) -> Result<SeedSolver<'a>, NoMemory>
+    effort: Effort,
+    last: Option<SeedQuestions<'a>>,
+) -> Result<SeedQuestions<'a>, NoMemory>
     requires slice { IsSliceOf model.now slice }
     requires orders { OrdersValues model.now prefs.now }
-    requires last { IfSome last (IsSolverFor model.now prefs.now) }
+    requires last { IfSome last (AreQuestionsFor model.now prefs.now effort) }
     ensures slice { IfOk result (λ one. one.slice ≡ slice) }
-    ensures solver { IfOk result (IsSolverFor model.now prefs.now) }
+    ensures questions { IfOk result (AreQuestionsFor model.now prefs.now effort) }
 {
     if let Some(one) = last {
         if one.slice == slice {
             return Ok(one);
         }
     }
-    let solver = Solver::new(alloc, model, prefs, slice)?;
-    Ok(SeedSolver { slice, solver })
+    let questions = Questions::new(alloc, model, prefs, slice, effort)?;
+    Ok(SeedQuestions { slice, questions })
 }
 
-// Whether a seed row is kept: at most one value is negative, and the row is extendable. The solver that is
-// asked is the last one then.
+// Whether a seed row is kept: at most one value is negative, and the row is extendable. It is asked by the
+// last questions, or by new ones, which are the last then.
 fn is_kept<'a>(
     alloc: Global,
     model: &'a TestModel,
     prefs: &'a Prefs,
     cells: &Cells,
-    budget: u64,
-    last: &mut Option<SeedSolver<'a>>,
+    effort: Effort,
+    last: &mut Option<SeedQuestions<'a>>,
 ) -> Result<bool, SearchFault>
     requires fits { FitsModel model.now cells.now }
     requires orders { OrdersValues model.now prefs.now }
-    requires last { IfSome last.old (IsSolverFor model.now prefs.now) }
-    ensures last { IfSome last.new (IsSolverFor model.now prefs.now) }
+    requires last { IfSome last.old (AreQuestionsFor model.now prefs.now effort) }
+    ensures last { IfSome last.new (AreQuestionsFor model.now prefs.now effort) }
     ensures kept { IfOk result (λ kept. kept ≡ can_be_served model.now cells.now) }
-    ensures asked { Ends result (first_over model.now prefs.now budget (filter (has_slice model.now) (cells.now ∷ []))) }
+    ensures asked { Ends result (first_over model.now prefs.now effort (filter (has_slice model.now) (cells.now ∷ []))) }
 {
     model.assert_invariant();
     if !is_of_some_slice(model, cells) {
         return Ok(false);
     }
     let slice = model.slice_of(cells);
-    let Ok(mut one) = solver_of(alloc, model, prefs, slice, last.take()) else {
+    let Ok(mut one) = questions_of(alloc, model, prefs, slice, effort, last.take()) else {
         return Err(SearchFault::NoMemory);
     };
-    let answer = one.solver.ask(cells, budget);
+    let answer = one.questions.ask(cells);
     *last = Some(one);
     match answer {
         Answer::Yes => Ok(true),
@@ -198,20 +201,20 @@ fn place_seed<'a>(
     model: &'a TestModel,
     prefs: &'a Prefs,
     seed: &FileRow,
-    budget: u64,
-    last: &mut Option<SeedSolver<'a>>,
+    effort: Effort,
+    last: &mut Option<SeedQuestions<'a>>,
     split: &mut SplitSeeds,
 ) -> Result<(), SearchFault>
     requires fits { FitsModel model.now seed.now.cells }
     requires orders { OrdersValues model.now prefs.now }
-    requires last { IfSome last.old (IsSolverFor model.now prefs.now) }
+    requires last { IfSome last.old (AreQuestionsFor model.now prefs.now effort) }
     requires long { All (λ row. length row ≡ length model.now.params) split.old.kept }
-    ensures last { IfSome last.new (IsSolverFor model.now prefs.now) }
+    ensures last { IfSome last.new (AreQuestionsFor model.now prefs.now effort) }
     ensures kept { OnOk result (split.new.kept ≡ split.old.kept ++ filter (can_be_served model.now) (seed.now.cells ∷ [])) }
     ensures dropped { OnOk result (split.new.dropped ≡ split.old.dropped ++ (if can_be_served model.now seed.now.cells then [] else seed.now.line ∷ [])) }
-    ensures asked { Ends result (first_over model.now prefs.now budget (filter (has_slice model.now) (seed.now.cells ∷ []))) }
+    ensures asked { Ends result (first_over model.now prefs.now effort (filter (has_slice model.now) (seed.now.cells ∷ []))) }
 {
-    if !is_kept(alloc, model, prefs, &seed.cells, budget, last)? {
+    if !is_kept(alloc, model, prefs, &seed.cells, effort, last)? {
         return match split.dropped.push(seed.line) {
             Ok(()) => Ok(()),
             Err(_) => Err(SearchFault::NoMemory),
@@ -229,13 +232,13 @@ fn split_each(
     model: &TestModel,
     prefs: &Prefs,
     seeds: &[FileRow],
-    budget: u64,
+    effort: Effort,
 ) -> Result<SplitSeeds, SearchFault>
     requires fits { All (λ seed. FitsModel model.now seed.cells) seeds.now }
     requires orders { OrdersValues model.now prefs.now }
     ensures kept { IfOk result (λ split. split.kept ≡ filter (can_be_served model.now) (map (λ seed. seed.1) (map row_seen seeds.now))) }
     ensures dropped { IfOk result (λ split. split.dropped ≡ map (λ seed. seed.0) (filter (λ seed. not (can_be_served model.now seed.1)) (map row_seen seeds.now))) }
-    ensures asked { Ends result (first_over model.now prefs.now budget (filter (has_slice model.now) (map (λ seed. seed.1) (map row_seen seeds.now)))) }
+    ensures asked { Ends result (first_over model.now prefs.now effort (filter (has_slice model.now) (map (λ seed. seed.1) (map row_seen seeds.now)))) }
 {
     let mut split = SplitSeeds {
         kept: Rows::new(alloc),
@@ -243,7 +246,7 @@ fn split_each(
     };
     let mut last = None;
     for seed in seeds {
-        place_seed(alloc, model, prefs, seed, budget, &mut last, &mut split)?;
+        place_seed(alloc, model, prefs, seed, effort, &mut last, &mut split)?;
     }
     Ok(split)
 }
@@ -254,18 +257,18 @@ pub(crate) fn split_seeds(
     model: &TestModel,
     prefs: &Prefs,
     seeds: &RowFile,
-    budget: u64,
+    effort: Effort,
 ) -> Result<SplitSeeds, SearchFault>
     requires fits { All (λ seed. FitsModel model.now seed.cells) seeds.now.rows }
     requires orders { OrdersValues model.now prefs.now }
     ensures kept { IfOk result (λ split. split.kept ≡ kept_seeds model.now (seeds_seen seeds.now)) }
     ensures dropped { IfOk result (λ split. split.dropped ≡ dropped_lines model.now (seeds_seen seeds.now)) }
-    ensures asked { Ends result (first_over model.now prefs.now budget (asked_seeds model.now (seeds_seen seeds.now))) }
+    ensures asked { Ends result (first_over model.now prefs.now effort (asked_seeds model.now (seeds_seen seeds.now))) }
 {
     let Ok(distinct) = distinct_seeds(alloc, model, seeds.rows.as_slice()) else {
         return Err(SearchFault::NoMemory);
     };
-    split_each(alloc, model, prefs, distinct.as_slice(), budget)
+    split_each(alloc, model, prefs, distinct.as_slice(), effort)
 }
 
 // Copies of the kept seeds of a slice, in order.

@@ -26,6 +26,7 @@ use crate::unfilled::UnfilledRows;
 use crate::values::no_scores;
 use crate::workers::Workers;
 use cov_model::{Cells, ParamNo, Prefs, Rows, Slice, TestModel};
+use definitions::Effort;
 use feasibility::SearchFault;
 use outside_io::Gate;
 use refutation::{Omissions, ProofForm};
@@ -62,7 +63,7 @@ impl Drop for SliceGrowth<'_> {
 }
 
 impl<'a> SliceGrowth<'a> {
-    // The growth of a slice of the model from these partial rows, with a budget for each question,
+    // The growth of a slice of the model from these partial rows, given what a question may cost,
     // before its first column. The plan and the preferences have to be the model's.
     pub(crate) fn new(
         alloc: Global,
@@ -70,13 +71,13 @@ impl<'a> SliceGrowth<'a> {
         prefs: &'a Prefs,
         plan: &'a Plan,
         slice: Slice,
-        budget: u64,
+        effort: Effort,
         rows: Rows,
     ) -> Result<SliceGrowth<'a>, NoMemory>
         requires plan { plan.now ≡ plan_of model.now }
         requires slice { IsSliceOf model.now slice }
         requires orders { OrdersValues model.now prefs.now }
-        ensures context { IfOk result (λ growth. growth.asker.context ≡ record { model = model.now; prefs = prefs.now; slice = slice; budget = budget }) }
+        ensures context { IfOk result (λ growth. growth.asker.context ≡ record { model = model.now; prefs = prefs.now; slice = slice; effort = effort }) }
         ensures is_new { IfOk result (λ growth. IsNew growth.asker.context growth.table growth.tuple growth.room) }
         ensures rows { IfOk result (λ growth. growth.rows ≡ rows) }
         ensures omitted { IfOk result (λ growth. growth.omitted ≡ []) }
@@ -85,7 +86,7 @@ impl<'a> SliceGrowth<'a> {
         let tuple = Cells::empty(alloc, count)?;
         let room = Cells::empty(alloc, count)?;
         let table = Uncovered::new(alloc, model, plan, slice)?;
-        let asker = Asker::new(alloc, model, prefs, slice, budget)?;
+        let asker = Asker::new(alloc, model, prefs, slice, effort)?;
         Ok(SliceGrowth {
             table,
             asker,
@@ -317,14 +318,14 @@ impl<'a> SliceGrowth<'a> {
     ) -> Result<(), SearchFault>
         requires grows { All (Grows self.old.asker.context) self.old.rows }
         requires omitted { All (IsOmittedIn self.old.asker.context) self.old.omitted }
-        requires earlier { AreOmissionsOf self.old.asker.context.model self.old.asker.context.prefs proof omissions.old }
+        requires earlier { AreOmissionsOf self.old.asker.context.model self.old.asker.context.prefs self.old.asker.context.effort proof omissions.old }
         requires few { length omissions.old.omissions + length self.old.omitted < 2 ^ 32 }
         requires long { All (λ row. length row ≡ length self.old.asker.context.model.params) rows.old }
         ensures rows { OnOk result (rows.new ≡ rows.old ++ distinct (filter_map (completed self.old.asker.context) self.old.rows)) }
         ensures long { OnOk result (All (λ row. length row ≡ length self.old.asker.context.model.params) rows.new) }
         ensures tuples { OnOk result (earlier_tuples self.old.asker.context.model omissions.new
             ≡ earlier_tuples self.old.asker.context.model omissions.old ++ self.old.omitted) }
-        ensures omissions { OnOk result (AreOmissionsOf self.old.asker.context.model self.old.asker.context.prefs proof omissions.new) }
+        ensures omissions { OnOk result (AreOmissionsOf self.old.asker.context.model self.old.asker.context.prefs self.old.asker.context.effort proof omissions.new) }
         ensures asked { Ends result (first_spent self.old.asker.context self.old.rows) }
     {
         let grown = mem::replace(&mut self.rows, Rows::new(alloc));

@@ -37,7 +37,7 @@ fn growth_from_seeds<'a>(
 {
     let (model, prefs, plan) = (input.model, input.prefs, input.plan);
     let seeds = seeds_of_slice(alloc, model, input.kept, slice)?;
-    SliceGrowth::new(alloc, model, prefs, plan, slice, input.budget, seeds)
+    SliceGrowth::new(alloc, model, prefs, plan, slice, input.effort, seeds)
 }
 
 // Grows a slice from its kept seeds, and puts its rows and omitted tuples behind those of earlier
@@ -52,7 +52,7 @@ pub(crate) fn grow_slice<R: Threads + Sync, G: Gate + Sync>(
 ) -> Result<(), SearchFault>
     requires input { IsSoundInput input.now }
     requires slice { IsSliceOf input.now.model.now slice }
-    requires earlier { AreOmissionsOf input.now.model.now input.now.prefs.now input.now.proof omissions.old }
+    requires earlier { AreOmissionsOf input.now.model.now input.now.prefs.now input.now.effort input.now.proof omissions.old }
     requires long { All (λ row. length row ≡ length input.now.model.now.params) rows.old }
     requires few { length omissions.old.omissions + met_count input.now.model.now slice < 2 ^ 32 }
     ensures rows { OnOk result (rows.new ≡ rows.old
@@ -60,7 +60,7 @@ pub(crate) fn grow_slice<R: Threads + Sync, G: Gate + Sync>(
     ensures long { OnOk result (All (λ row. length row ≡ length input.now.model.now.params) rows.new) }
     ensures tuples { OnOk result (earlier_tuples input.now.model.now omissions.new ≡ earlier_tuples input.now.model.now omissions.old
         ++ (grown_from (context_in input.now slice) (filter (is_of_slice input.now.model.now slice) input.now.kept.now)).omitted) }
-    ensures omissions { OnOk result (AreOmissionsOf input.now.model.now input.now.prefs.now input.now.proof omissions.new) }
+    ensures omissions { OnOk result (AreOmissionsOf input.now.model.now input.now.prefs.now input.now.effort input.now.proof omissions.new) }
     ensures count { OnOk result (length omissions.new.omissions ≤ length omissions.old.omissions + met_count input.now.model.now slice) }
     ensures asked { Ends result (first_spent (context_in input.now slice)
         (grown_from (context_in input.now slice) (filter (is_of_slice input.now.model.now slice) input.now.kept.now)).asked) }

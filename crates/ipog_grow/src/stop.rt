@@ -3,7 +3,7 @@ use value_text::NoMemory;
 /// Why growth ended early.
 #[derive(Debug, Drop, Clone, Copy, PartialEq, Eq)]
 pub(crate) enum Stop {
-    /// The plain cost of a question exceeds the budget.
+    /// The plain cost of a question is above what one may cost.
     Spent,
     /// There was no room.
     NoMemory,

@@ -1,4 +1,5 @@
 use cov_model::Rows;
+use definitions::Effort;
 use refutation::{Omissions, ProofForm};
 use value_text::OwnedList;
 
@@ -8,8 +9,8 @@ pub type LineList = OwnedList<u32>;
 /// How a suite is generated.
 #[derive(Drop)]
 pub struct GrowOpts {
-    /// The greatest plain cost that a question may have.
-    pub budget: u64,
+    /// What a question may cost.
+    pub effort: Effort,
     /// The number of workers, from 1 to 64. The suite doesn't depend on it.
     pub workers: u32,
     /// The form of the trees of the omitted tuples, where a proof is asked for.

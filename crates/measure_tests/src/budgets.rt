@@ -1,7 +1,8 @@
-//! The first question of a run whose plain cost exceeds the budget.
+//! The first question of a run whose plain cost exceeds the budget, and that there is none without a budget.
 
 use crate::suites::{Suite, measured};
 use cov_model::{ParamNo, ValueNo};
+use definitions::Effort;
 use feasibility::SearchFault;
 use outside_io::OpenGate;
 use std::test::Fail;
@@ -21,24 +22,26 @@ const SERVED: Suite<'static> = Suite {
     rows: "A\tB\tC\n2\tx\tp\n",
 };
 
-// A suite, a budget, and the question that exceeds it, if any.
-const QUESTIONS: &[(Suite<'static>, u64, Option<&[(ParamNo, ValueNo)]>)] = &[
-    (TWINS, 2, Some(&[(0, 0)])),
-    (TWINS, 3, Some(&[(1, 0)])),
-    (TWINS, 4, None),
-    (SERVED, 1, Some(&[(0, 1), (1, 0)])),
-    (SERVED, 2, Some(&[(1, 0), (2, 0)])),
-    (SERVED, 3, None),
+// A suite, what a question may cost, and the one that exceeds it, if any.
+const QUESTIONS: &[(Suite<'static>, Effort, Option<&[(ParamNo, ValueNo)]>)] = &[
+    (TWINS, Effort::Within(2), Some(&[(0, 0)])),
+    (TWINS, Effort::Within(3), Some(&[(1, 0)])),
+    (TWINS, Effort::Within(4), None),
+    (TWINS, Effort::Full, None),
+    (SERVED, Effort::Within(1), Some(&[(0, 1), (1, 0)])),
+    (SERVED, Effort::Within(2), Some(&[(1, 0), (2, 0)])),
+    (SERVED, Effort::Within(3), None),
+    (SERVED, Effort::Full, None),
 ];
 
 #[test]
 fn first_question_above_the_budget_is_told(rt: HostRuntime) -> Result<(), Fail> {
-    for (suite, budget, question) in QUESTIONS {
-        let answer = measured(&rt, rt.alloc(), suite, 2, *budget, &OpenGate)?;
+    for (suite, effort, question) in QUESTIONS {
+        let answer = measured(&rt, rt.alloc(), suite, 2, *effort, &OpenGate)?;
         match answer {
-            Ok(_) => assert!(rt; question.is_none(), "{budget}"),
+            Ok(_) => assert!(rt; question.is_none(), "{effort:?}"),
             Err(SearchFault::Spent(found)) => {
-                assert!(rt; *question == Some(found.cells.as_slice()), "{budget}");
+                assert!(rt; *question == Some(found.cells.as_slice()), "{effort:?}");
             }
             Err(SearchFault::NoMemory) => return Err("no memory".into()),
         }

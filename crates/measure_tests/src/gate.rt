@@ -1,6 +1,7 @@
 //! Workers, who mark at the same time.
 
 use crate::suites::{Suite, measured};
+use definitions::Effort;
 use std::test::Fail;
 use test_models::{Counting, Meeting, WORKERS};
 
@@ -14,7 +15,7 @@ const SUITE: Suite<'static> = Suite {
 #[test]
 fn two_workers_meet(rt: HostRuntime) -> Result<(), Fail> {
     let gate = Meeting::new();
-    let Ok(figures) = measured(&rt, rt.alloc(), &SUITE, 2, 1000, &gate)? else {
+    let Ok(figures) = measured(&rt, rt.alloc(), &SUITE, 2, Effort::Within(1000), &gate)? else {
         return Err("no figures".into());
     };
     assert!(rt; figures.tests == 2 && figures.covered == 2 && figures.servable == 4);
@@ -26,7 +27,14 @@ fn two_workers_meet(rt: HostRuntime) -> Result<(), Fail> {
 fn each_worker_comes_once(rt: HostRuntime) -> Result<(), Fail> {
     for workers in WORKERS {
         let gate = Counting::new();
-        let answer = measured(&rt, rt.alloc(), &SUITE, *workers, 1000, &gate)?;
+        let answer = measured(
+            &rt,
+            rt.alloc(),
+            &SUITE,
+            *workers,
+            Effort::Within(1000),
+            &gate,
+        )?;
         assert!(rt; answer.is_ok(), "{workers}");
         assert!(rt; gate.has_each_once(*workers), "{workers}");
     }

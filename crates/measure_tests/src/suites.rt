@@ -3,6 +3,7 @@
 ghost use Rattle.std.specs.Prelude.{◌≤◌};
 
 use coverage_measure::measure;
+use definitions::Effort;
 use feasibility::SearchFault;
 use outside_io::Gate;
 use row_text::{Figures, RowFile, RowMode, RowsFault, read_rows};
@@ -33,7 +34,7 @@ pub(crate) fn measured<R: Threads + Sync, G: Gate + Sync>(
     alloc: Global,
     suite: &Suite<'_>,
     workers: u32,
-    budget: u64,
+    effort: Effort,
     gate: &G,
 ) -> Result<Result<Figures, SearchFault>, Fail>
     requires order { 1 ≤ suite.now.order }
@@ -46,5 +47,5 @@ pub(crate) fn measured<R: Threads + Sync, G: Gate + Sync>(
         return Err("long rows".into());
     }
     let file = read_rows(alloc, suite.rows.as_bytes(), &model, RowMode::Suite)?;
-    Ok(measure(rt, alloc, &model, &plan, &file, workers, budget, gate))
+    Ok(measure(rt, alloc, &model, &plan, &file, workers, effort, gate))
 }

@@ -7,6 +7,7 @@ use Rattle.std.proofs.Math.Seq.{take-append-add}
 use Rattle.definitions.specs.RowReading.{RowReading}
 use Rattle.suspect_tuples.specs.ResultReading.{ResultReading}
 use Rattle.cov_model.specs.Sound.{ModelView}
+use Rattle.definitions.specs.declared.effort.Effort.{Effort}
 use Rattle.definitions.specs.Settings.{Settings}
 use Rattle.model_lex.specs.declared.note.Note.{Note}
 use Rattle.row_text.specs.RowFiles.{seeds_seen}
@@ -21,13 +22,14 @@ use Rattle.command_line.specs.declared.stop.Stop.{Stop}
 use Rattle.command_line.specs.declared.stop.Stop.TheVariants.{CannotRead, CannotWrite, CannotWriteReport}
 use Rattle.outside_io.specs.Faults.{KeepsCounts, Rose}
 use Rattle.outside_io.specs.Files.{Files}
-use Rattle.pict_cli.specs.Ends.{CountsReads, End, IsEarly, Stopped, Unread, end_of}
+use Rattle.pict_cli.specs.Ends.{CountsReads, End, IsAnswered, IsEarly, Stopped, Unread, end_of}
 use Rattle.pict_cli.specs.Modes.{Generate, Measure, Mode, RowSource, Suspect, makes_plan, mode_of, row_file, row_mode}
 use Rattle.pict_cli.specs.RowSources.{later_notes, notes_on, read_bytes, read_row_bytes, read_source, reading_or_none, stop_in, without_results}
 use Rattle.pict_cli.specs.Runs.{EndsBehind, WritesProof, all_notes, cannot_write, cannot_write_proof, comes_whole, file_notes, given_of, limit_due}
 use Rattle.pict_cli.specs.Runs.{must_stop, no_memory, notes_behind, notes_due, notes_told, out_text, reading_of, rows_of_run, rows_unread, stop_due, text_in, work_in}
 use Rattle.pict_cli.specs.Steps.{HoldsRows, IsOfRows, StopsRows, StopsWork}
 use Rattle.pict_cli.specs.Steps as steps
+use Rattle.pict_cli.proofs.Early.{stopped_answered}
 
 pub ends_by : (end : Result (Unit {0}) Stop) (stop : Stop) → IsErrAnd end (λ other. other ≡ stop) → end ≡ Err stop
 ends_by (Ok done) stop none = absurd none
@@ -42,6 +44,10 @@ plan_stopped (TooManyTuples count) = refl
 pub rows_early : (stop : Stop) → IsOfRows stop → IsEarly (end_of (Err stop))
 rows_early stop (inl is) = subst (λ other. IsEarly (end_of (Err other))) (sym is) tt
 rows_early stop (inr is) = subst IsEarly (sym is) tt
+
+pub rows_answered : (effort : Effort) (stop : Stop) → IsOfRows stop → IsAnswered effort (end_of (Err stop))
+rows_answered effort stop (inl is) = subst (λ other. IsAnswered effort (end_of (Err other))) (sym is) (λ full e. cc)
+rows_answered effort stop (inr is) = stopped_answered effort (end_of (Err stop)) is
 
 -- the counts of faults of reading after a row file that stopped
 pub rows_counted : (s : Settings) (name : List ℕ) (stop : Stop) (reads after : List ℕ → ℕ) → IsOfRows stop

@@ -121,7 +121,7 @@ module _ (s : Settings) (seed : ℕ) (m : ModelView) (source : RowSource) (notes
       omega (arith, few)
 
   abbrev sound_proof : makes_plan (mode_of s) ≡ true → (s.form ≡ 1) ⊎ (s.form ≡ 2) → (bytes : List ℕ) → IsProof s seed m seeds bytes
-      → IsSoundProof m pref seeds s.form bytes
+      → IsSoundProof m pref seeds s.effort s.form bytes
   sound_proof plans known bytes is = record {
     sound = runs.sound;
     orders = orders;
@@ -147,7 +147,7 @@ module _ (s : Settings) (seed : ℕ) (m : ModelView) (source : RowSource) (notes
   covers plans (Some None) holds known = absurd holds
   covers plans (Some (Some bytes)) holds known =
       let plain = suites_cover m pref seeds runs.sound orders in
-      record { valid = plain.valid; served = suites_serve_or_refute m pref seeds s.form bytes (sound_proof plans known bytes holds) }
+      record { valid = plain.valid; served = suites_serve_or_refute m pref seeds s.effort s.form bytes (sound_proof plans known bytes holds) }
 
   -- the report was put
   put : prints_rows s ≡ true → (before : List ℕ) → start.out ≡ Some before → Puts Done (Some before) after.out (report_text m (growth m pref seeds).rows)
@@ -182,7 +182,7 @@ module _ (s : Settings) (seed : ℕ) (m : ModelView) (source : RowSource) (notes
     where
       whole : (held : Option (List ℕ)) → IsSomeAnd held (IsProof s seed m seeds) → HoldsWholeProof s seed m seeds held
       whole None none = absurd none
-      whole (Some bytes) is = (is, suite_proofs_list m pref seeds s.form bytes (sound_proof (proof_plans unproved proof is_told) known bytes is))
+      whole (Some bytes) is = (is, suite_proofs_list m pref seeds s.effort s.form bytes (sound_proof (proof_plans unproved proof is_told) known bytes is))
 
   pub prints_accepted : (s.form ≡ 1) ⊎ (s.form ≡ 2) → prints_rows s ≡ true → (proof : Option (List ℕ)) → told_proof s after.files ≡ Some proof → (before : List ℕ)
       → start.out ≡ Some before → IsSomeAnd after.out (PrintsAccepted m s.form proof before)
@@ -194,8 +194,8 @@ module _ (s : Settings) (seed : ℕ) (m : ModelView) (source : RowSource) (notes
       accepted None none = absurd none
       accepted (Some bytes) is = record {
         omissions = is.omissions;
-        read = suite_proofs_read_back m pref seeds s.form bytes (sound_proof (report_plans (mode_of s) rows) known bytes is);
-        accepted = λ lines same. suite_proofs_are_accepted m pref seeds s.form bytes lines (sound_proof (report_plans (mode_of s) rows) known bytes is) same;
+        read = suite_proofs_read_back m pref seeds s.effort s.form bytes (sound_proof (report_plans (mode_of s) rows) known bytes is);
+        accepted = λ lines same. suite_proofs_are_accepted m pref seeds s.effort s.form bytes lines (sound_proof (report_plans (mode_of s) rows) known bytes is) same;
       }
 
 -- the rows of a suite are rows

@@ -23,7 +23,7 @@ excludes-kinds (ShuffleValues given) b = refl
 excludes-kinds CaseCounts b = refl
 excludes-kinds Statistics b = refl
 excludes-kinds (Workers n) b = refl
-excludes-kinds (Budget n) b = refl
+excludes-kinds (Budget effort) b = refl
 excludes-kinds (ProofFile name) b = refl
 excludes-kinds (ProofFormat n) b = refl
 

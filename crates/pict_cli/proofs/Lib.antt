@@ -9,6 +9,7 @@ pub mod KindLemmas
 pub mod MadeRuns
 pub mod Measured
 pub mod ProofTexts
+pub mod Questions
 pub mod Reading
 pub mod RowFiles
 pub mod RunEnds

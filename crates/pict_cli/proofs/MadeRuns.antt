@@ -28,6 +28,7 @@ leaves_all s name before after end left = record {
   others = λ file none. left.others file (none kinds.Proof);
   still = λ early file other. still_of end before.files after.files early left.still file;
   worded = left.worded;
+  answered = left.answered;
 }
 
 -- a run on what the model file holds
@@ -79,6 +80,7 @@ module _ (s : Settings) (seed : ℕ) (name : List ℕ) (n : ℕ) (is : s.make �
     others = λ file none. left.others file (none kinds.Proof) ∙ written.others file (apart file (none kinds.Model));
     still = λ early file other. still_of end start.files after.files early left.still file ∙ written.others file (apart file other);
     worded = left.worded;
+    answered = left.answered;
   }
 
   -- it went on with the made model
@@ -101,7 +103,7 @@ module _ (s : Settings) (seed : ℕ) (name : List ℕ) (n : ℕ) (is : s.make �
   ran_unmade before after notes row_notes end stop told told_rows e others reads quiet faults (unmade stops keeps writes) =
       subst (Ran s seed name before after notes row_notes) (sym (e ∙ ap Err stops)) (record {
         ends = λ held source at rows. from_made held source notes row_notes before after (Err OutOfMemory) (no_room refl told told_rows quiet keeps);
-        leaves = leaves_all s name before after (end_of (Err OutOfMemory)) (leaves_early s name before after (end_of (Err OutOfMemory)) tt keeps reads writes quiet faults);
+        leaves = leaves_all s name before after (end_of (Err OutOfMemory)) (leaves_early s name before after (end_of (Err OutOfMemory)) tt (λ full e. cc) keeps reads writes quiet faults);
         made = subst (λ make. IfSome make (λ number. HoldsMade s number name after.files 1)) (sym is) (λ one eight other. absurd (one refl));
       })
   ran_unmade before after notes row_notes end stop told told_rows e others reads quiet faults (write_failed stops held rose) =
@@ -115,6 +117,7 @@ module _ (s : Settings) (seed : ℕ) (name : List ℕ) (n : ℕ) (is : s.make �
           others = λ file none. others file (apart file (none kinds.Model));
           still = λ early. absurd early;
           worded = λ no. cc;
+          answered = λ full no. cc;
         };
         made = subst (λ make. IfSome make (λ number. HoldsMade s number name after.files 8)) (sym is) (λ one eight other. absurd (eight refl));
       })

@@ -4,6 +4,7 @@ use Rattle.std.specs.Prelude.{◌≢◌, IfSome, IsSomeAnd}
 use Rattle.outside_io.specs.Faults.{KeepsCounts, Rose}
 use Rattle.outside_io.specs.Files.{Files, KeepsFiles}
 use Rattle.cov_model.specs.Sound.{ModelView}
+use Rattle.definitions.specs.declared.effort.Effort.{Effort}
 use Rattle.definitions.specs.Settings.{Settings}
 use Rattle.model_lex.specs.declared.note.Note.{Note}
 use Rattle.model_lex.specs.declared.options.ModelOpts.{ModelOpts}
@@ -11,12 +12,12 @@ use Rattle.command_line.specs.Loading.{IsLoaded, IsOfReading, StopsReading}
 use Rattle.command_line.specs.declared.files.FileKind.TheVariants as kinds
 use Rattle.command_line.specs.declared.stop.Stop.{Stop}
 use Rattle.command_line.specs.declared.stop.Stop.TheVariants.{CannotRead}
-use Rattle.pict_cli.specs.Ends.{CountsReads, IsEarly, Leaves, Moment, Prints, Stopped, Unread, end_of, read_unless_made}
+use Rattle.pict_cli.specs.Ends.{CountsReads, IsAnswered, IsEarly, Leaves, Moment, Prints, Stopped, Unread, end_of, read_unless_made}
 use Rattle.pict_cli.specs.Modes.{RowSource, row_file, row_source, source_in}
 use Rattle.command_line.specs.Words.{opts_of}
 use Rattle.pict_cli.specs.Runs.{Ends, RunsModel, given_of, out_text, rows_of_run}
 use Rattle.pict_cli.specs.Steps.{RanOn}
-use Rattle.pict_cli.proofs.Early.{leaves_early, leaves_from, proof_from}
+use Rattle.pict_cli.proofs.Early.{leaves_early, leaves_from, proof_from, stopped_answered}
 use Rattle.pict_cli.proofs.RunEnds.{ends_loaded, reading_ends}
 
 -- what is said of what is told
@@ -51,6 +52,12 @@ unread_early stop of = elim (reading_ends stop of) [
   | inr is ↦ subst IsEarly (sym is) tt
 ]
 
+unread_answered : (effort : Effort) (stop : Stop) → IsOfReading kinds.Model stop → IsAnswered effort (end_of (Err stop))
+unread_answered effort stop of = elim (reading_ends stop of) [
+  | inl is ↦ subst (λ other. IsAnswered effort (end_of (Err other))) (sym is) (λ full e. cc)
+  | inr is ↦ stopped_answered effort (end_of (Err stop)) is
+]
+
 unread_counts : (s : Settings) (name : List ℕ) (stop : Stop) (reads after : List ℕ → ℕ) → s.make ≡ None → IsOfReading kinds.Model stop
     → (stop ≡ (CannotRead kinds.Model) → Rose (reads name) (after name)) → (stop ≢ (CannotRead kinds.Model) → KeepsCounts reads after)
     → CountsReads s name (end_of (Err stop)) reads after
@@ -65,7 +72,8 @@ pub leaves_unread : (s : Settings) (name : List ℕ) (before after : Moment) (st
     → (stop ≡ (CannotRead kinds.Model) → Rose (before.reads name) (after.reads name)) → (stop ≢ (CannotRead kinds.Model) → KeepsCounts before.reads after.reads)
     → KeepsCounts before.writes after.writes → after.out ≡ before.out → after.faults ≡ before.faults → Leaves s name before after (end_of (Err stop))
 leaves_unread s name before after stop none of keeps rose calm writes quiet faults =
-    leaves_early s name before after (end_of (Err stop)) (unread_early stop of) keeps (unread_counts s name stop before.reads after.reads none of rose calm) writes quiet faults
+    leaves_early s name before after (end_of (Err stop)) (unread_early stop of) (unread_answered s.effort stop of) keeps
+    (unread_counts s name stop before.reads after.reads none of rose calm) writes quiet faults
 
 -- a run on the bytes of a model, once they were read, where the folder and the output are as before
 pub ran_loaded : (bytes : Option (Option (List ℕ))) (opts : ModelOpts) (s : Settings) (seed : ℕ) (name : List ℕ) (m : ModelView) (noted notes row_notes : List Note)

@@ -23,7 +23,7 @@ use Rattle.command_line.specs.declared.stop.Stop.{Stop}
 use Rattle.command_line.specs.declared.stop.Stop.TheVariants.{OutOfMemory, Spent, BadWord, BadModel, BadConstraint, BadRows, NoResult}
 use Rattle.command_line.specs.declared.stop.Stop.TheVariants.{BadResult, CannotRead, CannotWrite, CannotWriteReport, TooMany, TooLong}
 use Rattle.pict_cli.specs.declared.options.Opts.{Opts}
-use Rattle.pict_cli.specs.Ends.{CountsOut, CountsReads, CountsWrites, End, IsEarly, IsQuiet, Misworded, Moment, StaysStill, Stopped, Unprinted, Unread, Unwritten, Whole, end_of}
+use Rattle.pict_cli.specs.Ends.{CountsOut, CountsReads, CountsWrites, End, IsEarly, IsQuiet, Misworded, Moment, StaysStill, Stopped, Unanswered, Unprinted, Unread, Unwritten, Whole, end_of}
 use Rattle.pict_cli.specs.Modes.{RowSource, is_report, makes_suite, mode_beside, mode_in, mode_of, model_source, output_of, prints_rows, row_source}
 use Rattle.pict_cli.specs.Options.{settings_seen}
 use Rattle.pict_cli.specs.Runs.{Ends, HasModel, HoldsWholeProof, IsStatus, PrintsAccepted, PrintsCovering, PrintsFewRows, PrintsSeeds, RunsModel, SpellsModel, rows_of_run, seeds_kept, told_proof}
@@ -66,7 +66,7 @@ ends_loaded s seed (Some bytes) source m notes row_notes before after end loaded
 -- the end of a reading of the model file that stopped
 pub reading_ends : (stop : Stop) → IsOfReading kinds.Model stop → (stop ≡ (CannotRead kinds.Model)) ⊎ (end_of (Err stop) ≡ Stopped)
 reading_ends OutOfMemory of = inr refl
-reading_ends (Spent budget question) of = inr refl
+reading_ends (Spent budget question) of = absurd (of.questions budget question refl)
 reading_ends (BadWord index) of = absurd (of.words index refl)
 reading_ends (BadModel diag) of = inr refl
 reading_ends (BadConstraint diag) of = inr refl
@@ -143,6 +143,22 @@ not_three (Err (CannotWrite kind)) worded h = absurd (omega (arith, h))
 not_three (Err CannotWriteReport) worded h = absurd (omega (arith, h))
 not_three (Err (TooMany quantity count)) worded h = absurd (omega (arith, h))
 not_three (Err (TooLong kind)) worded h = absurd (omega (arith, h))
+
+pub not_two : (end : Result (Unit {0}) Stop) → end_of end ≢ Unanswered → end_status end ≢ 2
+not_two (Ok done) answered h = absurd (omega (arith, h))
+not_two (Err OutOfMemory) answered h = absurd (omega (arith, h))
+not_two (Err (Spent budget question)) answered h = absurd (answered refl)
+not_two (Err (BadWord index)) answered h = absurd (omega (arith, h))
+not_two (Err (BadModel diag)) answered h = absurd (omega (arith, h))
+not_two (Err (BadConstraint diag)) answered h = absurd (omega (arith, h))
+not_two (Err (BadRows fault)) answered h = absurd (omega (arith, h))
+not_two (Err NoResult) answered h = absurd (omega (arith, h))
+not_two (Err (BadResult line)) answered h = absurd (omega (arith, h))
+not_two (Err (CannotRead kind)) answered h = absurd (omega (arith, h))
+not_two (Err (CannotWrite kind)) answered h = absurd (omega (arith, h))
+not_two (Err CannotWriteReport) answered h = absurd (omega (arith, h))
+not_two (Err (TooMany quantity count)) answered h = absurd (omega (arith, h))
+not_two (Err (TooLong kind)) answered h = absurd (omega (arith, h))
 
 -- the statuses of runs
 pub status_known : (end : Result (Unit {0}) Stop) → IsStatus (end_status end)
@@ -234,6 +250,7 @@ quiet_of (Unread kind) out after early quiet = quiet
 quiet_of (Unwritten kind) out after early quiet = absurd early
 quiet_of Unprinted out after early quiet = absurd early
 quiet_of Misworded out after early quiet = absurd early
+quiet_of Unanswered out after early quiet = quiet
 quiet_of Stopped out after early quiet = quiet
 
 pub still_of : (end : End) (files after : Files) → IsEarly end → StaysStill end files after → KeepsFiles files after
@@ -242,6 +259,7 @@ still_of (Unread kind) files after early still = still
 still_of (Unwritten kind) files after early still = absurd early
 still_of Unprinted files after early still = absurd early
 still_of Misworded files after early still = absurd early
+still_of Unanswered files after early still = still
 still_of Stopped files after early still = still
 
 -- the format that is asked for is 1 or 2

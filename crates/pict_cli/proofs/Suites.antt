@@ -1,8 +1,9 @@
 -- What a suite is ready with: its statistics, and its proof.
-use Rattle.std.proofs.Common.{◌≡◌, ℕ, List, [], ◌∷◌, map, length, Option, None, Some, Ok, Err, Result, inl, inr, refl, sym, ap, subst, ◌∙◌}
+use Rattle.std.proofs.Common.{◌≡◌, ℕ, List, [], ◌∷◌, map, length, Option, None, Some, Ok, Err, Result, refl, sym, ap, subst, ◌∙◌}
 use Rattle.std.specs.Prelude.{IfSome, IfErr, IsErrAnd, option_map}
-use Rattle.std.proofs.lemmas.List.{append-nil, length-map}
+use Rattle.std.proofs.lemmas.List.{length-map}
 use Rattle.cov_model.specs.Sound.{ModelView}
+use Rattle.definitions.specs.declared.effort.Effort.{Effort}
 use Rattle.definitions.specs.Growth.{growth}
 use Rattle.definitions.specs.Pairs.{pairs_of}
 use Rattle.definitions.specs.SuiteProof.{IsProofOfSuite}
@@ -12,15 +13,13 @@ use Rattle.refutation.specs.Proofs.{format_of, omission_meant}
 use Rattle.refutation.specs.declared.omissions.Omission.{Omission}
 use Rattle.refutation.specs.declared.omissions.ProofForm.{ProofForm}
 use Rattle.definitions.specs.Statistics.{Statistics}
-use Rattle.model_lex.specs.declared.note.Note.{Note}
 use Rattle.command_line.specs.declared.stop.Stop.{Stop}
-use Rattle.command_line.specs.declared.stop.Stop.TheVariants.{Spent}
-use Rattle.pict_cli.specs.Steps.{IsSpentOrNoMemory, StopsWork, is_due, no_memory, written}
+use Rattle.pict_cli.specs.Steps.{written}
 
 -- the number of omitted tuples
-pub omitted_count : (m : ModelView) (pref : List (List ℕ)) (seeds : List (ℕ × List (Option ℕ))) (asked : Option ProofForm) (suite : Suite)
-    → IsSuiteOf m pref seeds asked suite → length suite.omitted.omissions ≡ length (growth m pref seeds).omitted
-omitted_count m pref seeds asked suite is =
+pub omitted_count : (m : ModelView) (pref : List (List ℕ)) (seeds : List (ℕ × List (Option ℕ))) (effort : Effort) (asked : Option ProofForm) (suite : Suite)
+    → IsSuiteOf m pref seeds effort asked suite → length suite.omitted.omissions ≡ length (growth m pref seeds).omitted
+omitted_count m pref seeds effort asked suite is =
     sym (length-map suite.omitted.omissions (λ omission. omission.tuple)) ∙ ap length is.omitted ∙ length-map (growth m pref seeds).omitted pairs_of
 
 -- the proof
@@ -28,11 +27,11 @@ tuples_meant : (omissions : List Omission) → map (λ o. o.tuple) (map omission
 tuples_meant [] = refl
 tuples_meant (omission ∷ omissions) = ap (λ rest. omission.tuple ∷ rest) (tuples_meant omissions)
 
-pub proof_ready : {X : Type 0} (m : ModelView) (pref : List (List ℕ)) (seeds : List (ℕ × List (Option ℕ))) (proof : Option X) (form : ProofForm) (suite : Suite) (bytes : List ℕ)
-    → IsSuiteOf m pref seeds (option_map (λ _. form) proof) suite → IfSome proof (λ _. bytes ≡ written suite.omitted.form suite.omitted.omissions)
-    → IfSome proof (λ _. IsProofOfSuite m pref seeds (format_of form) bytes)
-proof_ready m pref seeds None form suite bytes is text = tt
-proof_ready m pref seeds (Some name) form suite bytes is text = record {
+pub proof_ready : {X : Type 0} (m : ModelView) (pref : List (List ℕ)) (seeds : List (ℕ × List (Option ℕ))) (effort : Effort) (proof : Option X) (form : ProofForm) (suite : Suite) (bytes : List ℕ)
+    → IsSuiteOf m pref seeds effort (option_map (λ _. form) proof) suite → IfSome proof (λ _. bytes ≡ written suite.omitted.form suite.omitted.omissions)
+    → IfSome proof (λ _. IsProofOfSuite m pref seeds effort (format_of form) bytes)
+proof_ready m pref seeds effort None form suite bytes is text = tt
+proof_ready m pref seeds effort (Some name) form suite bytes is text = record {
   omissions = map omission_meant suite.omitted.omissions;
   omitted = record { tuples = tuples_meant suite.omitted.omissions ∙ is.omitted; trees = is.trees };
   text = text ∙ ap (λ f. written f suite.omitted.omissions) is.form;
@@ -46,12 +45,6 @@ if_err (Err fault) holds = holds
 pub if_err_of : {A : Type 0} (P : Stop → Type 0) (result : Result A Stop) (stop : Stop) → IsErrAnd result (λ other. other ≡ stop) → P stop → IfErr result P
 if_err_of P (Ok value) stop none holds = tt
 if_err_of P (Err other) stop is holds = subst P (sym is) holds
-
--- a search stops
-pub search_stopped : (budget : ℕ) (over : Option (List (Option ℕ))) (later notes : List Note) (stop : Stop)
-    → IsSpentOrNoMemory budget over stop → StopsWork (option_map (λ question. Spent budget (pairs_of question)) over) later notes notes stop
-search_stopped budget over later notes stop (inl is) = no_memory 0 is (sym (append-nil notes))
-search_stopped budget over later notes stop (inr spent) = is_due (ap (option_map (λ question. Spent budget (pairs_of question))) spent.2 ∙ ap Some (sym spent.1)) refl
 
 -- the statistics
 pub same_statistics : (a b : Statistics) → a.sets ≡ b.sets → a.tuples ≡ b.tuples → a.omitted ≡ b.omitted → a.kept ≡ b.kept → a.tests ≡ b.tests → a ≡ b

@@ -1,15 +1,17 @@
 -- How a run ends, as far as files and output tell: whole, by a file that couldn't be read or written, by the output
--- that couldn't, by its words, or by any other stop. (This project's rules.)
+-- that couldn't, by its words, by a question above the budget, or by any other stop. (This project's rules.)
 use Rattle.std.specs.Prelude.{◌≡◌, ◌≢◌, ℕ, List, Option, Some, None, Result, Ok, Err, IsSomeAnd, option_map}
 use Rattle.outside_io.specs.declared.answers.WriteAnswer.TheVariants.{Done, Failed}
 use Rattle.outside_io.specs.Faults.{KeepsCounts, Rose}
 use Rattle.outside_io.specs.Files.{Files, KeepsFiles}
 use Rattle.outside_io.specs.Puts.{Puts}
+use Rattle.definitions.specs.declared.effort.Effort.{Effort}
+use Rattle.definitions.specs.declared.effort.Effort.TheVariants.{Full}
 use Rattle.definitions.specs.Settings.{Settings}
 use Rattle.command_line.specs.declared.files.FileKind.{FileKind}
 use Rattle.command_line.specs.declared.files.FileKind.TheVariants as kinds
 use Rattle.command_line.specs.declared.stop.Stop.{Stop}
-use Rattle.command_line.specs.declared.stop.Stop.TheVariants.{BadWord, CannotRead, CannotWrite, CannotWriteReport}
+use Rattle.command_line.specs.declared.stop.Stop.TheVariants.{BadWord, CannotRead, CannotWrite, CannotWriteReport, Spent}
 use Rattle.pict_cli.specs.Modes.{row_file}
 
 pub data End : Type 0 where
@@ -18,6 +20,7 @@ pub data End : Type 0 where
   Unwritten : FileKind → End
   Unprinted : End
   Misworded : End
+  Unanswered : End
   Stopped : End
 
 abbrev pub end_of : Result (Unit {0}) Stop → End
@@ -26,13 +29,19 @@ end_of (Err (CannotRead kind)) = Unread kind
 end_of (Err (CannotWrite kind)) = Unwritten kind
 end_of (Err CannotWriteReport) = Unprinted
 end_of (Err (BadWord index)) = Misworded
+end_of (Err (Spent budget question)) = Unanswered
 end_of (Err stop) = Stopped
 
 -- it ends before anything is written
 abbrev pub IsEarly : End → Type 0
 IsEarly (Unread kind) = Unit {0}
+IsEarly Unanswered = Unit {0}
 IsEarly Stopped = Unit {0}
 IsEarly end = ⊥
+
+-- without a budget no question is above it
+abbrev pub IsAnswered : Effort → End → Type 0
+IsAnswered effort end = effort ≡ Full → end ≢ Unanswered
 
 -- the name of the model file, where it is read: a run that makes its model writes it
 abbrev pub read_unless_made : Option ℕ → List ℕ → Option (List ℕ)
@@ -114,6 +123,7 @@ pub record Leaves (s : Settings) (name : List ℕ) (before after : Moment) (end 
   pub others : KeepsOthers s.proof before.files after.files
   pub still : StaysStill end before.files after.files
   pub worded : end ≢ Misworded
+  pub answered : IsAnswered s.effort end
 
 -- and what a whole run leaves: one that ends before a suite is written has written no file but a made model
 pub record LeavesAll (s : Settings) (name : List ℕ) (before after : Moment) (end : End) : Type 0 where
@@ -124,3 +134,4 @@ pub record LeavesAll (s : Settings) (name : List ℕ) (before after : Moment) (e
   pub others : KeepsUnwritten (file_written s name) before.files after.files
   pub still : IsEarly end → KeepsOthers (file_written s name kinds.Model) before.files after.files
   pub worded : end ≢ Misworded
+  pub answered : IsAnswered s.effort end

@@ -12,6 +12,8 @@ use Rattle.model_lex.specs.declared.note.Note.{Note}
 use Rattle.model_lex.specs.declared.fault.ModelFault.{ModelFault}
 use Rattle.cov_model.specs.Rows.{contains}
 use Rattle.cov_model.specs.Valid.{is_valid, serves}
+use Rattle.definitions.specs.declared.effort.Effort.{Effort}
+use Rattle.definitions.specs.declared.effort.Effort.TheVariants.{Within, Full}
 use Rattle.definitions.specs.Covering.{HasFewRows, IsUnserved}
 use Rattle.definitions.specs.Demand.{demanded_tuples}
 use Rattle.definitions.specs.Figures.{figures}
@@ -88,15 +90,15 @@ out_text s seed m given = text_in (mode_of s) s seed m given
 
 -- the bytes are the proof of the suite, in the format that is asked for
 abbrev pub IsProof : Settings → ℕ → ModelView → List (ℕ × List (Option ℕ)) → List ℕ → Type 0
-IsProof s seed m seeds bytes = IsProofOfSuite m (orders_of s seed m) seeds s.form bytes
+IsProof s seed m seeds bytes = IsProofOfSuite m (orders_of s seed m) seeds s.effort s.form bytes
 
 -- the names of the files of a run on a model file of this name
 abbrev pub file_names : List ℕ → Settings → NamesView
 file_names model s = record { model = model; rows = unwrap_or (row_file s) []; proof = unwrap_or s.proof [] }
 
--- the first question of growth whose plain cost is above the budget
+-- the first question of growth whose plain cost is above what a question may cost
 abbrev pub growth_over : Settings → ℕ → ModelView → List (ℕ × List (Option ℕ)) → Option (List (Option ℕ))
-growth_over s seed m seeds = first_over m (orders_of s seed m) s.budget (growth_of s seed m seeds).asked
+growth_over s seed m seeds = first_over m (orders_of s seed m) s.effort (growth_of s seed m seeds).asked
 
 -- what the row file gives the run: its reading; the rows, and the notes on the file
 abbrev pub reading_of : Settings → ModelView → RowSource → Result ResultReading Stop
@@ -114,9 +116,11 @@ file_notes s m source = notes_on (given_of s m source)
 abbrev pub all_notes : Settings → ModelView → RowSource → List Note
 all_notes s m source = file_notes s m source ++ later_notes (mode_of s) m (rows_of_run s m source)
 
--- the stop of a question above the budget, and that of too many candidates for suspicious tuples
-abbrev pub spent_on : Settings → List (Option ℕ) → Stop
-spent_on s question = Spent s.budget (pairs_of question)
+-- the stop of the first question whose plain cost is above the budget, if there is one: without a budget none is; and
+-- that of too many candidates for suspicious tuples
+abbrev pub spent_at : Effort → Option (List (Option ℕ)) → Option Stop
+spent_at (Within budget) over = option_map (λ question. Spent budget (pairs_of question)) over
+spent_at Full over = None
 
 abbrev pub candidates_stop : ℕ → Option Stop
 candidates_stop count = if nat_lt (most_counted limits.SuspectCandidates) count then Some (TooMany SuspectCandidates (saturated count)) else None
@@ -128,8 +132,8 @@ limit_due s m = if makes_plan (mode_of s) then option_map stop_of_plan (limit_pa
 -- why a run must stop at its work on what the row file gives, if it must: by the first question whose plain cost is above
 -- the budget, where it measures of the demanded tuples, or by the number of candidates
 abbrev pub work_in : Mode → Settings → ℕ → ModelView → ResultReading → Option Stop
-work_in (Generate output) s seed m given = option_map (spent_on s) (growth_over s seed m given.rows.rows)
-work_in (Measure name) s seed m given = option_map (spent_on s) (first_measured_over m s.budget)
+work_in (Generate output) s seed m given = spent_at s.effort (growth_over s seed m given.rows.rows)
+work_in (Measure name) s seed m given = spent_at s.effort (first_measured_over m s.effort)
 work_in (Suspect name) s seed m given = candidates_stop (candidate_count m (failing_rows (suite_in given) given.failed))
 
 -- why a run must stop once its model is read, if it must: by the limit that the demand passes, else at the row file,

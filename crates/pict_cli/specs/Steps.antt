@@ -4,7 +4,6 @@ use Rattle.outside_io.specs.Faults.{KeepsCounts, Rose}
 use Rattle.outside_io.specs.Files.{Files, HoldsOldOrPrefix, KeepsFiles}
 use Rattle.made_models.specs.MadeModel.{made_text}
 use Rattle.cov_model.specs.Sound.{ModelView}
-use Rattle.definitions.specs.Pairs.{pairs_of}
 use Rattle.definitions.specs.ProofText.{proof_text}
 use Rattle.definitions.specs.RowReading.{RowMode, RowReading}
 use Rattle.definitions.specs.Settings.{Settings}
@@ -22,7 +21,7 @@ use Rattle.suspect_tuples.specs.declared.results_fault.ResultsFault.TheVariants 
 use Rattle.command_line.specs.Stops.{stop_of_rows}
 use Rattle.command_line.specs.declared.files.FileKind.TheVariants as kinds
 use Rattle.command_line.specs.declared.stop.Stop.{Stop}
-use Rattle.command_line.specs.declared.stop.Stop.TheVariants.{BadResult, CannotRead, CannotWrite, NoResult, OutOfMemory, Spent}
+use Rattle.command_line.specs.declared.stop.Stop.TheVariants.{BadResult, CannotRead, CannotWrite, NoResult, OutOfMemory}
 use Rattle.command_line.specs.Told.{end_status}
 use Rattle.pict_cli.specs.Ends.{Leaves, LeavesAll, Moment, Stopped, end_of}
 use Rattle.pict_cli.specs.Making.{EndsFrom}
@@ -60,13 +59,9 @@ stop_of_results_fault faults.NoResult = NoResult
 stop_of_results_fault (faults.BadResult line) = BadResult line
 stop_of_results_fault faults.NoMemory = OutOfMemory
 
--- what the reading of a row file may end by
+-- what a run may end by at its plan or its row file
 abbrev pub IsOfRows : Stop → Type 0
 IsOfRows stop = (stop ≡ CannotRead kinds.Rows) ⊎ (end_of (Err stop) ≡ Stopped)
-
--- a search stopped: for want of memory, or at the first question above the budget
-abbrev pub IsSpentOrNoMemory : ℕ → Option (List (Option ℕ)) → Stop → Type 0
-IsSpentOrNoMemory budget over stop = (stop ≡ OutOfMemory) ⊎ ((question : List (Option ℕ)) × (stop ≡ Spent budget (pairs_of question)) × (over ≡ Some question))
 
 -- it stopped for want of memory, or as it must
 abbrev pub IsDueOrNoMemory : Option Stop → Stop → Type 0

@@ -1,21 +1,22 @@
-ghost use Rattle.std.specs.Prelude.{◌≡◌, ◌≤◌, ◌^◌, ℕ, [], map, length, All, Option, None, Some, Err, List, option_map, IfOk, IfErr, OnOk};
+ghost use Rattle.std.specs.Prelude.{◌≡◌, ◌≤◌, ◌^◌, ℕ, [], map, length, All, Option, None, Some, List, option_map, IfOk, IfErr, OnOk};
 ghost use Rattle.cov_model.specs.Fits.{FitsModel};
 ghost use Rattle.cov_model.specs.Sound.{ModelView};
+ghost use Rattle.definitions.specs.declared.effort.Effort.TheVariants.{Full};
 ghost use Rattle.definitions.specs.Settings.{Settings};
 ghost use Rattle.feasibility.specs.Ends.{EndsBy};
 ghost use Rattle.ipog_grow.specs.Suites.{IsSuiteOf};
 ghost use Rattle.row_text.specs.RowFiles.{seeds_seen};
 ghost use Rattle.tuple_index.specs.Plan.{plan_of};
 ghost use Rattle.command_line.specs.Settings.{shuffle_seen};
-ghost use Rattle.pict_cli.specs.Ends.{Stopped, end_of};
 ghost use Rattle.pict_cli.specs.Options.{settings_seen};
 ghost use Rattle.pict_cli.specs.Ranges.{FitRun};
-ghost use Rattle.pict_cli.specs.Runs.{orders_of, growth_over, shuffled_by};
-ghost use Rattle.pict_cli.specs.Steps.{IsSpentOrNoMemory};
+ghost use Rattle.pict_cli.specs.Runs.{orders_of, growth_over, shuffled_by, spent_at};
+ghost use Rattle.pict_cli.specs.Steps.{IsDueOrNoMemory};
 
 use crate::options::Opts;
 use command_line::{Shuffle, Stop};
 use cov_model::{Prefs, TestModel};
+use definitions::Effort;
 use feasibility::SearchFault;
 use ipog_grow::{GrowOpts, Suite, generate};
 use outside_io::OpenGate;
@@ -35,13 +36,16 @@ fn shuffle_number(shuffle: Shuffle, seed_word: u64) -> Option<u64>
     }
 }
 
-/// Why a run stops whose search ended early.
-pub(crate) fn stop_of_search(fault: SearchFault, budget: u64) -> Stop
-    ensures early { end_of (Err result) ≡ Stopped }
-    ensures stops { (over : Option (List (Option ℕ))) → EndsBy over fault → IsSpentOrNoMemory budget over result }
+/// Why a run stops whose search ended early: without a budget for want of memory alone.
+pub(crate) fn stop_of_search(fault: SearchFault, effort: Effort) -> Stop
+    requires { effort ≡ Full → fault ≡ SearchFault.NoMemory }
+    ensures { (over : Option (List (Option ℕ))) → EndsBy over fault → IsDueOrNoMemory (spent_at effort over) result }
 {
     match fault {
-        SearchFault::Spent(question) => Stop::Spent(budget, question.cells),
+        SearchFault::Spent(question) => match effort {
+            Effort::Within(budget) => Stop::Spent(budget, question.cells),
+            Effort::Full => unreachable!(),
+        },
         SearchFault::NoMemory => Stop::OutOfMemory,
     }
 }
@@ -64,20 +68,19 @@ pub(crate) fn grow<R: Threads + Sync>(
     requires seeds { All (λ seed. FitsModel model.now seed.cells) seeds.now.rows }
     requires few { length seeds.now.rows ≤ 2 ^ 20 }
     requires fit { FitRun (settings_seen opts.now) }
-    ensures suite { IfOk result (IsSuiteOf model.now (orders_of (settings_seen opts.now) seed_word model.now) (seeds_seen seeds.now) (option_map (λ _. opts.now.form) opts.now.proof)) }
+    ensures suite { IfOk result (IsSuiteOf model.now (orders_of (settings_seen opts.now) seed_word model.now) (seeds_seen seeds.now) opts.now.effort (option_map (λ _. opts.now.form) opts.now.proof)) }
     ensures answered { OnOk result (growth_over (settings_seen opts.now) seed_word model.now (seeds_seen seeds.now) ≡ None) }
-    ensures stops { IfErr result (IsSpentOrNoMemory opts.now.budget (growth_over (settings_seen opts.now) seed_word model.now (seeds_seen seeds.now))) }
-    ensures early { IfErr result (λ stop. end_of (Err stop) ≡ Stopped) }
+    ensures stops { IfErr result (IsDueOrNoMemory (spent_at opts.now.effort (growth_over (settings_seen opts.now) seed_word model.now (seeds_seen seeds.now)))) }
 {
     let number = shuffle_number(opts.shuffle, seed_word);
     let prefs = Prefs::new(alloc, model, number)?;
     let grow_opts = GrowOpts {
-        budget: opts.budget,
+        effort: opts.effort,
         workers: opts.workers,
         proof: opts.proof_form(),
     };
     match generate(rt, alloc, model, plan, &prefs, seeds, &grow_opts, &OpenGate) {
         Ok(suite) => Ok(suite),
-        Err(fault) => Err(stop_of_search(fault, opts.budget)),
+        Err(fault) => Err(stop_of_search(fault, opts.effort)),
     }
 }

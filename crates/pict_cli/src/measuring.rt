@@ -8,12 +8,12 @@ ghost use Rattle.row_text.specs.RowFiles.{suite_seen};
 ghost use Rattle.row_text.specs.Told.{figures_seen};
 ghost use Rattle.tuple_index.specs.Plan.{plan_of};
 ghost use Rattle.tuple_index.specs.PlanFault.{limit_passed};
-ghost use Rattle.pict_cli.specs.Ends.{CountsOut, Leaves, Prints, Stopped, end_of, moment};
+ghost use Rattle.pict_cli.specs.Ends.{CountsOut, Leaves, Prints, end_of, moment};
 ghost use Rattle.pict_cli.specs.Modes.{Measure, RowSource, mode_of, row_source};
 ghost use Rattle.pict_cli.specs.Options.{settings_seen};
 ghost use Rattle.pict_cli.specs.Ranges.{FitRun};
-ghost use Rattle.pict_cli.specs.Runs.{RunsModel};
-ghost use Rattle.pict_cli.specs.Steps.{IsSpentOrNoMemory};
+ghost use Rattle.pict_cli.specs.Runs.{RunsModel, spent_at};
+ghost use Rattle.pict_cli.specs.Steps.{IsDueOrNoMemory};
 
 use crate::growing::stop_of_search;
 use crate::options::Opts;
@@ -45,9 +45,8 @@ fn figures_of<R: Threads + Sync>(
     requires few { length suite.now.rows ≤ 2 ^ 20 }
     requires fit { FitRun (settings_seen opts.now) }
     ensures figures { IfOk result (λ given. figures_seen given ≡ figures model.now (suite_seen suite.now)) }
-    ensures answered { OnOk result (first_measured_over model.now opts.now.budget ≡ None) }
-    ensures stops { IfErr result (IsSpentOrNoMemory opts.now.budget (first_measured_over model.now opts.now.budget)) }
-    ensures early { IfErr result (λ stop. end_of (Err stop) ≡ Stopped) }
+    ensures answered { OnOk result (first_measured_over model.now opts.now.effort ≡ None) }
+    ensures stops { IfErr result (IsDueOrNoMemory (spent_at opts.now.effort (first_measured_over model.now opts.now.effort))) }
 {
     match measure(
         rt,
@@ -56,11 +55,11 @@ fn figures_of<R: Threads + Sync>(
         plan,
         suite,
         opts.workers,
-        opts.budget,
+        opts.effort,
         &OpenGate,
     ) {
         Ok(figures) => Ok(figures),
-        Err(fault) => Err(stop_of_search(fault, opts.budget)),
+        Err(fault) => Err(stop_of_search(fault, opts.effort)),
     }
 }
 

@@ -11,6 +11,7 @@ use command_line::{
     FileNames, Setting, Shuffle, default_opts, has_equal_marks, is_last_mark, setting_of,
     word_number,
 };
+use definitions::Effort;
 use model_lex::ModelOpts;
 use refutation::ProofForm;
 
@@ -32,8 +33,8 @@ pub struct Opts<'w> {
     pub stats: bool,
     /// The number of workers.
     pub workers: u32,
-    /// The most nodes that one question may visit.
-    pub budget: u64,
+    /// What one question may cost.
+    pub effort: Effort,
     /// The file that the proof is written to.
     pub proof: Option<&'w str>,
     /// The form of the proof file.
@@ -66,7 +67,7 @@ impl<'w> Opts<'w> {
             shuffle: Shuffle::Off,
             stats: false,
             workers: 1,
-            budget: USUAL_BUDGET,
+            effort: Effort::Within(USUAL_BUDGET),
             proof: None,
             form: ProofForm::One,
             measure: None,
@@ -119,7 +120,7 @@ impl<'w> Opts<'w> {
             Setting::ShuffleValues(shuffle) => self.shuffle = shuffle,
             Setting::Statistics => self.stats = true,
             Setting::Workers(workers) => self.workers = workers,
-            Setting::Budget(budget) => self.budget = budget,
+            Setting::Budget(effort) => self.effort = effort,
             Setting::ProofFile(name) => self.proof = Some(name),
             Setting::ProofFormat(form) => self.form = form,
             Setting::MeasureFile(name) => self.measure = Some(name),

@@ -5,11 +5,11 @@ ghost use Rattle.cov_model.specs.Fits.{FitsModel};
 ghost use Rattle.tuple_index.specs.Plan.{plan_of};
 ghost use Rattle.tuple_index.specs.PlanFault.{limit_passed};
 ghost use Rattle.row_text.specs.Readings.{mode_seen};
-ghost use Rattle.pict_cli.specs.Ends.{CountsReads, IsEarly, end_of};
+ghost use Rattle.pict_cli.specs.Ends.{CountsReads, end_of};
 ghost use Rattle.pict_cli.specs.Modes.{RowSource, makes_plan, mode_of, row_mode, row_source};
 ghost use Rattle.pict_cli.specs.Options.{settings_seen};
 ghost use Rattle.pict_cli.specs.Runs.{EndsBehind};
-ghost use Rattle.pict_cli.specs.Steps.{HoldsRows};
+ghost use Rattle.pict_cli.specs.Steps.{HoldsRows, IsOfRows};
 
 use crate::options::Opts;
 use crate::rows::load_rows;
@@ -52,7 +52,7 @@ pub(crate) fn prepare<F: Folder>(
     ensures no_fault { OnOk result (KeepsCounts (F.read_faults files.old) (F.read_faults files.new)) }
     ensures stops { IfErr result (λ stop. (seed : ℕ) (source : RowSource) → row_source (settings_seen opts.now) (F.file files.old) ≡ Some source →
         EndsBehind (settings_seen opts.now) seed model.now source [] (Err stop)) }
-    ensures early { IfErr result (λ stop. IsEarly (end_of (Err stop))) }
+    ensures other { IfErr result IsOfRows }
     ensures reads { IfErr result (λ stop. (name : List ℕ) → CountsReads (settings_seen opts.now) name (end_of (Err stop)) (F.read_faults files.old) (F.read_faults files.new)) }
     ensures files { KeepsFiles (F.file files.old) (F.file files.new) }
     ensures write_faults { KeepsCounts (F.write_faults files.old) (F.write_faults files.new) }

@@ -1,6 +1,7 @@
 ghost use Rattle.std.specs.Prelude.{◌≡◌, ◌≢◌, ◌⊎◌, ◌≤◌, ◌<◌, length, true, ℕ, List, [], Option, Some, None, Ok, Err, IsSomeAnd};
 ghost use Rattle.outside_io.specs.Faults.{Rose, KeepsCounts};
 ghost use Rattle.cov_model.specs.Sound.{ModelView};
+ghost use Rattle.definitions.specs.declared.effort.Effort.TheVariants.{Full};
 ghost use Rattle.definitions.specs.Diagnostics.{word_line};
 ghost use Rattle.definitions.specs.Limits.{ModelFile, most_bytes};
 ghost use Rattle.definitions.specs.Settings.{Settings};
@@ -207,9 +208,10 @@ fn run<R: Threads + Sync, F: Folder, O: Sink>(
 /// no plan: behind its row file comes the limit of candidates. But for the making and the writing of a model all
 /// memory is taken before the first byte is written. `seed_word` is the number of a shuffle that no word gives.
 /// Statuses: 0 where the text was written whole, 1 where memory was refused, 2 where a question of the search costs
-/// more than the budget, 3 where the words have no reading, 4 and 5 where the model or a constraint of it is refused,
-/// 6 where the row file is, 7 where a read of the folder failed, 8 where a write of the folder or `out` did, 9 where
-/// something is above its limit. What is told goes to `diag`, whose faults change nothing.
+/// more than the budget, never where the words ask for no budget, 3 where the words have no reading, 4 and 5 where the
+/// model or a constraint of it is refused, 6 where the row file is, 7 where a read of the folder failed, 8 where a
+/// write of the folder or `out` did, 9 where something is above its limit. What is told goes to `diag`, whose faults
+/// change nothing.
 ///
 /// A folder tells what a name holds, the bytes of a file or that there is none, and a sink what was
 /// written to it, as those in memory do (`run_pict_in_memory`). Real ones tell nothing, and of them only
@@ -270,6 +272,9 @@ pub fn run_pict<R: Threads + Sync, F: Folder, O: Sink, E: Sink>(
         (result ≡ 3) × Tells (E.written diag.old) (E.written diag.new) (E.faults diag.old) (E.faults diag.new) (word_line index) }
     ensures read_words { (s : Settings) → asked_by (texts words.now) ≡ Ok s → result ≢ 3 }
 
+    // Without a budget every question is answered. Premise: the words ask for s, which has none.
+    ensures answered { (s : Settings) → asked_by (texts words.now) ≡ Ok s → s.effort ≡ Full → result ≢ 2 }
+
     // With every status but 1 and 8 the model file holds the made model at the end, where the words ask for one: unless
     // the proof was written over it. Premise: the folder tells that name at the end.
     ensures made { (s : Settings) (n : ℕ) → asked_by (texts words.now) ≡ Ok s → s.make ≡ Some n → HoldsMade s n (model_file words.now) (F.file files.new) result }
@@ -279,8 +284,8 @@ pub fn run_pict<R: Threads + Sync, F: Folder, O: Sink, E: Sink>(
     // the files that the run reads, nor that of writing the made model (of `missing_rows`, `refused` and `too_long`: none
     // of the model file).
     // A model within the bytes of a model file that spell it, where the run needn't stop: no limit is passed, the row file
-    // has its reading, no question is above the budget; and neither the count of faults of `out` nor that of writing a
-    // file rose.
+    // has its reading, no question is above the budget, if there is one; and neither the count of faults of `out` nor that
+    // of writing a file rose.
     ensures complete { (s : Settings) (source : RowSource) (m : ModelView) → IsSpelled (texts words.now) (F.file files.old) s source m →
         stop_due s seed_word m source ≡ None → ReadsCalmly s (model_file words.now) (F.read_faults files.old) (F.read_faults files.new) →
         WritesCalmly s (model_file words.now) (F.write_faults files.old) (F.write_faults files.new) →

@@ -9,11 +9,10 @@ ghost use Rattle.row_text.specs.Turns.{AreMadeFor};
 ghost use Rattle.tuple_index.specs.Kept.{IsKept};
 ghost use Rattle.tuple_index.specs.Plan.{plan_of};
 ghost use Rattle.tuple_index.specs.PlanFault.{limit_passed};
-ghost use Rattle.pict_cli.specs.Ends.{Stopped, end_of};
 ghost use Rattle.pict_cli.specs.Options.{settings_seen};
 ghost use Rattle.pict_cli.specs.Ranges.{FitRun};
 ghost use Rattle.pict_cli.specs.RowSources.{dropped_note, dropped_notes};
-ghost use Rattle.pict_cli.specs.Runs.{IsProof, growth_of, orders_of, growth_over, spent_on};
+ghost use Rattle.pict_cli.specs.Runs.{IsProof, growth_of, orders_of, growth_over, spent_at};
 ghost use Rattle.pict_cli.specs.Steps.{StopsWork};
 
 use crate::growing::grow;
@@ -102,9 +101,8 @@ pub(crate) fn make_suite<R: Threads + Sync>(
     ensures answered { OnOk result (growth_over (settings_seen opts.now) seed_word model.now (seeds_seen seeds.now) ≡ None) }
     ensures notes { OnOk result (notes.new ≡ notes.old ++ dropped_notes model.now (seeds_seen seeds.now)) }
     ensures stops { IfErr result (StopsWork
-        (option_map (spent_on (settings_seen opts.now)) (growth_over (settings_seen opts.now) seed_word model.now (seeds_seen seeds.now)))
+        (spent_at opts.now.effort (growth_over (settings_seen opts.now) seed_word model.now (seeds_seen seeds.now)))
         (dropped_notes model.now (seeds_seen seeds.now)) notes.old notes.new) }
-    ensures early { IfErr result (λ stop. end_of (Err stop) ≡ Stopped) }
 {
     let suite = grow(rt, alloc, model, plan, seeds, opts, seed_word)?;
     let stats = stats_of(plan, &suite);

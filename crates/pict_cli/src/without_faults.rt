@@ -20,8 +20,8 @@ use std::thread::Threads;
 /// Runs `pict` as `run_pict` does, on a folder and sinks that never fail.
 ///
 /// So no fault comes, and which status comes stands here without a premise on faults: where the words, the model and the
-/// row file have their readings, all is within its limits and no question of the run costs more than the budget, the
-/// status is 0, unless memory is refused.
+/// row file have their readings, all is within its limits and no question of the run costs more than the budget, if there
+/// is one, the status is 0, unless memory is refused.
 pub fn run_pict_without_faults<R: Threads + Sync>(
     rt: &R,
     alloc: Global,

@@ -62,6 +62,20 @@ impl TreeBuf {
         }
     }
 
+    /// These tokens, in order.
+    ///
+    /// # Errors
+    ///
+    /// `NoMemory` where there is no room.
+    pub fn from_slice(alloc: Global, tokens: &[TreeToken]) -> Result<Self, NoMemory>
+        ensures { IfOk result (λ tree. tree ≡ tokens.now) }
+    {
+        let list = SmallVec::from_slice(alloc, tokens)?;
+        Ok(TreeBuf {
+            tokens: Tokens::Own(list),
+        })
+    }
+
     // No tokens, with room for so many.
     pub(crate) fn with_room(alloc: Global, count: usize) -> Result<Self, NoMemory>
         ensures { IfOk result (λ tree. tree ≡ []) }

@@ -135,6 +135,30 @@ const ENDS: &[End<'static>] = &[
         written: "",
         told: "error: search budget 2 spent on 0=0\n",
     },
+    End {
+        words: &["m", "/o:1", "/budget:max", "/budget:3"],
+        model: TWIN,
+        rows: b"",
+        status: 2,
+        written: "",
+        told: "error: search budget 3 spent on 1=1\n",
+    },
+    End {
+        words: &["m", "/budget:"],
+        model: TWIN,
+        rows: b"",
+        status: 3,
+        written: "",
+        told: "error: word 2 is not understood\n",
+    },
+    End {
+        words: &["m", "/budget:maximum"],
+        model: TWIN,
+        rows: b"",
+        status: 3,
+        written: "",
+        told: "error: word 2 is not understood\n",
+    },
     // The seed of a shuffle is told where no word gave it.
     End {
         words: &["m", "/r:7"],

@@ -2,8 +2,8 @@
 
 use test_runs::{Report, other_report};
 
-// Models of one constraint, with their reports. A row with the negative values of both parameters is never valid.
-const REPORTS: &[Report<'static>] = &[
+/// Models of one constraint, with their reports. A row with the negative values of both parameters is never valid.
+pub const REPORTS: &[Report<'static>] = &[
     Report {
         words: &["m"],
         model: b"A: 1, 2.50, ~-3\nB: red, ~Green\n[A] > 1.5;\n",

@@ -12,8 +12,8 @@ const FIGURES: &str =
     Covered tuples: 2 of 3\nComplete sets: 0 of 1\nSets at 75 percent: 0 of 1\nSets at 50 percent: 1 of 1\n\
     Sets at 25 percent: 1 of 1\n";
 
-// Runs on a suite in the file t.
-const MEASURED: &[End<'static>] = &[
+/// Runs on a suite in the file t.
+pub const MEASURED: &[End<'static>] = &[
     End {
         words: &["m", "/measure:t"],
         model: GUARDED,

@@ -14,8 +14,8 @@ pub const NONE_LIVE: &[u8] = b"A: 1, 2\nB: x, y\nC: p, q, r\nIF [A] = 1 THEN [C]
 pub const NONE_LIVE_REPORT: &str =
     "A\tB\tC\n2\tx\tp\n2\ty\tq\n2\tx\tr\n2\tx\tq\n2\ty\tp\n2\ty\tr\n";
 
-// Models, with their reports.
-const REPORTS: &[Report<'static>] = &[
+/// Models, with their reports.
+pub const REPORTS: &[Report<'static>] = &[
     Report {
         words: &["m"],
         model: b"A: 1, 2\nB: x, y\n",
@@ -94,8 +94,8 @@ const TRIPLES: &[u8] = b"A: 1, 2\nB: x, y\nC: u, v\n";
 
 const TRIPLES_REPORT: &str = "A\tB\tC\n1\tx\tu\n1\ty\tv\n2\tx\tv\n2\ty\tu\n";
 
-// Columns of so few sets are scored by one worker, however many are allowed.
-const WORKERS: &[Report<'static>] = &[
+/// Models by numbers of workers. Columns of so few sets are scored by one worker, however many are allowed.
+pub const WORKERS: &[Report<'static>] = &[
     Report {
         words: &["m", "/workers:1"],
         model: TRIPLES,

@@ -4,8 +4,8 @@ use test_runs::{Report, other_report};
 
 const PAIRS: &str = "A\tB\n1\tx\n1\ty\n2\tx\n2\ty\n";
 
-// Model files, with their reports.
-const REPORTS: &[Report<'static>] = &[
+/// Model files, with their reports.
+pub const REPORTS: &[Report<'static>] = &[
     Report {
         words: &["m"],
         model: b"\xef\xbb\xbfA: 1, 2\r\nB: x, y",

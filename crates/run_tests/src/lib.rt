@@ -2,11 +2,15 @@
 #![tactic(auto)]
 
 #[cfg(test)]
+mod both_searches;
+#[cfg(test)]
 mod commands;
 #[cfg(test)]
 mod constraints;
 #[cfg(test)]
 mod disk;
+#[cfg(test)]
+mod every_question;
 #[cfg(test)]
 mod given_suites;
 #[cfg(test)]

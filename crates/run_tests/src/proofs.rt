@@ -30,15 +30,20 @@ const NONE_LIVE_PROOF: &str =
     "pict-proof 1\nomit 0=0 2=0 : L1\nomit 0=0 2=1 : L2\nomit 0=0 2=2 : L3\n\
     omit 0=0 1=0 : B2 L1 L2 L3\nomit 0=0 1=1 : B2 L1 L2 L3\n";
 
-// A run with a proof.
-struct Proof<'a> {
-    words: &'a [&'a str],
-    model: &'a [u8],
-    report: &'a str,
-    proof: &'a str,
+/// A run with a proof.
+pub struct Proof<'a> {
+    /// The words behind the program's name.
+    pub words: &'a [&'a str],
+    /// The bytes of the model file `m`.
+    pub model: &'a [u8],
+    /// What standard output gets.
+    pub report: &'a str,
+    /// What the file `p` gets.
+    pub proof: &'a str,
 }
 
-const PROOFS: &[Proof<'static>] = &[
+/// Models, with their reports and proofs.
+pub const PROOFS: &[Proof<'static>] = &[
     Proof {
         words: &["m", "/proof:p"],
         model: b"A: 1, 2\nB: x, y\n",

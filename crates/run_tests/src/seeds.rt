@@ -23,8 +23,8 @@ const NEGATIVE_NOTES: &str = "warning: row file line 1: V2 unknown column\n\
     warning: row file line 5: V4 no valid row serves this row\n\
     warning: row file line 6: V4 no valid row serves this row\n";
 
-// Runs with the row file s.
-const SEEDED: &[End<'static>] = &[
+/// Runs with the row file s.
+pub const SEEDED: &[End<'static>] = &[
     End {
         words: &["m", "/e:s"],
         model: SYSTEMS,

@@ -1,5 +1,6 @@
 //! The words of a command: which have a reading, and what they ask for.
 
+use definitions::Effort;
 use model_lex::OrderWord;
 use pict_cli::{Opts, Shuffle, read_words};
 use refutation::ProofForm;
@@ -53,6 +54,11 @@ const FAULTS: &[(&str, u32)] = &[
     ("m /workers:65", 2),
     ("m /budget:1099511627776", 0),
     ("m /budget:1099511627777", 2),
+    ("m /budget:max", 0),
+    ("m /BUDGET:MAX", 0),
+    ("m /budget:max /budget:5", 0),
+    ("m /budget:", 2),
+    ("m /budget:maximum", 2),
     ("m /proof:p /proofformat:2", 0),
     ("m /proofformat:3", 2),
     ("m /make:0 /r:7 /s /proof:p", 0),
@@ -115,7 +121,7 @@ fn are_all(opts: &Opts<'_>) -> bool {
         && opts.stats
         && opts.seeds == Some("a:b")
         && opts.shuffle == Shuffle::Number(u64::MAX)
-        && (opts.workers, opts.budget) == (64, 9)
+        && (opts.workers, opts.effort) == (64, Effort::Within(9))
         && opts.proof == Some("p")
         && opts.form == ProofForm::Two
 }
@@ -141,4 +147,36 @@ fn gives_what_is_asked_for(rt: HostRuntime) {
     let text =
         "m /O:MAX /d:; /a:! /N:- /c /e:a:b /R:7 /r:18446744073709551615 /s /workers:64 /budget:9 /Proof:p /proofFormat:2";
     assert!(rt; asks_for_all(rt.alloc(), text));
+}
+
+// Words, and what one question may cost: the last of several counts.
+const EFFORTS: &[(&str, Effort)] = &[
+    ("m", Effort::Within(1_000_000)),
+    ("m /budget:max", Effort::Full),
+    ("m /BUDGET:MAX", Effort::Full),
+    ("m /budget:max /budget:5", Effort::Within(5)),
+    ("m /budget:5 /Budget:Max", Effort::Full),
+];
+
+// Whether the words have a reading, and a question may cost so much.
+fn allow(words: &[String], effort: Effort) -> bool {
+    match read_words(words) {
+        Ok(opts) => opts.effort == effort,
+        Err(_) => false,
+    }
+}
+
+// The same for the words of a text.
+fn allows(alloc: Global, text: &str, effort: Effort) -> bool {
+    match words_of(alloc, text) {
+        Ok(words) => allow(words.as_slice(), effort),
+        Err(AllocError) => false,
+    }
+}
+
+#[test]
+fn gives_what_a_question_may_cost(rt: HostRuntime) {
+    for (text, effort) in EFFORTS {
+        assert!(rt; allows(rt.alloc(), text, *effort), "{text}");
+    }
 }

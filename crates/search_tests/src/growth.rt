@@ -7,6 +7,7 @@ ghost use Rattle.tuple_index.specs.Plan.{plan_of};
 
 use crate::search::NONE_LIVE;
 use cov_model::{ParamNo, Prefs, Rows, TestModel, ValueNo};
+use definitions::Effort;
 use ipog_grow::{GrowOpts, Suite, generate};
 use refutation::{Omissions, ProofForm, TreeToken};
 use row_text::{RowFile, RowMode, read_rows};
@@ -26,6 +27,8 @@ struct Grown<'a> {
     model: &'a str,
     seeds: &'a str,
     proof: Option<ProofForm>,
+    // What a question may cost.
+    effort: Effort,
     rows: &'a [[ValueNo; 3]],
     omitted: &'a [Omitted<'a>],
     // How many seed rows are kept, and the lines of those that aren't.
@@ -48,6 +51,7 @@ const GROWN: &[Grown<'static>] = &[
         model: "A: 1, 2\nB: x, y\nC: u, v\n",
         seeds: "A\n",
         proof: None,
+        effort: Effort::Within(1000),
         rows: &[[0, 0, 0], [0, 1, 1], [1, 0, 1], [1, 1, 0]],
         omitted: &[],
         kept: 0,
@@ -58,6 +62,7 @@ const GROWN: &[Grown<'static>] = &[
         model: NONE_LIVE,
         seeds: "A\n",
         proof: None,
+        effort: Effort::Within(1000),
         rows: NONE_LIVE_ROWS,
         omitted: &[
             Omitted {
@@ -88,29 +93,20 @@ const GROWN: &[Grown<'static>] = &[
         model: NONE_LIVE,
         seeds: "A\n",
         proof: Some(ProofForm::One),
+        effort: Effort::Within(1000),
         rows: NONE_LIVE_ROWS,
-        omitted: &[
-            Omitted {
-                tuple: &[(0, 0), (2, 0)],
-                tree: &[TreeToken::ByRule(1)],
-            },
-            Omitted {
-                tuple: &[(0, 0), (2, 1)],
-                tree: &[TreeToken::ByRule(2)],
-            },
-            Omitted {
-                tuple: &[(0, 0), (2, 2)],
-                tree: &[TreeToken::ByRule(3)],
-            },
-            Omitted {
-                tuple: &[(0, 0), (1, 0)],
-                tree: THREE_LEAVES,
-            },
-            Omitted {
-                tuple: &[(0, 0), (1, 1)],
-                tree: THREE_LEAVES,
-            },
-        ],
+        omitted: NONE_LIVE_OMITTED,
+        kept: 0,
+        dropped: &[],
+    },
+    // The same trees, since C alone is left to branch on.
+    Grown {
+        model: NONE_LIVE,
+        seeds: "A\n",
+        proof: Some(ProofForm::One),
+        effort: Effort::Full,
+        rows: NONE_LIVE_ROWS,
+        omitted: NONE_LIVE_OMITTED,
         kept: 0,
         dropped: &[],
     },
@@ -119,6 +115,7 @@ const GROWN: &[Grown<'static>] = &[
         model: "A: 1, 2\nB: x, ~n\nC: v, ~m\nIF [A] = 2 THEN [C] = \"v\";\n",
         seeds: "C\tZ\tA\tB\nv\tq\t2\t\nv\tq\t2\t\n\n~m\tq\t2\t\n~m\tq\t1\t~n\nk\tq\t1\t\n",
         proof: None,
+        effort: Effort::Within(1000),
         rows: &[[1, 0, 0], [0, 0, 0], [0, 1, 0], [1, 1, 0], [0, 0, 1]],
         omitted: &[Omitted {
             tuple: &[(0, 1), (2, 1)],
@@ -126,6 +123,43 @@ const GROWN: &[Grown<'static>] = &[
         }],
         kept: 2,
         dropped: &[5, 6],
+    },
+    Grown {
+        model: "A: 1, 2\nB: x, ~n\nC: v, ~m\nIF [A] = 2 THEN [C] = \"v\";\n",
+        seeds: "C\tZ\tA\tB\nv\tq\t2\t\nv\tq\t2\t\n\n~m\tq\t2\t\n~m\tq\t1\t~n\nk\tq\t1\t\n",
+        proof: None,
+        effort: Effort::Full,
+        rows: &[[1, 0, 0], [0, 0, 0], [0, 1, 0], [1, 1, 0], [0, 0, 1]],
+        omitted: &[Omitted {
+            tuple: &[(0, 1), (2, 1)],
+            tree: &[],
+        }],
+        kept: 2,
+        dropped: &[5, 6],
+    },
+];
+
+// Its omitted pairs, with their trees.
+const NONE_LIVE_OMITTED: &[Omitted<'static>] = &[
+    Omitted {
+        tuple: &[(0, 0), (2, 0)],
+        tree: &[TreeToken::ByRule(1)],
+    },
+    Omitted {
+        tuple: &[(0, 0), (2, 1)],
+        tree: &[TreeToken::ByRule(2)],
+    },
+    Omitted {
+        tuple: &[(0, 0), (2, 2)],
+        tree: &[TreeToken::ByRule(3)],
+    },
+    Omitted {
+        tuple: &[(0, 0), (1, 0)],
+        tree: THREE_LEAVES,
+    },
+    Omitted {
+        tuple: &[(0, 0), (1, 1)],
+        tree: THREE_LEAVES,
     },
 ];
 
@@ -185,8 +219,8 @@ fn seeds_of(alloc: Global, model: &TestModel, text: &str) -> Option<RowFile>
     }
 }
 
-// Whether the suite that two workers may grow within a budget is this one, and the first of them comes alone: there
-// are few values to score.
+// Whether the suite that two workers may grow is this one, and the first of them comes alone: there are few values to
+// score.
 fn grows_from<R: Threads + Sync>(
     rt: &R,
     alloc: Global,
@@ -202,7 +236,7 @@ fn grows_from<R: Threads + Sync>(
     requires few { length seeds.now.rows ≤ 2 ^ 20 }
 {
     let opts = GrowOpts {
-        budget: 1000,
+        effort: grown.effort,
         workers: 2,
         proof: grown.proof,
     };
@@ -281,7 +315,7 @@ fn come_to<R: Threads + Sync>(
         return false;
     };
     let opts = GrowOpts {
-        budget: 1000,
+        effort: Effort::Within(1000),
         workers: 2,
         proof: None,
     };

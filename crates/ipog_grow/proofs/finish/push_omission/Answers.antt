@@ -6,7 +6,7 @@ use Rattle.definitions.specs.Covering.{IsUnserved}
 use Rattle.definitions.specs.Pairs.{cells_of, pairs_of}
 use Rattle.feasibility.specs.Refuting.{earlier_tuples}
 use Rattle.refutation.specs.declared.omissions.Omission.{Omission}
-use Rattle.ipog_grow.specs.Asking.{SearchContext}
+use Rattle.full_search.specs.Questions.{QuestionsView}
 use Rattle.ipog_grow.specs.Omissions.{IsOmittedIn}
 use Rattle.ipog_grow.specs.Suites.{omitted_cells}
 use Rattle.definitions.proofs.PairLists.{cells_of-pairs}
@@ -33,13 +33,13 @@ returns-clause-tuples c =
 
 pub returns-clause-omissions : goal.returns-clause-omissions
 returns-clause-omissions c =
-    let context : SearchContext = c.args.asker.now.context in
+    let context : QuestionsView = c.args.asker.now.context in
     let omission : Omission = record { tuple = c.in_ok-tuple.tuple; tree = c.in_ok-tree.tree } in
     let is : c.args.cells.now ≡ cells_of (length context.model.params) c.in_ok-tuple.tuple = sym
     (cells_of-pairs (length context.model.params) c.args.cells.now c.in_ok-tuple.tuple c.requires.omitted.grows.of.fits.as_long c.in_ok-tuple.ensures) in
     on_ok_weaker c.push.result
     (λ put.
-    omissions-push context.model context.prefs c.args.proof c.args.into.now c.push.new.self omission c.requires.earlier put
+    omissions-push context.model context.prefs context.effort c.args.proof c.args.into.now c.push.new.self omission c.requires.earlier put
     (c.in_ok-tuple.ensures ∙ ap pairs_of is)
     (subst (FitsModel context.model) is c.requires.omitted.grows.of.fits)
     (subst (IsUnserved context.model) is (omitted-unserved context c.args.cells.now c.assert_invariant.ensures.context c.requires.omitted))

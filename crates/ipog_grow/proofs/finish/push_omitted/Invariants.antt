@@ -8,4 +8,4 @@ abbrev pub invariant-loop-cells : goal.invariant-loop-cells
 invariant-loop-cells l =
     (l.asker.context ≡ l.initial.asker.context)
     × (earlier_tuples l.asker.context.model l.into ≡ earlier_tuples l.asker.context.model l.initial.into ++ take l.cells-index l.omitted)
-    × AreOmissionsOf l.asker.context.model l.asker.context.prefs l.proof l.into
+    × AreOmissionsOf l.asker.context.model l.asker.context.prefs l.asker.context.effort l.proof l.into

@@ -1,4 +1,4 @@
-use Rattle.std.proofs.Common.{◌≡◌, ◌++◌, ◌∙◌, ℕ, Bool, true, List, Option, All, nat_lt, find, length, sum, sum_by, ap, sym, subst, arith}
+use Rattle.std.proofs.Common.{◌≡◌, ◌++◌, ◌∙◌, ℕ, Bool, true, List, Option, All, find, length, sum, sum_by, ap, sym, subst, arith}
 use Rattle.std.proofs.lemmas.List.{length-map}
 use Rattle.std.proofs.lemmas.List.Elements.{All-map}
 use Rattle.std.proofs.lemmas.Result.{err_from_is_err_and}
@@ -7,7 +7,7 @@ use Rattle.cov_model.specs.Fits.{FitsModel}
 use Rattle.cov_model.specs.Slices.{slices}
 use Rattle.definitions.specs.Completion.{has_slice}
 use Rattle.definitions.specs.Growth.{slices_growth}
-use Rattle.definitions.specs.Search.{question_cost}
+use Rattle.definitions.specs.Search.{exceeds, question_cost}
 use Rattle.definitions.specs.Seeds.{asked_seeds}
 use Rattle.definitions.specs.SliceRows.{IsSliceOf}
 use Rattle.row_text.specs.RowFiles.{row_seen, seeds_seen}
@@ -22,7 +22,7 @@ use Rattle.ipog_grow.proofs.generating.generate.Goals as goal
 pub returns-in_err-split-clause-asked : goal.returns-in_err-split-clause-asked
 returns-in_err-split-clause-asked g c =
     let p = err_from_is_err_and c.from_residual.result c.from_residual.ensures.1 in
-    let over : List (Option ℕ) → Bool = λ cells. nat_lt c.args.opts.now.budget (question_cost c.args.model.now c.args.prefs.now cells) in
+    let over : List (Option ℕ) → Bool = λ cells. exceeds c.args.opts.now.effort (question_cost c.args.model.now c.args.prefs.now cells) in
     let first : List (List (Option ℕ)) = asked_seeds c.args.model.now (seeds_seen c.args.seeds.now) in
     let later : List (List (Option ℕ)) = (slices_growth c.args.model.now c.args.prefs.now (seeds_seen c.args.seeds.now) (slices c.args.model.now)).asked in
     rw (p.1, p.2) (ends-by c.in_err-split.field-0.0 (find over first) (find over (first ++ later)) (λ q spent. find-earlier over q first later spent)
@@ -56,7 +56,7 @@ grow_slices-requires-clause-few g c _ _ =
 pub returns-in_err-grow_slices-clause-asked : goal.returns-in_err-grow_slices-clause-asked
 returns-in_err-grow_slices-clause-asked g c =
     let p = err_from_is_err_and c.from_residual-in_err-grow_slices.result c.from_residual-in_err-grow_slices.ensures.1 in
-    let over : List (Option ℕ) → Bool = λ cells. nat_lt c.args.opts.now.budget (question_cost c.args.model.now c.args.prefs.now cells) in
+    let over : List (Option ℕ) → Bool = λ cells. exceeds c.args.opts.now.effort (question_cost c.args.model.now c.args.prefs.now cells) in
     let first : List (List (Option ℕ)) = asked_seeds c.args.model.now (seeds_seen c.args.seeds.now) in
     let asked : List Slice → List (List (Option ℕ)) = λ parts. (slices_growth c.args.model.now c.args.prefs.now (seeds_seen c.args.seeds.now) parts).asked in
     let parts : c.as_slice.result.now ≡ slices c.args.model.now = c.as_slice.ensures.value ∙ c.in-Ok.ensures in
@@ -77,7 +77,7 @@ overflow_cast-kept g c =
 
 pub returns-clause-asked : goal.returns-clause-asked
 returns-clause-asked g c =
-    let over : List (Option ℕ) → Bool = λ cells. nat_lt c.args.opts.now.budget (question_cost c.args.model.now c.args.prefs.now cells) in
+    let over : List (Option ℕ) → Bool = λ cells. exceeds c.args.opts.now.effort (question_cost c.args.model.now c.args.prefs.now cells) in
     let first : List (List (Option ℕ)) = asked_seeds c.args.model.now (seeds_seen c.args.seeds.now) in
     let asked : List Slice → List (List (Option ℕ)) = λ parts. (slices_growth c.args.model.now c.args.prefs.now (seeds_seen c.args.seeds.now) parts).asked in
     let parts : c.as_slice.result.now ≡ slices c.args.model.now = c.as_slice.ensures.value ∙ c.in-Ok.ensures in

@@ -2,7 +2,8 @@ use Rattle.std.proofs.Common.{◌≡◌, ◌∙◌, ◌<◌, ◌+◌, ℕ, Err, 
 use Rattle.std.proofs.lemmas.Result.{err_from_is_err_and}
 use Rattle.cov_model.specs.Sound.{param_at}
 use Rattle.ipog_grow.specs.Growing.{IsInPlay, open_tuples}
-use Rattle.ipog_grow.specs.Asking.{SearchContext, Grows, IsTableOf, Told, first_spent, filled, crossed}
+use Rattle.full_search.specs.Questions.{QuestionsView}
+use Rattle.ipog_grow.specs.Asking.{Grows, IsTableOf, Told, first_spent, filled, crossed}
 use Rattle.ipog_grow.proofs.Asking.{told-err}
 use Rattle.ipog_grow.proofs.HorizontalLemmas.{Crossing, Step, crossing-more, crossing-spent}
 use Rattle.ipog_grow.proofs.horizontal.grow_horizontally.Goals as goal
@@ -14,25 +15,25 @@ leave_at_times-requires g c =
 pub fill_cell-requires-clause-table : goal.fill_cell-requires-clause-table
 fill_cell-requires-clause-table g c _ _ =
     subst (λ table. IsTableOf c.loop-i.asker.context table) (sym c.leave_at_times.ensures)
-    (subst (λ (w : SearchContext). IsTableOf w c.loop-i.table) (sym c.loop-i.invariant.context)
+    (subst (λ (w : QuestionsView). IsTableOf w c.loop-i.table) (sym c.loop-i.invariant.context)
     (c.loop-i.invariant.crossing.keeps.model ∙ c.requires.table.0, c.loop-i.invariant.crossing.keeps.slice ∙ c.requires.table.1))
 
 pub fill_cell-requires-clause-column : goal.fill_cell-requires-clause-column
 fill_cell-requires-clause-column g c _ _ =
-    subst (λ (w : SearchContext). c.args.column < length w.model.params) (sym c.loop-i.invariant.context) c.requires.column
+    subst (λ (w : QuestionsView). c.args.column < length w.model.params) (sym c.loop-i.invariant.context) c.requires.column
 
 pub fill_cell-requires-clause-order : goal.fill_cell-requires-clause-order
 fill_cell-requires-clause-order g c _ _ =
-    subst (λ (w : SearchContext). c.args.order.now ≡ get_or w.prefs c.args.column []) (sym c.loop-i.invariant.context) c.requires.order
+    subst (λ (w : QuestionsView). c.args.order.now ≡ get_or w.prefs c.args.column []) (sym c.loop-i.invariant.context) c.requires.order
 
 pub fill_cell-requires-clause-scores : goal.fill_cell-requires-clause-scores
 fill_cell-requires-clause-scores g c _ _ =
-    subst (λ (w : SearchContext). length c.loop-i.scores ≡ length (param_at w.model.params c.args.column).values) (sym c.loop-i.invariant.context)
+    subst (λ (w : QuestionsView). length c.loop-i.scores ≡ length (param_at w.model.params c.args.column).values) (sym c.loop-i.invariant.context)
     (c.loop-i.invariant.scores ∙ c.requires.scores)
 
 pub fill_cell-requires-clause-in_play : goal.fill_cell-requires-clause-in_play
 fill_cell-requires-clause-in_play g c _ _ =
-    subst (λ (w : SearchContext). All (IsInPlay w.model w.slice c.args.column) (open_tuples c.leave_at_times.new.table c.args.column))
+    subst (λ (w : QuestionsView). All (IsInPlay w.model w.slice c.args.column) (open_tuples c.leave_at_times.new.table c.args.column))
     (sym c.loop-i.invariant.context)
     (subst (λ table. All (IsInPlay c.args.asker.now.context.model c.args.asker.now.context.slice c.args.column) (open_tuples table c.args.column))
     (sym c.leave_at_times.ensures) c.loop-i.invariant.crossing.in_play)
@@ -43,12 +44,12 @@ fill_cell-requires-clause-place g c _ _ = omega (arith, c.loop-i.invariant.cross
 pub fill_cell-requires-clause-grows : goal.fill_cell-requires-clause-grows
 fill_cell-requires-clause-grows g c _ _ =
     let within : c.loop-i.i < length c.loop-i.rows = omega (arith, c.loop-i.invariant.crossing.long) in
-    subst (λ (w : SearchContext). Grows w (get_or c.loop-i.rows c.loop-i.i [])) (sym c.loop-i.invariant.context)
+    subst (λ (w : QuestionsView). Grows w (get_or c.loop-i.rows c.loop-i.i [])) (sym c.loop-i.invariant.context)
     (c.loop-i.invariant.crossing.grows c.loop-i.i [] within)
 
 pub fill_cell-requires-clause-room : goal.fill_cell-requires-clause-room
 fill_cell-requires-clause-room g c _ _ =
-    subst (λ (w : SearchContext). length c.loop-i.room ≡ length w.model.params) (sym c.loop-i.invariant.context)
+    subst (λ (w : QuestionsView). length c.loop-i.room ≡ length w.model.params) (sym c.loop-i.invariant.context)
     (c.loop-i.invariant.room ∙ c.requires.room)
 
 pub returns-in_err-fill_cell-clause-asked : goal.returns-in_err-fill_cell-clause-asked
@@ -60,7 +61,7 @@ returns-in_err-fill_cell-clause-asked g c tuples moment =
     (first_spent c.args.asker.now.context (crossed c.args.asker.now.context c.args.column tuples [] c.args.rows.now).asked)
     (λ over. crossing-spent c.args.asker.now.context c.args.column c.args.table.now c.loop-i.table c.args.rows.now c.loop-i.rows c.loop-i.i
     c.fill_cell.new.asker.question tuples within c.loop-i.invariant.crossing moment over)
-    (subst (λ (w : SearchContext). Told {A = Unit {0}} (Err c.in_err-fill_cell.field-0.0) c.fill_cell.new.asker.question
+    (subst (λ (w : QuestionsView). Told {A = Unit {0}} (Err c.in_err-fill_cell.field-0.0) c.fill_cell.new.asker.question
     (first_spent w (filled w c.args.column c.loop-i.rows tuples (get_or c.loop-i.rows c.loop-i.i [])).asked)) c.loop-i.invariant.context
     (c.in_err-fill_cell.ensures.asked c.loop-i.rows tuples
     (ap (λ table. open_tuples table c.args.column) c.leave_at_times.ensures ∙ c.loop-i.invariant.crossing.moment tuples moment))))
@@ -86,7 +87,7 @@ loop-i-preserved g c =
           (sym c.in_ok-fill_cell.ensures.others)
           (crossing-more c.args.asker.now.context c.args.column c.args.table.now c.loop-i.table c.fill_cell.new.table c.args.rows.now c.loop-i.rows c.loop-i.i
           grown within c.loop-i.invariant.crossing
-          (subst (λ (w : SearchContext). Step w c.args.column c.loop-i.table c.fill_cell.new.table (get_or c.loop-i.rows c.loop-i.i []) grown)
+          (subst (λ (w : QuestionsView). Step w c.args.column c.loop-i.table c.fill_cell.new.table (get_or c.loop-i.rows c.loop-i.i []) grown)
           c.loop-i.invariant.context
           (subst (λ table. Step c.loop-i.asker.context c.args.column table c.fill_cell.new.table (get_or c.loop-i.rows c.loop-i.i []) grown)
           c.leave_at_times.ensures told)));

@@ -1,7 +1,8 @@
 use Rattle.std.proofs.Common.{false, ◌∙◌, ◌<◌, Bool, ℕ, List, Option, length, get_or, ap, refl, sym, subst, set, []}
 use Rattle.std.proofs.lemmas.List.{get_or-set_same}
 use Rattle.std.proofs.lemmas.Result.{err_from_is_err_and}
-use Rattle.ipog_grow.specs.Asking.{SearchContext, Grows}
+use Rattle.full_search.specs.Questions.{QuestionsView}
+use Rattle.ipog_grow.specs.Asking.{Grows}
 use Rattle.ipog_grow.proofs.Asking.{answered, told-answer}
 use Rattle.ipog_grow.proofs.Giving.{given_exist}
 use Rattle.ipog_grow.proofs.Joining.{IsOffered, Joins, Takes, joining-none, joining-spent, left, offered, offering-first, offering-start, passed_over, read_row, takes}
@@ -29,7 +30,7 @@ pub ask-requires : goal.ask-requires
 ask-requires c =
     let offer = offered c.assert_invariant.ensures.context c.requires.tuple c.requires.rows c.loop-i.invariant.rows c.loop-i.invariant.offering
     (sym c.take_first.ensures.first ∙ c.in-Some.is) c.row-row.ensures c.row-row.ensures c.agree.ensures c.if-agree.true c.unite.ensures in
-    subst (λ (w : SearchContext). Grows w c.unite.new.into) (sym c.loop-i.invariant.context) offer.grows
+    subst (λ (w : QuestionsView). Grows w c.unite.new.into) (sym c.loop-i.invariant.context) offer.grows
 
 pub returns-in_err-ask-clause-asked : goal.returns-in_err-ask-clause-asked
 returns-in_err-ask-clause-asked c =

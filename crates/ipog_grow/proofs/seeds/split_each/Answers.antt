@@ -20,11 +20,11 @@ returns-in_err-place_seed-clause-asked c =
     ∙ ap (λ x. take c.loop-seed.seed-index items ++ x ∷ drop (c.loop-seed.seed-index + 1) items) (sym c.seed-item.is))
     ∙ map-append row_seen (take c.loop-seed.seed-index items) (c.seed-item.result ∷ drop (c.loop-seed.seed-index + 1) items) in
     rw (p.1, p.2) (ends-by c.in_err-place_seed.field-0.0
-    (first_over c.args.model.now c.args.prefs.now c.args.budget (filter (has_slice c.args.model.now) (c.seed-item.result.cells ∷ [])))
-    (first_over c.args.model.now c.args.prefs.now c.args.budget (filter (has_slice c.args.model.now) (map (λ seed. seed.1) (map row_seen items))))
+    (first_over c.args.model.now c.args.prefs.now c.args.effort (filter (has_slice c.args.model.now) (c.seed-item.result.cells ∷ [])))
+    (first_over c.args.model.now c.args.prefs.now c.args.effort (filter (has_slice c.args.model.now) (map (λ seed. seed.1) (map row_seen items))))
     (λ q spent.
-    ap (λ seeds. first_over c.args.model.now c.args.prefs.now c.args.budget (filter (has_slice c.args.model.now) (map (λ seed. seed.1) seeds))) cut
-    ∙ split-spent c.args.model.now c.args.prefs.now c.args.budget (map row_seen (take c.loop-seed.seed-index items)) (row_seen c.seed-item.result)
+    ap (λ seeds. first_over c.args.model.now c.args.prefs.now c.args.effort (filter (has_slice c.args.model.now) (map (λ seed. seed.1) seeds))) cut
+    ∙ split-spent c.args.model.now c.args.prefs.now c.args.effort (map row_seen (take c.loop-seed.seed-index items)) (row_seen c.seed-item.result)
     (map row_seen (drop (c.loop-seed.seed-index + 1) items)) c.loop-seed.split.kept c.loop-seed.split.dropped c.loop-seed.invariant.seeds q spent)
     c.in_err-place_seed.ensures.asked)
 
@@ -39,9 +39,9 @@ loop-seed-preserved c =
     subst (λ seed. FitsModel c.args.model.now seed.cells) (sym c.seed-item.is) (c.requires.fits c.loop-seed.seed-index c.seed-item.result c.loop-seed-test.true) in
     record {
       seeds =
-          subst (λ (seeds : List (ℕ × List (Option ℕ))). Split c.args.model.now c.args.prefs.now c.args.budget seeds c.place_seed.new.split.kept
+          subst (λ (seeds : List (ℕ × List (Option ℕ))). Split c.args.model.now c.args.prefs.now c.args.effort seeds c.place_seed.new.split.kept
           c.place_seed.new.split.dropped) (sym more)
-          (split-next c.args.model.now c.args.prefs.now c.args.budget (map row_seen (take c.loop-seed.seed-index items)) (row_seen c.seed-item.result)
+          (split-next c.args.model.now c.args.prefs.now c.args.effort (map row_seen (take c.loop-seed.seed-index items)) (row_seen c.seed-item.result)
           c.loop-seed.split.kept
           c.place_seed.new.split.kept c.loop-seed.split.dropped c.place_seed.new.split.dropped c.loop-seed.invariant.seeds c.in_ok-place_seed.ensures.kept
           c.in_ok-place_seed.ensures.dropped c.in_ok-place_seed.ensures.asked);
@@ -70,6 +70,6 @@ returns-clause-dropped c =
 
 pub returns-clause-asked : goal.returns-clause-asked
 returns-clause-asked c =
-    ap (λ seeds. first_over c.args.model.now c.args.prefs.now c.args.budget (filter (has_slice c.args.model.now) (map (λ seed. seed.1) (map row_seen seeds))))
+    ap (λ seeds. first_over c.args.model.now c.args.prefs.now c.args.effort (filter (has_slice c.args.model.now) (map (λ seed. seed.1) (map row_seen seeds))))
     (sym (take_all c.loop-seed.seed-index c.args.seeds.now c.loop-seed-test.false))
     ∙ c.loop-seed.invariant.seeds.unspent

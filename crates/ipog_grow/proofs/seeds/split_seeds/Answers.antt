@@ -29,5 +29,5 @@ returns-clause-dropped c =
 pub returns-clause-asked : goal.returns-clause-asked
 returns-clause-asked c =
     subst (λ (seeds : List (ℕ × List (Option ℕ))). Ends c.split_each.result
-    (first_over c.args.model.now c.args.prefs.now c.args.budget (filter (has_slice c.args.model.now) (map (λ seed. seed.1) seeds)))) (split_are c)
+    (first_over c.args.model.now c.args.prefs.now c.args.effort (filter (has_slice c.args.model.now) (map (λ seed. seed.1) seeds)))) (split_are c)
     c.split_each.ensures.asked

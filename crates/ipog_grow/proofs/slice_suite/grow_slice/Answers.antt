@@ -1,10 +1,11 @@
-use Rattle.std.proofs.Common.{◌≡◌, ◌++◌, ℕ, Bool, List, [], Option, Err, All, length, nat_lt, filter, filter_map, ◌∙◌, sym, ap, subst, refl, arith}
+use Rattle.std.proofs.Common.{◌≡◌, ◌++◌, ℕ, Bool, List, [], Option, Err, All, length, filter, filter_map, ◌∙◌, sym, ap, subst, refl, arith}
 use Rattle.std.proofs.lemmas.Result.{on_ok_weaker}
 use Rattle.definitions.specs.Completion.{column_order}
 use Rattle.definitions.specs.Growth.{Grown, is_of_slice}
-use Rattle.definitions.specs.Search.{question_cost}
+use Rattle.definitions.specs.Search.{exceeds, question_cost}
 use Rattle.definitions.specs.Seeds.{distinct}
-use Rattle.ipog_grow.specs.Asking.{SearchContext, Grows, Told, columns_grown, first_spent}
+use Rattle.full_search.specs.Questions.{QuestionsView}
+use Rattle.ipog_grow.specs.Asking.{Grows, Told, columns_grown, first_spent}
 use Rattle.ipog_grow.specs.Completing.{completed}
 use Rattle.ipog_grow.specs.Inputs.{context_in}
 use Rattle.ipog_grow.specs.Omissions.{IsOmittedIn}
@@ -15,44 +16,44 @@ use Rattle.ipog_grow.proofs.Spending.{find-later, find-earlier}
 use Rattle.ipog_grow.proofs.Trees.{omissions-count}
 use Rattle.ipog_grow.proofs.slice_suite.grow_slice.Goals as goal
 
-abbrev over : SearchContext → List (Option ℕ) → Bool
-over context cells = nat_lt context.budget (question_cost context.model context.prefs cells)
+abbrev over : QuestionsView → List (Option ℕ) → Bool
+over context cells = exceeds context.effort (question_cost context.model context.prefs cells)
 
 -- what the columns give, as they start
-same_grown : (now context : SearchContext) (order : List ℕ) (grown start : List (List (Option ℕ))) → now ≡ context → grown ≡ start
+same_grown : (now context : QuestionsView) (order : List ℕ) (grown start : List (List (Option ℕ))) → now ≡ context → grown ≡ start
     → columns_grown now order grown ≡ columns_grown context order start
 same_grown now context order grown start same starts = ap (λ w. columns_grown w order grown) same ∙ ap (columns_grown context order) starts
 
-same_asked : (now context : SearchContext) (order : List ℕ) (grown start : List (List (Option ℕ))) → now ≡ context → grown ≡ start
+same_asked : (now context : QuestionsView) (order : List ℕ) (grown start : List (List (Option ℕ))) → now ≡ context → grown ≡ start
     → first_spent now (columns_grown now order grown).asked ≡ first_spent context (columns_grown context order start).asked
 same_asked now context order grown start same starts =
     ap (λ w. first_spent w (columns_grown w order grown).asked) same ∙ ap (λ rows. first_spent context (columns_grown context order rows).asked) starts
 
 -- what they omit, behind nothing
-same_omitted : (now context : SearchContext) (order : List ℕ) (grown start before given put : List (List (Option ℕ))) → now ≡ context → grown ≡ start
+same_omitted : (now context : QuestionsView) (order : List ℕ) (grown start before given put : List (List (Option ℕ))) → now ≡ context → grown ≡ start
     → before ≡ [] → put ≡ before ++ (columns_grown now order grown).omitted → given ≡ put → given ≡ (columns_grown context order start).omitted
 same_omitted now context order grown start before given put same starts none puts gives =
     gives ∙ puts ∙ ap (λ tuples. tuples ++ (columns_grown now order grown).omitted) none ∙ ap (λ (g : Grown). g.omitted)
     (same_grown now context order grown start same starts)
 
 -- what their rows put behind others
-same_put : (now context : SearchContext) (order : List ℕ) (before given after start : List (List (Option ℕ))) → now ≡ context
+same_put : (now context : QuestionsView) (order : List ℕ) (before given after start : List (List (Option ℕ))) → now ≡ context
     → given ≡ (columns_grown context order start).rows → after ≡ before ++ distinct (filter_map (completed now) given)
     → after ≡ before ++ distinct (filter_map (completed context) (columns_grown context order start).rows)
 same_put now context order before given after start same is puts =
-    puts ∙ ap (λ (w : SearchContext). before ++ distinct (filter_map (completed w) given)) same
+    puts ∙ ap (λ (w : QuestionsView). before ++ distinct (filter_map (completed w) given)) same
     ∙ ap (λ rows. before ++ distinct (filter_map (completed context) rows)) is
 
 pub grow_columns-requires-clause-grows : goal.grow_columns-requires-clause-grows
 grow_columns-requires-clause-grows g c _ _ =
-    subst (λ (w : SearchContext). All (Grows w) c.in-Ok.growth.rows) (sym c.in-Ok.ensures.context)
+    subst (λ (w : QuestionsView). All (Grows w) c.in-Ok.growth.rows) (sym c.in-Ok.ensures.context)
     (subst (λ (rows : List (List (Option ℕ))). All (Grows (context_in c.args.input.now c.args.slice)) rows)
     (sym c.in-Ok.ensures.rows)
     (seeds_grow c.args.input.now.model.now c.args.slice c.args.input.now.kept.now c.requires.input.fit c.requires.input.few))
 
 pub returns-in-Err-clause-asked : goal.returns-in-Err-clause-asked
 returns-in-Err-clause-asked g c =
-    let context : SearchContext = context_in c.args.input.now c.args.slice in
+    let context : QuestionsView = context_in c.args.input.now c.args.slice in
     let start : List (List (Option ℕ)) = filter (is_of_slice context.model c.args.slice) c.args.input.now.kept.now in
     let order : List ℕ = column_order context.model c.args.slice in
     let grown : Grown = columns_grown context order start in
@@ -66,13 +67,13 @@ returns-in-Err-clause-asked g c =
 
 pub finish-requires-clause-omitted : goal.finish-requires-clause-omitted
 finish-requires-clause-omitted g c =
-    let context : SearchContext = context_in c.args.input.now c.args.slice in
+    let context : QuestionsView = context_in c.args.input.now c.args.slice in
     let start : List (List (Option ℕ)) = filter (is_of_slice context.model c.args.slice) c.args.input.now.kept.now in
     let order : List ℕ = column_order context.model c.args.slice in
-    let now : SearchContext = c.in-Ok.growth.asker.context in
+    let now : QuestionsView = c.in-Ok.growth.asker.context in
     let rows : List (List (Option ℕ)) = c.in-Ok.growth.rows in
     let same = c.in-Ok.ensures.rows in
-    subst (λ (w : SearchContext). All (IsOmittedIn w) c.grow_columns.new.self.omitted)
+    subst (λ (w : QuestionsView). All (IsOmittedIn w) c.grow_columns.new.self.omitted)
     (sym (c.in_default-grow_columns.ensures.same ∙ c.in-Ok.ensures.context))
     (subst (λ (tuples : List (List (Option ℕ))). All (IsOmittedIn context) tuples)
     (sym (same_omitted now context order rows start c.in-Ok.growth.omitted c.grow_columns.new.self.omitted c.grow_columns.new.self.omitted
@@ -82,7 +83,7 @@ finish-requires-clause-omitted g c =
 
 pub finish-requires-clause-few : goal.finish-requires-clause-few
 finish-requires-clause-few g c =
-    let context : SearchContext = context_in c.args.input.now c.args.slice in
+    let context : QuestionsView = context_in c.args.input.now c.args.slice in
     let start : List (List (Option ℕ)) = filter (is_of_slice context.model c.args.slice) c.args.input.now.kept.now in
     let order : List ℕ = column_order context.model c.args.slice in
     omega (
@@ -96,7 +97,7 @@ finish-requires-clause-few g c =
 
 pub returns-clause-rows : goal.returns-clause-rows
 returns-clause-rows g c =
-    let context : SearchContext = context_in c.args.input.now c.args.slice in
+    let context : QuestionsView = context_in c.args.input.now c.args.slice in
     let start : List (List (Option ℕ)) = filter (is_of_slice context.model c.args.slice) c.args.input.now.kept.now in
     let order : List ℕ = column_order context.model c.args.slice in
     let given : List (List (Option ℕ)) = c.grow_columns.new.self.rows in
@@ -110,7 +111,7 @@ returns-clause-rows g c =
 
 pub returns-clause-count : goal.returns-clause-count
 returns-clause-count g c =
-    let context : SearchContext = context_in c.args.input.now c.args.slice in
+    let context : QuestionsView = context_in c.args.input.now c.args.slice in
     let start : List (List (Option ℕ)) = filter (is_of_slice context.model c.args.slice) c.args.input.now.kept.now in
     let order : List ℕ = column_order context.model c.args.slice in
     let few = omitted-few context order start in
@@ -124,7 +125,7 @@ returns-clause-count g c =
 
 pub returns-clause-asked : goal.returns-clause-asked
 returns-clause-asked g c =
-    let context : SearchContext = context_in c.args.input.now c.args.slice in
+    let context : QuestionsView = context_in c.args.input.now c.args.slice in
     let start : List (List (Option ℕ)) = filter (is_of_slice context.model c.args.slice) c.args.input.now.kept.now in
     let order : List ℕ = column_order context.model c.args.slice in
     let grown : Grown = columns_grown context order start in
@@ -143,11 +144,11 @@ returns-clause-asked g c =
 
 pub finish-requires-clause-long : goal.finish-requires-clause-long
 finish-requires-clause-long g c =
-    subst (λ (w : SearchContext). All (λ row. length row ≡ length w.model.params) c.args.rows.now)
+    subst (λ (w : QuestionsView). All (λ row. length row ≡ length w.model.params) c.args.rows.now)
     (sym (c.in_default-grow_columns.ensures.same ∙ c.in-Ok.ensures.context)) c.requires.long
 
 pub returns-clause-long : goal.returns-clause-long
 returns-clause-long g c =
     on_ok_weaker c.finish.result
-    (subst (λ (w : SearchContext). All (λ row. length row ≡ length w.model.params) c.finish.new.rows)
+    (subst (λ (w : QuestionsView). All (λ row. length row ≡ length w.model.params) c.finish.new.rows)
     (c.in_default-grow_columns.ensures.same ∙ c.in-Ok.ensures.context)) c.finish.ensures.long

@@ -4,7 +4,8 @@ use Rattle.std.proofs.lemmas.Result.{err_from_is_err_and}
 use Rattle.definitions.specs.Completion.{with_value}
 use Rattle.cov_model.proofs.CellLemmas.{contains-refl}
 use Rattle.cov_model.specs.Rows.{contains}
-use Rattle.ipog_grow.specs.Asking.{SearchContext, Grows}
+use Rattle.full_search.specs.Questions.{QuestionsView}
+use Rattle.ipog_grow.specs.Asking.{Grows}
 use Rattle.ipog_grow.proofs.Asking.{answered, told-answer}
 use Rattle.ipog_grow.proofs.Trying.{Put, Tried, trying-put, trying-end, trying-yes, trying-spent, trying-more, trying-falls}
 use Rattle.ipog_grow.proofs.values.try_values.Goals as goal
@@ -13,7 +14,7 @@ pub ask-requires : goal.ask-requires
 ask-requires c =
     let put = trying-put c.assert_invariant.ensures.context c.requires.column c.requires.order c.requires.listed c.requires.grows c.requires.free
     c.loop-v.invariant.trying (sym c.best_value.ensures.best ∙ c.in-Some.is) c.in-Some.ensures.within c.loop-v.invariant.row c.set_cell.ensures in
-    subst (λ (w : SearchContext). Grows w c.set_cell.new.self) (sym c.loop-v.invariant.context) put.grows
+    subst (λ (w : QuestionsView). Grows w c.set_cell.new.self) (sym c.loop-v.invariant.context) put.grows
 
 pub returns-in_err-ask-clause-asked : goal.returns-in_err-ask-clause-asked
 returns-in_err-ask-clause-asked c n all =

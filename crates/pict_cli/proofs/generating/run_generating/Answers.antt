@@ -1,15 +1,16 @@
 use Rattle.std.proofs.Common.{◌≡◌, [], true, ap, refl, subst, sym, ◌∙◌}
-use Rattle.std.specs.Prelude.{All, option_map}
+use Rattle.std.specs.Prelude.{All}
 use Rattle.cov_model.specs.Valid.{is_row}
 use Rattle.row_text.specs.RowFiles.{seeds_seen}
 use Rattle.row_text.specs.Told.{statistics_seen}
-use Rattle.pict_cli.specs.Ends.{CountsReads, IsEarly, Prints, end_of}
+use Rattle.pict_cli.specs.Ends.{CountsReads, IsAnswered, IsEarly, Prints, end_of}
 use Rattle.pict_cli.specs.Modes.{Generate, makes_plan}
 use Rattle.pict_cli.specs.Options.{output_seen, settings_seen}
-use Rattle.pict_cli.specs.Runs.{EndsBehind, growth_of, rows_of_run, shuffled_by, spent_on, suite_text}
-use Rattle.pict_cli.proofs.Behind.{ends_by, file_read, given_in, proof_same, text_same, within_due, work_stopped, work_written}
-use Rattle.pict_cli.proofs.Early.{leaves_early, leaves_from, proof_from, reads_stopped, runs_early, stopped_early}
+use Rattle.pict_cli.specs.Runs.{EndsBehind, growth_of, growth_over, rows_of_run, shuffled_by, suite_text}
+use Rattle.pict_cli.proofs.Behind.{ends_by, file_read, given_in, proof_same, rows_answered, rows_early, text_same, within_due, work_stopped, work_written}
+use Rattle.pict_cli.proofs.Early.{leaves_early, leaves_from, proof_from, runs_early}
 use Rattle.pict_cli.proofs.Headline.{suite_rows}
+use Rattle.pict_cli.proofs.Questions.{IsOfSearch, due_work, none_spent, reads_searched, search_answered, search_early, search_ends}
 use Rattle.pict_cli.proofs.generating.run_generating.Goals as goal
 
 pub returns-in_err-ready-clause-runs : goal.returns-in_err-ready-clause-runs
@@ -20,7 +21,7 @@ returns-in_err-ready-clause-runs g c = λ source told.
     let end = c.from_residual.result in
     let e = ends_by end c.in_err-ready.field-0.0 c.from_residual.ensures.1 in
     runs_early s seed m source c.args.row_notes.now _ _ end c.assert_invariant.ensures
-    (subst (λ x. IsEarly (end_of x)) (sym e) c.in_err-ready.ensures.early) c.prepare.ensures.files refl
+    (subst (λ x. IsEarly (end_of x)) (sym e) (rows_early c.in_err-ready.field-0.0 c.in_err-ready.ensures.other)) c.prepare.ensures.files refl
     (subst (λ notes. EndsBehind s seed m source notes end) (sym c.requires.none) (subst (EndsBehind s seed m source []) (sym e) (c.in_err-ready.ensures.stops seed source told)))
 
 pub returns-in_err-ready-clause-leaves : goal.returns-in_err-ready-clause-leaves
@@ -28,7 +29,8 @@ returns-in_err-ready-clause-leaves g c = λ name.
     let s = settings_seen c.args.opts.now in
     let end = c.from_residual.result in
     let e = ends_by end c.in_err-ready.field-0.0 c.from_residual.ensures.1 in
-    leaves_early s name _ _ (end_of end) (subst (λ x. IsEarly (end_of x)) (sym e) c.in_err-ready.ensures.early) c.prepare.ensures.files
+    leaves_early s name _ _ (end_of end) (subst (λ x. IsEarly (end_of x)) (sym e) (rows_early c.in_err-ready.field-0.0 c.in_err-ready.ensures.other))
+    (subst (λ x. IsAnswered s.effort (end_of x)) (sym e) (rows_answered s.effort c.in_err-ready.field-0.0 c.in_err-ready.ensures.other)) c.prepare.ensures.files
     (subst (λ x. CountsReads s name (end_of x) (g.F.Folder.read_faults c.args.files.now) (g.F.Folder.read_faults c.prepare.new.files)) (sym e) (c.in_err-ready.ensures.reads name))
     c.prepare.ensures.write_faults refl refl
 
@@ -43,7 +45,8 @@ returns-in_err-suite-clause-runs g c = λ source told.
     let end = c.from_residual-in_err-suite.result in
     let e = ends_by end stop c.from_residual-in_err-suite.ensures.1 in
     runs_early s c.args.seed_word m source c.make_suite.new.notes _ _ end c.assert_invariant.ensures
-    (stopped_early (end_of end) (ap end_of e ∙ c.in_err-suite.ensures.early)) c.prepare.ensures.files refl
+    (search_early s.effort (end_of end) (subst (λ x. IsOfSearch s.effort (end_of x)) (sym e)
+    (search_ends s.effort _ stop (due_work _ _ _ _ stop c.in_err-suite.ensures.stops)))) c.prepare.ensures.files refl
     (work_stopped s c.args.seed_word m source (given_in file read.reading) file.notes (within_due s m plans c.in_ok-ready.ensures.within) (Generate (output_seen c.args.output))
     c.requires.mode (file_read s m source file plans read) read.holds.notes stop end c.make_suite.new.notes e c.in_err-suite.ensures.stops)
 
@@ -51,9 +54,12 @@ pub returns-in_err-suite-clause-leaves : goal.returns-in_err-suite-clause-leaves
 returns-in_err-suite-clause-leaves g c = λ name.
     let s = settings_seen c.args.opts.now in
     let end = c.from_residual-in_err-suite.result in
-    let stopped = ap end_of (ends_by end c.in_err-suite.field-0.0 c.from_residual-in_err-suite.ensures.1) ∙ c.in_err-suite.ensures.early in
-    leaves_early s name _ _ (end_of end) (stopped_early (end_of end) stopped) c.prepare.ensures.files
-    (reads_stopped s name (end_of end) _ _ stopped c.in_ok-ready.ensures.no_fault) c.prepare.ensures.write_faults refl refl
+    let stop = c.in_err-suite.field-0.0 in
+    let of =
+    subst (λ x. IsOfSearch s.effort (end_of x)) (sym (ends_by end stop c.from_residual-in_err-suite.ensures.1))
+    (search_ends s.effort _ stop (due_work _ _ _ _ stop c.in_err-suite.ensures.stops)) in
+    leaves_early s name _ _ (end_of end) (search_early s.effort (end_of end) of) (search_answered s.effort (end_of end) of) c.prepare.ensures.files
+    (reads_searched s name (end_of end) _ _ of c.in_ok-ready.ensures.no_fault) c.prepare.ensures.write_faults refl refl
 
 pub write_suite-requires-clause-rows : goal.write_suite-requires-clause-rows
 write_suite-requires-clause-rows g c =
@@ -82,7 +88,7 @@ returns-clause-runs g c = λ source told.
       sound = c.assert_invariant.ensures;
       ends =
           work_written s seed m source given file.notes within (Generate output) c.requires.mode reads read.holds.notes end c.make_suite.new.notes
-          (ap (option_map (spent_on s)) c.in_ok-suite.ensures.answered) c.in_ok-suite.ensures.notes c.write_suite.ensures.stops;
+          (none_spent s.effort (growth_over s seed m seeds) c.in_ok-suite.ensures.answered) c.in_ok-suite.ensures.notes c.write_suite.ensures.stops;
       prints =
           subst (λ text. Prints text (g.O.Sink.written c.args.out.now) (g.O.Sink.written c.write_suite.new.out) (end_of end))
           (ap (λ rows. suite_text output m rows (statistics_seen suite.stats)) c.in_ok-suite.ensures.rows

@@ -1,7 +1,14 @@
+use Rattle.cov_model.specs.Preference.{preference}
+use Rattle.std.proofs.Common.{None}
+use Rattle.definitions.specs.Demand.{demanded_tuples}
 use Rattle.definitions.specs.Search.{first_measured_over}
+use Rattle.pict_cli.proofs.Questions.{ends_full}
 use Rattle.pict_cli.proofs.measuring.figures_of.Goals as goal
 
+pub stop_of_search-requires : goal.stop_of_search-requires
+stop_of_search-requires g c =
+    let m = c.args.model.now in
+    ends_full m (preference m None) c.args.opts.now.effort (demanded_tuples m) c.in-Err.fault c.in-Err.ensures.ends
+
 pub returns-in-Err-clause-stops : goal.returns-in-Err-clause-stops
-returns-in-Err-clause-stops g c =
-    let over = first_measured_over c.args.model.now c.args.opts.now.budget in
-    c.stop_of_search.ensures.stops over c.in-Err.ensures.ends
+returns-in-Err-clause-stops g c = c.stop_of_search.ensures (first_measured_over c.args.model.now c.args.opts.now.effort) c.in-Err.ensures.ends

@@ -1,18 +1,18 @@
 use Rattle.std.proofs.Common.{[], ap, inl, refl, subst, sym, ◌∙◌}
 use Rattle.std.proofs.lemmas.List.{append-nil}
 use Rattle.definitions.specs.Figures.{figures}
-use Rattle.std.specs.Prelude.{option_map}
 use Rattle.definitions.specs.Search.{first_measured_over}
 use Rattle.definitions.specs.Statistics.{figures_text}
-use Rattle.pict_cli.specs.Ends.{CountsReads, IsEarly, Prints, end_of}
+use Rattle.pict_cli.specs.Ends.{CountsReads, IsAnswered, IsEarly, Prints, end_of}
 use Rattle.pict_cli.specs.Modes.{Measure, makes_plan, makes_suite}
 use Rattle.pict_cli.specs.Options.{settings_seen}
-use Rattle.pict_cli.specs.Runs.{EndsBehind, rows_of_run, spent_on}
-use Rattle.pict_cli.proofs.Behind.{ends_by, file_read, given_in, text_same, within_due, work_stopped, work_written}
-use Rattle.pict_cli.proofs.Early.{leaves_early, leaves_from, leaves_printed, reads_stopped, runs_early, stopped_early}
+use Rattle.pict_cli.specs.Runs.{EndsBehind, rows_of_run, spent_at}
+use Rattle.pict_cli.proofs.Behind.{ends_by, file_read, given_in, rows_answered, rows_early, text_same, within_due, work_stopped, work_written}
+use Rattle.pict_cli.proofs.Early.{leaves_early, leaves_from, leaves_printed, runs_early}
 use Rattle.pict_cli.proofs.Measured.{suite_rows, writes_none}
+use Rattle.pict_cli.proofs.Questions.{IsOfSearch, none_spent, reads_searched, search_answered, search_early, search_ends}
 use Rattle.pict_cli.proofs.RowFiles.{if_err_then}
-use Rattle.pict_cli.proofs.Suites.{search_stopped}
+use Rattle.pict_cli.proofs.Suspicions.{work_due}
 use Rattle.pict_cli.proofs.measuring.run_measuring.Goals as goal
 
 pub returns-in_err-ready-clause-runs : goal.returns-in_err-ready-clause-runs
@@ -22,7 +22,7 @@ returns-in_err-ready-clause-runs g c = λ seed source told.
     let end = c.from_residual.result in
     let e = ends_by end c.in_err-ready.field-0.0 c.from_residual.ensures.1 in
     runs_early s seed m source c.args.row_notes.now _ _ end c.assert_invariant.ensures
-    (subst (λ x. IsEarly (end_of x)) (sym e) c.in_err-ready.ensures.early) c.prepare.ensures.files refl
+    (subst (λ x. IsEarly (end_of x)) (sym e) (rows_early c.in_err-ready.field-0.0 c.in_err-ready.ensures.other)) c.prepare.ensures.files refl
     (subst (λ notes. EndsBehind s seed m source notes end) (sym c.requires.none) (subst (EndsBehind s seed m source []) (sym e) (c.in_err-ready.ensures.stops seed source told)))
 
 pub returns-in_err-ready-clause-leaves : goal.returns-in_err-ready-clause-leaves
@@ -30,7 +30,8 @@ returns-in_err-ready-clause-leaves g c = λ name.
     let s = settings_seen c.args.opts.now in
     let end = c.from_residual.result in
     let e = ends_by end c.in_err-ready.field-0.0 c.from_residual.ensures.1 in
-    leaves_early s name _ _ (end_of end) (subst (λ x. IsEarly (end_of x)) (sym e) c.in_err-ready.ensures.early) c.prepare.ensures.files
+    leaves_early s name _ _ (end_of end) (subst (λ x. IsEarly (end_of x)) (sym e) (rows_early c.in_err-ready.field-0.0 c.in_err-ready.ensures.other))
+    (subst (λ x. IsAnswered s.effort (end_of x)) (sym e) (rows_answered s.effort c.in_err-ready.field-0.0 c.in_err-ready.ensures.other)) c.prepare.ensures.files
     (subst (λ x. CountsReads s name (end_of x) (g.F.Folder.read_faults c.args.files.now) (g.F.Folder.read_faults c.prepare.new.files)) (sym e) (c.in_err-ready.ensures.reads name))
     c.prepare.ensures.write_faults refl refl
 
@@ -45,17 +46,21 @@ returns-in_err-figures-clause-runs g c = λ seed source told.
     let end = c.from_residual-in_err-figures.result in
     let e = ends_by end stop c.from_residual-in_err-figures.ensures.1 in
     runs_early s seed m source file.notes _ _ end c.assert_invariant.ensures
-    (stopped_early (end_of end) (ap end_of e ∙ c.in_err-figures.ensures.early)) c.prepare.ensures.files refl
+    (search_early s.effort (end_of end) (subst (λ x. IsOfSearch s.effort (end_of x)) (sym e) (search_ends s.effort (first_measured_over m s.effort) stop c.in_err-figures.ensures.stops)))
+    c.prepare.ensures.files refl
     (work_stopped s seed m source (given_in file read.reading) file.notes (within_due s m plans c.in_ok-ready.ensures.within) (Measure c.requires.mode.0) c.requires.mode.1
-    (file_read s m source file plans read) read.holds.notes stop end file.notes e (search_stopped s.budget (first_measured_over m s.budget) [] file.notes stop c.in_err-figures.ensures.stops))
+    (file_read s m source file plans read) read.holds.notes stop end file.notes e (work_due (spent_at s.effort (first_measured_over m s.effort)) [] file.notes stop c.in_err-figures.ensures.stops))
 
 pub returns-in_err-figures-clause-leaves : goal.returns-in_err-figures-clause-leaves
 returns-in_err-figures-clause-leaves g c = λ name.
     let s = settings_seen c.args.opts.now in
     let end = c.from_residual-in_err-figures.result in
-    let stopped = ap end_of (ends_by end c.in_err-figures.field-0.0 c.from_residual-in_err-figures.ensures.1) ∙ c.in_err-figures.ensures.early in
-    leaves_early s name _ _ (end_of end) (stopped_early (end_of end) stopped) c.prepare.ensures.files
-    (reads_stopped s name (end_of end) _ _ stopped c.in_ok-ready.ensures.no_fault) c.prepare.ensures.write_faults refl refl
+    let stop = c.in_err-figures.field-0.0 in
+    let of =
+    subst (λ x. IsOfSearch s.effort (end_of x)) (sym (ends_by end stop c.from_residual-in_err-figures.ensures.1))
+    (search_ends s.effort (first_measured_over c.args.model.now s.effort) stop c.in_err-figures.ensures.stops) in
+    leaves_early s name _ _ (end_of end) (search_early s.effort (end_of end) of) (search_answered s.effort (end_of end) of) c.prepare.ensures.files
+    (reads_searched s name (end_of end) _ _ of c.in_ok-ready.ensures.no_fault) c.prepare.ensures.write_faults refl refl
 
 pub returns-clause-runs : goal.returns-clause-runs
 returns-clause-runs g c = λ seed source told.
@@ -73,7 +78,7 @@ returns-clause-runs g c = λ seed source told.
       sound = c.assert_invariant.ensures;
       ends =
           work_written s seed m source given file.notes within mode c.requires.mode.1 reads read.holds.notes end file.notes
-          (ap (option_map (spent_on s)) c.in_ok-figures.ensures.answered) (sym (append-nil file.notes))
+          (none_spent s.effort (first_measured_over m s.effort) c.in_ok-figures.ensures.answered) (sym (append-nil file.notes))
           (if_err_then end (λ stop is. inl is) c.print_figures.ensures.stops);
       prints =
           subst (λ text. Prints text (g.O.Sink.written c.args.out.now) (g.O.Sink.written c.print_figures.new.out) (end_of end))

@@ -1,17 +1,17 @@
-use Rattle.std.proofs.Common.{◌≡◌, ℕ, List, [], Some, Err, ap, refl, subst, sym}
+use Rattle.std.proofs.Common.{◌≡◌, ℕ, List, [], Some, Err, inr, ap, refl, subst, sym}
 use Rattle.std.specs.Prelude.{IsSomeAnd}
 use Rattle.outside_io.specs.Faults.{Rose}
 use Rattle.command_line.specs.Stops.{stop_of_plan}
 use Rattle.command_line.specs.declared.files.FileKind.TheVariants as kinds
 use Rattle.command_line.specs.declared.stop.Stop.TheVariants.{CannotRead}
-use Rattle.pict_cli.specs.Ends.{CountsReads, IsEarly, end_of}
+use Rattle.pict_cli.specs.Ends.{CountsReads, end_of}
 use Rattle.pict_cli.specs.Modes.{RowSource, row_source, source_in}
 use Rattle.pict_cli.specs.Options.{settings_seen}
 use Rattle.pict_cli.specs.RowSources.{read_row_bytes}
 use Rattle.pict_cli.specs.Runs.{EndsBehind}
-use Rattle.pict_cli.specs.Steps.{HoldsRows, StopsRows}
-use Rattle.pict_cli.proofs.Behind.{limited, plan_stopped, rows_counted, rows_early, rows_stopped, stops_rows, within_due}
-use Rattle.pict_cli.proofs.Early.{reads_stopped, stopped_early}
+use Rattle.pict_cli.specs.Steps.{HoldsRows, IsOfRows, StopsRows}
+use Rattle.pict_cli.proofs.Behind.{limited, plan_stopped, rows_counted, rows_stopped, stops_rows, within_due}
+use Rattle.pict_cli.proofs.Early.{reads_stopped}
 use Rattle.pict_cli.proofs.Suites.{if_err_of}
 use Rattle.pict_cli.proofs.preparing.prepare.Goals as goal
 
@@ -23,10 +23,10 @@ returns-in_err-plan-clause-stops g c =
     if_err_of (λ stop. (seed : ℕ) (source : RowSource) → row_source s (g.F.Folder.file c.args.files.now) ≡ Some source → EndsBehind s seed m source [] (Err stop)) c.from_residual.result
     (stop_of_plan fault) c.from_residual.ensures.1 (λ seed source told. limited s seed m source fault (Err (stop_of_plan fault)) c.requires.plans refl c.in_err-plan.ensures.refused)
 
-pub returns-in_err-plan-clause-early : goal.returns-in_err-plan-clause-early
-returns-in_err-plan-clause-early g c =
+pub returns-in_err-plan-clause-other : goal.returns-in_err-plan-clause-other
+returns-in_err-plan-clause-other g c =
     let fault = c.in_err-plan.field-0.0 in
-    if_err_of (λ stop. IsEarly (end_of (Err stop))) c.from_residual.result (stop_of_plan fault) c.from_residual.ensures.1 (stopped_early (end_of (Err (stop_of_plan fault))) (plan_stopped fault))
+    if_err_of IsOfRows c.from_residual.result (stop_of_plan fault) c.from_residual.ensures.1 (inr (plan_stopped fault))
 
 pub returns-in_err-plan-clause-reads : goal.returns-in_err-plan-clause-reads
 returns-in_err-plan-clause-reads g c =
@@ -48,10 +48,9 @@ returns-in_err-file-clause-stops g c =
     (stops_rows s m source stop c.requires.plans (subst (λ mode. StopsRows (read_row_bytes m mode) source stop) c.requires.mode
     (c.in_err-file.ensures.stops source (subst (λ file. source_in file files ≡ Some source) (sym c.row_file.ensures) told)))))
 
-pub returns-in_err-file-clause-early : goal.returns-in_err-file-clause-early
-returns-in_err-file-clause-early g c =
-    let stop = c.in_err-file.field-0.0 in
-    if_err_of (λ other. IsEarly (end_of (Err other))) c.from_residual-in_err-file.result stop c.from_residual-in_err-file.ensures.1 (rows_early stop c.in_err-file.ensures.other)
+pub returns-in_err-file-clause-other : goal.returns-in_err-file-clause-other
+returns-in_err-file-clause-other g c =
+    if_err_of IsOfRows c.from_residual-in_err-file.result c.in_err-file.field-0.0 c.from_residual-in_err-file.ensures.1 c.in_err-file.ensures.other
 
 pub returns-in_err-file-clause-reads : goal.returns-in_err-file-clause-reads
 returns-in_err-file-clause-reads g c =

@@ -2,7 +2,7 @@ use Rattle.std.proofs.Common.{Some, refl, subst, sym}
 use Rattle.model_parse.specs.RawModels.{AreOpts}
 use Rattle.command_line.specs.Loading.{IsLoaded, StopsReading}
 use Rattle.pict_cli.specs.Options.{settings_seen}
-use Rattle.pict_cli.proofs.Early.{leaves_early, reads_stopped, stopped_early}
+use Rattle.pict_cli.proofs.Early.{leaves_early, reads_stopped, stopped_answered, stopped_early}
 use Rattle.pict_cli.proofs.Reading.{ran_loaded, ran_unread}
 use Rattle.command_line.proofs.OptsLemmas.{same_opts}
 use Rattle.pict_cli.proofs.run.run_on_text.Goals as goal
@@ -29,4 +29,5 @@ returns-in-Err g c =
     ran_unread (Some (Some c.args.text.now)) opts s c.args.seed_word name _ _ _ _ _ stop
     (same_opts c.args.opts.now.opts) c.stopped.ensures.end c.stopped.ensures.notes c.stopped.ensures.row_notes refl (λ file. refl)
     (subst (λ bytes. StopsReading opts (Some bytes) stop) c.as_bytes.ensures.value c.in-Err.ensures.stops)
-    (leaves_early s name _ _ _ (stopped_early _ c.in-Err.ensures.early) (λ file. refl) (reads_stopped s name _ _ _ c.in-Err.ensures.early (λ file. refl)) (λ file. refl) refl refl)
+    (leaves_early s name _ _ _ (stopped_early _ c.in-Err.ensures.early) (stopped_answered s.effort _ c.in-Err.ensures.early) (λ file. refl)
+    (reads_stopped s name _ _ _ c.in-Err.ensures.early (λ file. refl)) (λ file. refl) refl refl)

@@ -12,7 +12,7 @@ use Rattle.pict_cli.specs.Runs.{IsStatus, file_names, used_seed}
 use Rattle.command_line.specs.Told.{Tells, end_status, told_text}
 use Rattle.command_line.specs.Words.{texts}
 use Rattle.pict_cli.proofs.Causes.{complete_end, long_end, missing_end, missing_rows_end, refused_end, stopped_end}
-use Rattle.pict_cli.proofs.RunEnds.{accepted_whole, calm_end, covers_whole, eight_is_end, few_whole, form_known, not_three, proof_whole, quiet_of}
+use Rattle.pict_cli.proofs.RunEnds.{accepted_whole, calm_end, covers_whole, eight_is_end, few_whole, form_known, not_three, not_two, proof_whole, quiet_of}
 use Rattle.pict_cli.proofs.RunEnds.{ran_asked, seeds_whole, seven_is_end, status_known, unbroken_end, untouched_end, unwritten_end}
 use Rattle.pict_cli.proofs.run.run_pict.Goals as goal
 
@@ -175,6 +175,10 @@ returns-clause-write_faults g c = λ eight.
 
 pub returns-clause-read_words : goal.returns-clause-read_words
 returns-clause-read_words g c = λ s asked three. not_three c.run-ended.result.end c.run-ended.ensures.leaves.worded (sym c.status_of.ensures ∙ three)
+
+pub returns-clause-answered : goal.returns-clause-answered
+returns-clause-answered g c = λ s asked full two.
+    not_two c.run-ended.result.end ((ran_asked c.in-Ok.ensures.0 asked c.in-Ok.ensures.2 c.run-ended.ensures).leaves.answered full) (sym c.status_of.ensures ∙ two)
 
 pub returns-clause-statuses : goal.returns-clause-statuses
 returns-clause-statuses g c = subst IsStatus (sym c.status_of.ensures) (status_known c.run-ended.result.end)

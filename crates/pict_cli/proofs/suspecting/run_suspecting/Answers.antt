@@ -5,14 +5,14 @@ use Rattle.outside_io.specs.Faults.{Rose}
 use Rattle.suspect_tuples.specs.SuspectsText.{suspects_text}
 use Rattle.command_line.specs.declared.files.FileKind.TheVariants as kinds
 use Rattle.command_line.specs.declared.stop.Stop.TheVariants.{CannotRead}
-use Rattle.pict_cli.specs.Ends.{CountsReads, IsEarly, Prints, end_of}
+use Rattle.pict_cli.specs.Ends.{CountsReads, IsAnswered, IsEarly, Prints, end_of}
 use Rattle.pict_cli.specs.Modes.{Suspect, makes_suite, row_file_in, rows_beside}
 use Rattle.pict_cli.specs.Options.{settings_seen}
 use Rattle.pict_cli.specs.RowSources.{read_bytes, read_result_bytes, read_source}
 use Rattle.pict_cli.specs.Runs.{EndsBehind, candidates_stop, rows_of_run}
 use Rattle.pict_cli.specs.Steps.{HoldsResultsOf, IsDueOrNoMemory, StopsRows}
-use Rattle.pict_cli.proofs.Behind.{ends_by, rows_counted, rows_early, rows_stopped, text_same, work_stopped, work_written}
-use Rattle.pict_cli.proofs.Early.{leaves_early, leaves_from, leaves_printed, reads_stopped, runs_early, stopped_early}
+use Rattle.pict_cli.proofs.Behind.{ends_by, rows_answered, rows_counted, rows_early, rows_stopped, text_same, work_stopped, work_written}
+use Rattle.pict_cli.proofs.Early.{leaves_early, leaves_from, leaves_printed, reads_stopped, runs_early, stopped_answered, stopped_early}
 use Rattle.pict_cli.proofs.Measured.{writes_none}
 use Rattle.pict_cli.proofs.RowFiles.{if_err_then}
 use Rattle.pict_cli.proofs.Suspicions.{named_source, no_limit, same_candidates, same_suspects, work_due}
@@ -40,7 +40,8 @@ returns-in_err-results-clause-leaves g c = λ name.
     let e = ends_by end stop c.from_residual.ensures.1 in
     let reads = g.F.Folder.read_faults c.args.files.now in
     let after = g.F.Folder.read_faults c.load_results.new.files in
-    leaves_early s name _ _ (end_of end) (subst (λ x. IsEarly (end_of x)) (sym e) (rows_early stop c.in_err-results.ensures.other)) c.load_results.ensures.files
+    leaves_early s name _ _ (end_of end) (subst (λ x. IsEarly (end_of x)) (sym e) (rows_early stop c.in_err-results.ensures.other))
+    (subst (λ x. IsAnswered s.effort (end_of x)) (sym e) (rows_answered s.effort stop c.in_err-results.ensures.other)) c.load_results.ensures.files
     (subst (λ x. CountsReads s name (end_of x) reads after) (sym e)
     (rows_counted s name stop reads after c.in_err-results.ensures.other
     (λ is. subst (λ file. IsSomeAnd file (λ given. Rose (reads given) (after given)))
@@ -69,7 +70,7 @@ returns-in_err-suspects-clause-leaves g c = λ name.
     let s = settings_seen c.args.opts.now in
     let end = c.from_residual-in_err-suspects.result in
     let stopped = ap end_of (ends_by end c.in_err-suspects.field-0.0 c.from_residual-in_err-suspects.ensures.1) ∙ c.in_err-suspects.ensures.early in
-    leaves_early s name _ _ (end_of end) (stopped_early (end_of end) stopped) c.load_results.ensures.files
+    leaves_early s name _ _ (end_of end) (stopped_early (end_of end) stopped) (stopped_answered s.effort (end_of end) stopped) c.load_results.ensures.files
     (reads_stopped s name (end_of end) _ _ stopped (c.in_ok-results.ensures.no_fault (λ is. cc))) c.load_results.ensures.write_faults refl refl
 
 pub returns-clause-runs : goal.returns-clause-runs

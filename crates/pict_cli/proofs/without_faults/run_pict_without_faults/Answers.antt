@@ -1,4 +1,4 @@
-use Rattle.std.proofs.Common.{◌≡◌, inl, inr}
+use Rattle.std.proofs.Common.{inl, inr}
 use Rattle.command_line.proofs.NoFaults.{never_rose, none_rose}
 use Rattle.pict_cli.proofs.without_faults.run_pict_without_faults.Goals as goal
 

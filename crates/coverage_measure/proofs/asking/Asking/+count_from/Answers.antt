@@ -5,7 +5,7 @@ use Rattle.cov_model.proofs.CellLemmas.{length-slice_values}
 use Rattle.feasibility.specs.Ends.{EndsBy}
 use Rattle.feasibility.proofs.Nodes.{set_clear}
 use Rattle.coverage_measure.specs.Asking.{IsBefore, IsFor, is_above, is_found, tally}
-use Rattle.coverage_measure.specs.declared.asking.KeptSolver.{KeptSolver}
+use Rattle.coverage_measure.specs.declared.asking.KeptQuestions.{KeptQuestions}
 use Rattle.coverage_measure.proofs.CountLemmas.{before_here, before_next, counted_more, free_here, is_step, member_tried, next_few, rows_with}
 use Rattle.coverage_measure.proofs.CountLemmas.{step_asks, step_few, tried_all, tried_ends, values_of}
 use Rattle.coverage_measure.proofs.asking.Asking.+count_from.Goals as goal
@@ -24,14 +24,14 @@ values_tried-tried-requires t c =
 pub count_from-requires : goal.count_from-requires
 count_from-requires t c =
     let m : ModelView = c.args.self.now.model.now in
-    let one : KeptSolver = c.args.kept.now in
+    let one : KeptQuestions = c.args.kept.now in
     let members = c.args.members.now in
     let place = c.args.place in
     let cells = c.args.cells.now in
     let tried = c.values_tried-tried.result.0 in
     let v = get_or c.list.result.now c.loop-i.i 0 in
     let within : place < length members = omega arith in
-    let step = is_step m c.args.self.now.prefs.now c.args.self.now.budget one c.loop-i.kept members place cells c.loop-i.cells c.set_cell.new.self
+    let step = is_step m c.args.self.now.prefs.now c.args.self.now.effort one c.loop-i.kept members place cells c.loop-i.cells c.set_cell.new.self
     c.list.result.now tried
     c.values_tried-tried.result.1 c.loop-i.i c.requires.kept c.requires.before within c.values_tried-tried.ensures.tried c.values_tried-tried.ensures.each
     c.loop-i-test.true c.loop-i.invariant.0 c.loop-i.invariant.1 c.list.ensures c.set_cell.ensures in (
@@ -39,11 +39,11 @@ count_from-requires t c =
       (
         c.requires.orders,
         (
-          subst (IsFor m c.args.self.now.prefs.now) (sym c.loop-i.invariant.0) c.requires.kept,
+          subst (IsFor m c.args.self.now.prefs.now c.args.self.now.effort) (sym c.loop-i.invariant.0) c.requires.kept,
           (
             omega (arith, within),
             (
-              subst (λ (now : KeptSolver). IsBefore m now.slice (drop (place + 1) members) c.set_cell.new.self) (sym c.loop-i.invariant.0)
+              subst (λ (now : KeptQuestions). IsBefore m now.slice (drop (place + 1) members) c.set_cell.new.self) (sym c.loop-i.invariant.0)
                   (subst (IsBefore m one.slice (drop (place + 1) members)) (sym step.given)
                   (before_next m one.slice members place tried c.loop-i.i v cells c.requires.kept.slice within c.requires.before step.at)),
               omega (
@@ -63,22 +63,22 @@ returns-in_err-count-clause-ends t c =
     let told = err_from_is_err_and c.from_residual.result c.from_residual.ensures.1 in
     let m : ModelView = c.args.self.now.model.now in
     let pref = c.args.self.now.prefs.now in
-    let budget = c.args.self.now.budget in
-    let one : KeptSolver = c.args.kept.now in
+    let effort = c.args.self.now.effort in
+    let one : KeptQuestions = c.args.kept.now in
     let members = c.args.members.now in
     let place = c.args.place in
     let cells = c.args.cells.now in
     let tried = c.values_tried-tried.result.0 in
     let each = c.values_tried-tried.result.1 in
     let v = get_or c.list.result.now c.loop-i.i 0 in
-    let step = is_step m pref budget one c.loop-i.kept members place cells c.loop-i.cells c.set_cell.new.self c.list.result.now tried each c.loop-i.i
+    let step = is_step m pref effort one c.loop-i.kept members place cells c.loop-i.cells c.set_cell.new.self c.list.result.now tried each c.loop-i.i
     c.requires.kept c.requires.before (omega arith) c.values_tried-tried.ensures.tried c.values_tried-tried.ensures.each c.loop-i-test.true
     c.loop-i.invariant.0 c.loop-i.invariant.1 c.list.ensures c.set_cell.ensures in
     rw (told.1, told.2)
-    (tried_ends m pref one.slice budget members place cells tried each c.loop-i.i c.loop-i.count v c.in_err-count.field-0.0 step.within step.at
+    (tried_ends m pref one.slice effort members place cells tried each c.loop-i.i c.loop-i.count v c.in_err-count.field-0.0 step.within step.at
     c.loop-i.invariant.2
     (subst (λ over. EndsBy over c.in_err-count.field-0.0)
-    (step_asks (λ slice rows. find (is_above m pref slice budget) rows) m one c.loop-i.kept members place cells c.set_cell.new.self v c.loop-i.invariant.0
+    (step_asks (λ slice rows. find (is_above m pref slice effort) rows) m one c.loop-i.kept members place cells c.set_cell.new.self v c.loop-i.invariant.0
     step.given)
     c.in_err-count.ensures.ends))
 
@@ -86,18 +86,18 @@ pub overflow_mul-count : goal.overflow_mul-count
 overflow_mul-count t c =
     let m : ModelView = c.args.self.now.model.now in
     let pref = c.args.self.now.prefs.now in
-    let budget = c.args.self.now.budget in
-    let one : KeptSolver = c.args.kept.now in
+    let effort = c.args.self.now.effort in
+    let one : KeptQuestions = c.args.kept.now in
     let members = c.args.members.now in
     let place = c.args.place in
     let cells = c.args.cells.now in
     let tried = c.values_tried-tried.result.0 in
     let each = c.values_tried-tried.result.1 in
     let v = get_or c.list.result.now c.loop-i.i 0 in
-    let step = is_step m pref budget one c.loop-i.kept members place cells c.loop-i.cells c.set_cell.new.self c.list.result.now tried each c.loop-i.i
+    let step = is_step m pref effort one c.loop-i.kept members place cells c.loop-i.cells c.set_cell.new.self c.list.result.now tried each c.loop-i.i
     c.requires.kept c.requires.before (omega arith) c.values_tried-tried.ensures.tried c.values_tried-tried.ensures.each c.loop-i-test.true
     c.loop-i.invariant.0 c.loop-i.invariant.1 c.list.ensures c.set_cell.ensures in
-    let few = step_few m pref one.slice budget members place cells c.set_cell.new.self tried each c.loop-i.i v c.loop-i.count c.in_ok-count.field-0 step
+    let few = step_few m pref one.slice effort members place cells c.set_cell.new.self tried each c.loop-i.i v c.loop-i.count c.in_ok-count.field-0 step
     c.loop-i.invariant.2
     (c.in_ok-count.ensures.count ∙ step_asks (λ slice rows. tally (is_found m pref slice) rows) m one c.loop-i.kept members place cells c.set_cell.new.self v
     c.loop-i.invariant.0 step.given) in
@@ -107,18 +107,18 @@ pub overflow_add-count : goal.overflow_add-count
 overflow_add-count t c =
     let m : ModelView = c.args.self.now.model.now in
     let pref = c.args.self.now.prefs.now in
-    let budget = c.args.self.now.budget in
-    let one : KeptSolver = c.args.kept.now in
+    let effort = c.args.self.now.effort in
+    let one : KeptQuestions = c.args.kept.now in
     let members = c.args.members.now in
     let place = c.args.place in
     let cells = c.args.cells.now in
     let tried = c.values_tried-tried.result.0 in
     let each = c.values_tried-tried.result.1 in
     let v = get_or c.list.result.now c.loop-i.i 0 in
-    let step = is_step m pref budget one c.loop-i.kept members place cells c.loop-i.cells c.set_cell.new.self c.list.result.now tried each c.loop-i.i
+    let step = is_step m pref effort one c.loop-i.kept members place cells c.loop-i.cells c.set_cell.new.self c.list.result.now tried each c.loop-i.i
     c.requires.kept c.requires.before (omega arith) c.values_tried-tried.ensures.tried c.values_tried-tried.ensures.each c.loop-i-test.true
     c.loop-i.invariant.0 c.loop-i.invariant.1 c.list.ensures c.set_cell.ensures in
-    let few = step_few m pref one.slice budget members place cells c.set_cell.new.self tried each c.loop-i.i v c.loop-i.count c.in_ok-count.field-0 step
+    let few = step_few m pref one.slice effort members place cells c.set_cell.new.self tried each c.loop-i.i v c.loop-i.count c.in_ok-count.field-0 step
     c.loop-i.invariant.2
     (c.in_ok-count.ensures.count ∙ step_asks (λ slice rows. tally (is_found m pref slice) rows) m one c.loop-i.kept members place cells c.set_cell.new.self v
     c.loop-i.invariant.0 step.given) in
@@ -128,8 +128,8 @@ pub loop-i-preserved : goal.loop-i-preserved
 loop-i-preserved t c =
     let m : ModelView = c.args.self.now.model.now in
     let pref = c.args.self.now.prefs.now in
-    let budget = c.args.self.now.budget in
-    let one : KeptSolver = c.args.kept.now in
+    let effort = c.args.self.now.effort in
+    let one : KeptQuestions = c.args.kept.now in
     let members = c.args.members.now in
     let place = c.args.place in
     let cells = c.args.cells.now in
@@ -137,19 +137,19 @@ loop-i-preserved t c =
     let tried = c.values_tried-tried.result.0 in
     let each = c.values_tried-tried.result.1 in
     let v = get_or c.list.result.now c.loop-i.i 0 in
-    let step = is_step m pref budget one c.loop-i.kept members place cells c.loop-i.cells c.set_cell.new.self c.list.result.now tried each c.loop-i.i
+    let step = is_step m pref effort one c.loop-i.kept members place cells c.loop-i.cells c.set_cell.new.self c.list.result.now tried each c.loop-i.i
     c.requires.kept c.requires.before (omega arith) c.values_tried-tried.ensures.tried c.values_tried-tried.ensures.each c.loop-i-test.true
     c.loop-i.invariant.0 c.loop-i.invariant.1 c.list.ensures c.set_cell.ensures in (
       c.count_from.ensures.kept ∙ c.loop-i.invariant.0,
       c.clear_cell.ensures ∙ ap (λ row. set row p None) (c.in_ok-count.ensures.cells ∙ step.given)
           ∙ set_clear cells p v (free_here m one.slice members place cells step.within c.requires.before),
-      counted_more (is_found m pref one.slice) (is_above m pref one.slice budget) (rows_with m one.slice members place cells)
+      counted_more (is_found m pref one.slice) (is_above m pref one.slice effort) (rows_with m one.slice members place cells)
           (take tried (values_of m one.slice members place)) each
           c.loop-i.i c.loop-i.count c.in_ok-count.field-0 _ v step.at.within step.at.is c.loop-i.invariant.2
           (c.in_ok-count.ensures.count ∙ step_asks (λ slice rows. tally (is_found m pref slice) rows) m one c.loop-i.kept members place cells
           c.set_cell.new.self v c.loop-i.invariant.0
           step.given)
-          (sym (step_asks (λ slice rows. find (is_above m pref slice budget) rows) m one c.loop-i.kept members place cells c.set_cell.new.self v
+          (sym (step_asks (λ slice rows. find (is_above m pref slice effort) rows) m one c.loop-i.kept members place cells c.set_cell.new.self v
           c.loop-i.invariant.0 step.given)
           ∙ c.in_ok-count.ensures.ends)
           refl,
@@ -158,23 +158,23 @@ loop-i-preserved t c =
 pub returns-clause-count : goal.returns-clause-count
 returns-clause-count t c =
     let m : ModelView = c.args.self.now.model.now in
-    let one : KeptSolver = c.args.kept.now in
+    let one : KeptQuestions = c.args.kept.now in
     let members = c.args.members.now in
     let within : c.args.place < length members = omega arith in
-    let are = member_tried m c.args.self.now.prefs.now c.args.self.now.budget one members c.args.place c.args.cells.now c.values_tried-tried.result.0
+    let are = member_tried m c.args.self.now.prefs.now c.args.self.now.effort one members c.args.place c.args.cells.now c.values_tried-tried.result.0
     c.values_tried-tried.result.1 c.requires.kept (before_here m one.slice members c.args.place c.args.cells.now within c.requires.before).rising.1
     c.values_tried-tried.ensures.tried c.values_tried-tried.ensures.each in
-    (tried_all m c.args.self.now.prefs.now one.slice c.args.self.now.budget members c.args.place c.args.cells.now c.values_tried-tried.result.0
+    (tried_all m c.args.self.now.prefs.now one.slice c.args.self.now.effort members c.args.place c.args.cells.now c.values_tried-tried.result.0
     c.values_tried-tried.result.1 c.loop-i.i c.loop-i.count within (omega (arith, c.loop-i-test.false)) are c.loop-i.invariant.2).counted
 
 pub returns-clause-ends : goal.returns-clause-ends
 returns-clause-ends t c =
     let m : ModelView = c.args.self.now.model.now in
-    let one : KeptSolver = c.args.kept.now in
+    let one : KeptQuestions = c.args.kept.now in
     let members = c.args.members.now in
     let within : c.args.place < length members = omega arith in
-    let are = member_tried m c.args.self.now.prefs.now c.args.self.now.budget one members c.args.place c.args.cells.now c.values_tried-tried.result.0
+    let are = member_tried m c.args.self.now.prefs.now c.args.self.now.effort one members c.args.place c.args.cells.now c.values_tried-tried.result.0
     c.values_tried-tried.result.1 c.requires.kept (before_here m one.slice members c.args.place c.args.cells.now within c.requires.before).rising.1
     c.values_tried-tried.ensures.tried c.values_tried-tried.ensures.each in
-    (tried_all m c.args.self.now.prefs.now one.slice c.args.self.now.budget members c.args.place c.args.cells.now c.values_tried-tried.result.0
+    (tried_all m c.args.self.now.prefs.now one.slice c.args.self.now.effort members c.args.place c.args.cells.now c.values_tried-tried.result.0
     c.values_tried-tried.result.1 c.loop-i.i c.loop-i.count within (omega (arith, c.loop-i-test.false)) are c.loop-i.invariant.2).none

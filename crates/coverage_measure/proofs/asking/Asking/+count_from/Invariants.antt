@@ -9,4 +9,4 @@ decreases-count_from l = length l.members.now - l.place
 abbrev pub invariant-loop-i : goal.invariant-loop-i
 invariant-loop-i l =
     (l.kept ≡ l.fn.kept) × (l.cells ≡ l.fn.cells)
-    × IsCountedTo l.self.model.now l.self.prefs.now l.fn.kept.slice l.self.budget l.members l.place l.fn.cells l.tried l.each l.i l.count
+    × IsCountedTo l.self.model.now l.self.prefs.now l.fn.kept.slice l.self.effort l.members l.place l.fn.cells l.tried l.each l.i l.count

@@ -48,7 +48,7 @@ returns-in_err-count-clause-ends c =
     let count = values_are m q c.as_slice.result.now c.index-as_slice-q.result low (c.as_slice.ensures ∙ c.params.ensures.value) in
     let within : c.loop-v.v < length (param_at m.params q).values = omega (arith, count, c.len-values.ensures, c.loop-v-test.true) in
     rw (told.1, told.2)
-    (negative_ends m c.args.self.now.prefs.now c.args.self.now.budget c.args.members.now q c.loop-v.v c.loop-v.count c.in_err-count.field-0.0 within
+    (negative_ends m c.args.self.now.prefs.now c.args.self.now.effort c.args.members.now q c.loop-v.v c.loop-v.count c.in_err-count.field-0.0 within
     (sym c.is_negative.ensures ∙ c.if-is_negative.true) c.loop-v.invariant.2 c.in_err-count.ensures.ends)
 
 pub overflow_add-count : goal.overflow_add-count
@@ -59,7 +59,7 @@ overflow_add-count c =
     let low = among_below members 0 (length m.params) q c.requires.rising c.requires.member in
     let count = values_are m q c.as_slice.result.now c.index-as_slice-q.result low (c.as_slice.ensures ∙ c.params.ensures.value) in
     let at = value_number m q c.loop-v.v (omega (arith, count, c.len-values.ensures, c.loop-v-test.true)) in
-    let few = served_few m c.args.self.now.prefs.now c.args.self.now.budget (tuples_with m members q)
+    let few = served_few m c.args.self.now.prefs.now c.args.self.now.effort (tuples_with m members q)
     (value_numbers m q) c.loop-v.v c.loop-v.count c.in_ok-count.field-0 c.loop-v.v
     at.within at.is c.loop-v.invariant.2
     (c.in_ok-count.ensures.count ∙ sym (ap (tally (is_served m (all_rows m))) (with_negative m members q c.loop-v.v
@@ -70,7 +70,7 @@ pub loop-v-preserved : goal.loop-v-preserved
 loop-v-preserved c =
     let m : ModelView = c.args.self.now.model.now in
     let pref = c.args.self.now.prefs.now in
-    let budget = c.args.self.now.budget in
+    let effort = c.args.self.now.effort in
     let q = c.args.q in
     let v = c.loop-v.v in
     let members = c.args.members.now in
@@ -83,20 +83,20 @@ loop-v-preserved c =
       | then-is_negative+in_ok-count w ↦ w.cells-is ∙ w.in_ok-count.ensures.cells ∙ c.loop-v.invariant.0
       | else-is_negative w ↦ w.cells-is ∙ c.loop-v.invariant.0
     ] in
-    let kept : All (IsFor m pref) c.if-is_negative.kept.items = elim c.if-is_negative.branch [
-      | then-is_negative+in_ok-count w ↦ subst (λ kept. All (IsFor m pref) kept.items) (sym w.kept-is) w.in_ok-count.ensures.kept
-      | else-is_negative w ↦ subst (λ kept. All (IsFor m pref) kept.items) (sym w.kept-is) c.loop-v.invariant.1
+    let kept : All (IsFor m pref effort) c.if-is_negative.kept.items = elim c.if-is_negative.branch [
+      | then-is_negative+in_ok-count w ↦ subst (λ kept. All (IsFor m pref effort) kept.items) (sym w.kept-is) w.in_ok-count.ensures.kept
+      | else-is_negative w ↦ subst (λ kept. All (IsFor m pref effort) kept.items) (sym w.kept-is) c.loop-v.invariant.1
     ] in
-    let counted : AreServed m pref budget rows (value_numbers m q) (v + 1) c.if-is_negative.count = elim c.if-is_negative.branch [
+    let counted : AreServed m pref effort rows (value_numbers m q) (v + 1) c.if-is_negative.count = elim c.if-is_negative.branch [
       | then-is_negative+in_ok-count w ↦
           let with_it = with_negative m members q v (sym c.is_negative.ensures ∙ w.if-is_negative.true) in
-          served_more m pref budget rows (value_numbers m q) v c.loop-v.count w.in_ok-count.field-0 c.if-is_negative.count v at.within at.is
+          served_more m pref effort rows (value_numbers m q) v c.loop-v.count w.in_ok-count.field-0 c.if-is_negative.count v at.within at.is
           c.loop-v.invariant.2
-          (w.in_ok-count.ensures.count ∙ sym (ap (tally served) with_it)) (ap (first_over m pref budget) with_it ∙ w.in_ok-count.ensures.ends) w.count-is
+          (w.in_ok-count.ensures.count ∙ sym (ap (tally served) with_it)) (ap (first_over m pref effort) with_it ∙ w.in_ok-count.ensures.ends) w.count-is
       | else-is_negative w ↦
           let without = with_positive m members q v (sym c.is_negative.ensures ∙ w.if-is_negative.false) in
-          served_more m pref budget rows (value_numbers m q) v c.loop-v.count 0 c.if-is_negative.count v at.within at.is c.loop-v.invariant.2
-          (sym (ap (tally served) without)) (ap (first_over m pref budget) without) (omega (arith, w.count-is))
+          served_more m pref effort rows (value_numbers m q) v c.loop-v.count 0 c.if-is_negative.count v at.within at.is c.loop-v.invariant.2
+          (sym (ap (tally served) without)) (ap (first_over m pref effort) without) (omega (arith, w.count-is))
     ] in
     (cells, kept, counted)
 
@@ -114,7 +114,7 @@ returns-clause-count c =
       length-range_with_len 0
           (length (param_at m.params q).values),
     ) in
-    (served_all m c.args.self.now.prefs.now c.args.self.now.budget (tuples_with m c.args.members.now q)
+    (served_all m c.args.self.now.prefs.now c.args.self.now.effort (tuples_with m c.args.members.now q)
     (value_numbers m q) c.loop-v.v c.loop-v.count past c.loop-v.invariant.2).0
     ∙ ap (tally (is_served m (all_rows m))) (sym (negative_by_value m c.args.members.now q))
 
@@ -132,6 +132,6 @@ returns-clause-ends c =
       length-range_with_len 0
           (length (param_at m.params q).values),
     ) in
-    ap (first_over m c.args.self.now.prefs.now c.args.self.now.budget) (negative_by_value m c.args.members.now q)
-    ∙ (served_all m c.args.self.now.prefs.now c.args.self.now.budget (tuples_with m c.args.members.now q)
+    ap (first_over m c.args.self.now.prefs.now c.args.self.now.effort) (negative_by_value m c.args.members.now q)
+    ∙ (served_all m c.args.self.now.prefs.now c.args.self.now.effort (tuples_with m c.args.members.now q)
     (value_numbers m q) c.loop-v.v c.loop-v.count past c.loop-v.invariant.2).1

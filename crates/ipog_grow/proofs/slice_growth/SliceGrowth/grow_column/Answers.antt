@@ -6,13 +6,14 @@ use Rattle.cov_model.specs.declared.slice.Slice.{Slice}
 use Rattle.definitions.specs.Growth.{down, is_uncovered, tuples_in_play}
 use Rattle.uncovered_table.specs.Open.{OpenView}
 use Rattle.ipog_grow.specs.Growing.{IsInPlay, open_tuples}
-use Rattle.ipog_grow.specs.Asking.{SearchContext, IsOpen, IsReady, Told, extends, first_spent, crossed, column_grown}
+use Rattle.full_search.specs.Questions.{QuestionsView}
+use Rattle.ipog_grow.specs.Asking.{IsOpen, IsReady, Told, extends, first_spent, crossed, column_grown}
 use Rattle.ipog_grow.proofs.Asking.{told-err}
 use Rattle.ipog_grow.proofs.Halves.{Half, order-long, ready-in_play, half, half-open, half-rows, half-omitted, half-asked, half-stops, closed-moment}
 use Rattle.ipog_grow.proofs.slice_growth.SliceGrowth.grow_column.Goals as goal
 
 -- a table of the same value is ready too
-still-ready : (context : SearchContext) (p : ℕ) (table same : OpenView) (rows : List (List (Option ℕ))) → same ≡ table → IsReady context table p rows
+still-ready : (context : QuestionsView) (p : ℕ) (table same : OpenView) (rows : List (List (Option ℕ))) → same ≡ table → IsReady context table p rows
     → IsReady context same p rows
 still-ready context p table same rows equal ready = subst (λ t. IsReady context t p rows) (sym equal) ready
 
@@ -59,7 +60,7 @@ pub grow_vertically-requires-clause-count : goal.grow_vertically-requires-clause
 grow_vertically-requires-clause-count g c =
     ap length c.of-order.ensures ∙ ap (λ orders. length (get_or orders c.args.column [])) c.requires.prefs
     ∙ order-long c.args.self.now.asker.context c.args.column c.assert_invariant.ensures.context c.requires.column
-    ∙ ap (λ (w : SearchContext). length (param_at w.model.params c.args.column).values) (sym c.in_ok-grow_horizontally.ensures.same)
+    ∙ ap (λ (w : QuestionsView). length (param_at w.model.params c.args.column).values) (sym c.in_ok-grow_horizontally.ensures.same)
 
 pub grow_vertically-requires-clause-is_open : goal.grow_vertically-requires-clause-is_open
 grow_vertically-requires-clause-is_open g c =
@@ -67,7 +68,7 @@ grow_vertically-requires-clause-is_open g c =
     let crossed_over = half ready c.close_contained.ensures.moment c.close_contained.ensures.keeps
     c.in_ok-grow_horizontally.ensures.asked c.in_ok-grow_horizontally.ensures.rows c.in_ok-grow_horizontally.ensures.moment
     c.in_ok-grow_horizontally.ensures.keeps c.in_ok-grow_horizontally.ensures.in_play c.in_ok-grow_horizontally.ensures.grows in
-    subst (λ (w : SearchContext). IsOpen w c.grow_horizontally.new.table c.args.column c.grow_horizontally.new.rows)
+    subst (λ (w : QuestionsView). IsOpen w c.grow_horizontally.new.table c.args.column c.grow_horizontally.new.rows)
     (sym c.in_ok-grow_horizontally.ensures.same) (half-open ready crossed_over)
 
 halved : (g : _) (c : goal.After-drop-scores-2 g)
@@ -82,7 +83,7 @@ pub returns-clause-asked : goal.returns-clause-asked
 returns-clause-asked g c =
     subst (Told c.grow_vertically.result c.grow_vertically.new.self.asker.question)
     (half-asked (halved g c))
-    (subst (λ (w : SearchContext). Told c.grow_vertically.result c.grow_vertically.new.self.asker.question
+    (subst (λ (w : QuestionsView). Told c.grow_vertically.result c.grow_vertically.new.self.asker.question
     (first_spent w (down (extends w) (open_tuples c.grow_horizontally.new.table c.args.column) c.grow_horizontally.new.rows).asked))
     c.in_ok-grow_horizontally.ensures.same c.grow_vertically.ensures.asked)
 
@@ -90,7 +91,7 @@ pub returns-clause-rows : goal.returns-clause-rows
 returns-clause-rows g c =
     subst (λ (grown : List (List (Option ℕ))). OnOk c.grow_vertically.result (c.grow_vertically.new.self.rows ≡ grown))
     (half-rows (halved g c))
-    (subst (λ (w : SearchContext). OnOk c.grow_vertically.result
+    (subst (λ (w : QuestionsView). OnOk c.grow_vertically.result
     (c.grow_vertically.new.self.rows ≡ (down (extends w) (open_tuples c.grow_horizontally.new.table c.args.column) c.grow_horizontally.new.rows).rows))
     c.in_ok-grow_horizontally.ensures.same c.grow_vertically.ensures.rows)
 
@@ -98,7 +99,7 @@ pub returns-clause-omitted : goal.returns-clause-omitted
 returns-clause-omitted g c =
     subst (λ (tuples : List (List (Option ℕ))). OnOk c.grow_vertically.result (c.grow_vertically.new.self.omitted ≡ c.args.self.now.omitted ++ tuples))
     (half-omitted (halved g c))
-    (subst (λ (w : SearchContext). OnOk c.grow_vertically.result
+    (subst (λ (w : QuestionsView). OnOk c.grow_vertically.result
     (c.grow_vertically.new.self.omitted
     ≡ c.args.self.now.omitted ++ (down (extends w) (open_tuples c.grow_horizontally.new.table c.args.column) c.grow_horizontally.new.rows).omitted))
     c.in_ok-grow_horizontally.ensures.same c.grow_vertically.ensures.omitted)

@@ -3,7 +3,8 @@ use Rattle.std.specs.List.{range_with_len}
 use Rattle.std.proofs.lemmas.Result.{err_from_is_err_and}
 use Rattle.std.proofs.lemmas.List.Elements.{All-head}
 use Rattle.cov_model.specs.Sound.{ModelView}
-use Rattle.ipog_grow.specs.Asking.{SearchContext, Grows, IsReady, Told, first_spent, column_grown, columns_grown}
+use Rattle.full_search.specs.Questions.{QuestionsView}
+use Rattle.ipog_grow.specs.Asking.{Grows, IsReady, Told, first_spent, column_grown, columns_grown}
 use Rattle.ipog_grow.proofs.Asking.{told-err}
 use Rattle.cov_model.specs.declared.slice.Slice.{Slice}
 use Rattle.std.proofs.lemmas.List.{get_or_default}
@@ -33,7 +34,7 @@ grow_column-requires-clause-column g c _ _ =
     ∙ get_or_default c.in_ok-order.order.items c.loop-k.k c.index.result.now 0 within in
     let taking = taking-at c.args.self.now.asker.context c.in_ok-order.order.items c.loop-k.k c.index.result.now c.loop-k.self.table
     c.args.self.now.rows c.loop-k.self.rows c.args.self.now.omitted c.loop-k.self.omitted within column c.loop-k.invariant.taking in
-    subst (λ (w : SearchContext). c.index.result.now < length w.model.params) (sym c.loop-k.invariant.context)
+    subst (λ (w : QuestionsView). c.index.result.now < length w.model.params) (sym c.loop-k.invariant.context)
     (All-head (λ p. p < length c.args.self.now.asker.context.model.params) c.index.result.now (drop (c.loop-k.k + 1) c.in_ok-order.order.items)
     taking.ready.exist)
 
@@ -45,7 +46,7 @@ grow_column-requires-clause-ready g c _ _ =
     ∙ get_or_default c.in_ok-order.order.items c.loop-k.k c.index.result.now 0 within in
     let taking = taking-at c.args.self.now.asker.context c.in_ok-order.order.items c.loop-k.k c.index.result.now c.loop-k.self.table
     c.args.self.now.rows c.loop-k.self.rows c.args.self.now.omitted c.loop-k.self.omitted within column c.loop-k.invariant.taking in
-    subst (λ (w : SearchContext). IsReady w c.loop-k.self.table c.index.result.now c.loop-k.self.rows) (sym c.loop-k.invariant.context)
+    subst (λ (w : QuestionsView). IsReady w c.loop-k.self.table c.index.result.now c.loop-k.self.rows) (sym c.loop-k.invariant.context)
     (taking-next taking.ready)
 
 pub returns-in_err-grow_column-clause-asked : goal.returns-in_err-grow_column-clause-asked
@@ -64,7 +65,7 @@ returns-in_err-grow_column-clause-asked g c =
     (first_spent c.args.self.now.asker.context (column_grown c.args.self.now.asker.context c.index.result.now c.loop-k.self.rows).asked)
     (first_spent c.args.self.now.asker.context (columns_grown c.args.self.now.asker.context c.in_ok-order.order.items c.args.self.now.rows).asked)
     (λ over. taking-spent taking over)
-    (subst (λ (w : SearchContext). Told {A = Unit {0}} (Err c.in_err-grow_column.field-0.0) c.grow_column.new.self.asker.question
+    (subst (λ (w : QuestionsView). Told {A = Unit {0}} (Err c.in_err-grow_column.field-0.0) c.grow_column.new.self.asker.question
     (first_spent w (column_grown w c.index.result.now c.loop-k.self.rows).asked)) c.loop-k.invariant.context c.in_err-grow_column.ensures.asked)))
 
 pub loop-k-preserved : goal.loop-k-preserved
@@ -82,14 +83,14 @@ loop-k-preserved g c =
       order = c.loop-k.invariant.order;
       taking =
           taking-more taking
-          (subst (λ (w : SearchContext). first_spent w (column_grown w c.index.result.now c.loop-k.self.rows).asked ≡ None)
+          (subst (λ (w : QuestionsView). first_spent w (column_grown w c.index.result.now c.loop-k.self.rows).asked ≡ None)
           c.loop-k.invariant.context c.in_ok-grow_column.ensures.asked)
-          (subst (λ (w : SearchContext). c.grow_column.new.self.rows ≡ (column_grown w c.index.result.now c.loop-k.self.rows).rows)
+          (subst (λ (w : QuestionsView). c.grow_column.new.self.rows ≡ (column_grown w c.index.result.now c.loop-k.self.rows).rows)
           c.loop-k.invariant.context c.in_ok-grow_column.ensures.rows)
-          (subst (λ (w : SearchContext). c.grow_column.new.self.omitted ≡ c.loop-k.self.omitted
+          (subst (λ (w : QuestionsView). c.grow_column.new.self.omitted ≡ c.loop-k.self.omitted
           ++ (column_grown w c.index.result.now c.loop-k.self.rows).omitted) c.loop-k.invariant.context c.in_ok-grow_column.ensures.omitted)
           c.in_ok-grow_column.ensures.keeps
-          (subst (λ (w : SearchContext). All (Grows w) c.grow_column.new.self.rows) c.loop-k.invariant.context c.in_ok-grow_column.ensures.grows);
+          (subst (λ (w : QuestionsView). All (Grows w) c.grow_column.new.self.rows) c.loop-k.invariant.context c.in_ok-grow_column.ensures.grows);
     }
 
 pub grow_column-requires-clause-columns : goal.grow_column-requires-clause-columns
@@ -105,7 +106,7 @@ grow_column-requires-clause-columns g c _ _ =
     columns ∙ ap (up_to c.index.result.now) c.loop-k.invariant.order ∙ ap (λ (m : ModelView). columns_to m c.args.slice c.index.result.now)
     (sym c.requires.model)
     ∙ ap (λ (s : Slice). columns_to c.args.self.now.asker.context.model s c.index.result.now) (sym c.requires.slice)
-    ∙ ap (λ (w : SearchContext). columns_to w.model w.slice c.index.result.now) (sym c.loop-k.invariant.context)
+    ∙ ap (λ (w : QuestionsView). columns_to w.model w.slice c.index.result.now) (sym c.loop-k.invariant.context)
 
 pub grow_column-requires-clause-exist : goal.grow_column-requires-clause-exist
 grow_column-requires-clause-exist g c _ _ =
@@ -117,7 +118,7 @@ grow_column-requires-clause-exist g c _ _ =
     ∙ get_or_default c.in_ok-order.order.items c.loop-k.k c.index.result.now 0 within in
     let columns = ap (λ list. take (c.loop-k.k + 1) list) c.deref.ensures.value
     ∙ take-columns_to (length c.args.self.now.asker.context.model.params) c.in_ok-order.order.items c.loop-k.k c.index.result.now moved within column in
-    subst (λ (w : SearchContext). All (λ p. p < length w.model.params) (take (c.loop-k.k + 1) c.deref.result.now)) (sym c.loop-k.invariant.context)
+    subst (λ (w : QuestionsView). All (λ p. p < length w.model.params) (take (c.loop-k.k + 1) c.deref.result.now)) (sym c.loop-k.invariant.context)
     (subst (All (λ p. p < length c.args.self.now.asker.context.model.params)) (sym columns)
     (All-up_to (λ p. p < length c.args.self.now.asker.context.model.params) c.index.result.now c.in_ok-order.order.items
     (columns-exist (length c.args.self.now.asker.context.model.params) c.in_ok-order.order.items moved)))

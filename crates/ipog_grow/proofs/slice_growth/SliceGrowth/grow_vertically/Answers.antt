@@ -9,7 +9,8 @@ use Rattle.tuple_index.specs.Places.{RisesFrom}
 use Rattle.uncovered_table.specs.Places.{is_place, slice_places, tuple_at}
 use Rattle.ipog_grow.specs.Growing.{open_tuples}
 use Rattle.ipog_grow.specs.UnfilledRows.{HasUnfilled}
-use Rattle.ipog_grow.specs.Asking.{SearchContext, IsNext, IsPassed, Told, extends, first_spent}
+use Rattle.full_search.specs.Questions.{QuestionsView}
+use Rattle.ipog_grow.specs.Asking.{IsNext, IsPassed, Told, extends, first_spent}
 use Rattle.ipog_grow.proofs.Asking.{told-err}
 use Rattle.ipog_grow.proofs.PlaceTupleLemmas.{placed}
 use Rattle.ipog_grow.proofs.UnfilledLemmas.{value-within}
@@ -69,13 +70,13 @@ settle-requires-clause-next c =
     let put = c.put_tuple-given.ensures.tuple c.args.self.now.asker.context.model c.requires.plan (c.loop-place.invariant.tuple ∙ c.requires.tuple) in
     let next = downing-next c.loop-place.invariant.downing (sym c.next_open-in-loop-place.ensures.value ∙ c.in-Some.is) c.in-Some.ensures.own
     (put ∙ ap (λ (m : ModelView). tuple_at m c.in-Some.place) (sym c.loop-place.invariant.downing.is_open.of.0)) in
-    subst (λ (w : SearchContext). IsNext w c.loop-place.self.table c.args.column c.in-Some.place c.put_tuple-given.new.into c.loop-place.self.rows)
+    subst (λ (w : QuestionsView). IsNext w c.loop-place.self.table c.args.column c.in-Some.place c.put_tuple-given.new.into c.loop-place.self.rows)
     (sym c.loop-place.invariant.context) next
 
 pub settle-requires-clause-unfilled : goal.settle-requires-clause-unfilled
 settle-requires-clause-unfilled c =
     subst (λ (n : ℕ). HasUnfilled c.args.columns.now c.args.column n c.loop-place.self.rows c.loop-place.unfilled)
-    (c.requires.count ∙ ap (λ (w : SearchContext). length (param_at w.model.params c.args.column).values) (sym c.loop-place.invariant.context))
+    (c.requires.count ∙ ap (λ (w : QuestionsView). length (param_at w.model.params c.args.column).values) (sym c.loop-place.invariant.context))
     c.loop-place.invariant.unfilled
 
 pub returns-in_err-settle-clause-asked : goal.returns-in_err-settle-clause-asked
@@ -89,7 +90,7 @@ returns-in_err-settle-clause-asked c =
     (first_spent c.args.self.now.asker.context (down (extends c.args.self.now.asker.context) (open_tuples c.args.self.now.table c.args.column)
     c.args.self.now.rows).asked)
     (λ over. downing-spent c.loop-place.invariant.downing next over)
-    (subst (λ (w : SearchContext). Told {A = Unit {0}} (Err c.in_err-settle.field-0.0) c.settle.new.self.asker.question
+    (subst (λ (w : QuestionsView). Told {A = Unit {0}} (Err c.in_err-settle.field-0.0) c.settle.new.self.asker.question
     (first_spent w (settle (extends w) c.put_tuple-given.new.into c.loop-place.self.rows).asked)) c.loop-place.invariant.context
     c.in_err-settle.ensures.asked))
 
@@ -98,7 +99,7 @@ loop-place-smaller c =
     let put = c.put_tuple-given.ensures.tuple c.args.self.now.asker.context.model c.requires.plan (c.loop-place.invariant.tuple ∙ c.requires.tuple) in
     let next = downing-next c.loop-place.invariant.downing (sym c.next_open-in-loop-place.ensures.value ∙ c.in-Some.is) c.in-Some.ensures.own
     (put ∙ ap (λ (m : ModelView). tuple_at m c.in-Some.place) (sym c.loop-place.invariant.downing.is_open.of.0)) in
-    let passes = subst (λ (w : SearchContext). IsPassed w c.loop-place.self.table c.settle.new.self.table c.args.column c.in-Some.place
+    let passes = subst (λ (w : QuestionsView). IsPassed w c.loop-place.self.table c.settle.new.self.table c.args.column c.in-Some.place
     c.settle.new.self.rows) c.loop-place.invariant.context c.in_ok-settle.ensures.passed in
     downing-falls next passes
 
@@ -107,7 +108,7 @@ loop-place-preserved c =
     let put = c.put_tuple-given.ensures.tuple c.args.self.now.asker.context.model c.requires.plan (c.loop-place.invariant.tuple ∙ c.requires.tuple) in
     let next = downing-next c.loop-place.invariant.downing (sym c.next_open-in-loop-place.ensures.value ∙ c.in-Some.is) c.in-Some.ensures.own
     (put ∙ ap (λ (m : ModelView). tuple_at m c.in-Some.place) (sym c.loop-place.invariant.downing.is_open.of.0)) in
-    let passes = subst (λ (w : SearchContext). IsPassed w c.loop-place.self.table c.settle.new.self.table c.args.column c.in-Some.place
+    let passes = subst (λ (w : QuestionsView). IsPassed w c.loop-place.self.table c.settle.new.self.table c.args.column c.in-Some.place
     c.settle.new.self.rows) c.loop-place.invariant.context c.in_ok-settle.ensures.passed in
     record {
       context = c.settle.ensures.same ∙ c.loop-place.invariant.context;
@@ -116,7 +117,7 @@ loop-place-preserved c =
       room = c.settle.ensures.room ∙ c.loop-place.invariant.room;
       unfilled =
           subst (λ (n : ℕ). HasUnfilled c.args.columns.now c.args.column n c.settle.new.self.rows c.settle.new.unfilled)
-          (ap (λ (w : SearchContext). length (param_at w.model.params c.args.column).values) c.loop-place.invariant.context ∙ sym c.requires.count)
+          (ap (λ (w : QuestionsView). length (param_at w.model.params c.args.column).values) c.loop-place.invariant.context ∙ sym c.requires.count)
           c.in_ok-settle.ensures.unfilled;
       from =
           subst (λ (m : ModelView). list_any (is_place c.in-Some.place) (slice_places m c.settle.new.self.table.slice) ≡ true) (sym passes.keeps.model)
@@ -124,11 +125,11 @@ loop-place-preserved c =
           (sym passes.keeps.slice) c.in-Some.ensures.own);
       downing =
           downing-more c.loop-place.invariant.downing next
-          (subst (λ (w : SearchContext). first_spent w (settle (extends w) c.put_tuple-given.new.into c.loop-place.self.rows).asked ≡ None)
+          (subst (λ (w : QuestionsView). first_spent w (settle (extends w) c.put_tuple-given.new.into c.loop-place.self.rows).asked ≡ None)
           c.loop-place.invariant.context c.in_ok-settle.ensures.asked)
-          (subst (λ (w : SearchContext). c.settle.new.self.rows ≡ (settle (extends w) c.put_tuple-given.new.into c.loop-place.self.rows).rows)
+          (subst (λ (w : QuestionsView). c.settle.new.self.rows ≡ (settle (extends w) c.put_tuple-given.new.into c.loop-place.self.rows).rows)
           c.loop-place.invariant.context c.in_ok-settle.ensures.rows)
-          (subst (λ (w : SearchContext). c.settle.new.self.omitted ≡ c.loop-place.self.omitted
+          (subst (λ (w : QuestionsView). c.settle.new.self.omitted ≡ c.loop-place.self.omitted
           ++ (settle (extends w) c.put_tuple-given.new.into c.loop-place.self.rows).omitted) c.loop-place.invariant.context c.in_ok-settle.ensures.omitted)
           passes;
     }

@@ -6,7 +6,8 @@ use Rattle.cov_model.specs.declared.slice.Slice.{Slice}
 use Rattle.definitions.specs.SliceRows.{IsOfSlice}
 use Rattle.definitions.specs.Growth.{join, settle, union}
 use Rattle.uncovered_table.specs.Open.{row_closed}
-use Rattle.ipog_grow.specs.Asking.{SearchContext, Grows, Told, extends, first_spent, rows_alone}
+use Rattle.full_search.specs.Questions.{QuestionsView}
+use Rattle.ipog_grow.specs.Asking.{Grows, Told, extends, first_spent, rows_alone}
 use Rattle.ipog_grow.specs.UnfilledRows.{HasUnfilled}
 use Rattle.ipog_grow.proofs.Asking.{told-err}
 use Rattle.ipog_grow.proofs.Closing.{is_alone, joinable, next-grows, passed-union, settle-asks, settle-stops, taken_at}
@@ -81,7 +82,7 @@ returns-in_err-settle_alone-in-None-clause-asked c =
     (first_spent context (c.args.self.now.tuple ∷ []))
     (first_spent context (settle (extends context) c.args.self.now.tuple c.args.self.now.rows).asked)
     (λ over. settle-asks context c.args.self.now.tuple c.args.self.now.rows alone.alone alone.unspent ∙ over)
-    (subst (λ (w : SearchContext). Told {A = Unit {0}} (Err c.in_err-settle_alone-in-None.field-0.0) c.settle_alone.new.self.asker.question
+    (subst (λ (w : QuestionsView). Told {A = Unit {0}} (Err c.in_err-settle_alone-in-None.field-0.0) c.settle_alone.new.self.asker.question
     (first_spent w (c.args.self.now.tuple ∷ []))) c.in_ok-join_first.ensures.same
     c.in_err-settle_alone-in-None.ensures.asked))
 
@@ -89,7 +90,7 @@ pub returns-in_ok-settle_alone-in-None-clause-asked : goal.returns-in_ok-settle_
 returns-in_ok-settle_alone-in-None-clause-asked c =
     let alone = is_alone c.args.self.now.asker.context c.args.self.now.tuple c.args.self.now.rows c.in-None.is c.in_ok-join_first.ensures.taken c.in_ok-join_first.ensures.asked in
     settle-asks c.args.self.now.asker.context c.args.self.now.tuple c.args.self.now.rows alone.alone alone.unspent
-    ∙ ap (λ (w : SearchContext). first_spent w (c.args.self.now.tuple ∷ [])) (sym c.in_ok-join_first.ensures.same) ∙ c.in_ok-settle_alone-in-None.ensures.asked
+    ∙ ap (λ (w : QuestionsView). first_spent w (c.args.self.now.tuple ∷ [])) (sym c.in_ok-join_first.ensures.same) ∙ c.in_ok-settle_alone-in-None.ensures.asked
 
 pub returns-in_ok-settle_alone-in-None-clause-rows : goal.returns-in_ok-settle_alone-in-None-clause-rows
 returns-in_ok-settle_alone-in-None-clause-rows c =
@@ -97,6 +98,6 @@ returns-in_ok-settle_alone-in-None-clause-rows c =
     let rows = c.args.self.now.rows in
     let alone = is_alone c.args.self.now.asker.context c.args.self.now.tuple c.args.self.now.rows c.in-None.is c.in_ok-join_first.ensures.taken c.in_ok-join_first.ensures.asked in
     c.in_ok-settle_alone-in-None.ensures.rows
-    ∙ ap (λ (w : SearchContext). rows_alone w c.args.self.now.tuple c.join_first.new.rows) c.in_ok-join_first.ensures.same
+    ∙ ap (λ (w : QuestionsView). rows_alone w c.args.self.now.tuple c.join_first.new.rows) c.in_ok-join_first.ensures.same
     ∙ ap (rows_alone context c.args.self.now.tuple) (c.in_ok-join_first.ensures.unchanged c.in-None.is)
     ∙ sym (settle-alone_rows (extends context) c.args.self.now.tuple rows alone.alone)

@@ -1,0 +1,9 @@
+pub mod Reasons
+pub mod Witnesses
+pub mod Branching
+pub mod Searching
+pub mod Closing
+pub mod Completing
+pub mod Conflicts
+pub mod FullSearch
+pub mod Questions
