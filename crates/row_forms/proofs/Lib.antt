@@ -1,0 +1,7 @@
+mod CsvCells
+mod Rows
+mod CsvLaw
+mod JsonLaw
+mod MarkdownLaw
+mod MemberText
+mod DashSteps
