@@ -1,0 +1,4 @@
+pub mod Mapped
+pub mod Reading
+pub mod Tags
+pub mod TreeTexts

@@ -1,0 +1,58 @@
+-- The names of elements and attributes as HTML and SVG spell them, in lower case.
+use Rattle.std.specs.Prelude.{ℕ, List, codes}
+use Rattle.html_page.specs.declared.attribute.AttributeName.{AttributeName}
+use Rattle.html_page.specs.declared.attribute.AttributeName.TheVariants as attribute
+use Rattle.html_page.specs.declared.tag.Tag.{Tag}
+use Rattle.html_page.specs.declared.tag.Tag.TheVariants as element
+
+abbrev pub tag_name : Tag → List ℕ
+tag_name element.Html = codes "html"
+tag_name element.Head = codes "head"
+tag_name element.Body = codes "body"
+tag_name element.Header = codes "header"
+tag_name element.Main = codes "main"
+tag_name element.Section = codes "section"
+tag_name element.Div = codes "div"
+tag_name element.H1 = codes "h1"
+tag_name element.H2 = codes "h2"
+tag_name element.P = codes "p"
+tag_name element.Strong = codes "strong"
+tag_name element.Span = codes "span"
+tag_name element.Ul = codes "ul"
+tag_name element.Li = codes "li"
+tag_name element.Table = codes "table"
+tag_name element.Caption = codes "caption"
+tag_name element.Thead = codes "thead"
+tag_name element.Tbody = codes "tbody"
+tag_name element.Tr = codes "tr"
+tag_name element.Th = codes "th"
+tag_name element.Td = codes "td"
+tag_name element.Details = codes "details"
+tag_name element.Summary = codes "summary"
+tag_name element.Figure = codes "figure"
+tag_name element.Figcaption = codes "figcaption"
+tag_name element.Svg = codes "svg"
+tag_name element.Desc = codes "desc"
+tag_name element.Path = codes "path"
+tag_name element.Polyline = codes "polyline"
+tag_name element.Text = codes "text"
+
+abbrev pub attribute_name : AttributeName → List ℕ
+attribute_name attribute.Lang = codes "lang"
+attribute_name attribute.Charset = codes "charset"
+attribute_name attribute.Name = codes "name"
+attribute_name attribute.Content = codes "content"
+attribute_name attribute.Class = codes "class"
+attribute_name attribute.Id = codes "id"
+attribute_name attribute.Role = codes "role"
+attribute_name attribute.Scope = codes "scope"
+attribute_name attribute.TabIndex = codes "tabindex"
+attribute_name attribute.Open = codes "open"
+attribute_name attribute.AriaLabel = codes "aria-label"
+attribute_name attribute.AriaLabelledBy = codes "aria-labelledby"
+attribute_name attribute.ViewBox = codes "viewbox"
+attribute_name attribute.X = codes "x"
+attribute_name attribute.Y = codes "y"
+attribute_name attribute.Points = codes "points"
+attribute_name attribute.D = codes "d"
+attribute_name attribute.TextAnchor = codes "text-anchor"

@@ -1,0 +1,57 @@
+-- The combinations that are left out, in groups that the same constraints leave out.
+use Rattle.std.specs.Prelude.{ℕ, List, [], ◌∷◌, ◌++◌, codes, decimal}
+use Rattle.html_page.specs.Pieces.{Attribute, Piece, Start, End, Text}
+use Rattle.html_page.specs.Trees.{Content, nothing, text, element, all_of, followed_by, pieces_of}
+use Rattle.html_page.specs.declared.attribute.AttributeName.TheVariants as attribute
+use Rattle.html_page.specs.declared.tag.Tag.TheVariants as tag
+use Rattle.suite_page.specs.Sections.{more_tree, section_opening}
+
+-- the texts of its constraints, how many combinations it has, and those that are shown, in words
+pub record Group : Type 0 where
+  pub constraints : List (List ℕ)
+  pub count : ℕ
+  pub combinations : List (List ℕ)
+
+abbrev pub item_tree : List ℕ → Content
+item_tree item = element tag.Li [] (text item nothing) nothing
+
+abbrev pub opened : List Attribute
+opened = record { name = attribute.Open; value = [] } ∷ []
+
+abbrev pub of_constraints : List Attribute
+of_constraints = record { name = attribute.Class; value = codes "constraints" } ∷ []
+
+abbrev pub group_tree : Group → Content
+group_tree group =
+    element tag.Details opened (
+    element tag.Summary [] (text (codes "Combinations left out: ") (text (decimal group.count) nothing))
+    (element tag.Ul of_constraints (all_of item_tree group.constraints) (element tag.Ul [] (all_of item_tree group.combinations) nothing))
+    ) nothing
+
+-- its pieces before the constraints, before the combinations, and behind them
+abbrev pub summary_opening : ℕ → List Piece
+summary_opening count =
+    Start tag.Details opened ∷ Start tag.Summary [] ∷ Text (codes "Combinations left out: ") ∷ Text (decimal count) ∷ End tag.Summary
+    ∷ Start tag.Ul of_constraints ∷ []
+
+abbrev pub group_opening : List (List ℕ) → ℕ → List Piece
+group_opening constraints count = summary_opening count ++ (pieces_of (all_of item_tree constraints) ++ End tag.Ul ∷ Start tag.Ul [] ∷ [])
+
+abbrev pub group_closing : List Piece
+group_closing = End tag.Ul ∷ End tag.Details ∷ []
+
+abbrev pub more_combinations : ℕ → Content
+more_combinations more = more_tree more (codes " more combination.") (codes " more combinations.")
+
+-- the section, some of whose combinations are shown
+abbrev pub left_out_tree : List Group → ℕ → Content
+left_out_tree groups more =
+    element tag.Section [] (
+    element tag.H2 [] (text (codes "Left out") nothing) (followed_by (all_of group_tree groups) (more_combinations more))
+    ) nothing
+
+abbrev pub left_out_opening : List Piece
+left_out_opening = section_opening (codes "Left out")
+
+abbrev pub left_out_closing : ℕ → List Piece
+left_out_closing more = pieces_of (more_combinations more) ++ End tag.Section ∷ []
