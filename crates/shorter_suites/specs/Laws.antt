@@ -1,0 +1,22 @@
+-- What holds of shorter suites. (This project's rules.)
+use Rattle.std.specs.Prelude.{◌≡◌, ℕ, ◌≤◌, true, List, map, length, Option, All}
+use Rattle.cov_model.specs.Sound.{ModelView}
+use Rattle.cov_model.specs.Valid.{is_valid}
+use Rattle.definitions.specs.Verdict.{IsAccepted}
+use Rattle.shorter_suites.specs.Shrinking.{ServesToo}
+use Rattle.shorter_suites.specs.Bounds.{least_needed}
+
+-- the rows of numbered lines
+abbrev pub rows_of : List (ℕ × List (Option ℕ)) → List (List (Option ℕ))
+rows_of lines = map (λ line. line.1) lines
+
+-- a proof that is accepted with a report is accepted with each one of valid rows that serve what the report's serve
+abbrev pub AcceptedStay : Type 0
+AcceptedStay = (m : ModelView) (given lines : List (ℕ × List (Option ℕ))) (bytes : List ℕ)
+    → All (λ row. is_valid m row ≡ true) (rows_of lines) → ServesToo m (rows_of given) (rows_of lines)
+    → IsAccepted m given bytes → IsAccepted m lines bytes
+
+-- no valid rows that serve what given rows serve are fewer than the least number
+abbrev pub NoneIsShorter : Type 0
+NoneIsShorter = (m : ModelView) (given rows : List (List (Option ℕ)))
+    → All (λ row. is_valid m row ≡ true) rows → ServesToo m given rows → least_needed m given ≤ length rows
