@@ -3,8 +3,7 @@ use Rattle.std.proofs.Common.{◌≡◌, ◌≤◌, ℕ, Bool, List, Option, Non
 use Rattle.std.specs.Prelude.{◌≢◌, IfErr, IfSome, IsErrAnd, IsSomeAnd}
 use Rattle.std.specs.declared.vec.Vec.{Vec}
 use Rattle.std.specs.declared.alloc.Global.{Global}
-use Rattle.outside_io.specs.Faults.{KeepsCounts, Rose}
-use Rattle.outside_io.specs.Files.{Files, KeepsFiles}
+use Rattle.outside_io.specs.Seen.{FolderSeen, KeepsFiles, KeepsReadFaults, KeepsWriteFaults, ReadFaultsRose}
 use Rattle.definitions.specs.Limits.{ModelFile, most_bytes}
 use Rattle.acts_front.specs.Reading.{Translates}
 use Rattle.acts_front.specs.Runs.{Ends, IsTranslated}
@@ -74,15 +73,15 @@ ends fold (Some held) before after TooLong same loads = (loads, same)
 abbrev pub stops_with : Stop → Result (Vec ℕ Global) Stop
 stops_with stop = Err stop
 
-pub stopped : (asked : Asked) (files files_after : Files) (reads reads_after writes writes_after : List ℕ → ℕ) (end : Result (Unit {0}) Stop) (stop : Stop)
-    → IsErrAnd end (λ other. other ≡ stop) → IfSome (files asked.input) (λ held. Loads asked.fold held (stops_with stop))
-    → (stops_with stop ≡ Err CannotRead → Rose (reads asked.input) (reads_after asked.input)) → (stops_with stop ≢ Err CannotRead → KeepsCounts reads reads_after)
-    → (stop ≢ CannotWrite) × ((index : ℕ) → stop ≢ BadWord index) → KeepsFiles files files_after → KeepsCounts writes writes_after
-    → Ran asked files files_after reads reads_after writes writes_after end
-stopped asked files files_after reads reads_after writes writes_after (Ok done) stop none loads rose counts other kept keeps = absurd none
-stopped asked files files_after reads reads_after writes writes_after (Err found) stop same loads rose counts other kept keeps =
-    subst (λ s. Ran asked files files_after reads reads_after writes writes_after (Err s)) (sym same) (record {
-      ends = ends asked.fold (files asked.input) (files asked.output) (files_after asked.output) stop (kept asked.output) loads;
+pub stopped : (asked : Asked) (before after : FolderSeen) (end : Result (Unit {0}) Stop) (stop : Stop)
+    → IsErrAnd end (λ other. other ≡ stop) → IfSome (before.files asked.input) (λ held. Loads asked.fold held (stops_with stop))
+    → (stops_with stop ≡ Err CannotRead → ReadFaultsRose asked.input before after) → (stops_with stop ≢ Err CannotRead → KeepsReadFaults before after)
+    → (stop ≢ CannotWrite) × ((index : ℕ) → stop ≢ BadWord index) → KeepsFiles before after → KeepsWriteFaults before after
+    → Ran asked before after end
+stopped asked before after (Ok done) stop none loads rose counts other kept keeps = absurd none
+stopped asked before after (Err found) stop same loads rose counts other kept keeps =
+    subst (λ s. Ran asked before after (Err s)) (sym same) (record {
+      ends = ends asked.fold (before.files asked.input) (before.files asked.output) (after.files asked.output) stop (kept asked.output) loads;
       words = λ index e. other.1 index (cc);
       read = λ e. rose (cc);
       write = λ e. absurd (other.0 (cc));

@@ -1,8 +1,7 @@
 -- What the status of a run tells of how it ended.
 use Rattle.std.proofs.Common.{◌≡◌, ℕ, ◌≤◌, List, Option, None, Some, Ok, Err, Result, ◌⊎◌, inl, inr, ◌∙◌, refl, sym, ap, arith, subst, length}
 use Rattle.std.specs.Prelude.{◌≢◌, ◌^◌, ◌-◌, Bool, IfSome, IsSomeAnd, min}
-use Rattle.outside_io.specs.Faults.{KeepsCounts, Rose}
-use Rattle.outside_io.specs.Files.{Files, KeepsFiles, KeepsOtherFiles}
+use Rattle.outside_io.specs.Seen.{FolderSeen, SinkSeen, KeepsFiles, KeepsOtherFiles, KeepsReadFaults, KeepsWriteFaults, ReadFaultsRose, WriteFaultsRose}
 use Rattle.definitions.specs.Limits.{ModelFile, most_bytes}
 use Rattle.acts_front.specs.Codes.{refusal_status}
 use Rattle.acts_front.specs.Runs.{Ends, IsRun, IsTooLong, IsTranslated}
@@ -137,70 +136,70 @@ is_missing fold before after (Err TooLong) ends = absurd ends.0
 
 -- ---- a run that came to an end, by its status
 
-module _ {words : Result Asked ℕ} {ran_for : Asked} {files files_after : Files} {reads reads_after writes writes_after : List ℕ → ℕ} {end : Result (Unit {0}) Stop} {status : ℕ}
-    (asks : words ≡ Ok ran_for) (ran : Ran ran_for files files_after reads reads_after writes writes_after end) (is : status ≡ end_status end) where
-  ran_as : (asked : Asked) → words ≡ Ok asked → Ran asked files files_after reads reads_after writes writes_after end
-  ran_as asked also = subst (λ a. Ran a files files_after reads reads_after writes writes_after end) (one_ok asks also) ran
+module _ {words : Result Asked ℕ} {ran_for : Asked} {before after : FolderSeen} {end : Result (Unit {0}) Stop} {status : ℕ}
+    (asks : words ≡ Ok ran_for) (ran : Ran ran_for before after end) (is : status ≡ end_status end) where
+  ran_as : (asked : Asked) → words ≡ Ok asked → Ran asked before after end
+  ran_as asked also = subst (λ a. Ran a before after end) (one_ok asks also) ran
 
-  ends_as : (asked : Asked) (held : Option (List ℕ)) → words ≡ Ok asked → files asked.input ≡ Some held → Ends asked.fold held (files asked.output) (files_after asked.output) end
-  ends_as asked held also at = subst (λ found. IfSome found (λ h. Ends asked.fold h (files asked.output) (files_after asked.output) end)) at (ran_as asked also).ends
+  ends_as : (asked : Asked) (held : Option (List ℕ)) → words ≡ Ok asked → before.files asked.input ≡ Some held → Ends asked.fold held (before.files asked.output) (after.files asked.output) end
+  ends_as asked held also at = subst (λ found. IfSome found (λ h. Ends asked.fold h (before.files asked.output) (after.files asked.output) end)) at (ran_as asked also).ends
 
   -- a file was translated, and its translation was written
-  pub whole : status ≡ 0 → (asked : Asked) (held : Option (List ℕ)) → words ≡ Ok asked → files asked.input ≡ Some held
-      → IsSomeAnd held (IsTranslated asked.fold (λ text. IfSome (files_after asked.output) (λ file. file ≡ Some text)))
-  whole zero asked held also at = subst (Ends asked.fold held (files asked.output) (files_after asked.output)) (zero_is_end end (sym is ∙ zero)) (ends_as asked held also at)
+  pub whole : status ≡ 0 → (asked : Asked) (held : Option (List ℕ)) → words ≡ Ok asked → before.files asked.input ≡ Some held
+      → IsSomeAnd held (IsTranslated asked.fold (λ text. IfSome (after.files asked.output) (λ file. file ≡ Some text)))
+  whole zero asked held also at = subst (Ends asked.fold held (before.files asked.output) (after.files asked.output)) (zero_is_end end (sym is ∙ zero)) (ends_as asked held also at)
 
-  pub run_is : {told told_after : Option (List ℕ)} {faults faults_after : ℕ} → Tells told told_after faults faults_after (end_text end ran_for.input ran_for.output)
-      → (asked : Asked) → words ≡ Ok asked → IsRun asked files files_after told told_after faults faults_after status
-  run_is {told = told} {told_after = told_after} {faults = faults} {faults_after = faults_after} tells asked also =
-      subst (λ a. IsRun a files files_after told told_after faults faults_after status) (one_ok asks also) (record { end = end; ends = ran.ends; tells = tells; ended = is })
+  pub run_is : {told told_after : SinkSeen} → Tells told told_after (end_text end ran_for.input ran_for.output)
+      → (asked : Asked) → words ≡ Ok asked → IsRun asked before after told told_after status
+  run_is {told = told} {told_after = told_after} tells asked also =
+      subst (λ a. IsRun a before after told told_after status) (one_ok asks also) (record { end = end; ends = ran.ends; tells = tells; ended = is })
 
   pub not_words : status ≢ 3
   not_words three = three_is_word end ran.words (sym is ∙ three)
 
-  pub complete : (asked : Asked) (bytes text : List ℕ) → words ≡ Ok asked → files asked.input ≡ Some (Some bytes) → length bytes ≤ most_bytes ModelFile
-      → translation asked.fold bytes ≡ Ok text → ¬ Rose (reads asked.input) (reads_after asked.input) → ¬ Rose (writes asked.output) (writes_after asked.output)
+  pub complete : (asked : Asked) (bytes text : List ℕ) → words ≡ Ok asked → before.files asked.input ≡ Some (Some bytes) → length bytes ≤ most_bytes ModelFile
+      → translation asked.fold bytes ≡ Ok text → ¬ ReadFaultsRose asked.input before after → ¬ WriteFaultsRose asked.output before after
       → (status ≡ 0) ⊎ (status ≡ 1)
   complete asked bytes text also at within made read write =
       let r = ran_as asked also in
-      subst (λ s. (s ≡ 0) ⊎ (s ≡ 1)) (sym is) (completes asked.fold bytes (files asked.output) (files_after asked.output) text end (ends_as asked (Some bytes) also at) within made
+      subst (λ s. (s ≡ 0) ⊎ (s ≡ 1)) (sym is) (completes asked.fold bytes (before.files asked.output) (after.files asked.output) text end (ends_as asked (Some bytes) also at) within made
       (λ e. read (r.read e)) (λ e. write (r.write e)))
 
-  pub refused : (asked : Asked) (bytes : List ℕ) (line : ℕ) (code : ActsCode) → words ≡ Ok asked → files asked.input ≡ Some (Some bytes) → length bytes ≤ most_bytes ModelFile
-      → translation asked.fold bytes ≡ Err (line, code) → ¬ Rose (reads asked.input) (reads_after asked.input) → (status ≡ refusal_status code) ⊎ (status ≡ 1)
+  pub refused : (asked : Asked) (bytes : List ℕ) (line : ℕ) (code : ActsCode) → words ≡ Ok asked → before.files asked.input ≡ Some (Some bytes) → length bytes ≤ most_bytes ModelFile
+      → translation asked.fold bytes ≡ Err (line, code) → ¬ ReadFaultsRose asked.input before after → (status ≡ refusal_status code) ⊎ (status ≡ 1)
   refused asked bytes line code also at within refusal read =
       let r = ran_as asked also in
-      subst (λ s. (s ≡ refusal_status code) ⊎ (s ≡ 1)) (sym is) (refuses asked.fold bytes (files asked.output) (files_after asked.output) line code end
+      subst (λ s. (s ≡ refusal_status code) ⊎ (s ≡ 1)) (sym is) (refuses asked.fold bytes (before.files asked.output) (after.files asked.output) line code end
       (ends_as asked (Some bytes) also at) within refusal (λ e. read (r.read e)))
 
-  pub too_long : (asked : Asked) (bytes : List ℕ) → words ≡ Ok asked → files asked.input ≡ Some (Some bytes) → IsTooLong bytes
-      → ¬ Rose (reads asked.input) (reads_after asked.input) → (status ≡ 9) ⊎ (status ≡ 1)
+  pub too_long : (asked : Asked) (bytes : List ℕ) → words ≡ Ok asked → before.files asked.input ≡ Some (Some bytes) → IsTooLong bytes
+      → ¬ ReadFaultsRose asked.input before after → (status ≡ 9) ⊎ (status ≡ 1)
   too_long asked bytes also at long read =
       let r = ran_as asked also in
       subst (λ s. (s ≡ 9) ⊎ (s ≡ 1)) (sym is)
-      (is_longer asked.fold bytes (files asked.output) (files_after asked.output) end (ends_as asked (Some bytes) also at) long (λ e. read (r.read e)))
+      (is_longer asked.fold bytes (before.files asked.output) (after.files asked.output) end (ends_as asked (Some bytes) also at) long (λ e. read (r.read e)))
 
-  pub missing : (asked : Asked) → words ≡ Ok asked → files asked.input ≡ Some None → (status ≡ 7) ⊎ (status ≡ 1)
+  pub missing : (asked : Asked) → words ≡ Ok asked → before.files asked.input ≡ Some None → (status ≡ 7) ⊎ (status ≡ 1)
   missing asked also at =
-      subst (λ s. (s ≡ 7) ⊎ (s ≡ 1)) (sym is) (is_missing asked.fold (files asked.output) (files_after asked.output) end (ends_as asked None also at))
+      subst (λ s. (s ≡ 7) ⊎ (s ≡ 1)) (sym is) (is_missing asked.fold (before.files asked.output) (after.files asked.output) end (ends_as asked None also at))
 
-  pub read : status ≡ 7 → (asked : Asked) → words ≡ Ok asked → Rose (reads asked.input) (reads_after asked.input)
+  pub read : status ≡ 7 → (asked : Asked) → words ≡ Ok asked → ReadFaultsRose asked.input before after
   read seven asked also = (ran_as asked also).read (seven_is_read end (sym is ∙ seven))
 
-  pub write : status ≡ 8 → (asked : Asked) → words ≡ Ok asked → Rose (writes asked.output) (writes_after asked.output)
+  pub write : status ≡ 8 → (asked : Asked) → words ≡ Ok asked → WriteFaultsRose asked.output before after
   write eight asked also = (ran_as asked also).write (eight_is_write end (sym is ∙ eight))
 
-  pub others : (asked : Asked) → words ≡ Ok asked → KeepsOtherFiles asked.output files files_after
+  pub others : (asked : Asked) → words ≡ Ok asked → KeepsOtherFiles asked.output before after
   others asked also = (ran_as asked also).others
 
   pub statuses : IsStatus status
   statuses = subst IsStatus (sym is) (is_status end)
 
-  pub nothing : status ≢ 0 → status ≢ 8 → KeepsFiles files files_after
+  pub nothing : status ≢ 0 → status ≢ 8 → KeepsFiles before after
   nothing some other = ran.nothing (λ e. some (is ∙ ap end_status e)) (λ e. other (is ∙ ap end_status e))
 
-  pub no_read_fault : status ≢ 7 → KeepsCounts reads reads_after
+  pub no_read_fault : status ≢ 7 → KeepsReadFaults before after
   no_read_fault other = ran.no_read_fault (λ e. other (is ∙ ap end_status e))
 
-  pub no_write_fault : status ≢ 8 → KeepsCounts writes writes_after
+  pub no_write_fault : status ≢ 8 → KeepsWriteFaults before after
   no_write_fault other = ran.no_write_fault (λ e. other (is ∙ ap end_status e))

@@ -1,6 +1,7 @@
 -- What a run of `pictacts` does with the file that it reads and the one that it writes. (This project's rules.)
 use Rattle.std.specs.Prelude.{◌≡◌, ℕ, Bool, ◌<◌, ◌≤◌, List, length, Option, Some, Result, Ok, Err, IfSome, IsSomeAnd}
-use Rattle.outside_io.specs.Files.{Files, HoldsOldOrPrefix}
+use Rattle.outside_io.specs.Files.{HoldsOldOrPrefix}
+use Rattle.outside_io.specs.Seen.{FolderSeen, SinkSeen}
 use Rattle.definitions.specs.Limits.{ModelFile, most_bytes}
 use Rattle.acts_front.specs.Translation.{translation}
 use Rattle.acts_front.specs.Stops.{Tells, end_status, end_text}
@@ -41,10 +42,10 @@ Ends fold held before after (Err CannotWrite) =
     IsSomeAnd held (IsTranslated fold (λ text. IfSome after (λ file. HoldsOldOrPrefix before file text)))
 Ends fold held before after (Err TooLong) = IsSomeAnd held IsTooLong × (after ≡ before)
 
--- a run on words that ask for this, in a folder that tells these files before and after: how it ended, what it told,
+-- a run on words that ask for this, by what the folder tells before and after: how it ended, what it told,
 -- and its status
-pub record IsRun (asked : Asked) (files files_after : Files) (told told_after : Option (List ℕ)) (faults faults_after status : ℕ) : Type 0 where
+pub record IsRun (asked : Asked) (before after : FolderSeen) (told told_after : SinkSeen) (status : ℕ) : Type 0 where
   pub end : Result (Unit {0}) Stop
-  pub ends : IfSome (files asked.input) (λ held. Ends asked.fold held (files asked.output) (files_after asked.output) end)
-  pub tells : Tells told told_after faults faults_after (end_text end asked.input asked.output)
+  pub ends : IfSome (before.files asked.input) (λ held. Ends asked.fold held (before.files asked.output) (after.files asked.output) end)
+  pub tells : Tells told told_after (end_text end asked.input asked.output)
   pub ended : status ≡ end_status end

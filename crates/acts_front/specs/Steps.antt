@@ -2,8 +2,7 @@
 use Rattle.std.specs.Prelude.{◌≡◌, ◌≢◌, ℕ, Bool, List, Option, Result, Ok, Err, IfSome, IsSomeAnd}
 use Rattle.std.specs.declared.vec.Vec.{Vec}
 use Rattle.std.specs.declared.alloc.Global.{Global}
-use Rattle.outside_io.specs.Faults.{Rose, KeepsCounts}
-use Rattle.outside_io.specs.Files.{Files, KeepsFiles, KeepsOtherFiles}
+use Rattle.outside_io.specs.Seen.{FolderSeen, KeepsFiles, KeepsOtherFiles, KeepsReadFaults, KeepsWriteFaults, ReadFaultsRose, WriteFaultsRose}
 use Rattle.acts_front.specs.Runs.{Ends, IsRefused, IsTooLong, IsTranslated}
 use Rattle.acts_front.specs.Words.{Asked}
 use Rattle.acts_front.specs.declared.stop.Stop.{Stop}
@@ -23,13 +22,13 @@ Loads fold held (Err TooLong) = IsSomeAnd held IsTooLong
 abbrev pub IsOfFiles : Result (Unit {0}) Stop → Type 0
 IsOfFiles end = (index : ℕ) → end ≢ Err (BadWord index)
 
--- a run ended so that was asked for this, in a folder that tells these files and counts of faults before and after
-pub record Ran (asked : Asked) (files files_after : Files) (reads reads_after writes writes_after : List ℕ → ℕ) (end : Result (Unit {0}) Stop) : Type 0 where
-  pub ends : IfSome (files asked.input) (λ held. Ends asked.fold held (files asked.output) (files_after asked.output) end)
+-- a run ended so that was asked for this, in a folder that tells this before and after
+pub record Ran (asked : Asked) (before after : FolderSeen) (end : Result (Unit {0}) Stop) : Type 0 where
+  pub ends : IfSome (before.files asked.input) (λ held. Ends asked.fold held (before.files asked.output) (after.files asked.output) end)
   pub words : IsOfFiles end
-  pub read : end ≡ Err CannotRead → Rose (reads asked.input) (reads_after asked.input)
-  pub write : end ≡ Err CannotWrite → Rose (writes asked.output) (writes_after asked.output)
-  pub others : KeepsOtherFiles asked.output files files_after
-  pub nothing : end ≢ Ok tt → end ≢ Err CannotWrite → KeepsFiles files files_after
-  pub no_read_fault : end ≢ Err CannotRead → KeepsCounts reads reads_after
-  pub no_write_fault : end ≢ Err CannotWrite → KeepsCounts writes writes_after
+  pub read : end ≡ Err CannotRead → ReadFaultsRose asked.input before after
+  pub write : end ≡ Err CannotWrite → WriteFaultsRose asked.output before after
+  pub others : KeepsOtherFiles asked.output before after
+  pub nothing : end ≢ Ok tt → end ≢ Err CannotWrite → KeepsFiles before after
+  pub no_read_fault : end ≢ Err CannotRead → KeepsReadFaults before after
+  pub no_write_fault : end ≢ Err CannotWrite → KeepsWriteFaults before after

@@ -3,7 +3,8 @@
 use Rattle.std.specs.Prelude.{◌≡◌, ℕ, true, List, [], ◌∷◌, ◌==◌, Option, Result, Ok, Err}
 use Rattle.std.specs.List.{list_any}
 use Rattle.outside_io.specs.declared.answers.WriteAnswer.{WriteAnswer}
-use Rattle.outside_io.specs.Puts.{Puts, CountsFaults}
+use Rattle.outside_io.specs.Seen.{SinkSeen}
+use Rattle.outside_io.specs.Puts.{Puts}
 use Rattle.definitions.specs.Limits.{ModelFile}
 use Rattle.definitions.specs.Diagnostics.{bytes_limit_line, cannot_read_line, cannot_write_line, memory_line, model_line, word_line}
 use Rattle.acts_front.specs.Codes.{acts_code, acts_text, refusal_status}
@@ -45,9 +46,8 @@ end_text (Ok done) input output = []
 end_text (Err stop) input output = line_of stop input output
 
 -- a sink was asked for a text: it has the whole text, or a prefix of it where its count of faults rose
-abbrev pub Tells : Option (List ℕ) → Option (List ℕ) → ℕ → ℕ → List ℕ → Type 0
-Tells before after faults faults_after text =
-    (answer : WriteAnswer) × Puts answer before after text × CountsFaults answer faults faults_after
+abbrev pub Tells : SinkSeen → SinkSeen → List ℕ → Type 0
+Tells before after text = (answer : WriteAnswer) × Puts answer before after text
 
 -- the statuses that a run may end with
 abbrev pub IsStatus : ℕ → Type 0

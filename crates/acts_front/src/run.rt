@@ -1,6 +1,5 @@
 ghost use Rattle.std.specs.Prelude.{◌≡◌, ◌≢◌, ◌⊎◌, ◌≤◌, ◌<◌, length, ℕ, List, Option, Some, None, Ok, Err, IfSome, IfErr, IsSomeAnd};
-ghost use Rattle.outside_io.specs.Faults.{Rose, KeepsCounts};
-ghost use Rattle.outside_io.specs.Files.{KeepsFiles, KeepsOtherFiles};
+ghost use Rattle.outside_io.specs.Seen.{KeepsFiles, KeepsOtherFiles, KeepsReadFaults, KeepsWriteFaults, ReadFaultsRose, WriteFaultsRose};
 ghost use Rattle.definitions.specs.Diagnostics.{word_line};
 ghost use Rattle.definitions.specs.Limits.{ModelFile, most_bytes};
 ghost use Rattle.acts_front.specs.Codes.{refusal_status};
@@ -25,12 +24,12 @@ use std::alloc::Global;
 /// `CannotRead` where the folder failed, `TooLong` where the file has more bytes than it may, its first refusal,
 /// or `OutOfMemory` where memory was refused.
 fn load<F: Folder>(alloc: Global, name: &str, fold: bool, files: &mut F) -> Result<Vec<u8>, Stop>
-    ensures loads { IfSome (F.file files.old name.now) (λ held. Loads fold held result) }
-    ensures cannot_read { result ≡ Err Stop.CannotRead → Rose (F.read_faults files.old name.now) (F.read_faults files.new name.now) }
-    ensures no_fault { result ≢ Err Stop.CannotRead → KeepsCounts (F.read_faults files.old) (F.read_faults files.new) }
+    ensures loads { IfSome ((F.seen files.old).files name.now) (λ held. Loads fold held result) }
+    ensures cannot_read { result ≡ Err Stop.CannotRead → ReadFaultsRose name.now (F.seen files.old) (F.seen files.new) }
+    ensures no_fault { result ≢ Err Stop.CannotRead → KeepsReadFaults (F.seen files.old) (F.seen files.new) }
     ensures other { IfErr result (λ stop. (stop ≢ Stop.CannotWrite) × ((index : ℕ) → stop ≢ Stop.BadWord index)) }
-    ensures files { KeepsFiles (F.file files.old) (F.file files.new) }
-    ensures write_faults { KeepsCounts (F.write_faults files.old) (F.write_faults files.new) }
+    ensures files { KeepsFiles (F.seen files.old) (F.seen files.new) }
+    ensures write_faults { KeepsWriteFaults (F.seen files.old) (F.seen files.new) }
 {
     let mut bytes = Vec::new(alloc);
     match files.read_file(name, &mut bytes, MOST_MODEL_BYTES) {
@@ -43,8 +42,7 @@ fn load<F: Folder>(alloc: Global, name: &str, fold: bool, files: &mut F) -> Resu
 
 /// Reads a file and writes its translation.
 fn run<F: Folder>(alloc: Global, asked: &Command<'_>, files: &mut F) -> Result<(), Stop>
-    ensures { Ran (asked_seen asked.now) (F.file files.old) (F.file files.new) (F.read_faults files.old) (F.read_faults files.new)
-        (F.write_faults files.old) (F.write_faults files.new) result }
+    ensures { Ran (asked_seen asked.now) (F.seen files.old) (F.seen files.new) result }
 {
     let text = load(alloc, asked.input, asked.fold, files)?;
     match files.write_file(asked.output, text.as_slice()) {
@@ -72,61 +70,61 @@ pub fn run_acts<F: Folder, E: Sink>(
     // After status 0 OUT holds the translation of what IN held at entry, which has no more bytes than it may. Premises:
     // the words ask for this; the folder tells what IN held; and, of OUT, what it holds.
     ensures translated { result ≡ 0 → (asked : Asked) (held : Option (List ℕ)) → asked_by (texts words.now) ≡ Ok asked →
-        F.file files.old asked.input ≡ Some held →
-        IsSomeAnd held (IsTranslated asked.fold (λ text. IfSome (F.file files.new asked.output) (λ file. file ≡ Some text))) }
+        (F.seen files.old).files asked.input ≡ Some held →
+        IsSomeAnd held (IsTranslated asked.fold (λ text. IfSome ((F.seen files.new).files asked.output) (λ file. file ≡ Some text))) }
 
     // What OUT holds after status 0 says what IN said: as a model file, read with the default marks, the same case
     // flag and any order word, it spells a model without notes that has the parameters, values and relations of IN, and
     // whose constraints hold on the same rows; or it is refused, by a limit or since the order is above the number of
     // parameters. Premises: those of the clause before.
     ensures meaning { result ≡ 0 → (asked : Asked) (held : Option (List ℕ)) → asked_by (texts words.now) ≡ Ok asked →
-        F.file files.old asked.input ≡ Some held →
-        IsSomeAnd held (λ bytes. IfSome (F.file files.new asked.output) (λ file. IsSomeAnd file (IsFaithful asked.fold bytes))) }
+        (F.seen files.old).files asked.input ≡ Some held →
+        IsSomeAnd held (λ bytes. IfSome ((F.seen files.new).files asked.output) (λ file. IsSomeAnd file (IsFaithful asked.fold bytes))) }
 
     // What a run does, as far as the folder tells what IN and OUT hold, and `diag` what it got. Premise: the words ask
     // for this.
-    ensures run { (asked : Asked) → asked_by (texts words.now) ≡ Ok asked → IsRun asked (F.file files.old) (F.file files.new)
-        (E.written diag.old) (E.written diag.new) (E.faults diag.old) (E.faults diag.new) result }
+    ensures run { (asked : Asked) → asked_by (texts words.now) ≡ Ok asked → IsRun asked (F.seen files.old) (F.seen files.new)
+        (E.seen diag.old) (E.seen diag.new) result }
 
     // Words that have no reading. Premise: the first that has none is told by this index. With words that have a
     // reading the status is another.
     ensures words { (index : ℕ) → IsWordFault (texts words.now) index →
-        (result ≡ 3) × Tells (E.written diag.old) (E.written diag.new) (E.faults diag.old) (E.faults diag.new) (word_line index) }
+        (result ≡ 3) × Tells (E.seen diag.old) (E.seen diag.new) (word_line index) }
     ensures read_words { (asked : Asked) → asked_by (texts words.now) ≡ Ok asked → result ≢ 3 }
 
     // Which status comes where memory is found. Premises of all four: the words ask for this; the folder tells what IN
     // held. Of the first three: the count of faults of reading IN didn't rise.
     // A file within its bytes that is translated, where the count of faults of writing OUT didn't rise.
     ensures complete { (asked : Asked) (bytes text : List ℕ) → asked_by (texts words.now) ≡ Ok asked →
-        F.file files.old asked.input ≡ Some (Some bytes) → length bytes ≤ most_bytes ModelFile → translation asked.fold bytes ≡ Ok text →
-        ¬ Rose (F.read_faults files.old asked.input) (F.read_faults files.new asked.input) →
-        ¬ Rose (F.write_faults files.old asked.output) (F.write_faults files.new asked.output) → (result ≡ 0) ⊎ (result ≡ 1) }
+        (F.seen files.old).files asked.input ≡ Some (Some bytes) → length bytes ≤ most_bytes ModelFile → translation asked.fold bytes ≡ Ok text →
+        ¬ ReadFaultsRose asked.input (F.seen files.old) (F.seen files.new) →
+        ¬ WriteFaultsRose asked.output (F.seen files.old) (F.seen files.new) → (result ≡ 0) ⊎ (result ≡ 1) }
     // A file within its bytes that is refused.
     ensures refused { (asked : Asked) (bytes : List ℕ) (line : ℕ) (code : ActsCode) → asked_by (texts words.now) ≡ Ok asked →
-        F.file files.old asked.input ≡ Some (Some bytes) → length bytes ≤ most_bytes ModelFile → translation asked.fold bytes ≡ Err (line, code) →
-        ¬ Rose (F.read_faults files.old asked.input) (F.read_faults files.new asked.input) → (result ≡ refusal_status code) ⊎ (result ≡ 1) }
+        (F.seen files.old).files asked.input ≡ Some (Some bytes) → length bytes ≤ most_bytes ModelFile → translation asked.fold bytes ≡ Err (line, code) →
+        ¬ ReadFaultsRose asked.input (F.seen files.old) (F.seen files.new) → (result ≡ refusal_status code) ⊎ (result ≡ 1) }
     // A file with more bytes than it may have.
     ensures too_long { (asked : Asked) (bytes : List ℕ) → asked_by (texts words.now) ≡ Ok asked →
-        F.file files.old asked.input ≡ Some (Some bytes) → IsTooLong bytes →
-        ¬ Rose (F.read_faults files.old asked.input) (F.read_faults files.new asked.input) → (result ≡ 9) ⊎ (result ≡ 1) }
+        (F.seen files.old).files asked.input ≡ Some (Some bytes) → IsTooLong bytes →
+        ¬ ReadFaultsRose asked.input (F.seen files.old) (F.seen files.new) → (result ≡ 9) ⊎ (result ≡ 1) }
     // No file.
     ensures missing { (asked : Asked) → asked_by (texts words.now) ≡ Ok asked →
-        F.file files.old asked.input ≡ Some None → (result ≡ 7) ⊎ (result ≡ 1) }
+        (F.seen files.old).files asked.input ≡ Some None → (result ≡ 7) ⊎ (result ≡ 1) }
 
     // Without such premises: after status 0 nothing is told, 7 comes only where the folder's count of faults of reading
     // IN rose, 8 only where that of writing OUT did, and no status comes but those named above.
-    ensures silent { result ≡ 0 → (E.written diag.new ≡ E.written diag.old) × (E.faults diag.new ≡ E.faults diag.old) }
+    ensures silent { result ≡ 0 → E.seen diag.new ≡ E.seen diag.old }
     ensures read { result ≡ 7 → (asked : Asked) → asked_by (texts words.now) ≡ Ok asked →
-        Rose (F.read_faults files.old asked.input) (F.read_faults files.new asked.input) }
+        ReadFaultsRose asked.input (F.seen files.old) (F.seen files.new) }
     ensures write { result ≡ 8 → (asked : Asked) → asked_by (texts words.now) ≡ Ok asked →
-        Rose (F.write_faults files.old asked.output) (F.write_faults files.new asked.output) }
+        WriteFaultsRose asked.output (F.seen files.old) (F.seen files.new) }
     ensures statuses { IsStatus result }
 
     // No other name changes, and OUT changes only after the statuses 0 and 8: none becomes told or untold, too.
-    ensures others { (asked : Asked) → asked_by (texts words.now) ≡ Ok asked → KeepsOtherFiles asked.output (F.file files.old) (F.file files.new) }
-    ensures nothing { result ≢ 0 → result ≢ 8 → KeepsFiles (F.file files.old) (F.file files.new) }
-    ensures no_read_fault { result ≢ 7 → KeepsCounts (F.read_faults files.old) (F.read_faults files.new) }
-    ensures no_write_fault { result ≢ 8 → KeepsCounts (F.write_faults files.old) (F.write_faults files.new) }
+    ensures others { (asked : Asked) → asked_by (texts words.now) ≡ Ok asked → KeepsOtherFiles asked.output (F.seen files.old) (F.seen files.new) }
+    ensures nothing { result ≢ 0 → result ≢ 8 → KeepsFiles (F.seen files.old) (F.seen files.new) }
+    ensures no_read_fault { result ≢ 7 → KeepsReadFaults (F.seen files.old) (F.seen files.new) }
+    ensures no_write_fault { result ≢ 8 → KeepsWriteFaults (F.seen files.old) (F.seen files.new) }
 {
     let asked = match read_words(words) {
         Ok(asked) => asked,

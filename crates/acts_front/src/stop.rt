@@ -1,5 +1,5 @@
 ghost use Rattle.std.specs.Prelude.{◌≡◌, Ok};
-ghost use Rattle.outside_io.specs.Puts.{Puts, CountsFaults};
+ghost use Rattle.outside_io.specs.Puts.{Puts};
 ghost use Rattle.definitions.specs.Diagnostics.{bytes_limit_line, model_line, word_line};
 ghost use Rattle.definitions.specs.Limits.{ModelFile};
 ghost use Rattle.acts_front.specs.Codes.{acts_code, acts_text};
@@ -44,8 +44,7 @@ impl From<ActsFault> for Stop {
 
 /// Writes the line of a refusal of a line.
 fn put_refusal<E: Sink>(line: u32, code: ActsCode, sink: &mut E) -> WriteAnswer
-    ensures puts { Puts result (E.written sink.old) (E.written sink.new) (model_line line (acts_code code) (acts_text code)) }
-    ensures counts { CountsFaults result (E.faults sink.old) (E.faults sink.new) }
+    ensures { Puts result (E.seen sink.old) (E.seen sink.new) (model_line line (acts_code code) (acts_text code)) }
 {
     let mut buffer = Buffer::new();
     let line = buffer.format(line);
@@ -59,8 +58,7 @@ fn put_refusal<E: Sink>(line: u32, code: ActsCode, sink: &mut E) -> WriteAnswer
 
 /// Writes the line of a file that is too long.
 fn put_too_long<E: Sink>(sink: &mut E) -> WriteAnswer
-    ensures puts { Puts result (E.written sink.old) (E.written sink.new) (bytes_limit_line ModelFile) }
-    ensures counts { CountsFaults result (E.faults sink.old) (E.faults sink.new) }
+    ensures { Puts result (E.seen sink.old) (E.seen sink.new) (bytes_limit_line ModelFile) }
 {
     let mut buffer = Buffer::new();
     let most = buffer.format(MOST_MODEL_BYTES);
@@ -69,8 +67,7 @@ fn put_too_long<E: Sink>(sink: &mut E) -> WriteAnswer
 
 /// Writes the line of a word that has no reading.
 fn put_word<E: Sink>(index: u32, sink: &mut E) -> WriteAnswer
-    ensures puts { Puts result (E.written sink.old) (E.written sink.new) (word_line index) }
-    ensures counts { CountsFaults result (E.faults sink.old) (E.faults sink.new) }
+    ensures { Puts result (E.seen sink.old) (E.seen sink.new) (word_line index) }
 {
     let mut buffer = Buffer::new();
     let number = buffer.format(index);
@@ -94,8 +91,7 @@ impl Stop {
 
     /// Writes the line that says why, where the files have these names. Takes no memory.
     fn put_line<E: Sink>(&self, input: &str, output: &str, diag: &mut E) -> WriteAnswer
-        ensures puts { Puts result (E.written diag.old) (E.written diag.new) (line_of self.now input.now output.now) }
-        ensures counts { CountsFaults result (E.faults diag.old) (E.faults diag.new) }
+        ensures { Puts result (E.seen diag.old) (E.seen diag.new) (line_of self.now input.now output.now) }
     {
         match self {
             Stop::OutOfMemory => put_pieces(diag, &["error: out of memory\n"]),
@@ -125,9 +121,8 @@ pub(crate) fn tell<E: Sink>(
     output: &str,
     diag: &mut E,
 ) -> WriteAnswer
-    ensures puts { Puts result (E.written diag.old) (E.written diag.new) (end_text end.now input.now output.now) }
-    ensures counts { CountsFaults result (E.faults diag.old) (E.faults diag.new) }
-    ensures silent { end.now ≡ Ok tt → (E.written diag.new ≡ E.written diag.old) × (E.faults diag.new ≡ E.faults diag.old) }
+    ensures puts { Puts result (E.seen diag.old) (E.seen diag.new) (end_text end.now input.now output.now) }
+    ensures silent { end.now ≡ Ok tt → E.seen diag.new ≡ E.seen diag.old }
 {
     match end {
         Ok(()) => WriteAnswer::Done,

@@ -20,6 +20,11 @@ const TRANSLATED: &[(&str, &str)] = &[
         "[Parameter]\nA (int): 1\nB (boolean): true, false\n[Constraint]\n!!(A!=-1||!B=tRUE)&&a<=A => (A>0 || A<9) && B != False -- so\n",
         "\nA: 1\nB: TRUE, FALSE\n\nIF NOT NOT ( [A] <> -1 OR NOT [B] = \"TRUE\" ) AND [a] <= [A] THEN ( [A] > 0 OR [A] < 9 ) AND [B] <> \"FALSE\";\n",
     ),
+    // `=>` binds less than `||`, on both of its sides
+    (
+        "[Parameter]\nA (int): 1, 2\nB (enum): x, y\n[Constraint]\nA = 1 || B = \"x\" => A = 2 || B = \"y\"\n",
+        "\nA: 1, 2\nB: x, y\n\nIF [A] = 1 OR [B] = \"x\" THEN [A] = 2 OR [B] = \"y\";\n",
+    ),
     (
         "[Parameter]\nA (int): 1, 01\nB (int): 3\n[Relation]\nR: (A, B, 02)\n",
         "\nA: 1, 01\nB: 3\n\n@ 02 { A, B }\n",

@@ -1,7 +1,7 @@
 //! Whole runs of `pictacts`, over a folder and a sink in memory.
 
 use acts_front::run_acts;
-use outside_io::{Calls, MemFolder, MemSink};
+use memory_io::{Calls, MemFolder, MemSink};
 use std::alloc::Global;
 use std::test::Fail;
 use value_text::NoMemory;

@@ -1,9 +1,7 @@
 //! Folders of files.
 
-use outside_io::{
-    ByteList, Calls, FileHeld, FileList, Folder, MemFolder, ReadAnswer, RealFolder, SureFolder,
-    WriteAnswer,
-};
+use memory_io::{ByteList, Calls, FileHeld, FileList, MemFolder, SureFolder};
+use outside_io::{Folder, ReadAnswer, RealFolder, WriteAnswer};
 use std::alloc::Global;
 use std::fs;
 use std::test::Fail;

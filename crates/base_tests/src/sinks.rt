@@ -1,6 +1,7 @@
 //! Sinks that take bytes.
 
-use outside_io::{MemSink, RealSink, Sink, SureSink, WriteAnswer};
+use memory_io::{MemSink, SureSink};
+use outside_io::{RealSink, Sink, WriteAnswer};
 use std::io;
 use std::io::Write;
 use std::test::Fail;

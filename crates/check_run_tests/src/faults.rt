@@ -1,8 +1,8 @@
 //! Folders and sinks that fail.
 
 use crate::runs::{ACCEPTED, FILES, Given, MODEL, PROOF, REPORT, ends_as, on_files};
-use outside_io::{SureFolder, SureSink};
-use proof_check::run_check_without_faults;
+use memory_io::{SureFolder, SureSink};
+use runs_in_memory::run_check_without_faults;
 use std::alloc::Global;
 use std::thread::Threads;
 use test_runs::{sure_folder, words_of};

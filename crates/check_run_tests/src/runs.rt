@@ -1,6 +1,6 @@
 //! What runs of these tests share: the three files `m`, `r` and `p` in memory, and what a run leaves.
 
-use outside_io::{MemFolder, MemSink};
+use memory_io::{MemFolder, MemSink};
 use proof_check::run_check;
 use std::alloc::Global;
 use std::thread::Threads;

@@ -3,8 +3,8 @@
 use crate::runs::{
     ACCEPTED, FILES, Given, MODEL, PROOF, REPORT, ends_as, ends_on, folder_of, on_files,
 };
-use outside_io::{MemFolder, MemSink};
-use proof_check::run_check_in_memory;
+use memory_io::{MemFolder, MemSink};
+use runs_in_memory::run_check_in_memory;
 use std::alloc::Global;
 use std::thread::Threads;
 use test_runs::words_of;

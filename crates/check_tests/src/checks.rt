@@ -4,7 +4,6 @@ ghost use Rattle.std.specs.Prelude.{◌≤◌};
 
 use cov_model::Tuple;
 use model_lex::ModelFault;
-use outside_io::Gate;
 use proof_check::{CheckFault, Verdict, check_bytes};
 use row_text::RowsFault;
 use std::alloc::Global;
@@ -12,6 +11,7 @@ use std::test::Fail;
 use std::thread::Threads;
 use test_models::options;
 use tuple_index::PlanFault;
+use worker_gate::Gate;
 
 // The most bytes of a text.
 const MOST_BYTES: usize = 1 << 20;

@@ -2,9 +2,9 @@
 
 use crate::checks::check;
 use crate::disk::{REPORT, ROWS};
-use outside_io::OpenGate;
 use std::test::Fail;
 use test_models::{DISK, OVERLAPPING, WORKERS};
+use worker_gate::OpenGate;
 
 // The second value of B doesn't go with the first of A.
 const PAIR: &str = "A: 1, 2\nB: x, y\nIF [A] = 1 THEN [B] = \"x\";\n";

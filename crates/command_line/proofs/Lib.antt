@@ -1,6 +1,5 @@
 pub mod Colons
 pub mod Loading
-pub mod NoFaults
 pub mod PutLines
 pub mod PutPairs
 pub mod PieceSums

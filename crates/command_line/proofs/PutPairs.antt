@@ -1,9 +1,10 @@
 -- Pairs on a sink, one by one.
 use Rattle.std.proofs.Common.{◌≡◌, ℕ, suc, ◌+◌, ◌<◌, List, [], ◌∷◌, ◌++◌, length, get_or, take, refl, sym, ap, ◌∙◌, arith, append_assoc}
 use Rattle.std.proofs.lemmas.List.{take_more, length-take-le, take-append-drop, append-nil}
-use Rattle.std.proofs.Common.{drop, Option, subst}
+use Rattle.std.proofs.Common.{drop, subst}
 use Rattle.definitions.specs.Pairs.{pair_text, pairs_text}
 use Rattle.outside_io.specs.declared.answers.WriteAnswer.TheVariants.{Done, Failed}
+use Rattle.outside_io.specs.Seen.{SinkSeen}
 use Rattle.outside_io.specs.Puts.{Puts}
 use Rattle.outside_io.proofs.PutsLaws.{Puts-then, Puts-stopped}
 use Rattle.command_line.specs.Pieces.{pair_behind}
@@ -33,7 +34,7 @@ pairs_behind pairs (pair ∷ more) =
     )
 
 -- a pair was put behind the pairs before it
-pub Puts-pair : (pairs : List (ℕ × ℕ)) (i : ℕ) (d : ℕ × ℕ) (before middle after : Option (List ℕ)) → i < length pairs
+pub Puts-pair : (pairs : List (ℕ × ℕ)) (i : ℕ) (d : ℕ × ℕ) (before middle after : SinkSeen) → i < length pairs
     → Puts Done before middle (pairs_text (take i pairs)) → Puts Done middle after (pair_behind i (get_or pairs i d))
     → Puts Done before after (pairs_text (take (i + 1) pairs))
 Puts-pair pairs i d before middle after inside first second =
@@ -48,7 +49,7 @@ pairs_around pairs i d inside =
     (later.0, ap (λ text. text ++ later.0) (pairs_more pairs i d inside) ∙ sym later.1 ∙ ap pairs_text (take-append-drop (i + 1) pairs))
 
 -- a fault at a pair, where those before it were put whole
-pub Puts-failed_pair : (pairs : List (ℕ × ℕ)) (i : ℕ) (d : ℕ × ℕ) (before middle after : Option (List ℕ)) → i < length pairs
+pub Puts-failed_pair : (pairs : List (ℕ × ℕ)) (i : ℕ) (d : ℕ × ℕ) (before middle after : SinkSeen) → i < length pairs
     → Puts Done before middle (pairs_text (take i pairs)) → Puts Failed middle after (pair_behind i (get_or pairs i d))
     → Puts Failed before after (pairs_text pairs)
 Puts-failed_pair pairs i d before middle after inside first second =

@@ -3,6 +3,5 @@ pub mod Pieces
 pub mod Ranges
 pub mod Settings
 pub mod Stops
-pub mod SureFiles
 pub mod Told
 pub mod Words

@@ -2,7 +2,8 @@
 use Rattle.std.specs.Prelude.{ℕ, List, [], ◌++◌, Option, Some, None, Result, Ok, Err, codes, decimal}
 use Rattle.std.specs.List.{flat_map}
 use Rattle.outside_io.specs.declared.answers.WriteAnswer.{WriteAnswer}
-use Rattle.outside_io.specs.Puts.{Puts, CountsFaults}
+use Rattle.outside_io.specs.Seen.{SinkSeen}
+use Rattle.outside_io.specs.Puts.{Puts}
 use Rattle.model_lex.specs.Codes.{note_code, note_text}
 use Rattle.model_lex.specs.declared.note.Note.{Note}
 use Rattle.definitions.specs.Diagnostics.{model_note_line, row_note_line, used_seed_line}
@@ -41,9 +42,8 @@ abbrev pub told_text : Option ℕ → List Note → List Note → NamesView → 
 told_text seed notes row_notes names end = seed_text seed ++ (notes_text notes ++ (row_notes_text row_notes ++ end_text names end))
 
 -- a sink was asked for a text: it has the whole text, or a prefix of it where its count of faults rose
-abbrev pub Tells : Option (List ℕ) → Option (List ℕ) → ℕ → ℕ → List ℕ → Type 0
-Tells before after faults faults_after text =
-    (answer : WriteAnswer) × Puts answer before after text × CountsFaults answer faults faults_after
+abbrev pub Tells : SinkSeen → SinkSeen → List ℕ → Type 0
+Tells before after text = (answer : WriteAnswer) × Puts answer before after text
 
 -- the status of a run: 0 where it came to its end, else that of its stop
 abbrev pub end_status : Result (Unit {0}) Stop → ℕ

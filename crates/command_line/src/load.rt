@@ -1,6 +1,5 @@
 ghost use Rattle.std.specs.Prelude.{◌≡◌, ◌≢◌, ◌⊎◌, None, Err, IfOk, IfErr, IfSome, IsSomeAnd, ◌≤◌, length};
-ghost use Rattle.outside_io.specs.Faults.{Rose, KeepsCounts};
-ghost use Rattle.outside_io.specs.Files.{KeepsFiles};
+ghost use Rattle.outside_io.specs.Seen.{KeepsFiles, KeepsReadFaults, KeepsWriteFaults, ReadFaultsRose};
 ghost use Rattle.cov_model.specs.Sound.{IsSound};
 ghost use Rattle.definitions.specs.Limits.{ModelFile, most_bytes};
 ghost use Rattle.model_parse.specs.RawModels.{AreOpts};
@@ -28,14 +27,14 @@ pub fn read_whole<F: Folder>(
     name: &str,
     files: &mut F,
 ) -> Result<Vec<u8>, Stop>
-    ensures whole { IfOk result (λ bytes. IfSome (F.file files.old name.now) (λ held. held ≡ Some bytes.items)) }
+    ensures whole { IfOk result (λ bytes. IfSome ((F.seen files.old).files name.now) (λ held. held ≡ Some bytes.items)) }
     ensures within { IfOk result (λ bytes. length bytes.items ≤ most_bytes (measured kind)) }
-    ensures stops { IfErr result (λ stop. IfSome (F.file files.old name.now) (λ held. IsUnread kind held stop)) }
-    ensures cannot_read { result ≡ Err (Stop.CannotRead kind) → Rose (F.read_faults files.old name.now) (F.read_faults files.new name.now) }
-    ensures no_fault { result ≢ Err (Stop.CannotRead kind) → KeepsCounts (F.read_faults files.old) (F.read_faults files.new) }
+    ensures stops { IfErr result (λ stop. IfSome ((F.seen files.old).files name.now) (λ held. IsUnread kind held stop)) }
+    ensures cannot_read { result ≡ Err (Stop.CannotRead kind) → ReadFaultsRose name.now (F.seen files.old) (F.seen files.new) }
+    ensures no_fault { result ≢ Err (Stop.CannotRead kind) → KeepsReadFaults (F.seen files.old) (F.seen files.new) }
     ensures other { IfErr result (IsOfReading kind) }
-    ensures files { KeepsFiles (F.file files.old) (F.file files.new) }
-    ensures write_faults { KeepsCounts (F.write_faults files.old) (F.write_faults files.new) }
+    ensures files { KeepsFiles (F.seen files.old) (F.seen files.new) }
+    ensures write_faults { KeepsWriteFaults (F.seen files.old) (F.seen files.new) }
 {
     let mut bytes = Vec::new(alloc);
     match files.read_file(name, &mut bytes, kind.most_bytes()) {
@@ -59,13 +58,13 @@ pub fn load_model<F: Folder>(
     files: &mut F,
 ) -> Result<(TestModel, NoteList), Stop>
     requires { AreOpts opts.now }
-    ensures model { IfOk result (λ read. IsSound read.0 × IfSome (F.file files.old name.now) (λ held. IsLoaded opts.now held read.0 read.1)) }
-    ensures stops { IfErr result (λ stop. IfSome (F.file files.old name.now) (λ held. StopsReading opts.now held stop)) }
-    ensures cannot_read { result ≡ Err (Stop.CannotRead FileKind.Model) → Rose (F.read_faults files.old name.now) (F.read_faults files.new name.now) }
-    ensures no_fault { result ≢ Err (Stop.CannotRead FileKind.Model) → KeepsCounts (F.read_faults files.old) (F.read_faults files.new) }
+    ensures model { IfOk result (λ read. IsSound read.0 × IfSome ((F.seen files.old).files name.now) (λ held. IsLoaded opts.now held read.0 read.1)) }
+    ensures stops { IfErr result (λ stop. IfSome ((F.seen files.old).files name.now) (λ held. StopsReading opts.now held stop)) }
+    ensures cannot_read { result ≡ Err (Stop.CannotRead FileKind.Model) → ReadFaultsRose name.now (F.seen files.old) (F.seen files.new) }
+    ensures no_fault { result ≢ Err (Stop.CannotRead FileKind.Model) → KeepsReadFaults (F.seen files.old) (F.seen files.new) }
     ensures other { IfErr result (IsOfReading FileKind.Model) }
-    ensures files { KeepsFiles (F.file files.old) (F.file files.new) }
-    ensures write_faults { KeepsCounts (F.write_faults files.old) (F.write_faults files.new) }
+    ensures files { KeepsFiles (F.seen files.old) (F.seen files.new) }
+    ensures write_faults { KeepsWriteFaults (F.seen files.old) (F.seen files.new) }
 {
     let bytes = read_whole(alloc, FileKind::Model, name, files)?;
     let (model, notes) = read_model(alloc, bytes.as_slice(), opts)?;

@@ -1,6 +1,6 @@
 ghost use Rattle.std.specs.Prelude.{map};
 ghost use Rattle.std.specs.List.{join_with_byte};
-ghost use Rattle.outside_io.specs.Puts.{Puts, CountsFaults};
+ghost use Rattle.outside_io.specs.Puts.{Puts};
 ghost use Rattle.definitions.specs.Pairs.{pair_text, pairs_text};
 ghost use Rattle.command_line.specs.Pieces.{pair_behind};
 
@@ -10,8 +10,7 @@ use outside_io::{Sink, WriteAnswer, put_pieces};
 
 // Writes the pair at a place of a list, behind a space unless it is the first.
 fn put_pair<E: Sink>(sink: &mut E, place: usize, pair: (ParamNo, ValueNo)) -> WriteAnswer
-    ensures puts { Puts result (E.written sink.old) (E.written sink.new) (pair_behind place (pair.0, pair.1)) }
-    ensures counts { CountsFaults result (E.faults sink.old) (E.faults sink.new) }
+    ensures { Puts result (E.seen sink.old) (E.seen sink.new) (pair_behind place (pair.0, pair.1)) }
 {
     let mut parameter = Buffer::new();
     let mut value = Buffer::new();
@@ -26,8 +25,7 @@ fn put_pair<E: Sink>(sink: &mut E, place: usize, pair: (ParamNo, ValueNo)) -> Wr
 
 /// Writes pairs of parameter and value, parted by spaces. Takes no memory.
 pub fn put_pairs<E: Sink>(sink: &mut E, pairs: &[(ParamNo, ValueNo)]) -> WriteAnswer
-    ensures puts { Puts result (E.written sink.old) (E.written sink.new) (pairs_text pairs.now) }
-    ensures counts { CountsFaults result (E.faults sink.old) (E.faults sink.new) }
+    ensures { Puts result (E.seen sink.old) (E.seen sink.new) (pairs_text pairs.now) }
 {
     for (place, pair) in pairs.iter().enumerate() {
         match put_pair(sink, place, *pair) {

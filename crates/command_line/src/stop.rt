@@ -1,5 +1,5 @@
 ghost use Rattle.std.specs.Prelude.{◌≡◌, []};
-ghost use Rattle.outside_io.specs.Puts.{Puts, CountsFaults};
+ghost use Rattle.outside_io.specs.Puts.{Puts};
 ghost use Rattle.definitions.specs.Diagnostics.{bytes_limit_line, count_limit_line, counted_name, model_line, no_column_line, spent_line, word_line};
 ghost use Rattle.definitions.specs.Limits.{most_counted};
 ghost use Rattle.model_lex.specs.Codes.{diag_code, diag_text};
@@ -148,8 +148,7 @@ impl From<RowsFault> for Stop {
 
 // Writes the line of a refusal of the model file.
 fn put_diag<E: Sink>(diag: &Diag, sink: &mut E) -> WriteAnswer
-    ensures puts { Puts result (E.written sink.old) (E.written sink.new) (model_line diag.now.line (diag_code diag.now.code) (diag_text diag.now.code)) }
-    ensures counts { CountsFaults result (E.faults sink.old) (E.faults sink.new) }
+    ensures { Puts result (E.seen sink.old) (E.seen sink.new) (model_line diag.now.line (diag_code diag.now.code) (diag_text diag.now.code)) }
 {
     let mut buffer = Buffer::new();
     let line = buffer.format(diag.line);
@@ -163,8 +162,7 @@ fn put_diag<E: Sink>(diag: &Diag, sink: &mut E) -> WriteAnswer
 
 // Writes the line of a limit.
 fn put_limit<E: Sink>(quantity: Quantity, count: u64, sink: &mut E) -> WriteAnswer
-    ensures puts { Puts result (E.written sink.old) (E.written sink.new) (count_limit_line (counted quantity) count) }
-    ensures counts { CountsFaults result (E.faults sink.old) (E.faults sink.new) }
+    ensures { Puts result (E.seen sink.old) (E.seen sink.new) (count_limit_line (counted quantity) count) }
 {
     let mut given = Buffer::new();
     let mut most = Buffer::new();
@@ -179,8 +177,7 @@ fn put_limit<E: Sink>(quantity: Quantity, count: u64, sink: &mut E) -> WriteAnsw
 
 // Writes the line of a file that is too long.
 fn put_too_long<E: Sink>(kind: FileKind, sink: &mut E) -> WriteAnswer
-    ensures puts { Puts result (E.written sink.old) (E.written sink.new) (bytes_limit_line (measured kind)) }
-    ensures counts { CountsFaults result (E.faults sink.old) (E.faults sink.new) }
+    ensures { Puts result (E.seen sink.old) (E.seen sink.new) (bytes_limit_line (measured kind)) }
 {
     let mut buffer = Buffer::new();
     let name = kind.bytes_name();
@@ -190,8 +187,7 @@ fn put_too_long<E: Sink>(kind: FileKind, sink: &mut E) -> WriteAnswer
 
 // Writes the line of a refusal of a file of rows at a line, by the text behind the line's number.
 fn put_row_line<E: Sink>(line: u32, text: &str, sink: &mut E) -> WriteAnswer
-    ensures puts { Puts result (E.written sink.old) (E.written sink.new) (row_line line text.now) }
-    ensures counts { CountsFaults result (E.faults sink.old) (E.faults sink.new) }
+    ensures { Puts result (E.seen sink.old) (E.seen sink.new) (row_line line text.now) }
 {
     let mut buffer = Buffer::new();
     let line = buffer.format(line);
@@ -200,8 +196,7 @@ fn put_row_line<E: Sink>(line: u32, text: &str, sink: &mut E) -> WriteAnswer
 
 // Writes the line of a file of rows that has no column for a parameter.
 fn put_no_column<E: Sink>(parameter: ParamNo, sink: &mut E) -> WriteAnswer
-    ensures puts { Puts result (E.written sink.old) (E.written sink.new) (no_column_line parameter) }
-    ensures counts { CountsFaults result (E.faults sink.old) (E.faults sink.new) }
+    ensures { Puts result (E.seen sink.old) (E.seen sink.new) (no_column_line parameter) }
 {
     let mut buffer = Buffer::new();
     let number = buffer.format(parameter);
@@ -213,8 +208,7 @@ fn put_no_column<E: Sink>(parameter: ParamNo, sink: &mut E) -> WriteAnswer
 
 // Writes the line of a refusal of a file of rows.
 fn put_rows_fault<E: Sink>(fault: RowsFault, sink: &mut E) -> WriteAnswer
-    ensures puts { Puts result (E.written sink.old) (E.written sink.new) (rows_line fault) }
-    ensures counts { CountsFaults result (E.faults sink.old) (E.faults sink.new) }
+    ensures { Puts result (E.seen sink.old) (E.seen sink.new) (rows_line fault) }
 {
     match fault {
         RowsFault::NoHeader => put_pieces(sink, &["error: row file: F1 no header\n"]),
@@ -228,8 +222,7 @@ fn put_rows_fault<E: Sink>(fault: RowsFault, sink: &mut E) -> WriteAnswer
 
 // Writes how the line of a question whose plain cost is above the budget begins.
 fn put_opening<E: Sink>(budget: u64, sink: &mut E) -> WriteAnswer
-    ensures puts { Puts result (E.written sink.old) (E.written sink.new) (spent_opening budget) }
-    ensures counts { CountsFaults result (E.faults sink.old) (E.faults sink.new) }
+    ensures { Puts result (E.seen sink.old) (E.seen sink.new) (spent_opening budget) }
 {
     let mut buffer = Buffer::new();
     let number = buffer.format(budget);
@@ -238,8 +231,7 @@ fn put_opening<E: Sink>(budget: u64, sink: &mut E) -> WriteAnswer
 
 // Writes the line of a question whose plain cost is above the budget.
 fn put_spent<E: Sink>(budget: u64, question: &Tuple, sink: &mut E) -> WriteAnswer
-    ensures puts { Puts result (E.written sink.old) (E.written sink.new) (spent_line budget question.now) }
-    ensures counts { CountsFaults result (E.faults sink.old) (E.faults sink.new) }
+    ensures { Puts result (E.seen sink.old) (E.seen sink.new) (spent_line budget question.now) }
 {
     match put_opening(budget, sink) {
         WriteAnswer::Done => {}
@@ -253,8 +245,7 @@ fn put_spent<E: Sink>(budget: u64, question: &Tuple, sink: &mut E) -> WriteAnswe
 
 // Writes the line of a word that has no reading.
 fn put_word<E: Sink>(index: u32, sink: &mut E) -> WriteAnswer
-    ensures puts { Puts result (E.written sink.old) (E.written sink.new) (word_line index) }
-    ensures counts { CountsFaults result (E.faults sink.old) (E.faults sink.new) }
+    ensures { Puts result (E.seen sink.old) (E.seen sink.new) (word_line index) }
 {
     let mut buffer = Buffer::new();
     let number = buffer.format(index);
@@ -281,8 +272,7 @@ impl Stop {
 
     /// Writes the line that says why, where the files have these names. Takes no memory.
     pub fn put_line<E: Sink>(&self, names: &FileNames<'_>, diag: &mut E) -> WriteAnswer
-        ensures puts { Puts result (E.written diag.old) (E.written diag.new) (line_of self.now names.now) }
-        ensures counts { CountsFaults result (E.faults diag.old) (E.faults diag.new) }
+        ensures { Puts result (E.seen diag.old) (E.seen diag.new) (line_of self.now names.now) }
     {
         match self {
             Stop::OutOfMemory => put_pieces(diag, &["error: out of memory\n"]),

@@ -1,6 +1,6 @@
 ghost use Rattle.std.specs.Prelude.{◌≡◌, ◌++◌};
 ghost use Rattle.std.specs.List.{flat_map};
-ghost use Rattle.outside_io.specs.Puts.{Puts, CountsFaults};
+ghost use Rattle.outside_io.specs.Puts.{Puts};
 ghost use Rattle.definitions.specs.Diagnostics.{used_seed_line};
 ghost use Rattle.command_line.specs.Told.{end_text, line_behind, row_notes_text, seed_text, told_text};
 ghost use Rattle.command_line.specs.Stops.{line_of};
@@ -13,8 +13,7 @@ use outside_io::{Sink, WriteAnswer, put_pieces};
 
 // Writes the line of a seed that no word gave.
 fn put_seed<E: Sink>(seed: Option<u64>, sink: &mut E) -> WriteAnswer
-    ensures puts { Puts result (E.written sink.old) (E.written sink.new) (seed_text seed) }
-    ensures counts { CountsFaults result (E.faults sink.old) (E.faults sink.new) }
+    ensures { Puts result (E.seen sink.old) (E.seen sink.new) (seed_text seed) }
 {
     let Some(number) = seed else {
         return WriteAnswer::Done;
@@ -26,8 +25,7 @@ fn put_seed<E: Sink>(seed: Option<u64>, sink: &mut E) -> WriteAnswer
 
 // Writes the line of a note on a file, which begins with this text before the line's number.
 fn put_note<E: Sink>(opening: &'static str, note: &Note, sink: &mut E) -> WriteAnswer
-    ensures puts { Puts result (E.written sink.old) (E.written sink.new) (line_behind opening.now note.now) }
-    ensures counts { CountsFaults result (E.faults sink.old) (E.faults sink.new) }
+    ensures { Puts result (E.seen sink.old) (E.seen sink.new) (line_behind opening.now note.now) }
 {
     let mut buffer = Buffer::new();
     let line = buffer.format(note.line);
@@ -38,8 +36,7 @@ fn put_note<E: Sink>(opening: &'static str, note: &Note, sink: &mut E) -> WriteA
 
 // Writes the lines of notes on a file, which begin with this text.
 fn put_notes<E: Sink>(opening: &'static str, notes: &[Note], sink: &mut E) -> WriteAnswer
-    ensures puts { Puts result (E.written sink.old) (E.written sink.new) (flat_map (line_behind opening.now) notes.now) }
-    ensures counts { CountsFaults result (E.faults sink.old) (E.faults sink.new) }
+    ensures { Puts result (E.seen sink.old) (E.seen sink.new) (flat_map (line_behind opening.now) notes.now) }
 {
     for note in notes {
         match put_note(opening, note, sink) {
@@ -52,8 +49,7 @@ fn put_notes<E: Sink>(opening: &'static str, notes: &[Note], sink: &mut E) -> Wr
 
 // Writes the line of the stop, if there is one.
 fn put_end<E: Sink>(end: &Result<(), Stop>, names: &FileNames<'_>, sink: &mut E) -> WriteAnswer
-    ensures puts { Puts result (E.written sink.old) (E.written sink.new) (end_text names.now end.now) }
-    ensures counts { CountsFaults result (E.faults sink.old) (E.faults sink.new) }
+    ensures { Puts result (E.seen sink.old) (E.seen sink.new) (end_text names.now end.now) }
 {
     match end {
         Ok(()) => WriteAnswer::Done,
@@ -68,8 +64,7 @@ fn put_rows_end<E: Sink>(
     names: &FileNames<'_>,
     sink: &mut E,
 ) -> WriteAnswer
-    ensures puts { Puts result (E.written sink.old) (E.written sink.new) (row_notes_text notes.now ++ end_text names.now end.now) }
-    ensures counts { CountsFaults result (E.faults sink.old) (E.faults sink.new) }
+    ensures { Puts result (E.seen sink.old) (E.seen sink.new) (row_notes_text notes.now ++ end_text names.now end.now) }
 {
     match put_notes("warning: row file line ", notes, sink) {
         WriteAnswer::Done => put_end(end, names, sink),
@@ -87,8 +82,7 @@ pub fn tell<E: Sink>(
     names: &FileNames<'_>,
     sink: &mut E,
 ) -> WriteAnswer
-    ensures puts { Puts result (E.written sink.old) (E.written sink.new) (told_text seed notes.now row_notes.now names.now end.now) }
-    ensures counts { CountsFaults result (E.faults sink.old) (E.faults sink.new) }
+    ensures { Puts result (E.seen sink.old) (E.seen sink.new) (told_text seed notes.now row_notes.now names.now end.now) }
 {
     match put_seed(seed, sink) {
         WriteAnswer::Done => {}

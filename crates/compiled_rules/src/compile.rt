@@ -1,5 +1,5 @@
 ghost use Rattle.std.specs.Prelude.{◌≡◌, ◌<◌, ◌++◌, ◌∷◌, [], length, IfOk, OnOk, All};
-ghost use Rattle.cov_model.specs.Sound.{IsSoundBody, IsSoundPred, IsSoundTerm, param_at};
+ghost use Rattle.cov_model.specs.Sound.{IsSoundBody, IsSoundPred, IsSoundTerm};
 ghost use Rattle.cov_model.specs.Views.{Leaf, body_view, pred_view};
 ghost use Rattle.cov_model.specs.Fits.{FitsModel};
 ghost use Rattle.cov_model.specs.Kleene.{term_params};
@@ -7,7 +7,7 @@ ghost use Rattle.compiled_rules.specs.Codes.{AreCodesOf, Extends, IsBodyCodeOf, 
 
 use crate::code::{BodyCode, Code, CodeList};
 use crate::table::TruthTable;
-use cov_model::{Body, Cells, ParamNo, Pred, Rel, Term, TestModel, Truth, ValueNo};
+use cov_model::{Body, Cells, ParamNo, Pred, Rel, Term, TestModel, Truth};
 use std::alloc::Global;
 use value_text::{NoMemory, OwnedList};
 
@@ -26,14 +26,6 @@ fn is_yes(truth: Truth) -> bool
     }
 }
 
-// How many values a parameter has.
-fn count_of(model: &TestModel, p: ParamNo) -> ValueNo
-    requires { p < length model.now.params }
-    ensures { result ≡ length (param_at model.now.params p).values }
-{
-    model.params().as_slice()[p as usize].values.len() as ValueNo
-}
-
 // Puts what holds of a term on the cells with each value of the parameter behind the table.
 fn push_row(
     model: &TestModel,
@@ -48,7 +40,7 @@ fn push_row(
     ensures row { OnOk result (table.new ≡ table.old ++ truths_over model.now term.now room.old q) }
     ensures fits { FitsModel model.now room.new }
 {
-    let count = count_of(model, q);
+    let count = model.value_count(q);
     for w in 0..count {
         room.set_cell(q, w);
         let holds = is_yes(model.term_truth(term, room));
@@ -100,8 +92,8 @@ fn compile_two(
     ensures fits { FitsModel model.now room.new }
 {
     let start = table.len();
-    let width = count_of(model, q);
-    let count = count_of(model, p);
+    let width = model.value_count(q);
+    let count = model.value_count(p);
     for v in 0..count {
         room.set_cell(p, v);
         push_row(model, term, q, room, table)?;
@@ -119,7 +111,7 @@ fn has_room(model: &TestModel, p: ParamNo, q: ParamNo, table: &TruthTable) -> bo
     requires first { p < length model.now.params }
     requires second { q < length model.now.params }
 {
-    let pairs = u64::from(count_of(model, p)) * u64::from(count_of(model, q));
+    let pairs = u64::from(model.value_count(p)) * u64::from(model.value_count(q));
     u64::from(table.len()) + pairs <= MOST_PLACES
 }
 

@@ -1,6 +1,7 @@
 pub mod SoundLemmas
 pub mod TruthLemmas
 pub mod CellLemmas
+pub mod TupleLemmas
 pub mod RowLemmas
 pub mod PackedRowLemmas
 pub mod KnownLemmas

@@ -1,9 +1,9 @@
-pub mod Tuples
 pub mod Names
 pub mod Views
 pub mod Stored
 pub mod Sound
 pub mod Rows
+pub mod Tuples
 pub mod PackedRows
 pub mod Fits
 pub mod Meaning

@@ -1,6 +1,10 @@
-ghost use Rattle.std.specs.Prelude.{◌≡◌, ◌<◌, Option, Some, None, length, replicate, slice_index_or, slice_set, IfOk};
+ghost use Rattle.std.specs.Prelude.{◌≡◌, ◌<◌, ◌∷◌, [], Option, Some, None, length, replicate, slice_index_or, slice_set, IfOk};
+ghost use Rattle.std.specs.List.{list_all};
+ghost use Rattle.cov_model.specs.Rows.{contains, with_value};
+ghost use Rattle.cov_model.specs.Tuples.{cells_of};
 
 use crate::parameter::{ParamNo, ValueNo};
+use crate::tuple::Tuple;
 use smallvec::SmallVec;
 use std::alloc::Global;
 use std::marker::Model;
@@ -82,6 +86,60 @@ impl Cells {
         ensures { self.new ≡ slice_set self.old p None }
     {
         self.places[p as usize] = None;
+    }
+
+    /// Takes the values of all parameters away. Takes no memory.
+    pub fn clear(&mut self)
+        ensures { self.new ≡ replicate (length self.old) None }
+    {
+        self.places.as_mut_slice().fill(None);
+    }
+
+    // Gives a parameter the value, where it has a place.
+    fn give(&mut self, p: ParamNo, v: ValueNo)
+        ensures { self.new ≡ with_value self.old p v }
+    {
+        if (p as usize) < self.len() {
+            self.set_cell(p, v);
+        }
+    }
+
+    /// Becomes the partial row of the tuple. A parameter that has no place is left out. Takes no
+    /// memory.
+    pub fn copy_tuple(&mut self, tuple: &Tuple)
+        ensures { self.new ≡ cells_of (length self.old) tuple.now }
+    {
+        self.clear();
+        let pairs = tuple.as_slice();
+        for i in (0..pairs.len()).rev() {
+            let (p, v) = pairs[i];
+            self.give(p, v);
+        }
+    }
+
+    // Whether a parameter has this value, or no place.
+    fn gives(&self, pair: (ParamNo, ValueNo)) -> bool
+        ensures { result ≡ contains self.now (cells_of (length self.now) (pair ∷ [])) }
+    {
+        if pair.0 as usize >= self.len() {
+            return true;
+        }
+        self.get(pair.0) == Some(pair.1)
+    }
+
+    // The same of each of the pairs.
+    fn gives_each(&self, pairs: &[(ParamNo, ValueNo)]) -> bool
+        ensures { result ≡ list_all (λ pair. contains self.now (cells_of (length self.now) (pair ∷ []))) pairs.now }
+    {
+        pairs.iter().all(|pair| self.gives(*pair))
+    }
+
+    /// Whether the partial row contains that of the tuple: it gives each of the tuple's parameters
+    /// the tuple's value. A parameter that has no place is left out. Takes no memory.
+    pub fn contains(&self, tuple: &Tuple) -> bool
+        ensures { result ≡ contains self.now (cells_of (length self.now) tuple.now) }
+    {
+        self.gives_each(tuple.as_slice())
     }
 
     /// Becomes the other partial row. Takes no memory.

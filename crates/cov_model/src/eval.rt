@@ -4,13 +4,13 @@ ghost use Rattle.cov_model.specs.Views.{body_view, pred_view, preds_in};
 ghost use Rattle.cov_model.specs.Sound.{IsLiteralOf, IsSoundBody, IsSoundPred, IsSoundTerm, param_at, rule_at, first_name};
 ghost use Rattle.cov_model.specs.Rows.{is_assigned};
 ghost use Rattle.cov_model.specs.Fits.{FitsModel};
-ghost use Rattle.cov_model.specs.Meaning.{given_value, literal_order, number_in, operand_of, value_at};
+ghost use Rattle.cov_model.specs.Meaning.{given_value, literal_order, number_in, operand_of};
 ghost use Rattle.cov_model.specs.Kleene.{term_truth, pred_truth, all_truth, any_truth, body_truth};
 
 use crate::cells::Cells;
 use crate::constraint::{Body, Literal, Pred, Rel, Term};
 use crate::model::TestModel;
-use crate::parameter::{Param, ParamNo, Value, ValueNo};
+use crate::parameter::{Param, ParamNo, Value};
 use crate::truth::Truth;
 use std::cmp::Ordering;
 use value_text::{Fixed, FixedAnswer, like, order_text, read_fixed};
@@ -60,18 +60,6 @@ fn name_of(value: &Value) -> &str
 }
 
 impl TestModel {
-    // A value of a parameter.
-    fn value(&self, p: ParamNo, v: ValueNo) -> &Value
-        requires parameter { p < length self.now.params }
-        requires value { v < length (param_at self.now.params p).values }
-        ensures value { result.now ≡ value_at self.now p v }
-        ensures named { 0 < length result.now.names }
-        ensures number { (param_at self.now.params p).numeric ≡ true → is_number (first_name result.now) ≡ true }
-    {
-        let param = &self.params().as_slice()[p as usize];
-        &param.values.as_slice()[v as usize]
-    }
-
     // The value that the cells give a parameter.
     pub(crate) fn given(&self, p: ParamNo, cells: &Cells) -> Option<&Value>
         requires parameter { p < length self.now.params }
@@ -96,7 +84,7 @@ impl TestModel {
         let Some(value) = self.given(p, cells) else {
             return Truth::Unknown;
         };
-        let param = &self.params().as_slice()[p as usize];
+        let param = self.param(p);
         let order = order_to_literal(param, name_of(value), literal, self.fold());
         Truth::of(rel.holds(order))
     }
@@ -113,7 +101,7 @@ impl TestModel {
         let Some(right) = self.given(q, cells) else {
             return Truth::Unknown;
         };
-        let numeric = self.params().as_slice()[p as usize].numeric;
+        let numeric = self.param(p).numeric;
         let order = order_of_names(numeric, name_of(left), name_of(right), self.fold());
         Truth::of(rel.holds(order))
     }
@@ -151,7 +139,7 @@ impl TestModel {
         let Some(value) = self.given(p, cells) else {
             return Truth::Unknown;
         };
-        let param = &self.params().as_slice()[p as usize];
+        let param = self.param(p);
         let name = name_of(value);
         for literal in literals {
             if order_to_literal(param, name, literal, self.fold()).is_eq() {

@@ -1,10 +1,12 @@
-ghost use Rattle.std.specs.Prelude.{◌≡◌, map};
+ghost use Rattle.std.specs.Prelude.{◌≡◌, ◌<◌, true, map, length};
+ghost use Rattle.value_text.specs.Numbers.{is_number};
 ghost use Rattle.cov_model.specs.Views.{rule_view};
-ghost use Rattle.cov_model.specs.Sound.{IsSound};
+ghost use Rattle.cov_model.specs.Sound.{IsSound, IsSoundParam, IsSoundValue, first_name, param_at};
+ghost use Rattle.cov_model.specs.Meaning.{value_at};
 
 use crate::constraint::RuleList;
 use crate::demand::Demand;
-use crate::parameter::ParamList;
+use crate::parameter::{Param, ParamList, ParamNo, Value, ValueNo};
 use std::marker::Model;
 
 /// A sound test model: what a model file describes (PICT's guide; the ACTS guide for relations).
@@ -71,6 +73,44 @@ impl TestModel {
         ensures sound { IsSound self.now }
     {
         &self.all_params
+    }
+
+    /// The parameter of a number.
+    pub fn param(&self, p: ParamNo) -> &Param
+        requires { p < length self.now.params }
+        ensures value { result.now ≡ param_at self.now.params p }
+        ensures own { IsSoundParam self.now.prefix self.now.fold result.now }
+        ensures sound { IsSound self.now }
+    {
+        &self.params().as_slice()[p as usize]
+    }
+
+    /// How many values a parameter has.
+    pub fn value_count(&self, p: ParamNo) -> ValueNo
+        requires { p < length self.now.params }
+        ensures { result ≡ length (param_at self.now.params p).values }
+    {
+        self.param(p).values.len() as ValueNo
+    }
+
+    /// The value of a number of a parameter.
+    pub fn value(&self, p: ParamNo, v: ValueNo) -> &Value
+        requires parameter { p < length self.now.params }
+        requires value { v < length (param_at self.now.params p).values }
+        ensures value { result.now ≡ value_at self.now p v }
+        ensures own { IsSoundValue self.now.prefix result.now }
+        ensures number { (param_at self.now.params p).numeric ≡ true → is_number (first_name result.now) ≡ true }
+    {
+        &self.param(p).values.as_slice()[v as usize]
+    }
+
+    /// Whether a value of a parameter is negative: an invalid input (PICT's guide).
+    pub fn is_negative(&self, p: ParamNo, v: ValueNo) -> bool
+        requires parameter { p < length self.now.params }
+        requires value { v < length (param_at self.now.params p).values }
+        ensures { result ≡ (value_at self.now p v).negative }
+    {
+        self.value(p, v).negative
     }
 
     /// The constraints, in order; the one at place i has the number i + 1.

@@ -42,8 +42,8 @@ impl TestModel {
         self.body_truth(body, row) == Truth::Yes
     }
 
-    // Whether the cells give a parameter a negative value.
-    pub(crate) fn is_negative(&self, p: ParamNo, cells: &Cells) -> bool
+    /// Whether a partial row gives a parameter a negative value. Takes no memory.
+    pub fn gives_negative(&self, p: ParamNo, cells: &Cells) -> bool
         requires parameter { p < length self.now.params }
         requires fits { FitsModel self.now cells.now }
         ensures { result ≡ (is_assigned cells.now p && (given_value self.now cells.now p).negative) }
@@ -62,7 +62,7 @@ impl TestModel {
         let count = self.params().len() as u16;
         let mut first = None;
         for p in 0..count {
-            if self.is_negative(p, cells) {
+            if self.gives_negative(p, cells) {
                 match first {
                     Some(q) => return Some(RowWhy::Negatives(q, p)),
                     None => first = Some(p),

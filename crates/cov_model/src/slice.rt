@@ -24,7 +24,7 @@ impl TestModel {
         requires fits { FitsModel self.now cells.now }
         ensures { result ≡ (if is_assigned cells.now p && (given_value self.now cells.now p).negative then Some (value_in cells.now p) else None) }
     {
-        if self.is_negative(p, cells) {
+        if self.gives_negative(p, cells) {
             cells.get(p)
         } else {
             None

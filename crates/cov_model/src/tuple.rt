@@ -1,4 +1,5 @@
-ghost use Rattle.std.specs.Prelude.{◌≡◌, IfOk};
+ghost use Rattle.std.specs.Prelude.{◌≡◌, ◌==◌, IfOk};
+ghost use Rattle.std.specs.List.{list_any};
 ghost use Rattle.cov_model.specs.Tuples.{IsRising};
 
 use crate::parameter::{ParamNo, ValueNo};
@@ -47,5 +48,11 @@ impl Tuple {
         ensures rising { IsRising self.now }
     {
         self.pairs.as_slice()
+    }
+    /// Whether the tuple gives a parameter a value. Takes no memory.
+    pub fn has_param(&self, p: ParamNo) -> bool
+        ensures { result ≡ list_any (λ pair. pair.0 == p) self.now }
+    {
+        self.as_slice().iter().any(|pair| pair.0 == p)
     }
 }

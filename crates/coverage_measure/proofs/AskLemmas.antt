@@ -13,13 +13,14 @@ use Rattle.definitions.specs.Completion.{is_extendable}
 use Rattle.cov_model.specs.Slices.{slice_values}
 use Rattle.definitions.specs.Demand.{tuples_in}
 use Rattle.definitions.specs.Figures.{all_rows, is_served}
-use Rattle.definitions.specs.Search.{exceeds, first_over, plain_cost}
+use Rattle.definitions.specs.Search.{first_over, plain_cost}
 use Rattle.definitions.specs.SliceRows.{IsOfSlice, IsSliceOf}
 use Rattle.feasibility.specs.Tree.{no_values}
 use Rattle.feasibility.specs.declared.answer.Answer.{Answer}
-use Rattle.feasibility.specs.declared.answer.Answer.TheVariants.{Yes, No, Spent}
+use Rattle.feasibility.specs.declared.answer.Answer.TheVariants.{Yes, No}
 use Rattle.tuple_index.specs.Places.{RisesFrom, has_part}
 use Rattle.full_search.specs.Questions.{QuestionsView, answer_within}
+use Rattle.full_search.proofs.Answering.{answer_tells}
 use Rattle.feasibility.proofs.Extendable.{plain_search_is_exact}
 use Rattle.tuple_index.proofs.PlaceLemmas.{slice_get-append_right}
 use Rattle.coverage_measure.specs.Asking.{IsFor, is_above, is_found, tally, with_values}
@@ -84,34 +85,12 @@ answer_about asked cells = answer_within (is_extendable asked.model asked.slice 
 pub answered_yes : (asked : QuestionsView) (cells : List (Option ℕ)) (given : Answer) → given ≡ answer_about asked cells → given ≡ Yes
     → is_extendable asked.model asked.slice cells ≡ true
 answered_yes asked cells given is told =
-    by_tests (exceeds asked.effort (plain_cost asked.model asked.prefs asked.slice cells)) (is_extendable asked.model asked.slice cells) (sym is ∙ told)
-  where
-    by_tests : (over found : Bool) → cond over Spent (cond found Yes No) ≡ Yes → found ≡ true
-    by_tests true found told = absurd (spent_yes told)
-      where
-        spent_yes : Spent ≡ Yes → ⊥
-        spent_yes e = cc
-    by_tests false true told = refl
-    by_tests false false told = absurd (no_yes told)
-      where
-        no_yes : No ≡ Yes → ⊥
-        no_yes e = cc
+    ((answer_tells given (is_extendable asked.model asked.slice cells) (plain_cost asked.model asked.prefs asked.slice cells) asked.effort is).yes told).0
 
 pub answered_no : (asked : QuestionsView) (cells : List (Option ℕ)) (given : Answer) → given ≡ answer_about asked cells → given ≡ No
     → is_extendable asked.model asked.slice cells ≡ false
 answered_no asked cells given is told =
-    by_tests (exceeds asked.effort (plain_cost asked.model asked.prefs asked.slice cells)) (is_extendable asked.model asked.slice cells) (sym is ∙ told)
-  where
-    by_tests : (over found : Bool) → cond over Spent (cond found Yes No) ≡ No → found ≡ false
-    by_tests true found told = absurd (spent_no told)
-      where
-        spent_no : Spent ≡ No → ⊥
-        spent_no e = cc
-    by_tests false true told = absurd (yes_no told)
-      where
-        yes_no : Yes ≡ No → ⊥
-        yes_no e = cc
-    by_tests false false told = refl
+    ((answer_tells given (is_extendable asked.model asked.slice cells) (plain_cost asked.model asked.prefs asked.slice cells) asked.effort is).no told).0
 
 -- so it counts for one or none
 pub row_told : (m : ModelView) (pref : List (List ℕ)) (effort : Effort) (one : KeptQuestions) (asked : QuestionsView) (cells : List (Option ℕ))

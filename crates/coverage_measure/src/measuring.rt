@@ -18,12 +18,12 @@ use crate::suite_rows::count_rows;
 use cov_model::{Prefs, TestModel};
 use definitions::Effort;
 use feasibility::SearchFault;
-use outside_io::Gate;
 use row_text::{Figures, RowFile};
 use shared_marks::{Bits, count_tuples, mark_rows};
 use std::alloc::Global;
 use std::thread::Threads;
 use tuple_index::Plan;
+use worker_gate::Gate;
 
 // The figures of the demanded sets. Marked are the demanded tuples that tests of a suite serve.
 fn measure_sets(asking: &Asking<'_>, plan: &Plan, marks: &Bits) -> Result<SetFigures, SearchFault>

@@ -17,7 +17,7 @@ pub mod Cells
 pub mod Names
 pub mod ReadRow
 pub mod ReadBack
-mod ReportRead
+pub mod ReportRead
 pub mod Nothing
 pub mod Readings
 pub mod Contained

@@ -1,11 +1,12 @@
 -- The pairs of an omission stand in its partial row, so where its tuple is a demanded one they exist in the model.
 use Rattle.std.proofs.Common.{◌≡◌, ℕ, ◌<◌, List, [], ◌∷◌, length, get_or, Option, Some, None, is_some, unwrap_or, inl, inr, ◌∙◌, sym, ap, subst, arith, zero-add}
 use Rattle.std.proofs.lemmas.Bool.{false≢true}
-use Rattle.std.proofs.lemmas.List.{get_or-set_same, get_or-set_other, get_or-replicate, length-set, length-replicate}
+use Rattle.std.proofs.lemmas.List.{get_or-set_same, get_or-set_other, get_or-replicate}
 use Rattle.cov_model.specs.Sound.{ModelView, IsSound, param_at}
 use Rattle.cov_model.specs.Slices.{slice_of}
 use Rattle.cov_model.specs.Tuples.{IsRising}
 use Rattle.cov_model.proofs.CellLemmas.{length-slice_values}
+pub use Rattle.cov_model.proofs.TupleLemmas.{behind_first, length-cells_of}
 use Rattle.definitions.specs.Demand.{is_among}
 use Rattle.definitions.specs.Pairs.{cells_of}
 use Rattle.definitions.proofs.Members.{Has}
@@ -14,19 +15,11 @@ use Rattle.definitions.proofs.Demanded.{demanded_has}
 use Rattle.definitions.proofs.InPlay.{tuple_is}
 use Rattle.definitions.proofs.Grown.{IsDemanded}
 
-pub length-cells_of : (n : ℕ) (pairs : List (ℕ × ℕ)) → length (cells_of n pairs) ≡ n
-length-cells_of n [] = length-replicate n None
-length-cells_of n (pair ∷ pairs) = length-set (cells_of n pairs) pair.0 (Some pair.1) ∙ length-cells_of n pairs
-
 -- the parameters behind the first are above it
 above_first : (first : ℕ × ℕ) (pairs : List (ℕ × ℕ)) (pair : ℕ × ℕ) → IsRising (first ∷ pairs) → Has pairs pair → first.0 < pair.0
 above_first first [] pair rises has = absurd has
 above_first first (next ∷ pairs) pair rises (inl same) = subst (λ p. first.0 < p.0) same rises.0
 above_first first (next ∷ pairs) pair rises (inr has) = let later = above_first next pairs pair rises.1 has in omega (arith, rises.0, later)
-
-pub behind_first : (first : ℕ × ℕ) (pairs : List (ℕ × ℕ)) → IsRising (first ∷ pairs) → IsRising pairs
-behind_first first [] rises = tt
-behind_first first (next ∷ pairs) rises = rises.1
 
 -- rising pairs each give their cell its value
 pub pair_stands : (n : ℕ) (pairs : List (ℕ × ℕ)) (pair : ℕ × ℕ) → IsRising pairs → pair.0 < n → Has pairs pair

@@ -2,11 +2,12 @@
 -- and whether it is extendable. (Lei and others 2007 for columns by falling number of values; the orders
 -- among equals are this project's rules.)
 use Rattle.std.specs.Prelude.{ℕ, zero, suc, Bool, ◌&&◌, List, [], ◌∷◌, ◌++◌, map, length, sum_by, Option}
-use Rattle.std.specs.Prelude.{Some, None, ◌==◌, nat_le, slice_index_or, slice_set, if◌then◌else◌, find}
+use Rattle.std.specs.Prelude.{Some, None, ◌==◌, nat_le, slice_index_or, if◌then◌else◌, find}
 use Rattle.std.specs.List.{filter, flat_map, list_all, list_any}
 use Rattle.cov_model.specs.declared.slice.Slice.{Slice}
 use Rattle.cov_model.specs.Sound.{ModelView}
 use Rattle.cov_model.specs.Rows.{contains}
+pub use Rattle.cov_model.specs.Rows.{with_value}
 use Rattle.cov_model.specs.Meaning.{body_holds}
 use Rattle.cov_model.specs.Valid.{negatives, param_numbers}
 use Rattle.cov_model.specs.Slices.{slice_of, slice_values}
@@ -35,10 +36,6 @@ preferred_at m pref slice p = filter (is_among (slice_index_or (slice_values m s
 -- the same of each parameter
 abbrev pub preferred_values : ModelView → List (List ℕ) → Slice → List (List ℕ)
 preferred_values m pref slice = map (preferred_at m pref slice) (param_numbers m)
-
--- the cells with this value of a parameter
-abbrev pub with_value : List (Option ℕ) → ℕ → ℕ → List (Option ℕ)
-with_value cells p v = slice_set cells p (Some v)
 
 -- those of the values that a cell can have: its own, or any where it has none
 abbrev pub cell_values : List ℕ → Option ℕ → List ℕ

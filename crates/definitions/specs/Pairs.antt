@@ -1,12 +1,7 @@
 -- A partial row as the pairs of its parameters and values, and their text. (This project's rule.)
-use Rattle.std.specs.Prelude.{ℕ, ◌+◌, List, [], ◌∷◌, ◌++◌, map, replicate, Option, Some, None, decimal}
+use Rattle.std.specs.Prelude.{ℕ, ◌+◌, List, [], ◌∷◌, ◌++◌, map, Option, Some, None, decimal}
 use Rattle.std.specs.List.{join_with_byte}
-use Rattle.definitions.specs.Completion.{with_value}
-
--- the partial row of n parameters with these values
-abbrev pub cells_of : ℕ → List (ℕ × ℕ) → List (Option ℕ)
-cells_of n [] = replicate n None
-cells_of n (pair ∷ pairs) = with_value (cells_of n pairs) pair.0 pair.1
+pub use Rattle.cov_model.specs.Tuples.{cells_of}
 
 -- the pairs of a partial row whose first cell is that of parameter p, the parameters rising
 abbrev pub pairs_from : ℕ → List (Option ℕ) → List (ℕ × ℕ)

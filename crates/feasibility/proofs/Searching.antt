@@ -30,7 +30,7 @@ use Rattle.feasibility.proofs.Completing.{filled_is_completion, first_of-filled,
 use Rattle.feasibility.proofs.Local.{AgreeOn, agree_each, local_body}
 
 -- a row on which every constraint holds contains no partial row on which some constraint is No
-broken_fails : (m : ModelView) (rules : List RuleView) (cells row : List (Option ℕ)) → contains row cells ≡ true
+pub broken_fails : (m : ModelView) (rules : List RuleView) (cells row : List (Option ℕ)) → contains row cells ≡ true
     → list_any (λ rule. is_no (body_truth m rule.body cells)) rules ≡ true → list_all (λ rule. body_holds m rule.body row) rules ≡ false
 broken_fails m [] cells row contained broken = absurd (false≢true broken)
 broken_fails m (rule ∷ rules) cells row contained broken =
@@ -218,7 +218,7 @@ try_given visited reach fill cells p (v ∷ values) =
     by_case first false is later = later
 
 -- the partial row with a listed value is listed
-IsListed-with_value : (lists : List (List ℕ)) (cells : List (Option ℕ)) (p v : ℕ) → IsListed lists cells → p < length lists
+pub IsListed-with_value : (lists : List (List ℕ)) (cells : List (Option ℕ)) (p v : ℕ) → IsListed lists cells → p < length lists
     → is_among (get_or lists p []) v ≡ true
     → IsListed lists (with_value cells p v)
 IsListed-with_value lists cells p v is within listed = record {

@@ -6,7 +6,7 @@ ghost use Rattle.feasibility.specs.Live.{AreRules};
 ghost use Rattle.feasibility.specs.Tree.{all_constrained, is_named, naming, no_values, undecided, undecided_by, undecided_on};
 
 use crate::named::body_names;
-use crate::values::{put_list, value_count};
+use crate::values::put_list;
 use compiled_rules::CompiledRules;
 use cov_model::{Cells, ParamNo, TestModel, Truth, ValueNo};
 use packed_lists::PackedLists;
@@ -71,7 +71,7 @@ fn undecided_lists(
     ensures lists { IfOk result (λ lists. lists ≡ map (undecided rules.now p) (value_numbers rules.now p)) }
     ensures same { IfOk result (λ _. cells.new ≡ cells.old) }
 {
-    let count = value_count(rules.model(), p);
+    let count = rules.model().value_count(p);
     let mut lists = PackedLists::new(alloc);
     for v in 0..count {
         cells.set_cell(p, v);

@@ -6,7 +6,7 @@ ghost use Rattle.compiled_rules.specs.Codes.{is_yes};
 ghost use Rattle.definitions.specs.Completion.{with_value};
 ghost use Rattle.feasibility.specs.Tree.{all_doubtful, all_members, doubtful, doubtful_by, members, no_values};
 
-use crate::values::{put_list, value_count};
+use crate::values::put_list;
 use compiled_rules::CompiledRules;
 use cov_model::{Cells, ParamNo, Truth, ValueNo};
 use packed_lists::PackedLists;
@@ -59,7 +59,7 @@ fn doubtful_values(
     ensures list { IfOk result (λ list. list.items ≡ doubtful rules.now (rule_at rules.now rule).body q) }
     ensures same { IfOk result (λ _. cells.new ≡ cells.old) }
 {
-    let count = value_count(rules.model(), q);
+    let count = rules.model().value_count(q);
     let mut list = Vec::new(alloc);
     for w in 0..count {
         if is_doubtful(rules, rule, q, w, cells) {

@@ -14,7 +14,6 @@ mod answer_table;
 mod answered;
 mod closing;
 mod constrained;
-mod contained;
 mod descent;
 mod doubtful;
 mod kept_tree;

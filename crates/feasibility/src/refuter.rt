@@ -14,9 +14,7 @@ ghost use Rattle.feasibility.specs.Live.{AreRules, no_on};
 ghost use Rattle.feasibility.specs.Refuting.{IsRefuter, Lowers, TriesPositive, earlier_tuples, is_cited, is_less};
 ghost use Rattle.feasibility.specs.Tree.{ListsValues, constrained_at, undecided};
 
-use crate::contained::{contains_tuple, copy_tuple, gives_param};
 use crate::tree::SearchTree;
-use crate::values::is_positive;
 use cov_model::{Cells, ParamNo, Slice, Tuple, ValueNo};
 use refutation::{Omissions, ProofForm};
 use std::marker::Model;
@@ -139,7 +137,7 @@ impl<'t> Refuter<'t> {
         requires value { v < length (param_at self.now.model.params q).values }
         ensures { result ≡ (value_at self.now.model q v).negative }
     {
-        !is_positive(self.tree().model(), q, v)
+        self.tree().model().is_negative(q, v)
     }
 
     /// The cells become the tuple.
@@ -147,8 +145,7 @@ impl<'t> Refuter<'t> {
         requires { length cells.old ≡ length self.now.model.params }
         ensures { cells.new ≡ self.now.tuple }
     {
-        let count = self.tree.model().params().len() as ParamNo;
-        copy_tuple(self.tuple, cells, count);
+        cells.copy_tuple(self.tuple);
     }
 
     // The constraints that this value of a parameter leaves undecided, of those that name the
@@ -197,7 +194,7 @@ impl<'t> Refuter<'t> {
     {
         match self.slice {
             Slice::Positive => true,
-            Slice::Negative(fixed, _) => gives_param(tuple, fixed),
+            Slice::Negative(fixed, _) => tuple.has_param(fixed),
         }
     }
 
@@ -208,7 +205,7 @@ impl<'t> Refuter<'t> {
         ensures { result ≡ is_cited self.now cells.now (slice_index_or self.now.earlier i []) }
     {
         let tuple = &self.omissions.as_slice()[i as usize].tuple;
-        contains_tuple(cells, tuple) && self.gives_negative(tuple)
+        cells.contains(tuple) && self.gives_negative(tuple)
     }
 
     // Whether the omission of a number is a leaf on the cells, in such a proof.

@@ -12,7 +12,7 @@ ghost use Rattle.feasibility.specs.Tree.{ListsValues, constrained_at, doubtful, 
 use crate::constrained::{Constrained, constrained_params};
 use crate::doubtful::all_doubtful;
 use crate::members::member_lists;
-use crate::values::{preferred_lists, value_count};
+use crate::values::preferred_lists;
 use compiled_rules::CompiledRules;
 use cov_model::{Cells, ParamNo, Prefs, Slice, TestModel, Truth, ValueNo};
 use packed_lists::PackedLists;
@@ -107,7 +107,7 @@ impl<'a> SearchTree<'a> {
         requires { q < length self.now.model.params }
         ensures { result ≡ length (param_at self.now.model.params q).values }
     {
-        value_count(self.model(), q)
+        self.model().value_count(q)
     }
 
     /// The values of a parameter in the order in which they are tried.

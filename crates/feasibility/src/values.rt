@@ -1,8 +1,7 @@
-ghost use Rattle.std.specs.Prelude.{◌≡◌, ◌<◌, [], ◌∷◌, ◌++◌, length, slice_index_or, not, IfOk, OnOk};
+ghost use Rattle.std.specs.Prelude.{◌≡◌, ◌<◌, [], ◌∷◌, ◌++◌, length, slice_index_or, IfOk, OnOk};
 ghost use Rattle.cov_model.specs.Preference.{OrdersValues};
 ghost use Rattle.cov_model.specs.Slices.{positive_values, slice_values};
 ghost use Rattle.cov_model.specs.Sound.{param_at};
-ghost use Rattle.cov_model.specs.Meaning.{value_at};
 ghost use Rattle.definitions.specs.Completion.{preferred_values};
 ghost use Rattle.definitions.specs.Demand.{is_among};
 ghost use Rattle.definitions.specs.SliceRows.{IsSliceOf};
@@ -12,24 +11,6 @@ use cov_model::{ParamNo, Prefs, Slice, TestModel, ValueNo};
 use packed_lists::PackedLists;
 use std::alloc::Global;
 use value_text::NoMemory;
-
-// Whether a value isn't negative.
-pub(crate) fn is_positive(model: &TestModel, p: ParamNo, v: ValueNo) -> bool
-    requires parameter { p < length model.now.params }
-    requires value { v < length (param_at model.now.params p).values }
-    ensures { result ≡ not (value_at model.now p v).negative }
-{
-    let param = &model.params().as_slice()[p as usize];
-    !param.values.as_slice()[v as usize].negative
-}
-
-// How many values a parameter has.
-pub(crate) fn value_count(model: &TestModel, p: ParamNo) -> ValueNo
-    requires { p < length model.now.params }
-    ensures { result ≡ length (param_at model.now.params p).values }
-{
-    model.params().as_slice()[p as usize].values.len() as ValueNo
-}
 
 // Puts a list behind the others.
 pub(crate) fn put_list(lists: &mut PackedLists, list: Vec<u16>) -> Result<(), NoMemory>
@@ -46,12 +27,12 @@ fn is_in_slice(model: &TestModel, slice: Slice, p: ParamNo, v: ValueNo) -> bool
     ensures { result ≡ is_among (slice_index_or (slice_values model.now slice) p []) v }
 {
     match slice {
-        Slice::Positive => is_positive(model, p, v),
+        Slice::Positive => !model.is_negative(p, v),
         Slice::Negative(fixed, w) => {
             if fixed == p {
                 return w == v;
             }
-            is_positive(model, p, v)
+            !model.is_negative(p, v)
         }
     }
 }
@@ -103,10 +84,10 @@ fn positives(alloc: Global, model: &TestModel, p: ParamNo) -> Result<Vec<ValueNo
     requires { p < length model.now.params }
     ensures { IfOk result (λ list. list.items ≡ positive_values model.now p) }
 {
-    let count = value_count(model, p);
+    let count = model.value_count(p);
     let mut list = Vec::new(alloc);
     for v in 0..count {
-        if is_positive(model, p, v) {
+        if !model.is_negative(p, v) {
             list.push(v)?;
         }
     }

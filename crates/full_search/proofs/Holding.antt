@@ -1,5 +1,5 @@
 -- A path that has a row, and whether it has one with a value more.
-use Rattle.std.proofs.Common.{◌≡◌, ℕ, ◌+◌, ◌<◌, ◌≤◌, Bool, true, false, List, [], length, take, All, Option, Some, None, is_some, unwrap_or, get_or, inl, inr, ◌∙◌, sym, ap, subst, refl, arith}
+use Rattle.std.proofs.Common.{◌≡◌, ℕ, ◌+◌, ◌<◌, ◌≤◌, Bool, true, false, List, [], length, take, All, Option, Some, None, is_some, get_or, inl, inr, ◌∙◌, sym, ap, subst, refl, arith}
 use Rattle.std.specs.Prelude.{nat_eq}
 use Rattle.std.specs.Option.{option_eq}
 use Rattle.std.proofs.lemmas.Bool.{false≢true, cases_eq, eqb-true}
@@ -18,30 +18,13 @@ use Rattle.feasibility.specs.Live.{ShowsLive}
 use Rattle.feasibility.specs.Tree.{TreeView, IsListed, ListsValues, constrained_at}
 use Rattle.feasibility.proofs.Deciding.{dead_fails}
 use Rattle.feasibility.proofs.Naming.{constrained_exists}
+use Rattle.feasibility.proofs.Searching.{IsListed-with_value}
 use Rattle.full_search.specs.Completing.{IsSettled, first_row}
 use Rattle.full_search.specs.Reasons.{HasNoRow, IsPart, IsRowFor}
 use Rattle.full_search.specs.Searching.{HasRoom}
 use Rattle.full_search.proofs.Rooms.{free_less}
 use Rattle.full_search.proofs.Rows.{failing_none, row_first}
 use Rattle.full_search.proofs.Settling.{has_place, settled_value}
-
--- listed values with one more
-pub listed_with : (lists : List (List ℕ)) (cells : List (Option ℕ)) (p v : ℕ) → p < length lists → is_among (get_or lists p []) v ≡ true
-    → IsListed lists cells → IsListed lists (with_value cells p v)
-listed_with lists cells p v within among is = record {
-  long = length-set cells p (Some v) ∙ is.long;
-  listed = λ q assigned.
-      elim (cases_eq q p) [
-        | inl same ↦
-            let here : get_or (with_value cells p v) q None ≡ Some v = ap (λ (k : ℕ). get_or (with_value cells p v) k None) same
-            ∙ get_or-set_same cells p (Some v) None (omega (arith, is.long, within)) in
-            ap (λ (cell : Option ℕ). is_among (get_or lists q []) (unwrap_or cell 0)) here ∙ ap (λ (k : ℕ). is_among (get_or lists k []) v) same ∙ among
-        | inr differs ↦
-            let there : get_or (with_value cells p v) q None ≡ get_or cells q None = get_or-set_other cells p q (Some v) None differs in
-            ap (λ (cell : Option ℕ). is_among (get_or lists q []) (unwrap_or cell 0)) there
-            ∙ is.listed q (sym (ap (λ (cell : Option ℕ). is_some cell) there) ∙ assigned)
-      ];
-}
 
 -- a part of a row that has the value has it too
 pub part_given : (cells row : List (Option ℕ)) (p v : ℕ) → IsPart cells row → p < length cells → get_or row p None ≡ Some v → IsPart (with_value cells p v) row
@@ -82,7 +65,7 @@ pub dead_none : (tree : TreeView) (cells : List (Option ℕ)) (sets : LiveView) 
     → ShowsLive tree.model tree.values cells sets → p < length tree.model.params → is_assigned cells p ≡ false
     → is_among (get_or tree.values p []) v ≡ true → mark_at sets.live p v ≡ false → HasNoRow tree (with_value cells p v)
 dead_none tree cells sets p v values listed shows low free among dead =
-    failing_none tree (with_value cells p v) values (listed_with tree.values cells p v (omega (arith, low, values.as_many)) among listed)
+    failing_none tree (with_value cells p v) values (IsListed-with_value tree.values cells p v listed (omega (arith, low, values.as_many)) among)
     (dead_fails tree.model tree.values cells p v sets values shows low free among dead)
 
 -- a number that an option is compared with

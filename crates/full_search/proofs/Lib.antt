@@ -1,3 +1,4 @@
+pub mod Answering
 pub mod BrokenPaths
 pub mod ClosingSteps
 pub mod Entered

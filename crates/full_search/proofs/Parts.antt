@@ -2,30 +2,24 @@
 use Rattle.std.proofs.Common.{◌≡◌, ℕ, ◌-◌, ◌<◌, ◌≤◌, true, false, List, [], length, find, take, Option, Some, None, is_some, get_or, set, replicate}
 use Rattle.std.proofs.Common.{◌∙◌, sym, ap, subst, refl, arith, inl, inr}
 use Rattle.std.specs.List.{range_with_len}
-use Rattle.std.proofs.lemmas.Bool.{false≢true, cases_eq, false_from_ne_true}
+use Rattle.std.proofs.lemmas.Bool.{false≢true, cases_eq}
 use Rattle.std.proofs.lemmas.List.{get_or-set_other, get_or-set_same, length-replicate, length-set, set-get_or, set-set, take_all}
-use Rattle.std.proofs.lemmas.List.Elements.{Contains-get_or}
 use Rattle.std.proofs.lemmas.Option.{none-some}
 use Rattle.value_text.proofs.ListLemmas.{Some-unwrap_or}
-use Rattle.cov_model.specs.declared.truth.Truth.{Truth}
-use Rattle.cov_model.specs.declared.truth.Truth.TheVariants.{Yes, No, Unknown}
-use Rattle.cov_model.specs.Kleene.{body_truth}
-use Rattle.cov_model.specs.Meaning.{body_holds}
 use Rattle.cov_model.specs.Rows.{contains, is_assigned, value_in}
-use Rattle.cov_model.specs.Sound.{IsSound, ModelView, no_rule, rule_at}
+use Rattle.cov_model.specs.Sound.{IsSound, ModelView, rule_at}
 use Rattle.cov_model.proofs.CellLemmas.{contains-from, contains-get_or}
-use Rattle.cov_model.proofs.KnownLemmas.{no_stays}
-use Rattle.definitions.specs.Completion.{meets_rules, with_value}
+use Rattle.definitions.specs.Completion.{with_value}
 use Rattle.definitions.specs.Demand.{is_among}
 use Rattle.definitions.specs.Search.{body_params, breaks_a_rule, is_no}
-use Rattle.definitions.proofs.Members.{among_has, has_contained, passes_all}
+use Rattle.definitions.proofs.Members.{among_has, has_contained}
 use Rattle.feasibility.specs.Live.{no_on}
 use Rattle.feasibility.specs.Tree.{TreeView, undecided}
-use Rattle.feasibility.proofs.Broken.{longer_none, longer_set, longer_with}
+use Rattle.feasibility.proofs.Broken.{breaks_by, longer_none, longer_set, longer_with}
 use Rattle.feasibility.proofs.Leaves.{some_no}
 use Rattle.feasibility.proofs.LeastRules.{undecided_least}
 use Rattle.feasibility.proofs.Local.{agree_each, local_body}
-use Rattle.feasibility.proofs.Searching.{contains-with_value}
+use Rattle.feasibility.proofs.Searching.{broken_fails, contains-with_value}
 use Rattle.full_search.specs.Reasons.{HasMembers, HasNoRow, IsPart, IsRowFor, RefutesEach}
 
 -- a partial row is part of itself, and part of what a row that it is part of is part of
@@ -84,15 +78,7 @@ no_row_each tree why p within each row listed contained =
 pub no_row_broken : (tree : TreeView) (cells : List (Option ℕ)) (k : ℕ) → 0 < k → k ≤ length tree.model.rules → no_on tree.model cells k ≡ true
     → HasNoRow tree cells
 no_row_broken tree cells k some most is row listed contained =
-    false_from_ne_true (meets_rules tree.model row) (λ meets.
-    false≢true (sym (no_stays tree.model (rule_at tree.model k).body cells row contained (known_no (body_truth tree.model (rule_at tree.model k).body cells) is))
-    ∙ passes_all (λ rule. body_holds tree.model rule.body row) tree.model.rules (rule_at tree.model k) meets
-    (has_contained tree.model.rules (rule_at tree.model k) (Contains-get_or tree.model.rules (k - 1) no_rule (omega (arith, some, most))))))
-  where
-    known_no : (truth : Truth) → is_no truth ≡ true → truth ≡ No
-    known_no Yes h = absurd (false≢true h)
-    known_no No h = refl
-    known_no Unknown h = absurd (false≢true h)
+    broken_fails tree.model tree.model.rules cells row contained (breaks_by tree.model cells k some most is)
 
 -- whether it is depends on the parameters that it names
 pub no_row_members : (tree : TreeView) (path why : List (Option ℕ)) (k p v : ℕ) → 0 < k → k ≤ length tree.model.rules → p < length path

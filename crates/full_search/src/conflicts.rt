@@ -67,7 +67,7 @@ impl Conflicts {
     }
 
     // Whether the one that was met last has values of the cells alone.
-    fn meets_last(&self, tree: &SearchTree<'_>, cells: &Cells) -> bool
+    pub(crate) fn meets_last(&self, tree: &SearchTree<'_>, cells: &Cells) -> bool
         requires kept { AreKept tree.now self.now }
         ensures { result ≡ true → HasNoRow tree.now cells.now }
     {
@@ -78,7 +78,8 @@ impl Conflicts {
         }
     }
 
-    // Whether one that is kept has values of the cells alone: then no row contains them.
+    // Whether one that is kept has values of the cells alone: then no row contains them. That which is met becomes the
+    // last.
     pub(crate) fn rule_out(&mut self, tree: &SearchTree<'_>, cells: &Cells) -> bool
         requires kept { AreKept tree.now self.old }
         requires long { length cells.now ≡ length tree.now.model.params }
@@ -86,9 +87,6 @@ impl Conflicts {
         ensures kept { AreKept tree.now self.new }
     {
         tree.assert_invariant();
-        if self.meets_last(tree, cells) {
-            return true;
-        }
         let count = tree.constrained_len();
         for i in 0..count {
             let p = tree.constrained_at(i).param;

@@ -77,12 +77,16 @@ pub(crate) fn find_row(
     if fails {
         return false;
     }
-    if conflicts.rule_out(tree, cells) {
+    if conflicts.meets_last(tree, cells) {
         return false;
     }
     witness.put_all(tree, cells);
     if witness.meets_all(tree) {
         return true;
+    }
+    // most rows are found above, and the conflicts of all their values would take as long
+    if conflicts.rule_out(tree, cells) {
+        return false;
     }
     room.copy_from(cells);
     let len = sets.trail_len();

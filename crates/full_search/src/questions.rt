@@ -84,6 +84,16 @@ impl<'a> Questions<'a> {
         }
     }
 
+    /// What a question may cost. Takes no memory.
+    pub fn effort(&self) -> Effort
+        ensures { result ≡ self.now.effort }
+    {
+        match &self.search {
+            Search::Within(bounded) => Effort::Within(bounded.budget),
+            Search::Full(_) => Effort::Full,
+        }
+    }
+
     /// Whether a constraint of the model names a parameter. Takes no memory.
     pub fn is_constrained(&self, p: ParamNo) -> bool
         ensures { result ≡ is_among (constrained_params self.now.model) p }

@@ -1,7 +1,7 @@
 //! Folders and sinks that fail.
 
-use outside_io::{SureFolder, SureSink};
-use pict_cli::run_pict_without_faults;
+use memory_io::{SureFolder, SureSink};
+use runs_in_memory::run_pict_without_faults;
 use std::alloc::Global;
 use std::thread::Threads;
 use test_runs::{Given, ends_as, on_model, sure_folder, words_of};

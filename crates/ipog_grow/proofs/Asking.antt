@@ -1,5 +1,5 @@
 -- What the answer to a question tells of its cost.
-use Rattle.std.proofs.Common.{◌≡◌, ℕ, Bool, true, false, cond, List, [], ◌∷◌, Option, Some, None, ◌∙◌, sym, subst, refl, ap}
+use Rattle.std.proofs.Common.{◌≡◌, ℕ, Bool, cond, List, [], ◌∷◌, Option, Some, None, ◌∙◌, sym, subst, ap}
 use Rattle.cov_model.specs.declared.slice.Slice.{Slice}
 use Rattle.definitions.specs.Search.{exceeds, plain_cost}
 use Rattle.std.specs.Prelude.{Err}
@@ -8,6 +8,7 @@ use Rattle.ipog_grow.specs.declared.stop.Stop.TheVariants as stops
 use Rattle.feasibility.specs.declared.answer.Answer.{Answer}
 use Rattle.feasibility.specs.declared.answer.Answer.TheVariants.{Yes, No, Spent}
 use Rattle.full_search.specs.Questions.{QuestionsView, answer_within}
+use Rattle.full_search.proofs.Answering.{AnswerTells, answer_tells}
 use Rattle.ipog_grow.specs.Asking.{IsSoundContext, Grows, Told, extends, first_spent}
 use Rattle.ipog_grow.proofs.Tuples.{grows-slice}
 
@@ -17,33 +18,20 @@ pub record Asked (context : QuestionsView) (cells : List (Option ℕ)) (answer :
   pub no : answer ≡ No → first_spent context (cells ∷ []) ≡ None
   pub spent : answer ≡ Spent → first_spent context (cells ∷ []) ≡ Some cells
 
--- the same, where it is known whether the cost is above what a question may cost
-record Parts (cells : List (Option ℕ)) (answer : Answer) (over : Bool) : Type 0 where
-  yes : answer ≡ Yes → cond over (Some cells) None ≡ None
-  no : answer ≡ No → cond over (Some cells) None ≡ None
-  spent : answer ≡ Spent → cond over (Some cells) None ≡ Some cells
-
-by_cost : (cells : List (Option ℕ)) (answer : Answer) (over found : Bool) → answer ≡ cond over Spent (cond found Yes No) → Parts cells answer over
-by_cost cells answer true found told = record { yes = λ e. absurd (spent_yes (sym told ∙ e)); no = λ e. absurd (spent_no (sym told ∙ e)); spent = λ e. refl }
-  where
-    spent_yes : Spent ≡ Yes → ⊥
-    spent_yes e = cc
-
-    spent_no : Spent ≡ No → ⊥
-    spent_no e = cc
-by_cost cells answer false found told = record { yes = λ e. refl; no = λ e. refl; spent = λ e. absurd (other found (sym told ∙ e)) }
-  where
-    other : (b : Bool) → cond b Yes No ≡ Spent → ⊥
-    other true e = cc
-    other false e = cc
-
 pub asked : (context : QuestionsView) (cells : List (Option ℕ)) (answer : Answer) → IsSoundContext context → Grows context cells
     → answer ≡ answer_within (extends context cells) (plain_cost context.model context.prefs context.slice cells) context.effort → Asked context cells answer
 asked context cells answer is grows told =
-    let parts = subst (λ (slice : Slice). Parts cells answer (exceeds context.effort (plain_cost context.model context.prefs slice cells)))
+    let tells = subst (λ (slice : Slice). AnswerTells answer (extends context cells) (exceeds context.effort (plain_cost context.model context.prefs slice cells)))
     (sym (grows-slice context.model context.slice cells is.slice grows))
-    (by_cost cells answer (exceeds context.effort (plain_cost context.model context.prefs context.slice cells)) (extends context cells) told) in
-    record { yes = parts.yes; no = parts.no; spent = parts.spent }
+    (answer_tells answer (extends context cells) (plain_cost context.model context.prefs context.slice cells) context.effort told) in
+    record {
+      yes = λ e. ap first (tells.yes e).1;
+      no = λ e. ap first (tells.no e).1;
+      spent = λ e. ap first (tells.spent e);
+    }
+  where
+    first : Bool → Option (List (Option ℕ))
+    first over = cond over (Some cells) None
 
 -- a fault of a part is one of the whole, where its question is
 pub told-err : (A B : Type 0) (stop : Stop) (question : List (Option ℕ)) (part whole : Option (List (Option ℕ)))

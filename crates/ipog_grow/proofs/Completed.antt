@@ -1,15 +1,16 @@
 -- Completing partial rows one after another.
-use Rattle.std.proofs.Common.{◌≡◌, ℕ, ◌+◌, ◌<◌, ◌≤◌, Bool, true, false, cond, All, List, [], ◌∷◌, ◌++◌, take, get_or, length, filter_map}
+use Rattle.std.proofs.Common.{◌≡◌, ℕ, ◌+◌, ◌<◌, ◌≤◌, Bool, false, All, List, [], ◌∷◌, ◌++◌, take, get_or, length, filter_map}
 use Rattle.std.proofs.Common.{Option, Some, None, is_some, ◌∙◌, sym, ap, subst, refl}
 use Rattle.std.specs.List.{cons_option}
 use Rattle.std.proofs.lemmas.Bool.{false≢true}
 use Rattle.std.proofs.lemmas.List.{get_or_default, take_all, take_more}
 use Rattle.std.proofs.lemmas.List.Elements.{All-weaker, filter_map-append}
 use Rattle.feasibility.specs.declared.answer.Answer.{Answer}
-use Rattle.feasibility.specs.declared.answer.Answer.TheVariants.{Yes, No, Spent}
+use Rattle.feasibility.specs.declared.answer.Answer.TheVariants.{No}
 use Rattle.feasibility.proofs.Extendable.{completed_is_extendable}
 use Rattle.definitions.specs.Search.{exceeds, plain_cost, question_cost}
 use Rattle.full_search.specs.Questions.{QuestionsView, answer_within}
+use Rattle.full_search.proofs.Answering.{answer_tells}
 use Rattle.ipog_grow.specs.Asking.{IsSoundContext, Grows, extends, first_spent}
 use Rattle.ipog_grow.specs.Completing.{completed}
 use Rattle.ipog_grow.specs.Rows.{AreDone}
@@ -23,19 +24,8 @@ pub none_completed : (context : QuestionsView) (cells : List (Option ℕ)) (answ
 none_completed context cells answer is grows told fails =
     none (completed context cells)
     (completed_is_extendable context.model context.prefs context.slice cells is.orders is.slice grows.of
-    ∙ found (exceeds context.effort (plain_cost context.model context.prefs context.slice cells)) (extends context cells) (sym told ∙ fails))
+    ∙ ((answer_tells answer (extends context cells) (plain_cost context.model context.prefs context.slice cells) context.effort told).no fails).0)
   where
-    found : (over b : Bool) → cond over Spent (cond b Yes No) ≡ No → b ≡ false
-    found true b e = absurd (spent_no e)
-      where
-        spent_no : Spent ≡ No → ⊥
-        spent_no e = cc
-    found false true e = absurd (yes_no e)
-      where
-        yes_no : Yes ≡ No → ⊥
-        yes_no e = cc
-    found false false e = refl
-
     none : (row : Option (List (Option ℕ))) → is_some row ≡ false → row ≡ None
     none None e = refl
     none (Some row) e = absurd (false≢true (sym e))

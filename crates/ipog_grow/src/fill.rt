@@ -11,9 +11,9 @@ use crate::stop::Stop;
 use crate::values::try_values;
 use crate::workers::Workers;
 use cov_model::{Cells, ParamNo, Rows, ValueNo};
-use outside_io::Gate;
 use std::thread::Threads;
 use uncovered_table::Uncovered;
+use worker_gate::Gate;
 
 // Fills the cell of the partial row at a place in a column, if it has no value there: of the values
 // with a gain that leave it extendable, it gets the one of the greatest gain, and among these the

@@ -21,12 +21,12 @@ use crate::suite::{GrowOpts, Suite};
 use crate::workers::Workers;
 use cov_model::{Prefs, Rows, Slice, TestModel};
 use feasibility::SearchFault;
-use outside_io::Gate;
 use refutation::{Omissions, ProofForm};
 use row_text::RowFile;
 use std::alloc::Global;
 use std::thread::Threads;
 use tuple_index::Plan;
+use worker_gate::Gate;
 
 // Grows slices in order from the kept seeds.
 fn grow_slices<R: Threads + Sync, G: Gate + Sync>(

@@ -10,9 +10,9 @@ use crate::fill::fill_cell;
 use crate::stop::Stop;
 use crate::workers::Workers;
 use cov_model::{Cells, ParamNo, Rows, ValueNo};
-use outside_io::Gate;
 use std::thread::Threads;
 use uncovered_table::Uncovered;
+use worker_gate::Gate;
 
 // Complete sets leave before each row whose place is a multiple of this, and not before each row,
 // since all sets in play are looked at then.

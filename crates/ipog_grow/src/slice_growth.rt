@@ -28,7 +28,6 @@ use crate::workers::Workers;
 use cov_model::{Cells, ParamNo, Prefs, Rows, Slice, TestModel};
 use definitions::Effort;
 use feasibility::SearchFault;
-use outside_io::Gate;
 use refutation::{Omissions, ProofForm};
 use std::alloc::Global;
 use std::mem;
@@ -36,6 +35,7 @@ use std::thread::Threads;
 use tuple_index::Plan;
 use uncovered_table::Uncovered;
 use value_text::{NoMemory, OwnedList};
+use worker_gate::Gate;
 
 // What grows in a slice: the partial rows, the table of the open tuples and the tuples that were
 // omitted; with room for a tuple and for a partial row.

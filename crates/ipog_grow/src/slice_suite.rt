@@ -16,11 +16,11 @@ use crate::slice_growth::SliceGrowth;
 use crate::workers::Workers;
 use cov_model::{Rows, Slice};
 use feasibility::SearchFault;
-use outside_io::Gate;
 use refutation::Omissions;
 use std::alloc::Global;
 use std::thread::Threads;
 use value_text::NoMemory;
+use worker_gate::Gate;
 
 // The growth of a slice from its kept seeds, before its first column.
 fn growth_from_seeds<'a>(

@@ -5,10 +5,10 @@ ghost use Rattle.definitions.specs.SliceRows.{IsOfSlice};
 ghost use Rattle.uncovered_table.specs.Open.{gain};
 
 use cov_model::{Cells, ParamNo};
-use outside_io::Gate;
 use scoring::score_all;
 use std::thread::Threads;
 use uncovered_table::Uncovered;
+use worker_gate::Gate;
 
 // How many pairs of a set in play and a value are worth a worker more: to score them takes about as long
 // as to start a thread.

@@ -8,7 +8,6 @@ use cov_model::{Cells, ParamNo, TestModel, ValueNo};
 use model_lex::NoteList;
 use row_text::{FileRow, FileRowList, RowFile};
 use std::alloc::Global;
-use test_models::count_values;
 use value_text::NoMemory;
 
 /// The values that a row gives the parameters in order.
@@ -33,7 +32,7 @@ fn is_cell(model: &TestModel, p: ParamNo, cell: Option<ValueNo>) -> bool
     ensures { IsTrue result → IfSome cell (λ v. v < length (param_at model.now.params p).values) }
 {
     match cell {
-        Some(v) => v < count_values(model, p),
+        Some(v) => v < model.value_count(p),
         None => true,
     }
 }

@@ -5,13 +5,13 @@ ghost use Rattle.cov_model.specs.Fits.{FitsModel};
 
 use crate::files::{RowValues, file_of};
 use cov_model::TestModel;
-use outside_io::Gate;
 use row_text::RowFile;
-use shared_marks::{Bits, mark_rows};
+use shared_marks::{Bits, SharedMarks, count_tuples, mark_rows};
 use std::alloc::Global;
 use std::thread::Threads;
 use test_models::model_of;
 use tuple_index::Plan;
+use worker_gate::Gate;
 
 // The marks of the tuples that the rows of a file serve, by so many workers, who come to this gate; nothing where
 // there are no workers or more than 64, or memory was refused.
@@ -65,6 +65,47 @@ pub(crate) fn marks_of<R: Threads + Sync, G: Gate + Sync>(
     match model_of(alloc, text) {
         Ok(model) => marks_of_rows(rt, alloc, &model, rows, workers, gate),
         Err(_) => None,
+    }
+}
+
+// The marks of the tuples that the rows of a file from one number up to another serve, put by one seat; nothing where
+// there are no such rows, or memory was refused.
+fn marks_of_part(
+    alloc: Global,
+    model: &TestModel,
+    file: &RowFile,
+    from: u32,
+    to: u32,
+) -> Option<Bits>
+    requires { All (λ row. FitsModel model.now row.cells) file.now.rows }
+{
+    if from > to || to as usize > file.rows.len() {
+        return None;
+    }
+    let Ok(plan) = Plan::new(alloc, model) else {
+        return None;
+    };
+    let Ok((table, mut seat)) = SharedMarks::new(alloc, count_tuples(&plan)) else {
+        return None;
+    };
+    table.mark_served(&mut seat, model, &plan, file, from, to);
+    Some(table.close(seat))
+}
+
+/// The same for rows under the model of a text; nothing too where one of them isn't of the model.
+pub(crate) fn marks_of_range(
+    alloc: Global,
+    text: &str,
+    rows: &[RowValues],
+    from: u32,
+    to: u32,
+) -> Option<Bits> {
+    let Ok(model) = model_of(alloc, text) else {
+        return None;
+    };
+    match file_of(alloc, &model, rows) {
+        Some(file) => marks_of_part(alloc, &model, &file, from, to),
+        None => None,
     }
 }
 

@@ -1,11 +1,11 @@
 //! The demanded tuples that the rows of a file serve, with different numbers of workers.
 
 use crate::files::RowValues;
-use crate::marks::{are_marked, marks_of};
-use outside_io::OpenGate;
+use crate::marks::{are_marked, marks_of, marks_of_range};
 use std::alloc::Global;
 use std::thread::Threads;
 use test_models::WORKERS;
+use worker_gate::OpenGate;
 
 // A model, the rows of a file, how many tuples are demanded, and the places of those that are served. In the
 // first an invalid row and an incomplete one count for nothing. In the second every row has a negative value
@@ -38,6 +38,20 @@ fn workers_mark_what_is_served(rt: HostRuntime) {
             assert!(rt; are_marked(marks, *count, places), "{text} {workers}");
         }
     }
+}
+
+// Of the second row and the third, the third is invalid; of no row nothing is served.
+#[test]
+fn a_seat_marks_what_a_range_serves(rt: HostRuntime) {
+    let rows: &[RowValues] = &[
+        &[Some(0), Some(0)],
+        &[Some(1), Some(0)],
+        &[Some(0), Some(1)],
+        &[Some(1), Some(1)],
+    ];
+    let text = "A: 1, 2\nB: x, y\nIF [A] = 1 THEN [B] = \"x\";\n";
+    assert!(rt; are_marked(marks_of_range(rt.alloc(), text, rows, 1, 3), 4, &[2]));
+    assert!(rt; are_marked(marks_of_range(rt.alloc(), text, rows, 4, 4), 4, &[]));
 }
 
 // Of the three sets of two, the one of A and B is complete with the first row, and the last of many rows serves

@@ -4,8 +4,8 @@ use crate::suites::{Suite, measured};
 use cov_model::{ParamNo, ValueNo};
 use definitions::Effort;
 use feasibility::SearchFault;
-use outside_io::OpenGate;
 use std::test::Fail;
+use worker_gate::OpenGate;
 
 // Whichever values B and C have, one of the constraints is false where A is 1; the search sees it only once B
 // has a value.

@@ -4,12 +4,12 @@ ghost use Rattle.std.specs.Prelude.{◌≤◌};
 
 use crate::suites::{Suite, measured};
 use definitions::Effort;
-use outside_io::OpenGate;
 use row_text::Figures;
 use std::alloc::Global;
 use std::test::Fail;
 use std::thread::Threads;
 use test_models::WORKERS;
+use worker_gate::OpenGate;
 
 // Enough for each question of these models, and no budget.
 const EFFORTS: &[Effort] = &[Effort::Within(1000), Effort::Full];

@@ -5,13 +5,13 @@ ghost use Rattle.std.specs.Prelude.{◌≤◌};
 use coverage_measure::measure;
 use definitions::Effort;
 use feasibility::SearchFault;
-use outside_io::Gate;
 use row_text::{Figures, RowFile, RowMode, RowsFault, read_rows};
 use std::alloc::Global;
 use std::test::Fail;
 use std::thread::Threads;
 use test_models::{options, read};
 use tuple_index::Plan;
+use worker_gate::Gate;
 
 /// The most bytes of a row file.
 const MOST_BYTES: usize = 1 << 20;

@@ -1,9 +1,9 @@
 -- How the words on counts of faults compose over several calls.
 use Rattle.std.proofs.Common.{◌≡◌, ℕ, ◌^◌, ◌<◌, inl, inr, subst, arith}
 use Rattle.outside_io.specs.Faults.{Rose, GoesOn}
+use Rattle.outside_io.specs.Puts.{CountsFaults}
 use Rattle.outside_io.specs.declared.answers.WriteAnswer.{WriteAnswer}
 use Rattle.outside_io.specs.declared.answers.WriteAnswer.TheVariants.{Done, Failed}
-use Rattle.outside_io.specs.Puts.{CountsFaults}
 
 -- a count goes on over two calls
 pub GoesOn-then : (a b c : ℕ) → GoesOn a b → GoesOn b c → GoesOn a c

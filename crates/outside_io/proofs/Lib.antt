@@ -1,5 +1,3 @@
 pub mod PutsLaws
 pub mod FaultsLaws
 pub mod PieceLemmas
-mod SlotLemmas
-mod FileListLemmas

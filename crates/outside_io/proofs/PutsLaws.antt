@@ -4,7 +4,8 @@ use Rattle.std.proofs.Math.Seq.{take-append-add}
 use Rattle.std.proofs.lemmas.List.{append-nil, take-append-le, take_min}
 use Rattle.outside_io.specs.declared.answers.WriteAnswer.{WriteAnswer}
 use Rattle.outside_io.specs.declared.answers.WriteAnswer.TheVariants.{Done, Failed}
-use Rattle.outside_io.specs.Puts.{Puts, Leaves, Balances, CountsFaults}
+use Rattle.outside_io.specs.Seen.{SinkSeen}
+use Rattle.outside_io.specs.Puts.{Puts, PutsBytes, CountsFaults, Leaves, Balances}
 
 -- some of the first text is some of the joined text
 take-within : (x y : List ℕ) (count : ℕ) → take (min count (length x)) (x ++ y) ≡ take count x
@@ -13,40 +14,40 @@ take-within x y count =
     take-append-le (min count (length x)) x y short ∙ take_min count x
 
 -- the bytes: what was appended in two steps is the joined text
-pub Puts-then : (r : WriteAnswer) (b m a : Option (List ℕ)) (x y : List ℕ)
-    → Puts Done b m x → Puts r m a y → Puts r b a (x ++ y)
-Puts-then Done None m a x y first second = tt
-Puts-then Failed None m a x y first second = tt
-Puts-then Done (Some w) m a x y first second =
-    let put = subst (λ (o : Option (List ℕ)). Puts Done o a y) first second in
+PutsBytes-then : (r : WriteAnswer) (b m a : Option (List ℕ)) (x y : List ℕ)
+    → PutsBytes Done b m x → PutsBytes r m a y → PutsBytes r b a (x ++ y)
+PutsBytes-then Done None m a x y first second = tt
+PutsBytes-then Failed None m a x y first second = tt
+PutsBytes-then Done (Some w) m a x y first second =
+    let put = subst (λ (o : Option (List ℕ)). PutsBytes Done o a y) first second in
     put ∙ ap Some (append_assoc w x y)
-Puts-then Failed (Some w) m a x y first second =
-    let put = subst (λ (o : Option (List ℕ)). Puts Failed o a y) first second in
+PutsBytes-then Failed (Some w) m a x y first second =
+    let put = subst (λ (o : Option (List ℕ)). PutsBytes Failed o a y) first second in
     let joined = append_assoc w x (take put.0 y) ∙ ap (λ t. w ++ t) (sym (take-append-add x y put.0)) in
     (length x + put.0, put.1 ∙ ap Some joined)
 
 -- a fault in the first step is one of the joined text
-pub Puts-stopped : (b a : Option (List ℕ)) (x y : List ℕ)
-    → Puts Failed b a x → Puts Failed b a (x ++ y)
-Puts-stopped None a x y put = tt
-Puts-stopped (Some w) a x y put =
+PutsBytes-stopped : (b a : Option (List ℕ)) (x y : List ℕ)
+    → PutsBytes Failed b a x → PutsBytes Failed b a (x ++ y)
+PutsBytes-stopped None a x y put = tt
+PutsBytes-stopped (Some w) a x y put =
     (min put.0 (length x), put.1 ∙ ap (λ t. Some (w ++ t)) (sym (take-within x y put.0)))
 
 -- no text
-pub Puts-nothing : (b : Option (List ℕ)) → Puts Done b b []
-Puts-nothing None = tt
-Puts-nothing (Some w) = ap Some (sym (append-nil w))
+PutsBytes-nothing : (b : Option (List ℕ)) → PutsBytes Done b b []
+PutsBytes-nothing None = tt
+PutsBytes-nothing (Some w) = ap Some (sym (append-nil w))
 
 -- bytes that are told stay told
-pub Puts-told : (r : WriteAnswer) (b a : Option (List ℕ)) (x : List ℕ)
-    → Puts r b a x → IsSome b → IsSome a
-Puts-told Done None a x put told = absurd (cc)
-Puts-told Failed None a x put told = absurd (cc)
-Puts-told Done (Some w) a x put told = ap is_some put
-Puts-told Failed (Some w) a x put told = ap is_some put.1
+PutsBytes-told : (r : WriteAnswer) (b a : Option (List ℕ)) (x : List ℕ)
+    → PutsBytes r b a x → IsSome b → IsSome a
+PutsBytes-told Done None a x put told = absurd (cc)
+PutsBytes-told Failed None a x put told = absurd (cc)
+PutsBytes-told Done (Some w) a x put told = ap is_some put
+PutsBytes-told Failed (Some w) a x put told = ap is_some put.1
 
 -- the room: two texts take what the joined text does
-pub Leaves-then : (r : WriteAnswer) (b m a : Option ℕ) (x y : List ℕ)
+Leaves-then : (r : WriteAnswer) (b m a : Option ℕ) (x y : List ℕ)
     → Leaves Done b m x → Leaves r m a y → Leaves r b a (x ++ y)
 Leaves-then Done None m a x y first second = tt
 Leaves-then Failed None m a x y first second = tt
@@ -60,18 +61,18 @@ Leaves-then Failed (Some room) m a x y first second =
     (omega (arith, length-append x y), (length x + put.1.0, omega arith, put.1.2 ∙ ap Some less))
 
 -- a fault in the first step is one of the joined text
-pub Leaves-stopped : (b a : Option ℕ) (x y : List ℕ)
+Leaves-stopped : (b a : Option ℕ) (x y : List ℕ)
     → Leaves Failed b a x → Leaves Failed b a (x ++ y)
 Leaves-stopped None a x y put = tt
 Leaves-stopped (Some room) a x y put = (omega (arith, length-append x y), put.1)
 
 -- no text
-pub Leaves-nothing : (b : Option ℕ) → Leaves Done b b []
+Leaves-nothing : (b : Option ℕ) → Leaves Done b b []
 Leaves-nothing None = tt
 Leaves-nothing (Some room) = (omega arith, ap Some (omega arith))
 
 -- a room that is told stays told
-pub Leaves-told : (r : WriteAnswer) (b a : Option ℕ) (x : List ℕ)
+Leaves-told : (r : WriteAnswer) (b a : Option ℕ) (x : List ℕ)
     → Leaves r b a x → IsSome b → IsSome a
 Leaves-told Done None a x put told = absurd (cc)
 Leaves-told Failed None a x put told = absurd (cc)
@@ -85,7 +86,7 @@ Leaves-enough Done room a x put enough = refl
 Leaves-enough Failed room a x put enough = absurd (omega arith)
 
 -- bytes and room stay in balance over two steps, where both are told in between
-pub Balances-then : (b c d : Option (List ℕ)) (q r s : Option ℕ)
+Balances-then : (b c d : Option (List ℕ)) (q r s : Option ℕ)
     → IsSome c → IsSome r → Balances b c q r → Balances c d r s → Balances b d q s
 Balances-then None c d q r s told left first second = tt
 Balances-then (Some w) c None q r s told left first second = tt
@@ -96,13 +97,49 @@ Balances-then (Some w) (Some u) (Some v) (Some m) None (Some n) told left first 
 Balances-then (Some w) (Some u) (Some v) (Some m) (Some k) (Some n) told left first second = omega arith
 
 -- no step
-pub Balances-nothing : (b : Option (List ℕ)) (q : Option ℕ) → Balances b b q q
+Balances-nothing : (b : Option (List ℕ)) (q : Option ℕ) → Balances b b q q
 Balances-nothing None q = tt
 Balances-nothing (Some w) None = tt
 Balances-nothing (Some w) (Some m) = refl
 
 -- the count of faults over two steps
-pub CountsFaults-then : (r : WriteAnswer) (b m a : ℕ)
+CountsFaults-then : (r : WriteAnswer) (b m a : ℕ)
     → CountsFaults Done b m → CountsFaults r m a → CountsFaults r b a
 CountsFaults-then Done b m a first second = second ∙ first
 CountsFaults-then Failed b m a first second = subst (λ (k : ℕ). CountsFaults Failed k a) first second
+
+-- bytes and room stay in balance over two steps, of which the first came without a fault
+Balances-after : (b c d : Option (List ℕ)) (q r s : Option ℕ) (x : List ℕ) → PutsBytes Done b c x → Leaves Done q r x → Balances b c q r → Balances c d r s
+    → Balances b d q s
+Balances-after None c d q r s x put left first second = tt
+Balances-after (Some w) c None q r s x put left first second = tt
+Balances-after (Some w) c (Some v) None r s x put left first second = tt
+Balances-after (Some w) c (Some v) (Some m) r s x put left first second =
+    Balances-then (Some w) c (Some v) (Some m) r s (PutsBytes-told Done (Some w) c x put refl) (Leaves-told Done (Some m) r x left refl) first second
+
+-- one text behind another
+pub Puts-then : (r : WriteAnswer) (b m a : SinkSeen) (x y : List ℕ) → Puts Done b m x → Puts r m a y → Puts r b a (x ++ y)
+Puts-then r b m a x y first second = record {
+  puts = PutsBytes-then r b.written m.written a.written x y first.puts second.puts;
+  leaves = Leaves-then r b.room m.room a.room x y first.leaves second.leaves;
+  balances = Balances-after b.written m.written a.written b.room m.room a.room x first.puts first.leaves first.balances second.balances;
+  counts = CountsFaults-then r b.faults m.faults a.faults first.counts second.counts;
+}
+
+-- a fault in a text is one in every longer text
+pub Puts-stopped : (b a : SinkSeen) (x y : List ℕ) → Puts Failed b a x → Puts Failed b a (x ++ y)
+Puts-stopped b a x y put = record {
+  puts = PutsBytes-stopped b.written a.written x y put.puts;
+  leaves = Leaves-stopped b.room a.room x y put.leaves;
+  balances = put.balances;
+  counts = put.counts;
+}
+
+-- no text
+pub Puts-nothing : (b : SinkSeen) → Puts Done b b []
+Puts-nothing b = record {
+  puts = PutsBytes-nothing b.written;
+  leaves = Leaves-nothing b.room;
+  balances = Balances-nothing b.written b.room;
+  counts = refl;
+}

@@ -18,10 +18,6 @@ GoesOn old new = (old ≤ new) × (old < 2 ^ 64 → new < 2 ^ 64)
 abbrev pub one_more : ℕ → ℕ
 one_more count = min (count + 1) (2 ^ 64 - 1)
 
--- the counts of all names stay
-abbrev pub KeepsCounts : (List ℕ → ℕ) → (List ℕ → ℕ) → Type 0
-KeepsCounts old new = (name : List ℕ) → new name ≡ old name
-
 -- the count of each name goes on
 abbrev pub CountsGoOn : (List ℕ → ℕ) → (List ℕ → ℕ) → Type 0
 CountsGoOn old new = (name : List ℕ) → GoesOn (old name) (new name)

@@ -1,18 +1,10 @@
 -- What a folder holds under a name: None where that is untold, Some None where it is told that
 -- there is no file, and Some (Some bytes) where the bytes are told. (This project's rule.)
-use Rattle.std.specs.Prelude.{◌≡◌, ◌≢◌, ℕ, ◌⊎◌, Option, Some, List, take}
+use Rattle.std.specs.Prelude.{◌≡◌, ℕ, ◌⊎◌, Option, Some, List, take}
 
 -- what each name holds
 abbrev pub Files : Type 0
 Files = List ℕ → Option (Option (List ℕ))
-
--- every name keeps what it holds, and stays told or untold
-abbrev pub KeepsFiles : Files → Files → Type 0
-KeepsFiles old new = (name : List ℕ) → new name ≡ old name
-
--- every name but this one keeps what it holds, and stays told or untold
-abbrev pub KeepsOtherFiles : List ℕ → Files → Files → Type 0
-KeepsOtherFiles written old new = (name : List ℕ) → name ≢ written → new name ≡ old name
 
 -- a name that a write failed on holds what it held, or a prefix of the bytes
 abbrev pub HoldsOldOrPrefix : Option (Option (List ℕ)) → Option (List ℕ) → List ℕ → Type 0

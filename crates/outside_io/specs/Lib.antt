@@ -1,6 +1,4 @@
 pub mod Faults
 pub mod Files
+pub mod Seen
 pub mod Puts
-pub mod MemSink
-pub mod MemFolder
-pub mod FileLists

@@ -5,11 +5,12 @@ use Rattle.std.specs.Prelude.{◌≡◌, ℕ, ◌+◌, ◌-◌, ◌<◌, ◌≤�
 use Rattle.outside_io.specs.declared.answers.WriteAnswer.{WriteAnswer}
 use Rattle.outside_io.specs.declared.answers.WriteAnswer.TheVariants.{Done, Failed}
 use Rattle.outside_io.specs.Faults.{Rose, GoesOn}
+use Rattle.outside_io.specs.Seen.{SinkSeen}
 
 -- the bytes written: all of the text was appended, or after a fault a prefix of it
-abbrev pub Puts : WriteAnswer → Option (List ℕ) → Option (List ℕ) → List ℕ → Type 0
-Puts Done before after text = IfSome before (λ written. after ≡ Some (written ++ text))
-Puts Failed before after text =
+abbrev pub PutsBytes : WriteAnswer → Option (List ℕ) → Option (List ℕ) → List ℕ → Type 0
+PutsBytes Done before after text = IfSome before (λ written. after ≡ Some (written ++ text))
+PutsBytes Failed before after text =
     IfSome before (λ written. (count : ℕ) × (after ≡ Some (written ++ take count text)))
 
 -- the room left: it falls by the bytes of the text, or after a fault, which comes only where they
@@ -32,6 +33,13 @@ Balances written written_after room room_after =
 abbrev pub CountsFaults : WriteAnswer → ℕ → ℕ → Type 0
 CountsFaults Done before after = after ≡ before
 CountsFaults Failed before after = Rose before after × GoesOn before after
+
+-- the sink was asked for the text, in one piece or in several, up to the first fault
+pub record Puts (answer : WriteAnswer) (before after : SinkSeen) (text : List ℕ) : Type 0 where
+  pub puts : PutsBytes answer before.written after.written text
+  pub leaves : Leaves answer before.room after.room text
+  pub balances : Balances before.written after.written before.room after.room
+  pub counts : CountsFaults answer before.faults after.faults
 
 -- a sink over a stream: what the stream says that it holds, None where it says nothing, and the
 -- faults so far

@@ -1,13 +1,12 @@
 ghost use Rattle.std.specs.List.{flat_map};
-ghost use Rattle.outside_io.specs.Puts.{CountsFaults, Puts};
+ghost use Rattle.outside_io.specs.Puts.{Puts};
 
 use crate::answers::WriteAnswer;
 use crate::sink::Sink;
 
 /// Writes pieces one behind another, up to the first fault. Takes no memory.
 pub fn put_pieces<E: Sink>(sink: &mut E, pieces: &[&str]) -> WriteAnswer
-    ensures puts { Puts result (E.written sink.old) (E.written sink.new) (flat_map (λ piece. piece.now) pieces.now) }
-    ensures counts { CountsFaults result (E.faults sink.old) (E.faults sink.new) }
+    ensures { Puts result (E.seen sink.old) (E.seen sink.new) (flat_map (λ piece. piece.now) pieces.now) }
 {
     for piece in pieces {
         match sink.put(piece.as_bytes()) {

@@ -58,15 +58,13 @@ impl<R: Files + Drop> RealFolder<R> {
 }
 
 impl<R: Files + Drop> Folder for RealFolder<R> {
-    ghost file = { λ _ _. None };
-
-    ghost read_faults = { λ folder _. folder.reads };
-
-    ghost write_faults = { λ folder _. folder.writes };
-
-    ghost read_fails = { λ _ _. None };
-
-    ghost write_fails = { λ _ _ _. None };
+    ghost seen = { λ folder. record {
+      files = λ _. None;
+      read_faults = λ _. folder.reads;
+      write_faults = λ _. folder.writes;
+      read_fails = λ _. None;
+      write_fails = λ _ _. None;
+    } };
 
     /// Stops at the first byte beyond `most`, at the end or at a fault.
     fn read_file(&mut self, name: &str, into: &mut Vec<u8>, most: usize) -> ReadAnswer

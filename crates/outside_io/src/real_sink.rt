@@ -1,6 +1,6 @@
 ghost use Rattle.std.specs.Prelude.{◌≡◌, None, if◌then◌else◌};
 ghost use Rattle.outside_io.specs.Faults.{GoesOn, one_more, is_failed_write};
-ghost use Rattle.outside_io.specs.Puts.{Puts};
+ghost use Rattle.outside_io.specs.Puts.{PutsBytes};
 
 use crate::answers::WriteAnswer;
 use crate::sink::Sink;
@@ -35,15 +35,11 @@ impl<W: Write + Drop> RealSink<W> {
 }
 
 impl<W: Write + Drop> Sink for RealSink<W> {
-    ghost written = { λ _. None };
-
-    ghost room = { λ _. None };
-
-    ghost faults = { λ sink. sink.faults };
+    ghost seen = { λ sink. record { written = None; room = None; faults = sink.faults } };
 
     /// Ends at the end of the bytes or at the first fault.
     fn put(&mut self, bytes: &[u8]) -> WriteAnswer
-        ensures stream { Puts result self.old.contents self.new.contents bytes.now }
+        ensures stream { PutsBytes result self.old.contents self.new.contents bytes.now }
         ensures counts { self.new.faults ≡
             (if is_failed_write result then one_more self.old.faults else self.old.faults) }
         ensures goes_on { GoesOn self.old.faults self.new.faults }

@@ -1,27 +1,18 @@
-ghost use Rattle.std.specs.Prelude.{ℕ, List, Option};
-ghost use Rattle.outside_io.specs.Puts.{Puts, Leaves, Balances, CountsFaults};
+ghost use Rattle.outside_io.specs.Seen.{SinkSeen};
+ghost use Rattle.outside_io.specs.Puts.{Puts};
 
 use crate::answers::WriteAnswer;
 
 /// Takes bytes, one piece after another. It may tell the bytes written and the room left, and counts
 /// its faults.
 pub trait Sink {
-    /// The bytes written, where told.
-    ghost written: { Self → Option (List ℕ) };
-
-    /// How many more bytes fit, where told.
-    ghost room: { Self → Option ℕ };
-
-    /// The faults so far.
-    ghost faults: { Self → ℕ };
+    /// What the sink tells: the bytes written, the room left, and the faults so far.
+    ghost seen: { Self → SinkSeen };
 
     /// Appends bytes. Takes no memory of the caller.
     ///
     /// After `Failed` a prefix of the bytes was appended. A sink that tells its room fails exactly
     /// where the bytes are more than the room.
     fn put(&mut self, bytes: &[u8]) -> WriteAnswer
-        ensures puts { Puts result (written self.old) (written self.new) bytes.now }
-        ensures leaves { Leaves result (room self.old) (room self.new) bytes.now }
-        ensures balances { Balances (written self.old) (written self.new) (room self.old) (room self.new) }
-        ensures counts { CountsFaults result (faults self.old) (faults self.new) };
+        ensures { Puts result (seen self.old) (seen self.new) bytes.now };
 }

@@ -20,8 +20,7 @@ use Rattle.command_line.specs.Stops.{stop_of_plan}
 use Rattle.command_line.specs.declared.files.FileKind.TheVariants as kinds
 use Rattle.command_line.specs.declared.stop.Stop.{Stop}
 use Rattle.command_line.specs.declared.stop.Stop.TheVariants.{CannotRead, CannotWrite, CannotWriteReport}
-use Rattle.outside_io.specs.Faults.{KeepsCounts, Rose}
-use Rattle.outside_io.specs.Files.{Files}
+use Rattle.outside_io.specs.Seen.{FolderSeen, KeepsReadFaults, ReadFaultsRose}
 use Rattle.pict_cli.specs.Ends.{CountsReads, End, IsAnswered, IsEarly, Stopped, Unread, end_of}
 use Rattle.pict_cli.specs.Modes.{Generate, Measure, Mode, RowSource, Suspect, makes_plan, mode_of, row_file, row_mode}
 use Rattle.pict_cli.specs.RowSources.{later_notes, notes_on, read_bytes, read_row_bytes, read_source, reading_or_none, stop_in, without_results}
@@ -50,12 +49,12 @@ rows_answered effort stop (inl is) = subst (λ other. IsAnswered effort (end_of 
 rows_answered effort stop (inr is) = stopped_answered effort (end_of (Err stop)) is
 
 -- the counts of faults of reading after a row file that stopped
-pub rows_counted : (s : Settings) (name : List ℕ) (stop : Stop) (reads after : List ℕ → ℕ) → IsOfRows stop
-    → (stop ≡ (CannotRead kinds.Rows) → IsSomeAnd (row_file s) (λ file. Rose (reads file) (after file)))
-    → (stop ≢ (CannotRead kinds.Rows) → KeepsCounts reads after) → CountsReads s name (end_of (Err stop)) reads after
-rows_counted s name stop reads after (inl is) rose keeps = subst (λ other. CountsReads s name (end_of (Err other)) reads after) (sym is) (rose is)
-rows_counted s name stop reads after (inr is) rose keeps =
-    subst (λ end. CountsReads s name end reads after) (sym is)
+pub rows_counted : (s : Settings) (name : List ℕ) (stop : Stop) (before after : FolderSeen) → IsOfRows stop
+    → (stop ≡ (CannotRead kinds.Rows) → IsSomeAnd (row_file s) (λ file. ReadFaultsRose file before after))
+    → (stop ≢ (CannotRead kinds.Rows) → KeepsReadFaults before after) → CountsReads s name (end_of (Err stop)) before after
+rows_counted s name stop before after (inl is) rose keeps = subst (λ other. CountsReads s name (end_of (Err other)) before after) (sym is) (rose is)
+rows_counted s name stop before after (inr is) rose keeps =
+    subst (λ end. CountsReads s name end before after) (sym is)
     (keeps (λ e. let other : Unread kinds.Rows ≡ Stopped = sym (ap (λ x. end_of (Err x)) e) ∙ is in cc))
 
 -- the limit of the demand, where the run goes by a plan
@@ -142,8 +141,8 @@ module _ (s : Settings) (seed : ℕ) (m : ModelView) (source : RowSource) (given
   pub text_same : out_text s seed m (given_of s m source) ≡ text_in mode s seed m given
   text_same = ap (out_text s seed m) given_same ∙ ap (λ other. text_in other s seed m given) is
 
-  pub proof_same : (files after : Files) (end : End) → WritesProof s seed m given.rows.rows files after end → WritesProof s seed m (rows_of_run s m source) files after end
-  proof_same files after end writes = subst (λ found. WritesProof s seed m found.rows.rows files after end) (sym given_same) writes
+  pub proof_same : (before after : FolderSeen) (end : End) → WritesProof s seed m given.rows.rows before after end → WritesProof s seed m (rows_of_run s m source) before after end
+  proof_same before after end writes = subst (λ found. WritesProof s seed m found.rows.rows before after end) (sym given_same) writes
 
   -- the work stopped
   pub work_stopped : (stop : Stop) (end : Result (Unit {0}) Stop) (row_notes : List Note) → end ≡ Err stop

@@ -1,10 +1,10 @@
 -- What a report that was printed whole holds covers what can be covered.
-use Rattle.std.proofs.Common.{◌≡◌, ℕ, ◌<◌, ◌^◌, ◌⊎◌, true, false, Bool, List, length, ◌++◌, Option, None, Some, Ok, inl, inr, refl, sym, ap, subst, ◌∙◌, arith}
-use Rattle.std.specs.Prelude.{All, ◌&&◌, nat_le, nat_lt, if◌then◌else◌, slice_index_or, option_map, option_and_then, IfSome, IsSomeAnd}
-use Rattle.std.specs.List.{list_all}
+use Rattle.std.proofs.Common.{◌≡◌, ℕ, ◌+◌, ◌<◌, ◌≤◌, ◌^◌, ◌⊎◌, true, false, Bool, List, [], ◌∷◌, map, length, Option, None, Some, Ok, inl, inr, refl, sym, ap, subst, ◌∙◌, arith}
+use Rattle.std.specs.Prelude.{All, ◌&&◌, nat_le, nat_lt, if◌then◌else◌, slice_index_or, option_map, option_and_then, IfSome, IsOkAnd, IsSomeAnd}
+use Rattle.std.specs.List.{enumerate_from, list_all}
 use Rattle.std.specs.Option.{option_or}
 use Rattle.outside_io.specs.declared.answers.WriteAnswer.TheVariants.{Done}
-use Rattle.outside_io.specs.Puts.{Puts}
+use Rattle.outside_io.specs.Puts.{PutsBytes}
 use Rattle.cov_model.specs.Sound.{ModelView, IsSound}
 use Rattle.cov_model.specs.Preference.{OrdersValues, preference}
 use Rattle.cov_model.specs.Meaning.{body_holds}
@@ -14,6 +14,7 @@ use Rattle.std.proofs.lemmas.Bool.{and_parts, cases_Bool, false≢true, ltb-fals
 use Rattle.std.proofs.lemmas.Option.{none-some}
 use Rattle.definitions.specs.Covering.{HasFewRows}
 use Rattle.definitions.specs.Demand.{choices, demanded_tuples}
+use Rattle.definitions.specs.Limits.{Rows, most_counted}
 use Rattle.definitions.specs.Settings.{Settings}
 use Rattle.definitions.specs.SuiteLaws.{IsSoundProof}
 use Rattle.definitions.proofs.SuiteLaws.{suite_proofs_are_accepted, suite_proofs_list, suite_proofs_read_back, suites_serve_or_refute}
@@ -26,14 +27,16 @@ use Rattle.definitions.specs.Growth.{growth}
 use Rattle.definitions.specs.Report.{report_text}
 use Rattle.definitions.specs.RowFile.{rows_of}
 use Rattle.definitions.proofs.GrowthLaw.{growth_covers, suites_cover, suites_have_few_rows}
+use Rattle.definitions.specs.Verdict.{Accepted, verdict}
 use Rattle.definitions.proofs.ReadBack.{read_back}
+use Rattle.definitions.proofs.ReportRead.{reports_are_read}
 use Rattle.model_lex.specs.declared.note.Note.{Note}
 use Rattle.command_line.specs.Stops.{stop_of_plan}
 use Rattle.command_line.specs.declared.stop.Stop.{Stop}
 use Rattle.pict_cli.specs.Ends.{Moment}
 use Rattle.pict_cli.specs.Modes.{Generate, Measure, Mode, Report, RowSource, Statistics, Suspect, is_report, makes_plan, makes_suite, mode_of, prints_rows}
-use Rattle.pict_cli.specs.Runs.{AreContained, CoversOrRefutes, EndsBehind, HoldsWholeProof, IsAcceptedWith, IsProof, PrintsAccepted, PrintsCovering}
-use Rattle.pict_cli.specs.Runs.{PrintsFewRows, PrintsSeeds, RunsModel, cannot_write, cannot_write_proof, comes_whole, given_of, growth_of}
+use Rattle.pict_cli.specs.Runs.{AreContained, CoversOrRefutes, EndsBehind, HoldsWholeProof, IsAcceptedWith, IsProof, PrintsSuite}
+use Rattle.pict_cli.specs.Runs.{RunsModel, cannot_write, cannot_write_proof, comes_whole, given_of, growth_of}
 use Rattle.pict_cli.specs.Runs.{must_stop, no_memory, out_text, rows_of_run, rows_unread, seeds_kept, shuffled_by, stop_due, text_in, told_proof}
 
 -- valid rows are rows
@@ -49,14 +52,10 @@ read_suite : (m : ModelView) (pref : List (List ℕ)) (seeds : List (ℕ × List
 read_suite m pref seeds sound orders =
     read_back m (growth m pref seeds).rows sound (are_rows m (growth m pref seeds).rows (suites_cover m pref seeds sound orders).valid)
 
--- what was printed whole behind other bytes
-added : (P : List (List (Option ℕ)) → Type 0) (m : ModelView) (pref : List (List ℕ)) (seeds : List (ℕ × List (Option ℕ))) (before : List ℕ) (after : Option (List ℕ))
-    → IsSound m → OrdersValues m pref → P (growth m pref seeds).rows → Puts Done (Some before) after (report_text m (growth m pref seeds).rows)
-    → IsSomeAnd after (λ bytes. (text : List ℕ) × (bytes ≡ before ++ text) × P (rows_of m text))
-added P m pref seeds before after sound orders holds put =
-    let text = report_text m (growth m pref seeds).rows in
-    subst (λ found. IsSomeAnd found (λ bytes. (added : List ℕ) × (bytes ≡ before ++ added) × P (rows_of m added))) (sym put)
-    (text, refl, subst P (sym (read_suite m pref seeds sound orders)) holds)
+-- rows with numbers before them
+enumerated : {X : Type 0} (n : ℕ) (xs : List X) → map (λ line. line.1) (enumerate_from n xs) ≡ xs
+enumerated n [] = refl
+enumerated n (x ∷ xs) = ap (λ rest. x ∷ rest) (enumerated (n + 1) xs)
 
 -- the text of a run that prints rows
 report_printed : (mode : Mode) (s : Settings) (seed : ℕ) (m : ModelView) (given : ResultReading) → is_report mode ≡ true
@@ -131,11 +130,11 @@ module _ (s : Settings) (seed : ℕ) (m : ModelView) (source : RowSource) (notes
   }
 
   -- what is told of the proof, where it is
-  proof_told : IfSome (told_proof s after.files) (λ held. IsSomeAnd held (IsProof s seed m seeds))
+  proof_told : IfSome (told_proof s after.folder.files) (λ held. IsSomeAnd held (IsProof s seed m seeds))
   proof_told = at s.proof runs.writes
     where
-      at : (proof : Option (List ℕ)) → IfSome proof (λ name. IfSome (after.files name) (λ held. IsSomeAnd held (IsProof s seed m seeds)))
-          → IfSome (option_and_then after.files proof) (λ held. IsSomeAnd held (IsProof s seed m seeds))
+      at : (proof : Option (List ℕ)) → IfSome proof (λ name. IfSome (after.folder.files name) (λ held. IsSomeAnd held (IsProof s seed m seeds)))
+          → IfSome (option_and_then after.folder.files proof) (λ held. IsSomeAnd held (IsProof s seed m seeds))
       at None holds = tt
       at (Some name) holds = holds
 
@@ -150,33 +149,19 @@ module _ (s : Settings) (seed : ℕ) (m : ModelView) (source : RowSource) (notes
       record { valid = plain.valid; served = suites_serve_or_refute m pref seeds s.effort s.form bytes (sound_proof plans known bytes holds) }
 
   -- the report was put
-  put : prints_rows s ≡ true → (before : List ℕ) → start.out ≡ Some before → Puts Done (Some before) after.out (report_text m (growth m pref seeds).rows)
+  put : prints_rows s ≡ true → (before : List ℕ) → start.out.written ≡ Some before → PutsBytes Done (Some before) after.out.written (report_text m (growth m pref seeds).rows)
   put is before out =
-      subst (Puts Done (Some before) after.out) (report_printed (mode_of s) s seed m (given_of s m source) is)
-      (subst (λ o. Puts Done o after.out (out_text s seed m (given_of s m source))) out runs.prints)
-
-  pub prints_covering : (s.form ≡ 1) ⊎ (s.form ≡ 2) → prints_rows s ≡ true → (before : List ℕ) → start.out ≡ Some before
-      → IsSomeAnd after.out (PrintsCovering m s.form (told_proof s after.files) before)
-  prints_covering known is before out =
-      added (CoversOrRefutes m s.form (told_proof s after.files)) m pref seeds before after.out runs.sound orders
-      (covers (report_plans (mode_of s) is) (told_proof s after.files) proof_told known) (put is before out)
-
-  pub prints_few_rows : prints_rows s ≡ true → (before : List ℕ) → start.out ≡ Some before → IsSomeAnd after.out (PrintsFewRows m (length (seeds_kept s m source)) before)
-  prints_few_rows is before out =
-      added (HasFewRows m (length (seeds_kept s m source))) m pref seeds before after.out runs.sound orders (suites_have_few_rows m pref seeds runs.sound orders) (put is before out)
-
-  pub prints_seeds : prints_rows s ≡ true → (before : List ℕ) → start.out ≡ Some before → IsSomeAnd after.out (PrintsSeeds m (seeds_kept s m source) before)
-  prints_seeds is before out =
-      added (AreContained (seeds_kept s m source)) m pref seeds before after.out runs.sound orders (growth_covers m pref seeds runs.sound orders).kept (put is before out)
+      subst (PutsBytes Done (Some before) after.out.written) (report_printed (mode_of s) s seed m (given_of s m source) is)
+      (subst (λ o. PutsBytes Done o after.out.written (out_text s seed m (given_of s m source))) out runs.prints.puts)
 
   -- one with a proof file goes by a plan
-  proof_plans : (makes_suite (mode_of s) ≡ false → s.proof ≡ None) → (proof : Option (List ℕ)) → told_proof s after.files ≡ Some proof → makes_plan (mode_of s) ≡ true
+  proof_plans : (makes_suite (mode_of s) ≡ false → s.proof ≡ None) → (proof : Option (List ℕ)) → told_proof s after.folder.files ≡ Some proof → makes_plan (mode_of s) ≡ true
   proof_plans unproved proof is = elim (cases_Bool (makes_suite (mode_of s))) [
     | inl suite ↦ suite_plans (mode_of s) suite
-    | inr other ↦ absurd (none-some proof (sym (ap (option_and_then after.files) (unproved other)) ∙ is))
+    | inr other ↦ absurd (none-some proof (sym (ap (option_and_then after.folder.files) (unproved other)) ∙ is))
   ]
 
-  pub holds_whole_proof : (makes_suite (mode_of s) ≡ false → s.proof ≡ None) → (s.form ≡ 1) ⊎ (s.form ≡ 2) → (proof : Option (List ℕ)) → told_proof s after.files ≡ Some proof
+  pub holds_whole_proof : (makes_suite (mode_of s) ≡ false → s.proof ≡ None) → (s.form ≡ 1) ⊎ (s.form ≡ 2) → (proof : Option (List ℕ)) → told_proof s after.folder.files ≡ Some proof
       → HoldsWholeProof s seed m seeds proof
   holds_whole_proof unproved known proof is_told = whole proof (subst (λ found. IfSome found (λ held. IsSomeAnd held (IsProof s seed m seeds))) is_told proof_told)
     where
@@ -184,19 +169,45 @@ module _ (s : Settings) (seed : ℕ) (m : ModelView) (source : RowSource) (notes
       whole None none = absurd none
       whole (Some bytes) is = (is, suite_proofs_list m pref seeds s.effort s.form bytes (sound_proof (proof_plans unproved proof is_told) known bytes is))
 
-  pub prints_accepted : (s.form ≡ 1) ⊎ (s.form ≡ 2) → prints_rows s ≡ true → (proof : Option (List ℕ)) → told_proof s after.files ≡ Some proof → (before : List ℕ)
-      → start.out ≡ Some before → IsSomeAnd after.out (PrintsAccepted m s.form proof before)
-  prints_accepted known rows proof is before out =
-      added (λ printed. IsSomeAnd proof (λ bytes. IsAcceptedWith m s.form bytes printed)) m pref seeds before after.out runs.sound orders
-      (accepted proof (subst (λ found. IfSome found (λ held. IsSomeAnd held (IsProof s seed m seeds))) is proof_told)) (put rows before out)
-    where
-      accepted : (held : Option (List ℕ)) → IsSomeAnd held (IsProof s seed m seeds) → IsSomeAnd held (λ bytes. IsAcceptedWith m s.form bytes (growth m pref seeds).rows)
-      accepted None none = absurd none
-      accepted (Some bytes) is = record {
+  -- the checker accepts what is printed with the proof
+  accepts : (s.form ≡ 1) ⊎ (s.form ≡ 2) → makes_plan (mode_of s) ≡ true → (bytes : List ℕ) → IsProof s seed m seeds bytes
+      → IsAcceptedWith m s.form bytes (report_text m (growth m pref seeds).rows)
+  accepts known plans bytes is =
+      let rows = (growth m pref seeds).rows in
+      let read = read_suite m pref seeds runs.sound orders in
+      let proof = sound_proof plans known bytes is in
+      record {
         omissions = is.omissions;
-        read = suite_proofs_read_back m pref seeds s.effort s.form bytes (sound_proof (report_plans (mode_of s) rows) known bytes is);
-        accepted = λ lines same. suite_proofs_are_accepted m pref seeds s.effort s.form bytes lines (sound_proof (report_plans (mode_of s) rows) known bytes is) same;
+        read = suite_proofs_read_back m pref seeds s.effort s.form bytes proof;
+        within = within plans;
+        as_read = λ few.
+            subst (λ reading. IsOkAnd reading (λ found. verdict m found.rows bytes ≡ Accepted (length found.rows) (length is.omissions)))
+            (sym (reports_are_read m rows runs.sound (are_rows m rows (suites_cover m pref seeds runs.sound orders).valid) (subst (λ found. length found ≤ most_counted Rows) read few)))
+            (suite_proofs_are_accepted m pref seeds s.effort s.form bytes (enumerate_from 2 rows) proof (enumerated 2 rows));
+        on_lines = λ lines same. suite_proofs_are_accepted m pref seeds s.effort s.form bytes lines proof (same ∙ read);
       }
+
+  -- with a proof that is told
+  accepts_told : (s.form ≡ 1) ⊎ (s.form ≡ 2) → makes_plan (mode_of s) ≡ true → (proof : Option (Option (List ℕ))) → IfSome proof (λ held. IsSomeAnd held (IsProof s seed m seeds))
+      → IfSome proof (λ held. IsSomeAnd held (λ bytes. IsAcceptedWith m s.form bytes (report_text m (growth m pref seeds).rows)))
+  accepts_told known plans None holds = tt
+  accepts_told known plans (Some None) none = none
+  accepts_told known plans (Some (Some bytes)) is = accepts known plans bytes is
+
+  pub prints_suite : (s.form ≡ 1) ⊎ (s.form ≡ 2) → prints_rows s ≡ true → (before : List ℕ) → start.out.written ≡ Some before
+      → IsSomeAnd after.out.written (PrintsSuite s m source (told_proof s after.folder.files) before)
+  prints_suite known is before out =
+      let plans = report_plans (mode_of s) is in
+      let proof = told_proof s after.folder.files in
+      let read = sym (read_suite m pref seeds runs.sound orders) in
+      subst (λ found. IsSomeAnd found (PrintsSuite s m source proof before)) (sym (put is before out)) (record {
+        added = report_text m (growth m pref seeds).rows;
+        behind = refl;
+        covers = subst (CoversOrRefutes m s.form proof) read (covers plans proof proof_told known);
+        few = subst (HasFewRows m (length (seeds_kept s m source))) read (suites_have_few_rows m pref seeds runs.sound orders);
+        seeds = subst (AreContained (seeds_kept s m source)) read (growth_covers m pref seeds runs.sound orders).kept;
+        accepted = accepts_told known plans proof proof_told;
+      })
 
 -- the rows of a suite are rows
 pub suite_rows : (m : ModelView) (shuffle : Option ℕ) (seeds : List (ℕ × List (Option ℕ))) → IsSound m → All (λ row. is_row m row ≡ true) (growth m (preference m shuffle) seeds).rows

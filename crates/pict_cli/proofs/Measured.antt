@@ -2,7 +2,7 @@
 use Rattle.std.proofs.Common.{◌≡◌, ℕ, List, [], ◌∷◌, map, Option, None, refl, ap, subst, sym}
 use Rattle.std.specs.Prelude.{IfSome}
 use Rattle.cov_model.specs.Sound.{ModelView}
-use Rattle.outside_io.specs.Files.{Files}
+use Rattle.outside_io.specs.Seen.{FolderSeen}
 use Rattle.definitions.specs.Settings.{Settings}
 use Rattle.row_text.specs.RowFiles.{row_seen}
 use Rattle.row_text.specs.declared.row_file.FileRow.{FileRow}
@@ -15,6 +15,6 @@ suite_rows [] = refl
 suite_rows (row ∷ rows) = ap (λ rest. row.cells ∷ rest) (suite_rows rows)
 
 -- without a proof file none is written
-pub writes_none : (s : Settings) (seed : ℕ) (m : ModelView) (seeds : List (ℕ × List (Option ℕ))) (files after : Files) (end : End) → s.proof ≡ None
-    → WritesProof s seed m seeds files after end
-writes_none s seed m seeds files after end none = subst (λ proof. IfSome proof (λ name. HoldsProof s seed m seeds (files name) (after name) end)) (sym none) tt
+pub writes_none : (s : Settings) (seed : ℕ) (m : ModelView) (seeds : List (ℕ × List (Option ℕ))) (before after : FolderSeen) (end : End) → s.proof ≡ None
+    → WritesProof s seed m seeds before after end
+writes_none s seed m seeds before after end none = subst (λ proof. IfSome proof (λ name. HoldsProof s seed m seeds (before.files name) (after.files name) end)) (sym none) tt

@@ -3,7 +3,7 @@ use Rattle.std.proofs.Common.{◌≡◌, ℕ, List, Option, None, Some, Err, inl
 use Rattle.std.specs.Prelude.{◌≢◌, ◌⊎◌, option_map}
 use Rattle.std.proofs.lemmas.Option.{none-some, same_Some}
 use Rattle.value_text.proofs.ListLemmas.{nothing_found}
-use Rattle.outside_io.specs.Faults.{KeepsCounts}
+use Rattle.outside_io.specs.Seen.{FolderSeen, KeepsReadFaults}
 use Rattle.cov_model.specs.Sound.{ModelView}
 use Rattle.definitions.specs.declared.effort.Effort.{Effort}
 use Rattle.definitions.specs.declared.effort.Effort.TheVariants.{Within, Full}
@@ -70,7 +70,7 @@ pub search_answered : (effort : Effort) (end : End) → IsOfSearch effort end �
 search_answered effort end (inl unanswered) = λ full. absurd (unanswered.1 full)
 search_answered effort end (inr stopped) = stopped_answered effort end stopped
 
-pub reads_searched : (s : Settings) (name : List ℕ) (end : End) (reads after : List ℕ → ℕ) → IsOfSearch s.effort end → KeepsCounts reads after
-    → CountsReads s name end reads after
-reads_searched s name end reads after (inl unanswered) keeps = subst (λ e. CountsReads s name e reads after) (sym unanswered.0) keeps
-reads_searched s name end reads after (inr stopped) keeps = reads_stopped s name end reads after stopped keeps
+pub reads_searched : (s : Settings) (name : List ℕ) (end : End) (before after : FolderSeen) → IsOfSearch s.effort end → KeepsReadFaults before after
+    → CountsReads s name end before after
+reads_searched s name end before after (inl unanswered) keeps = subst (λ e. CountsReads s name e before after) (sym unanswered.0) keeps
+reads_searched s name end before after (inr stopped) keeps = reads_stopped s name end before after stopped keeps

@@ -1,9 +1,8 @@
 -- How a run ends, from how its reading and its work on the model ended.
 use Rattle.std.proofs.Common.{◌≡◌, ℕ, false, ◌≤◌, length, List, Option, None, Some, Ok, Err, Result, inl, inr, refl, ap, subst, ◌∙◌, arith}
-use Rattle.std.specs.Prelude.{◌≢◌, ◌⊎◌, true, IsSomeAnd, IsOkAnd}
+use Rattle.std.specs.Prelude.{◌≢◌, ◌⊎◌, true, IfSome, IsSomeAnd, IsOkAnd}
 use Rattle.value_text.proofs.ListLemmas.{one_ok}
-use Rattle.outside_io.specs.Faults.{KeepsCounts}
-use Rattle.outside_io.specs.Files.{Files, KeepsFiles}
+use Rattle.outside_io.specs.Seen.{FolderSeen, SinkSeen, KeepsFiles, KeepsReadFaults, KeepsWriteFaults}
 use Rattle.cov_model.specs.Sound.{ModelView}
 use Rattle.definitions.specs.Limits.{ModelFile, most_bytes}
 use Rattle.definitions.specs.Settings.{Settings}
@@ -26,10 +25,10 @@ use Rattle.pict_cli.specs.declared.options.Opts.{Opts}
 use Rattle.pict_cli.specs.Ends.{CountsOut, CountsReads, CountsWrites, End, IsEarly, IsQuiet, Misworded, Moment, StaysStill, Stopped, Unanswered, Unprinted, Unread, Unwritten, Whole, end_of}
 use Rattle.pict_cli.specs.Modes.{RowSource, is_report, makes_suite, mode_beside, mode_in, mode_of, model_source, output_of, prints_rows, row_source}
 use Rattle.pict_cli.specs.Options.{settings_seen}
-use Rattle.pict_cli.specs.Runs.{Ends, HasModel, HoldsWholeProof, IsStatus, PrintsAccepted, PrintsCovering, PrintsFewRows, PrintsSeeds, RunsModel, SpellsModel, rows_of_run, seeds_kept, told_proof}
+use Rattle.pict_cli.specs.Runs.{Ends, HasModel, HoldsWholeProof, IsStatus, PrintsSuite, RunsModel, SpellsModel, rows_of_run, told_proof}
 use Rattle.pict_cli.specs.Steps.{Ran}
 use Rattle.pict_cli.proofs.FromModel.{from_model}
-use Rattle.pict_cli.proofs.Headline.{holds_whole_proof, prints_accepted, prints_covering, prints_few_rows, prints_seeds}
+use Rattle.pict_cli.proofs.Headline.{holds_whole_proof, prints_suite}
 
 -- what holds of one model that the bytes spell holds of each
 pub spells_model : (opts : ModelOpts) (P : ModelView → List Note → Type 0) (bytes : List ℕ) (m : ModelView) (notes : List Note)
@@ -57,10 +56,10 @@ model_then opts (Some bytes) P Q then has = record {
 }
 
 -- how a run ends whose model was read
-pub ends_loaded : (s : Settings) (seed : ℕ) (held : Option (List ℕ)) (source : RowSource) (m : ModelView) (notes row_notes : List Note) (before after : Moment) (end : Result (Unit {0}) Stop)
-    → IsLoaded (opts_of s) held m notes → RunsModel s seed m source row_notes before after end → Ends s seed held source notes row_notes before after end
-ends_loaded s seed None source m notes row_notes before after end loaded runs = absurd loaded
-ends_loaded s seed (Some bytes) source m notes row_notes before after end loaded runs =
+pub ends_loaded : (s : Settings) (seed : ℕ) (held : Option (List ℕ)) (rows : Option RowSource) (m : ModelView) (notes row_notes : List Note) (before after : Moment) (end : Result (Unit {0}) Stop)
+    → IsLoaded (opts_of s) held m notes → IfSome rows (λ source. RunsModel s seed m source row_notes before after end) → Ends s seed held rows notes row_notes before after end
+ends_loaded s seed None rows m notes row_notes before after end loaded runs = absurd loaded
+ends_loaded s seed (Some bytes) rows m notes row_notes before after end loaded runs =
     inr (spells_model (opts_of s) _ bytes m notes loaded.0 loaded.1 (refl, runs))
 
 -- the end of a reading of the model file that stopped
@@ -194,57 +193,57 @@ untouched_end (Err CannotWriteReport) zero eight worded = absurd (eight refl)
 untouched_end (Err (TooMany quantity count)) zero eight worded = tt
 untouched_end (Err (TooLong kind)) zero eight worded = tt
 
-pub unwritten_end : (s : Settings) (name : List ℕ) (end : Result (Unit {0}) Stop) (writes after : List ℕ → ℕ) → end_status end ≢ 8 → CountsWrites s name (end_of end) writes after
-    → KeepsCounts writes after
-unwritten_end s name (Ok done) writes after eight counts = counts
-unwritten_end s name (Err OutOfMemory) writes after eight counts = counts
-unwritten_end s name (Err (Spent budget question)) writes after eight counts = counts
-unwritten_end s name (Err (BadWord index)) writes after eight counts = counts
-unwritten_end s name (Err (BadModel diag)) writes after eight counts = counts
-unwritten_end s name (Err (BadConstraint diag)) writes after eight counts = counts
-unwritten_end s name (Err (BadRows fault)) writes after eight counts = counts
-unwritten_end s name (Err NoResult) writes after eight counts = counts
-unwritten_end s name (Err (BadResult line)) writes after eight counts = counts
-unwritten_end s name (Err (CannotRead kind)) writes after eight counts = counts
-unwritten_end s name (Err (CannotWrite kind)) writes after eight counts = absurd (eight refl)
-unwritten_end s name (Err CannotWriteReport) writes after eight counts = counts
-unwritten_end s name (Err (TooMany quantity count)) writes after eight counts = counts
-unwritten_end s name (Err (TooLong kind)) writes after eight counts = counts
+pub unwritten_end : (s : Settings) (name : List ℕ) (end : Result (Unit {0}) Stop) (before after : FolderSeen) → end_status end ≢ 8 → CountsWrites s name (end_of end) before after
+    → KeepsWriteFaults before after
+unwritten_end s name (Ok done) before after eight counts = counts
+unwritten_end s name (Err OutOfMemory) before after eight counts = counts
+unwritten_end s name (Err (Spent budget question)) before after eight counts = counts
+unwritten_end s name (Err (BadWord index)) before after eight counts = counts
+unwritten_end s name (Err (BadModel diag)) before after eight counts = counts
+unwritten_end s name (Err (BadConstraint diag)) before after eight counts = counts
+unwritten_end s name (Err (BadRows fault)) before after eight counts = counts
+unwritten_end s name (Err NoResult) before after eight counts = counts
+unwritten_end s name (Err (BadResult line)) before after eight counts = counts
+unwritten_end s name (Err (CannotRead kind)) before after eight counts = counts
+unwritten_end s name (Err (CannotWrite kind)) before after eight counts = absurd (eight refl)
+unwritten_end s name (Err CannotWriteReport) before after eight counts = counts
+unwritten_end s name (Err (TooMany quantity count)) before after eight counts = counts
+unwritten_end s name (Err (TooLong kind)) before after eight counts = counts
 
-pub calm_end : (s : Settings) (name : List ℕ) (end : Result (Unit {0}) Stop) (reads after : List ℕ → ℕ) → end_status end ≢ 7 → CountsReads s name (end_of end) reads after
-    → KeepsCounts reads after
-calm_end s name (Ok done) reads after seven counts = counts
-calm_end s name (Err OutOfMemory) reads after seven counts = counts
-calm_end s name (Err (Spent budget question)) reads after seven counts = counts
-calm_end s name (Err (BadWord index)) reads after seven counts = counts
-calm_end s name (Err (BadModel diag)) reads after seven counts = counts
-calm_end s name (Err (BadConstraint diag)) reads after seven counts = counts
-calm_end s name (Err (BadRows fault)) reads after seven counts = counts
-calm_end s name (Err NoResult) reads after seven counts = counts
-calm_end s name (Err (BadResult line)) reads after seven counts = counts
-calm_end s name (Err (CannotRead kind)) reads after seven counts = absurd (seven refl)
-calm_end s name (Err (CannotWrite kind)) reads after seven counts = counts
-calm_end s name (Err CannotWriteReport) reads after seven counts = counts
-calm_end s name (Err (TooMany quantity count)) reads after seven counts = counts
-calm_end s name (Err (TooLong kind)) reads after seven counts = counts
+pub calm_end : (s : Settings) (name : List ℕ) (end : Result (Unit {0}) Stop) (before after : FolderSeen) → end_status end ≢ 7 → CountsReads s name (end_of end) before after
+    → KeepsReadFaults before after
+calm_end s name (Ok done) before after seven counts = counts
+calm_end s name (Err OutOfMemory) before after seven counts = counts
+calm_end s name (Err (Spent budget question)) before after seven counts = counts
+calm_end s name (Err (BadWord index)) before after seven counts = counts
+calm_end s name (Err (BadModel diag)) before after seven counts = counts
+calm_end s name (Err (BadConstraint diag)) before after seven counts = counts
+calm_end s name (Err (BadRows fault)) before after seven counts = counts
+calm_end s name (Err NoResult) before after seven counts = counts
+calm_end s name (Err (BadResult line)) before after seven counts = counts
+calm_end s name (Err (CannotRead kind)) before after seven counts = absurd (seven refl)
+calm_end s name (Err (CannotWrite kind)) before after seven counts = counts
+calm_end s name (Err CannotWriteReport) before after seven counts = counts
+calm_end s name (Err (TooMany quantity count)) before after seven counts = counts
+calm_end s name (Err (TooLong kind)) before after seven counts = counts
 
-pub unbroken_end : (end : Result (Unit {0}) Stop) (faults after : ℕ) → end_status end ≢ 8 → CountsOut (end_of end) faults after → after ≡ faults
-unbroken_end (Ok done) faults after eight counts = counts
-unbroken_end (Err OutOfMemory) faults after eight counts = counts
-unbroken_end (Err (Spent budget question)) faults after eight counts = counts
-unbroken_end (Err (BadWord index)) faults after eight counts = counts
-unbroken_end (Err (BadModel diag)) faults after eight counts = counts
-unbroken_end (Err (BadConstraint diag)) faults after eight counts = counts
-unbroken_end (Err (BadRows fault)) faults after eight counts = counts
-unbroken_end (Err NoResult) faults after eight counts = counts
-unbroken_end (Err (BadResult line)) faults after eight counts = counts
-unbroken_end (Err (CannotRead kind)) faults after eight counts = counts
-unbroken_end (Err (CannotWrite kind)) faults after eight counts = absurd (eight refl)
-unbroken_end (Err CannotWriteReport) faults after eight counts = absurd (eight refl)
-unbroken_end (Err (TooMany quantity count)) faults after eight counts = counts
-unbroken_end (Err (TooLong kind)) faults after eight counts = counts
+pub unbroken_end : (end : Result (Unit {0}) Stop) (before after : SinkSeen) → end_status end ≢ 8 → CountsOut (end_of end) before after → after.faults ≡ before.faults
+unbroken_end (Ok done) before after eight counts = counts
+unbroken_end (Err OutOfMemory) before after eight counts = counts
+unbroken_end (Err (Spent budget question)) before after eight counts = counts
+unbroken_end (Err (BadWord index)) before after eight counts = counts
+unbroken_end (Err (BadModel diag)) before after eight counts = counts
+unbroken_end (Err (BadConstraint diag)) before after eight counts = counts
+unbroken_end (Err (BadRows fault)) before after eight counts = counts
+unbroken_end (Err NoResult) before after eight counts = counts
+unbroken_end (Err (BadResult line)) before after eight counts = counts
+unbroken_end (Err (CannotRead kind)) before after eight counts = counts
+unbroken_end (Err (CannotWrite kind)) before after eight counts = absurd (eight refl)
+unbroken_end (Err CannotWriteReport) before after eight counts = absurd (eight refl)
+unbroken_end (Err (TooMany quantity count)) before after eight counts = counts
+unbroken_end (Err (TooLong kind)) before after eight counts = counts
 
-pub quiet_of : (end : End) (out after : Option (List ℕ)) → IsEarly end → IsQuiet end out after → after ≡ out
+pub quiet_of : (end : End) (out after : SinkSeen) → IsEarly end → IsQuiet end out after → after ≡ out
 quiet_of Whole out after early quiet = absurd early
 quiet_of (Unread kind) out after early quiet = quiet
 quiet_of (Unwritten kind) out after early quiet = absurd early
@@ -253,14 +252,14 @@ quiet_of Misworded out after early quiet = absurd early
 quiet_of Unanswered out after early quiet = quiet
 quiet_of Stopped out after early quiet = quiet
 
-pub still_of : (end : End) (files after : Files) → IsEarly end → StaysStill end files after → KeepsFiles files after
-still_of Whole files after early still = absurd early
-still_of (Unread kind) files after early still = still
-still_of (Unwritten kind) files after early still = absurd early
-still_of Unprinted files after early still = absurd early
-still_of Misworded files after early still = absurd early
-still_of Unanswered files after early still = still
-still_of Stopped files after early still = still
+pub still_of : (end : End) (before after : FolderSeen) → IsEarly end → StaysStill end before after → KeepsFiles before after
+still_of Whole before after early still = absurd early
+still_of (Unread kind) before after early still = still
+still_of (Unwritten kind) before after early still = absurd early
+still_of Unprinted before after early still = absurd early
+still_of Misworded before after early still = absurd early
+still_of Unanswered before after early still = still
+still_of Stopped before after early still = still
 
 -- the format that is asked for is 1 or 2
 a_form : (form : ProofForm) → (format_of form ≡ 1) ⊎ (format_of form ≡ 2)
@@ -279,41 +278,31 @@ ran_asked {asked} {s} {other} {seed} {name} {model} {before} {after} {notes} {ro
 
 module _ {s : Settings} {seed : ℕ} {name : List ℕ} {start after : Moment} {notes row_notes : List Note} {end : Result (Unit {0}) Stop}
     (ran : Ran s seed name start after notes row_notes end) (held : Option (List ℕ)) (source : RowSource)
-    (at : model_source s name start.files ≡ Some held) (rows : row_source s start.files ≡ Some source) where
+    (at : model_source s name start.folder.files ≡ Some held) (rows : row_source s start.folder.files ≡ Some source) where
   -- a run came to its end: what follows for its model, from the moment at which the run went on with it
   whole : (P : ModelView → Type 0) → ((begun : Moment) → begun.out ≡ start.out → (m : ModelView) → RunsModel s seed m source row_notes begun after (Ok tt) → P m)
       → end_status end ≡ 0 → HasModel (opts_of s) held (λ m noted. P m)
   whole P says zero =
-      from_model s.make name (λ begun. Ends s seed held source notes row_notes begun after end) notes row_notes start after end _
-      (λ begun same goes. ended begun same (subst (Ends s seed held source notes row_notes begun after) is goes))
-      (λ memory. let no : ⊥ = cc in absurd no) (λ fault. let no : ⊥ = cc in absurd no) (ran.ends held source at rows)
+      from_model s.make name (λ begun. Ends s seed held (row_source s start.folder.files) notes row_notes begun after end) notes row_notes start after end _
+      (λ begun same goes. ended begun same (subst (Ends s seed held (Some source) notes row_notes begun after) is
+      (subst (λ told. Ends s seed held told notes row_notes begun after end) rows goes)))
+      (λ memory. let no : ⊥ = cc in absurd no) (λ fault. let no : ⊥ = cc in absurd no) (ran.ends held at)
     where
       is : end ≡ Ok tt
       is = zero_is_end end zero
 
-      ended : (begun : Moment) → begun.out ≡ start.out → Ends s seed held source notes row_notes begun after (Ok tt) → HasModel (opts_of s) held (λ m noted. P m)
+      ended : (begun : Moment) → begun.out ≡ start.out → Ends s seed held (Some source) notes row_notes begun after (Ok tt) → HasModel (opts_of s) held (λ m noted. P m)
       ended begun same (inl reading) = absurd reading.0
       ended begun same (inr model) = model_then (opts_of s) held _ _ (λ m noted holds. says begun same m holds.1) model
 
   pub covers_whole : (known : (s.form ≡ 1) ⊎ (s.form ≡ 2)) → prints_rows s ≡ true → end_status end ≡ 0
-      → HasModel (opts_of s) held (λ m noted. (before : List ℕ) → start.out ≡ Some before
-      → IsSomeAnd after.out (PrintsCovering m s.form (told_proof s after.files) before))
-  covers_whole known is = whole _ (λ begun same m runs before told. prints_covering s seed m source row_notes begun after runs known is before (same ∙ told))
-
-  pub few_whole : prints_rows s ≡ true → end_status end ≡ 0
-      → HasModel (opts_of s) held (λ m noted. (before : List ℕ) → start.out ≡ Some before → IsSomeAnd after.out (PrintsFewRows m (length (seeds_kept s m source)) before))
-  few_whole is = whole _ (λ begun same m runs before told. prints_few_rows s seed m source row_notes begun after runs is before (same ∙ told))
-
-  pub seeds_whole : prints_rows s ≡ true → end_status end ≡ 0
-      → HasModel (opts_of s) held (λ m noted. (before : List ℕ) → start.out ≡ Some before → IsSomeAnd after.out (PrintsSeeds m (seeds_kept s m source) before))
-  seeds_whole is = whole _ (λ begun same m runs before told. prints_seeds s seed m source row_notes begun after runs is before (same ∙ told))
-
-  pub accepted_whole : (known : (s.form ≡ 1) ⊎ (s.form ≡ 2)) → prints_rows s ≡ true → (proof : Option (List ℕ)) → told_proof s after.files ≡ Some proof → end_status end ≡ 0
-      → HasModel (opts_of s) held (λ m noted. (before : List ℕ) → start.out ≡ Some before → IsSomeAnd after.out (PrintsAccepted m s.form proof before))
-  accepted_whole known is proof told = whole _ (λ begun same m runs before out. prints_accepted s seed m source row_notes begun after runs known is proof told before (same ∙ out))
+      → HasModel (opts_of s) held (λ m noted. (before : List ℕ) → start.out.written ≡ Some before
+      → IsSomeAnd after.out.written (PrintsSuite s m source (told_proof s after.folder.files) before))
+  covers_whole known is = whole _ (λ begun same m runs before told.
+      prints_suite s seed m source row_notes begun after runs known is before (ap (λ out. out.written) same ∙ told))
 
   pub proof_whole : (unproved : makes_suite (mode_of s) ≡ false → s.proof ≡ None) (known : (s.form ≡ 1) ⊎ (s.form ≡ 2)) (proof : Option (List ℕ))
-      → told_proof s after.files ≡ Some proof → end_status end ≡ 0
+      → told_proof s after.folder.files ≡ Some proof → end_status end ≡ 0
       → HasModel (opts_of s) held (λ m noted. HoldsWholeProof s seed m (rows_of_run s m source) proof)
   proof_whole unproved known proof told = whole _ (λ begun same m runs. holds_whole_proof s seed m source row_notes begun after runs unproved known proof told)
 

@@ -2,8 +2,7 @@
 -- that couldn't, by its words, by a question above the budget, or by any other stop. (This project's rules.)
 use Rattle.std.specs.Prelude.{◌≡◌, ◌≢◌, ℕ, List, Option, Some, None, Result, Ok, Err, IsSomeAnd, option_map}
 use Rattle.outside_io.specs.declared.answers.WriteAnswer.TheVariants.{Done, Failed}
-use Rattle.outside_io.specs.Faults.{KeepsCounts, Rose}
-use Rattle.outside_io.specs.Files.{Files, KeepsFiles}
+use Rattle.outside_io.specs.Seen.{FolderSeen, SinkSeen, KeepsFiles, KeepsReadFaults, KeepsWriteFaults, ReadFaultsRose, WriteFaultsRose, PutFaultsRose}
 use Rattle.outside_io.specs.Puts.{Puts}
 use Rattle.definitions.specs.declared.effort.Effort.{Effort}
 use Rattle.definitions.specs.declared.effort.Effort.TheVariants.{Full}
@@ -59,79 +58,74 @@ file_written s name kinds.Model = option_map (λ n. name) s.make
 file_written s name kinds.Rows = None
 file_written s name kinds.Proof = s.proof
 
--- what the output, which told the first before, tells after such an end: all of the text, or after a fault a prefix of
--- it, or nothing more
-abbrev pub Prints : List ℕ → Option (List ℕ) → Option (List ℕ) → End → Type 0
+-- what the output got by such an end: all of the text, or up to a fault, or nothing
+abbrev pub Prints : List ℕ → SinkSeen → SinkSeen → End → Type 0
 Prints text before after Whole = Puts Done before after text
 Prints text before after Unprinted = Puts Failed before after text
 Prints text before after end = after ≡ before
 
 -- the output got nothing, unless its text was to be written
-abbrev pub IsQuiet : End → Option (List ℕ) → Option (List ℕ) → Type 0
+abbrev pub IsQuiet : End → SinkSeen → SinkSeen → Type 0
 IsQuiet Whole before after = Unit {0}
 IsQuiet Unprinted before after = Unit {0}
 IsQuiet end before after = after ≡ before
 
 -- the count of faults of the output: it rose where the output couldn't be written, and else it stays
-abbrev pub CountsOut : End → ℕ → ℕ → Type 0
-CountsOut Unprinted before after = Rose before after
-CountsOut end before after = after ≡ before
+abbrev pub CountsOut : End → SinkSeen → SinkSeen → Type 0
+CountsOut Unprinted before after = PutFaultsRose before after
+CountsOut end before after = after.faults ≡ before.faults
 
 -- the counts of faults of reading files: that of a file of the run rose where it couldn't be read, and else all stay
-abbrev pub CountsReads : Settings → List ℕ → End → (List ℕ → ℕ) → (List ℕ → ℕ) → Type 0
-CountsReads s name (Unread kind) before after = IsSomeAnd (file_read s name kind) (λ file. Rose (before file) (after file))
-CountsReads s name end before after = KeepsCounts before after
+abbrev pub CountsReads : Settings → List ℕ → End → FolderSeen → FolderSeen → Type 0
+CountsReads s name (Unread kind) before after = IsSomeAnd (file_read s name kind) (λ file. ReadFaultsRose file before after)
+CountsReads s name end before after = KeepsReadFaults before after
 
 -- the counts of faults of writing files, in the same way
-abbrev pub CountsWrites : Settings → List ℕ → End → (List ℕ → ℕ) → (List ℕ → ℕ) → Type 0
-CountsWrites s name (Unwritten kind) before after = IsSomeAnd (file_written s name kind) (λ file. Rose (before file) (after file))
-CountsWrites s name end before after = KeepsCounts before after
+abbrev pub CountsWrites : Settings → List ℕ → End → FolderSeen → FolderSeen → Type 0
+CountsWrites s name (Unwritten kind) before after = IsSomeAnd (file_written s name kind) (λ file. WriteFaultsRose file before after)
+CountsWrites s name end before after = KeepsWriteFaults before after
 
 -- every name but these keeps what it holds, and stays told or untold
-abbrev pub KeepsOthers : Option (List ℕ) → Files → Files → Type 0
-KeepsOthers written files files_after = (name : List ℕ) → written ≢ Some name → files_after name ≡ files name
+abbrev pub KeepsOthers : Option (List ℕ) → FolderSeen → FolderSeen → Type 0
+KeepsOthers written before after = (name : List ℕ) → written ≢ Some name → after.files name ≡ before.files name
 
 -- every name but those of the files that are written keeps what it holds, and stays told or untold
-abbrev pub KeepsUnwritten : (FileKind → Option (List ℕ)) → Files → Files → Type 0
-KeepsUnwritten written files files_after = (name : List ℕ) → ((kind : FileKind) → written kind ≢ Some name) → files_after name ≡ files name
+abbrev pub KeepsUnwritten : (FileKind → Option (List ℕ)) → FolderSeen → FolderSeen → Type 0
+KeepsUnwritten written before after = (name : List ℕ) → ((kind : FileKind) → written kind ≢ Some name) → after.files name ≡ before.files name
 
 -- no file changes where a run ends before one is written
-abbrev pub StaysStill : End → Files → Files → Type 0
-StaysStill Whole files files_after = Unit {0}
-StaysStill (Unwritten kind) files files_after = Unit {0}
-StaysStill Unprinted files files_after = Unit {0}
-StaysStill end files files_after = KeepsFiles files files_after
+abbrev pub StaysStill : End → FolderSeen → FolderSeen → Type 0
+StaysStill Whole before after = Unit {0}
+StaysStill (Unwritten kind) before after = Unit {0}
+StaysStill Unprinted before after = Unit {0}
+StaysStill end before after = KeepsFiles before after
 
--- the folder and the output at one moment: the files, the counts of faults of reading and of writing them, and what
--- the output tells and counts
+-- the folder and the output at one moment
 pub record Moment : Type 0 where
-  pub files : Files
-  pub reads : List ℕ → ℕ
-  pub writes : List ℕ → ℕ
-  pub out : Option (List ℕ)
-  pub faults : ℕ
+  pub folder : FolderSeen
+  pub out : SinkSeen
 
-abbrev pub moment : Files → (List ℕ → ℕ) → (List ℕ → ℕ) → Option (List ℕ) → ℕ → Moment
-moment files reads writes out faults = record { files = files; reads = reads; writes = writes; out = out; faults = faults }
+abbrev pub moment : FolderSeen → SinkSeen → Moment
+moment folder out = record { folder = folder; out = out }
 
 -- what a run on a model that ends so leaves of the folder and the output, whether they tell what they hold or not
 pub record Leaves (s : Settings) (name : List ℕ) (before after : Moment) (end : End) : Type 0 where
-  pub reads : CountsReads s name end before.reads after.reads
-  pub writes : CountsWrites s name end before.writes after.writes
-  pub faults : CountsOut end before.faults after.faults
+  pub reads : CountsReads s name end before.folder after.folder
+  pub writes : CountsWrites s name end before.folder after.folder
+  pub faults : CountsOut end before.out after.out
   pub quiet : IsQuiet end before.out after.out
-  pub others : KeepsOthers s.proof before.files after.files
-  pub still : StaysStill end before.files after.files
+  pub others : KeepsOthers s.proof before.folder after.folder
+  pub still : StaysStill end before.folder after.folder
   pub worded : end ≢ Misworded
   pub answered : IsAnswered s.effort end
 
 -- and what a whole run leaves: one that ends before a suite is written has written no file but a made model
 pub record LeavesAll (s : Settings) (name : List ℕ) (before after : Moment) (end : End) : Type 0 where
-  pub reads : CountsReads s name end before.reads after.reads
-  pub writes : CountsWrites s name end before.writes after.writes
-  pub faults : CountsOut end before.faults after.faults
+  pub reads : CountsReads s name end before.folder after.folder
+  pub writes : CountsWrites s name end before.folder after.folder
+  pub faults : CountsOut end before.out after.out
   pub quiet : IsQuiet end before.out after.out
-  pub others : KeepsUnwritten (file_written s name) before.files after.files
-  pub still : IsEarly end → KeepsOthers (file_written s name kinds.Model) before.files after.files
+  pub others : KeepsUnwritten (file_written s name) before.folder after.folder
+  pub still : IsEarly end → KeepsOthers (file_written s name kinds.Model) before.folder after.folder
   pub worded : end ≢ Misworded
   pub answered : IsAnswered s.effort end

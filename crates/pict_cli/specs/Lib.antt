@@ -1,8 +1,8 @@
 pub mod Ends
-pub mod InMemory
 pub mod Making
 pub mod Modes
 pub mod Options
+pub mod Promises
 pub mod Ranges
 pub mod RowSources
 pub mod Runs

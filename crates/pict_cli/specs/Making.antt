@@ -1,8 +1,8 @@
 -- A run that makes its model: it writes the made model to the model file, and goes on with these bytes. (This project's
 -- rules.)
 use Rattle.std.specs.Prelude.{◌≡◌, ℕ, List, [], Option, Some, None, Result, Err, IfSome}
-use Rattle.outside_io.specs.Faults.{KeepsCounts}
-use Rattle.outside_io.specs.Files.{HoldsOldOrPrefix, KeepsFiles, KeepsOtherFiles}
+use Rattle.outside_io.specs.Files.{HoldsOldOrPrefix}
+use Rattle.outside_io.specs.Seen.{KeepsFiles, KeepsOtherFiles, KeepsReadFaults, KeepsWriteFaults}
 use Rattle.made_models.specs.MadeModel.{made_text}
 use Rattle.model_lex.specs.declared.note.Note.{Note}
 use Rattle.command_line.specs.declared.files.FileKind.TheVariants as kinds
@@ -12,21 +12,20 @@ use Rattle.pict_cli.specs.Ends.{Moment}
 
 -- the folder wrote these bytes to this name from one moment to another, and nothing else changed
 pub record Writes (name bytes : List ℕ) (before after : Moment) : Type 0 where
-  pub held : IfSome (after.files name) (λ held. held ≡ Some bytes)
-  pub others : KeepsOtherFiles name before.files after.files
-  pub reads : KeepsCounts before.reads after.reads
-  pub writes : KeepsCounts before.writes after.writes
+  pub held : IfSome (after.folder.files name) (λ held. held ≡ Some bytes)
+  pub others : KeepsOtherFiles name before.folder after.folder
+  pub reads : KeepsReadFaults before.folder after.folder
+  pub writes : KeepsWriteFaults before.folder after.folder
   pub out : after.out ≡ before.out
-  pub faults : after.faults ≡ before.faults
 
 -- how a run may end that makes its model: memory is wanting before anything is written; the folder can't write the made
 -- model, and then the file holds what it held or a prefix of it, and no other file changes; or the made model is written,
 -- and from that moment on the run goes on with it as it does on the bytes of a model file
 pub data EndsMaking (name made : List ℕ) (GoesOn : Moment → Type 0) (notes row_notes : List Note) (before after : Moment) (end : Result (Unit {0}) Stop) : Type 0 where
-  no_room : end ≡ Err OutOfMemory → notes ≡ [] → row_notes ≡ [] → after.out ≡ before.out → KeepsFiles before.files after.files
+  no_room : end ≡ Err OutOfMemory → notes ≡ [] → row_notes ≡ [] → after.out ≡ before.out → KeepsFiles before.folder after.folder
       → EndsMaking name made GoesOn notes row_notes before after end
-  cannot_write_model : end ≡ Err (CannotWrite kinds.Model) → notes ≡ [] → row_notes ≡ [] → after.out ≡ before.out → KeepsOtherFiles name before.files after.files
-      → IfSome (after.files name) (λ held. HoldsOldOrPrefix (before.files name) held made) → EndsMaking name made GoesOn notes row_notes before after end
+  cannot_write_model : end ≡ Err (CannotWrite kinds.Model) → notes ≡ [] → row_notes ≡ [] → after.out ≡ before.out → KeepsOtherFiles name before.folder after.folder
+      → IfSome (after.folder.files name) (λ held. HoldsOldOrPrefix (before.folder.files name) held made) → EndsMaking name made GoesOn notes row_notes before after end
   goes_on : (start : Moment) → Writes name made before start → GoesOn start → EndsMaking name made GoesOn notes row_notes before after end
 
 -- how a run may end, with the number of the model that it makes, if it makes one: else it goes on from its beginning

@@ -2,9 +2,10 @@
 -- steps, their order and their statuses are this project's rules.)
 use Rattle.std.specs.List.{Any, list_any}
 use Rattle.std.specs.Prelude.{◌≡◌, true, ℕ, ◌≤◌, ◌⊎◌, List, [], ◌∷◌, ◌==◌, ◌++◌, length, take, map, Option, Some, None, Result, Ok}
-use Rattle.std.specs.Prelude.{Err, option_map, IsSomeAnd, IsErrAnd, IfSome, All, unwrap_or, option_and_then, nat_lt, if◌then◌else◌}
+use Rattle.std.specs.Prelude.{Err, option_map, IsSomeAnd, IsOkAnd, IsErrAnd, IfSome, All, unwrap_or, option_and_then, nat_lt, if◌then◌else◌}
 use Rattle.std.specs.Option.{option_or}
-use Rattle.outside_io.specs.Files.{Files, HoldsOldOrPrefix, KeepsFiles}
+use Rattle.outside_io.specs.Files.{Files, HoldsOldOrPrefix}
+use Rattle.outside_io.specs.Seen.{FolderSeen, SinkSeen, KeepsFiles}
 use Rattle.cov_model.specs.Sound.{ModelView, IsSound}
 use Rattle.cov_model.specs.Preference.{preference}
 use Rattle.model_lex.specs.declared.options.ModelOpts.{ModelOpts}
@@ -24,6 +25,7 @@ use Rattle.definitions.specs.Pairs.{pairs_of}
 use Rattle.definitions.specs.ProofText.{Omission, omissions_of}
 use Rattle.definitions.specs.Report.{report_text}
 use Rattle.definitions.specs.RowFile.{rows_of}
+use Rattle.definitions.specs.RowReading.{Suite, read_rows}
 use Rattle.definitions.specs.Search.{first_measured_over, first_over}
 use Rattle.definitions.specs.Seeds.{kept_seeds}
 use Rattle.definitions.specs.Statistics as printed
@@ -189,10 +191,9 @@ HoldsProof s seed m seeds before after (Unwritten kinds.Proof) =
     IfSome after (λ held. (proof : List ℕ) × IsProof s seed m seeds proof × HoldsOldOrPrefix before held proof)
 HoldsProof s seed m seeds before after end = after ≡ before
 
--- what the folder, which told the first files before, tells of the proof file's name after such an end, where the words
--- ask for one
-abbrev pub WritesProof : Settings → ℕ → ModelView → List (ℕ × List (Option ℕ)) → Files → Files → End → Type 0
-WritesProof s seed m seeds files files_after end = IfSome s.proof (λ name. HoldsProof s seed m seeds (files name) (files_after name) end)
+-- what the folder tells of the proof file's name after such an end, where the words ask for one
+abbrev pub WritesProof : Settings → ℕ → ModelView → List (ℕ × List (Option ℕ)) → FolderSeen → FolderSeen → End → Type 0
+WritesProof s seed m seeds before after end = IfSome s.proof (λ name. HoldsProof s seed m seeds (before.files name) (after.files name) end)
 
 -- a run whose model is read: how it may end, what it tells of the row file, what it prints, and what it writes: the
 -- proof file alone
@@ -200,34 +201,37 @@ pub record RunsModel (s : Settings) (seed : ℕ) (m : ModelView) (source : RowSo
   pub sound : IsSound m
   pub ends : EndsBehind s seed m source row_notes end
   pub prints : Prints (out_text s seed m (given_of s m source)) before.out after.out (end_of end)
-  pub writes : WritesProof s seed m (rows_of_run s m source) before.files after.files (end_of end)
-  pub others : KeepsOthers s.proof before.files after.files
+  pub writes : WritesProof s seed m (rows_of_run s m source) before.folder after.folder (end_of end)
+  pub others : KeepsOthers s.proof before.folder after.folder
 
 -- how a run on a model file and a row file may end, with which notes, what it prints, and what it writes: the reading of
--- the model stopped, or there is a model
-abbrev pub Ends : Settings → ℕ → Option (List ℕ) → RowSource → List Note → List Note → Moment → Moment → Result (Unit {0}) Stop → Type 0
-Ends s seed held source notes row_notes before after end =
-    (IsErrAnd end (StopsReading (opts_of s) held) × (notes ≡ []) × (row_notes ≡ []) × (after.out ≡ before.out) × KeepsFiles before.files after.files)
-    ⊎ HasModel (opts_of s) held (λ m noted. (notes ≡ noted) × RunsModel s seed m source row_notes before after end)
+-- the model stopped, or there is a model, and it goes on with that where the row file is told
+abbrev pub Ends : Settings → ℕ → Option (List ℕ) → Option RowSource → List Note → List Note → Moment → Moment → Result (Unit {0}) Stop → Type 0
+Ends s seed held rows notes row_notes before after end =
+    (IsErrAnd end (StopsReading (opts_of s) held) × (notes ≡ []) × (row_notes ≡ []) × (after.out ≡ before.out) × KeepsFiles before.folder after.folder)
+    ⊎ HasModel (opts_of s) held (λ m noted. (notes ≡ noted) × IfSome rows (λ source. RunsModel s seed m source row_notes before after end))
 
--- a run on a model file of this name: what it wrote and printed, by the bytes of its model and of its row file where the
--- folder tells them; whose fault a file or an output that it blames is; what it told, and its status
-pub record IsRun (s : Settings) (seed : ℕ) (name : List ℕ) (before after : Moment) (told_before told_after : Option (List ℕ))
-    (faults faults_after status : ℕ) : Type 0 where
+-- a run on a model file of this name: what it wrote and printed, by the bytes of its model where the folder tells them,
+-- and by those of its row file where it tells these; whose fault a file or an output that it blames is; what it told, and its status
+pub record IsRun (s : Settings) (seed : ℕ) (name : List ℕ) (before after : Moment) (told_before told_after : SinkSeen) (status : ℕ) : Type 0 where
   pub notes : List Note
   pub row_notes : List Note
   pub end : Result (Unit {0}) Stop
-  pub ends : (held : Option (List ℕ)) (source : RowSource) → model_source s name before.files ≡ Some held → row_source s before.files ≡ Some source
-      → EndsFrom s.make name (λ start. Ends s seed held source notes row_notes start after end) notes row_notes before after end
-  pub reads : CountsReads s name (end_of end) before.reads after.reads
-  pub writes : CountsWrites s name (end_of end) before.writes after.writes
-  pub out : CountsOut (end_of end) before.faults after.faults
-  pub told : Tells told_before told_after faults faults_after (told_text (used_seed s.shuffle seed) notes row_notes (file_names name s) end)
+  pub ends : (held : Option (List ℕ)) → model_source s name before.folder.files ≡ Some held
+      → EndsFrom s.make name (λ start. Ends s seed held (row_source s before.folder.files) notes row_notes start after end) notes row_notes before after end
+  pub reads : CountsReads s name (end_of end) before.folder after.folder
+  pub writes : CountsWrites s name (end_of end) before.folder after.folder
+  pub out : CountsOut (end_of end) before.out after.out
+  pub told : Tells told_before told_after (told_text (used_seed s.shuffle seed) notes row_notes (file_names name s) end)
   pub ended : status ≡ end_status end
 
 -- what the folder tells of the proof file, where the words ask for one
 abbrev pub told_proof : Settings → Files → Option (Option (List ℕ))
 told_proof s files = option_and_then files s.proof
+
+-- the kept seed rows of the run
+abbrev pub seeds_kept : Settings → ModelView → RowSource → List (List (Option ℕ))
+seeds_kept s m source = kept_seeds m (rows_of_run s m source)
 
 -- rows cover what can be covered: every row is valid, and every demanded tuple is served by one of the rows, or no
 -- row serves it, and then the proof, where one is told, lists it with a tree that refutes it
@@ -236,33 +240,33 @@ pub record CoversOrRefutes (m : ModelView) (format : ℕ) (proof : Option (Optio
   pub served : All (λ tuple. Any (λ row. serves m row tuple ≡ true) rows
       ⊎ (IsUnserved m tuple × IfSome proof (λ held. IsSomeAnd held (λ bytes. IsRefutedIn m format bytes tuple)))) (demanded_tuples m)
 
--- what was printed behind other bytes is a report whose rows do so
-abbrev pub PrintsCovering : ModelView → ℕ → Option (Option (List ℕ)) → List ℕ → List ℕ → Type 0
-PrintsCovering m format proof before after = (added : List ℕ) × (after ≡ before ++ added) × CoversOrRefutes m format proof (rows_of m added)
-
--- what was printed is a report of few rows, each of them once, where so many seed rows are kept
-abbrev pub PrintsFewRows : ModelView → ℕ → List ℕ → List ℕ → Type 0
-PrintsFewRows m kept before after = (added : List ℕ) × (after ≡ before ++ added) × HasFewRows m kept (rows_of m added)
-
 -- each of these partial rows is contained in one of the rows
 abbrev pub AreContained : List (List (Option ℕ)) → List (List (Option ℕ)) → Type 0
 AreContained seeds rows = All (λ seed. Any (λ row. contains row seed ≡ true) rows) seeds
 
--- what was printed is a report of rows that contain these
-abbrev pub PrintsSeeds : ModelView → List (List (Option ℕ)) → List ℕ → List ℕ → Type 0
-PrintsSeeds m seeds before after = (added : List ℕ) × (after ≡ before ++ added) × AreContained seeds (rows_of m added)
-
--- the proof is read as omissions in this format, and is accepted with the rows, on whatever lines they stand: with
--- their number and that of the omissions
-pub record IsAcceptedWith (m : ModelView) (format : ℕ) (bytes : List ℕ) (rows : List (List (Option ℕ))) : Type 0 where
+-- a text and a proof are accepted as the checker reads them: the proof is read as omissions in this format; no limit is
+-- passed; the text, where it has no more rows than a row file may have, is read as a whole suite; and the verdict on its
+-- rows accepts with the numbers of rows and of omissions, on whatever lines the rows stand
+pub record IsAcceptedWith (m : ModelView) (format : ℕ) (proof text : List ℕ) : Type 0 where
   pub omissions : List Omission
-  pub read : omissions_of m bytes ≡ Ok (format, omissions)
-  pub accepted : (lines : List (ℕ × List (Option ℕ))) → map (λ line. line.1) lines ≡ rows → verdict m lines bytes ≡ Accepted (length lines) (length omissions)
+  pub read : omissions_of m proof ≡ Ok (format, omissions)
+  pub within : limit_passed m ≡ None
+  pub as_read : length (rows_of m text) ≤ most_counted limits.Rows
+      → IsOkAnd (read_rows m Suite text) (λ reading. verdict m reading.rows proof ≡ Accepted (length reading.rows) (length omissions))
+  pub on_lines : (lines : List (ℕ × List (Option ℕ))) → map (λ line. line.1) lines ≡ rows_of m text → verdict m lines proof ≡ Accepted (length lines) (length omissions)
 
--- what was printed is a report whose rows are accepted with the proof that the file holds
-abbrev pub PrintsAccepted : ModelView → ℕ → Option (List ℕ) → List ℕ → List ℕ → Type 0
-PrintsAccepted m format proof before after =
-    (added : List ℕ) × (after ≡ before ++ added) × IsSomeAnd proof (λ bytes. IsAcceptedWith m format bytes (rows_of m added))
+-- what was printed of the suite of a model behind other bytes, where the proof file is told so
+pub record PrintsSuite (s : Settings) (m : ModelView) (source : RowSource) (proof : Option (Option (List ℕ))) (before after : List ℕ) : Type 0 where
+  pub added : List ℕ
+  pub behind : after ≡ before ++ added
+  -- every row is valid, and every demanded tuple is served by one of them, or no row serves it, and the proof refutes it
+  pub covers : CoversOrRefutes m s.form proof (rows_of m added)
+  -- no row stands twice, and there are no more than tuples that some row serves, and kept seed rows
+  pub few : HasFewRows m (length (seeds_kept s m source)) (rows_of m added)
+  -- each kept seed row is contained in one of them
+  pub seeds : AreContained (seeds_kept s m source) (rows_of m added)
+  -- the checker accepts them with the proof
+  pub accepted : IfSome proof (λ held. IsSomeAnd held (λ bytes. IsAcceptedWith m s.form bytes added))
 
 -- the file holds the proof of the suite, which lists exactly the demanded tuples that no row serves, each once
 abbrev pub HoldsWholeProof : Settings → ℕ → ModelView → List (ℕ × List (Option ℕ)) → Option (List ℕ) → Type 0
@@ -275,7 +279,3 @@ fault_status fault = status_of (stop_of_model fault)
 -- the statuses that a run may end with
 abbrev pub IsStatus : ℕ → Type 0
 IsStatus status = list_any (λ s. s == status) (0 ∷ 1 ∷ 2 ∷ 3 ∷ 4 ∷ 5 ∷ 6 ∷ 7 ∷ 8 ∷ 9 ∷ []) ≡ true
-
--- the kept seed rows of the run
-abbrev pub seeds_kept : Settings → ModelView → RowSource → List (List (Option ℕ))
-seeds_kept s m source = kept_seeds m (rows_of_run s m source)

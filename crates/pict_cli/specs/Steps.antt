@@ -1,7 +1,7 @@
 -- What the steps of a run say of each other. (This project's rules.)
 use Rattle.std.specs.Prelude.{◌≡◌, ◌≢◌, ℕ, ◌⊎◌, List, ◌++◌, map, take, Option, Some, Result, Ok, Err, IfSome}
-use Rattle.outside_io.specs.Faults.{KeepsCounts, Rose}
-use Rattle.outside_io.specs.Files.{Files, HoldsOldOrPrefix, KeepsFiles}
+use Rattle.outside_io.specs.Files.{Files, HoldsOldOrPrefix}
+use Rattle.outside_io.specs.Seen.{FolderSeen, KeepsFiles, KeepsWriteFaults, WriteFaultsRose}
 use Rattle.made_models.specs.MadeModel.{made_text}
 use Rattle.cov_model.specs.Sound.{ModelView}
 use Rattle.definitions.specs.ProofText.{proof_text}
@@ -75,15 +75,14 @@ pub data StopsWork (due : Option Stop) (later notes notes_after : List Note) (st
 
 -- the made model of these bytes isn't written to the file of this name: memory is wanting, and no file changes, or the
 -- folder failed
-pub data StopsMaking (name made : List ℕ) (files files_after : Files) (writes writes_after : List ℕ → ℕ) (stop : Stop) : Type 0 where
-  unmade : stop ≡ OutOfMemory → KeepsFiles files files_after → KeepsCounts writes writes_after → StopsMaking name made files files_after writes writes_after stop
-  write_failed : stop ≡ CannotWrite kinds.Model → IfSome (files_after name) (λ held. HoldsOldOrPrefix (files name) held made) → Rose (writes name) (writes_after name)
-      → StopsMaking name made files files_after writes writes_after stop
+pub data StopsMaking (name made : List ℕ) (before after : FolderSeen) (stop : Stop) : Type 0 where
+  unmade : stop ≡ OutOfMemory → KeepsFiles before after → KeepsWriteFaults before after → StopsMaking name made before after stop
+  write_failed : stop ≡ CannotWrite kinds.Model → IfSome (after.files name) (λ held. HoldsOldOrPrefix (before.files name) held made) → WriteFaultsRose name before after
+      → StopsMaking name made before after stop
 
 -- a run on the bytes of a model that are told so ended so, from one moment to another
 pub record RanOn (bytes : Option (Option (List ℕ))) (s : Settings) (seed : ℕ) (name : List ℕ) (before after : Moment) (notes row_notes : List Note) (end : Result (Unit {0}) Stop) : Type 0 where
-  pub ends : (held : Option (List ℕ)) (source : RowSource) → bytes ≡ Some held → row_source s before.files ≡ Some source
-      → Ends s seed held source notes row_notes before after end
+  pub ends : (held : Option (List ℕ)) → bytes ≡ Some held → Ends s seed held (row_source s before.folder.files) notes row_notes before after end
   pub leaves : Leaves s name before after (end_of end)
 
 -- what the folder tells of the model file, after a run that made its model: with every status but those of want of memory
@@ -94,7 +93,7 @@ HoldsMade s n name files status =
 
 -- a run on the model file of this name ended so, from one moment to another
 pub record Ran (s : Settings) (seed : ℕ) (name : List ℕ) (before after : Moment) (notes row_notes : List Note) (end : Result (Unit {0}) Stop) : Type 0 where
-  pub ends : (held : Option (List ℕ)) (source : RowSource) → model_source s name before.files ≡ Some held → row_source s before.files ≡ Some source
-      → EndsFrom s.make name (λ start. Ends s seed held source notes row_notes start after end) notes row_notes before after end
+  pub ends : (held : Option (List ℕ)) → model_source s name before.folder.files ≡ Some held
+      → EndsFrom s.make name (λ start. Ends s seed held (row_source s before.folder.files) notes row_notes start after end) notes row_notes before after end
   pub leaves : LeavesAll s name before after (end_of end)
-  pub made : IfSome s.make (λ n. HoldsMade s n name after.files (end_status end))
+  pub made : IfSome s.make (λ n. HoldsMade s n name after.folder.files (end_status end))

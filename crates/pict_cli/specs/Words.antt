@@ -7,8 +7,8 @@ use Rattle.definitions.specs.Limits.{ModelFile, most_bytes}
 use Rattle.definitions.specs.Words.{read_words}
 use Rattle.cov_model.specs.Sound.{ModelView}
 use Rattle.model_lex.specs.declared.note.Note.{Note}
-use Rattle.outside_io.specs.Faults.{Rose}
 use Rattle.outside_io.specs.Files.{Files}
+use Rattle.outside_io.specs.Seen.{FolderSeen, ReadFaultsRose, WriteFaultsRose}
 use Rattle.type_check.specs.ModelOf.{IsModelOf}
 use Rattle.command_line.specs.Words.{TellsFault, opts_of, settings_in, texts}
 use Rattle.command_line.specs.declared.files.FileKind.{FileKind}
@@ -38,11 +38,11 @@ abbrev pub written_of_asked : List ℕ → Result Settings ℕ → FileKind → 
 written_of_asked name (Ok s) kind = file_written s name kind
 written_of_asked name (Err index) kind = None
 
-abbrev pub file_to_read : List (String Global) → FileKind → Option (List ℕ)
-file_to_read words kind = read_of_asked (model_file words) (asked_by (texts words)) kind
+abbrev pub file_to_read : List (List ℕ) → FileKind → Option (List ℕ)
+file_to_read words kind = read_of_asked (model_name words) (asked_by words) kind
 
-abbrev pub file_to_write : List (String Global) → FileKind → Option (List ℕ)
-file_to_write words kind = written_of_asked (model_file words) (asked_by (texts words)) kind
+abbrev pub file_to_write : List (List ℕ) → FileKind → Option (List ℕ)
+file_to_write words kind = written_of_asked (model_name words) (asked_by words) kind
 
 -- what a run is given: what the words ask for, the bytes of the model, those of the made model or those that the folder
 -- tells of the model file, and what the folder tells of the row file
@@ -60,15 +60,15 @@ pub record IsSpelled (words : List (List ℕ)) (files : Files) (s : Settings) (s
   pub spelled : IsModelOf (opts_of s) bytes m notes
 
 -- no count of faults of reading rose, of the files that the run is given to read; and none of writing
-abbrev pub ReadsCalmly : Settings → List ℕ → (List ℕ → ℕ) → (List ℕ → ℕ) → Type 0
-ReadsCalmly s name before after = (kind : FileKind) → ¬ IsSomeAnd (file_read s name kind) (λ file. Rose (before file) (after file))
+abbrev pub ReadsCalmly : Settings → List ℕ → FolderSeen → FolderSeen → Type 0
+ReadsCalmly s name before after = (kind : FileKind) → ¬ IsSomeAnd (file_read s name kind) (λ file. ReadFaultsRose file before after)
 
-abbrev pub WritesCalmly : Settings → List ℕ → (List ℕ → ℕ) → (List ℕ → ℕ) → Type 0
-WritesCalmly s name before after = (kind : FileKind) → ¬ IsSomeAnd (file_written s name kind) (λ file. Rose (before file) (after file))
+abbrev pub WritesCalmly : Settings → List ℕ → FolderSeen → FolderSeen → Type 0
+WritesCalmly s name before after = (kind : FileKind) → ¬ IsSomeAnd (file_written s name kind) (λ file. WriteFaultsRose file before after)
 
 -- neither the count of faults of reading the model file rose, where the run is given to read it, nor that of writing it,
 -- where the run is given to write the made model to it
-abbrev pub GetsModelCalmly : Settings → List ℕ → (List ℕ → ℕ) → (List ℕ → ℕ) → (List ℕ → ℕ) → (List ℕ → ℕ) → Type 0
-GetsModelCalmly s name reads reads_after writes writes_after =
-    (¬ IsSomeAnd (file_read s name kinds.Model) (λ file. Rose (reads file) (reads_after file)))
-    × (¬ IsSomeAnd (file_written s name kinds.Model) (λ file. Rose (writes file) (writes_after file)))
+abbrev pub GetsModelCalmly : Settings → List ℕ → FolderSeen → FolderSeen → Type 0
+GetsModelCalmly s name before after =
+    (¬ IsSomeAnd (file_read s name kinds.Model) (λ file. ReadFaultsRose file before after))
+    × (¬ IsSomeAnd (file_written s name kinds.Model) (λ file. WriteFaultsRose file before after))

@@ -19,11 +19,11 @@ use cov_model::{Prefs, TestModel};
 use definitions::Effort;
 use feasibility::SearchFault;
 use ipog_grow::{GrowOpts, Suite, generate};
-use outside_io::OpenGate;
 use row_text::RowFile;
 use std::alloc::Global;
 use std::thread::Threads;
 use tuple_index::Plan;
+use worker_gate::OpenGate;
 
 // The number that values are shuffled by, where they are; `seed_word` where no word gives one.
 fn shuffle_number(shuffle: Shuffle, seed_word: u64) -> Option<u64>

@@ -4,9 +4,8 @@
 //!   what this project is for: after status 0 of a run that prints rows every one is valid, and every demanded tuple
 //!   is served by a printed row, or no row serves it, and then the proof, where one is asked for, lists
 //!   it with a tree that refutes it.
-//! - `run_pict_in_memory` is the same on a folder and sinks in memory, where the headline has no
-//!   premise but the status. `run_pict_without_faults` is the same on a folder and sinks that never fail, where
-//!   completeness has no premise on faults.
+//!   `runs_in_memory` has the same call over a folder and sinks in memory, where the headline has no premise but the
+//!   status.
 //! - `read_words` is the definition's reading of words.
 //!
 //! But for the making and the writing of a model, which come first, all memory is taken before the first byte is written.
@@ -14,7 +13,6 @@
 
 mod generating;
 mod growing;
-mod in_memory;
 mod kinds;
 mod making;
 mod measuring;
@@ -28,12 +26,9 @@ mod rows;
 mod run;
 mod suite;
 mod suspecting;
-mod without_faults;
 mod words;
 mod working;
 
 pub use command_line::Shuffle;
-pub use in_memory::run_pict_in_memory;
 pub use options::{Opts, WordFault, read_words};
 pub use run::run_pict;
-pub use without_faults::run_pict_without_faults;

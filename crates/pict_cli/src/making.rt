@@ -1,6 +1,5 @@
 ghost use Rattle.std.specs.Prelude.{◌≡◌, ◌≤◌, length, Some, IfOk, IfErr, IfSome};
-ghost use Rattle.outside_io.specs.Faults.{KeepsCounts, Rose};
-ghost use Rattle.outside_io.specs.Files.{KeepsOtherFiles};
+ghost use Rattle.outside_io.specs.Seen.{KeepsOtherFiles, KeepsReadFaults, KeepsWriteFaults};
 ghost use Rattle.cov_model.specs.Sound.{IsSound};
 ghost use Rattle.made_models.specs.MadeModel.{made_text};
 ghost use Rattle.definitions.specs.Limits.{ModelFile, most_bytes};
@@ -30,11 +29,11 @@ pub(crate) fn write_made<F: Folder>(
     files: &mut F,
 ) -> Result<Text, Stop>
     ensures text { IfOk result (λ text. text ≡ made_text number) }
-    ensures written { IfOk result (λ _. IfSome (F.file files.new name.now) (λ held. held ≡ Some (made_text number))) }
-    ensures no_fault { IfOk result (λ _. KeepsCounts (F.write_faults files.old) (F.write_faults files.new)) }
-    ensures stops { IfErr result (StopsMaking name.now (made_text number) (F.file files.old) (F.file files.new) (F.write_faults files.old) (F.write_faults files.new)) }
-    ensures others { KeepsOtherFiles name.now (F.file files.old) (F.file files.new) }
-    ensures reads { KeepsCounts (F.read_faults files.old) (F.read_faults files.new) }
+    ensures written { IfOk result (λ _. IfSome ((F.seen files.new).files name.now) (λ held. held ≡ Some (made_text number))) }
+    ensures no_fault { IfOk result (λ _. KeepsWriteFaults (F.seen files.old) (F.seen files.new)) }
+    ensures stops { IfErr result (StopsMaking name.now (made_text number) (F.seen files.old) (F.seen files.new)) }
+    ensures others { KeepsOtherFiles name.now (F.seen files.old) (F.seen files.new) }
+    ensures reads { KeepsReadFaults (F.seen files.old) (F.seen files.new) }
 {
     let text = made_model(alloc, number)?;
     match files.write_file(name, text.as_str().as_bytes()) {

@@ -1,5 +1,4 @@
 ghost use Rattle.std.specs.Prelude.{◌≡◌, ◌≤◌, ◌^◌, ℕ, List, [], length, All, Option, Some, None, Err, IfOk, IfErr, OnOk};
-ghost use Rattle.outside_io.specs.Faults.{KeepsCounts};
 ghost use Rattle.cov_model.specs.Fits.{FitsModel};
 ghost use Rattle.definitions.specs.Figures.{figures};
 ghost use Rattle.definitions.specs.Search.{first_measured_over};
@@ -23,12 +22,13 @@ use command_line::Stop;
 use cov_model::TestModel;
 use coverage_measure::measure;
 use model_lex::NoteList;
-use outside_io::{Folder, OpenGate, Sink};
+use outside_io::{Folder, Sink};
 use row_text::{Figures, RowFile, RowMode, put_figures};
 use std::alloc::Global;
 use std::thread::Threads;
 use tuple_index::Plan;
 use value_text::OwnedList;
+use worker_gate::OpenGate;
 
 // The figures of a suite of a model within its plan (NIST IR 7878).
 fn figures_of<R: Threads + Sync>(
@@ -65,8 +65,8 @@ fn figures_of<R: Threads + Sync>(
 
 // Writes figures.
 fn print_figures<O: Sink>(figures: &Figures, out: &mut O) -> Result<(), Stop>
-    ensures prints { Prints (figures_text (figures_seen figures.now)) (O.written out.old) (O.written out.new) (end_of result) }
-    ensures faults { CountsOut (end_of result) (O.faults out.old) (O.faults out.new) }
+    ensures prints { Prints (figures_text (figures_seen figures.now)) (O.seen out.old) (O.seen out.new) (end_of result) }
+    ensures faults { CountsOut (end_of result) (O.seen out.old) (O.seen out.new) }
     ensures stops { IfErr result (λ stop. stop ≡ Stop.CannotWriteReport) }
 {
     written(put_figures(figures, out))
@@ -91,12 +91,10 @@ pub(crate) fn run_measuring<R: Threads + Sync, F: Folder, O: Sink>(
     requires fit { FitRun (settings_seen opts.now) }
     requires mode { (name : List ℕ) × (mode_of (settings_seen opts.now) ≡ Measure name) }
     requires none { row_notes.old ≡ [] }
-    ensures runs { (seed : ℕ) (source : RowSource) → row_source (settings_seen opts.now) (F.file files.old) ≡ Some source →
+    ensures runs { (seed : ℕ) (source : RowSource) → row_source (settings_seen opts.now) (F.seen files.old).files ≡ Some source →
         RunsModel (settings_seen opts.now) seed model.now source row_notes.new
-        (moment (F.file files.old) (F.read_faults files.old) (F.write_faults files.old) (O.written out.old) (O.faults out.old))
-        (moment (F.file files.new) (F.read_faults files.new) (F.write_faults files.new) (O.written out.new) (O.faults out.new)) result }
-    ensures leaves { (name : List ℕ) → Leaves (settings_seen opts.now) name (moment (F.file files.old) (F.read_faults files.old) (F.write_faults files.old) (O.written out.old) (O.faults out.old))
-        (moment (F.file files.new) (F.read_faults files.new) (F.write_faults files.new) (O.written out.new) (O.faults out.new)) (end_of result) }
+        (moment (F.seen files.old) (O.seen out.old)) (moment (F.seen files.new) (O.seen out.new)) result }
+    ensures leaves { (name : List ℕ) → Leaves (settings_seen opts.now) name (moment (F.seen files.old) (O.seen out.old)) (moment (F.seen files.new) (O.seen out.new)) (end_of result) }
 {
     model.assert_invariant();
     let ready = prepare(alloc, model, opts, RowMode::Suite, files)?;

@@ -1,6 +1,5 @@
 ghost use Rattle.std.specs.Prelude.{◌≡◌, ◌≤◌, ◌^◌, true, ℕ, List, [], All, Some, None, Err, length, IfOk, IfErr, OnOk};
-ghost use Rattle.outside_io.specs.Faults.{KeepsCounts};
-ghost use Rattle.outside_io.specs.Files.{KeepsFiles};
+ghost use Rattle.outside_io.specs.Seen.{KeepsFiles, KeepsReadFaults, KeepsWriteFaults};
 ghost use Rattle.cov_model.specs.Fits.{FitsModel};
 ghost use Rattle.tuple_index.specs.Plan.{plan_of};
 ghost use Rattle.tuple_index.specs.PlanFault.{limit_passed};
@@ -47,15 +46,15 @@ pub(crate) fn prepare<F: Folder>(
     ensures within { OnOk result (limit_passed model.now ≡ None) }
     ensures fit { IfOk result (λ ready. All (λ row. FitsModel model.now row.cells) ready.file.rows) }
     ensures few { IfOk result (λ ready. length ready.file.rows ≤ 2 ^ 20) }
-    ensures rows { IfOk result (λ ready. (source : RowSource) → row_source (settings_seen opts.now) (F.file files.old) ≡ Some source →
+    ensures rows { IfOk result (λ ready. (source : RowSource) → row_source (settings_seen opts.now) (F.seen files.old).files ≡ Some source →
         HoldsRows model.now (row_mode (mode_of (settings_seen opts.now))) source ready.file) }
-    ensures no_fault { OnOk result (KeepsCounts (F.read_faults files.old) (F.read_faults files.new)) }
-    ensures stops { IfErr result (λ stop. (seed : ℕ) (source : RowSource) → row_source (settings_seen opts.now) (F.file files.old) ≡ Some source →
+    ensures no_fault { OnOk result (KeepsReadFaults (F.seen files.old) (F.seen files.new)) }
+    ensures stops { IfErr result (λ stop. (seed : ℕ) (source : RowSource) → row_source (settings_seen opts.now) (F.seen files.old).files ≡ Some source →
         EndsBehind (settings_seen opts.now) seed model.now source [] (Err stop)) }
     ensures other { IfErr result IsOfRows }
-    ensures reads { IfErr result (λ stop. (name : List ℕ) → CountsReads (settings_seen opts.now) name (end_of (Err stop)) (F.read_faults files.old) (F.read_faults files.new)) }
-    ensures files { KeepsFiles (F.file files.old) (F.file files.new) }
-    ensures write_faults { KeepsCounts (F.write_faults files.old) (F.write_faults files.new) }
+    ensures reads { IfErr result (λ stop. (name : List ℕ) → CountsReads (settings_seen opts.now) name (end_of (Err stop)) (F.seen files.old) (F.seen files.new)) }
+    ensures files { KeepsFiles (F.seen files.old) (F.seen files.new) }
+    ensures write_faults { KeepsWriteFaults (F.seen files.old) (F.seen files.new) }
 {
     let plan = Plan::new(alloc, model)?;
     let file = load_rows(alloc, opts.row_file(), mode, model, files)?;

@@ -1,5 +1,6 @@
 ghost use Rattle.std.specs.Prelude.{◌≡◌, ◌≢◌, ◌⊎◌, ℕ, List, Option, true, None, All, IfErr, IfSome};
-ghost use Rattle.outside_io.specs.Puts.{Puts, CountsFaults};
+ghost use Rattle.outside_io.specs.Seen.{SinkSeen};
+ghost use Rattle.outside_io.specs.Puts.{Puts};
 ghost use Rattle.cov_model.specs.Valid.{is_row};
 ghost use Rattle.row_text.specs.Told.{statistics_seen};
 ghost use Rattle.row_text.specs.Turns.{AreMadeFor};
@@ -25,8 +26,7 @@ fn put_suite<O: Sink>(
 ) -> WriteAnswer
     requires rows { All (λ row. is_row model.now row ≡ true) ready.old.rows }
     requires turns { AreMadeFor model.now ready.old.turns }
-    ensures puts { Puts result (O.written out.old) (O.written out.new) (suite_text (output_seen output) model.now ready.old.rows (statistics_seen ready.old.stats)) }
-    ensures counts { CountsFaults result (O.faults out.old) (O.faults out.new) }
+    ensures { Puts result (O.seen out.old) (O.seen out.new) (suite_text (output_seen output) model.now ready.old.rows (statistics_seen ready.old.stats)) }
 {
     match output {
         Output::Report => put_report(model, &ready.rows, &mut ready.turns, out),
@@ -36,8 +36,8 @@ fn put_suite<O: Sink>(
 
 // How a run ends whose text was written to `out` so.
 pub(crate) fn written(answer: WriteAnswer) -> Result<(), Stop>
-    ensures prints { (text : List ℕ) (before after : Option (List ℕ)) → Puts answer before after text → Prints text before after (end_of result) }
-    ensures faults { (before after : ℕ) → CountsFaults answer before after → CountsOut (end_of result) before after }
+    ensures prints { (text : List ℕ) (before after : SinkSeen) → Puts answer before after text → Prints text before after (end_of result) }
+    ensures faults { (text : List ℕ) (before after : SinkSeen) → Puts answer before after text → CountsOut (end_of result) before after }
     ensures stops { IfErr result (λ stop. stop ≡ Stop.CannotWriteReport) }
 {
     match answer {
@@ -55,8 +55,8 @@ fn print<O: Sink>(
 ) -> Result<(), Stop>
     requires rows { All (λ row. is_row model.now row ≡ true) ready.old.rows }
     requires turns { AreMadeFor model.now ready.old.turns }
-    ensures prints { Prints (suite_text (output_seen output) model.now ready.old.rows (statistics_seen ready.old.stats)) (O.written out.old) (O.written out.new) (end_of result) }
-    ensures faults { CountsOut (end_of result) (O.faults out.old) (O.faults out.new) }
+    ensures prints { Prints (suite_text (output_seen output) model.now ready.old.rows (statistics_seen ready.old.stats)) (O.seen out.old) (O.seen out.new) (end_of result) }
+    ensures faults { CountsOut (end_of result) (O.seen out.old) (O.seen out.new) }
     ensures stops { IfErr result (λ stop. stop ≡ Stop.CannotWriteReport) }
 {
     written(put_suite(model, output, ready, out))
@@ -79,11 +79,10 @@ pub(crate) fn write_suite<F: Folder, O: Sink>(
     requires rows { All (λ row. is_row model.now row ≡ true) ready.old.rows }
     requires turns { AreMadeFor model.now ready.old.turns }
     ensures stops { IfErr result (λ stop. (stop ≡ Stop.CannotWriteReport) ⊎ ((stop ≡ Stop.CannotWrite FileKind.Proof) × ((settings_seen opts.now).proof ≢ None))) }
-    ensures prints { Prints (suite_text (output_seen output) model.now ready.old.rows (statistics_seen ready.old.stats)) (O.written out.old) (O.written out.new) (end_of result) }
+    ensures prints { Prints (suite_text (output_seen output) model.now ready.old.rows (statistics_seen ready.old.stats)) (O.seen out.old) (O.seen out.new) (end_of result) }
     ensures writes { (seed : ℕ) (seeds : List (ℕ × List (Option ℕ))) → (IfSome opts.now.proof (λ _. IsProof (settings_seen opts.now) seed model.now seeds ready.old.proof.items))
-        → WritesProof (settings_seen opts.now) seed model.now seeds (F.file files.old) (F.file files.new) (end_of result) }
-    ensures leaves { (name : List ℕ) → Leaves (settings_seen opts.now) name (moment (F.file files.old) (F.read_faults files.old) (F.write_faults files.old) (O.written out.old) (O.faults out.old))
-        (moment (F.file files.new) (F.read_faults files.new) (F.write_faults files.new) (O.written out.new) (O.faults out.new)) (end_of result) }
+        → WritesProof (settings_seen opts.now) seed model.now seeds (F.seen files.old) (F.seen files.new) (end_of result) }
+    ensures leaves { (name : List ℕ) → Leaves (settings_seen opts.now) name (moment (F.seen files.old) (O.seen out.old)) (moment (F.seen files.new) (O.seen out.new)) (end_of result) }
 {
     if let Some(name) = opts.proof {
         write_proof(name, ready.proof.as_slice(), files)?;

@@ -1,6 +1,6 @@
 ghost use Rattle.std.specs.Prelude.{◌≡◌, Some, All, map, length, IfOk, IfErr, IfSome, OnOk};
-ghost use Rattle.outside_io.specs.Faults.{KeepsCounts, Rose};
-ghost use Rattle.outside_io.specs.Files.{HoldsOldOrPrefix, KeepsOtherFiles};
+ghost use Rattle.outside_io.specs.Files.{HoldsOldOrPrefix};
+ghost use Rattle.outside_io.specs.Seen.{KeepsOtherFiles, KeepsReadFaults, KeepsWriteFaults, WriteFaultsRose};
 ghost use Rattle.pict_cli.specs.Steps.{written};
 
 use crate::options::Opts;
@@ -55,13 +55,13 @@ pub(crate) fn text_of(alloc: Global, opts: &Opts<'_>, omitted: &Omissions) -> Re
 ///
 /// `CannotWrite` where the folder failed.
 pub(crate) fn write_proof<F: Folder>(name: &str, text: &[u8], files: &mut F) -> Result<(), Stop>
-    ensures written { IfOk result (λ _. IfSome (F.file files.new name.now) (λ held. held ≡ Some text.now)) }
+    ensures written { IfOk result (λ _. IfSome ((F.seen files.new).files name.now) (λ held. held ≡ Some text.now)) }
     ensures partial { IfErr result (λ stop. (stop ≡ Stop.CannotWrite FileKind.Proof)
-        × IfSome (F.file files.new name.now) (λ held. HoldsOldOrPrefix (F.file files.old name.now) held text.now)
-        × Rose (F.write_faults files.old name.now) (F.write_faults files.new name.now)) }
-    ensures no_fault { OnOk result (KeepsCounts (F.write_faults files.old) (F.write_faults files.new)) }
-    ensures others { KeepsOtherFiles name.now (F.file files.old) (F.file files.new) }
-    ensures reads { KeepsCounts (F.read_faults files.old) (F.read_faults files.new) }
+        × IfSome ((F.seen files.new).files name.now) (λ held. HoldsOldOrPrefix ((F.seen files.old).files name.now) held text.now)
+        × WriteFaultsRose name.now (F.seen files.old) (F.seen files.new)) }
+    ensures no_fault { OnOk result (KeepsWriteFaults (F.seen files.old) (F.seen files.new)) }
+    ensures others { KeepsOtherFiles name.now (F.seen files.old) (F.seen files.new) }
+    ensures reads { KeepsReadFaults (F.seen files.old) (F.seen files.new) }
 {
     match files.write_file(name, text) {
         WriteAnswer::Done => Ok(()),

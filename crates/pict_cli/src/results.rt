@@ -1,6 +1,5 @@
 ghost use Rattle.std.specs.Prelude.{◌≡◌, ◌≢◌, List, Option, Some, Err, ℕ, IfOk, IfErr};
-ghost use Rattle.outside_io.specs.Faults.{Rose, KeepsCounts};
-ghost use Rattle.outside_io.specs.Files.{KeepsFiles};
+ghost use Rattle.outside_io.specs.Seen.{KeepsFiles, KeepsReadFaults, KeepsWriteFaults, ReadFaultsRose};
 ghost use Rattle.suspect_tuples.specs.Results.{AreResultsOf};
 ghost use Rattle.pict_cli.specs.Modes.{RowsHeld};
 ghost use Rattle.pict_cli.specs.RowSources.{read_result_bytes};
@@ -37,14 +36,14 @@ pub(crate) fn load_results<F: Folder>(
     model: &TestModel,
     files: &mut F,
 ) -> Result<ResultFile, Stop>
-    ensures results { IfOk result (λ file. (held : Option (List ℕ)) → F.file files.old name.now ≡ Some held → HoldsResultsOf model.now (RowsHeld held) file) }
+    ensures results { IfOk result (λ file. (held : Option (List ℕ)) → (F.seen files.old).files name.now ≡ Some held → HoldsResultsOf model.now (RowsHeld held) file) }
     ensures fit { IfOk result (AreResultsOf model.now) }
-    ensures stops { IfErr result (λ stop. (held : Option (List ℕ)) → F.file files.old name.now ≡ Some held → StopsRows (read_result_bytes model.now) (RowsHeld held) stop) }
-    ensures cannot_read { result ≡ Err (Stop.CannotRead FileKind.Rows) → Rose (F.read_faults files.old name.now) (F.read_faults files.new name.now) }
-    ensures no_fault { result ≢ Err (Stop.CannotRead FileKind.Rows) → KeepsCounts (F.read_faults files.old) (F.read_faults files.new) }
+    ensures stops { IfErr result (λ stop. (held : Option (List ℕ)) → (F.seen files.old).files name.now ≡ Some held → StopsRows (read_result_bytes model.now) (RowsHeld held) stop) }
+    ensures cannot_read { result ≡ Err (Stop.CannotRead FileKind.Rows) → ReadFaultsRose name.now (F.seen files.old) (F.seen files.new) }
+    ensures no_fault { result ≢ Err (Stop.CannotRead FileKind.Rows) → KeepsReadFaults (F.seen files.old) (F.seen files.new) }
     ensures other { IfErr result IsOfRows }
-    ensures files { KeepsFiles (F.file files.old) (F.file files.new) }
-    ensures write_faults { KeepsCounts (F.write_faults files.old) (F.write_faults files.new) }
+    ensures files { KeepsFiles (F.seen files.old) (F.seen files.new) }
+    ensures write_faults { KeepsWriteFaults (F.seen files.old) (F.seen files.new) }
 {
     let bytes = read_whole(alloc, FileKind::Rows, name, files)?;
     match read_results(alloc, bytes.as_slice(), model) {

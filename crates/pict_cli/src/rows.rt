@@ -1,6 +1,5 @@
 ghost use Rattle.std.specs.Prelude.{◌≡◌, ◌≢◌, ◌⊎◌, ◌≤◌, ◌^◌, ℕ, List, Option, Some, Err, All, map, length, option_map, IfOk, IfErr, IsSomeAnd};
-ghost use Rattle.outside_io.specs.Faults.{Rose, KeepsCounts};
-ghost use Rattle.outside_io.specs.Files.{KeepsFiles};
+ghost use Rattle.outside_io.specs.Seen.{KeepsFiles, KeepsReadFaults, KeepsWriteFaults, ReadFaultsRose};
 ghost use Rattle.row_text.specs.Readings.{IsFileOf, mode_seen};
 ghost use Rattle.pict_cli.specs.Modes.{RowSource, RowsHeld, source_in};
 ghost use Rattle.pict_cli.specs.RowSources.{read_row_bytes};
@@ -21,14 +20,14 @@ fn read_row_file<F: Folder>(
     model: &TestModel,
     files: &mut F,
 ) -> Result<RowFile, Stop>
-    ensures rows { IfOk result (λ file. (held : Option (List ℕ)) → F.file files.old name.now ≡ Some held → HoldsRows model.now (mode_seen mode) (RowsHeld held) file) }
+    ensures rows { IfOk result (λ file. (held : Option (List ℕ)) → (F.seen files.old).files name.now ≡ Some held → HoldsRows model.now (mode_seen mode) (RowsHeld held) file) }
     ensures fit { IfOk result (IsFileOf model.now) }
-    ensures stops { IfErr result (λ stop. (held : Option (List ℕ)) → F.file files.old name.now ≡ Some held → StopsRows (read_row_bytes model.now (mode_seen mode)) (RowsHeld held) stop) }
-    ensures cannot_read { result ≡ Err (Stop.CannotRead FileKind.Rows) → Rose (F.read_faults files.old name.now) (F.read_faults files.new name.now) }
-    ensures no_fault { result ≢ Err (Stop.CannotRead FileKind.Rows) → KeepsCounts (F.read_faults files.old) (F.read_faults files.new) }
+    ensures stops { IfErr result (λ stop. (held : Option (List ℕ)) → (F.seen files.old).files name.now ≡ Some held → StopsRows (read_row_bytes model.now (mode_seen mode)) (RowsHeld held) stop) }
+    ensures cannot_read { result ≡ Err (Stop.CannotRead FileKind.Rows) → ReadFaultsRose name.now (F.seen files.old) (F.seen files.new) }
+    ensures no_fault { result ≢ Err (Stop.CannotRead FileKind.Rows) → KeepsReadFaults (F.seen files.old) (F.seen files.new) }
     ensures other { IfErr result IsOfRows }
-    ensures files { KeepsFiles (F.file files.old) (F.file files.new) }
-    ensures write_faults { KeepsCounts (F.write_faults files.old) (F.write_faults files.new) }
+    ensures files { KeepsFiles (F.seen files.old) (F.seen files.new) }
+    ensures write_faults { KeepsWriteFaults (F.seen files.old) (F.seen files.new) }
 {
     let bytes = read_whole(alloc, FileKind::Rows, name, files)?;
     Ok(read_rows(alloc, bytes.as_slice(), model, mode)?)
@@ -46,17 +45,17 @@ pub(crate) fn load_rows<F: Folder>(
     model: &TestModel,
     files: &mut F,
 ) -> Result<RowFile, Stop>
-    ensures rows { IfOk result (λ file. (source : RowSource) → source_in (option_map (λ file. file.now) name.entry) (F.file files.old) ≡ Some source →
+    ensures rows { IfOk result (λ file. (source : RowSource) → source_in (option_map (λ file. file.now) name.entry) (F.seen files.old).files ≡ Some source →
         HoldsRows model.now (mode_seen mode) source file) }
     ensures fit { IfOk result (IsFileOf model.now) }
-    ensures stops { IfErr result (λ stop. (source : RowSource) → source_in (option_map (λ file. file.now) name.entry) (F.file files.old) ≡ Some source →
+    ensures stops { IfErr result (λ stop. (source : RowSource) → source_in (option_map (λ file. file.now) name.entry) (F.seen files.old).files ≡ Some source →
         StopsRows (read_row_bytes model.now (mode_seen mode)) source stop) }
     ensures cannot_read { result ≡ Err (Stop.CannotRead FileKind.Rows) →
-        IsSomeAnd (option_map (λ file. file.now) name.entry) (λ file. Rose (F.read_faults files.old file) (F.read_faults files.new file)) }
-    ensures no_fault { result ≢ Err (Stop.CannotRead FileKind.Rows) → KeepsCounts (F.read_faults files.old) (F.read_faults files.new) }
+        IsSomeAnd (option_map (λ file. file.now) name.entry) (λ file. ReadFaultsRose file (F.seen files.old) (F.seen files.new)) }
+    ensures no_fault { result ≢ Err (Stop.CannotRead FileKind.Rows) → KeepsReadFaults (F.seen files.old) (F.seen files.new) }
     ensures other { IfErr result IsOfRows }
-    ensures files { KeepsFiles (F.file files.old) (F.file files.new) }
-    ensures write_faults { KeepsCounts (F.write_faults files.old) (F.write_faults files.new) }
+    ensures files { KeepsFiles (F.seen files.old) (F.seen files.new) }
+    ensures write_faults { KeepsWriteFaults (F.seen files.old) (F.seen files.new) }
 {
     match name {
         Some(name) => read_row_file(alloc, name, mode, model, files),

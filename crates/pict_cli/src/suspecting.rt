@@ -36,8 +36,8 @@ fn suspects_in(alloc: Global, model: &TestModel, results: &ResultFile) -> Result
 
 // Writes suspicious tuples.
 fn print_suspects<O: Sink>(found: &Suspects, out: &mut O) -> Result<(), Stop>
-    ensures prints { Prints (suspects_text (suspects_seen found.now)) (O.written out.old) (O.written out.new) (end_of result) }
-    ensures faults { CountsOut (end_of result) (O.faults out.old) (O.faults out.new) }
+    ensures prints { Prints (suspects_text (suspects_seen found.now)) (O.seen out.old) (O.seen out.new) (end_of result) }
+    ensures faults { CountsOut (end_of result) (O.seen out.old) (O.seen out.new) }
     ensures stops { IfErr result (λ stop. stop ≡ Stop.CannotWriteReport) }
 {
     written(put_suspects(found, out))
@@ -62,12 +62,10 @@ pub(crate) fn run_suspecting<F: Folder, O: Sink>(
     requires fit { FitRun (settings_seen opts.now) }
     requires mode { mode_of (settings_seen opts.now) ≡ Suspect name.now }
     requires none { row_notes.old ≡ [] }
-    ensures runs { (seed : ℕ) (source : RowSource) → row_source (settings_seen opts.now) (F.file files.old) ≡ Some source →
+    ensures runs { (seed : ℕ) (source : RowSource) → row_source (settings_seen opts.now) (F.seen files.old).files ≡ Some source →
         RunsModel (settings_seen opts.now) seed model.now source row_notes.new
-        (moment (F.file files.old) (F.read_faults files.old) (F.write_faults files.old) (O.written out.old) (O.faults out.old))
-        (moment (F.file files.new) (F.read_faults files.new) (F.write_faults files.new) (O.written out.new) (O.faults out.new)) result }
-    ensures leaves { (name : List ℕ) → Leaves (settings_seen opts.now) name (moment (F.file files.old) (F.read_faults files.old) (F.write_faults files.old) (O.written out.old) (O.faults out.old))
-        (moment (F.file files.new) (F.read_faults files.new) (F.write_faults files.new) (O.written out.new) (O.faults out.new)) (end_of result) }
+        (moment (F.seen files.old) (O.seen out.old)) (moment (F.seen files.new) (O.seen out.new)) result }
+    ensures leaves { (name : List ℕ) → Leaves (settings_seen opts.now) name (moment (F.seen files.old) (O.seen out.old)) (moment (F.seen files.new) (O.seen out.new)) (end_of result) }
 {
     model.assert_invariant();
     let results = load_results(alloc, name, model, files)?;

@@ -35,11 +35,9 @@ pub(crate) fn run_model<R: Threads + Sync, F: Folder, O: Sink>(
 ) -> Result<(), Stop>
     requires fit { FitRun (settings_seen opts.now) }
     requires none { row_notes.old ≡ [] }
-    ensures runs { (source : RowSource) → row_source (settings_seen opts.now) (F.file files.old) ≡ Some source → RunsModel (settings_seen opts.now) seed_word model.now source row_notes.new
-        (moment (F.file files.old) (F.read_faults files.old) (F.write_faults files.old) (O.written out.old) (O.faults out.old))
-        (moment (F.file files.new) (F.read_faults files.new) (F.write_faults files.new) (O.written out.new) (O.faults out.new)) result }
-    ensures leaves { (name : List ℕ) → Leaves (settings_seen opts.now) name (moment (F.file files.old) (F.read_faults files.old) (F.write_faults files.old) (O.written out.old) (O.faults out.old))
-        (moment (F.file files.new) (F.read_faults files.new) (F.write_faults files.new) (O.written out.new) (O.faults out.new)) (end_of result) }
+    ensures runs { (source : RowSource) → row_source (settings_seen opts.now) (F.seen files.old).files ≡ Some source → RunsModel (settings_seen opts.now) seed_word model.now source row_notes.new
+        (moment (F.seen files.old) (O.seen out.old)) (moment (F.seen files.new) (O.seen out.new)) result }
+    ensures leaves { (name : List ℕ) → Leaves (settings_seen opts.now) name (moment (F.seen files.old) (O.seen out.old)) (moment (F.seen files.new) (O.seen out.new)) (end_of result) }
 {
     match opts.mode() {
         Mode::Generate(output) => run_generating(

@@ -7,7 +7,7 @@ ghost use Rattle.tuple_index.specs.Plan.{plan_of};
 use crate::open_list::OpenList;
 use cov_model::{Cells, ParamNo, Slice, TestModel, ValueNo};
 use std::alloc::Global;
-use test_models::{DISK, count_values, is_positive_row, model_of};
+use test_models::{DISK, is_positive_row, model_of};
 use tuple_index::Plan;
 use uncovered_table::Uncovered;
 
@@ -20,7 +20,7 @@ fn put_row(model: &TestModel, turn: u32, column: ParamNo, row: &mut Cells)
 {
     let count = model.params().len() as ParamNo;
     for p in 0..count {
-        let choices = u32::from(count_values(model, p)) + 1;
+        let choices = u32::from(model.value_count(p)) + 1;
         let value = (turn * 7 + turn / 6 + u32::from(p) * 5) % choices;
         if p != column && value + 1 < choices {
             row.set_cell(p, value as ValueNo);
@@ -42,7 +42,7 @@ fn has_gains(
     requires column { column < length model.now.params }
     requires row { IsOfSlice table.now.model table.now.slice row.now }
 {
-    for value in 0..count_values(model, column) {
+    for value in 0..model.value_count(column) {
         if table.gain(row, column, value) as usize != list.gain(row, column, value) {
             return false;
         }
@@ -118,7 +118,7 @@ fn has_turn(
     if column % 2 == 0 && table.prepare(alloc, column).is_err() {
         return false;
     }
-    let value = (turn / 6) as ValueNo % count_values(model, column).max(1);
+    let value = (turn / 6) as ValueNo % model.value_count(column).max(1);
     has_gains_in_turn(turn, model, table, list, row, column)
         && closes_alike(model, table, list, row, column, value)
 }

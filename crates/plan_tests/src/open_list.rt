@@ -4,7 +4,6 @@ ghost use Rattle.std.specs.Prelude.{◌<◌, length};
 
 use cov_model::{Cells, ParamNo, TestModel, ValueNo};
 use std::alloc::{AllocError, Global};
-use test_models::count_values;
 use tuple_index::Plan;
 
 /// An open pair of values, and the column for which its set is in play.
@@ -72,7 +71,7 @@ impl OpenList {
 // How many values a parameter has.
 fn count_of(model: &TestModel, p: ParamNo) -> ValueNo {
     if (p as usize) < model.params().len() {
-        count_values(model, p)
+        model.value_count(p)
     } else {
         0
     }

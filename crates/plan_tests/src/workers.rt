@@ -4,13 +4,13 @@ ghost use Rattle.std.specs.Prelude.{◌≡◌, length};
 ghost use Rattle.tuple_index.specs.Plan.{plan_of};
 
 use cov_model::{Cells, Slice, TestModel};
-use outside_io::Gate;
 use scoring::score_all;
 use std::alloc::Global;
 use std::thread::Threads;
-use test_models::{Counting, Meeting, WORKERS, count_values, is_positive_row, model_of};
+use test_models::{Counting, Meeting, WORKERS, is_positive_row, model_of};
 use tuple_index::Plan;
 use uncovered_table::Uncovered;
+use worker_gate::Gate;
 
 // Closes the row of the first values of A, B and C in column C.
 fn close_first(model: &TestModel, table: &mut Uncovered, row: &mut Cells) -> bool
@@ -47,7 +47,7 @@ fn scores_of<R: Threads + Sync, G: Gate + Sync>(
 {
     row.set_cell(1, 1);
     row.clear_cell(2);
-    if model.params().len() != 3 || count_values(model, 2) != 2 || !is_positive_row(model, row) {
+    if model.params().len() != 3 || model.value_count(2) != 2 || !is_positive_row(model, row) {
         return None;
     }
     if workers == 0 || workers > 64 {

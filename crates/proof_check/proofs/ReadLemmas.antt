@@ -2,8 +2,8 @@
 use Rattle.std.proofs.Common.{◌≡◌, ℕ, ◌<◌, ◌≤◌, true, cond, List, Option, None, Some, Ok, Err, length, refl, sym, ap, subst, ◌∙◌}
 use Rattle.std.specs.Prelude.{IfSome, IsSomeAnd}
 use Rattle.std.proofs.lemmas.Bool.{le-ltb, lt-ltb}
-use Rattle.outside_io.specs.Faults.{Rose, KeepsCounts}
-use Rattle.outside_io.specs.Files.{Files, KeepsFiles}
+use Rattle.outside_io.specs.Faults.{Rose}
+use Rattle.outside_io.specs.Seen.{FolderSeen, KeepsFiles, KeepsReadFaults, ReadFaultsRose}
 use Rattle.definitions.specs.Limits.{most_bytes}
 use Rattle.model_lex.specs.declared.options.ModelOpts.{ModelOpts}
 use Rattle.command_line.specs.Loading.{IsOfReading, IsUnread, no_room, folder_failed, has_more}
@@ -51,21 +51,21 @@ stops_before (TooMany quantity count) of = refl
 stops_before (TooLong other) of = refl
 
 -- where it is said that a file couldn't be read, it is this one, whose count of faults rose
-pub blames_itself : (kind : FileKind) (stop : Stop) (names : NamesView) (faults before after : List ℕ → ℕ) → IsOfReading kind stop → KeepsCounts faults before
-    → (stop ≡ CannotRead kind → Rose (before (name_of names kind)) (after (name_of names kind)))
-    → (other : FileKind) → stop ≡ CannotRead other → Rose (faults (name_of names other)) (after (name_of names other))
-blames_itself kind stop names faults before after of keeps rose other is =
+pub blames_itself : (kind : FileKind) (stop : Stop) (names : NamesView) (first before after : FolderSeen) → IsOfReading kind stop → KeepsReadFaults first before
+    → (stop ≡ CannotRead kind → ReadFaultsRose (name_of names kind) before after)
+    → (other : FileKind) → stop ≡ CannotRead other → ReadFaultsRose (name_of names other) first after
+blames_itself kind stop names first before after of keeps rose other is =
     let same = of.read other is in
-    let here = subst (λ n. Rose n (after (name_of names kind))) (keeps (name_of names kind)) (rose (subst (λ k. stop ≡ CannotRead k) same is)) in
-    subst (λ k. Rose (faults (name_of names k)) (after (name_of names k))) (sym same) here
+    let here = subst (λ n. Rose n (after.read_faults (name_of names kind))) (keeps (name_of names kind)) (rose (subst (λ k. stop ≡ CannotRead k) same is)) in
+    subst (λ k. ReadFaultsRose (name_of names k) first after) (sym same) here
 
 -- what is said of a told file
 pub told : (P : Option (List ℕ) → Type 0) {file : Option (Option (List ℕ))} {held : Option (List ℕ)} → file ≡ Some held → IfSome file P → P held
 told P is h = subst (λ f. IfSome f P) is h
 
 -- files that stay are told as before
-pub holds_after : {files after : Files} {names : NamesView} {held : HeldFiles} → KeepsFiles files after → Holds files names held → Holds after names held
-holds_after {names = names} keeps holds = record {
+pub holds_after : (before after : FolderSeen) {names : NamesView} {held : HeldFiles} → KeepsFiles before after → Holds before.files names held → Holds after.files names held
+holds_after before after {names = names} keeps holds = record {
   model = keeps names.model ∙ holds.model;
   report = keeps names.rows ∙ holds.report;
   proof = keeps names.proof ∙ holds.proof;

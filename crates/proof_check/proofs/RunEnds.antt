@@ -4,6 +4,7 @@ use Rattle.std.specs.Prelude.{◌≢◌, ◌⊎◌, IfErr, IfOk, IsOkAnd, MatchR
 use Rattle.std.proofs.lemmas.Bool.{false≢true}
 use Rattle.std.proofs.lemmas.Option.{none-some, same_Some}
 use Rattle.outside_io.specs.declared.answers.WriteAnswer.TheVariants.{Done, Failed}
+use Rattle.outside_io.specs.Seen.{SinkSeen}
 use Rattle.outside_io.specs.Puts.{Puts}
 use Rattle.cov_model.specs.Sound.{ModelView}
 use Rattle.definitions.specs.Laws.{IsCertified}
@@ -87,7 +88,7 @@ only_refused room folder (no_memory is) = absurd (room is)
 only_refused room folder (cannot_read kind is) = absurd (folder kind is)
 only_refused room folder (is_refused why) = why
 
-pub stopped_ends : (opts : ModelOpts) (held : HeldFiles) (out : Option (List ℕ)) (stop : Stop) → is_before stop ≡ true → StopsBefore opts held stop
+pub stopped_ends : (opts : ModelOpts) (held : HeldFiles) (out : SinkSeen) (stop : Stop) → is_before stop ≡ true → StopsBefore opts held stop
     → Ends opts held out out (Err stop)
 stopped_ends opts held out OutOfMemory before why = refl
 stopped_ends opts held out (CannotRead kind) before why = refl
@@ -119,7 +120,7 @@ readings_then then has = record {
 }
 
 -- a verdict's line was written, whole or in part
-pub printed_ends : (opts : ModelOpts) (held : HeldFiles) (before after : Option (List ℕ)) (given : Verdict) (end : Result Verdict Stop)
+pub printed_ends : (opts : ModelOpts) (held : HeldFiles) (before after : SinkSeen) (given : Verdict) (end : Result Verdict Stop)
     → HasReadings opts (λ m lines proof. given ≡ verdict_given (verdict m lines proof)) held
     → MatchResult end (λ same. (same ≡ given) × Puts Done before after (answer_text given))
     (λ stop. (stop ≡ CannotWriteReport) × Puts Failed before after (answer_text given))
@@ -222,10 +223,10 @@ answer_not : (given : Verdict) (n : ℕ) → answer_status given ≡ n → HasVe
 answer_not given n is = subst HasVerdict is (answer_known given)
 
 -- no stop of the words, of the search or of files comes
-abbrev pub IsOfCheck : Stop → Option (List ℕ) → Option (List ℕ) → Type 0
+abbrev pub IsOfCheck : Stop → SinkSeen → SinkSeen → Type 0
 IsOfCheck stop before after = stop ≢ CannotWriteReport → (is_before stop ≡ true) × (after ≡ before)
 
-module _ (before after : Option (List ℕ)) where
+module _ (before after : SinkSeen) where
   pub eight_is_end : (end : Result Verdict Stop) → IfErr end (λ stop. IsOfCheck stop before after) → end_status end ≡ 8 → end ≡ Err CannotWriteReport
   eight_is_end (Ok given) of h = absurd (false≢true (answer_not given 8 h))
   eight_is_end (Err OutOfMemory) of h = absurd (omega (arith, h))
@@ -242,7 +243,7 @@ module _ (before after : Option (List ℕ)) where
   eight_is_end (Err (TooMany quantity count)) of h = absurd (omega (arith, h))
   eight_is_end (Err (TooLong kind)) of h = absurd (omega (arith, h))
 
-module _ (opts : ModelOpts) (held : HeldFiles) (before after : Option (List ℕ)) where
+module _ (opts : ModelOpts) (held : HeldFiles) (before after : SinkSeen) where
   pub verdict_told : (end : Result Verdict Stop) (status : ℕ) → status ≡ end_status end → HasVerdict status → Ends opts held before after end
       → HasReadings opts (λ m lines proof. IsTold before after status (verdict m lines proof)) held
   verdict_told (Ok given) status is known ends =
@@ -319,7 +320,7 @@ module _ (opts : ModelOpts) (held : HeldFiles) (before after : Option (List ℕ)
   refusal_has_cause (Err (TooLong kind)) known ends = (TooLong kind, ends.0, refl)
 
 -- the statuses of ends
-module _ (before after : Option (List ℕ)) where
+module _ (before after : SinkSeen) where
   pub status_known : (end : Result Verdict Stop) → IfErr end (λ stop. IsOfCheck stop before after) → IsStatus (end_status end)
   status_known (Ok (Accepted rows omissions)) of = refl
   status_known (Ok (BadRow line)) of = refl
@@ -379,21 +380,21 @@ seven_is_end (Err (TooMany quantity count)) h = absurd (omega (arith, h))
 seven_is_end (Err (TooLong kind)) h = absurd (omega (arith, h))
 
 -- the count of the output stays where it didn't fail
-pub counts_stay : {faults faults_after : ℕ} (end : Result Verdict Stop) → end_status end ≢ 8 → CountsOut end faults faults_after → faults_after ≡ faults
-counts_stay (Ok given) eight counts = counts
-counts_stay (Err OutOfMemory) eight counts = counts
-counts_stay (Err (Spent budget question)) eight counts = counts
-counts_stay (Err (BadWord index)) eight counts = counts
-counts_stay (Err (BadModel diag)) eight counts = counts
-counts_stay (Err (BadConstraint diag)) eight counts = counts
-counts_stay (Err (BadRows fault)) eight counts = counts
-counts_stay (Err NoResult) eight counts = counts
-counts_stay (Err (BadResult line)) eight counts = counts
-counts_stay (Err (CannotRead kind)) eight counts = counts
-counts_stay (Err (CannotWrite kind)) eight counts = counts
-counts_stay (Err CannotWriteReport) eight counts = absurd (eight refl)
-counts_stay (Err (TooMany quantity count)) eight counts = counts
-counts_stay (Err (TooLong kind)) eight counts = counts
+pub counts_stay : (before after : SinkSeen) (end : Result Verdict Stop) → end_status end ≢ 8 → CountsOut end before after → after.faults ≡ before.faults
+counts_stay before after (Ok given) eight counts = counts
+counts_stay before after (Err OutOfMemory) eight counts = counts
+counts_stay before after (Err (Spent budget question)) eight counts = counts
+counts_stay before after (Err (BadWord index)) eight counts = counts
+counts_stay before after (Err (BadModel diag)) eight counts = counts
+counts_stay before after (Err (BadConstraint diag)) eight counts = counts
+counts_stay before after (Err (BadRows fault)) eight counts = counts
+counts_stay before after (Err NoResult) eight counts = counts
+counts_stay before after (Err (BadResult line)) eight counts = counts
+counts_stay before after (Err (CannotRead kind)) eight counts = counts
+counts_stay before after (Err (CannotWrite kind)) eight counts = counts
+counts_stay before after (Err CannotWriteReport) eight counts = absurd (eight refl)
+counts_stay before after (Err (TooMany quantity count)) eight counts = counts
+counts_stay before after (Err (TooLong kind)) eight counts = counts
 
 pub verdict_is_end : (end : Result Verdict Stop) (P : Type 0) → HasVerdict (end_status end) → IfOk end (λ given. P) → P
 verdict_is_end (Ok given) P known holds = holds

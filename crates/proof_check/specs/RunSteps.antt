@@ -1,6 +1,6 @@
 -- What the steps of a run of the checker say of each other. (This project's rules.)
 use Rattle.std.specs.Prelude.{◌≡◌, ℕ, ◌≤◌, Bool, true, false, length, Result, Ok, Err}
-use Rattle.outside_io.specs.Faults.{Rose}
+use Rattle.outside_io.specs.Seen.{SinkSeen, PutFaultsRose}
 use Rattle.definitions.specs.Limits.{ModelFile, RowFile, ProofFile, most_bytes}
 use Rattle.definitions.specs.Verdict.{verdict}
 use Rattle.model_lex.specs.declared.options.ModelOpts.{ModelOpts}
@@ -61,6 +61,6 @@ Answers opts held (Ok given) = HasReadings opts (λ m lines proof. given ≡ ver
 Answers opts held (Err stop) = StopsBefore opts held stop
 
 -- the count of faults of the output: it rose where the output couldn't be written, and else it stays
-abbrev pub CountsOut : Result Verdict Stop → ℕ → ℕ → Type 0
-CountsOut (Err CannotWriteReport) before after = Rose before after
-CountsOut end before after = after ≡ before
+abbrev pub CountsOut : Result Verdict Stop → SinkSeen → SinkSeen → Type 0
+CountsOut (Err CannotWriteReport) before after = PutFaultsRose before after
+CountsOut end before after = after.faults ≡ before.faults

@@ -3,9 +3,8 @@
 use Rattle.std.specs.List.{list_any}
 use Rattle.std.specs.Prelude.{◌≡◌, true, ℕ, List, [], ◌∷◌, ◌==◌, ◌++◌, length, nat_lt, Option, Some, None, Result, Ok, Err, if◌then◌else◌, codes}
 use Rattle.outside_io.specs.declared.answers.WriteAnswer.TheVariants.{Done, Failed}
-use Rattle.outside_io.specs.Faults.{Rose}
 use Rattle.outside_io.specs.Files.{Files}
-use Rattle.outside_io.specs.MemFolder.{Slot, file_of}
+use Rattle.outside_io.specs.Seen.{FolderSeen, SinkSeen, ReadFaultsRose}
 use Rattle.outside_io.specs.Puts.{Puts}
 use Rattle.cov_model.specs.Sound.{ModelView}
 use Rattle.definitions.specs.Limits.{most_bytes}
@@ -41,10 +40,6 @@ pub record Holds (files : Files) (names : NamesView) (held : HeldFiles) : Type 0
   pub model : files names.model ≡ Some held.model
   pub report : files names.rows ≡ Some held.report
   pub proof : files names.proof ≡ Some held.proof
-
--- what a folder in memory holds under these names
-abbrev pub held_in : List Slot → NamesView → HeldFiles
-held_in slots names = record { model = file_of slots names.model; report = file_of slots names.rows; proof = file_of slots names.proof }
 
 -- the bytes of the three files
 pub record Inputs : Type 0 where
@@ -128,10 +123,10 @@ answer_text (BadProof line) = verdict_text (defined.BadProof line)
 answer_text (BadOmission line) = verdict_text (defined.BadOmission line)
 answer_text (Uncovered pairs) = codes "refused: uncovered " ++ pairs_text pairs ++ codes "\n"
 
--- how a run on files may end, by what the output tells before and after: with the verdict, whose line was written whole,
+-- how a run on files may end, and what the output got: it ended with the verdict, whose line was written whole,
 -- or in part where the output failed; else nothing was written, for want of memory, where the folder failed, or because
 -- the files are refused
-abbrev pub Ends : ModelOpts → HeldFiles → Option (List ℕ) → Option (List ℕ) → Result Verdict Stop → Type 0
+abbrev pub Ends : ModelOpts → HeldFiles → SinkSeen → SinkSeen → Result Verdict Stop → Type 0
 Ends opts held before after (Ok given) =
     HasReadings opts (λ m lines proof. (given ≡ verdict_given (verdict m lines proof)) × Puts Done before after (verdict_text (verdict m lines proof))) held
 Ends opts held before after (Err CannotWriteReport) = HasReadings opts (λ m lines proof. Puts Failed before after (verdict_text (verdict m lines proof))) held
@@ -149,24 +144,23 @@ end_text names (Ok given) = []
 end_text names (Err stop) = line_of stop names
 
 -- the count of faults of reading one of the three files rose
-abbrev pub ReadsRose : NamesView → (List ℕ → ℕ) → (List ℕ → ℕ) → Type 0
-ReadsRose names before after = (kind : FileKind) × Rose (before (name_of names kind)) (after (name_of names kind))
+abbrev pub ReadsRose : NamesView → FolderSeen → FolderSeen → Type 0
+ReadsRose names before after = (kind : FileKind) × ReadFaultsRose (name_of names kind) before after
 
 -- a file of this kind was named as one that can't be read, and its count of faults rose
-abbrev pub ReadFaults : NamesView → (List ℕ → ℕ) → (List ℕ → ℕ) → Result Verdict Stop → Type 0
-ReadFaults names before after end = (kind : FileKind) → end ≡ Err (CannotRead kind) → Rose (before (name_of names kind)) (after (name_of names kind))
+abbrev pub ReadFaults : NamesView → FolderSeen → FolderSeen → Result Verdict Stop → Type 0
+ReadFaults names before after end = (kind : FileKind) → end ≡ Err (CannotRead kind) → ReadFaultsRose (name_of names kind) before after
 
 -- a run on files of these names: how it ended, what it told, and its status
-pub record IsRun (opts : ModelOpts) (names : NamesView) (files : Files) (reads reads_after : List ℕ → ℕ)
-    (before after told_before told_after : Option (List ℕ)) (faults faults_after status : ℕ) : Type 0 where
+pub record IsRun (opts : ModelOpts) (names : NamesView) (folder folder_after : FolderSeen) (out out_after told_before told_after : SinkSeen) (status : ℕ) : Type 0 where
   pub end : Result Verdict Stop
-  pub ends : (held : HeldFiles) → Holds files names held → Ends opts held before after end
-  pub read : ReadFaults names reads reads_after end
-  pub tells : Tells told_before told_after faults faults_after (end_text names end)
+  pub ends : (held : HeldFiles) → Holds folder.files names held → Ends opts held out out_after end
+  pub read : ReadFaults names folder folder_after end
+  pub tells : Tells told_before told_after (end_text names end)
   pub ended : status ≡ end_status end
 
 -- what the verdict of files says is told: by the status, and whole on the output
-abbrev pub IsTold : Option (List ℕ) → Option (List ℕ) → ℕ → defined.Verdict → Type 0
+abbrev pub IsTold : SinkSeen → SinkSeen → ℕ → defined.Verdict → Type 0
 IsTold before after status given = (status ≡ verdict_status given) × Puts Done before after (verdict_text given)
 
 -- the statuses that a run may end with, and those that come with a verdict

@@ -19,7 +19,6 @@ use crate::verdict::{CheckFault, Verdict};
 use crate::workers::Workers;
 use cov_model::TestModel;
 use model_lex::ModelOpts;
-use outside_io::Gate;
 use refutation::{Omissions, ProofFault, read_omissions};
 use row_text::{RowFile, RowMode, RowsFault, read_rows};
 use std::alloc::Global;
@@ -27,6 +26,7 @@ use std::thread::Threads;
 use tuple_index::Plan;
 use type_check::read_model;
 use value_text::NoMemory;
+use worker_gate::Gate;
 
 // The verdict on rows that are valid and a proof that was read.
 fn judge_proof<R: Threads + Sync, G: Gate + Sync>(

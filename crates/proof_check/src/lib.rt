@@ -6,14 +6,11 @@
 //! - `run_check` is the call that `main` of `pictcheck` makes, over any folder and sinks. Its clause `certified` is what
 //!   the checker is for: after status 0 every row of the report is valid, and each demanded tuple is served by one of
 //!   them, or the proof lists it and no row serves it.
-//! - `run_check_in_memory` is the same on a folder and sinks in memory, where this has no premise but the status.
-//!   `run_check_without_faults` is the same on a folder and sinks that never fail, where completeness has no premise on
-//!   faults.
+//!   `runs_in_memory` has the same call over a folder and sinks in memory, where this has no premise but the status.
 //! - `read_check_words` is the definition's reading of words.
 #![tactic(auto)]
 
 mod check;
-mod in_memory;
 mod laws;
 mod listed;
 mod rows;
@@ -22,14 +19,11 @@ mod telling;
 mod trees;
 mod uncovered;
 mod verdict;
-mod without_faults;
 mod words;
 mod workers;
 
 pub use check::check_bytes;
-pub use in_memory::run_check_in_memory;
 pub use laws::checks_have_one_answer;
 pub use run::run_check;
 pub use verdict::{CheckFault, Verdict};
-pub use without_faults::run_check_without_faults;
 pub use words::{CheckOpts, WordFault, read_check_words};

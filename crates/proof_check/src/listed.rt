@@ -4,7 +4,6 @@ ghost use Rattle.std.specs.List.Sorted.{IsStrictlySortedBy};
 ghost use Rattle.std.specs.Ordering.{nat_cmp};
 ghost use Rattle.std.specs.Cmp.Lexicographic.{slice_cmp};
 ghost use Rattle.cov_model.specs.Meaning.{value_at};
-ghost use Rattle.cov_model.specs.Sound.{param_at};
 ghost use Rattle.definitions.specs.Demand.{demanded_tuples};
 ghost use Rattle.definitions.specs.Pairs.{cells_of};
 ghost use Rattle.refutation.specs.Checking.{AreOfModel};
@@ -50,16 +49,6 @@ fn values_of(alloc: Global, tuple: &Tuple) -> Result<SmallVec<ValueNo, 8>, NoMem
     Ok(values)
 }
 
-// Whether the value of a pair is negative.
-fn is_negative(model: &TestModel, p: ParamNo, v: ValueNo) -> bool
-    requires parameter { p < length model.now.params }
-    requires value { v < length (param_at model.now.params p).values }
-    ensures { result ≡ (value_at model.now p v).negative }
-{
-    let param = &model.params().as_slice()[p as usize];
-    param.values.as_slice()[v as usize].negative
-}
-
 // How many values of a tuple are negative.
 fn count_negatives(model: &TestModel, tuple: &Tuple) -> usize
     requires { AreOfModel model.now tuple.now }
@@ -67,7 +56,7 @@ fn count_negatives(model: &TestModel, tuple: &Tuple) -> usize
 {
     let mut count = 0;
     for pair in tuple.as_slice() {
-        if is_negative(model, pair.0, pair.1) {
+        if model.is_negative(pair.0, pair.1) {
             count += 1;
         }
     }

@@ -1,7 +1,6 @@
 ghost use Rattle.std.specs.Prelude.{◌≡◌, ◌≢◌, ◌⊎◌, ℕ, true, Ok, Err, IfOk, IfErr, MatchResult};
-ghost use Rattle.outside_io.specs.Faults.{Rose, KeepsCounts};
-ghost use Rattle.outside_io.specs.Files.{KeepsFiles};
-ghost use Rattle.outside_io.specs.Puts.{CountsFaults, Puts};
+ghost use Rattle.outside_io.specs.Seen.{KeepsFiles, KeepsReadFaults, KeepsWriteFaults, ReadFaultsRose, PutFaultsRose};
+ghost use Rattle.outside_io.specs.Puts.{Puts};
 ghost use Rattle.outside_io.specs.declared.answers.WriteAnswer.TheVariants.{Done, Failed};
 ghost use Rattle.definitions.specs.Diagnostics.{word_line};
 ghost use Rattle.definitions.specs.Laws.{IsCertified};
@@ -21,10 +20,11 @@ use crate::check::check_bytes;
 use crate::verdict::{CheckFault, Verdict};
 use crate::words::{CheckOpts, WordFault, read_check_words};
 use command_line::{FileKind, FileNames, Stop, read_whole};
-use outside_io::{Folder, OpenGate, Sink, WriteAnswer};
+use outside_io::{Folder, Sink, WriteAnswer};
 use std::alloc::Global;
 use std::marker::Model;
 use std::thread::Threads;
+use worker_gate::OpenGate;
 
 // The bytes of the three files of a run.
 #[derive(Drop)]
@@ -61,14 +61,14 @@ fn read_files<F: Folder>(
     opts: &CheckOpts<'_>,
     files: &mut F,
 ) -> Result<Contents, Stop>
-    ensures reads { (held : HeldFiles) → Holds (F.file files.old) (names_seen opts.now) held → Reads opts.now.opts held result }
+    ensures reads { (held : HeldFiles) → Holds (F.seen files.old).files (names_seen opts.now) held → Reads opts.now.opts held result }
     ensures within { IfOk result FitLimits }
     ensures before { IfErr result (λ stop. is_before stop ≡ true) }
     ensures cannot_read { (kind : FileKind) → result ≡ Err (Stop.CannotRead kind) →
-        Rose (F.read_faults files.old (name_of (names_seen opts.now) kind)) (F.read_faults files.new (name_of (names_seen opts.now) kind)) }
-    ensures no_fault { ((kind : FileKind) → result ≢ Err (Stop.CannotRead kind)) → KeepsCounts (F.read_faults files.old) (F.read_faults files.new) }
-    ensures files { KeepsFiles (F.file files.old) (F.file files.new) }
-    ensures write_faults { KeepsCounts (F.write_faults files.old) (F.write_faults files.new) }
+        ReadFaultsRose (name_of (names_seen opts.now) kind) (F.seen files.old) (F.seen files.new) }
+    ensures no_fault { ((kind : FileKind) → result ≢ Err (Stop.CannotRead kind)) → KeepsReadFaults (F.seen files.old) (F.seen files.new) }
+    ensures files { KeepsFiles (F.seen files.old) (F.seen files.new) }
+    ensures write_faults { KeepsWriteFaults (F.seen files.old) (F.seen files.new) }
 {
     let model = read_whole(alloc, FileKind::Model, opts.model, files)?;
     let report = read_whole(alloc, FileKind::Rows, opts.report, files)?;
@@ -117,12 +117,12 @@ fn verdict_of<R: Threads + Sync, F: Folder>(
     files: &mut F,
 ) -> Result<Verdict, Stop>
     requires { AreFit (settings_seen opts.now) }
-    ensures answers { (held : HeldFiles) → Holds (F.file files.old) (names_seen opts.now) held → Answers opts.now.opts held result }
+    ensures answers { (held : HeldFiles) → Holds (F.seen files.old).files (names_seen opts.now) held → Answers opts.now.opts held result }
     ensures before { IfErr result (λ stop. is_before stop ≡ true) }
-    ensures read { ReadFaults (names_seen opts.now) (F.read_faults files.old) (F.read_faults files.new) result }
-    ensures no_fault { ((kind : FileKind) → result ≢ Err (Stop.CannotRead kind)) → KeepsCounts (F.read_faults files.old) (F.read_faults files.new) }
-    ensures files { KeepsFiles (F.file files.old) (F.file files.new) }
-    ensures write_faults { KeepsCounts (F.write_faults files.old) (F.write_faults files.new) }
+    ensures read { ReadFaults (names_seen opts.now) (F.seen files.old) (F.seen files.new) result }
+    ensures no_fault { ((kind : FileKind) → result ≢ Err (Stop.CannotRead kind)) → KeepsReadFaults (F.seen files.old) (F.seen files.new) }
+    ensures files { KeepsFiles (F.seen files.old) (F.seen files.new) }
+    ensures write_faults { KeepsWriteFaults (F.seen files.old) (F.seen files.new) }
 {
     let contents = read_files(alloc, opts, files)?;
     judge(rt, alloc, opts, &contents)
@@ -131,9 +131,9 @@ fn verdict_of<R: Threads + Sync, F: Folder>(
 // Writes the line of a verdict, and gives it back.
 fn print<O: Sink>(verdict: Verdict, out: &mut O) -> Result<Verdict, Stop>
     ensures prints { MatchResult result
-        (λ given. (given ≡ verdict) × Puts Done (O.written out.old) (O.written out.new) (answer_text verdict))
-        (λ stop. (stop ≡ Stop.CannotWriteReport) × Puts Failed (O.written out.old) (O.written out.new) (answer_text verdict)) }
-    ensures counts { CountsOut result (O.faults out.old) (O.faults out.new) }
+        (λ given. (given ≡ verdict) × Puts Done (O.seen out.old) (O.seen out.new) (answer_text verdict))
+        (λ stop. (stop ≡ Stop.CannotWriteReport) × Puts Failed (O.seen out.old) (O.seen out.new) (answer_text verdict)) }
+    ensures counts { CountsOut result (O.seen out.old) (O.seen out.new) }
 {
     match verdict.put_line(out) {
         WriteAnswer::Done => Ok(verdict),
@@ -150,13 +150,13 @@ fn check<R: Threads + Sync, F: Folder, O: Sink>(
     out: &mut O,
 ) -> Result<Verdict, Stop>
     requires { AreFit (settings_seen opts.now) }
-    ensures ends { (held : HeldFiles) → Holds (F.file files.old) (names_seen opts.now) held → Ends opts.now.opts held (O.written out.old) (O.written out.new) result }
-    ensures before { IfErr result (λ stop. stop ≢ Stop.CannotWriteReport → (is_before stop ≡ true) × (O.written out.new ≡ O.written out.old)) }
-    ensures counts { CountsOut result (O.faults out.old) (O.faults out.new) }
-    ensures read { ReadFaults (names_seen opts.now) (F.read_faults files.old) (F.read_faults files.new) result }
-    ensures no_fault { ((kind : FileKind) → result ≢ Err (Stop.CannotRead kind)) → KeepsCounts (F.read_faults files.old) (F.read_faults files.new) }
-    ensures files { KeepsFiles (F.file files.old) (F.file files.new) }
-    ensures write_faults { KeepsCounts (F.write_faults files.old) (F.write_faults files.new) }
+    ensures ends { (held : HeldFiles) → Holds (F.seen files.old).files (names_seen opts.now) held → Ends opts.now.opts held (O.seen out.old) (O.seen out.new) result }
+    ensures before { IfErr result (λ stop. stop ≢ Stop.CannotWriteReport → (is_before stop ≡ true) × (O.seen out.new ≡ O.seen out.old)) }
+    ensures counts { CountsOut result (O.seen out.old) (O.seen out.new) }
+    ensures read { ReadFaults (names_seen opts.now) (F.seen files.old) (F.seen files.new) result }
+    ensures no_fault { ((kind : FileKind) → result ≢ Err (Stop.CannotRead kind)) → KeepsReadFaults (F.seen files.old) (F.seen files.new) }
+    ensures files { KeepsFiles (F.seen files.old) (F.seen files.new) }
+    ensures write_faults { KeepsWriteFaults (F.seen files.old) (F.seen files.new) }
 {
     let verdict = verdict_of(rt, alloc, opts, files)?;
     print(verdict, out)
@@ -174,9 +174,8 @@ fn status_of(end: &Result<Verdict, Stop>) -> u8
 
 // Writes why a run stopped, if it did.
 fn tell<E: Sink>(end: &Result<Verdict, Stop>, names: &FileNames<'_>, diag: &mut E) -> WriteAnswer
-    ensures puts { Puts result (E.written diag.old) (E.written diag.new) (end_text names.now end.now) }
-    ensures counts { CountsFaults result (E.faults diag.old) (E.faults diag.new) }
-    ensures silent { IfOk end.now (λ given. (E.written diag.new ≡ E.written diag.old) × (E.faults diag.new ≡ E.faults diag.old)) }
+    ensures puts { Puts result (E.seen diag.old) (E.seen diag.new) (end_text names.now end.now) }
+    ensures silent { IfOk end.now (λ given. E.seen diag.new ≡ E.seen diag.old) }
 {
     match end {
         Ok(_) => WriteAnswer::Done,
@@ -187,8 +186,8 @@ fn tell<E: Sink>(end: &Result<Verdict, Stop>, names: &FileNames<'_>, diag: &mut 
 // Writes why a run stopped, if it did, and gives its exit status.
 fn finish<E: Sink>(end: &Result<Verdict, Stop>, names: &FileNames<'_>, diag: &mut E) -> u8
     ensures status { result ≡ end_status end.now }
-    ensures tells { Tells (E.written diag.old) (E.written diag.new) (E.faults diag.old) (E.faults diag.new) (end_text names.now end.now) }
-    ensures silent { IfOk end.now (λ given. (E.written diag.new ≡ E.written diag.old) × (E.faults diag.new ≡ E.faults diag.old)) }
+    ensures tells { Tells (E.seen diag.old) (E.seen diag.new) (end_text names.now end.now) }
+    ensures silent { IfOk end.now (λ given. E.seen diag.new ≡ E.seen diag.old) }
 {
     let _ = tell(end, names, diag);
     status_of(end)
@@ -197,7 +196,7 @@ fn finish<E: Sink>(end: &Result<Verdict, Stop>, names: &FileNames<'_>, diag: &mu
 // Writes which word has no reading, and gives the status of such a run.
 fn refuse_words<E: Sink>(fault: WordFault, diag: &mut E) -> u8
     ensures status { result ≡ 3 }
-    ensures tells { Tells (E.written diag.old) (E.written diag.new) (E.faults diag.old) (E.faults diag.new) (word_line fault.index) }
+    ensures tells { Tells (E.seen diag.old) (E.seen diag.new) (word_line fault.index) }
 {
     let stop = Stop::BadWord(fault.index);
     let _ = stop.put_line(&FileNames::none(), diag);
@@ -215,7 +214,7 @@ fn refuse_words<E: Sink>(fault: WordFault, diag: &mut E) -> u8
 /// the other statuses one line that says why goes to `diag`, whose faults change nothing.
 ///
 /// A folder tells what a name holds, the bytes of a file or that there is none, and a sink what was written to it, as
-/// those in memory do (`run_check_in_memory`). Real ones tell nothing, and of them only the clauses speak that have no
+/// those in memory do (`run_check_in_memory` of `runs_in_memory`). Real ones tell nothing, and of them only the clauses speak that have no
 /// such premise.
 pub fn run_check<R: Threads + Sync, F: Folder, O: Sink, E: Sink>(
     rt: &R,
@@ -229,67 +228,66 @@ pub fn run_check<R: Threads + Sync, F: Folder, O: Sink, E: Sink>(
     // tuple is served by one of the rows, or the proof lists it and no row serves it. Premises: the words ask for s;
     // the folder tells what the three files held.
     ensures certified { result ≡ 0 → (s : Settings) (held : HeldFiles) → asked_by (texts words.now) ≡ Ok s →
-        Holds (F.file files.old) (names_in (texts words.now)) held → HasReadings (opts_of s) IsCertified held }
+        Holds (F.seen files.old).files (names_in (texts words.now)) held → HasReadings (opts_of s) IsCertified held }
 
     // The verdict: after status 0 or 10 the files have one, 0 tells that it accepts and 10 that it doesn't, and `out` got
     // exactly its line; after 8 a prefix of it. Premises: as of the headline, and, of what was written, that `out`
     // tells what it held before.
     ensures verdict { HasVerdict result → (s : Settings) (held : HeldFiles) → asked_by (texts words.now) ≡ Ok s →
-        Holds (F.file files.old) (names_in (texts words.now)) held →
-        HasReadings (opts_of s) (λ m lines proof. IsTold (O.written out.old) (O.written out.new) result (verdict m lines proof)) held }
+        Holds (F.seen files.old).files (names_in (texts words.now)) held →
+        HasReadings (opts_of s) (λ m lines proof. IsTold (O.seen out.old) (O.seen out.new) result (verdict m lines proof)) held }
     ensures broken { result ≡ 8 → (s : Settings) (held : HeldFiles) → asked_by (texts words.now) ≡ Ok s →
-        Holds (F.file files.old) (names_in (texts words.now)) held →
-        HasReadings (opts_of s) (λ m lines proof. Puts Failed (O.written out.old) (O.written out.new) (verdict_text (verdict m lines proof))) held }
+        Holds (F.seen files.old).files (names_in (texts words.now)) held →
+        HasReadings (opts_of s) (λ m lines proof. Puts Failed (O.seen out.old) (O.seen out.new) (verdict_text (verdict m lines proof))) held }
 
     // Which status comes where memory is found. Premises: as of the headline. Files that have their readings, where
     // neither a count of faults of reading one of them rose nor that of `out`: the status of their verdict.
     ensures complete { (s : Settings) (held : HeldFiles) → asked_by (texts words.now) ≡ Ok s →
-        Holds (F.file files.old) (names_in (texts words.now)) held → AreRead (opts_of s) held →
-        ¬ ReadsRose (names_in (texts words.now)) (F.read_faults files.old) (F.read_faults files.new) →
-        ¬ Rose (O.faults out.old) (O.faults out.new) →
+        Holds (F.seen files.old).files (names_in (texts words.now)) held → AreRead (opts_of s) held →
+        ¬ ReadsRose (names_in (texts words.now)) (F.seen files.old) (F.seen files.new) →
+        ¬ PutFaultsRose (O.seen out.old) (O.seen out.new) →
         HasReadings (opts_of s) (λ m lines proof. (result ≡ verdict_status (verdict m lines proof)) ⊎ (result ≡ 1)) held }
     // Files that have none, where no count of faults of reading them rose: the status of the first cause.
     ensures refused { (s : Settings) (held : HeldFiles) (stop : Stop) → asked_by (texts words.now) ≡ Ok s →
-        Holds (F.file files.old) (names_in (texts words.now)) held → FilesAreRefused (opts_of s) held stop →
-        ¬ ReadsRose (names_in (texts words.now)) (F.read_faults files.old) (F.read_faults files.new) →
+        Holds (F.seen files.old).files (names_in (texts words.now)) held → FilesAreRefused (opts_of s) held stop →
+        ¬ ReadsRose (names_in (texts words.now)) (F.seen files.old) (F.seen files.new) →
         (result ≡ stops.status_of stop) ⊎ (result ≡ 1) }
     // No file.
     ensures missing { (s : Settings) (held : HeldFiles) (kind : FileKind) → asked_by (texts words.now) ≡ Ok s →
-        Holds (F.file files.old) (names_in (texts words.now)) held → inputs_of held ≡ Err (Stop.CannotRead kind) →
+        Holds (F.seen files.old).files (names_in (texts words.now)) held → inputs_of held ≡ Err (Stop.CannotRead kind) →
         (result ≡ 7) ⊎ (result ≡ 1) }
 
     // And each of these statuses has its cause. Premises: as of the headline.
     ensures refusal { IsRefusal result → (s : Settings) (held : HeldFiles) → asked_by (texts words.now) ≡ Ok s →
-        Holds (F.file files.old) (names_in (texts words.now)) held →
+        Holds (F.seen files.old).files (names_in (texts words.now)) held →
         (stop : Stop) × FilesAreRefused (opts_of s) held stop × (result ≡ stops.status_of stop) }
 
     // What a run does, as far as the folder tells what the files held, and the sinks what was written. Premise: the
     // words ask for s.
-    ensures run { (s : Settings) → asked_by (texts words.now) ≡ Ok s → IsRun (opts_of s) (names_in (texts words.now)) (F.file files.old)
-        (F.read_faults files.old) (F.read_faults files.new) (O.written out.old) (O.written out.new) (E.written diag.old) (E.written diag.new)
-        (E.faults diag.old) (E.faults diag.new) result }
+    ensures run { (s : Settings) → asked_by (texts words.now) ≡ Ok s → IsRun (opts_of s) (names_in (texts words.now))
+        (F.seen files.old) (F.seen files.new) (O.seen out.old) (O.seen out.new) (E.seen diag.old) (E.seen diag.new) result }
 
     // Words that have no reading. Premise: the first that has none is told by this index. And what `diag` got is said
     // where it tells what it held before. With words that have a reading the status is another.
     ensures words { (index : ℕ) → IsWordFault (texts words.now) index →
-        (result ≡ 3) × Tells (E.written diag.old) (E.written diag.new) (E.faults diag.old) (E.faults diag.new) (word_line index) }
+        (result ≡ 3) × Tells (E.seen diag.old) (E.seen diag.new) (word_line index) }
     ensures read_words { (s : Settings) → asked_by (texts words.now) ≡ Ok s → result ≢ 3 }
 
     // Without such premises: with a status but 0, 8 and 10 `out` gets nothing, and with 0 and 10 `diag` doesn't.
-    ensures nothing { result ≢ 8 → ¬ HasVerdict result → O.written out.new ≡ O.written out.old }
-    ensures silent { HasVerdict result → (E.written diag.new ≡ E.written diag.old) × (E.faults diag.new ≡ E.faults diag.old) }
+    ensures nothing { result ≢ 8 → ¬ HasVerdict result → O.seen out.new ≡ O.seen out.old }
+    ensures silent { HasVerdict result → E.seen diag.new ≡ E.seen diag.old }
 
     // 7 comes only where a count of faults of reading one of the three names rose, 8 only where the count of faults of
     // `out` did, no other status changes these counts, and no status comes but those named above.
-    ensures read { result ≡ 7 → ReadsRose (names_in (texts words.now)) (F.read_faults files.old) (F.read_faults files.new) }
-    ensures write { result ≡ 8 → Rose (O.faults out.old) (O.faults out.new) }
-    ensures no_read_fault { result ≢ 7 → KeepsCounts (F.read_faults files.old) (F.read_faults files.new) }
-    ensures no_fault { result ≢ 8 → O.faults out.new ≡ O.faults out.old }
+    ensures read { result ≡ 7 → ReadsRose (names_in (texts words.now)) (F.seen files.old) (F.seen files.new) }
+    ensures write { result ≡ 8 → PutFaultsRose (O.seen out.old) (O.seen out.new) }
+    ensures no_read_fault { result ≢ 7 → KeepsReadFaults (F.seen files.old) (F.seen files.new) }
+    ensures no_fault { result ≢ 8 → (O.seen out.new).faults ≡ (O.seen out.old).faults }
     ensures statuses { IsStatus result }
 
     // No file changes, and no count of faults of writing one.
-    ensures files { KeepsFiles (F.file files.old) (F.file files.new) }
-    ensures write_faults { KeepsCounts (F.write_faults files.old) (F.write_faults files.new) }
+    ensures files { KeepsFiles (F.seen files.old) (F.seen files.new) }
+    ensures write_faults { KeepsWriteFaults (F.seen files.old) (F.seen files.new) }
 {
     let opts = match read_check_words(words) {
         Ok(opts) => opts,

@@ -1,5 +1,5 @@
 ghost use Rattle.std.specs.Prelude.{◌≡◌, ◌++◌, codes, decimal};
-ghost use Rattle.outside_io.specs.Puts.{Puts, CountsFaults};
+ghost use Rattle.outside_io.specs.Puts.{Puts};
 ghost use Rattle.definitions.specs.Pairs.{pairs_text};
 ghost use Rattle.definitions.specs.Verdict.{verdict_text};
 ghost use Rattle.definitions.specs.Verdict as defined;
@@ -13,8 +13,7 @@ use outside_io::{Sink, WriteAnswer, put_pieces};
 
 // Writes the line of an accepted report and proof.
 fn put_accepted<O: Sink>(rows: u32, omissions: u32, out: &mut O) -> WriteAnswer
-    ensures puts { Puts result (O.written out.old) (O.written out.new) (verdict_text (defined.Accepted rows omissions)) }
-    ensures counts { CountsFaults result (O.faults out.old) (O.faults out.new) }
+    ensures { Puts result (O.seen out.old) (O.seen out.new) (verdict_text (defined.Accepted rows omissions)) }
 {
     let mut of_rows = Buffer::new();
     let mut of_omissions = Buffer::new();
@@ -28,8 +27,7 @@ fn put_accepted<O: Sink>(rows: u32, omissions: u32, out: &mut O) -> WriteAnswer
 
 // Writes the line of a refusal at a line of the report or the proof, by the texts around the line's number.
 fn put_refused<O: Sink>(file: &str, line: u32, reason: &str, out: &mut O) -> WriteAnswer
-    ensures puts { Puts result (O.written out.old) (O.written out.new) (file.now ++ decimal line ++ reason.now) }
-    ensures counts { CountsFaults result (O.faults out.old) (O.faults out.new) }
+    ensures { Puts result (O.seen out.old) (O.seen out.new) (file.now ++ decimal line ++ reason.now) }
 {
     let mut buffer = Buffer::new();
     let number = buffer.format(line);
@@ -38,8 +36,7 @@ fn put_refused<O: Sink>(file: &str, line: u32, reason: &str, out: &mut O) -> Wri
 
 // Writes the line of a tuple that is neither served nor listed.
 fn put_uncovered<O: Sink>(tuple: &Tuple, out: &mut O) -> WriteAnswer
-    ensures puts { Puts result (O.written out.old) (O.written out.new) (codes "refused: uncovered " ++ pairs_text tuple.now ++ codes "\n") }
-    ensures counts { CountsFaults result (O.faults out.old) (O.faults out.new) }
+    ensures { Puts result (O.seen out.old) (O.seen out.new) (codes "refused: uncovered " ++ pairs_text tuple.now ++ codes "\n") }
 {
     match put_pieces(out, &["refused: uncovered "]) {
         WriteAnswer::Done => {}
@@ -67,8 +64,7 @@ impl Verdict {
 
     // Writes the line of this verdict. Takes no memory.
     pub(crate) fn put_line<O: Sink>(&self, out: &mut O) -> WriteAnswer
-        ensures puts { Puts result (O.written out.old) (O.written out.new) (answer_text self.now) }
-        ensures counts { CountsFaults result (O.faults out.old) (O.faults out.new) }
+        ensures { Puts result (O.seen out.old) (O.seen out.new) (answer_text self.now) }
     {
         match self {
             Verdict::Accepted(rows, omissions) => put_accepted(*rows, *omissions, out),

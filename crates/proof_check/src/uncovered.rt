@@ -16,7 +16,6 @@ use crate::listed::mark_unlisted;
 use crate::workers::Workers;
 use bit_table::BitTable;
 use cov_model::{ParamNo, TestModel, Tuple, ValueNo};
-use outside_io::Gate;
 use refutation::Omissions;
 use row_text::RowFile;
 use shared_marks::{Bits, mark_rows};
@@ -24,6 +23,7 @@ use std::alloc::Global;
 use std::thread::Threads;
 use tuple_index::Plan;
 use value_text::NoMemory;
+use worker_gate::Gate;
 
 // The number of places that a word tells of.
 const WORD_BITS: u32 = 64;

@@ -1,21 +1,17 @@
--- Pairs as a partial row: which values it gives, and what contains it.
-use Rattle.std.proofs.Common.{◌≡◌, ◌≢◌, ℕ, zero, suc, ◌+◌, ◌<◌, Bool, true, false, ◌&&◌, ◌||◌, List, [], ◌∷◌, ◌++◌, length, get_or, take, replicate}
+-- Pairs as a partial row: which values it gives, and that it fits a model.
+use Rattle.std.proofs.Common.{◌≡◌, ◌≢◌, ℕ, zero, suc, ◌<◌, Bool, false, ◌||◌, List, [], ◌∷◌, length, get_or, replicate}
 use Rattle.std.proofs.Common.{Option, Some, None, is_some, unwrap_or, All, inl, inr, ◌∙◌, sym, ap, subst, refl, arith, eq-eqb, ne_eqb}
-use Rattle.std.specs.Prelude.{◌==◌}
-use Rattle.std.specs.List.{list_all}
-use Rattle.std.proofs.lemmas.Bool.{false≢true, false_from_ne_true, cases_eq, and_parts, and_from, eqb-true}
-use Rattle.std.proofs.lemmas.List.{length-set, length-replicate, get_or-set_other, get_or-set_same, set_comm, take_more}
+use Rattle.std.proofs.lemmas.Bool.{false≢true, cases_eq}
+use Rattle.std.proofs.lemmas.List.{length-set, length-replicate, get_or-set_other, get_or-set_same}
 use Rattle.std.proofs.lemmas.List.Elements.{All-head, All-tail}
 use Rattle.cov_model.specs.Fits.{FitsModel}
-use Rattle.cov_model.specs.Rows.{contains, is_assigned}
+use Rattle.cov_model.specs.Rows.{is_assigned}
 use Rattle.cov_model.specs.Sound.{ModelView, param_at}
 use Rattle.cov_model.specs.Tuples.{IsRising}
-use Rattle.cov_model.proofs.CellLemmas.{contains-from, contains-get_or, contains-trans}
 use Rattle.definitions.specs.Completion.{with_value}
 use Rattle.definitions.specs.Pairs.{cells_of}
-use Rattle.definitions.proofs.Members.{Has, of_any, same_answer}
-use Rattle.definitions.proofs.PartialRowLemmas.{with_value-contains}
-use Rattle.refutation.specs.Checking.{AreOfModel, gives, has_param}
+use Rattle.definitions.proofs.Members.{Has}
+use Rattle.refutation.specs.Checking.{AreOfModel, has_param}
 use Rattle.definitions.proofs.NamedPairs.{length-cells_of, behind_first}
 
 -- no pairs give nothing
@@ -57,14 +53,6 @@ rises_above pair other [] rises has = absurd has
 rises_above pair other (next ∷ pairs) rises (inl same) = subst (λ (p : ℕ × ℕ). pair.0 < p.0) same rises.0
 rises_above pair other (next ∷ pairs) rises (inr has) = let later = rises_above next other pairs rises.1 has in omega (arith, rises.0, later)
 
-pub none_again : (pair : ℕ × ℕ) (pairs : List (ℕ × ℕ)) → IsRising (pair ∷ pairs) → has_param pairs pair.0 ≡ false
-none_again pair pairs rises =
-    false_from_ne_true (has_param pairs pair.0) (λ some.
-    let found = of_any (λ other. other.0 == pair.0) pairs some in
-    let same : found.0.0 ≡ pair.0 = eqb-true found.0.0 pair.0 found.2 in
-    let above = rises_above pair found.0 pairs rises found.1 in
-    omega (arith, same, above))
-
 -- each pair's value is the one that is given
 pub given_by : (n : ℕ) (pair : ℕ × ℕ) (pairs : List (ℕ × ℕ)) → AreBelow n pairs → IsRising pairs → Has pairs pair
     → get_or (cells_of n pairs) pair.0 None ≡ Some pair.1
@@ -76,76 +64,6 @@ given_by n pair (first ∷ pairs) below rises (inr has) =
     let above = rises_above first pair pairs rises has in
     given_other n pair.0 first pairs (λ same. omega (arith, same, above))
     ∙ given_by n pair pairs (All-tail (λ pair. pair.0 < n) first pairs below) (behind_first first pairs rises) has
-
--- a partial row contains that of pairs exactly if it gives each of them
-gives_cell : (cells : List (Option ℕ)) (pair : ℕ × ℕ) → gives cells pair ≡ true → get_or cells pair.0 None ≡ Some pair.1
-gives_cell cells pair passes = at (get_or cells pair.0 None) passes
-  where
-    at : (cell : Option ℕ) → (is_some cell && (unwrap_or cell 0 == pair.1)) ≡ true → cell ≡ Some pair.1
-    at None passes = absurd (false≢true passes)
-    at (Some v) passes = ap Some (eqb-true v pair.1 passes)
-
-cell_gives : (cells : List (Option ℕ)) (pair : ℕ × ℕ) → get_or cells pair.0 None ≡ Some pair.1 → gives cells pair ≡ true
-cell_gives cells pair is = ap (λ (cell : Option ℕ). is_some cell && (unwrap_or cell 0 == pair.1)) is ∙ eq-eqb pair.1 pair.1 refl
-
-contains_more : (n : ℕ) (path : List (Option ℕ)) (pair : ℕ × ℕ) (pairs : List (ℕ × ℕ)) → pair.0 < n → is_assigned (cells_of n pairs) pair.0 ≡ false
-    → contains path (cells_of n (pair ∷ pairs)) ≡ (gives path pair && contains path (cells_of n pairs))
-contains_more n path pair pairs within free =
-    same_answer (contains path (cells_of n (pair ∷ pairs))) (gives path pair && contains path (cells_of n pairs)) to_each
-    (λ passes. let parts = and_parts (gives path pair) (contains path (cells_of n pairs)) passes in from_each parts.0 parts.1)
-  where
-    to_each : contains path (cells_of n (pair ∷ pairs)) ≡ true → (gives path pair && contains path (cells_of n pairs)) ≡ true
-    to_each contained =
-        let own = given_here n pair pairs within in
-        and_from (gives path pair) (contains path (cells_of n pairs))
-        (cell_gives path pair (contains-get_or path (cells_of n (pair ∷ pairs)) pair.0 contained (ap (λ (cell : Option ℕ). is_some cell) own) ∙ own))
-        (contains-trans path (cells_of n (pair ∷ pairs)) (cells_of n pairs) contained (with_value-contains (cells_of n pairs) pair.0 pair.1 free))
-
-    from_each : gives path pair ≡ true → contains path (cells_of n pairs) ≡ true → contains path (cells_of n (pair ∷ pairs)) ≡ true
-    from_each own others =
-        contains-from path (cells_of n (pair ∷ pairs)) (λ q assigned.
-        elim (cases_eq q pair.0) [
-          | inl same ↦
-              subst (λ (k : ℕ). get_or path k None ≡ get_or (cells_of n (pair ∷ pairs)) k None) (sym same)
-              (gives_cell path pair own ∙ sym (given_here n pair pairs within))
-          | inr apart ↦
-              let there = given_other n q pair pairs apart in
-              contains-get_or path (cells_of n pairs) q others (sym (ap (λ (cell : Option ℕ). is_some cell) there) ∙ assigned) ∙ sym there
-        ])
-
-pub contains_pairs : (n : ℕ) (path : List (Option ℕ)) (pairs : List (ℕ × ℕ)) → AreBelow n pairs → IsRising pairs
-    → contains path (cells_of n pairs) ≡ list_all (gives path) pairs
-contains_pairs n path [] below rises = contains-from path (replicate n None) (λ p assigned. absurd (false≢true (sym (none_given n p) ∙ assigned)))
-contains_pairs n path (pair ∷ pairs) below rises =
-    let others = All-tail (λ pair. pair.0 < n) pair pairs below in
-    contains_more n path pair pairs (All-head (λ pair. pair.0 < n) pair pairs below) (assigned_by n pair.0 pairs others ∙ none_again pair pairs rises)
-    ∙ ap (λ (b : Bool). gives path pair && b) (contains_pairs n path pairs others (behind_first pair pairs rises))
-
--- one more pair behind the others
-cells_of-push : (n : ℕ) (pairs : List (ℕ × ℕ)) (pair : ℕ × ℕ) → IsRising (pairs ++ pair ∷ [])
-    → cells_of n (pairs ++ pair ∷ []) ≡ with_value (cells_of n pairs) pair.0 pair.1
-cells_of-push n [] pair rises = refl
-cells_of-push n (first ∷ pairs) pair rises =
-    let above = rises_above first pair (pairs ++ pair ∷ []) rises (last pairs) in
-    ap (λ (cells : List (Option ℕ)). with_value cells first.0 first.1) (cells_of-push n pairs pair (behind_first first (pairs ++ pair ∷ []) rises))
-    ∙ set_comm (cells_of n pairs) pair.0 first.0 (Some pair.1) (Some first.1) (λ same. omega (arith, same, above))
-  where
-    last : (items : List (ℕ × ℕ)) → Has (items ++ pair ∷ []) pair
-    last [] = inl refl
-    last (item ∷ items) = inr (last items)
-
-rises-take : (n : ℕ) (pairs : List (ℕ × ℕ)) → IsRising pairs → IsRising (take n pairs)
-rises-take zero pairs rises = tt
-rises-take (suc n) [] rises = tt
-rises-take (suc zero) (first ∷ pairs) rises = tt
-rises-take (suc (suc n)) (first ∷ []) rises = tt
-rises-take (suc (suc n)) (first ∷ next ∷ pairs) rises = (rises.0, rises-take (suc n) (next ∷ pairs) rises.1)
-
-pub cells_of-more : (n : ℕ) (pairs : List (ℕ × ℕ)) (i : ℕ) (d : ℕ × ℕ) → IsRising pairs → i < length pairs
-    → cells_of n (take (i + 1) pairs) ≡ with_value (cells_of n (take i pairs)) (get_or pairs i d).0 (get_or pairs i d).1
-cells_of-more n pairs i d rises within =
-    let more = take_more pairs i d within in
-    ap (cells_of n) more ∙ cells_of-push n (take i pairs) (get_or pairs i d) (subst IsRising more (rises-take (i + 1) pairs rises))
 
 -- partial rows with one more value that exists fit
 pub FitsModel-with_value : (m : ModelView) (cells : List (Option ℕ)) (p v : ℕ) → FitsModel m cells → p < length m.params

@@ -1,8 +1,7 @@
 -- What a tree is checked against, and when tokens begin with trees. (This project's rule.)
-use Rattle.std.specs.Prelude.{◌≡◌, ℕ, ◌<◌, Bool, false, ◌&&◌, List, ◌++◌, map, length, Option, All, ◌==◌}
+use Rattle.std.specs.Prelude.{◌≡◌, ℕ, ◌<◌, Bool, false, List, ◌++◌, map, length, Option, All, ◌==◌}
 use Rattle.std.specs.List.{list_any}
 use Rattle.cov_model.specs.Sound.{ModelView, param_at}
-use Rattle.cov_model.specs.Rows.{is_assigned, value_in}
 use Rattle.definitions.specs.Pairs.{cells_of}
 use Rattle.definitions.specs.Refutation.{refute_paths}
 use Rattle.refutation.specs.declared.omissions.Omission.{Omission}
@@ -21,10 +20,6 @@ tuples_of m omissions = map (λ omission. cells_of (length m.params) omission.tu
 -- one of the pairs has the parameter
 abbrev pub has_param : List (ℕ × ℕ) → ℕ → Bool
 has_param pairs p = list_any (λ pair. pair.0 == p) pairs
-
--- the partial row gives the parameter this value
-abbrev pub gives : List (Option ℕ) → ℕ × ℕ → Bool
-gives cells pair = is_assigned cells pair.0 && (value_in cells pair.0 == pair.1)
 
 -- a constraint has the number
 abbrev pub has_rule : ModelView → ℕ → Bool

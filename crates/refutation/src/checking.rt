@@ -11,9 +11,8 @@ ghost use Rattle.refutation.specs.Proofs.{format_of, meant};
 
 use crate::checker::TreeChecker;
 use crate::omissions::Omissions;
-use crate::pairs::{clear, set_all};
 use crate::token::TreeToken;
-use crate::tree_check::{TreeCheck, is_negative_in};
+use crate::tree_check::TreeCheck;
 use cov_model::{Cells, ParamNo, TestModel, Tuple, ValueNo};
 
 // The rest behind a token, where that is a leaf.
@@ -34,8 +33,7 @@ impl<'a> TreeCheck<'a> {
     {
         // Only the proof uses them: it hears here that the model is sound.
         let _params = self.model().params();
-        clear(path);
-        set_all(self.tuple().as_slice(), path);
+        path.copy_tuple(self.tuple());
     }
 
     // What stands behind the tree for a path at the front of the tokens; `None` where there is no such
@@ -85,10 +83,10 @@ impl<'a> TreeCheck<'a> {
         if !self.is_branch(p, path) {
             return None;
         }
-        let values = self.values_of(p);
+        let model = self.model();
         let mut rest = tokens;
-        for v in 0..self.count_of(p) {
-            let negative = is_negative_in(values, v);
+        for v in 0..model.value_count(p) {
+            let negative = model.is_negative(p, v);
             rest = self.after_child(p, v, negative, rest, path, outside)?;
         }
         Some(rest)

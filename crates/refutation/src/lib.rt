@@ -18,7 +18,6 @@ mod fault;
 mod holders;
 mod numeral;
 mod omissions;
-mod pairs;
 mod reading;
 mod spelling;
 mod table_size;

@@ -89,8 +89,7 @@ impl<'a> Spelling<'a> {
         requires { p < length self.now.model.params }
         ensures { result ≡ number_where (λ v. nat_lt v (length (param_at self.now.model.params p).values)) text.now }
     {
-        let param = &self.model().params().as_slice()[p as usize];
-        read_below(text, param.values.len())
+        read_below(text, self.model().value_count(p) as usize)
     }
 
     // The constraint whose number a text spells.

@@ -1,10 +1,10 @@
-ghost use Rattle.std.specs.Prelude.{◌≡◌, ◌<◌, ◌≤◌, ◌||◌, All, IfSome, length, not, option_map, slice_index_or, take};
+ghost use Rattle.std.specs.Prelude.{◌≡◌, ◌<◌, ◌≤◌, ◌||◌, All, IfSome, length, not, option_map, take};
 ghost use Rattle.std.specs.List.{list_all};
 ghost use Rattle.cov_model.specs.Fits.{FitsModel};
 ghost use Rattle.cov_model.specs.Kleene.{body_truth};
-ghost use Rattle.cov_model.specs.Meaning.{no_value, value_at};
-ghost use Rattle.cov_model.specs.Rows.{contains, is_assigned};
-ghost use Rattle.cov_model.specs.Sound.{IsSound, ModelView, param_at, rule_at};
+ghost use Rattle.cov_model.specs.Meaning.{value_at};
+ghost use Rattle.cov_model.specs.Rows.{is_assigned};
+ghost use Rattle.cov_model.specs.Sound.{IsSound, ModelView, rule_at};
 ghost use Rattle.cov_model.specs.Valid.{negatives};
 ghost use Rattle.definitions.specs.Pairs.{cells_of};
 ghost use Rattle.definitions.specs.Refutation.{earlier_tuple, is_branch, is_omission_leaf, is_rule_leaf};
@@ -14,8 +14,7 @@ ghost use Rattle.refutation.specs.Proofs.{format_of};
 
 use crate::checker::TreeChecker;
 use crate::omissions::{Omission, Omissions, ProofForm};
-use crate::pairs::{gives_all, has_param};
-use cov_model::{Cells, ParamNo, TestModel, Tuple, Value, ValueNo};
+use cov_model::{Cells, ParamNo, TestModel, Tuple, ValueNo};
 use std::marker::Model;
 
 /// What a tree is checked against: a model, the form of the proof, the omissions that may be cited,
@@ -63,14 +62,6 @@ fn cited(omissions: &[Omission], number: u32) -> Option<&Tuple>
         Some(omission) => Some(&omission.tuple),
         None => None,
     }
-}
-
-// Whether one of some values is negative.
-pub(crate) fn is_negative_in(values: &[Value], v: ValueNo) -> bool
-    requires { v < length values.now }
-    ensures { result ≡ (slice_index_or values.now v no_value).negative }
-{
-    values[v as usize].negative
 }
 
 impl<'a> TreeCheck<'a> {
@@ -124,33 +115,6 @@ impl<'a> TreeCheck<'a> {
         self.earlier
     }
 
-    // How many values a parameter has.
-    pub(crate) fn count_of(&self, p: ParamNo) -> ValueNo
-        requires { p < length self.now.model.params }
-        ensures { result ≡ length (param_at self.now.model.params p).values }
-    {
-        self.model().params().as_slice()[p as usize].values.len() as ValueNo
-    }
-
-    // The values of a parameter.
-    pub(crate) fn values_of(&self, p: ParamNo) -> &'a [Value]
-        requires { p < length self.now.model.params }
-        ensures { result.now ≡ (param_at self.now.model.params p).values }
-    {
-        self.model().params().as_slice()[p as usize]
-            .values
-            .as_slice()
-    }
-
-    // Whether a value of a parameter is negative.
-    fn is_negative(&self, p: ParamNo, v: ValueNo) -> bool
-        requires parameter { p < length self.now.model.params }
-        requires value { v < length (param_at self.now.model.params p).values }
-        ensures { result ≡ (value_at self.now.model p v).negative }
-    {
-        is_negative_in(self.values_of(p), v)
-    }
-
     // Whether the parameter exists and has no value on the path.
     pub(crate) fn is_branch(&self, p: ParamNo, path: &Cells) -> bool
         requires { length path.now ≡ length self.now.model.params }
@@ -177,29 +141,21 @@ impl<'a> TreeCheck<'a> {
         has_rule(self.model(), rule) && self.is_no(rule, path)
     }
 
-    // Whether the path gives each value of a tuple.
-    fn is_contained(&self, other: &Tuple, path: &Cells) -> bool
-        requires of_model { AreOfModel self.now.model other.now }
-        requires long { length path.now ≡ length self.now.model.params }
-        ensures { result ≡ contains path.now (cells_of (length self.now.model.params) other.now) }
-    {
-        gives_all(path, other.as_slice())
-    }
-
     // Whether each parameter with a negative value in the tuple has a value in the other.
     fn has_negatives(&self, other: &Tuple) -> bool
         requires { AreOfModel self.now.model other.now }
         ensures { result ≡ list_all (is_assigned (cells_of (length self.now.model.params) other.now)) (negatives self.now.model (tuple_in self.now)) }
     {
-        self.are_in(self.tuple().as_slice(), other.as_slice())
+        self.are_in(self.tuple().as_slice(), other)
     }
 
-    // Whether each of the pairs is positive or has a parameter of the others.
-    fn are_in(&self, pairs: &[(ParamNo, ValueNo)], others: &[(ParamNo, ValueNo)]) -> bool
+    // Whether each of the pairs is positive or has a parameter of the other tuple.
+    fn are_in(&self, pairs: &[(ParamNo, ValueNo)], other: &Tuple) -> bool
         requires { AreOfModel self.now.model pairs.now }
-        ensures { result ≡ list_all (λ pair. not (value_at self.now.model pair.0 pair.1).negative || has_param others.now pair.0) pairs.now }
+        ensures { result ≡ list_all (λ pair. not (value_at self.now.model pair.0 pair.1).negative || has_param other.now pair.0) pairs.now }
     {
-        pairs.iter().all(|pair| !self.is_negative(pair.0, pair.1) || has_param(others, pair.0))
+        let model = self.model();
+        pairs.iter().all(|pair| !model.is_negative(pair.0, pair.1) || other.has_param(pair.0))
     }
 
     // Whether the path has the earlier tuple of this number, counted from 1, and this tuple each
@@ -212,7 +168,7 @@ impl<'a> TreeCheck<'a> {
             return false;
         }
         match cited(self.earlier(), number) {
-            Some(other) => self.is_contained(other, path) && self.has_negatives(other),
+            Some(other) => path.contains(other) && self.has_negatives(other),
             None => false,
         }
     }

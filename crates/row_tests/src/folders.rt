@@ -2,8 +2,8 @@
 
 use command_line::{FileKind, load_model, read_whole};
 use cov_model::TestModel;
+use memory_io::{Calls, MemFolder};
 use model_lex::NoteList;
-use outside_io::{Calls, MemFolder};
 use std::alloc::Global;
 use test_models::options;
 use value_text::NoMemory;

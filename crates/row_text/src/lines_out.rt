@@ -1,5 +1,7 @@
 ghost use Rattle.std.specs.Prelude.{◌≡◌, List, ℕ};
-ghost use Rattle.row_text.specs.Buffering.{SinkState, state_of, PutsText, Holds, Adds, empty_buffer};
+ghost use Rattle.outside_io.specs.Seen.{SinkSeen};
+ghost use Rattle.outside_io.specs.Puts.{Puts};
+ghost use Rattle.row_text.specs.Buffering.{Holds, Adds, empty_buffer};
 
 use crate::out_buffer::is_fault;
 use outside_io::{Sink, WriteAnswer};
@@ -30,8 +32,7 @@ impl LinesOut {
 
     /// Writes bytes.
     pub fn add<O: Sink>(&mut self, bytes: &[u8], out: &mut O)
-        ensures { Adds self.old (state_of O.written O.room O.faults out.old)
-            self.new (state_of O.written O.room O.faults out.new) bytes.now }
+        ensures { Adds self.old (O.seen out.old) self.new (O.seen out.new) bytes.now }
     {
         if self.faulty {
             return;
@@ -41,7 +42,7 @@ impl LinesOut {
 
     /// Whether all of the text was put.
     pub fn answer(&self) -> WriteAnswer
-        ensures { (start now : SinkState) (text : List ℕ) → Holds start self.now now text → PutsText result start now text }
+        ensures { (start now : SinkSeen) (text : List ℕ) → Holds start self.now now text → Puts result start now text }
     {
         if self.faulty {
             WriteAnswer::Failed

@@ -1,7 +1,7 @@
 ghost use Rattle.std.specs.Prelude.{◌≡◌};
-ghost use Rattle.outside_io.specs.Puts.{Puts, Leaves, Balances, CountsFaults};
+ghost use Rattle.outside_io.specs.Puts.{Puts};
 ghost use Rattle.definitions.specs.Statistics.{number_line, numbers_line, statistics_text, figures_text};
-ghost use Rattle.row_text.specs.Buffering.{state_of, Adds};
+ghost use Rattle.row_text.specs.Buffering.{Adds};
 ghost use Rattle.row_text.specs.Told.{statistics_seen, figures_seen};
 
 use crate::figures::{Figures, Stats};
@@ -11,8 +11,7 @@ use outside_io::{Sink, WriteAnswer};
 
 /// Writes a line with a label and a number. Takes no memory.
 pub fn put_number<O: Sink>(label: &str, number: u64, lines: &mut LinesOut, out: &mut O)
-    ensures { Adds lines.old (state_of O.written O.room O.faults out.old)
-        lines.new (state_of O.written O.room O.faults out.new) (number_line label.now number) }
+    ensures { Adds lines.old (O.seen out.old) lines.new (O.seen out.new) (number_line label.now number) }
 {
     let mut digits = Buffer::new();
     lines.add(label.as_bytes(), out);
@@ -22,8 +21,7 @@ pub fn put_number<O: Sink>(label: &str, number: u64, lines: &mut LinesOut, out: 
 
 /// Writes a line with a label and two numbers.
 fn put_numbers<O: Sink>(label: &str, number: u64, total: u64, lines: &mut LinesOut, out: &mut O)
-    ensures { Adds lines.old (state_of O.written O.room O.faults out.old)
-        lines.new (state_of O.written O.room O.faults out.new) (numbers_line label.now number total) }
+    ensures { Adds lines.old (O.seen out.old) lines.new (O.seen out.new) (numbers_line label.now number total) }
 {
     let mut digits = Buffer::new();
     let mut total_digits = Buffer::new();
@@ -39,10 +37,7 @@ fn put_numbers<O: Sink>(label: &str, number: u64, total: u64, lines: &mut LinesO
 /// `Done` where all lines were put, `Failed` where the sink reported a fault: then a prefix of them was.
 /// Takes no memory.
 pub fn put_stats<O: Sink>(stats: &Stats, out: &mut O) -> WriteAnswer
-    ensures puts { Puts result (O.written out.old) (O.written out.new) (statistics_text (statistics_seen stats.now)) }
-    ensures leaves { Leaves result (O.room out.old) (O.room out.new) (statistics_text (statistics_seen stats.now)) }
-    ensures balances { Balances (O.written out.old) (O.written out.new) (O.room out.old) (O.room out.new) }
-    ensures counts { CountsFaults result (O.faults out.old) (O.faults out.new) }
+    ensures { Puts result (O.seen out.old) (O.seen out.new) (statistics_text (statistics_seen stats.now)) }
 {
     let mut lines = LinesOut::new();
     put_number("Demanded sets: ", stats.sets, &mut lines, out);
@@ -58,10 +53,7 @@ pub fn put_stats<O: Sink>(stats: &Stats, out: &mut O) -> WriteAnswer
 /// `Done` where all lines were put, `Failed` where the sink reported a fault: then a prefix of them was.
 /// Takes no memory.
 pub fn put_figures<O: Sink>(figures: &Figures, out: &mut O) -> WriteAnswer
-    ensures puts { Puts result (O.written out.old) (O.written out.new) (figures_text (figures_seen figures.now)) }
-    ensures leaves { Leaves result (O.room out.old) (O.room out.new) (figures_text (figures_seen figures.now)) }
-    ensures balances { Balances (O.written out.old) (O.written out.new) (O.room out.old) (O.room out.new) }
-    ensures counts { CountsFaults result (O.faults out.old) (O.faults out.new) }
+    ensures { Puts result (O.seen out.old) (O.seen out.new) (figures_text (figures_seen figures.now)) }
 {
     let sets = figures.sets;
     let mut lines = LinesOut::new();

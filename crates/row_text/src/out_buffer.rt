@@ -1,6 +1,8 @@
 ghost use Rattle.std.specs.Prelude.{◌≡◌, ◌+◌, ◌++◌, ◌≤◌, ℕ, List, [], Bool, true, false, length, codes, IfOk};
 ghost use Rattle.outside_io.specs.Faults.{is_failed_write};
-ghost use Rattle.row_text.specs.Buffering.{SinkState, state_of, PutsText, Holds, Adds, empty_buffer};
+ghost use Rattle.outside_io.specs.Seen.{SinkSeen};
+ghost use Rattle.outside_io.specs.Puts.{Puts};
+ghost use Rattle.row_text.specs.Buffering.{Holds, Adds, empty_buffer};
 
 use outside_io::{Sink, WriteAnswer};
 use std::alloc::Global;
@@ -76,8 +78,7 @@ impl OutBuffer {
     fn flush<O: Sink>(&mut self, out: &mut O)
         requires { self.old.failed ≡ false }
         ensures empty { self.new.held ≡ [] }
-        ensures adds { Adds self.old (state_of O.written O.room O.faults out.old)
-            self.new (state_of O.written O.room O.faults out.new) [] }
+        ensures adds { Adds self.old (O.seen out.old) self.new (O.seen out.new) [] }
     {
         self.faulty = is_fault(out.put(self.bytes.as_slice()));
         self.bytes.clear();
@@ -86,8 +87,7 @@ impl OutBuffer {
     /// Writes bytes, where nothing is held.
     fn add_behind_nothing<O: Sink>(&mut self, bytes: &[u8], out: &mut O)
         requires { self.old.held ≡ [] }
-        ensures { Adds self.old (state_of O.written O.room O.faults out.old)
-            self.new (state_of O.written O.room O.faults out.new) bytes.now }
+        ensures { Adds self.old (O.seen out.old) self.new (O.seen out.new) bytes.now }
     {
         if self.faulty {
             return;
@@ -100,8 +100,7 @@ impl OutBuffer {
 
     /// Writes bytes.
     pub(crate) fn add<O: Sink>(&mut self, bytes: &[u8], out: &mut O)
-        ensures { Adds self.old (state_of O.written O.room O.faults out.old)
-            self.new (state_of O.written O.room O.faults out.new) bytes.now }
+        ensures { Adds self.old (O.seen out.old) self.new (O.seen out.new) bytes.now }
     {
         if self.faulty {
             return;
@@ -115,8 +114,8 @@ impl OutBuffer {
 
     /// Puts what is held, and tells whether all of the text was put.
     pub(crate) fn finish<O: Sink>(&mut self, out: &mut O) -> WriteAnswer
-        ensures { (start : SinkState) (text : List ℕ) → Holds start self.old (state_of O.written O.room O.faults out.old) text
-            → PutsText result start (state_of O.written O.room O.faults out.new) text }
+        ensures { (start : SinkSeen) (text : List ℕ) → Holds start self.old (O.seen out.old) text
+            → Puts result start (O.seen out.new) text }
     {
         if self.faulty {
             return WriteAnswer::Failed;

@@ -1,12 +1,12 @@
 ghost use Rattle.std.specs.Prelude.{◌≡◌, ◌≢◌, ◌++◌, ◌+◌, ◌<◌, ◌≤◌, ℕ, List, [], ◌∷◌, Option, true, length, take, map, All, slice_index_or, if◌then◌else◌};
 ghost use Rattle.std.specs.List.{join_with_byte};
-ghost use Rattle.outside_io.specs.Puts.{Puts, Leaves, Balances, CountsFaults};
+ghost use Rattle.outside_io.specs.Puts.{Puts};
 ghost use Rattle.cov_model.specs.Meaning.{value_at};
 ghost use Rattle.cov_model.specs.Rows.{value_in};
 ghost use Rattle.cov_model.specs.Sound.{IsSoundValue, param_at};
 ghost use Rattle.cov_model.specs.Valid.{is_row};
 ghost use Rattle.definitions.specs.Report.{cell_text, header_line, row_line, row_lines, report_text};
-ghost use Rattle.row_text.specs.Buffering.{state_of, Adds, separator};
+ghost use Rattle.row_text.specs.Buffering.{Adds, separator};
 ghost use Rattle.row_text.specs.Turns.{AreMadeFor, IsFor, AreTurns, turns_at};
 
 use crate::out_buffer::OutBuffer;
@@ -16,8 +16,7 @@ use outside_io::{Sink, WriteAnswer};
 
 /// Writes what stands before a cell in its line.
 fn put_separator<O: Sink>(place: usize, buffer: &mut OutBuffer, out: &mut O)
-    ensures { Adds buffer.old (state_of O.written O.room O.faults out.old)
-        buffer.new (state_of O.written O.room O.faults out.new) (separator place) }
+    ensures { Adds buffer.old (O.seen out.old) buffer.new (O.seen out.new) (separator place) }
 {
     if place > 0 {
         buffer.add(b"\t", out);
@@ -26,8 +25,7 @@ fn put_separator<O: Sink>(place: usize, buffer: &mut OutBuffer, out: &mut O)
 
 /// Writes the line of the names of the parameters.
 fn put_header<O: Sink>(model: &TestModel, buffer: &mut OutBuffer, out: &mut O)
-    ensures { Adds buffer.old (state_of O.written O.room O.faults out.old)
-        buffer.new (state_of O.written O.room O.faults out.new) (header_line model.now) }
+    ensures { Adds buffer.old (O.seen out.old) buffer.new (O.seen out.new) (header_line model.now) }
 {
     for (place, param) in model.params().as_slice().iter().enumerate() {
         put_separator(place, buffer, out);
@@ -62,8 +60,7 @@ fn value_of(model: &TestModel, place: usize, value: usize) -> &Value
 
 /// Writes the mark before the names of negative values, if this is one.
 fn put_mark<O: Sink>(mark: u8, negative: bool, buffer: &mut OutBuffer, out: &mut O)
-    ensures { Adds buffer.old (state_of O.written O.room O.faults out.old)
-        buffer.new (state_of O.written O.room O.faults out.new) (if negative then mark ∷ [] else []) }
+    ensures { Adds buffer.old (O.seen out.old) buffer.new (O.seen out.new) (if negative then mark ∷ [] else []) }
 {
     if negative {
         buffer.add(&[mark], out);
@@ -84,8 +81,7 @@ fn put_cell<O: Sink>(
     requires place { place < length model.now.params }
     requires shape { IsFor model.now turns.old.next }
     requires next { AreTurns model.now (take at rows.now) place (turns_at turns.old.next place) }
-    ensures text { Adds turns.old.buffer (state_of O.written O.room O.faults out.old)
-        turns.new.buffer (state_of O.written O.room O.faults out.new)
+    ensures text { Adds turns.old.buffer (O.seen out.old) turns.new.buffer (O.seen out.new)
         (cell_text model.now (take at rows.now) (slice_index_or rows.now at []) place) }
     ensures next { AreTurns model.now (take (at + 1) rows.now) place (turns_at turns.new.next place) }
     ensures others { (q : ℕ) → q ≢ place → turns_at turns.new.next q ≡ turns_at turns.old.next q }
@@ -105,8 +101,7 @@ fn put_row<O: Sink>(model: &TestModel, rows: &Rows, at: usize, turns: &mut Turns
     requires at { at < length rows.now }
     requires shape { IsFor model.now turns.old.next }
     requires next { (p : ℕ) → p < length model.now.params → AreTurns model.now (take at rows.now) p (turns_at turns.old.next p) }
-    ensures text { Adds turns.old.buffer (state_of O.written O.room O.faults out.old)
-        turns.new.buffer (state_of O.written O.room O.faults out.new)
+    ensures text { Adds turns.old.buffer (O.seen out.old) turns.new.buffer (O.seen out.new)
         (row_line model.now (take at rows.now) (slice_index_or rows.now at [])) }
     ensures next { (p : ℕ) → p < length model.now.params → AreTurns model.now (take (at + 1) rows.now) p (turns_at turns.new.next p) }
     ensures shape { IsFor model.now turns.new.next }
@@ -123,8 +118,7 @@ fn put_rows<O: Sink>(model: &TestModel, rows: &Rows, turns: &mut Turns, out: &mu
     requires rows { All (λ row. is_row model.now row ≡ true) rows.now }
     requires shape { IsFor model.now turns.old.next }
     requires next { (p : ℕ) → p < length model.now.params → AreTurns model.now [] p (turns_at turns.old.next p) }
-    ensures text { Adds turns.old.buffer (state_of O.written O.room O.faults out.old)
-        turns.new.buffer (state_of O.written O.room O.faults out.new) (row_lines model.now [] rows.now) }
+    ensures text { Adds turns.old.buffer (O.seen out.old) turns.new.buffer (O.seen out.new) (row_lines model.now [] rows.now) }
     ensures shape { IsFor model.now turns.new.next }
 {
     for at in 0..rows.len() {
@@ -145,10 +139,7 @@ pub fn put_report<O: Sink>(
 ) -> WriteAnswer
     requires rows { All (λ row. is_row model.now row ≡ true) rows.now }
     requires turns { AreMadeFor model.now turns.old }
-    ensures puts { Puts result (O.written out.old) (O.written out.new) (report_text model.now rows.now) }
-    ensures leaves { Leaves result (O.room out.old) (O.room out.new) (report_text model.now rows.now) }
-    ensures balances { Balances (O.written out.old) (O.written out.new) (O.room out.old) (O.room out.new) }
-    ensures counts { CountsFaults result (O.faults out.old) (O.faults out.new) }
+    ensures puts { Puts result (O.seen out.old) (O.seen out.new) (report_text model.now rows.now) }
     ensures turns { AreMadeFor model.now turns.new }
 {
     turns.clear();

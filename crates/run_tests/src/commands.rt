@@ -1,8 +1,8 @@
 //! Runs that end otherwise than with a report, and what standard error gets.
 
 use crate::growth::{NONE_LIVE, NONE_LIVE_REPORT, TWIN};
-use outside_io::{MemFolder, MemSink};
-use pict_cli::run_pict_in_memory;
+use memory_io::{MemFolder, MemSink};
+use runs_in_memory::run_pict_in_memory;
 use std::alloc::Global;
 use std::thread::Threads;
 use test_models::OVERLAPPING;

@@ -7,9 +7,9 @@ ghost use Rattle.scoring.specs.Gains.{AreGains};
 ghost use Rattle.uncovered_table.specs.Open.{gain};
 
 use cov_model::{Cells, ParamNo, ValueNo};
-use outside_io::Gate;
 use std::thread::{Threads, join_mut};
 use uncovered_table::Uncovered;
+use worker_gate::Gate;
 
 /// Puts the gain of each value of a column in these cells, by workers numbered from 1. Each worker comes
 /// to the gate before its share of the values; with more workers than values some shares are empty.

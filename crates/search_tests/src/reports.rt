@@ -5,7 +5,8 @@ ghost use Rattle.cov_model.specs.Valid.{is_row};
 ghost use Rattle.row_text.specs.Turns.{AreMadeFor};
 
 use cov_model::{Rows, TestModel, ValueNo};
-use outside_io::{MemSink, WriteAnswer};
+use memory_io::MemSink;
+use outside_io::WriteAnswer;
 use row_text::{Figures, Stats, Turns, put_figures, put_report, put_stats};
 use std::alloc::Global;
 use test_models::{model_of, row_of};

@@ -25,7 +25,7 @@ pub use arrows::Arrows;
 pub use event_set::EventSet;
 pub use events::{Events, PairList};
 pub use fault::{EventCode, EventLimit, EventsFault};
-pub use lists::{NoListList, distinct_lists, with_event};
+pub use lists::{NoList, NoListList, distinct_lists, with_event};
 pub use open::OpenSequences;
 pub use places::places_of;
 pub use reading::read_events;

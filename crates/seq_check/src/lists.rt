@@ -3,9 +3,11 @@ ghost use Rattle.std.specs.Prelude.{◌≡◌, ◌≤◌, ◌++◌, ◌∷◌, [
 ghost use Rattle.std.specs.List.{flat_map};
 ghost use Rattle.seq_check.specs.Orders.{distinct_lists, lengthened};
 
-use cov_model::NoList;
 use std::alloc::Global;
 use value_text::{NoMemory, OwnedList};
+
+/// A list of events, by their numbers.
+pub type NoList = OwnedList<u16>;
 
 /// A list of lists of events.
 pub type NoListList = OwnedList<NoList>;

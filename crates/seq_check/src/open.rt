@@ -5,8 +5,7 @@ ghost use Rattle.seq_check.specs.EventSets.{AreSets, IsFront, OpenView, Tells, f
 ghost use Rattle.seq_check.specs.Orders.{distinct_lists, is_among, lengthened};
 
 use crate::event_set::EventSet;
-use crate::lists::{distinct_lists, with_event};
-use cov_model::NoList;
+use crate::lists::{NoList, distinct_lists, with_event};
 use std::alloc::Global;
 use std::marker::Model;
 use value_text::NoMemory;

@@ -11,8 +11,8 @@ ghost use Rattle.seq_check.specs.Orders.{arrows, is_arrow, is_cycle, is_sequence
 use crate::arrows::Arrows;
 use crate::cut::parts;
 use crate::events::Events;
+use crate::lists::NoList;
 use crate::places::{are_lower, places_of};
-use cov_model::NoList;
 use std::alloc::Global;
 use value_text::{NoMemory, OwnedList, Text, TextList};
 

@@ -3,9 +3,9 @@ ghost use Rattle.seq_check.specs.Verdicts.{verdict};
 
 use crate::arrows::Arrows;
 use crate::events::Events;
+use crate::lists::NoList;
 use crate::open::OpenSequences;
 use crate::report_line::{ReportLine, read_line};
-use cov_model::NoList;
 use model_lex::cut_at_line_feed;
 use std::alloc::Global;
 use value_text::NoMemory;

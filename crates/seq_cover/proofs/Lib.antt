@@ -18,5 +18,4 @@ pub mod Stopping
 pub mod CommandLemmas
 pub mod RunEnds
 pub mod Causes
-pub mod InMemory
 mod Examples

@@ -1,9 +1,9 @@
 -- What is known of a run from how it ended.
 use Rattle.std.proofs.Common.{◌≡◌, ◌≢◌, ℕ, ◌<◌, ◌≤◌, List, length, Option, Some, None, Result, Ok, Err, inl, inr, refl, sym, ap, subst, ◌∙◌, arith}
 use Rattle.std.specs.Prelude.{IfSome, IsSomeAnd}
-use Rattle.outside_io.specs.Faults.{KeepsCounts}
 use Rattle.outside_io.specs.Files.{Files}
-use Rattle.outside_io.specs.Puts.{Puts}
+use Rattle.outside_io.specs.Seen.{FolderSeen, SinkSeen, KeepsReadFaults}
+use Rattle.outside_io.specs.Puts.{Puts, PutsBytes}
 use Rattle.outside_io.specs.declared.answers.WriteAnswer.TheVariants.{Done}
 use Rattle.seq_check.specs.Events.{AreEvents, EventsView}
 use Rattle.seq_check.specs.EventFile.{events_of}
@@ -62,23 +62,23 @@ seven_is_end (Err (TooMany limit count)) h = absurd (omega (arith, h))
 seven_is_end (Err (TooLong input)) h = absurd (omega (arith, h))
 
 -- the count of faults of the output stays with every end but that of a write
-out_stays : (end : Result Ended Stop) (faults faults_after : ℕ) → end_status end ≢ 8 → CountsOut end faults faults_after → faults_after ≡ faults
-out_stays (Ok ended) faults faults_after apart counts = counts
-out_stays (Err OutOfMemory) faults faults_after apart counts = counts
-out_stays (Err (stops.BadLine line code)) faults faults_after apart counts = counts
-out_stays (Err (CannotRead input)) faults faults_after apart counts = counts
-out_stays (Err CannotWrite) faults faults_after apart counts = absurd (apart refl)
-out_stays (Err (TooMany limit count)) faults faults_after apart counts = counts
-out_stays (Err (TooLong input)) faults faults_after apart counts = counts
+out_stays : (end : Result Ended Stop) (before after : SinkSeen) → end_status end ≢ 8 → CountsOut end before after → after.faults ≡ before.faults
+out_stays (Ok ended) before after apart counts = counts
+out_stays (Err OutOfMemory) before after apart counts = counts
+out_stays (Err (stops.BadLine line code)) before after apart counts = counts
+out_stays (Err (CannotRead input)) before after apart counts = counts
+out_stays (Err CannotWrite) before after apart counts = absurd (apart refl)
+out_stays (Err (TooMany limit count)) before after apart counts = counts
+out_stays (Err (TooLong input)) before after apart counts = counts
 
 -- ---- a run ended for what is asked
 
 pub ran_asked :
-    {asked : Result Asked ℕ} {one other : Asked} {files : Files} {reads reads_after : List ℕ → ℕ} {before after : Option (List ℕ)} {faults faults_after : ℕ}
-    {end : Result Ended Stop} → asked ≡ Ok one → asked ≡ Ok other → Ran one files reads reads_after before after faults faults_after end
-    → Ran other files reads reads_after before after faults faults_after end
-ran_asked {asked} {one} {other} {files} {reads} {reads_after} {before} {after} {faults} {faults_after} {end} e f ran =
-    subst (λ a. Ran a files reads reads_after before after faults faults_after end) (one_ok e f) ran
+    {asked : Result Asked ℕ} {one other : Asked} {folder folder_after : FolderSeen} {before after : SinkSeen}
+    {end : Result Ended Stop} → asked ≡ Ok one → asked ≡ Ok other → Ran one folder folder_after before after end
+    → Ran other folder folder_after before after end
+ran_asked {asked} {one} {other} {folder} {folder_after} {before} {after} {end} e f ran =
+    subst (λ a. Ran a folder folder_after before after end) (one_ok e f) ran
 
 -- ---- bytes that were read, where the folder tells
 
@@ -107,7 +107,7 @@ spelled_events asked files held e at read =
 
 -- ---- a run that wrote its text whole
 
-record Answered (asked : Asked) (files : Files) (before after : Option (List ℕ)) (ended : Ended) : Type 0 where
+record Answered (asked : Asked) (files : Files) (before after : SinkSeen) (ended : Ended) : Type 0 where
   e : EventsView
   report : Option (List ℕ)
   read : AreRead asked files e
@@ -115,7 +115,7 @@ record Answered (asked : Asked) (files : Files) (before after : Option (List ℕ
   ended_is : ended ≡ (answer_of e report).ended
   puts : Puts Done before after (answer_of e report).text
 
-answered : (asked : Asked) (files : Files) (before after : Option (List ℕ)) (ended : Ended) → Ends asked files before after (Ok ended) → Answered asked files before after ended
+answered : (asked : Asked) (files : Files) (before after : SinkSeen) (ended : Ended) → Ends asked files before after (Ok ended) → Answered asked files before after ended
 answered asked files before after ended (at_file stops same) = absurd stops
 answered asked files before after ended (behind e read stops same) = absurd stops
 answered asked files before after ended (answers e report read report_read writes) =
@@ -134,7 +134,7 @@ refused_by (Uncovered sequence) is = λ none. none
 
 -- what is printed covers
 prints_covering : (e : EventsView) (before : List ℕ) (after : Option (List ℕ)) → AreEvents e
-    → Puts Done (Some before) after (report_text e (grown e)) → IsSomeAnd after (PrintsCovering e before)
+    → PutsBytes Done (Some before) after (report_text e (grown e)) → IsSomeAnd after (PrintsCovering e before)
 prints_covering e before after kept puts =
     subst (λ a. IsSomeAnd a (PrintsCovering e before)) (sym puts) (record {
       added = report_text e (grown e);
@@ -143,67 +143,67 @@ prints_covering e before after kept puts =
       accepted = subst IsAccepted (sym (grown_accepted e kept)) tt;
     })
 
-module _ {asked : Asked} {files : Files} {reads reads_after : List ℕ → ℕ} {before after : Option (List ℕ)} {faults faults_after : ℕ} {end : Result Ended Stop}
-    (ran : Ran asked files reads reads_after before after faults faults_after end) (status : ℕ) (is : status ≡ end_status end) where
-  whole_end : (ended : Ended) → end ≡ Ok ended → Answered asked files before after ended
-  whole_end ended same = answered asked files before after ended (subst (Ends asked files before after) same ran.ends)
+module _ {asked : Asked} {folder folder_after : FolderSeen} {before after : SinkSeen} {end : Result Ended Stop}
+    (ran : Ran asked folder folder_after before after end) (status : ℕ) (is : status ≡ end_status end) where
+  whole_end : (ended : Ended) → end ≡ Ok ended → Answered asked folder.files before after ended
+  whole_end ended same = answered asked folder.files before after ended (subst (Ends asked folder.files before after) same ran.ends)
 
   -- the headline
-  pub covers_end : (held : Option (List ℕ)) (old : List ℕ) → status ≡ 0 → asked.report ≡ None → files asked.file ≡ Some held → before ≡ Some old
-      → (e : EventsView) × Spells asked.len held e × IsSomeAnd after (PrintsCovering e old)
+  pub covers_end : (held : Option (List ℕ)) (old : List ℕ) → status ≡ 0 → asked.report ≡ None → folder.files asked.file ≡ Some held → before.written ≡ Some old
+      → (e : EventsView) × Spells asked.len held e × IsSomeAnd after.written (PrintsCovering e old)
   covers_end held old zero none at told =
       let it = whole_end Whole (zero_is_end end (sym is ∙ zero)) in
-      let no_report_is : it.report ≡ None = subst (λ name. IsReportRead files name it.report) none it.report_read in
-      let puts = subst (λ b. Puts Done b after (report_text it.e (grown it.e))) told (subst (λ r. Puts Done before after (answer_of it.e r).text) no_report_is it.puts) in
-      (it.e, spelled_events asked files held it.e at it.read, prints_covering it.e old after it.read.kept puts)
+      let no_report_is : it.report ≡ None = subst (λ name. IsReportRead folder.files name it.report) none it.report_read in
+      let puts = subst (λ b. PutsBytes Done b after.written (report_text it.e (grown it.e))) told (subst (λ r. PutsBytes Done before.written after.written (answer_of it.e r).text) no_report_is it.puts.puts) in
+      (it.e, spelled_events asked folder.files held it.e at it.read, prints_covering it.e old after.written it.read.kept puts)
 
   -- a report that is checked
-  has_verdict : (ended : Ended) (P : OrderVerdict → Type 0) → ((v : OrderVerdict) → ended ≡ ended_by v → P v) → (it : Answered asked files before after ended)
-      → (name : List ℕ) (held report found : Option (List ℕ)) → files asked.file ≡ Some held → files name ≡ Some report
-      → ended ≡ (answer_of it.e found).ended → IsReportRead files (Some name) found → HasVerdict asked.len held report P
+  has_verdict : (ended : Ended) (P : OrderVerdict → Type 0) → ((v : OrderVerdict) → ended ≡ ended_by v → P v) → (it : Answered asked folder.files before after ended)
+      → (name : List ℕ) (held report found : Option (List ℕ)) → folder.files asked.file ≡ Some held → folder.files name ≡ Some report
+      → ended ≡ (answer_of it.e found).ended → IsReportRead folder.files (Some name) found → HasVerdict asked.len held report P
   has_verdict ended P says it name held report None at at_report ended_is none = absurd none
   has_verdict ended P says it name held report (Some bytes) at at_report ended_is read = (
     it.e,
-    spelled_events asked files held it.e at it.read,
+    spelled_events asked folder.files held it.e at it.read,
     subst (λ r. IsSomeAnd r (λ b. (length b ≤ most_of ReportFile) × P (verdict it.e b)))
-        (sym (held_is files name ReportFile report bytes at_report read)) (read.within, says (verdict it.e bytes) ended_is),
+        (sym (held_is folder.files name ReportFile report bytes at_report read)) (read.within, says (verdict it.e bytes) ended_is),
   )
 
-  pub accepts_end : (name : List ℕ) (held report : Option (List ℕ)) → status ≡ 0 → asked.report ≡ Some name → files asked.file ≡ Some held → files name ≡ Some report
+  pub accepts_end : (name : List ℕ) (held report : Option (List ℕ)) → status ≡ 0 → asked.report ≡ Some name → folder.files asked.file ≡ Some held → folder.files name ≡ Some report
       → HasVerdict asked.len held report IsAccepted
   accepts_end name held report zero checked at at_report =
       let it = whole_end Whole (zero_is_end end (sym is ∙ zero)) in
-      has_verdict Whole IsAccepted accepted_by it name held report it.report at at_report it.ended_is (subst (λ n. IsReportRead files n it.report) checked it.report_read)
+      has_verdict Whole IsAccepted accepted_by it name held report it.report at at_report it.ended_is (subst (λ n. IsReportRead folder.files n it.report) checked it.report_read)
 
   abbrev Refuses : Option (List ℕ) → List ℕ → Type 0
-  Refuses held name = (report : Option (List ℕ)) → files name ≡ Some report → HasVerdict asked.len held report (λ v. ¬ (IsAccepted v))
+  Refuses held name = (report : Option (List ℕ)) → folder.files name ≡ Some report → HasVerdict asked.len held report (λ v. ¬ (IsAccepted v))
 
-  pub refuses_end : (held : Option (List ℕ)) → status ≡ 10 → files asked.file ≡ Some held → IsSomeAnd asked.report (Refuses held)
+  pub refuses_end : (held : Option (List ℕ)) → status ≡ 10 → folder.files asked.file ≡ Some held → IsSomeAnd asked.report (Refuses held)
   refuses_end held ten at =
       let it = whole_end Refused (ten_is_end end (sym is ∙ ten)) in
       checked asked.report it.report it it.ended_is it.report_read
     where
       checked :
-          (name found : Option (List ℕ)) (it : Answered asked files before after Refused) → Refused ≡ (answer_of it.e found).ended → IsReportRead files name found
+          (name found : Option (List ℕ)) (it : Answered asked folder.files before after Refused) → Refused ≡ (answer_of it.e found).ended → IsReportRead folder.files name found
           → IsSomeAnd name (Refuses held)
       checked None None it ended_is none = absurd (cc)
       checked None (Some bytes) it ended_is none = absurd (cc)
       checked (Some name) found it ended_is read = λ report at_report. has_verdict Refused (λ v. ¬ (IsAccepted v)) refused_by it name held report found at at_report ended_is read
 
   -- a count of faults of reading rose
-  pub read_end : status ≡ 7 → ReadFault asked reads reads_after
+  pub read_end : status ≡ 7 → ReadFault asked folder folder_after
   read_end seven = of it.0 (ran.rose it.0 it.1)
     where
       it : (input : Input) × (end ≡ Err (CannotRead input))
       it = seven_is_end end (sym is ∙ seven)
 
-      of : (input : Input) → RoseOf asked input reads reads_after → ReadFault asked reads reads_after
+      of : (input : Input) → RoseOf asked input folder folder_after → ReadFault asked folder folder_after
       of EventFile rose = inl rose
       of ReportFile rose = inr rose
 
   -- or none did
-  pub calm_end : status ≢ 7 → KeepsCounts reads reads_after
+  pub calm_end : status ≢ 7 → KeepsReadFaults folder folder_after
   calm_end apart = ran.calm (λ input failed. apart (is ∙ ap end_status failed))
 
-  pub unbroken_end : status ≢ 8 → faults_after ≡ faults
-  unbroken_end apart = out_stays end faults faults_after (λ eight. apart (is ∙ eight)) ran.counts
+  pub unbroken_end : status ≢ 8 → after.faults ≡ before.faults
+  unbroken_end apart = out_stays end before after (λ eight. apart (is ∙ eight)) ran.counts

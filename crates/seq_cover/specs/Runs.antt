@@ -2,8 +2,8 @@
 -- and their statuses are this project's rules.)
 use Rattle.std.specs.Prelude.{◌≡◌, ℕ, ◌<◌, ◌≤◌, ◌⊎◌, List, ◌++◌, length, Option, Some, None, Result, Ok, Err, IfSome, IsSomeAnd, IsErrAnd}
 use Rattle.outside_io.specs.declared.answers.WriteAnswer.TheVariants.{Done, Failed}
-use Rattle.outside_io.specs.Faults.{Rose}
 use Rattle.outside_io.specs.Files.{Files}
+use Rattle.outside_io.specs.Seen.{FolderSeen, SinkSeen, ReadFaultsRose}
 use Rattle.outside_io.specs.Puts.{Puts}
 use Rattle.seq_check.specs.Events.{AreEvents, EventsView}
 use Rattle.seq_check.specs.EventFile.{events_of}
@@ -77,14 +77,13 @@ abbrev pub IsReportRead : Files → Option (List ℕ) → Option (List ℕ) → 
 IsReportRead files None report = report ≡ None
 IsReportRead files (Some name) report = IsSomeAnd report (IsRead files name ReportFile)
 
--- what the output, which told the first before, tells after a run that has this answer: all of its text, or after a
--- fault a prefix of it
-abbrev pub Writes : Answer → Option (List ℕ) → Option (List ℕ) → Result Ended Stop → Type 0
+-- what the output got of a run that has this answer: all of its text, or up to a fault
+abbrev pub Writes : Answer → SinkSeen → SinkSeen → Result Ended Stop → Type 0
 Writes answer before after (Ok ended) = (ended ≡ answer.ended) × Puts Done before after answer.text
 Writes answer before after (Err stop) = (stop ≡ CannotWrite) × Puts Failed before after answer.text
 
--- how a run may end, and what the output tells then: at the file of events, behind it, and with its answer
-pub data Ends (asked : Asked) (files : Files) (before after : Option (List ℕ)) (end : Result Ended Stop) : Type 0 where
+-- how a run may end, and what the output got: at the file of events, behind it, and with its answer
+pub data Ends (asked : Asked) (files : Files) (before after : SinkSeen) (end : Result Ended Stop) : Type 0 where
   at_file : IsErrAnd end (StopsAtFile asked files) → after ≡ before → Ends asked files before after end
   behind : (e : EventsView) → AreRead asked files e → IsErrAnd end (StopsBehind asked files) → after ≡ before → Ends asked files before after end
   answers :
@@ -92,18 +91,17 @@ pub data Ends (asked : Asked) (files : Files) (before after : Option (List ℕ))
       → Writes (answer_of e report) before after end → Ends asked files before after end
 
 -- the count of faults of reading a file rose
-abbrev pub RoseOf : Asked → Input → (List ℕ → ℕ) → (List ℕ → ℕ) → Type 0
-RoseOf asked EventFile reads reads_after = Rose (reads asked.file) (reads_after asked.file)
-RoseOf asked ReportFile reads reads_after = IsSomeAnd asked.report (λ name. Rose (reads name) (reads_after name))
+abbrev pub RoseOf : Asked → Input → FolderSeen → FolderSeen → Type 0
+RoseOf asked EventFile before after = ReadFaultsRose asked.file before after
+RoseOf asked ReportFile before after = IsSomeAnd asked.report (λ name. ReadFaultsRose name before after)
 
 -- a run on what words ask for: what it printed, which count of faults of reading rose where it blames a file, what it
 -- told, and its status
-pub record IsRun (asked : Asked) (files : Files) (reads reads_after : List ℕ → ℕ) (before after told_before told_after : Option (List ℕ))
-    (faults faults_after status : ℕ) : Type 0 where
+pub record IsRun (asked : Asked) (folder folder_after : FolderSeen) (out out_after told_before told_after : SinkSeen) (status : ℕ) : Type 0 where
   pub end : Result Ended Stop
-  pub ends : Ends asked files before after end
-  pub rose : (input : Input) → end ≡ Err (CannotRead input) → RoseOf asked input reads reads_after
-  pub told : Tells told_before told_after faults faults_after (end_text asked end)
+  pub ends : Ends asked folder.files out out_after end
+  pub rose : (input : Input) → end ≡ Err (CannotRead input) → RoseOf asked input folder folder_after
+  pub told : Tells told_before told_after (end_text asked end)
   pub ended : status ≡ end_status end
 
 -- ---- what is known of it where the folder tells
@@ -129,9 +127,9 @@ abbrev pub HasVerdict : ℕ → Option (List ℕ) → Option (List ℕ) → (Ord
 HasVerdict len held report P = (e : EventsView) × Spells len held e × IsSomeAnd report (λ bytes. (length bytes ≤ most_of ReportFile) × P (verdict e bytes))
 
 -- no count of faults of reading the files rose
-abbrev pub ReadsCalmly : Asked → (List ℕ → ℕ) → (List ℕ → ℕ) → Type 0
-ReadsCalmly asked reads reads_after = ¬ Rose (reads asked.file) (reads_after asked.file) × IfSome asked.report (λ name. ¬ Rose (reads name) (reads_after name))
+abbrev pub ReadsCalmly : Asked → FolderSeen → FolderSeen → Type 0
+ReadsCalmly asked before after = ¬ ReadFaultsRose asked.file before after × IfSome asked.report (λ name. ¬ ReadFaultsRose name before after)
 
 -- the count of one of the files rose
-abbrev pub ReadFault : Asked → (List ℕ → ℕ) → (List ℕ → ℕ) → Type 0
-ReadFault asked reads reads_after = Rose (reads asked.file) (reads_after asked.file) ⊎ IsSomeAnd asked.report (λ name. Rose (reads name) (reads_after name))
+abbrev pub ReadFault : Asked → FolderSeen → FolderSeen → Type 0
+ReadFault asked before after = ReadFaultsRose asked.file before after ⊎ IsSomeAnd asked.report (λ name. ReadFaultsRose name before after)

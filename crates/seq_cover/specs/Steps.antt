@@ -1,7 +1,7 @@
 -- What the steps of a run of `pictseq` say of each other. (This project's rules.)
 use Rattle.std.specs.Prelude.{◌≡◌, ◌≢◌, ℕ, List, Option, Result, Err}
-use Rattle.outside_io.specs.Faults.{KeepsCounts, Rose}
 use Rattle.outside_io.specs.Files.{Files}
+use Rattle.outside_io.specs.Seen.{FolderSeen, SinkSeen, KeepsReadFaults, PutFaultsRose}
 use Rattle.seq_check.specs.Events.{EventsView}
 use Rattle.seq_cover.specs.Runs.{Ends, IsReportRead, RoseOf, answer_of}
 use Rattle.seq_cover.specs.Words.{Asked}
@@ -18,14 +18,13 @@ pub record IsAnswer (asked : Asked) (files : Files) (e : EventsView) (text : Lis
   pub ended_is : ended ≡ (answer_of e report).ended
 
 -- the count of faults of the output: it rose where the output couldn't be written, and else it stays
-abbrev pub CountsOut : Result Ended Stop → ℕ → ℕ → Type 0
-CountsOut (Err CannotWrite) before after = Rose before after
-CountsOut end before after = after ≡ before
+abbrev pub CountsOut : Result Ended Stop → SinkSeen → SinkSeen → Type 0
+CountsOut (Err CannotWrite) before after = PutFaultsRose before after
+CountsOut end before after = after.faults ≡ before.faults
 
--- a run ended so, where the folder had these files and counts of faults of reading
-pub record Ran (asked : Asked) (files : Files) (reads reads_after : List ℕ → ℕ) (before after : Option (List ℕ)) (faults faults_after : ℕ)
-    (end : Result Ended Stop) : Type 0 where
-  pub ends : Ends asked files before after end
-  pub rose : (input : Input) → end ≡ Err (CannotRead input) → RoseOf asked input reads reads_after
-  pub calm : ((input : Input) → end ≢ Err (CannotRead input)) → KeepsCounts reads reads_after
-  pub counts : CountsOut end faults faults_after
+-- a run ended so, by what the folder and the output tell before and after
+pub record Ran (asked : Asked) (folder folder_after : FolderSeen) (out out_after : SinkSeen) (end : Result Ended Stop) : Type 0 where
+  pub ends : Ends asked folder.files out out_after end
+  pub rose : (input : Input) → end ≡ Err (CannotRead input) → RoseOf asked input folder folder_after
+  pub calm : ((input : Input) → end ≢ Err (CannotRead input)) → KeepsReadFaults folder folder_after
+  pub counts : CountsOut end out out_after

@@ -4,7 +4,8 @@ use Rattle.std.specs.Prelude.{◌≡◌, ℕ, true, List, [], ◌∷◌, ◌++�
 use Rattle.std.specs.List.{list_any}
 use Rattle.std.specs.Option.{unwrap_or}
 use Rattle.outside_io.specs.declared.answers.WriteAnswer.{WriteAnswer}
-use Rattle.outside_io.specs.Puts.{Puts, CountsFaults}
+use Rattle.outside_io.specs.Seen.{SinkSeen}
+use Rattle.outside_io.specs.Puts.{Puts}
 use Rattle.definitions.specs.Limits.{Measured, ModelFile, RowFile, most_bytes}
 use Rattle.definitions.specs.Diagnostics.{bytes_limit_line, cannot_read_line, cannot_write_report_line, memory_line, model_line}
 use Rattle.seq_check.specs.Codes.{event_code, event_text, limit_name}
@@ -74,8 +75,8 @@ end_text asked (Ok ended) = []
 end_text asked (Err stop) = stop_line asked stop
 
 -- a sink was asked for a text: it has the whole text, or a prefix of it where its count of faults rose
-abbrev pub Tells : Option (List ℕ) → Option (List ℕ) → ℕ → ℕ → List ℕ → Type 0
-Tells before after faults faults_after text = (answer : WriteAnswer) × Puts answer before after text × CountsFaults answer faults faults_after
+abbrev pub Tells : SinkSeen → SinkSeen → List ℕ → Type 0
+Tells before after text = (answer : WriteAnswer) × Puts answer before after text
 
 -- the statuses that a run may end with
 abbrev pub IsStatus : ℕ → Type 0

@@ -1,6 +1,5 @@
 ghost use Rattle.std.specs.Prelude.{◌≡◌, ◌≢◌, ◌≤◌, ◌^◌, Some, None, Err, IfOk, IfErr, IsSomeAnd, length};
-ghost use Rattle.outside_io.specs.Faults.{KeepsCounts, Rose};
-ghost use Rattle.outside_io.specs.Files.{KeepsFiles};
+ghost use Rattle.outside_io.specs.Seen.{KeepsFiles, KeepsReadFaults, KeepsWriteFaults, ReadFaultsRose};
 ghost use Rattle.seq_cover.specs.Commands.{asked_seen};
 ghost use Rattle.seq_cover.specs.Runs.{StopsBehind, answer_of, ended_by};
 ghost use Rattle.seq_cover.specs.Steps.{IsAnswer};
@@ -72,13 +71,13 @@ pub(crate) fn make_answer<F: Folder>(
     events: &Events,
     files: &mut F,
 ) -> Result<Answer, Stop>
-    ensures answer { IfOk result (λ answer. IsAnswer (asked_seen command.now) (F.file files.old) events.now answer.text.items answer.ended) }
-    ensures stops { IfErr result (StopsBehind (asked_seen command.now) (F.file files.old)) }
+    ensures answer { IfOk result (λ answer. IsAnswer (asked_seen command.now) (F.seen files.old).files events.now answer.text.items answer.ended) }
+    ensures stops { IfErr result (StopsBehind (asked_seen command.now) (F.seen files.old).files) }
     ensures rose { result ≡ Err (Stop.CannotRead Input.ReportFile) →
-        IsSomeAnd (asked_seen command.now).report (λ name. Rose (F.read_faults files.old name) (F.read_faults files.new name)) }
-    ensures no_fault { result ≢ Err (Stop.CannotRead Input.ReportFile) → KeepsCounts (F.read_faults files.old) (F.read_faults files.new) }
-    ensures files { KeepsFiles (F.file files.old) (F.file files.new) }
-    ensures write_faults { KeepsCounts (F.write_faults files.old) (F.write_faults files.new) }
+        IsSomeAnd (asked_seen command.now).report (λ name. ReadFaultsRose name (F.seen files.old) (F.seen files.new)) }
+    ensures no_fault { result ≢ Err (Stop.CannotRead Input.ReportFile) → KeepsReadFaults (F.seen files.old) (F.seen files.new) }
+    ensures files { KeepsFiles (F.seen files.old) (F.seen files.new) }
+    ensures write_faults { KeepsWriteFaults (F.seen files.old) (F.seen files.new) }
 {
     match command.report {
         None => Ok(grow(alloc, events)?),

@@ -5,8 +5,7 @@ ghost use Rattle.seq_check.specs.declared.event_set.EventSet.{EventSet};
 ghost use Rattle.seq_cover.specs.Sets.{AreLevels, Holds, IsFewest};
 ghost use Rattle.seq_cover.specs.Ways.{cycle_by, fewest, next_near, way_back};
 
-use cov_model::NoList;
-use seq_check::{Arrows, EventSet};
+use seq_check::{Arrows, EventSet, NoList};
 use std::alloc::Global;
 use value_text::{NoMemory, OwnedList};
 

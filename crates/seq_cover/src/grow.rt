@@ -14,8 +14,7 @@ use crate::row::build_row;
 use crate::steps::{back_with, cycle_of};
 use crate::suite::{Never, OrderSuite};
 use crate::ways::ways_of;
-use cov_model::NoList;
-use seq_check::{Arrows, Events, OpenSequences, distinct_lists, places_of, with_event};
+use seq_check::{Arrows, Events, NoList, OpenSequences, distinct_lists, places_of, with_event};
 use std::alloc::Global;
 use value_text::{NoMemory, OwnedList};
 

@@ -3,8 +3,8 @@
 //! them or checks a report of them.
 //!
 //! - `cover_orders` gives the rows and the sequences that are set aside.
-//! - `run_seq` is the call that `main` makes, over any folder and sinks; `run_seq_in_memory` is the same on a folder and
-//!   sinks in memory, where its clauses have no premise but the status.
+//! - `run_seq` is the call that `main` makes, over any folder and sinks; `runs_in_memory` has the same call over a folder
+//!   and sinks in memory, where its clauses have no premise but the status.
 //! - specs/Ways says what a cycle is that is told, specs/OrderGrowth how rows grow, specs/Covering what the rows and
 //!   the cycles are for, specs/Words what the words of `pictseq` ask for, and specs/Runs how a run may end.
 #![tactic(auto)]
@@ -13,7 +13,6 @@ mod answer;
 mod command;
 mod cycle;
 mod grow;
-mod in_memory;
 mod load;
 mod row;
 mod run;
@@ -26,6 +25,5 @@ mod told;
 mod ways;
 
 pub use grow::cover_orders;
-pub use in_memory::run_seq_in_memory;
 pub use run::run_seq;
 pub use suite::{Never, NeverList, OrderSuite};

@@ -1,6 +1,5 @@
 ghost use Rattle.std.specs.Prelude.{◌≡◌, ◌≢◌, ◌⊎◌, Err, IfOk, IfErr};
-ghost use Rattle.outside_io.specs.Faults.{KeepsCounts, Rose};
-ghost use Rattle.outside_io.specs.Files.{KeepsFiles};
+ghost use Rattle.outside_io.specs.Seen.{KeepsFiles, KeepsReadFaults, KeepsWriteFaults, ReadFaultsRose};
 ghost use Rattle.seq_cover.specs.Commands.{asked_seen};
 ghost use Rattle.seq_cover.specs.Runs.{AreRead, IsRead, StopsAtFile, StopsReading};
 
@@ -22,12 +21,12 @@ pub(crate) fn read_input<F: Folder>(
     name: &str,
     input: Input,
 ) -> Result<Vec<u8>, Stop>
-    ensures bytes { IfOk result (λ bytes. IsRead (F.file files.old) name.now input bytes.items) }
-    ensures stops { IfErr result (λ stop. (stop ≡ Stop.OutOfMemory) ⊎ StopsReading (F.file files.old) name.now input stop) }
-    ensures rose { result ≡ Err (Stop.CannotRead input) → Rose (F.read_faults files.old name.now) (F.read_faults files.new name.now) }
-    ensures no_fault { result ≢ Err (Stop.CannotRead input) → KeepsCounts (F.read_faults files.old) (F.read_faults files.new) }
-    ensures files { KeepsFiles (F.file files.old) (F.file files.new) }
-    ensures write_faults { KeepsCounts (F.write_faults files.old) (F.write_faults files.new) }
+    ensures bytes { IfOk result (λ bytes. IsRead (F.seen files.old).files name.now input bytes.items) }
+    ensures stops { IfErr result (λ stop. (stop ≡ Stop.OutOfMemory) ⊎ StopsReading (F.seen files.old).files name.now input stop) }
+    ensures rose { result ≡ Err (Stop.CannotRead input) → ReadFaultsRose name.now (F.seen files.old) (F.seen files.new) }
+    ensures no_fault { result ≢ Err (Stop.CannotRead input) → KeepsReadFaults (F.seen files.old) (F.seen files.new) }
+    ensures files { KeepsFiles (F.seen files.old) (F.seen files.new) }
+    ensures write_faults { KeepsWriteFaults (F.seen files.old) (F.seen files.new) }
 {
     let mut bytes = Vec::new(alloc);
     match files.read_file(name, &mut bytes, input.most()) {
@@ -48,13 +47,13 @@ pub(crate) fn load_events<F: Folder>(
     command: &Command<'_>,
     files: &mut F,
 ) -> Result<Events, Stop>
-    ensures events { IfOk result (AreRead (asked_seen command.now) (F.file files.old)) }
-    ensures stops { IfErr result (StopsAtFile (asked_seen command.now) (F.file files.old)) }
+    ensures events { IfOk result (AreRead (asked_seen command.now) (F.seen files.old).files) }
+    ensures stops { IfErr result (StopsAtFile (asked_seen command.now) (F.seen files.old).files) }
     ensures rose { result ≡ Err (Stop.CannotRead Input.EventFile) →
-        Rose (F.read_faults files.old command.now.file.now) (F.read_faults files.new command.now.file.now) }
-    ensures no_fault { result ≢ Err (Stop.CannotRead Input.EventFile) → KeepsCounts (F.read_faults files.old) (F.read_faults files.new) }
-    ensures files { KeepsFiles (F.file files.old) (F.file files.new) }
-    ensures write_faults { KeepsCounts (F.write_faults files.old) (F.write_faults files.new) }
+        ReadFaultsRose command.now.file.now (F.seen files.old) (F.seen files.new) }
+    ensures no_fault { result ≢ Err (Stop.CannotRead Input.EventFile) → KeepsReadFaults (F.seen files.old) (F.seen files.new) }
+    ensures files { KeepsFiles (F.seen files.old) (F.seen files.new) }
+    ensures write_faults { KeepsWriteFaults (F.seen files.old) (F.seen files.new) }
 {
     let bytes = read_input(alloc, files, command.file, Input::EventFile)?;
     let events = read_events(alloc, bytes.as_slice(), command.length.number())?;

@@ -6,8 +6,7 @@ ghost use Rattle.seq_check.specs.Orders.{is_had};
 ghost use Rattle.seq_cover.specs.Building.{ArePlaced, ExistBelow, IsOnce, open_gain};
 ghost use Rattle.seq_cover.specs.OrderGrowth.{built_from, can_be_placed, gain, next_placed};
 
-use cov_model::NoList;
-use seq_check::{Arrows, EventSet, OpenSequences};
+use seq_check::{Arrows, EventSet, NoList, OpenSequences};
 use std::alloc::Global;
 use value_text::{NoMemory, OwnedList};
 

@@ -7,8 +7,7 @@ ghost use Rattle.seq_cover.specs.Ways.{cycle_of};
 
 use crate::cycle::cycle_from;
 use crate::ways::{add_steps, first_on_cycle};
-use cov_model::NoList;
-use seq_check::Arrows;
+use seq_check::{Arrows, NoList};
 use std::alloc::Global;
 use value_text::NoMemory;
 

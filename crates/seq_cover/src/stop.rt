@@ -1,5 +1,5 @@
 ghost use Rattle.std.specs.Prelude.{◌≡◌, ℕ};
-ghost use Rattle.outside_io.specs.Puts.{CountsFaults, Puts};
+ghost use Rattle.outside_io.specs.Puts.{Puts};
 ghost use Rattle.definitions.specs.Diagnostics.{bytes_limit_line, bytes_name, model_line, word_line};
 ghost use Rattle.seq_check.specs.Codes.{event_code, event_text};
 ghost use Rattle.seq_cover.specs.Commands.{asked_seen};
@@ -116,8 +116,7 @@ impl From<EventsFault> for Stop {
 
 /// Writes the line of a refusal of the file of events.
 fn put_refusal<E: Sink>(line: u32, code: EventCode, sink: &mut E) -> WriteAnswer
-    ensures puts { Puts result (E.written sink.old) (E.written sink.new) (model_line line (event_code code) (event_text code)) }
-    ensures counts { CountsFaults result (E.faults sink.old) (E.faults sink.new) }
+    ensures { Puts result (E.seen sink.old) (E.seen sink.new) (model_line line (event_code code) (event_text code)) }
 {
     let mut buffer = Buffer::new();
     let number = buffer.format(line);
@@ -131,8 +130,7 @@ fn put_refusal<E: Sink>(line: u32, code: EventCode, sink: &mut E) -> WriteAnswer
 
 /// Writes the line of a limit.
 fn put_limit<E: Sink>(limit: EventLimit, count: u64, sink: &mut E) -> WriteAnswer
-    ensures puts { Puts result (E.written sink.old) (E.written sink.new) (count_limit_line limit count) }
-    ensures counts { CountsFaults result (E.faults sink.old) (E.faults sink.new) }
+    ensures { Puts result (E.seen sink.old) (E.seen sink.new) (count_limit_line limit count) }
 {
     let mut given = Buffer::new();
     let mut most = Buffer::new();
@@ -147,8 +145,7 @@ fn put_limit<E: Sink>(limit: EventLimit, count: u64, sink: &mut E) -> WriteAnswe
 
 /// Writes the line of a file that is too long.
 fn put_too_long<E: Sink>(input: Input, sink: &mut E) -> WriteAnswer
-    ensures puts { Puts result (E.written sink.old) (E.written sink.new) (bytes_limit_line (measured input)) }
-    ensures counts { CountsFaults result (E.faults sink.old) (E.faults sink.new) }
+    ensures { Puts result (E.seen sink.old) (E.seen sink.new) (bytes_limit_line (measured input)) }
 {
     let mut buffer = Buffer::new();
     let name = input.bytes_name();
@@ -158,8 +155,7 @@ fn put_too_long<E: Sink>(input: Input, sink: &mut E) -> WriteAnswer
 
 /// Writes the line of a word that has no reading. Takes no memory.
 pub(crate) fn put_word<E: Sink>(index: u32, sink: &mut E) -> WriteAnswer
-    ensures puts { Puts result (E.written sink.old) (E.written sink.new) (word_line index) }
-    ensures counts { CountsFaults result (E.faults sink.old) (E.faults sink.new) }
+    ensures { Puts result (E.seen sink.old) (E.seen sink.new) (word_line index) }
 {
     let mut buffer = Buffer::new();
     let number = buffer.format(index);
@@ -182,8 +178,7 @@ impl Stop {
 
     /// Writes the line that says why. Takes no memory.
     pub(crate) fn put_line<E: Sink>(self, command: &Command<'_>, diag: &mut E) -> WriteAnswer
-        ensures puts { Puts result (E.written diag.old) (E.written diag.new) (stop_line (asked_seen command.now) self) }
-        ensures counts { CountsFaults result (E.faults diag.old) (E.faults diag.new) }
+        ensures { Puts result (E.seen diag.old) (E.seen diag.new) (stop_line (asked_seen command.now) self) }
     {
         match self {
             Stop::OutOfMemory => put_pieces(diag, &["error: out of memory\n"]),

@@ -1,5 +1,4 @@
-use cov_model::NoList;
-use seq_check::NoListList;
+use seq_check::{NoList, NoListList};
 use value_text::OwnedList;
 
 /// A sequence that no permitted order has, with a cycle as the reason.

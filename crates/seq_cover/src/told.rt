@@ -9,8 +9,8 @@ use outside_io::Sink;
 /// Tells why a run stopped, where it did, and gives the exit status. Takes no memory.
 pub(crate) fn tell<E: Sink>(end: Result<Ended, Stop>, command: &Command<'_>, diag: &mut E) -> u8
     ensures status { result ≡ end_status end }
-    ensures told { Tells (E.written diag.old) (E.written diag.new) (E.faults diag.old) (E.faults diag.new) (end_text (asked_seen command.now) end) }
-    ensures quiet { IfOk end (λ ended. (E.written diag.new ≡ E.written diag.old) × (E.faults diag.new ≡ E.faults diag.old)) }
+    ensures told { Tells (E.seen diag.old) (E.seen diag.new) (end_text (asked_seen command.now) end) }
+    ensures quiet { IfOk end (λ ended. E.seen diag.new ≡ E.seen diag.old) }
 {
     match end {
         Ok(ended) => ended.status(),

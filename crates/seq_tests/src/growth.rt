@@ -1,8 +1,7 @@
 //! The growth of orders, and what it goes by.
 
 use crate::events::read;
-use cov_model::NoList;
-use seq_check::{Arrows, Events, OpenSequences, distinct_lists, places_of, with_event};
+use seq_check::{Arrows, Events, NoList, OpenSequences, distinct_lists, places_of, with_event};
 use seq_cover::{Never, OrderSuite, cover_orders};
 use std::alloc::Global;
 use value_text::NoMemory;

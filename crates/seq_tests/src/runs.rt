@@ -1,7 +1,8 @@
 //! Whole runs of `pictseq`, over a folder and sinks in memory.
 
-use outside_io::{Calls, MemFolder, MemSink};
-use seq_cover::{run_seq, run_seq_in_memory};
+use memory_io::{Calls, MemFolder, MemSink};
+use runs_in_memory::run_seq_in_memory;
+use seq_cover::run_seq;
 use std::alloc::Global;
 use value_text::NoMemory;
 

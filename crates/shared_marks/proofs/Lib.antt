@@ -10,7 +10,7 @@ pub mod PlaceLemmas
 pub mod RowLemmas
 pub mod WorkerLemmas
 pub mod DigitLemmas
-pub mod BlockLemmas
+pub mod ColumnLemmas
 pub mod FlagLemmas
 pub mod GatherLemmas
 pub mod LineLemmas

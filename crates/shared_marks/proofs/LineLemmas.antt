@@ -18,13 +18,13 @@ use Rattle.tuple_index.specs.Places.{place, place_of, ways}
 use Rattle.tuple_index.specs.Plan.{PlanView, plan_of, set_at}
 use Rattle.tuple_index.proofs.LoopLemmas.{rises_within}
 use Rattle.tuple_index.proofs.OrderLemmas.{demanded_rise}
-use Rattle.shared_marks.specs.declared.lines.Line.{Line}
-use Rattle.shared_marks.specs.Blocks.{AreRanks, BlockView, IsBlock, digit_in, is_plain, place_in}
+use Rattle.shared_marks.specs.declared.open_sets.Line.{Line}
+use Rattle.shared_marks.specs.TestColumns.{AreRanks, ColumnsView, AreColumns, digit_in, is_plain, place_in}
 use Rattle.shared_marks.specs.Digits.{IsPlacing, own_slice}
-use Rattle.shared_marks.specs.Lines.{IsLine, front}
+use Rattle.shared_marks.specs.OpenSets.{IsLine, front}
 use Rattle.shared_marks.specs.Adding.{are_behind}
 use Rattle.shared_marks.specs.Served.{IsServedRank, base_of, is_served_at, served_between}
-use Rattle.shared_marks.proofs.BlockLemmas.{ArePlaced, PlainTest, column_at, plain_at, plain_slice, plain_test}
+use Rattle.shared_marks.proofs.ColumnLemmas.{ArePlaced, PlainTest, column_at, plain_at, plain_slice, plain_test}
 use Rattle.shared_marks.proofs.DigitLemmas.{IsJoined, OwnPlace, joined, own_place_of, placing_end, placing_within}
 use Rattle.shared_marks.proofs.PlaceLemmas.{none_served, one_set, served_append, set_within}
 
@@ -68,17 +68,17 @@ own_of m i row kept within valid positive =
     own_place_of m (plan_of m) i row (set_at (plan_of m) i) Positive true refl within valid refl kept (sym positive) refl refl
 
 -- the first members of its set make places
-pub fronts_placed : (m : ModelView) (plan : PlanView) (block : BlockView) (line : Line) (members : List ℕ) → plan ≡ plan_of m → IsKept plan → IsBlock m block
-    → IsLine plan line → members ≡ front (set_at plan line.set) → ArePlaced m block.tests members
-fronts_placed m plan block line members planned kept is line_is are =
-    subst (ArePlaced m block.tests) (sym (are ∙ ap (λ p. front (set_at p line.set)) planned)) (record {
+pub fronts_placed : (m : ModelView) (plan : PlanView) (columns : ColumnsView) (line : Line) (members : List ℕ) → plan ≡ plan_of m → IsKept plan → AreColumns m columns
+    → IsLine plan line → members ≡ front (set_at plan line.set) → ArePlaced m columns.tests members
+fronts_placed m plan columns line members planned kept is line_is are =
+    subst (ArePlaced m columns.tests) (sym (are ∙ ap (λ p. front (set_at p line.set)) planned)) (record {
       exist = All-take (λ p. p < length m.params) k set (members_exist m line.set within);
-      few = All-from_get_or (λ row. place_in m (take k set) row < 2 ^ 26) block.tests [] (λ at inside.
-          let row = get_or block.tests at [] in
+      few = All-from_get_or (λ row. place_in m (take k set) row < 2 ^ 26) columns.tests [] (λ at inside.
+          let row = get_or columns.tests at [] in
           let most = placing_within (own_slice m row) row set k (place_in m (take k set) row) (own at inside).some (front_placing (own_slice m row) row set k _ refl) in
           omega (arith, most, (own at inside).few));
-      some = All-from_get_or (λ row. 0 < ways (own_slice m row) (take k set)) block.tests [] (λ at inside.
-          let row = get_or block.tests at [] in
+      some = All-from_get_or (λ row. 0 < ways (own_slice m row) (take k set)) columns.tests [] (λ at inside.
+          let row = get_or columns.tests at [] in
           pos_left_of_mul (ways (own_slice m row) (take k set)) (ways (own_slice m row) (drop k set))
           (subst (λ n. 0 < n) (ap (ways (own_slice m row)) (sym (take-append-drop k set)) ∙ ways_append (own_slice m row) (take k set) (drop k set)) (own at inside).some));
     })
@@ -92,10 +92,10 @@ fronts_placed m plan block line members planned kept is line_is are =
     within : line.set < length (demanded_sets m)
     within = (subst (λ p. IsLine p line) planned line_is).there
 
-    own : (at : ℕ) → at < length block.tests → OwnPlace m line.set (get_or block.tests at []) (plan_of m) set Positive
+    own : (at : ℕ) → at < length columns.tests → OwnPlace m line.set (get_or columns.tests at []) (plan_of m) set Positive
     own at inside =
-        let plain = plain_at m block at is inside in
-        own_of m line.set (get_or block.tests at []) (subst IsKept planned kept) within plain.valid plain.positive
+        let plain = plain_at m columns at is inside in
+        own_of m line.set (get_or columns.tests at []) (subst IsKept planned kept) within plain.valid plain.positive
 
 -- the rank that a line gives
 pub record LineKnown (m : ModelView) (i : ℕ) (row : List (Option ℕ)) (number radix there : ℕ) : Type 0 where
@@ -144,31 +144,31 @@ line_known m plan row line number radix there planned kept plain is front_is man
 base_of_line : (m : ModelView) (plan : PlanView) (line : Line) → plan ≡ plan_of m → IsLine plan line → line.base ≡ base_of m line.set
 base_of_line m plan line planned is = is.base ∙ ap (λ p. sum (take line.set p.sizes)) planned
 
--- the rank of a test of a block
-pub line_at : (m : ModelView) (plan : PlanView) (block : BlockView) (line : Line) (fronts column : List ℕ) (radix at : ℕ) → plan ≡ plan_of m → IsKept plan
-    → IsBlock m block → IsLine plan line → fronts ≡ map (place_in m (front (set_at plan line.set))) block.tests → radix ≡ length (positive_values m line.last)
-    → column ≡ get_or block.columns line.last [] → at < length block.tests
-    → LineKnown m line.set (get_or block.tests at []) (get_or fronts at 0) radix (get_or column at 0)
-line_at m plan block line fronts column radix at planned kept is line_is are many column_is within =
-    line_known m plan (get_or block.tests at []) line (get_or fronts at 0) radix (get_or column at 0) planned kept (plain_at m block at is within) line_is
-    (ap (λ ns. get_or ns at 0) are ∙ get_or-map (place_in m (front (set_at plan line.set))) block.tests at [] 0 within) many
-    (column_at m block line.last at column is (last_exists m plan line planned line_is) within column_is)
+-- the rank of a test
+pub line_at : (m : ModelView) (plan : PlanView) (columns : ColumnsView) (line : Line) (fronts column : List ℕ) (radix at : ℕ) → plan ≡ plan_of m → IsKept plan
+    → AreColumns m columns → IsLine plan line → fronts ≡ map (place_in m (front (set_at plan line.set))) columns.tests → radix ≡ length (positive_values m line.last)
+    → column ≡ get_or columns.places line.last [] → at < length columns.tests
+    → LineKnown m line.set (get_or columns.tests at []) (get_or fronts at 0) radix (get_or column at 0)
+line_at m plan columns line fronts column radix at planned kept is line_is are many column_is within =
+    line_known m plan (get_or columns.tests at []) line (get_or fronts at 0) radix (get_or column at 0) planned kept (plain_at m columns at is within) line_is
+    (ap (λ ns. get_or ns at 0) are ∙ get_or-map (place_in m (front (set_at plan line.set))) columns.tests at [] 0 within) many
+    (column_at m columns line.last at column is (last_exists m plan line planned line_is) within column_is)
 
--- the ranks of all tests of a block
-pub ranks_known : (m : ModelView) (plan : PlanView) (block : BlockView) (line : Line) (fronts column ranks : List ℕ) (radix : ℕ) → plan ≡ plan_of m → IsKept plan
-    → IsBlock m block → IsLine plan line → fronts ≡ map (place_in m (front (set_at plan line.set))) block.tests → radix ≡ length (positive_values m line.last)
-    → column ≡ get_or block.columns line.last [] → length ranks ≡ length fronts
+-- the ranks of all tests
+pub ranks_known : (m : ModelView) (plan : PlanView) (columns : ColumnsView) (line : Line) (fronts column ranks : List ℕ) (radix : ℕ) → plan ≡ plan_of m → IsKept plan
+    → AreColumns m columns → IsLine plan line → fronts ≡ map (place_in m (front (set_at plan line.set))) columns.tests → radix ≡ length (positive_values m line.last)
+    → column ≡ get_or columns.places line.last [] → length ranks ≡ length fronts
     → ((at : ℕ) → at < length fronts → get_or ranks at 0 ≡ get_or fronts at 0 * radix + get_or column at 0)
-    → AreRanks m (set_at (plan_of m) line.set) block.tests ranks
-ranks_known m plan block line fronts column ranks radix planned kept is line_is are many column_is long each = record {
+    → AreRanks m (set_at (plan_of m) line.set) columns.tests ranks
+ranks_known m plan columns line fronts column ranks radix planned kept is line_is are many column_is long each = record {
   long = long ∙ as_long;
   each = λ at within.
-      subst (λ rank. IsServedRank m (set_at (plan_of m) line.set) (get_or block.tests at []) (Some rank)) (sym (each at (omega (arith, within, as_long))))
-      (line_at m plan block line fronts column radix at planned kept is line_is are many column_is within).is;
+      subst (λ rank. IsServedRank m (set_at (plan_of m) line.set) (get_or columns.tests at []) (Some rank)) (sym (each at (omega (arith, within, as_long))))
+      (line_at m plan columns line fronts column radix at planned kept is line_is are many column_is within).is;
 }
   where
-    as_long : length fronts ≡ length block.tests
-    as_long = ap length are ∙ length-map block.tests (place_in m (front (set_at plan line.set)))
+    as_long : length fronts ≡ length columns.tests
+    as_long = ap length are ∙ length-map columns.tests (place_in m (front (set_at plan line.set)))
 
 -- they are ranks of the set
 pub ranks_within : (m : ModelView) (i size : ℕ) (tests : List (List (Option ℕ))) (ranks : List ℕ) → size ≡ length (tuples_of m (set_at (plan_of m) i))
@@ -205,9 +205,9 @@ ranks_serve m i place (row ∷ rows) (rank ∷ ranks) there plain are =
     ∙ sym (and-or_distrib_left (nat_le (base_of m i) place && nat_lt place (base_of m (i + 1))) (is_served_at m (row ∷ []) place) (is_served_at m rows place))
     ∙ ap (λ t. (nat_le (base_of m i) place && nat_lt place (base_of m (i + 1))) && t) (served_append m (row ∷ []) rows place)
 
-pub line_serves : (m : ModelView) (plan : PlanView) (block : BlockView) (line : Line) (ranks : List ℕ) → plan ≡ plan_of m → IsBlock m block → IsLine plan line
-    → AreRanks m (set_at (plan_of m) line.set) block.tests ranks → (place : ℕ)
-    → are_behind line.base ranks place ≡ served_between m block.tests (base_of m line.set) (base_of m (line.set + 1)) place
-line_serves m plan block line ranks planned is line_is are place =
+pub line_serves : (m : ModelView) (plan : PlanView) (columns : ColumnsView) (line : Line) (ranks : List ℕ) → plan ≡ plan_of m → AreColumns m columns → IsLine plan line
+    → AreRanks m (set_at (plan_of m) line.set) columns.tests ranks → (place : ℕ)
+    → are_behind line.base ranks place ≡ served_between m columns.tests (base_of m line.set) (base_of m (line.set + 1)) place
+line_serves m plan columns line ranks planned is line_is are place =
     ap (λ base. are_behind base ranks place) (base_of_line m plan line planned line_is)
-    ∙ ranks_serve m line.set place block.tests ranks (subst (λ p. IsLine p line) planned line_is).there is.plain are
+    ∙ ranks_serve m line.set place columns.tests ranks (subst (λ p. IsLine p line) planned line_is).there is.plain are

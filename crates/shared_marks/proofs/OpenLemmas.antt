@@ -13,14 +13,14 @@ use Rattle.cov_model.specs.Sound.{ModelView}
 use Rattle.definitions.specs.Demand.{demanded_sets, demanded_tuples, is_among}
 use Rattle.tuple_index.specs.Plan.{PlanView, plan_of, set_at}
 use Rattle.shared_marks.specs.declared.holding.Holding.{Holding}
-use Rattle.shared_marks.specs.declared.lines.Line.{Line}
+use Rattle.shared_marks.specs.declared.open_sets.Line.{Line}
 use Rattle.shared_marks.specs.Adding.{Adds, Marks, nothing}
-use Rattle.shared_marks.specs.Blocks.{is_plain, is_positive}
-use Rattle.shared_marks.specs.Lines.{AreLines, AreOpen, IsLine, front, is_of, is_of_some, tuples_before}
+use Rattle.shared_marks.specs.TestColumns.{is_plain, is_positive}
+use Rattle.shared_marks.specs.OpenSets.{AreLines, AreOpen, IsLine, front, is_of, is_of_some, tuples_before}
 use Rattle.shared_marks.specs.Seats.{SeatView, is_held, testing, with_holding}
 use Rattle.shared_marks.specs.Served.{base_of, is_served_at, served_between}
 use Rattle.shared_marks.proofs.AddingLemmas.{adds_held, adds_then, marks_add, marks_hold, marks_then}
-use Rattle.shared_marks.proofs.BlockLemmas.{served_parts}
+use Rattle.shared_marks.proofs.ColumnLemmas.{served_parts}
 use Rattle.shared_marks.proofs.PlaceLemmas.{base_end, between_all}
 
 -- the tuples before the next set

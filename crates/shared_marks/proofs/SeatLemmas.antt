@@ -1,9 +1,11 @@
 -- One of the seats of a table, and tests that some seat passes.
-use Rattle.std.proofs.Common.{◌≡◌, ℕ, zero, suc, ◌<◌, Bool, true, false, ◌||◌, List, [], ◌∷◌, length, get_or, set, ◌∙◌, refl, sym, ap, arith}
+use Rattle.std.proofs.Common.{◌≡◌, ℕ, zero, suc, ◌<◌, Bool, true, false, ◌||◌, List, [], ◌∷◌, Some, length, get_or, set, ◌∙◌, refl, sym, ap, arith}
+use Rattle.std.specs.Prelude.{slice_get}
 use Rattle.std.specs.List.{list_any}
 use Rattle.std.proofs.Math.Bool.{or_assoc, or_comm, or-false}
 use Rattle.std.proofs.lemmas.Bool.{or_parts}
 use Rattle.std.proofs.lemmas.List.Folds.{list_any_at}
+use Rattle.std.proofs.lemmas.Option.{get_or_from_slice_get, slice_get-get_or, slice_get_within}
 use Rattle.atomic_table.proofs.Lists.{set_else, set_here}
 use mathlib.Core.Option.{some, some-injective, some-ne-none}
 use lib.ListN.{get_elem?}
@@ -17,6 +19,18 @@ module _ {A : Type 0} where
   at_place [] i a d here = absurd (some-ne-none a (sym here))
   at_place (x ∷ xs) zero a d here = (omega arith, some-injective x a here)
   at_place (x ∷ xs) (suc i) a d here = let later = at_place xs i a d here in (omega (arith, later.0), later.1)
+
+  -- and the two ways to say so
+  item_of : (xs : List A) (i : ℕ) (a d : A) → i < length xs → get_or xs i d ≡ a → get_elem? xs i ≡ some a
+  item_of [] i a d within is = absurd (omega (arith, within))
+  item_of (x ∷ xs) zero a d within is = ap some is
+  item_of (x ∷ xs) (suc i) a d within is = item_of xs i a d (omega (arith, within)) is
+
+  pub item_there : (xs : List A) (i : ℕ) (a : A) → slice_get xs i ≡ Some a → get_elem? xs i ≡ some a
+  item_there xs i a there = item_of xs i a a (slice_get_within xs i a there) (get_or_from_slice_get xs i a a there)
+
+  pub slice_there : (xs : List A) (i : ℕ) (a : A) → get_elem? xs i ≡ some a → slice_get xs i ≡ Some a
+  slice_there xs i a here = let there = at_place xs i a a here in slice_get-get_or xs i a there.0 ∙ ap Some there.1
 
   -- an item that passes a test
   pub any_here : (test : A → Bool) (xs : List A) (i : ℕ) (a : A) → get_elem? xs i ≡ some a → test a ≡ true → list_any test xs ≡ true

@@ -1,5 +1,5 @@
 -- Each step keeps the facts of a table.
-use Rattle.std.proofs.Common.{◌≡◌, ℕ, ◌+◌, ◌*◌, ◌/◌, ◌^◌, ◌<◌, ◌++◌, true, false, ◌||◌, List, [], ◌∷◌, length, get_or, set, bit_or, inl, inr, ◌∙◌, refl, sym, ap, arith}
+use Rattle.std.proofs.Common.{◌≡◌, ℕ, ◌+◌, ◌*◌, ◌/◌, ◌^◌, ◌<◌, ◌++◌, true, false, ◌||◌, List, [], ◌∷◌, length, get_or, set, bit_or, inl, inr, ◌∙◌, refl, sym, ap, subst, arith}
 use Rattle.std.specs.Prelude.{◌==◌, All}
 use Rattle.std.specs.List.{list_any}
 use Rattle.std.proofs.Math.Bool.{or-false}
@@ -17,9 +17,9 @@ use Rattle.shared_marks.specs.declared.holding.Holding.{Holding}
 use Rattle.shared_marks.specs.Adding.{is_of_word}
 use Rattle.shared_marks.specs.Facts.{IsIdle, IsKept, is_marked, is_seen}
 use Rattle.shared_marks.specs.Seats.{IsWhole, halved, is_held, joined, marking, noting, other_half, spent, testing}
-use Rattle.shared_marks.specs.Steps.{IsTest, marking_all, places_of}
+use Rattle.shared_marks.specs.Steps.{IsMarkStep, IsTest, IsTestStep, has_bit, marking_all, places_of}
 use Rattle.shared_marks.proofs.BitLemmas.{bit_marked, bits_marked, places_among}
-use Rattle.shared_marks.proofs.SeatLemmas.{any_here, any_set, any_joined, any_alone}
+use Rattle.shared_marks.proofs.SeatLemmas.{any_here, any_set, any_joined, any_alone, slice_there}
 use Rattle.shared_marks.proofs.ShareLemmas.{others_spent, shares_joined, shares_kept, shares_split}
 
 -- a seat with a share may hold places
@@ -45,6 +45,24 @@ mark_keeps count place by words seats held kept here share inside =
   where
     within : place / 64 < length words
     within = omega (arith, inside, kept.as_many)
+
+pub mark_step : (count place by : ℕ) (words : List ℕ) (seats : List Holding) (held : Holding) → IsKept count words seats
+    → get_elem? seats by ≡ some held → 0 < held.parts → place / 64 < count → (n p : ℕ) → n ≡ count → p ≡ place
+    → IsMarkStep n p held (marking place held)
+mark_step count place by words seats held kept here share inside n p counted placed =
+    subst (λ n. IsMarkStep n p held (marking place held)) (sym counted)
+    (subst (λ p. IsMarkStep count p held (marking place held)) (sym placed) (record {
+      step = record {
+        words = words;
+        words_after = marked words place (get_or words (place / 64) 0);
+        seats = seats;
+        number = by;
+        facts = kept;
+        own = slice_there seats by held here;
+        facts_after = mark_keeps count place by words seats held kept here share inside;
+      };
+      marked = λ other. bit_marked words place other (omega (arith, inside, kept.as_many));
+    }))
 
 -- marks of a word
 pub word_keeps : (count word bits by : ℕ) (words : List ℕ) (seats : List Holding) (held : Holding) → IsKept count words seats
@@ -133,6 +151,31 @@ test_keeps count place by words seats held kept here share = by_bit (mark_at wor
       shares = shares_kept seats by held held kept.shares here refl refl;
       idle = All-set IsIdle seats by held (has_share held share) kept.idle;
     }
+
+pub test_step : (count place by : ℕ) (words : List ℕ) (seats : List Holding) (held : Holding) → IsKept count words seats
+    → get_elem? seats by ≡ some held → 0 < held.parts → (n p : ℕ) → n ≡ count → p ≡ place
+    → IsTestStep n p (has_bit (get_or words (place / 64) 0) p) held (testing place (mark_at words place) held)
+test_step count place by words seats held kept here share n p counted placed =
+    subst (λ n. IsTestStep n p (has_bit word p) held after) (sym counted)
+    (subst (λ p. IsTestStep count p (has_bit word p) held after) (sym placed) (record {
+      step = record {
+        words = words;
+        words_after = words;
+        seats = seats;
+        number = by;
+        facts = kept;
+        own = slice_there seats by held here;
+        facts_after = test_keeps count place by words seats held kept here share;
+      };
+      same = refl;
+      read = refl;
+    }))
+  where
+    word : ℕ
+    word = get_or words (place / 64) 0
+
+    after : Holding
+    after = testing place (mark_at words place) held
 
 -- a place whose bit is set, among the marked ones of one more seat
 pub note_keeps : (count place by : ℕ) (words : List ℕ) (seats : List Holding) (held : Holding) → IsKept count words seats

@@ -3,6 +3,6 @@ pub mod Facts
 pub mod Steps
 pub mod Served
 pub mod Digits
-pub mod Lines
-pub mod Blocks
+pub mod OpenSets
+pub mod TestColumns
 pub mod Adding

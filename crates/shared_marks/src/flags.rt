@@ -3,7 +3,7 @@ ghost use Rattle.std.specs.Int.{bit_at};
 ghost use Rattle.bit_table.specs.Words.{mark_at};
 ghost use Rattle.shared_marks.specs.Adding.{are_behind};
 
-use crate::table::WORD_BITS;
+use crate::bits::WORD_BITS;
 
 // Sets the flags at the places of these ranks behind a base.
 pub(crate) fn set_flags(flags: &mut [bool], base: usize, ranks: &[u32])

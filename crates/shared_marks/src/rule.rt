@@ -1,7 +1,7 @@
 ghost use Rattle.std.specs.Prelude.{◌≡◌, ℕ};
 ghost use Rattle.shared_marks.specs.Facts.{IsKept};
 ghost use Rattle.shared_marks.specs.Seats.{first_holding, halved, joined, marking, noting, other_half, spent};
-ghost use Rattle.shared_marks.specs.Steps.{IsTest, has_bit, marking_all, places_of};
+ghost use Rattle.shared_marks.specs.Steps.{IsMarkStep, IsTest, IsTestStep, has_bit, marking_all, places_of};
 
 use crate::holding::Holding;
 use atomic_table::{Join, Play, Split, TableRule};
@@ -16,13 +16,17 @@ impl TableRule<(), Holding, usize> for MarkRule {
     ghost first = { λ _. first_holding };
 }
 
-// The place that a step is about. Each call picks it.
+// The place that a step is about, and the number of words of the table. Each call picks them.
 pub(crate) trait Place {
     ghost place: { ℕ };
+
+    ghost count: { ℕ };
 }
 
 impl Place for Brand {
     ghost place = { 0 };
+
+    ghost count = { 0 };
 }
 
 // A step that marks a place.
@@ -31,7 +35,7 @@ pub(crate) struct Marking<P: Place> {
 }
 
 impl<P: Place> Play<(), Holding> for Marking<P> {
-    ghost then = { λ _ before _ after. after ≡ (marking P.place before.0, before.1) };
+    ghost then = { λ _ before _ after. (after ≡ (marking P.place before.0, before.1)) × IsMarkStep P.count P.place before.0 after.0 };
 }
 
 // A step that marks the places of a word whose bits its operand has.
@@ -56,7 +60,7 @@ pub(crate) struct Testing<P: Place> {
 }
 
 impl<P: Place> Play<(), Holding> for Testing<P> {
-    ghost then = { λ _ before word after. IsTest P.place word before.0 after.0 × (after.1 ≡ before.1) };
+    ghost then = { λ _ before word after. IsTest P.place word before.0 after.0 × (after.1 ≡ before.1) × IsTestStep P.count P.place (has_bit word P.place) before.0 after.0 };
 }
 
 // A seat is split in halves, and two seats are joined.

@@ -9,22 +9,17 @@ ghost use Rattle.tuple_index.specs.Places.{IsOwnSlice, has_part, start_of};
 ghost use Rattle.tuple_index.specs.Plan.{plan_of, set_at};
 ghost use Rattle.shared_marks.specs.Adding.{Marks};
 ghost use Rattle.shared_marks.specs.Digits.{AreDigits};
-ghost use Rattle.shared_marks.specs.Served.{IsServedRank, PlacesAreRanks, base_of, is_served_at, served_between};
+ghost use Rattle.shared_marks.specs.Served.{IsServedRank, base_of, is_served_at, served_between};
 
 use crate::digits::{Digit, place_in_slice, put_digits};
-use crate::table::{MarkSeat, SharedMarks};
+use crate::seat::MarkSeat;
+use crate::table::SharedMarks;
 use cov_model::{Cells, ParamNo, Slice, TestModel};
 use row_text::{RowFile, is_complete};
 use tuple_index::Plan;
 
 // The most parameters that a model has.
 pub(crate) const MOST_PARAMS: usize = 256;
-
-/// The place of a demanded tuple among all of them is the base of its set plus its rank (this project's
-/// rule).
-pub fn places_are_ranks()
-    ensures { PlacesAreRanks }
-{}
 
 /// The number of demanded tuples of a plan. Takes no memory.
 pub fn count_tuples(plan: &Plan) -> u32
@@ -101,82 +96,82 @@ fn served_rank(
     Some(first_rank(plan, set, slice) + place_in_slice(model, cells, members, digits))
 }
 
+// Marks the place of the demanded tuple of a set that a test serves, if there is one.
+fn mark_set(
+    table: &SharedMarks,
+    seat: &mut MarkSeat,
+    model: &TestModel,
+    plan: &Plan,
+    set: u32,
+    cells: &Cells,
+    slice: Slice,
+    digits: &[Digit],
+)
+    requires table { seat.old.table ≡ table.now.table }
+    requires plan { plan.now ≡ plan_of model.now }
+    requires bits { table.now.bits ≡ length (demanded_tuples model.now) }
+    requires set { set < length (demanded_sets model.now) }
+    requires test { (is_complete cells.now && is_valid model.now cells.now) ≡ true }
+    requires slice { slice ≡ slice_of model.now cells.now }
+    requires digits { AreDigits model.now cells.now digits.now }
+    ensures { Marks (served_between model.now (cells.now ∷ []) (base_of model.now set) (base_of model.now (set + 1))) seat.old seat.new }
+{
+    plan.assert_invariant();
+    match served_rank(model, plan, set, cells, slice, digits) {
+        Some(rank) => table.mark_lightly(seat, plan.base(set) + rank),
+        None => {}
+    }
+}
+
+// Marks the places of the demanded tuples that a test serves, of the sets from number `from` on.
+fn mark_sets(
+    table: &SharedMarks,
+    seat: &mut MarkSeat,
+    model: &TestModel,
+    plan: &Plan,
+    from: u32,
+    cells: &Cells,
+    slice: Slice,
+    digits: &[Digit],
+)
+    requires table { seat.old.table ≡ table.now.table }
+    requires plan { plan.now ≡ plan_of model.now }
+    requires bits { table.now.bits ≡ length (demanded_tuples model.now) }
+    requires from { from ≤ length (demanded_sets model.now) }
+    requires test { (is_complete cells.now && is_valid model.now cells.now) ≡ true }
+    requires slice { slice ≡ slice_of model.now cells.now }
+    requires digits { AreDigits model.now cells.now digits.now }
+    ensures { Marks (served_between model.now (cells.now ∷ []) (base_of model.now from) (length (demanded_tuples model.now))) seat.old seat.new }
+{
+    for set in from..plan.set_count() {
+        mark_set(table, seat, model, plan, set, cells, slice, digits);
+    }
+}
+
+// Marks the place of each demanded tuple that a row serves, if it is a test.
+pub(crate) fn mark_row(
+    table: &SharedMarks,
+    seat: &mut MarkSeat,
+    model: &TestModel,
+    plan: &Plan,
+    cells: &Cells,
+)
+    requires table { seat.old.table ≡ table.now.table }
+    requires plan { plan.now ≡ plan_of model.now }
+    requires bits { table.now.bits ≡ length (demanded_tuples model.now) }
+    requires fits { FitsModel model.now cells.now }
+    ensures { Marks (is_served_at model.now (cells.now ∷ [])) seat.old seat.new }
+{
+    if !is_test(model, cells) {
+        return;
+    }
+    let slice = model.slice_of(cells);
+    let mut digits = [Digit { place: 0, radix: 0 }; MOST_PARAMS];
+    put_digits(model, plan, cells, slice, &mut digits);
+    mark_sets(table, seat, model, plan, 0, cells, slice, &digits);
+}
+
 impl SharedMarks {
-    // Marks the place of the demanded tuple of a set that a test serves, if there is one.
-    fn mark_set(
-        &self,
-        seat: &mut MarkSeat,
-        model: &TestModel,
-        plan: &Plan,
-        set: u32,
-        cells: &Cells,
-        slice: Slice,
-        digits: &[Digit],
-    )
-        requires table { seat.old.table ≡ self.now.table }
-        requires plan { plan.now ≡ plan_of model.now }
-        requires bits { self.now.bits ≡ length (demanded_tuples model.now) }
-        requires set { set < length (demanded_sets model.now) }
-        requires test { (is_complete cells.now && is_valid model.now cells.now) ≡ true }
-        requires slice { slice ≡ slice_of model.now cells.now }
-        requires digits { AreDigits model.now cells.now digits.now }
-        ensures { Marks (served_between model.now (cells.now ∷ []) (base_of model.now set) (base_of model.now (set + 1))) seat.old seat.new }
-    {
-        plan.assert_invariant();
-        match served_rank(model, plan, set, cells, slice, digits) {
-            Some(rank) => self.mark_lightly(seat, plan.base(set) + rank),
-            None => {}
-        }
-    }
-
-    // Marks the places of the demanded tuples that a test serves, of the sets from number `from` on.
-    fn mark_sets(
-        &self,
-        seat: &mut MarkSeat,
-        model: &TestModel,
-        plan: &Plan,
-        from: u32,
-        cells: &Cells,
-        slice: Slice,
-        digits: &[Digit],
-    )
-        requires table { seat.old.table ≡ self.now.table }
-        requires plan { plan.now ≡ plan_of model.now }
-        requires bits { self.now.bits ≡ length (demanded_tuples model.now) }
-        requires from { from ≤ length (demanded_sets model.now) }
-        requires test { (is_complete cells.now && is_valid model.now cells.now) ≡ true }
-        requires slice { slice ≡ slice_of model.now cells.now }
-        requires digits { AreDigits model.now cells.now digits.now }
-        ensures { Marks (served_between model.now (cells.now ∷ []) (base_of model.now from) (length (demanded_tuples model.now))) seat.old seat.new }
-    {
-        for set in from..plan.set_count() {
-            self.mark_set(seat, model, plan, set, cells, slice, digits);
-        }
-    }
-
-    // Marks the place of each demanded tuple that a row serves, if it is a test.
-    pub(crate) fn mark_row(
-        &self,
-        seat: &mut MarkSeat,
-        model: &TestModel,
-        plan: &Plan,
-        cells: &Cells,
-    )
-        requires table { seat.old.table ≡ self.now.table }
-        requires plan { plan.now ≡ plan_of model.now }
-        requires bits { self.now.bits ≡ length (demanded_tuples model.now) }
-        requires fits { FitsModel model.now cells.now }
-        ensures { Marks (is_served_at model.now (cells.now ∷ [])) seat.old seat.new }
-    {
-        if !is_test(model, cells) {
-            return;
-        }
-        let slice = model.slice_of(cells);
-        let mut digits = [Digit { place: 0, radix: 0 }; MOST_PARAMS];
-        put_digits(model, plan, cells, slice, &mut digits);
-        self.mark_sets(seat, model, plan, 0, cells, slice, &digits);
-    }
-
     /// Marks the place of each demanded tuple that some test serves of the rows from number `from` up to but
     /// not including `to`, counted from 0. A test is a complete and valid row, and the place of a tuple is
     /// the base of its set plus its rank. What the seat has seen, and its share, stay. The seat has to be of
@@ -201,7 +196,7 @@ impl SharedMarks {
     {
         let part = &file.rows.as_slice()[from as usize..to as usize];
         for row in part {
-            self.mark_row(seat, model, plan, &row.cells);
+            mark_row(self, seat, model, plan, &row.cells);
         }
     }
 }

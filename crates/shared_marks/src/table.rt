@@ -1,39 +1,18 @@
-ghost use Rattle.std.specs.Prelude.{◌≡◌, ◌+◌, ◌*◌, ◌%◌, ◌^◌, ◌<◌, ◌≤◌, ℕ, true, false, length, map, slice_index_or, IfOk};
+ghost use Rattle.std.specs.Prelude.{◌≡◌, ◌*◌, ◌^◌, ◌<◌, ◌≤◌, ℕ, true, false, length, map, slice_index_or, IfOk};
 ghost use Rattle.std.specs.List.{range_with_len};
-ghost use Rattle.std.specs.Slots.{IsFull, slots_items, slots_len};
-ghost use Rattle.bit_table.specs.Marks.{AreMarksFrom};
 ghost use Rattle.definitions.specs.Demand.{is_among};
 ghost use Rattle.shared_marks.specs.Adding.{Adds, nothing};
 ghost use Rattle.shared_marks.specs.Seats.{IsWhole, first_holding, halved, with_holding, is_held, joined, marking, noting, other_half, testing};
-ghost use Rattle.shared_marks.specs.Steps.{has_bit, marking_all, places_of};
+ghost use Rattle.shared_marks.specs.Steps.{IsMarkStep, IsTestStep, has_bit, marking_all, places_of};
 
+use crate::bits::{Bits, WORD_BITS, words_of};
 use crate::holding::Holding;
 use crate::rule::{Halves, MarkRule, Marking, MarkingBits, Noting, Place, Testing};
-use atomic_table::{Closed, Seat, Table};
+use crate::seat::MarkSeat;
+use atomic_table::Table;
 use std::alloc::Global;
 use std::marker::{Brand, Model};
 use value_text::NoMemory;
-
-/// The number of bits of a word.
-pub(crate) const WORD_BITS: usize = 64;
-
-/// A seat of a table of marks: what a worker steps with. Contracts see of which table it is, and what it
-/// holds: the places that it marked, those that it has seen marked, and its share of the table.
-#[derive(Drop)]
-pub struct MarkSeat {
-    seat: Seat<(), Holding>,
-}
-
-impl Model for MarkSeat {
-    ghost use Rattle.std.specs.Prelude.{◌≡◌, ◌<◌, []};
-    ghost use Rattle.shared_marks.specs.Seats.{SeatView};
-
-    ghost Value = { SeatView };
-
-    ghost view = { λ a. record { table = a.seat.table_id; holds = a.seat.me.0 } };
-
-    ghost invariant = { λ a. (a.seat.me.1 ≡ []) × (0 < a.seat.me.0.parts) };
-}
 
 /// A table of marks that several workers put, each with a seat of its own. Contracts see which table it is
 /// and the number of its places.
@@ -83,19 +62,22 @@ impl SharedMarks {
     pub fn mark(&self, seat: &mut MarkSeat, place: u32)
         requires table { seat.old.table ≡ self.now.table }
         requires place { place < self.now.bits }
-        ensures { seat.new ≡ with_holding seat.old (marking place seat.old.holds) }
+        ensures seat { seat.new ≡ with_holding seat.old (marking place seat.old.holds) }
+        ensures step { IsMarkStep self.now.table.words place seat.old.holds seat.new.holds }
     {
         self.put::<Brand>(seat, place);
     }
 
     /// Whether a place is marked: one load of its word. The seat has to be of this table; a place that is
-    /// marked joins those that it has seen. Takes no memory.
+    /// marked joins those that it has seen. After false the bit wasn't set in the word that was loaded. Takes no
+    /// memory.
     pub fn is_marked(&self, seat: &mut MarkSeat, place: u32) -> bool
         requires table { seat.old.table ≡ self.now.table }
         requires place { place < self.now.bits }
         ensures seat { seat.new ≡ with_holding seat.old (testing place result seat.old.holds) }
         ensures held { is_held seat.old.holds place ≡ true → result ≡ true }
         ensures whole { IsWhole seat.old.holds → result ≡ is_among seat.old.holds.marked place }
+        ensures step { IsTestStep self.now.table.words place result seat.old.holds seat.new.holds }
     {
         self.look::<Brand>(seat, place)
     }
@@ -153,7 +135,7 @@ impl SharedMarks {
         ensures { seat.new ≡ with_holding seat.old (marking place seat.old.holds) }
     {
         if !self.note::<Brand>(seat, place) {
-            self.put::<Brand>(seat, place);
+            self.mark(seat, place);
         }
     }
 
@@ -200,9 +182,11 @@ impl SharedMarks {
     // Marks the place that this step is about.
     fn put<P: Place>(&self, seat: &mut MarkSeat, place: u32)
         requires step { P.place ≡ place }
+        requires count { P.count ≡ self.now.table.words }
         requires table { seat.old.table ≡ self.now.table }
         requires place { place < self.now.bits }
-        ensures { seat.new ≡ with_holding seat.old (marking place seat.old.holds) }
+        ensures seat { seat.new ≡ with_holding seat.old (marking place seat.old.holds) }
+        ensures step { IsMarkStep P.count P.place seat.old.holds seat.new.holds }
     {
         let word = place as usize / WORD_BITS;
         let bit = 1 << (place as usize % WORD_BITS);
@@ -214,11 +198,13 @@ impl SharedMarks {
     // Tests the place that this step is about.
     fn look<P: Place>(&self, seat: &mut MarkSeat, place: u32) -> bool
         requires step { P.place ≡ place }
+        requires count { P.count ≡ self.now.table.words }
         requires table { seat.old.table ≡ self.now.table }
         requires place { place < self.now.bits }
         ensures seat { seat.new ≡ with_holding seat.old (testing place result seat.old.holds) }
         ensures held { is_held seat.old.holds place ≡ true → result ≡ true }
         ensures whole { IsWhole seat.old.holds → result ≡ is_among seat.old.holds.marked place }
+        ensures step { IsTestStep P.count P.place result seat.old.holds seat.new.holds }
     {
         let word = self
             .table
@@ -233,66 +219,4 @@ fn is_set(word: u64, place: u32) -> bool
     ensures { result ≡ has_bit word place }
 {
     (word >> (place as usize % WORD_BITS)) & 1 == 1
-}
-
-// The words of a closed table, in a vector that is as long.
-fn words_of(closed: &Closed<(), Global>, mut into: Vec<u64>) -> Vec<u64>
-    requires full { IsFull closed.now.words }
-    requires room { length into.items ≡ slots_len closed.now.words }
-    ensures { result.items ≡ slots_items closed.now.words }
-{
-    for i in 0..into.len() {
-        into[i] = closed.word(i);
-    }
-    into
-}
-
-/// The marks of a closed table, a bit each. Contracts see the list of the marks.
-#[derive(Drop)]
-pub struct Bits {
-    words: Vec<u64>,
-    size: u32,
-}
-
-impl Model for Bits {
-    ghost use Rattle.std.specs.Prelude.{◌*◌, ◌≤◌, Bool, List, length};
-    ghost use Rattle.bit_table.specs.Words.{marks_of};
-
-    ghost Value = { List Bool };
-
-    ghost view = { λ a. marks_of a.words.items a.size };
-
-    ghost invariant = { λ a. a.size ≤ 64 * length a.words.items };
-}
-
-impl Bits {
-    /// The number of places. Takes no memory.
-    pub fn len(&self) -> u32
-        ensures { result ≡ length self.now }
-    {
-        self.size
-    }
-
-    /// Whether a place is marked. Takes no memory.
-    pub fn has(&self, place: u32) -> bool
-        requires { place < length self.now }
-        ensures { result ≡ slice_index_or self.now place false }
-    {
-        let place = place as usize;
-        let word = self.words[place / WORD_BITS];
-        (word >> (place % WORD_BITS)) & 1 == 1
-    }
-
-    /// The marks of up to 64 places from a multiple of 64 on, as the lowest bits of a word, whose other bits are 0. Takes
-    /// no memory.
-    pub fn marks_from(&self, from: u32, count: u32) -> u64
-        requires aligned { from % 64 ≡ 0 }
-        requires some { 0 < count }
-        requires few { count ≤ 64 }
-        requires within { from + count ≤ length self.now }
-        ensures { AreMarksFrom self.now from count result }
-    {
-        let word = self.words[from as usize / WORD_BITS];
-        word & (u64::MAX >> (WORD_BITS - count as usize))
-    }
 }

@@ -6,19 +6,22 @@ ghost use Rattle.definitions.specs.Figures.{is_served, tests_of};
 ghost use Rattle.row_text.specs.RowFiles.{suite_seen};
 ghost use Rattle.tuple_index.specs.Plan.{plan_of};
 ghost use Rattle.shared_marks.specs.Adding.{Adds};
-ghost use Rattle.shared_marks.specs.Lines.{AreOpen};
+ghost use Rattle.shared_marks.specs.OpenSets.{AreOpen};
 ghost use Rattle.shared_marks.specs.Served.{is_served_at};
 
-use crate::lines::OpenSets;
+use crate::bits::Bits;
+use crate::many_rows::mark_open;
+use crate::open_sets::OpenSets;
+use crate::seat::MarkSeat;
 use crate::served::count_tuples;
-use crate::table::{Bits, MarkSeat, SharedMarks};
+use crate::table::SharedMarks;
 use cov_model::TestModel;
-use outside_io::Gate;
 use row_text::RowFile;
 use std::alloc::Global;
 use std::thread::{Threads, join};
 use tuple_index::Plan;
 use value_text::NoMemory;
+use worker_gate::Gate;
 
 /// How many rows are marked before sets that are complete leave.
 const FIRST_ROUND: u32 = 1 << 10;
@@ -130,7 +133,9 @@ fn mark_range<R: Threads + Sync, G: Gate + Sync>(
 {
     if workers == 1 {
         gate.come(worker);
-        table.mark_open(alloc, &mut seat, model, plan, in_play, file, from, to)?;
+        mark_open(
+            table, alloc, &mut seat, model, plan, in_play, file, from, to,
+        )?;
         return Ok(seat);
     }
     let half = workers / 2;

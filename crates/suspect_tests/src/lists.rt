@@ -2,7 +2,8 @@
 
 use crate::results::{model_at, results_of};
 use cov_model::TestModel;
-use outside_io::{MemSink, WriteAnswer};
+use memory_io::MemSink;
+use outside_io::WriteAnswer;
 use std::alloc::Global;
 use suspect_tuples::{Suspects, put_suspects, suspects};
 

@@ -81,7 +81,7 @@ pub(crate) fn add_edges(
     let [param, rest @ ..] = set else {
         return add_edge(alloc, passing, rows, before, found);
     };
-    let count = model.params().as_slice()[*param as usize].values.len() as ValueNo;
+    let count = model.value_count(*param);
     for value in 0..count {
         let giving = rows.giving(alloc, (*param, value))?;
         before.push((*param, value))?;

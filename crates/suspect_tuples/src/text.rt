@@ -1,6 +1,6 @@
 ghost use Rattle.definitions.specs.Pairs.{pair_text, pairs_text};
-ghost use Rattle.outside_io.specs.Puts.{Puts, Leaves, Balances, CountsFaults};
-ghost use Rattle.row_text.specs.Buffering.{Adds, state_of};
+ghost use Rattle.outside_io.specs.Puts.{Puts};
+ghost use Rattle.row_text.specs.Buffering.{Adds};
 ghost use Rattle.std.specs.Prelude.{◌∷◌, flat_map, map};
 ghost use Rattle.suspect_tuples.specs.SuspectsText.{suspect_line, suspects_text};
 ghost use Rattle.suspect_tuples.specs.Told.{found_seen, suspects_seen};
@@ -13,8 +13,7 @@ use row_text::{LinesOut, put_number};
 
 // Writes a pair of a parameter and a value.
 fn put_pair<O: Sink>(pair: (ParamNo, ValueNo), lines: &mut LinesOut, out: &mut O)
-    ensures { Adds lines.old (state_of O.written O.room O.faults out.old)
-        lines.new (state_of O.written O.room O.faults out.new) (pair_text pair) }
+    ensures { Adds lines.old (O.seen out.old) lines.new (O.seen out.new) (pair_text pair) }
 {
     let mut param = Buffer::new();
     let mut value = Buffer::new();
@@ -25,8 +24,7 @@ fn put_pair<O: Sink>(pair: (ParamNo, ValueNo), lines: &mut LinesOut, out: &mut O
 
 // Writes pairs, each behind a space.
 fn put_spaced<O: Sink>(pairs: &[(ParamNo, ValueNo)], lines: &mut LinesOut, out: &mut O)
-    ensures { Adds lines.old (state_of O.written O.room O.faults out.old)
-        lines.new (state_of O.written O.room O.faults out.new) (flat_map (λ pair. 32 ∷ pair_text pair) pairs.now) }
+    ensures { Adds lines.old (O.seen out.old) lines.new (O.seen out.new) (flat_map (λ pair. 32 ∷ pair_text pair) pairs.now) }
 {
     for pair in pairs {
         lines.add(b" ", out);
@@ -36,8 +34,7 @@ fn put_spaced<O: Sink>(pairs: &[(ParamNo, ValueNo)], lines: &mut LinesOut, out: 
 
 // Writes pairs, parted by spaces.
 fn put_pairs<O: Sink>(pairs: &[(ParamNo, ValueNo)], lines: &mut LinesOut, out: &mut O)
-    ensures { Adds lines.old (state_of O.written O.room O.faults out.old)
-        lines.new (state_of O.written O.room O.faults out.new) (pairs_text pairs.now) }
+    ensures { Adds lines.old (O.seen out.old) lines.new (O.seen out.new) (pairs_text pairs.now) }
 {
     let [first, rest @ ..] = pairs else {
         return;
@@ -48,8 +45,7 @@ fn put_pairs<O: Sink>(pairs: &[(ParamNo, ValueNo)], lines: &mut LinesOut, out: &
 
 // Writes the line of a suspicious tuple.
 fn put_found<O: Sink>(found: &Found, lines: &mut LinesOut, out: &mut O)
-    ensures { Adds lines.old (state_of O.written O.room O.faults out.old)
-        lines.new (state_of O.written O.room O.faults out.new) (suspect_line (found_seen found.now)) }
+    ensures { Adds lines.old (O.seen out.old) lines.new (O.seen out.new) (suspect_line (found_seen found.now)) }
 {
     let mut digits = Buffer::new();
     lines.add(b"suspect ", out);
@@ -61,8 +57,7 @@ fn put_found<O: Sink>(found: &Found, lines: &mut LinesOut, out: &mut O)
 
 // Writes the line of each suspicious tuple.
 fn put_list<O: Sink>(list: &[Found], lines: &mut LinesOut, out: &mut O)
-    ensures { Adds lines.old (state_of O.written O.room O.faults out.old)
-        lines.new (state_of O.written O.room O.faults out.new) (flat_map suspect_line (map found_seen list.now)) }
+    ensures { Adds lines.old (O.seen out.old) lines.new (O.seen out.new) (flat_map suspect_line (map found_seen list.now)) }
 {
     for found in list {
         put_found(found, lines, out);
@@ -74,10 +69,7 @@ fn put_list<O: Sink>(list: &[Found], lines: &mut LinesOut, out: &mut O)
 /// `Done` where all lines were put, `Failed` where the sink reported a fault: then a prefix of them was.
 /// Takes no memory.
 pub fn put_suspects<O: Sink>(suspects: &Suspects, out: &mut O) -> WriteAnswer
-    ensures puts { Puts result (O.written out.old) (O.written out.new) (suspects_text (suspects_seen suspects.now)) }
-    ensures leaves { Leaves result (O.room out.old) (O.room out.new) (suspects_text (suspects_seen suspects.now)) }
-    ensures balances { Balances (O.written out.old) (O.written out.new) (O.room out.old) (O.room out.new) }
-    ensures counts { CountsFaults result (O.faults out.old) (O.faults out.new) }
+    ensures { Puts result (O.seen out.old) (O.seen out.new) (suspects_text (suspects_seen suspects.now)) }
 {
     let list = suspects.found.as_slice();
     let mut lines = LinesOut::new();

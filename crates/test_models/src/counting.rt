@@ -1,5 +1,5 @@
-use outside_io::Gate;
 use std::sync::atomic::{AtomicU32, AtomicU64, Ordering};
+use worker_gate::Gate;
 
 /// The numbers of workers that tests try: one, two, a few, and the most.
 pub const WORKERS: &[u32] = &[1, 2, 7, 64];

@@ -9,5 +9,5 @@ mod texts;
 
 pub use counting::{Counting, WORKERS};
 pub use meeting::Meeting;
-pub use rows::{count_values, is_positive_row, row_of};
+pub use rows::{is_positive_row, row_of};
 pub use texts::{DISK, OVERLAPPING, model_of, options, read};

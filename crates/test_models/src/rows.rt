@@ -1,5 +1,4 @@
 ghost use Rattle.std.specs.Prelude.{◌≡◌, ◌<◌, true, IsTrue, IfSome, length};
-ghost use Rattle.cov_model.specs.Sound.{param_at};
 ghost use Rattle.cov_model.specs.Valid.{is_row};
 ghost use Rattle.definitions.specs.SliceRows.{IsOfSlice};
 ghost use Rattle.test_models.specs.Rows.{IsPositiveCell};
@@ -7,22 +6,13 @@ ghost use Rattle.test_models.specs.Rows.{IsPositiveCell};
 use cov_model::{Cells, ParamNo, Slice, TestModel, ValueNo};
 use std::alloc::Global;
 
-/// How many values a parameter has.
-pub fn count_values(model: &TestModel, p: ParamNo) -> ValueNo
-    requires { p < length model.now.params }
-    ensures { result ≡ length (param_at model.now.params p).values }
-{
-    model.params().as_slice()[p as usize].values.len() as ValueNo
-}
-
 // Whether the cell has no value, or one of the parameter that exists and isn't negative.
 fn is_positive_cell(model: &TestModel, p: ParamNo, cell: Option<ValueNo>) -> bool
     requires { p < length model.now.params }
     ensures { IsTrue result → IsPositiveCell model.now p cell }
 {
-    let values = model.params().as_slice()[p as usize].values.as_slice();
     match cell {
-        Some(v) => (v as usize) < values.len() && !values[v as usize].negative,
+        Some(v) => v < model.value_count(p) && !model.is_negative(p, v),
         None => true,
     }
 }

@@ -1,4 +1,4 @@
-use outside_io::{ByteList, Calls, FileHeld, FileList, MemFolder, MemSink, SureFolder};
+use memory_io::{ByteList, Calls, FileHeld, FileList, MemFolder, MemSink, SureFolder};
 use pict_cli::run_pict;
 use std::alloc::Global;
 use std::thread::Threads;

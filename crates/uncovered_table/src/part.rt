@@ -161,7 +161,7 @@ impl<'a> SlicePart<'a> {
         requires { p < length self.now.model.params }
         ensures { result ≡ length (param_at self.now.model.params p).values }
     {
-        self.of.params().as_slice()[p as usize].values.len() as u16
+        self.of.value_count(p)
     }
 
     // Whether each value of a parameter is one of the slice, and so its own digit.
@@ -181,7 +181,7 @@ impl<'a> SlicePart<'a> {
     {
         match self.slice {
             Slice::Negative(q, w) if p == q => v == w,
-            _ => !self.of.params().as_slice()[p as usize].values.as_slice()[v as usize].negative,
+            _ => !self.of.is_negative(p, v),
         }
     }
 }

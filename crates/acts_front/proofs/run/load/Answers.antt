@@ -7,7 +7,7 @@ use Rattle.acts_front.proofs.run.load.Goals as goal
 pub returns-in_err-translate-in-Whole : goal.returns-in_err-translate-in-Whole
 returns-in_err-translate-in-Whole g c =
     let fault = c.in_err-translate-in-Whole.field-0.0 in
-    let ends = refused c.args.fold (g.F.Folder.file c.args.files.now c.args.name.now) c.read_file.new.into.items c.from_residual.result fault
+    let ends = refused c.args.fold ((g.F.Folder.seen c.args.files.now).files c.args.name.now) c.read_file.new.into.items c.from_residual.result fault
     c.from_residual.ensures.1 (c.in-Whole.ensures.whole refl) (c.in-Whole.ensures.within refl)
     (subst (λ bytes. Translates (translation c.args.fold bytes) (Err fault)) c.as_slice.ensures.value c.in_err-translate-in-Whole.ensures.translated) in
     record {
@@ -23,7 +23,7 @@ pub returns-in-Whole : goal.returns-in-Whole
 returns-in-Whole g c =
     let text = c.in_ok-translate-in-Whole.field-0 in
     record {
-      loads = translated c.args.fold (g.F.Folder.file c.args.files.now c.args.name.now) c.read_file.new.into.items text
+      loads = translated c.args.fold ((g.F.Folder.seen c.args.files.now).files c.args.name.now) c.read_file.new.into.items text
           (c.in-Whole.ensures.whole refl) (c.in-Whole.ensures.within refl)
           (subst (λ bytes. translation c.args.fold bytes ≡ Ok text.items) c.as_slice.ensures.value c.in_ok-translate-in-Whole.ensures.translated);
       cannot_read = λ e. absurd (cc);
@@ -45,7 +45,7 @@ returns-in-TooLong g c = record {
 
 pub returns-in-Failed : goal.returns-in-Failed
 returns-in-Failed g c = record {
-  loads = unread (g.F.Folder.file c.args.files.now c.args.name.now);
+  loads = unread ((g.F.Folder.seen c.args.files.now).files c.args.name.now);
   cannot_read = λ e. c.in-Failed.ensures.rose refl;
   no_fault = λ other. absurd (other refl);
   other = (λ e. cc, λ index e. cc);
@@ -55,7 +55,7 @@ returns-in-Failed g c = record {
 
 pub returns : goal.returns
 returns g c = record {
-  loads = unread (g.F.Folder.file c.args.files.now c.args.name.now);
+  loads = unread ((g.F.Folder.seen c.args.files.now).files c.args.name.now);
   cannot_read = λ e. absurd (cc);
   no_fault = λ other. c.in-NoMemory.ensures.no_fault (λ e. cc);
   other = (λ e. cc, λ index e. cc);

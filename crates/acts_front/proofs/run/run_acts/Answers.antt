@@ -18,9 +18,8 @@ returns-in-Err g c =
       run = λ asked asks. absurd (none asked asks);
       words = λ other fault. (
         refl,
-        subst (λ i. Tells (g.E.Sink.written c.args.diag.now) (g.E.Sink.written c.tell.new.diag) (g.E.Sink.faults c.args.diag.now)
-            (g.E.Sink.faults c.tell.new.diag) (word_line i)) (same_fault words index other c.in-Err.ensures fault)
-            (c.tell.result, c.tell.ensures.puts, c.tell.ensures.counts),
+        subst (λ i. Tells (g.E.Sink.seen c.args.diag.now) (g.E.Sink.seen c.tell.new.diag) (word_line i)) (same_fault words index other c.in-Err.ensures fault)
+            (c.tell.result, c.tell.ensures.puts),
       );
       read_words = λ asked asks. absurd (none asked asks);
       complete = λ asked bytes text asks. absurd (none asked asks);
@@ -46,8 +45,8 @@ returns g c =
     record {
       translated = translated;
       meaning = λ zero asked held also told.
-          written_faithful asked.fold held (g.F.Folder.file c.run-end.new.files asked.output) (translated zero asked held also told);
-      run = ends.run_is asks ran is (c.tell-2.result, c.tell-2.ensures.puts, c.tell-2.ensures.counts);
+          written_faithful asked.fold held ((g.F.Folder.seen c.run-end.new.files).files asked.output) (translated zero asked held also told);
+      run = ends.run_is asks ran is (c.tell-2.result, c.tell-2.ensures.puts);
       words = λ index fault. absurd (unasked (texts c.args.words.now) index _ fault asks);
       read_words = λ asked also. ends.not_words asks ran is;
       complete = ends.complete asks ran is;

@@ -4,13 +4,13 @@ use Rattle.command_line.proofs.load.read_whole.Goals as goal
 
 pub returns-in-TooLong-clause-stops : goal.returns-in-TooLong-clause-stops
 returns-in-TooLong-clause-stops g c =
-    longer c.args.kind c.most_bytes.result (g.F.Folder.file c.args.files.now c.args.name.now) c.most_bytes.ensures (c.in-TooLong.ensures.too_long refl)
+    longer c.args.kind c.most_bytes.result ((g.F.Folder.seen c.args.files.now).files c.args.name.now) c.most_bytes.ensures (c.in-TooLong.ensures.too_long refl)
 
 pub returns-in-Failed-clause-stops : goal.returns-in-Failed-clause-stops
-returns-in-Failed-clause-stops g c = not_read c.args.kind (g.F.Folder.file c.args.files.now c.args.name.now)
+returns-in-Failed-clause-stops g c = not_read c.args.kind ((g.F.Folder.seen c.args.files.now).files c.args.name.now)
 
 pub returns-in-NoMemory-clause-stops : goal.returns-in-NoMemory-clause-stops
-returns-in-NoMemory-clause-stops g c = without_room c.args.kind (g.F.Folder.file c.args.files.now c.args.name.now)
+returns-in-NoMemory-clause-stops g c = without_room c.args.kind ((g.F.Folder.seen c.args.files.now).files c.args.name.now)
 
 pub returns-in-TooLong-clause-other : goal.returns-in-TooLong-clause-other
 returns-in-TooLong-clause-other g c = stop_of_length c.args.kind

@@ -5,7 +5,5 @@ use Rattle.definitions.specs.Pairs.{pairs_text}
 use Rattle.command_line.proofs.put.put_pairs.Given as goal
 
 abbrev pub invariant-loop-place : goal.invariant-loop-place
-invariant-loop-place g l = record {
-  puts : Puts Done (g.E.Sink.written l.fn.sink) (g.E.Sink.written l.sink) (pairs_text (take l.place l.pairs));
-  counts : g.E.Sink.faults l.sink ≡ g.E.Sink.faults l.fn.sink;
-}
+invariant-loop-place g l =
+    Puts Done (g.E.Sink.seen l.fn.sink) (g.E.Sink.seen l.sink) (pairs_text (take l.place l.pairs))

@@ -6,7 +6,5 @@ use Rattle.command_line.specs.Told.{line_behind}
 use Rattle.command_line.proofs.told.put_notes.Given as goal
 
 abbrev pub invariant-loop-note : goal.invariant-loop-note
-invariant-loop-note g l = record {
-  puts : Puts Done (g.E.Sink.written l.fn.sink) (g.E.Sink.written l.sink) (flat_map (line_behind l.opening) (take l.note-index l.notes));
-  counts : g.E.Sink.faults l.sink ≡ g.E.Sink.faults l.fn.sink;
-}
+invariant-loop-note g l =
+    Puts Done (g.E.Sink.seen l.fn.sink) (g.E.Sink.seen l.sink) (flat_map (line_behind l.opening) (take l.note-index l.notes))

@@ -24,7 +24,7 @@ pub returns-clause-code : goal.returns-clause-code
 returns-clause-code c =
     let start : c.len-start.result ≡ length c.args.table.now = grind arith in
     let end : c.loop-v.v ≡ length (param_at c.args.model.now.params c.args.p).values = omega (arith, c.loop-v.invariant.count) in
-    two_is_code c.args.model.now c.args.term.now c.args.p c.args.q c.len-start.result c.count_of-width.result c.args.table.now c.loop-v.invariant.added
+    two_is_code c.args.model.now c.args.term.now c.args.p c.args.q c.len-start.result c.value_count-width.result c.args.table.now c.loop-v.invariant.added
     c.loop-v.table start
-    c.loop-v.invariant.table c.count_of-width.ensures c.requires.named (subst
+    c.loop-v.invariant.table c.value_count-width.ensures c.requires.named (subst
     (λ n. PairTruths c.args.model.now c.args.term.now c.args.p c.args.q n c.loop-v.invariant.added) end c.loop-v.invariant.pairs)

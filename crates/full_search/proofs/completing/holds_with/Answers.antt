@@ -7,11 +7,12 @@ use Rattle.live_sets.specs.Trail.{LiveView, mark_at, undone}
 use Rattle.feasibility.specs.Tree.{IsListed, constrained_at}
 use Rattle.feasibility.proofs.Naming.{constrained_exists}
 use Rattle.feasibility.proofs.Nodes.{set_clear}
+use Rattle.feasibility.proofs.Searching.{IsListed-with_value}
 use Rattle.full_search.specs.Completing.{HasRow}
 use Rattle.full_search.specs.Reasons.{HasNoRow, IsPart, IsRowFor}
 use Rattle.full_search.specs.Searching.{IsAt}
 use Rattle.full_search.proofs.Entered.{entered_at, listed_part}
-use Rattle.full_search.proofs.Holding.{dead_none, is_equal, listed_with, part_contained, part_given, part_whole, row_fine}
+use Rattle.full_search.proofs.Holding.{dead_none, is_equal, part_contained, part_given, part_whole, row_fine}
 use Rattle.full_search.proofs.Parts.{no_row_of, part_self, part_with}
 use Rattle.full_search.proofs.Rows.{failing_none}
 use Rattle.full_search.proofs.completing.holds_with.Goals as goal
@@ -93,7 +94,7 @@ returns-clause-no c e =
           subst (HasNoRow tree) c.enter.ensures.cells (no_row_of tree (get_or w.search.new.whys 0 []) c.enter.new.cells reason.none reason.part)
       | else-enter-via-else-enter w ↦
           failing_none tree (with_value cells p c.args.v) values
-          (listed_with tree.values cells p c.args.v (omega (arith, low, values.as_many)) c.requires.value c.requires.row.at.listed)
+          (IsListed-with_value tree.values cells p c.args.v c.requires.row.at.listed (omega (arith, low, values.as_many)) c.requires.value)
           (not-false (is_failing tree.model tree.values (with_value cells p c.args.v)) (sym c.enter.ensures.fails ∙ w.if-enter.false))
     ]
 

@@ -1,11 +1,8 @@
-use Rattle.std.proofs.Common.{◌≡◌, take}
+use Rattle.std.proofs.Common.{take}
 use Rattle.std.specs.List.{flat_map}
 use Rattle.outside_io.specs.declared.answers.WriteAnswer.TheVariants.{Done}
 use Rattle.outside_io.specs.Puts.{Puts}
 use Rattle.outside_io.proofs.pieces.put_pieces.Given as goal
 
 abbrev pub invariant-loop-piece : goal.invariant-loop-piece
-invariant-loop-piece g l = record {
-  puts : Puts Done (g.E.Sink.written l.fn.sink) (g.E.Sink.written l.sink) (flat_map (λ piece. piece.now) (take l.piece-index l.pieces));
-  counts : g.E.Sink.faults l.sink ≡ g.E.Sink.faults l.fn.sink;
-}
+invariant-loop-piece g l = Puts Done (g.E.Sink.seen l.fn.sink) (g.E.Sink.seen l.sink) (flat_map (λ piece. piece.now) (take l.piece-index l.pieces))

@@ -3,7 +3,7 @@ use Rattle.std.specs.Prelude.{All}
 use Rattle.cov_model.specs.Valid.{is_row}
 use Rattle.row_text.specs.RowFiles.{seeds_seen}
 use Rattle.row_text.specs.Told.{statistics_seen}
-use Rattle.pict_cli.specs.Ends.{CountsReads, IsAnswered, IsEarly, Prints, end_of}
+use Rattle.pict_cli.specs.Ends.{CountsReads, IsAnswered, IsEarly, Prints, end_of, moment}
 use Rattle.pict_cli.specs.Modes.{Generate, makes_plan}
 use Rattle.pict_cli.specs.Options.{output_seen, settings_seen}
 use Rattle.pict_cli.specs.Runs.{EndsBehind, growth_of, growth_over, rows_of_run, shuffled_by, suite_text}
@@ -31,8 +31,8 @@ returns-in_err-ready-clause-leaves g c = λ name.
     let e = ends_by end c.in_err-ready.field-0.0 c.from_residual.ensures.1 in
     leaves_early s name _ _ (end_of end) (subst (λ x. IsEarly (end_of x)) (sym e) (rows_early c.in_err-ready.field-0.0 c.in_err-ready.ensures.other))
     (subst (λ x. IsAnswered s.effort (end_of x)) (sym e) (rows_answered s.effort c.in_err-ready.field-0.0 c.in_err-ready.ensures.other)) c.prepare.ensures.files
-    (subst (λ x. CountsReads s name (end_of x) (g.F.Folder.read_faults c.args.files.now) (g.F.Folder.read_faults c.prepare.new.files)) (sym e) (c.in_err-ready.ensures.reads name))
-    c.prepare.ensures.write_faults refl refl
+    (subst (λ x. CountsReads s name (end_of x) (g.F.Folder.seen c.args.files.now) (g.F.Folder.seen c.prepare.new.files)) (sym e) (c.in_err-ready.ensures.reads name))
+    c.prepare.ensures.write_faults refl
 
 pub returns-in_err-suite-clause-runs : goal.returns-in_err-suite-clause-runs
 returns-in_err-suite-clause-runs g c = λ source told.
@@ -59,7 +59,7 @@ returns-in_err-suite-clause-leaves g c = λ name.
     subst (λ x. IsOfSearch s.effort (end_of x)) (sym (ends_by end stop c.from_residual-in_err-suite.ensures.1))
     (search_ends s.effort _ stop (due_work _ _ _ _ stop c.in_err-suite.ensures.stops)) in
     leaves_early s name _ _ (end_of end) (search_early s.effort (end_of end) of) (search_answered s.effort (end_of end) of) c.prepare.ensures.files
-    (reads_searched s name (end_of end) _ _ of c.in_ok-ready.ensures.no_fault) c.prepare.ensures.write_faults refl refl
+    (reads_searched s name (end_of end) (g.F.Folder.seen c.args.files.now) (g.F.Folder.seen c.prepare.new.files) of c.in_ok-ready.ensures.no_fault) c.prepare.ensures.write_faults refl
 
 pub write_suite-requires-clause-rows : goal.write_suite-requires-clause-rows
 write_suite-requires-clause-rows g c =
@@ -81,16 +81,16 @@ returns-clause-runs g c = λ source told.
     let reads = file_read s m source file plans read in
     let end = c.write_suite.result in
     let suite = c.in_ok-suite.suite in
-    let before = g.F.Folder.file c.args.files.now in
-    let loaded = g.F.Folder.file c.prepare.new.files in
-    let after = g.F.Folder.file c.write_suite.new.files in
+    let before = g.F.Folder.seen c.args.files.now in
+    let loaded = g.F.Folder.seen c.prepare.new.files in
+    let after = g.F.Folder.seen c.write_suite.new.files in
     record {
       sound = c.assert_invariant.ensures;
       ends =
           work_written s seed m source given file.notes within (Generate output) c.requires.mode reads read.holds.notes end c.make_suite.new.notes
           (none_spent s.effort (growth_over s seed m seeds) c.in_ok-suite.ensures.answered) c.in_ok-suite.ensures.notes c.write_suite.ensures.stops;
       prints =
-          subst (λ text. Prints text (g.O.Sink.written c.args.out.now) (g.O.Sink.written c.write_suite.new.out) (end_of end))
+          subst (λ text. Prints text (g.O.Sink.seen c.args.out.now) (g.O.Sink.seen c.write_suite.new.out) (end_of end))
           (ap (λ rows. suite_text output m rows (statistics_seen suite.stats)) c.in_ok-suite.ensures.rows
           ∙ ap (suite_text output m (growth_of s seed m seeds).rows) c.in_ok-suite.ensures.stats
           ∙ sym (text_same s seed m source given file.notes within (Generate output) c.requires.mode reads read.holds.notes))
@@ -104,7 +104,8 @@ returns-clause-runs g c = λ source told.
 
 pub returns-clause-leaves : goal.returns-clause-leaves
 returns-clause-leaves g c = λ name.
-    leaves_from (settings_seen c.args.opts.now) name _ _ _ (end_of c.write_suite.result) c.prepare.ensures.files c.in_ok-ready.ensures.no_fault c.prepare.ensures.write_faults refl refl
+    leaves_from (settings_seen c.args.opts.now) name (moment (g.F.Folder.seen c.args.files.now) (g.O.Sink.seen c.args.out.now))
+    (moment (g.F.Folder.seen c.prepare.new.files) (g.O.Sink.seen c.args.out.now)) (moment (g.F.Folder.seen c.write_suite.new.files) (g.O.Sink.seen c.write_suite.new.out)) (end_of c.write_suite.result) c.prepare.ensures.files c.in_ok-ready.ensures.no_fault c.prepare.ensures.write_faults refl
     (c.write_suite.ensures.leaves name)
 
 pub prepare-requires-clause-plans : goal.prepare-requires-clause-plans

@@ -3,7 +3,7 @@ use Rattle.std.proofs.lemmas.List.{append-nil}
 use Rattle.definitions.specs.Figures.{figures}
 use Rattle.definitions.specs.Search.{first_measured_over}
 use Rattle.definitions.specs.Statistics.{figures_text}
-use Rattle.pict_cli.specs.Ends.{CountsReads, IsAnswered, IsEarly, Prints, end_of}
+use Rattle.pict_cli.specs.Ends.{CountsReads, IsAnswered, IsEarly, Prints, end_of, moment}
 use Rattle.pict_cli.specs.Modes.{Measure, makes_plan, makes_suite}
 use Rattle.pict_cli.specs.Options.{settings_seen}
 use Rattle.pict_cli.specs.Runs.{EndsBehind, rows_of_run, spent_at}
@@ -32,8 +32,8 @@ returns-in_err-ready-clause-leaves g c = λ name.
     let e = ends_by end c.in_err-ready.field-0.0 c.from_residual.ensures.1 in
     leaves_early s name _ _ (end_of end) (subst (λ x. IsEarly (end_of x)) (sym e) (rows_early c.in_err-ready.field-0.0 c.in_err-ready.ensures.other))
     (subst (λ x. IsAnswered s.effort (end_of x)) (sym e) (rows_answered s.effort c.in_err-ready.field-0.0 c.in_err-ready.ensures.other)) c.prepare.ensures.files
-    (subst (λ x. CountsReads s name (end_of x) (g.F.Folder.read_faults c.args.files.now) (g.F.Folder.read_faults c.prepare.new.files)) (sym e) (c.in_err-ready.ensures.reads name))
-    c.prepare.ensures.write_faults refl refl
+    (subst (λ x. CountsReads s name (end_of x) (g.F.Folder.seen c.args.files.now) (g.F.Folder.seen c.prepare.new.files)) (sym e) (c.in_err-ready.ensures.reads name))
+    c.prepare.ensures.write_faults refl
 
 pub returns-in_err-figures-clause-runs : goal.returns-in_err-figures-clause-runs
 returns-in_err-figures-clause-runs g c = λ seed source told.
@@ -60,7 +60,7 @@ returns-in_err-figures-clause-leaves g c = λ name.
     subst (λ x. IsOfSearch s.effort (end_of x)) (sym (ends_by end stop c.from_residual-in_err-figures.ensures.1))
     (search_ends s.effort (first_measured_over c.args.model.now s.effort) stop c.in_err-figures.ensures.stops) in
     leaves_early s name _ _ (end_of end) (search_early s.effort (end_of end) of) (search_answered s.effort (end_of end) of) c.prepare.ensures.files
-    (reads_searched s name (end_of end) _ _ of c.in_ok-ready.ensures.no_fault) c.prepare.ensures.write_faults refl refl
+    (reads_searched s name (end_of end) (g.F.Folder.seen c.args.files.now) (g.F.Folder.seen c.prepare.new.files) of c.in_ok-ready.ensures.no_fault) c.prepare.ensures.write_faults refl
 
 pub returns-clause-runs : goal.returns-clause-runs
 returns-clause-runs g c = λ seed source told.
@@ -81,17 +81,18 @@ returns-clause-runs g c = λ seed source told.
           (none_spent s.effort (first_measured_over m s.effort) c.in_ok-figures.ensures.answered) (sym (append-nil file.notes))
           (if_err_then end (λ stop is. inl is) c.print_figures.ensures.stops);
       prints =
-          subst (λ text. Prints text (g.O.Sink.written c.args.out.now) (g.O.Sink.written c.print_figures.new.out) (end_of end))
+          subst (λ text. Prints text (g.O.Sink.seen c.args.out.now) (g.O.Sink.seen c.print_figures.new.out) (end_of end))
           (ap figures_text (c.in_ok-figures.ensures.figures ∙ ap (figures m) (sym (suite_rows file.rows)))
           ∙ sym (text_same s seed m source given file.notes within mode c.requires.mode.1 reads read.holds.notes))
           c.print_figures.ensures.prints;
-      writes = writes_none s seed m (rows_of_run s m source) _ _ (end_of end) (c.requires.fit.unproved (ap makes_suite c.requires.mode.1));
+      writes = writes_none s seed m (rows_of_run s m source) (g.F.Folder.seen c.args.files.now) (g.F.Folder.seen c.prepare.new.files) (end_of end) (c.requires.fit.unproved (ap makes_suite c.requires.mode.1));
       others = λ file other. c.prepare.ensures.files file;
     }
 
 pub returns-clause-leaves : goal.returns-clause-leaves
 returns-clause-leaves g c = λ name.
-    leaves_from (settings_seen c.args.opts.now) name _ _ _ (end_of c.print_figures.result) c.prepare.ensures.files c.in_ok-ready.ensures.no_fault c.prepare.ensures.write_faults refl refl
+    leaves_from (settings_seen c.args.opts.now) name (moment (g.F.Folder.seen c.args.files.now) (g.O.Sink.seen c.args.out.now))
+    (moment (g.F.Folder.seen c.prepare.new.files) (g.O.Sink.seen c.args.out.now)) (moment (g.F.Folder.seen c.prepare.new.files) (g.O.Sink.seen c.print_figures.new.out)) (end_of c.print_figures.result) c.prepare.ensures.files c.in_ok-ready.ensures.no_fault c.prepare.ensures.write_faults refl
     (leaves_printed (settings_seen c.args.opts.now) name _ _ c.print_figures.result (λ file. refl) (λ file. refl) (λ file. refl) c.print_figures.ensures.stops c.print_figures.ensures.faults)
 
 pub prepare-requires-clause-plans : goal.prepare-requires-clause-plans

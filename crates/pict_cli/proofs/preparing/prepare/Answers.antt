@@ -1,6 +1,6 @@
 use Rattle.std.proofs.Common.{◌≡◌, ℕ, List, [], Some, Err, inr, ap, refl, subst, sym}
 use Rattle.std.specs.Prelude.{IsSomeAnd}
-use Rattle.outside_io.specs.Faults.{Rose}
+use Rattle.outside_io.specs.Seen.{ReadFaultsRose}
 use Rattle.command_line.specs.Stops.{stop_of_plan}
 use Rattle.command_line.specs.declared.files.FileKind.TheVariants as kinds
 use Rattle.command_line.specs.declared.stop.Stop.TheVariants.{CannotRead}
@@ -20,7 +20,7 @@ returns-in_err-plan-clause-stops g c =
     let s = settings_seen c.args.opts.now in
     let m = c.args.model.now in
     let fault = c.in_err-plan.field-0.0 in
-    if_err_of (λ stop. (seed : ℕ) (source : RowSource) → row_source s (g.F.Folder.file c.args.files.now) ≡ Some source → EndsBehind s seed m source [] (Err stop)) c.from_residual.result
+    if_err_of (λ stop. (seed : ℕ) (source : RowSource) → row_source s (g.F.Folder.seen c.args.files.now).files ≡ Some source → EndsBehind s seed m source [] (Err stop)) c.from_residual.result
     (stop_of_plan fault) c.from_residual.ensures.1 (λ seed source told. limited s seed m source fault (Err (stop_of_plan fault)) c.requires.plans refl c.in_err-plan.ensures.refused)
 
 pub returns-in_err-plan-clause-other : goal.returns-in_err-plan-clause-other
@@ -32,16 +32,16 @@ pub returns-in_err-plan-clause-reads : goal.returns-in_err-plan-clause-reads
 returns-in_err-plan-clause-reads g c =
     let s = settings_seen c.args.opts.now in
     let fault = c.in_err-plan.field-0.0 in
-    let reads = g.F.Folder.read_faults c.args.files.now in
-    if_err_of (λ stop. (name : List ℕ) → CountsReads s name (end_of (Err stop)) reads reads) c.from_residual.result (stop_of_plan fault) c.from_residual.ensures.1
-    (λ name. reads_stopped s name (end_of (Err (stop_of_plan fault))) reads reads (plan_stopped fault) (λ file. refl))
+    let before = g.F.Folder.seen c.args.files.now in
+    if_err_of (λ stop. (name : List ℕ) → CountsReads s name (end_of (Err stop)) before before) c.from_residual.result (stop_of_plan fault) c.from_residual.ensures.1
+    (λ name. reads_stopped s name (end_of (Err (stop_of_plan fault))) before before (plan_stopped fault) (λ file. refl))
 
 pub returns-in_err-file-clause-stops : goal.returns-in_err-file-clause-stops
 returns-in_err-file-clause-stops g c =
     let s = settings_seen c.args.opts.now in
     let m = c.args.model.now in
     let stop = c.in_err-file.field-0.0 in
-    let files = g.F.Folder.file c.args.files.now in
+    let files = (g.F.Folder.seen c.args.files.now).files in
     if_err_of (λ other. (seed : ℕ) (source : RowSource) → row_source s files ≡ Some source → EndsBehind s seed m source [] (Err other)) c.from_residual-in_err-file.result
     stop c.from_residual-in_err-file.ensures.1 (λ seed source told.
     rows_stopped s seed m source stop (Err stop) refl (within_due s m c.requires.plans c.in_ok-plan.ensures.within)
@@ -56,15 +56,15 @@ pub returns-in_err-file-clause-reads : goal.returns-in_err-file-clause-reads
 returns-in_err-file-clause-reads g c =
     let s = settings_seen c.args.opts.now in
     let stop = c.in_err-file.field-0.0 in
-    let reads = g.F.Folder.read_faults c.args.files.now in
-    let after = g.F.Folder.read_faults c.load_rows.new.files in
-    if_err_of (λ other. (name : List ℕ) → CountsReads s name (end_of (Err other)) reads after) c.from_residual-in_err-file.result stop c.from_residual-in_err-file.ensures.1
-    (λ name. rows_counted s name stop reads after c.in_err-file.ensures.other
-    (λ is. subst (λ file. IsSomeAnd file (λ given. Rose (reads given) (after given))) c.row_file.ensures (c.in_err-file.ensures.cannot_read (ap Err is)))
+    let before = g.F.Folder.seen c.args.files.now in
+    let after = g.F.Folder.seen c.load_rows.new.files in
+    if_err_of (λ other. (name : List ℕ) → CountsReads s name (end_of (Err other)) before after) c.from_residual-in_err-file.result stop c.from_residual-in_err-file.ensures.1
+    (λ name. rows_counted s name stop before after c.in_err-file.ensures.other
+    (λ is. subst (λ file. IsSomeAnd file (λ given. ReadFaultsRose given before after)) c.row_file.ensures (c.in_err-file.ensures.cannot_read (ap Err is)))
     (λ other. c.in_err-file.ensures.no_fault (λ is. other (let same : stop ≡ (CannotRead kinds.Rows) = cc in same))))
 
 pub returns-clause-rows : goal.returns-clause-rows
 returns-clause-rows g c = λ source told.
-    let files = g.F.Folder.file c.args.files.now in
+    let files = (g.F.Folder.seen c.args.files.now).files in
     subst (λ mode. HoldsRows c.args.model.now mode source c.in_ok-file.file) c.requires.mode
     (c.in_ok-file.ensures.rows source (subst (λ file. source_in file files ≡ Some source) (sym c.row_file.ensures) told))

@@ -12,5 +12,5 @@ returns-in-Ok-clause-results g c = λ held told.
     let bytes = c.in_ok-bytes.bytes.items in
     let reads = c.in-Ok.ensures.reads in
     subst (λ other. HoldsResultsOf m (RowsHeld other) c.in-Ok.file)
-    (sym (at_told (λ found. found ≡ Some bytes) (g.F.Folder.file c.args.files.now c.args.name.now) held told c.in_ok-bytes.ensures.whole))
+    (sym (at_told (λ found. found ≡ Some bytes) ((g.F.Folder.seen c.args.files.now).files c.args.name.now) held told c.in_ok-bytes.ensures.whole))
     (results_read m bytes c.in-Ok.file c.in_ok-bytes.ensures.within reads.0 (subst (λ text. read_results m text ≡ Ok reads.0) c.as_slice.ensures.value reads.1) reads.2)

@@ -9,7 +9,7 @@ use Rattle.pict_cli.proofs.rows.load_rows.Goals as goal
 
 pub returns-in-Some-clause-stops : goal.returns-in-Some-clause-stops
 returns-in-Some-clause-stops g c =
-    let files = g.F.Folder.file c.args.files.now in
+    let files = (g.F.Folder.seen c.args.files.now).files in
     if_err_then c.read_row_file.result
     (λ stop stops source told. source_held (files c.in-Some.name.now) source (λ found. StopsRows (read_row_bytes c.args.model.now (mode_seen c.args.mode)) found stop)
     (subst (λ name. source_in (option_map (λ file. file.now) name) files ≡ Some source) c.in-Some.is told) stops)
@@ -18,4 +18,4 @@ returns-in-Some-clause-stops g c =
 pub returns-in-None-clause-rows : goal.returns-in-None-clause-rows
 returns-in-None-clause-rows g c = λ source told.
     no_file c.args.model.now (mode_seen c.args.mode) _ source c.new.ensures c.new-in-None.ensures
-    (subst (λ name. source_in (option_map (λ file. file.now) name) (g.F.Folder.file c.args.files.now) ≡ Some source) c.in-None.is told)
+    (subst (λ name. source_in (option_map (λ file. file.now) name) (g.F.Folder.seen c.args.files.now).files ≡ Some source) c.in-None.is told)

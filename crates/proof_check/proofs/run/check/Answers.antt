@@ -6,7 +6,7 @@ use Rattle.value_text.proofs.ListLemmas.{is_err, one_err}
 
 pub returns-in_err-verdict-clause-ends : goal.returns-in_err-verdict-clause-ends
 returns-in_err-verdict-clause-ends g c = λ held holds.
-    let out = g.O.Sink.written c.args.out.now in
+    let out = g.O.Sink.seen c.args.out.now in
     subst (Ends c.args.opts.now.opts held out out) (sym (is_err c.from_residual.ensures.1))
     (stopped_ends c.args.opts.now.opts held out c.in_err-verdict.field-0.0 c.in_err-verdict.ensures.before (c.in_err-verdict.ensures.answers held holds))
 
@@ -16,5 +16,5 @@ returns-in_err-verdict-clause-read g c = λ kind e.
 
 pub returns-clause-ends : goal.returns-clause-ends
 returns-clause-ends g c = λ held holds.
-    printed_ends c.args.opts.now.opts held (g.O.Sink.written c.args.out.now)
-    (g.O.Sink.written c.print.new.out) c.in_ok-verdict.verdict c.print.result (c.in_ok-verdict.ensures.answers held holds) c.print.ensures.prints
+    printed_ends c.args.opts.now.opts held (g.O.Sink.seen c.args.out.now)
+    (g.O.Sink.seen c.print.new.out) c.in_ok-verdict.verdict c.print.result (c.in_ok-verdict.ensures.answers held holds) c.print.ensures.prints

@@ -19,7 +19,7 @@ returns-in_err-model-clause-reads g c = λ held holds.
 pub returns-in_err-report-clause-reads : goal.returns-in_err-report-clause-reads
 returns-in_err-report-clause-reads g c = λ held holds.
     let opts = c.args.opts.now.opts in
-    let later = holds_after c.read_whole.ensures.files holds in
+    let later = holds_after (g.F.Folder.seen c.args.files.now) (g.F.Folder.seen c.read_whole.new.files) c.read_whole.ensures.files holds in
     let model = whole kinds.Model held.model c.in_ok-model.model.items
     (told (λ h. h ≡ Some c.in_ok-model.model.items) holds.model c.in_ok-model.ensures.whole) c.in_ok-model.ensures.within in
     subst (Reads opts held) (sym (is_err c.from_residual-in_err-report.ensures.1))
@@ -29,8 +29,8 @@ returns-in_err-report-clause-reads g c = λ held holds.
 pub returns-in_err-proof-clause-reads : goal.returns-in_err-proof-clause-reads
 returns-in_err-proof-clause-reads g c = λ held holds.
     let opts = c.args.opts.now.opts in
-    let later = holds_after c.read_whole.ensures.files holds in
-    let last = holds_after c.read_whole-2.ensures.files later in
+    let later = holds_after (g.F.Folder.seen c.args.files.now) (g.F.Folder.seen c.read_whole.new.files) c.read_whole.ensures.files holds in
+    let last = holds_after (g.F.Folder.seen c.read_whole.new.files) (g.F.Folder.seen c.read_whole-2.new.files) c.read_whole-2.ensures.files later in
     let model = whole kinds.Model held.model c.in_ok-model.model.items
     (told (λ h. h ≡ Some c.in_ok-model.model.items) holds.model c.in_ok-model.ensures.whole) c.in_ok-model.ensures.within in
     let report = whole kinds.Rows held.report c.in_ok-report.report.items
@@ -42,8 +42,8 @@ returns-in_err-proof-clause-reads g c = λ held holds.
 
 pub returns-clause-reads : goal.returns-clause-reads
 returns-clause-reads g c = λ held holds.
-    let later = holds_after c.read_whole.ensures.files holds in
-    let last = holds_after c.read_whole-2.ensures.files later in
+    let later = holds_after (g.F.Folder.seen c.args.files.now) (g.F.Folder.seen c.read_whole.new.files) c.read_whole.ensures.files holds in
+    let last = holds_after (g.F.Folder.seen c.read_whole.new.files) (g.F.Folder.seen c.read_whole-2.new.files) c.read_whole-2.ensures.files later in
     let model = whole kinds.Model held.model c.in_ok-model.model.items
     (told (λ h. h ≡ Some c.in_ok-model.model.items) holds.model c.in_ok-model.ensures.whole) c.in_ok-model.ensures.within in
     let report = whole kinds.Rows held.report c.in_ok-report.report.items
@@ -68,19 +68,19 @@ returns-in_err-proof-clause-before g c =
 
 pub returns-in_err-model-clause-cannot_read : goal.returns-in_err-model-clause-cannot_read
 returns-in_err-model-clause-cannot_read g c = λ kind e.
-    let faults = g.F.Folder.read_faults c.args.files.now in
-    blames_itself kinds.Model c.in_err-model.field-0.0 (names_seen c.args.opts.now) faults faults (g.F.Folder.read_faults c.read_whole.new.files) c.in_err-model.ensures.other
+    let faults = g.F.Folder.seen c.args.files.now in
+    blames_itself kinds.Model c.in_err-model.field-0.0 (names_seen c.args.opts.now) faults faults (g.F.Folder.seen c.read_whole.new.files) c.in_err-model.ensures.other
     (λ name. refl) (λ is. c.in_err-model.ensures.cannot_read (ap Err is)) kind (one_err (is_err c.from_residual.ensures.1) e)
 
 pub returns-in_err-report-clause-cannot_read : goal.returns-in_err-report-clause-cannot_read
 returns-in_err-report-clause-cannot_read g c = λ kind e.
-    blames_itself kinds.Rows c.in_err-report.field-0.0 (names_seen c.args.opts.now) (g.F.Folder.read_faults c.args.files.now)
-    (g.F.Folder.read_faults c.read_whole.new.files) (g.F.Folder.read_faults c.read_whole-2.new.files) c.in_err-report.ensures.other
+    blames_itself kinds.Rows c.in_err-report.field-0.0 (names_seen c.args.opts.now) (g.F.Folder.seen c.args.files.now)
+    (g.F.Folder.seen c.read_whole.new.files) (g.F.Folder.seen c.read_whole-2.new.files) c.in_err-report.ensures.other
     (c.in_ok-model.ensures.no_fault (λ e. cc)) (λ is. c.in_err-report.ensures.cannot_read (ap Err is)) kind (one_err (is_err c.from_residual-in_err-report.ensures.1) e)
 
 pub returns-in_err-proof-clause-cannot_read : goal.returns-in_err-proof-clause-cannot_read
 returns-in_err-proof-clause-cannot_read g c = λ kind e.
-    blames_itself kinds.Proof c.in_err-proof.field-0.0 (names_seen c.args.opts.now) (g.F.Folder.read_faults c.args.files.now)
-    (g.F.Folder.read_faults c.read_whole-2.new.files) (g.F.Folder.read_faults c.read_whole-3.new.files) c.in_err-proof.ensures.other
+    blames_itself kinds.Proof c.in_err-proof.field-0.0 (names_seen c.args.opts.now) (g.F.Folder.seen c.args.files.now)
+    (g.F.Folder.seen c.read_whole-2.new.files) (g.F.Folder.seen c.read_whole-3.new.files) c.in_err-proof.ensures.other
     (λ name. c.in_ok-report.ensures.no_fault (λ e. cc) name ∙ c.in_ok-model.ensures.no_fault (λ e. cc) name)
     (λ is. c.in_err-proof.ensures.cannot_read (ap Err is)) kind (one_err (is_err c.from_residual-in_err-proof.ensures.1) e)

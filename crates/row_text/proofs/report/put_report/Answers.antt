@@ -1,6 +1,5 @@
 use Rattle.std.proofs.Common.{sym, subst, ◌∙◌}
 use Rattle.definitions.specs.Report.{report_text}
-use Rattle.row_text.specs.Buffering.{state_of}
 use Rattle.row_text.specs.Turns.{IsFor}
 use Rattle.row_text.proofs.Turning.{first_turns-IsFor}
 use Rattle.row_text.proofs.Sending.{Adds-then, Holds-all}
@@ -11,7 +10,7 @@ put_rows-requires-clause-shape g c = subst (IsFor c.args.model.now) (sym (c.clea
 
 pub returns : goal.returns
 returns g c =
-    let state = state_of g.O.Sink.written g.O.Sink.room g.O.Sink.faults in
+    let state = g.O.Sink.seen in
     let whole = c.finish.ensures (state c.args.out.now) (report_text c.args.model.now c.args.rows.now)
     (Holds-all c.clear.ensures.buffer (Adds-then c.put_header.ensures c.put_rows.ensures.text)) in
-    record { puts = whole.puts; leaves = whole.leaves; balances = whole.balances; counts = whole.counts; turns = c.put_rows.ensures.shape }
+    record { puts = whole; turns = c.put_rows.ensures.shape }

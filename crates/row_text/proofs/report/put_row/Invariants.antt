@@ -3,13 +3,13 @@ use Rattle.std.specs.Prelude.{slice_index_or}
 use Rattle.std.specs.List.{join_with_byte}
 use Rattle.cov_model.specs.Valid.{param_numbers}
 use Rattle.definitions.specs.Report.{cell_text}
-use Rattle.row_text.specs.Buffering.{state_of, Adds}
+use Rattle.row_text.specs.Buffering.{Adds}
 use Rattle.row_text.specs.Turns.{IsFor, AreTurns, turns_at}
 use Rattle.row_text.proofs.report.put_row.Given as goal
 
 abbrev pub invariant-loop-place : goal.invariant-loop-place
 invariant-loop-place g l =
-    let state = state_of g.O.Sink.written g.O.Sink.room g.O.Sink.faults in
+    let state = g.O.Sink.seen in
     let earlier = take l.at l.rows in
     record {
       text : Adds l.fn.turns.buffer (state l.fn.out) l.turns.buffer (state l.out)

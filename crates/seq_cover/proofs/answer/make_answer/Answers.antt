@@ -7,14 +7,14 @@ use Rattle.seq_cover.proofs.answer.make_answer.Goals as goal
 
 pub returns-in_err-report-in-Some-clause-stops : goal.returns-in_err-report-in-Some-clause-stops
 returns-in_err-report-in-Some-clause-stops g c =
-    no_report_read (asked_seen c.args.command.now) (g.F.Folder.file c.args.files.now) c.in-Some.name.now c.from_residual-in_err-report-in-Some.result
+    no_report_read (asked_seen c.args.command.now) (g.F.Folder.seen c.args.files.now).files c.in-Some.name.now c.from_residual-in_err-report-in-Some.result
     c.in_err-report-in-Some.field-0.0 c.from_residual-in_err-report-in-Some.ensures.1 (ap (option_map (λ name. name.now)) c.in-Some.is)
     c.in_err-report-in-Some.ensures.stops
 
 pub returns-in_ok-check-in-Some-clause-answer : goal.returns-in_ok-check-in-Some-clause-answer
 returns-in_ok-check-in-Some-clause-answer g c =
     let e = c.args.events.now in
-    let files = g.F.Folder.file c.args.files.now in
+    let files = (g.F.Folder.seen c.args.files.now).files in
     let bytes = c.in_ok-report-in-Some.report.items in
     let named : (asked_seen c.args.command.now).report ≡ Some c.in-Some.name.now = ap (option_map (λ name. name.now)) c.in-Some.is in
     record {

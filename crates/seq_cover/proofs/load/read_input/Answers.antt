@@ -6,7 +6,7 @@ use Rattle.seq_cover.proofs.load.read_input.Goals as goal
 pub returns-in-TooLong : goal.returns-in-TooLong
 returns-in-TooLong g c = record {
   bytes = tt;
-  stops = inr (too_long refl (subst (λ most. IfSome (g.F.Folder.file c.args.files.now c.args.name.now) (λ held. IsSomeAnd held (λ bytes. most < length bytes)))
+  stops = inr (too_long refl (subst (λ most. IfSome ((g.F.Folder.seen c.args.files.now).files c.args.name.now) (λ held. IsSomeAnd held (λ bytes. most < length bytes)))
       c.most.ensures (c.in-TooLong.ensures.too_long refl)));
   rose = λ e. absurd (cc);
   no_fault = λ other. c.in-TooLong.ensures.no_fault (λ e. cc);

@@ -23,7 +23,7 @@ returns-clause-run g c = λ asked words. record {
   ends = (ran_asked c.in-Ok.ensures words c.run-end.ensures.ran).ends;
   rose = (ran_asked c.in-Ok.ensures words c.run-end.ensures.ran).rose;
   told =
-      subst (λ a. Tells (g.E.Sink.written c.args.diag.now) (g.E.Sink.written c.tell.new.diag) (g.E.Sink.faults c.args.diag.now) (g.E.Sink.faults c.tell.new.diag) (end_text a c.run-end.result))
+      subst (λ a. Tells (g.E.Sink.seen c.args.diag.now) (g.E.Sink.seen c.tell.new.diag) (end_text a c.run-end.result))
       (one_ok c.in-Ok.ensures words) c.tell.ensures.told;
   ended = c.tell.ensures.status;
 }

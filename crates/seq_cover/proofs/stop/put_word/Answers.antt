@@ -3,7 +3,7 @@ use Rattle.std.specs.Prelude.{codes}
 use Rattle.outside_io.specs.Puts.{Puts}
 use Rattle.seq_cover.proofs.stop.put_word.Goals as goal
 
-pub returns-clause-puts : goal.returns-clause-puts
-returns-clause-puts g c =
-    subst (Puts c.put_pieces.result (g.E.Sink.written c.args.sink.now) (g.E.Sink.written c.put_pieces.new.sink))
-    (ap (λ number. codes "error: word " ++ number ++ codes " is not understood\n") c.format-number.ensures.text) c.put_pieces.ensures.puts
+pub returns : goal.returns
+returns g c =
+    subst (Puts c.put_pieces.result (g.E.Sink.seen c.args.sink.now) (g.E.Sink.seen c.put_pieces.new.sink))
+    (ap (λ number. codes "error: word " ++ number ++ codes " is not understood\n") c.format-number.ensures.text) c.put_pieces.ensures

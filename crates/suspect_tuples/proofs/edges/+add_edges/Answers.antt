@@ -7,7 +7,7 @@ use Rattle.suspect_tuples.specs.Suspects.{gives, tuples_on}
 use Rattle.suspect_tuples.specs.Told.{found_seen}
 use Rattle.suspect_tuples.proofs.EdgeLemmas.{edges_of_none}
 use Rattle.suspect_tuples.proofs.WalkLemmas.{value_step}
-use Rattle.suspect_tuples.proofs.SetLemmas.{all_values, few_values, no_items, param_exists, params_pushed, rising_pairs, whole_params, without_pushed}
+use Rattle.suspect_tuples.proofs.SetLemmas.{all_values, no_items, param_exists, params_pushed, rising_pairs, whole_params, without_pushed}
 use Rattle.suspect_tuples.proofs.edges.+add_edges.Goals as goal
 
 pub returns-then-len-eq0-clause-found : goal.returns-then-len-eq0-clause-found
@@ -22,17 +22,10 @@ add_edge-requires-clause-rising t c =
     let whole = whole_params c.args.model.now c.args.before.now.items c.args.set.now c.requires.params c.in_default.len_below in
     subst IsRising (sym c.deref.ensures.value) (rising_pairs c.args.before.now.items whole.rising)
 
-pub bounds-as_slice-param : goal.bounds-as_slice-param
-bounds-as_slice-param t c =
+pub value_count-count-requires : goal.value_count-count-requires
+value_count-count-requires t c =
     let exists = param_exists c.args.model.now (map (λ pair. pair.0) c.args.before.now.items) c.args.set.now c.requires.params c.in-len1-up.len_at_least in
-    omega (arith, exists, ap length (c.as_slice.ensures ∙ c.params.ensures.value))
-
-pub overflow_cast-count : goal.overflow_cast-count
-overflow_cast-count t c =
-    let exists = param_exists c.args.model.now (map (λ pair. pair.0) c.args.before.now.items) c.args.set.now c.requires.params c.in-len1-up.len_at_least in
-    let few = few_values c.args.model.now (get_or c.args.set.now 0 0) c.len-count.result c.index-as_slice-param.result c.as_slice.result.now c.params.ensures.sound
-    (c.as_slice.ensures ∙ c.params.ensures.value) exists c.len-count.ensures in
-    omega (arith, few.0)
+    omega (arith, exists)
 
 pub add_edges-requires : goal.add_edges-requires
 add_edges-requires t c =
@@ -64,9 +57,6 @@ loop-value-preserved t c =
 pub returns-clause-found : goal.returns-clause-found
 returns-clause-found t c =
     let m = c.args.model.now in
-    let exists = param_exists m (map (λ pair. pair.0) c.args.before.now.items) c.args.set.now c.requires.params c.in-len1-up.len_at_least in
-    let few = few_values m (get_or c.args.set.now 0 0) c.len-count.result c.index-as_slice-param.result c.as_slice.result.now c.params.ensures.sound
-    (c.as_slice.ensures ∙ c.params.ensures.value) exists c.len-count.ensures in
     c.loop-value.invariant.found
     ∙ ap (λ tuples. map found_seen c.args.found.now ++ edges_behind c.args.passing.now c.args.rows.now c.args.before.now.items tuples)
-    (all_values m c.args.set.now c.len-count.result c.loop-value.value c.in-len1-up.len_at_least few.1 c.loop-value-test.false (c.loop-value.auto.value-end))
+    (all_values m c.args.set.now c.value_count-count.result c.loop-value.value c.in-len1-up.len_at_least c.value_count-count.ensures c.loop-value-test.false (c.loop-value.auto.value-end))

@@ -1,10 +1,10 @@
 use Rattle.std.proofs.Common.{◌∷◌, take}
 use Rattle.std.specs.List.{flat_map}
 use Rattle.definitions.specs.Pairs.{pair_text}
-use Rattle.row_text.specs.Buffering.{state_of, Adds}
+use Rattle.row_text.specs.Buffering.{Adds}
 use Rattle.suspect_tuples.proofs.text.put_spaced.Given as goal
 
 abbrev pub invariant-loop-pair : goal.invariant-loop-pair
 invariant-loop-pair g l =
-    let state = state_of g.O.Sink.written g.O.Sink.room g.O.Sink.faults in
+    let state = g.O.Sink.seen in
     Adds l.fn.lines (state l.fn.out) l.lines (state l.out) (flat_map (λ pair. 32 ∷ pair_text pair) (take l.pair-index l.pairs))

@@ -2,7 +2,6 @@ use Rattle.std.proofs.Common.{ap, ◌++◌, ◌∙◌, length, map, sym, ◌≡�
 use Rattle.std.specs.Prelude.{codes, flat_map}
 use Rattle.std.proofs.lemmas.List.{length-map}
 use Rattle.definitions.specs.Statistics.{number_line}
-use Rattle.row_text.specs.Buffering.{state_of}
 use Rattle.row_text.proofs.Sending.{Adds-then, Adds-same, Holds-all}
 use Rattle.suspect_tuples.specs.SuspectsText.{suspects_text, suspect_line}
 use Rattle.suspect_tuples.specs.Told.{suspects_seen, found_seen}
@@ -11,7 +10,7 @@ use Rattle.suspect_tuples.proofs.text.put_suspects.Goals as goal
 
 pub returns : goal.returns
 returns g c =
-    let state = state_of g.O.Sink.written g.O.Sink.room g.O.Sink.faults in
+    let state = g.O.Sink.seen in
     let seen = suspects_seen c.args.suspects.now in
     let numbers = Adds-then (Adds-then (Adds-then c.put_number.ensures c.put_number-2.ensures) c.put_number-3.ensures) c.put_number-4.ensures in
     let number : ℕ → List ℕ = number_line (codes "Suspicious tuples: ") in
@@ -20,6 +19,5 @@ returns g c =
     let text : (before ++ number (length c.as_slice-list.result.now)) ++ flat_map suspect_line (map found_seen c.as_slice-list.result.now) ≡ suspects_text seen =
     ap (λ (list : List Found). (before ++ number (length list)) ++ flat_map suspect_line (map found_seen list)) c.as_slice-list.ensures
     ∙ ap (λ n. (before ++ number n) ++ flat_map suspect_line seen.found) (sym (length-map c.args.suspects.now.found found_seen)) in
-    let whole = c.answer.ensures (state c.args.out.now) (state c.put_list.new.out) (suspects_text seen)
-    (Holds-all c.new-lines.ensures (Adds-same text (Adds-then numbers c.put_list.ensures))) in
-    record { puts = whole.puts; leaves = whole.leaves; balances = whole.balances; counts = whole.counts }
+    c.answer.ensures (state c.args.out.now) (state c.put_list.new.out) (suspects_text seen)
+    (Holds-all c.new-lines.ensures (Adds-same text (Adds-then numbers c.put_list.ensures)))

@@ -5,4 +5,4 @@ use Rattle.cov_model.proofs.model.TestModel.value.Goals as goal
 
 pub returns-clause-number : goal.returns-clause-number
 returns-clause-number c =
-    grind (arith, common_steps, value_number c.args.self.now c.args.p c.args.v c.params.ensures.sound c.requires.parameter c.requires.value)
+    grind (arith, common_steps, value_number c.args.self.now c.args.p c.args.v c.param.ensures.sound c.requires.parameter c.requires.value)

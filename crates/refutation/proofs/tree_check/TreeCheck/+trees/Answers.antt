@@ -1,31 +1,36 @@
-use Rattle.std.proofs.Common.{◌∷◌, [], None, set, ◌∙◌, ap, sym, subst, arith}
+use Rattle.std.proofs.Common.{◌≡◌, ℕ, ◌∷◌, [], None, length, set, ◌∙◌, ap, sym, subst, arith}
 use Rattle.cov_model.specs.Fits.{FitsModel}
 use Rattle.cov_model.specs.Rows.{contains}
+use Rattle.cov_model.specs.Sound.{ModelView, param_at}
 use Rattle.definitions.specs.Completion.{with_value}
 use Rattle.definitions.specs.Refutation.{is_negative_leaf}
-use Rattle.refutation.specs.Checking.{BeginsWithTrees, LacksTrees, tuple_in}
+use Rattle.refutation.specs.Checking.{BeginsWithTrees, CheckView, LacksTrees, tuple_in}
 use Rattle.refutation.proofs.TreeLemmas.{free_count, branch_stops, branch_ends, goes_more, child_is, set_clear}
 use Rattle.refutation.proofs.tree_check.TreeCheck.+trees.Goals as goal
+
+own_count : (check : CheckView) (p : ℕ) (model : ModelView) (count : ℕ) → model ≡ check.model → count ≡ length (param_at model.params p).values
+    → count ≡ length (param_at check.model.params p).values
+own_count check p model count same is = is ∙ ap (λ (m : ModelView). length (param_at m.params p).values) same
 
 pub after_branch-returns-in_err-rest-clause-rest : goal.after_branch-returns-in_err-rest-clause-rest
 after_branch-returns-in_err-rest-clause-rest t c =
     rw c.from_residual.ensures
     (branch_stops c.args.self.now c.args.path.now c.args.p c.loop-v.v c.args.tokens.now c.loop-v.rest.now (sym c.is_branch.ensures ∙ c.if-not-is_branch.false)
-    (omega (arith, c.count_of-v-end.ensures)) c.loop-v.invariant.going
+    (omega (arith, own_count c.args.self.now c.args.p c.model-model.result.now c.value_count-v-end.result c.model-model.ensures c.value_count-v-end.ensures)) c.loop-v.invariant.going
     (subst (λ path. LacksTrees c.args.self.now (with_value path c.args.p c.loop-v.v ∷ []) c.loop-v.rest.now) c.loop-v.invariant.path c.in_err-rest.ensures.rest))
 
 pub after_branch-loop-v-preserved : goal.after_branch-loop-v-preserved
 after_branch-loop-v-preserved t c = record {
   path = c.in_ok-rest.ensures.same ∙ c.loop-v.invariant.path;
   going = goes_more c.args.self.now c.args.path.now c.args.p c.loop-v.v c.args.tokens.now c.loop-v.rest.now c.in_ok-rest.rest.now
-      (omega (arith, c.count_of-v-end.ensures)) c.loop-v.invariant.going
+      (omega (arith, own_count c.args.self.now c.args.p c.model-model.result.now c.value_count-v-end.result c.model-model.ensures c.value_count-v-end.ensures)) c.loop-v.invariant.going
       (subst (λ path. BeginsWithTrees c.args.self.now (with_value path c.args.p c.loop-v.v ∷ []) c.loop-v.rest.now c.in_ok-rest.rest.now) c.loop-v.invariant.path c.in_ok-rest.ensures.rest);
 }
 
 pub after_branch-returns-clause-rest : goal.after_branch-returns-clause-rest
 after_branch-returns-clause-rest t c =
     branch_ends c.args.self.now c.args.path.now c.args.p c.loop-v.v c.args.tokens.now c.loop-v.rest.now (sym c.is_branch.ensures ∙ c.if-not-is_branch.false)
-    (omega (arith, c.count_of-v-end.ensures)) c.loop-v.invariant.going
+    (omega (arith, own_count c.args.self.now c.args.p c.model-model.result.now c.value_count-v-end.result c.model-model.ensures c.value_count-v-end.ensures)) c.loop-v.invariant.going
 
 pub after_child-after_tree-requires : goal.after_child-after_tree-requires
 after_child-after_tree-requires t c =

@@ -1,5 +1,4 @@
-use Rattle.std.proofs.Common.{◌≡◌, None, length, ◌∙◌, ap, sym, subst}
-use Rattle.std.proofs.lemmas.List.{length-replicate}
+use Rattle.std.proofs.Common.{◌≡◌, length, ◌∙◌, ap, sym, subst}
 use Rattle.cov_model.specs.Fits.{FitsModel}
 use Rattle.cov_model.specs.Rows.{contains}
 use Rattle.cov_model.proofs.CellLemmas.{contains-refl}
@@ -11,11 +10,10 @@ use Rattle.refutation.proofs.PairLemmas.{FitsModel-cells_of}
 use Rattle.refutation.proofs.tree_check.TreeCheck.begin.Goals as goal
 
 -- the cells are the tuple in the end
-is_tuple : (c : goal.After-set_all) → c.set_all.new.cells ≡ tuple_in c.args.self.now
+is_tuple : (c : goal.After-copy_tuple) → c.copy_tuple.new.self ≡ tuple_in c.args.self.now
 is_tuple c =
-    c.set_all.ensures
-    ∙ ap (λ n. cells_of n c.as_slice.result.now) (ap length c.clear.ensures ∙ length-replicate (length c.args.path.now) None ∙ c.requires)
-    ∙ ap (cells_of (length c.args.self.now.model.params)) (c.as_slice.ensures.value ∙ c.tuple.ensures.value)
+    c.copy_tuple.ensures ∙ ap (λ n. cells_of n c.tuple.result.now) c.requires
+    ∙ ap (cells_of (length c.args.self.now.model.params)) c.tuple.ensures.value
 
 pub returns-clause-fits : goal.returns-clause-fits
 returns-clause-fits c =

@@ -10,7 +10,6 @@ pub returns : goal.returns
 returns c =
     let m = c.args.self.now.model in
     c.are_in.ensures
-    ∙ ap (λ pairs. list_all (λ pair. not (value_at m pair.0 pair.1).negative || has_param c.as_slice-2.result.now pair.0) pairs)
+    ∙ ap (λ pairs. list_all (λ pair. not (value_at m pair.0 pair.1).negative || has_param c.args.other.now pair.0) pairs)
     (c.as_slice.ensures.value ∙ c.tuple.ensures.value)
-    ∙ ap (λ others. list_all (λ pair. not (value_at m pair.0 pair.1).negative || has_param others pair.0) c.args.self.now.tuple) c.as_slice-2.ensures.value
     ∙ sym (negatives_in m c.args.self.now.tuple c.args.other.now c.tuple.ensures.of_model c.requires (subst IsRising c.tuple.ensures.value c.as_slice.ensures.rising))

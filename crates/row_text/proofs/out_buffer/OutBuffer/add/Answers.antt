@@ -1,9 +1,8 @@
 use Rattle.std.proofs.Common.{ap, sym, ◌∙◌}
-use Rattle.row_text.specs.Buffering.{state_of}
 use Rattle.row_text.proofs.Sending.{Adds-failed}
 use Rattle.row_text.proofs.out_buffer.OutBuffer.add.Goals as goal
 
 pub returns-then-self : goal.returns-then-self
 returns-then-self g c =
-    Adds-failed c.args.self.now (state_of g.O.Sink.written g.O.Sink.room g.O.Sink.faults c.args.out.now) c.args.bytes.now
+    Adds-failed c.args.self.now (g.O.Sink.seen c.args.out.now) c.args.bytes.now
     (sym (ap (λ b. b.failed) c.self.view_is) ∙ c.if-self.true)

@@ -1,14 +1,12 @@
 use Rattle.std.proofs.Common.{[], sym, subst, ap, ◌∙◌}
 use Rattle.std.proofs.lemmas.List.{append-nil}
-use Rattle.row_text.specs.Buffering.{state_of, PutsText}
+use Rattle.outside_io.specs.Puts.{Puts}
 use Rattle.row_text.proofs.Sending.{Adds-put}
 use Rattle.row_text.proofs.out_buffer.OutBuffer.flush.Goals as goal
 
 pub returns-clause-adds : goal.returns-clause-adds
 returns-clause-adds g c =
-    let state = state_of g.O.Sink.written g.O.Sink.room g.O.Sink.faults in
-    let put : PutsText c.put.result (state c.args.out.now) (state c.put.new.self) c.as_slice.result.now =
-    record { puts = c.put.ensures.puts; leaves = c.put.ensures.leaves; balances = c.put.ensures.balances; counts = c.put.ensures.counts } in
+    let state = g.O.Sink.seen in
     Adds-put c.put.result c.args.self.now (record { held = c.clear.new.self.items; failed = c.is_fault-self-inside.result }) (state c.args.out.now) (state c.put.new.self) []
     c.requires c.is_fault-self-inside.ensures c.clear.ensures.items
-    (subst (PutsText c.put.result (state c.args.out.now) (state c.put.new.self)) (c.as_slice.ensures.value ∙ ap (λ b. b.held) c.self.view_is ∙ sym (append-nil c.args.self.now.held)) put)
+    (subst (Puts c.put.result (state c.args.out.now) (state c.put.new.self)) (c.as_slice.ensures.value ∙ ap (λ b. b.held) c.self.view_is ∙ sym (append-nil c.args.self.now.held)) c.put.ensures)

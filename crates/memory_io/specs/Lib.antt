@@ -1,0 +1,3 @@
+pub mod MemSink
+pub mod MemFolder
+pub mod FileLists

@@ -1,0 +1,3 @@
+mod Acceptance
+mod NoFaults
+mod SeqRuns

@@ -1,5 +1,0 @@
-use Rattle.shared_marks.proofs.BlockLemmas.{AreAdded}
-use Rattle.shared_marks.proofs.block.add_digits.Given as goal
-
-abbrev pub invariant-loop-at : goal.invariant-loop-at
-invariant-loop-at l = AreAdded l.initial.numbers l.numbers l.digits l.radix l.at

@@ -1,6 +1,0 @@
-use Rattle.std.proofs.Common.{map}
-use Rattle.shared_marks.proofs.BlockLemmas.{ArePushed}
-use Rattle.shared_marks.proofs.block.push_places.Given as goal
-
-abbrev pub invariant-loop-p : goal.invariant-loop-p
-invariant-loop-p l = ArePushed (map (λ column. column.items) l.initial.columns.items) (map (λ column. column.items) l.columns.items) l.digits l.p
