@@ -1,7 +1,7 @@
 //! Folders of files.
 
 use memory_io::{ByteList, Calls, FileHeld, FileList, MemFolder, SureFolder};
-use outside_io::{Folder, ReadAnswer, RealFolder, WriteAnswer};
+use outside_io::{Folder, InputFolder, ReadAnswer, RealFolder, WriteAnswer};
 use std::alloc::Global;
 use std::fs;
 use std::test::Fail;
@@ -104,5 +104,41 @@ fn a_real_folder_keeps_files(rt: HostRuntime) -> Result<(), Fail> {
     fs::remove_file(&rt, name)?;
     assert!(rt; folder.read_file(name, &mut into, 3) == ReadAnswer::Failed);
     assert!(rt; folder.write_file("", b"xyz") == WriteAnswer::Failed);
+    Ok(())
+}
+
+#[test]
+fn a_real_folder_replaces_files(rt: HostRuntime) -> Result<(), Fail> {
+    let name = "base_tests_replaced";
+    let mut folder = RealFolder::new(rt);
+    let mut into = Vec::new(rt.alloc());
+    assert!(rt; folder.replace_file(name, b"old text") == WriteAnswer::Done);
+    assert!(rt; folder.replace_file(name, b"xyz") == WriteAnswer::Done);
+    assert!(rt; folder.read_file(name, &mut into, 9) == ReadAnswer::Whole);
+    assert!(rt; into.as_slice() == b"xyz".as_slice());
+    assert!(rt; !fs::exists(&rt, "base_tests_replaced.part")?);
+    // a file that stands where the new one would be made stays as it is
+    assert!(rt; folder.write_file("base_tests_replaced.part", b"kept") == WriteAnswer::Done);
+    assert!(rt; folder.replace_file(name, b"uv") == WriteAnswer::Done);
+    assert!(rt; folder.read_file(name, &mut into, 9) == ReadAnswer::Whole);
+    assert!(rt; into.as_slice() == b"uv".as_slice());
+    assert!(rt; folder.read_file("base_tests_replaced.part", &mut into, 9) == ReadAnswer::Whole);
+    assert!(rt; into.as_slice() == b"kept".as_slice());
+    fs::remove_file(&rt, "base_tests_replaced.part")?;
+    fs::remove_file(&rt, name)?;
+    assert!(rt; folder.replace_file("no_such_place/file", b"xyz") == WriteAnswer::Failed);
+    Ok(())
+}
+
+#[test]
+fn a_hyphen_names_the_input(rt: HostRuntime) -> Result<(), Fail> {
+    let input: &[u8] = b"from a stream";
+    let mut folder = InputFolder::new(rt, input);
+    let mut into = Vec::new(rt.alloc());
+    assert!(rt; folder.read_file("-", &mut into, 99) == ReadAnswer::Whole);
+    assert!(rt; into.as_slice() == b"from a stream".as_slice());
+    assert!(rt; folder.read_file("-", &mut into, 99) == ReadAnswer::Whole);
+    assert!(rt; into.is_empty());
+    assert!(rt; folder.read_file("no_such_file", &mut into, 99) == ReadAnswer::Failed);
     Ok(())
 }

@@ -1,6 +1,6 @@
 //! Sinks that take bytes.
 
-use memory_io::{MemSink, SureSink};
+use memory_io::{MemPipe, MemSink, SureSink};
 use outside_io::{RealSink, Sink, WriteAnswer};
 use std::io;
 use std::io::Write;
@@ -19,6 +19,20 @@ impl Write for Narrow {
         }
         self.left -= 1;
         Ok(1)
+    }
+
+    fn flush(&mut self) -> io::Result<()> {
+        Ok(())
+    }
+}
+
+// A stream whose reader has gone away.
+#[derive(Drop)]
+struct Deserted;
+
+impl Write for Deserted {
+    fn write(&mut self, _piece: &[u8]) -> io::Result<usize> {
+        Err(io::Error::from(io::ErrorKind::BrokenPipe))
     }
 
     fn flush(&mut self) -> io::Result<()> {
@@ -50,6 +64,22 @@ fn a_stream_may_take_less_than_it_is_given(rt: HostRuntime) {
     assert!(rt; narrow.put(b"xyz") == WriteAnswer::Done);
     assert!(rt; narrow.put(b"xyz") == WriteAnswer::Failed);
     assert!(rt; narrow.put(b"") == WriteAnswer::Done);
+    assert!(rt; !narrow.is_gone());
+}
+
+#[test]
+fn a_reader_that_goes_away_is_no_other_fault(rt: HostRuntime) -> Result<(), Fail> {
+    let mut deserted = RealSink::new(Deserted);
+    assert!(rt; !deserted.is_gone());
+    assert!(rt; deserted.put(b"x") == WriteAnswer::Failed);
+    assert!(rt; deserted.is_gone());
+    let mut pipe = MemPipe::up_to(rt.alloc(), 4)?;
+    assert!(rt; pipe.put(b"xyz") == WriteAnswer::Done);
+    assert!(rt; !pipe.is_gone());
+    assert!(rt; pipe.put(b"uv") == WriteAnswer::Failed);
+    assert!(rt; pipe.is_gone());
+    assert!(rt; pipe.bytes() == b"xyzu".as_slice());
+    Ok(())
 }
 
 #[test]

@@ -253,4 +253,26 @@ impl Folder for MemFolder {
         }
         WriteAnswer::Done
     }
+
+    /// As `write_file`, which changes no file where it fails.
+    fn replace_file(&mut self, name: &str, bytes: &[u8]) -> WriteAnswer
+        ensures fails { next_write_fails self.old name.now (length bytes.now) ≡ is_failed_write result }
+        ensures done { result ≡ WriteAnswer.Done → PutsSlot
+            (record {
+              name = name.now;
+              file = Some bytes.now;
+              room = unwrap_or (room_of self.old.slots name.now) 0;
+            })
+            self.old.slots self.new.slots }
+        ensures failed { result ≡ WriteAnswer.Failed → self.new.slots ≡ self.old.slots }
+        ensures goes_on { GoesOn self.old.write_faults self.new.write_faults }
+        ensures folder { self.new ≡ record self.old {
+          slots = self.new.slots;
+          calls = one_more self.old.calls;
+          write_faults =
+              if is_failed_write result then one_more self.old.write_faults else self.old.write_faults;
+        } }
+    {
+        self.write_file(name, bytes)
+    }
 }

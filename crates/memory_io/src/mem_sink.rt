@@ -1,4 +1,4 @@
-ghost use Rattle.std.specs.Prelude.{◌≡◌, ℕ, ◌-◌, ◌≤◌, ◌++◌, [], Some, length, take, nat_le, IfOk, if◌then◌else◌};
+ghost use Rattle.std.specs.Prelude.{◌≡◌, ℕ, ◌-◌, ◌≤◌, ◌++◌, [], Some, false, length, take, nat_le, IfOk, if◌then◌else◌};
 ghost use Rattle.outside_io.specs.Faults.{one_more, is_failed_write};
 ghost use Rattle.outside_io.specs.Puts.{CountsFaults};
 
@@ -62,6 +62,7 @@ impl Sink for MemSink {
       written = Some sink.bytes;
       room = Some sink.room;
       faults = sink.faults;
+      gone = false;
     } };
 
     /// Appends what fits. Where that is not all, it is a fault.
@@ -85,5 +86,9 @@ impl Sink for MemSink {
             self.errors = self.errors.saturating_add(1);
             WriteAnswer::Failed
         }
+    }
+
+    fn is_gone(&self) -> bool {
+        false
     }
 }

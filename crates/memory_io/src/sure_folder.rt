@@ -70,4 +70,14 @@ impl Folder for SureFolder {
         self.files.take_out(name);
         WriteAnswer::Done
     }
+
+    fn replace_file(&mut self, name: &str, bytes: &[u8]) -> WriteAnswer
+        ensures done { result ≡ WriteAnswer.Done }
+        ensures untold { bytes_of self.new name.now ≡ None }
+        ensures others { (other : List ℕ) → other ≢ name.now →
+            bytes_of self.new other ≡ bytes_of self.old other }
+        ensures taken_out { self.new ≡ without self.old name.now }
+    {
+        self.write_file(name, bytes)
+    }
 }

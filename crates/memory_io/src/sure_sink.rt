@@ -1,4 +1,4 @@
-ghost use Rattle.std.specs.Prelude.{◌≡◌, ℕ, ◌+◌, ◌-◌, ◌^◌, min, length, None};
+ghost use Rattle.std.specs.Prelude.{◌≡◌, ℕ, ◌+◌, ◌-◌, ◌^◌, min, length, None, false};
 
 use outside_io::{Sink, WriteAnswer};
 use std::marker::Model;
@@ -33,7 +33,7 @@ impl SureSink {
 }
 
 impl Sink for SureSink {
-    ghost seen = { λ _. record { written = None; room = None; faults = 0 } };
+    ghost seen = { λ _. record { written = None; room = None; faults = 0; gone = false } };
 
     fn put(&mut self, bytes: &[u8]) -> WriteAnswer
         ensures done { result ≡ WriteAnswer.Done }
@@ -41,5 +41,9 @@ impl Sink for SureSink {
     {
         self.taken = self.taken.saturating_add(bytes.len() as u64);
         WriteAnswer::Done
+    }
+
+    fn is_gone(&self) -> bool {
+        false
     }
 }

@@ -1,7 +1,7 @@
 -- What a sink has done after it was asked for one text, or for several in a row that join to it.
 -- The bytes written and the room left are None where the sink doesn't tell them.
 -- (This project's rule.)
-use Rattle.std.specs.Prelude.{◌≡◌, ℕ, ◌+◌, ◌-◌, ◌<◌, ◌≤◌, Option, Some, List, ◌++◌, length, take, IfSome}
+use Rattle.std.specs.Prelude.{◌≡◌, ℕ, ◌+◌, ◌-◌, ◌<◌, ◌≤◌, Bool, Option, Some, List, ◌++◌, length, take, IfSome}
 use Rattle.outside_io.specs.declared.answers.WriteAnswer.{WriteAnswer}
 use Rattle.outside_io.specs.declared.answers.WriteAnswer.TheVariants.{Done, Failed}
 use Rattle.outside_io.specs.Faults.{Rose, GoesOn}
@@ -41,8 +41,9 @@ pub record Puts (answer : WriteAnswer) (before after : SinkSeen) (text : List �
   pub balances : Balances before.written after.written before.room after.room
   pub counts : CountsFaults answer before.faults after.faults
 
--- a sink over a stream: what the stream says that it holds, None where it says nothing, and the
--- faults so far
+-- a sink over a stream: what the stream says that it holds, None where it says nothing, the faults
+-- so far, and whether the last was that the reader of the bytes had gone away
 pub record StreamState : Type 0 where
   pub contents : Option (List ℕ)
   pub faults : ℕ
+  pub gone : Bool

@@ -22,6 +22,8 @@ pub record SinkSeen : Type 0 where
   pub room : Option ℕ
   -- the faults so far
   pub faults : ℕ
+  -- whether the last call that failed did so since the reader of the bytes had gone away
+  pub gone : Bool
 
 -- every name keeps what it holds, and stays told or untold
 abbrev pub KeepsFiles : FolderSeen → FolderSeen → Type 0

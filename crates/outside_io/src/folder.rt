@@ -69,4 +69,26 @@ pub trait Folder {
             KeepsWriteFaults (seen self.old) (seen self.new) }
         ensures goes_on { CountsGoOn (seen self.old).write_faults (seen self.new).write_faults }
         ensures no_read_fault { KeepsReadFaults (seen self.old) (seen self.new) };
+
+    /// Makes `bytes` the file of a name, whole or not at all. Takes no memory of the caller.
+    ///
+    /// After `Done` a told name holds exactly the bytes, after `Failed` what it held. The name that
+    /// was written may be untold afterwards; the other names stay as they are.
+    fn replace_file(&mut self, name: &str, bytes: &[u8]) -> WriteAnswer
+        // the name
+        ensures done { result ≡ WriteAnswer.Done →
+            IfSome ((seen self.new).files name.now) (λ held. held ≡ Some bytes.now) }
+        ensures kept { result ≡ WriteAnswer.Failed →
+            IfSome ((seen self.new).files name.now) (λ held. (seen self.old).files name.now ≡ Some held) }
+        ensures failed_as_told { IfSome ((seen self.old).write_fails name.now (length bytes.now))
+            (λ fails. fails ≡ is_failed_write result) }
+
+        // the folder
+        ensures others { KeepsOtherFiles name.now (seen self.old) (seen self.new) }
+        ensures rose { result ≡ WriteAnswer.Failed →
+            WriteFaultsRose name.now (seen self.old) (seen self.new) }
+        ensures no_fault { result ≢ WriteAnswer.Failed →
+            KeepsWriteFaults (seen self.old) (seen self.new) }
+        ensures goes_on { CountsGoOn (seen self.old).write_faults (seen self.new).write_faults }
+        ensures no_read_fault { KeepsReadFaults (seen self.old) (seen self.new) };
 }

@@ -3,10 +3,12 @@ ghost use Rattle.outside_io.specs.Faults.{GoesOn, one_more, is_failed_read, is_f
 
 use crate::answers::{ReadAnswer, WriteAnswer};
 use crate::folder::Folder;
-use crate::transfer::{read_whole, write_whole};
-use std::fs;
+use crate::transfer::{StreamFault, read_whole, write_whole};
+use std::fs::File;
+use std::io::ErrorKind;
 use std::marker::Model;
 use std::rt::Files;
+use std::{fs, str};
 
 /// The files of the operating system, under their paths. It tells neither what they hold nor which
 /// call fails. One count of faults stands behind the reads of all names, and one behind the writes.
@@ -51,10 +53,112 @@ impl<R: Files + Drop> RealFolder<R> {
     /// Makes a file, and writes it whole; `Failed` where the one or the other met a fault.
     fn write_named(&self, name: &str, bytes: &[u8]) -> WriteAnswer {
         match fs::create(&self.rt, name) {
-            Ok(mut file) => write_whole(&mut file, bytes),
+            Ok(mut file) => answer_of(write_whole(&mut file, bytes)),
             Err(_) => WriteAnswer::Failed,
         }
     }
+
+    /// Whether a name may be given to another file: it has none, or a regular one of its own. A link
+    /// stays, and so does a device or a pipe.
+    fn is_replaceable(&self, name: &str) -> bool {
+        match fs::symlink_metadata(&self.rt, name) {
+            Ok(metadata) => metadata.is_file(),
+            Err(error) => error.kind() == ErrorKind::NotFound,
+        }
+    }
+
+    /// Makes the file of a name beside it, and then gives it the name. Where that can't be begun, the
+    /// file is written straight.
+    fn replace_named(&self, name: &str, bytes: &[u8]) -> WriteAnswer {
+        let mut room = [0u8; LONGEST_NAME];
+        let Some(part) = part_name(name, &mut room) else {
+            return self.write_named(name, bytes);
+        };
+        if !self.is_replaceable(name) {
+            return self.write_named(name, bytes);
+        }
+        match File::create_new(&self.rt, part) {
+            Ok(file) => self.fill_and_rename(file, part, name, bytes),
+            Err(_) => self.write_named(name, bytes),
+        }
+    }
+
+    /// Writes the bytes to a file that is named `part`, and gives it the name. After `Failed` it is
+    /// removed.
+    fn fill_and_rename(
+        &self,
+        mut file: R::File,
+        part: &str,
+        name: &str,
+        bytes: &[u8],
+    ) -> WriteAnswer {
+        let written = write_whole(&mut file, bytes).is_ok();
+        drop(file);
+        if written && fs::rename(&self.rt, part, name).is_ok() {
+            return WriteAnswer::Done;
+        }
+        let _ = fs::remove_file(&self.rt, part);
+        WriteAnswer::Failed
+    }
+
+    /// Counts the fault of a read, if it is one, and keeps the bytes of a whole one alone.
+    pub(crate) fn count_read(&mut self, answer: ReadAnswer, into: &mut Vec<u8>) -> ReadAnswer
+        ensures same { result ≡ answer }
+        ensures whole { result ≡ ReadAnswer.Whole → into.new.items ≡ into.old.items }
+        ensures empty { result ≢ ReadAnswer.Whole → into.new.items ≡ [] }
+        ensures counts { self.new ≡ record self.old {
+          reads = if is_failed_read answer then one_more self.old.reads else self.old.reads;
+        } }
+        ensures goes_on { GoesOn self.old.reads self.new.reads }
+    {
+        if answer != ReadAnswer::Whole {
+            into.clear();
+        }
+        if answer == ReadAnswer::Failed {
+            self.read_errors = self.read_errors.saturating_add(1);
+        }
+        answer
+    }
+
+    /// Counts the fault of a write, if it is one.
+    fn count_write(&mut self, answer: WriteAnswer) -> WriteAnswer
+        ensures same { result ≡ answer }
+        ensures counts { self.new ≡ record self.old {
+          writes = if is_failed_write answer then one_more self.old.writes else self.old.writes;
+        } }
+        ensures goes_on { GoesOn self.old.writes self.new.writes }
+    {
+        if answer == WriteAnswer::Failed {
+            self.write_errors = self.write_errors.saturating_add(1);
+        }
+        answer
+    }
+}
+
+// The longest name that the system takes, in bytes.
+const LONGEST_NAME: usize = 4096;
+
+// What stands behind the name of a file that is written in place of another.
+const PART: &[u8] = b".part";
+
+/// How bytes were written to a file.
+fn answer_of(written: Result<(), StreamFault>) -> WriteAnswer {
+    match written {
+        Ok(()) => WriteAnswer::Done,
+        Err(_) => WriteAnswer::Failed,
+    }
+}
+
+/// The name of the file that is written in place of a named one, beside it; `None` where it is too
+/// long.
+fn part_name<'a>(name: &str, room: &'a mut [u8; LONGEST_NAME]) -> Option<&'a str> {
+    let end = name.len().checked_add(PART.len())?;
+    if end > LONGEST_NAME {
+        return None;
+    }
+    room[..name.len()].copy_from_slice(name.as_bytes());
+    room[name.len()..end].copy_from_slice(PART);
+    str::from_utf8(&room[..end]).ok()
 }
 
 impl<R: Files + Drop> Folder for RealFolder<R> {
@@ -77,13 +181,7 @@ impl<R: Files + Drop> Folder for RealFolder<R> {
     {
         into.clear();
         let answer = self.read_named(name, into, most);
-        if answer != ReadAnswer::Whole {
-            into.clear();
-        }
-        if answer == ReadAnswer::Failed {
-            self.read_errors = self.read_errors.saturating_add(1);
-        }
-        answer
+        self.count_read(answer, into)
     }
 
     /// Empties the file, or makes it, and stops at the end of the bytes or at a fault.
@@ -93,12 +191,19 @@ impl<R: Files + Drop> Folder for RealFolder<R> {
         } }
         ensures goes_on { GoesOn self.old.writes self.new.writes }
     {
-        match self.write_named(name, bytes) {
-            WriteAnswer::Done => WriteAnswer::Done,
-            WriteAnswer::Failed => {
-                self.write_errors = self.write_errors.saturating_add(1);
-                WriteAnswer::Failed
-            }
-        }
+        let answer = self.write_named(name, bytes);
+        self.count_write(answer)
+    }
+
+    /// Writes a file beside the named one, and renames it. A path that is no regular file, and one
+    /// beside which no file can be made, is written straight.
+    fn replace_file(&mut self, name: &str, bytes: &[u8]) -> WriteAnswer
+        ensures counts { self.new ≡ record self.old {
+          writes = if is_failed_write result then one_more self.old.writes else self.old.writes;
+        } }
+        ensures goes_on { GoesOn self.old.writes self.new.writes }
+    {
+        let answer = self.replace_named(name, bytes);
+        self.count_write(answer)
     }
 }
