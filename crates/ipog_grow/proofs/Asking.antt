@@ -1,7 +1,8 @@
 -- What the answer to a question tells of its cost.
-use Rattle.std.proofs.Common.{◌≡◌, ℕ, Bool, cond, List, [], ◌∷◌, Option, Some, None, ◌∙◌, sym, subst, ap}
+use Rattle.std.proofs.Common.{◌≡◌, ℕ, Bool, cond, List, [], ◌∷◌, Option, Some, None, ◌∙◌, sym, subst, ap, refl}
 use Rattle.cov_model.specs.declared.slice.Slice.{Slice}
-use Rattle.definitions.specs.Search.{exceeds, plain_cost}
+use Rattle.definitions.specs.declared.effort.Effort.TheVariants.{Full}
+use Rattle.definitions.specs.Search.{exceeds, first_over, plain_cost}
 use Rattle.std.specs.Prelude.{Err}
 use Rattle.ipog_grow.specs.declared.stop.Stop.{Stop}
 use Rattle.ipog_grow.specs.declared.stop.Stop.TheVariants as stops
@@ -32,6 +33,15 @@ asked context cells answer is grows told =
   where
     first : Bool → Option (List (Option ℕ))
     first over = cond over (Some cells) None
+
+-- without a budget no question costs more than it may
+pub none-spent : (context : QuestionsView) (questions : List (List (Option ℕ))) → context.effort ≡ Full → first_spent context questions ≡ None
+none-spent context questions full =
+    ap (λ effort. first_over context.model context.prefs effort questions) full ∙ none-over questions
+  where
+    none-over : (questions : List (List (Option ℕ))) → first_over context.model context.prefs Full questions ≡ None
+    none-over [] = refl
+    none-over (question ∷ questions) = none-over questions
 
 -- a fault of a part is one of the whole, where its question is
 pub told-err : (A B : Type 0) (stop : Stop) (question : List (Option ℕ)) (part whole : Option (List (Option ℕ)))

@@ -2,14 +2,18 @@
 use Rattle.std.proofs.Common.{◌≡◌, ℕ, zero, suc, ◌+◌, ◌<◌, ◌≤◌, Bool, true, false, ◌||◌, List, [], ◌∷◌, ◌++◌, length, take, drop, Option, Some, None}
 use Rattle.std.proofs.Common.{nat_eq, get_or, set, All, ◌∙◌, sym, ap, subst, refl, arith, inl, inr, add-one, append_assoc}
 use Rattle.std.specs.Prelude.{slice_get}
-use Rattle.std.proofs.lemmas.Bool.{cases_lt}
+use Rattle.std.proofs.lemmas.Bool.{cases_lt, false≢true}
 use Rattle.std.proofs.lemmas.Bool.Decides.{nat_tests}
 use Rattle.std.proofs.lemmas.Option.{none-some, same_Some}
 use Rattle.std.proofs.lemmas.List.{drop_all, take_all, take_more, take-set, drop-set, take-append-drop, append-nil, drop_more}
 use Rattle.std.proofs.lemmas.List.Elements.{All-set}
-use Rattle.ipog_grow.proofs.Asking.{IsAnswered}
+use Rattle.ipog_grow.proofs.Asking.{IsAnswered, none-spent}
 use Rattle.ipog_grow.proofs.Spending.{find-later, find-earlier}
+use Rattle.definitions.specs.declared.effort.Effort.TheVariants.{Full}
 use Rattle.definitions.specs.Growth.{Joined, agrees, join, union}
+use Rattle.definitions.proofs.Extendable.{extendable_contains}
+use Rattle.definitions.proofs.Keeping.{IsClosed}
+use Rattle.definitions.proofs.PartialRowLemmas.{union-contains_tuple}
 use Rattle.full_search.specs.Questions.{QuestionsView}
 use Rattle.ipog_grow.specs.Asking.{IsSoundContext, Grows, extends, first_spent, IsUnionAt}
 use Rattle.definitions.specs.Demand.{is_among}
@@ -302,3 +306,28 @@ pub joining-none : {context : QuestionsView} {tuple : List (Option ℕ)} {rows :
     → Offering context tuple rows candidates → slice_get candidates 0 ≡ None → Joins context tuple rows rows false
 joining-none {context} {tuple} {rows} {candidates} offering none =
     joining-end context tuple rows (length rows) (omega arith) (offering-end candidates offering none)
+
+-- no row takes a tuple that isn't extendable
+join-fails : (extends : List (Option ℕ) → Bool) (tuple : List (Option ℕ)) (rows : List (List (Option ℕ))) → IsClosed extends → extends tuple ≡ false
+    → ((join extends tuple rows).taken ≡ false) × ((join extends tuple rows).rows ≡ rows)
+join-fails extends tuple [] closed fails = (refl, refl)
+join-fails extends tuple (row ∷ rows) closed fails =
+    by_tests (agrees row tuple) (extends (union row tuple)) refl refl (join-fails extends tuple rows closed fails)
+  where
+    by_tests : (agree able : Bool) → agrees row tuple ≡ agree → extends (union row tuple) ≡ able
+        → ((join extends tuple rows).taken ≡ false) × ((join extends tuple rows).rows ≡ rows)
+        → ((joined agree able row (union row tuple) rows (join extends tuple rows)).taken ≡ false)
+        × ((joined agree able row (union row tuple) rows (join extends tuple rows)).rows ≡ row ∷ rows)
+    by_tests false able _ _ later = (later.0, ap (λ list. row ∷ list) later.1)
+    by_tests true true agree able later = absurd (false≢true (sym fails ∙ closed (union row tuple) tuple (union-contains_tuple row tuple agree) able))
+    by_tests true false _ _ later = (later.0, ap (λ list. row ∷ list) later.1)
+
+pub joins-ruled_out : {context : QuestionsView} {tuple : List (Option ℕ)} {rows : List (List (Option ℕ))} → context.effort ≡ Full
+    → extends context tuple ≡ false → Joins context tuple rows rows false
+joins-ruled_out {context} {tuple} {rows} full fails =
+    let failed = join-fails (extends context) tuple rows (extendable_contains context.model context.slice) fails in
+    record {
+      asked = none-spent context (join (extends context) tuple rows).asked full;
+      taken_is = sym failed.0;
+      rows_are = sym failed.1;
+    }

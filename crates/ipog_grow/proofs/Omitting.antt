@@ -1,5 +1,5 @@
 -- The tuples that columns omit: they grow in the slice, aren't extendable there, and were asked at no more than a question may cost.
-use Rattle.std.proofs.Common.{◌≡◌, ℕ, ◌+◌, ◌≤◌, Bool, true, false, cond, List, [], ◌∷◌, ◌++◌, length, find, flat_map, Option, None, All, ◌∙◌, sym, ap, subst, refl, arith, length-append}
+use Rattle.std.proofs.Common.{◌≡◌, ℕ, ◌+◌, ◌≤◌, Bool, true, false, cond, List, [], ◌∷◌, ◌++◌, map, length, find, flat_map, Option, None, All, ◌∙◌, sym, ap, subst, refl, arith, length-append}
 use Rattle.std.specs.Prelude.{slice_index_or}
 use Rattle.std.proofs.lemmas.List.Elements.{All-nil, All-cons, All-head, All-tail, All-append}
 use Rattle.cov_model.specs.declared.slice.Slice.{Slice}
@@ -14,7 +14,9 @@ use Rattle.definitions.proofs.Members.{all_members, of_flat}
 use Rattle.full_search.specs.Questions.{QuestionsView}
 use Rattle.ipog_grow.specs.Asking.{Grows, columns_grown, extends, first_spent}
 use Rattle.ipog_grow.specs.Growing.{GrowsIn}
-use Rattle.ipog_grow.specs.Omissions.{IsOmittedIn}
+use Rattle.ipog_grow.specs.Omissions.{IsOmittedIn, IsOmittedTuple}
+use Rattle.definitions.specs.Pairs.{cells_of, pairs_of}
+use Rattle.definitions.proofs.PairLists.{cells_of-pairs}
 use Rattle.ipog_grow.proofs.Spending.{find-none}
 use Rattle.ipog_grow.proofs.Tuples.{tuple-grows}
 use Rattle.feasibility.proofs.Paths.{slice_exists}
@@ -86,6 +88,26 @@ omitted-in context (p ∷ params) rows is unspent =
     (λ tuple grows fails within. record { grows = grows; fails = fails; within = within }) tuples filled.rows
     (in_play-grow context.model context.slice p is) own.1)
     (omitted-in context params settled.rows is parts.1)
+
+-- their pairs give them again
+pub omitted-again : (context : QuestionsView) (tuples : List (List (Option ℕ))) → All (IsOmittedIn context) tuples
+    → map (cells_of (length context.model.params)) (map pairs_of tuples) ≡ tuples
+omitted-again context [] all = refl
+omitted-again context (tuple ∷ tuples) all =
+    let first = All-head (IsOmittedIn context) tuple tuples all in
+    ap (λ cells. cells ∷ map (cells_of (length context.model.params)) (map pairs_of tuples))
+    (cells_of-pairs (length context.model.params) tuple (pairs_of tuple) first.grows.of.fits.as_long refl)
+    ∙ ap (λ list. tuple ∷ list) (omitted-again context tuples (All-tail (IsOmittedIn context) tuple tuples all))
+
+pub omitted-tuples : (context : QuestionsView) (tuples : List (List (Option ℕ))) → All (IsOmittedIn context) tuples
+    → All (IsOmittedTuple context) (map pairs_of tuples)
+omitted-tuples context [] all = All-nil (IsOmittedTuple context)
+omitted-tuples context (tuple ∷ tuples) all =
+    let first = All-head (IsOmittedIn context) tuple tuples all in
+    let again = sym (cells_of-pairs (length context.model.params) tuple (pairs_of tuple) first.grows.of.fits.as_long refl) in
+    All-cons (IsOmittedTuple context) (pairs_of tuple) (map pairs_of tuples)
+    (record { omitted = subst (IsOmittedIn context) again first; own = ap pairs_of again })
+    (omitted-tuples context tuples (All-tail (IsOmittedIn context) tuple tuples all))
 
 -- vertical growth omits no more tuples than it meets
 module _ (extends : List (Option ℕ) → Bool) where

@@ -1,9 +1,10 @@
 -- Vertical growth looks at open tuples alone: what a row contains is passed.
-use Rattle.std.proofs.Common.{◌≡◌, ℕ, Bool, true, false, cond, if◌then◌else◌, ◌||◌, not, List, [], ◌∷◌, ◌++◌, filter, Option, ◌∙◌, sym, ap, refl}
+use Rattle.std.proofs.Common.{◌≡◌, ℕ, Bool, true, false, cond, if◌then◌else◌, ◌||◌, not, List, [], ◌∷◌, ◌++◌, map, filter, Option, ◌∙◌, sym, ap, refl}
 use Rattle.std.proofs.lemmas.Bool.{not-false}
 use Rattle.cov_model.proofs.CellLemmas.{contains-trans}
 use Rattle.definitions.proofs.PartialRowLemmas.{union-contains_row}
 use Rattle.cov_model.specs.Rows.{contains}
+use Rattle.definitions.specs.Pairs.{pairs_of}
 use Rattle.definitions.specs.Growth.{Grown, Joined, agrees, union, is_uncovered, join, settle, down}
 use Rattle.ipog_grow.proofs.Holding.{holds, holds-push}
 
@@ -127,5 +128,13 @@ pub settle-alone_rows : (extends : List (Option ℕ) → Bool) (tuple : List (Op
 settle-alone_rows extends tuple rows alone = ap (λ (g : Grown). g.rows) (settle-alone extends tuple rows alone) ∙ at (extends tuple)
   where
     at : (b : Bool) → (alone_by b tuple rows (join extends tuple rows).asked).rows ≡ (if b then rows ++ tuple ∷ [] else rows)
+    at true = refl
+    at false = refl
+
+pub settle-alone_omitted : (extends : List (Option ℕ) → Bool) (tuple : List (Option ℕ)) (rows : List (List (Option ℕ)))
+    → false ≡ (join extends tuple rows).taken → map pairs_of (settle extends tuple rows).omitted ≡ (if extends tuple then [] else pairs_of tuple ∷ [])
+settle-alone_omitted extends tuple rows alone = ap (λ (g : Grown). map pairs_of g.omitted) (settle-alone extends tuple rows alone) ∙ at (extends tuple)
+  where
+    at : (b : Bool) → map pairs_of (alone_by b tuple rows (join extends tuple rows).asked).omitted ≡ (if b then [] else pairs_of tuple ∷ [])
     at true = refl
     at false = refl

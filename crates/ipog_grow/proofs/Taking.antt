@@ -6,12 +6,13 @@ use Rattle.std.proofs.lemmas.Bool.{false≢true}
 use Rattle.std.proofs.lemmas.List.FromFn.{length-range_with_len, get_or-range_with_len}
 use Rattle.std.proofs.lemmas.List.Sorted.{All-permutation}
 use Rattle.std.proofs.lemmas.List.Elements.{All-nil, All-cons, All-head, All-tail}
-use Rattle.std.proofs.lemmas.List.{drop_more}
+use Rattle.std.proofs.lemmas.List.{drop_more, map-append}
 use Rattle.ipog_grow.proofs.Spending.{find-later, find-earlier}
 use Rattle.definitions.proofs.PartialRowLemmas.{among_head}
 use Rattle.cov_model.specs.Sound.{ModelView}
 use Rattle.definitions.specs.Demand.{is_among}
 use Rattle.definitions.specs.Growth.{tuples_in_play}
+use Rattle.definitions.specs.Pairs.{pairs_of}
 use Rattle.uncovered_table.specs.Open.{OpenView, all_open}
 use Rattle.uncovered_table.specs.Places.{tuple_at}
 use Rattle.ipog_grow.specs.Growing.{Keeps, Rises, open_places, open_tuples}
@@ -33,10 +34,11 @@ pub record AreReady (context : QuestionsView) (table : OpenView) (rest : List �
   pub exist : All (λ p. p < length context.model.params) rest
 
 -- the columns that are left decide
-pub record Taking (context : QuestionsView) (order rest : List ℕ) (table : OpenView) (initial rows before omitted : List (List (Option ℕ))) : Type 0 where
+pub record Taking (context : QuestionsView) (order rest : List ℕ) (table : OpenView) (initial rows : List (List (Option ℕ)))
+    (before omitted : List (List (ℕ × ℕ))) : Type 0 where
   pub given : (columns_grown context order initial).rows ≡ (columns_grown context rest rows).rows
   pub asked : first_spent context (columns_grown context order initial).asked ≡ first_spent context (columns_grown context rest rows).asked
-  pub left_out : before ++ (columns_grown context order initial).omitted ≡ omitted ++ (columns_grown context rest rows).omitted
+  pub left_out : before ++ map pairs_of (columns_grown context order initial).omitted ≡ omitted ++ map pairs_of (columns_grown context rest rows).omitted
   pub ready : AreReady context table rest rows
 
 every : (P : ℕ → Type 0) (xs : List ℕ) → ((x : ℕ) → P x) → All P xs
@@ -49,8 +51,8 @@ exists_range a n k within =
     subst (λ q. q < k) (sym (get_or-range_with_len a n i d place)) (omega (arith, place))
 
 -- at first
-pub taking-start : (context : QuestionsView) (order : List ℕ) (table : OpenView) (rows omitted : List (List (Option ℕ))) → IsSoundContext context
-    → table ≡ all_open context.model context.slice
+pub taking-start : (context : QuestionsView) (order : List ℕ) (table : OpenView) (rows : List (List (Option ℕ))) (omitted : List (List (ℕ × ℕ)))
+    → IsSoundContext context → table ≡ all_open context.model context.slice
     → IsPermutation (range_with_len 0 (length context.model.params)) order → All (Grows context) rows
     → Taking context order order table rows rows omitted omitted
 taking-start context order table rows omitted is fresh moved grows = record {
@@ -97,10 +99,10 @@ others_open context p (q ∷ rest) table after keeps apart all =
     later false h = h
 
 pub taking-more : {context : QuestionsView} {order : List ℕ} {p : ℕ} {rest : List ℕ} {table after : OpenView}
-    {initial rows grown before omitted more : List (List (Option ℕ))}
+    {initial rows grown : List (List (Option ℕ))} {before omitted more : List (List (ℕ × ℕ))}
     → Taking context order (p ∷ rest) table initial rows before omitted
     → first_spent context (column_grown context p rows).asked ≡ None → grown ≡ (column_grown context p rows).rows
-    → more ≡ omitted ++ (column_grown context p rows).omitted
+    → more ≡ omitted ++ map pairs_of (column_grown context p rows).omitted
     → Keeps table after p → All (Grows context) grown → Taking context order rest after initial grown before more
 taking-more {context} {order} {p} {rest} {table} {after} {initial} {rows} {grown} {before} {omitted} {more} taking none is left keeps grows = record {
   given = taking.given ∙ ap (λ list. (columns_grown context rest list).rows) (sym is);
@@ -108,9 +110,13 @@ taking-more {context} {order} {p} {rest} {table} {after} {initial} {rows} {grown
       taking.asked ∙ find-later (is_over context) (column_grown context p rows).asked (columns_grown context rest (column_grown context p rows).rows).asked none
       ∙ ap (λ list. first_spent context (columns_grown context rest list).asked) (sym is);
   left_out =
-      taking.left_out ∙ sym (append_assoc omitted (column_grown context p rows).omitted (columns_grown context rest (column_grown context p rows).rows).omitted)
-      ∙ ap (λ list. list ++ (columns_grown context rest (column_grown context p rows).rows).omitted) (sym left)
-      ∙ ap (λ list. more ++ (columns_grown context rest list).omitted) (sym is);
+      taking.left_out
+      ∙ ap (λ list. omitted ++ list)
+      (map-append pairs_of (column_grown context p rows).omitted (columns_grown context rest (column_grown context p rows).rows).omitted)
+      ∙ sym (append_assoc omitted (map pairs_of (column_grown context p rows).omitted)
+      (map pairs_of (columns_grown context rest (column_grown context p rows).rows).omitted))
+      ∙ ap (λ list. list ++ map pairs_of (columns_grown context rest (column_grown context p rows).rows).omitted) (sym left)
+      ∙ ap (λ list. more ++ map pairs_of (columns_grown context rest list).omitted) (sym is);
   ready = record {
     of = (keeps.model ∙ taking.ready.of.0, keeps.slice ∙ taking.ready.of.1);
     rises = keeps.rises taking.ready.rises;
@@ -125,7 +131,7 @@ taking-more {context} {order} {p} {rest} {table} {after} {initial} {rows} {grown
 
 -- a question costs more than it may
 pub taking-spent : {context : QuestionsView} {order : List ℕ} {p : ℕ} {rest : List ℕ} {table : OpenView}
-    {initial rows before omitted : List (List (Option ℕ))} {question : List (Option ℕ)}
+    {initial rows : List (List (Option ℕ))} {before omitted : List (List (ℕ × ℕ))} {question : List (Option ℕ)}
     → Taking context order (p ∷ rest) table initial rows before omitted
     → first_spent context (column_grown context p rows).asked ≡ Some question → first_spent context (columns_grown context order initial).asked ≡ Some question
 taking-spent {context} {order} {p} {rest} {table} {initial} {rows} {before} {omitted} {question} taking over =
@@ -133,8 +139,8 @@ taking-spent {context} {order} {p} {rest} {table} {initial} {rows} {before} {omi
     (columns_grown context rest (column_grown context p rows).rows).asked over
 
 -- the next column, by its place
-pub taking-at : (context : QuestionsView) (order : List ℕ) (k p : ℕ) (table : OpenView) (initial rows before omitted : List (List (Option ℕ)))
-    → k < length order → p ≡ get_or order k 0
+pub taking-at : (context : QuestionsView) (order : List ℕ) (k p : ℕ) (table : OpenView) (initial rows : List (List (Option ℕ)))
+    (before omitted : List (List (ℕ × ℕ))) → k < length order → p ≡ get_or order k 0
     → Taking context order (drop k order) table initial rows before omitted → Taking context order (p ∷ drop (k + 1) order) table initial rows before omitted
 taking-at context order k p table initial rows before omitted within is taking =
     subst (λ rest. Taking context order rest table initial rows before omitted) (drop_more order k 0 within ∙ ap (λ q. q ∷ drop (k + 1) order) (sym is)) taking

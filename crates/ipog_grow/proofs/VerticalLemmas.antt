@@ -1,12 +1,13 @@
 -- Vertical growth, tuple by tuple.
 use Rattle.std.proofs.Common.{◌≡◌, ℕ, ◌<◌, Bool, true, List, [], ◌∷◌, ◌++◌, map, length, drop, filter, Option, Some, None, All, ◌∙◌, sym, ap, subst, refl, arith, append_assoc}
 use Rattle.std.specs.Prelude.{slice_get}
-use Rattle.std.proofs.lemmas.List.{append-nil}
+use Rattle.std.proofs.lemmas.List.{append-nil, map-append}
 use Rattle.std.proofs.lemmas.List.Elements.{All-head, All-tail, All-filter, filter_passes}
 use Rattle.std.proofs.lemmas.Option.{none-some, same_Some}
 use Rattle.ipog_grow.proofs.Spending.{find-later, find-earlier}
 use Rattle.value_text.proofs.ListLemmas.{length-filter-le}
 use Rattle.definitions.specs.Growth.{Grown, down, settle, is_uncovered}
+use Rattle.definitions.specs.Pairs.{pairs_of}
 use Rattle.uncovered_table.specs.Open.{OpenView, IsPlaceOf, is_after, next_open}
 use Rattle.uncovered_table.specs.Places.{tuple_at}
 use Rattle.ipog_grow.specs.Growing.{IsInPlay, Keeps, open_places, open_tuples}
@@ -18,19 +19,19 @@ use Rattle.ipog_grow.proofs.Table.{next_open-first}
 use Rattle.ipog_grow.proofs.Trying.{is_over}
 
 -- the open tuples that are left decide
-pub record Downing (context : QuestionsView) (p : ℕ) (start table : OpenView) (initial rows before omitted : List (List (Option ℕ)))
-    (from : Option (ℕ × ℕ)) : Type 0 where
+pub record Downing (context : QuestionsView) (p : ℕ) (start table : OpenView) (initial rows : List (List (Option ℕ)))
+    (before omitted : List (List (ℕ × ℕ))) (from : Option (ℕ × ℕ)) : Type 0 where
   pub given : (down (extends context) (open_tuples start p) initial).rows ≡ (down (extends context) (open_tuples table p) rows).rows
   pub asked : first_spent context (down (extends context) (open_tuples start p) initial).asked
       ≡ first_spent context (down (extends context) (open_tuples table p) rows).asked
-  pub left_out : before ++ (down (extends context) (open_tuples start p) initial).omitted ≡ omitted
-      ++ (down (extends context) (open_tuples table p) rows).omitted
+  pub left_out : before ++ map pairs_of (down (extends context) (open_tuples start p) initial).omitted ≡ omitted
+      ++ map pairs_of (down (extends context) (open_tuples table p) rows).omitted
   pub is_open : IsOpen context table p rows
   pub keeps : Keeps start table p
   pub behind : All (λ place. is_after from place ≡ true) (open_places table p)
 
-pub downing-start : (context : QuestionsView) (p : ℕ) (table : OpenView) (rows omitted : List (List (Option ℕ))) → IsOpen context table p rows
-    → Downing context p table table rows rows omitted omitted None
+pub downing-start : (context : QuestionsView) (p : ℕ) (table : OpenView) (rows : List (List (Option ℕ))) (omitted : List (List (ℕ × ℕ)))
+    → IsOpen context table p rows → Downing context p table table rows rows omitted omitted None
 downing-start context p table rows omitted is = record {
   given = refl;
   asked = refl;
@@ -41,8 +42,8 @@ downing-start context p table rows omitted is = record {
 }
 
 -- the tuple of the next place
-pub downing-next : {context : QuestionsView} {p : ℕ} {start table : OpenView} {initial rows before omitted : List (List (Option ℕ))} {from : Option (ℕ × ℕ)}
-    {place : ℕ × ℕ} {tuple : List (Option ℕ)}
+pub downing-next : {context : QuestionsView} {p : ℕ} {start table : OpenView} {initial rows : List (List (Option ℕ))}
+    {before omitted : List (List (ℕ × ℕ))} {from : Option (ℕ × ℕ)} {place : ℕ × ℕ} {tuple : List (Option ℕ)}
     → Downing context p start table initial rows before omitted from → next_open table p from ≡ Some place → IsPlaceOf table place
     → tuple ≡ tuple_at table.model place
     → IsNext context table p place tuple rows
@@ -95,18 +96,19 @@ All-drop_first P [] all = all
 All-drop_first P (x ∷ xs) all = All-tail P x xs all
 
 -- one tuple more
-pub downing-more : {context : QuestionsView} {p : ℕ} {start table after : OpenView} {initial rows before omitted grown more : List (List (Option ℕ))}
-    {from : Option (ℕ × ℕ)} {place : ℕ × ℕ} {tuple : List (Option ℕ)}
+pub downing-more : {context : QuestionsView} {p : ℕ} {start table after : OpenView} {initial rows grown : List (List (Option ℕ))}
+    {before omitted more : List (List (ℕ × ℕ))} {from : Option (ℕ × ℕ)} {place : ℕ × ℕ} {tuple : List (Option ℕ)}
     → Downing context p start table initial rows before omitted from → IsNext context table p place tuple rows
     → first_spent context (settle (extends context) tuple rows).asked ≡ None → grown ≡ (settle (extends context) tuple rows).rows
-    → more ≡ omitted ++ (settle (extends context) tuple rows).omitted → IsPassed context table after p place grown
+    → more ≡ omitted ++ map pairs_of (settle (extends context) tuple rows).omitted → IsPassed context table after p place grown
     → Downing context p start after initial grown before more (Some place)
-downing-more {context} {p} {start} {table} {after} {initial} {rows} {before} {omitted} {grown} {more} {from} {place} {tuple} downing next none is left passes =
+downing-more {context} {p} {start} {table} {after} {initial} {rows} {grown} {before} {omitted} {more} {from} {place} {tuple} downing next none is left passes =
     let some = parts context table p place tuple rows next in
     let here = down_first context table p tuple rows some in
     let rest : down (extends context) some.rest (settle (extends context) tuple rows).rows ≡ down (extends context) (open_tuples after p) grown =
     ap (down (extends context) some.rest) (sym is) ∙ sym (down-uncovered (extends context) some.rest grown)
     ∙ ap (λ list. down (extends context) list grown) (ap (λ list. filter (is_uncovered grown) (drop 1 list)) (sym some.all) ∙ sym passes.moment) in
+    let later : List (List (Option ℕ)) = (down (extends context) some.rest (settle (extends context) tuple rows).rows).omitted in
     record {
       given = downing.given ∙ ap (λ (g : Grown). g.rows) here ∙ ap (λ (g : Grown). g.rows) rest;
       asked =
@@ -115,11 +117,11 @@ downing-more {context} {p} {start} {table} {after} {initial} {rows} {before} {om
           (down (extends context) some.rest (settle (extends context) tuple rows).rows).asked none
           ∙ ap (λ (g : Grown). first_spent context g.asked) rest;
       left_out =
-          downing.left_out ∙ ap (λ (g : Grown). omitted ++ g.omitted) here
-          ∙ sym (append_assoc omitted (settle (extends context) tuple rows).omitted
-          (down (extends context) some.rest (settle (extends context) tuple rows).rows).omitted)
-          ∙ ap (λ list. list ++ (down (extends context) some.rest (settle (extends context) tuple rows).rows).omitted) (sym left)
-          ∙ ap (λ (g : Grown). more ++ g.omitted) rest;
+          downing.left_out ∙ ap (λ (g : Grown). omitted ++ map pairs_of g.omitted) here
+          ∙ ap (λ list. omitted ++ list) (map-append pairs_of (settle (extends context) tuple rows).omitted later)
+          ∙ sym (append_assoc omitted (map pairs_of (settle (extends context) tuple rows).omitted) (map pairs_of later))
+          ∙ ap (λ list. list ++ map pairs_of later) (sym left)
+          ∙ ap (λ (g : Grown). more ++ map pairs_of g.omitted) rest;
       is_open = record {
         of = (passes.keeps.model ∙ downing.is_open.of.0, passes.keeps.slice ∙ downing.is_open.of.1);
         rises = passes.keeps.rises downing.is_open.rises;
@@ -135,8 +137,8 @@ downing-more {context} {p} {start} {table} {after} {initial} {rows} {before} {om
     }
 
 -- a question costs more than it may
-pub downing-spent : {context : QuestionsView} {p : ℕ} {start table : OpenView} {initial rows before omitted : List (List (Option ℕ))} {from : Option (ℕ × ℕ)}
-    {place : ℕ × ℕ} {tuple question : List (Option ℕ)}
+pub downing-spent : {context : QuestionsView} {p : ℕ} {start table : OpenView} {initial rows : List (List (Option ℕ))}
+    {before omitted : List (List (ℕ × ℕ))} {from : Option (ℕ × ℕ)} {place : ℕ × ℕ} {tuple question : List (Option ℕ)}
     → Downing context p start table initial rows before omitted from → IsNext context table p place tuple rows
     → first_spent context (settle (extends context) tuple rows).asked ≡ Some question
     → first_spent context (down (extends context) (open_tuples start p) initial).asked ≡ Some question
@@ -147,12 +149,14 @@ downing-spent {context} {p} {start} {table} {initial} {rows} {before} {omitted} 
     (down (extends context) some.rest (settle (extends context) tuple rows).rows).asked over
 
 -- no tuple is left
-pub record Downed (context : QuestionsView) (p : ℕ) (start : OpenView) (initial rows before omitted : List (List (Option ℕ))) : Type 0 where
+pub record Downed (context : QuestionsView) (p : ℕ) (start : OpenView) (initial rows : List (List (Option ℕ)))
+    (before omitted : List (List (ℕ × ℕ))) : Type 0 where
   pub asked : first_spent context (down (extends context) (open_tuples start p) initial).asked ≡ None
   pub given : rows ≡ (down (extends context) (open_tuples start p) initial).rows
-  pub left_out : omitted ≡ before ++ (down (extends context) (open_tuples start p) initial).omitted
+  pub left_out : omitted ≡ before ++ map pairs_of (down (extends context) (open_tuples start p) initial).omitted
 
-pub downing-end : {context : QuestionsView} {p : ℕ} {start table : OpenView} {initial rows before omitted : List (List (Option ℕ))} {from : Option (ℕ × ℕ)}
+pub downing-end : {context : QuestionsView} {p : ℕ} {start table : OpenView} {initial rows : List (List (Option ℕ))}
+    {before omitted : List (List (ℕ × ℕ))} {from : Option (ℕ × ℕ)}
     → Downing context p start table initial rows before omitted from → next_open table p from ≡ None → Downed context p start initial rows before omitted
 downing-end {context} {p} {start} {table} {initial} {rows} {before} {omitted} {from} downing none =
     let nothing : open_tuples table p ≡ [] = ap (map (tuple_at table.model))
@@ -160,7 +164,7 @@ downing-end {context} {p} {start} {table} {initial} {rows} {before} {omitted} {f
     record {
       asked = downing.asked ∙ ap (λ list. first_spent context (down (extends context) list rows).asked) nothing;
       given = sym (downing.given ∙ ap (λ list. (down (extends context) list rows).rows) nothing);
-      left_out = sym (downing.left_out ∙ ap (λ list. omitted ++ (down (extends context) list rows).omitted) nothing ∙ append-nil omitted);
+      left_out = sym (downing.left_out ∙ ap (λ list. omitted ++ map pairs_of (down (extends context) list rows).omitted) nothing ∙ append-nil omitted);
     }
   where
     empty : (places : List (ℕ × ℕ)) → slice_get places 0 ≡ None → places ≡ []

@@ -5,6 +5,7 @@ use Rattle.std.specs.List.{filter}
 use Rattle.cov_model.specs.Sound.{IsSound}
 use Rattle.cov_model.specs.Preference.{OrdersValues}
 use Rattle.definitions.specs.Completion.{is_extendable, preferred_values, falling, with_value}
+use Rattle.definitions.specs.Pairs.{pairs_of}
 use Rattle.definitions.specs.Growth.{Filled, Grown, across, agrees, column, columns, fill, union, first_extendable, is_uncovered, tuples_in_play}
 use Rattle.definitions.specs.Search.{first_over}
 use Rattle.definitions.specs.SliceRows.{IsSliceOf}
@@ -93,8 +94,8 @@ pub record IsPassed (context : QuestionsView) (table after : OpenView) (p : ℕ)
 abbrev pub rows_alone : QuestionsView → List (Option ℕ) → List (List (Option ℕ)) → List (List (Option ℕ))
 rows_alone context tuple rows = if extends context tuple then rows ++ tuple ∷ [] else rows
 
-abbrev pub omitted_alone : QuestionsView → List (Option ℕ) → List (List (Option ℕ))
-omitted_alone context tuple = if extends context tuple then [] else tuple ∷ []
+abbrev pub omitted_alone : QuestionsView → List (Option ℕ) → List (List (ℕ × ℕ))
+omitted_alone context tuple = if extends context tuple then [] else pairs_of tuple ∷ []
 
 -- a table in the growth of a column: its open tuples are in play there and contained in no row
 pub record IsOpen (context : QuestionsView) (table : OpenView) (p : ℕ) (rows : List (List (Option ℕ))) : Type 0 where

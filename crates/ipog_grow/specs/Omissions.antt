@@ -7,7 +7,7 @@ use Rattle.definitions.specs.declared.effort.Effort.{Effort}
 use Rattle.definitions.specs.Completion.{column_order}
 use Rattle.definitions.specs.Covering.{IsUnserved}
 use Rattle.definitions.specs.Growth.{tuples_in_play}
-use Rattle.definitions.specs.Pairs.{pairs_of}
+use Rattle.definitions.specs.Pairs.{cells_of, pairs_of}
 use Rattle.definitions.specs.SuiteProof.{IsEagerTree}
 use Rattle.feasibility.specs.Refuting.{earlier_tuples}
 use Rattle.refutation.specs.Proofs.{ProofView, format_of, meant}
@@ -23,6 +23,11 @@ pub record IsOmittedIn (context : QuestionsView) (tuple : List (Option ℕ)) : T
   pub grows : Grows context tuple
   pub fails : extends context tuple ≡ false
   pub within : first_spent context (tuple ∷ []) ≡ None
+
+-- the pairs of a tuple that is omitted in a slice
+pub record IsOmittedTuple (context : QuestionsView) (pairs : List (ℕ × ℕ)) : Type 0 where
+  pub omitted : IsOmittedIn context (cells_of (length context.model.params) pairs)
+  pub own : pairs ≡ pairs_of (cells_of (length context.model.params) pairs)
 
 -- the tree of an omitted tuple after earlier ones: an eager one in the form that is asked for, without tokens where
 -- none is

@@ -1,6 +1,7 @@
-ghost use Rattle.std.specs.Prelude.{◌≡◌, ◌<◌, ◌^◌, ◌∷◌, [], Some, None, All, length, map, replicate, if◌then◌else◌, IfOk};
+ghost use Rattle.std.specs.Prelude.{◌≡◌, ◌<◌, ◌^◌, ◌∷◌, [], true, false, Some, None, All, length, map, replicate, if◌then◌else◌, IfOk};
 ghost use Rattle.cov_model.specs.Fits.{FitsModel};
 ghost use Rattle.cov_model.specs.Preference.{OrdersValues};
+ghost use Rattle.definitions.specs.declared.effort.Effort.TheVariants as efforts;
 ghost use Rattle.definitions.specs.Covering.{IsUnserved};
 ghost use Rattle.definitions.specs.Pairs.{cells_of};
 ghost use Rattle.definitions.specs.SliceRows.{IsSliceOf};
@@ -97,6 +98,20 @@ impl<'a> Asker<'a> {
                 self.question.copy_from(cells);
                 Err(Stop::Spent)
             }
+        }
+    }
+
+    // Whether it can be told at once that a partial row of the slice isn't extendable. Without a budget every
+    // question is answered at any time; within one they are asked in the order of growth, and nothing is told.
+    pub(crate) fn rules_out(&mut self, cells: &Cells) -> bool
+        requires { Grows self.old.context cells.now }
+        ensures full { result ≡ true → self.old.context.effort ≡ efforts.Full }
+        ensures fails { result ≡ true → extends self.old.context cells.now ≡ false }
+        ensures same { self.new ≡ self.old }
+    {
+        match self.questions.effort() {
+            Effort::Within(_) => false,
+            Effort::Full => matches!(self.questions.ask(cells), Answer::No),
         }
     }
 

@@ -1,17 +1,17 @@
-ghost use Rattle.std.specs.Prelude.{◌≡◌, ◌+◌, ◌<◌, ◌^◌, ◌++◌, ◌∷◌, [], All, length, filter_map, IfOk, OnOk};
+ghost use Rattle.std.specs.Prelude.{◌≡◌, ◌+◌, ◌<◌, ◌^◌, ◌++◌, ◌∷◌, [], All, length, filter_map, map, IfOk, OnOk};
 ghost use Rattle.definitions.specs.Pairs.{cells_of};
 ghost use Rattle.definitions.specs.Seeds.{distinct};
 ghost use Rattle.feasibility.specs.Refuting.{earlier_tuples};
 ghost use Rattle.ipog_grow.specs.Asking.{Grows, first_spent};
 ghost use Rattle.ipog_grow.specs.Completing.{completed};
-ghost use Rattle.ipog_grow.specs.Omissions.{AreOmissionsOf, IsOmittedIn, IsTreeOf};
+ghost use Rattle.ipog_grow.specs.Omissions.{AreOmissionsOf, IsOmittedIn, IsOmittedTuple, IsTreeOf};
 ghost use Rattle.feasibility.specs.Ends.{Ends};
 
 use crate::asker::Asker;
 use crate::completing::complete_rows;
 use crate::question::fault_of;
-use cov_model::{Cells, Rows, Tuple};
-use feasibility::{SearchFault, tuple_of};
+use cov_model::{Rows, Tuple};
+use feasibility::SearchFault;
 use refutation::{Omission, Omissions, ProofForm, TreeBuf};
 use std::alloc::Global;
 use value_text::NoMemory;
@@ -43,19 +43,18 @@ fn push_omission(
     alloc: Global,
     asker: &mut Asker,
     proof: Option<ProofForm>,
-    cells: &Cells,
+    tuple: Tuple,
     into: &mut Omissions,
 ) -> Result<(), NoMemory>
-    requires omitted { IsOmittedIn asker.old.context cells.now }
+    requires omitted { IsOmittedTuple asker.old.context tuple }
     requires earlier { AreOmissionsOf asker.old.context.model asker.old.context.prefs asker.old.context.effort proof into.old }
     requires few { length into.old.omissions < 2 ^ 32 }
     ensures tuples { OnOk result (earlier_tuples asker.old.context.model into.new
-        ≡ earlier_tuples asker.old.context.model into.old ++ cells.now ∷ []) }
+        ≡ earlier_tuples asker.old.context.model into.old ++ cells_of (length asker.old.context.model.params) tuple ∷ []) }
     ensures omissions { OnOk result (AreOmissionsOf asker.old.context.model asker.old.context.prefs asker.old.context.effort proof into.new) }
     ensures same { asker.new.context ≡ asker.old.context }
 {
     asker.assert_invariant();
-    let tuple = tuple_of(alloc, cells)?;
     let tree = tree_of(alloc, asker, proof, &tuple, into)?;
     into.push(Omission { tuple, tree })
 }
@@ -65,18 +64,18 @@ fn push_omitted(
     alloc: Global,
     asker: &mut Asker,
     proof: Option<ProofForm>,
-    omitted: &[Cells],
+    omitted: Vec<Tuple>,
     into: &mut Omissions,
 ) -> Result<(), NoMemory>
-    requires omitted { All (IsOmittedIn asker.old.context) omitted.now }
+    requires omitted { All (IsOmittedTuple asker.old.context) omitted.items }
     requires earlier { AreOmissionsOf asker.old.context.model asker.old.context.prefs asker.old.context.effort proof into.old }
-    requires few { length into.old.omissions + length omitted.now < 2 ^ 32 }
+    requires few { length into.old.omissions + length omitted.items < 2 ^ 32 }
     ensures tuples { OnOk result (earlier_tuples asker.old.context.model into.new
-        ≡ earlier_tuples asker.old.context.model into.old ++ omitted.now) }
+        ≡ earlier_tuples asker.old.context.model into.old ++ map (cells_of (length asker.old.context.model.params)) omitted.items) }
     ensures omissions { OnOk result (AreOmissionsOf asker.old.context.model asker.old.context.prefs asker.old.context.effort proof into.new) }
 {
-    for cells in omitted {
-        push_omission(alloc, asker, proof, cells, into)?;
+    for tuple in omitted {
+        push_omission(alloc, asker, proof, tuple, into)?;
     }
     Ok(())
 }
@@ -88,19 +87,19 @@ pub(crate) fn finish_slice(
     asker: &mut Asker,
     proof: Option<ProofForm>,
     grown: Rows,
-    omitted: &[Cells],
+    omitted: Vec<Tuple>,
     rows: &mut Rows,
     omissions: &mut Omissions,
 ) -> Result<(), SearchFault>
     requires grows { All (Grows asker.old.context) grown }
-    requires omitted { All (IsOmittedIn asker.old.context) omitted.now }
+    requires omitted { All (IsOmittedTuple asker.old.context) omitted.items }
     requires earlier { AreOmissionsOf asker.old.context.model asker.old.context.prefs asker.old.context.effort proof omissions.old }
-    requires few { length omissions.old.omissions + length omitted.now < 2 ^ 32 }
+    requires few { length omissions.old.omissions + length omitted.items < 2 ^ 32 }
     requires long { All (λ row. length row ≡ length asker.old.context.model.params) rows.old }
     ensures rows { OnOk result (rows.new ≡ rows.old ++ distinct (filter_map (completed asker.old.context) grown)) }
     ensures long { OnOk result (All (λ row. length row ≡ length asker.old.context.model.params) rows.new) }
     ensures tuples { OnOk result (earlier_tuples asker.old.context.model omissions.new
-        ≡ earlier_tuples asker.old.context.model omissions.old ++ omitted.now) }
+        ≡ earlier_tuples asker.old.context.model omissions.old ++ map (cells_of (length asker.old.context.model.params)) omitted.items) }
     ensures omissions { OnOk result (AreOmissionsOf asker.old.context.model asker.old.context.prefs asker.old.context.effort proof omissions.new) }
     ensures asked { Ends result (first_spent asker.old.context grown) }
 {

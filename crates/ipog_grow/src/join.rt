@@ -13,7 +13,8 @@ use cov_model::{Cells, ParamNo, Rows};
 
 // The first partial row that agrees with a tuple, and whose union with it is extendable, becomes this
 // union; its number, if there is one. The tuple gives values to these parameters, and only the candidates may
-// agree. The room is for a union, and has this one then.
+// agree. The room is for a union, and has this one then. A union contains the tuple, so that none is tried where
+// the tuple is known not to be extendable.
 pub(crate) fn join_first(
     asker: &mut Asker,
     tuple: &Cells,
@@ -39,6 +40,9 @@ pub(crate) fn join_first(
     ensures long { length room.new ≡ length room.old }
 {
     asker.assert_invariant();
+    if asker.rules_out(tuple) {
+        return Ok(None);
+    }
     while let Some(i) = candidates.take_first() {
         let row = rows.row(i);
         if agree(row, tuple, given) {

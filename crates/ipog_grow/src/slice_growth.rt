@@ -1,15 +1,16 @@
-ghost use Rattle.std.specs.Prelude.{◌≡◌, ◌+◌, ◌^◌, ◌++◌, ◌∷◌, ◌<◌, [], All, IfOk, OnOk, filter_map, length};
+ghost use Rattle.std.specs.Prelude.{◌≡◌, ◌+◌, ◌^◌, ◌++◌, ◌∷◌, ◌<◌, [], All, IfOk, OnOk, filter_map, length, map};
 ghost use Rattle.cov_model.specs.Preference.{OrdersValues};
 ghost use Rattle.cov_model.specs.Sound.{param_at};
 ghost use Rattle.definitions.specs.Completion.{column_order};
 ghost use Rattle.definitions.specs.Growth.{down, settle};
+ghost use Rattle.definitions.specs.Pairs.{cells_of, pairs_of};
 ghost use Rattle.definitions.specs.Seeds.{distinct};
 ghost use Rattle.definitions.specs.SliceRows.{IsSliceOf};
 ghost use Rattle.feasibility.specs.Ends.{Ends};
 ghost use Rattle.feasibility.specs.Refuting.{earlier_tuples};
 ghost use Rattle.tuple_index.specs.Plan.{plan_of};
 ghost use Rattle.ipog_grow.specs.Completing.{completed};
-ghost use Rattle.ipog_grow.specs.Omissions.{AreOmissionsOf, IsOmittedIn};
+ghost use Rattle.ipog_grow.specs.Omissions.{AreOmissionsOf, IsOmittedTuple};
 ghost use Rattle.ipog_grow.specs.Asking.{Grows, IsNew, IsNext, IsOpen, IsPassed, IsReady, Told, column_grown, columns_grown, extends, first_spent, omitted_alone, rows_alone};
 ghost use Rattle.ipog_grow.specs.Growing.{Keeps, columns_to, given_params, open_tuples};
 ghost use Rattle.ipog_grow.specs.UnfilledRows.{HasUnfilled};
@@ -25,16 +26,16 @@ use crate::stop::Stop;
 use crate::unfilled::UnfilledRows;
 use crate::values::no_scores;
 use crate::workers::Workers;
-use cov_model::{Cells, ParamNo, Prefs, Rows, Slice, TestModel};
+use cov_model::{Cells, ParamNo, Prefs, Rows, Slice, TestModel, Tuple};
 use definitions::Effort;
-use feasibility::SearchFault;
+use feasibility::{SearchFault, tuple_of};
 use refutation::{Omissions, ProofForm};
 use std::alloc::Global;
 use std::mem;
 use std::thread::Threads;
 use tuple_index::Plan;
 use uncovered_table::Uncovered;
-use value_text::{NoMemory, OwnedList};
+use value_text::NoMemory;
 use worker_gate::Gate;
 
 // What grows in a slice: the partial rows, the table of the open tuples and the tuples that were
@@ -45,7 +46,7 @@ pub(crate) struct SliceGrowth<'a> {
     pub(crate) tuple: Cells,
     pub(crate) room: Cells,
     pub(crate) rows: Rows,
-    pub(crate) omitted: OwnedList<Cells>,
+    pub(crate) omitted: Vec<Tuple>,
 }
 
 // Its parts are dropped here, and not anew wherever a growth may end.
@@ -60,6 +61,16 @@ impl Drop for SliceGrowth<'_> {
             omitted: _,
         } = self;
     }
+}
+
+// Puts the tuple of these cells behind others.
+fn push_tuple(alloc: Global, cells: &Cells, into: &mut Vec<Tuple>) -> Result<(), NoMemory>
+    requires { length cells.now < 2 ^ 16 }
+    ensures { OnOk result (into.new.items ≡ into.old.items ++ pairs_of cells.now ∷ []) }
+{
+    let tuple = tuple_of(alloc, cells)?;
+    into.push(tuple)?;
+    Ok(())
 }
 
 impl<'a> SliceGrowth<'a> {
@@ -80,7 +91,7 @@ impl<'a> SliceGrowth<'a> {
         ensures context { IfOk result (λ growth. growth.asker.context ≡ record { model = model.now; prefs = prefs.now; slice = slice; effort = effort }) }
         ensures is_new { IfOk result (λ growth. IsNew growth.asker.context growth.table growth.tuple growth.room) }
         ensures rows { IfOk result (λ growth. growth.rows ≡ rows) }
-        ensures omitted { IfOk result (λ growth. growth.omitted ≡ []) }
+        ensures omitted { IfOk result (λ growth. growth.omitted.items ≡ []) }
     {
         let count = model.params().len();
         let tuple = Cells::empty(alloc, count)?;
@@ -93,7 +104,7 @@ impl<'a> SliceGrowth<'a> {
             tuple,
             room,
             rows,
-            omitted: OwnedList::new(alloc),
+            omitted: Vec::new(alloc),
         })
     }
 
@@ -114,7 +125,7 @@ impl<'a> SliceGrowth<'a> {
         requires unfilled { HasUnfilled columns.now column (length (param_at self.old.asker.context.model.params column).values) self.old.rows unfilled.old }
         ensures asked { Told result self.new.asker.question (first_spent self.old.asker.context (self.old.tuple ∷ [])) }
         ensures rows { OnOk result (self.new.rows ≡ rows_alone self.old.asker.context self.old.tuple self.old.rows) }
-        ensures omitted { OnOk result (self.new.omitted ≡ self.old.omitted ++ omitted_alone self.old.asker.context self.old.tuple) }
+        ensures omitted { OnOk result (self.new.omitted.items ≡ self.old.omitted.items ++ omitted_alone self.old.asker.context self.old.tuple) }
         ensures passed { OnOk result (IsPassed self.old.asker.context self.old.table self.new.table column place self.new.rows) }
         ensures unfilled { OnOk result (HasUnfilled columns.now column (length (param_at self.old.asker.context.model.params column).values) self.new.rows unfilled.new) }
         ensures same { self.new.asker.context ≡ self.old.asker.context }
@@ -128,8 +139,7 @@ impl<'a> SliceGrowth<'a> {
             unfilled.push_row(self.tuple.as_slice(), columns, column, number)?;
             self.table.close_row(&self.tuple, column);
         } else {
-            let row = self.tuple.copy(alloc)?;
-            self.omitted.push(row)?;
+            push_tuple(alloc, &self.tuple, &mut self.omitted)?;
             self.table.close(place.0, place.1);
         }
         Ok(())
@@ -158,8 +168,8 @@ impl<'a> SliceGrowth<'a> {
         ensures asked { Told result self.new.asker.question
             (first_spent self.old.asker.context (settle (extends self.old.asker.context) self.old.tuple self.old.rows).asked) }
         ensures rows { OnOk result (self.new.rows ≡ (settle (extends self.old.asker.context) self.old.tuple self.old.rows).rows) }
-        ensures omitted { OnOk result (self.new.omitted ≡ self.old.omitted
-            ++ (settle (extends self.old.asker.context) self.old.tuple self.old.rows).omitted) }
+        ensures omitted { OnOk result (self.new.omitted.items ≡ self.old.omitted.items
+            ++ map pairs_of (settle (extends self.old.asker.context) self.old.tuple self.old.rows).omitted) }
         ensures passed { OnOk result (IsPassed self.old.asker.context self.old.table self.new.table column place self.new.rows) }
         ensures unfilled { OnOk result (HasUnfilled columns.now column (length (param_at self.old.asker.context.model.params column).values) self.new.rows unfilled.new) }
         ensures same { self.new.asker.context ≡ self.old.asker.context }
@@ -203,8 +213,8 @@ impl<'a> SliceGrowth<'a> {
             (first_spent self.old.asker.context (down (extends self.old.asker.context) (open_tuples self.old.table column) self.old.rows).asked) }
         ensures rows { OnOk result (self.new.rows
             ≡ (down (extends self.old.asker.context) (open_tuples self.old.table column) self.old.rows).rows) }
-        ensures omitted { OnOk result (self.new.omitted ≡ self.old.omitted
-            ++ (down (extends self.old.asker.context) (open_tuples self.old.table column) self.old.rows).omitted) }
+        ensures omitted { OnOk result (self.new.omitted.items ≡ self.old.omitted.items
+            ++ map pairs_of (down (extends self.old.asker.context) (open_tuples self.old.table column) self.old.rows).omitted) }
         ensures keeps { OnOk result (Keeps self.old.table self.new.table column) }
         ensures grows { OnOk result (All (Grows self.old.asker.context) self.new.rows) }
         ensures same { self.new.asker.context ≡ self.old.asker.context }
@@ -250,7 +260,8 @@ impl<'a> SliceGrowth<'a> {
         ensures asked { Told result self.new.asker.question
             (first_spent self.old.asker.context (column_grown self.old.asker.context column self.old.rows).asked) }
         ensures rows { OnOk result (self.new.rows ≡ (column_grown self.old.asker.context column self.old.rows).rows) }
-        ensures omitted { OnOk result (self.new.omitted ≡ self.old.omitted ++ (column_grown self.old.asker.context column self.old.rows).omitted) }
+        ensures omitted { OnOk result (self.new.omitted.items ≡ self.old.omitted.items
+            ++ map pairs_of (column_grown self.old.asker.context column self.old.rows).omitted) }
         ensures keeps { OnOk result (Keeps self.old.table self.new.table column) }
         ensures grows { OnOk result (All (Grows self.old.asker.context) self.new.rows) }
         ensures same { self.new.asker.context ≡ self.old.asker.context }
@@ -294,8 +305,8 @@ impl<'a> SliceGrowth<'a> {
         ensures asked { Told result self.new.asker.question
             (first_spent self.old.asker.context (columns_grown self.old.asker.context (column_order model.now slice) self.old.rows).asked) }
         ensures rows { OnOk result (self.new.rows ≡ (columns_grown self.old.asker.context (column_order model.now slice) self.old.rows).rows) }
-        ensures omitted { OnOk result (self.new.omitted ≡ self.old.omitted
-            ++ (columns_grown self.old.asker.context (column_order model.now slice) self.old.rows).omitted) }
+        ensures omitted { OnOk result (self.new.omitted.items ≡ self.old.omitted.items
+            ++ map pairs_of (columns_grown self.old.asker.context (column_order model.now slice) self.old.rows).omitted) }
         ensures grows { OnOk result (All (Grows self.old.asker.context) self.new.rows) }
         ensures same { self.new.asker.context ≡ self.old.asker.context }
     {
@@ -310,33 +321,36 @@ impl<'a> SliceGrowth<'a> {
     // Ends the growth after the last column: completes the grown rows, and puts them and the omitted tuples
     // behind those of earlier slices.
     pub(crate) fn finish(
-        &mut self,
+        self,
         alloc: Global,
         proof: Option<ProofForm>,
         rows: &mut Rows,
         omissions: &mut Omissions,
     ) -> Result<(), SearchFault>
-        requires grows { All (Grows self.old.asker.context) self.old.rows }
-        requires omitted { All (IsOmittedIn self.old.asker.context) self.old.omitted }
-        requires earlier { AreOmissionsOf self.old.asker.context.model self.old.asker.context.prefs self.old.asker.context.effort proof omissions.old }
-        requires few { length omissions.old.omissions + length self.old.omitted < 2 ^ 32 }
-        requires long { All (λ row. length row ≡ length self.old.asker.context.model.params) rows.old }
-        ensures rows { OnOk result (rows.new ≡ rows.old ++ distinct (filter_map (completed self.old.asker.context) self.old.rows)) }
-        ensures long { OnOk result (All (λ row. length row ≡ length self.old.asker.context.model.params) rows.new) }
-        ensures tuples { OnOk result (earlier_tuples self.old.asker.context.model omissions.new
-            ≡ earlier_tuples self.old.asker.context.model omissions.old ++ self.old.omitted) }
-        ensures omissions { OnOk result (AreOmissionsOf self.old.asker.context.model self.old.asker.context.prefs self.old.asker.context.effort proof omissions.new) }
-        ensures asked { Ends result (first_spent self.old.asker.context self.old.rows) }
+        requires grows { All (Grows self.asker.context) self.rows }
+        requires omitted { All (IsOmittedTuple self.asker.context) self.omitted.items }
+        requires earlier { AreOmissionsOf self.asker.context.model self.asker.context.prefs self.asker.context.effort proof omissions.old }
+        requires few { length omissions.old.omissions + length self.omitted.items < 2 ^ 32 }
+        requires long { All (λ row. length row ≡ length self.asker.context.model.params) rows.old }
+        ensures rows { OnOk result (rows.new ≡ rows.old ++ distinct (filter_map (completed self.entry.asker.context) self.entry.rows)) }
+        ensures long { OnOk result (All (λ row. length row ≡ length self.entry.asker.context.model.params) rows.new) }
+        ensures tuples { OnOk result (earlier_tuples self.entry.asker.context.model omissions.new
+            ≡ earlier_tuples self.entry.asker.context.model omissions.old
+            ++ map (cells_of (length self.entry.asker.context.model.params)) self.entry.omitted.items) }
+        ensures omissions { OnOk result (AreOmissionsOf self.entry.asker.context.model self.entry.asker.context.prefs
+            self.entry.asker.context.effort proof omissions.new) }
+        ensures asked { Ends result (first_spent self.entry.asker.context self.entry.rows) }
     {
-        let grown = mem::replace(&mut self.rows, Rows::new(alloc));
-        finish_slice(
-            alloc,
-            &mut self.asker,
-            proof,
-            grown,
-            self.omitted.as_slice(),
-            rows,
-            omissions,
-        )
+        let SliceGrowth {
+            table,
+            mut asker,
+            tuple: _,
+            room: _,
+            rows: grown,
+            omitted,
+        } = self;
+        // the omissions may take as much memory as the table, which isn't needed any more
+        mem::drop(table);
+        finish_slice(alloc, &mut asker, proof, grown, omitted, rows, omissions)
     }
 }

@@ -33,7 +33,7 @@ fn growth_from_seeds<'a>(
     ensures context { IfOk result (λ growth. growth.asker.context ≡ context_in input.now slice) }
     ensures is_new { IfOk result (λ growth. IsNew growth.asker.context growth.table growth.tuple growth.room) }
     ensures rows { IfOk result (λ growth. growth.rows ≡ filter (is_of_slice input.now.model.now slice) input.now.kept.now) }
-    ensures omitted { IfOk result (λ growth. growth.omitted ≡ []) }
+    ensures omitted { IfOk result (λ growth. growth.omitted.items ≡ []) }
 {
     let (model, prefs, plan) = (input.model, input.prefs, input.plan);
     let seeds = seeds_of_slice(alloc, model, input.kept, slice)?;

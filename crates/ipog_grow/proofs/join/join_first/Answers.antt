@@ -2,10 +2,10 @@ use Rattle.std.proofs.Common.{false, ◌∙◌, ◌<◌, Bool, ℕ, List, Option
 use Rattle.std.proofs.lemmas.List.{get_or-set_same}
 use Rattle.std.proofs.lemmas.Result.{err_from_is_err_and}
 use Rattle.full_search.specs.Questions.{QuestionsView}
-use Rattle.ipog_grow.specs.Asking.{Grows}
+use Rattle.ipog_grow.specs.Asking.{AskerView, Grows}
 use Rattle.ipog_grow.proofs.Asking.{answered, told-answer}
 use Rattle.ipog_grow.proofs.Giving.{given_exist}
-use Rattle.ipog_grow.proofs.Joining.{IsOffered, Joins, Takes, joining-none, joining-spent, left, offered, offering-first, offering-start, passed_over, read_row, takes}
+use Rattle.ipog_grow.proofs.Joining.{IsOffered, Joins, Takes, joining-none, joining-spent, joins-ruled_out, left, offered, offering-first, offering-start, passed_over, read_row, takes}
 use Rattle.ipog_grow.proofs.join.join_first.Goals as goal
 
 -- the parameters that the tuple gives exist in each row
@@ -23,8 +23,21 @@ unite-requires-clause-exist c =
     (c.requires.tuple.of.fits.as_long ∙ sym (c.requires.rows c.in-Some.i [] within).of.fits.as_long
     ∙ sym (ap length (read_row c.in-Some.i c.loop-i.invariant.rows c.row-row.ensures)))
 
+-- the tuple isn't extendable
+ruled_out : (c : goal.Then-rules_out) → Joins c.args.asker.now.context c.args.tuple.now c.args.rows.now c.args.rows.now false
+ruled_out c = joins-ruled_out (c.rules_out.ensures.full c.if-rules_out.true) (c.rules_out.ensures.fails c.if-rules_out.true)
+
+pub returns-then-rules_out-clause-asked : goal.returns-then-rules_out-clause-asked
+returns-then-rules_out-clause-asked c = (ruled_out c).asked
+
+pub returns-then-rules_out-clause-rows : goal.returns-then-rules_out-clause-rows
+returns-then-rules_out-clause-rows c = (ruled_out c).rows_are
+
+pub returns-then-rules_out-clause-taken : goal.returns-then-rules_out-clause-taken
+returns-then-rules_out-clause-taken c = (ruled_out c).taken_is
+
 pub loop-i-init : goal.loop-i-init
-loop-i-init c = record { context = refl; rows = refl; room = refl; offering = offering-start c.requires.candidates c.requires.others }
+loop-i-init c = record { context = ap (λ (v : AskerView). v.context) c.rules_out.ensures.same; rows = refl; room = refl; offering = offering-start c.requires.candidates c.requires.others }
 
 pub ask-requires : goal.ask-requires
 ask-requires c =

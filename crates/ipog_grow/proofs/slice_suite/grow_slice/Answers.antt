@@ -1,16 +1,21 @@
-use Rattle.std.proofs.Common.{◌≡◌, ◌++◌, ℕ, Bool, List, [], Option, Err, All, length, filter, filter_map, ◌∙◌, sym, ap, subst, refl, arith}
+use Rattle.std.proofs.Common.{◌≡◌, ◌++◌, ℕ, Bool, List, [], Option, Err, None, All, length, filter, filter_map, map, ◌∙◌, sym, ap, subst, arith}
+use Rattle.std.proofs.lemmas.List.{length-map}
 use Rattle.std.proofs.lemmas.Result.{on_ok_weaker}
 use Rattle.definitions.specs.Completion.{column_order}
 use Rattle.definitions.specs.Growth.{Grown, is_of_slice}
+use Rattle.definitions.specs.Pairs.{cells_of, pairs_of}
 use Rattle.definitions.specs.Search.{exceeds, question_cost}
 use Rattle.definitions.specs.Seeds.{distinct}
+use Rattle.definitions.specs.SliceRows.{IsSliceOf}
 use Rattle.full_search.specs.Questions.{QuestionsView}
 use Rattle.ipog_grow.specs.Asking.{Grows, Told, columns_grown, first_spent}
 use Rattle.ipog_grow.specs.Completing.{completed}
 use Rattle.ipog_grow.specs.Inputs.{context_in}
-use Rattle.ipog_grow.specs.Omissions.{IsOmittedIn}
+use Rattle.ipog_grow.specs.Omissions.{IsOmittedIn, IsOmittedTuple}
+use Rattle.feasibility.specs.Refuting.{earlier_tuples}
+use Rattle.refutation.specs.Proofs.{ProofView}
 use Rattle.feasibility.specs.Ends.{Ends}
-use Rattle.ipog_grow.proofs.Omitting.{omitted-in, omitted-few}
+use Rattle.ipog_grow.proofs.Omitting.{omitted-again, omitted-few, omitted-in, omitted-tuples}
 use Rattle.ipog_grow.proofs.Slicing.{seeds_grow, stopped-in}
 use Rattle.ipog_grow.proofs.Spending.{find-later, find-earlier}
 use Rattle.ipog_grow.proofs.Trees.{omissions-count}
@@ -30,11 +35,22 @@ same_asked now context order grown start same starts =
     ap (λ w. first_spent w (columns_grown w order grown).asked) same ∙ ap (λ rows. first_spent context (columns_grown context order rows).asked) starts
 
 -- what they omit, behind nothing
-same_omitted : (now context : QuestionsView) (order : List ℕ) (grown start before given put : List (List (Option ℕ))) → now ≡ context → grown ≡ start
-    → before ≡ [] → put ≡ before ++ (columns_grown now order grown).omitted → given ≡ put → given ≡ (columns_grown context order start).omitted
-same_omitted now context order grown start before given put same starts none puts gives =
-    gives ∙ puts ∙ ap (λ tuples. tuples ++ (columns_grown now order grown).omitted) none ∙ ap (λ (g : Grown). g.omitted)
+same_omitted : (now context : QuestionsView) (order : List ℕ) (grown start : List (List (Option ℕ))) (before given : List (List (ℕ × ℕ))) → now ≡ context
+    → grown ≡ start → before ≡ [] → given ≡ before ++ map pairs_of (columns_grown now order grown).omitted
+    → given ≡ map pairs_of (columns_grown context order start).omitted
+same_omitted now context order grown start before given same starts none gives =
+    gives ∙ ap (λ tuples. tuples ++ map pairs_of (columns_grown now order grown).omitted) none ∙ ap (λ (g : Grown). map pairs_of g.omitted)
     (same_grown now context order grown start same starts)
+
+-- which gives the tuples again, once they are put
+same_tuples : (now context : QuestionsView) (before after : ProofView) (given : List (List (ℕ × ℕ))) (tuples : List (List (Option ℕ))) → now ≡ context
+    → All (IsOmittedIn context) tuples → given ≡ map pairs_of tuples
+    → earlier_tuples now.model after ≡ earlier_tuples now.model before ++ map (cells_of (length now.model.params)) given
+    → earlier_tuples context.model after ≡ earlier_tuples context.model before ++ tuples
+same_tuples now context before after given tuples same omitted gives put =
+    subst (λ (w : QuestionsView). earlier_tuples w.model after ≡ earlier_tuples w.model before ++ map (cells_of (length w.model.params)) given) same put
+    ∙ ap (λ list. earlier_tuples context.model before ++ list)
+    (ap (map (cells_of (length context.model.params))) gives ∙ omitted-again context tuples omitted)
 
 -- what their rows put behind others
 same_put : (now context : QuestionsView) (order : List ℕ) (before given after start : List (List (Option ℕ))) → now ≡ context
@@ -65,34 +81,43 @@ returns-in-Err-clause-asked g c =
     (same_asked c.in-Ok.growth.asker.context context order c.in-Ok.growth.rows start c.in-Ok.ensures.context
     c.in-Ok.ensures.rows) c.in-Err.ensures.asked)))
 
+-- what the columns omitted
+record Omitting (context : QuestionsView) (order : List ℕ) (start : List (List (Option ℕ))) (given : List (List (ℕ × ℕ))) : Type 0 where
+  all : All (IsOmittedIn context) (columns_grown context order start).omitted
+  gives : given ≡ map pairs_of (columns_grown context order start).omitted
+
+omitting : (now context : QuestionsView) (order : List ℕ) {grown start : List (List (Option ℕ))} {before given : List (List (ℕ × ℕ))} → now ≡ context
+    → grown ≡ start → before ≡ [] → given ≡ before ++ map pairs_of (columns_grown now order grown).omitted → IsSliceOf context.model context.slice
+    → first_spent now (columns_grown now order grown).asked ≡ None → Omitting context order start given
+omitting now context order {grown} {start} {before} {given} same starts none puts is unspent = record {
+  all = omitted-in context order start is (sym (same_asked now context order grown start same starts) ∙ unspent);
+  gives = same_omitted now context order grown start before given same starts none puts;
+}
+
 pub finish-requires-clause-omitted : goal.finish-requires-clause-omitted
 finish-requires-clause-omitted g c =
     let context : QuestionsView = context_in c.args.input.now c.args.slice in
-    let start : List (List (Option ℕ)) = filter (is_of_slice context.model c.args.slice) c.args.input.now.kept.now in
-    let order : List ℕ = column_order context.model c.args.slice in
-    let now : QuestionsView = c.in-Ok.growth.asker.context in
-    let rows : List (List (Option ℕ)) = c.in-Ok.growth.rows in
-    let same = c.in-Ok.ensures.rows in
-    subst (λ (w : QuestionsView). All (IsOmittedIn w) c.grow_columns.new.self.omitted)
+    let omits = omitting c.in-Ok.growth.asker.context (context_in c.args.input.now c.args.slice)
+    (column_order c.args.input.now.model.now c.args.slice) c.in-Ok.ensures.context c.in-Ok.ensures.rows c.in-Ok.ensures.omitted
+    c.in_default-grow_columns.ensures.omitted c.requires.slice c.in_default-grow_columns.ensures.asked in
+    subst (λ (w : QuestionsView). All (IsOmittedTuple w) c.grow_columns.new.self.omitted.items)
     (sym (c.in_default-grow_columns.ensures.same ∙ c.in-Ok.ensures.context))
-    (subst (λ (tuples : List (List (Option ℕ))). All (IsOmittedIn context) tuples)
-    (sym (same_omitted now context order rows start c.in-Ok.growth.omitted c.grow_columns.new.self.omitted c.grow_columns.new.self.omitted
-    c.in-Ok.ensures.context same c.in-Ok.ensures.omitted c.in_default-grow_columns.ensures.omitted refl))
-    (omitted-in context order start c.requires.slice
-    (sym (same_asked now context order rows start c.in-Ok.ensures.context same) ∙ c.in_default-grow_columns.ensures.asked)))
+    (subst (All (IsOmittedTuple context)) (sym omits.gives) (omitted-tuples context _ omits.all))
 
 pub finish-requires-clause-few : goal.finish-requires-clause-few
 finish-requires-clause-few g c =
     let context : QuestionsView = context_in c.args.input.now c.args.slice in
     let start : List (List (Option ℕ)) = filter (is_of_slice context.model c.args.slice) c.args.input.now.kept.now in
     let order : List ℕ = column_order context.model c.args.slice in
+    let omits = omitting c.in-Ok.growth.asker.context (context_in c.args.input.now c.args.slice)
+    (column_order c.args.input.now.model.now c.args.slice) c.in-Ok.ensures.context c.in-Ok.ensures.rows c.in-Ok.ensures.omitted
+    c.in_default-grow_columns.ensures.omitted c.requires.slice c.in_default-grow_columns.ensures.asked in
     omega (
       arith,
       c.requires.few,
       omitted-few context order start,
-      ap length (same_omitted c.in-Ok.growth.asker.context context order c.in-Ok.growth.rows start c.in-Ok.growth.omitted
-          c.grow_columns.new.self.omitted c.grow_columns.new.self.omitted c.in-Ok.ensures.context c.in-Ok.ensures.rows
-          c.in-Ok.ensures.omitted c.in_default-grow_columns.ensures.omitted refl),
+      ap length omits.gives,
+      length-map (columns_grown context order start).omitted pairs_of,
     )
 
 pub returns-clause-rows : goal.returns-clause-rows
@@ -109,19 +134,26 @@ returns-clause-rows g c =
     (same_put c.grow_columns.new.self.asker.context context order c.args.rows.now given c.finish.new.rows start
     (c.in_default-grow_columns.ensures.same ∙ c.in-Ok.ensures.context) rows) c.finish.ensures.rows
 
+pub returns-clause-tuples : goal.returns-clause-tuples
+returns-clause-tuples g c =
+    let omits = omitting c.in-Ok.growth.asker.context (context_in c.args.input.now c.args.slice)
+    (column_order c.args.input.now.model.now c.args.slice) c.in-Ok.ensures.context c.in-Ok.ensures.rows c.in-Ok.ensures.omitted
+    c.in_default-grow_columns.ensures.omitted c.requires.slice c.in_default-grow_columns.ensures.asked in
+    on_ok_weaker c.finish.result
+    (same_tuples c.grow_columns.new.self.asker.context (context_in c.args.input.now c.args.slice) c.args.omissions.now c.finish.new.omissions
+    c.grow_columns.new.self.omitted.items _ (c.in_default-grow_columns.ensures.same ∙ c.in-Ok.ensures.context) omits.all omits.gives)
+    c.finish.ensures.tuples
+
 pub returns-clause-count : goal.returns-clause-count
 returns-clause-count g c =
     let context : QuestionsView = context_in c.args.input.now c.args.slice in
     let start : List (List (Option ℕ)) = filter (is_of_slice context.model c.args.slice) c.args.input.now.kept.now in
     let order : List ℕ = column_order context.model c.args.slice in
     let few = omitted-few context order start in
-    let put = ap length (same_omitted c.in-Ok.growth.asker.context context order c.in-Ok.growth.rows start c.in-Ok.growth.omitted
-    c.grow_columns.new.self.omitted c.grow_columns.new.self.omitted c.in-Ok.ensures.context c.in-Ok.ensures.rows
-    c.in-Ok.ensures.omitted c.in_default-grow_columns.ensures.omitted refl) in
     on_ok_weaker c.finish.result
     (λ tuples.
-    let count = omissions-count c.grow_columns.new.self.asker.context.model c.args.omissions.now c.finish.new.omissions c.grow_columns.new.self.omitted tuples in
-    omega (arith, few, put, count)) c.finish.ensures.tuples
+    let count = omissions-count context.model c.args.omissions.now c.finish.new.omissions (columns_grown context order start).omitted tuples in
+    omega (arith, few, count)) (returns-clause-tuples g c)
 
 pub returns-clause-asked : goal.returns-clause-asked
 returns-clause-asked g c =

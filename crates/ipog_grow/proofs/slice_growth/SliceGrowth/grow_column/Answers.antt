@@ -1,9 +1,10 @@
-use Rattle.std.proofs.Common.{◌≡◌, ◌∙◌, ◌++◌, [], All, List, Option, ℕ, OnOk, get_or, length, ap, sym, subst}
+use Rattle.std.proofs.Common.{◌≡◌, ◌∙◌, ◌++◌, [], All, List, Option, ℕ, OnOk, get_or, length, map, ap, sym, subst}
 use Rattle.std.proofs.lemmas.Result.{err_from_is_err_and}
 use Rattle.std.proofs.lemmas.List.Elements.{All-filter}
 use Rattle.cov_model.specs.Sound.{ModelView, param_at}
 use Rattle.cov_model.specs.declared.slice.Slice.{Slice}
 use Rattle.definitions.specs.Growth.{down, is_uncovered, tuples_in_play}
+use Rattle.definitions.specs.Pairs.{pairs_of}
 use Rattle.uncovered_table.specs.Open.{OpenView}
 use Rattle.ipog_grow.specs.Growing.{IsInPlay, open_tuples}
 use Rattle.full_search.specs.Questions.{QuestionsView}
@@ -97,9 +98,10 @@ returns-clause-rows g c =
 
 pub returns-clause-omitted : goal.returns-clause-omitted
 returns-clause-omitted g c =
-    subst (λ (tuples : List (List (Option ℕ))). OnOk c.grow_vertically.result (c.grow_vertically.new.self.omitted ≡ c.args.self.now.omitted ++ tuples))
+    subst (λ (tuples : List (List (Option ℕ))). OnOk c.grow_vertically.result
+    (c.grow_vertically.new.self.omitted.items ≡ c.args.self.now.omitted.items ++ map pairs_of tuples))
     (half-omitted (halved g c))
     (subst (λ (w : QuestionsView). OnOk c.grow_vertically.result
-    (c.grow_vertically.new.self.omitted
-    ≡ c.args.self.now.omitted ++ (down (extends w) (open_tuples c.grow_horizontally.new.table c.args.column) c.grow_horizontally.new.rows).omitted))
+    (c.grow_vertically.new.self.omitted.items
+    ≡ c.args.self.now.omitted.items ++ map pairs_of (down (extends w) (open_tuples c.grow_horizontally.new.table c.args.column) c.grow_horizontally.new.rows).omitted))
     c.in_ok-grow_horizontally.ensures.same c.grow_vertically.ensures.omitted)

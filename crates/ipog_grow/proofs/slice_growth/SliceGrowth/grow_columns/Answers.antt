@@ -1,8 +1,9 @@
-use Rattle.std.proofs.Common.{◌≡◌, ◌∙◌, ◌<◌, ◌+◌, ◌++◌, Err, None, All, IsPermutation, drop, take, get_or, ap, arith, length, refl, sym, subst}
+use Rattle.std.proofs.Common.{◌≡◌, ◌∙◌, ◌<◌, ◌+◌, ◌++◌, Err, None, All, IsPermutation, drop, take, get_or, ap, arith, length, map, refl, sym, subst}
 use Rattle.std.specs.List.{range_with_len}
 use Rattle.std.proofs.lemmas.Result.{err_from_is_err_and}
 use Rattle.std.proofs.lemmas.List.Elements.{All-head}
 use Rattle.cov_model.specs.Sound.{ModelView}
+use Rattle.definitions.specs.Pairs.{pairs_of}
 use Rattle.full_search.specs.Questions.{QuestionsView}
 use Rattle.ipog_grow.specs.Asking.{Grows, IsReady, Told, first_spent, column_grown, columns_grown}
 use Rattle.ipog_grow.proofs.Asking.{told-err}
@@ -22,7 +23,7 @@ loop-k-init g c =
       tuple = refl;
       room = refl;
       order = c.in_ok-order.ensures.value;
-      taking = taking-start c.args.self.now.asker.context c.in_ok-order.order.items c.args.self.now.table c.args.self.now.rows c.args.self.now.omitted
+      taking = taking-start c.args.self.now.asker.context c.in_ok-order.order.items c.args.self.now.table c.args.self.now.rows c.args.self.now.omitted.items
           c.assert_invariant.ensures.context c.requires.is_new.fresh moved c.requires.grows;
     }
 
@@ -33,7 +34,7 @@ grow_column-requires-clause-column g c _ _ =
     let column : c.index.result.now ≡ get_or c.in_ok-order.order.items c.loop-k.k 0 = c.index.ensures
     ∙ get_or_default c.in_ok-order.order.items c.loop-k.k c.index.result.now 0 within in
     let taking = taking-at c.args.self.now.asker.context c.in_ok-order.order.items c.loop-k.k c.index.result.now c.loop-k.self.table
-    c.args.self.now.rows c.loop-k.self.rows c.args.self.now.omitted c.loop-k.self.omitted within column c.loop-k.invariant.taking in
+    c.args.self.now.rows c.loop-k.self.rows c.args.self.now.omitted.items c.loop-k.self.omitted.items within column c.loop-k.invariant.taking in
     subst (λ (w : QuestionsView). c.index.result.now < length w.model.params) (sym c.loop-k.invariant.context)
     (All-head (λ p. p < length c.args.self.now.asker.context.model.params) c.index.result.now (drop (c.loop-k.k + 1) c.in_ok-order.order.items)
     taking.ready.exist)
@@ -45,7 +46,7 @@ grow_column-requires-clause-ready g c _ _ =
     let column : c.index.result.now ≡ get_or c.in_ok-order.order.items c.loop-k.k 0 = c.index.ensures
     ∙ get_or_default c.in_ok-order.order.items c.loop-k.k c.index.result.now 0 within in
     let taking = taking-at c.args.self.now.asker.context c.in_ok-order.order.items c.loop-k.k c.index.result.now c.loop-k.self.table
-    c.args.self.now.rows c.loop-k.self.rows c.args.self.now.omitted c.loop-k.self.omitted within column c.loop-k.invariant.taking in
+    c.args.self.now.rows c.loop-k.self.rows c.args.self.now.omitted.items c.loop-k.self.omitted.items within column c.loop-k.invariant.taking in
     subst (λ (w : QuestionsView). IsReady w c.loop-k.self.table c.index.result.now c.loop-k.self.rows) (sym c.loop-k.invariant.context)
     (taking-next taking.ready)
 
@@ -56,7 +57,7 @@ returns-in_err-grow_column-clause-asked g c =
     let column : c.index.result.now ≡ get_or c.in_ok-order.order.items c.loop-k.k 0 = c.index.ensures
     ∙ get_or_default c.in_ok-order.order.items c.loop-k.k c.index.result.now 0 within in
     let taking = taking-at c.args.self.now.asker.context c.in_ok-order.order.items c.loop-k.k c.index.result.now c.loop-k.self.table
-    c.args.self.now.rows c.loop-k.self.rows c.args.self.now.omitted c.loop-k.self.omitted within column c.loop-k.invariant.taking in
+    c.args.self.now.rows c.loop-k.self.rows c.args.self.now.omitted.items c.loop-k.self.omitted.items within column c.loop-k.invariant.taking in
     let p = err_from_is_err_and c.from_residual-in_err-grow_column.result c.from_residual-in_err-grow_column.ensures.1 in
     rw (p.1, p.2) (subst (λ order. Told {A = Unit {0}} (Err c.in_err-grow_column.field-0.0) c.grow_column.new.self.asker.question
     (first_spent c.args.self.now.asker.context (columns_grown c.args.self.now.asker.context order c.args.self.now.rows).asked))
@@ -75,7 +76,7 @@ loop-k-preserved g c =
     let column : c.index.result.now ≡ get_or c.in_ok-order.order.items c.loop-k.k 0 = c.index.ensures
     ∙ get_or_default c.in_ok-order.order.items c.loop-k.k c.index.result.now 0 within in
     let taking = taking-at c.args.self.now.asker.context c.in_ok-order.order.items c.loop-k.k c.index.result.now c.loop-k.self.table
-    c.args.self.now.rows c.loop-k.self.rows c.args.self.now.omitted c.loop-k.self.omitted within column c.loop-k.invariant.taking in
+    c.args.self.now.rows c.loop-k.self.rows c.args.self.now.omitted.items c.loop-k.self.omitted.items within column c.loop-k.invariant.taking in
     record {
       context = c.grow_column.ensures.same ∙ c.loop-k.invariant.context;
       tuple = c.grow_column.ensures.tuple ∙ c.loop-k.invariant.tuple;
@@ -87,8 +88,8 @@ loop-k-preserved g c =
           c.loop-k.invariant.context c.in_ok-grow_column.ensures.asked)
           (subst (λ (w : QuestionsView). c.grow_column.new.self.rows ≡ (column_grown w c.index.result.now c.loop-k.self.rows).rows)
           c.loop-k.invariant.context c.in_ok-grow_column.ensures.rows)
-          (subst (λ (w : QuestionsView). c.grow_column.new.self.omitted ≡ c.loop-k.self.omitted
-          ++ (column_grown w c.index.result.now c.loop-k.self.rows).omitted) c.loop-k.invariant.context c.in_ok-grow_column.ensures.omitted)
+          (subst (λ (w : QuestionsView). c.grow_column.new.self.omitted.items ≡ c.loop-k.self.omitted.items
+          ++ map pairs_of (column_grown w c.index.result.now c.loop-k.self.rows).omitted) c.loop-k.invariant.context c.in_ok-grow_column.ensures.omitted)
           c.in_ok-grow_column.ensures.keeps
           (subst (λ (w : QuestionsView). All (Grows w) c.grow_column.new.self.rows) c.loop-k.invariant.context c.in_ok-grow_column.ensures.grows);
     }

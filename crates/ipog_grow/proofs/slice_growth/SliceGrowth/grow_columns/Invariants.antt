@@ -10,6 +10,6 @@ invariant-loop-k g l = record {
   tuple : length l.self.tuple ≡ length l.fn.self.tuple;
   room : length l.self.room ≡ length l.fn.self.room;
   order : l.order.items ≡ column_order l.fn.model l.fn.slice;
-  taking : Taking l.fn.self.asker.context l.order.items (drop l.k l.order.items) l.self.table l.fn.self.rows l.self.rows l.fn.self.omitted
-      l.self.omitted;
+  taking : Taking l.fn.self.asker.context l.order.items (drop l.k l.order.items) l.self.table l.fn.self.rows l.self.rows l.fn.self.omitted.items
+      l.self.omitted.items;
 }

@@ -1,10 +1,11 @@
-use Rattle.std.proofs.Common.{◌≡◌, ◌∙◌, ◌++◌, [], ℕ, ◌<◌, IfSome, Err, None, true, not, get_or, length, ap, sym, subst}
+use Rattle.std.proofs.Common.{◌≡◌, ◌∙◌, ◌++◌, [], ℕ, ◌<◌, IfSome, Err, None, true, not, get_or, length, map, ap, sym, subst}
 use Rattle.std.specs.List.{list_any}
 use Rattle.std.proofs.lemmas.Result.{err_from_is_err_and}
 use Rattle.value_text.proofs.ListLemmas.{none_of}
 use Rattle.cov_model.specs.Sound.{ModelView, param_at}
 use Rattle.cov_model.specs.declared.slice.Slice.{Slice}
 use Rattle.definitions.specs.Growth.{down, settle}
+use Rattle.definitions.specs.Pairs.{pairs_of}
 use Rattle.tuple_index.specs.Places.{RisesFrom}
 use Rattle.uncovered_table.specs.Places.{is_place, slice_places, tuple_at}
 use Rattle.ipog_grow.specs.Growing.{open_tuples}
@@ -19,9 +20,9 @@ use Rattle.ipog_grow.proofs.slice_growth.SliceGrowth.grow_vertically.Goals as go
 
 -- no tuple is open from the start
 ended : (c : goal.Then-is_none) → Downed c.args.self.now.asker.context c.args.column c.args.self.now.table c.args.self.now.rows c.args.self.now.rows
-    c.args.self.now.omitted c.args.self.now.omitted
+    c.args.self.now.omitted.items c.args.self.now.omitted.items
 ended c =
-    downing-end (downing-start c.args.self.now.asker.context c.args.column c.args.self.now.table c.args.self.now.rows c.args.self.now.omitted
+    downing-end (downing-start c.args.self.now.asker.context c.args.column c.args.self.now.table c.args.self.now.rows c.args.self.now.omitted.items
     c.requires.is_open)
     (sym c.next_open.ensures.value ∙ none_of c.next_open.result (c.is_none.ensures ∙ ap not c.if-is_none.true))
 
@@ -129,8 +130,8 @@ loop-place-preserved c =
           c.loop-place.invariant.context c.in_ok-settle.ensures.asked)
           (subst (λ (w : QuestionsView). c.settle.new.self.rows ≡ (settle (extends w) c.put_tuple-given.new.into c.loop-place.self.rows).rows)
           c.loop-place.invariant.context c.in_ok-settle.ensures.rows)
-          (subst (λ (w : QuestionsView). c.settle.new.self.omitted ≡ c.loop-place.self.omitted
-          ++ (settle (extends w) c.put_tuple-given.new.into c.loop-place.self.rows).omitted) c.loop-place.invariant.context c.in_ok-settle.ensures.omitted)
+          (subst (λ (w : QuestionsView). c.settle.new.self.omitted.items ≡ c.loop-place.self.omitted.items
+          ++ map pairs_of (settle (extends w) c.put_tuple-given.new.into c.loop-place.self.rows).omitted) c.loop-place.invariant.context c.in_ok-settle.ensures.omitted)
           passes;
     }
 

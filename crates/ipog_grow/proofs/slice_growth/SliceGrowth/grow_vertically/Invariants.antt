@@ -14,7 +14,7 @@ invariant-loop-place l = record {
   room : length l.self.room ≡ length l.fn.self.room;
   unfilled : HasUnfilled l.columns l.column l.count l.self.rows l.unfilled;
   from : IfSome l.from (IsPlaceOf l.self.table);
-  downing : Downing l.fn.self.asker.context l.column l.fn.self.table l.self.table l.fn.self.rows l.self.rows l.fn.self.omitted l.self.omitted
+  downing : Downing l.fn.self.asker.context l.column l.fn.self.table l.self.table l.fn.self.rows l.self.rows l.fn.self.omitted.items l.self.omitted.items
       l.from;
 }
 

@@ -1,4 +1,4 @@
-use Rattle.std.proofs.Common.{List, ◌<◌, ◌∙◌, ◌∷◌, [], ℕ, Err, Option, None, IfSome, length, get_or, ap, sym, subst, arith}
+use Rattle.std.proofs.Common.{List, ◌<◌, ◌∙◌, ◌∷◌, ◌++◌, [], ℕ, Err, Option, None, IfSome, length, get_or, ap, sym, subst, arith}
 use Rattle.std.proofs.lemmas.Result.{err_from_is_err_and}
 use Rattle.std.proofs.lemmas.List.{get_or-set_same}
 use Rattle.cov_model.specs.Sound.{ModelView, param_at}
@@ -7,11 +7,11 @@ use Rattle.definitions.specs.SliceRows.{IsOfSlice}
 use Rattle.definitions.specs.Growth.{join, settle, union}
 use Rattle.uncovered_table.specs.Open.{row_closed}
 use Rattle.full_search.specs.Questions.{QuestionsView}
-use Rattle.ipog_grow.specs.Asking.{Grows, Told, extends, first_spent, rows_alone}
+use Rattle.ipog_grow.specs.Asking.{Grows, Told, extends, first_spent, omitted_alone, rows_alone}
 use Rattle.ipog_grow.specs.UnfilledRows.{HasUnfilled}
 use Rattle.ipog_grow.proofs.Asking.{told-err}
 use Rattle.ipog_grow.proofs.Closing.{is_alone, joinable, next-grows, passed-union, settle-asks, settle-stops, taken_at}
-use Rattle.ipog_grow.proofs.Settling.{settle-alone_rows}
+use Rattle.ipog_grow.proofs.Settling.{settle-alone_omitted, settle-alone_rows}
 use Rattle.ipog_grow.proofs.UnfilledLemmas.{unfilled-union, value-within}
 use Rattle.ipog_grow.proofs.slice_growth.SliceGrowth.settle.Goals as goal
 
@@ -101,3 +101,12 @@ returns-in_ok-settle_alone-in-None-clause-rows c =
     ∙ ap (λ (w : QuestionsView). rows_alone w c.args.self.now.tuple c.join_first.new.rows) c.in_ok-join_first.ensures.same
     ∙ ap (rows_alone context c.args.self.now.tuple) (c.in_ok-join_first.ensures.unchanged c.in-None.is)
     ∙ sym (settle-alone_rows (extends context) c.args.self.now.tuple rows alone.alone)
+
+pub returns-in_ok-settle_alone-in-None-clause-omitted : goal.returns-in_ok-settle_alone-in-None-clause-omitted
+returns-in_ok-settle_alone-in-None-clause-omitted c =
+    let context = c.args.self.now.asker.context in
+    let rows = c.args.self.now.rows in
+    let alone = is_alone context c.args.self.now.tuple rows c.in-None.is c.in_ok-join_first.ensures.taken c.in_ok-join_first.ensures.asked in
+    c.in_ok-settle_alone-in-None.ensures.omitted
+    ∙ ap (λ (w : QuestionsView). c.args.self.now.omitted.items ++ omitted_alone w c.args.self.now.tuple) c.in_ok-join_first.ensures.same
+    ∙ ap (λ list. c.args.self.now.omitted.items ++ list) (sym (settle-alone_omitted (extends context) c.args.self.now.tuple rows alone.alone))

@@ -35,6 +35,11 @@ push_row-requires-clause-value c =
 pub ask-requires : goal.ask-requires
 ask-requires c = next-grows c.requires.next
 
+pub push_tuple-requires : goal.push_tuple-requires
+push_tuple-requires c =
+    let own = next-grows c.requires.next in
+    omega (arith, own.of.fits.as_long, c.assert_invariant.ensures.context.sound.few)
+
 pub close_row-requires-clause-cells : goal.close_row-requires-clause-cells
 close_row-requires-clause-cells c =
     let own = next-grows c.requires.next in
@@ -61,7 +66,7 @@ returns-in_ok-push_row-clause-passed c =
     (sym (c.in_ok-push.ensures.ok ∙ ap (λ row. c.args.self.now.rows ++ row ∷ []) c.as_slice.ensures))
     (passed-new c.requires.next c.close_row.ensures own)
 
-pub returns-in_ok-push-2-clause-passed : goal.returns-in_ok-push-2-clause-passed
-returns-in_ok-push-2-clause-passed c =
+pub returns-in_ok-push_tuple-clause-passed : goal.returns-in_ok-push_tuple-clause-passed
+returns-in_ok-push_tuple-clause-passed c =
     passed-omitted
     c.requires.next c.close.ensures
