@@ -1,0 +1,9 @@
+pub mod Meanings
+pub mod Members
+pub mod Fits
+pub mod Steps
+pub mod SliceTests
+pub mod ChangedModels
+pub mod ThinMarks
+pub mod OneChanged
+pub mod FactSteps
