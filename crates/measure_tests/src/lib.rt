@@ -1,4 +1,4 @@
-//! Tests of the figures of given suites, with different numbers of workers and budgets.
+//! Tests of the figures of given suites, with different numbers of workers and budgets, and of shorter suites.
 #![tactic(auto)]
 
 #[cfg(test)]
@@ -7,5 +7,7 @@ mod budgets;
 mod figures;
 #[cfg(test)]
 mod gate;
+#[cfg(test)]
+mod shrinking;
 #[cfg(test)]
 mod suites;
