@@ -1,7 +1,7 @@
 //! What runs of these tests share: the three files `m`, `r` and `p` in memory, and what a run leaves.
 
+use check_cli::run_check;
 use memory_io::{MemFolder, MemSink};
-use proof_check::run_check;
 use std::alloc::Global;
 use std::thread::Threads;
 use test_runs::{calls_of, words_of};

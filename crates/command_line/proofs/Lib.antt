@@ -1,5 +1,6 @@
 pub mod Colons
 pub mod Loading
+pub mod NameLemmas
 pub mod PutLines
 pub mod PutPairs
 pub mod PieceSums

@@ -14,3 +14,7 @@ spent_opening budget = codes "error: search budget " ++ decimal budget ++ codes 
 -- the line of a refusal of a file of rows at one of its lines, by the text behind the line's number
 abbrev pub row_line : ℕ → List ℕ → List ℕ
 row_line line text = codes "error: row file line " ++ decimal line ++ text
+
+-- the line of so many of what has this name, where there may be fewer
+abbrev pub limit_line : List ℕ → ℕ → ℕ → List ℕ
+limit_line name count most = codes "error: limit: " ++ name ++ codes " " ++ decimal count ++ codes " above " ++ decimal most ++ codes "\n"

@@ -33,8 +33,8 @@ abbrev pub line_behind : List ℕ → Note → List ℕ
 line_behind opening note = opening ++ decimal note.line ++ codes ": " ++ note_code note.code ++ codes " " ++ note_text note.code ++ codes "\n"
 
 -- the line of the stop, if there is one, where the files have these names
-abbrev pub end_text : NamesView → Result (Unit {0}) Stop → List ℕ
-end_text names (Ok done) = []
+abbrev pub end_text : {A : Type 0} → NamesView → Result A Stop → List ℕ
+end_text names (Ok whole) = []
 end_text names (Err stop) = line_of stop names
 
 -- the lines of a run in their order

@@ -94,8 +94,8 @@ fn mark_of(value: &str) -> Option<u8>
     }
 }
 
-// The file that a value names.
-fn file_of<'w>(value: &'w str) -> Option<&'w str>
+/// The file that the value of an option names; `None` exactly where it is empty.
+pub fn file_of<'w>(value: &'w str) -> Option<&'w str>
     ensures { option_map (λ file. file.now) result ≡ defined.file_of value.now }
 {
     if value.is_empty() { None } else { Some(value) }

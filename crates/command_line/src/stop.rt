@@ -1,12 +1,13 @@
 ghost use Rattle.std.specs.Prelude.{◌≡◌, []};
 ghost use Rattle.outside_io.specs.Puts.{Puts};
-ghost use Rattle.definitions.specs.Diagnostics.{bytes_limit_line, count_limit_line, counted_name, model_line, no_column_line, spent_line, word_line};
+ghost use Rattle.definitions.specs.Diagnostics.{count_limit_line, counted_name, model_line, no_column_line, spent_line};
 ghost use Rattle.definitions.specs.Limits.{most_counted};
 ghost use Rattle.model_lex.specs.Codes.{diag_code, diag_text};
 ghost use Rattle.command_line.specs.Pieces.{row_line, spent_opening};
-ghost use Rattle.command_line.specs.Stops.{counted, line_of, measured, rows_line, status_of};
+ghost use Rattle.command_line.specs.Stops.{counted, line_of, rows_line, status_of};
 
 use crate::files::{FileKind, FileNames};
+use crate::lines::{put_limit, put_model_line, put_too_long, put_word};
 use crate::put::put_pairs;
 use cov_model::{ParamNo, Tuple};
 use itoa::Buffer;
@@ -146,43 +147,18 @@ impl From<RowsFault> for Stop {
     }
 }
 
+// Writes the line of a limit.
+fn put_count<E: Sink>(quantity: Quantity, count: u64, sink: &mut E) -> WriteAnswer
+    ensures { Puts result (E.seen sink.old) (E.seen sink.new) (count_limit_line (counted quantity) count) }
+{
+    put_limit(quantity.name(), count, quantity.most(), sink)
+}
+
 // Writes the line of a refusal of the model file.
 fn put_diag<E: Sink>(diag: &Diag, sink: &mut E) -> WriteAnswer
     ensures { Puts result (E.seen sink.old) (E.seen sink.new) (model_line diag.now.line (diag_code diag.now.code) (diag_text diag.now.code)) }
 {
-    let mut buffer = Buffer::new();
-    let line = buffer.format(diag.line);
-    let code = diag.code.code();
-    let text = diag.code.text();
-    put_pieces(
-        sink,
-        &["error: model line ", line, ": ", code, " ", text, "\n"],
-    )
-}
-
-// Writes the line of a limit.
-fn put_limit<E: Sink>(quantity: Quantity, count: u64, sink: &mut E) -> WriteAnswer
-    ensures { Puts result (E.seen sink.old) (E.seen sink.new) (count_limit_line (counted quantity) count) }
-{
-    let mut given = Buffer::new();
-    let mut most = Buffer::new();
-    let name = quantity.name();
-    let given = given.format(count);
-    let most = most.format(quantity.most());
-    put_pieces(
-        sink,
-        &["error: limit: ", name, " ", given, " above ", most, "\n"],
-    )
-}
-
-// Writes the line of a file that is too long.
-fn put_too_long<E: Sink>(kind: FileKind, sink: &mut E) -> WriteAnswer
-    ensures { Puts result (E.seen sink.old) (E.seen sink.new) (bytes_limit_line (measured kind)) }
-{
-    let mut buffer = Buffer::new();
-    let name = kind.bytes_name();
-    let most = buffer.format(kind.most_bytes());
-    put_pieces(sink, &["error: limit: ", name, " above ", most, "\n"])
+    put_model_line(diag.line, diag.code.code(), diag.code.text(), sink)
 }
 
 // Writes the line of a refusal of a file of rows at a line, by the text behind the line's number.
@@ -215,7 +191,7 @@ fn put_rows_fault<E: Sink>(fault: RowsFault, sink: &mut E) -> WriteAnswer
         RowsFault::Twice(line) => put_row_line(line, ": F2 parameter in two columns\n", sink),
         RowsFault::Missing(parameter) => put_no_column(parameter, sink),
         RowsFault::Width(line) => put_row_line(line, ": F4 more cells than the header\n", sink),
-        RowsFault::TooManyRows(count) => put_limit(Quantity::Rows, count, sink),
+        RowsFault::TooManyRows(count) => put_count(Quantity::Rows, count, sink),
         RowsFault::NoMemory => put_pieces(sink, &["error: out of memory\n"]),
     }
 }
@@ -241,15 +217,6 @@ fn put_spent<E: Sink>(budget: u64, question: &Tuple, sink: &mut E) -> WriteAnswe
         WriteAnswer::Done => put_pieces(sink, &["\n"]),
         WriteAnswer::Failed => WriteAnswer::Failed,
     }
-}
-
-// Writes the line of a word that has no reading.
-fn put_word<E: Sink>(index: u32, sink: &mut E) -> WriteAnswer
-    ensures { Puts result (E.seen sink.old) (E.seen sink.new) (word_line index) }
-{
-    let mut buffer = Buffer::new();
-    let number = buffer.format(index);
-    put_pieces(sink, &["error: word ", number, " is not understood\n"])
 }
 
 impl Stop {
@@ -292,7 +259,7 @@ impl Stop {
                 &["error: cannot write ", names.of(*kind), "\n"],
             ),
             Stop::CannotWriteReport => put_pieces(diag, &["error: cannot write the report\n"]),
-            Stop::TooMany(quantity, count) => put_limit(*quantity, *count, diag),
+            Stop::TooMany(quantity, count) => put_count(*quantity, *count, diag),
             Stop::TooLong(kind) => put_too_long(*kind, diag),
         }
     }

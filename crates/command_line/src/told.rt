@@ -1,4 +1,4 @@
-ghost use Rattle.std.specs.Prelude.{◌≡◌, ◌++◌};
+ghost use Rattle.std.specs.Prelude.{◌≡◌, ◌++◌, IfOk};
 ghost use Rattle.std.specs.List.{flat_map};
 ghost use Rattle.outside_io.specs.Puts.{Puts};
 ghost use Rattle.definitions.specs.Diagnostics.{used_seed_line};
@@ -47,12 +47,17 @@ fn put_notes<E: Sink>(opening: &'static str, notes: &[Note], sink: &mut E) -> Wr
     WriteAnswer::Done
 }
 
-// Writes the line of the stop, if there is one.
-fn put_end<E: Sink>(end: &Result<(), Stop>, names: &FileNames<'_>, sink: &mut E) -> WriteAnswer
-    ensures { Puts result (E.seen sink.old) (E.seen sink.new) (end_text names.now end.now) }
+/// Writes the line of the stop, if there is one. Takes no memory.
+pub fn put_end<T, E: Sink>(
+    end: &Result<T, Stop>,
+    names: &FileNames<'_>,
+    sink: &mut E,
+) -> WriteAnswer
+    ensures puts { Puts result (E.seen sink.old) (E.seen sink.new) (end_text names.now end.now) }
+    ensures silent { IfOk end.now (λ _. E.seen sink.new ≡ E.seen sink.old) }
 {
     match end {
-        Ok(()) => WriteAnswer::Done,
+        Ok(_) => WriteAnswer::Done,
         Err(stop) => stop.put_line(names, sink),
     }
 }

@@ -1,4 +1,4 @@
-ghost use Rattle.std.specs.Prelude.{◌≡◌, ◌==◌, ◌&&◌, ◌||◌, ◌+◌, ◌-◌, ◌^◌, ◌<◌, [], not, length, drop, min, slice_index_or};
+ghost use Rattle.std.specs.Prelude.{◌≡◌, ◌==◌, ◌&&◌, ◌||◌, ◌+◌, ◌-◌, ◌^◌, ◌<◌, [], not, length, drop, min, option_map, slice_index_or};
 ghost use Rattle.std.specs.List.{list_any};
 ghost use Rattle.std.specs.String.{string_bytes};
 ghost use Rattle.definitions.specs.Settings.{defaults};
@@ -59,4 +59,26 @@ pub fn word_number(place: usize) -> u32
     ensures { result ≡ min (place + 1) (2 ^ 32 - 1) }
 {
     u32::try_from(place.saturating_add(1)).unwrap_or(u32::MAX)
+}
+
+// Whether the argument of this number from 0 is missing or empty.
+fn is_missing(words: &[String], place: usize) -> bool
+    ensures { result ≡ (length (slice_index_or (texts words.now) place []) == 0) }
+{
+    match words.get(place) {
+        Some(word) => word.is_empty(),
+        None => true,
+    }
+}
+
+/// The number from 0 of the first of so many names that is missing or empty.
+pub fn missing_name(words: &[String], count: usize) -> Option<usize>
+    ensures { option_map (λ place. place + 1) result ≡ reading.missing_name count (texts words.now) }
+{
+    for place in 0..count {
+        if is_missing(words, place) {
+            return Some(place);
+        }
+    }
+    None
 }

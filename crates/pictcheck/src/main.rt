@@ -1,8 +1,8 @@
 //! The program `pictcheck`: says whether a report and a proof, whoever made them, cover what a model file demands.
 #![tactic(auto)]
 
+use check_cli::run_check;
 use outside_io::{RealFolder, RealSink, Sink, command_words};
-use proof_check::run_check;
 use std::process::ExitCode;
 
 fn main(rt: HostRuntime) -> ExitCode {

@@ -9,6 +9,3 @@ pub mod UnservedLemmas
 pub mod VerdictLemmas
 pub mod FaultLemmas
 pub mod OneCheck
-pub mod ReadLemmas
-pub mod RunEnds
-pub mod WordLemmas

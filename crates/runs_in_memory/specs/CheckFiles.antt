@@ -2,7 +2,7 @@
 use Rattle.std.specs.Prelude.{List}
 use Rattle.memory_io.specs.MemFolder.{Slot, file_of}
 use Rattle.command_line.specs.Stops.{NamesView}
-use Rattle.proof_check.specs.Runs.{HeldFiles}
+use Rattle.check_cli.specs.Runs.{HeldFiles}
 
 -- what it holds under these names
 abbrev pub held_in : List Slot → NamesView → HeldFiles

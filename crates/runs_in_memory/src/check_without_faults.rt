@@ -4,12 +4,12 @@ ghost use Rattle.definitions.specs.Verdict.{verdict};
 ghost use Rattle.command_line.specs.Stops.{status_of};
 ghost use Rattle.memory_io.specs.FileLists.{told_of};
 ghost use Rattle.command_line.specs.Words.{opts_of, texts};
-ghost use Rattle.proof_check.specs.Runs.{AreRead, HasReadings, HeldFiles, Holds, FilesAreRefused, verdict_status};
-ghost use Rattle.proof_check.specs.Words.{asked_by, names_in};
+ghost use Rattle.check_cli.specs.Runs.{AreRead, HasReadings, HeldFiles, Holds, FilesAreRefused, verdict_status};
+ghost use Rattle.check_cli.specs.Words.{asked_by, names_in};
 
+use check_cli::run_check;
 use command_line::Stop;
 use memory_io::{SureFolder, SureSink};
-use proof_check::run_check;
 use std::alloc::Global;
 use std::thread::Threads;
 

@@ -5,7 +5,7 @@ use Rattle.command_line.proofs.told.put_rows_end.Goals as goal
 pub returns-in-Done : goal.returns-in-Done
 returns-in-Done g c =
     Puts-then c.put_end.result (g.E.Sink.seen c.args.sink.now) (g.E.Sink.seen c.put_notes.new.sink) (g.E.Sink.seen c.put_end.new.sink)
-    (row_notes_text c.args.notes.now) (end_text c.args.names.now c.args.end.now) c.in-Done.ensures c.put_end.ensures
+    (row_notes_text c.args.notes.now) (end_text c.args.names.now c.args.end.now) c.in-Done.ensures c.put_end.ensures.puts
 
 pub returns-in-Failed : goal.returns-in-Failed
 returns-in-Failed g c =

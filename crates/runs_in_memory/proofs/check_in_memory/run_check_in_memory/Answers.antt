@@ -5,10 +5,10 @@ use Rattle.definitions.specs.Laws.{IsCertified}
 use Rattle.definitions.specs.Verdict.{verdict, verdict_text}
 use Rattle.definitions.specs.Words.{read_check_words}
 use Rattle.command_line.specs.Words.{opts_of, texts}
-use Rattle.proof_check.specs.Runs.{HasReadings}
-use Rattle.proof_check.specs.Words.{names_in}
+use Rattle.check_cli.specs.Runs.{HasReadings}
+use Rattle.check_cli.specs.Words.{names_in}
 use Rattle.runs_in_memory.specs.CheckFiles.{held_in}
-use Rattle.proof_check.proofs.RunEnds.{asked_or_three, readings_then, three_is_none}
+use Rattle.check_cli.proofs.RunEnds.{asked_or_three, readings_then, three_is_none}
 use Rattle.runs_in_memory.proofs.check_in_memory.run_check_in_memory.Goals as goal
 
 pub returns-clause-certified : goal.returns-clause-certified

@@ -1,0 +1,4 @@
+pub mod Words
+pub mod WordSteps
+pub mod Runs
+pub mod RunSteps
