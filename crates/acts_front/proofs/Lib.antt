@@ -9,7 +9,6 @@ pub mod LineForms
 pub mod Parts
 pub mod Repeated
 pub mod TokenLists
-pub mod WordLemmas
 pub mod Worst
 pub mod Glued
 pub mod Openers
@@ -28,10 +27,8 @@ pub mod RelationsRead
 pub mod ParametersRead
 pub mod TokensRead
 pub mod TranslatedTrees
-pub mod RunEnds
 pub mod Units
 pub mod Arrows
 pub mod Codes
 pub mod Adding
 pub mod Translating
-pub mod Loading

@@ -7,7 +7,7 @@ use Rattle.std.proofs.lemmas.Bool.{cond_both, false≢true}
 use Rattle.std.proofs.lemmas.List.{length-map}
 use Rattle.std.proofs.lemmas.List.Elements.{All-cons, All-head, All-nil, All-tail}
 use Rattle.std.specs.List.{list_all, list_any}
-use Rattle.std.specs.Prelude.{nat_lt, IfSome, IsSomeAnd}
+use Rattle.std.specs.Prelude.{nat_lt}
 use Rattle.cov_model.specs.Sound.{ModelView}
 use Rattle.cov_model.specs.Views.{RuleView}
 use Rattle.cov_model.specs.declared.demand.Demand.{Demand}
@@ -41,7 +41,6 @@ use Rattle.acts_front.specs.ActsFiles.{Line, Nothing, OfParameter, OfRelation, O
 use Rattle.acts_front.specs.Constraints.{Constraint, constraint_code, is_known, is_typed, terms_pass}
 use Rattle.acts_front.specs.ParameterLines.{Declared, Parameter, Scope, is_value}
 use Rattle.acts_front.specs.SameModels.{AreSame, IsFaithful, Says, SaysTheSame, TranslationsSayTheSame, param_is, read_as}
-use Rattle.acts_front.specs.Runs.{IsTranslated}
 use Rattle.acts_front.specs.Tokens.{Token}
 use Rattle.acts_front.specs.Translation.{constraint_text, lines_text, text_given, translation}
 use Rattle.acts_front.specs.declared.code.ActsCode.{ActsCode}
@@ -267,10 +266,3 @@ faithful fold bytes text is = by (acts fold bytes) refl is
     by : (found : Result (List Line) (ℕ × ActsCode)) → acts fold bytes ≡ found → text_given found ≡ Ok text → IsFaithful fold bytes text
     by (Err refused) declares e = absurd (cc)
     by (Ok lines) declares e = subst (IsFaithful fold bytes) (ok_is e) (record { lines = lines; declares = declares; says = translations_say_the_same fold bytes lines declares })
-
--- and with what a run wrote
-pub written_faithful : (fold : Bool) (held : Option (List ℕ)) (after : Option (Option (List ℕ)))
-    → IsSomeAnd held (IsTranslated fold (λ text. IfSome after (λ file. file ≡ Some text))) → IsSomeAnd held (λ bytes. IfSome after (λ file. IsSomeAnd file (IsFaithful fold bytes)))
-written_faithful fold None after is = is
-written_faithful fold (Some bytes) None is = tt
-written_faithful fold (Some bytes) (Some file) is = subst (λ f. IsSomeAnd f (IsFaithful fold bytes)) (sym is.holds) (faithful fold bytes is.text is.translated)

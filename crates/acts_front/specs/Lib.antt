@@ -8,9 +8,5 @@ pub mod Translation
 pub mod Findings
 pub mod Reading
 pub mod Codes
-pub mod Words
-pub mod Stops
-pub mod Runs
-pub mod Steps
 pub mod Meaning
 pub mod SameModels

@@ -1,6 +1,6 @@
 //! Whole runs of `pictacts`, over a folder and a sink in memory.
 
-use acts_front::run_acts;
+use acts_cli::run_acts;
 use memory_io::{Calls, MemFolder, MemSink};
 use std::alloc::Global;
 use std::test::Fail;

@@ -1,7 +1,7 @@
 //! The program `pictacts`: translates a file in the form of ACTS to a model file for `pict`.
 #![tactic(auto)]
 
-use acts_front::run_acts;
+use acts_cli::run_acts;
 use outside_io::{RealFolder, RealSink, Sink, command_words};
 use std::process::ExitCode;
 

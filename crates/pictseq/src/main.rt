@@ -2,7 +2,7 @@
 #![tactic(auto)]
 
 use outside_io::{RealFolder, RealSink, Sink, command_words};
-use seq_cover::run_seq;
+use seq_cli::run_seq;
 use std::process::ExitCode;
 
 fn main(rt: HostRuntime) -> ExitCode {

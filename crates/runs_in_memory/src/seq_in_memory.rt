@@ -2,11 +2,12 @@ ghost use Rattle.std.specs.Prelude.{◌≡◌, None, IfSome, IsOkAnd, IsSomeAnd}
 ghost use Rattle.memory_io.specs.MemFolder.{file_of};
 ghost use Rattle.seq_check.specs.Events.{EventsView};
 ghost use Rattle.seq_cover.specs.Covering.{IsAccepted};
-ghost use Rattle.seq_cover.specs.Runs.{HasVerdict, PrintsCovering, Spells};
-ghost use Rattle.seq_cover.specs.Words.{asked_by, texts};
+ghost use Rattle.seq_cli.specs.Runs.{HasVerdict, PrintsCovering, Spells};
+ghost use Rattle.seq_cli.specs.Words.{asked_by};
+ghost use Rattle.command_line.specs.Words.{texts};
 
 use memory_io::{MemFolder, MemSink};
-use seq_cover::run_seq;
+use seq_cli::run_seq;
 use std::alloc::Global;
 
 /// Runs `pictseq` as `run_seq` does, on a folder and sinks in memory, which tell everything.

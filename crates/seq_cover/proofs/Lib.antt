@@ -14,8 +14,4 @@ pub mod CoverLaws
 pub mod ReportLaws
 pub mod AcceptedLaws
 pub mod TextLemmas
-pub mod Stopping
-pub mod CommandLemmas
-pub mod RunEnds
-pub mod Causes
 mod Examples

@@ -5,8 +5,3 @@ pub mod Growing
 pub mod Building
 pub mod ReportText
 pub mod Covering
-pub mod Words
-pub mod Commands
-pub mod Stops
-pub mod Runs
-pub mod Steps

@@ -104,11 +104,7 @@ fn add_nevers(text: &mut Vec<u8>, events: &Events, nevers: &NeverList) -> Result
 /// # Errors
 ///
 /// `NoMemory` where memory was refused.
-pub(crate) fn report_text(
-    alloc: Global,
-    events: &Events,
-    suite: &OrderSuite,
-) -> Result<Vec<u8>, NoMemory>
+pub fn report_text(alloc: Global, events: &Events, suite: &OrderSuite) -> Result<Vec<u8>, NoMemory>
     ensures { IfOk result (λ text. text.items ≡ report_text events.now suite.now) }
 {
     let mut text = Vec::new(alloc);
@@ -149,7 +145,7 @@ fn add_verdict(text: &mut Vec<u8>, events: &Events, verdict: &OrderVerdict) -> R
 /// # Errors
 ///
 /// `NoMemory` where memory was refused.
-pub(crate) fn verdict_text(
+pub fn verdict_text(
     alloc: Global,
     events: &Events,
     verdict: &OrderVerdict,

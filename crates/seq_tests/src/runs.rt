@@ -2,7 +2,7 @@
 
 use memory_io::{Calls, MemFolder, MemSink};
 use runs_in_memory::run_seq_in_memory;
-use seq_cover::run_seq;
+use seq_cli::run_seq;
 use std::alloc::Global;
 use value_text::NoMemory;
 

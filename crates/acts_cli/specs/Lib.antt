@@ -1,0 +1,4 @@
+pub mod Words
+pub mod Stops
+pub mod Runs
+pub mod Steps

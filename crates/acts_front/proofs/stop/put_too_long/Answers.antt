@@ -1,9 +1,0 @@
-use Rattle.std.proofs.Common.{◌++◌, ap, subst}
-use Rattle.std.specs.Prelude.{codes}
-use Rattle.outside_io.specs.Puts.{Puts}
-use Rattle.acts_front.proofs.stop.put_too_long.Goals as goal
-
-pub returns : goal.returns
-returns g c =
-    subst (Puts c.put_pieces.result (g.E.Sink.seen c.args.sink.now) (g.E.Sink.seen c.put_pieces.new.sink))
-    (ap (λ number. codes "error: limit: model bytes above " ++ number ++ codes "\n") c.format-most.ensures.text) c.put_pieces.ensures

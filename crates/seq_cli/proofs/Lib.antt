@@ -1,0 +1,4 @@
+pub mod Stopping
+pub mod CommandLemmas
+pub mod RunEnds
+pub mod Causes

@@ -1,0 +1,5 @@
+pub mod Words
+pub mod Commands
+pub mod Stops
+pub mod Runs
+pub mod Steps
