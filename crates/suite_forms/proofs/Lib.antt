@@ -1,0 +1,4 @@
+pub mod Making
+pub mod Spelling
+pub mod Tables
+pub mod Tabbed

@@ -1,0 +1,6 @@
+use Rattle.std.proofs.Common.{[]}
+use Rattle.suite_forms.specs.Suites.{param_names, spelled_rows}
+use Rattle.suite_forms.proofs.laws.json_reads_back.Goals as goal
+
+pub returns : goal.returns
+returns c = λ m rows. c.json_reads_back.ensures (param_names m) (spelled_rows m [] rows)
