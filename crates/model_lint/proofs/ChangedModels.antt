@@ -1,22 +1,23 @@
 -- What changed models tell of the whole model.
-use Rattle.std.proofs.Common.{◌≡◌, ℕ, zero, suc, ◌+◌, ◌-◌, ◌<◌, ◌≤◌, Bool, true, false, ◌&&◌, cond, List, [], ◌∷◌, map, length, get_or, filter, All, Option, inl, inr, refl, ap, sym, subst, ◌∙◌, arith}
+use Rattle.std.proofs.Common.{◌≡◌, ℕ, zero, suc, ◌-◌, ◌<◌, Bool, true, false, ◌&&◌, cond, List, [], ◌∷◌, map, length, get_or, filter, Option, refl, ap, sym, subst, ◌∙◌, arith}
 use Rattle.std.specs.Prelude.{nat_le}
 use Rattle.std.specs.List.{list_all, list_any}
-use Rattle.std.proofs.lemmas.Bool.{and_parts, and_from}
 use Rattle.std.proofs.lemmas.List.{get_or-map, length-map}
 use Rattle.cov_model.specs.declared.demand.Demand.{Demand}
+use Rattle.cov_model.specs.declared.slice.Slice.{Slice}
+use Rattle.cov_model.specs.declared.slice.Slice.TheVariants.{Positive, Negative}
 use Rattle.cov_model.specs.declared.parameter.Param.{Param}
 use Rattle.cov_model.specs.Meaning.{body_holds}
-use Rattle.cov_model.specs.Rows.{contains}
+use Rattle.cov_model.specs.Slices.{slice_values}
 use Rattle.cov_model.specs.Sound.{ModelView, IsSound, IsSoundBody, no_rule}
 use Rattle.cov_model.specs.Valid.{is_row, is_valid, negatives}
 use Rattle.cov_model.specs.Views.{BodyView, Plain, IfThen, IfElse, RuleView}
-use Rattle.definitions.specs.Figures.{all_rows}
+use Rattle.definitions.specs.Completion.{completions, is_extendable, meets_rules}
 use Rattle.definitions.proofs.Members.{Has, all_members, all_pass, any_member, member_of_all, of_any, of_filter, of_map, passes_all}
 use Rattle.model_lint.specs.declared.change.Change.{Change}
 use Rattle.model_lint.specs.declared.change.Change.TheVariants.{LeftOut, Kept, Opposite, WithPremise}
 use Rattle.model_lint.specs.Changes.{IsTestOf, change_at, changed, changed_body, changed_rule, is_marked, kept_alone, least_demand}
-use Rattle.model_lint.specs.Tests.{has_test, part}
+use Rattle.model_lint.specs.Tests.{part}
 use Rattle.model_lint.proofs.Meanings.{body_same, other}
 use Rattle.model_lint.proofs.Members.{any_agree, all_agree}
 
@@ -27,9 +28,9 @@ meets m rules row = list_all (λ rule. body_holds m rule.body row) rules
 abbrev pub valid_with : ModelView → List RuleView → List (Option ℕ) → Bool
 valid_with m rules row = is_row m row && meets m rules row && nat_le (length (negatives m row)) 1
 
--- such a row contains the partial row
-abbrev pub test_with : ModelView → List RuleView → List (Option ℕ) → Bool
-test_with m rules cells = list_any (λ row. valid_with m rules row && contains row cells) (all_rows m)
+-- some row of the slice that contains the partial row meets these constraints
+abbrev pub extends_with : ModelView → List RuleView → Slice → List (Option ℕ) → Bool
+extends_with m rules slice cells = list_any (meets m rules) (completions (slice_values m slice) cells)
 
 -- the valid rows of a model with other constraints
 pub valid_other : (m : ModelView) (rules : List RuleView) (demand : Demand) (row : List (Option ℕ)) → is_valid (other m rules demand) row ≡ valid_with m rules row
@@ -38,41 +39,42 @@ valid_other m rules demand row =
     (all_agree (λ (rule : RuleView). body_holds (other m rules demand) rule.body row) (λ (rule : RuleView). body_holds m rule.body row) rules
     (λ rule has. body_same m rules demand rule.body row))
 
-pub test_other : (m : ModelView) (rules : List RuleView) (demand : Demand) (cells : List (Option ℕ)) → has_test (other m rules demand) cells ≡ test_with m rules cells
-test_other m rules demand cells =
-    any_agree (λ row. is_valid (other m rules demand) row && contains row cells) (λ row. valid_with m rules row && contains row cells) (all_rows m)
-    (λ row has. ap (λ b. b && contains row cells) (valid_other m rules demand row))
+other_values : (m : ModelView) (rules : List RuleView) (demand : Demand) (slice : Slice) → slice_values (other m rules demand) slice ≡ slice_values m slice
+other_values m rules demand Positive = refl
+other_values m rules demand (Negative q v) = refl
 
--- with fewer constraints more rows are valid
-pub valid_fewer : (m : ModelView) (more rules : List RuleView) (row : List (Option ℕ)) → ((rule : RuleView) → Has rules rule → Has more rule)
-    → valid_with m more row ≡ true → valid_with m rules row ≡ true
-valid_fewer m more rules row fewer valid =
-    let parts = and_parts (is_row m row && meets m more row) (nat_le (length (negatives m row)) 1) valid in
-    let first = and_parts (is_row m row) (meets m more row) parts.0 in
-    and_from (is_row m row && meets m rules row) (nat_le (length (negatives m row)) 1)
-    (and_from (is_row m row) (meets m rules row) first.0
-    (all_pass (λ (rule : RuleView). body_holds m rule.body row) rules (λ rule has. passes_all (λ (rule : RuleView). body_holds m rule.body row) more rule first.1 (fewer rule has))))
-    parts.1
+-- and where it is extendable
+pub extends_other : (m : ModelView) (rules : List RuleView) (demand : Demand) (slice : Slice) (cells : List (Option ℕ))
+    → is_extendable (other m rules demand) slice cells ≡ extends_with m rules slice cells
+extends_other m rules demand slice cells =
+    any_agree (meets_rules (other m rules demand)) (meets m rules) (completions (slice_values (other m rules demand) slice) cells)
+    (λ row has. all_agree (λ (rule : RuleView). body_holds (other m rules demand) rule.body row) (λ (rule : RuleView). body_holds m rule.body row) rules
+    (λ rule has. body_same m rules demand rule.body row))
+    ∙ ap (λ values. list_any (meets m rules) (completions values cells)) (other_values m rules demand slice)
 
-pub test_fewer : (m : ModelView) (more rules : List RuleView) (cells : List (Option ℕ)) → ((rule : RuleView) → Has rules rule → Has more rule)
-    → test_with m more cells ≡ true → test_with m rules cells ≡ true
-test_fewer m more rules cells fewer some =
-    let found = of_any (λ row. valid_with m more row && contains row cells) (all_rows m) some in
-    let parts = and_parts (valid_with m more found.0) (contains found.0 cells) found.2 in
-    any_member (λ row. valid_with m rules row && contains row cells) (all_rows m) found.0 found.1
-    (and_from (valid_with m rules found.0) (contains found.0 cells) (valid_fewer m more rules found.0 fewer parts.0) parts.1)
+-- with fewer constraints more is extendable
+pub extends_fewer : (m : ModelView) (more rules : List RuleView) (slice : Slice) (cells : List (Option ℕ)) → ((rule : RuleView) → Has rules rule → Has more rule)
+    → extends_with m more slice cells ≡ true → extends_with m rules slice cells ≡ true
+extends_fewer m more rules slice cells fewer some =
+    let found = of_any (meets m more) (completions (slice_values m slice) cells) some in
+    any_member (meets m rules) (completions (slice_values m slice) cells) found.0 found.1
+    (all_pass (λ (rule : RuleView). body_holds m rule.body found.0) rules
+    (λ rule has. passes_all (λ (rule : RuleView). body_holds m rule.body found.0) more rule found.2 (fewer rule has)))
 
 -- the parts of a model
-pub test_part : (m : ModelView) (keeps : ℕ → Bool) (cells : List (Option ℕ)) → has_test (part m keeps) cells ≡ test_with m (filter (λ rule. keeps rule.number) m.rules) cells
-test_part m keeps cells = test_other m (filter (λ rule. keeps rule.number) m.rules) m.demand cells
+pub extends_part : (m : ModelView) (keeps : ℕ → Bool) (slice : Slice) (cells : List (Option ℕ))
+    → is_extendable (part m keeps) slice cells ≡ extends_with m (filter (λ rule. keeps rule.number) m.rules) slice cells
+extends_part m keeps slice cells = extends_other m (filter (λ rule. keeps rule.number) m.rules) m.demand slice cells
 
 pub valid_part : (m : ModelView) (keeps : ℕ → Bool) (row : List (Option ℕ)) → is_valid (part m keeps) row ≡ valid_with m (filter (λ rule. keeps rule.number) m.rules) row
 valid_part m keeps row = valid_other m (filter (λ rule. keeps rule.number) m.rules) m.demand row
 
-pub test_whole : (m : ModelView) (keeps : ℕ → Bool) (cells : List (Option ℕ)) → has_test m cells ≡ true → has_test (part m keeps) cells ≡ true
-test_whole m keeps cells some =
-    test_part m keeps cells
-    ∙ test_fewer m m.rules (filter (λ rule. keeps rule.number) m.rules) cells (λ rule has. (of_filter (λ (rule : RuleView). keeps rule.number) m.rules rule has).0) some
+pub extends_whole : (m : ModelView) (keeps : ℕ → Bool) (slice : Slice) (cells : List (Option ℕ)) → is_extendable m slice cells ≡ true
+    → is_extendable (part m keeps) slice cells ≡ true
+extends_whole m keeps slice cells some =
+    extends_part m keeps slice cells
+    ∙ extends_fewer m m.rules (filter (λ rule. keeps rule.number) m.rules) slice cells
+    (λ rule has. (of_filter (λ (rule : RuleView). keeps rule.number) m.rules rule has).0) some
 
 -- the model that keeps the marked constraints alone
 change_kept : (marks : List Bool) (i : ℕ) → get_or (map kept_alone marks) i LeftOut ≡ kept_alone (get_or marks i false)
@@ -100,10 +102,13 @@ valid_kept m marks row =
     ∙ ap (λ met. is_row m row && met && nat_le (length (negatives m row)) 1) (kept_meets m marks m.rules row)
     ∙ sym (valid_part m (is_marked marks) row)
 
-pub test_kept : (m : ModelView) (marks : List Bool) (cells : List (Option ℕ)) → has_test (changed m (map kept_alone marks)) cells ≡ has_test (part m (is_marked marks)) cells
-test_kept m marks cells =
-    any_agree (λ row. is_valid (changed m (map kept_alone marks)) row && contains row cells) (λ row. is_valid (part m (is_marked marks)) row && contains row cells) (all_rows m)
-    (λ row has. ap (λ b. b && contains row cells) (valid_kept m marks row))
+pub extends_kept : (m : ModelView) (marks : List Bool) (slice : Slice) (cells : List (Option ℕ))
+    → is_extendable (changed m (map kept_alone marks)) slice cells ≡ is_extendable (part m (is_marked marks)) slice cells
+extends_kept m marks slice cells =
+    extends_other m (map (changed_rule (map kept_alone marks)) m.rules) least_demand slice cells
+    ∙ any_agree (meets m (map (changed_rule (map kept_alone marks)) m.rules)) (meets m (filter (λ rule. is_marked marks rule.number) m.rules))
+    (completions (slice_values m slice) cells) (λ row has. kept_meets m marks m.rules row)
+    ∙ sym (extends_part m (is_marked marks) slice cells)
 
 -- changed models are sound
 body_sound : (params : List Param) (change : Change) (body : BodyView) → IsSoundBody params body → IsSoundBody params (changed_body change body)
@@ -152,5 +157,6 @@ sound_from m changes params rules demand prefix fold sound is_params is_rules is
     (changed_sound m changes sound)))))
 
 -- what is a test of the changed model is one of the part
-pub kept_test : (m : ModelView) (marks : List Bool) (cells row : List (Option ℕ)) → IsTestOf (changed m (map kept_alone marks)) cells row → IsTestOf (part m (is_marked marks)) cells row
-kept_test m marks cells row test = record { valid = sym (valid_kept m marks row) ∙ test.valid; contained = test.contained }
+pub kept_test : (m : ModelView) (marks : List Bool) (slice : Slice) (cells row : List (Option ℕ)) → IsTestOf (changed m (map kept_alone marks)) slice cells row
+    → IsTestOf (part m (is_marked marks)) slice cells row
+kept_test m marks slice cells row test = record { own = test.own; valid = sym (valid_kept m marks row) ∙ test.valid; contained = test.contained }

@@ -6,4 +6,4 @@ pub mod SliceTests
 pub mod ChangedModels
 pub mod ThinMarks
 pub mod OneChanged
-pub mod FactSteps
+pub mod Explained

@@ -1,7 +1,7 @@
 -- In which slices tests are: a test contains a partial row exactly if it is extendable in one of the slices.
-use Rattle.std.proofs.Common.{◌≡◌, ◌≢◌, ℕ, ◌<◌, Bool, true, false, ◌||◌, ◌&&◌, not, List, [], ◌∷◌, map, length, get_or, Option, Some, None, is_some, unwrap_or, inl, inr, zero-add, refl, ap, sym, subst, ◌∙◌, arith}
+use Rattle.std.proofs.Common.{◌≡◌, ◌≢◌, ℕ, ◌<◌, Bool, true, false, ◌||◌, ◌&&◌, not, List, [], map, length, get_or, Option, Some, None, is_some, unwrap_or, inl, inr, zero-add, refl, ap, sym, subst, ◌∙◌, arith}
 use Rattle.std.specs.Prelude.{◌==◌, nat_le}
-use Rattle.std.specs.List.{list_all, list_any}
+use Rattle.std.specs.List.{list_all}
 use Rattle.std.proofs.lemmas.Bool.{and_parts, and_from, or_left, or_right, or_cases, eqb-true, false_from_ne_true, false≢true}
 use Rattle.std.proofs.lemmas.List.FromFn.{length-map-range_with_len, get_or-map-range_with_len}
 use Rattle.cov_model.specs.declared.slice.Slice.{Slice}
@@ -18,8 +18,8 @@ use Rattle.definitions.specs.Demand.{is_among}
 use Rattle.definitions.specs.Figures.{all_rows}
 use Rattle.definitions.specs.SliceRows.{IsOfSlice, IsSliceOf}
 use Rattle.definitions.proofs.Members.{Has, all_pass, among_has, any_member, has_filter, of_any, of_among, of_filter, passes_all, same_answer}
-use Rattle.definitions.proofs.Choices.{IsChoice, choice_at, choice_from, choice_completes, completion_is}
-use Rattle.definitions.proofs.SliceLemmas.{IsSlice, choice_is_row, choice_is_valid, has_numbers, has_params, negative_exists, of_negatives, of_numbers, of_params, slice_of_is}
+use Rattle.definitions.proofs.Choices.{choice_at, choice_from, choice_completes, completion_is}
+use Rattle.definitions.proofs.SliceLemmas.{IsSlice, choice_is_row, choice_is_valid, has_numbers, has_params, negative_exists, of_negatives, of_params, row_in_slice, slice_is, slice_of_is}
 use Rattle.definitions.proofs.Serving.{of_serves, served_is_choice, value_of}
 use Rattle.definitions.proofs.Finishing.{completes}
 use Rattle.model_lint.specs.Changes.{IsTestOf}
@@ -156,15 +156,19 @@ pub slice_exists : (m : ModelView) (slice : Slice) → IsSliceOf m slice → IsS
 slice_exists m Positive is = tt
 slice_exists m (Negative q v) is = (is.0, is.2)
 
--- the first completion is a test
+-- the first completion is a test of the slice
 pub completed_test : (m : ModelView) (pref : List (List ℕ)) (slice : Slice) (cells row : List (Option ℕ)) → IsSliceOf m slice
-    → Some row ≡ first_completion m pref slice cells → IsTestOf m cells row
+    → Some row ≡ first_completion m pref slice cells → IsTestOf m slice cells row
 completed_test m pref slice cells row is first =
     let done = completes m pref slice cells row (sym first) in
-    record { valid = choice_is_valid m slice row (slice_exists m slice is) done.is.choice done.is.meets; contained = done.contained }
+    let exists = slice_exists m slice is in
+    record {
+      own = (slice_is m slice row exists (row_in_slice m slice row exists done.is.choice)).is;
+      valid = choice_is_valid m slice row exists done.is.choice done.is.meets;
+      contained = done.contained;
+    }
 
--- a valid row that contains a partial row is a test with it
-pub row_tests : (m : ModelView) (row cells : List (Option ℕ)) → is_valid m row ≡ true → contains row cells ≡ true → has_test m cells ≡ true
-row_tests m row cells valid contained =
-    any_member (λ row. is_valid m row && contains row cells) (all_rows m) row (row_listed m row (valid_row m row valid).row)
-    (and_from (is_valid m row) (contains row cells) valid contained)
+-- so the partial row of a test of the slice is extendable there
+pub test_extends : (m : ModelView) (slice : Slice) (cells row : List (Option ℕ)) → is_valid m row ≡ true → contains row cells ≡ true → slice_of m row ≡ slice
+    → is_extendable m slice cells ≡ true
+test_extends m slice cells row valid contained own = subst (λ s. is_extendable m s cells ≡ true) own (own_slice m row cells valid contained)

@@ -1,5 +1,5 @@
 -- One item more in a loop.
-use Rattle.std.proofs.Common.{◌≡◌, ℕ, suc, ◌+◌, ◌-◌, ◌<◌, Bool, true, false, ◌||◌, not, cond, List, [], ◌∷◌, ◌++◌, map, length, get_or, take, filter, flat_map, zero-add, refl, ap, sym, ◌∙◌, arith}
+use Rattle.std.proofs.Common.{◌≡◌, ℕ, suc, ◌+◌, ◌-◌, ◌<◌, Bool, true, false, ◌||◌, cond, List, [], ◌∷◌, ◌++◌, map, length, get_or, take, filter, flat_map, zero-add, refl, ap, sym, ◌∙◌, arith}
 use Rattle.std.specs.Prelude.{IfOk, Result, Ok, Err}
 use Rattle.std.specs.List.{list_any, range_with_len}
 use Rattle.std.proofs.lemmas.Grind.{flat_map-append}
@@ -8,7 +8,9 @@ use Rattle.std.proofs.lemmas.List.Elements.{filter-append}
 use Rattle.value_text.specs.declared.no_memory.NoMemory.{NoMemory}
 use Rattle.value_text.proofs.ListLemmas.{range_with_len_more}
 use Rattle.cov_model.specs.declared.constraint.Pred.{Pred}
+use Rattle.cov_model.specs.Sound.{ModelView}
 use Rattle.cov_model.specs.Views.{PredView, PredViews, End, More, RuleView, pred_view, preds_in}
+use Rattle.model_lint.specs.Tests.{is_unused}
 
 -- the numbers from one on are it and those behind it
 pub range_step : (p count : ℕ) → p < count → range_with_len p (count - p) ≡ p ∷ range_with_len (p + 1) (count - (p + 1))
@@ -19,6 +21,17 @@ range_step p count within =
 pub any_step : (test : ℕ → Bool) (p count : ℕ) → p < count
     → list_any test (range_with_len p (count - p)) ≡ (test p || list_any test (range_with_len (p + 1) (count - (p + 1))))
 any_step test p count within = ap (list_any test) (range_step p count within)
+
+-- the number there passes: then one of all does
+pub found_here : (test : ℕ → Bool) (whole : Bool) (p count : ℕ) → p < count → whole ≡ list_any test (range_with_len p (count - p)) → test p ≡ true → true ≡ whole
+found_here test whole p count within is here =
+    sym (is ∙ any_step test p count within ∙ ap (λ b. b || list_any test (range_with_len (p + 1) (count - (p + 1)))) here)
+
+-- it doesn't: then one of those behind it does, or none
+pub none_here : (test : ℕ → Bool) (whole : Bool) (p count : ℕ) → p < count → whole ≡ list_any test (range_with_len p (count - p)) → test p ≡ false
+    → whole ≡ list_any test (range_with_len (p + 1) (count - (p + 1)))
+none_here test whole p count within is here =
+    is ∙ any_step test p count within ∙ ap (λ b. b || list_any test (range_with_len (p + 1) (count - (p + 1)))) here
 
 -- one predicate more
 abbrev with_last : PredViews → PredView → PredViews
@@ -68,6 +81,17 @@ values_more test p v =
     ap (λ vs. filter test (map (λ (w : ℕ). (p, w)) vs)) (range_with_len_more 0 v ∙ ap (λ w. range_with_len 0 v ++ w ∷ []) (zero-add v))
     ∙ ap (filter test) (map-append (λ (w : ℕ). (p, w)) (range_with_len 0 v) (v ∷ []))
     ∙ filter_last test (map (λ (w : ℕ). (p, w)) (range_with_len 0 v)) (p, v)
+
+-- so each is told
+pub next_value : (m : ModelView) (p v : ℕ) (before list next : List (ℕ × ℕ))
+    → list ≡ before ++ filter (is_unused m) (map (λ w. (p, w)) (range_with_len 0 v))
+    → next ≡ list ++ cond (is_unused m (p, v)) ((p, v) ∷ []) []
+    → next ≡ before ++ filter (is_unused m) (map (λ w. (p, w)) (range_with_len 0 (v + 1)))
+next_value m p v before list next so_far longer =
+    let told = filter (is_unused m) (map (λ (w : ℕ). (p, w)) (range_with_len 0 v)) in
+    longer ∙ ap (λ front. front ++ cond (is_unused m (p, v)) ((p, v) ∷ []) []) so_far
+    ∙ append_assoc before told (cond (is_unused m (p, v)) ((p, v) ∷ []) [])
+    ∙ ap (λ rest. before ++ rest) (sym (values_more (is_unused m) p v))
 
 -- and those of one parameter more
 pub params_more : (test : ℕ × ℕ → Bool) (each : ℕ → List (ℕ × ℕ)) (p : ℕ)

@@ -1,23 +1,24 @@
 -- How marked constraints become a conflict.
-use Rattle.std.proofs.Common.{◌≡◌, ◌≢◌, ℕ, zero, suc, ◌+◌, ◌-◌, ◌<◌, ◌≤◌, Bool, true, false, ◌&&◌, not, List, [], ◌∷◌, map, length, get_or, set, find, filter, All, Option, Some, None, inl, inr, refl, ap, sym, subst, ◌∙◌, arith}
+use Rattle.std.proofs.Common.{◌≡◌, ℕ, zero, suc, ◌+◌, ◌-◌, ◌<◌, ◌≤◌, Bool, true, false, ◌&&◌, not, List, [], ◌∷◌, map, length, get_or, set, find, filter, Option, Some, None, inl, inr, refl, ap, sym, subst, ◌∙◌, arith}
 use Rattle.std.specs.Prelude.{◌==◌, nat_le, sum_by, if◌then◌else◌}
 use Rattle.std.proofs.Math.Bool.{and-false}
 use Rattle.std.proofs.lemmas.Bool.{and_parts, cases_eq, eq-eqb, false_from_ne_true, false≢true, leb-true, ne_eqb, not-true}
 use Rattle.std.proofs.lemmas.List.{get_or_default, get_or-set_other, length-set, set-get_or, set-set}
 use Rattle.std.proofs.lemmas.List.Sums.{sum_by-set}
 use Rattle.cov_model.specs.declared.row_fault.RowWhy.TheVariants.{Rule, Negatives}
+use Rattle.cov_model.specs.declared.slice.Slice.{Slice}
 use Rattle.cov_model.specs.Meaning.{body_holds}
 use Rattle.cov_model.specs.RowFault.{fault_of, first_two, row_fault}
 use Rattle.cov_model.specs.Sound.{ModelView, IsSound, no_rule, rule_at}
 use Rattle.cov_model.specs.Valid.{is_row, negatives}
 use Rattle.cov_model.specs.Views.{RuleView}
-use Rattle.definitions.specs.Completion.{has_slice}
+use Rattle.definitions.specs.Completion.{has_slice, is_extendable}
 use Rattle.definitions.specs.Demand.{is_among}
 use Rattle.definitions.proofs.Members.{Has, all_members, among_has, contains_member, has_filter, has_map, of_among, of_filter, of_find, of_map, passes_all, same_answer}
 use Rattle.model_lint.specs.Changes.{IsTestOf, is_marked}
 use Rattle.model_lint.specs.Marks.{IsFalseOn, IsThinTo}
-use Rattle.model_lint.specs.Tests.{IsConflict, has_test, part, rule_numbers}
-use Rattle.model_lint.proofs.ChangedModels.{meets, test_fewer, test_part, test_with, valid_part, valid_with}
+use Rattle.model_lint.specs.Tests.{IsConflict, part, rule_numbers}
+use Rattle.model_lint.proofs.ChangedModels.{extends_fewer, extends_part, extends_with, meets, valid_part}
 use Rattle.model_lint.proofs.Members.{filter_agree}
 
 -- the constraint of a number, which is its place
@@ -73,9 +74,9 @@ no_two_negatives m row p q few fault = at (find (λ rule. not (body_holds m rule
     at None (r ∷ s ∷ ns) few fault = let most = leb-true (length (r ∷ s ∷ ns)) 1 few in absurd (omega (arith, most))
 
 -- a constraint that is false on a test with the marked ones isn't marked
-pub false_unmarked : (m : ModelView) (marks : List Bool) (cells row : List (Option ℕ)) (number : ℕ) → IsSound m → IsTestOf (part m (is_marked marks)) cells row
+pub false_unmarked : (m : ModelView) (marks : List Bool) (slice : Slice) (cells row : List (Option ℕ)) (number : ℕ) → IsSound m → IsTestOf (part m (is_marked marks)) slice cells row
     → IsFalseOn m row number → get_or marks (number - 1) false ≡ false
-false_unmarked m marks cells row number sound test fails =
+false_unmarked m marks slice cells row number sound test fails =
     let valid = sym (valid_part m (is_marked marks) row) ∙ test.valid in
     let kept = filter (λ (rule : RuleView). is_marked marks rule.number) m.rules in
     let parts = and_parts (is_row m row && meets m kept row) (nat_le (length (negatives m row)) 1) valid in
@@ -112,20 +113,20 @@ cleared_other marks i x is =
     ]
 
 -- with fewer marks tests stay
-fewer_marks : (m : ModelView) (more marks : List Bool) (cells : List (Option ℕ)) → ((n : ℕ) → is_marked marks n ≡ true → is_marked more n ≡ true)
-    → has_test (part m (is_marked more)) cells ≡ true → has_test (part m (is_marked marks)) cells ≡ true
-fewer_marks m more marks cells fewer some =
-    test_part m (is_marked marks) cells
-    ∙ test_fewer m (filter (λ rule. is_marked more rule.number) m.rules) (filter (λ rule. is_marked marks rule.number) m.rules) cells
+fewer_marks : (m : ModelView) (more marks : List Bool) (slice : Slice) (cells : List (Option ℕ)) → ((n : ℕ) → is_marked marks n ≡ true → is_marked more n ≡ true)
+    → is_extendable (part m (is_marked more)) slice cells ≡ true → is_extendable (part m (is_marked marks)) slice cells ≡ true
+fewer_marks m more marks slice cells fewer some =
+    extends_part m (is_marked marks) slice cells
+    ∙ extends_fewer m (filter (λ rule. is_marked more rule.number) m.rules) (filter (λ rule. is_marked marks rule.number) m.rules) slice cells
     (λ rule has.
     let own = of_filter (λ (rule : RuleView). is_marked marks rule.number) m.rules rule has in
     has_filter (λ (rule : RuleView). is_marked more rule.number) m.rules rule own.0 (fewer rule.number own.1))
-    (sym (test_part m (is_marked more) cells) ∙ some)
+    (sym (extends_part m (is_marked more) slice cells) ∙ some)
 
 -- the steps of thinning
-pub thin_unmarked : (m : ModelView) (cells : List (Option ℕ)) (marks : List Bool) (i : ℕ) → IsThinTo m cells marks i → get_or marks i false ≡ false
-    → IsThinTo m cells marks (i + 1)
-thin_unmarked m cells marks i thin is = record {
+pub thin_unmarked : (m : ModelView) (slice : Slice) (cells : List (Option ℕ)) (marks : List Bool) (i : ℕ) → IsThinTo m slice cells marks i → get_or marks i false ≡ false
+    → IsThinTo m slice cells marks (i + 1)
+thin_unmarked m slice cells marks i thin is = record {
   long = thin.long;
   enough = thin.enough;
   needed = λ j within marked.
@@ -135,27 +136,27 @@ thin_unmarked m cells marks i thin is = record {
       ];
 }
 
-pub thin_marked : (m : ModelView) (cells : List (Option ℕ)) (marks : List Bool) (i : ℕ) (needed : Bool) → IsThinTo m cells marks i
-    → get_or marks i false ≡ true → needed ≡ has_test (part m (is_marked (set marks i false))) cells
-    → IsThinTo m cells (set (set marks i false) i needed) (i + 1)
-thin_marked m cells marks i true thin is found =
+pub thin_marked : (m : ModelView) (slice : Slice) (cells : List (Option ℕ)) (marks : List Bool) (i : ℕ) (needed : Bool) → IsThinTo m slice cells marks i
+    → get_or marks i false ≡ true → needed ≡ is_extendable (part m (is_marked (set marks i false))) slice cells
+    → IsThinTo m slice cells (set (set marks i false) i needed) (i + 1)
+thin_marked m slice cells marks i true thin is found =
     let back : set (set marks i false) i true ≡ marks = set-set marks i false true ∙ ap (λ mark. set marks i mark) (sym is) ∙ set-get_or marks i false in
-    subst (λ list. IsThinTo m cells list (i + 1)) (sym back) (record {
+    subst (λ list. IsThinTo m slice cells list (i + 1)) (sym back) (record {
       long = thin.long;
       enough = thin.enough;
       needed = λ j within marked.
           elim (cases_eq j i) [
-            | inl same ↦ ap (λ x. has_test (part m (is_marked (set marks x false))) cells) same ∙ sym found
+            | inl same ↦ ap (λ x. is_extendable (part m (is_marked (set marks x false))) slice cells) same ∙ sym found
             | inr apart ↦ thin.needed j (omega (arith, within, apart)) marked
           ];
     })
-thin_marked m cells marks i false thin is found =
-    subst (λ list. IsThinTo m cells list (i + 1)) (sym (set-set marks i false false)) (record {
+thin_marked m slice cells marks i false thin is found =
+    subst (λ list. IsThinTo m slice cells list (i + 1)) (sym (set-set marks i false false)) (record {
       long = length-set marks i false ∙ thin.long;
       enough = sym found;
       needed = λ j within marked.
           let own = cleared_other marks i j marked in
-          fewer_marks m (set marks j false) (set (set marks i false) j false) cells
+          fewer_marks m (set marks j false) (set (set marks i false) j false) slice cells
           (λ n is_on.
           let first = cleared_other (set marks i false) j (n - 1) is_on in
           let second = cleared_other marks i (n - 1) first.1 in
@@ -170,12 +171,12 @@ among_marked m marks n has =
     (λ among. (of_filter (is_marked marks) (rule_numbers m) n (of_among (filter (is_marked marks) (rule_numbers m)) n among)).1)
     (λ marked. among_has (filter (is_marked marks) (rule_numbers m)) n (has_filter (is_marked marks) (rule_numbers m) n has marked))
 
-part_agree : (m : ModelView) (f g : ℕ → Bool) (cells : List (Option ℕ)) → ((rule : RuleView) → Has m.rules rule → f rule.number ≡ g rule.number)
-    → has_test (part m f) cells ≡ has_test (part m g) cells
-part_agree m f g cells same =
-    test_part m f cells
-    ∙ ap (λ rules. test_with m rules cells) (filter_agree (λ (rule : RuleView). f rule.number) (λ (rule : RuleView). g rule.number) m.rules same)
-    ∙ sym (test_part m g cells)
+part_agree : (m : ModelView) (f g : ℕ → Bool) (slice : Slice) (cells : List (Option ℕ)) → ((rule : RuleView) → Has m.rules rule → f rule.number ≡ g rule.number)
+    → is_extendable (part m f) slice cells ≡ is_extendable (part m g) slice cells
+part_agree m f g slice cells same =
+    extends_part m f slice cells
+    ∙ ap (λ rules. extends_with m rules slice cells) (filter_agree (λ (rule : RuleView). f rule.number) (λ (rule : RuleView). g rule.number) m.rules same)
+    ∙ sym (extends_part m g slice cells)
 
 number_has : (rules : List RuleView) (rule : RuleView) → Has rules rule → Has (map (λ (r : RuleView). r.number) rules) rule.number
 number_has rules rule has = has_map (λ (r : RuleView). r.number) rules rule has
@@ -197,17 +198,17 @@ without_one marks among n k some_n some_k is =
     and_true true = refl
     and_true false = refl
 
-pub conflict_from : (m : ModelView) (cells : List (Option ℕ)) (marks : List Bool) (n : ℕ) (numbers : List ℕ) → IsSound m → IsThinTo m cells marks n
-    → n ≡ length marks → numbers ≡ filter (is_marked marks) (rule_numbers m) → IsConflict m cells numbers
-conflict_from m cells marks n numbers sound thin all are = subst (IsConflict m cells) (sym are) (record {
+pub conflict_from : (m : ModelView) (slice : Slice) (cells : List (Option ℕ)) (marks : List Bool) (n : ℕ) (numbers : List ℕ) → IsSound m → IsThinTo m slice cells marks n
+    → n ≡ length marks → numbers ≡ filter (is_marked marks) (rule_numbers m) → IsConflict m slice cells numbers
+conflict_from m slice cells marks n numbers sound thin all are = subst (IsConflict m slice cells) (sym are) (record {
   rising = filter_agree (is_marked marks) (is_among listed) (rule_numbers m) (λ k has. sym (among_marked m marks k has));
-  enough = part_agree m (is_among listed) (is_marked marks) cells (λ rule has. among_marked m marks rule.number (number_has m.rules rule has)) ∙ thin.enough;
-  needed = all_members (λ k. has_test (part m (λ n. is_among listed n && not (n == k))) cells ≡ true) listed (λ k has.
+  enough = part_agree m (is_among listed) (is_marked marks) slice cells (λ rule has. among_marked m marks rule.number (number_has m.rules rule has)) ∙ thin.enough;
+  needed = all_members (λ k. is_extendable (part m (λ n. is_among listed n && not (n == k))) slice cells ≡ true) listed (λ k has.
       let own = of_filter (is_marked marks) (rule_numbers m) k has in
       let from = of_map (λ (r : RuleView). r.number) m.rules k own.0 in
       let place = numbered_rule m from.0 sound from.1 in
       let some_k : 1 ≤ k = omega (arith, place.least, from.2) in
-      part_agree m (λ n. is_among listed n && not (n == k)) (is_marked (set marks (k - 1) false)) cells
+      part_agree m (λ n. is_among listed n && not (n == k)) (is_marked (set marks (k - 1) false)) slice cells
       (λ rule has. without_one marks (is_among listed rule.number) rule.number k (numbered_rule m rule sound has).least some_k
       (among_marked m marks rule.number (number_has m.rules rule has)))
       ∙ thin.needed (k - 1) (omega (arith, place.most, from.2, some_k, all, thin.long)) own.1);

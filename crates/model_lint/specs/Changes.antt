@@ -1,9 +1,11 @@
 -- Models some of whose constraints are changed: what is asked of them is asked of the whole model. (This project's rule.)
-use Rattle.std.specs.Prelude.{◌≡◌, ℕ, ◌-◌, Bool, true, false, List, [], ◌∷◌, map, length, Option, replicate, slice_index_or, slice_set, if◌then◌else◌}
+use Rattle.std.specs.Prelude.{◌≡◌, ℕ, ◌-◌, Bool, true, false, List, [], map, Option, replicate, slice_index_or, slice_set, if◌then◌else◌}
+use Rattle.cov_model.specs.declared.slice.Slice.{Slice}
 use Rattle.cov_model.specs.Rows.{contains}
+use Rattle.cov_model.specs.Slices.{slice_of}
 use Rattle.cov_model.specs.Sound.{ModelView}
 use Rattle.cov_model.specs.Valid.{is_valid}
-use Rattle.cov_model.specs.Views.{PredView, Negated, Each, End, More, BodyView, Plain, IfThen, IfElse, RuleView}
+use Rattle.cov_model.specs.Views.{Negated, Each, End, More, BodyView, Plain, IfThen, IfElse, RuleView}
 use Rattle.cov_model.specs.declared.demand.Demand.{Demand}
 use Rattle.model_lint.specs.declared.change.Change.{Change}
 use Rattle.model_lint.specs.declared.change.Change.TheVariants.{LeftOut, Kept, Opposite, WithPremise}
@@ -42,8 +44,9 @@ is_marked marks number = slice_index_or marks (number - 1) false
 abbrev pub kept_alone : Bool → Change
 kept_alone mark = if mark then Kept else LeftOut
 
--- a test of the model that contains the partial row
-pub record IsTestOf (m : ModelView) (cells row : List (Option ℕ)) : Type 0 where
+-- a test of the slice that contains the partial row
+pub record IsTestOf (m : ModelView) (slice : Slice) (cells row : List (Option ℕ)) : Type 0 where
+  pub own : slice_of m row ≡ slice
   pub valid : is_valid m row ≡ true
   pub contained : contains row cells ≡ true
 

@@ -1,5 +1,5 @@
 -- Constraints that change nothing, and conditions that never hold. (This project's rule.)
-use Rattle.std.specs.Prelude.{ℕ, Bool, true, false, ◌&&◌, not, List, map, Option, ◌==◌}
+use Rattle.std.specs.Prelude.{ℕ, Bool, true, false, ◌&&◌, not, List, Option, ◌==◌}
 use Rattle.std.specs.List.{filter, list_all, list_any}
 use Rattle.cov_model.specs.Meaning.{body_holds, pred_holds}
 use Rattle.cov_model.specs.Sound.{ModelView}

@@ -3,4 +3,4 @@ pub mod Changes
 pub mod Seeking
 pub mod Marks
 pub mod Constraints
-pub mod Findings
+pub mod Unused

@@ -1,11 +1,15 @@
--- Which values are in a test, and which constraints keep a partial row from every test. (PICT's guide for tests; Liffiton
+-- Which values are in a test, and which constraints no row with a value can meet together. (PICT's guide for tests; Liffiton
 -- and Sakallah 2008 for minimal sets of constraints that can't be met together; that both are told is this project's rule.)
-use Rattle.std.specs.Prelude.{◌≡◌, ℕ, Bool, true, false, ◌&&◌, not, List, [], ◌∷◌, map, length, Option, None, ◌==◌, All, replicate}
+use Rattle.std.specs.Prelude.{◌≡◌, ℕ, Bool, true, false, ◌&&◌, not, List, map, length, Option, None, ◌==◌, All, replicate, if◌then◌else◌}
 use Rattle.std.specs.List.{filter, flat_map, list_any}
+use Rattle.cov_model.specs.declared.slice.Slice.{Slice}
+use Rattle.cov_model.specs.declared.slice.Slice.TheVariants.{Positive, Negative}
+use Rattle.cov_model.specs.Meaning.{value_at}
 use Rattle.cov_model.specs.Sound.{ModelView}
 use Rattle.cov_model.specs.Rows.{contains, with_value}
 use Rattle.cov_model.specs.Valid.{is_valid, param_numbers}
 use Rattle.cov_model.specs.Slices.{value_numbers}
+use Rattle.definitions.specs.Completion.{is_extendable}
 use Rattle.definitions.specs.Demand.{is_among}
 use Rattle.definitions.specs.Figures.{all_rows}
 
@@ -19,6 +23,10 @@ no_values m = replicate (length m.params) None
 
 abbrev pub value_alone : ModelView → ℕ × ℕ → List (Option ℕ)
 value_alone m value = with_value (no_values m) value.0 value.1
+
+-- the slice of a value: its own of a negative one, else that of the rows without negative values
+abbrev pub slice_with : ModelView → ℕ × ℕ → Slice
+slice_with m value = if (value_at m value.0 value.1).negative then Negative value.0 value.1 else Positive
 
 -- the values of a parameter, as pairs (parameter, value), in order of declaration
 abbrev pub values_of : ModelView → ℕ → List (ℕ × ℕ)
@@ -43,9 +51,9 @@ rule_numbers m = map (λ rule. rule.number) m.rules
 abbrev pub part : ModelView → (ℕ → Bool) → ModelView
 part m keeps = record { params = m.params; rules = filter (λ rule. keeps rule.number) m.rules; demand = m.demand; prefix = m.prefix; fold = m.fold }
 
--- constraints that keep a partial row from every test, and of which none can be left out: with them alone no
--- test contains it, and without one of them some test does
-pub record IsConflict (m : ModelView) (cells : List (Option ℕ)) (numbers : List ℕ) : Type 0 where
+-- constraints that can't be met together by a row of the slice that contains the partial row, and of which none can be
+-- left out: no such row meets them all, and without any one of them some such row meets the others
+pub record IsConflict (m : ModelView) (slice : Slice) (cells : List (Option ℕ)) (numbers : List ℕ) : Type 0 where
   pub rising : numbers ≡ filter (is_among numbers) (rule_numbers m)
-  pub enough : has_test (part m (is_among numbers)) cells ≡ false
-  pub needed : All (λ k. has_test (part m (λ n. is_among numbers n && not (n == k))) cells ≡ true) numbers
+  pub enough : is_extendable (part m (is_among numbers)) slice cells ≡ false
+  pub needed : All (λ k. is_extendable (part m (λ n. is_among numbers n && not (n == k))) slice cells ≡ true) numbers

@@ -2,16 +2,18 @@ ghost use Rattle.std.specs.Prelude.{◌≡◌, ◌<◌, ◌+◌, ◌∷◌, ◌+
 ghost use Rattle.std.specs.List.{filter};
 ghost use Rattle.cov_model.specs.Fits.{FitsModel};
 ghost use Rattle.cov_model.specs.Valid.{is_row, is_valid};
-ghost use Rattle.definitions.specs.Completion.{has_slice};
+ghost use Rattle.cov_model.specs.Preference.{OrdersValues};
+ghost use Rattle.definitions.specs.Completion.{has_slice, is_extendable};
+ghost use Rattle.definitions.specs.SliceRows.{IsSliceOf};
 ghost use Rattle.model_lint.specs.Changes.{IsTestOf, is_marked};
 ghost use Rattle.model_lint.specs.Marks.{IsFalseOn, IsThinTo};
-ghost use Rattle.model_lint.specs.Tests.{IsConflict, has_test, part, rule_numbers};
+ghost use Rattle.model_lint.specs.Tests.{IsConflict, part, rule_numbers};
 
 use crate::changing::{changed_model, kept_alone};
 use crate::completer::Completer;
 use crate::finding::RuleNumbers;
-use crate::seeking::seek_test;
-use cov_model::{Cells, RowWhy, TestModel};
+use crate::seeking::Seeker;
+use cov_model::{Cells, Prefs, RowWhy, Slice, TestModel};
 use std::alloc::Global;
 use value_text::{NoMemory, OwnedList};
 
@@ -29,38 +31,51 @@ fn false_rule(model: &TestModel, row: &Cells) -> Option<u32>
     }
 }
 
-// A partial row of which constraints are sought that keep it from every test of the model.
+// A partial row of which constraints are sought that no row of a slice which contains it meets together. The
+// preferences are the model's; the answers don't depend on them.
 #[derive(Drop)]
 struct Gathering<'a, C> {
     alloc: Global,
     completer: &'a C,
     model: &'a TestModel,
+    prefs: &'a Prefs,
+    slice: Slice,
     cells: &'a Cells,
 }
 
 impl<C: Completer> Gathering<'_, C> {
-    // Whether a test of the model with the marked constraints alone contains the partial row. Where one does, the
-    // other cells become one.
+    // Whether a row of the slice that meets the marked constraints contains the partial row. Where one does, the other
+    // cells become one.
     fn seek_marked(&self, marks: &[bool], into: &mut Cells) -> Result<bool, NoMemory>
+        requires orders { OrdersValues self.now.model.now self.now.prefs.now }
+        requires slice { IsSliceOf self.now.model.now self.now.slice }
         requires fits { FitsModel self.now.model.now self.now.cells.now }
         requires long { length into.old ≡ length self.now.model.now.params }
-        ensures found { IfOk result (λ found. found ≡ has_test (part self.now.model.now (is_marked marks.now)) self.now.cells.now) }
-        ensures test { IfOk result (λ found. found ≡ true → IsTestOf (part self.now.model.now (is_marked marks.now)) self.now.cells.now into.new) }
+        ensures found { IfOk result (λ found. found ≡ is_extendable (part self.now.model.now (is_marked marks.now)) self.now.slice self.now.cells.now) }
+        ensures test { IfOk result (λ found. found ≡ true → IsTestOf (part self.now.model.now (is_marked marks.now)) self.now.slice self.now.cells.now into.new) }
         ensures long { length into.new ≡ length into.old }
     {
         let changes = kept_alone(self.alloc, marks)?;
         let part = changed_model(self.alloc, self.model, changes.as_slice())?;
-        seek_test(self.alloc, self.completer, &part, self.cells, into)
+        let seeker = Seeker {
+            alloc: self.alloc,
+            completer: self.completer,
+            model: &part,
+            prefs: self.prefs,
+        };
+        seeker.seek_in(self.slice, self.cells, into)
     }
 
-    // Marks constraints until no test of the model with these alone contains the partial row. `false` exactly where a
-    // test of the whole model contains it.
+    // Marks constraints until no row of the slice that meets them contains the partial row. `false` exactly where one
+    // that meets every constraint contains it.
     fn gather(&self, row: &mut Cells, marks: &mut [bool]) -> Result<bool, NoMemory>
+        requires orders { OrdersValues self.now.model.now self.now.prefs.now }
+        requires slice { IsSliceOf self.now.model.now self.now.slice }
         requires fits { FitsModel self.now.model.now self.now.cells.now }
         requires row { length row.old ≡ length self.now.model.now.params }
         requires marks { length marks.old ≡ length self.now.model.now.rules }
-        ensures enough { result ≡ Ok true → has_test (part self.now.model.now (is_marked marks.new)) self.now.cells.now ≡ false }
-        ensures none { result ≡ Ok false → has_test self.now.model.now self.now.cells.now ≡ true }
+        ensures enough { result ≡ Ok true → is_extendable (part self.now.model.now (is_marked marks.new)) self.now.slice self.now.cells.now ≡ false }
+        ensures none { result ≡ Ok false → is_extendable self.now.model.now self.now.slice self.now.cells.now ≡ true }
         ensures row { length row.new ≡ length row.old }
         ensures marks { length marks.new ≡ length marks.old }
     {
@@ -78,11 +93,13 @@ impl<C: Completer> Gathering<'_, C> {
 
     // Takes the mark of the constraint at a place away, if the others are enough.
     fn thin_at(&self, row: &mut Cells, marks: &mut [bool], i: usize) -> Result<(), NoMemory>
+        requires orders { OrdersValues self.now.model.now self.now.prefs.now }
+        requires slice { IsSliceOf self.now.model.now self.now.slice }
         requires fits { FitsModel self.now.model.now self.now.cells.now }
         requires row { length row.old ≡ length self.now.model.now.params }
-        requires thin { IsThinTo self.now.model.now self.now.cells.now marks.old i }
+        requires thin { IsThinTo self.now.model.now self.now.slice self.now.cells.now marks.old i }
         requires within { i < length marks.old }
-        ensures thin { OnOk result (IsThinTo self.now.model.now self.now.cells.now marks.new (i + 1)) }
+        ensures thin { OnOk result (IsThinTo self.now.model.now self.now.slice self.now.cells.now marks.new (i + 1)) }
         ensures row { length row.new ≡ length row.old }
         ensures marks { length marks.new ≡ length marks.old }
     {
@@ -97,10 +114,12 @@ impl<C: Completer> Gathering<'_, C> {
 
     // Takes the marks away that aren't needed.
     fn thin(&self, row: &mut Cells, marks: &mut [bool]) -> Result<(), NoMemory>
+        requires orders { OrdersValues self.now.model.now self.now.prefs.now }
+        requires slice { IsSliceOf self.now.model.now self.now.slice }
         requires fits { FitsModel self.now.model.now self.now.cells.now }
         requires row { length row.old ≡ length self.now.model.now.params }
-        requires enough { IsThinTo self.now.model.now self.now.cells.now marks.old 0 }
-        ensures thin { OnOk result (IsThinTo self.now.model.now self.now.cells.now marks.new (length marks.new)) }
+        requires enough { IsThinTo self.now.model.now self.now.slice self.now.cells.now marks.old 0 }
+        ensures thin { OnOk result (IsThinTo self.now.model.now self.now.slice self.now.cells.now marks.new (length marks.new)) }
         ensures marks { length marks.new ≡ length marks.old }
     {
         for i in 0..marks.len() {
@@ -141,8 +160,9 @@ fn marked_numbers(alloc: Global, model: &TestModel, marks: &[bool]) -> Result<Ru
     Ok(numbers)
 }
 
-/// Constraints that keep a partial row from every test, none of which can be left out; `None` exactly where a test
-/// contains it. Completes at most two partial rows a constraint and slice (this project's rule).
+/// Constraints that no row of a slice which contains a partial row meets together, of which none can be left out;
+/// `None` exactly where the partial row is extendable in the slice. Completes at most two partial rows a constraint
+/// (this project's rule).
 ///
 /// # Errors
 ///
@@ -151,19 +171,24 @@ pub fn conflict_of<C: Completer>(
     alloc: Global,
     completer: &C,
     model: &TestModel,
+    slice: Slice,
     cells: &Cells,
 ) -> Result<Option<RuleNumbers>, NoMemory>
-    requires { FitsModel model.now cells.now }
-    ensures none { IfOk result (λ found. is_none found ≡ has_test model.now cells.now) }
-    ensures conflict { IfOk result (λ found. IfSome found (IsConflict model.now cells.now)) }
+    requires slice { IsSliceOf model.now slice }
+    requires fits { FitsModel model.now cells.now }
+    ensures none { IfOk result (λ found. is_none found ≡ is_extendable model.now slice cells.now) }
+    ensures conflict { IfOk result (λ found. IfSome found (IsConflict model.now slice cells.now)) }
 {
     model.assert_invariant();
+    let prefs = Prefs::new(alloc, model, None)?;
     let mut row = Cells::empty(alloc, model.params().len())?;
     let mut marks = vec![in alloc; false; model.rules().len()]?;
     let gathering = Gathering {
         alloc,
         completer,
         model,
+        prefs: &prefs,
+        slice,
         cells,
     };
     if !gathering.gather(&mut row, marks.as_mut_slice())? {

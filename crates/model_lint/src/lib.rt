@@ -1,7 +1,9 @@
 //! What is wrong or odd about a model, each finding a theorem about it.
 //!
-//! - `conflict_of` gives constraints that keep a partial row from every test, of which none can be left out.
-//! - `unused_values` gives the values that are in no test, each with such constraints.
+//! - `conflict_of` gives constraints that no row of a slice which contains a partial row meets together, of which none
+//!   can be left out.
+//! - `no_test` says whether no row is valid, and `unused_values` gives the values that are in no test, each with such
+//!   constraints.
 //! - `never_excludes` and `never_applies` say whether a constraint excludes nothing, and whether its condition never
 //!   holds.
 //!
@@ -23,5 +25,6 @@ mod unused;
 pub use completer::{Asker, Completer, Sought};
 pub use conflict::conflict_of;
 pub use constraints::{never_applies, never_excludes};
-pub use finding::{Finding, FindingList, RuleNumbers, UnusedValue};
-pub use unused::unused_values;
+pub use finding::{RuleNumbers, UnusedList, UnusedValue};
+pub use trees::copy_literal;
+pub use unused::{no_test, unused_values};

@@ -67,22 +67,27 @@ pub(crate) fn is_of_slice(model: &TestModel, slice: Slice, cells: &Cells) -> boo
 
 // What seeks tests of a model: its preferences too, of which the answers don't depend.
 #[derive(Drop)]
-struct Seeker<'a, C> {
-    alloc: Global,
-    completer: &'a C,
-    model: &'a TestModel,
-    prefs: &'a Prefs,
+pub(crate) struct Seeker<'a, C> {
+    pub(crate) alloc: Global,
+    pub(crate) completer: &'a C,
+    pub(crate) model: &'a TestModel,
+    pub(crate) prefs: &'a Prefs,
 }
 
 impl<C: Completer> Seeker<'_, C> {
-    // Whether a partial row is extendable in a slice. Where it is, the other cells become a test with it.
-    fn seek_in(&self, slice: Slice, cells: &Cells, into: &mut Cells) -> Result<bool, NoMemory>
+    // Whether a partial row is extendable in a slice. Where it is, the other cells become a test of the slice with it.
+    pub(crate) fn seek_in(
+        &self,
+        slice: Slice,
+        cells: &Cells,
+        into: &mut Cells,
+    ) -> Result<bool, NoMemory>
         requires orders { OrdersValues self.now.model.now self.now.prefs.now }
         requires slice { IsSliceOf self.now.model.now slice }
         requires fits { FitsModel self.now.model.now cells.now }
         requires long { length into.old ≡ length self.now.model.now.params }
         ensures found { IfOk result (λ found. found ≡ is_extendable self.now.model.now slice cells.now) }
-        ensures test { IfOk result (λ found. found ≡ true → IsTestOf self.now.model.now cells.now into.new) }
+        ensures test { IfOk result (λ found. found ≡ true → IsTestOf self.now.model.now slice cells.now into.new) }
         ensures long { length into.new ≡ length into.old }
     {
         if !is_of_slice(self.model, slice, cells) {
@@ -96,7 +101,7 @@ impl<C: Completer> Seeker<'_, C> {
         self.completer.complete(self.alloc, &sought, cells, into)
     }
 
-    // The same in the slice of a value, where it is negative.
+    // Whether a partial row is extendable in the slice of a value, where it is negative. The other cells may change.
     fn seek_value(
         &self,
         p: ParamNo,
@@ -110,7 +115,6 @@ impl<C: Completer> Seeker<'_, C> {
         requires fits { FitsModel self.now.model.now cells.now }
         requires long { length into.old ≡ length self.now.model.now.params }
         ensures found { IfOk result (λ found. found ≡ in_slice_of self.now.model.now cells.now p v) }
-        ensures test { IfOk result (λ found. found ≡ true → IsTestOf self.now.model.now cells.now into.new) }
         ensures long { length into.new ≡ length into.old }
     {
         if !self.model.is_negative(p, v) {
@@ -126,7 +130,6 @@ impl<C: Completer> Seeker<'_, C> {
         requires fits { FitsModel self.now.model.now cells.now }
         requires long { length into.old ≡ length self.now.model.now.params }
         ensures found { IfOk result (λ found. found ≡ in_negative self.now.model.now cells.now p) }
-        ensures test { IfOk result (λ found. found ≡ true → IsTestOf self.now.model.now cells.now into.new) }
         ensures long { length into.new ≡ length into.old }
     {
         self.model.assert_invariant();
@@ -140,12 +143,11 @@ impl<C: Completer> Seeker<'_, C> {
     }
 
     // The same in all negative slices.
-    fn seek_negatives(&self, cells: &Cells, into: &mut Cells) -> Result<bool, NoMemory>
+    pub(crate) fn seek_negatives(&self, cells: &Cells, into: &mut Cells) -> Result<bool, NoMemory>
         requires orders { OrdersValues self.now.model.now self.now.prefs.now }
         requires fits { FitsModel self.now.model.now cells.now }
         requires long { length into.old ≡ length self.now.model.now.params }
         ensures found { IfOk result (λ found. found ≡ in_some_negative self.now.model.now cells.now) }
-        ensures test { IfOk result (λ found. found ≡ true → IsTestOf self.now.model.now cells.now into.new) }
         ensures long { length into.new ≡ length into.old }
     {
         let count = self.model.params().len() as ParamNo;
@@ -158,7 +160,7 @@ impl<C: Completer> Seeker<'_, C> {
     }
 }
 
-// Whether a test of the model contains a partial row. Where one does, the other cells become one.
+// Whether a test of the model contains a partial row. The other cells may change.
 pub(crate) fn seek_test<C: Completer>(
     alloc: Global,
     completer: &C,
@@ -169,7 +171,6 @@ pub(crate) fn seek_test<C: Completer>(
     requires fits { FitsModel model.now cells.now }
     requires long { length into.old ≡ length model.now.params }
     ensures found { IfOk result (λ found. found ≡ has_test model.now cells.now) }
-    ensures test { IfOk result (λ found. found ≡ true → IsTestOf model.now cells.now into.new) }
     ensures long { length into.new ≡ length into.old }
 {
     model.assert_invariant();

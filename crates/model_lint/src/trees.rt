@@ -7,8 +7,12 @@ use cov_model::{Body, Literal, LiteralList, Pred, PredList, Term};
 use std::alloc::Global;
 use value_text::{NoMemory, OwnedList, Text};
 
-// A copy of a literal.
-fn copy_literal(alloc: Global, literal: &Literal) -> Result<Literal, NoMemory>
+/// A copy of a literal.
+///
+/// # Errors
+///
+/// `NoMemory` where memory is refused.
+pub fn copy_literal(alloc: Global, literal: &Literal) -> Result<Literal, NoMemory>
     ensures { IfOk result (λ copy. copy ≡ literal.now) }
 {
     match literal {

@@ -1,6 +1,6 @@
-use Rattle.std.proofs.Common.{map, ◌∙◌}
-use Rattle.model_lint.specs.Findings.{fact_of}
-use Rattle.model_lint.proofs.FactSteps.{next_param}
+use Rattle.std.proofs.Common.{◌++◌, List, ℕ, ap, sym, ◌∙◌}
+use Rattle.model_lint.specs.Tests.{is_unused, unused_in, values_of}
+use Rattle.model_lint.proofs.Steps.{params_more}
 use Rattle.model_lint.proofs.unused.unused_values.Goals as goal
 
 pub loop-p-preserved : goal.loop-p-preserved
@@ -9,5 +9,6 @@ loop-p-preserved g c = (
   c.in_ok-add_unused.ensures.room ∙ c.loop-p.invariant.1,
   c.in_ok-add_unused.ensures.asker ∙ c.loop-p.invariant.2,
   c.in_ok-add_unused.ensures.explained,
-  next_param c.args.model.now c.loop-p.p (map fact_of c.loop-p.list) (map fact_of c.add_unused.new.list) c.loop-p.invariant.4 c.in_ok-add_unused.ensures.facts,
+  c.in_ok-add_unused.ensures.values ∙ ap (λ (front : List (ℕ × ℕ)). front ++ unused_in c.args.model.now c.loop-p.p) c.loop-p.invariant.4
+      ∙ sym (params_more (is_unused c.args.model.now) (values_of c.args.model.now) c.loop-p.p),
 )

@@ -1,11 +1,16 @@
-use Rattle.std.proofs.Common.{◌≡◌, true, arith, sym}
-use Rattle.std.proofs.lemmas.Grind.{common_steps}
-use Rattle.cov_model.specs.declared.slice.Slice.TheVariants.{Positive}
+use Rattle.std.proofs.Common.{◌≡◌, false, sym, ◌∙◌}
+use Rattle.std.proofs.lemmas.Bool.{false_from_ne_true, false≢true}
 use Rattle.definitions.specs.Completion.{is_extendable}
-use Rattle.model_lint.proofs.SliceTests.{slice_test}
+use Rattle.model_lint.specs.Tests.{has_test}
+use Rattle.model_lint.proofs.SliceTests.{slice_exists, slice_test}
+use Rattle.model_lint.proofs.Steps.{ok_also}
 use Rattle.model_lint.proofs.unused.Values.conflict.Goals as goal
 
-pub returns-then-ask-clause-none : goal.returns-then-ask-clause-none
-returns-then-ask-clause-none g c =
-    let extends : is_extendable c.args.self.now.model.now Positive c.args.cells.now ≡ true = first_of (cc, grind (arith, common_steps)) in
-    sym (slice_test c.args.self.now.model.now Positive c.args.cells.now tt extends)
+pub returns-clause-none : goal.returns-clause-none
+returns-clause-none g c =
+    let m = c.args.self.now.model.now in
+    let none : has_test m c.args.cells.now ≡ false = sym c.in_ok-is_in_test.ensures.found ∙ c.if-branch.false in
+    let stuck : is_extendable m c.args.slice c.args.cells.now ≡ false =
+    false_from_ne_true (is_extendable m c.args.slice c.args.cells.now)
+    (λ extends. false≢true (sym none ∙ slice_test m c.args.slice c.args.cells.now (slice_exists m c.args.slice c.requires.slice) extends)) in
+    ok_also c.conflict_of.result (λ found is. is ∙ stuck ∙ sym none) c.conflict_of.ensures.none

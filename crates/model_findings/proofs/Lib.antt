@@ -1,0 +1,3 @@
+pub mod FullAnswers
+pub mod SoundTerms
+pub mod Telling

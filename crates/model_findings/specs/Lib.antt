@@ -1,0 +1,4 @@
+pub mod Answers
+pub mod Terms
+pub mod Comparisons
+pub mod Findings
