@@ -5,6 +5,7 @@
 //!   them, or the proof lists it and no row serves it.
 //!   `runs_in_memory` has the same call over a folder and sinks in memory, where this has no premise but the status.
 //! - `read_check_words` is the definition's reading of words.
+//! - `put_verdict` writes the line of a verdict.
 //!
 //! The verdict is that of `proof_check`.
 #![tactic(auto)]
@@ -15,4 +16,5 @@ mod words;
 
 pub use command_line::WordFault;
 pub use run::run_check;
+pub use verdict_line::put_verdict;
 pub use words::{CheckOpts, read_check_words};

@@ -62,7 +62,7 @@ pub(crate) fn status_of_verdict(verdict: &Verdict) -> u8
 }
 
 /// Writes the line of a verdict. Takes no memory.
-pub(crate) fn put_verdict<O: Sink>(verdict: &Verdict, out: &mut O) -> WriteAnswer
+pub fn put_verdict<O: Sink>(verdict: &Verdict, out: &mut O) -> WriteAnswer
     ensures { Puts result (O.seen out.old) (O.seen out.new) (answer_text verdict.now) }
 {
     match verdict {

@@ -78,6 +78,38 @@ fn judge<R: Threads + Sync, G: Gate + Sync>(
     }
 }
 
+/// What the checker says of the rows of a report, which were read, and of a proof (this project's rule): the verdict of
+/// `check_bytes`. Plan and rows have to be the model's, and the proof may have at most 2^28 bytes. It is the same for every
+/// number of workers from 1 to 64.
+///
+/// # Errors
+///
+/// `NoMemory` where memory was refused.
+pub fn check_rows<R: Threads + Sync, G: Gate + Sync>(
+    rt: &R,
+    alloc: Global,
+    model: &TestModel,
+    plan: &Plan,
+    file: &RowFile,
+    proof: &[u8],
+    workers: u32,
+    gate: &G,
+) -> Result<Verdict, NoMemory>
+    requires plan { plan.now ≡ plan_of model.now }
+    requires file { IsFileOf model.now file.now }
+    requires proof { length proof.now ≤ 2 ^ 28 }
+    requires least { 1 ≤ workers }
+    requires most { workers ≤ 64 }
+    ensures { IfOk result (λ given. given ≡ verdict_given (verdict model.now (seeds_seen file.now) proof.now)) }
+{
+    let workers = Workers {
+        rt,
+        count: workers,
+        gate,
+    };
+    judge(&workers, alloc, model, plan, file, proof)
+}
+
 // The verdict on the bytes of a report and of a proof. The error is the refusal of the report.
 fn check_report<R: Threads + Sync, G: Gate + Sync>(
     workers: &Workers<'_, R, G>,
