@@ -1,0 +1,6 @@
+pub mod Ending
+pub mod InOrder
+pub mod ReadBack
+pub mod Reading
+pub mod TabbedLength
+pub mod TabbedSteps

@@ -1,0 +1,71 @@
+ghost use Rattle.std.specs.Prelude.{◌≡◌, ◌≤◌, ◌^◌, length, IfOk, IfErr, IfSome};
+ghost use Rattle.outside_io.specs.Seen.{KeepsFiles};
+ghost use Rattle.jeldroft_files.specs.Tables as tables;
+
+use crate::failure::{Cause, Failure};
+use crate::tabbed::tabbed;
+use comma_rows::CommaError;
+use command_line::{FileKind, Stop, read_whole};
+use jeldroft_args::Delimiter;
+use outside_io::Folder;
+use std::alloc::Global;
+
+/// Whether commas part the cells of the table in the file of this name: where the words say so, and, where they say
+/// nothing, where its name ends with `.csv`. Else tabs part them.
+pub fn is_comma(delimiter: Option<Delimiter>, name: &str) -> bool
+    ensures { result ≡ tables.is_comma delimiter name.now }
+{
+    match delimiter {
+        Some(Delimiter::Tab) => false,
+        Some(Delimiter::Comma) => true,
+        None => name.as_bytes().ends_with(b".csv"),
+    }
+}
+
+// Why a table is no text of comma-separated values, as the failure of the file of this name.
+fn failure_of<'n>(name: &'n str, error: CommaError) -> Failure<'n>
+    ensures { result.cause ≡ tables.cause_of error }
+{
+    match error {
+        CommaError::Fault(fault) => Failure {
+            file: name,
+            cause: Cause::Comma(fault),
+            refused: None,
+        },
+        CommaError::NoMemory => Failure::at(name, Stop::OutOfMemory),
+    }
+}
+
+/// The bytes of a table whose cells tabs part: those of the file of this name, or, where commas part its cells, those of
+/// the table that says the same.
+///
+/// # Errors
+///
+/// A failure of the file: `CannotRead` where the folder failed, `TooLong` where the file has more bytes than a file of
+/// rows may have, `Comma` where its cells are to be parted by commas and RFC 4180 doesn't allow what it holds, or
+/// `OutOfMemory`.
+pub fn read_table<'n, F: Folder>(
+    alloc: Global,
+    name: &'n str,
+    delimiter: Option<Delimiter>,
+    files: &mut F,
+) -> Result<Vec<u8>, Failure<'n>>
+    ensures table { IfOk result (λ bytes. IfSome ((F.seen files.old).files name.now)
+        (λ held. tables.IsTableOf (tables.is_comma delimiter name.now) held bytes.items)) }
+    ensures within { IfOk result (λ bytes. length bytes.items ≤ 2 ^ 28) }
+    ensures stops { IfErr result (λ failure. IfSome ((F.seen files.old).files name.now)
+        (λ held. tables.StopsTable (tables.is_comma delimiter name.now) held failure.cause)) }
+    ensures files { KeepsFiles (F.seen files.old) (F.seen files.new) }
+{
+    let bytes = match read_whole(alloc, FileKind::Rows, name, files) {
+        Ok(bytes) => bytes,
+        Err(stop) => return Err(Failure::at(name, stop)),
+    };
+    if !is_comma(delimiter, name) {
+        return Ok(bytes);
+    }
+    match tabbed(alloc, bytes.as_slice()) {
+        Ok(table) => Ok(table),
+        Err(error) => Err(failure_of(name, error)),
+    }
+}

@@ -1,0 +1,21 @@
+//! The words in which `jeldroft` tells what it found: one finding a line, in the form that editors and build systems
+//! follow, `FILE:LINE: error: WORDS [CODE]`.
+//!
+//! - `tell_failure` and `tell_cause` say why a command ended without what it was asked for.
+//! - `tell_notes` gives the warnings on a file by their lines, `tell_table_notes` those on a table with what stands there.
+//!
+//! What is told changes nothing else: a fault of the sink is passed over. Where memory is wanting, a line says less.
+#![tactic(auto)]
+
+mod comma_words;
+mod failure;
+mod finding;
+mod lookup;
+mod notes;
+mod shown;
+mod table_notes;
+
+pub use failure::{tell_cause, tell_failure};
+pub use notes::tell_notes;
+pub use shown::Shown;
+pub use table_notes::{tell_dropped_seed, tell_table_notes};
