@@ -1,0 +1,81 @@
+-- A model file gives one answer, and what follows where it was read and where it wasn't.
+use Rattle.std.proofs.Common.{◌≡◌, ℕ, ◌≤◌, ◌⊎◌, List, length, Option, None, Some, Result, Ok, Err, inl, inr, refl, ap, sym, subst, ◌∙◌, arith}
+use Rattle.std.specs.Prelude.{IfSome}
+use Rattle.std.proofs.lemmas.Option.{none-some, same_Some}
+use Rattle.value_text.proofs.ListLemmas.{one_ok}
+use Rattle.cov_model.specs.Sound.{ModelView}
+use Rattle.definitions.specs.Limits.{ModelFile, most_bytes}
+use Rattle.model_lex.specs.declared.note.Note.{Note}
+use Rattle.model_lex.specs.declared.options.ModelOpts.{ModelOpts}
+use Rattle.type_check.specs.ModelOf.{Answer, IsAnswerOf}
+use Rattle.type_check.proofs.OneAnswer.{one_answer}
+use Rattle.command_line.specs.Loading as reads
+use Rattle.command_line.specs.Loading.{IsLoaded, StopsReading}
+use Rattle.command_line.specs.declared.stop.Stop.{Stop}
+use Rattle.pict_cli.specs.Runs.{HasModel}
+use Rattle.jeldroft_files.specs.Failures.{status_of}
+use Rattle.jeldroft_files.specs.Models.{StopsModel}
+use Rattle.jeldroft_files.specs.declared.failure.Cause.{Cause}
+use Rattle.jeldroft_files.specs.declared.failure.Cause.TheVariants as causes
+use Rattle.jeldroft_generate.specs.Given.{GivesModel, is_missing, is_read, is_too_long, model_or_cause}
+
+pub one_model : (opts : ModelOpts) (held : Option (List ℕ)) (given other : Result ModelView Cause) → GivesModel opts held given → GivesModel opts held other → given ≡ other
+one_model opts held given other (is_missing none is) (is_missing too same) = is ∙ sym same
+one_model opts held given other (is_missing none is) (is_too_long bytes some above same) = absurd (none-some bytes (sym none ∙ some))
+one_model opts held given other (is_missing none is) (is_read bytes answer some within read same) = absurd (none-some bytes (sym none ∙ some))
+one_model opts held given other (is_too_long bytes some above is) (is_missing none same) = absurd (none-some bytes (sym none ∙ some))
+one_model opts held given other (is_too_long bytes some above is) (is_too_long bytes' some' above' same) = is ∙ sym same
+one_model opts held given other (is_too_long bytes some above is) (is_read bytes' answer some' within read same) =
+    let e : bytes ≡ bytes' = same_Some bytes bytes' (sym some ∙ some') in
+    let short : length bytes ≤ most_bytes ModelFile = subst (λ text. length text ≤ most_bytes ModelFile) (sym e) within in
+    absurd (omega arith)
+one_model opts held given other (is_read bytes answer some within read is) (is_missing none same) = absurd (none-some bytes (sym none ∙ some))
+one_model opts held given other (is_read bytes answer some within read is) (is_too_long bytes' some' above same) =
+    let e : bytes ≡ bytes' = same_Some bytes bytes' (sym some ∙ some') in
+    let short : length bytes' ≤ most_bytes ModelFile = subst (λ text. length text ≤ most_bytes ModelFile) e within in
+    absurd (omega arith)
+one_model opts held given other (is_read bytes answer some within read is) (is_read bytes' answer' some' within' read' same) =
+    let e : bytes' ≡ bytes = same_Some bytes' bytes (sym some' ∙ some) in
+    is ∙ ap model_or_cause (one_answer opts bytes answer answer' read (subst (λ text. IsAnswerOf opts text answer') e read')) ∙ sym same
+
+-- what holds of what is held
+pub at_held : {A : Type 0} (P : A → Type 0) (o : Option A) (x : A) → o ≡ Some x → IfSome o P → P x
+at_held P o x e h = subst (λ found. IfSome found P) e h
+
+-- the model of a file that is loaded
+pub model_given : (opts : ModelOpts) (held : Option (List ℕ)) (m : ModelView) (notes : List Note) → IsLoaded opts held m notes → GivesModel opts held (Ok m)
+model_given opts None m notes loaded = absurd loaded
+model_given opts (Some bytes) m notes loaded = is_read bytes (Ok (m, notes)) refl loaded.0 loaded.1 refl
+
+-- a model file isn't read
+stop_given : (opts : ModelOpts) (held : Option (List ℕ)) (stop : Stop) → StopsReading opts held stop
+    → (status_of (causes.Stop stop) ≡ 3) ⊎ GivesModel opts held (Err (causes.Stop stop))
+stop_given opts held stop (reads.out_of_memory is) = inl (ap (λ other. status_of (causes.Stop other)) is)
+stop_given opts held stop (reads.cannot_read is) = inl (ap (λ other. status_of (causes.Stop other)) is)
+stop_given opts None stop (reads.too_long is more) = absurd more
+stop_given opts (Some bytes) stop (reads.too_long is more) = inr (is_too_long bytes refl more (ap (λ other. Err (causes.Stop other)) is))
+stop_given opts None stop (reads.is_refused fault is refused) = absurd refused
+stop_given opts (Some bytes) stop (reads.is_refused fault is refused) = inr (is_read bytes (Err fault) refl refused.0 refused.1 (ap (λ other. Err (causes.Stop other)) is))
+
+pub cause_given : (opts : ModelOpts) (held : Option (List ℕ)) (cause : Cause) → StopsModel opts held cause → (status_of cause ≡ 3) ⊎ GivesModel opts held (Err cause)
+cause_given opts held cause stops = subst (λ other. (status_of other ≡ 3) ⊎ GivesModel opts held (Err other)) (sym stops.1) (stop_given opts held stops.0 stops.2)
+
+-- what holds of the model of a file holds of each that it spells
+spelled : (opts : ModelOpts) (bytes : List ℕ) (answer : Answer) (m : ModelView) (Q : ModelView → Type 0) → length bytes ≤ most_bytes ModelFile → IsAnswerOf opts bytes answer
+    → Ok m ≡ model_or_cause answer → Q m → HasModel opts (Some bytes) (λ model notes. Q model)
+spelled opts bytes (Ok read) m Q within is same holds = record {
+  within = within;
+  model = read.0;
+  notes = read.1;
+  spelled = is;
+  each = λ other noted too.
+      let one : read ≡ (other, noted) = one_ok refl (one_answer opts bytes (Ok read) (Ok (other, noted)) is too) in
+      subst Q (one_ok refl same ∙ ap (λ found. found.0) one) holds;
+}
+spelled opts bytes (Err fault) m Q within is same holds = let no : ⊥ = cc in absurd no
+
+pub has_model : (opts : ModelOpts) (held : Option (List ℕ)) (m : ModelView) (Q : ModelView → Type 0) → GivesModel opts held (Ok m) → Q m → HasModel opts held (λ model notes. Q model)
+has_model opts held m Q (is_missing none is) holds = let no : ⊥ = cc in absurd no
+has_model opts held m Q (is_too_long bytes some above is) holds = let no : ⊥ = cc in absurd no
+has_model opts held m Q (is_read bytes answer some within read is) holds =
+    subst (λ found. HasModel opts found (λ model notes. Q model)) (sym some) (spelled opts bytes answer m Q within read is holds)

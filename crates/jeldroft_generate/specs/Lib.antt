@@ -1,0 +1,5 @@
+pub mod Asked
+pub mod Given
+pub mod Due
+pub mod Runs
+pub mod Steps

@@ -1,0 +1,22 @@
+//! The command `jeldroft generate`: a table of tests for a model.
+//!
+//! - `run_generate` is the call that the program makes, over any folder and sinks. Its clause `headline` is what the
+//!   command is for: after status 0 every test of the table is valid, and every demanded combination is in one of them, or
+//!   no test can have it, and then the proof, where one is asked for, lists it with a tree that refutes it.
+//!
+//! The tests are those of `pict` with the same seeds and shuffle. All memory is taken before the first byte is written;
+//! the proof is written before the table.
+#![tactic(auto)]
+
+mod answer;
+mod asked;
+mod growing;
+mod made;
+mod notes;
+mod proof_text;
+mod run;
+mod seeds;
+mod telling;
+mod writing;
+
+pub use run::run_generate;

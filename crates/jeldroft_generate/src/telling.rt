@@ -1,0 +1,114 @@
+//! What a run tells on standard error.
+use crate::notes::Notes;
+use cov_model::TestModel;
+use ipog_grow::Suite;
+use itoa::Buffer;
+use jeldroft_args::Generate;
+use jeldroft_files::Failure;
+use jeldroft_words::{tell_dropped_seed, tell_failure, tell_notes, tell_table_notes};
+use outside_io::{Sink, put_pieces};
+use shared_marks::count_tuples;
+use std::alloc::Global;
+use tuple_index::Plan;
+
+/// What the line says that sums up.
+#[derive(Debug, Drop, Clone, Copy)]
+pub(crate) struct Summary {
+    // How many tests there are.
+    tests: u64,
+    // How many parameters are combined.
+    strength: u32,
+    // How many combinations of their values are demanded, and how many of them no test can have.
+    combinations: u64,
+    impossible: u64,
+}
+
+impl Summary {
+    /// What is said of a suite.
+    pub(crate) fn of(model: &TestModel, plan: &Plan, suite: &Suite) -> Summary {
+        Summary {
+            tests: suite.rows.len() as u64,
+            strength: model.demand().order,
+            combinations: u64::from(count_tuples(plan)),
+            impossible: suite.omitted.len() as u64,
+        }
+    }
+
+    // Writes the line.
+    fn tell<E: Sink>(&self, diag: &mut E) {
+        put_number(self.tests, diag);
+        let _ = put_pieces(diag, &[" tests cover "]);
+        put_number(self.combinations.saturating_sub(self.impossible), diag);
+        let _ = put_pieces(diag, &[" of "]);
+        put_number(self.combinations, diag);
+        let _ = put_pieces(diag, &[" combinations of "]);
+        put_number(u64::from(self.strength), diag);
+        let _ = put_pieces(diag, &[" parameters"]);
+        if self.impossible > 0 {
+            let _ = put_pieces(diag, &["; no test can have the other "]);
+            put_number(self.impossible, diag);
+            let _ = put_pieces(diag, &[" (--proof lists them)"]);
+        }
+        let _ = put_pieces(diag, &["\n"]);
+    }
+}
+
+// Writes a number, with a comma before each three digits.
+fn put_number<E: Sink>(number: u64, diag: &mut E) {
+    let mut buffer = Buffer::new();
+    let digits = buffer.format(number).as_bytes();
+    for (place, digit) in digits.iter().enumerate() {
+        if place > 0 && (digits.len() - place) % 3 == 0 {
+            let _ = diag.put(b",");
+        }
+        let _ = diag.put(&[*digit]);
+    }
+}
+
+// Writes the warnings on the file of seeds: with what stands in its cells, where the model was read.
+fn tell_seeds<E: Sink>(file: &str, notes: &Notes, diag: &mut E) {
+    match &notes.read {
+        Some(model) => tell_table_notes(
+            file,
+            notes.table.as_slice(),
+            model,
+            notes.seeds.as_slice(),
+            diag,
+        ),
+        None => tell_notes(file, notes.seeds.as_slice(), diag),
+    }
+    for line in notes.dropped.as_slice() {
+        tell_dropped_seed(file, *line, diag);
+    }
+}
+
+// Writes the warnings.
+fn tell_warnings<E: Sink>(args: &Generate, notes: &Notes, diag: &mut E) {
+    tell_notes(args.model.name.as_str(), notes.model.as_slice(), diag);
+    if let Some(seeds) = &args.seeds {
+        tell_seeds(seeds.as_str(), notes, diag);
+    }
+}
+
+/// Tells what a run found: the warnings, unless they are left out; why there is no table; else, on a terminal, the line
+/// that sums up, unless it is left out.
+pub(crate) fn tell<E: Sink>(
+    alloc: Global,
+    args: &Generate,
+    notes: &Notes,
+    end: &Result<Summary, Failure<'_>>,
+    terminal: bool,
+    diag: &mut E,
+) {
+    if !args.no_warnings {
+        tell_warnings(args, notes, diag);
+    }
+    match end {
+        Ok(summary) => {
+            if terminal && !args.quiet {
+                summary.tell(diag);
+            }
+        }
+        Err(failure) => tell_failure(alloc, failure, diag),
+    }
+}
