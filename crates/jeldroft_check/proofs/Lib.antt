@@ -1,0 +1,3 @@
+pub mod Verdicts
+pub mod OneVerdict
+pub mod Ending
