@@ -1,0 +1,4 @@
+mod DueOnce
+mod Flaws
+mod ReadLemmas
+mod Tables

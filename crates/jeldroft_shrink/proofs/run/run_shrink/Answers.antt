@@ -1,0 +1,37 @@
+use Rattle.std.proofs.Common.{◌∙◌, sym}
+use Rattle.jeldroft_files.specs.Runs.{moment}
+use Rattle.jeldroft_shrink.specs.Steps.{answer_seen, end_status}
+use Rattle.jeldroft_shrink.proofs.Tables.{left, not_one, run, writes_shorter}
+use Rattle.jeldroft_shrink.proofs.run.run_shrink.Goals as goal
+
+pub returns-clause-runs : goal.returns-clause-runs
+returns-clause-runs g c = λ held holds.
+    run c.args.args.now held _ (g.F.Folder.seen c.args.files.now) (g.F.Folder.seen c.make_answer-answer.new.files) (g.O.Sink.seen c.args.out.now)
+    (moment (g.F.Folder.seen c.write_answer-end.new.files) (g.O.Sink.seen c.write_answer-end.new.out))
+    c.finish.result (end_status c.write_answer-end.result) (answer_seen c.make_answer-answer.result)
+    c.output_name.ensures c.finish.ensures (c.make_answer-answer.ensures.called held holds) c.write_answer-end.ensures
+
+pub returns-clause-shorter : goal.returns-clause-shorter
+returns-clause-shorter g c = λ zero held holds.
+    writes_shorter c.args.args.now c.requires.marks c.requires.strength held
+    (moment (g.F.Folder.seen c.args.files.now) (g.O.Sink.seen c.args.out.now))
+    (moment (g.F.Folder.seen c.write_answer-end.new.files) (g.O.Sink.seen c.write_answer-end.new.out)) c.finish.result
+    (run c.args.args.now held _ (g.F.Folder.seen c.args.files.now) (g.F.Folder.seen c.make_answer-answer.new.files) (g.O.Sink.seen c.args.out.now)
+    (moment (g.F.Folder.seen c.write_answer-end.new.files) (g.O.Sink.seen c.write_answer-end.new.out))
+    c.finish.result (end_status c.write_answer-end.result) (answer_seen c.make_answer-answer.result)
+    c.output_name.ensures c.finish.ensures (c.make_answer-answer.ensures.called held holds) c.write_answer-end.ensures)
+    zero
+
+pub returns-clause-leaves : goal.returns-clause-leaves
+returns-clause-leaves g c =
+    left _ c.args.args.now.output (g.F.Folder.seen c.args.files.now) (g.F.Folder.seen c.make_answer-answer.new.files) (g.O.Sink.seen c.args.out.now)
+    (moment (g.F.Folder.seen c.write_answer-end.new.files) (g.O.Sink.seen c.write_answer-end.new.out))
+    c.finish.result (end_status c.write_answer-end.result) (answer_seen c.make_answer-answer.result)
+    c.make_answer-answer.ensures.files c.output_name.ensures c.finish.ensures c.write_answer-end.ensures
+
+pub returns-clause-answered : goal.returns-clause-answered
+returns-clause-answered g c = λ one.
+    not_one (answer_seen c.make_answer-answer.result) _
+    (moment (g.F.Folder.seen c.make_answer-answer.new.files) (g.O.Sink.seen c.args.out.now))
+    (moment (g.F.Folder.seen c.write_answer-end.new.files) (g.O.Sink.seen c.write_answer-end.new.out))
+    (end_status c.write_answer-end.result) c.write_answer-end.ensures (sym c.finish.ensures ∙ one)

@@ -1,0 +1,5 @@
+pub mod Causes
+pub mod Reading
+pub mod Runs
+pub mod Shorter
+pub mod Steps

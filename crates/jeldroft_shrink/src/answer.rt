@@ -1,0 +1,236 @@
+ghost use Rattle.std.specs.Prelude.{◌≡◌, ◌⊎◌, true, All, IfOk, IfErr, OnOk, None, Some, option_map};
+ghost use Rattle.cov_model.specs.Fits.{FitsModel};
+ghost use Rattle.cov_model.specs.Valid.{is_valid};
+ghost use Rattle.jeldroft_args.specs.Ranges.{AreMarks, IsStrength};
+ghost use Rattle.jeldroft_files.specs.Runs.{IsCalledFor};
+ghost use Rattle.outside_io.specs.Seen.{KeepsFiles};
+ghost use Rattle.row_text.specs.RowFiles.{seeds_seen, suite_seen};
+ghost use Rattle.shorter_suites.specs.Bounds.{least_needed};
+ghost use Rattle.tuple_index.specs.Plan.{plan_of};
+ghost use Rattle.tuple_index.specs.PlanFault.{limit_passed};
+ghost use Rattle.jeldroft_shrink.specs.Causes.{status_of};
+ghost use Rattle.jeldroft_shrink.specs.Runs.{HaveRows, HeldFiles, Holds, IsDue, IsShorterText, LackRows, form_of};
+ghost use Rattle.jeldroft_shrink.specs.Shorter.{IsTextOf};
+ghost use Rattle.jeldroft_shrink.specs.Steps.{IsLimitOf, answer_seen};
+
+use crate::cause::{ShrinkCause, ShrinkFailure};
+use crate::given::read_given;
+use crate::lost::lost_lines;
+use crate::seeds::read_seeds;
+use crate::suite::fewer_tests;
+use command_line::Stop;
+use cov_model::TestModel;
+use jeldroft_args::{Format, Shrink};
+use jeldroft_files::read_model_file;
+use model_lex::NoteList;
+use outside_io::Folder;
+use row_forms::RowForm;
+use row_text::RowFile;
+use std::alloc::Global;
+use suite_forms::suite_text;
+use tuple_index::Plan;
+use value_text::NoMemory;
+
+/// How many tests there were and are, and how many any suite with this coverage needs at least.
+#[derive(Debug, Drop, Clone, Copy, PartialEq, Eq)]
+pub(crate) struct Numbers {
+    /// The given tests.
+    pub given: usize,
+    /// The tests in their place.
+    pub tests: usize,
+    /// No suite with this coverage has fewer tests.
+    pub least: u64,
+}
+
+/// A table of fewer tests.
+#[derive(Drop)]
+pub(crate) struct Table {
+    /// Its text.
+    pub text: Vec<u8>,
+    /// Its numbers.
+    pub numbers: Numbers,
+}
+
+/// A table of fewer tests, and what is told of the files of rows.
+#[derive(Drop)]
+pub(crate) struct Suite {
+    /// The table.
+    pub table: Table,
+    /// Notes on the given table.
+    pub table_notes: NoteList,
+    /// Notes on the file of seed rows.
+    pub seed_notes: NoteList,
+    /// The lines of the seed rows that no given row contains.
+    pub lost: Vec<u32>,
+}
+
+/// What `shrink` writes, and what it tells.
+#[derive(Drop)]
+pub(crate) struct Answer {
+    /// The suite.
+    pub suite: Suite,
+    /// Notes on the model file.
+    pub model_notes: NoteList,
+}
+
+// The tests that are made fewer, and the seed rows.
+#[derive(Drop)]
+struct Tests {
+    given: RowFile,
+    seeds: RowFile,
+}
+
+// The form of the table, if the format is one of a table.
+fn form_of(format: Format) -> Option<RowForm>
+    ensures { result ≡ form_of format }
+{
+    match format {
+        Format::Tsv => Some(RowForm::Tsv),
+        Format::Csv => Some(RowForm::Csv),
+        Format::Json => Some(RowForm::Json),
+        Format::Markdown => Some(RowForm::Markdown),
+        Format::Text | Format::Html => None,
+    }
+}
+
+// The plan of a model.
+fn plan_of<'n>(alloc: Global, model: &TestModel, name: &'n str) -> Result<Plan, ShrinkFailure<'n>>
+    ensures plan { IfOk result (λ plan. plan ≡ plan_of model.now) }
+    ensures within { OnOk result (limit_passed model.now ≡ None) }
+    ensures stops { IfErr result (λ failure. IsLimitOf model.now failure.cause) }
+{
+    match Plan::new(alloc, model) {
+        Ok(plan) => Ok(plan),
+        Err(fault) => Err(ShrinkFailure::stop(name, Stop::from(fault))),
+    }
+}
+
+// The name of the file of seed rows.
+fn seeds_name(args: &Shrink) -> Option<&str>
+    ensures { option_map (λ name. name.now) result ≡ args.now.seeds }
+{
+    match &args.seeds {
+        Some(name) => Some(name.as_str()),
+        None => None,
+    }
+}
+
+// The rows of the table and of the file of seed rows.
+fn read_tests<'n, F: Folder>(
+    alloc: Global,
+    args: &'n Shrink,
+    model: &TestModel,
+    files: &mut F,
+) -> Result<Tests, ShrinkFailure<'n>>
+    ensures tests { IfOk result (λ tests. (held : HeldFiles) → Holds (F.seen files.old).files args.now held → limit_passed model.now ≡ None
+        → HaveRows args.now held model.now (seeds_seen tests.given) (seeds_seen tests.seeds)) }
+    ensures stops { IfErr result (λ failure. (held : HeldFiles) → Holds (F.seen files.old).files args.now held → limit_passed model.now ≡ None
+        → (status_of failure.cause ≡ 3) ⊎ LackRows args.now held model.now failure.cause) }
+    ensures valid { IfOk result (λ tests. All (λ row. is_valid model.now row ≡ true) (suite_seen tests.given)) }
+    ensures fit { IfOk result (λ tests. All (λ row. FitsModel model.now row.cells) tests.given.rows) }
+    ensures partial { IfOk result (λ tests. All (λ row. FitsModel model.now row.cells) tests.seeds.rows) }
+    ensures files { KeepsFiles (F.seen files.old) (F.seen files.new) }
+{
+    let given = read_given(alloc, model, args.table.as_str(), args.delimiter, files)?;
+    let seeds = read_seeds(alloc, model, seeds_name(args), args.delimiter, files)?;
+    Ok(Tests { given, seeds })
+}
+
+// The table of fewer tests in place of these.
+fn table_of(
+    alloc: Global,
+    args: &Shrink,
+    form: RowForm,
+    model: &TestModel,
+    plan: &Plan,
+    tests: &Tests,
+) -> Result<Table, NoMemory>
+    requires plan { plan.now ≡ plan_of model.now }
+    requires valid { All (λ row. is_valid model.now row ≡ true) (suite_seen tests.now.given) }
+    requires fit { All (λ row. FitsModel model.now row.cells) tests.now.given.rows }
+    requires partial { All (λ row. FitsModel model.now row.cells) tests.now.seeds.rows }
+    ensures text { IfOk result (λ table. IsTextOf form model.now (seeds_seen tests.now.given) (seeds_seen tests.now.seeds) table.text.items) }
+    ensures least { IfOk result (λ table. table.numbers.least ≡ least_needed model.now (suite_seen tests.now.given)) }
+{
+    let fewer = fewer_tests(alloc, model, plan, &tests.given, &tests.seeds, args)?;
+    let text = suite_text(alloc, form, model, &fewer.rows)?;
+    let numbers = Numbers {
+        given: tests.given.rows.len(),
+        tests: fewer.rows.len(),
+        least: fewer.least,
+    };
+    Ok(Table { text, numbers })
+}
+
+// The table of fewer tests of a model, and what is told of the files of rows.
+fn suite_of<'n, F: Folder>(
+    alloc: Global,
+    args: &'n Shrink,
+    form: RowForm,
+    model: &TestModel,
+    files: &mut F,
+) -> Result<Suite, ShrinkFailure<'n>>
+    ensures text { IfOk result (λ suite. (held : HeldFiles) → Holds (F.seen files.old).files args.now held
+        → IsShorterText args.now held form model.now suite.table.text.items) }
+    ensures stops { IfErr result (λ failure. (held : HeldFiles) → Holds (F.seen files.old).files args.now held
+        → (status_of failure.cause ≡ 3) ⊎ LackRows args.now held model.now failure.cause) }
+    ensures files { KeepsFiles (F.seen files.old) (F.seen files.new) }
+{
+    let plan = plan_of(alloc, model, args.model.name.as_str())?;
+    let tests = read_tests(alloc, args, model, files)?;
+    let table = table_of(alloc, args, form, model, &plan, &tests)?;
+    let lost = lost_lines(alloc, &tests.given, &tests.seeds)?;
+    let Tests { given, seeds } = tests;
+    Ok(Suite {
+        table,
+        table_notes: given.notes,
+        seed_notes: seeds.notes,
+        lost,
+    })
+}
+
+// What is written in this form, and what is told.
+fn answer_in<'n, F: Folder>(
+    alloc: Global,
+    args: &'n Shrink,
+    form: RowForm,
+    files: &mut F,
+) -> Result<Answer, ShrinkFailure<'n>>
+    requires marks { AreMarks args.now.model.marks }
+    requires strength { IsStrength args.now.strength }
+    requires formed { form_of args.now.format ≡ Some form }
+    ensures called { (held : HeldFiles) → Holds (F.seen files.old).files args.now held
+        → IsCalledFor status_of (IsDue args.now held) (answer_seen result) }
+    ensures files { KeepsFiles (F.seen files.old) (F.seen files.new) }
+{
+    let (model, model_notes) = read_model_file(alloc, &args.model, args.strength, files)?;
+    let suite = suite_of(alloc, args, form, &model, files)?;
+    Ok(Answer { suite, model_notes })
+}
+
+/// What `shrink` writes, and what it tells.
+///
+/// # Errors
+///
+/// `NoTable` where the format is none of a table; else the first failure of the model file, of its demand, of the table or
+/// of the file of seed rows.
+pub(crate) fn make_answer<'n, F: Folder>(
+    alloc: Global,
+    args: &'n Shrink,
+    files: &mut F,
+) -> Result<Answer, ShrinkFailure<'n>>
+    requires marks { AreMarks args.now.model.marks }
+    requires strength { IsStrength args.now.strength }
+    ensures called { (held : HeldFiles) → Holds (F.seen files.old).files args.now held
+        → IsCalledFor status_of (IsDue args.now held) (answer_seen result) }
+    ensures files { KeepsFiles (F.seen files.old) (F.seen files.new) }
+{
+    match form_of(args.format) {
+        Some(form) => answer_in(alloc, args, form, files),
+        None => Err(ShrinkFailure {
+            file: "",
+            cause: ShrinkCause::NoTable,
+            refused: None,
+        }),
+    }
+}

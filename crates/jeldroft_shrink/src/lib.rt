@@ -1,0 +1,24 @@
+//! `jeldroft shrink`: a table of fewer tests with the same coverage.
+//!
+//! - `run_shrink` reads a model, a table of tests and, where one is named, a file of seed rows, and writes the table of a
+//!   suite that `suite_shrink` gives. Its clause `shorter` is what it is for: after status 0 every row that was written is
+//!   valid, they serve each demanded tuple that the given rows serve, there are no more of them, and a proof that is
+//!   accepted with the given table is accepted with them.
+//! - Its clause `runs` cites specs/Runs: which text the bytes of the files call for, and for which causes they call for
+//!   none. Which of the shorter suites is written is free, but it is a function of the options and of these bytes: there is
+//!   no clock and no schedule in it.
+//!
+//! All memory is taken before the first byte is written.
+#![tactic(auto)]
+
+mod answer;
+mod cause;
+mod given;
+mod lost;
+mod run;
+mod seeds;
+mod suite;
+mod tell;
+
+pub use cause::ShrinkCause;
+pub use run::run_shrink;

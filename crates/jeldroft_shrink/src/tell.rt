@@ -1,0 +1,157 @@
+use crate::answer::{Answer, Numbers};
+use crate::cause::{ShrinkCause, ShrinkFailure};
+use cov_model::RowWhy;
+use itoa::Buffer;
+use jeldroft_args::Shrink;
+use jeldroft_words::{tell_cause, tell_notes};
+use model_lex::Note;
+use outside_io::{Sink, put_pieces};
+use std::alloc::Global;
+
+// Tells of a line of a file.
+fn tell_line<E: Sink>(file: &str, line: u32, text: &str, diag: &mut E) {
+    let mut buffer = Buffer::new();
+    let line = buffer.format(line);
+    let _ = put_pieces(diag, &[file, ":", line, ": ", text, "\n"]);
+}
+
+// Tells of the notes on the file of seed rows, and of the seed rows that no given row contains.
+fn tell_seeds<E: Sink>(file: &str, notes: &[Note], lost: &[u32], diag: &mut E) {
+    tell_notes(file, notes, diag);
+    for line in lost {
+        tell_line(
+            file,
+            *line,
+            "warning: no given test contains this row",
+            diag,
+        );
+    }
+}
+
+// Tells what is odd about the files.
+fn tell_warnings<E: Sink>(answer: &Answer, args: &Shrink, diag: &mut E) {
+    let suite = &answer.suite;
+    tell_notes(
+        args.model.name.as_str(),
+        answer.model_notes.as_slice(),
+        diag,
+    );
+    tell_notes(args.table.as_str(), suite.table_notes.as_slice(), diag);
+    if let Some(seeds) = &args.seeds {
+        tell_seeds(
+            seeds.as_str(),
+            suite.seed_notes.as_slice(),
+            suite.lost.as_slice(),
+            diag,
+        );
+    }
+}
+
+// Sums up: how many tests there are in place of how many, and how many are needed at least.
+fn tell_numbers<E: Sink>(numbers: Numbers, diag: &mut E) {
+    let mut tests = Buffer::new();
+    let mut given = Buffer::new();
+    let mut least = Buffer::new();
+    let tests_text = tests.format(numbers.tests);
+    let given_text = given.format(numbers.given);
+    if numbers.tests as u64 == numbers.least {
+        let _ = put_pieces(
+            diag,
+            &[
+                tests_text,
+                " tests in place of ",
+                given_text,
+                "; no suite with this coverage is shorter\n",
+            ],
+        );
+        return;
+    }
+    let least_text = least.format(numbers.least);
+    let _ = put_pieces(
+        diag,
+        &[
+            tests_text,
+            " tests in place of ",
+            given_text,
+            "; at least ",
+            least_text,
+            " are needed for this coverage\n",
+        ],
+    );
+}
+
+/// Tells what is odd about the files, and on a terminal how many tests there are now.
+pub(crate) fn tell_answer<E: Sink>(answer: &Answer, args: &Shrink, terminal: bool, diag: &mut E) {
+    if !args.no_warnings {
+        tell_warnings(answer, args, diag);
+    }
+    if terminal && !args.quiet {
+        tell_numbers(answer.suite.table.numbers, diag);
+    }
+}
+
+// Tells that a row isn't valid.
+fn tell_invalid<E: Sink>(file: &str, line: u32, why: RowWhy, diag: &mut E) {
+    match why {
+        RowWhy::Rule(number) => {
+            let mut line_buffer = Buffer::new();
+            let mut buffer = Buffer::new();
+            let line = line_buffer.format(line);
+            let number = buffer.format(number);
+            let _ = put_pieces(
+                diag,
+                &[
+                    file,
+                    ":",
+                    line,
+                    ": error: constraint ",
+                    number,
+                    " forbids this test\n",
+                ],
+            );
+        }
+        RowWhy::Negatives(..) => tell_line(
+            file,
+            line,
+            "error: more than one value of this test is invalid",
+            diag,
+        ),
+    }
+}
+
+// Tells that a table has too many rows.
+fn tell_count<E: Sink>(file: &str, count: u64, diag: &mut E) {
+    let mut buffer = Buffer::new();
+    let count = buffer.format(count);
+    let _ = put_pieces(
+        diag,
+        &[
+            file,
+            ": error: ",
+            count,
+            " tests, and at most 65533 can be made fewer\n",
+        ],
+    );
+}
+
+/// Tells why there is no table.
+pub(crate) fn tell_failure<E: Sink>(alloc: Global, failure: &ShrinkFailure<'_>, diag: &mut E) {
+    let file = failure.file;
+    match &failure.cause {
+        ShrinkCause::Files(cause) => tell_cause(alloc, file, cause, &failure.refused, diag),
+        ShrinkCause::NoTable => {
+            let _ = put_pieces(
+                diag,
+                &["jeldroft: error: a shorter table is written as tsv, csv, json or markdown\n"],
+            );
+        }
+        ShrinkCause::TooManyRows(count) => tell_count(file, *count, diag),
+        ShrinkCause::Incomplete(line) => tell_line(
+            file,
+            *line,
+            "error: this test leaves a parameter without a value",
+            diag,
+        ),
+        ShrinkCause::Invalid(line, why) => tell_invalid(file, *line, *why, diag),
+    }
+}
