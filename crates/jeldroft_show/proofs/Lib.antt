@@ -1,0 +1,5 @@
+pub mod CertifiedLemmas
+pub mod DueLemmas
+pub mod RowLemmas
+pub mod ShowEnds
+pub mod WordLemmas

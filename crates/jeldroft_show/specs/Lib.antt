@@ -1,0 +1,5 @@
+pub mod Certified
+pub mod Due
+pub mod Shows
+pub mod Steps
+pub mod Words
