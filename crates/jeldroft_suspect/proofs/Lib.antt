@@ -1,0 +1,4 @@
+pub mod FoundLemmas
+pub mod OrderLemmas
+pub mod SuspectedLemmas
+pub mod TextLemmas

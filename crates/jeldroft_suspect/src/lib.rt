@@ -1,0 +1,15 @@
+//! The command `jeldroft suspect`: the combinations of values that only failing tests have, the smallest ones.
+//!
+//! `run_suspect` is its call, over any folder and sinks. What is printed are the combinations of the definition `suspects`,
+//! in words (specs/SuspectsText); specs/Due says which text, or which cause for none, the files call for.
+//! `combinations_are_told_in_order` is the law of their order.
+#![tactic(auto)]
+
+mod laws;
+mod run;
+mod suspecting;
+mod telling;
+mod text;
+
+pub use laws::combinations_are_told_in_order;
+pub use run::run_suspect;
