@@ -1,0 +1,13 @@
+//! Tests of whole runs of `jeldroft` over files and streams in memory.
+#![tactic(auto)]
+
+#[cfg(test)]
+mod case;
+#[cfg(test)]
+mod check;
+#[cfg(test)]
+mod files;
+#[cfg(test)]
+mod generate;
+#[cfg(test)]
+mod pipe;
