@@ -24,7 +24,7 @@ _jeldroft_options() {
 }
 
 _pict() {
-    _jeldroft_options "/o: /o:max /d: /a: /n: /e: /r /r: /c /s /workers: /budget: /budget:max /proof: /proofformat: /measure: /make: /suspect:" \
+    _jeldroft_options "/o: /o:max /d: /a: /n: /e: /r /r: /c /s /workers: /budget: /budget:max /proof: /proofformat: /measure: /suspect:" \
         "/e: /proof: /measure: /suspect:"
 }
 _pictcheck() { _jeldroft_options "/o: /o:max /d: /a: /n: /c /workers:" ""; }

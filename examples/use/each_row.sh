@@ -2,6 +2,7 @@
 # Runs a command once for each row of a table, with the cells as its words, and counts the rows on which it fails.
 # A table without rows is a failure too.
 # Usage: each_row.sh TABLE COMMAND [WORD..]        as in: pict build.txt > jobs.txt; each_row.sh jobs.txt ./run_job
+if [ $# -lt 2 ]; then sed -n '4s/^# //p' "$0" >&2; exit 2; fi
 table=$1; shift
 [ -n "$(tail -n +2 "$table")" ] || { echo "no rows in $table" >&2; exit 1; }
 failed=0
