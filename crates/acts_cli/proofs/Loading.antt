@@ -3,14 +3,14 @@ use Rattle.std.proofs.Common.{◌≡◌, ◌≤◌, ℕ, Bool, List, Option, Non
 use Rattle.std.specs.Prelude.{◌≢◌, IfErr, IfSome, IsErrAnd, IsSomeAnd}
 use Rattle.std.specs.declared.vec.Vec.{Vec}
 use Rattle.std.specs.declared.alloc.Global.{Global}
-use Rattle.outside_io.specs.Seen.{FolderSeen, KeepsFiles, KeepsReadFaults, KeepsWriteFaults, ReadFaultsRose}
-use Rattle.definitions.specs.Limits.{ModelFile, most_bytes}
+use Rattle.outside_io.specs.believed.Seen.{FolderSeen, KeepsFiles, KeepsReadFaults, KeepsWriteFaults, ReadFaultsRose}
+use Rattle.definitions.specs.believed.Limits.{ModelFile, most_bytes}
 use Rattle.acts_front.specs.Reading.{Translates}
-use Rattle.acts_cli.specs.Runs.{Ends, IsTranslated}
+use Rattle.acts_cli.specs.believed.Runs.{Ends, IsTranslated}
 use Rattle.acts_cli.specs.Steps.{Loads, Ran}
 use Rattle.acts_cli.specs.Stops.{stop_of}
-use Rattle.acts_front.specs.Translation.{translation}
-use Rattle.acts_cli.specs.Words.{Asked}
+use Rattle.acts_front.specs.believed.Translation.{translation}
+use Rattle.acts_cli.specs.believed.Words.{Asked}
 use Rattle.acts_front.specs.declared.code.ActsFault.{ActsFault}
 use Rattle.acts_front.specs.declared.code.ActsFault.TheVariants.{Bad, NoMemory}
 use Rattle.acts_cli.specs.declared.stop.Stop.{Stop}

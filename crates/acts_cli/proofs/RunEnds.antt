@@ -1,20 +1,20 @@
 -- What the status of a run tells of how it ended.
 use Rattle.std.proofs.Common.{◌≡◌, ℕ, ◌≤◌, List, Option, None, Some, Ok, Err, Result, ◌⊎◌, inl, inr, ◌∙◌, refl, sym, ap, arith, subst, length}
 use Rattle.std.specs.Prelude.{◌≢◌, ◌^◌, ◌-◌, Bool, IfSome, IsSomeAnd, min}
-use Rattle.outside_io.specs.Seen.{FolderSeen, SinkSeen, KeepsFiles, KeepsOtherFiles, KeepsReadFaults, KeepsWriteFaults, ReadFaultsRose, WriteFaultsRose}
-use Rattle.definitions.specs.Limits.{ModelFile, most_bytes}
-use Rattle.acts_front.specs.Codes.{refusal_status}
-use Rattle.acts_cli.specs.Runs.{Ends, IsRun, IsTooLong, IsTranslated}
+use Rattle.outside_io.specs.believed.Seen.{FolderSeen, SinkSeen, KeepsFiles, KeepsOtherFiles, KeepsReadFaults, KeepsWriteFaults, ReadFaultsRose, WriteFaultsRose}
+use Rattle.definitions.specs.believed.Limits.{ModelFile, most_bytes}
+use Rattle.acts_front.specs.believed.Codes.{refusal_status}
+use Rattle.acts_cli.specs.believed.Runs.{Ends, IsRun, IsTooLong, IsTranslated}
 use Rattle.acts_cli.specs.Steps.{Ran}
-use Rattle.command_line.specs.Told.{Tells}
-use Rattle.acts_cli.specs.Stops.{IsStatus, end_status, end_text}
-use Rattle.acts_front.specs.Translation.{translation}
-use Rattle.acts_cli.specs.Words.{Asked, IsWordFault, asked_by}
+use Rattle.command_line.specs.believed.Told.{Tells}
+use Rattle.acts_cli.specs.believed.Stops.{IsStatus, end_status, end_text}
+use Rattle.acts_front.specs.believed.Translation.{translation}
+use Rattle.acts_cli.specs.believed.Words.{Asked, IsWordFault, asked_by}
 use Rattle.acts_front.specs.declared.code.ActsCode.{ActsCode}
 use Rattle.acts_front.specs.declared.code.ActsCode.TheVariants.{A1, A2, A3, A4, A5, A6, A7, A8, A9, A10, A11}
 use Rattle.acts_cli.specs.declared.stop.Stop.{Stop}
 use Rattle.acts_cli.specs.declared.stop.Stop.TheVariants.{OutOfMemory, Refused, CannotRead, CannotWrite, TooLong}
-use Rattle.acts_front.specs.SameModels.{IsFaithful}
+use Rattle.acts_front.specs.believed.SameModels.{IsFaithful}
 use Rattle.acts_front.proofs.SayTheSame.{faithful}
 use Rattle.value_text.proofs.ListLemmas.{one_err, one_ok}
 

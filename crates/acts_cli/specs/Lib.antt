@@ -1,4 +1,4 @@
-pub mod Words
-pub mod Stops
-pub mod Runs
 pub mod Steps
+pub mod Runs
+pub mod believed
+pub mod Stops

@@ -2,9 +2,9 @@
 use Rattle.std.specs.Prelude.{◌≡◌, ◌≢◌, ℕ, Bool, List, Option, Result, Ok, Err, IfSome, IsSomeAnd}
 use Rattle.std.specs.declared.vec.Vec.{Vec}
 use Rattle.std.specs.declared.alloc.Global.{Global}
-use Rattle.outside_io.specs.Seen.{FolderSeen, KeepsFiles, KeepsOtherFiles, KeepsReadFaults, KeepsWriteFaults, ReadFaultsRose, WriteFaultsRose}
-use Rattle.acts_cli.specs.Runs.{Ends, IsRefused, IsTooLong, IsTranslated}
-use Rattle.acts_cli.specs.Words.{Asked}
+use Rattle.outside_io.specs.believed.Seen.{FolderSeen, KeepsFiles, KeepsOtherFiles, KeepsReadFaults, KeepsWriteFaults, ReadFaultsRose, WriteFaultsRose}
+use Rattle.acts_cli.specs.believed.Runs.{Ends, IsRefused, IsTooLong, IsTranslated}
+use Rattle.acts_cli.specs.believed.Words.{Asked}
 use Rattle.acts_cli.specs.declared.stop.Stop.{Stop}
 use Rattle.acts_cli.specs.declared.stop.Stop.TheVariants.{OutOfMemory, Refused, CannotRead, CannotWrite, TooLong}
 

@@ -1,16 +1,17 @@
 ghost use Rattle.std.specs.Prelude.{◌≡◌, ◌≢◌, ◌⊎◌, ◌≤◌, ◌<◌, length, ℕ, List, Option, Some, None, Ok, Err, IfSome, IfErr, IsSomeAnd};
-ghost use Rattle.outside_io.specs.Seen.{KeepsFiles, KeepsOtherFiles, KeepsReadFaults, KeepsWriteFaults, ReadFaultsRose, WriteFaultsRose};
-ghost use Rattle.definitions.specs.Diagnostics.{word_line};
-ghost use Rattle.definitions.specs.Limits.{ModelFile, most_bytes};
-ghost use Rattle.command_line.specs.Told.{Tells};
-ghost use Rattle.command_line.specs.Words.{texts};
-ghost use Rattle.acts_front.specs.Codes.{refusal_status};
-ghost use Rattle.acts_cli.specs.Runs.{IsRun, IsTooLong, IsTranslated, asked_seen};
-ghost use Rattle.acts_front.specs.SameModels.{IsFaithful};
+ghost use Rattle.outside_io.specs.believed.Seen.{KeepsFiles, KeepsOtherFiles, KeepsReadFaults, KeepsWriteFaults, ReadFaultsRose, WriteFaultsRose};
+ghost use Rattle.definitions.specs.believed.Diagnostics.{word_line};
+ghost use Rattle.definitions.specs.believed.Limits.{ModelFile, most_bytes};
+ghost use Rattle.command_line.specs.believed.Told.{Tells};
+ghost use Rattle.command_line.specs.believed.Words.{texts};
+ghost use Rattle.acts_front.specs.believed.Codes.{refusal_status};
+ghost use Rattle.acts_cli.specs.believed.Runs.{IsRun, IsTooLong, IsTranslated};
+ghost use Rattle.acts_cli.specs.Runs.{asked_seen};
+ghost use Rattle.acts_front.specs.believed.SameModels.{IsFaithful};
 ghost use Rattle.acts_cli.specs.Steps.{Loads, Ran};
-ghost use Rattle.acts_cli.specs.Stops.{IsStatus};
-ghost use Rattle.acts_front.specs.Translation.{translation};
-ghost use Rattle.acts_cli.specs.Words.{Asked, IsWordFault, asked_by};
+ghost use Rattle.acts_cli.specs.believed.Stops.{IsStatus};
+ghost use Rattle.acts_front.specs.believed.Translation.{translation};
+ghost use Rattle.acts_cli.specs.believed.Words.{Asked, IsWordFault, asked_by};
 ghost use Rattle.acts_front.specs.declared.code.ActsCode.{ActsCode};
 
 use crate::stop::{Stop, status_of, tell};

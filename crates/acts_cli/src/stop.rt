@@ -1,8 +1,8 @@
 ghost use Rattle.std.specs.Prelude.{◌≡◌, Ok};
-ghost use Rattle.outside_io.specs.Puts.{Puts};
-ghost use Rattle.definitions.specs.Diagnostics.{model_line};
-ghost use Rattle.acts_front.specs.Codes.{acts_code, acts_text};
-ghost use Rattle.acts_cli.specs.Stops.{end_status, end_text, line_of, status_of};
+ghost use Rattle.outside_io.specs.believed.Puts.{Puts};
+ghost use Rattle.definitions.specs.believed.Diagnostics.{model_line};
+ghost use Rattle.acts_front.specs.believed.Codes.{acts_code, acts_text};
+ghost use Rattle.acts_cli.specs.believed.Stops.{end_status, end_text, line_of, status_of};
 
 use acts_front::{ActsCode, ActsFault};
 use command_line::{FileKind, put_model_line, put_too_long};

@@ -1,8 +1,8 @@
 ghost use Rattle.std.specs.Prelude.{◌≡◌, ◌+◌, ◌-◌, ◌^◌, ℕ, min, not, position, Ok, Some, None, MatchResult};
 ghost use Rattle.std.specs.List.{list_any};
 ghost use Rattle.std.specs.String.{string_bytes};
-ghost use Rattle.command_line.specs.Words.{texts};
-ghost use Rattle.acts_cli.specs.Words.{IsWordFault, asked_by, is_case_word};
+ghost use Rattle.command_line.specs.believed.Words.{texts};
+ghost use Rattle.acts_cli.specs.believed.Words.{IsWordFault, asked_by, is_case_word};
 ghost use Rattle.acts_cli.specs.Runs.{asked_seen};
 
 use command_line::{WordFault, missing_name};

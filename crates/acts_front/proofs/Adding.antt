@@ -1,9 +1,9 @@
 -- What a translation has behind one more line.
 use Rattle.std.proofs.Common.{◌≡◌, ℕ, [], ◌++◌, Result, Ok, Err, sym, ap, ◌∙◌, append-nil, append_assoc, codes}
-use Rattle.acts_front.specs.ParameterLines.{Scope}
-use Rattle.acts_front.specs.ActsFiles.{Line, and_line, declared_by}
+use Rattle.acts_front.specs.believed.ParameterLines.{Scope}
+use Rattle.acts_front.specs.believed.ActsFiles.{Line, and_line, declared_by}
 use Rattle.acts_front.specs.Reading.{Adds, ended}
-use Rattle.acts_front.specs.Translation.{translated_text}
+use Rattle.acts_front.specs.believed.Translation.{translated_text}
 use Rattle.acts_front.specs.declared.code.ActsCode.{ActsCode}
 use Rattle.acts_front.specs.declared.section.Section.{Section}
 use Rattle.acts_front.specs.declared.translator.Translator.{Translator}

@@ -11,17 +11,17 @@ use Rattle.std.specs.List.{list_all, list_any}
 use Rattle.std.specs.Prelude.{◌==◌, nat_lt}
 use Rattle.cov_model.specs.declared.constraint.Rel.{Rel}
 use Rattle.cov_model.specs.declared.constraint.Rel.TheVariants.{Eq, Ne, Gt, Ge, Lt, Le}
-use Rattle.model_lex.specs.Sections.{is_word_byte}
-use Rattle.model_parse.specs.Pieces.{begins_with}
-use Rattle.model_parse.specs.Written.{joined}
-use Rattle.acts_front.specs.Lines.{is_allowed}
-use Rattle.acts_front.specs.ParameterLines.{Parameter, Scope, are_few_digits, is_name, is_true, is_value, is_whole, without_minus}
-use Rattle.value_text.specs.Numbers.{is_point}
-use Rattle.acts_front.specs.RelationLines as relations
-use Rattle.acts_front.specs.Tokens.{Token, Name, Whole, Words, Truth, Relation, Arrow, Or, And, Not, Open, Close}
-use Rattle.acts_front.specs.ActsFiles.{Line, Nothing, OfParameter, OfRelation, OfConstraint}
-use Rattle.acts_front.specs.Translation.{constraint_text, translated_text, opening, parameter_text, rel_text, relation_text, token_text, truth_text, value_text}
-use Rattle.acts_front.specs.Constraints.{Constraint, is_arrow}
+use Rattle.model_lex.specs.believed.Sections.{is_word_byte}
+use Rattle.model_parse.specs.believed.Pieces.{begins_with}
+use Rattle.model_parse.specs.believed.Written.{joined}
+use Rattle.acts_front.specs.believed.Lines.{is_allowed}
+use Rattle.acts_front.specs.believed.ParameterLines.{Parameter, Scope, are_few_digits, is_name, is_true, is_value, is_whole, without_minus}
+use Rattle.value_text.specs.believed.Numbers.{is_point}
+use Rattle.acts_front.specs.believed.RelationLines as relations
+use Rattle.acts_front.specs.believed.Tokens.{Token, Name, Whole, Words, Truth, Relation, Arrow, Or, And, Not, Open, Close}
+use Rattle.acts_front.specs.believed.ActsFiles.{Line, Nothing, OfParameter, OfRelation, OfConstraint}
+use Rattle.acts_front.specs.believed.Translation.{constraint_text, translated_text, opening, parameter_text, rel_text, relation_text, token_text, truth_text, value_text}
+use Rattle.acts_front.specs.believed.Constraints.{Constraint, is_arrow}
 use Rattle.acts_front.specs.declared.kind.Kind.{Kind}
 use Rattle.acts_front.specs.declared.kind.Kind.TheVariants.{Int, Enum, Boolean}
 use Rattle.acts_front.proofs.Given.{IsParameter, IsRelation}

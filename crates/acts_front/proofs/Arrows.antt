@@ -3,9 +3,9 @@ use Rattle.std.proofs.Common.{◌≡◌, ℕ, ◌+◌, true, false, List, map, t
 use Rattle.std.proofs.lemmas.List.{drop-map, take-map}
 use Rattle.std.specs.List.{after_first, before_first, list_any}
 use Rattle.std.specs.Prelude.{is_some, option_map}
-use Rattle.acts_front.specs.ParameterLines.{Scope}
-use Rattle.acts_front.specs.Tokens.{Token}
-use Rattle.acts_front.specs.Constraints.{Pred, Plain, cons_of, disj_of, implied, is_arrow}
+use Rattle.acts_front.specs.believed.ParameterLines.{Scope}
+use Rattle.acts_front.specs.believed.Tokens.{Token}
+use Rattle.acts_front.specs.believed.Constraints.{Pred, Plain, cons_of, disj_of, implied, is_arrow}
 use Rattle.acts_front.specs.Findings.{finding_in, finding_of, pred_finding, worse}
 use Rattle.acts_front.proofs.Mapped.{is_some-position, position-map, position_is}
 use Rattle.acts_front.proofs.Worst.{worse_broken}

@@ -1,10 +1,10 @@
 -- Why a constraint is refused, by what is found of it.
 use Rattle.std.proofs.Common.{◌≡◌, Bool, true, false, not, ◌&&◌, List, Option, Some, None, Ok, Err, refl, sym, ap, ◌∙◌}
 use Rattle.std.specs.Prelude.{if◌then◌else◌}
-use Rattle.acts_front.specs.ParameterLines.{Scope}
-use Rattle.acts_front.specs.Tokens.{Token}
-use Rattle.acts_front.specs.Constraints.{Constraint, Plain, Implies, Pred, Preds, Compares, Negated, Each, Either, End, More, constraint_code, each_term, every_term, is_known, is_typed, terms_pass}
-use Rattle.acts_front.specs.ActsFiles.{OfConstraint, spelled_line, unless_refused}
+use Rattle.acts_front.specs.believed.ParameterLines.{Scope}
+use Rattle.acts_front.specs.believed.Tokens.{Token}
+use Rattle.acts_front.specs.believed.Constraints.{Constraint, Plain, Implies, Pred, Preds, Compares, Negated, Each, Either, End, More, constraint_code, each_term, every_term, is_known, is_typed, terms_pass}
+use Rattle.acts_front.specs.believed.ActsFiles.{OfConstraint, spelled_line, unless_refused}
 use Rattle.acts_front.specs.Findings.{code_of, finding_of, pred_finding, preds_finding, worse}
 use Rattle.acts_front.specs.declared.code.ActsCode.{ActsCode}
 use Rattle.acts_front.specs.declared.code.ActsCode.TheVariants.{A9, A10, A11}

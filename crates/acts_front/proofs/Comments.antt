@@ -5,7 +5,7 @@ use Rattle.std.proofs.lemmas.Bool.Decides.{nat_tests}
 use Rattle.std.proofs.lemmas.List.{take_more}
 use Rattle.std.specs.List.{starts_with}
 use Rattle.std.specs.Prelude.{nat_eq, ◌==◌, if◌then◌else◌}
-use Rattle.acts_front.specs.Lines.{before_comment}
+use Rattle.acts_front.specs.believed.Lines.{before_comment}
 
 abbrev begins : List ℕ → Bool
 begins text = starts_with nat_eq text (codes "--")

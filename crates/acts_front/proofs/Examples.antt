@@ -1,10 +1,11 @@
 -- What the definitions say of small files, worked out from the definitions alone.
 use Rattle.std.proofs.Common.{◌≡◌, true, false, [], ◌∷◌, codes, None, Some, Ok, Err, refl}
 use Rattle.cov_model.specs.declared.constraint.Rel.TheVariants.{Eq, Ne, Gt}
-use Rattle.acts_front.specs.Constraints.{Compares, Each, Either, End, Implies, More, Negated, OfText, OfTruth, OfWhole, Plain, cons_of, spelled_by}
-use Rattle.acts_front.specs.Lines.{line_text}
-use Rattle.acts_front.specs.Tokens.{Name, Not, Or, Relation, Truth, Whole, Words, tokens_found}
-use Rattle.acts_front.specs.Translation.{translation}
+use Rattle.acts_front.specs.believed.Constraints.{Compares, Each, Either, End, Implies, More, Negated, OfText, OfTruth, OfWhole, Plain, cons_of}
+use Rattle.acts_front.specs.Constraints.{spelled_by}
+use Rattle.acts_front.specs.believed.Lines.{line_text}
+use Rattle.acts_front.specs.believed.Tokens.{Name, Not, Or, Relation, Truth, Whole, Words, tokens_found}
+use Rattle.acts_front.specs.believed.Translation.{translation}
 use Rattle.acts_front.specs.declared.code.ActsCode.TheVariants.{A1, A2, A3, A4, A5, A6, A7, A8, A9, A10, A11}
 
 -- ---- whole files

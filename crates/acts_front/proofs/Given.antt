@@ -2,11 +2,11 @@
 use Rattle.std.proofs.Common.{◌≡◌, ℕ, ◌<◌, Bool, true, false, if◌then◌else◌, List, [], length, drop, Option, Some, None, Result, Ok, Err, is_none, refl, subst}
 use Rattle.std.proofs.lemmas.Bool.{and_parts, or_parts, not-false, not-true, ltb-true}
 use Rattle.std.specs.List.{list_all}
-use Rattle.value_text.specs.Numbers.{count_of}
+use Rattle.value_text.specs.believed.Numbers.{count_of}
 use Rattle.model_parse.proofs.SoundNames.{some_pieces}
-use Rattle.acts_front.specs.ParameterLines.{Parameter, Scope, are_few_digits, behind_kind, declared_in, folds, is_declared}
-use Rattle.acts_front.specs.ParameterLines.{is_name, has_repeated, is_value, kind_in, parameter_in, parameter_with, read_parameter}
-use Rattle.acts_front.specs.RelationLines.{Relation, parts_in, read_relation, related_in, relation_in, relation_in_parts}
+use Rattle.acts_front.specs.believed.ParameterLines.{Parameter, Scope, are_few_digits, behind_kind, declared_in, folds, is_declared}
+use Rattle.acts_front.specs.believed.ParameterLines.{is_name, has_repeated, is_value, kind_in, parameter_in, parameter_with, read_parameter}
+use Rattle.acts_front.specs.believed.RelationLines.{Relation, parts_in, read_relation, related_in, relation_in, relation_in_parts}
 use Rattle.acts_front.specs.declared.kind.Kind.{Kind}
 
 -- what an answer holds

@@ -4,20 +4,20 @@ use Rattle.std.proofs.lemmas.Option.{same_Some}
 use Rattle.std.proofs.lemmas.Bool.{and_from, and_parts, cond_both, eqb-true, false≢true}
 use Rattle.std.specs.List.{list_all, prefix_len}
 use Rattle.std.specs.Prelude.{◌==◌, is_some, nat_lt, unwrap_or}
-use Rattle.model_lex.specs.Blanks.{trimmed, without_first_blanks}
-use Rattle.value_text.specs.Texts.{is_blank}
-use Rattle.model_lex.specs.Sections.{is_rule}
+use Rattle.model_lex.specs.believed.Blanks.{trimmed, without_first_blanks}
+use Rattle.value_text.specs.believed.Texts.{is_blank}
+use Rattle.model_lex.specs.believed.Sections.{is_rule}
 use Rattle.model_lex.specs.declared.line_kind.LineKind.{LineKind}
 use Rattle.model_lex.specs.declared.line_kind.LineKind.TheVariants.{Param, Group, Rule}
-use Rattle.acts_front.specs.Lines.{before_comment, begun, behind, headed, is_allowed, is_heading, line_text, place_of}
-use Rattle.acts_front.specs.ParameterLines.{Parameter, Scope, read_parameter}
-use Rattle.acts_front.specs.RelationLines as relations
-use Rattle.acts_front.specs.RelationLines.{read_relation}
-use Rattle.acts_front.specs.Tokens.{Token, tokens_found}
-use Rattle.acts_front.specs.Constraints.{Constraint, cons_of, constraint_code}
-use Rattle.constraint_ast.specs.Grammar.{most_open}
-use Rattle.acts_front.specs.ActsFiles.{Line, Nothing, OfParameter, OfRelation, OfConstraint, and_line, constraint_line, line_and, line_before, line_gives}
-use Rattle.acts_front.specs.ActsFiles.{line_in, lines_give, parameter_line, relation_line, section_behind, spelled_line, text_gives, unless_refused}
+use Rattle.acts_front.specs.believed.Lines.{before_comment, begun, behind, headed, is_allowed, is_heading, line_text, place_of}
+use Rattle.acts_front.specs.believed.ParameterLines.{Parameter, Scope, read_parameter}
+use Rattle.acts_front.specs.believed.RelationLines as relations
+use Rattle.acts_front.specs.believed.RelationLines.{read_relation}
+use Rattle.acts_front.specs.believed.Tokens.{Token, tokens_found}
+use Rattle.acts_front.specs.believed.Constraints.{Constraint, cons_of, constraint_code}
+use Rattle.constraint_ast.specs.believed.Grammar.{most_open}
+use Rattle.acts_front.specs.believed.ActsFiles.{Line, Nothing, OfParameter, OfRelation, OfConstraint, and_line, constraint_line, line_and, line_before, line_gives}
+use Rattle.acts_front.specs.believed.ActsFiles.{line_in, lines_give, parameter_line, relation_line, section_behind, spelled_line, text_gives, unless_refused}
 use Rattle.acts_front.specs.declared.code.ActsCode.{ActsCode}
 use Rattle.acts_front.specs.declared.code.ActsCode.TheVariants.{A1, A2}
 use Rattle.acts_front.specs.declared.section.Section.{Section}

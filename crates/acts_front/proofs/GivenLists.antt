@@ -4,10 +4,10 @@ use Rattle.std.proofs.lemmas.Bool.{false≢true}
 use Rattle.std.proofs.lemmas.List.Elements.{All-cons, All-nil}
 use Rattle.model_lex.specs.declared.line_kind.LineKind.{LineKind}
 use Rattle.model_lex.specs.declared.line_kind.LineKind.TheVariants.{Param, Group, Rule}
-use Rattle.acts_front.specs.ParameterLines.{Declared, Parameter, Scope}
-use Rattle.acts_front.specs.Tokens.{Token}
-use Rattle.acts_front.specs.Constraints.{Constraint}
-use Rattle.acts_front.specs.ActsFiles.{Line, Nothing, OfParameter, OfRelation, OfConstraint, constraints_from, declared_by, parameters_from, relations_from}
+use Rattle.acts_front.specs.believed.ParameterLines.{Declared, Parameter, Scope}
+use Rattle.acts_front.specs.believed.Tokens.{Token}
+use Rattle.acts_front.specs.believed.Constraints.{Constraint}
+use Rattle.acts_front.specs.believed.ActsFiles.{Line, Nothing, OfParameter, OfRelation, OfConstraint, constraints_from, declared_by, parameters_from, relations_from}
 use Rattle.acts_front.proofs.Given.{IsParameter, IsRelation}
 use Rattle.acts_front.proofs.GivenLines.{AreGiven, AreOrdered, IsConstraint}
 

@@ -7,13 +7,13 @@ use Rattle.std.proofs.lemmas.List.Sums.{take_while-cons}
 use Rattle.std.specs.Char.{is_ascii_digit}
 use Rattle.std.specs.List.{list_all, list_any, position, position_or_len, take_while}
 use Rattle.std.specs.Prelude.{◌==◌, nat_lt, slice_index}
-use Rattle.value_text.specs.Texts.{is_blank}
-use Rattle.model_lex.specs.Sections.{first_word, is_word_byte}
-use Rattle.model_parse.specs.Pieces.{is_byte}
-use Rattle.acts_front.specs.Lines.{is_allowed}
-use Rattle.acts_front.specs.ParameterLines.{is_false, is_name, is_true, is_whole}
-use Rattle.acts_front.specs.Tokens.{Token, Name, Whole, Words, Truth, Relation, Arrow, Or, And, Not, Open, Close, Found, first_found, mark_token}
-use Rattle.acts_front.specs.Tokens.{one_of_two, before_tokens, tokens_behind, whole_run, whole_token, token_of_word, words_before, words_token}
+use Rattle.value_text.specs.believed.Texts.{is_blank}
+use Rattle.model_lex.specs.believed.Sections.{first_word, is_word_byte}
+use Rattle.model_parse.specs.believed.Pieces.{is_byte}
+use Rattle.acts_front.specs.believed.Lines.{is_allowed}
+use Rattle.acts_front.specs.believed.ParameterLines.{is_false, is_name, is_true, is_whole}
+use Rattle.acts_front.specs.believed.Tokens.{Token, Name, Whole, Words, Truth, Relation, Arrow, Or, And, Not, Open, Close, Found, first_found, mark_token}
+use Rattle.acts_front.specs.believed.Tokens.{one_of_two, before_tokens, tokens_behind, whole_run, whole_token, token_of_word, words_before, words_token}
 use Rattle.acts_front.proofs.Mapped.{position_is}
 
 -- a text in double quotes has neither these nor a backslash

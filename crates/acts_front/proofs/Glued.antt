@@ -3,8 +3,8 @@ use Rattle.std.proofs.Common.{◌≡◌, ℕ, ◌<◌, Bool, true, ◌&&◌, Lis
 use Rattle.std.proofs.lemmas.Option.{same_Some}
 use Rattle.std.proofs.lemmas.Bool.{and_parts, cond_both}
 use Rattle.std.specs.Prelude.{◌==◌, option_map}
-use Rattle.acts_front.specs.Tokens.{Token, Name, Whole, Words, Truth, Relation, Arrow, Or, And, Not, Open, Close}
-use Rattle.acts_front.specs.Constraints.{Pred, Preds, More, is_and, is_or, more_preds, open_behind, parts, parts_behind, preds_of, put_first}
+use Rattle.acts_front.specs.believed.Tokens.{Token, Name, Whole, Words, Truth, Relation, Arrow, Or, And, Not, Open, Close}
+use Rattle.acts_front.specs.believed.Constraints.{Pred, Preds, More, is_and, is_or, more_preds, open_behind, parts, parts_behind, preds_of, put_first}
 
 -- parts with a mark between two
 abbrev pub glue : Token → List (List Token) → List Token

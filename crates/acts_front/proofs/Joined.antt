@@ -5,7 +5,7 @@ use Rattle.std.proofs.lemmas.Grind.{flat_map-append}
 use Rattle.std.proofs.lemmas.List.{take_more, take_rest}
 use Rattle.std.proofs.lemmas.List.Folds.{flat_map-map}
 use Rattle.std.specs.List.{flat_map}
-use Rattle.model_parse.specs.Written.{joined}
+use Rattle.model_parse.specs.believed.Written.{joined}
 
 module _ {A : Type 0} (text : A → List ℕ) (between before : List ℕ) where
   -- one more text behind others

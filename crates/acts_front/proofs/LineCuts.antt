@@ -6,12 +6,12 @@ use Rattle.std.proofs.lemmas.Bool.{and_parts, cond-false, cond-true, lt-ltb}
 use Rattle.std.proofs.lemmas.Bool.Decides.{nat_tests}
 use Rattle.std.specs.List.{enumerate_from, list_all, position, position_or_len}
 use Rattle.std.specs.Prelude.{◌==◌, nat_lt, slice_index}
-use Rattle.model_lex.specs.Lines.{file_lines, is_line_feed, numbered_lines, without_mark, without_return}
+use Rattle.model_lex.specs.believed.Lines.{file_lines, is_line_feed, numbered_lines, without_mark, without_return}
 use Rattle.model_lex.proofs.Cutting.{first_line}
-use Rattle.acts_front.specs.Lines.{is_allowed}
-use Rattle.acts_front.specs.ParameterLines.{Scope}
-use Rattle.acts_front.specs.ActsFiles.{Line, and_line}
-use Rattle.acts_front.specs.Translation.{translated_text, lines_text}
+use Rattle.acts_front.specs.believed.Lines.{is_allowed}
+use Rattle.acts_front.specs.believed.ParameterLines.{Scope}
+use Rattle.acts_front.specs.believed.ActsFiles.{Line, and_line}
+use Rattle.acts_front.specs.believed.Translation.{translated_text, lines_text}
 use Rattle.acts_front.proofs.AllowedTexts.{Allowed, line_allowed}
 use Rattle.acts_front.proofs.GivenLines.{AreGiven}
 

@@ -5,10 +5,10 @@ use Rattle.std.proofs.lemmas.List.{length-map, map-append}
 use Rattle.std.proofs.lemmas.List.Folds.{list_all-map}
 use Rattle.std.specs.List.{list_all}
 use Rattle.std.specs.Prelude.{if◌then◌else◌, is_none, is_some, nat_lt}
-use Rattle.value_text.specs.Numbers.{count_of}
-use Rattle.model_parse.specs.Pieces.{begins_with}
-use Rattle.acts_front.specs.ParameterLines.{Scope, are_few_digits, behind_kind, is_name, is_value, kind_in, name_in, parameter_in, values_in}
-use Rattle.acts_front.specs.RelationLines.{Relation, are_members, member_names, related_in, relation_in_parts, strength_of}
+use Rattle.value_text.specs.believed.Numbers.{count_of}
+use Rattle.model_parse.specs.believed.Pieces.{begins_with}
+use Rattle.acts_front.specs.believed.ParameterLines.{Scope, are_few_digits, behind_kind, is_name, is_value, kind_in, name_in, parameter_in, values_in}
+use Rattle.acts_front.specs.believed.RelationLines.{Relation, are_members, member_names, related_in, relation_in_parts, strength_of}
 use Rattle.acts_front.specs.declared.code.ActsCode.TheVariants.{A6, A7}
 use Rattle.acts_front.specs.declared.kind.Kind.{Kind}
 

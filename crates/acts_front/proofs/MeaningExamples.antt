@@ -1,9 +1,9 @@
 -- What constraints of a file mean on small rows, worked out from the definitions alone.
 use Rattle.std.proofs.Common.{◌≡◌, true, false, [], ◌∷◌, codes, List, Option, Some, ℕ, refl}
 use Rattle.cov_model.specs.declared.constraint.Rel.TheVariants.{Eq, Ne, Gt, Lt}
-use Rattle.acts_front.specs.Constraints.{Compares, Each, Either, End, Implies, More, Negated, OfParameter, OfText, OfTruth, OfWhole, Plain}
-use Rattle.acts_front.specs.Meaning.{constraint_holds}
-use Rattle.acts_front.specs.ParameterLines.{Parameter}
+use Rattle.acts_front.specs.believed.Constraints.{Compares, Each, Either, End, Implies, More, Negated, OfParameter, OfText, OfTruth, OfWhole, Plain}
+use Rattle.acts_front.specs.believed.Meaning.{constraint_holds}
+use Rattle.acts_front.specs.believed.ParameterLines.{Parameter}
 use Rattle.acts_front.specs.declared.kind.Kind.TheVariants.{Int, Enum, Boolean}
 
 -- A (int): -1, 007    B (enum): x, Y    C (boolean): True, false

@@ -6,11 +6,11 @@ use Rattle.std.proofs.lemmas.Bool.{and_from, and_parts}
 use Rattle.std.proofs.lemmas.List.Elements.{All-cons, All-drop, All-head, All-tail, All-take}
 use Rattle.std.specs.List.{after_first, before_first, list_any, position_or_len}
 use Rattle.std.specs.Prelude.{option_map, slice_index_or}
-use Rattle.acts_front.specs.Tokens.{Token, Name, Whole, Words, Truth, Relation, Arrow, Or, And, Not, Open, Close}
-use Rattle.acts_front.specs.Constraints.{Operand, OfWhole, OfText, OfTruth, OfParameter, Pred, Preds, Negated, End, More, Constraint, Plain, Implies}
-use Rattle.acts_front.specs.Constraints.{comparison_of, conj_in, cons_of, disj_in, disj_of, each_of, each_term, either_of, enclosed_of, every_term}
-use Rattle.acts_front.specs.Constraints.{implied, is_and, is_arrow, is_close, is_or, operand_in, parts, preds_of, terms_pass, unit_of}
-use Rattle.constraint_ast.specs.Grammar.{most_open}
+use Rattle.acts_front.specs.believed.Tokens.{Token, Name, Whole, Words, Truth, Relation, Arrow, Or, And, Not, Open, Close}
+use Rattle.acts_front.specs.believed.Constraints.{Operand, OfWhole, OfText, OfTruth, OfParameter, Pred, Preds, Negated, End, More, Constraint, Plain, Implies}
+use Rattle.acts_front.specs.believed.Constraints.{comparison_of, conj_in, cons_of, disj_in, disj_of, each_of, each_term, either_of, enclosed_of, every_term}
+use Rattle.acts_front.specs.believed.Constraints.{implied, is_and, is_arrow, is_close, is_or, operand_in, parts, preds_of, terms_pass, unit_of}
+use Rattle.constraint_ast.specs.believed.Grammar.{most_open}
 use Rattle.acts_front.proofs.GivenTokens.{IsWritten}
 use Rattle.acts_front.proofs.Glued.{and_glued, glue, mapped_some, or_glued, spells_first}
 use Rattle.acts_front.proofs.TermsMean.{is_all_written, is_number_written}

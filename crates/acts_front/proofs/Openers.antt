@@ -5,14 +5,15 @@ use Rattle.std.proofs.lemmas.Bool.{cond_both, or_parts}
 use Rattle.std.proofs.lemmas.List.{take-append-drop}
 use Rattle.std.specs.List.{after_first, before_first, list_any, position_or_len}
 use Rattle.std.specs.Prelude.{option_map}
-use Rattle.model_lex.specs.Sections.{goes_on, is_comment, is_ignored, opens_rule}
-use Rattle.model_lex.specs.Blanks.{is_all_blank}
-use Rattle.model_parse.specs.Written.{joined}
-use Rattle.acts_front.specs.Tokens.{Token, Name, Whole, Words, Truth, Relation, Arrow, Or, And, Not, Open, Close}
-use Rattle.acts_front.specs.Constraints.{Constraint, Pred, Preds, Negated, Plain, comparison_of, each_of, either_of, conj_of}
-use Rattle.acts_front.specs.Constraints.{cons_of, disj_of, implied, is_and, is_arrow, is_or, parts, preds_of, unit_of}
-use Rattle.constraint_ast.specs.Grammar.{most_open}
-use Rattle.acts_front.specs.Translation.{constraint_text, token_text}
+use Rattle.model_lex.specs.believed.Sections.{goes_on, is_comment, is_ignored, opens_rule}
+use Rattle.model_lex.specs.believed.Blanks.{is_all_blank}
+use Rattle.model_parse.specs.believed.Written.{joined}
+use Rattle.acts_front.specs.believed.Tokens.{Token, Name, Whole, Words, Truth, Relation, Arrow, Or, And, Not, Open, Close}
+use Rattle.acts_front.specs.believed.Constraints.{Constraint, Pred, Preds, Negated, Plain, comparison_of, each_of, either_of}
+use Rattle.acts_front.specs.Constraints.{conj_of}
+use Rattle.acts_front.specs.believed.Constraints.{cons_of, disj_of, implied, is_and, is_arrow, is_or, parts, preds_of, unit_of}
+use Rattle.constraint_ast.specs.believed.Grammar.{most_open}
+use Rattle.acts_front.specs.believed.Translation.{constraint_text, token_text}
 use Rattle.acts_front.proofs.Glued.{and_glued, and_some, glue, mapped_some, or_glued, or_some, spells_first}
 
 -- what a constraint begins with: NOTs, then a parenthesis or a name

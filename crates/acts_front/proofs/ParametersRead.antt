@@ -13,18 +13,18 @@ use Rattle.std.specs.Char.{is_ascii_digit}
 use Rattle.std.specs.List.{before_first, list_all, list_any}
 use Rattle.std.specs.Prelude.{◌==◌, nat_lt, slice_index}
 use Rattle.std.specs.Str.{bytes_eq, chars, str_to_ascii_lowercase}
-use Rattle.value_text.specs.Numbers as numbers
-use Rattle.value_text.specs.Numbers.{decimal_digits, has_point, is_decimal, is_digits, is_number, number_of, whole_digits, without_sign, is_point}
+use Rattle.value_text.specs.believed.Numbers as numbers
+use Rattle.value_text.specs.believed.Numbers.{decimal_digits, has_point, is_decimal, is_digits, is_number, number_of, whole_digits, without_sign, is_point}
 use Rattle.value_text.specs.declared.fixed.FixedAnswer.TheVariants.{NotNumber}
-use Rattle.value_text.specs.Texts.{folded, is_same_text, is_blank}
+use Rattle.value_text.specs.believed.Texts.{folded, is_same_text, is_blank}
 use Rattle.value_text.proofs.ListLemmas.{list_any-map}
-use Rattle.cov_model.specs.Names as names
-use Rattle.cov_model.specs.Names.{is_plain}
-use Rattle.cov_model.specs.Sound.{is_numeric}
+use Rattle.cov_model.specs.believed.Names as names
+use Rattle.cov_model.specs.believed.Names.{is_plain}
+use Rattle.cov_model.specs.believed.Sound.{is_numeric}
 use Rattle.cov_model.specs.declared.parameter.Param.{Param}
 use Rattle.cov_model.specs.declared.parameter.Value.{Value}
-use Rattle.model_lex.specs.Blanks.{trimmed}
-use Rattle.model_lex.specs.Sections.{is_word_byte}
+use Rattle.model_lex.specs.believed.Blanks.{trimmed}
+use Rattle.model_lex.specs.believed.Sections.{is_word_byte}
 use Rattle.model_lex.specs.declared.fault.LimitName.{LimitName}
 use Rattle.model_lex.specs.declared.fault.LimitName.TheVariants.{Params, Values}
 use Rattle.model_lex.specs.declared.fault.ModelFault.{ModelFault}
@@ -32,22 +32,23 @@ use Rattle.model_lex.specs.declared.fault.ModelFault.TheVariants.{Limit}
 use Rattle.model_lex.specs.declared.options.Marks.{Marks}
 use Rattle.model_lex.specs.declared.options.ModelOpts.{ModelOpts}
 use Rattle.model_lex.specs.declared.options.OrderWord.{OrderWord}
-use Rattle.model_parse.specs.ParamLines.{line_name}
+use Rattle.model_parse.specs.believed.ParamLines.{line_name}
 use Rattle.model_parse.specs.ParamSteps.{add_param, no_params, param_code, line_list, read_param, read_params, read_values}
-use Rattle.model_parse.specs.Pieces.{begins_with, ends_with_byte, is_byte, is_unfit, pieces}
+use Rattle.model_parse.specs.believed.Pieces.{begins_with, ends_with_byte, is_byte, is_unfit, pieces}
 use Rattle.model_parse.specs.RawModels.{AreMarks}
 use Rattle.model_parse.specs.Steps.{and_each, and_then}
 use Rattle.model_parse.specs.ValueSteps.{Kept, add_kept, add_piece, add_value, is_known, keep_name}
-use Rattle.model_parse.specs.Written.{joined, written_value, written_names, written_weight}
+use Rattle.model_parse.specs.believed.Written.{joined}
+use Rattle.model_parse.specs.Written.{written_value, written_names, written_weight}
 use Rattle.model_parse.specs.declared.reading.ParamsRead.{ParamsRead}
 use Rattle.model_parse.specs.declared.reading.Reading.{Reading}
 use Rattle.model_parse.proofs.Answering.{read_goes}
 use Rattle.model_parse.proofs.Joining.{AreBlanks, IsWhole, Lacks, after_first_back, before_first_back, joined_back}
 use Rattle.model_parse.proofs.WrittenPieces.{ReadsBack, value_back, values_back}
 use Rattle.model_parse.proofs.WrittenValues.{named_fit, none_stands}
-use Rattle.acts_front.specs.ParameterLines.{Parameter, folds, is_declared, is_false, is_name, has_repeated, is_symbol, is_true, is_value, is_whole}
-use Rattle.acts_front.specs.SameModels.{is_int, param_is, read_as, value_is}
-use Rattle.acts_front.specs.Translation.{parameter_text, truth_text, value_text}
+use Rattle.acts_front.specs.believed.ParameterLines.{Parameter, folds, is_declared, is_false, is_name, has_repeated, is_symbol, is_true, is_value, is_whole}
+use Rattle.acts_front.specs.believed.SameModels.{is_int, param_is, read_as, value_is}
+use Rattle.acts_front.specs.believed.Translation.{parameter_text, truth_text, value_text}
 use Rattle.acts_front.specs.declared.kind.Kind.{Kind}
 use Rattle.acts_front.specs.declared.kind.Kind.TheVariants.{Int, Enum, Boolean}
 use Rattle.acts_front.proofs.AllowedTexts.{all_weaker, each_passes}

@@ -3,8 +3,8 @@ use Rattle.std.proofs.Common.{◌≡◌, ℕ, ◌+◌, ◌<◌, ◌≤◌, Bool,
 use Rattle.std.proofs.Common.{drop, get_or, refl, sym, ap, ◌∙◌, append_assoc, append-nil, drop-cons, add-one, arith}
 use Rattle.std.proofs.lemmas.List.{map-append, take_more, take_all, drop_all}
 use Rattle.std.specs.Prelude.{◌==◌}
-use Rattle.acts_front.specs.Tokens.{Token}
-use Rattle.acts_front.specs.Constraints.{open_behind, parts_behind, put_first}
+use Rattle.acts_front.specs.believed.Tokens.{Token}
+use Rattle.acts_front.specs.believed.Constraints.{open_behind, parts_behind, put_first}
 
 -- tokens before the first part
 abbrev pub front_of : List Token → List (List Token) → List (List Token)

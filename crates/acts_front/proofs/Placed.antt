@@ -7,13 +7,13 @@ use Rattle.std.proofs.lemmas.Slice.Eq.{bytes_eq-Decides}
 use Rattle.std.specs.List.{position_or_len}
 use Rattle.std.specs.Prelude.{find, nat_lt, option_map, position, unwrap_or}
 use Rattle.std.specs.Str.{bytes_eq}
-use Rattle.value_text.specs.Texts.{folded, is_same_text}
+use Rattle.value_text.specs.believed.Texts.{folded, is_same_text}
 use Rattle.value_text.proofs.ListLemmas.{list_any-map, list_any-position}
 use Rattle.model_parse.specs.ValueSteps.{place_of}
-use Rattle.type_check.specs.Checking.{param_named}
-use Rattle.acts_front.specs.Meaning.{no_parameter, number_named}
-use Rattle.acts_front.specs.ParameterLines.{Parameter, has_name, is_declared, kind_named}
-use Rattle.acts_front.specs.SameModels.{param_is}
+use Rattle.type_check.specs.believed.Checking.{param_named}
+use Rattle.acts_front.specs.believed.Meaning.{no_parameter, number_named}
+use Rattle.acts_front.specs.believed.ParameterLines.{Parameter, has_name, is_declared, kind_named}
+use Rattle.acts_front.specs.believed.SameModels.{param_is}
 use Rattle.acts_front.specs.declared.kind.Kind.{Kind}
 use Rattle.acts_front.proofs.GivenLists.{declared_as, scope_of}
 use Rattle.acts_front.proofs.Mapped.{position-map}

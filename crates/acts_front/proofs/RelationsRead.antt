@@ -11,25 +11,25 @@ use Rattle.std.specs.Char.{is_ascii_digit}
 use Rattle.std.specs.List.{list_all, list_any, prefix_len}
 use Rattle.std.specs.Prelude.{◌==◌}
 use Rattle.std.specs.Str.Parse.{digits_value}
-use Rattle.value_text.specs.Numbers.{count_of}
-use Rattle.value_text.specs.Texts.{folded, is_same_text, is_blank}
+use Rattle.value_text.specs.believed.Numbers.{count_of}
+use Rattle.value_text.specs.believed.Texts.{folded, is_same_text, is_blank}
 use Rattle.cov_model.specs.declared.demand.Demand.{Demand}
 use Rattle.cov_model.specs.declared.demand.Group.{Group}
-use Rattle.model_lex.specs.Blanks.{trimmed, without_first_blanks}
+use Rattle.model_lex.specs.believed.Blanks.{trimmed, without_first_blanks}
 use Rattle.model_lex.specs.declared.options.OrderWord.{OrderWord}
-use Rattle.model_parse.specs.GroupLines.{behind_braces, braced, has_braces, inside_braces, is_relation, strength_text}
+use Rattle.model_parse.specs.believed.GroupLines.{behind_braces, braced, has_braces, inside_braces, is_relation, strength_text}
 use Rattle.model_parse.specs.GroupSteps.{behind_strength, add_group, add_member, group_code, group_list, group_order, member_or, order_text, read_group}
-use Rattle.model_parse.specs.Pieces.{is_byte, pieces}
+use Rattle.model_parse.specs.believed.Pieces.{is_byte, pieces}
 use Rattle.model_parse.specs.Steps.{and_each, and_then, refused_or}
-use Rattle.model_parse.specs.Written.{joined}
+use Rattle.model_parse.specs.believed.Written.{joined}
 use Rattle.model_parse.proofs.Joining.{AreBlanks, IsWhole, Lacks, after_last_back, before_last_back, joined_back, stands_back}
 use Rattle.model_parse.proofs.WrittenValues.{none_stands, digit_ink}
 use Rattle.constraint_ast.proofs.Digits.{Stops, run_prefix}
-use Rattle.acts_front.specs.Meaning.{number_named}
-use Rattle.acts_front.specs.ParameterLines.{Parameter, is_declared, is_name, has_repeated}
-use Rattle.acts_front.specs.RelationLines.{Relation}
-use Rattle.acts_front.specs.SameModels.{group_is, read_as}
-use Rattle.acts_front.specs.Translation.{relation_text}
+use Rattle.acts_front.specs.believed.Meaning.{number_named}
+use Rattle.acts_front.specs.believed.ParameterLines.{Parameter, is_declared, is_name, has_repeated}
+use Rattle.acts_front.specs.believed.RelationLines.{Relation}
+use Rattle.acts_front.specs.believed.SameModels.{group_is, read_as}
+use Rattle.acts_front.specs.believed.Translation.{relation_text}
 use Rattle.acts_front.proofs.AllowedTexts.{each_passes}
 use Rattle.acts_front.proofs.Given.{IsRelation, taken}
 use Rattle.acts_front.proofs.GivenLists.{declared_as, scope_of}

@@ -4,10 +4,10 @@ use Rattle.std.proofs.Common.{map, take, drop, get_or, refl, sym, ap, ◌∙◌,
 use Rattle.std.proofs.lemmas.List.{map-append, take_more}
 use Rattle.std.specs.List.{list_any}
 use Rattle.std.specs.Str.{bytes_eq}
-use Rattle.value_text.specs.Texts.{folded, is_same_text}
+use Rattle.value_text.specs.believed.Texts.{folded, is_same_text}
 use Rattle.value_text.proofs.ListLemmas.{list_any-map}
 use Rattle.model_parse.specs.ValueSteps.{is_known}
-use Rattle.acts_front.specs.ParameterLines.{has_repeated}
+use Rattle.acts_front.specs.believed.ParameterLines.{has_repeated}
 
 module _ {T : Type 0} (text : T → List ℕ) (fold : Bool) (texts : List T) where
   -- none is repeated before a place, and names are those before it as the case rule compares them

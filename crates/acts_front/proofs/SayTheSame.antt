@@ -8,12 +8,12 @@ use Rattle.std.proofs.lemmas.List.{length-map}
 use Rattle.std.proofs.lemmas.List.Elements.{All-cons, All-head, All-nil, All-tail}
 use Rattle.std.specs.List.{list_all, list_any}
 use Rattle.std.specs.Prelude.{nat_lt}
-use Rattle.cov_model.specs.Sound.{ModelView}
-use Rattle.cov_model.specs.Views.{RuleView}
+use Rattle.cov_model.specs.believed.Sound.{ModelView}
+use Rattle.cov_model.specs.believed.Views.{RuleView}
 use Rattle.cov_model.specs.declared.demand.Demand.{Demand}
-use Rattle.model_lex.specs.Codes.{most_of}
-use Rattle.model_lex.specs.Lines.{numbered_lines}
-use Rattle.model_lex.specs.Sections.{Split, sections_behind, sections_of}
+use Rattle.model_lex.specs.believed.Codes.{most_of}
+use Rattle.model_lex.specs.believed.Lines.{numbered_lines}
+use Rattle.model_lex.specs.believed.Sections.{Split, sections_behind, sections_of}
 use Rattle.model_lex.specs.declared.diag.DiagCode.TheVariants.{OrderTooLarge}
 use Rattle.model_lex.specs.declared.fault.LimitName.{LimitName}
 use Rattle.model_lex.specs.declared.fault.LimitName.TheVariants.{Rules}
@@ -23,26 +23,27 @@ use Rattle.model_lex.specs.declared.line_kind.LineKind.TheVariants.{Param as Par
 use Rattle.model_lex.specs.declared.options.ModelOpts.{ModelOpts}
 use Rattle.model_lex.specs.declared.options.OrderWord.{OrderWord}
 use Rattle.model_parse.specs.GroupSteps.{read_groups}
-use Rattle.model_parse.specs.RawModels.{order_in, raw_model_of}
+use Rattle.model_parse.specs.believed.RawModels.{order_in, raw_model_of}
 use Rattle.model_parse.specs.ModelSteps.{with_demand}
 use Rattle.model_parse.specs.Steps.{and_then}
 use Rattle.model_parse.specs.declared.raw_model.RawModel.{RawModel}
 use Rattle.model_parse.specs.declared.reading.ParamsRead.{ParamsRead}
 use Rattle.model_parse.proofs.RuledGroups.{raw_ruled}
 use Rattle.constraint_ast.proofs.OneReading.{lines_have_one_reading}
-use Rattle.constraint_ast.specs.Grammar.{next_rule, no_rule}
-use Rattle.constraint_ast.specs.Lexing.{Spell, both_tokens, tokens_of}
-use Rattle.constraint_ast.specs.Trees.{RuleTree}
+use Rattle.constraint_ast.specs.believed.Grammar.{next_rule, no_rule}
+use Rattle.constraint_ast.specs.believed.Lexing.{Spell, both_tokens, tokens_of}
+use Rattle.constraint_ast.specs.believed.Trees.{RuleTree}
 use Rattle.type_check.proofs.Refusals.{behind_none}
-use Rattle.type_check.specs.Checking.{body_terms, first_refusal, rules_terms}
-use Rattle.type_check.specs.Constraints.{fault_of, rules_fault, rules_from}
-use Rattle.type_check.specs.ModelOf.{Answer, IsAnswerIn, IsAnswerOf, by_grammar, by_model, by_params, by_rules, by_sections, in_sections, model_of}
-use Rattle.acts_front.specs.ActsFiles.{Line, Nothing, OfParameter, OfRelation, OfConstraint, acts, declared_by, is_parameter, lines_give, parameters_from, relations_from, with_parameters}
-use Rattle.acts_front.specs.Constraints.{Constraint, constraint_code, is_known, is_typed, terms_pass}
-use Rattle.acts_front.specs.ParameterLines.{Declared, Parameter, Scope, is_value}
-use Rattle.acts_front.specs.SameModels.{AreSame, IsFaithful, Says, SaysTheSame, TranslationsSayTheSame, param_is, read_as}
-use Rattle.acts_front.specs.Tokens.{Token}
-use Rattle.acts_front.specs.Translation.{constraint_text, lines_text, text_given, translation}
+use Rattle.type_check.specs.believed.Checking.{body_terms, first_refusal, rules_terms}
+use Rattle.type_check.specs.believed.Constraints.{fault_of, rules_fault, rules_from}
+use Rattle.type_check.specs.believed.ModelOf.{Answer, IsAnswerIn, IsAnswerOf, by_grammar, by_model, by_params, by_rules, by_sections, in_sections, model_of}
+use Rattle.acts_front.specs.believed.ActsFiles.{Line, Nothing, OfParameter, OfRelation, OfConstraint, acts, declared_by, is_parameter, lines_give, parameters_from, relations_from, with_parameters}
+use Rattle.acts_front.specs.believed.Constraints.{Constraint, constraint_code, is_known, is_typed, terms_pass}
+use Rattle.acts_front.specs.believed.ParameterLines.{Declared, Parameter, Scope, is_value}
+use Rattle.acts_front.specs.believed.SameModels.{AreSame, IsFaithful, Says, SaysTheSame, param_is, read_as}
+use Rattle.acts_front.specs.SameModels.{TranslationsSayTheSame}
+use Rattle.acts_front.specs.believed.Tokens.{Token}
+use Rattle.acts_front.specs.believed.Translation.{constraint_text, lines_text, text_given, translation}
 use Rattle.acts_front.specs.declared.code.ActsCode.{ActsCode}
 use Rattle.acts_front.specs.declared.code.ActsCode.TheVariants.{A8, A10, A11}
 use Rattle.acts_front.specs.declared.section.Section.TheVariants.{Outside}

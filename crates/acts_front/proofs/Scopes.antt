@@ -6,10 +6,10 @@ use Rattle.std.proofs.lemmas.Option.{slice_get-get_or, slice_get_past}
 use Rattle.std.specs.List.{find, list_any, position_or_len}
 use Rattle.std.specs.Prelude.{option_map}
 use Rattle.std.specs.Str.{bytes_eq}
-use Rattle.value_text.specs.Texts.{folded}
+use Rattle.value_text.specs.believed.Texts.{folded}
 use Rattle.value_text.proofs.ListLemmas.{list_any-map}
 use Rattle.model_parse.specs.ValueSteps.{is_known, place_of}
-use Rattle.acts_front.specs.ParameterLines.{Declared, has_name}
+use Rattle.acts_front.specs.believed.ParameterLines.{Declared, has_name}
 use Rattle.acts_front.proofs.Mapped.{position-map}
 
 module _ {X : Type 0} (test : X → Bool) (xs : List X) where

@@ -11,20 +11,20 @@ use Rattle.std.specs.Prelude.{◌==◌}
 use Rattle.std.specs.Str.{is_utf8}
 use Rattle.constraint_ast.proofs.Digits.{run_prefix}
 use Rattle.model_lex.proofs.Opening.{StandsBehind, at_other, behind_word}
-use Rattle.model_lex.specs.Blanks.{is_all_blank, without_first_blanks}
-use Rattle.value_text.specs.Texts.{is_blank}
-use Rattle.model_lex.specs.Sections.{Split, first_word, goes_on, has_colon, is_word_among, is_ignored, is_opening_mark, is_rule, is_word_byte, kind_of, misplaced}
-use Rattle.model_lex.specs.Sections.{opening_len, opening_words, opens_group, opens_rule, put_before, refusal_of, refused_or, sections_behind, with_line}
+use Rattle.model_lex.specs.believed.Blanks.{is_all_blank, without_first_blanks}
+use Rattle.value_text.specs.believed.Texts.{is_blank}
+use Rattle.model_lex.specs.believed.Sections.{Split, first_word, goes_on, has_colon, is_word_among, is_ignored, is_opening_mark, is_rule, is_word_byte, kind_of, misplaced}
+use Rattle.model_lex.specs.believed.Sections.{opening_len, opening_words, opens_group, opens_rule, put_before, refusal_of, refused_or, sections_behind, with_line}
 use Rattle.model_lex.specs.declared.line_kind.LineKind.{LineKind}
 use Rattle.model_lex.specs.declared.line_kind.LineKind.TheVariants.{Param, Group, Rule}
 use Rattle.model_parse.proofs.Joining.{stands_back}
-use Rattle.acts_front.specs.Lines.{is_allowed}
-use Rattle.acts_front.specs.ParameterLines.{Parameter, Scope, is_name}
-use Rattle.acts_front.specs.RelationLines as relations
-use Rattle.acts_front.specs.Tokens.{Token}
-use Rattle.acts_front.specs.ActsFiles.{Line, Nothing, OfParameter, OfRelation, OfConstraint, and_line, parameters_from, relations_from}
-use Rattle.acts_front.specs.Translation.{constraint_text, translated_text, parameter_text, relation_text, value_text}
-use Rattle.model_parse.specs.Written.{joined}
+use Rattle.acts_front.specs.believed.Lines.{is_allowed}
+use Rattle.acts_front.specs.believed.ParameterLines.{Parameter, Scope, is_name}
+use Rattle.acts_front.specs.believed.RelationLines as relations
+use Rattle.acts_front.specs.believed.Tokens.{Token}
+use Rattle.acts_front.specs.believed.ActsFiles.{Line, Nothing, OfParameter, OfRelation, OfConstraint, and_line, parameters_from, relations_from}
+use Rattle.acts_front.specs.believed.Translation.{constraint_text, translated_text, parameter_text, relation_text, value_text}
+use Rattle.model_parse.specs.believed.Written.{joined}
 use Rattle.acts_front.proofs.AllowedTexts.{Allowed, each_passes, line_allowed}
 use Rattle.acts_front.proofs.GivenLines.{AreGiven, AreOrdered}
 use Rattle.acts_front.proofs.GivenLists.{spelled_from}

@@ -3,10 +3,10 @@ use Rattle.std.proofs.Common.{◌≡◌, ℕ, Bool, true, false, not, ◌&&◌, 
 use Rattle.std.specs.Prelude.{is_some, option_map, if◌then◌else◌}
 use Rattle.acts_front.specs.declared.constraint.Finding.TheVariants.{Fits, TypesDiffer, UnknownName}
 use Rattle.cov_model.specs.declared.constraint.Rel.{Rel}
-use Rattle.acts_front.specs.ParameterLines.{Scope, has_name, is_declared, kind_named}
-use Rattle.acts_front.specs.Constraints.{Operand, OfWhole, OfText, OfTruth, OfParameter, Compares, operand_in, is_operand_known, is_order, is_same_kind, is_typed, operand_kind}
+use Rattle.acts_front.specs.believed.ParameterLines.{Scope, has_name, is_declared, kind_named}
+use Rattle.acts_front.specs.believed.Constraints.{Operand, OfWhole, OfText, OfTruth, OfParameter, Compares, operand_in, is_operand_known, is_order, is_same_kind, is_typed, operand_kind}
 use Rattle.acts_front.specs.Findings.{finding_in, kinds_finding, term_finding}
-use Rattle.acts_front.specs.Tokens.{Token}
+use Rattle.acts_front.specs.believed.Tokens.{Token}
 use Rattle.acts_front.specs.declared.constraint.Finding.{Finding}
 use Rattle.acts_front.specs.declared.kind.Kind.{Kind}
 use Rattle.acts_front.specs.declared.kind.Kind.TheVariants.{Int}

@@ -14,13 +14,13 @@ use Rattle.std.specs.Prelude.{slice_index_or}
 use Rattle.std.specs.Str.Parse.{digits_value}
 use Rattle.std.specs.declared.cmp.Ordering.{Ordering}
 use Rattle.std.specs.declared.cmp.Ordering.TheVariants.{Less, Equal, Greater}
-use Rattle.value_text.specs.Texts.{is_same_text, text_order, folded}
-use Rattle.cov_model.specs.Meaning as model
-use Rattle.cov_model.specs.Meaning.{body_holds, given_value, literal_order, no_value, number_in, operand, operand_of, stands_in, term_holds}
-use Rattle.cov_model.specs.Rows.{value_in}
-use Rattle.cov_model.specs.Sound.{ModelView, first_name, no_param, param_at}
-use Rattle.cov_model.specs.Valid.{has_value, is_row}
-use Rattle.cov_model.specs.Views.{RuleView}
+use Rattle.value_text.specs.believed.Texts.{is_same_text, text_order, folded}
+use Rattle.cov_model.specs.believed.Meaning as model
+use Rattle.cov_model.specs.believed.Meaning.{body_holds, given_value, literal_order, no_value, number_in, operand, operand_of, stands_in, term_holds}
+use Rattle.cov_model.specs.believed.Rows.{value_in}
+use Rattle.cov_model.specs.believed.Sound.{ModelView, first_name, no_param, param_at}
+use Rattle.cov_model.specs.believed.Valid.{has_value, is_row}
+use Rattle.cov_model.specs.believed.Views.{RuleView}
 use Rattle.cov_model.specs.declared.constraint.Literal.{Literal}
 use Rattle.cov_model.specs.declared.constraint.Rel.{Rel}
 use Rattle.cov_model.specs.declared.constraint.Rel.TheVariants.{Eq, Ne, Gt, Ge, Lt, Le}
@@ -28,21 +28,21 @@ use Rattle.cov_model.specs.declared.constraint.Term as terms
 use Rattle.cov_model.specs.declared.constraint.Term.TheVariants as term
 use Rattle.cov_model.specs.declared.demand.Demand.{Demand}
 use Rattle.cov_model.specs.declared.parameter.Param.{Param}
-use Rattle.type_check.specs.Checking.{body_terms, first_refusal, given_that, is_of_type, is_same_type, literal_of, numeric_at, param_named}
-use Rattle.type_check.specs.Checking.{term_refusal_or, rel_of, term_of, terms_in, terms_of, with_param}
-use Rattle.type_check.specs.Constraints.{body_of, found_term, pred_of, preds_of}
+use Rattle.type_check.specs.believed.Checking.{body_terms, first_refusal, given_that, is_of_type, is_same_type, literal_of, numeric_at, param_named}
+use Rattle.type_check.specs.believed.Checking.{term_refusal_or, rel_of, term_of, terms_in, terms_of, with_param}
+use Rattle.type_check.specs.believed.Constraints.{body_of, found_term, pred_of, preds_of}
 use Rattle.type_check.proofs.Refusals.{behind_none}
 use Rattle.constraint_ast.specs.declared.tree.RawLiteral.{RawLiteral}
 use Rattle.constraint_ast.specs.declared.tree.RawLiteral.TheVariants as literals
 use Rattle.constraint_ast.specs.declared.tree.RawTerm.TheVariants as raws
 use Rattle.model_lex.specs.declared.diag.DiagCode.TheVariants.{TypeMismatch}
-use Rattle.acts_front.specs.Constraints.{Operand, OfWhole, OfText, OfTruth, OfParameter, Pred, Preds, Compares, Negated, Each, Either, End}
-use Rattle.acts_front.specs.Constraints.{More, Constraint, Plain, Implies, each_term, every_term, is_order, is_same_kind, is_typed, terms_pass}
-use Rattle.acts_front.specs.Meaning as acts
-use Rattle.acts_front.specs.Meaning.{compare, constraint_holds, content_at, content_of, given_content, is_as, is_same_truth, no_parameter, operand_content, whole_of}
-use Rattle.acts_front.specs.ParameterLines.{Parameter, Scope, is_true, is_value, is_whole, kind_named, without_minus}
-use Rattle.acts_front.specs.SameModels.{is_int, param_is, value_is}
-use Rattle.acts_front.specs.Translation.{truth_text, value_text}
+use Rattle.acts_front.specs.believed.Constraints.{Operand, OfWhole, OfText, OfTruth, OfParameter, Pred, Preds, Compares, Negated, Each, Either, End}
+use Rattle.acts_front.specs.believed.Constraints.{More, Constraint, Plain, Implies, each_term, every_term, is_order, is_same_kind, is_typed, terms_pass}
+use Rattle.acts_front.specs.believed.Meaning as acts
+use Rattle.acts_front.specs.believed.Meaning.{compare, constraint_holds, content_at, content_of, given_content, is_as, is_same_truth, no_parameter, operand_content, whole_of}
+use Rattle.acts_front.specs.believed.ParameterLines.{Parameter, Scope, is_true, is_value, is_whole, kind_named, without_minus}
+use Rattle.acts_front.specs.believed.SameModels.{is_int, param_is, value_is}
+use Rattle.acts_front.specs.believed.Translation.{truth_text, value_text}
 use Rattle.acts_front.specs.declared.kind.Kind.{Kind}
 use Rattle.acts_front.specs.declared.kind.Kind.TheVariants.{Int, Enum, Boolean}
 use Rattle.acts_front.proofs.AllowedTexts.{each_passes}
@@ -50,7 +50,7 @@ use Rattle.acts_front.proofs.GivenLists.{declared_as, scope_of}
 use Rattle.acts_front.proofs.Placed.{IsPlaced, kind_at, kind_declared, no_found, place_in, placed}
 use Rattle.acts_front.proofs.TokensRead.{signed, whole_is_number}
 use Rattle.acts_front.proofs.TranslatedTrees.{body_at, number_read, raw_rel, raw_term, tree_at, trees_at}
-use Rattle.model_parse.specs.Pieces.{begins_with}
+use Rattle.model_parse.specs.believed.Pieces.{begins_with}
 
 -- ---- numbers, texts and truth values are compared alike
 

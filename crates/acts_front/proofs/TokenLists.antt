@@ -1,10 +1,10 @@
 -- The tokens of a text, one after another.
 use Rattle.std.proofs.Common.{◌≡◌, ℕ, zero, suc, ◌+◌, ◌-◌, ◌<◌, Bool, true, false, List, [], ◌∷◌, ◌++◌, length, drop, get_or}
 use Rattle.std.proofs.Common.{Option, Some, None, refl, sym, ap, ◌∙◌, append_assoc, append-nil, arith, add-one, one-add}
-use Rattle.model_lex.specs.Blanks.{without_first_blanks}
-use Rattle.value_text.specs.Texts.{is_blank}
+use Rattle.model_lex.specs.believed.Blanks.{without_first_blanks}
+use Rattle.value_text.specs.believed.Texts.{is_blank}
 use Rattle.model_lex.proofs.Opening.{solid}
-use Rattle.acts_front.specs.Tokens.{Token, Found, first_found, len_behind, before_tokens, tokens_behind}
+use Rattle.acts_front.specs.believed.Tokens.{Token, Found, first_found, len_behind, before_tokens, tokens_behind}
 
 -- tokens before those of a rest
 abbrev pub more_tokens : List Token → Option (List Token) → Option (List Token)

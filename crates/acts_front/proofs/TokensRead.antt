@@ -12,34 +12,34 @@ use Rattle.std.specs.List.{after_first, before_first, list_all, list_any, positi
 use Rattle.std.specs.Option.{option_map}
 use Rattle.std.specs.Prelude.{◌==◌, nat_lt}
 use Rattle.std.specs.Str.Parse.{digits_value}
-use Rattle.value_text.specs.Numbers.{decimal_digits, has_point, is_decimal, is_digits, is_minus, is_point, number_of, whole_digits, without_sign}
+use Rattle.value_text.specs.believed.Numbers.{decimal_digits, has_point, is_decimal, is_digits, is_minus, is_point, number_of, whole_digits, without_sign}
 use Rattle.value_text.specs.declared.fixed.FixedAnswer.TheVariants.{Number as IsNumber}
 use Rattle.cov_model.specs.declared.constraint.Rel.{Rel}
 use Rattle.cov_model.specs.declared.constraint.Rel.TheVariants.{Eq, Ne, Gt, Ge, Lt, Le}
-use Rattle.model_lex.specs.Blanks.{trimmed}
-use Rattle.value_text.specs.Texts.{is_blank}
-use Rattle.model_lex.specs.Sections.{first_word, is_word_byte}
-use Rattle.model_lex.specs.Tokens as lex
-use Rattle.model_lex.specs.Tokens.{begins_number, first_token, is_number_byte, name_between, number_run, quoted_len, quoted_token, unquoted}
+use Rattle.model_lex.specs.believed.Blanks.{trimmed}
+use Rattle.value_text.specs.believed.Texts.{is_blank}
+use Rattle.model_lex.specs.believed.Sections.{first_word, is_word_byte}
+use Rattle.model_lex.specs.believed.Tokens as lex
+use Rattle.model_lex.specs.believed.Tokens.{begins_number, first_token, is_number_byte, name_between, number_run, quoted_len, quoted_token, unquoted}
 use Rattle.model_lex.specs.declared.diag.DiagCode.{DiagCode}
 use Rattle.model_lex.specs.declared.diag.DiagCode.TheVariants.{NameNotClosed, TextNotClosed}
 use Rattle.model_lex.specs.declared.token.TokenKind.{TokenKind}
 use Rattle.model_lex.specs.declared.token.TokenKind.TheVariants as kinds
-use Rattle.model_parse.specs.Pieces.{begins_with, is_byte}
-use Rattle.model_parse.specs.Written.{joined}
+use Rattle.model_parse.specs.believed.Pieces.{begins_with, is_byte}
+use Rattle.model_parse.specs.believed.Written.{joined}
 use Rattle.model_parse.proofs.Joining.{IsWhole, trimmed_back}
-use Rattle.constraint_ast.specs.Grammar.{at}
-use Rattle.constraint_ast.specs.Lexing.{inside, meant, token_before, tokens_in}
+use Rattle.constraint_ast.specs.believed.Grammar.{at}
+use Rattle.constraint_ast.specs.believed.Lexing.{inside, meant, token_before, tokens_in}
 use Rattle.constraint_ast.specs.declared.token.RuleToken.{RuleToken}
 use Rattle.constraint_ast.specs.declared.token.RuleToken.TheVariants as rule
 use Rattle.constraint_ast.specs.declared.tree.RawLiteral.TheVariants as literals
 use Rattle.constraint_ast.proofs.Digits.{run_prefix}
 use Rattle.constraint_ast.proofs.Lexing.{rest_skipped}
 use Rattle.constraint_ast.proofs.TokenText.{Ends, ends_at, ends_word, ends_number, greater_first, less_first}
-use Rattle.acts_front.specs.ParameterLines.{are_few_digits, is_name, is_whole, without_minus}
-use Rattle.acts_front.specs.Tokens.{Token, Name, Whole, Words, Truth, Relation, Arrow, Or, And, Not, Open, Close}
-use Rattle.acts_front.specs.Constraints.{is_arrow}
-use Rattle.acts_front.specs.Translation.{constraint_text, rel_text, token_text, truth_text}
+use Rattle.acts_front.specs.believed.ParameterLines.{are_few_digits, is_name, is_whole, without_minus}
+use Rattle.acts_front.specs.believed.Tokens.{Token, Name, Whole, Words, Truth, Relation, Arrow, Or, And, Not, Open, Close}
+use Rattle.acts_front.specs.believed.Constraints.{is_arrow}
+use Rattle.acts_front.specs.believed.Translation.{constraint_text, rel_text, token_text, truth_text}
 use Rattle.acts_front.proofs.AllowedTexts.{all_weaker, each_passes}
 use Rattle.acts_front.proofs.GivenTokens.{IsWritten}
 use Rattle.acts_front.proofs.TranslatedTrees.{constraint_tokens, number_read, raw_rel, rule_token, rule_tokens}

@@ -8,12 +8,12 @@ use Rattle.std.proofs.lemmas.List.Sums.{prefix_len_stops, split_at_first}
 use Rattle.std.specs.List.{after_first, before_first, list_any, position_or_len}
 use Rattle.std.specs.Prelude.{option_map, slice_index_or, not}
 use Rattle.value_text.proofs.ListLemmas.{list_any-position}
-use Rattle.value_text.specs.Numbers.{number_of}
-use Rattle.cov_model.specs.Meaning.{number_in}
+use Rattle.value_text.specs.believed.Numbers.{number_of}
+use Rattle.cov_model.specs.believed.Meaning.{number_in}
 use Rattle.cov_model.specs.declared.constraint.Rel.{Rel}
 use Rattle.cov_model.specs.declared.constraint.Rel.TheVariants.{Eq, Ne, Gt, Ge, Lt, Le}
-use Rattle.constraint_ast.specs.Trees as trees
-use Rattle.constraint_ast.specs.Grammar.{at, IsUnit, AreUnits, AreConjs, IsRule, negation, parens, value_is, param_is, last_unit, next_unit, last_conj, next_conj, plain, if_then, most_open}
+use Rattle.constraint_ast.specs.believed.Trees as trees
+use Rattle.constraint_ast.specs.believed.Grammar.{at, IsUnit, AreUnits, AreConjs, IsRule, negation, parens, value_is, param_is, last_unit, next_unit, last_conj, next_conj, plain, if_then, most_open}
 use Rattle.constraint_ast.specs.declared.token.LineToken.{LineToken}
 use Rattle.constraint_ast.specs.declared.token.RuleToken.{RuleToken}
 use Rattle.constraint_ast.specs.declared.token.RuleToken.TheVariants as rule
@@ -22,10 +22,10 @@ use Rattle.constraint_ast.specs.declared.tree.RawRel.TheVariants as raws
 use Rattle.constraint_ast.specs.declared.tree.RawLiteral.TheVariants as literals
 use Rattle.constraint_ast.specs.declared.tree.RawTerm.{RawTerm}
 use Rattle.constraint_ast.specs.declared.tree.RawTerm.TheVariants as terms
-use Rattle.acts_front.specs.Tokens.{Token, Name, Whole, Words, Truth, Relation, Arrow, Or, And, Not, Open, Close}
-use Rattle.acts_front.specs.Constraints.{Operand, OfWhole, OfText, OfTruth, OfParameter, Pred, Preds, Compares, Negated, Each, Either, End, More, Constraint, Plain, Implies, comparison_of, conj_in}
-use Rattle.acts_front.specs.Constraints.{cons_of, disj_in, disj_of, each_of, either_of, enclosed_of, implied, is_and, is_arrow, is_close, is_or, operand_in, parts, preds_of, unit_of}
-use Rattle.acts_front.specs.Translation.{truth_text}
+use Rattle.acts_front.specs.believed.Tokens.{Token, Name, Whole, Words, Truth, Relation, Arrow, Or, And, Not, Open, Close}
+use Rattle.acts_front.specs.believed.Constraints.{Operand, OfWhole, OfText, OfTruth, OfParameter, Pred, Preds, Compares, Negated, Each, Either, End, More, Constraint, Plain, Implies, comparison_of, conj_in}
+use Rattle.acts_front.specs.believed.Constraints.{cons_of, disj_in, disj_of, each_of, either_of, enclosed_of, implied, is_and, is_arrow, is_close, is_or, operand_in, parts, preds_of, unit_of}
+use Rattle.acts_front.specs.believed.Translation.{truth_text}
 use Rattle.acts_front.proofs.Glued.{and_glued, and_some, glue, mapped_some, or_glued, or_some, spells_first}
 
 abbrev pub raw_rel : Rel → RawRel

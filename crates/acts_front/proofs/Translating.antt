@@ -5,9 +5,9 @@ use Rattle.std.proofs.lemmas.Bool.{ne_eqb}
 use Rattle.std.proofs.lemmas.Grind.{flat_map-append}
 use Rattle.std.specs.List.{enumerate_from, flat_map, list_any}
 use Rattle.std.specs.Prelude.{◌==◌, if◌then◌else◌}
-use Rattle.model_lex.specs.Lines.{file_lines}
-use Rattle.acts_front.specs.ActsFiles.{Line, Nothing, OfParameter, OfRelation, OfConstraint, and_line, declared_by, is_parameter, line_before, line_gives, lines_give, section_behind, with_parameters}
-use Rattle.acts_front.specs.Translation.{lines_text, text_given}
+use Rattle.model_lex.specs.believed.Lines.{file_lines}
+use Rattle.acts_front.specs.believed.ActsFiles.{Line, Nothing, OfParameter, OfRelation, OfConstraint, and_line, declared_by, is_parameter, line_before, line_gives, lines_give, section_behind, with_parameters}
+use Rattle.acts_front.specs.believed.Translation.{lines_text, text_given}
 use Rattle.acts_front.specs.Reading.{Adds, SoFar, Translates, ended, lines_before}
 use Rattle.acts_front.specs.declared.code.ActsCode.{ActsCode}
 use Rattle.acts_front.specs.declared.code.ActsCode.TheVariants.{A8}

@@ -1,9 +1,9 @@
 -- What is found of a unit, by its first token.
 use Rattle.std.proofs.Common.{◌≡◌, ℕ, zero, suc, ◌-◌, ◌<◌, List, ◌∷◌, Option, Some, None, refl, sym, ap, ◌∙◌, arith}
 use Rattle.std.specs.Prelude.{option_map}
-use Rattle.acts_front.specs.ParameterLines.{Scope}
-use Rattle.acts_front.specs.Tokens.{Token, Name, Not, Open}
-use Rattle.acts_front.specs.Constraints.{Pred, Negated, comparison_of, disj_of, enclosed_of, unit_of}
+use Rattle.acts_front.specs.believed.ParameterLines.{Scope}
+use Rattle.acts_front.specs.believed.Tokens.{Token, Name, Not, Open}
+use Rattle.acts_front.specs.believed.Constraints.{Pred, Negated, comparison_of, disj_of, enclosed_of, unit_of}
 use Rattle.acts_front.specs.Findings.{finding_in}
 
 negation : (scope : Scope) (pred : Option Pred) → finding_in scope pred ≡ finding_in scope (option_map Negated pred)

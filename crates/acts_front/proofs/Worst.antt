@@ -2,9 +2,10 @@
 use Rattle.std.proofs.Common.{◌≡◌, ℕ, ◌+◌, List, [], ◌∷◌, length, map, Option, Some, None, Bor, refl, sym, ap, ◌∙◌}
 use Rattle.std.proofs.lemmas.Simd.{map-map}
 use Rattle.std.specs.Prelude.{option_map}
-use Rattle.acts_front.specs.ParameterLines.{Scope}
-use Rattle.acts_front.specs.Tokens.{Token}
-use Rattle.acts_front.specs.Constraints.{Pred, Preds, End, More, conj_of, disj_of, each_of, either_of, is_and, is_or, more_preds, parts, preds_of, unit_of}
+use Rattle.acts_front.specs.believed.ParameterLines.{Scope}
+use Rattle.acts_front.specs.believed.Tokens.{Token}
+use Rattle.acts_front.specs.believed.Constraints.{Pred, Preds, End, More, disj_of, each_of, either_of, is_and, is_or, more_preds, parts, preds_of, unit_of}
+use Rattle.acts_front.specs.Constraints.{conj_of}
 use Rattle.acts_front.specs.Findings.{finding_in, pred_finding, preds_finding, worse}
 use Rattle.acts_front.specs.Reading.{part_before}
 use Rattle.acts_front.specs.declared.constraint.Finding.{Finding}

@@ -1,8 +1,8 @@
 -- What is found of a part of a constraint: the worst of what is found of its terms.
 use Rattle.std.specs.Prelude.{◌&&◌, ◌||◌, List, ℕ, Option, Some, None, not, if◌then◌else◌}
 use Rattle.cov_model.specs.declared.constraint.Rel.{Rel}
-use Rattle.acts_front.specs.ParameterLines.{Scope}
-use Rattle.acts_front.specs.Constraints.{Constraint, Plain, Implies, Operand, Pred, Preds, Compares, Negated, Each, Either, End, More, is_known, is_order, is_same_kind, is_typed}
+use Rattle.acts_front.specs.believed.ParameterLines.{Scope}
+use Rattle.acts_front.specs.believed.Constraints.{Constraint, Plain, Implies, Operand, Pred, Preds, Compares, Negated, Each, Either, End, More, is_known, is_order, is_same_kind, is_typed}
 use Rattle.acts_front.specs.declared.kind.Kind.{Kind}
 use Rattle.acts_front.specs.declared.kind.Kind.TheVariants.{Int}
 use Rattle.acts_front.specs.declared.code.ActsCode.{ActsCode}

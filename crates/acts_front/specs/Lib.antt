@@ -1,12 +1,5 @@
-pub mod Lines
-pub mod ParameterLines
-pub mod RelationLines
-pub mod Tokens
-pub mod Constraints
-pub mod ActsFiles
-pub mod Translation
 pub mod Findings
 pub mod Reading
-pub mod Codes
-pub mod Meaning
+pub mod believed
+pub mod Constraints
 pub mod SameModels

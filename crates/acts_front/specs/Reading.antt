@@ -3,13 +3,13 @@ use Rattle.std.specs.Prelude.{◌≡◌, ℕ, ◌+◌, ◌≤◌, ◌^◌, Bool,
 use Rattle.std.specs.List.{enumerate_from, flat_map}
 use Rattle.std.specs.declared.alloc.Global.{Global}
 use Rattle.std.specs.Prelude.{Vec}
-use Rattle.model_lex.specs.Lines.{file_lines}
-use Rattle.acts_front.specs.ParameterLines as parameters
-use Rattle.acts_front.specs.RelationLines as relations
-use Rattle.acts_front.specs.Tokens as tokens
-use Rattle.acts_front.specs.Constraints.{is_and, is_or}
-use Rattle.acts_front.specs.ActsFiles.{Line, and_line, declared_by, lines_give}
-use Rattle.acts_front.specs.Translation.{translated_text, lines_text}
+use Rattle.model_lex.specs.believed.Lines.{file_lines}
+use Rattle.acts_front.specs.believed.ParameterLines as parameters
+use Rattle.acts_front.specs.believed.RelationLines as relations
+use Rattle.acts_front.specs.believed.Tokens as tokens
+use Rattle.acts_front.specs.believed.Constraints.{is_and, is_or}
+use Rattle.acts_front.specs.believed.ActsFiles.{Line, and_line, declared_by, lines_give}
+use Rattle.acts_front.specs.believed.Translation.{translated_text, lines_text}
 use Rattle.acts_front.specs.declared.code.ActsCode.{ActsCode}
 use Rattle.acts_front.specs.declared.code.ActsFault.{ActsFault}
 use Rattle.acts_front.specs.declared.code.ActsFault.TheVariants.{Bad, NoMemory}

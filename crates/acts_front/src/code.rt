@@ -1,5 +1,5 @@
 ghost use Rattle.std.specs.Prelude.{◌≡◌};
-ghost use Rattle.acts_front.specs.Codes.{acts_code, acts_text, refusal_status};
+ghost use Rattle.acts_front.specs.believed.Codes.{acts_code, acts_text, refusal_status};
 
 use value_text::NoMemory;
 

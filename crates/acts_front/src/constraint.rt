@@ -1,11 +1,12 @@
 //! Which tokens spell a constraint, and whether its terms fit the parameters.
 ghost use Rattle.std.specs.Prelude.{◌≡◌, ◌<◌, ◌≤◌, ◌+◌, ◌^◌, ◌∷◌, ◌++◌, [], length, IfOk, IfSome, MatchOption, option_map, position};
-ghost use Rattle.acts_front.specs.ActsFiles.{constraint_line};
-ghost use Rattle.acts_front.specs.Constraints.{comparison_of, conj_of, cons_of, disj_of, enclosed_of, is_arrow, is_order, open_behind, parts, unit_of};
-ghost use Rattle.constraint_ast.specs.Grammar.{most_open};
+ghost use Rattle.acts_front.specs.believed.ActsFiles.{constraint_line};
+ghost use Rattle.acts_front.specs.believed.Constraints.{comparison_of, cons_of, disj_of, enclosed_of, is_arrow, is_order, open_behind, parts, unit_of};
+ghost use Rattle.acts_front.specs.Constraints.{conj_of};
+ghost use Rattle.constraint_ast.specs.believed.Grammar.{most_open};
 ghost use Rattle.acts_front.specs.Findings.{code_of, finding_in, finding_of, kinds_finding, worse};
 ghost use Rattle.acts_front.specs.Reading.{joint_test, part_before, token_seen, tokens_seen};
-ghost use Rattle.acts_front.specs.Tokens.{Name, Relation};
+ghost use Rattle.acts_front.specs.believed.Tokens.{Name, Relation};
 
 use crate::code::ActsCode;
 use crate::kind::Kind;

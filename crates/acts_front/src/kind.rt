@@ -1,10 +1,10 @@
 ghost use Rattle.std.specs.Prelude.{◌≡◌, ◌||◌, map, IfOk};
 ghost use Rattle.std.specs.List.{list_all};
 ghost use Rattle.std.specs.Char.{is_ascii_digit};
-ghost use Rattle.model_lex.specs.Sections.{is_word_byte};
-ghost use Rattle.acts_front.specs.ParameterLines.{are_few_digits, folds, is_false, is_name, is_symbol, is_true, is_value, is_whole, named_kind, without_minus};
-ghost use Rattle.value_text.specs.Numbers.{is_point};
-ghost use Rattle.acts_front.specs.Translation.{value_text};
+ghost use Rattle.model_lex.specs.believed.Sections.{is_word_byte};
+ghost use Rattle.acts_front.specs.believed.ParameterLines.{are_few_digits, folds, is_false, is_name, is_symbol, is_true, is_value, is_whole, named_kind, without_minus};
+ghost use Rattle.value_text.specs.believed.Numbers.{is_point};
+ghost use Rattle.acts_front.specs.believed.Translation.{value_text};
 
 use crate::write::truth_text;
 use std::alloc::Global;

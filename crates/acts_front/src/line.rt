@@ -1,7 +1,7 @@
 //! The lines of a file: their bytes and their comments.
 ghost use Rattle.std.specs.Prelude.{◌≡◌, false};
 ghost use Rattle.std.specs.List.{list_all};
-ghost use Rattle.acts_front.specs.Lines.{before_comment, is_allowed, line_text};
+ghost use Rattle.acts_front.specs.believed.Lines.{before_comment, is_allowed, line_text};
 
 use crate::text::trimmed;
 

@@ -1,7 +1,7 @@
 ghost use Rattle.std.specs.Prelude.{◌≡◌, ◌<◌, [], ◌∷◌, ◌++◌, length, false, map, IfOk, IfSome, OnOk, OnErr};
-ghost use Rattle.value_text.specs.Texts.{folded};
+ghost use Rattle.value_text.specs.believed.Texts.{folded};
 ghost use Rattle.model_parse.specs.ValueSteps.{is_known, place_of};
-ghost use Rattle.acts_front.specs.ParameterLines.{has_repeated};
+ghost use Rattle.acts_front.specs.believed.ParameterLines.{has_repeated};
 
 use indexmap::IndexSet;
 use std::alloc::Global;

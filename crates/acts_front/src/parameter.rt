@@ -1,7 +1,7 @@
 ghost use Rattle.std.specs.Prelude.{◌≡◌, ◌||◌, [], ◌++◌, false, option_map, IfOk, OnOk};
-ghost use Rattle.acts_front.specs.ParameterLines.{folds, has_repeated, is_declared, parameter_in, read_parameter};
+ghost use Rattle.acts_front.specs.believed.ParameterLines.{folds, has_repeated, is_declared, parameter_in, read_parameter};
 ghost use Rattle.acts_front.specs.Reading.{Reads, parameter_seen};
-ghost use Rattle.acts_front.specs.Translation.{parameter_text};
+ghost use Rattle.acts_front.specs.believed.Translation.{parameter_text};
 
 use crate::code::{ActsCode, ActsFault};
 use crate::kind::{Kind, is_name};

@@ -1,10 +1,10 @@
 ghost use Rattle.std.specs.Prelude.{◌≡◌, ◌&&◌, ◌++◌, is_some, length, nat_lt, option_map, map, IfOk, MatchOption, OnOk, Some, Ok, Err};
 ghost use Rattle.std.specs.List.{list_all};
-ghost use Rattle.value_text.specs.Numbers.{count_of};
-ghost use Rattle.acts_front.specs.ParameterLines.{are_few_digits, is_declared, is_name};
+ghost use Rattle.value_text.specs.believed.Numbers.{count_of};
+ghost use Rattle.acts_front.specs.believed.ParameterLines.{are_few_digits, is_declared, is_name};
 ghost use Rattle.acts_front.specs.Reading.{Reads, relation_seen};
-ghost use Rattle.acts_front.specs.RelationLines.{are_members, read_relation, related_in, relation_in, relation_in_parts};
-ghost use Rattle.acts_front.specs.Translation.{relation_text};
+ghost use Rattle.acts_front.specs.believed.RelationLines.{are_members, read_relation, related_in, relation_in, relation_in_parts};
+ghost use Rattle.acts_front.specs.believed.Translation.{relation_text};
 
 use crate::code::{ActsCode, ActsFault};
 use crate::kind::{are_few_digits, is_name};

@@ -1,5 +1,5 @@
 ghost use Rattle.std.specs.Prelude.{◌≡◌, ◌==◌, [], ◌∷◌, ◌++◌, false, length, IfOk, OnOk};
-ghost use Rattle.acts_front.specs.ParameterLines.{is_declared, kind_named};
+ghost use Rattle.acts_front.specs.believed.ParameterLines.{is_declared, kind_named};
 
 use crate::kind::Kind;
 use crate::name_set::NameSet;
@@ -18,8 +18,8 @@ pub(crate) struct Scope<'a> {
 
 impl<'a> Model for Scope<'a> {
     ghost use Rattle.std.specs.Prelude.{◌≡◌, map};
-    ghost use Rattle.value_text.specs.Texts.{folded};
-    ghost use Rattle.acts_front.specs.ParameterLines as lines;
+    ghost use Rattle.value_text.specs.believed.Texts.{folded};
+    ghost use Rattle.acts_front.specs.believed.ParameterLines as lines;
 
     ghost Value = { lines.Scope };
 

@@ -1,5 +1,5 @@
 ghost use Rattle.std.specs.Prelude.{◌≡◌};
-ghost use Rattle.acts_front.specs.Lines.{begun, headed, place_of};
+ghost use Rattle.acts_front.specs.believed.Lines.{begun, headed, place_of};
 
 /// The section that a line stands in (ACTS guide).
 #[derive(Drop, Clone, Copy)]

@@ -1,9 +1,9 @@
 //! Texts as bytes: the blanks at their ends, and what stands before and behind marks.
 ghost use Rattle.std.specs.Prelude.{◌≡◌, ◌≤◌, ◌==◌, ◌&&◌, map, length, drop, take, IfOk, MatchOption, false, true, ◌-◌};
 ghost use Rattle.std.specs.List.{after_first, before_first, position, prefix_len, suffix_len};
-ghost use Rattle.model_lex.specs.Blanks.{trimmed, without_first_blanks, without_last_blanks};
-ghost use Rattle.value_text.specs.Texts.{is_blank};
-ghost use Rattle.model_parse.specs.Pieces.{before_end, begins_with, ends_with_byte, is_byte, pieces};
+ghost use Rattle.model_lex.specs.believed.Blanks.{trimmed, without_first_blanks, without_last_blanks};
+ghost use Rattle.value_text.specs.believed.Texts.{is_blank};
+ghost use Rattle.model_parse.specs.believed.Pieces.{before_end, begins_with, ends_with_byte, is_byte, pieces};
 
 use std::alloc::Global;
 use value_text::NoMemory;

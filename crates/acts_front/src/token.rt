@@ -2,9 +2,9 @@
 ghost use Rattle.std.specs.Prelude.{◌≡◌, ◌<◌, ◌≤◌, ◌^◌, ◌&&◌, ◌+◌, ◌++◌, drop, length, map, option_map, slice_index, IfOk, IfSome};
 ghost use Rattle.std.specs.Char.{is_ascii_digit};
 ghost use Rattle.std.specs.List.{prefix_len};
-ghost use Rattle.model_lex.specs.Sections.{first_word, is_word_byte};
+ghost use Rattle.model_lex.specs.believed.Sections.{first_word, is_word_byte};
 ghost use Rattle.acts_front.specs.Reading.{found_seen, token_seen, tokens_seen};
-ghost use Rattle.acts_front.specs.Tokens.{first_found, mark_token, tokens_found, whole_run, whole_token, token_of_word, words_token};
+ghost use Rattle.acts_front.specs.believed.Tokens.{first_found, mark_token, tokens_found, whole_run, whole_token, token_of_word, words_token};
 
 use crate::kind::{is_false, is_true, is_whole, is_word_byte};
 use crate::text::{mark_place, without_first_blanks};

@@ -1,12 +1,12 @@
 ghost use Rattle.std.specs.Prelude.{◌≡◌, ◌≤◌, ◌^◌, [], false, length, Some, IfOk, OnOk};
 ghost use Rattle.std.specs.Result.{result_map_both};
-ghost use Rattle.acts_front.specs.ActsFiles.{OfParameter, constraint_line, line_gives, line_in, parameter_line, relation_line, section_behind, section_in, text_gives};
-ghost use Rattle.acts_front.specs.ParameterLines.{is_declared, read_parameter};
+ghost use Rattle.acts_front.specs.believed.ActsFiles.{OfParameter, constraint_line, line_gives, line_in, parameter_line, relation_line, section_behind, section_in, text_gives};
+ghost use Rattle.acts_front.specs.believed.ParameterLines.{is_declared, read_parameter};
 ghost use Rattle.acts_front.specs.Reading.{Adds, IsAdded, Translates, ended, parameter_seen, tokens_seen};
-ghost use Rattle.acts_front.specs.RelationLines.{read_relation};
-ghost use Rattle.acts_front.specs.SameModels.{IsFaithful};
-ghost use Rattle.acts_front.specs.Tokens.{tokens_found};
-ghost use Rattle.acts_front.specs.Translation.{parameter_text, translated_text, translation};
+ghost use Rattle.acts_front.specs.believed.RelationLines.{read_relation};
+ghost use Rattle.acts_front.specs.believed.SameModels.{IsFaithful};
+ghost use Rattle.acts_front.specs.believed.Tokens.{tokens_found};
+ghost use Rattle.acts_front.specs.believed.Translation.{parameter_text, translated_text, translation};
 
 use crate::code::{ActsCode, ActsFault};
 use crate::line::{are_allowed, line_text};

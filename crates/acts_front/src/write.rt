@@ -1,10 +1,10 @@
 //! Writing the lines of a model file.
 ghost use Rattle.std.specs.Prelude.{◌≡◌, ◌++◌, codes, map, OnOk};
 ghost use Rattle.std.specs.List.{flat_map, list_any};
-ghost use Rattle.model_parse.specs.Written.{joined};
-ghost use Rattle.acts_front.specs.Constraints.{is_arrow};
+ghost use Rattle.model_parse.specs.believed.Written.{joined};
+ghost use Rattle.acts_front.specs.believed.Constraints.{is_arrow};
 ghost use Rattle.acts_front.specs.Reading.{token_seen, tokens_seen};
-ghost use Rattle.acts_front.specs.Translation.{constraint_text, opening, rel_text, token_text, truth_text};
+ghost use Rattle.acts_front.specs.believed.Translation.{constraint_text, opening, rel_text, token_text, truth_text};
 
 use crate::token::Token;
 use cov_model::Rel;

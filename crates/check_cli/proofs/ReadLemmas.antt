@@ -2,19 +2,19 @@
 use Rattle.std.proofs.Common.{◌≡◌, ℕ, ◌<◌, ◌≤◌, true, cond, List, Option, None, Some, Ok, Err, length, refl, sym, ap, subst, ◌∙◌}
 use Rattle.std.specs.Prelude.{IfSome, IsSomeAnd}
 use Rattle.std.proofs.lemmas.Bool.{le-ltb, lt-ltb}
-use Rattle.outside_io.specs.Faults.{Rose}
-use Rattle.outside_io.specs.Seen.{FolderSeen, KeepsFiles, KeepsReadFaults, ReadFaultsRose}
-use Rattle.definitions.specs.Limits.{most_bytes}
+use Rattle.outside_io.specs.believed.Faults.{Rose}
+use Rattle.outside_io.specs.believed.Seen.{FolderSeen, KeepsFiles, KeepsReadFaults, ReadFaultsRose}
+use Rattle.definitions.specs.believed.Limits.{most_bytes}
 use Rattle.model_lex.specs.declared.options.ModelOpts.{ModelOpts}
 use Rattle.command_line.specs.Loading.{IsOfReading, IsUnread, no_room, folder_failed, has_more}
-use Rattle.command_line.specs.Stops.{NamesView, measured, name_of}
+use Rattle.command_line.specs.believed.Stops.{NamesView, measured, name_of}
 use Rattle.command_line.specs.declared.files.FileKind.{FileKind}
 use Rattle.command_line.specs.declared.files.FileKind.TheVariants as kinds
 use Rattle.command_line.specs.declared.stop.Stop.{Stop}
 use Rattle.command_line.specs.declared.stop.Stop.TheVariants.{OutOfMemory, Spent, BadWord, BadModel, BadConstraint, BadRows, NoResult, BadResult, CannotRead}
 use Rattle.command_line.specs.declared.stop.Stop.TheVariants.{CannotWrite, CannotWriteReport, TooMany, TooLong}
 use Rattle.check_cli.specs.RunSteps.{StopsBefore, cannot_read, is_before, is_refused, no_memory}
-use Rattle.check_cli.specs.Runs.{HeldFiles, Holds, bytes_of, inputs_of, join_bytes, unread}
+use Rattle.check_cli.specs.believed.Runs.{HeldFiles, Holds, bytes_of, inputs_of, join_bytes, unread}
 
 -- a file that was read whole, and one with too many bytes
 pub whole : (kind : FileKind) (held : Option (List ℕ)) (bytes : List ℕ) → held ≡ Some bytes → length bytes ≤ most_bytes (measured kind)

@@ -4,36 +4,40 @@ use Rattle.std.specs.Prelude.{◌≢◌, ◌⊎◌, IfErr, IfOk, IsOkAnd, MatchR
 use Rattle.std.proofs.lemmas.Bool.{false≢true}
 use Rattle.std.proofs.lemmas.Option.{none-some, same_Some}
 use Rattle.outside_io.specs.declared.answers.WriteAnswer.TheVariants.{Done, Failed}
-use Rattle.outside_io.specs.Seen.{SinkSeen}
-use Rattle.outside_io.specs.Puts.{Puts}
-use Rattle.cov_model.specs.Sound.{ModelView}
-use Rattle.definitions.specs.Laws.{IsCertified}
-use Rattle.definitions.specs.RowReading as readings
-use Rattle.definitions.specs.Settings.{Settings}
-use Rattle.definitions.specs.Verdict as defined
-use Rattle.definitions.specs.Verdict.{verdict, verdict_text}
-use Rattle.definitions.specs.Words.{Command, first_faulty_for_checker, missing_name, read_check_words}
+use Rattle.outside_io.specs.believed.Seen.{SinkSeen}
+use Rattle.outside_io.specs.believed.Puts.{Puts}
+use Rattle.cov_model.specs.believed.Sound.{ModelView}
+use Rattle.definitions.specs.believed.Laws.{IsCertified}
+use Rattle.definitions.specs.believed.RowReading as readings
+use Rattle.definitions.specs.believed.Settings.{Settings}
+use Rattle.definitions.specs.believed.Verdict as defined
+use Rattle.definitions.specs.believed.Verdict.{verdict, verdict_text}
+use Rattle.definitions.specs.believed.Words.{Command, first_faulty_for_checker, missing_name, read_check_words}
 use Rattle.std.specs.Option.{option_or}
 use Rattle.definitions.proofs.Certified.{certified}
 use Rattle.model_lex.specs.declared.options.ModelOpts.{ModelOpts}
 use Rattle.model_lex.specs.declared.fault.ModelFault.{ModelFault}
-use Rattle.type_check.specs.ModelOf.{IsRefusalOf}
+use Rattle.type_check.specs.believed.ModelOf.{IsRefusalOf}
 use Rattle.type_check.proofs.OneAnswer.{files_have_one_model, models_are_not_refused, refusals_are_one}
-use Rattle.tuple_index.specs.PlanFault.{limit_passed}
+use Rattle.tuple_index.specs.believed.PlanFault.{limit_passed}
 use Rattle.row_text.specs.Readings.{fault_of}
 use Rattle.row_text.specs.declared.rows_fault.RowsFault.{RowsFault}
 use Rattle.row_text.specs.declared.rows_fault.RowsFault.TheVariants as told_faults
-use Rattle.command_line.specs.Stops.{NamesView, status_of, stop_of_model, stop_of_plan, stop_of_rows}
-use Rattle.command_line.specs.Words.{opts_of, settings_in}
+use Rattle.command_line.specs.believed.Stops.{NamesView, status_of, stop_of_model, stop_of_plan}
+use Rattle.command_line.specs.Stops.{stop_of_rows}
+use Rattle.command_line.specs.believed.Words.{opts_of, settings_in}
 use Rattle.command_line.specs.declared.stop.Stop.{Stop}
 use Rattle.command_line.specs.declared.stop.Stop.TheVariants.{OutOfMemory, Spent, BadWord, BadModel, BadConstraint, BadRows, NoResult, BadResult, CannotRead}
 use Rattle.command_line.specs.declared.stop.Stop.TheVariants.{CannotWrite, CannotWriteReport, TooMany, TooLong}
 use Rattle.command_line.specs.declared.files.FileKind.{FileKind}
-use Rattle.proof_check.specs.Checks.{IsCheckOf, Spells, verdict_given, report_of}
+use Rattle.proof_check.specs.Checks.{IsCheckOf}
+use Rattle.proof_check.specs.believed.Checks.{Spells, verdict_given, report_of}
 use Rattle.check_cli.specs.RunSteps.{CountsOut, StopsBefore, cannot_read, is_before, is_refused, no_memory, stop_of_check}
-use Rattle.check_cli.specs.Runs.{AreRead, Ends, HasReadings, HasVerdict, HeldFiles, Inputs, IsRefusal, FilesAreRefused, IsStatus, IsTold, answer_status}
-use Rattle.check_cli.specs.Runs.{answer_text, bad_model, bad_report, end_status, inputs_of, stop_of_report, too_many, unread, verdict_status}
-use Rattle.check_cli.specs.Words.{asked_by, command_seen, names_in, names_seen, settings_seen}
+use Rattle.check_cli.specs.believed.Runs.{AreRead, Ends, HasReadings, HasVerdict, HeldFiles, Inputs, IsRefusal, FilesAreRefused, IsStatus, IsTold, answer_status}
+use Rattle.check_cli.specs.Runs.{answer_text}
+use Rattle.check_cli.specs.believed.Runs.{bad_model, bad_report, end_status, inputs_of, stop_of_report, too_many, unread, verdict_status}
+use Rattle.check_cli.specs.believed.Words.{asked_by, names_in}
+use Rattle.check_cli.specs.Words.{command_seen, names_seen, settings_seen}
 use Rattle.proof_check.specs.declared.verdict.Verdict.{Verdict}
 use Rattle.proof_check.specs.declared.verdict.Verdict.TheVariants.{Accepted, BadRow, BadProof, BadOmission, Uncovered}
 use Rattle.proof_check.specs.declared.verdict.CheckFault.{CheckFault}

@@ -9,10 +9,10 @@ use Rattle.std.proofs.lemmas.List.{take_more, drop_more}
 use Rattle.std.proofs.lemmas.List.Elements.{All-cons, All-nil, All-append}
 use Rattle.std.proofs.lemmas.List.Folds.{list_any_none}
 use Rattle.value_text.proofs.ListLemmas.{option_or_parts}
-use Rattle.definitions.specs.Settings.{Setting, Order, Separator, Alias, Prefix, SeedFile, ShuffleValues, CaseCounts, Statistics, Workers, Budget}
-use Rattle.definitions.specs.Settings.{ProofFile, ProofFormat, MeasureFile, Make, SuspectFile, set, setting_of}
-use Rattle.definitions.specs.Words.{Command, excludes, exclude_each_other, is_mark_word, has_equal_marks, set_by, is_faulty, is_faulty_for_checker}
-use Rattle.definitions.specs.Words.{is_of_checker, first_faulty, first_faulty_for_checker, missing_name, read_check_words}
+use Rattle.definitions.specs.believed.Settings.{Setting, Order, Separator, Alias, Prefix, SeedFile, ShuffleValues, CaseCounts, Statistics, Workers, Budget}
+use Rattle.definitions.specs.believed.Settings.{ProofFile, ProofFormat, MeasureFile, Make, SuspectFile, set, setting_of}
+use Rattle.definitions.specs.believed.Words.{Command, excludes, exclude_each_other, is_mark_word, has_equal_marks, set_by, is_faulty, is_faulty_for_checker}
+use Rattle.definitions.specs.believed.Words.{is_of_checker, first_faulty, first_faulty_for_checker, missing_name, read_check_words}
 use Rattle.command_line.specs.Ranges.{AreFit}
 use Rattle.command_line.proofs.RangeLemmas.{words_fit}
 use Rattle.command_line.proofs.WordLemmas.{command_read, set_by-push, settings-push, unfaulty}

@@ -1,4 +1,5 @@
-pub mod Words
 pub mod WordSteps
-pub mod Runs
 pub mod RunSteps
+pub mod Runs
+pub mod believed
+pub mod Words

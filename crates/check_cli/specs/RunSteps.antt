@@ -1,16 +1,17 @@
 -- What the steps of a run of the checker say of each other. (This project's rules.)
 use Rattle.std.specs.Prelude.{◌≡◌, ◌≤◌, Bool, true, false, length, Result, Ok, Err}
-use Rattle.outside_io.specs.Seen.{SinkSeen, PutFaultsRose}
-use Rattle.definitions.specs.Limits.{ModelFile, RowFile, ProofFile, most_bytes}
-use Rattle.definitions.specs.Verdict.{verdict}
+use Rattle.outside_io.specs.believed.Seen.{SinkSeen, PutFaultsRose}
+use Rattle.definitions.specs.believed.Limits.{ModelFile, RowFile, ProofFile, most_bytes}
+use Rattle.definitions.specs.believed.Verdict.{verdict}
 use Rattle.model_lex.specs.declared.options.ModelOpts.{ModelOpts}
-use Rattle.command_line.specs.Stops.{stop_of_model, stop_of_plan, stop_of_rows}
+use Rattle.command_line.specs.believed.Stops.{stop_of_model, stop_of_plan}
+use Rattle.command_line.specs.Stops.{stop_of_rows}
 use Rattle.command_line.specs.declared.stop.Stop.{Stop}
 use Rattle.command_line.specs.declared.stop.Stop.TheVariants.{OutOfMemory, Spent, BadWord, BadModel, BadConstraint, BadRows, NoResult, BadResult, CannotRead}
 use Rattle.command_line.specs.declared.stop.Stop.TheVariants.{CannotWrite, CannotWriteReport, TooMany, TooLong}
 use Rattle.command_line.specs.declared.files.FileKind.{FileKind}
-use Rattle.proof_check.specs.Checks.{verdict_given}
-use Rattle.check_cli.specs.Runs.{HasReadings, HeldFiles, Inputs, FilesAreRefused, inputs_of}
+use Rattle.proof_check.specs.believed.Checks.{verdict_given}
+use Rattle.check_cli.specs.believed.Runs.{HasReadings, HeldFiles, Inputs, FilesAreRefused, inputs_of}
 use Rattle.proof_check.specs.declared.verdict.Verdict.{Verdict}
 use Rattle.proof_check.specs.declared.verdict.CheckFault.{CheckFault}
 use Rattle.proof_check.specs.declared.verdict.CheckFault.TheVariants as check_faults

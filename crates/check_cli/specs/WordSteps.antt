@@ -1,7 +1,7 @@
 -- What is known while the words of the checker are read. (This project's rules.)
 use Rattle.std.specs.Prelude.{◌≡◌, ℕ, ◌+◌, Bool, true, List, [], All, filter_map, take, drop, slice_index_or}
-use Rattle.definitions.specs.Settings.{setting_of}
-use Rattle.definitions.specs.Words.{is_faulty_for_checker, is_of_checker, set_by}
+use Rattle.definitions.specs.believed.Settings.{setting_of}
+use Rattle.definitions.specs.believed.Words.{is_faulty_for_checker, is_of_checker, set_by}
 use Rattle.check_cli.specs.Words.{settings_seen}
 use Rattle.check_cli.specs.declared.words.CheckOpts.{CheckOpts}
 

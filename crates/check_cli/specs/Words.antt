@@ -1,21 +1,10 @@
 -- The words of the checker behind the program's name, and what they ask for. (This project's rules.)
-use Rattle.std.specs.Prelude.{ℕ, List, [], ◌∷◌, Result, slice_index_or}
-use Rattle.definitions.specs.Settings.{Settings, defaults}
-use Rattle.definitions.specs.Words.{Command, read_check_words}
-use Rattle.command_line.specs.Stops.{NamesView}
+use Rattle.std.specs.Prelude.{[], ◌∷◌}
+use Rattle.definitions.specs.believed.Settings.{Settings, defaults}
+use Rattle.definitions.specs.believed.Words.{Command}
+use Rattle.command_line.specs.believed.Stops.{NamesView}
 use Rattle.command_line.specs.Settings.{order_seen}
-use Rattle.command_line.specs.Words.{TellsFault, settings_in}
 use Rattle.check_cli.specs.declared.words.CheckOpts.{CheckOpts}
-
--- the names that the first three words give
-abbrev pub names_in : List (List ℕ) → NamesView
-names_in words = record { model = slice_index_or words 0 []; rows = slice_index_or words 1 []; proof = slice_index_or words 2 [] }
-
-abbrev pub asked_by : List (List ℕ) → Result Settings ℕ
-asked_by words = settings_in (read_check_words words)
-
-abbrev pub IsWordFault : List (List ℕ) → ℕ → Type 0
-IsWordFault words index = TellsFault (read_check_words words) index
 
 -- a command as the program has it: the checker's options are set, and what else words may set is as it is without them
 abbrev pub settings_seen : CheckOpts → Settings

@@ -1,20 +1,22 @@
 ghost use Rattle.std.specs.Prelude.{◌≡◌, ◌≢◌, ◌⊎◌, ℕ, true, Ok, Err, IfOk, IfErr, MatchResult};
-ghost use Rattle.outside_io.specs.Seen.{KeepsFiles, KeepsReadFaults, KeepsWriteFaults, ReadFaultsRose, PutFaultsRose};
-ghost use Rattle.outside_io.specs.Puts.{Puts};
+ghost use Rattle.outside_io.specs.believed.Seen.{KeepsFiles, KeepsReadFaults, KeepsWriteFaults, ReadFaultsRose, PutFaultsRose};
+ghost use Rattle.outside_io.specs.believed.Puts.{Puts};
 ghost use Rattle.outside_io.specs.declared.answers.WriteAnswer.TheVariants.{Done, Failed};
-ghost use Rattle.definitions.specs.Diagnostics.{word_line};
-ghost use Rattle.definitions.specs.Laws.{IsCertified};
-ghost use Rattle.definitions.specs.Settings.{Settings};
-ghost use Rattle.definitions.specs.Verdict.{verdict, verdict_text};
+ghost use Rattle.definitions.specs.believed.Diagnostics.{word_line};
+ghost use Rattle.definitions.specs.believed.Laws.{IsCertified};
+ghost use Rattle.definitions.specs.believed.Settings.{Settings};
+ghost use Rattle.definitions.specs.believed.Verdict.{verdict, verdict_text};
 ghost use Rattle.command_line.specs.Ranges.{AreFit};
-ghost use Rattle.command_line.specs.Stops.{name_of};
-ghost use Rattle.command_line.specs.Stops as stops;
-ghost use Rattle.command_line.specs.Told.{Tells, end_text};
-ghost use Rattle.command_line.specs.Words.{opts_of, texts};
+ghost use Rattle.command_line.specs.believed.Stops.{name_of};
+ghost use Rattle.command_line.specs.believed.Stops as stops;
+ghost use Rattle.command_line.specs.believed.Told.{Tells, end_text};
+ghost use Rattle.command_line.specs.believed.Words.{opts_of, texts};
 ghost use Rattle.check_cli.specs.RunSteps.{Answers, CountsOut, FitLimits, Reads, is_before, stop_of_check};
-ghost use Rattle.check_cli.specs.Runs.{AreRead, Ends, HasReadings, HasVerdict, HeldFiles, Holds, IsRefusal, FilesAreRefused, IsRun, IsStatus, IsTold};
-ghost use Rattle.check_cli.specs.Runs.{ReadFaults, ReadsRose, answer_text, end_status, inputs_of, verdict_status};
-ghost use Rattle.check_cli.specs.Words.{IsWordFault, asked_by, names_in, names_seen, settings_seen};
+ghost use Rattle.check_cli.specs.believed.Runs.{AreRead, Ends, HasReadings, HasVerdict, HeldFiles, Holds, IsRefusal, FilesAreRefused, IsRun, IsStatus, IsTold};
+ghost use Rattle.check_cli.specs.believed.Runs.{ReadFaults, ReadsRose, end_status, inputs_of, verdict_status};
+ghost use Rattle.check_cli.specs.Runs.{answer_text};
+ghost use Rattle.check_cli.specs.believed.Words.{IsWordFault, asked_by, names_in};
+ghost use Rattle.check_cli.specs.Words.{names_seen, settings_seen};
 
 use crate::verdict_line::{put_verdict, status_of_verdict};
 use crate::words::{CheckOpts, read_check_words};
@@ -35,7 +37,7 @@ struct Contents {
 }
 
 impl Model for Contents {
-    ghost use Rattle.check_cli.specs.Runs.{Inputs};
+    ghost use Rattle.check_cli.specs.believed.Runs.{Inputs};
 
     ghost Value = { Inputs };
 

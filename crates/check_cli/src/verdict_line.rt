@@ -1,9 +1,10 @@
 ghost use Rattle.std.specs.Prelude.{◌≡◌, ◌++◌, codes, decimal};
-ghost use Rattle.outside_io.specs.Puts.{Puts};
-ghost use Rattle.definitions.specs.Pairs.{pairs_text};
-ghost use Rattle.definitions.specs.Verdict.{verdict_text};
-ghost use Rattle.definitions.specs.Verdict as defined;
-ghost use Rattle.check_cli.specs.Runs.{answer_status, answer_text};
+ghost use Rattle.outside_io.specs.believed.Puts.{Puts};
+ghost use Rattle.definitions.specs.believed.Pairs.{pairs_text};
+ghost use Rattle.definitions.specs.believed.Verdict.{verdict_text};
+ghost use Rattle.definitions.specs.believed.Verdict as defined;
+ghost use Rattle.check_cli.specs.believed.Runs.{answer_status};
+ghost use Rattle.check_cli.specs.Runs.{answer_text};
 
 use command_line::put_pairs;
 use cov_model::Tuple;

@@ -1,8 +1,9 @@
 ghost use Rattle.std.specs.Prelude.{◌≡◌, ◌==◌, ◌+◌, ◌<◌, [], true, length, take, slice_index_or, Ok, MatchResult, IfSome, None, is_none, option_map};
-ghost use Rattle.definitions.specs.Settings as defined;
-ghost use Rattle.definitions.specs.Words as reading;
+ghost use Rattle.definitions.specs.believed.Settings as defined;
+ghost use Rattle.definitions.specs.believed.Words as reading;
 ghost use Rattle.command_line.specs.Settings.{setting_seen};
-ghost use Rattle.command_line.specs.Words.{HasFault, TellsFault, texts};
+ghost use Rattle.command_line.specs.Words.{HasFault};
+ghost use Rattle.command_line.specs.believed.Words.{TellsFault, texts};
 ghost use Rattle.check_cli.specs.Words.{command_seen, names_seen, settings_seen};
 ghost use Rattle.check_cli.specs.WordSteps.{IsReading, is_faulty_at};
 

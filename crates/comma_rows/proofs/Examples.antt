@@ -1,7 +1,8 @@
 -- Texts of comma-separated values and how they read: the examples of RFC 4180, section 2, and each fault.
 use Rattle.std.proofs.Common.{◌≡◌, ℕ, List, ◌∷◌, [], Ok, Err, codes, refl}
 use Rattle.comma_rows.specs.declared.comma_fault.CommaCause.TheVariants.{OpenQuote, TextAfterQuote, QuoteInText, LoneReturn}
-use Rattle.comma_rows.specs.Reading.{comma_texts, read}
+use Rattle.comma_rows.specs.Reading.{comma_texts}
+use Rattle.comma_rows.specs.believed.Reading.{read}
 
 abbrev rows : List (List (List ℕ))
 rows = (codes "aaa" ∷ codes "bbb" ∷ codes "ccc" ∷ []) ∷ (codes "zzz" ∷ codes "yyy" ∷ codes "xxx" ∷ []) ∷ []

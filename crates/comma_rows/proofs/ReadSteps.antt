@@ -5,9 +5,9 @@ use Rattle.comma_rows.specs.declared.position.Position.{Position}
 use Rattle.comma_rows.specs.declared.action.Place.{Place}
 use Rattle.comma_rows.specs.declared.action.Place.TheVariants.{LineStart, CellStart, InText, AfterQuote}
 use Rattle.comma_rows.specs.declared.action.Action.{Action}
-use Rattle.comma_rows.specs.Positions.{is_inside, next}
-use Rattle.comma_rows.specs.Actions.{action_of}
-use Rattle.comma_rows.specs.Reading.{at_end, Reading, begins_with_feed, follow, read, with_cell}
+use Rattle.comma_rows.specs.believed.Positions.{is_inside, next}
+use Rattle.comma_rows.specs.believed.Actions.{action_of}
+use Rattle.comma_rows.specs.believed.Reading.{at_end, Reading, begins_with_feed, follow, read, with_cell}
 use Rattle.comma_rows.specs.Taking.{HasRoom}
 
 pub read-end : (place : Place) (begun at : Position) (text rest : List ℕ) → rest ≡ [] → read place begun at text rest ≡ at_end place begun text

@@ -1,5 +1,4 @@
-pub mod Positions
-pub mod Actions
 pub mod Rows
-pub mod Reading
 pub mod Taking
+pub mod believed
+pub mod Reading

@@ -5,7 +5,7 @@ use Rattle.comma_rows.specs.declared.comma_cells.Cut.{Cut}
 use Rattle.comma_rows.specs.declared.comma_cells.CommaCell.{CommaCell}
 use Rattle.comma_rows.specs.declared.comma_fault.CommaError.{CommaError}
 use Rattle.comma_rows.specs.declared.comma_fault.CommaError.TheVariants.{Fault, NoMemory}
-use Rattle.comma_rows.specs.Reading.{Cell, Reading, no_more, stopped, with_cell, read}
+use Rattle.comma_rows.specs.believed.Reading.{Cell, Reading, no_more, stopped, with_cell, read}
 
 -- a cell with its text
 abbrev pub cell_seen : CommaCell → List ℕ → Cell

@@ -1,5 +1,5 @@
 ghost use Rattle.std.specs.Prelude.{◌≡◌};
-ghost use Rattle.comma_rows.specs.Actions.{action_of, ends_line, passes_return, opens_quotes, adds_text, outside_quotes};
+ghost use Rattle.comma_rows.specs.believed.Actions.{action_of, ends_line, passes_return, opens_quotes, adds_text, outside_quotes};
 
 use crate::comma_fault::CommaCause;
 

@@ -1,6 +1,6 @@
 ghost use Rattle.std.specs.Prelude.{◌≡◌, ◌≤◌, ◌^◌, ◌++◌, ◌∷◌, ℕ, List, [], length, MatchOption, OnErr, OnOk};
-ghost use Rattle.comma_rows.specs.Positions.{first_place};
-ghost use Rattle.comma_rows.specs.Reading.{begins_with_feed, comma_cells, read};
+ghost use Rattle.comma_rows.specs.believed.Positions.{first_place};
+ghost use Rattle.comma_rows.specs.believed.Reading.{begins_with_feed, comma_cells, read};
 ghost use Rattle.comma_rows.specs.Taking.{Cuts, HasRoom, Takes};
 
 use crate::action::{Action, Place, action_of};
@@ -29,7 +29,7 @@ pub struct CommaCells<'a> {
 
 impl<'a> Model for CommaCells<'a> {
     ghost use Rattle.std.specs.Prelude.{[]};
-    ghost use Rattle.comma_rows.specs.Reading.{Reading, read};
+    ghost use Rattle.comma_rows.specs.believed.Reading.{Reading, read};
     ghost use Rattle.comma_rows.specs.Taking.{HasRoom};
 
     ghost Value = { Reading };

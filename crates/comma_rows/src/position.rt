@@ -1,5 +1,5 @@
 ghost use Rattle.std.specs.Prelude.{◌≡◌, ◌<◌, ◌^◌, ◌+◌};
-ghost use Rattle.comma_rows.specs.Positions.{is_inside, next};
+ghost use Rattle.comma_rows.specs.believed.Positions.{is_inside, next};
 
 /// A place in a text.
 #[derive(Debug, Drop, Clone, Copy, PartialEq, Eq)]

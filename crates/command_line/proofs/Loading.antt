@@ -1,16 +1,17 @@
 -- Why the reading of a file stops.
 use Rattle.std.proofs.Common.{◌≡◌, ◌<◌, ◌≤◌, ℕ, List, Option, None, Some, Ok, Err, Result, length, refl, sym, subst}
 use Rattle.std.specs.Prelude.{◌≢◌, IfSome, IfErr, IsErrAnd, IsSomeAnd}
-use Rattle.definitions.specs.Limits.{ModelFile, most_bytes}
+use Rattle.definitions.specs.believed.Limits.{ModelFile, most_bytes}
 use Rattle.model_lex.specs.declared.fault.ModelFault.{ModelFault}
 use Rattle.model_lex.specs.declared.fault.ModelFault.TheVariants.{Bad, BadRule, Limit}
 use Rattle.model_lex.specs.declared.fault.ModelFault.TheVariants as model_faults
 use Rattle.model_lex.specs.declared.options.ModelOpts.{ModelOpts}
-use Rattle.cov_model.specs.Sound.{ModelView}
+use Rattle.cov_model.specs.believed.Sound.{ModelView}
 use Rattle.model_lex.specs.declared.note.Note.{Note}
-use Rattle.type_check.specs.ModelOf.{IsModelOf, IsRefusalOf}
-use Rattle.command_line.specs.Loading.{IsLoaded, IsOfReading, IsUnread, StopsReading, cannot_read, folder_failed, has_more, is_refused, no_room, out_of_memory, too_long}
-use Rattle.command_line.specs.Stops.{measured, stop_of_model}
+use Rattle.type_check.specs.believed.ModelOf.{IsModelOf, IsRefusalOf}
+use Rattle.command_line.specs.believed.Loading.{IsLoaded, StopsReading, cannot_read, is_refused, out_of_memory, too_long}
+use Rattle.command_line.specs.Loading.{IsOfReading, IsUnread, folder_failed, has_more, no_room}
+use Rattle.command_line.specs.believed.Stops.{measured, stop_of_model}
 use Rattle.command_line.specs.declared.files.FileKind.{FileKind}
 use Rattle.command_line.specs.declared.files.FileKind.TheVariants as kinds
 use Rattle.command_line.specs.declared.stop.Stop.{Stop}

@@ -7,7 +7,7 @@ use Rattle.std.proofs.lemmas.Bool.{cases_Bool, cases_lt, eqb-false, eqb-true, fa
 use Rattle.std.proofs.lemmas.List.{get_or-take, get_or_past, length-take, take_all}
 use Rattle.std.proofs.lemmas.List.Sums.{position_or_len_is}
 use Rattle.value_text.proofs.ListLemmas.{position_is}
-use Rattle.definitions.specs.Words.{missing_name}
+use Rattle.definitions.specs.believed.Words.{missing_name}
 
 -- none passes, by all of them
 pub placed_nowhere : {X : Type 0} (p : X → Bool) (xs : List X) (i : ℕ) (d : X) → length xs ≤ i

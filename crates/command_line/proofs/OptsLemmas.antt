@@ -4,7 +4,7 @@ use Rattle.model_lex.specs.declared.options.ModelOpts.{ModelOpts}
 use Rattle.model_lex.specs.declared.options.OrderWord.{OrderWord}
 use Rattle.model_lex.specs.declared.options.OrderWord.TheVariants.{Number, Max}
 use Rattle.command_line.specs.Settings.{order_seen}
-use Rattle.command_line.specs.Words.{order_word}
+use Rattle.command_line.specs.believed.Words.{order_word}
 
 same_order : (order : OrderWord) → order ≡ order_word (order_seen order)
 same_order (Number n) = refl

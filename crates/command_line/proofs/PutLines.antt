@@ -1,12 +1,12 @@
 -- The line of a question above the budget, in its three parts.
 use Rattle.std.proofs.Common.{◌≡◌, ℕ, List, ◌++◌, sym, subst, append_assoc}
 use Rattle.std.specs.Prelude.{codes}
-use Rattle.definitions.specs.Diagnostics.{spent_line}
-use Rattle.definitions.specs.Pairs.{pairs_text}
+use Rattle.definitions.specs.believed.Diagnostics.{spent_line}
+use Rattle.definitions.specs.believed.Pairs.{pairs_text}
 use Rattle.outside_io.specs.declared.answers.WriteAnswer.{WriteAnswer}
 use Rattle.outside_io.specs.declared.answers.WriteAnswer.TheVariants.{Done, Failed}
-use Rattle.outside_io.specs.Seen.{SinkSeen}
-use Rattle.outside_io.specs.Puts.{Puts}
+use Rattle.outside_io.specs.believed.Seen.{SinkSeen}
+use Rattle.outside_io.specs.believed.Puts.{Puts}
 use Rattle.outside_io.proofs.PutsLaws.{Puts-then, Puts-stopped}
 use Rattle.command_line.specs.Pieces.{spent_opening}
 

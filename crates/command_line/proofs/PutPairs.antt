@@ -2,10 +2,10 @@
 use Rattle.std.proofs.Common.{◌≡◌, ℕ, suc, ◌+◌, ◌<◌, List, [], ◌∷◌, ◌++◌, length, get_or, take, refl, sym, ap, ◌∙◌, arith, append_assoc}
 use Rattle.std.proofs.lemmas.List.{take_more, length-take-le, take-append-drop, append-nil}
 use Rattle.std.proofs.Common.{drop, subst}
-use Rattle.definitions.specs.Pairs.{pair_text, pairs_text}
+use Rattle.definitions.specs.believed.Pairs.{pair_text, pairs_text}
 use Rattle.outside_io.specs.declared.answers.WriteAnswer.TheVariants.{Done, Failed}
-use Rattle.outside_io.specs.Seen.{SinkSeen}
-use Rattle.outside_io.specs.Puts.{Puts}
+use Rattle.outside_io.specs.believed.Seen.{SinkSeen}
+use Rattle.outside_io.specs.believed.Puts.{Puts}
 use Rattle.outside_io.proofs.PutsLaws.{Puts-then, Puts-stopped}
 use Rattle.command_line.specs.Pieces.{pair_behind}
 

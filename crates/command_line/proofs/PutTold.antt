@@ -2,8 +2,8 @@
 use Rattle.std.proofs.Common.{ℕ, List, ◌++◌}
 use Rattle.outside_io.specs.declared.answers.WriteAnswer.{WriteAnswer}
 use Rattle.outside_io.specs.declared.answers.WriteAnswer.TheVariants.{Done, Failed}
-use Rattle.outside_io.specs.Seen.{SinkSeen}
-use Rattle.outside_io.specs.Puts.{Puts}
+use Rattle.outside_io.specs.believed.Seen.{SinkSeen}
+use Rattle.outside_io.specs.believed.Puts.{Puts}
 use Rattle.outside_io.proofs.PutsLaws.{Puts-then, Puts-stopped}
 
 pub Puts-three : (r : WriteAnswer) (before middle last after : SinkSeen) (x y z : List ℕ)

@@ -6,17 +6,17 @@ use Rattle.std.specs.List.{list_any, after_first}
 use Rattle.std.proofs.lemmas.Bool.{and_parts, eqb-false, leb-true, false≢true, cases_Bool, or_left, or_parts, or_right}
 use Rattle.std.proofs.lemmas.Option.{none-some, same_Some}
 use Rattle.std.specs.Str.Parse.{digits_value}
-use Rattle.value_text.specs.Numbers.{count_of, is_digits}
-use Rattle.value_text.specs.Texts.{is_same_text}
-use Rattle.cov_model.specs.Names.{is_mark}
-use Rattle.model_lex.specs.Sections.{has_colon}
-use Rattle.definitions.specs.Settings.{OrderWord, OrderOf, OrderMax, Setting, Order, Separator, Alias, Prefix, SeedFile, ShuffleValues, ShuffleBy, AnyShuffle}
-use Rattle.definitions.specs.Settings.{CaseCounts, Statistics, Workers, Budget, ProofFile, ProofFormat, MeasureFile, Make, SuspectFile, Settings, set}
-use Rattle.definitions.specs.Settings.{setting_of, is_named, is_colon, valued_setting, bare_setting, mark_of, order_word_of, effort_of, file_of}
-use Rattle.definitions.specs.Words.{has_equal_marks, is_mark_word, set_by, is_faulty, first_faulty}
+use Rattle.value_text.specs.believed.Numbers.{count_of, is_digits}
+use Rattle.value_text.specs.believed.Texts.{is_same_text}
+use Rattle.cov_model.specs.believed.Names.{is_mark}
+use Rattle.model_lex.specs.believed.Sections.{has_colon}
+use Rattle.definitions.specs.believed.Settings.{OrderWord, OrderOf, OrderMax, Setting, Order, Separator, Alias, Prefix, SeedFile, ShuffleValues, ShuffleBy, AnyShuffle}
+use Rattle.definitions.specs.believed.Settings.{CaseCounts, Statistics, Workers, Budget, ProofFile, ProofFormat, MeasureFile, Make, SuspectFile, Settings, set}
+use Rattle.definitions.specs.believed.Settings.{setting_of, is_named, is_colon, valued_setting, bare_setting, mark_of, order_word_of, effort_of, file_of}
+use Rattle.definitions.specs.believed.Words.{has_equal_marks, is_mark_word, set_by, is_faulty, first_faulty}
 use Rattle.model_parse.specs.RawModels.{AreMarks, IsOrder}
 use Rattle.command_line.specs.Ranges.{AreFit, AreWorkers}
-use Rattle.command_line.specs.Words.{opts_of, order_word}
+use Rattle.command_line.specs.believed.Words.{opts_of, order_word}
 use Rattle.command_line.proofs.WordLemmas.{by_words, set_by-push}
 
 -- what one word may set is in its range

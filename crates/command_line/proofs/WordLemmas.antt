@@ -9,8 +9,8 @@ use Rattle.std.proofs.lemmas.List.{append-nil}
 use Rattle.std.proofs.lemmas.List.Elements.{filter_map-append}
 use Rattle.std.proofs.lemmas.List.Sums.{fold-append}
 use Rattle.std.proofs.lemmas.Option.{none-some}
-use Rattle.definitions.specs.Settings.{Setting, defaults, set, setting_of, settings_of}
-use Rattle.definitions.specs.Words.{Command, exclude_each_other, is_mark_word, has_equal_marks, set_by, is_faulty, first_faulty, read_command}
+use Rattle.definitions.specs.believed.Settings.{Setting, defaults, set, setting_of, settings_of}
+use Rattle.definitions.specs.believed.Words.{Command, exclude_each_other, is_mark_word, has_equal_marks, set_by, is_faulty, first_faulty, read_command}
 
 -- what the words so far set, and one more
 pub settings-push : (before : List (List ℕ)) (word : List ℕ) (setting : Setting) → setting_of word ≡ Some setting

@@ -1,7 +1,8 @@
-pub mod Loading
-pub mod Pieces
 pub mod Ranges
 pub mod Settings
+pub mod Loading
+pub mod believed
+pub mod Pieces
 pub mod Stops
 pub mod Told
 pub mod Words

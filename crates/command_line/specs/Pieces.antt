@@ -1,6 +1,6 @@
 -- Lines on standard error as they are written, piece by piece.
 use Rattle.std.specs.Prelude.{ℕ, zero, suc, List, ◌∷◌, ◌++◌, codes, decimal}
-use Rattle.definitions.specs.Pairs.{pair_text}
+use Rattle.definitions.specs.believed.Pairs.{pair_text}
 
 -- what a pair adds to those before it: a space before it, unless it is the first
 abbrev pub pair_behind : ℕ → ℕ × ℕ → List ℕ
@@ -14,7 +14,3 @@ spent_opening budget = codes "error: search budget " ++ decimal budget ++ codes 
 -- the line of a refusal of a file of rows at one of its lines, by the text behind the line's number
 abbrev pub row_line : ℕ → List ℕ → List ℕ
 row_line line text = codes "error: row file line " ++ decimal line ++ text
-
--- the line of so many of what has this name, where there may be fewer
-abbrev pub limit_line : List ℕ → ℕ → ℕ → List ℕ
-limit_line name count most = codes "error: limit: " ++ name ++ codes " " ++ decimal count ++ codes " above " ++ decimal most ++ codes "\n"

@@ -1,9 +1,9 @@
 -- What is known of settings that words have given. (PICT's guide for marks and orders; the ranges are this
 -- project's rules.)
 use Rattle.std.specs.Prelude.{ℕ, ◌≤◌}
-use Rattle.definitions.specs.Settings.{Settings}
+use Rattle.definitions.specs.believed.Settings.{Settings}
 use Rattle.model_parse.specs.RawModels.{AreOpts}
-use Rattle.command_line.specs.Words.{opts_of}
+use Rattle.command_line.specs.believed.Words.{opts_of}
 
 -- there are 1 to 64 workers
 abbrev pub AreWorkers : ℕ → Type 0

@@ -1,8 +1,8 @@
 -- What one word sets, as the program has it, and as definitions name it.
-use Rattle.definitions.specs.Settings as defined
+use Rattle.definitions.specs.believed.Settings as defined
 use Rattle.model_lex.specs.declared.options.OrderWord.{OrderWord}
 use Rattle.model_lex.specs.declared.options.OrderWord.TheVariants as orders
-use Rattle.refutation.specs.Proofs.{format_of}
+use Rattle.refutation.specs.believed.Proofs.{format_of}
 use Rattle.command_line.specs.declared.setting.Shuffle.{Shuffle}
 use Rattle.command_line.specs.declared.setting.Shuffle.TheVariants as shuffles
 use Rattle.command_line.specs.declared.setting.Setting.{Setting}

@@ -1,7 +1,7 @@
 ghost use Rattle.std.specs.Prelude.{◌≡◌, []};
-ghost use Rattle.definitions.specs.Diagnostics.{bytes_name};
-ghost use Rattle.definitions.specs.Limits.{most_bytes};
-ghost use Rattle.command_line.specs.Stops.{measured, name_of};
+ghost use Rattle.definitions.specs.believed.Diagnostics.{bytes_name};
+ghost use Rattle.definitions.specs.believed.Limits.{most_bytes};
+ghost use Rattle.command_line.specs.believed.Stops.{measured, name_of};
 
 use std::marker::Model;
 
@@ -52,7 +52,7 @@ pub struct FileNames<'w> {
 }
 
 impl<'w> Model for FileNames<'w> {
-    ghost use Rattle.command_line.specs.Stops.{NamesView};
+    ghost use Rattle.command_line.specs.believed.Stops.{NamesView};
 
     ghost Value = { NamesView };
 

@@ -1,10 +1,10 @@
 //! Lines on standard error that each program writes. None of these calls takes memory.
 ghost use Rattle.std.specs.Prelude.{◌≡◌};
-ghost use Rattle.outside_io.specs.Puts.{Puts};
-ghost use Rattle.definitions.specs.Diagnostics.{bytes_limit_line, model_line, word_line};
-ghost use Rattle.command_line.specs.Pieces.{limit_line};
-ghost use Rattle.command_line.specs.Stops.{measured};
-ghost use Rattle.command_line.specs.Told.{Tells};
+ghost use Rattle.outside_io.specs.believed.Puts.{Puts};
+ghost use Rattle.definitions.specs.believed.Diagnostics.{bytes_limit_line, model_line, word_line};
+ghost use Rattle.command_line.specs.believed.Pieces.{limit_line};
+ghost use Rattle.command_line.specs.believed.Stops.{measured};
+ghost use Rattle.command_line.specs.believed.Told.{Tells};
 
 use crate::files::FileKind;
 use crate::word_fault::WordFault;

@@ -1,11 +1,12 @@
 ghost use Rattle.std.specs.Prelude.{◌≡◌, ◌≢◌, ◌⊎◌, None, Err, IfOk, IfErr, IfSome, IsSomeAnd, ◌≤◌, length};
-ghost use Rattle.outside_io.specs.Seen.{KeepsFiles, KeepsReadFaults, KeepsWriteFaults, ReadFaultsRose};
-ghost use Rattle.cov_model.specs.Sound.{IsSound};
-ghost use Rattle.definitions.specs.Limits.{ModelFile, most_bytes};
+ghost use Rattle.outside_io.specs.believed.Seen.{KeepsFiles, KeepsReadFaults, KeepsWriteFaults, ReadFaultsRose};
+ghost use Rattle.cov_model.specs.believed.Sound.{IsSound};
+ghost use Rattle.definitions.specs.believed.Limits.{ModelFile, most_bytes};
 ghost use Rattle.model_parse.specs.RawModels.{AreOpts};
-ghost use Rattle.type_check.specs.ModelOf.{IsModelOf};
-ghost use Rattle.command_line.specs.Loading.{IsLoaded, IsOfReading, IsUnread, StopsReading};
-ghost use Rattle.command_line.specs.Stops.{measured};
+ghost use Rattle.type_check.specs.believed.ModelOf.{IsModelOf};
+ghost use Rattle.command_line.specs.believed.Loading.{IsLoaded, StopsReading};
+ghost use Rattle.command_line.specs.Loading.{IsOfReading, IsUnread};
+ghost use Rattle.command_line.specs.believed.Stops.{measured};
 
 use crate::files::FileKind;
 use crate::stop::Stop;

@@ -1,7 +1,7 @@
 ghost use Rattle.std.specs.Prelude.{map};
 ghost use Rattle.std.specs.List.{join_with_byte};
-ghost use Rattle.outside_io.specs.Puts.{Puts};
-ghost use Rattle.definitions.specs.Pairs.{pair_text, pairs_text};
+ghost use Rattle.outside_io.specs.believed.Puts.{Puts};
+ghost use Rattle.definitions.specs.believed.Pairs.{pair_text, pairs_text};
 ghost use Rattle.command_line.specs.Pieces.{pair_behind};
 
 use cov_model::{ParamNo, ValueNo};

@@ -1,10 +1,10 @@
 ghost use Rattle.std.specs.Prelude.{◌≡◌, ◌<◌, ℕ, List, true};
 ghost use Rattle.std.specs.List.{after_first};
 ghost use Rattle.std.specs.Option.{option_map};
-ghost use Rattle.cov_model.specs.Names.{is_letter, is_digit, reserved, is_mark};
-ghost use Rattle.definitions.specs.Settings as defined;
-ghost use Rattle.value_text.specs.Numbers.{count_of};
-ghost use Rattle.refutation.specs.Proofs.{format_of};
+ghost use Rattle.cov_model.specs.believed.Names.{is_letter, is_digit, reserved, is_mark};
+ghost use Rattle.definitions.specs.believed.Settings as defined;
+ghost use Rattle.value_text.specs.believed.Numbers.{count_of};
+ghost use Rattle.refutation.specs.believed.Proofs.{format_of};
 ghost use Rattle.command_line.specs.Settings.{setting_seen, order_seen};
 
 use definitions::Effort;

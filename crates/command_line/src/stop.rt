@@ -1,10 +1,10 @@
 ghost use Rattle.std.specs.Prelude.{◌≡◌, []};
-ghost use Rattle.outside_io.specs.Puts.{Puts};
-ghost use Rattle.definitions.specs.Diagnostics.{count_limit_line, counted_name, model_line, no_column_line, spent_line};
-ghost use Rattle.definitions.specs.Limits.{most_counted};
-ghost use Rattle.model_lex.specs.Codes.{diag_code, diag_text};
+ghost use Rattle.outside_io.specs.believed.Puts.{Puts};
+ghost use Rattle.definitions.specs.believed.Diagnostics.{count_limit_line, counted_name, model_line, no_column_line, spent_line};
+ghost use Rattle.definitions.specs.believed.Limits.{most_counted};
+ghost use Rattle.model_lex.specs.believed.Codes.{diag_code, diag_text};
 ghost use Rattle.command_line.specs.Pieces.{row_line, spent_opening};
-ghost use Rattle.command_line.specs.Stops.{counted, line_of, rows_line, status_of};
+ghost use Rattle.command_line.specs.believed.Stops.{counted, line_of, rows_line, status_of};
 
 use crate::files::{FileKind, FileNames};
 use crate::lines::{put_limit, put_model_line, put_too_long, put_word};
@@ -105,7 +105,7 @@ impl From<NoMemory> for Stop {
 }
 
 impl From<ModelFault> for Stop {
-    ghost use Rattle.command_line.specs.Stops.{stop_of_model};
+    ghost use Rattle.command_line.specs.believed.Stops.{stop_of_model};
 
     ghost from_gives = { λ fault stop. stop ≡ stop_of_model fault };
 
@@ -120,7 +120,7 @@ impl From<ModelFault> for Stop {
 }
 
 impl From<PlanFault> for Stop {
-    ghost use Rattle.command_line.specs.Stops.{stop_of_plan};
+    ghost use Rattle.command_line.specs.believed.Stops.{stop_of_plan};
 
     ghost from_gives = { λ fault stop. stop ≡ stop_of_plan fault };
 

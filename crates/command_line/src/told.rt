@@ -1,9 +1,10 @@
 ghost use Rattle.std.specs.Prelude.{◌≡◌, ◌++◌, IfOk};
 ghost use Rattle.std.specs.List.{flat_map};
-ghost use Rattle.outside_io.specs.Puts.{Puts};
-ghost use Rattle.definitions.specs.Diagnostics.{used_seed_line};
-ghost use Rattle.command_line.specs.Told.{end_text, line_behind, row_notes_text, seed_text, told_text};
-ghost use Rattle.command_line.specs.Stops.{line_of};
+ghost use Rattle.outside_io.specs.believed.Puts.{Puts};
+ghost use Rattle.definitions.specs.believed.Diagnostics.{used_seed_line};
+ghost use Rattle.command_line.specs.believed.Told.{end_text, row_notes_text, seed_text, told_text};
+ghost use Rattle.command_line.specs.Told.{line_behind};
+ghost use Rattle.command_line.specs.believed.Stops.{line_of};
 
 use crate::files::FileNames;
 use crate::stop::Stop;

@@ -1,9 +1,9 @@
 ghost use Rattle.std.specs.Prelude.{◌≡◌, ◌==◌, ◌&&◌, ◌||◌, ◌+◌, ◌-◌, ◌^◌, ◌<◌, [], not, length, drop, min, option_map, slice_index_or};
 ghost use Rattle.std.specs.List.{list_any};
 ghost use Rattle.std.specs.String.{string_bytes};
-ghost use Rattle.definitions.specs.Settings.{defaults};
-ghost use Rattle.definitions.specs.Words as reading;
-ghost use Rattle.command_line.specs.Words.{opts_of, texts};
+ghost use Rattle.definitions.specs.believed.Settings.{defaults};
+ghost use Rattle.definitions.specs.believed.Words as reading;
+ghost use Rattle.command_line.specs.believed.Words.{opts_of, texts};
 
 use crate::setting::is_named;
 use model_lex::{Marks, ModelOpts, OrderWord};

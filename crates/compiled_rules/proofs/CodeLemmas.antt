@@ -1,8 +1,8 @@
 -- Compiled predicates over rows of parts and over lists of parts.
 use mathlib.Core.Former.{Count}
 use Rattle.std.proofs.Common.{◌≡◌, Bool, List, ℕ, Option, ◌∙◌, ap, refl}
-use Rattle.cov_model.specs.Kleene.{and_of, or_of}
-use Rattle.cov_model.specs.Sound.{ModelView}
+use Rattle.cov_model.specs.believed.Kleene.{and_of, or_of}
+use Rattle.cov_model.specs.believed.Sound.{ModelView}
 use Rattle.compiled_rules.specs.declared.code.Code as codes
 use Rattle.compiled_rules.specs.declared.code.Code.{Code, Not', All', Any', Row_of-Code, end_of-Code, more_of-Code, items-the_row-Code, items_hidden-the_row-Code-0}
 use Rattle.compiled_rules.specs.Codes.{code_truth, all_rows, any_rows, all_codes, any_codes}

@@ -8,10 +8,12 @@ use Rattle.cov_model.specs.declared.truth.Truth.{Truth}
 use Rattle.cov_model.specs.declared.truth.Truth.TheVariants.{Yes, No}
 use Rattle.cov_model.specs.declared.constraint.Pred as preds
 use Rattle.cov_model.specs.declared.constraint.Pred.{Pred}
-use Rattle.cov_model.specs.Views.{BodyView, pred_view, preds_in}
+use Rattle.cov_model.specs.believed.Views.{BodyView}
+use Rattle.cov_model.specs.Views.{pred_view, preds_in}
 use Rattle.compiled_rules.specs.declared.code.BodyCode.{BodyCode}
-use Rattle.cov_model.specs.Sound.{ModelView, rule_at}
-use Rattle.cov_model.specs.Kleene.{and_of, or_of, pred_truth, all_truth, any_truth, body_truth}
+use Rattle.cov_model.specs.believed.Sound.{ModelView}
+use Rattle.cov_model.specs.Sound.{rule_at}
+use Rattle.cov_model.specs.believed.Kleene.{and_of, or_of, pred_truth, all_truth, any_truth, body_truth}
 use Rattle.cov_model.proofs.TruthLemmas.{each_truth, either_truth}
 use Rattle.compiled_rules.specs.declared.code.Code as codes
 use Rattle.compiled_rules.specs.declared.code.Code.{Code}

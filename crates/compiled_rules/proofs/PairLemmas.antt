@@ -8,12 +8,12 @@ use Rattle.std.proofs.lemmas.List.{get_or-set_other, get_or-set_same, length-set
 use Rattle.std.proofs.lemmas.List.FromFn.{length-map-range_with_len}
 use Rattle.cov_model.specs.declared.truth.Truth.TheVariants.{Unknown}
 use Rattle.cov_model.specs.declared.constraint.Term as terms
-use Rattle.cov_model.specs.Views.{Leaf}
-use Rattle.cov_model.specs.Sound.{ModelView, param_at}
+use Rattle.cov_model.specs.believed.Views.{Leaf}
+use Rattle.cov_model.specs.believed.Sound.{ModelView, param_at}
 use Rattle.cov_model.specs.Fits.{FitsModel}
-use Rattle.cov_model.specs.Rows.{is_assigned, value_in}
-use Rattle.cov_model.specs.Meaning.{term_holds}
-use Rattle.cov_model.specs.Kleene.{known, term_params, term_truth}
+use Rattle.cov_model.specs.believed.Rows.{is_assigned, value_in}
+use Rattle.cov_model.specs.believed.Meaning.{term_holds}
+use Rattle.cov_model.specs.believed.Kleene.{known, term_params, term_truth}
 use Rattle.compiled_rules.specs.declared.code.Code as codes
 use Rattle.compiled_rules.specs.Codes.{is_yes, truths_over, IsCodeOf, PairTruths}
 use Rattle.compiled_rules.proofs.TermLemmas.{AgreeOn, row_read, assigned_by, value_by, holds, value_fits}

@@ -6,17 +6,17 @@ use Rattle.std.specs.Ordering.{is_eq}
 use Rattle.std.proofs.lemmas.Bool.{cases_eq, cases_Bool}
 use Rattle.std.proofs.lemmas.List.{get_or-set_other, get_or-set_same, length-set, get_or-append-add, get_or_append_left, append_assoc}
 use Rattle.std.proofs.lemmas.List.FromFn.{length-map-range_with_len, get_or-map-range_with_len, map-range_with_len_more}
-use Rattle.value_text.specs.Like.{is_like}
+use Rattle.value_text.specs.believed.Like.{is_like}
 use Rattle.cov_model.specs.declared.truth.Truth.TheVariants.{Unknown}
 use Rattle.cov_model.specs.declared.constraint.Literal.{Literal}
 use Rattle.cov_model.specs.declared.constraint.Term as terms
 use Rattle.cov_model.specs.declared.constraint.Term.TheVariants.{ValueIs, ParamIs, OneOf, Like, Negative, Positive}
-use Rattle.cov_model.specs.Views.{Leaf}
-use Rattle.cov_model.specs.Sound.{ModelView, param_at, first_name}
+use Rattle.cov_model.specs.believed.Views.{Leaf}
+use Rattle.cov_model.specs.believed.Sound.{ModelView, param_at, first_name}
 use Rattle.cov_model.specs.Fits.{FitsModel}
-use Rattle.cov_model.specs.Rows.{is_assigned, value_in}
-use Rattle.cov_model.specs.Meaning.{value_at, operand_of, literal_order, stands_in, term_holds}
-use Rattle.cov_model.specs.Kleene.{known, term_params, term_truth}
+use Rattle.cov_model.specs.believed.Rows.{is_assigned, value_in}
+use Rattle.cov_model.specs.believed.Meaning.{value_at, operand_of, literal_order, stands_in, term_holds}
+use Rattle.cov_model.specs.believed.Kleene.{known, term_params, term_truth}
 use Rattle.compiled_rules.specs.declared.code.Code as codes
 use Rattle.compiled_rules.specs.Codes.{is_yes, truths_over, IsCodeOf}
 

@@ -7,12 +7,14 @@ use Rattle.cov_model.specs.declared.constraint.Pred.{Pred}
 use Rattle.cov_model.specs.declared.constraint.Term.{Term}
 use Rattle.cov_model.specs.declared.constraint.Term.TheVariants.{ParamIs}
 use Rattle.cov_model.specs.declared.parameter.Param.{Param}
-use Rattle.cov_model.specs.Views.{PredView, BodyView, pred_view}
+use Rattle.cov_model.specs.believed.Views.{PredView, BodyView}
+use Rattle.cov_model.specs.Views.{pred_view}
 use Rattle.std.specs.List.{range_with_len}
-use Rattle.cov_model.specs.Sound.{ModelView, param_at, rule_at}
+use Rattle.cov_model.specs.believed.Sound.{ModelView, param_at}
+use Rattle.cov_model.specs.Sound.{rule_at}
 use Rattle.cov_model.specs.Fits.{FitsModel}
-use Rattle.cov_model.specs.Rows.{is_assigned, value_in}
-use Rattle.cov_model.specs.Kleene.{known, not_of, and_of, or_of, term_truth, pred_truth, body_truth}
+use Rattle.cov_model.specs.believed.Rows.{is_assigned, value_in}
+use Rattle.cov_model.specs.believed.Kleene.{known, not_of, and_of, or_of, term_truth, pred_truth, body_truth}
 use Rattle.compiled_rules.specs.declared.code.Code.{Code, OneParameter, TwoParameters, Comparison, Not', All', Any', Row_of-Code, end_of-Code, more_of-Code}
 use Rattle.compiled_rules.specs.declared.code.BodyCode.{BodyCode}
 use Rattle.compiled_rules.specs.declared.code.BodyCode.TheVariants.{Plain, IfThen, IfElse}

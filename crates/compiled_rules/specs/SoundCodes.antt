@@ -3,7 +3,7 @@
 use Rattle.std.specs.Prelude.{List}
 use Rattle.cov_model.specs.declared.constraint.Term.TheVariants.{ParamIs}
 use Rattle.cov_model.specs.declared.parameter.Param.{Param}
-use Rattle.cov_model.specs.Sound.{IsSoundTerm}
+use Rattle.cov_model.specs.believed.Sound.{IsSoundTerm}
 use Rattle.compiled_rules.specs.declared.code.Code.{Code, OneParameter, TwoParameters, Comparison, Not', All', Any', Row_of-Code, end_of-Code, more_of-Code}
 use Rattle.compiled_rules.specs.declared.code.BodyCode.{BodyCode}
 use Rattle.compiled_rules.specs.declared.code.BodyCode.TheVariants.{Plain, IfThen, IfElse}

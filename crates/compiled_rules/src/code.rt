@@ -1,7 +1,7 @@
 ghost use Rattle.std.specs.Prelude.{◌≡◌, All, None, false, slice_index_or};
 ghost use Rattle.cov_model.specs.Fits.{FitsModel};
-ghost use Rattle.cov_model.specs.Kleene.{known, not_of, term_truth};
-ghost use Rattle.cov_model.specs.Sound.{IsSoundTerm};
+ghost use Rattle.cov_model.specs.believed.Kleene.{known, not_of, term_truth};
+ghost use Rattle.cov_model.specs.believed.Sound.{IsSoundTerm};
 ghost use Rattle.compiled_rules.specs.Codes.{all_codes, any_codes, body_code_truth, code_truth, one_truth, two_truth};
 ghost use Rattle.compiled_rules.specs.SoundCodes.{IsSoundBodyCode, IsSoundCode};
 

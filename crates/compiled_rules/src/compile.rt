@@ -1,8 +1,9 @@
 ghost use Rattle.std.specs.Prelude.{◌≡◌, ◌<◌, ◌++◌, ◌∷◌, [], length, IfOk, OnOk, All};
-ghost use Rattle.cov_model.specs.Sound.{IsSoundBody, IsSoundPred, IsSoundTerm};
-ghost use Rattle.cov_model.specs.Views.{Leaf, body_view, pred_view};
+ghost use Rattle.cov_model.specs.believed.Sound.{IsSoundBody, IsSoundPred, IsSoundTerm};
+ghost use Rattle.cov_model.specs.believed.Views.{Leaf};
+ghost use Rattle.cov_model.specs.Views.{body_view, pred_view};
 ghost use Rattle.cov_model.specs.Fits.{FitsModel};
-ghost use Rattle.cov_model.specs.Kleene.{term_params};
+ghost use Rattle.cov_model.specs.believed.Kleene.{term_params};
 ghost use Rattle.compiled_rules.specs.Codes.{AreCodesOf, Extends, IsBodyCodeOf, IsCodeOf, is_yes, truths_over, IsNegation};
 
 use crate::code::{BodyCode, Code, CodeList};

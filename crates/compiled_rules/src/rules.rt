@@ -1,7 +1,8 @@
 ghost use Rattle.std.specs.Prelude.{◌≡◌, ◌<◌, ◌≤◌, length, IfOk};
 ghost use Rattle.cov_model.specs.Fits.{FitsModel};
-ghost use Rattle.cov_model.specs.Kleene.{body_truth};
-ghost use Rattle.cov_model.specs.Sound.{IsSound, rule_at};
+ghost use Rattle.cov_model.specs.believed.Kleene.{body_truth};
+ghost use Rattle.cov_model.specs.believed.Sound.{IsSound};
+ghost use Rattle.cov_model.specs.Sound.{rule_at};
 
 use crate::code::{BodyCode, body_truth};
 use crate::compile::compile_body;
@@ -23,7 +24,7 @@ pub struct CompiledRules<'a> {
 impl<'a> Model for CompiledRules<'a> {
     ghost use Rattle.std.specs.Prelude.{length};
     ghost use Rattle.std.specs.Coded.{codes};
-    ghost use Rattle.cov_model.specs.Sound.{ModelView};
+    ghost use Rattle.cov_model.specs.believed.Sound.{ModelView};
     ghost use Rattle.cov_model.specs.contracts.model.TestModel as tested;
     ghost use Rattle.compiled_rules.specs.Codes.{AreBodyCodes};
 

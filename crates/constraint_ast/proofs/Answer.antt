@@ -1,11 +1,12 @@
 -- What an answer of the parser says in the words of the grammar.
 use Rattle.std.proofs.Common.{◌≡◌, inl, inr, ℕ, List, map, refl}
-use Rattle.constraint_ast.specs.Lexing.{AreRefused, Spell, tokens_of}
+use Rattle.constraint_ast.specs.believed.Lexing.{AreRefused, Spell, tokens_of}
 use Rattle.std.specs.Prelude.{Result, Ok, Err, IfOk, IfErr, MatchResult}
 use Rattle.model_lex.specs.declared.fault.ModelFault.{ModelFault}
 use Rattle.model_lex.specs.declared.fault.ModelFault.TheVariants.{Bad, BadRule, Limit, NoMemory}
-use Rattle.constraint_ast.specs.Trees.{RuleTree, rule_tree}
-use Rattle.constraint_ast.specs.Grammar.{AreRules, Refused, last_line, most_open}
+use Rattle.constraint_ast.specs.believed.Trees.{RuleTree}
+use Rattle.constraint_ast.specs.Trees.{rule_tree}
+use Rattle.constraint_ast.specs.believed.Grammar.{AreRules, Refused, last_line, most_open}
 use Rattle.constraint_ast.specs.Machine.{Between, run}
 use Rattle.constraint_ast.specs.Reading.{IfRefused, RefusesRules}
 use Rattle.constraint_ast.specs.declared.token.LineToken.{LineToken}

@@ -5,7 +5,7 @@ use Rattle.std.proofs.lemmas.Bool.Decides.{nat_tests}
 use Rattle.std.proofs.lemmas.List.{drop_all, drop-drop, take_more}
 use Rattle.std.proofs.lemmas.Str.{IsCharBoundary-before_ascii, IsCharBoundary-start}
 use Rattle.std.specs.Str.{IsUtf8, IsCharBoundary}
-use Rattle.model_lex.specs.Tokens.{is_quotable}
+use Rattle.model_lex.specs.believed.Tokens.{is_quotable}
 use Rattle.constraint_ast.specs.RuleText.{quoted}
 
 -- at a byte that is quoted, and at another

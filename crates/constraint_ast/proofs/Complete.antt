@@ -2,10 +2,11 @@
 use Rattle.std.proofs.Common.{◌≡◌, ℕ, false, List, [], ◌∷◌, ◌++◌, ◌<◌, length, arith, refl, ap, ◌∙◌, append_assoc}
 use Rattle.std.specs.Prelude.{Result, Ok, Err}
 use Rattle.model_lex.specs.declared.diag.Diag.{Diag}
-use Rattle.constraint_ast.specs.Trees.{Tree, Trees, Leaf, End, More, added, all_of, any_of, joined, RuleTree, IfThen, IfElse}
-use Rattle.constraint_ast.specs.Trees as trees
-use Rattle.constraint_ast.specs.Grammar.{AreConjs, AreLiterals, AreRules, AreUnits, IsRule, IsUnit, if_else, if_then, last_conj, last_literal, last_unit, like, negation}
-use Rattle.constraint_ast.specs.Grammar.{next_conj, next_literal, next_rule, next_unit, no_rule, none_of, not_like, one_of, param_is, parens, plain, signed, value_is}
+use Rattle.constraint_ast.specs.believed.Trees.{Tree, Trees, Leaf, End, More, all_of, any_of, RuleTree, IfThen, IfElse}
+use Rattle.constraint_ast.specs.Trees.{added, joined}
+use Rattle.constraint_ast.specs.believed.Trees as trees
+use Rattle.constraint_ast.specs.believed.Grammar.{AreConjs, AreLiterals, AreRules, AreUnits, IsRule, IsUnit, if_else, if_then, last_conj, last_literal, last_unit, like, negation}
+use Rattle.constraint_ast.specs.believed.Grammar.{next_conj, next_literal, next_rule, next_unit, no_rule, none_of, not_like, one_of, param_is, parens, plain, signed, value_is}
 use Rattle.constraint_ast.specs.Reading.{begins_if, first_line, is_if}
 use Rattle.constraint_ast.specs.declared.token.LineToken.{LineToken}
 use Rattle.constraint_ast.specs.declared.token.RuleToken.{RuleToken}

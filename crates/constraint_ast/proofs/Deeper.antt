@@ -1,7 +1,7 @@
 -- With one more room a token leads to the same state with one more room, but where room was wanting.
 use Rattle.std.proofs.Common.{◌≡◌, ℕ, zero, suc, refl}
 use Rattle.model_lex.specs.declared.diag.DiagCode.TheVariants.{TooDeep}
-use Rattle.constraint_ast.specs.Trees.{Tree, Negated}
+use Rattle.constraint_ast.specs.believed.Trees.{Tree, Negated}
 use Rattle.constraint_ast.specs.declared.token.RuleToken.{RuleToken}
 use Rattle.constraint_ast.specs.declared.token.RuleToken.TheVariants.{Name, Literal, Relation, If, Then, Else, And, Or, Not, In, Like}
 use Rattle.constraint_ast.specs.declared.token.RuleToken.TheVariants.{Sign, OpenParen, CloseParen, OpenBrace, CloseBrace, Comma, Semicolon}

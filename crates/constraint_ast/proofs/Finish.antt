@@ -1,8 +1,9 @@
 -- Each state can be completed.
 use Rattle.std.proofs.Common.{inl, ℕ, List, [], ◌∷◌, ◌++◌, refl}
-use Rattle.constraint_ast.specs.Trees.{Tree, Leaf, Negated, End, More, added, all_of, any_of, RuleTree, IfThen, IfElse}
-use Rattle.constraint_ast.specs.Trees as trees
-use Rattle.constraint_ast.specs.Grammar.{at, AreConjs, IsUnit, last_conj, last_literal, last_unit, like, no_rule, not_like, param_is, sign_term, signed}
+use Rattle.constraint_ast.specs.believed.Trees.{Tree, Leaf, Negated, End, More, all_of, any_of, RuleTree, IfThen, IfElse}
+use Rattle.constraint_ast.specs.Trees.{added}
+use Rattle.constraint_ast.specs.believed.Trees as trees
+use Rattle.constraint_ast.specs.believed.Grammar.{at, AreConjs, IsUnit, last_conj, last_literal, last_unit, like, no_rule, not_like, param_is, sign_term, signed}
 use Rattle.constraint_ast.specs.declared.token.LineToken.{LineToken}
 use Rattle.constraint_ast.specs.declared.token.RuleToken.TheVariants.{Name, Literal, Then, Like, Sign, OpenParen, CloseParen, OpenBrace, CloseBrace, Semicolon}
 use Rattle.constraint_ast.specs.declared.token.Sign.TheVariants.{Positive}

@@ -10,8 +10,9 @@ use Rattle.std.proofs.lemmas.Bool.{eqb-true}
 use Rattle.std.proofs.lemmas.Bool.Decides.{nat_tests}
 use Rattle.std.proofs.lemmas.List.Sums.{prefix_len-le-length}
 use Rattle.std.proofs.lemmas.List.{drop-drop, drop_all, get_or-take, length-take-le}
-use Rattle.value_text.specs.Texts.{is_blank}
-use Rattle.model_lex.specs.Tokens.{HasMarks, StandsBetween, first_token, lexed_at, token_at}
+use Rattle.value_text.specs.believed.Texts.{is_blank}
+use Rattle.model_lex.specs.Tokens.{HasMarks, StandsBetween, lexed_at, token_at}
+use Rattle.model_lex.specs.believed.Tokens.{first_token}
 use Rattle.model_lex.specs.declared.diag.Diag.{Diag}
 use Rattle.model_lex.specs.declared.diag.DiagCode.{DiagCode}
 use Rattle.model_lex.specs.declared.fault.ModelFault.{ModelFault}
@@ -24,7 +25,7 @@ use Rattle.model_lex.specs.declared.token.Lexed.{Lexed}
 use Rattle.model_lex.specs.declared.token.Lexed.TheVariants.{Token as Found, End, Bad}
 use Rattle.model_lex.proofs.Forms.{token_behind_blanks}
 use Rattle.model_lex.proofs.Opening.{solid}
-use Rattle.constraint_ast.specs.Lexing.{both_tokens, meant, token_before, tokens_in}
+use Rattle.constraint_ast.specs.believed.Lexing.{both_tokens, meant, token_before, tokens_in}
 use Rattle.constraint_ast.specs.declared.token.LineToken.{LineToken}
 use Rattle.constraint_ast.specs.declared.token.RuleToken.{RuleToken}
 

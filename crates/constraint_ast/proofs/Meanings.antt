@@ -3,19 +3,19 @@ use Rattle.std.proofs.Common.{◌≡◌, ℕ, zero, suc, Bool, true, false, List
 use Rattle.std.specs.List.{AllByRecursion}
 use Rattle.std.specs.Prelude.{Option, Some, None, Result, Ok, Err, ℤ, ◌==◌, if◌then◌else◌, codes}
 use Rattle.std.specs.Str.{str_eq_ignore_ascii_case}
-use Rattle.value_text.specs.Texts.{is_blank}
-use Rattle.model_lex.specs.Tokens.{first_token, name_between, unquoted}
+use Rattle.value_text.specs.believed.Texts.{is_blank}
+use Rattle.model_lex.specs.believed.Tokens.{first_token, name_between, unquoted}
 use Rattle.model_lex.specs.declared.diag.Diag.{Diag}
 use Rattle.model_lex.specs.declared.diag.DiagCode.{DiagCode}
 use Rattle.model_lex.specs.declared.diag.DiagCode.TheVariants.{StrayCharacter, UnknownWord}
 use Rattle.model_lex.specs.declared.token.TokenKind.{TokenKind}
 use Rattle.model_lex.specs.declared.token.TokenKind.TheVariants as kinds
-use Rattle.value_text.specs.Numbers.{number_of}
+use Rattle.value_text.specs.believed.Numbers.{number_of}
 use Rattle.value_text.specs.declared.fixed.FixedAnswer.{FixedAnswer}
 use Rattle.value_text.specs.declared.fixed.FixedAnswer.TheVariants.{Number as IsNumber, NotNumber, TooWide}
-use Rattle.constraint_ast.specs.Grammar.{at}
-use Rattle.constraint_ast.specs.Lexing.{both_tokens, inside, keyword_of, punctuation_of, meant, number_meant, or_code, relation_meant}
-use Rattle.constraint_ast.specs.Lexing.{relation_of, token_before, token_meant, tokens_in, tokens_of}
+use Rattle.constraint_ast.specs.believed.Grammar.{at}
+use Rattle.constraint_ast.specs.believed.Lexing.{both_tokens, inside, keyword_of, punctuation_of, meant, number_meant, or_code, relation_meant}
+use Rattle.constraint_ast.specs.believed.Lexing.{relation_of, token_before, token_meant, tokens_in, tokens_of}
 use Rattle.constraint_ast.specs.declared.token.LineToken.{LineToken}
 use Rattle.constraint_ast.specs.declared.token.RuleToken.{RuleToken}
 use Rattle.constraint_ast.specs.declared.token.RuleToken.TheVariants.{If, Then, Else, And, Or, Not, In, Like, Sign, OpenParen, CloseParen, OpenBrace, CloseBrace, Comma, Semicolon}

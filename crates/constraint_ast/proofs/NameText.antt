@@ -8,9 +8,9 @@ use Rattle.std.proofs.lemmas.Bool.{and_parts, eqb-true}
 use Rattle.std.proofs.lemmas.Bool.Decides.{nat_tests, leb_tells}
 use Rattle.std.proofs.lemmas.List.{get_or-reverse, get_or-take, length-reverse, length-take-le}
 use Rattle.std.proofs.lemmas.List.Sums.{prefix_len_stops, suffix_len-le-length}
-use Rattle.model_lex.specs.Blanks.{trimmed, without_first_blanks, without_last_blanks}
-use Rattle.value_text.specs.Texts.{is_blank}
-use Rattle.model_lex.specs.Tokens.{is_quotable, name_between, quoted_len, unquoted}
+use Rattle.model_lex.specs.believed.Blanks.{trimmed, without_first_blanks, without_last_blanks}
+use Rattle.value_text.specs.believed.Texts.{is_blank}
+use Rattle.model_lex.specs.believed.Tokens.{is_quotable, name_between, quoted_len, unquoted}
 use Rattle.model_lex.proofs.Opening.{solid}
 use Rattle.constraint_ast.specs.RuleText.{quoted}
 

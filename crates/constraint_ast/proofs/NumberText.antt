@@ -13,8 +13,8 @@ use Rattle.std.proofs.lemmas.Bool.Decides.{nat_tests}
 use Rattle.std.proofs.lemmas.Fmt.{decimal_is_IsNumeral_wide, length-decimal-le_wide}
 use Rattle.std.proofs.lemmas.List.Folds.{list_all-append, list_any-append}
 use Rattle.std.proofs.lemmas.Nat.{pow-add}
-use Rattle.model_lex.specs.Tokens.{begins_number, is_number_byte}
-use Rattle.value_text.specs.Numbers.{decimal_digits, has_point, is_decimal, is_digits, is_minus, is_point, number_of, scaled_size, whole_digits, without_sign}
+use Rattle.model_lex.specs.believed.Tokens.{begins_number, is_number_byte}
+use Rattle.value_text.specs.believed.Numbers.{decimal_digits, has_point, is_decimal, is_digits, is_minus, is_point, number_of, scaled_size, whole_digits, without_sign}
 use Rattle.value_text.specs.declared.fixed.FixedAnswer.TheVariants.{Number, NotNumber, TooWide}
 use Rattle.value_text.proofs.DigitLemmas.{digits_value-append, value_small}
 use Rattle.constraint_ast.specs.RuleText.{decimals, fraction, number_text, size_text}

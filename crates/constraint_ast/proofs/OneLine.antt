@@ -6,19 +6,19 @@ use Rattle.std.specs.Prelude.{Option, Some, None, Result, Ok, Err, ◌==◌, if�
 use Rattle.std.proofs.lemmas.Bool.{and_parts}
 use Rattle.std.proofs.Math.Bool.{and-false}
 use Rattle.std.proofs.lemmas.Bool.Decides.{nat_tests}
-use Rattle.value_text.specs.Texts.{is_blank}
-use Rattle.model_lex.specs.Blanks.{trimmed, without_first_blanks}
-use Rattle.model_lex.specs.Lines.{ended_lines, is_line_feed, numbered_lines, without_mark, without_return}
-use Rattle.model_lex.specs.Sections.{Split, is_ignored, kind_of, no_lines, put_before, refusal_of, refused_or, sections_behind, sections_of, with_line}
-use Rattle.model_lex.specs.Tokens.{is_number_byte, is_quotable, unquoted}
+use Rattle.value_text.specs.believed.Texts.{is_blank}
+use Rattle.model_lex.specs.believed.Blanks.{trimmed, without_first_blanks}
+use Rattle.model_lex.specs.believed.Lines.{ended_lines, is_line_feed, numbered_lines, without_mark, without_return}
+use Rattle.model_lex.specs.believed.Sections.{Split, is_ignored, kind_of, no_lines, put_before, refusal_of, refused_or, sections_behind, sections_of, with_line}
+use Rattle.model_lex.specs.believed.Tokens.{is_number_byte, is_quotable, unquoted}
 use Rattle.model_lex.specs.declared.diag.Diag.{Diag}
 use Rattle.model_lex.specs.declared.diag.DiagCode.{DiagCode}
 use Rattle.model_lex.specs.declared.line_kind.LineKind.{LineKind}
 use Rattle.model_lex.specs.declared.line_kind.LineKind.TheVariants.{Param, Group, Rule}
 use Rattle.constraint_ast.specs.Laws.{RuleTextIsOneLine}
-use Rattle.constraint_ast.specs.Lexing.{inside}
+use Rattle.constraint_ast.specs.believed.Lexing.{inside}
 use Rattle.constraint_ast.specs.RuleText.{body_tokens, closes, number_text, opens, quoted, relation_text, spaced, token_text}
-use Rattle.constraint_ast.specs.Trees.{RuleTree}
+use Rattle.constraint_ast.specs.believed.Trees.{RuleTree}
 use Rattle.constraint_ast.specs.declared.token.RuleToken.{RuleToken}
 use Rattle.constraint_ast.specs.declared.token.RuleToken.TheVariants.{Name, Literal, Relation, Sign}
 use Rattle.constraint_ast.specs.declared.token.Sign.TheVariants.{Negative, Positive}

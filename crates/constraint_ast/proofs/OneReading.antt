@@ -6,10 +6,10 @@ use Rattle.value_text.proofs.ListLemmas.{ok-err}
 use Rattle.model_lex.specs.declared.diag.Diag.{Diag}
 use Rattle.model_lex.specs.declared.diag.DiagCode.{DiagCode}
 use Rattle.model_lex.specs.declared.diag.DiagCode.TheVariants.{PredicateExpected, RelationExpected, OperandExpected, MarkExpected, TooDeep}
-use Rattle.constraint_ast.specs.Trees.{Tree, RuleTree}
-use Rattle.constraint_ast.specs.Grammar.{at, AreRules, CanBegin, CannotGoOn, CouldDeeper, Could, Expects, Explains, Refused, last_line, refusal_line, most_open}
+use Rattle.constraint_ast.specs.believed.Trees.{Tree, RuleTree}
+use Rattle.constraint_ast.specs.believed.Grammar.{at, AreRules, CanBegin, CannotGoOn, CouldDeeper, Could, Expects, Explains, Refused, last_line, refusal_line, most_open}
 use Rattle.constraint_ast.specs.Laws.{GrammarHasOneReading, LinesHaveOneReading, OneRefusal, SomeReading}
-use Rattle.constraint_ast.specs.Lexing.{AreRefused, Spell, tokens_of}
+use Rattle.constraint_ast.specs.believed.Lexing.{AreRefused, Spell, tokens_of}
 use Rattle.constraint_ast.specs.Machine.{After, Around, Bad, Between, Done, InElse, InIf, InPlain, InThen, Itemed, Liked, Listed, Named, NamedNot, Need, Next, Opened, Outer}
 use Rattle.constraint_ast.specs.Machine.{Paren, Related, SignNamed, SignOpened, Signed, Spot, State, Step, Top, begin, ended, finished, go_on, missing, need, run, step, with_rule}
 use Rattle.constraint_ast.specs.declared.token.LineToken.{LineToken}

@@ -4,15 +4,15 @@ use Rattle.std.specs.List.{list_all, prefix_len}
 use Rattle.std.specs.Prelude.{if◌then◌else◌}
 use Rattle.std.proofs.Math.Seq.{drop-append_seam, take-append_seam}
 use Rattle.std.proofs.lemmas.Bool.Decides.{nat_tests}
-use Rattle.model_lex.specs.Blanks.{is_all_blank}
-use Rattle.value_text.specs.Texts.{is_blank}
-use Rattle.model_lex.specs.Sections.{first_word, goes_on, is_word_among, is_opening_mark, is_word_byte, opening_len, opening_words}
+use Rattle.model_lex.specs.believed.Blanks.{is_all_blank}
+use Rattle.value_text.specs.believed.Texts.{is_blank}
+use Rattle.model_lex.specs.believed.Sections.{first_word, goes_on, is_word_among, is_opening_mark, is_word_byte, opening_len, opening_words}
 use Rattle.model_lex.proofs.Opening.{goes_on_inside}
-use Rattle.constraint_ast.specs.Grammar.{at, AreConjs, AreRules, AreUnits, IsRule, IsUnit, if_else, if_then, last_conj, last_unit, like, negation}
-use Rattle.constraint_ast.specs.Grammar.{next_conj, next_rule, next_unit, none_of, not_like, one_of, param_is, parens, plain, signed, value_is}
+use Rattle.constraint_ast.specs.believed.Grammar.{at, AreConjs, AreRules, AreUnits, IsRule, IsUnit, if_else, if_then, last_conj, last_unit, like, negation}
+use Rattle.constraint_ast.specs.believed.Grammar.{next_conj, next_rule, next_unit, none_of, not_like, one_of, param_is, parens, plain, signed, value_is}
 use Rattle.constraint_ast.specs.Laws.{RuleTextOpens}
 use Rattle.constraint_ast.specs.RuleText.{body_tokens, spaced, token_text}
-use Rattle.constraint_ast.specs.Trees.{RuleTree, Tree, Trees}
+use Rattle.constraint_ast.specs.believed.Trees.{RuleTree, Tree, Trees}
 use Rattle.constraint_ast.specs.declared.token.LineToken.{LineToken}
 use Rattle.constraint_ast.specs.declared.token.RuleToken.{RuleToken}
 use Rattle.constraint_ast.specs.declared.token.RuleToken.TheVariants.{Name, If, Not, Sign, OpenParen}

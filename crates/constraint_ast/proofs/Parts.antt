@@ -2,7 +2,8 @@
 use Rattle.std.proofs.Common.{◌≡◌, ◌<◌, List, [], ◌∷◌, ◌++◌, length, refl, ap, sym, subst, arith, ◌∙◌}
 use Rattle.std.specs.Prelude.{Option, Some, None, IfNone}
 use mathlib.Core.Former.{Count}
-use Rattle.constraint_ast.specs.Trees.{Each, Either, More, added, all_of, any_of, tree_of, trees_of, trees_in}
+use Rattle.constraint_ast.specs.believed.Trees.{Each, Either, More, all_of, any_of}
+use Rattle.constraint_ast.specs.Trees.{added, tree_of, trees_of, trees_in}
 use Rattle.constraint_ast.specs.declared.tree.RawPred.{RawPred, All, Any, All', Any', Row_of-RawPred, end_of-RawPred, more_of-RawPred, items-the_row-RawPred, items_hidden-the_row-RawPred-0}
 
 abbrev row_of : RawPred → (n : Count) × Row_of-RawPred n

@@ -5,8 +5,8 @@ use Rattle.value_text.proofs.ListLemmas.{ok-err}
 use Rattle.model_lex.specs.declared.diag.Diag.{Diag}
 use Rattle.model_lex.specs.declared.diag.DiagCode.{DiagCode}
 use Rattle.model_lex.specs.declared.diag.DiagCode.TheVariants.{PredicateExpected, OperandExpected, MarkExpected, TooDeep}
-use Rattle.constraint_ast.specs.Trees.{Tree, RuleTree}
-use Rattle.constraint_ast.specs.Grammar.{at, AreRules, no_rule, CanBegin, CouldDeeper, Expects, Explains, Refused, last_line}
+use Rattle.constraint_ast.specs.believed.Trees.{Tree, RuleTree}
+use Rattle.constraint_ast.specs.believed.Grammar.{at, AreRules, no_rule, CanBegin, CouldDeeper, Expects, Explains, Refused, last_line}
 use Rattle.constraint_ast.specs.declared.token.LineToken.{LineToken}
 use Rattle.constraint_ast.specs.declared.token.RuleToken.{RuleToken}
 use Rattle.constraint_ast.specs.declared.token.RuleToken.TheVariants.{Name, Literal, Relation, If, Then, Else, And, Or, Not, In, Like}

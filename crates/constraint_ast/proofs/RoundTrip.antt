@@ -2,11 +2,11 @@
 use Rattle.std.proofs.Common.{◌≡◌, ℕ, true, List, [], ◌∷◌, map, take, ap, ◌∙◌, append-nil, get_or}
 use Rattle.std.specs.List.{AllByRecursion}
 use Rattle.std.specs.Prelude.{Ok}
-use Rattle.constraint_ast.specs.Grammar.{at, AreRules, most_open}
+use Rattle.constraint_ast.specs.believed.Grammar.{at, AreRules, most_open}
 use Rattle.constraint_ast.specs.Laws.{RuleTextReadsBack}
-use Rattle.constraint_ast.specs.Lexing.{both_tokens, inside, tokens_in, tokens_of, Spell}
+use Rattle.constraint_ast.specs.believed.Lexing.{both_tokens, inside, tokens_in, tokens_of, Spell}
 use Rattle.constraint_ast.specs.RuleText.{body_tokens, rule_at, rule_text}
-use Rattle.constraint_ast.specs.Trees.{RuleTree}
+use Rattle.constraint_ast.specs.believed.Trees.{RuleTree}
 use Rattle.constraint_ast.specs.declared.token.LineToken.{LineToken}
 use Rattle.constraint_ast.proofs.Contents.{TokensAre, WrittenAre, rules_are}
 use Rattle.constraint_ast.proofs.Meanings.{lines_are}

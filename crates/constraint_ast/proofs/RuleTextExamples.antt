@@ -3,9 +3,9 @@ use Rattle.std.proofs.Common.{◌≡◌, ◌≢◌, ℕ, ◌*◌, ◌^◌, pos, 
 use Rattle.std.specs.Fmt.{digits}
 use Rattle.std.specs.Prelude.{Bool, true, false, Result, Ok, Err}
 use Rattle.model_lex.specs.declared.diag.Diag.{Diag}
-use Rattle.constraint_ast.specs.Grammar.{most_open}
-use Rattle.constraint_ast.specs.Trees.{Tree, Trees, Leaf, Negated, Each, Either, End, More, RuleTree, BodyTree, Plain, IfThen, IfElse}
-use Rattle.constraint_ast.specs.Lexing.{Spell, tokens_of}
+use Rattle.constraint_ast.specs.believed.Grammar.{most_open}
+use Rattle.constraint_ast.specs.believed.Trees.{Tree, Trees, Leaf, Negated, Each, Either, End, More, RuleTree, BodyTree, Plain, IfThen, IfElse}
+use Rattle.constraint_ast.specs.believed.Lexing.{Spell, tokens_of}
 use Rattle.constraint_ast.specs.Machine.{Between, run}
 use Rattle.constraint_ast.specs.RuleText.{number_text, rule_at, rule_text}
 use Rattle.constraint_ast.specs.declared.token.LineToken.{LineToken}

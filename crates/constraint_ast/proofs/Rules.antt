@@ -5,7 +5,7 @@ use Rattle.std.specs.Prelude.{Result, Ok, Err, IfErr}
 use Rattle.model_lex.specs.declared.fault.ModelFault.{ModelFault}
 use Rattle.model_lex.specs.declared.fault.ModelFault.TheVariants.{Bad, BadRule, Limit, NoMemory}
 use Rattle.constraint_ast.specs.Trees.{body_tree, rule_tree}
-use Rattle.constraint_ast.specs.Grammar.{last_line, most_open}
+use Rattle.constraint_ast.specs.believed.Grammar.{last_line, most_open}
 use Rattle.constraint_ast.specs.Machine.{Between, InPlain, Spot, Top, run, with_rule, with_rules}
 use Rattle.constraint_ast.specs.Reading.{ReadsRule, RefusesBody, RefusesPred, RefusesRules, begins_if, first_line, before_pred}
 use Rattle.constraint_ast.specs.declared.token.LineToken.{LineToken}

@@ -1,9 +1,10 @@
 -- What is read is spelled: for each state the tokens that complete it, and that a token leads there.
 use Rattle.std.proofs.Common.{◌≡◌, ◌⊎◌, inl, inr, ℕ, zero, suc, List, [], ◌∷◌, ◌++◌, refl, ap, sym, subst, ◌∙◌, append_assoc, append-nil}
-use Rattle.constraint_ast.specs.Trees.{Tree, Trees, Leaf, Negated, End, More, added, all_of, any_of, joined, RuleTree, IfThen, IfElse}
-use Rattle.constraint_ast.specs.Trees as trees
-use Rattle.constraint_ast.specs.Grammar.{at, AreConjs, AreLiterals, AreRules, AreUnits, IsUnit, if_else, if_then, last_conj, last_literal, last_unit, like, negation}
-use Rattle.constraint_ast.specs.Grammar.{next_conj, next_literal, next_rule, next_unit, none_of, not_like, one_of, param_is, parens, plain, sign_term, signed, value_is}
+use Rattle.constraint_ast.specs.believed.Trees.{Tree, Trees, Leaf, Negated, End, More, all_of, any_of, RuleTree, IfThen, IfElse}
+use Rattle.constraint_ast.specs.Trees.{added, joined}
+use Rattle.constraint_ast.specs.believed.Trees as trees
+use Rattle.constraint_ast.specs.believed.Grammar.{at, AreConjs, AreLiterals, AreRules, AreUnits, IsUnit, if_else, if_then, last_conj, last_literal, last_unit, like, negation}
+use Rattle.constraint_ast.specs.believed.Grammar.{next_conj, next_literal, next_rule, next_unit, none_of, not_like, one_of, param_is, parens, plain, sign_term, signed, value_is}
 use Rattle.constraint_ast.specs.declared.token.LineToken.{LineToken}
 use Rattle.constraint_ast.specs.declared.token.RuleToken.{RuleToken}
 use Rattle.constraint_ast.specs.declared.token.RuleToken.TheVariants.{Name, Literal, Relation, If, Then, Else, And, Or, Not, In, Like}

@@ -5,17 +5,17 @@ use Rattle.std.specs.List.{list_all, prefix_len}
 use Rattle.std.specs.Prelude.{Ok, Some, ℤ, ◌==◌, if◌then◌else◌}
 use Rattle.std.proofs.Math.Seq.{drop-append_seam, take-append_seam}
 use Rattle.std.proofs.lemmas.Bool.Decides.{nat_tests}
-use Rattle.value_text.specs.Texts.{is_blank}
-use Rattle.model_lex.specs.Sections.{first_word, is_word_byte}
-use Rattle.model_lex.specs.Tokens.{begins_number, first_token, is_number_byte, name_between, number_run, number_token, quoted_len, quoted_token, unquoted, word_token}
+use Rattle.value_text.specs.believed.Texts.{is_blank}
+use Rattle.model_lex.specs.believed.Sections.{first_word, is_word_byte}
+use Rattle.model_lex.specs.believed.Tokens.{begins_number, first_token, is_number_byte, name_between, number_run, number_token, quoted_len, quoted_token, unquoted, word_token}
 use Rattle.model_lex.specs.declared.diag.DiagCode.{DiagCode}
 use Rattle.model_lex.specs.declared.diag.DiagCode.TheVariants.{NameNotClosed, TextNotClosed}
 use Rattle.model_lex.specs.declared.token.TokenKind.{TokenKind}
 use Rattle.model_lex.specs.declared.token.TokenKind.TheVariants as kinds
-use Rattle.value_text.specs.Numbers.{number_of}
+use Rattle.value_text.specs.believed.Numbers.{number_of}
 use Rattle.value_text.specs.declared.fixed.FixedAnswer.TheVariants.{Number as IsNumber}
-use Rattle.constraint_ast.specs.Grammar.{at}
-use Rattle.constraint_ast.specs.Lexing.{inside, meant, number_meant, token_before, tokens_in}
+use Rattle.constraint_ast.specs.believed.Grammar.{at}
+use Rattle.constraint_ast.specs.believed.Lexing.{inside, meant, number_meant, token_before, tokens_in}
 use Rattle.constraint_ast.specs.RuleText.{closes, number_text, opens, quoted, relation_text, spaced, token_text}
 use Rattle.constraint_ast.specs.declared.token.RuleToken.{RuleToken}
 use Rattle.constraint_ast.specs.declared.token.RuleToken.TheVariants.{Name, Literal, Relation, If, Then, Else, And, Or, Not, In, Like}

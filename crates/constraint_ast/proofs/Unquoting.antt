@@ -5,7 +5,8 @@ use Rattle.std.proofs.lemmas.Bool.Decides.{nat_tests}
 use Rattle.std.proofs.lemmas.List.{drop-drop, take_more}
 use Rattle.std.proofs.lemmas.Str.{IsCharBoundary-after_ascii, IsCharBoundary-start}
 use Rattle.std.specs.Str.{IsUtf8, IsCharBoundary}
-use Rattle.model_lex.specs.Tokens.{quotes_next, unquoted}
+use Rattle.model_lex.specs.Tokens.{quotes_next}
+use Rattle.model_lex.specs.believed.Tokens.{unquoted}
 use Rattle.model_lex.proofs.Quoting.{two_bytes}
 
 -- at a byte that no backslash quotes, and at one that a backslash quotes

@@ -1,12 +1,12 @@
 -- What holds of the definitions together. (This project's rules.)
 use Rattle.std.specs.Prelude.{true, false, ◌≡◌, ◌⊎◌, ℕ, List, [], ◌∷◌, Ok, All}
 use Rattle.std.specs.List.{list_any}
-use Rattle.model_lex.specs.Lines.{is_line_feed, without_return}
-use Rattle.model_lex.specs.Sections.{Split, opens_rule, sections_of}
+use Rattle.model_lex.specs.believed.Lines.{is_line_feed, without_return}
+use Rattle.model_lex.specs.believed.Sections.{Split, opens_rule, sections_of}
 use Rattle.model_lex.specs.declared.diag.Diag.{Diag}
-use Rattle.constraint_ast.specs.Trees.{RuleTree}
-use Rattle.constraint_ast.specs.Grammar.{AreRules, Refused}
-use Rattle.constraint_ast.specs.Lexing.{AreRefused, Spell}
+use Rattle.constraint_ast.specs.believed.Trees.{RuleTree}
+use Rattle.constraint_ast.specs.believed.Grammar.{AreRules, Refused}
+use Rattle.constraint_ast.specs.believed.Lexing.{AreRefused, Spell}
 use Rattle.constraint_ast.specs.RuleText.{rule_at, rule_text}
 use Rattle.constraint_ast.specs.declared.token.LineToken.{LineToken}
 

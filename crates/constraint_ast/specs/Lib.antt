@@ -1,8 +1,7 @@
-pub mod Trees
-pub mod Grammar
 pub mod Machine
 pub mod Reading
-pub mod Lexing
 pub mod RuleText
 pub mod Laws
 pub mod Writing
+pub mod believed
+pub mod Trees

@@ -4,8 +4,9 @@ use Rattle.std.specs.Prelude.{ℕ, zero, suc, List, [], ◌∷◌, ◌++◌, Res
 use Rattle.model_lex.specs.declared.diag.Diag.{Diag}
 use Rattle.model_lex.specs.declared.diag.DiagCode.{DiagCode}
 use Rattle.model_lex.specs.declared.diag.DiagCode.TheVariants.{PredicateExpected, RelationExpected, OperandExpected, MarkExpected, TooDeep}
-use Rattle.constraint_ast.specs.Trees.{Tree, Trees, Leaf, Negated, End, added, all_of, any_of, Plain, IfThen, IfElse, RuleTree}
-use Rattle.constraint_ast.specs.Grammar.{sign_term}
+use Rattle.constraint_ast.specs.believed.Trees.{Tree, Trees, Leaf, Negated, End, all_of, any_of, Plain, IfThen, IfElse, RuleTree}
+use Rattle.constraint_ast.specs.Trees.{added}
+use Rattle.constraint_ast.specs.believed.Grammar.{sign_term}
 use Rattle.constraint_ast.specs.declared.token.LineToken.{LineToken}
 use Rattle.constraint_ast.specs.declared.token.RuleToken.{RuleToken}
 use Rattle.constraint_ast.specs.declared.token.RuleToken.TheVariants.{Name, Literal, Relation, If, Then, Else, And, Or, Not, In, Like}

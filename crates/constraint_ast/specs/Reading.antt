@@ -3,8 +3,9 @@ use Rattle.std.specs.Prelude.{◌≡◌, ℕ, Bool, true, false, List, [], ◌�
 use Rattle.model_lex.specs.declared.diag.Diag.{Diag}
 use Rattle.model_lex.specs.declared.fault.ModelFault.{ModelFault}
 use Rattle.model_lex.specs.declared.fault.ModelFault.TheVariants.{Bad, BadRule, Limit, NoMemory}
-use Rattle.constraint_ast.specs.Trees.{Tree, Trees, BodyTree, Leaf, End, added, all_of, any_of}
-use Rattle.constraint_ast.specs.Grammar.{most_open}
+use Rattle.constraint_ast.specs.believed.Trees.{Tree, Trees, BodyTree, Leaf, End, all_of, any_of}
+use Rattle.constraint_ast.specs.Trees.{added}
+use Rattle.constraint_ast.specs.believed.Grammar.{most_open}
 use Rattle.constraint_ast.specs.Machine.{After, Around, Between, InIf, Itemed, Need, Opened, Outer, Part, Spot, State, Top, close, run, with_rule}
 use Rattle.constraint_ast.specs.declared.token.LineToken.{LineToken}
 use Rattle.constraint_ast.specs.declared.token.RuleToken.{RuleToken}

@@ -1,32 +1,10 @@
 -- The trees of constraints. (PICT's guide; how parts are grouped is this project's rule.)
-use Rattle.std.specs.Prelude.{ℕ, List, [], ◌∷◌}
-use Rattle.constraint_ast.specs.declared.tree.RawTerm.{RawTerm}
+use Rattle.std.specs.Prelude.{List, [], ◌∷◌}
 use Rattle.constraint_ast.specs.declared.tree.RawBody.{RawBody}
 use Rattle.constraint_ast.specs.declared.tree.RawBody.TheVariants as bodies
 use Rattle.constraint_ast.specs.declared.tree.RawRule.{RawRule}
 use Rattle.constraint_ast.specs.declared.tree.RawPred.{RawPred, Term, Not', All', Any', Row_of-RawPred, end_of-RawPred, more_of-RawPred}
-
--- a predicate: a term behind the line of its first token, a negation, a conjunction or a disjunction
-mutual
-  pub data Tree : Type 0 where
-    Leaf : ℕ → RawTerm → Tree
-    Negated : Tree → Tree
-    Each : Trees → Tree
-    Either : Trees → Tree
-
-  pub data Trees : Type 0 where
-    End : Trees
-    More : Tree → Trees → Trees
-
--- a constraint, behind the line of its first token
-pub data BodyTree : Type 0 where
-  Plain : Tree → BodyTree
-  IfThen : Tree → Tree → BodyTree
-  IfElse : Tree → Tree → Tree → BodyTree
-
-pub record RuleTree : Type 0 where
-  pub line : ℕ
-  pub body : BodyTree
+use Rattle.constraint_ast.specs.believed.Trees.{Tree, Leaf, Negated, Each, Either, Trees, End, More, BodyTree, Plain, IfThen, IfElse, RuleTree}
 
 -- some trees behind others, and one behind others
 abbrev pub joined : Trees → Trees → Trees
@@ -35,17 +13,6 @@ joined (More tree trees) others = More tree (joined trees others)
 
 abbrev pub added : Trees → Tree → Trees
 added trees tree = joined trees (More tree End)
-
--- the conjunction and the disjunction of parts: one part is itself
-abbrev pub all_of : Trees → Tree
-all_of End = Each End
-all_of (More tree End) = tree
-all_of (More tree (More next trees)) = Each (More tree (More next trees))
-
-abbrev pub any_of : Trees → Tree
-any_of End = Either End
-any_of (More tree End) = tree
-any_of (More tree (More next trees)) = Either (More tree (More next trees))
 
 -- the tree that a predicate of the code is
 abbrev mutual

@@ -3,7 +3,7 @@ ghost use Rattle.std.specs.Prelude.{List, ◌≡◌, ◌≤◌, ◌<◌, ◌-◌
 ghost use Rattle.model_lex.specs.Sections.{line_seen};
 ghost use Rattle.model_lex.specs.Tokens.{HasMarks};
 ghost use Rattle.constraint_ast.specs.Reading.{IfRefused};
-ghost use Rattle.constraint_ast.specs.Lexing.{inside, keyword_of, punctuation_of, meant, relation_of, tokens_in, tokens_of};
+ghost use Rattle.constraint_ast.specs.believed.Lexing.{inside, keyword_of, punctuation_of, meant, relation_of, tokens_in, tokens_of};
 
 use crate::quoting::unquoted;
 use crate::token::{LineToken, LineTokenList, RuleToken, Sign};

@@ -1,8 +1,9 @@
 ghost use Rattle.std.specs.Prelude.{◌≡◌, false, [], ◌∷◌, ℕ, ◌<◌, length, map, IfOk, IfErr, IfSome, IfNone, List, MatchOption, MatchResult};
 ghost use Rattle.model_lex.specs.Sections.{AreSections, line_seen};
-ghost use Rattle.constraint_ast.specs.Lexing.{AreRefused, Spell};
-ghost use Rattle.constraint_ast.specs.Trees.{RuleTree, Tree, Plain, IfElse, tree_of, body_tree, rule_tree, Negated, End};
-ghost use Rattle.constraint_ast.specs.Grammar.{AreRules, Refused, at, last_line, most_open, refusal_line};
+ghost use Rattle.constraint_ast.specs.believed.Lexing.{AreRefused, Spell};
+ghost use Rattle.constraint_ast.specs.believed.Trees.{RuleTree, Tree, Plain, IfElse, Negated, End};
+ghost use Rattle.constraint_ast.specs.Trees.{tree_of, body_tree, rule_tree};
+ghost use Rattle.constraint_ast.specs.believed.Grammar.{AreRules, Refused, at, last_line, most_open, refusal_line};
 ghost use Rattle.constraint_ast.specs.Machine.{Around, Between, InElse, InIf, InPlain, InThen, Liked, Listed, Named, NamedNot, Need, Opened, Paren, Part, Related, Signed, SignOpened, Top, close, run};
 ghost use Rattle.constraint_ast.specs.Reading.{GoesOnAnd, GoesOnIf, GoesOnOr, IfRefused, ReadsRule, RefusesRules, before_pred, begins_and, begins_if, begins_or, first_line, ReadsBody, ReadsPred};
 ghost use Rattle.constraint_ast.specs.Reading.{ReadsLiteral, ReadsLiterals, ReadsUnit, ReadsUnits, RefusesBody, RefusesLiteral, RefusesLiterals, RefusesPred, RefusesUnit, RefusesUnits};

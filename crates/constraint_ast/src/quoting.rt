@@ -1,5 +1,6 @@
 ghost use Rattle.std.specs.Prelude.{◌≡◌, ◌<◌, IfOk, drop, length};
-ghost use Rattle.model_lex.specs.Tokens.{is_quotable, quotes_next, unquoted};
+ghost use Rattle.model_lex.specs.believed.Tokens.{is_quotable, unquoted};
+ghost use Rattle.model_lex.specs.Tokens.{quotes_next};
 
 use std::alloc::Global;
 use value_text::{NoMemory, Text};

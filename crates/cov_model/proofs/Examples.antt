@@ -10,13 +10,13 @@ use Rattle.cov_model.specs.declared.constraint.Literal.{Literal}
 use Rattle.cov_model.specs.declared.constraint.Literal.TheVariants.{Number, Words}
 use Rattle.cov_model.specs.declared.constraint.Term as terms
 use Rattle.cov_model.specs.declared.constraint.Term.TheVariants.{ValueIs, ParamIs, OneOf, Like, Negative, Positive}
-use Rattle.cov_model.specs.Views.{PredView, Leaf, Negated, End, More, BodyView, Plain, IfThen, IfElse, RuleView}
+use Rattle.cov_model.specs.believed.Views.{PredView, Leaf, Negated, End, More, BodyView, Plain, IfThen, IfElse, RuleView}
 use Rattle.cov_model.specs.declared.row_fault.RowWhy.TheVariants as faults
-use Rattle.cov_model.specs.Sound.{ModelView}
-use Rattle.cov_model.specs.Kleene.{body_truth, all_truth, any_truth}
-use Rattle.cov_model.specs.Valid.{is_valid}
-use Rattle.cov_model.specs.RowFault.{row_fault}
-use Rattle.cov_model.specs.Preference.{preference}
+use Rattle.cov_model.specs.believed.Sound.{ModelView}
+use Rattle.cov_model.specs.believed.Kleene.{body_truth, all_truth, any_truth}
+use Rattle.cov_model.specs.believed.Valid.{is_valid}
+use Rattle.cov_model.specs.believed.RowFault.{row_fault}
+use Rattle.cov_model.specs.believed.Preference.{preference}
 
 abbrev value : List ℕ → ℕ → Bool → Value
 value name weight negative = record { names = name ∷ []; weight = weight; negative = negative }

@@ -5,12 +5,12 @@ use Rattle.std.specs.Option.{option_to_list}
 use Rattle.std.specs.List.{filter, list_all, range_with_len}
 use Rattle.std.proofs.Math.Seq.{drop-cons}
 use Rattle.std.proofs.lemmas.Grind.{common_steps}
-use Rattle.cov_model.specs.Views.{RuleView}
+use Rattle.cov_model.specs.believed.Views.{RuleView}
 use Rattle.cov_model.specs.declared.row_fault.RowWhy.TheVariants.{Rule}
-use Rattle.cov_model.specs.Sound.{ModelView}
-use Rattle.cov_model.specs.Meaning.{body_holds}
-use Rattle.cov_model.specs.Valid.{is_row, is_valid, negatives}
-use Rattle.cov_model.specs.RowFault.{fault_of, row_fault}
+use Rattle.cov_model.specs.believed.Sound.{ModelView}
+use Rattle.cov_model.specs.believed.Meaning.{body_holds}
+use Rattle.cov_model.specs.believed.Valid.{is_row, is_valid, negatives}
+use Rattle.cov_model.specs.believed.RowFault.{fault_of, row_fault}
 
 -- a place that fails the test is passed over
 pub find-drop_more : {X : Type 0} (test : X → Bool) (xs : List X) (i : ℕ) (d : X) → i < length xs → test (get_or xs i d) ≡ false

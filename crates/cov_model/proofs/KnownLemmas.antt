@@ -8,13 +8,13 @@ use Rattle.cov_model.specs.declared.truth.Truth.TheVariants.{Yes, No, Unknown}
 use Rattle.cov_model.specs.declared.parameter.Value.{Value}
 use Rattle.cov_model.specs.declared.constraint.Term as terms
 use Rattle.cov_model.specs.declared.constraint.Term.TheVariants.{ValueIs, ParamIs, OneOf, Like, Negative, Positive}
-use Rattle.cov_model.specs.Views.{PredView, PredViews, Leaf, Negated, Each, Either, End, More, BodyView, Plain, IfThen, IfElse}
-use Rattle.value_text.specs.Like.{is_like}
-use Rattle.cov_model.specs.Sound.{ModelView, IsSoundTerm, IsSoundPred, AreSoundPreds, param_at, first_name}
-use Rattle.cov_model.specs.Rows.{contains, is_assigned}
-use Rattle.cov_model.specs.Meaning.{given_value, value_at, operand, operand_of, literal_order, stands_in, term_holds, pred_holds, all_hold, any_holds, body_holds}
-use Rattle.cov_model.specs.Kleene.{known, not_of, and_of, or_of, term_params, term_truth, pred_truth, all_truth, any_truth, body_truth}
-use Rattle.cov_model.specs.Valid.{is_row}
+use Rattle.cov_model.specs.believed.Views.{PredView, PredViews, Leaf, Negated, Each, Either, End, More, BodyView, Plain, IfThen, IfElse}
+use Rattle.value_text.specs.believed.Like.{is_like}
+use Rattle.cov_model.specs.believed.Sound.{ModelView, IsSoundTerm, IsSoundPred, AreSoundPreds, param_at, first_name}
+use Rattle.cov_model.specs.believed.Rows.{contains, is_assigned}
+use Rattle.cov_model.specs.believed.Meaning.{given_value, value_at, operand, operand_of, literal_order, stands_in, term_holds, pred_holds, all_hold, any_holds, body_holds}
+use Rattle.cov_model.specs.believed.Kleene.{known, not_of, and_of, or_of, term_params, term_truth, pred_truth, all_truth, any_truth, body_truth}
+use Rattle.cov_model.specs.believed.Valid.{is_row}
 use Rattle.cov_model.specs.Laws.{NoStays, YesStays, RowsAreKnown}
 use Rattle.cov_model.proofs.CellLemmas.{contains-value_in}
 use Rattle.cov_model.proofs.RowLemmas.{row_is_assigned}

@@ -9,8 +9,9 @@ use Rattle.rand_pcg.specs.Lcg.{Lcg}
 use Rattle.rand_pcg.specs.Pcg.{pcg32}
 use Rattle.cov_model.specs.declared.parameter.Param.{Param}
 use Rattle.cov_model.specs.declared.parameter.Value.{Value}
-use Rattle.cov_model.specs.Sound.{ModelView, param_at}
-use Rattle.cov_model.specs.Preference.{shuffled_to, shuffled, insert_by_weight, by_falling_weight, weight_in, declared_order, preferred, preferences, generator_of, preference, OrdersValues}
+use Rattle.cov_model.specs.believed.Sound.{ModelView, param_at}
+use Rattle.cov_model.specs.believed.Preference.{shuffled_to, shuffled, insert_by_weight, by_falling_weight, weight_in, declared_order, preferred, preferences, generator_of, preference}
+use Rattle.cov_model.specs.Preference.{OrdersValues}
 
 IsPermutation-shuffled_to : (n : ℕ) (values : List ℕ) (generator : Lcg) → n ≤ length values - 1 → IsPermutation values (shuffled_to n values generator).0
 IsPermutation-shuffled_to zero values generator within = IsPermutation-refl values

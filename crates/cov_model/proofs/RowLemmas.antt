@@ -5,10 +5,10 @@ use Rattle.std.proofs.lemmas.List.Elements.{All-get_or}
 use Rattle.std.proofs.lemmas.List.Sums.{AllPass-from_list_all}
 use Rattle.std.proofs.lemmas.List.FromFn.{length-range_with_len, get_or-range_with_len}
 use Rattle.std.proofs.lemmas.Grind.{common_steps}
-use Rattle.cov_model.specs.Sound.{ModelView}
-use Rattle.cov_model.specs.Rows.{is_assigned}
+use Rattle.cov_model.specs.believed.Sound.{ModelView}
+use Rattle.cov_model.specs.believed.Rows.{is_assigned}
 use Rattle.cov_model.specs.Fits.{FitsModel}
-use Rattle.cov_model.specs.Valid.{is_row, has_value, param_numbers}
+use Rattle.cov_model.specs.believed.Valid.{is_row, has_value, param_numbers}
 use Rattle.cov_model.proofs.CellLemmas.{assigned_within}
 pub use Rattle.cov_model.proofs.CellLemmas.{contains-get_or}
 

@@ -6,14 +6,14 @@ use Rattle.std.specs.List.{AllByRecursion}
 use Rattle.std.proofs.lemmas.Bool.{false≢true}
 use Rattle.std.proofs.lemmas.List.Elements.{All-from_recursion, All-push}
 use Rattle.std.proofs.lemmas.Grind.{common_steps}
-use Rattle.cov_model.specs.Views.{RuleView}
+use Rattle.cov_model.specs.believed.Views.{RuleView}
 use Rattle.cov_model.specs.declared.parameter.Param.{Param}
-use Rattle.value_text.specs.Texts.{is_same_text}
-use Rattle.cov_model.specs.Sound.{ModelView, IsSound, IsSoundParam, IsSoundValue, IsSoundGroup, IsSoundBody, param_at}
-use Rattle.cov_model.specs.Names.{is_name}
-use Rattle.cov_model.specs.Rows.{is_assigned, value_in}
+use Rattle.value_text.specs.believed.Texts.{is_same_text}
+use Rattle.cov_model.specs.believed.Sound.{ModelView, IsSound, IsSoundParam, IsSoundValue, IsSoundGroup, IsSoundBody, param_at}
+use Rattle.cov_model.specs.believed.Names.{is_name}
+use Rattle.cov_model.specs.believed.Rows.{is_assigned, value_in}
 use Rattle.cov_model.specs.Fits.{FitsModel}
-use Rattle.cov_model.specs.Valid.{is_row}
+use Rattle.cov_model.specs.believed.Valid.{is_row}
 use Rattle.cov_model.specs.Sample.{sample_numbers, sample_texts, sample_params, sample_model, AreSampleRules}
 
 abbrev PairsByRecursion : {X : Type 0} → (X → X → Type 0) → List X → Type 0

@@ -6,7 +6,7 @@ use Rattle.std.proofs.lemmas.Bool.{false≢true, eqb-true}
 use Rattle.std.proofs.lemmas.Bool.Decides.{nat_tests}
 use Rattle.std.proofs.lemmas.List.Elements.{filter_agree}
 use Rattle.std.proofs.lemmas.Map.Keys.{ge_from_not_lt}
-use Rattle.cov_model.specs.Preference.{insert_by_weight, by_falling_weight}
+use Rattle.cov_model.specs.believed.Preference.{insert_by_weight, by_falling_weight}
 
 abbrev tied : (ℕ → ℕ) → ℕ → ℕ → Bool
 tied weight x y = nat_eq (weight x) (weight y)

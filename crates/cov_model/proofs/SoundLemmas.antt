@@ -3,11 +3,13 @@ use Rattle.std.proofs.Common.{◌≡◌, ℕ, ◌-◌, ◌<◌, ◌≤◌, true,
 use Rattle.std.proofs.lemmas.List.{get_or-map, length-map}
 use Rattle.std.proofs.lemmas.List.Elements.{All-get_or}
 use Rattle.std.proofs.lemmas.List.Sums.{AllPass-from_list_all}
-use Rattle.value_text.specs.Numbers.{is_number}
+use Rattle.value_text.specs.believed.Numbers.{is_number}
 use Rattle.cov_model.specs.declared.constraint.Rule.{Rule}
-use Rattle.cov_model.specs.Views.{RuleView, body_view, rule_view}
-use Rattle.cov_model.specs.Sound.{ModelView, IsSound, IsSoundParam, IsSoundValue, IsSoundBody, param_at, rule_at, first_name, no_param, no_rule}
-use Rattle.cov_model.specs.Meaning.{value_at, no_value}
+use Rattle.cov_model.specs.believed.Views.{RuleView}
+use Rattle.cov_model.specs.Views.{body_view, rule_view}
+use Rattle.cov_model.specs.believed.Sound.{ModelView, IsSound, IsSoundParam, IsSoundValue, IsSoundBody, param_at, first_name, no_param}
+use Rattle.cov_model.specs.Sound.{rule_at, no_rule}
+use Rattle.cov_model.specs.believed.Meaning.{value_at, no_value}
 
 pub param_sound : (m : ModelView) (p : ℕ) → IsSound m → p < length m.params → IsSoundParam m.prefix m.fold (param_at m.params p)
 param_sound m p sound within = All-get_or (IsSoundParam m.prefix m.fold) m.params p no_param within sound.params

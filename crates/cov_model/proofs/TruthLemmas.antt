@@ -10,10 +10,10 @@ use Rattle.cov_model.specs.declared.constraint.Pred.{Pred}
 use Rattle.cov_model.specs.declared.constraint.Pred as preds
 use Rattle.cov_model.specs.declared.parameter.Param.{Param}
 use Rattle.cov_model.specs.Views.{pred_view, preds_in, each_is, either_is}
-use Rattle.cov_model.specs.Sound.{ModelView, IsSoundPred, AreSoundPreds, param_at, first_name}
-use Rattle.cov_model.specs.Rows.{is_assigned}
-use Rattle.cov_model.specs.Meaning.{given_value, operand, operand_of, literal_order, term_holds}
-use Rattle.cov_model.specs.Kleene.{known, term_truth, pred_truth, all_truth, any_truth}
+use Rattle.cov_model.specs.believed.Sound.{ModelView, IsSoundPred, AreSoundPreds, param_at, first_name}
+use Rattle.cov_model.specs.believed.Rows.{is_assigned}
+use Rattle.cov_model.specs.believed.Meaning.{given_value, operand, operand_of, literal_order, term_holds}
+use Rattle.cov_model.specs.believed.Kleene.{known, term_truth, pred_truth, all_truth, any_truth}
 
 -- no literal of an IN list equals the value
 pub term_truth-OneOf_none : (m : ModelView) (p : ℕ) (literals : List Literal) (cells : List (Option ℕ)) (numeric : Bool) (name : List ℕ)

@@ -1,12 +1,12 @@
 -- What the meaning on partial rows tells of rows. (Kleene's logic: what is known stays true.)
 use Rattle.std.specs.Prelude.{◌≡◌, ℕ, true, false, List, Option}
 use Rattle.cov_model.specs.declared.truth.Truth.TheVariants.{Yes, No}
-use Rattle.cov_model.specs.Views.{BodyView}
-use Rattle.cov_model.specs.Sound.{ModelView, IsSoundBody}
-use Rattle.cov_model.specs.Rows.{contains}
-use Rattle.cov_model.specs.Meaning.{body_holds}
-use Rattle.cov_model.specs.Kleene.{known, body_truth}
-use Rattle.cov_model.specs.Valid.{is_row}
+use Rattle.cov_model.specs.believed.Views.{BodyView}
+use Rattle.cov_model.specs.believed.Sound.{ModelView, IsSoundBody}
+use Rattle.cov_model.specs.believed.Rows.{contains}
+use Rattle.cov_model.specs.believed.Meaning.{body_holds}
+use Rattle.cov_model.specs.believed.Kleene.{known, body_truth}
+use Rattle.cov_model.specs.believed.Valid.{is_row}
 
 -- a constraint that is No on a partial row is false on every row that contains it
 abbrev pub NoStays : Type 0

@@ -2,8 +2,8 @@
 use Rattle.std.specs.Prelude.{◌≡◌, ℕ, ◌+◌, ◌<◌, true, false, List, [], ◌∷◌, length, slice_index_or, codes, All}
 use Rattle.cov_model.specs.declared.parameter.Param.{Param}
 use Rattle.cov_model.specs.declared.parameter.Value.{Value}
-use Rattle.cov_model.specs.Views.{RuleView}
-use Rattle.cov_model.specs.Sound.{ModelView, IsSoundBody}
+use Rattle.cov_model.specs.believed.Views.{RuleView}
+use Rattle.cov_model.specs.believed.Sound.{ModelView, IsSoundBody}
 
 abbrev pub sample_numbers : List Value
 sample_numbers =

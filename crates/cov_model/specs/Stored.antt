@@ -6,7 +6,8 @@ use Rattle.std.proofs.Common.{ap, ◌∙◌}
 use denote.RawPtr.{null_ptr}
 use Rattle.cov_model.specs.declared.constraint.Pred as preds
 use Rattle.cov_model.specs.declared.constraint.Pred.{Pred, Term, Not'}
-use Rattle.cov_model.specs.Views.{PredView, PredViews, Leaf, Negated, Each, Either, End, More, pred_view, preds_in, each_is, either_is}
+use Rattle.cov_model.specs.believed.Views.{PredView, PredViews, Leaf, Negated, Each, Either, End, More}
+use Rattle.cov_model.specs.Views.{pred_view, preds_in, each_is, either_is}
 
 -- a predicate of the code with this tree; the box of a negation is made up
 abbrev mutual

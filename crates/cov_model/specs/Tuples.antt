@@ -1,6 +1,6 @@
 -- Tuples as lists of pairs (parameter, value), and as partial rows.
 use Rattle.std.specs.Prelude.{ℕ, ◌<◌, List, [], ◌∷◌, replicate, Option, None}
-use Rattle.cov_model.specs.Rows.{with_value}
+use Rattle.cov_model.specs.believed.Rows.{with_value}
 
 -- the parameters rise
 abbrev pub IsRising : List (ℕ × ℕ) → Type 0

@@ -1,36 +1,13 @@
 -- Constraints as plain trees, as contracts see them. (PICT's guide.)
 use mathlib.Core.Former.{Count}
-use Rattle.std.specs.Prelude.{◌≡◌, ℕ, List, [], ◌∷◌, refl}
+use Rattle.std.specs.Prelude.{◌≡◌, List, [], ◌∷◌, refl}
 use Rattle.std.proofs.Common.{ap, ◌∙◌}
-use Rattle.cov_model.specs.declared.constraint.Term as terms
 use Rattle.cov_model.specs.declared.constraint.Body.{Body}
 use Rattle.cov_model.specs.declared.constraint.Body.TheVariants as bodies
 use Rattle.cov_model.specs.declared.constraint.Rule.{Rule}
 use Rattle.cov_model.specs.declared.constraint.Pred as preds
 use Rattle.cov_model.specs.declared.constraint.Pred.{Pred, Term, Not', All', Any', Row_of-Pred, end_of-Pred, more_of-Pred, items-the_row-Pred, items_hidden-the_row-Pred-0}
-
--- a predicate: a term, a negation, a conjunction or a disjunction
-mutual
-  pub data PredView : Type 0 where
-    Leaf : terms.Term → PredView
-    Negated : PredView → PredView
-    Each : PredViews → PredView
-    Either : PredViews → PredView
-
-  pub data PredViews : Type 0 where
-    End : PredViews
-    More : PredView → PredViews → PredViews
-
--- what a constraint demands, and a constraint
-pub data BodyView : Type 0 where
-  Plain : PredView → BodyView
-  IfThen : PredView → PredView → BodyView
-  IfElse : PredView → PredView → PredView → BodyView
-
-pub record RuleView : Type 0 where
-  pub number : ℕ
-  pub line : ℕ
-  pub body : BodyView
+use Rattle.cov_model.specs.believed.Views.{PredView, Leaf, Negated, Each, Either, PredViews, End, More, BodyView, Plain, IfThen, IfElse, RuleView}
 
 -- the tree that a predicate of the code is
 abbrev mutual

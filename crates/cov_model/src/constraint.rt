@@ -22,7 +22,7 @@ pub enum Rel {
 }
 
 impl Rel {
-    ghost use Rattle.cov_model.specs.Meaning.{stands_in};
+    ghost use Rattle.cov_model.specs.believed.Meaning.{stands_in};
 
     /// Whether two operands in this order stand in the relation.
     pub fn holds(self, order: Ordering) -> bool

@@ -1,11 +1,12 @@
 ghost use Rattle.std.specs.Prelude.{◌≡◌, ◌<◌, ◌≤◌, true, All, IfSome, is_some, length, if◌then◌else◌};
-ghost use Rattle.value_text.specs.Numbers.{is_number, number_of};
+ghost use Rattle.value_text.specs.believed.Numbers.{is_number, number_of};
 ghost use Rattle.cov_model.specs.Views.{body_view, pred_view, preds_in};
-ghost use Rattle.cov_model.specs.Sound.{IsLiteralOf, IsSoundBody, IsSoundPred, IsSoundTerm, param_at, rule_at, first_name};
-ghost use Rattle.cov_model.specs.Rows.{is_assigned};
+ghost use Rattle.cov_model.specs.believed.Sound.{IsLiteralOf, IsSoundBody, IsSoundPred, IsSoundTerm, param_at, first_name};
+ghost use Rattle.cov_model.specs.Sound.{rule_at};
+ghost use Rattle.cov_model.specs.believed.Rows.{is_assigned};
 ghost use Rattle.cov_model.specs.Fits.{FitsModel};
-ghost use Rattle.cov_model.specs.Meaning.{given_value, literal_order, number_in, operand_of};
-ghost use Rattle.cov_model.specs.Kleene.{term_truth, pred_truth, all_truth, any_truth, body_truth};
+ghost use Rattle.cov_model.specs.believed.Meaning.{given_value, literal_order, number_in, operand_of};
+ghost use Rattle.cov_model.specs.believed.Kleene.{term_truth, pred_truth, all_truth, any_truth, body_truth};
 
 use crate::cells::Cells;
 use crate::constraint::{Body, Literal, Pred, Rel, Term};

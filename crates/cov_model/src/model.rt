@@ -1,8 +1,8 @@
 ghost use Rattle.std.specs.Prelude.{◌≡◌, ◌<◌, true, map, length};
-ghost use Rattle.value_text.specs.Numbers.{is_number};
+ghost use Rattle.value_text.specs.believed.Numbers.{is_number};
 ghost use Rattle.cov_model.specs.Views.{rule_view};
-ghost use Rattle.cov_model.specs.Sound.{IsSound, IsSoundParam, IsSoundValue, first_name, param_at};
-ghost use Rattle.cov_model.specs.Meaning.{value_at};
+ghost use Rattle.cov_model.specs.believed.Sound.{IsSound, IsSoundParam, IsSoundValue, first_name, param_at};
+ghost use Rattle.cov_model.specs.believed.Meaning.{value_at};
 
 use crate::constraint::RuleList;
 use crate::demand::Demand;
@@ -24,7 +24,7 @@ pub struct TestModel {
 impl Model for TestModel {
     ghost use Rattle.std.specs.Coded.{codes};
     ghost use Rattle.std.specs.Prelude.{map};
-    ghost use Rattle.cov_model.specs.Sound.{ModelView, IsSound};
+    ghost use Rattle.cov_model.specs.believed.Sound.{ModelView, IsSound};
     ghost use Rattle.cov_model.specs.Views.{rule_view};
     ghost use Rattle.cov_model.specs.Stored.{pred_code};
     ghost use Rattle.cov_model.specs.contracts.constraint.Pred as predicate;

@@ -1,6 +1,7 @@
 ghost use Rattle.std.specs.Prelude.{◌≡◌, ◌<◌, ◌≤◌, [], length, slice_index_or, IfOk, OnOk};
-ghost use Rattle.cov_model.specs.Sound.{param_at};
-ghost use Rattle.cov_model.specs.Preference.{OrdersValues, by_falling_weight, declared_order, generator_of, preference, preferred, shuffled, weight_in};
+ghost use Rattle.cov_model.specs.believed.Sound.{param_at};
+ghost use Rattle.cov_model.specs.Preference.{OrdersValues};
+ghost use Rattle.cov_model.specs.believed.Preference.{by_falling_weight, declared_order, generator_of, preference, preferred, shuffled, weight_in};
 
 use crate::model::TestModel;
 use crate::parameter::{ParamNo, ValueList, ValueNo};

@@ -1,11 +1,11 @@
 ghost use Rattle.std.specs.Prelude.{◌≡◌, ◌&&◌, ◌<◌, true, is_none, length};
 ghost use Rattle.cov_model.specs.Views.{body_view};
-ghost use Rattle.cov_model.specs.Sound.{IsSoundBody};
-ghost use Rattle.cov_model.specs.Rows.{is_assigned};
+ghost use Rattle.cov_model.specs.believed.Sound.{IsSoundBody};
+ghost use Rattle.cov_model.specs.believed.Rows.{is_assigned};
 ghost use Rattle.cov_model.specs.Fits.{FitsModel};
-ghost use Rattle.cov_model.specs.Meaning.{body_holds, given_value};
-ghost use Rattle.cov_model.specs.Valid.{is_row, is_valid, negatives};
-ghost use Rattle.cov_model.specs.RowFault.{first_two, row_fault};
+ghost use Rattle.cov_model.specs.believed.Meaning.{body_holds, given_value};
+ghost use Rattle.cov_model.specs.believed.Valid.{is_row, is_valid, negatives};
+ghost use Rattle.cov_model.specs.believed.RowFault.{first_two, row_fault};
 ghost use Rattle.cov_model.specs.Laws.{NoStays, RowsAreKnown, YesStays};
 
 use crate::cells::Cells;

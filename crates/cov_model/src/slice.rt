@@ -1,8 +1,8 @@
 ghost use Rattle.std.specs.Prelude.{◌≡◌, ◌<◌, ◌&&◌, Some, None, length, if◌then◌else◌};
-ghost use Rattle.cov_model.specs.Rows.{is_assigned, value_in};
+ghost use Rattle.cov_model.specs.believed.Rows.{is_assigned, value_in};
 ghost use Rattle.cov_model.specs.Fits.{FitsModel};
-ghost use Rattle.cov_model.specs.Meaning.{given_value};
-ghost use Rattle.cov_model.specs.Slices.{slice_of};
+ghost use Rattle.cov_model.specs.believed.Meaning.{given_value};
+ghost use Rattle.cov_model.specs.believed.Slices.{slice_of};
 
 use crate::cells::Cells;
 use crate::model::TestModel;

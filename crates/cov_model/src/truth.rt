@@ -12,7 +12,7 @@ pub enum Truth {
 }
 
 impl Truth {
-    ghost use Rattle.cov_model.specs.Kleene.{known, not_of, and_of, or_of};
+    ghost use Rattle.cov_model.specs.believed.Kleene.{known, not_of, and_of, or_of};
 
     /// `Yes` for what holds, `No` for what doesn't.
     pub fn of(holds: bool) -> Truth

@@ -6,14 +6,14 @@ use Rattle.std.proofs.lemmas.List.Elements.{All-append, All-cons, All-nil, All-t
 use Rattle.std.proofs.Math.ListN.{get_or-map}
 use Rattle.std.proofs.lemmas.Option.{get_or_from_slice_get, slice_get-map}
 use Rattle.cov_model.specs.Preference.{OrdersValues}
-use Rattle.cov_model.specs.Sound.{IsSound, ModelView}
+use Rattle.cov_model.specs.believed.Sound.{IsSound, ModelView}
 use Rattle.cov_model.specs.declared.slice.Slice.{Slice}
 use Rattle.definitions.specs.declared.effort.Effort.{Effort}
-use Rattle.definitions.specs.Completion.{is_extendable}
-use Rattle.cov_model.specs.Slices.{slice_values}
-use Rattle.definitions.specs.Demand.{tuples_in}
-use Rattle.definitions.specs.Figures.{all_rows, is_served}
-use Rattle.definitions.specs.Search.{first_over, plain_cost}
+use Rattle.definitions.specs.believed.Completion.{is_extendable}
+use Rattle.cov_model.specs.believed.Slices.{slice_values}
+use Rattle.definitions.specs.believed.Demand.{tuples_in}
+use Rattle.definitions.specs.believed.Figures.{all_rows, is_served}
+use Rattle.definitions.specs.believed.Search.{first_over, plain_cost}
 use Rattle.definitions.specs.SliceRows.{IsOfSlice, IsSliceOf}
 use Rattle.feasibility.specs.Tree.{no_values}
 use Rattle.feasibility.specs.declared.answer.Answer.{Answer}

@@ -11,13 +11,14 @@ use Rattle.std.proofs.lemmas.List.Folds.{flat_map-map}
 use Rattle.std.proofs.lemmas.List.Sums.{get_or-le-sum_by, sum_by_more, sum_by_more_le}
 use Rattle.cov_model.specs.declared.slice.Slice.{Slice}
 use Rattle.cov_model.specs.declared.slice.Slice.TheVariants.{Negative, Positive}
-use Rattle.cov_model.specs.Meaning.{value_at}
-use Rattle.cov_model.specs.Sound.{ModelView}
-use Rattle.cov_model.specs.Slices.{negative_values, slice_values, value_numbers}
+use Rattle.cov_model.specs.believed.Meaning.{value_at}
+use Rattle.cov_model.specs.believed.Sound.{ModelView}
+use Rattle.cov_model.specs.believed.Slices.{negative_values, slice_values, value_numbers}
 use Rattle.definitions.specs.declared.effort.Effort.{Effort}
-use Rattle.definitions.specs.Completion.{preferred_values, with_value}
-use Rattle.definitions.specs.Demand.{demanded_sets, is_among, tuples_in, tuples_of}
-use Rattle.definitions.specs.Search.{Outcome, constrained_params, exceeds, question_cost}
+use Rattle.definitions.specs.believed.Completion.{preferred_values}
+use Rattle.definitions.specs.Completion.{with_value}
+use Rattle.definitions.specs.believed.Demand.{demanded_sets, is_among, tuples_in, tuples_of}
+use Rattle.definitions.specs.believed.Search.{Outcome, constrained_params, exceeds, question_cost}
 use Rattle.definitions.proofs.Members.{of_among}
 use Rattle.definitions.specs.SliceRows.{IsSliceOf}
 use Rattle.definitions.proofs.Totals.{count_flat}

@@ -7,7 +7,7 @@ use Rattle.std.proofs.lemmas.Option.{none-some}
 use Rattle.std.proofs.lemmas.Grind.{flat_map-append}
 use Rattle.std.proofs.lemmas.List.{drop_more, take-append-drop, take_more}
 use Rattle.std.proofs.lemmas.List.Folds.{find-append}
-use Rattle.definitions.specs.Pairs.{pairs_of}
+use Rattle.definitions.specs.believed.Pairs.{pairs_of}
 use Rattle.feasibility.specs.declared.answer.SearchFault.{SearchFault}
 use Rattle.feasibility.specs.declared.answer.SearchFault.TheVariants.{Spent, NoMemory}
 use Rattle.feasibility.specs.Ends.{EndsBy}

@@ -3,9 +3,9 @@ use Rattle.std.proofs.Common.{◌≡◌, ℕ, ◌+◌, ◌<◌, Bool, List, [], 
 use Rattle.std.specs.Prelude.{sum}
 use Rattle.std.specs.List.{filter}
 use Rattle.std.proofs.lemmas.List.{get_or-map}
-use Rattle.cov_model.specs.Sound.{ModelView}
-use Rattle.definitions.specs.Demand.{demanded_sets, demanded_tuples, tuples_of}
-use Rattle.definitions.specs.Figures as defined
+use Rattle.cov_model.specs.believed.Sound.{ModelView}
+use Rattle.definitions.specs.believed.Demand.{demanded_sets, demanded_tuples, tuples_of}
+use Rattle.definitions.specs.believed.Figures as defined
 use Rattle.tuple_index.specs.Plan.{PlanView, plan_of, set_at}
 use Rattle.shared_marks.specs.Served.{base_of}
 use Rattle.shared_marks.proofs.PlaceLemmas.{all_places}

@@ -4,15 +4,15 @@ use Rattle.std.proofs.Common.{arith, length-append}
 use Rattle.std.specs.List.{filter, flat_map}
 use Rattle.cov_model.specs.declared.slice.Slice.{Slice}
 use Rattle.cov_model.specs.Preference.{OrdersValues}
-use Rattle.cov_model.specs.Sound.{ModelView, IsSound}
-use Rattle.cov_model.specs.Rows.{is_assigned, value_in}
-use Rattle.cov_model.specs.Slices.{slice_of, slice_values, slices}
+use Rattle.cov_model.specs.believed.Sound.{ModelView, IsSound}
+use Rattle.cov_model.specs.believed.Rows.{is_assigned, value_in}
+use Rattle.cov_model.specs.believed.Slices.{slice_of, slice_values, slices}
 use Rattle.cov_model.proofs.CellLemmas.{assigned_within, length-slice_values}
 use Rattle.definitions.specs.declared.effort.Effort.{Effort}
-use Rattle.definitions.specs.Completion.{is_extendable}
-use Rattle.definitions.specs.Demand.{tuples_in, tuples_of}
-use Rattle.definitions.specs.Figures.{all_rows, is_served}
-use Rattle.definitions.specs.Search.{exceeds, first_over, plain_cost}
+use Rattle.definitions.specs.believed.Completion.{is_extendable}
+use Rattle.definitions.specs.believed.Demand.{tuples_in, tuples_of}
+use Rattle.definitions.specs.believed.Figures.{all_rows, is_served}
+use Rattle.definitions.specs.believed.Search.{exceeds, first_over, plain_cost}
 use Rattle.definitions.specs.SliceRows.{IsOfSlice, IsSliceOf}
 use Rattle.definitions.proofs.InPlay.{IsTupleOf, tuple_is}
 use Rattle.definitions.proofs.Members.{Has, among_has}

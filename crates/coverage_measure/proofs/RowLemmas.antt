@@ -2,9 +2,9 @@
 use Rattle.std.proofs.Common.{◌≡◌, ℕ, ◌+◌, ◌<◌, ◌≤◌, Bool, true, false, ◌&&◌, not, cond, List, [], length, get_or, map, take, drop, Option, refl, ◌∙◌, sym, ap, subst, arith, length-append}
 use Rattle.std.proofs.lemmas.List.{get_or-map, length-map, take-append-drop}
 use Rattle.std.proofs.lemmas.List.Filters.{length-filter_more}
-use Rattle.cov_model.specs.Sound.{ModelView}
-use Rattle.cov_model.specs.Rows.{is_complete}
-use Rattle.cov_model.specs.Valid.{is_valid}
+use Rattle.cov_model.specs.believed.Sound.{ModelView}
+use Rattle.cov_model.specs.believed.Rows.{is_complete}
+use Rattle.cov_model.specs.believed.Valid.{is_valid}
 use Rattle.row_text.specs.declared.row_file.FileRow.{FileRow}
 use Rattle.value_text.proofs.ListLemmas.{length-filter-le}
 use Rattle.coverage_measure.specs.declared.suite_rows.RowCounts.{RowCounts}

@@ -3,8 +3,8 @@ use Rattle.std.proofs.Common.{◌≡◌, ℕ, ◌+◌, ◌*◌, ◌^◌, ◌<◌
 use Rattle.std.specs.Prelude.{nat_le}
 use Rattle.std.proofs.lemmas.List.Filters.{length-filter_more}
 use Rattle.std.proofs.lemmas.List.Sums.{sum_by_more}
-use Rattle.cov_model.specs.Sound.{ModelView}
-use Rattle.definitions.specs.Figures.{covered, is_at, servable}
+use Rattle.cov_model.specs.believed.Sound.{ModelView}
+use Rattle.definitions.specs.believed.Figures.{covered, is_at, servable}
 use Rattle.coverage_measure.specs.declared.set_figures.SetFigures.{SetFigures}
 use Rattle.coverage_measure.specs.SetFigures.{IsWithin, one_at, set_figures, with_set}
 

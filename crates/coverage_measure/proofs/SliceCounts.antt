@@ -8,14 +8,14 @@ use Rattle.std.proofs.lemmas.List.Elements.{filter-append}
 use Rattle.std.proofs.lemmas.List.Folds.{find-append}
 use Rattle.std.proofs.lemmas.List.FromFn.{get_or-range_with_len, length-range_with_len}
 use Rattle.cov_model.specs.declared.slice.Slice.TheVariants.{Negative, Positive}
-use Rattle.cov_model.specs.Meaning.{value_at}
-use Rattle.cov_model.specs.Slices.{value_numbers}
-use Rattle.cov_model.specs.Sound.{ModelView, no_param, param_at}
+use Rattle.cov_model.specs.believed.Meaning.{value_at}
+use Rattle.cov_model.specs.believed.Slices.{value_numbers}
+use Rattle.cov_model.specs.believed.Sound.{ModelView, no_param, param_at}
 use Rattle.cov_model.specs.declared.parameter.Param.{Param}
 use Rattle.definitions.specs.declared.effort.Effort.{Effort}
-use Rattle.definitions.specs.Demand.{tuples_in, tuples_of}
-use Rattle.definitions.specs.Figures.{all_rows, is_served, servable}
-use Rattle.definitions.specs.Search.{first_over}
+use Rattle.definitions.specs.believed.Demand.{tuples_in, tuples_of}
+use Rattle.definitions.specs.believed.Figures.{all_rows, is_served, servable}
+use Rattle.definitions.specs.believed.Search.{first_over}
 use Rattle.feasibility.specs.declared.answer.SearchFault.{SearchFault}
 use Rattle.feasibility.specs.Ends.{EndsBy}
 use Rattle.tuple_index.specs.Places.{RisesFrom}

@@ -8,10 +8,10 @@ use Rattle.std.proofs.lemmas.Grind.{flat_map-append}
 use Rattle.std.proofs.lemmas.List.{take-append-drop, take_all}
 use Rattle.std.proofs.lemmas.List.Sums.{sum_by-cons}
 use Rattle.std.proofs.lemmas.Option.{none-some}
-use Rattle.cov_model.specs.Sound.{ModelView}
+use Rattle.cov_model.specs.believed.Sound.{ModelView}
 use Rattle.definitions.specs.Completion.{with_value}
-use Rattle.definitions.specs.Demand.{is_among}
-use Rattle.definitions.specs.Search.{constrained_params}
+use Rattle.definitions.specs.believed.Demand.{is_among}
+use Rattle.definitions.specs.believed.Search.{constrained_params}
 use Rattle.definitions.proofs.Members.{among_has, has_filter}
 use Rattle.definitions.proofs.SliceLemmas.{has_params}
 use Rattle.definitions.proofs.Totals.{count_flat, sum_same}
@@ -19,7 +19,7 @@ use Rattle.feasibility.specs.Tree.{is_named}
 use Rattle.feasibility.specs.declared.answer.SearchFault.{SearchFault}
 use Rattle.feasibility.specs.Ends.{EndsBy}
 use Rattle.feasibility.proofs.Alike.{AreAlike, alike_other, alike_with}
-use Rattle.cov_model.specs.Valid.{param_numbers}
+use Rattle.cov_model.specs.believed.Valid.{param_numbers}
 use Rattle.coverage_measure.specs.Asking.{tally, with_values}
 use Rattle.coverage_measure.proofs.EndLemmas.{ends_whole}
 

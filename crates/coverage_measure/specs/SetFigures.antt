@@ -1,8 +1,8 @@
 -- How well demanded sets are covered. (NIST IR 7878.)
 use Rattle.std.specs.Prelude.{ℕ, ◌+◌, ◌*◌, ◌^◌, ◌≤◌, List, length, sum_by, Option, nat_le, if◌then◌else◌}
 use Rattle.std.specs.List.{filter}
-use Rattle.cov_model.specs.Sound.{ModelView}
-use Rattle.definitions.specs.Figures.{covered, is_at, servable}
+use Rattle.cov_model.specs.believed.Sound.{ModelView}
+use Rattle.definitions.specs.believed.Figures.{covered, is_at, servable}
 use Rattle.coverage_measure.specs.declared.set_figures.SetFigures.{SetFigures}
 
 -- the figures of some sets of a model, covered by the rows of a suite

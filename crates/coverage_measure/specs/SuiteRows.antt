@@ -1,10 +1,10 @@
 -- The rows of a suite by their kinds. (NIST IR 7878.)
 use Rattle.std.specs.Prelude.{ℕ, ◌+◌, ◌&&◌, not, List, length, Option, if◌then◌else◌}
 use Rattle.std.specs.List.{filter}
-use Rattle.cov_model.specs.Sound.{ModelView}
-use Rattle.cov_model.specs.Rows.{is_complete}
-use Rattle.cov_model.specs.Valid.{is_valid}
-use Rattle.definitions.specs.Figures.{tests_of}
+use Rattle.cov_model.specs.believed.Sound.{ModelView}
+use Rattle.cov_model.specs.believed.Rows.{is_complete}
+use Rattle.cov_model.specs.believed.Valid.{is_valid}
+use Rattle.definitions.specs.believed.Figures.{tests_of}
 use Rattle.coverage_measure.specs.declared.suite_rows.RowCounts.{RowCounts}
 use Rattle.coverage_measure.specs.declared.suite_rows.RowKind.{RowKind}
 use Rattle.coverage_measure.specs.declared.suite_rows.RowKind.TheVariants.{Test, Incomplete, Invalid}

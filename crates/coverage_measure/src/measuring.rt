@@ -1,9 +1,9 @@
 ghost use Rattle.std.specs.Prelude.{◌≡◌, ◌^◌, ◌≤◌, ℕ, List, Option, None, All, IfOk, length, map, sum};
 ghost use Rattle.cov_model.specs.Fits.{FitsModel};
 ghost use Rattle.cov_model.specs.Preference.{OrdersValues};
-ghost use Rattle.definitions.specs.Demand.{demanded_sets, demanded_tuples};
-ghost use Rattle.definitions.specs.Figures as defined;
-ghost use Rattle.definitions.specs.Search.{first_measured_over, first_over};
+ghost use Rattle.definitions.specs.believed.Demand.{demanded_sets, demanded_tuples};
+ghost use Rattle.definitions.specs.believed.Figures as defined;
+ghost use Rattle.definitions.specs.believed.Search.{first_measured_over, first_over};
 ghost use Rattle.row_text.specs.RowFiles.{suite_seen};
 ghost use Rattle.row_text.specs.Told.{figures_seen};
 ghost use Rattle.tuple_index.specs.Plan.{plan_of};

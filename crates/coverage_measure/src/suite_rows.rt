@@ -1,6 +1,6 @@
 ghost use Rattle.std.specs.Prelude.{◌≡◌, ◌^◌, ◌≤◌, All, length};
 ghost use Rattle.cov_model.specs.Fits.{FitsModel};
-ghost use Rattle.cov_model.specs.Rows.{is_complete};
+ghost use Rattle.cov_model.specs.believed.Rows.{is_complete};
 ghost use Rattle.row_text.specs.RowFiles.{suite_seen};
 ghost use Rattle.coverage_measure.specs.SuiteRows.{kind_of, row_counts, with_kind};
 

@@ -7,9 +7,9 @@ use Rattle.std.proofs.lemmas.List.Elements.{All-head, All-tail, All-weaker, All-
 use Rattle.std.proofs.lemmas.List.Sums.{prefix_len-drop_no, suffix_len-take_no}
 use Rattle.std.proofs.lemmas.List.Folds.{map_fixed}
 use Rattle.std.proofs.lemmas.Bool.{cond-false, cond-true, and_right}
-use Rattle.definitions.specs.Report.{line_of_cells}
-use Rattle.definitions.specs.RowFile.{without_spaces, cells_of_line}
-use Rattle.model_lex.specs.Lines.{without_return, ended_lines, file_lines}
+use Rattle.definitions.specs.believed.Report.{line_of_cells}
+use Rattle.definitions.specs.believed.RowFile.{without_spaces, cells_of_line}
+use Rattle.model_lex.specs.believed.Lines.{without_return, ended_lines, file_lines}
 
 -- a cell has a byte, no byte below a space, and no space at its ends
 pub record IsCell (cell : List ℕ) : Type 0 where

@@ -6,19 +6,19 @@ use Rattle.std.proofs.lemmas.Bool.{false≢true, false_from_ne_true, and_from}
 use Rattle.std.proofs.lemmas.List.Elements.{All-weaker, All-head, All-tail}
 use Rattle.std.proofs.lemmas.List.Sums.{AllPass-from_list_all}
 use Rattle.std.proofs.lemmas.List.Folds.{Any-from_list_any}
-use Rattle.cov_model.specs.Sound.{ModelView}
-use Rattle.cov_model.specs.Rows.{contains, is_assigned}
-use Rattle.cov_model.specs.Valid.{is_valid, serves, negatives}
+use Rattle.cov_model.specs.believed.Sound.{ModelView}
+use Rattle.cov_model.specs.believed.Rows.{contains, is_assigned}
+use Rattle.cov_model.specs.believed.Valid.{is_valid, serves, negatives}
 use Rattle.value_text.proofs.ListLemmas.{list_any-map}
 use Rattle.cov_model.proofs.CellLemmas.{contains-assigned, contains-trans}
-use Rattle.definitions.specs.Demand.{demanded_tuples}
-use Rattle.definitions.specs.Seeds.{is_same_row}
-use Rattle.definitions.specs.Refutation.{first_unrefuted}
+use Rattle.definitions.specs.believed.Demand.{demanded_tuples}
+use Rattle.definitions.specs.believed.Seeds.{is_same_row}
+use Rattle.definitions.specs.believed.Refutation.{first_unrefuted}
 use Rattle.definitions.specs.Pairs.{cells_of}
-use Rattle.definitions.specs.ProofText.{Omission, omissions_of}
-use Rattle.definitions.specs.Figures.{is_served}
-use Rattle.definitions.specs.Verdict.{Verdict, Accepted, BadRow, BadProof, BadOmission, Uncovered, IsListed, by_row, by_proof, by_omission, by_tuple, as_cells, first_uncovered, listed}
-use Rattle.definitions.specs.Covering.{IsUnserved}
+use Rattle.definitions.specs.believed.ProofText.{Omission, omissions_of}
+use Rattle.definitions.specs.believed.Figures.{is_served}
+use Rattle.definitions.specs.believed.Verdict.{Verdict, Accepted, BadRow, BadProof, BadOmission, Uncovered, IsListed, by_row, by_proof, by_omission, by_tuple, as_cells, first_uncovered, listed}
+use Rattle.definitions.specs.believed.Covering.{IsUnserved}
 use Rattle.definitions.specs.Laws.{AcceptedAreCertified}
 use Rattle.definitions.proofs.Contained.{left, right}
 use Rattle.definitions.proofs.Nothing.{none_found}

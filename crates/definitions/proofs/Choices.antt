@@ -3,8 +3,8 @@ use Rattle.std.proofs.Common.{◌≡◌, ℕ, zero, suc, ◌<◌, Bool, true, fa
 use Rattle.std.proofs.Common.{get_or, Option, Some, None, is_some, unwrap_or, inl, inr, ap, subst, refl, arith}
 use Rattle.std.specs.Prelude.{◌==◌}
 use Rattle.std.proofs.lemmas.Bool.{false≢true, and_parts, and_from, eqb-true, eq-eqb}
-use Rattle.cov_model.specs.Rows.{contains, value_in}
-use Rattle.definitions.specs.Completion.{completions, cell_values}
+use Rattle.cov_model.specs.believed.Rows.{contains, value_in}
+use Rattle.definitions.specs.believed.Completion.{completions, cell_values}
 use Rattle.definitions.specs.Laws.{GivesListed, CompletionsAreRows}
 use Rattle.definitions.proofs.Members.{Has, has_contained, contains_member, has_map, of_map, has_flat, of_flat, has_filter, of_filter}
 

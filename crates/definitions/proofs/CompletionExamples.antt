@@ -1,10 +1,10 @@
 -- Column orders, completions and extendability, computed on small models.
 use Rattle.std.specs.Prelude.{◌≡◌, true, false, [], ◌∷◌, Some, None, codes, refl}
-use Rattle.cov_model.specs.Views.{Plain, IfThen}
+use Rattle.cov_model.specs.believed.Views.{Plain, IfThen}
 use Rattle.cov_model.specs.declared.constraint.Rel.TheVariants.{Eq, Ne, Lt}
 use Rattle.cov_model.specs.declared.slice.Slice.TheVariants.{Positive, Negative}
-use Rattle.cov_model.specs.Sound.{ModelView}
-use Rattle.definitions.specs.Completion.{column_order, preferred_values, completions, is_extendable, first_completion, can_be_served, meets_rules}
+use Rattle.cov_model.specs.believed.Sound.{ModelView}
+use Rattle.definitions.specs.believed.Completion.{column_order, preferred_values, completions, is_extendable, first_completion, can_be_served, meets_rules}
 use Rattle.definitions.proofs.Examples.{model, two, param, value, negative_value, with_rules, number, is}
 
 -- four parameters with 2, 1, 3 and 2 values, of which C's third and D's second are negative

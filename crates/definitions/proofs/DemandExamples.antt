@@ -1,14 +1,14 @@
 -- Demand, slices, validity and serving, computed on small models.
 use Rattle.std.specs.Prelude.{◌≡◌, ℕ, true, false, List, [], ◌∷◌, length, map, Option, Some, None, codes, pos, refl}
-use Rattle.cov_model.specs.Views.{Leaf, Plain}
+use Rattle.cov_model.specs.believed.Views.{Leaf, Plain}
 use Rattle.cov_model.specs.declared.constraint.Rel.TheVariants.{Lt}
 use Rattle.cov_model.specs.declared.constraint.Literal.TheVariants.{Number}
 use Rattle.cov_model.specs.declared.constraint.Term.TheVariants.{ValueIs}
 use Rattle.cov_model.specs.declared.slice.Slice.TheVariants.{Positive, Negative}
-use Rattle.cov_model.specs.Sound.{ModelView}
-use Rattle.cov_model.specs.Slices.{slices, slice_values, slice_of}
-use Rattle.cov_model.specs.Valid.{is_valid, serves}
-use Rattle.definitions.specs.Demand.{demanded_sets, demanded_tuples, choices}
+use Rattle.cov_model.specs.believed.Sound.{ModelView}
+use Rattle.cov_model.specs.believed.Slices.{slices, slice_values, slice_of}
+use Rattle.cov_model.specs.believed.Valid.{is_valid, serves}
+use Rattle.definitions.specs.believed.Demand.{demanded_sets, demanded_tuples, choices}
 use Rattle.definitions.proofs.Examples.{model, two, group, param, value, negative_value}
 
 -- five parameters at order 2, three of them a sub-model of order 2

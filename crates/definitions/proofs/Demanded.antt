@@ -4,9 +4,9 @@ use Rattle.std.specs.List.{flat_map, list_any}
 use Rattle.std.proofs.lemmas.List.Elements.{All-from_recursion, recursion_from_All}
 use Rattle.std.proofs.lemmas.Bool.{cases_Bool, not_from_false}
 use Rattle.cov_model.specs.declared.demand.Group.{Group}
-use Rattle.cov_model.specs.Sound.{ModelView, IsSound, IsSoundGroup}
-use Rattle.cov_model.specs.Valid.{param_numbers}
-use Rattle.definitions.specs.Demand.{is_among, choose, singles, units, unions, choices, rising, in_order, demanded_sets}
+use Rattle.cov_model.specs.believed.Sound.{ModelView, IsSound, IsSoundGroup}
+use Rattle.cov_model.specs.believed.Valid.{param_numbers}
+use Rattle.definitions.specs.believed.Demand.{is_among, choose, singles, units, unions, choices, rising, in_order, demanded_sets}
 use Rattle.definitions.proofs.SetOrder.{each_in_order}
 use Rattle.definitions.proofs.Members.{Has, all_members, member_of_all, has_left, has_right, of_append, has_map, of_map, of_flat, has_filter, of_filter, of_any, among_has}
 use Rattle.definitions.proofs.SliceLemmas.{of_params, has_params}

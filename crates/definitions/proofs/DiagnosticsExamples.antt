@@ -2,10 +2,11 @@
 use Rattle.std.specs.Prelude.{◌≡◌, [], ◌∷◌, ◌++◌, map, codes, refl}
 use Rattle.std.specs.Fmt.{digits}
 use Rattle.definitions.specs.Diagnostics
-use Rattle.definitions.specs.Limits.{Parameters, Values, Names, Constraints, DemandedSets, DemandedTuples, Rows, SuspectCandidates, most_counted, ModelFile, RowFile, ProofFile, most_bytes}
+use Rattle.definitions.specs.believed.Diagnostics as believed_diagnostics
+use Rattle.definitions.specs.believed.Limits.{Parameters, Values, Names, Constraints, DemandedSets, DemandedTuples, Rows, SuspectCandidates, most_counted, ModelFile, RowFile, ProofFile, most_bytes}
 use Rattle.definitions.proofs.Models.{row}
 
-seed : Diagnostics.used_seed_line 5 ≡ codes "Used seed: 5\n"
+seed : believed_diagnostics.used_seed_line 5 ≡ codes "Used seed: 5\n"
 unfolding digits
 seed = refl
 
@@ -22,49 +23,49 @@ budget : Diagnostics.budget_line 2 (row (codes "_0_1")) ≡ codes "error: search
 unfolding digits
 budget = refl
 
-word : Diagnostics.word_line 12 ≡ codes "error: word 12 is not understood\n"
+word : believed_diagnostics.word_line 12 ≡ codes "error: word 12 is not understood\n"
 unfolding digits
 word = refl
 
-model : Diagnostics.model_line 1 (codes "M18") (codes "order above the number of parameters") ≡ codes "error: model line 1: M18 order above the number of parameters\n"
+model : believed_diagnostics.model_line 1 (codes "M18") (codes "order above the number of parameters") ≡ codes "error: model line 1: M18 order above the number of parameters\n"
 unfolding digits
 model = refl
 
-two_columns : Diagnostics.two_columns_line 1 ≡ codes "error: row file line 1: F2 parameter in two columns\n"
+two_columns : believed_diagnostics.two_columns_line 1 ≡ codes "error: row file line 1: F2 parameter in two columns\n"
 unfolding digits
 two_columns = refl
 
-no_column : Diagnostics.no_column_line 1 ≡ codes "error: row file: F3 no column for parameter 1\n"
+no_column : believed_diagnostics.no_column_line 1 ≡ codes "error: row file: F3 no column for parameter 1\n"
 unfolding digits
 no_column = refl
 
-too_wide : Diagnostics.too_wide_line 2 ≡ codes "error: row file line 2: F4 more cells than the header\n"
+too_wide : believed_diagnostics.too_wide_line 2 ≡ codes "error: row file line 2: F4 more cells than the header\n"
 unfolding digits
 too_wide = refl
 
-bad_result : Diagnostics.bad_result_line 10 ≡ codes "error: row file line 10: F6 neither pass nor fail\n"
+bad_result : believed_diagnostics.bad_result_line 10 ≡ codes "error: row file line 10: F6 neither pass nor fail\n"
 unfolding digits
 bad_result = refl
 
-cannot_read : Diagnostics.cannot_read_line (codes "s") ≡ codes "error: cannot read s\n"
+cannot_read : believed_diagnostics.cannot_read_line (codes "s") ≡ codes "error: cannot read s\n"
 cannot_read = refl
 
-cannot_write : Diagnostics.cannot_write_line (codes "p") ≡ codes "error: cannot write p\n"
+cannot_write : believed_diagnostics.cannot_write_line (codes "p") ≡ codes "error: cannot write p\n"
 cannot_write = refl
 
-sets : Diagnostics.count_limit_line DemandedSets 2763520 ≡ codes "error: limit: demanded sets 2763520 above 1048576\n"
+sets : believed_diagnostics.count_limit_line DemandedSets 2763520 ≡ codes "error: limit: demanded sets 2763520 above 1048576\n"
 unfolding digits
 sets = refl
 
-values : Diagnostics.count_limit_line Values 4096 ≡ codes "error: limit: values 4096 above 4095\n"
+values : believed_diagnostics.count_limit_line Values 4096 ≡ codes "error: limit: values 4096 above 4095\n"
 unfolding digits
 values = refl
 
-tuples : Diagnostics.count_limit_line DemandedTuples 67108865 ≡ codes "error: limit: demanded tuples 67108865 above 67108864\n"
+tuples : believed_diagnostics.count_limit_line DemandedTuples 67108865 ≡ codes "error: limit: demanded tuples 67108865 above 67108864\n"
 unfolding digits
 tuples = refl
 
-proof : Diagnostics.bytes_limit_line ProofFile ≡ codes "error: limit: proof bytes above 268435456\n"
+proof : believed_diagnostics.bytes_limit_line ProofFile ≡ codes "error: limit: proof bytes above 268435456\n"
 unfolding digits
 proof = refl
 
@@ -75,19 +76,19 @@ counted-most = refl
 bytes-most : map most_bytes (ModelFile ∷ RowFile ∷ ProofFile ∷ []) ≡ 4194304 ∷ 67108864 ∷ 268435456 ∷ []
 bytes-most = refl
 
-names : Diagnostics.count_limit_line Parameters 257 ++ Diagnostics.count_limit_line Names 65 ++ Diagnostics.count_limit_line Constraints 4097
-    ++ Diagnostics.count_limit_line Rows 1048577 ++ Diagnostics.count_limit_line SuspectCandidates 4194305
+names : believed_diagnostics.count_limit_line Parameters 257 ++ believed_diagnostics.count_limit_line Names 65 ++ believed_diagnostics.count_limit_line Constraints 4097
+    ++ believed_diagnostics.count_limit_line Rows 1048577 ++ believed_diagnostics.count_limit_line SuspectCandidates 4194305
     ≡ codes "error: limit: parameters 257 above 256\nerror: limit: names 65 above 64\nerror: limit: constraints 4097 above 4096\n"
     ++ codes "error: limit: rows 1048577 above 1048576\nerror: limit: suspect candidates 4194305 above 4194304\n"
 unfolding digits
 names = refl
 
-files : Diagnostics.bytes_limit_line ModelFile ++ Diagnostics.bytes_limit_line RowFile
+files : believed_diagnostics.bytes_limit_line ModelFile ++ believed_diagnostics.bytes_limit_line RowFile
     ≡ codes "error: limit: model bytes above 4194304\nerror: limit: row file bytes above 67108864\n"
 unfolding digits
 files = refl
 
 -- lines without a number
-plain_lines : Diagnostics.memory_line ++ Diagnostics.no_header_line ++ Diagnostics.no_result_line ++ Diagnostics.cannot_write_report_line
+plain_lines : believed_diagnostics.memory_line ++ believed_diagnostics.no_header_line ++ believed_diagnostics.no_result_line ++ believed_diagnostics.cannot_write_report_line
     ≡ codes "error: out of memory\nerror: row file: F1 no header\nerror: row file: F5 no result column\nerror: cannot write the report\n"
 plain_lines = refl

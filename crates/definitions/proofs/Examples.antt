@@ -1,7 +1,7 @@
 -- Small models, written as contracts see them, on which the definitions are computed.
 use Rattle.std.specs.Prelude.{ℕ, ◌*◌, ◌^◌, pos, true, false, List, [], ◌∷◌, map, length, codes}
 use Rattle.std.specs.List.{enumerate_from, range_with_len}
-use Rattle.cov_model.specs.Views.{PredView, Leaf, BodyView}
+use Rattle.cov_model.specs.believed.Views.{PredView, Leaf, BodyView}
 use Rattle.cov_model.specs.declared.constraint.Rel.{Rel}
 use Rattle.cov_model.specs.declared.constraint.Literal.{Literal}
 use Rattle.cov_model.specs.declared.constraint.Literal.TheVariants.{Number, Words}
@@ -9,7 +9,7 @@ use Rattle.cov_model.specs.declared.constraint.Term.TheVariants.{ValueIs, ParamI
 use Rattle.cov_model.specs.declared.parameter.Param.{Param}
 use Rattle.cov_model.specs.declared.parameter.Value.{Value}
 use Rattle.cov_model.specs.declared.demand.Group.{Group}
-use Rattle.cov_model.specs.Sound.{ModelView, is_numeric}
+use Rattle.cov_model.specs.believed.Sound.{ModelView, is_numeric}
 
 -- a value of one name
 abbrev pub value : List ℕ → Value

@@ -5,10 +5,10 @@ use Rattle.std.proofs.lemmas.Bool.{false≢true}
 use Rattle.std.proofs.lemmas.Grind.{common_steps}
 use Rattle.std.proofs.lemmas.List.Folds.{list_any-append}
 use Rattle.value_text.proofs.ListLemmas.{list_any-map}
-use Rattle.cov_model.specs.Rows.{contains}
+use Rattle.cov_model.specs.believed.Rows.{contains}
 use Rattle.cov_model.proofs.CellLemmas.{contains-trans}
-use Rattle.cov_model.specs.Slices.{slice_values}
-use Rattle.definitions.specs.Completion.{completions, cell_values, meets_rules}
+use Rattle.cov_model.specs.believed.Slices.{slice_values}
+use Rattle.definitions.specs.believed.Completion.{completions, cell_values, meets_rules}
 use Rattle.definitions.specs.Laws.{ExtendableContains}
 use Rattle.definitions.proofs.Contained.{left, right}
 

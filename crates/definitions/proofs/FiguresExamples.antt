@@ -1,8 +1,8 @@
 -- Figures, statistics and their texts, computed on small models.
 use Rattle.std.specs.Prelude.{◌≡◌, [], ◌∷◌, ◌++◌, codes, refl}
 use Rattle.std.specs.Fmt.{digits}
-use Rattle.definitions.specs.Figures.{figures}
-use Rattle.definitions.specs.Statistics.{statistics, statistics_text, figures_text}
+use Rattle.definitions.specs.believed.Figures.{figures}
+use Rattle.definitions.specs.believed.Statistics.{statistics, statistics_text, figures_text}
 use Rattle.definitions.proofs.Examples.{declared}
 use Rattle.definitions.proofs.Models.{row, table, bound, negative, mixed, barred, triple}
 

@@ -4,15 +4,15 @@ use Rattle.std.specs.Prelude.{◌==◌, filter_map}
 use Rattle.std.specs.List.{filter, flat_map, list_all}
 use Rattle.std.proofs.lemmas.Bool.{and_parts, and_from, eq-eqb}
 use Rattle.cov_model.specs.declared.slice.Slice.{Slice}
-use Rattle.cov_model.specs.Sound.{ModelView}
-use Rattle.cov_model.specs.Rows.{contains, value_in}
-use Rattle.cov_model.specs.Valid.{negatives}
-use Rattle.cov_model.specs.Slices.{slice_values, slice_by, slice_of}
+use Rattle.cov_model.specs.believed.Sound.{ModelView}
+use Rattle.cov_model.specs.believed.Rows.{contains, value_in}
+use Rattle.cov_model.specs.believed.Valid.{negatives}
+use Rattle.cov_model.specs.believed.Slices.{slice_values, slice_by, slice_of}
 use Rattle.cov_model.proofs.CellLemmas.{contains-refl, contains-trans}
-use Rattle.definitions.specs.Demand.{is_among}
-use Rattle.definitions.specs.Completion.{completions, column_order, preferred_values, meets_rules, is_extendable, first_completion, has_slice, can_be_served}
-use Rattle.definitions.specs.Seeds.{distinct, kept_seeds, seed_rows}
-use Rattle.definitions.specs.Growth.{Grown, columns, tuples_in_play, is_of_slice, slice_growth}
+use Rattle.definitions.specs.believed.Demand.{is_among}
+use Rattle.definitions.specs.believed.Completion.{completions, column_order, preferred_values, meets_rules, is_extendable, first_completion, has_slice, can_be_served}
+use Rattle.definitions.specs.believed.Seeds.{distinct, kept_seeds, seed_rows}
+use Rattle.definitions.specs.believed.Growth.{Grown, columns, tuples_in_play, is_of_slice, slice_growth}
 use Rattle.cov_model.specs.Preference.{OrdersValues}
 use Rattle.definitions.proofs.Members.{Has, of_filter, has_given, of_given, any_member, of_any, all_pass, passes_all, of_find, find_some, among_has}
 use Rattle.definitions.proofs.Choices.{IsChoice, choice_completes, completion_is}

@@ -4,14 +4,14 @@ use Rattle.std.specs.List.{flat_map}
 use Rattle.std.proofs.lemmas.Bool.{not-true, not_from_false}
 use Rattle.cov_model.specs.declared.slice.Slice.{Slice}
 use Rattle.cov_model.specs.declared.slice.Slice.TheVariants.{Positive, Negative}
-use Rattle.cov_model.specs.Sound.{ModelView, IsSound, param_at}
-use Rattle.cov_model.specs.Valid.{param_numbers}
-use Rattle.cov_model.specs.Slices.{slices, slice_of, negative_values, value_numbers}
-use Rattle.cov_model.specs.Meaning.{value_at}
+use Rattle.cov_model.specs.believed.Sound.{ModelView, IsSound, param_at}
+use Rattle.cov_model.specs.believed.Valid.{param_numbers}
+use Rattle.cov_model.specs.believed.Slices.{slices, slice_of, negative_values, value_numbers}
+use Rattle.cov_model.specs.believed.Meaning.{value_at}
 use Rattle.cov_model.proofs.CellLemmas.{length-slice_values}
-use Rattle.definitions.specs.Demand.{demanded_sets, demanded_tuples, tuples_in, tuples_of}
-use Rattle.definitions.specs.Completion.{has_slice, is_extendable}
-use Rattle.definitions.specs.Growth.{slice_growth, slices_growth, growth}
+use Rattle.definitions.specs.believed.Demand.{demanded_sets, demanded_tuples, tuples_in, tuples_of}
+use Rattle.definitions.specs.believed.Completion.{has_slice, is_extendable}
+use Rattle.definitions.specs.believed.Growth.{slice_growth, slices_growth, growth}
 use Rattle.cov_model.specs.Preference.{OrdersValues}
 use Rattle.definitions.proofs.Members.{Has, of_map, has_flat, of_flat, has_filter, of_filter}
 use Rattle.definitions.proofs.Distinct.{NoRepeats, repeats_filter, repeats_range, repeats_map, repeats_flat}

@@ -1,12 +1,12 @@
 -- Suites, omission lists and questions, computed on small models.
 use Rattle.std.specs.Prelude.{◌≡◌, ℕ, false, List, [], ◌∷◌, map, Option, codes, refl, Some, None}
 use Rattle.cov_model.specs.declared.slice.Slice.TheVariants.{Positive}
-use Rattle.cov_model.specs.Sound.{ModelView}
+use Rattle.cov_model.specs.believed.Sound.{ModelView}
 use Rattle.definitions.specs.declared.effort.Effort.TheVariants.{Within, Full}
-use Rattle.definitions.specs.Search.{question_cost, first_over}
-use Rattle.definitions.specs.Seeds.{kept_seeds, dropped_lines, asked_seeds}
-use Rattle.definitions.specs.Growth.{growth, Grown, gain, values_by_gain, tuples_in_play}
-use Rattle.cov_model.specs.Views.{IfThen}
+use Rattle.definitions.specs.believed.Search.{question_cost, first_over}
+use Rattle.definitions.specs.believed.Seeds.{kept_seeds, dropped_lines, asked_seeds}
+use Rattle.definitions.specs.believed.Growth.{growth, Grown, gain, values_by_gain, tuples_in_play}
+use Rattle.cov_model.specs.believed.Views.{IfThen}
 use Rattle.cov_model.specs.declared.constraint.Rel.TheVariants.{Eq, Ne}
 use Rattle.definitions.proofs.Examples.{model, param, value, two, is, number, with_rules, declared}
 use Rattle.definitions.proofs.Models.{row, table, pair, triple, bound, signed, negative, barred, mixed, impossible, twin, twin_and_one}

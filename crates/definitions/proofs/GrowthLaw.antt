@@ -5,19 +5,19 @@ use Rattle.std.specs.List.{Any, flat_map, list_any}
 use Rattle.std.proofs.lemmas.Bool.{false≢true, false_from_ne_true, cases_Bool, and_from, not-true, not_from_false}
 use Rattle.std.proofs.lemmas.List.Concat.{length-flat_map}
 use Rattle.cov_model.specs.declared.slice.Slice.{Slice}
-use Rattle.cov_model.specs.Sound.{ModelView, IsSound}
-use Rattle.cov_model.specs.Rows.{contains}
-use Rattle.cov_model.specs.Valid.{is_valid, serves}
-use Rattle.cov_model.specs.Slices.{slices, slice_of, slice_values}
+use Rattle.cov_model.specs.believed.Sound.{ModelView, IsSound}
+use Rattle.cov_model.specs.believed.Rows.{contains}
+use Rattle.cov_model.specs.believed.Valid.{is_valid, serves}
+use Rattle.cov_model.specs.believed.Slices.{slices, slice_of, slice_values}
 use Rattle.cov_model.proofs.CellLemmas.{contains-refl, length-slice_values}
-use Rattle.definitions.specs.Demand.{demanded_sets, demanded_tuples, tuples_in, tuples_of}
-use Rattle.definitions.specs.Completion.{completions, meets_rules, is_extendable}
-use Rattle.definitions.specs.Seeds.{is_same_row, kept_seeds}
-use Rattle.definitions.specs.Growth.{is_of_slice, growth}
-use Rattle.definitions.specs.Covering.{IsUnserved}
+use Rattle.definitions.specs.believed.Demand.{demanded_sets, demanded_tuples, tuples_in, tuples_of}
+use Rattle.definitions.specs.believed.Completion.{completions, meets_rules, is_extendable}
+use Rattle.definitions.specs.believed.Seeds.{is_same_row, kept_seeds}
+use Rattle.definitions.specs.believed.Growth.{is_of_slice, growth}
+use Rattle.definitions.specs.believed.Covering.{IsUnserved}
 use Rattle.definitions.specs.Laws.{GrowthCovers, SuitesCover, SuitesHaveFewRows}
 use Rattle.cov_model.specs.Preference.{OrdersValues}
-use Rattle.definitions.specs.Figures.{all_rows, is_served}
+use Rattle.definitions.specs.believed.Figures.{all_rows, is_served}
 use Rattle.definitions.proofs.Members.{Has, has_contained, contains_member, all_members, of_flat, has_filter, any_member, of_any}
 use Rattle.definitions.proofs.Distinct.{NoRepeats}
 use Rattle.definitions.proofs.Choices.{choice_length, completion_is}

@@ -8,14 +8,14 @@ use Rattle.std.proofs.lemmas.Bool.{false≢true, cases_eq, cases_lt, eq-eqb, eqb
 use Rattle.std.proofs.lemmas.List.Sums.{get_or-le-sum_by}
 use Rattle.cov_model.specs.declared.slice.Slice.{Slice}
 use Rattle.cov_model.specs.declared.slice.Slice.TheVariants.{Positive, Negative}
-use Rattle.cov_model.specs.Sound.{ModelView, IsSound}
-use Rattle.cov_model.specs.Rows.{is_assigned, value_in}
-use Rattle.cov_model.specs.Valid.{param_numbers}
-use Rattle.cov_model.specs.Slices.{slice_values}
+use Rattle.cov_model.specs.believed.Sound.{ModelView, IsSound}
+use Rattle.cov_model.specs.believed.Rows.{is_assigned, value_in}
+use Rattle.cov_model.specs.believed.Valid.{param_numbers}
+use Rattle.cov_model.specs.believed.Slices.{slice_values}
 use Rattle.cov_model.proofs.CellLemmas.{length-slice_values}
-use Rattle.definitions.specs.Demand.{is_among, value_choices, tuples_in, demanded_sets}
-use Rattle.definitions.specs.Completion.{falling, count_in, column_order}
-use Rattle.definitions.specs.Growth.{sets_in_play, tuples_in_play}
+use Rattle.definitions.specs.believed.Demand.{is_among, value_choices, tuples_in, demanded_sets}
+use Rattle.definitions.specs.believed.Completion.{falling, count_in, column_order}
+use Rattle.definitions.specs.believed.Growth.{sets_in_play, tuples_in_play}
 use Rattle.definitions.proofs.Members.{Has, has_left, has_right, of_append, of_map, has_flat, of_flat, has_filter, of_filter}
 use Rattle.definitions.proofs.Distinct.{NoRepeats, repeats_filter, repeats_range, repeats_append}
 use Rattle.definitions.proofs.SliceLemmas.{IsSlice, InSlice, has_params}

@@ -5,7 +5,7 @@ use Rattle.std.specs.Prelude.{Contains, ◌==◌, find, filter_map, slice_get}
 use Rattle.std.specs.List.{cons_option, filter, flat_map, list_any, list_all, range_with_len}
 use Rattle.std.proofs.lemmas.Bool.{false≢true, cases_eq, eq-eqb, eqb-true, and_parts, and_from, or_cases, or_left, or_right}
 use Rattle.std.proofs.lemmas.Option.{none-some, same_Some}
-use Rattle.definitions.specs.Demand.{is_among}
+use Rattle.definitions.specs.believed.Demand.{is_among}
 
 -- x is one of the list
 abbrev pub Has : {X : Type 0} → List X → X → Type 0

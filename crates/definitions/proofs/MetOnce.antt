@@ -8,15 +8,15 @@ use Rattle.std.proofs.lemmas.Bool.{false_from_ne_true, cases_Bool, cases_eq}
 use Rattle.std.proofs.lemmas.Cmp.{nat_list_cmp_total, tied_itself}
 use Rattle.cov_model.specs.declared.slice.Slice.{Slice}
 use Rattle.cov_model.specs.declared.slice.Slice.TheVariants.{Positive, Negative}
-use Rattle.cov_model.specs.Meaning.{value_at}
-use Rattle.cov_model.specs.Sound.{ModelView, param_at}
-use Rattle.cov_model.specs.Valid.{param_numbers}
-use Rattle.cov_model.specs.Slices.{slices, slice_of, slice_values, value_numbers}
+use Rattle.cov_model.specs.believed.Meaning.{value_at}
+use Rattle.cov_model.specs.believed.Sound.{ModelView, param_at}
+use Rattle.cov_model.specs.believed.Valid.{param_numbers}
+use Rattle.cov_model.specs.believed.Slices.{slices, slice_of, slice_values, value_numbers}
 use Rattle.cov_model.proofs.CellLemmas.{length-slice_values, slice_values-positive, slice_values-own, slice_values-other}
-use Rattle.definitions.specs.Demand.{is_among, choices, rising, demanded_sets, value_choices, tuples_in}
-use Rattle.definitions.specs.Completion.{column_order, is_extendable}
-use Rattle.definitions.specs.Seeds.{is_same_row}
-use Rattle.definitions.specs.Growth.{growth, sets_in_play, tuples_in_play}
+use Rattle.definitions.specs.believed.Demand.{is_among, choices, rising, demanded_sets, value_choices, tuples_in}
+use Rattle.definitions.specs.believed.Completion.{column_order, is_extendable}
+use Rattle.definitions.specs.believed.Seeds.{is_same_row}
+use Rattle.definitions.specs.believed.Growth.{growth, sets_in_play, tuples_in_play}
 use Rattle.cov_model.specs.Preference.{OrdersValues}
 use Rattle.definitions.proofs.SetOrder.{lex, sorted_in_order}
 use Rattle.definitions.proofs.Members.{Has, of_map, of_flat, has_filter, of_filter, among_has, of_among, same_answer}

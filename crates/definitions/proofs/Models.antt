@@ -1,10 +1,10 @@
 -- The small models on which growth, search and proofs are computed.
 use Rattle.std.specs.Prelude.{ℕ, ◌-◌, List, [], ◌∷◌, map, Option, Some, None, ◌==◌, codes, if◌then◌else◌}
 use Rattle.std.specs.List.{slice_split}
-use Rattle.cov_model.specs.Views.{Plain, IfThen}
+use Rattle.cov_model.specs.believed.Views.{Plain, IfThen}
 use Rattle.cov_model.specs.declared.constraint.Rel.TheVariants.{Eq, Ne, Gt, Lt}
 use Rattle.cov_model.specs.declared.parameter.Param.{Param}
-use Rattle.cov_model.specs.Sound.{ModelView}
+use Rattle.cov_model.specs.believed.Sound.{ModelView}
 use Rattle.definitions.proofs.Examples.{model, param, value, negative_value, with_rules, number, words, is, are}
 
 -- a partial row written with a digit for each value and another sign where there is none

@@ -7,14 +7,14 @@ use Rattle.std.proofs.lemmas.Slice.Eq.{bytes_eq-Decides}
 use Rattle.std.proofs.lemmas.List.Elements.{All-weaker, All-cons}
 use Rattle.std.specs.List.{starts_with, list_any}
 use Rattle.std.specs.Str.{chars}
-use Rattle.model_lex.specs.Lines.{byte_order_mark}
+use Rattle.model_lex.specs.believed.Lines.{byte_order_mark}
 use Rattle.std.proofs.lemmas.List.Concat.{get_or-flat_map}
 use Rattle.std.proofs.lemmas.List.Folds.{length-flat_map-take}
 use Rattle.std.proofs.lemmas.List.Sums.{AllPass-from_list_all}
 use Rattle.std.proofs.lemmas.List.{get_or-take, take-take}
 use Rattle.std.specs.Char.{to_ascii_lowercase}
-use Rattle.value_text.specs.Texts.{is_same_text, folded, is_blank}
-use Rattle.cov_model.specs.Names.{is_name, is_mark, is_plain}
+use Rattle.value_text.specs.believed.Texts.{is_same_text, folded, is_blank}
+use Rattle.cov_model.specs.believed.Names.{is_name, is_mark, is_plain}
 use Rattle.definitions.proofs.Cells.{IsCell}
 
 -- a text is one with itself

@@ -5,7 +5,7 @@ use Rattle.std.specs.Prelude.{AllPairs, filter_map}
 use Rattle.std.specs.List.{cons_option, filter}
 use Rattle.std.proofs.lemmas.Bool.{cases_Bool, not-true, not_from_false}
 use Rattle.value_text.proofs.ListLemmas.{length-filter-le}
-use Rattle.definitions.specs.Seeds.{is_same_row, distinct}
+use Rattle.definitions.specs.believed.Seeds.{is_same_row, distinct}
 use Rattle.definitions.proofs.Members.{Has, has_filter, of_append, of_filter}
 use Rattle.definitions.proofs.PartialRowLemmas.{same-refl, same-trans}
 

@@ -2,12 +2,12 @@
 use Rattle.std.proofs.Common.{◌≡◌, ℕ, ◌<◌, List, [], length, get_or, Option, ◌∙◌, sym, subst, arith}
 use Rattle.std.proofs.lemmas.List.Sorted.{Contains-permutation}
 use Rattle.cov_model.specs.declared.slice.Slice.{Slice}
-use Rattle.cov_model.specs.Sound.{ModelView}
-use Rattle.cov_model.specs.Rows.{value_in}
-use Rattle.cov_model.specs.Slices.{slice_values, value_numbers}
+use Rattle.cov_model.specs.believed.Sound.{ModelView}
+use Rattle.cov_model.specs.believed.Rows.{value_in}
+use Rattle.cov_model.specs.believed.Slices.{slice_values, value_numbers}
 use Rattle.cov_model.proofs.CellLemmas.{length-slice_values}
-use Rattle.definitions.specs.Demand.{is_among}
-use Rattle.definitions.specs.Completion.{preferred_values}
+use Rattle.definitions.specs.believed.Demand.{is_among}
+use Rattle.definitions.specs.believed.Completion.{preferred_values}
 use Rattle.cov_model.specs.Preference.{OrdersValues}
 use Rattle.definitions.proofs.Members.{Has, has_contained, contains_member, has_filter, of_filter, among_has, of_among}
 use Rattle.definitions.proofs.Choices.{IsChoice, choice_at, choice_from, choice_length}

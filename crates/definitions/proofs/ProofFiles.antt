@@ -9,10 +9,10 @@ use Rattle.std.proofs.lemmas.Fmt.{decimal_digit}
 use Rattle.std.proofs.lemmas.Slice.Eq.{bytes_eq-Decides}
 use Rattle.std.proofs.lemmas.List.Elements.{All-from_recursion}
 use Rattle.std.proofs.lemmas.List.Splits.{slice_split_at, join_with_byte-slice_split}
-use Rattle.cov_model.specs.Sound.{ModelView, IsSound}
-use Rattle.definitions.specs.Refutation.{Token}
-use Rattle.definitions.specs.ProofText.{Omission, omission_line, format_line, proof_text, read_each, read_pair, read_token, proper, is_colon_word}
-use Rattle.definitions.specs.ProofText.{read_omission_words, read_omission, before_lines, read_lines, with_format, read_pieces, omissions_of}
+use Rattle.cov_model.specs.believed.Sound.{ModelView, IsSound}
+use Rattle.definitions.specs.believed.Refutation.{Token}
+use Rattle.definitions.specs.believed.ProofText.{Omission, omission_line, format_line, proof_text, read_each, read_pair, read_token, proper, is_colon_word}
+use Rattle.definitions.specs.believed.ProofText.{read_omission_words, read_omission, before_lines, read_lines, with_format, read_pieces, omissions_of}
 use Rattle.definitions.specs.Laws.{IsOmissionOf, ProofsReadBack, ProofsHaveOneText}
 use Rattle.definitions.proofs.Members.{Has, all_members, member_of_all}
 use Rattle.definitions.proofs.ProofLines.{words_of, line_of, line_lacks, omission_reads, words_spell}

@@ -8,11 +8,11 @@ use Rattle.std.proofs.lemmas.Bool.{false_from_ne_true, and_parts, and_from, ltb-
 use Rattle.std.proofs.lemmas.Slice.Eq.{bytes_eq-Decides}
 use Rattle.std.proofs.lemmas.List.Elements.{All-nil, All-cons, All-append, All-from_recursion, All-head, All-tail}
 use Rattle.std.proofs.lemmas.List.{length-map}
-use Rattle.cov_model.specs.Sound.{ModelView, IsSound}
+use Rattle.cov_model.specs.believed.Sound.{ModelView, IsSound}
 use Rattle.cov_model.specs.Tuples.{IsRising}
-use Rattle.definitions.specs.Pairs.{pair_text}
-use Rattle.definitions.specs.Refutation.{Token}
-use Rattle.definitions.specs.ProofText.{Omission, token_text, read_each, read_pair, read_token, is_rising, proper, is_colon_word, read_omission_words, read_omission}
+use Rattle.definitions.specs.believed.Pairs.{pair_text}
+use Rattle.definitions.specs.believed.Refutation.{Token}
+use Rattle.definitions.specs.believed.ProofText.{Omission, token_text, read_each, read_pair, read_token, is_rising, proper, is_colon_word, read_omission_words, read_omission}
 use Rattle.definitions.specs.Laws.{IsTokenOf, IsOmissionOf}
 use Rattle.definitions.proofs.Members.{Has, of_map, all_members, member_of_all}
 use Rattle.definitions.proofs.Cells.{split_joined_by}

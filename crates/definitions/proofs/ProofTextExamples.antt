@@ -1,9 +1,10 @@
 -- Texts of proofs, and the proofs that files hold, computed on small models.
 use Rattle.std.specs.Prelude.{◌≡◌, ℕ, List, [], ◌∷◌, ◌++◌, Ok, Err, codes, refl}
 use Rattle.std.specs.Fmt.{digits}
-use Rattle.definitions.specs.Refutation.{Token, Branch, ByRule, ByNegative, ByOmission}
-use Rattle.definitions.specs.Pairs.{cells_of, pairs_of, cells_text}
-use Rattle.definitions.specs.ProofText.{Omission, proof_text, omissions_of}
+use Rattle.definitions.specs.believed.Refutation.{Token, Branch, ByRule, ByNegative, ByOmission}
+use Rattle.definitions.specs.Pairs.{cells_of}
+use Rattle.definitions.specs.believed.Pairs.{pairs_of, cells_text}
+use Rattle.definitions.specs.believed.ProofText.{Omission, proof_text, omissions_of}
 use Rattle.definitions.proofs.Models.{row, bound, barred, negative, twin_and_one}
 
 pairs-cells : cells_of 3 ((0, 1) ∷ (2, 4) ∷ []) ≡ row (codes "1_4")

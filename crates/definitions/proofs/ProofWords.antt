@@ -8,10 +8,11 @@ use Rattle.std.proofs.lemmas.Bool.{cases_Bool, and_parts, and_from, eqb-true, lt
 use Rattle.std.proofs.lemmas.Fmt.{decimal_nonempty}
 use Rattle.std.proofs.lemmas.List.Elements.{All-nil, All-cons, All-append}
 use Rattle.std.proofs.lemmas.List.Folds.{list_any_at}
-use Rattle.cov_model.specs.Sound.{ModelView, IsSound, param_at, no_param, no_rule}
-use Rattle.definitions.specs.Pairs.{pair_text}
-use Rattle.definitions.specs.Refutation.{Token, Branch, ByRule, ByNegative, ByOmission}
-use Rattle.definitions.specs.ProofText.{token_text, number_where, read_pair, read_token}
+use Rattle.cov_model.specs.believed.Sound.{ModelView, IsSound, param_at, no_param}
+use Rattle.cov_model.specs.Sound.{no_rule}
+use Rattle.definitions.specs.believed.Pairs.{pair_text}
+use Rattle.definitions.specs.believed.Refutation.{Token, Branch, ByRule, ByNegative, ByOmission}
+use Rattle.definitions.specs.believed.ProofText.{token_text, number_where, read_pair, read_token}
 use Rattle.definitions.specs.Laws.{IsTokenOf}
 use Rattle.definitions.proofs.Members.{of_any, member_of_all}
 use Rattle.definitions.proofs.Spelling.{number_reads, number_spells, Lacks, number_lacks, parts_at, comes_from}

@@ -8,13 +8,13 @@ use Rattle.std.proofs.lemmas.List.Elements.{All-head, All-tail, All-nil, All-con
 use Rattle.std.proofs.lemmas.List.FromFn.{length-map-range_with_len}
 use Rattle.std.proofs.lemmas.List.Folds.{list_any_none}
 use Rattle.value_text.proofs.ListLemmas.{filter_all}
-use Rattle.cov_model.specs.Sound.{ModelView, IsSound}
-use Rattle.cov_model.specs.Rows.{is_complete}
-use Rattle.cov_model.specs.Valid.{is_row, param_numbers}
-use Rattle.cov_model.specs.Names.{is_name}
-use Rattle.definitions.specs.Report.{report_text, row_lines, header_line, line_of_cells, cell_text}
-use Rattle.definitions.specs.RowFile.{filled_lines, suite_rows, rows_of, rows_of_lines, row_of_line, is_bad_header, cells_of_line, columns_of}
-use Rattle.model_lex.specs.Lines.{without_mark, byte_order_mark, file_lines}
+use Rattle.cov_model.specs.believed.Sound.{ModelView, IsSound}
+use Rattle.cov_model.specs.believed.Rows.{is_complete}
+use Rattle.cov_model.specs.believed.Valid.{is_row, param_numbers}
+use Rattle.cov_model.specs.believed.Names.{is_name}
+use Rattle.definitions.specs.believed.Report.{report_text, row_lines, header_line, line_of_cells, cell_text}
+use Rattle.definitions.specs.believed.RowFile.{filled_lines, suite_rows, rows_of, rows_of_lines, row_of_line, is_bad_header, cells_of_line, columns_of}
+use Rattle.model_lex.specs.believed.Lines.{without_mark, byte_order_mark, file_lines}
 use Rattle.definitions.proofs.Cells.{IsRow, joined, text_of, file_lines-text_of, numbered_all, joined_some, cells_of_line-joined}
 use Rattle.definitions.proofs.Names.{name_unmarked}
 use Rattle.definitions.proofs.ReadRow.{header, columns_of-header, header_row, row_cells, row_cells_row, row_of_line-joined, each_param, complete_row}

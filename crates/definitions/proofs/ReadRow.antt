@@ -10,16 +10,16 @@ use Rattle.std.proofs.lemmas.List.Folds.{list_any_none, list_any_at}
 use Rattle.std.proofs.lemmas.List.Elements.{All-map}
 use Rattle.std.proofs.lemmas.List.FromFn.{length-range_with_len, get_or-range_with_len, get_or-map-range_with_len, length-map-range_with_len}
 use Rattle.std.specs.Option.{option_map_or}
-use Rattle.value_text.specs.Texts.{is_same_text}
+use Rattle.value_text.specs.believed.Texts.{is_same_text}
 use Rattle.cov_model.specs.declared.parameter.Value.{Value}
 use Rattle.cov_model.specs.declared.parameter.Param.{Param}
-use Rattle.cov_model.specs.Sound.{ModelView, IsSound, IsSoundValue, param_at}
-use Rattle.cov_model.specs.Meaning.{value_at}
-use Rattle.cov_model.specs.Names.{is_mark}
-use Rattle.cov_model.specs.Rows.{value_in, is_complete}
-use Rattle.cov_model.specs.Valid.{is_row, has_value, param_numbers}
-use Rattle.definitions.specs.Report.{printed, cell_text, times_given}
-use Rattle.definitions.specs.RowFile.{named_param, named_value, columns_of, cell_at, row_of_line, cells_of_line}
+use Rattle.cov_model.specs.believed.Sound.{ModelView, IsSound, IsSoundValue, param_at}
+use Rattle.cov_model.specs.believed.Meaning.{value_at}
+use Rattle.cov_model.specs.believed.Names.{is_mark}
+use Rattle.cov_model.specs.believed.Rows.{value_in, is_complete}
+use Rattle.cov_model.specs.believed.Valid.{is_row, has_value, param_numbers}
+use Rattle.definitions.specs.believed.Report.{printed, cell_text, times_given}
+use Rattle.definitions.specs.believed.RowFile.{named_param, named_value, columns_of, cell_at, row_of_line, cells_of_line}
 use Rattle.definitions.proofs.Cells.{IsCell, IsRow, joined, cells_of_line-joined}
 use Rattle.definitions.proofs.Names.{same_itself, IsUnmarked, marked_apart, apart, name_cell, marked_cell}
 use Rattle.value_text.proofs.ListLemmas.{position_is}

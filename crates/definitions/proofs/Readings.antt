@@ -6,11 +6,11 @@ use Rattle.std.specs.Option.{option_map}
 use Rattle.std.proofs.lemmas.Bool.{false≢true, cond-false, or_from}
 use Rattle.std.proofs.lemmas.Grind.{common_steps}
 use Rattle.value_text.proofs.ListLemmas.{option_or_parts}
-use Rattle.cov_model.specs.Sound.{ModelView}
-use Rattle.cov_model.specs.Valid.{param_numbers}
-use Rattle.definitions.specs.RowFile.{filled_lines, cells_of_line, is_bad_header, row_of_line, rows_of_lines}
-use Rattle.definitions.specs.RowReading.{RowReading, RowsFault, Missing, Width, Twice, Suite, column_count, twice_fault, missing_fault}
-use Rattle.definitions.specs.RowReading.{count_fault, width_fault, first_fault, read_under, read_numbered, unless_fault}
+use Rattle.cov_model.specs.believed.Sound.{ModelView}
+use Rattle.cov_model.specs.believed.Valid.{param_numbers}
+use Rattle.definitions.specs.believed.RowFile.{filled_lines, cells_of_line, is_bad_header, row_of_line, rows_of_lines}
+use Rattle.definitions.specs.believed.RowReading.{RowReading, RowsFault, Missing, Width, Twice, Suite, column_count, twice_fault, missing_fault}
+use Rattle.definitions.specs.believed.RowReading.{count_fault, width_fault, first_fault, read_under, read_numbered, unless_fault}
 use Rattle.definitions.specs.Laws.{SuitesAreRead}
 use Rattle.definitions.proofs.Nothing.{is_nothing, none_found}
 

@@ -1,7 +1,7 @@
 -- Trees that refute a tuple, and lists of tokens that don't, computed on small models.
 use Rattle.std.specs.Prelude.{◌≡◌, ℕ, Bool, true, false, List, [], ◌∷◌, ◌++◌, Option, codes, refl}
-use Rattle.cov_model.specs.Sound.{ModelView}
-use Rattle.definitions.specs.Refutation.{Token, Branch, ByRule, ByNegative, ByOmission, refutes, refutes_each, leaves, is_eager}
+use Rattle.cov_model.specs.believed.Sound.{ModelView}
+use Rattle.definitions.specs.believed.Refutation.{Token, Branch, ByRule, ByNegative, ByOmission, refutes, refutes_each, leaves, is_eager}
 use Rattle.definitions.proofs.Models.{row, table, bound, negative, barred, mixed, impossible, twin, twin_and_one}
 
 -- a tree of format 1, which cites nothing

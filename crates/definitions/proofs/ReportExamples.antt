@@ -1,8 +1,8 @@
 -- Reports and the rows that they hold, computed on small models.
 use Rattle.std.specs.Prelude.{◌≡◌, ℕ, false, List, [], ◌∷◌, Option, Some, codes, refl}
-use Rattle.cov_model.specs.Sound.{ModelView}
-use Rattle.definitions.specs.Report.{report_text}
-use Rattle.definitions.specs.RowFile.{rows_of}
+use Rattle.cov_model.specs.believed.Sound.{ModelView}
+use Rattle.definitions.specs.believed.Report.{report_text}
+use Rattle.definitions.specs.believed.RowFile.{rows_of}
 use Rattle.definitions.proofs.Examples.{model, two, param, value, negative_value}
 
 -- a value with two names, which take turns

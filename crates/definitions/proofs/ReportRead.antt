@@ -8,13 +8,14 @@ use Rattle.std.proofs.lemmas.List.{length-map, get_or_default}
 use Rattle.std.proofs.lemmas.List.Elements.{All-head, All-tail}
 use Rattle.std.proofs.lemmas.List.Folds.{list_any_none}
 use Rattle.std.proofs.lemmas.List.FromFn.{length-enumerate_from, length-map-range_with_len, get_or-map-range_with_len}
-use Rattle.cov_model.specs.Sound.{ModelView, IsSound}
-use Rattle.cov_model.specs.Valid.{is_row, param_numbers}
-use Rattle.definitions.specs.Limits.{Rows, most_counted}
-use Rattle.definitions.specs.Report.{cell_text}
-use Rattle.definitions.specs.RowFile.{cells_of_line, named_param, named_value, row_of_line}
-use Rattle.definitions.specs.RowReading.{RowNote, UnknownColumn, UnknownValue, Missing, Width, Suite, column_count, twice_fault, missing_fault, count_fault, width_fault}
-use Rattle.definitions.specs.RowReading.{first_fault, column_notes, is_unknown, value_notes, notes_under, notes_of_lines, read_under, read_numbered, unless_fault}
+use Rattle.cov_model.specs.believed.Sound.{ModelView, IsSound}
+use Rattle.cov_model.specs.believed.Valid.{is_row, param_numbers}
+use Rattle.definitions.specs.believed.Limits.{Rows, most_counted}
+use Rattle.definitions.specs.believed.Report.{cell_text}
+use Rattle.definitions.specs.believed.RowFile.{cells_of_line, named_param, named_value, row_of_line}
+use Rattle.definitions.specs.believed.RowReading.{RowNote, UnknownColumn, UnknownValue, Missing, Width, Suite, column_count, twice_fault, missing_fault, count_fault, width_fault}
+use Rattle.definitions.specs.believed.RowReading.{first_fault, column_notes, is_unknown, value_notes, notes_under, read_under, read_numbered, unless_fault}
+use Rattle.definitions.specs.RowReading.{notes_of_lines}
 use Rattle.definitions.specs.Laws.{ReportsReadBack, ReportsAreRead}
 use Rattle.definitions.proofs.Cells.{joined, cells_of_line-joined}
 use Rattle.definitions.proofs.ReadRow.{header, header_row, columns_of-header, named_param-header, each_param, row_cells, row_cells_row, cell_text_cell, row_given, row_of_line-joined}

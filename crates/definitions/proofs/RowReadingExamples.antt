@@ -1,6 +1,7 @@
 -- Row files and their readings, computed on small models.
 use Rattle.std.specs.Prelude.{◌≡◌, ℕ, ◌+◌, ◌^◌, List, [], ◌∷◌, Some, None, Ok, Err, codes, refl}
-use Rattle.definitions.specs.RowReading.{Seed, Suite, UnknownColumn, UnknownValue, NoHeader, Twice, Missing, TooManyRows, Width, notes_of, read_rows, count_fault}
+use Rattle.definitions.specs.believed.RowReading.{Seed, Suite, UnknownColumn, UnknownValue, NoHeader, Twice, Missing, TooManyRows, Width, read_rows, count_fault}
+use Rattle.definitions.specs.RowReading.{notes_of}
 use Rattle.definitions.proofs.Models.{row, pair, bound, mixed}
 
 -- seed rows with an unknown column, a repeated row, an empty line and an unknown value

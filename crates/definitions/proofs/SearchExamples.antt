@@ -1,13 +1,13 @@
 -- Plain search and its cost, computed on small models.
 use Rattle.std.specs.Prelude.{◌≡◌, ℕ, suc, true, false, not, List, [], ◌∷◌, Option, Some, None, codes, refl, slice_index_or, if◌then◌else◌}
-use Rattle.cov_model.specs.Views.{Plain, IfThen}
+use Rattle.cov_model.specs.believed.Views.{Plain, IfThen}
 use Rattle.cov_model.specs.declared.constraint.Rel.TheVariants.{Eq, Lt}
 use Rattle.cov_model.specs.declared.slice.Slice.TheVariants.{Positive, Negative}
-use Rattle.cov_model.specs.Sound.{ModelView}
-use Rattle.cov_model.specs.Rows.{is_assigned}
+use Rattle.cov_model.specs.believed.Sound.{ModelView}
+use Rattle.cov_model.specs.believed.Rows.{is_assigned}
 use Rattle.definitions.specs.declared.effort.Effort.TheVariants.{Within}
-use Rattle.definitions.specs.Search.{plain_search, plain_cost, first_measured_over, constrained_params, breaks_a_rule, try_values, Outcome}
-use Rattle.definitions.specs.Completion.{preferred_values}
+use Rattle.definitions.specs.believed.Search.{plain_search, plain_cost, first_measured_over, constrained_params, breaks_a_rule, try_values, Outcome}
+use Rattle.definitions.specs.believed.Completion.{preferred_values}
 use Rattle.definitions.proofs.Models.{twin, barred}
 use Rattle.definitions.proofs.Examples.{model, two, param, value, negative_value, with_rules, number, is, declared}
 

@@ -5,14 +5,14 @@ use Rattle.std.specs.List.{list_all}
 use Rattle.std.proofs.lemmas.List.FromFn.{length-map-range_with_len, get_or-map-range_with_len}
 use Rattle.std.proofs.lemmas.Bool.{false_from_ne_true, cases_eq, and_parts, and_from, not_from_false, eqb-true, ltb-true, leb-true}
 use Rattle.cov_model.specs.declared.slice.Slice.TheVariants.{Negative}
-use Rattle.cov_model.specs.Sound.{ModelView, param_at}
-use Rattle.cov_model.specs.Rows.{contains, is_assigned, value_in}
-use Rattle.cov_model.specs.Meaning.{value_at}
-use Rattle.cov_model.specs.Valid.{is_row, is_valid, has_value, negatives, param_numbers, serves}
-use Rattle.cov_model.specs.Slices.{value_numbers, slice_values, slice_by, slice_of}
+use Rattle.cov_model.specs.believed.Sound.{ModelView, param_at}
+use Rattle.cov_model.specs.believed.Rows.{contains, is_assigned, value_in}
+use Rattle.cov_model.specs.believed.Meaning.{value_at}
+use Rattle.cov_model.specs.believed.Valid.{is_row, is_valid, has_value, negatives, param_numbers, serves}
+use Rattle.cov_model.specs.believed.Slices.{value_numbers, slice_values, slice_by, slice_of}
 use Rattle.cov_model.proofs.CellLemmas.{contains-value_in, length-slice_values, slice_values-positive, slice_values-own, slice_values-other}
-use Rattle.definitions.specs.Completion.{completions, meets_rules, has_slice, is_extendable}
-use Rattle.definitions.specs.Figures.{all_rows, is_served}
+use Rattle.definitions.specs.believed.Completion.{completions, meets_rules, has_slice, is_extendable}
+use Rattle.definitions.specs.believed.Figures.{all_rows, is_served}
 use Rattle.definitions.specs.Laws.{SlicesServe, ServableAreExtendable}
 use Rattle.definitions.proofs.Members.{Has, has_contained, contains_member, has_filter, all_pass, passes_all, any_member, of_any, same_answer}
 use Rattle.definitions.proofs.Choices.{IsChoice, choice_from, choice_completes, completion_is}

@@ -5,7 +5,7 @@ use Rattle.std.specs.List.Sorted.{IsStrictlySortedBy}
 use Rattle.std.specs.Ordering.{nat_cmp, ordering_reverse}
 use Rattle.std.specs.Cmp.Lexicographic.{slice_cmp}
 use Rattle.std.proofs.lemmas.Cmp.{nat_list_cmp_total}
-use Rattle.definitions.specs.Demand.{in_order, with_set}
+use Rattle.definitions.specs.believed.Demand.{in_order, with_set}
 
 -- the lexicographic order
 abbrev pub lex : List ℕ → List ℕ → Ordering

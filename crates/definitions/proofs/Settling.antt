@@ -6,12 +6,12 @@ use Rattle.std.proofs.lemmas.Bool.{false≢true, cases_Bool, or_left, or_right}
 use Rattle.std.proofs.lemmas.List.Elements.{filter-append}
 use Rattle.std.proofs.lemmas.List.Folds.{list_any-append}
 use Rattle.cov_model.specs.declared.slice.Slice.{Slice}
-use Rattle.cov_model.specs.Sound.{ModelView}
-use Rattle.cov_model.specs.Rows.{contains}
+use Rattle.cov_model.specs.believed.Sound.{ModelView}
+use Rattle.cov_model.specs.believed.Rows.{contains}
 use Rattle.std.specs.Prelude.{slice_index_or}
 use Rattle.cov_model.proofs.CellLemmas.{contains-refl}
-use Rattle.definitions.specs.Completion.{is_extendable, preferred_values}
-use Rattle.definitions.specs.Growth.{is_uncovered, Grown, across, join, settle, down, column, columns, tuples_in_play}
+use Rattle.definitions.specs.believed.Completion.{is_extendable, preferred_values}
+use Rattle.definitions.specs.believed.Growth.{is_uncovered, Grown, across, join, settle, down, column, columns, tuples_in_play}
 use Rattle.definitions.proofs.Extendable.{extendable_contains}
 use Rattle.definitions.proofs.Members.{Has, of_append, of_any, passes_all}
 use Rattle.definitions.proofs.Keeping.{is_held, IsClosed, Keeps, keeps_self, keeps_then, keeps_more, across_widens, join_takes}

@@ -6,13 +6,13 @@ use Rattle.std.proofs.lemmas.Bool.{false≢true, cases_eq, cases_lt, and_parts, 
 use Rattle.std.proofs.lemmas.List.{get_or_past}
 use Rattle.cov_model.specs.declared.slice.Slice.{Slice}
 use Rattle.cov_model.specs.declared.slice.Slice.TheVariants.{Positive, Negative}
-use Rattle.cov_model.specs.Sound.{ModelView, param_at}
-use Rattle.cov_model.specs.Rows.{is_assigned, value_in}
-use Rattle.cov_model.specs.Meaning.{value_at, given_value, no_value}
-use Rattle.cov_model.specs.Valid.{is_row, is_valid, has_value, negatives, param_numbers}
-use Rattle.cov_model.specs.Slices.{value_numbers, negative_values, slices, slice_values, slice_by, slice_of}
+use Rattle.cov_model.specs.believed.Sound.{ModelView, param_at}
+use Rattle.cov_model.specs.believed.Rows.{is_assigned, value_in}
+use Rattle.cov_model.specs.believed.Meaning.{value_at, given_value, no_value}
+use Rattle.cov_model.specs.believed.Valid.{is_row, is_valid, has_value, negatives, param_numbers}
+use Rattle.cov_model.specs.believed.Slices.{value_numbers, negative_values, slices, slice_values, slice_by, slice_of}
 use Rattle.cov_model.proofs.CellLemmas.{length-slice_values, slice_values-positive, slice_values-own, slice_values-other}
-use Rattle.definitions.specs.Completion.{meets_rules, has_slice}
+use Rattle.definitions.specs.believed.Completion.{meets_rules, has_slice}
 use Rattle.definitions.proofs.Members.{Has, has_map, of_map, has_flat, of_flat, has_filter, of_filter, all_pass, has_range, of_range}
 use Rattle.definitions.proofs.Distinct.{NoRepeats, no_members, one_member, repeats_filter, repeats_range}
 use Rattle.definitions.proofs.Choices.{IsChoice, choice_at, choice_length}

@@ -13,8 +13,8 @@ use Rattle.std.proofs.lemmas.List.{drop_all}
 use Rattle.std.proofs.lemmas.List.Sums.{split_at_first, passes_at_first}
 use Rattle.std.proofs.Math.Seq.{take-append_seam, drop-append-add}
 use Rattle.std.proofs.lemmas.Str.Parse.{IsDigitsTest, IsNumeralModel, numerals_by_value, not_in_digits}
-use Rattle.value_text.specs.Numbers.{is_digits}
-use Rattle.definitions.specs.ProofText.{number_where}
+use Rattle.value_text.specs.believed.Numbers.{is_digits}
+use Rattle.definitions.specs.believed.ProofText.{number_where}
 
 -- texts of digits, and their numbers
 tells_digits : IsDigitsTest (λ text. list_all is_ascii_digit text ≡ true)

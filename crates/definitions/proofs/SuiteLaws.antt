@@ -9,21 +9,23 @@ use Rattle.std.proofs.lemmas.List.{length-map}
 use Rattle.std.proofs.lemmas.List.Folds.{list_any-from_Any}
 use Rattle.std.proofs.lemmas.Map.Keys.{IsDistinct-from_apart}
 use Rattle.std.proofs.lemmas.Map.Made.{length-le_from_is_member}
-use Rattle.cov_model.specs.Sound.{ModelView}
+use Rattle.cov_model.specs.believed.Sound.{ModelView}
 use Rattle.cov_model.specs.Tuples.{IsRising}
-use Rattle.cov_model.specs.Valid.{is_valid, serves}
+use Rattle.cov_model.specs.believed.Valid.{is_valid, serves}
 use Rattle.definitions.specs.declared.effort.Effort.{Effort}
-use Rattle.definitions.specs.Demand.{demanded_tuples}
-use Rattle.definitions.specs.Seeds.{is_same_row}
-use Rattle.definitions.specs.Growth.{growth}
-use Rattle.definitions.specs.Pairs.{cells_of, pairs_of}
-use Rattle.definitions.specs.Refutation.{Token, refutes, are_eager}
-use Rattle.definitions.specs.ProofText.{Omission, omissions_of}
-use Rattle.definitions.specs.Figures.{is_served}
-use Rattle.definitions.specs.Covering.{IsUnserved}
-use Rattle.definitions.specs.Verdict.{Accepted, as_cells, listed, first_uncovered, by_row, by_proof, by_omission, by_tuple}
+use Rattle.definitions.specs.believed.Demand.{demanded_tuples}
+use Rattle.definitions.specs.believed.Seeds.{is_same_row}
+use Rattle.definitions.specs.believed.Growth.{growth}
+use Rattle.definitions.specs.Pairs.{cells_of}
+use Rattle.definitions.specs.believed.Pairs.{pairs_of}
+use Rattle.definitions.specs.believed.Refutation.{Token, refutes, are_eager}
+use Rattle.definitions.specs.believed.ProofText.{Omission, omissions_of}
+use Rattle.definitions.specs.believed.Figures.{is_served}
+use Rattle.definitions.specs.believed.Covering.{IsUnserved}
+use Rattle.definitions.specs.believed.Verdict.{Accepted, as_cells, listed, first_uncovered, by_row, by_proof, by_omission, by_tuple}
 use Rattle.definitions.specs.Laws.{IsTokenOf, IsOmissionOf, IsGrownSuite}
-use Rattle.definitions.specs.SuiteLaws.{IsSoundProof, SuiteProofsRefute, SuiteProofsAreOfModels, SuiteProofsReadBack, SuiteProofsList, IsRefutedIn, SuitesServeOrRefute, SuiteProofsAreAccepted}
+use Rattle.definitions.specs.SuiteLaws.{IsSoundProof, SuiteProofsRefute, SuiteProofsAreOfModels, SuiteProofsReadBack, SuiteProofsList, SuitesServeOrRefute, SuiteProofsAreAccepted}
+use Rattle.definitions.specs.believed.SuiteLaws.{IsRefutedIn}
 use Rattle.definitions.proofs.Contained.{left}
 use Rattle.definitions.proofs.Members.{Has, has_contained, contains_member, all_members, member_of_all, has_map, of_map, any_member, of_any, same_answer}
 use Rattle.definitions.proofs.PartialRowLemmas.{same-refl, same-sym, same-trans}

@@ -2,11 +2,11 @@
 use Rattle.std.specs.Prelude.{ℕ, List, [], ◌∷◌, codes, refl}
 use Rattle.std.specs.Fmt.{digits}
 use Rattle.std.proofs.Common.{lit≤}
-use Rattle.cov_model.specs.Sound.{ModelView}
+use Rattle.cov_model.specs.believed.Sound.{ModelView}
 use Rattle.definitions.specs.declared.effort.Effort.TheVariants.{Within}
-use Rattle.definitions.specs.ProofText.{Omission}
-use Rattle.definitions.specs.Refutation.{Token, Branch, ByRule, ByNegative, ByOmission}
-use Rattle.definitions.specs.SuiteProof.{AreOmitted, IsProofOfSuite}
+use Rattle.definitions.specs.believed.ProofText.{Omission}
+use Rattle.definitions.specs.believed.Refutation.{Token, Branch, ByRule, ByNegative, ByOmission}
+use Rattle.definitions.specs.believed.SuiteProof.{AreOmitted, IsProofOfSuite}
 use Rattle.definitions.proofs.Examples.{declared}
 use Rattle.definitions.proofs.Models.{bound, negative, impossible, twin, twin_and_one}
 

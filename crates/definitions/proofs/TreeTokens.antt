@@ -5,15 +5,15 @@ use Rattle.std.specs.Prelude.{◌==◌}
 use Rattle.std.specs.List.{list_all, slice_get}
 use Rattle.std.specs.Option.{option_map_or}
 use Rattle.std.proofs.lemmas.Bool.{false≢true, ltb-true}
-use Rattle.cov_model.specs.Sound.{ModelView, IsSound}
-use Rattle.cov_model.specs.Kleene.{body_truth}
-use Rattle.cov_model.specs.Rows.{contains, is_assigned}
-use Rattle.cov_model.specs.Valid.{negatives}
+use Rattle.cov_model.specs.believed.Sound.{ModelView, IsSound}
+use Rattle.cov_model.specs.believed.Kleene.{body_truth}
+use Rattle.cov_model.specs.believed.Rows.{contains, is_assigned}
+use Rattle.cov_model.specs.believed.Valid.{negatives}
 use Rattle.definitions.specs.declared.effort.Effort.{Effort}
-use Rattle.definitions.specs.Search.{is_no}
-use Rattle.definitions.specs.Refutation.{Token, Branch, ByRule, ByNegative, ByOmission, is_branch, branches, is_rule_leaf}
-use Rattle.definitions.specs.Refutation.{is_negative_leaf, is_omission_leaf, refute_paths, refutes, are_eager, first_unrefuted}
-use Rattle.definitions.specs.SuiteProof.{IsEagerTree, AreEagerTrees}
+use Rattle.definitions.specs.believed.Search.{is_no}
+use Rattle.definitions.specs.believed.Refutation.{Token, Branch, ByRule, ByNegative, ByOmission, is_branch, branches, is_rule_leaf}
+use Rattle.definitions.specs.believed.Refutation.{is_negative_leaf, is_omission_leaf, refute_paths, refutes, are_eager, first_unrefuted}
+use Rattle.definitions.specs.believed.SuiteProof.{IsEagerTree, AreEagerTrees}
 use Rattle.definitions.specs.Laws.{IsTokenOf}
 use Rattle.definitions.proofs.Contained.{left, right}
 use Rattle.definitions.proofs.Members.{Has, of_any, member_of_all}

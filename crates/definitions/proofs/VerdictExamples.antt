@@ -2,7 +2,7 @@
 use Rattle.std.specs.Prelude.{◌≡◌, ℕ, List, [], ◌++◌, Option, codes, refl}
 use Rattle.std.specs.Fmt.{digits}
 use Rattle.std.specs.List.{enumerate_from}
-use Rattle.definitions.specs.Verdict.{Accepted, BadRow, BadProof, BadOmission, Uncovered, verdict, verdict_text}
+use Rattle.definitions.specs.believed.Verdict.{Accepted, BadRow, BadProof, BadOmission, Uncovered, verdict, verdict_text}
 use Rattle.definitions.proofs.Models.{row, table, bound, barred, negative, twin_and_one}
 
 -- the rows stand on the lines from 2 on

@@ -2,8 +2,8 @@
 use Rattle.std.specs.Prelude.{◌≡◌, ℕ, true, false, ◌==◌, List, [], ◌∷◌, Some, Result, Ok, Err, codes, refl}
 use Rattle.std.specs.List.{slice_split}
 use Rattle.definitions.specs.declared.effort.Effort.TheVariants.{Within, Full}
-use Rattle.definitions.specs.Settings.{OrderOf, OrderMax, AnyShuffle, ShuffleBy, Settings, defaults}
-use Rattle.definitions.specs.Words.{Command, read_words, read_check_words}
+use Rattle.definitions.specs.believed.Settings.{OrderOf, OrderMax, AnyShuffle, ShuffleBy, Settings, defaults}
+use Rattle.definitions.specs.believed.Words.{Command, read_words, read_check_words}
 
 -- the words of a text, parted by spaces
 abbrev words : List ℕ → List (List ℕ)

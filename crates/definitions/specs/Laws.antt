@@ -3,25 +3,28 @@ use Rattle.std.specs.Prelude.{◌≡◌, ℕ, ◌+◌, ◌^◌, ◌<◌, ◌≤�
 use Rattle.std.specs.Prelude.{[], map, filter, length, Option, Ok, All, AllPairs, Contains}
 use Rattle.std.specs.List.{Any, list_any, enumerate_from}
 use Rattle.cov_model.specs.declared.slice.Slice.{Slice}
-use Rattle.cov_model.specs.Sound.{ModelView, IsSound, param_at}
-use Rattle.cov_model.specs.Rows.{contains, is_assigned, value_in}
+use Rattle.cov_model.specs.believed.Sound.{ModelView, IsSound, param_at}
+use Rattle.cov_model.specs.believed.Rows.{contains, is_assigned, value_in}
 use Rattle.cov_model.specs.Tuples.{IsRising}
-use Rattle.cov_model.specs.Valid.{is_row, is_valid, serves}
+use Rattle.cov_model.specs.believed.Valid.{is_row, is_valid, serves}
 use Rattle.cov_model.specs.Preference.{OrdersValues}
-use Rattle.cov_model.specs.Slices.{slice_of, slice_values}
-use Rattle.definitions.specs.Covering.{Covers, HasFewRows, IsUnserved}
-use Rattle.definitions.specs.Demand.{demanded_tuples}
-use Rattle.definitions.specs.Report.{report_text}
-use Rattle.definitions.specs.RowFile.{rows_of, suite_rows}
-use Rattle.definitions.specs.Limits.{Rows, most_counted}
-use Rattle.definitions.specs.RowReading.{RowReading, Suite, notes_of, read_rows}
-use Rattle.definitions.specs.Completion.{completions, meets_rules, has_slice, is_extendable}
-use Rattle.definitions.specs.Seeds.{is_same_row, kept_seeds}
-use Rattle.definitions.specs.Growth.{growth}
-use Rattle.definitions.specs.Refutation.{Token, Branch, ByRule, ByNegative, ByOmission, refutes_each}
-use Rattle.definitions.specs.ProofText.{Omission, proof_text, omissions_of}
-use Rattle.definitions.specs.Figures.{all_rows, is_served}
-use Rattle.definitions.specs.Verdict.{IsAccepted, IsListed}
+use Rattle.cov_model.specs.believed.Slices.{slice_of, slice_values}
+use Rattle.definitions.specs.Covering.{Covers}
+use Rattle.definitions.specs.believed.Covering.{HasFewRows, IsUnserved}
+use Rattle.definitions.specs.believed.Demand.{demanded_tuples}
+use Rattle.definitions.specs.believed.Report.{report_text}
+use Rattle.definitions.specs.believed.RowFile.{rows_of, suite_rows}
+use Rattle.definitions.specs.believed.Limits.{Rows, most_counted}
+use Rattle.definitions.specs.believed.RowReading.{RowReading, Suite, read_rows}
+use Rattle.definitions.specs.RowReading.{notes_of}
+use Rattle.definitions.specs.believed.Completion.{completions, meets_rules, has_slice, is_extendable}
+use Rattle.definitions.specs.believed.Seeds.{is_same_row, kept_seeds}
+use Rattle.definitions.specs.believed.Growth.{growth}
+use Rattle.definitions.specs.believed.Refutation.{Token, Branch, ByRule, ByNegative, ByOmission, refutes_each}
+use Rattle.definitions.specs.believed.ProofText.{Omission, proof_text, omissions_of}
+use Rattle.definitions.specs.believed.Figures.{all_rows, is_served}
+use Rattle.definitions.specs.believed.Verdict.{IsAccepted}
+use Rattle.definitions.specs.believed.Laws.{IsCertified}
 
 -- a report of any number of rows holds these rows, and there is no note on it
 abbrev pub ReportsReadBack : Type 0
@@ -126,12 +129,6 @@ SuitesCover = (m : ModelView) (pref : List (List ℕ)) (seeds : List (ℕ × Lis
 abbrev pub SuitesHaveFewRows : Type 0
 SuitesHaveFewRows = (m : ModelView) (pref : List (List ℕ)) (seeds : List (ℕ × List (Option ℕ))) → IsSound m → OrdersValues m pref
     → HasFewRows m (length (kept_seeds m seeds)) (growth m pref seeds).rows
-
--- if report and proof are accepted, every row is valid, and each demanded tuple is served by one of the
--- rows, or is listed, and then no row serves it
-pub record IsCertified (m : ModelView) (lines : List (ℕ × List (Option ℕ))) (bytes : List ℕ) : Type 0 where
-  pub valid : All (λ line. is_valid m line.1 ≡ true) lines
-  pub covered : All (λ tuple. Any (λ line. serves m line.1 tuple ≡ true) lines ⊎ (IsListed m bytes tuple × IsUnserved m tuple)) (demanded_tuples m)
 
 abbrev pub AcceptedAreCertified : Type 0
 AcceptedAreCertified = (m : ModelView) (lines : List (ℕ × List (Option ℕ))) (bytes : List ℕ) → IsAccepted m lines bytes → IsCertified m lines bytes

@@ -2,12 +2,12 @@
 use Rattle.std.specs.Prelude.{◌≡◌, ℕ, ◌<◌, true, List, [], length, Option, slice_index_or}
 use Rattle.cov_model.specs.declared.slice.Slice.{Slice}
 use Rattle.cov_model.specs.declared.slice.Slice.TheVariants.{Positive, Negative}
-use Rattle.cov_model.specs.Sound.{ModelView, param_at}
-use Rattle.cov_model.specs.Rows.{is_assigned, value_in}
+use Rattle.cov_model.specs.believed.Sound.{ModelView, param_at}
+use Rattle.cov_model.specs.believed.Rows.{is_assigned, value_in}
 use Rattle.cov_model.specs.Fits.{FitsModel}
-use Rattle.cov_model.specs.Meaning.{value_at}
-use Rattle.cov_model.specs.Slices.{slice_values}
-use Rattle.definitions.specs.Demand.{is_among}
+use Rattle.cov_model.specs.believed.Meaning.{value_at}
+use Rattle.cov_model.specs.believed.Slices.{slice_values}
+use Rattle.definitions.specs.believed.Demand.{is_among}
 
 -- a negative slice is of a model if its value is a negative value of its parameter
 abbrev pub IsSliceOf : ModelView → Slice → Type 0

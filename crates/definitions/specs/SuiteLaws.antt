@@ -1,19 +1,19 @@
 -- What holds of the proof of a suite. (This project's rules.)
-use Rattle.std.specs.Prelude.{◌≡◌, ℕ, ◌^◌, ◌<◌, ◌⊎◌, true, false, List, map, length, Option, Ok, All, AllPairs, Contains}
-use Rattle.std.specs.List.{Any, list_any}
+use Rattle.std.specs.Prelude.{◌≡◌, ℕ, ◌^◌, ◌<◌, ◌⊎◌, true, List, map, length, Option, Ok, All}
+use Rattle.std.specs.List.{Any}
 use Rattle.cov_model.specs.Preference.{OrdersValues}
-use Rattle.cov_model.specs.Sound.{ModelView, IsSound}
-use Rattle.cov_model.specs.Valid.{serves}
+use Rattle.cov_model.specs.believed.Sound.{ModelView, IsSound}
+use Rattle.cov_model.specs.believed.Valid.{serves}
 use Rattle.definitions.specs.declared.effort.Effort.{Effort}
-use Rattle.definitions.specs.Covering.{IsUnserved}
-use Rattle.definitions.specs.Demand.{demanded_tuples}
-use Rattle.definitions.specs.Seeds.{is_same_row}
-use Rattle.definitions.specs.Growth.{growth}
-use Rattle.definitions.specs.Refutation.{refutes_each}
-use Rattle.definitions.specs.ProofText.{Omission, omissions_of}
-use Rattle.definitions.specs.Verdict.{Accepted, as_cells, listed, verdict}
-use Rattle.definitions.specs.SuiteProof.{IsProofOfSuite}
+use Rattle.definitions.specs.believed.Covering.{IsUnserved}
+use Rattle.definitions.specs.believed.Demand.{demanded_tuples}
+use Rattle.definitions.specs.believed.Growth.{growth}
+use Rattle.definitions.specs.believed.Refutation.{refutes_each}
+use Rattle.definitions.specs.believed.ProofText.{omissions_of}
+use Rattle.definitions.specs.believed.Verdict.{Accepted, as_cells, verdict}
+use Rattle.definitions.specs.believed.SuiteProof.{IsProofOfSuite}
 use Rattle.definitions.specs.Laws.{IsOmissionOf}
+use Rattle.definitions.specs.believed.SuiteLaws.{ListsUnserved, IsRefutedIn}
 
 -- what these laws are about: the proof, in format 1 or 2, of the suite of a sound model with preference orders and
 -- any seed rows, where fewer than 2^32 tuples are demanded, so that each omission has a number that a token can cite
@@ -39,28 +39,10 @@ abbrev pub SuiteProofsReadBack : Type 0
 SuiteProofsReadBack = (m : ModelView) (pref : List (List ℕ)) (seeds : List (ℕ × List (Option ℕ))) (effort : Effort) (format : ℕ) (bytes : List ℕ)
     (is : IsSoundProof m pref seeds effort format bytes) → omissions_of m bytes ≡ Ok (format, is.proof.omissions)
 
--- the bytes are read as a proof of the format that lists the demanded tuples which no row serves, each once and no
--- others, and whose token lists each refute their tuple after the tuples before it
-pub record ListsUnserved (m : ModelView) (format : ℕ) (bytes : List ℕ) : Type 0 where
-  pub omissions : List Omission
-  pub read : omissions_of m bytes ≡ Ok (format, omissions)
-  pub unserved : All (λ tuple. Contains (demanded_tuples m) tuple × IsUnserved m tuple) (listed m omissions)
-  pub once : AllPairs (λ a b. is_same_row a b ≡ false) (listed m omissions)
-  pub complete : All (λ tuple. IsUnserved m tuple → list_any (is_same_row tuple) (listed m omissions) ≡ true) (demanded_tuples m)
-  pub refute : refutes_each m format (as_cells m omissions) ≡ true
-
 -- this is what the bytes of a suite's proof are read as
 abbrev pub SuiteProofsList : Type 0
 SuiteProofsList = (m : ModelView) (pref : List (List ℕ)) (seeds : List (ℕ × List (Option ℕ))) (effort : Effort) (format : ℕ) (bytes : List ℕ)
     → IsSoundProof m pref seeds effort format bytes → ListsUnserved m format bytes
-
--- the tuple is refuted in the bytes: they are read as a proof of the format, each of whose token lists refutes its
--- tuple after the tuples before it, and one of whose omissions lists the tuple
-pub record IsRefutedIn (m : ModelView) (format : ℕ) (bytes : List ℕ) (tuple : List (Option ℕ)) : Type 0 where
-  pub omissions : List Omission
-  pub read : omissions_of m bytes ≡ Ok (format, omissions)
-  pub refute : refutes_each m format (as_cells m omissions) ≡ true
-  pub lists : list_any (is_same_row tuple) (listed m omissions) ≡ true
 
 -- each demanded tuple is served by a row of the suite, or no row of the model serves it and the proof refutes it
 abbrev pub SuitesServeOrRefute : Type 0

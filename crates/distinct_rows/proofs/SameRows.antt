@@ -13,8 +13,8 @@ use Rattle.value_text.proofs.ListLemmas.{or_twice}
 use Rattle.definitions.proofs.Members.{same_answer}
 use Rattle.definitions.proofs.PartialRowLemmas.{same-sym, same-trans, same_row_is}
 use Rattle.cov_model.proofs.CellLemmas.{contains-refl}
-use Rattle.cov_model.specs.Rows.{contains}
-use Rattle.definitions.specs.Seeds.{is_same_row, distinct_by}
+use Rattle.cov_model.specs.believed.Rows.{contains}
+use Rattle.definitions.specs.believed.Seeds.{is_same_row, distinct_by}
 use Rattle.distinct_rows.specs.Known.{is_known_row}
 
 -- an item among those of which none is the same as an earlier one, and one more at the end

@@ -1,7 +1,7 @@
 -- Rows in order of first occurrence. (This project's rule.)
 use Rattle.std.specs.Prelude.{ℕ, Bool, List, [], ◌∷◌, ◌++◌, Option, if◌then◌else◌}
 use Rattle.std.specs.List.{list_any}
-use Rattle.definitions.specs.Seeds.{is_same_row}
+use Rattle.definitions.specs.believed.Seeds.{is_same_row}
 
 -- one of the rows is the same as this one
 abbrev pub is_known_row : List (List (Option ℕ)) → List (Option ℕ) → Bool

@@ -8,8 +8,8 @@ use Rattle.std.proofs.lemmas.List.Elements.{filter-append}
 use Rattle.std.proofs.lemmas.List.FromFn.{map-range_with_len_more}
 use Rattle.std.proofs.lemmas.List.Sums.{sum_by_push}
 use Rattle.value_text.proofs.ListLemmas.{range_with_len_more}
-use Rattle.definitions.specs.Refutation.{Token, are_eager, branches, is_branch, is_eager, refute_paths}
-use Rattle.definitions.specs.SuiteProof.{branch_count, is_branching}
+use Rattle.definitions.specs.believed.Refutation.{Token, are_eager, branches, is_branch, is_eager, refute_paths}
+use Rattle.definitions.specs.believed.SuiteProof.{branch_count, is_branching}
 use Rattle.refutation.specs.declared.token.TreeToken.{TreeToken}
 use Rattle.refutation.specs.declared.token.TreeToken.TheVariants.{Branch, ByRule, ByNegative, ByOmission}
 use Rattle.refutation.specs.Proofs.{meant}

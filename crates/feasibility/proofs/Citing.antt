@@ -9,11 +9,11 @@ use Rattle.std.proofs.lemmas.Bool.{false≢true, cases_eq, cases_lt, eqb-true, a
 use Rattle.std.proofs.lemmas.Option.{none-some, same_Some, slice_get_past}
 use Rattle.std.proofs.lemmas.List.{get_or-map, length-map}
 use Rattle.std.proofs.lemmas.List.Elements.{All-get_or}
-use Rattle.cov_model.specs.Rows.{contains, is_assigned}
-use Rattle.cov_model.specs.Valid.{negatives}
+use Rattle.cov_model.specs.believed.Rows.{contains, is_assigned}
+use Rattle.cov_model.specs.believed.Valid.{negatives}
 use Rattle.cov_model.proofs.CellLemmas.{contains-get_or}
 use Rattle.definitions.specs.Pairs.{cells_of}
-use Rattle.definitions.specs.Refutation.{earlier_tuple, is_omission_leaf}
+use Rattle.definitions.specs.believed.Refutation.{earlier_tuple, is_omission_leaf}
 use Rattle.definitions.proofs.Members.{Has, among_has, find_some, has_range, of_among, of_find, of_range, has_place}
 use Rattle.definitions.proofs.NamedPairs.{pair_stands}
 use Rattle.refutation.specs.declared.omissions.Omission.{Omission}

@@ -6,9 +6,9 @@ use Rattle.std.specs.List.{filter, flat_map}
 use Rattle.std.proofs.lemmas.Bool.{false≢true, eqb-true, eq-eqb}
 use Rattle.std.proofs.lemmas.List.Folds.{find-append}
 use Rattle.value_text.proofs.ListLemmas.{is_some-map, none_of, option_or-None}
-use Rattle.cov_model.specs.Rows.{contains, is_assigned}
-use Rattle.definitions.specs.Demand.{is_among}
-use Rattle.definitions.specs.Completion.{cell_values, completions}
+use Rattle.cov_model.specs.believed.Rows.{contains, is_assigned}
+use Rattle.definitions.specs.believed.Demand.{is_among}
+use Rattle.definitions.specs.believed.Completion.{cell_values, completions}
 use Rattle.definitions.proofs.PartialRowLemmas.{among_head, among_tail}
 use Rattle.feasibility.specs.Path.{filled}
 

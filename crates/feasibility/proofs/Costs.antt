@@ -4,11 +4,11 @@ use Rattle.std.specs.List.{range_with_len, sum_by}
 use Rattle.std.proofs.lemmas.Bool.{false≢true, cases_eq, cases_lt, eq-eqb, ne_eqb}
 use Rattle.std.proofs.lemmas.List.{drop_all, drop_more}
 use Rattle.std.proofs.lemmas.List.Sums.{sum_by-cons}
-use Rattle.cov_model.specs.Sound.{ModelView}
-use Rattle.cov_model.specs.Rows.{is_assigned}
+use Rattle.cov_model.specs.believed.Sound.{ModelView}
+use Rattle.cov_model.specs.believed.Rows.{is_assigned}
 use Rattle.definitions.specs.Completion.{with_value}
-use Rattle.definitions.specs.Demand.{is_among}
-use Rattle.definitions.specs.Search.{Outcome, is_failing, try_values, visit}
+use Rattle.definitions.specs.believed.Demand.{is_among}
+use Rattle.definitions.specs.believed.Search.{Outcome, is_failing, try_values, visit}
 use Rattle.definitions.proofs.Members.{Has}
 use Rattle.feasibility.proofs.Visits.{node_outcome}
 

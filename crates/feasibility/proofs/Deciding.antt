@@ -4,12 +4,12 @@ use Rattle.std.specs.List.{count_by, list_any, range_with_len}
 use Rattle.std.proofs.lemmas.Bool.{false≢true, cases_Bool, cases_eq, and_parts, or_cases, or_from, or_parts, or_left, or_right, false_from_ne_true, not-true, not-false, true_from_ne_false}
 use Rattle.std.proofs.lemmas.List.{length-replicate, length-set}
 use Rattle.value_text.proofs.ListLemmas.{Some-unwrap_or}
-use Rattle.cov_model.specs.Sound.{ModelView, IsSound, param_at}
-use Rattle.cov_model.specs.Rows.{is_assigned, value_in}
-use Rattle.cov_model.specs.Valid.{param_numbers}
+use Rattle.cov_model.specs.believed.Sound.{ModelView, IsSound, param_at}
+use Rattle.cov_model.specs.believed.Rows.{is_assigned, value_in}
+use Rattle.cov_model.specs.believed.Valid.{param_numbers}
 use Rattle.definitions.specs.Completion.{with_value}
-use Rattle.definitions.specs.Demand.{is_among}
-use Rattle.definitions.specs.Search.{breaks_a_rule, constrained_params, is_failing, is_stuck}
+use Rattle.definitions.specs.believed.Demand.{is_among}
+use Rattle.definitions.specs.believed.Search.{breaks_a_rule, constrained_params, is_failing, is_stuck}
 use Rattle.definitions.proofs.Members.{Has, among_has, any_member, has_range, of_among, of_any}
 use Rattle.definitions.proofs.SliceLemmas.{has_params, of_params}
 use Rattle.live_sets.specs.Trail.{LiveView, mark_at}

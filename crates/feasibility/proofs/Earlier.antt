@@ -5,13 +5,14 @@ use Rattle.std.specs.List.{filter, range_with_len}
 use Rattle.std.proofs.lemmas.Bool.{false≢true, cases_Bool, false_from_ne_true}
 use Rattle.std.proofs.lemmas.List.Folds.{list_any_at}
 use Rattle.value_text.proofs.ListLemmas.{Some-unwrap_or}
-use Rattle.cov_model.specs.Sound.{ModelView, IsSound, no_rule}
-use Rattle.cov_model.specs.Rows.{is_assigned, value_in}
-use Rattle.cov_model.specs.Valid.{param_numbers}
+use Rattle.cov_model.specs.believed.Sound.{ModelView, IsSound}
+use Rattle.cov_model.specs.Sound.{no_rule}
+use Rattle.cov_model.specs.believed.Rows.{is_assigned, value_in}
+use Rattle.cov_model.specs.believed.Valid.{param_numbers}
 use Rattle.cov_model.proofs.CellLemmas.{assigned_within}
 use Rattle.definitions.specs.Completion.{with_value}
-use Rattle.definitions.specs.Demand.{is_among}
-use Rattle.definitions.specs.Search.{body_params, constrained_params}
+use Rattle.definitions.specs.believed.Demand.{is_among}
+use Rattle.definitions.specs.believed.Search.{body_params, constrained_params}
 use Rattle.definitions.proofs.Contained.{left}
 use Rattle.definitions.proofs.Members.{Has, any_member, has_filter, has_flat, of_among, of_filter, of_range}
 use Rattle.definitions.proofs.SliceLemmas.{has_params}

@@ -10,14 +10,14 @@ use Rattle.std.proofs.lemmas.List.FromFn.{length-range_with_len, get_or-range_wi
 use Rattle.std.proofs.Math.Bool.{or-false}
 use Rattle.cov_model.specs.declared.slice.Slice.{Slice}
 use Rattle.cov_model.specs.declared.slice.Slice.TheVariants.{Positive, Negative}
-use Rattle.cov_model.specs.Sound.{ModelView, IsSound, param_at}
-use Rattle.cov_model.specs.Rows.{value_in}
-use Rattle.cov_model.specs.Meaning.{value_at}
-use Rattle.cov_model.specs.Valid.{param_numbers}
-use Rattle.cov_model.specs.Slices.{slice_values, positive_values, value_numbers}
-use Rattle.definitions.specs.Demand.{is_among}
-use Rattle.definitions.specs.Completion.{completions, meets_rules, is_extendable, preferred_values, first_completion}
-use Rattle.definitions.specs.Search.{constrained_params, plain_search, plain_cost, visit}
+use Rattle.cov_model.specs.believed.Sound.{ModelView, IsSound, param_at}
+use Rattle.cov_model.specs.believed.Rows.{value_in}
+use Rattle.cov_model.specs.believed.Meaning.{value_at}
+use Rattle.cov_model.specs.believed.Valid.{param_numbers}
+use Rattle.cov_model.specs.believed.Slices.{slice_values, positive_values, value_numbers}
+use Rattle.definitions.specs.believed.Demand.{is_among}
+use Rattle.definitions.specs.believed.Completion.{completions, meets_rules, is_extendable, preferred_values, first_completion}
+use Rattle.definitions.specs.believed.Search.{constrained_params, plain_search, plain_cost, visit}
 pub use Rattle.cov_model.proofs.CellLemmas.{length-slice_values}
 use Rattle.cov_model.specs.Preference.{OrdersValues}
 use Rattle.definitions.proofs.Members.{same_answer}

@@ -3,18 +3,18 @@ use Rattle.std.proofs.Common.{◌≡◌, ℕ, Bool, true, false, not, ◌&&◌, 
 use Rattle.std.specs.List.{list_any}
 use Rattle.std.specs.Ordering.{is_eq}
 use Rattle.std.proofs.lemmas.Bool.{false≢true}
-use Rattle.value_text.specs.Like.{is_like}
+use Rattle.value_text.specs.believed.Like.{is_like}
 use Rattle.cov_model.specs.declared.truth.Truth.{Truth}
 use Rattle.cov_model.specs.declared.truth.Truth.TheVariants.{Yes, No, Unknown}
 use Rattle.cov_model.specs.declared.constraint.Literal.{Literal}
 use Rattle.cov_model.specs.declared.constraint.Term as terms
 use Rattle.cov_model.specs.declared.constraint.Term.TheVariants.{ValueIs, ParamIs, OneOf, Like, Negative, Positive}
-use Rattle.cov_model.specs.Views.{PredView, PredViews, Leaf, Negated, Each, Either, End, More, BodyView, Plain, IfThen, IfElse}
-use Rattle.cov_model.specs.Sound.{ModelView, param_at, first_name}
-use Rattle.cov_model.specs.Rows.{is_assigned}
-use Rattle.cov_model.specs.Meaning.{value_at, operand_of, literal_order, stands_in}
-use Rattle.cov_model.specs.Kleene.{known, not_of, and_of, or_of, term_truth, pred_truth, all_truth, any_truth, body_truth}
-use Rattle.definitions.specs.Search.{is_no}
+use Rattle.cov_model.specs.believed.Views.{PredView, PredViews, Leaf, Negated, Each, Either, End, More, BodyView, Plain, IfThen, IfElse}
+use Rattle.cov_model.specs.believed.Sound.{ModelView, param_at, first_name}
+use Rattle.cov_model.specs.believed.Rows.{is_assigned}
+use Rattle.cov_model.specs.believed.Meaning.{value_at, operand_of, literal_order, stands_in}
+use Rattle.cov_model.specs.believed.Kleene.{known, not_of, and_of, or_of, term_truth, pred_truth, all_truth, any_truth, body_truth}
+use Rattle.definitions.specs.believed.Search.{is_no}
 use Rattle.compiled_rules.specs.Codes.{is_yes}
 
 -- what is known stays

@@ -4,10 +4,10 @@ use Rattle.std.specs.List.{list_all}
 use Rattle.std.proofs.lemmas.Bool.{false≢true}
 use Rattle.std.proofs.lemmas.List.{length-replicate}
 use Rattle.std.proofs.lemmas.List.Folds.{list_all-map}
-use Rattle.cov_model.specs.Sound.{ModelView}
-use Rattle.cov_model.specs.Valid.{param_numbers}
-use Rattle.definitions.specs.Refutation.{is_eager}
-use Rattle.definitions.specs.Search.{Outcome, constrained_params, is_failing, visit}
+use Rattle.cov_model.specs.believed.Sound.{ModelView}
+use Rattle.cov_model.specs.believed.Valid.{param_numbers}
+use Rattle.definitions.specs.believed.Refutation.{is_eager}
+use Rattle.definitions.specs.believed.Search.{Outcome, constrained_params, is_failing, visit}
 use Rattle.refutation.specs.declared.token.TreeToken.{TreeToken}
 use Rattle.refutation.specs.Proofs.{meant}
 use Rattle.feasibility.specs.declared.kept_tree.KeptTree.{KeptTree}

@@ -3,13 +3,14 @@ use Rattle.std.proofs.Common.{◌≡◌, ℕ, ◌-◌, ◌<◌, ◌≤◌, Bool,
 use Rattle.std.specs.List.{range_with_len}
 use Rattle.std.proofs.lemmas.Bool.{false≢true, false_from_ne_true, true_from_ne_false}
 use Rattle.std.proofs.lemmas.List.{get_or_default}
-use Rattle.cov_model.specs.Views.{RuleView}
-use Rattle.cov_model.specs.Sound.{ModelView, IsSound, no_rule, rule_at}
-use Rattle.cov_model.specs.Kleene.{body_truth}
+use Rattle.cov_model.specs.believed.Views.{RuleView}
+use Rattle.cov_model.specs.believed.Sound.{ModelView, IsSound}
+use Rattle.cov_model.specs.Sound.{no_rule, rule_at}
+use Rattle.cov_model.specs.believed.Kleene.{body_truth}
 use Rattle.compiled_rules.specs.Codes.{is_yes}
 use Rattle.definitions.specs.Completion.{with_value}
-use Rattle.definitions.specs.Demand.{is_among}
-use Rattle.definitions.specs.Search.{body_params, breaks_a_rule, is_no}
+use Rattle.definitions.specs.believed.Demand.{is_among}
+use Rattle.definitions.specs.believed.Search.{body_params, breaks_a_rule, is_no}
 use Rattle.definitions.proofs.Members.{Has, any_member, contains_member, member_of_all, of_among, of_filter}
 use Rattle.feasibility.specs.Live.{no_on}
 use Rattle.feasibility.specs.Tree.{naming, no_values, undecided}

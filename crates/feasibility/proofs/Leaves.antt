@@ -10,11 +10,12 @@ use Rattle.std.proofs.lemmas.List.Folds.{Any-from_list_any, find-append, list_an
 use Rattle.std.proofs.lemmas.Option.{none-some, same_Some}
 use Rattle.std.proofs.lemmas.Simd.{map-map}
 use Rattle.value_text.proofs.ListLemmas.{range_with_len_more, nothing_found}
-use Rattle.cov_model.specs.Views.{RuleView}
-use Rattle.cov_model.specs.Sound.{ModelView, IsSound, no_rule, rule_at}
-use Rattle.cov_model.specs.Kleene.{body_truth}
-use Rattle.definitions.specs.Refutation.{Token, ByRule, ByNegative, ByOmission, is_first_leaf, is_leaf, is_negative_leaf, is_omission_leaf, is_rule_leaf, leaves}
-use Rattle.definitions.specs.Search.{breaks_a_rule, is_no}
+use Rattle.cov_model.specs.believed.Views.{RuleView}
+use Rattle.cov_model.specs.believed.Sound.{ModelView, IsSound}
+use Rattle.cov_model.specs.Sound.{no_rule, rule_at}
+use Rattle.cov_model.specs.believed.Kleene.{body_truth}
+use Rattle.definitions.specs.believed.Refutation.{Token, ByRule, ByNegative, ByOmission, is_first_leaf, is_leaf, is_negative_leaf, is_omission_leaf, is_rule_leaf, leaves}
+use Rattle.definitions.specs.believed.Search.{breaks_a_rule, is_no}
 use Rattle.definitions.proofs.Members.{Has, all_members, find_some, has_range, of_find, of_range, same_answer}
 use Rattle.definitions.proofs.Nothing.{no_first}
 use Rattle.feasibility.specs.Live.{no_on}

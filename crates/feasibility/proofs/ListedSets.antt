@@ -4,7 +4,7 @@ use Rattle.std.proofs.lemmas.Bool.{cases_eq, cases_lt}
 use Rattle.std.proofs.lemmas.List.{get_or_append_left, get_or_past}
 use Rattle.std.proofs.Math.Seq.{get_or-append_seam}
 use Rattle.cov_model.specs.declared.parameter.Param.{Param}
-use Rattle.cov_model.specs.Sound.{ModelView, no_param, param_at}
+use Rattle.cov_model.specs.believed.Sound.{ModelView, no_param, param_at}
 use Rattle.live_sets.specs.Trail.{LiveView}
 use Rattle.feasibility.specs.Live.{AreMarks, ListMarks, ShowsListed}
 

@@ -10,18 +10,20 @@ use Rattle.std.proofs.lemmas.List.Folds.{list_any-append}
 use Rattle.std.proofs.lemmas.List.FromFn.{length-map-range_with_len, length-range_with_len, get_or-map-range_with_len}
 use Rattle.value_text.proofs.ListLemmas.{length-filter-le, range_with_len_more}
 use Rattle.cov_model.specs.declared.constraint.Rule.{Rule}
-use Rattle.cov_model.specs.Views.{BodyView, RuleView, body_view, each_is, either_is, pred_view, preds_in, rule_view}
-use Rattle.cov_model.specs.Sound.{ModelView, IsSound, no_rule, param_at, rule_at}
-use Rattle.cov_model.specs.Kleene.{body_truth}
+use Rattle.cov_model.specs.believed.Views.{BodyView, RuleView}
+use Rattle.cov_model.specs.Views.{body_view, each_is, either_is, pred_view, preds_in, rule_view}
+use Rattle.cov_model.specs.believed.Sound.{ModelView, IsSound, param_at}
+use Rattle.cov_model.specs.Sound.{no_rule, rule_at}
+use Rattle.cov_model.specs.believed.Kleene.{body_truth}
 use Rattle.cov_model.specs.Fits.{FitsModel}
-use Rattle.cov_model.specs.Rows.{is_assigned, value_in}
+use Rattle.cov_model.specs.believed.Rows.{is_assigned, value_in}
 use Rattle.compiled_rules.specs.Codes.{is_yes}
-use Rattle.cov_model.specs.Valid.{param_numbers}
+use Rattle.cov_model.specs.believed.Valid.{param_numbers}
 use Rattle.cov_model.specs.declared.constraint.Pred as preds
 use Rattle.cov_model.specs.declared.constraint.Pred.{Pred}
-use Rattle.definitions.specs.Demand.{is_among}
+use Rattle.definitions.specs.believed.Demand.{is_among}
 use Rattle.definitions.specs.Completion.{with_value}
-use Rattle.definitions.specs.Search.{pred_params, parts_params, body_params, constrained_params}
+use Rattle.definitions.specs.believed.Search.{pred_params, parts_params, body_params, constrained_params}
 use Rattle.definitions.proofs.Members.{Has, all_members as members_are, any_member, contains_member, has_contained, has_filter, of_filter, of_range}
 use Rattle.definitions.proofs.Nothing.{nothing_kept}
 use Rattle.definitions.proofs.ProofWords.{rule_numbers}

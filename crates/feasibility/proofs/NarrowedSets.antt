@@ -9,13 +9,14 @@ use Rattle.std.proofs.lemmas.List.Folds.{list_any-append}
 use Rattle.std.proofs.lemmas.List.FromFn.{get_or-map-range_with_len, length-map-range_with_len}
 use Rattle.std.proofs.lemmas.List.Sums.{sum_by-cons}
 use Rattle.compiled_rules.specs.Codes.{is_yes}
-use Rattle.cov_model.specs.Kleene.{body_truth}
-use Rattle.cov_model.specs.Slices.{value_numbers}
+use Rattle.cov_model.specs.believed.Kleene.{body_truth}
+use Rattle.cov_model.specs.believed.Slices.{value_numbers}
 use Rattle.std.proofs.lemmas.List.Elements.{All-filter}
-use Rattle.cov_model.specs.Views.{BodyView}
-use Rattle.cov_model.specs.Sound.{ModelView, param_at, rule_at}
+use Rattle.cov_model.specs.believed.Views.{BodyView}
+use Rattle.cov_model.specs.believed.Sound.{ModelView, param_at}
+use Rattle.cov_model.specs.Sound.{rule_at}
 use Rattle.definitions.specs.Completion.{with_value}
-use Rattle.definitions.specs.Demand.{is_among}
+use Rattle.definitions.specs.believed.Demand.{is_among}
 use Rattle.definitions.proofs.Members.{all_members as members_are, among_has, has_filter, has_range, of_range}
 use Rattle.definitions.proofs.PartialRowLemmas.{among_head}
 use Rattle.live_sets.specs.Trail.{LiveView, mark_at, with_mark, IsSince}

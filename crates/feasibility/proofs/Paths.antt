@@ -10,18 +10,19 @@ use Rattle.std.proofs.lemmas.List.{get_or-set_other, get_or-set_same, length-rep
 use Rattle.value_text.proofs.ListLemmas.{Some-unwrap_or, none_at, nothing_found}
 use Rattle.cov_model.specs.declared.slice.Slice.{Slice}
 use Rattle.cov_model.specs.declared.slice.Slice.TheVariants.{Positive, Negative}
-use Rattle.cov_model.specs.Sound.{ModelView, param_at}
+use Rattle.cov_model.specs.believed.Sound.{ModelView, param_at}
 use Rattle.cov_model.specs.Fits.{FitsModel}
-use Rattle.cov_model.specs.Meaning.{value_at}
-use Rattle.cov_model.specs.Rows.{is_assigned, value_in}
-use Rattle.cov_model.specs.Valid.{negatives}
-use Rattle.cov_model.specs.Slices.{slice_by, slice_of, slice_values}
-use Rattle.definitions.specs.Completion.{has_slice, preferred_values, with_value}
-use Rattle.definitions.specs.Demand.{is_among}
+use Rattle.cov_model.specs.believed.Meaning.{value_at}
+use Rattle.cov_model.specs.believed.Rows.{is_assigned, value_in}
+use Rattle.cov_model.specs.believed.Valid.{negatives}
+use Rattle.cov_model.specs.believed.Slices.{slice_by, slice_of, slice_values}
+use Rattle.definitions.specs.believed.Completion.{has_slice, preferred_values}
+use Rattle.definitions.specs.Completion.{with_value}
+use Rattle.definitions.specs.believed.Demand.{is_among}
 use Rattle.cov_model.specs.Preference.{OrdersValues}
 use Rattle.definitions.specs.Pairs.{cells_of}
-use Rattle.definitions.specs.Refutation.{is_negative_leaf, is_omission_leaf}
-use Rattle.definitions.specs.Search.{breaks_a_rule}
+use Rattle.definitions.specs.believed.Refutation.{is_negative_leaf, is_omission_leaf}
+use Rattle.definitions.specs.believed.Search.{breaks_a_rule}
 use Rattle.definitions.specs.SliceRows.{IsOfSlice, IsSliceOf}
 use Rattle.definitions.proofs.Members.{Has, all_members, any_member, of_among, of_any, same_answer}
 use Rattle.definitions.proofs.SliceLemmas.{HasFixed, IsSlice, has_negatives, of_negatives, slice_is}

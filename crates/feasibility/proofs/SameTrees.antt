@@ -6,18 +6,18 @@ use Rattle.std.specs.List.{filter, list_all, list_any, range_with_len}
 use Rattle.std.proofs.lemmas.Bool.{false≢true, cases_eq, and_from, and_parts, and_right, false_from_ne_true, not-true, or_left, or_right}
 use Rattle.std.proofs.lemmas.List.{get_or-set_other}
 use Rattle.std.proofs.lemmas.List.Elements.{filter-append}
-use Rattle.cov_model.specs.Views.{RuleView}
-use Rattle.cov_model.specs.Sound.{ModelView}
-use Rattle.cov_model.specs.Kleene.{body_truth}
-use Rattle.cov_model.specs.Meaning.{given_value, value_at}
-use Rattle.cov_model.specs.Rows.{is_assigned}
-use Rattle.cov_model.specs.Slices.{value_numbers}
-use Rattle.cov_model.specs.Valid.{param_numbers}
+use Rattle.cov_model.specs.believed.Views.{RuleView}
+use Rattle.cov_model.specs.believed.Sound.{ModelView}
+use Rattle.cov_model.specs.believed.Kleene.{body_truth}
+use Rattle.cov_model.specs.believed.Meaning.{given_value, value_at}
+use Rattle.cov_model.specs.believed.Rows.{is_assigned}
+use Rattle.cov_model.specs.believed.Slices.{value_numbers}
+use Rattle.cov_model.specs.believed.Valid.{param_numbers}
 use Rattle.definitions.specs.Completion.{with_value}
-use Rattle.definitions.specs.Demand.{is_among}
-use Rattle.definitions.specs.Refutation.{Token, Branch, ByRule, ByNegative, ByOmission, are_eager, branches, is_branch, is_eager, is_first_leaf, is_leaf}
-use Rattle.definitions.specs.Refutation.{is_negative_leaf, is_rule_leaf, leaves, refute_paths}
-use Rattle.definitions.specs.Search.{body_params, is_no}
+use Rattle.definitions.specs.believed.Demand.{is_among}
+use Rattle.definitions.specs.believed.Refutation.{Token, Branch, ByRule, ByNegative, ByOmission, are_eager, branches, is_branch, is_eager, is_first_leaf, is_leaf}
+use Rattle.definitions.specs.believed.Refutation.{is_negative_leaf, is_rule_leaf, leaves, refute_paths}
+use Rattle.definitions.specs.believed.Search.{body_params, is_no}
 use Rattle.feasibility.specs.KeptTrees.{is_free}
 use Rattle.feasibility.specs.Recurring.{AgreeOnNamed}
 use Rattle.feasibility.proofs.Alike.{any_same, same_with}

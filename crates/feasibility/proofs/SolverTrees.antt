@@ -2,13 +2,13 @@
 use Rattle.std.proofs.Common.{◌≡◌, ℕ, ◌<◌, ◌≤◌, inl, inr, Bool, true, false, List, Option, ◌∙◌, sym, ap}
 use Rattle.std.proofs.lemmas.Bool.{false≢true, cases_lt, false_from_ne_true}
 use Rattle.cov_model.specs.declared.slice.Slice.{Slice}
-use Rattle.cov_model.specs.Sound.{ModelView, IsSound}
-use Rattle.cov_model.specs.Slices.{slice_of}
-use Rattle.cov_model.specs.Valid.{serves}
-use Rattle.definitions.specs.Completion.{has_slice, is_extendable}
-use Rattle.definitions.specs.Covering.{IsUnserved}
-use Rattle.definitions.specs.Figures.{all_rows}
-use Rattle.definitions.specs.Search.{constrained_params, plain_cost, visit}
+use Rattle.cov_model.specs.believed.Sound.{ModelView, IsSound}
+use Rattle.cov_model.specs.believed.Slices.{slice_of}
+use Rattle.cov_model.specs.believed.Valid.{serves}
+use Rattle.definitions.specs.believed.Completion.{has_slice, is_extendable}
+use Rattle.definitions.specs.believed.Covering.{IsUnserved}
+use Rattle.definitions.specs.believed.Figures.{all_rows}
+use Rattle.definitions.specs.believed.Search.{constrained_params, plain_cost, visit}
 use Rattle.definitions.specs.SliceRows.{IsOfSlice}
 use Rattle.definitions.proofs.Members.{of_any}
 use Rattle.definitions.proofs.Serving.{servable_are_extendable}

@@ -1,6 +1,6 @@
 -- What a search that is held to a budget answers. (This project's rule.)
 use Rattle.std.specs.Prelude.{◌≡◌, ℕ, ◌-◌, Bool, nat_lt, List, length, Option, if◌then◌else◌}
-use Rattle.definitions.specs.Search.{Outcome, constrained_params, visit}
+use Rattle.definitions.specs.believed.Search.{Outcome, constrained_params, visit}
 use Rattle.feasibility.specs.declared.answer.Answer.{Answer}
 use Rattle.feasibility.specs.declared.answer.Answer.TheVariants.{Yes, No, Spent}
 use Rattle.feasibility.specs.Path.{reached}

@@ -1,7 +1,7 @@
 -- A search that goes straight on: what it finds without going back. (This project's rule.)
 use Rattle.std.specs.Prelude.{◌≡◌, ℕ, ◌+◌, ◌<◌, Bool, true, false, List, length, Option, slice_index_or}
 use Rattle.cov_model.specs.Fits.{FitsModel}
-use Rattle.definitions.specs.Search.{is_failing, visit}
+use Rattle.definitions.specs.believed.Search.{is_failing, visit}
 use Rattle.live_sets.specs.Trail.{LiveView, mark_at}
 use Rattle.feasibility.specs.Live.{ShowsLive}
 use Rattle.feasibility.specs.Path.{reached}

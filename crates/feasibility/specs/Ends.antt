@@ -1,6 +1,6 @@
 -- How a run of questions ends. (This project's rule.)
 use Rattle.std.specs.Prelude.{◌≡◌, ℕ, List, Option, Some, None, Result, Ok, Err, option_map}
-use Rattle.definitions.specs.Pairs.{pairs_of}
+use Rattle.definitions.specs.believed.Pairs.{pairs_of}
 use Rattle.feasibility.specs.declared.answer.SearchFault.{SearchFault}
 use Rattle.feasibility.specs.declared.answer.SearchFault.TheVariants.{Spent, NoMemory}
 

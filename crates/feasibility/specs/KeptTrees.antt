@@ -1,10 +1,10 @@
 -- The tree that was made last for a proof in format 1, and which tuples it refutes too. (This project's rule.)
 use Rattle.std.specs.Prelude.{◌≡◌, ℕ, ◌≤◌, Bool, true, false, not, List, [], length, map, replicate, Option, None}
-use Rattle.cov_model.specs.Sound.{ModelView}
-use Rattle.cov_model.specs.Rows.{is_assigned}
-use Rattle.definitions.specs.Refutation.{Token, Branch, ByRule, ByNegative, ByOmission, is_eager}
-use Rattle.definitions.specs.Search.{constrained_params, visit}
-use Rattle.definitions.specs.SuiteProof.{branch_count}
+use Rattle.cov_model.specs.believed.Sound.{ModelView}
+use Rattle.cov_model.specs.believed.Rows.{is_assigned}
+use Rattle.definitions.specs.believed.Refutation.{Token, Branch, ByRule, ByNegative, ByOmission, is_eager}
+use Rattle.definitions.specs.believed.Search.{constrained_params, visit}
+use Rattle.definitions.specs.believed.SuiteProof.{branch_count}
 use Rattle.refutation.specs.declared.token.TreeToken.{TreeToken}
 use Rattle.refutation.specs.Proofs.{meant}
 use Rattle.feasibility.specs.declared.kept_tree.KeptTree.{KeptTree}

@@ -1,9 +1,9 @@
 -- What plain search tells. (This project's rule.)
 use Rattle.std.specs.Prelude.{◌≡◌, List, Option, ℕ, is_some}
 use Rattle.cov_model.specs.declared.slice.Slice.{Slice}
-use Rattle.cov_model.specs.Sound.{ModelView, IsSound}
-use Rattle.definitions.specs.Completion.{is_extendable, first_completion}
-use Rattle.definitions.specs.Search.{plain_search}
+use Rattle.cov_model.specs.believed.Sound.{ModelView, IsSound}
+use Rattle.definitions.specs.believed.Completion.{is_extendable, first_completion}
+use Rattle.definitions.specs.believed.Search.{plain_search}
 use Rattle.cov_model.specs.Preference.{OrdersValues}
 use Rattle.definitions.specs.SliceRows.{IsSliceOf, IsOfSlice}
 

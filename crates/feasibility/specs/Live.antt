@@ -2,12 +2,13 @@
 -- project's rule.)
 use Rattle.std.specs.Prelude.{◌≡◌, ◌≢◌, ℕ, ◌<◌, ◌≤◌, Bool, true, false, ◌&&◌, not, List, [], length, Option, slice_index_or, All, ◌⊎◌, if◌then◌else◌}
 use Rattle.std.specs.List.{count_by, flat_map, list_any}
-use Rattle.cov_model.specs.Sound.{ModelView, param_at, rule_at}
-use Rattle.cov_model.specs.Rows.{is_assigned, value_in}
-use Rattle.cov_model.specs.Kleene.{body_truth}
+use Rattle.cov_model.specs.believed.Sound.{ModelView, param_at}
+use Rattle.cov_model.specs.Sound.{rule_at}
+use Rattle.cov_model.specs.believed.Rows.{is_assigned, value_in}
+use Rattle.cov_model.specs.believed.Kleene.{body_truth}
 use Rattle.definitions.specs.Completion.{with_value}
-use Rattle.definitions.specs.Demand.{is_among}
-use Rattle.definitions.specs.Search.{body_params, breaks_a_rule, is_no}
+use Rattle.definitions.specs.believed.Demand.{is_among}
+use Rattle.definitions.specs.believed.Search.{body_params, breaks_a_rule, is_no}
 use Rattle.live_sets.specs.Trail.{LiveView, mark_at, IsSince}
 use Rattle.compiled_rules.specs.Codes.{is_yes}
 use Rattle.feasibility.specs.Tree.{no_values, undecided}

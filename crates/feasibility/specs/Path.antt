@@ -1,9 +1,9 @@
 -- Where plain search ends when it succeeds. (This project's rule.)
 use Rattle.std.specs.Prelude.{ℕ, List, [], ◌∷◌, Option, Some, None, slice_index_or, slice_get, if◌then◌else◌}
-use Rattle.cov_model.specs.Sound.{ModelView}
-use Rattle.cov_model.specs.Rows.{is_assigned}
+use Rattle.cov_model.specs.believed.Sound.{ModelView}
+use Rattle.cov_model.specs.believed.Rows.{is_assigned}
 use Rattle.definitions.specs.Completion.{with_value}
-use Rattle.definitions.specs.Search.{Outcome, visit}
+use Rattle.definitions.specs.believed.Search.{Outcome, visit}
 
 -- a cell without a value gets the first of the list
 abbrev pub filled_cell : List ℕ → Option ℕ → Option ℕ

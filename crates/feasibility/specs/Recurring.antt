@@ -1,7 +1,7 @@
 -- What is kept of questions that were answered, and which questions are the same as they. (This project's rule.)
 use Rattle.std.specs.Prelude.{◌≡◌, ℕ, true, false, List, length, replicate, All, Option, None, slice_index_or, slice_set}
-use Rattle.cov_model.specs.Sound.{ModelView}
-use Rattle.definitions.specs.Search.{constrained_params, visit}
+use Rattle.cov_model.specs.believed.Sound.{ModelView}
+use Rattle.definitions.specs.believed.Search.{constrained_params, visit}
 use Rattle.feasibility.specs.declared.answer.Answer.{Answer}
 use Rattle.feasibility.specs.declared.answer.Answer.TheVariants.{Yes, No, Spent}
 use Rattle.feasibility.specs.declared.answered.Answered.{Answered}

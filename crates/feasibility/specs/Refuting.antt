@@ -3,17 +3,17 @@ use Rattle.std.specs.Prelude.{◌≡◌, ℕ, ◌<◌, ◌≤◌, ◌^◌, Bool,
 use Rattle.std.specs.List.{list_all}
 use Rattle.cov_model.specs.declared.slice.Slice.{Slice}
 use Rattle.cov_model.specs.declared.slice.Slice.TheVariants.{Positive, Negative}
-use Rattle.cov_model.specs.Sound.{ModelView, param_at}
+use Rattle.cov_model.specs.believed.Sound.{ModelView, param_at}
 use Rattle.cov_model.specs.Fits.{FitsModel}
-use Rattle.cov_model.specs.Meaning.{value_at}
-use Rattle.cov_model.specs.Rows.{contains, is_assigned}
-use Rattle.cov_model.specs.Valid.{negatives}
+use Rattle.cov_model.specs.believed.Meaning.{value_at}
+use Rattle.cov_model.specs.believed.Rows.{contains, is_assigned}
+use Rattle.cov_model.specs.believed.Valid.{negatives}
 use Rattle.definitions.specs.Completion.{with_value}
-use Rattle.definitions.specs.Demand.{is_among}
+use Rattle.definitions.specs.believed.Demand.{is_among}
 use Rattle.definitions.specs.Pairs.{cells_of}
-use Rattle.definitions.specs.Refutation.{Token, are_eager, is_negative_leaf, leaves, refute_paths}
-use Rattle.definitions.specs.Search.{visit}
-use Rattle.definitions.specs.SuiteProof.{branch_count}
+use Rattle.definitions.specs.believed.Refutation.{Token, are_eager, is_negative_leaf, leaves, refute_paths}
+use Rattle.definitions.specs.believed.Search.{visit}
+use Rattle.definitions.specs.believed.SuiteProof.{branch_count}
 use Rattle.refutation.specs.declared.token.TreeToken.{TreeToken}
 use Rattle.refutation.specs.Proofs.{ProofView, meant}
 

@@ -1,10 +1,10 @@
 -- The solver that contracts see. (This project's rule.)
 use Rattle.std.specs.Prelude.{◌≡◌, ℕ, Bool, true, false, List, length, Option}
 use Rattle.cov_model.specs.declared.slice.Slice.{Slice}
-use Rattle.cov_model.specs.Sound.{ModelView}
+use Rattle.cov_model.specs.believed.Sound.{ModelView}
 use Rattle.cov_model.specs.Preference.{OrdersValues}
-use Rattle.definitions.specs.Completion.{preferred_values}
-use Rattle.definitions.specs.Search.{is_failing}
+use Rattle.definitions.specs.believed.Completion.{preferred_values}
+use Rattle.definitions.specs.believed.Search.{is_failing}
 use Rattle.definitions.specs.SliceRows.{IsSliceOf}
 use Rattle.live_sets.specs.Trail.{LiveView}
 use Rattle.feasibility.specs.Live.{ShowsFailure, ShowsLive}

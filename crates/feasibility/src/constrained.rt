@@ -1,7 +1,7 @@
 ghost use Rattle.std.specs.Prelude.{◌≡◌, ◌<◌, ◌++◌, ◌∷◌, [], length, map, IfOk, OnOk};
 ghost use Rattle.std.specs.List.{filter};
 ghost use Rattle.cov_model.specs.Fits.{FitsModel};
-ghost use Rattle.cov_model.specs.Slices.{value_numbers};
+ghost use Rattle.cov_model.specs.believed.Slices.{value_numbers};
 ghost use Rattle.feasibility.specs.Live.{AreRules};
 ghost use Rattle.feasibility.specs.Tree.{all_constrained, is_named, naming, no_values, undecided, undecided_by, undecided_on};
 

@@ -1,6 +1,6 @@
 ghost use Rattle.std.specs.Prelude.{◌≡◌, ◌<◌, true, length, slice_index_or, [], ◌+◌, IfSome};
-ghost use Rattle.cov_model.specs.Rows.{is_assigned};
-ghost use Rattle.definitions.specs.Search.{constrained_params, visit};
+ghost use Rattle.cov_model.specs.believed.Rows.{is_assigned};
+ghost use Rattle.definitions.specs.believed.Search.{constrained_params, visit};
 ghost use Rattle.live_sets.specs.Trail.{IsSince};
 ghost use Rattle.feasibility.specs.Answers.{VisitTells};
 ghost use Rattle.feasibility.specs.Descent.{ComesTo, IsFirstLive, IsNode};

@@ -1,6 +1,6 @@
 ghost use Rattle.std.specs.Prelude.{◌≡◌, ◌<◌, ◌≤◌, true, false, Err, length, IfOk, OnOk};
 ghost use Rattle.cov_model.specs.Fits.{FitsModel};
-ghost use Rattle.definitions.specs.Search.{constrained_params, is_failing, visit};
+ghost use Rattle.definitions.specs.believed.Search.{constrained_params, is_failing, visit};
 ghost use Rattle.feasibility.specs.KeptTrees.{IsKeptTree, IsTreeFor};
 ghost use Rattle.feasibility.specs.Recurring.{AreAnswered};
 ghost use Rattle.feasibility.specs.Solving.{IsReady};

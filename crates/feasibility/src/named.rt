@@ -1,9 +1,9 @@
 ghost use Rattle.std.specs.Prelude.{◌≡◌};
 ghost use Rattle.std.specs.List.{list_any};
 ghost use Rattle.cov_model.specs.Views.{body_view, pred_view};
-ghost use Rattle.cov_model.specs.Kleene.{term_params};
-ghost use Rattle.definitions.specs.Demand.{is_among};
-ghost use Rattle.definitions.specs.Search.{body_params, pred_params};
+ghost use Rattle.cov_model.specs.believed.Kleene.{term_params};
+ghost use Rattle.definitions.specs.believed.Demand.{is_among};
+ghost use Rattle.definitions.specs.believed.Search.{body_params, pred_params};
 
 use cov_model::{Body, ParamNo, Pred, Term};
 

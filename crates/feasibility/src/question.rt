@@ -1,5 +1,5 @@
 ghost use Rattle.std.specs.Prelude.{◌≡◌, ◌<◌, ◌^◌, Some, length, IfOk};
-ghost use Rattle.definitions.specs.Pairs.{pairs_of};
+ghost use Rattle.definitions.specs.believed.Pairs.{pairs_of};
 ghost use Rattle.feasibility.specs.Ends.{EndsBy};
 
 use crate::answer::{Question, SearchFault};

@@ -1,15 +1,15 @@
 ghost use Rattle.std.specs.Prelude.{◌≡◌, ◌+◌, ◌<◌, ◌≤◌, [], All, length, find, slice_index_or};
 ghost use Rattle.std.specs.List.{list_all, range_with_len};
 ghost use Rattle.cov_model.specs.Fits.{FitsModel};
-ghost use Rattle.cov_model.specs.Rows.{is_assigned};
-ghost use Rattle.cov_model.specs.Meaning.{value_at};
-ghost use Rattle.cov_model.specs.Sound.{IsSound, param_at};
-ghost use Rattle.cov_model.specs.Valid.{negatives};
+ghost use Rattle.cov_model.specs.believed.Rows.{is_assigned};
+ghost use Rattle.cov_model.specs.believed.Meaning.{value_at};
+ghost use Rattle.cov_model.specs.believed.Sound.{IsSound, param_at};
+ghost use Rattle.cov_model.specs.believed.Valid.{negatives};
 ghost use Rattle.definitions.specs.Pairs.{cells_of};
-ghost use Rattle.definitions.specs.Refutation.{is_omission_leaf};
-ghost use Rattle.definitions.specs.Search.{constrained_params};
+ghost use Rattle.definitions.specs.believed.Refutation.{is_omission_leaf};
+ghost use Rattle.definitions.specs.believed.Search.{constrained_params};
 ghost use Rattle.refutation.specs.Holders.{EndsWithin, NeverFalls};
-ghost use Rattle.refutation.specs.Proofs.{format_of};
+ghost use Rattle.refutation.specs.believed.Proofs.{format_of};
 ghost use Rattle.feasibility.specs.Live.{AreRules, no_on};
 ghost use Rattle.feasibility.specs.Refuting.{IsRefuter, Lowers, TriesPositive, earlier_tuples, is_cited, is_less};
 ghost use Rattle.feasibility.specs.Tree.{ListsValues, constrained_at, undecided};
@@ -34,7 +34,7 @@ impl<'t> Model for Refuter<'t> {
     ghost use Rattle.std.specs.Coded.{codes};
     ghost use Rattle.cov_model.specs.contracts.model.TestModel as tested;
     ghost use Rattle.definitions.specs.Pairs.{cells_of};
-    ghost use Rattle.refutation.specs.Proofs.{format_of};
+    ghost use Rattle.refutation.specs.believed.Proofs.{format_of};
     ghost use Rattle.feasibility.specs.Refuting.{IsRefuter, RefuterView, earlier_tuples};
 
     ghost Value = { RefuterView };

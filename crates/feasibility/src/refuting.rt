@@ -1,12 +1,13 @@
 ghost use Rattle.std.specs.Prelude.{◌≡◌, ◌≤◌, ◌<◌, ◌^◌, true, length, map, Err, OnOk, OnErr};
-ghost use Rattle.cov_model.specs.Slices.{slice_of};
-ghost use Rattle.definitions.specs.Covering.{IsUnserved};
+ghost use Rattle.cov_model.specs.believed.Slices.{slice_of};
+ghost use Rattle.definitions.specs.believed.Covering.{IsUnserved};
 ghost use Rattle.definitions.specs.Pairs.{cells_of};
-ghost use Rattle.definitions.specs.Refutation.{is_eager};
-ghost use Rattle.definitions.specs.Search.{plain_cost};
+ghost use Rattle.definitions.specs.believed.Refutation.{is_eager};
+ghost use Rattle.definitions.specs.believed.Search.{plain_cost};
 ghost use Rattle.definitions.specs.SliceRows.{IsOfSlice};
-ghost use Rattle.definitions.specs.SuiteProof.{branch_count};
-ghost use Rattle.refutation.specs.Proofs.{format_of, meant};
+ghost use Rattle.definitions.specs.believed.SuiteProof.{branch_count};
+ghost use Rattle.refutation.specs.believed.Proofs.{format_of};
+ghost use Rattle.refutation.specs.Proofs.{meant};
 ghost use Rattle.feasibility.specs.Refuting.{earlier_tuples};
 
 use crate::answer::RefuteFault;

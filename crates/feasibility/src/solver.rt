@@ -1,8 +1,8 @@
 ghost use Rattle.std.specs.Prelude.{◌≡◌, ◌≢◌, Some, length, IfOk};
 ghost use Rattle.cov_model.specs.Preference.{OrdersValues};
-ghost use Rattle.definitions.specs.Completion.{first_completion, is_extendable};
-ghost use Rattle.definitions.specs.Demand.{is_among};
-ghost use Rattle.definitions.specs.Search.{constrained_params, plain_cost};
+ghost use Rattle.definitions.specs.believed.Completion.{first_completion, is_extendable};
+ghost use Rattle.definitions.specs.believed.Demand.{is_among};
+ghost use Rattle.definitions.specs.believed.Search.{constrained_params, plain_cost};
 ghost use Rattle.feasibility.specs.Answers.{answer_of};
 ghost use Rattle.definitions.specs.SliceRows.{IsOfSlice, IsSliceOf};
 

@@ -1,11 +1,12 @@
 ghost use Rattle.std.specs.Prelude.{◌≡◌, ◌<◌, ◌≤◌, [], length, slice_index_or, IfOk};
 ghost use Rattle.cov_model.specs.Fits.{FitsModel};
-ghost use Rattle.cov_model.specs.Kleene.{body_truth};
+ghost use Rattle.cov_model.specs.believed.Kleene.{body_truth};
 ghost use Rattle.cov_model.specs.Preference.{OrdersValues};
-ghost use Rattle.cov_model.specs.Sound.{IsSound, param_at, rule_at};
-ghost use Rattle.definitions.specs.Completion.{preferred_values};
-ghost use Rattle.definitions.specs.Demand.{is_among};
-ghost use Rattle.definitions.specs.Search.{constrained_params};
+ghost use Rattle.cov_model.specs.believed.Sound.{IsSound, param_at};
+ghost use Rattle.cov_model.specs.Sound.{rule_at};
+ghost use Rattle.definitions.specs.believed.Completion.{preferred_values};
+ghost use Rattle.definitions.specs.believed.Demand.{is_among};
+ghost use Rattle.definitions.specs.believed.Search.{constrained_params};
 ghost use Rattle.definitions.specs.SliceRows.{IsSliceOf};
 ghost use Rattle.feasibility.specs.Tree.{ListsValues, constrained_at, doubtful, members, undecided, undecided_by};
 

@@ -1,11 +1,11 @@
 ghost use Rattle.std.specs.Prelude.{◌≡◌, ◌<◌, [], ◌∷◌, ◌++◌, length, slice_index_or, IfOk, OnOk};
 ghost use Rattle.cov_model.specs.Preference.{OrdersValues};
-ghost use Rattle.cov_model.specs.Slices.{positive_values, slice_values};
-ghost use Rattle.cov_model.specs.Sound.{param_at};
-ghost use Rattle.definitions.specs.Completion.{preferred_values};
-ghost use Rattle.definitions.specs.Demand.{is_among};
+ghost use Rattle.cov_model.specs.believed.Slices.{positive_values, slice_values};
+ghost use Rattle.cov_model.specs.believed.Sound.{param_at};
+ghost use Rattle.definitions.specs.believed.Completion.{preferred_values};
+ghost use Rattle.definitions.specs.believed.Demand.{is_among};
 ghost use Rattle.definitions.specs.SliceRows.{IsSliceOf};
-ghost use Rattle.definitions.specs.Completion.{preferred_at};
+ghost use Rattle.definitions.specs.believed.Completion.{preferred_at};
 
 use cov_model::{ParamNo, Prefs, Slice, TestModel, ValueNo};
 use packed_lists::PackedLists;

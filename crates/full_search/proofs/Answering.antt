@@ -1,7 +1,7 @@
 -- What an answer tells.
 use Rattle.std.proofs.Common.{◌≡◌, ℕ, Bool, true, false, cond, refl, ◌∙◌, sym}
 use Rattle.definitions.specs.declared.effort.Effort.{Effort}
-use Rattle.definitions.specs.Search.{exceeds}
+use Rattle.definitions.specs.believed.Search.{exceeds}
 use Rattle.feasibility.specs.declared.answer.Answer.{Answer}
 use Rattle.feasibility.specs.declared.answer.Answer.TheVariants.{Yes, No, Spent}
 use Rattle.full_search.specs.Questions.{answer_within}

@@ -3,8 +3,8 @@ use Rattle.std.proofs.Common.{◌≡◌, ℕ, ◌<◌, ◌≤◌, true, List, Op
 use Rattle.std.proofs.lemmas.Bool.{cases_eq}
 use Rattle.std.proofs.lemmas.List.{get_or_past}
 use Rattle.cov_model.specs.Sound.{rule_at}
-use Rattle.definitions.specs.Demand.{is_among}
-use Rattle.definitions.specs.Search.{body_params, is_no}
+use Rattle.definitions.specs.believed.Demand.{is_among}
+use Rattle.definitions.specs.believed.Search.{body_params, is_no}
 use Rattle.feasibility.specs.Live.{no_on}
 use Rattle.feasibility.specs.Tree.{TreeView}
 use Rattle.feasibility.proofs.Local.{agree_each, local_body}

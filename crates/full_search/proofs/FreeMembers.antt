@@ -5,15 +5,16 @@ use Rattle.std.proofs.lemmas.Bool.{false≢true, cases_lt, or_parts}
 use Rattle.std.proofs.lemmas.List.{get_or_default, get_or_past}
 use Rattle.std.proofs.lemmas.List.Elements.{Contains-get_or}
 use Rattle.cov_model.specs.declared.truth.Truth.{Truth}
-use Rattle.cov_model.specs.Kleene.{body_truth, known}
-use Rattle.cov_model.specs.Meaning.{body_holds}
-use Rattle.cov_model.specs.Rows.{is_assigned}
-use Rattle.cov_model.specs.Sound.{ModelView, IsSound, no_rule, rule_at}
-use Rattle.cov_model.specs.Valid.{param_numbers}
+use Rattle.cov_model.specs.believed.Kleene.{body_truth, known}
+use Rattle.cov_model.specs.believed.Meaning.{body_holds}
+use Rattle.cov_model.specs.believed.Rows.{is_assigned}
+use Rattle.cov_model.specs.believed.Sound.{ModelView, IsSound}
+use Rattle.cov_model.specs.Sound.{no_rule, rule_at}
+use Rattle.cov_model.specs.believed.Valid.{param_numbers}
 use Rattle.cov_model.proofs.KnownLemmas.{rows_are_known}
 use Rattle.compiled_rules.specs.Codes.{is_yes}
-use Rattle.definitions.specs.Demand.{is_among}
-use Rattle.definitions.specs.Search.{body_params, breaks_a_rule, constrained_params, is_no, is_stuck}
+use Rattle.definitions.specs.believed.Demand.{is_among}
+use Rattle.definitions.specs.believed.Search.{body_params, breaks_a_rule, constrained_params, is_no, is_stuck}
 use Rattle.definitions.proofs.Members.{Has, any_member, contains_member, has_contained, has_filter, of_among, of_filter}
 use Rattle.definitions.proofs.SliceLemmas.{has_params, of_params}
 use Rattle.live_sets.specs.Trail.{LiveView}

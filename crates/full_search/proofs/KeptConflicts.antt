@@ -2,7 +2,7 @@
 use Rattle.std.proofs.Common.{◌≡◌, ℕ, ◌+◌, ◌<◌, ◌≤◌, true, false, List, Option, Some, None, is_some, get_or, ◌⊎◌, inl, inr, ◌∙◌, sym, ap, arith}
 use Rattle.std.specs.Prelude.{MatchOption}
 use Rattle.std.proofs.lemmas.Bool.{false≢true, cases_lt, cases_eq}
-use Rattle.cov_model.specs.Rows.{is_assigned}
+use Rattle.cov_model.specs.believed.Rows.{is_assigned}
 use Rattle.cov_model.proofs.CellLemmas.{contains-from, contains-get_or}
 use Rattle.feasibility.specs.Tree.{TreeView}
 use Rattle.full_search.specs.Conflicts.{Gives, GivesNone, IsConflict, IsNext}

@@ -3,8 +3,8 @@ use Rattle.std.proofs.Common.{◌≡◌, ℕ, ◌<◌, false, List, [], length, 
 use Rattle.std.specs.List.{count_by}
 use Rattle.std.specs.Option.{IsSome}
 use Rattle.std.proofs.lemmas.Bool.{false≢true}
-use Rattle.cov_model.specs.Rows.{is_assigned}
-use Rattle.cov_model.specs.Sound.{param_at}
+use Rattle.cov_model.specs.believed.Rows.{is_assigned}
+use Rattle.cov_model.specs.believed.Sound.{param_at}
 use Rattle.live_sets.specs.Trail.{LiveView}
 use Rattle.feasibility.specs.Live.{ShowsFailure, ShowsLive}
 use Rattle.feasibility.specs.Refuting.{IsPath, RefuterView, TriesPositive}

@@ -4,9 +4,9 @@ use Rattle.std.specs.List.{list_all}
 use Rattle.std.proofs.lemmas.Bool.{false≢true, and_cases}
 use Rattle.cov_model.specs.declared.truth.Truth.{Truth}
 use Rattle.cov_model.specs.declared.truth.Truth.TheVariants.{Yes, No, Unknown}
-use Rattle.cov_model.specs.Views.{RuleView}
-use Rattle.cov_model.specs.Kleene.{body_truth}
-use Rattle.cov_model.specs.Meaning.{body_holds}
+use Rattle.cov_model.specs.believed.Views.{RuleView}
+use Rattle.cov_model.specs.believed.Kleene.{body_truth}
+use Rattle.cov_model.specs.believed.Meaning.{body_holds}
 use Rattle.cov_model.specs.Sound.{no_rule}
 use Rattle.cov_model.proofs.CellLemmas.{contains-from, contains-refl}
 use Rattle.cov_model.proofs.KnownLemmas.{yes_stays}

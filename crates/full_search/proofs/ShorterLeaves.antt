@@ -10,18 +10,19 @@ use Rattle.std.proofs.lemmas.List.{get_or-map, get_or-set_other, get_or-set_same
 use Rattle.std.proofs.lemmas.Option.{same_Some, slice_get-get_or}
 use Rattle.std.proofs.lemmas.List.Folds.{list_any_at}
 use Rattle.value_text.proofs.ListLemmas.{none_of}
-use Rattle.cov_model.specs.Views.{RuleView}
-use Rattle.cov_model.specs.Sound.{ModelView, IsSound, no_rule, rule_at}
-use Rattle.cov_model.specs.Kleene.{body_truth}
-use Rattle.cov_model.specs.Meaning.{value_at}
-use Rattle.cov_model.specs.Rows.{contains, is_assigned}
-use Rattle.cov_model.specs.Valid.{negatives}
+use Rattle.cov_model.specs.believed.Views.{RuleView}
+use Rattle.cov_model.specs.believed.Sound.{ModelView, IsSound}
+use Rattle.cov_model.specs.Sound.{no_rule, rule_at}
+use Rattle.cov_model.specs.believed.Kleene.{body_truth}
+use Rattle.cov_model.specs.believed.Meaning.{value_at}
+use Rattle.cov_model.specs.believed.Rows.{contains, is_assigned}
+use Rattle.cov_model.specs.believed.Valid.{negatives}
 use Rattle.cov_model.proofs.CellLemmas.{contains-assigned, contains-from, contains-get_or}
 use Rattle.definitions.specs.Completion.{with_value}
-use Rattle.definitions.specs.Demand.{is_among}
+use Rattle.definitions.specs.believed.Demand.{is_among}
 use Rattle.definitions.specs.Pairs.{cells_of}
-use Rattle.definitions.specs.Refutation.{Token, Branch, ByRule, ByNegative, ByOmission, earlier_tuple, is_first_leaf, is_leaf, is_negative_leaf, is_omission_leaf, is_rule_leaf, is_same_token}
-use Rattle.definitions.specs.Search.{body_params, is_no}
+use Rattle.definitions.specs.believed.Refutation.{Token, Branch, ByRule, ByNegative, ByOmission, earlier_tuple, is_first_leaf, is_leaf, is_negative_leaf, is_omission_leaf, is_rule_leaf, is_same_token}
+use Rattle.definitions.specs.believed.Search.{body_params, is_no}
 use Rattle.definitions.proofs.Members.{any_member, contains_member, of_any}
 use Rattle.definitions.proofs.SliceLemmas.{has_negatives, of_negatives}
 use Rattle.refutation.specs.declared.omissions.Omission.{Omission}

@@ -3,8 +3,8 @@ use Rattle.std.proofs.Common.{◌≡◌, ℕ, ◌+◌, false, List, length, repl
 use Rattle.std.proofs.lemmas.List.{get_or-replicate, length-replicate}
 use Rattle.std.proofs.lemmas.List.Sums.{count_by-le-length}
 use Rattle.cov_model.specs.Fits.{FitsModel}
-use Rattle.cov_model.specs.Sound.{ModelView}
-use Rattle.definitions.specs.Search.{is_failing}
+use Rattle.cov_model.specs.believed.Sound.{ModelView}
+use Rattle.definitions.specs.believed.Search.{is_failing}
 use Rattle.live_sets.specs.Trail.{LiveView}
 use Rattle.feasibility.specs.Live.{ShowsLive}
 use Rattle.feasibility.specs.Tree.{TreeView, IsListed, ListsValues}

@@ -3,7 +3,7 @@ use Rattle.std.proofs.Common.{◌≡◌, ℕ, ◌+◌, ◌<◌, ◌≤◌, true,
 use Rattle.std.proofs.lemmas.Bool.{false≢true}
 use Rattle.std.proofs.lemmas.List.{take_all, take_more}
 use Rattle.definitions.specs.Completion.{with_value}
-use Rattle.definitions.specs.Demand.{is_among}
+use Rattle.definitions.specs.believed.Demand.{is_among}
 use Rattle.definitions.proofs.Members.{among_has, of_among, of_append}
 use Rattle.feasibility.specs.Tree.{TreeView}
 use Rattle.full_search.specs.Reasons.{Grows, GrowsBy, HasNoRow, IsPart, IsReason, RefutesEach}

@@ -8,19 +8,21 @@ use Rattle.std.proofs.lemmas.List.Folds.{list_any_at}
 use Rattle.std.proofs.lemmas.List.Sums.{list_all-from_AllPass}
 use Rattle.cov_model.specs.declared.truth.Truth.{Truth}
 use Rattle.cov_model.specs.declared.truth.Truth.TheVariants.{Yes, No, Unknown}
-use Rattle.cov_model.specs.Kleene.{body_truth}
-use Rattle.cov_model.specs.Meaning.{body_holds}
-use Rattle.cov_model.specs.Rows.{is_assigned}
-use Rattle.cov_model.specs.Sound.{ModelView, IsSound, no_rule, rule_at}
-use Rattle.cov_model.specs.Valid.{param_numbers}
-use Rattle.cov_model.specs.Views.{RuleView}
+use Rattle.cov_model.specs.believed.Kleene.{body_truth}
+use Rattle.cov_model.specs.believed.Meaning.{body_holds}
+use Rattle.cov_model.specs.believed.Rows.{is_assigned}
+use Rattle.cov_model.specs.believed.Sound.{ModelView, IsSound}
+use Rattle.cov_model.specs.Sound.{no_rule, rule_at}
+use Rattle.cov_model.specs.believed.Valid.{param_numbers}
+use Rattle.cov_model.specs.believed.Views.{RuleView}
 use Rattle.cov_model.proofs.CellLemmas.{contains-refl}
 use Rattle.cov_model.proofs.KnownLemmas.{yes_stays}
 use Rattle.compiled_rules.specs.Codes.{is_yes}
-use Rattle.definitions.specs.Completion.{meets_rules, with_value}
-use Rattle.definitions.specs.Demand.{is_among}
+use Rattle.definitions.specs.believed.Completion.{meets_rules}
+use Rattle.definitions.specs.Completion.{with_value}
+use Rattle.definitions.specs.believed.Demand.{is_among}
 use Rattle.definitions.specs.Laws.{GivesListed}
-use Rattle.definitions.specs.Search.{body_params, constrained_params}
+use Rattle.definitions.specs.believed.Search.{body_params, constrained_params}
 use Rattle.definitions.proofs.Members.{among_has, contains_member, has_filter, member_of_all, of_among, of_filter, of_map}
 use Rattle.definitions.proofs.SliceLemmas.{has_params}
 use Rattle.feasibility.specs.Tree.{ListsValues, TreeView, is_named, constrained_at, naming, no_values, undecided, undecided_by}

@@ -1,9 +1,10 @@
 -- The parameter that a node branches on. (This project's rule.)
 use Rattle.std.specs.Prelude.{◌≡◌, ℕ, ◌<◌, true, false, List, length, Option}
-use Rattle.cov_model.specs.Rows.{is_assigned}
-use Rattle.cov_model.specs.Sound.{ModelView, rule_at}
-use Rattle.definitions.specs.Demand.{is_among}
-use Rattle.definitions.specs.Search.{body_params, constrained_params}
+use Rattle.cov_model.specs.believed.Rows.{is_assigned}
+use Rattle.cov_model.specs.believed.Sound.{ModelView}
+use Rattle.cov_model.specs.Sound.{rule_at}
+use Rattle.definitions.specs.believed.Demand.{is_among}
+use Rattle.definitions.specs.believed.Search.{body_params, constrained_params}
 
 -- a node can branch on it: constraints name it, and it has no value on the path
 pub record CanBranch (m : ModelView) (cells : List (Option ℕ)) (p : ℕ) : Type 0 where

@@ -1,11 +1,11 @@
 -- Trees that refute a path, and each shorter path that still has their reason: so a tree that doesn't speak of the
 -- parameter that was branched on is one for the path without its value. (This project's rule.)
 use Rattle.std.specs.Prelude.{◌≡◌, ℕ, true, false, List, [], ◌∷◌, length, All, Option}
-use Rattle.cov_model.specs.Meaning.{value_at}
-use Rattle.cov_model.specs.Sound.{ModelView}
+use Rattle.cov_model.specs.believed.Meaning.{value_at}
+use Rattle.cov_model.specs.believed.Sound.{ModelView}
 use Rattle.definitions.specs.Completion.{with_value}
-use Rattle.definitions.specs.Refutation.{Token, is_first_leaf, is_leaf, leaves}
-use Rattle.definitions.specs.Search.{breaks_a_rule}
+use Rattle.definitions.specs.believed.Refutation.{Token, is_first_leaf, is_leaf, leaves}
+use Rattle.definitions.specs.believed.Search.{breaks_a_rule}
 use Rattle.live_sets.specs.Trail.{LiveView, mark_at}
 use Rattle.refutation.specs.declared.token.TreeToken.{TreeToken}
 use Rattle.feasibility.specs.Refuting.{Closes, HasNoLeaf, IsPath, RefuterView}

@@ -1,7 +1,7 @@
 -- The first completion of a path, value by value. (This project's rule.)
 use Rattle.std.specs.Prelude.{◌≡◌, ℕ, ◌<◌, true, List, Option, find}
-use Rattle.cov_model.specs.Rows.{is_assigned}
-use Rattle.definitions.specs.Completion.{completions, meets_rules}
+use Rattle.cov_model.specs.believed.Rows.{is_assigned}
+use Rattle.definitions.specs.believed.Completion.{completions, meets_rules}
 use Rattle.live_sets.specs.Trail.{LiveView}
 use Rattle.feasibility.specs.Tree.{TreeView, constrained_at}
 use Rattle.full_search.specs.Reasons.{IsRowFor}

@@ -1,8 +1,8 @@
 -- Values of a few parameters that no row has together, which are kept from question to question. (Kept nogoods of
 -- constraint solvers; this project's rule.)
 use Rattle.std.specs.Prelude.{◌≡◌, ℕ, ◌<◌, ◌≤◌, false, List, Option, Some, None, All, IfSome, slice_index_or}
-use Rattle.cov_model.specs.Rows.{is_assigned}
-use Rattle.definitions.specs.Completion.{meets_rules}
+use Rattle.cov_model.specs.believed.Rows.{is_assigned}
+use Rattle.definitions.specs.believed.Completion.{meets_rules}
 use Rattle.definitions.specs.Laws.{GivesListed}
 use Rattle.feasibility.specs.Tree.{TreeView}
 use Rattle.full_search.specs.declared.conflict.Conflict.{Conflict}

@@ -1,8 +1,8 @@
 -- The search of a slice that answers every question, as contracts see it. (This project's rule.)
 use Rattle.std.specs.Prelude.{◌≡◌, ℕ, suc, ◌≤◌, Bool, false, List, length, All, Option}
 use Rattle.cov_model.specs.Preference.{OrdersValues}
-use Rattle.cov_model.specs.Sound.{ModelView}
-use Rattle.definitions.specs.Completion.{preferred_values}
+use Rattle.cov_model.specs.believed.Sound.{ModelView}
+use Rattle.definitions.specs.believed.Completion.{preferred_values}
 use Rattle.definitions.specs.SliceRows.{IsSliceOf}
 use Rattle.live_sets.specs.Trail.{LiveView}
 use Rattle.feasibility.specs.Solving.{IsReady, SolverView}

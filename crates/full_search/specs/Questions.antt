@@ -1,10 +1,10 @@
 -- Questions about a slice, and what they may cost. (This project's rule.)
 use Rattle.std.specs.Prelude.{ℕ, Bool, List, if◌then◌else◌}
 use Rattle.cov_model.specs.declared.slice.Slice.{Slice}
-use Rattle.cov_model.specs.Sound.{ModelView}
+use Rattle.cov_model.specs.believed.Sound.{ModelView}
 use Rattle.definitions.specs.declared.effort.Effort.{Effort}
 use Rattle.definitions.specs.declared.effort.Effort.TheVariants.{Within, Full}
-use Rattle.definitions.specs.Search.{exceeds}
+use Rattle.definitions.specs.believed.Search.{exceeds}
 use Rattle.feasibility.specs.declared.answer.Answer.{Answer}
 use Rattle.feasibility.specs.declared.answer.Answer.TheVariants.{Yes, No, Spent}
 use Rattle.full_search.specs.declared.search.Search.{Search}

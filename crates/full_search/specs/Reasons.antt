@@ -1,12 +1,14 @@
 -- Partial rows that no row completes, and the reasons why. (Conflict-directed backjumping of Prosser 1993: a
 -- refutation that doesn't speak of the parameter that was branched on refutes the node.)
 use Rattle.std.specs.Prelude.{◌≡◌, ◌≢◌, ℕ, true, false, List, length, Option, None, slice_index_or}
-use Rattle.cov_model.specs.Sound.{ModelView, rule_at}
-use Rattle.cov_model.specs.Rows.{contains, is_assigned}
-use Rattle.definitions.specs.Completion.{meets_rules, with_value}
-use Rattle.definitions.specs.Demand.{is_among}
+use Rattle.cov_model.specs.believed.Sound.{ModelView}
+use Rattle.cov_model.specs.Sound.{rule_at}
+use Rattle.cov_model.specs.believed.Rows.{contains, is_assigned}
+use Rattle.definitions.specs.believed.Completion.{meets_rules}
+use Rattle.definitions.specs.Completion.{with_value}
+use Rattle.definitions.specs.believed.Demand.{is_among}
 use Rattle.definitions.specs.Laws.{GivesListed}
-use Rattle.definitions.specs.Search.{body_params}
+use Rattle.definitions.specs.believed.Search.{body_params}
 use Rattle.feasibility.specs.Tree.{TreeView}
 
 -- each row of listed values that contains the partial row breaks a constraint

@@ -1,10 +1,11 @@
 -- The row that a search is at, and the constraints that it breaks. (This project's rule; after the saved phases of
 -- solvers for satisfiability.)
 use Rattle.std.specs.Prelude.{◌≡◌, ℕ, suc, Bool, ◌<◌, ◌≤◌, true, false, not, List, [], length, Option, slice_index_or}
-use Rattle.cov_model.specs.Sound.{ModelView, rule_at}
-use Rattle.cov_model.specs.Kleene.{body_truth}
+use Rattle.cov_model.specs.believed.Sound.{ModelView}
+use Rattle.cov_model.specs.Sound.{rule_at}
+use Rattle.cov_model.specs.believed.Kleene.{body_truth}
 use Rattle.compiled_rules.specs.Codes.{is_yes}
-use Rattle.definitions.specs.Demand.{is_among}
+use Rattle.definitions.specs.believed.Demand.{is_among}
 use Rattle.definitions.specs.Laws.{GivesListed}
 use Rattle.feasibility.specs.Tree.{TreeView}
 use Rattle.full_search.specs.declared.witness.Witness.{Witness}

@@ -1,7 +1,7 @@
 ghost use Rattle.std.specs.Prelude.{◌≡◌, ◌<◌, ◌≤◌, true, false, length, MatchOption};
-ghost use Rattle.cov_model.specs.Rows.{is_assigned};
-ghost use Rattle.definitions.specs.Demand.{is_among};
-ghost use Rattle.definitions.specs.Search.{constrained_params};
+ghost use Rattle.cov_model.specs.believed.Rows.{is_assigned};
+ghost use Rattle.definitions.specs.believed.Demand.{is_among};
+ghost use Rattle.definitions.specs.believed.Search.{constrained_params};
 ghost use Rattle.feasibility.specs.Live.{HasShape};
 ghost use Rattle.feasibility.specs.Tree.{constrained_at};
 ghost use Rattle.full_search.specs.Branching.{CanBranch, GivesNamed};

@@ -1,9 +1,9 @@
 ghost use Rattle.std.specs.Prelude.{◌≡◌, ◌≢◌, ◌<◌, ◌≤◌, ◌++◌, ◌∷◌, ℕ, false, true, [], length, take, drop, slice_index_or, All, IfOk, IfSome, OnOk, None};
-ghost use Rattle.cov_model.specs.Rows.{is_assigned};
-ghost use Rattle.cov_model.specs.Sound.{param_at};
+ghost use Rattle.cov_model.specs.believed.Rows.{is_assigned};
+ghost use Rattle.cov_model.specs.believed.Sound.{param_at};
 ghost use Rattle.definitions.specs.Completion.{with_value};
 ghost use Rattle.definitions.specs.Pairs.{cells_of};
-ghost use Rattle.definitions.specs.Search.{breaks_a_rule, constrained_params};
+ghost use Rattle.definitions.specs.believed.Search.{breaks_a_rule, constrained_params};
 ghost use Rattle.live_sets.specs.Trail.{IsSince, mark_at};
 ghost use Rattle.refutation.specs.Proofs.{meant};
 ghost use Rattle.feasibility.specs.Live.{HasShape, ShowsFailure};

@@ -1,6 +1,6 @@
 ghost use Rattle.std.specs.Prelude.{◌≡◌, ◌<◌, ◌≤◌, false, true, length, IfSome, MatchOption};
 ghost use Rattle.cov_model.specs.Fits.{FitsModel};
-ghost use Rattle.definitions.specs.Search.{breaks_a_rule};
+ghost use Rattle.definitions.specs.believed.Search.{breaks_a_rule};
 ghost use Rattle.feasibility.specs.Live.{ShowsFailure, no_on};
 ghost use Rattle.full_search.specs.Reasons.{IsReason};
 

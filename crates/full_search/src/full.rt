@@ -1,15 +1,16 @@
 ghost use Rattle.std.specs.Prelude.{All, replicate, None, ◌≡◌, ◌≢◌, ◌<◌, ◌^◌, true, false, Some, length, map, IfOk, OnOk, OnErr};
 ghost use Rattle.cov_model.specs.Preference.{OrdersValues};
-ghost use Rattle.cov_model.specs.Slices.{slice_of};
-ghost use Rattle.definitions.specs.Completion.{first_completion, is_extendable};
-ghost use Rattle.definitions.specs.Covering.{IsUnserved};
-ghost use Rattle.definitions.specs.Demand.{is_among};
+ghost use Rattle.cov_model.specs.believed.Slices.{slice_of};
+ghost use Rattle.definitions.specs.believed.Completion.{first_completion, is_extendable};
+ghost use Rattle.definitions.specs.believed.Covering.{IsUnserved};
+ghost use Rattle.definitions.specs.believed.Demand.{is_among};
 ghost use Rattle.definitions.specs.Pairs.{cells_of};
-ghost use Rattle.definitions.specs.Refutation.{is_eager};
-ghost use Rattle.definitions.specs.Search.{constrained_params};
+ghost use Rattle.definitions.specs.believed.Refutation.{is_eager};
+ghost use Rattle.definitions.specs.believed.Search.{constrained_params};
 ghost use Rattle.definitions.specs.SliceRows.{IsOfSlice, IsSliceOf};
 ghost use Rattle.feasibility.specs.Refuting.{earlier_tuples};
-ghost use Rattle.refutation.specs.Proofs.{format_of, meant};
+ghost use Rattle.refutation.specs.believed.Proofs.{format_of};
+ghost use Rattle.refutation.specs.Proofs.{meant};
 
 use crate::closing::close_tuple;
 use crate::completing::complete_row;

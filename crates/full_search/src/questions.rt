@@ -1,16 +1,17 @@
 ghost use Rattle.std.specs.Prelude.{if◌then◌else◌, ◌≡◌, ◌≢◌, ◌<◌, ◌≤◌, ◌^◌, Some, Err, true, length, map, IfOk, OnOk, OnErr};
 ghost use Rattle.cov_model.specs.Preference.{OrdersValues};
-ghost use Rattle.cov_model.specs.Slices.{slice_of};
-ghost use Rattle.definitions.specs.Completion.{first_completion, is_extendable};
-ghost use Rattle.definitions.specs.Covering.{IsUnserved};
-ghost use Rattle.definitions.specs.Demand.{is_among};
+ghost use Rattle.cov_model.specs.believed.Slices.{slice_of};
+ghost use Rattle.definitions.specs.believed.Completion.{first_completion, is_extendable};
+ghost use Rattle.definitions.specs.believed.Covering.{IsUnserved};
+ghost use Rattle.definitions.specs.believed.Demand.{is_among};
 ghost use Rattle.definitions.specs.Pairs.{cells_of};
-ghost use Rattle.definitions.specs.Refutation.{is_eager};
-ghost use Rattle.definitions.specs.Search.{constrained_params, exceeds, plain_cost};
+ghost use Rattle.definitions.specs.believed.Refutation.{is_eager};
+ghost use Rattle.definitions.specs.believed.Search.{constrained_params, exceeds, plain_cost};
 ghost use Rattle.definitions.specs.SliceRows.{IsOfSlice, IsSliceOf};
-ghost use Rattle.definitions.specs.SuiteProof.{HasFewBranches};
+ghost use Rattle.definitions.specs.believed.SuiteProof.{HasFewBranches};
 ghost use Rattle.feasibility.specs.Refuting.{earlier_tuples};
-ghost use Rattle.refutation.specs.Proofs.{format_of, meant};
+ghost use Rattle.refutation.specs.believed.Proofs.{format_of};
+ghost use Rattle.refutation.specs.Proofs.{meant};
 ghost use Rattle.full_search.specs.Questions.{answer_within};
 
 use crate::full::FullSearch;

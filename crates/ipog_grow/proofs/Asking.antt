@@ -2,7 +2,7 @@
 use Rattle.std.proofs.Common.{◌≡◌, ℕ, Bool, cond, List, [], ◌∷◌, Option, Some, None, ◌∙◌, sym, subst, ap, refl}
 use Rattle.cov_model.specs.declared.slice.Slice.{Slice}
 use Rattle.definitions.specs.declared.effort.Effort.TheVariants.{Full}
-use Rattle.definitions.specs.Search.{exceeds, first_over, plain_cost}
+use Rattle.definitions.specs.believed.Search.{exceeds, first_over, plain_cost}
 use Rattle.std.specs.Prelude.{Err}
 use Rattle.ipog_grow.specs.declared.stop.Stop.{Stop}
 use Rattle.ipog_grow.specs.declared.stop.Stop.TheVariants as stops

@@ -8,13 +8,13 @@ use Rattle.std.proofs.lemmas.List.Elements.{All-map, All-filter}
 use Rattle.value_text.proofs.ListLemmas.{length-filter-le}
 use Rattle.cov_model.specs.declared.slice.Slice.{Slice}
 use Rattle.cov_model.specs.declared.slice.Slice.TheVariants.{Negative}
-use Rattle.cov_model.specs.Sound.{ModelView}
+use Rattle.cov_model.specs.believed.Sound.{ModelView}
 use Rattle.cov_model.specs.Fits.{FitsModel}
-use Rattle.cov_model.specs.Meaning.{value_at}
-use Rattle.cov_model.specs.Slices.{negative_values, slices, slice_of, value_numbers}
-use Rattle.cov_model.specs.Valid.{param_numbers}
-use Rattle.definitions.specs.Completion.{can_be_served, has_slice, is_extendable}
-use Rattle.definitions.specs.Seeds.{is_same_row, distinct_by, kept_seeds, seed_rows}
+use Rattle.cov_model.specs.believed.Meaning.{value_at}
+use Rattle.cov_model.specs.believed.Slices.{negative_values, slices, slice_of, value_numbers}
+use Rattle.cov_model.specs.believed.Valid.{param_numbers}
+use Rattle.definitions.specs.believed.Completion.{can_be_served, has_slice, is_extendable}
+use Rattle.definitions.specs.believed.Seeds.{is_same_row, distinct_by, kept_seeds, seed_rows}
 use Rattle.definitions.specs.SliceRows.{IsSliceOf}
 use Rattle.definitions.proofs.Members.{Has, all_members, of_flat, of_map, of_filter}
 use Rattle.definitions.proofs.SliceLemmas.{of_params, of_numbers}

@@ -2,7 +2,7 @@
 use Rattle.std.proofs.Common.{◌≡◌, ℕ, ◌<◌, Bool, true, false, cond, ◌||◌, not, List, [], ◌∷◌, ◌++◌, map, length, drop, filter, Option, Some, None, get_or, All, ◌∙◌, sym, ap, subst, refl, arith}
 use Rattle.std.specs.Prelude.{slice_get, IfSome, is_some}
 use Rattle.std.proofs.lemmas.List.Elements.{All-head, All-tail, All-push, All-filter}
-use Rattle.cov_model.specs.Rows.{contains}
+use Rattle.cov_model.specs.believed.Rows.{contains}
 use Rattle.std.proofs.lemmas.List.{length-set}
 use Rattle.std.proofs.lemmas.Bool.{false≢true}
 use Rattle.std.proofs.lemmas.Option.{none-some, same_Some}
@@ -10,14 +10,14 @@ use Rattle.ipog_grow.proofs.Spending.{find-later, find-earlier}
 use Rattle.definitions.proofs.PartialRowLemmas.{union-contains_row, union-contains_tuple}
 use Rattle.cov_model.proofs.CellLemmas.{contains-refl}
 use Rattle.value_text.proofs.ListLemmas.{filter_all}
-use Rattle.definitions.specs.Growth.{Grown, agrees, join, settle, is_uncovered, union}
+use Rattle.definitions.specs.believed.Growth.{Grown, agrees, join, settle, is_uncovered, union}
 use Rattle.uncovered_table.specs.Open.{OpenView, closed, row_closed}
 use Rattle.uncovered_table.specs.Places.{is_behind, is_in_play, is_place, tuple_at}
 use Rattle.ipog_grow.specs.Growing.{columns_to, IsInPlay, Keeps, Rises, open_places, open_tuples}
 use Rattle.full_search.specs.Questions.{QuestionsView}
 use Rattle.ipog_grow.specs.Asking.{Grows, IsNext, IsPassed, IsUnionAt, extends, first_spent}
-use Rattle.definitions.specs.Demand.{is_among}
-use Rattle.cov_model.specs.Sound.{param_at}
+use Rattle.definitions.specs.believed.Demand.{is_among}
+use Rattle.cov_model.specs.believed.Sound.{param_at}
 use Rattle.tuple_index.specs.Places.{RisesFrom}
 use Rattle.ipog_grow.specs.UnfilledRows.{HasUnfilled, UnfilledLists, candidates}
 use Rattle.ipog_grow.proofs.UnfilledLemmas.{candidates-rise, other-differs, value-within}

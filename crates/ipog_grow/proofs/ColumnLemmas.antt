@@ -5,10 +5,10 @@ use Rattle.std.proofs.lemmas.Bool.{false≢true}
 use Rattle.std.proofs.lemmas.List.Elements.{All-nil, All-cons, All-head, All-tail}
 use Rattle.value_text.proofs.ListLemmas.{Some-from_equal}
 use Rattle.definitions.proofs.PartialRowLemmas.{among_head, among_tail}
-use Rattle.cov_model.specs.Sound.{ModelView}
+use Rattle.cov_model.specs.believed.Sound.{ModelView}
 use Rattle.cov_model.specs.declared.slice.Slice.{Slice}
-use Rattle.definitions.specs.Demand.{is_among}
-use Rattle.definitions.specs.Completion.{column_order}
+use Rattle.definitions.specs.believed.Demand.{is_among}
+use Rattle.definitions.specs.believed.Completion.{column_order}
 use Rattle.definitions.proofs.InPlay.{order_has}
 use Rattle.definitions.proofs.Members.{among_has}
 use Rattle.uncovered_table.specs.Places.{ends_with_column}

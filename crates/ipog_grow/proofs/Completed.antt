@@ -8,7 +8,7 @@ use Rattle.std.proofs.lemmas.List.Elements.{All-weaker, filter_map-append}
 use Rattle.feasibility.specs.declared.answer.Answer.{Answer}
 use Rattle.feasibility.specs.declared.answer.Answer.TheVariants.{No}
 use Rattle.feasibility.proofs.Extendable.{completed_is_extendable}
-use Rattle.definitions.specs.Search.{exceeds, plain_cost, question_cost}
+use Rattle.definitions.specs.believed.Search.{exceeds, plain_cost, question_cost}
 use Rattle.full_search.specs.Questions.{QuestionsView, answer_within}
 use Rattle.full_search.proofs.Answering.{answer_tells}
 use Rattle.ipog_grow.specs.Asking.{IsSoundContext, Grows, extends, first_spent}

@@ -5,10 +5,10 @@ use Rattle.std.proofs.lemmas.List.{take_more, take_all}
 use Rattle.std.proofs.lemmas.List.Elements.{All-filter}
 use Rattle.cov_model.proofs.CellLemmas.{contains-assigned}
 use Rattle.value_text.proofs.ListLemmas.{filter_all}
-use Rattle.cov_model.specs.Rows.{contains, is_assigned}
-use Rattle.cov_model.specs.Sound.{ModelView}
+use Rattle.cov_model.specs.believed.Rows.{contains, is_assigned}
+use Rattle.cov_model.specs.believed.Sound.{ModelView}
 use Rattle.cov_model.specs.declared.slice.Slice.{Slice}
-use Rattle.definitions.specs.Growth.{is_uncovered}
+use Rattle.definitions.specs.believed.Growth.{is_uncovered}
 use Rattle.uncovered_table.specs.Open.{OpenView, row_closed}
 use Rattle.ipog_grow.specs.Growing.{IsInPlay, Keeps, open_tuples}
 use Rattle.ipog_grow.proofs.HorizontalLemmas.{keeps-same, keeps-both, keeps-row}

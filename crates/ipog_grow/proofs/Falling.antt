@@ -6,8 +6,8 @@ use Rattle.std.proofs.lemmas.Bool.Decides.{nat_tests}
 use Rattle.std.proofs.lemmas.Option.{none-some, same_Some}
 use Rattle.definitions.proofs.PartialRowLemmas.{among_head, among_tail}
 use Rattle.value_text.proofs.ListLemmas.{filter_same, filter-filter}
-use Rattle.definitions.specs.Demand.{is_among}
-use Rattle.definitions.specs.Completion.{falling}
+use Rattle.definitions.specs.believed.Demand.{is_among}
+use Rattle.definitions.specs.believed.Completion.{falling}
 use Rattle.ipog_grow.specs.Growing.{better, best}
 
 -- no value stands twice

@@ -8,13 +8,14 @@ use Rattle.std.proofs.lemmas.List.Elements.{All-head, All-tail}
 use Rattle.std.proofs.lemmas.List.FromFn.{length-map-range_with_len, get_or-map-range_with_len}
 use Rattle.value_text.proofs.ListLemmas.{length-filter-le}
 use Rattle.cov_model.proofs.CellLemmas.{contains-value_in}
-use Rattle.cov_model.specs.Sound.{ModelView, param_at}
+use Rattle.cov_model.specs.believed.Sound.{ModelView, param_at}
 use Rattle.cov_model.specs.declared.slice.Slice.{Slice}
-use Rattle.cov_model.specs.Rows.{contains, is_assigned, value_in}
-use Rattle.cov_model.specs.Slices.{slice_values}
-use Rattle.definitions.specs.Demand.{is_among}
-use Rattle.definitions.specs.Completion.{falling, with_value, preferred_values}
-use Rattle.definitions.specs.Growth.{first_extendable, is_uncovered}
+use Rattle.cov_model.specs.believed.Rows.{contains, is_assigned, value_in}
+use Rattle.cov_model.specs.believed.Slices.{slice_values}
+use Rattle.definitions.specs.believed.Demand.{is_among}
+use Rattle.definitions.specs.believed.Completion.{falling, preferred_values}
+use Rattle.definitions.specs.Completion.{with_value}
+use Rattle.definitions.specs.believed.Growth.{first_extendable, is_uncovered}
 use Rattle.definitions.proofs.PartialRowLemmas.{get_or-preferred_values}
 use Rattle.feasibility.proofs.Extendable.{preferred_listed, slice_exist}
 use Rattle.uncovered_table.specs.Open.{OpenView, gain}

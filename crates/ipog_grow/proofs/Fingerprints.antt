@@ -7,7 +7,7 @@ use Rattle.std.proofs.lemmas.Bool.Decides.{nat_tests}
 use Rattle.std.proofs.lemmas.List.Elements.{All-head, All-tail}
 use Rattle.std.proofs.lemmas.List.Sorted.{sum_by-IsPermutation}
 use Rattle.std.proofs.lemmas.List.Sums.{sum_by-cons}
-use Rattle.definitions.specs.Seeds.{distinct, is_same_row}
+use Rattle.definitions.specs.believed.Seeds.{distinct, is_same_row}
 use Rattle.definitions.proofs.PartialRowLemmas.{same_row_is}
 use Rattle.ipog_grow.specs.Fingerprints.{fingerprint}
 use Rattle.ipog_grow.specs.Rows.{AreAsLong}

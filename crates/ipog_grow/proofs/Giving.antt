@@ -8,13 +8,13 @@ use Rattle.std.proofs.lemmas.Bool.Decides.{nat_tests}
 use Rattle.std.proofs.lemmas.List.{drop_all}
 use Rattle.std.proofs.lemmas.List.Elements.{All-filter}
 use Rattle.std.proofs.lemmas.List.FromFn.{length-range_with_len, get_or-range_with_len, length-map-range_with_len, get_or-map-range_with_len}
-use Rattle.cov_model.specs.Rows.{is_assigned}
+use Rattle.cov_model.specs.believed.Rows.{is_assigned}
 use Rattle.tuple_index.specs.Places.{RisesFrom, rises_from}
 use Rattle.tuple_index.specs.Plan.{value_given}
 use Rattle.tuple_index.proofs.RisingLemmas.{rising_itself}
 use Rattle.uncovered_table.proofs.ColumnLemmas.{filter_yes, filter_no}
-use Rattle.definitions.specs.Demand.{is_among}
-use Rattle.definitions.specs.Growth.{agrees}
+use Rattle.definitions.specs.believed.Demand.{is_among}
+use Rattle.definitions.specs.believed.Growth.{agrees}
 use Rattle.definitions.proofs.Members.{of_among, of_range}
 use Rattle.ipog_grow.specs.Growing.{given_params}
 use Rattle.ipog_grow.proofs.Falling.{filter-same_among}

@@ -4,8 +4,8 @@ use Rattle.std.proofs.lemmas.List.FromFn.{length-range_with_len}
 use Rattle.std.proofs.lemmas.List.Sorted.{length_permutation}
 use Rattle.std.proofs.lemmas.List.Elements.{filter_passes}
 use Rattle.ipog_grow.proofs.Spending.{find-later, find-earlier}
-use Rattle.cov_model.specs.Sound.{param_at}
-use Rattle.definitions.specs.Growth.{Grown, down, is_uncovered, tuples_in_play}
+use Rattle.cov_model.specs.believed.Sound.{param_at}
+use Rattle.definitions.specs.believed.Growth.{Grown, down, is_uncovered, tuples_in_play}
 use Rattle.uncovered_table.specs.Open.{OpenView}
 use Rattle.ipog_grow.specs.Growing.{IsInPlay, Keeps, open_tuples}
 use Rattle.full_search.specs.Questions.{QuestionsView}

@@ -6,8 +6,8 @@ use Rattle.std.proofs.lemmas.List.Folds.{list_any-append}
 use Rattle.std.proofs.Math.Bool.{or-false}
 use Rattle.cov_model.proofs.CellLemmas.{contains-trans}
 use Rattle.value_text.proofs.ListLemmas.{filter_same, filter-filter, not_or}
-use Rattle.cov_model.specs.Rows.{contains}
-use Rattle.definitions.specs.Growth.{is_uncovered}
+use Rattle.cov_model.specs.believed.Rows.{contains}
+use Rattle.definitions.specs.believed.Growth.{is_uncovered}
 
 -- some row contains the tuple
 abbrev pub holds : List (List (Option ℕ)) → List (Option ℕ) → Bool

@@ -3,8 +3,8 @@ use Rattle.std.proofs.Common.{◌≡◌, ℕ, ◌+◌, ◌<◌, ◌≤◌, true,
 use Rattle.std.proofs.lemmas.List.{drop_all, take_all, take-append-drop, take_more_set, drop-set-lt, set-get_or, length-set, drop_more}
 use Rattle.std.proofs.lemmas.List.Elements.{All-filter, All-set}
 use Rattle.ipog_grow.proofs.Spending.{find-later, find-earlier}
-use Rattle.cov_model.specs.Rows.{contains}
-use Rattle.definitions.specs.Growth.{Grown, is_uncovered}
+use Rattle.cov_model.specs.believed.Rows.{contains}
+use Rattle.definitions.specs.believed.Growth.{Grown, is_uncovered}
 use Rattle.uncovered_table.specs.Open.{OpenView, row_closed, is_held}
 use Rattle.ipog_grow.specs.Growing.{IsClosedBy, IsInPlay, Keeps, open_tuples}
 use Rattle.full_search.specs.Questions.{QuestionsView}

@@ -10,13 +10,13 @@ use Rattle.std.proofs.lemmas.List.Elements.{All-set}
 use Rattle.ipog_grow.proofs.Asking.{IsAnswered, none-spent}
 use Rattle.ipog_grow.proofs.Spending.{find-later, find-earlier}
 use Rattle.definitions.specs.declared.effort.Effort.TheVariants.{Full}
-use Rattle.definitions.specs.Growth.{Joined, agrees, join, union}
+use Rattle.definitions.specs.believed.Growth.{Joined, agrees, join, union}
 use Rattle.definitions.proofs.Extendable.{extendable_contains}
 use Rattle.definitions.proofs.Keeping.{IsClosed}
 use Rattle.definitions.proofs.PartialRowLemmas.{union-contains_tuple}
 use Rattle.full_search.specs.Questions.{QuestionsView}
 use Rattle.ipog_grow.specs.Asking.{IsSoundContext, Grows, extends, first_spent, IsUnionAt}
-use Rattle.definitions.specs.Demand.{is_among}
+use Rattle.definitions.specs.believed.Demand.{is_among}
 use Rattle.tuple_index.specs.Places.{RisesFrom}
 use Rattle.ipog_grow.proofs.Settling.{joined}
 use Rattle.ipog_grow.proofs.Trying.{is_over}

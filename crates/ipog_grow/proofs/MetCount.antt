@@ -2,9 +2,9 @@
 use Rattle.std.proofs.Common.{◌≡◌, ℕ, suc, ◌≤◌, Bool, true, List, [], ◌∷◌, length, sum, sum_by, Option, ap, refl, arith}
 use Rattle.std.proofs.lemmas.List.Sums.{sum-map}
 use Rattle.cov_model.specs.declared.slice.Slice.{Slice}
-use Rattle.cov_model.specs.Slices.{slices}
-use Rattle.cov_model.specs.Sound.{ModelView}
-use Rattle.definitions.specs.Demand.{demanded_sets, tuples_in, tuples_of}
+use Rattle.cov_model.specs.believed.Slices.{slices}
+use Rattle.cov_model.specs.believed.Sound.{ModelView}
+use Rattle.definitions.specs.believed.Demand.{demanded_sets, tuples_in, tuples_of}
 use Rattle.definitions.proofs.Finishing.{met_in}
 use Rattle.definitions.proofs.InPlay.{few_met}
 use Rattle.definitions.proofs.Totals.{count, count_flat, sum_less, sum_same, sum_swap}

@@ -9,13 +9,13 @@ use Rattle.cov_model.specs.contracts.slice.SlicePartialEq as equal
 use Rattle.cov_model.specs.declared.slice.Slice.{Slice}
 use Rattle.cov_model.specs.declared.slice.Slice.TheVariants.{Positive, Negative}
 use Rattle.cov_model.specs.Fits.{FitsModel}
-use Rattle.cov_model.specs.Sound.{ModelView}
-use Rattle.cov_model.specs.Rows.{value_in}
-use Rattle.cov_model.specs.Valid.{negatives}
-use Rattle.cov_model.specs.Slices.{slice_of, slice_by}
-use Rattle.definitions.specs.Demand.{is_among}
-use Rattle.definitions.specs.Completion.{has_slice}
-use Rattle.definitions.specs.Growth.{is_of_slice}
+use Rattle.cov_model.specs.believed.Sound.{ModelView}
+use Rattle.cov_model.specs.believed.Rows.{value_in}
+use Rattle.cov_model.specs.believed.Valid.{negatives}
+use Rattle.cov_model.specs.believed.Slices.{slice_of, slice_by}
+use Rattle.definitions.specs.believed.Demand.{is_among}
+use Rattle.definitions.specs.believed.Completion.{has_slice}
+use Rattle.definitions.specs.believed.Growth.{is_of_slice}
 
 -- the slice is this one exactly if the partial row is of it
 pub slice_of-test : (m : ModelView) (slice : Slice) (cells : List (Option ℕ)) → has_slice m cells ≡ true → equal.TheImpl.eq-value.it (slice_of m cells) slice

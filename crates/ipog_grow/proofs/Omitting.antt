@@ -3,11 +3,11 @@ use Rattle.std.proofs.Common.{◌≡◌, ℕ, ◌+◌, ◌≤◌, Bool, true, fa
 use Rattle.std.specs.Prelude.{slice_index_or}
 use Rattle.std.proofs.lemmas.List.Elements.{All-nil, All-cons, All-head, All-tail, All-append}
 use Rattle.cov_model.specs.declared.slice.Slice.{Slice}
-use Rattle.cov_model.specs.Sound.{ModelView}
-use Rattle.definitions.specs.Completion.{column_order, preferred_values}
-use Rattle.definitions.specs.Demand.{tuples_in}
-use Rattle.definitions.specs.Growth.{Grown, across, down, is_uncovered, join, settle, sets_in_play, tuples_in_play}
-use Rattle.definitions.specs.Search.{exceeds, question_cost}
+use Rattle.cov_model.specs.believed.Sound.{ModelView}
+use Rattle.definitions.specs.believed.Completion.{column_order, preferred_values}
+use Rattle.definitions.specs.believed.Demand.{tuples_in}
+use Rattle.definitions.specs.believed.Growth.{Grown, across, down, is_uncovered, join, settle, sets_in_play, tuples_in_play}
+use Rattle.definitions.specs.believed.Search.{exceeds, question_cost}
 use Rattle.definitions.specs.SliceRows.{IsSliceOf}
 use Rattle.definitions.proofs.InPlay.{tuple_is}
 use Rattle.definitions.proofs.Members.{all_members, of_flat}
@@ -15,7 +15,8 @@ use Rattle.full_search.specs.Questions.{QuestionsView}
 use Rattle.ipog_grow.specs.Asking.{Grows, columns_grown, extends, first_spent}
 use Rattle.ipog_grow.specs.Growing.{GrowsIn}
 use Rattle.ipog_grow.specs.Omissions.{IsOmittedIn, IsOmittedTuple}
-use Rattle.definitions.specs.Pairs.{cells_of, pairs_of}
+use Rattle.definitions.specs.Pairs.{cells_of}
+use Rattle.definitions.specs.believed.Pairs.{pairs_of}
 use Rattle.definitions.proofs.PairLists.{cells_of-pairs}
 use Rattle.ipog_grow.proofs.Spending.{find-none}
 use Rattle.ipog_grow.proofs.Tuples.{tuple-grows}

@@ -11,10 +11,10 @@ use Rattle.std.proofs.lemmas.List.Concat.{length-flat_map}
 use Rattle.value_text.proofs.ListLemmas.{map-get_or-range_with_len}
 use Rattle.uncovered_table.proofs.ChoiceLemmas.{same_slice, slice_listed}
 use Rattle.cov_model.specs.declared.slice.Slice.{Slice}
-use Rattle.cov_model.specs.Sound.{ModelView}
-use Rattle.cov_model.specs.Slices.{slices}
-use Rattle.definitions.specs.Demand.{demanded_sets, tuples_in}
-use Rattle.definitions.specs.Growth.{tuples_in_play}
+use Rattle.cov_model.specs.believed.Sound.{ModelView}
+use Rattle.cov_model.specs.believed.Slices.{slices}
+use Rattle.definitions.specs.believed.Demand.{demanded_sets, tuples_in}
+use Rattle.definitions.specs.believed.Growth.{tuples_in_play}
 use Rattle.definitions.specs.SliceRows.{IsSliceOf}
 use Rattle.tuple_index.proofs.ListingLemmas.{flat_map_same, map_map, map_flat_map}
 use Rattle.uncovered_table.specs.Places.{set_at, tuple_at, is_slice, slice_start, places_in, slice_places, ends_with_column, is_in_play}

@@ -11,11 +11,11 @@ use Rattle.std.proofs.lemmas.List.FromFn.{get_or-map-range_with_len, length-map-
 use Rattle.cov_model.proofs.CellLemmas.{length-slice_values}
 use Rattle.value_text.proofs.ListLemmas.{filter_same}
 use Rattle.cov_model.specs.declared.slice.Slice.{Slice}
-use Rattle.cov_model.specs.Preference.{insert_by_weight, by_falling_weight}
-use Rattle.cov_model.specs.Slices.{slice_values}
-use Rattle.cov_model.specs.Sound.{ModelView}
-use Rattle.cov_model.specs.Valid.{param_numbers}
-use Rattle.definitions.specs.Completion.{column_order, count_in, falling}
+use Rattle.cov_model.specs.believed.Preference.{insert_by_weight, by_falling_weight}
+use Rattle.cov_model.specs.believed.Slices.{slice_values}
+use Rattle.cov_model.specs.believed.Sound.{ModelView}
+use Rattle.cov_model.specs.believed.Valid.{param_numbers}
+use Rattle.definitions.specs.believed.Completion.{column_order, count_in, falling}
 use Rattle.definitions.specs.SliceRows.{IsSliceOf}
 use Rattle.tuple_index.specs.Places.{values_in}
 use Rattle.tuple_index.specs.Plan.{plan_of}

@@ -4,15 +4,15 @@ use Rattle.std.proofs.lemmas.Bool.{false≢true, false_from_ne_true}
 use Rattle.std.proofs.lemmas.Option.{none-some}
 use Rattle.cov_model.specs.declared.slice.Slice.{Slice}
 use Rattle.cov_model.specs.declared.slice.Slice.TheVariants.{Positive, Negative}
-use Rattle.cov_model.specs.Rows.{value_in}
-use Rattle.cov_model.specs.Slices.{slice_values}
-use Rattle.cov_model.specs.Sound.{ModelView}
-use Rattle.cov_model.specs.Valid.{serves}
-use Rattle.definitions.specs.Completion.{is_extendable}
-use Rattle.definitions.specs.Covering.{IsUnserved}
-use Rattle.definitions.specs.Refutation.{Token, is_eager}
-use Rattle.definitions.specs.Search.{exceeds, plain_cost, question_cost}
-use Rattle.definitions.specs.SuiteProof.{HasFewBranches, IsEagerTree}
+use Rattle.cov_model.specs.believed.Rows.{value_in}
+use Rattle.cov_model.specs.believed.Slices.{slice_values}
+use Rattle.cov_model.specs.believed.Sound.{ModelView}
+use Rattle.cov_model.specs.believed.Valid.{serves}
+use Rattle.definitions.specs.believed.Completion.{is_extendable}
+use Rattle.definitions.specs.believed.Covering.{IsUnserved}
+use Rattle.definitions.specs.believed.Refutation.{Token, is_eager}
+use Rattle.definitions.specs.believed.Search.{exceeds, plain_cost, question_cost}
+use Rattle.definitions.specs.believed.SuiteProof.{HasFewBranches, IsEagerTree}
 use Rattle.definitions.proofs.Members.{of_among}
 use Rattle.definitions.proofs.Serving.{served_extends}
 use Rattle.definitions.proofs.SliceLemmas.{InSlice, slice_is}

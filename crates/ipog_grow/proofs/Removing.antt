@@ -2,7 +2,7 @@
 use Rattle.std.proofs.Common.{◌≡◌, ℕ, ◌+◌, ◌<◌, ◌≤◌, List, [], ◌∷◌, ◌++◌, take, length, get_or, All, Option, Bool, true, false, cond, ◌∙◌, sym, ap, subst, refl, arith}
 use Rattle.std.proofs.lemmas.List.{take_all, take_more}
 use Rattle.std.proofs.lemmas.List.Elements.{All-push}
-use Rattle.definitions.specs.Seeds.{distinct}
+use Rattle.definitions.specs.believed.Seeds.{distinct}
 use Rattle.ipog_grow.specs.Rows.{AreAsLong, AreDone, is_known_row, with_row}
 use Rattle.ipog_grow.proofs.InPlace.{done-more, done-none, done-read}
 use Rattle.ipog_grow.proofs.SameRows.{distinct_by-push}

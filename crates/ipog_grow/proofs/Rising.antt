@@ -9,7 +9,7 @@ use Rattle.std.specs.declared.cmp.Ordering.TheVariants.{Less, Equal}
 use Rattle.std.proofs.lemmas.Bool.{false≢true}
 use Rattle.std.proofs.lemmas.Cmp.{nat_cmp_total, tied_itself}
 use Rattle.std.proofs.lemmas.List.Elements.{All-head, All-tail}
-use Rattle.definitions.specs.Seeds.{distinct, is_same_row}
+use Rattle.definitions.specs.believed.Seeds.{distinct, is_same_row}
 use Rattle.definitions.proofs.PartialRowLemmas.{same_row_is}
 use Rattle.tuple_index.proofs.OrderLemmas.{is_less}
 use Rattle.ipog_grow.specs.Rows.{AreAsLong, AreRising, stands_before}

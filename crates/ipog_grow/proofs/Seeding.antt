@@ -6,13 +6,13 @@ use Rattle.std.proofs.lemmas.Bool.Decides.{Decides-eqb}
 use Rattle.std.proofs.lemmas.List.{map-append, append-nil, length-append}
 use Rattle.std.proofs.lemmas.List.Elements.{filter-append, All-nil, All-cons, All-head, All-tail, All-filter}
 use Rattle.cov_model.proofs.CellLemmas.{assigned_within}
-use Rattle.cov_model.specs.Sound.{ModelView}
-use Rattle.cov_model.specs.Rows.{is_assigned, value_in}
+use Rattle.cov_model.specs.believed.Sound.{ModelView}
+use Rattle.cov_model.specs.believed.Rows.{is_assigned, value_in}
 use Rattle.cov_model.specs.Fits.{FitsModel}
-use Rattle.cov_model.specs.Valid.{negatives}
-use Rattle.cov_model.specs.Slices.{slice_of, slice_by}
-use Rattle.definitions.specs.Completion.{has_slice}
-use Rattle.definitions.specs.Seeds.{is_same_row, distinct_by, seed_rows}
+use Rattle.cov_model.specs.believed.Valid.{negatives}
+use Rattle.cov_model.specs.believed.Slices.{slice_of, slice_by}
+use Rattle.definitions.specs.believed.Completion.{has_slice}
+use Rattle.definitions.specs.believed.Seeds.{is_same_row, distinct_by, seed_rows}
 use Rattle.definitions.specs.SliceRows.{IsSliceOf}
 use Rattle.definitions.proofs.Members.{Has}
 use Rattle.definitions.proofs.SliceLemmas.{is_negative, of_negatives, has_negatives, IsNegativeAt, negative_exists}

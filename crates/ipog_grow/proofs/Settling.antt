@@ -3,9 +3,9 @@ use Rattle.std.proofs.Common.{◌≡◌, ℕ, Bool, true, false, cond, if◌then
 use Rattle.std.proofs.lemmas.Bool.{not-false}
 use Rattle.cov_model.proofs.CellLemmas.{contains-trans}
 use Rattle.definitions.proofs.PartialRowLemmas.{union-contains_row}
-use Rattle.cov_model.specs.Rows.{contains}
-use Rattle.definitions.specs.Pairs.{pairs_of}
-use Rattle.definitions.specs.Growth.{Grown, Joined, agrees, union, is_uncovered, join, settle, down}
+use Rattle.cov_model.specs.believed.Rows.{contains}
+use Rattle.definitions.specs.believed.Pairs.{pairs_of}
+use Rattle.definitions.specs.believed.Growth.{Grown, Joined, agrees, union, is_uncovered, join, settle, down}
 use Rattle.ipog_grow.proofs.Holding.{holds, holds-push}
 
 -- the first row and the union of a tuple with it, before the other rows, of which it is told what joining gives

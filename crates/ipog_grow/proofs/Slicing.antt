@@ -6,12 +6,12 @@ use Rattle.std.proofs.lemmas.Grind.{flat_map-append}
 use Rattle.std.proofs.lemmas.List.Elements.{All-nil, All-cons, All-head, All-tail}
 use Rattle.definitions.proofs.PartialRowLemmas.{of_slice-is}
 use Rattle.cov_model.specs.declared.slice.Slice.{Slice}
-use Rattle.cov_model.specs.Sound.{ModelView}
+use Rattle.cov_model.specs.believed.Sound.{ModelView}
 use Rattle.cov_model.specs.Fits.{FitsModel}
 use Rattle.definitions.specs.declared.effort.Effort.{Effort}
-use Rattle.definitions.specs.Completion.{has_slice}
-use Rattle.definitions.specs.Growth.{is_of_slice, slice_growth, slices_growth}
-use Rattle.definitions.specs.Search.{exceeds, first_over, question_cost}
+use Rattle.definitions.specs.believed.Completion.{has_slice}
+use Rattle.definitions.specs.believed.Growth.{is_of_slice, slice_growth, slices_growth}
+use Rattle.definitions.specs.believed.Search.{exceeds, first_over, question_cost}
 use Rattle.definitions.proofs.Grown.{rows_of_slice, omitted_in_slice, rows_by_slice, omitted_by_slice}
 use Rattle.ipog_grow.specs.declared.stop.Stop.{Stop}
 use Rattle.ipog_grow.specs.declared.stop.Stop.TheVariants as stops

@@ -4,11 +4,11 @@ use Rattle.std.proofs.Common.{find, take, drop, get_or, Option, Some, None, opti
 use Rattle.std.proofs.lemmas.List.{map-append, append_assoc, take_more, take-append-drop}
 use Rattle.std.proofs.lemmas.List.Elements.{filter-append}
 use Rattle.std.proofs.lemmas.Option.{none-some}
-use Rattle.cov_model.specs.Sound.{ModelView}
+use Rattle.cov_model.specs.believed.Sound.{ModelView}
 use Rattle.definitions.specs.declared.effort.Effort.{Effort}
-use Rattle.definitions.specs.Completion.{has_slice, can_be_served}
-use Rattle.definitions.specs.Pairs.{pairs_of}
-use Rattle.definitions.specs.Search.{exceeds, first_over, question_cost}
+use Rattle.definitions.specs.believed.Completion.{has_slice, can_be_served}
+use Rattle.definitions.specs.believed.Pairs.{pairs_of}
+use Rattle.definitions.specs.believed.Search.{exceeds, first_over, question_cost}
 use Rattle.feasibility.specs.declared.answer.SearchFault.{SearchFault}
 use Rattle.feasibility.specs.declared.answer.SearchFault.TheVariants.{Spent, NoMemory}
 use Rattle.feasibility.specs.Ends.{EndsBy}

@@ -11,11 +11,12 @@ use Rattle.std.proofs.Math.Bool.{and-false, or-true}
 use Rattle.uncovered_table.proofs.BitLemmas.{same_places}
 use Rattle.value_text.proofs.ListLemmas.{filter_same, filter-filter, filter_swap, filter_all}
 use Rattle.cov_model.specs.declared.slice.Slice.{Slice}
-use Rattle.cov_model.specs.Sound.{ModelView}
-use Rattle.cov_model.specs.Rows.{contains}
-use Rattle.definitions.specs.Demand.{is_among, demanded_sets, tuples_in}
-use Rattle.definitions.specs.Completion.{with_value, column_order}
-use Rattle.definitions.specs.Growth.{tuples_in_play}
+use Rattle.cov_model.specs.believed.Sound.{ModelView}
+use Rattle.cov_model.specs.believed.Rows.{contains}
+use Rattle.definitions.specs.believed.Demand.{is_among, demanded_sets, tuples_in}
+use Rattle.definitions.specs.Completion.{with_value}
+use Rattle.definitions.specs.believed.Completion.{column_order}
+use Rattle.definitions.specs.believed.Growth.{tuples_in_play}
 use Rattle.definitions.specs.SliceRows.{IsSliceOf}
 use Rattle.uncovered_table.specs.Open.{OpenView, all_open, closed, is_after, is_held, row_closed, gain, next_open}
 use Rattle.uncovered_table.specs.Places.{set_at, tuple_at, slice_start, places_in, slice_places, is_in_play, is_behind, is_place}

@@ -9,10 +9,10 @@ use Rattle.std.proofs.lemmas.List.Elements.{All-nil, All-cons, All-head, All-tai
 use Rattle.std.proofs.lemmas.List.{drop_more, map-append}
 use Rattle.ipog_grow.proofs.Spending.{find-later, find-earlier}
 use Rattle.definitions.proofs.PartialRowLemmas.{among_head}
-use Rattle.cov_model.specs.Sound.{ModelView}
-use Rattle.definitions.specs.Demand.{is_among}
-use Rattle.definitions.specs.Growth.{tuples_in_play}
-use Rattle.definitions.specs.Pairs.{pairs_of}
+use Rattle.cov_model.specs.believed.Sound.{ModelView}
+use Rattle.definitions.specs.believed.Demand.{is_among}
+use Rattle.definitions.specs.believed.Growth.{tuples_in_play}
+use Rattle.definitions.specs.believed.Pairs.{pairs_of}
 use Rattle.uncovered_table.specs.Open.{OpenView, all_open}
 use Rattle.uncovered_table.specs.Places.{tuple_at}
 use Rattle.ipog_grow.specs.Growing.{Keeps, Rises, open_places, open_tuples}

@@ -3,15 +3,17 @@ use Rattle.std.proofs.Common.{◌≡◌, ℕ, ◌+◌, List, [], ◌∷◌, ◌+
 use Rattle.std.proofs.lemmas.List.{append-nil, append_assoc, length-map, map-append}
 use Rattle.std.proofs.lemmas.List.Elements.{All-nil, All-cons, All-append}
 use Rattle.cov_model.specs.Fits.{FitsModel}
-use Rattle.cov_model.specs.Sound.{ModelView}
+use Rattle.cov_model.specs.believed.Sound.{ModelView}
 use Rattle.definitions.specs.declared.effort.Effort.{Effort}
-use Rattle.definitions.specs.Covering.{IsUnserved}
-use Rattle.definitions.specs.Pairs.{cells_of, pairs_of}
-use Rattle.definitions.specs.Refutation.{Token}
-use Rattle.definitions.specs.SuiteProof.{AreEagerTrees, IsEagerTree}
-use Rattle.definitions.specs.Verdict.{as_cells}
+use Rattle.definitions.specs.believed.Covering.{IsUnserved}
+use Rattle.definitions.specs.Pairs.{cells_of}
+use Rattle.definitions.specs.believed.Pairs.{pairs_of}
+use Rattle.definitions.specs.believed.Refutation.{Token}
+use Rattle.definitions.specs.believed.SuiteProof.{AreEagerTrees, IsEagerTree}
+use Rattle.definitions.specs.believed.Verdict.{as_cells}
 use Rattle.feasibility.specs.Refuting.{earlier_tuples}
-use Rattle.refutation.specs.Proofs.{ProofView, format_of, meant, omission_meant}
+use Rattle.refutation.specs.Proofs.{ProofView, meant, omission_meant}
+use Rattle.refutation.specs.believed.Proofs.{format_of}
 use Rattle.refutation.specs.declared.omissions.Omission.{Omission}
 use Rattle.refutation.specs.declared.omissions.ProofForm.{ProofForm}
 use Rattle.ipog_grow.specs.Omissions.{AreOmissionsOf, IsTreeOf}

@@ -11,13 +11,13 @@ use Rattle.std.proofs.lemmas.List.Sums.{sum_by-set}
 use Rattle.std.proofs.lemmas.Map.Keys.{IsDistinct-IsPermutation, IsDistinct-tail, IsDistinct-from_apart, apart_from_distinct}
 use Rattle.ipog_grow.proofs.Spending.{find-later, find-earlier}
 use Rattle.definitions.proofs.PartialRowLemmas.{with_value-contains}
-use Rattle.cov_model.specs.Sound.{param_at}
-use Rattle.cov_model.specs.Rows.{contains, is_assigned}
-use Rattle.cov_model.specs.Slices.{slice_values}
-use Rattle.definitions.specs.Demand.{is_among}
+use Rattle.cov_model.specs.believed.Sound.{param_at}
+use Rattle.cov_model.specs.believed.Rows.{contains, is_assigned}
+use Rattle.cov_model.specs.believed.Slices.{slice_values}
+use Rattle.definitions.specs.believed.Demand.{is_among}
 use Rattle.definitions.specs.Completion.{with_value}
-use Rattle.definitions.specs.Search.{exceeds, question_cost}
-use Rattle.definitions.specs.Growth.{Filled, first_extendable}
+use Rattle.definitions.specs.believed.Search.{exceeds, question_cost}
+use Rattle.definitions.specs.believed.Growth.{Filled, first_extendable}
 use Rattle.ipog_grow.specs.Growing.{best}
 use Rattle.full_search.specs.Questions.{QuestionsView}
 use Rattle.ipog_grow.specs.Asking.{IsSoundContext, Grows, extends, first_spent, tried}

@@ -14,10 +14,10 @@ use Rattle.std.proofs.lemmas.List.Folds.{list_any-append}
 use Rattle.cov_model.proofs.CellLemmas.{contains-assigned, contains-get_or}
 use Rattle.definitions.proofs.PartialRowLemmas.{union-contains_row}
 use Rattle.cov_model.specs.Fits.{FitsModel}
-use Rattle.cov_model.specs.Rows.{contains, is_assigned}
-use Rattle.cov_model.specs.Sound.{ModelView, param_at}
-use Rattle.definitions.specs.Demand.{is_among}
-use Rattle.definitions.specs.Growth.{agrees, union, is_uncovered}
+use Rattle.cov_model.specs.believed.Rows.{contains, is_assigned}
+use Rattle.cov_model.specs.believed.Sound.{ModelView, param_at}
+use Rattle.definitions.specs.believed.Demand.{is_among}
+use Rattle.definitions.specs.believed.Growth.{agrees, union, is_uncovered}
 use Rattle.refutation.proofs.HolderLemmas.{among_last}
 use Rattle.tuple_index.specs.Places.{RisesFrom}
 use Rattle.uncovered_table.proofs.PartnerLemmas.{rises-wider}

@@ -5,10 +5,10 @@ use Rattle.std.specs.List.{range_with_len}
 use Rattle.std.proofs.lemmas.Bool.{cases_Bool, cases_eq, false_from_ne_true, false≢true}
 use Rattle.std.proofs.lemmas.List.{same_lists, get_or_default}
 use Rattle.value_text.proofs.ListLemmas.{none_of}
-use Rattle.cov_model.specs.Rows.{is_assigned}
+use Rattle.cov_model.specs.believed.Rows.{is_assigned}
 use Rattle.cov_model.proofs.CellLemmas.{assigned_within}
-use Rattle.definitions.specs.Demand.{is_among}
-use Rattle.definitions.specs.Growth.{agrees, union}
+use Rattle.definitions.specs.believed.Demand.{is_among}
+use Rattle.definitions.specs.believed.Growth.{agrees, union}
 use Rattle.definitions.proofs.Members.{Has, among_has, has_filter, has_range}
 use Rattle.refutation.proofs.HolderLemmas.{among_last}
 use Rattle.feasibility.proofs.Looking.{among_other}

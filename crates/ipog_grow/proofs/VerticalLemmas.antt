@@ -6,8 +6,8 @@ use Rattle.std.proofs.lemmas.List.Elements.{All-head, All-tail, All-filter, filt
 use Rattle.std.proofs.lemmas.Option.{none-some, same_Some}
 use Rattle.ipog_grow.proofs.Spending.{find-later, find-earlier}
 use Rattle.value_text.proofs.ListLemmas.{length-filter-le}
-use Rattle.definitions.specs.Growth.{Grown, down, settle, is_uncovered}
-use Rattle.definitions.specs.Pairs.{pairs_of}
+use Rattle.definitions.specs.believed.Growth.{Grown, down, settle, is_uncovered}
+use Rattle.definitions.specs.believed.Pairs.{pairs_of}
 use Rattle.uncovered_table.specs.Open.{OpenView, IsPlaceOf, is_after, next_open}
 use Rattle.uncovered_table.specs.Places.{tuple_at}
 use Rattle.ipog_grow.specs.Growing.{IsInPlay, Keeps, open_places, open_tuples}

@@ -2,12 +2,13 @@
 use Rattle.std.specs.Prelude.{◌≡◌, ℕ, ◌<◌, Bool, true, List, [], ◌∷◌, ◌++◌, map, drop, slice_get, slice_index_or, slice_set}
 use Rattle.std.specs.Prelude.{length, slice_index, if◌then◌else◌, All, Option, None, Some, Result, Ok, Err}
 use Rattle.std.specs.List.{filter}
-use Rattle.cov_model.specs.Sound.{IsSound}
+use Rattle.cov_model.specs.believed.Sound.{IsSound}
 use Rattle.cov_model.specs.Preference.{OrdersValues}
-use Rattle.definitions.specs.Completion.{is_extendable, preferred_values, falling, with_value}
-use Rattle.definitions.specs.Pairs.{pairs_of}
-use Rattle.definitions.specs.Growth.{Filled, Grown, across, agrees, column, columns, fill, union, first_extendable, is_uncovered, tuples_in_play}
-use Rattle.definitions.specs.Search.{first_over}
+use Rattle.definitions.specs.believed.Completion.{is_extendable, preferred_values, falling}
+use Rattle.definitions.specs.Completion.{with_value}
+use Rattle.definitions.specs.believed.Pairs.{pairs_of}
+use Rattle.definitions.specs.believed.Growth.{Filled, Grown, across, agrees, column, columns, fill, union, first_extendable, is_uncovered, tuples_in_play}
+use Rattle.definitions.specs.believed.Search.{first_over}
 use Rattle.definitions.specs.SliceRows.{IsSliceOf}
 use Rattle.full_search.specs.Questions.{QuestionsView}
 use Rattle.ipog_grow.specs.declared.stop.Stop.{Stop}

@@ -1,12 +1,12 @@
 -- What the growth of a slice looks at on its way. (This project's rules.)
 use Rattle.std.specs.Prelude.{◌≡◌, ◌≢◌, ◌⊎◌, ℕ, true, List, [], ◌∷◌, map, length, Option, Some, None, All, nat_lt, if◌then◌else◌}
 use Rattle.std.specs.List.{filter, range_with_len}
-use Rattle.definitions.specs.Demand.{is_among}
-use Rattle.definitions.specs.Completion.{column_order}
+use Rattle.definitions.specs.believed.Demand.{is_among}
+use Rattle.definitions.specs.believed.Completion.{column_order}
 use Rattle.cov_model.specs.declared.slice.Slice.{Slice}
 use Rattle.cov_model.specs.declared.slice.Slice.TheVariants.{Positive, Negative}
-use Rattle.cov_model.specs.Sound.{ModelView}
-use Rattle.cov_model.specs.Rows.{is_assigned}
+use Rattle.cov_model.specs.believed.Sound.{ModelView}
+use Rattle.cov_model.specs.believed.Rows.{is_assigned}
 use Rattle.definitions.specs.SliceRows.{IsOfSlice}
 use Rattle.uncovered_table.specs.Open.{OpenView, row_closed}
 use Rattle.uncovered_table.specs.Places.{is_behind, is_in_play, tuple_at}

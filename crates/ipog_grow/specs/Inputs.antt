@@ -3,7 +3,7 @@ use Rattle.std.specs.Prelude.{◌≡◌, true, All}
 use Rattle.cov_model.specs.declared.slice.Slice.{Slice}
 use Rattle.cov_model.specs.Fits.{FitsModel}
 use Rattle.cov_model.specs.Preference.{OrdersValues}
-use Rattle.definitions.specs.Completion.{has_slice}
+use Rattle.definitions.specs.believed.Completion.{has_slice}
 use Rattle.tuple_index.specs.Plan.{plan_of}
 use Rattle.ipog_grow.specs.declared.input.GrowInput.{GrowInput}
 use Rattle.full_search.specs.Questions.{QuestionsView}

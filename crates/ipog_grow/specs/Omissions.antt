@@ -2,15 +2,17 @@
 use Rattle.std.specs.Prelude.{◌≡◌, ℕ, false, List, [], ◌∷◌, flat_map, length, map, Option, Some, None, All, unwrap_or}
 use Rattle.cov_model.specs.declared.slice.Slice.{Slice}
 use Rattle.cov_model.specs.Fits.{FitsModel}
-use Rattle.cov_model.specs.Sound.{ModelView}
+use Rattle.cov_model.specs.believed.Sound.{ModelView}
 use Rattle.definitions.specs.declared.effort.Effort.{Effort}
-use Rattle.definitions.specs.Completion.{column_order}
-use Rattle.definitions.specs.Covering.{IsUnserved}
-use Rattle.definitions.specs.Growth.{tuples_in_play}
-use Rattle.definitions.specs.Pairs.{cells_of, pairs_of}
-use Rattle.definitions.specs.SuiteProof.{IsEagerTree}
+use Rattle.definitions.specs.believed.Completion.{column_order}
+use Rattle.definitions.specs.believed.Covering.{IsUnserved}
+use Rattle.definitions.specs.believed.Growth.{tuples_in_play}
+use Rattle.definitions.specs.Pairs.{cells_of}
+use Rattle.definitions.specs.believed.Pairs.{pairs_of}
+use Rattle.definitions.specs.believed.SuiteProof.{IsEagerTree}
 use Rattle.feasibility.specs.Refuting.{earlier_tuples}
-use Rattle.refutation.specs.Proofs.{ProofView, format_of, meant}
+use Rattle.refutation.specs.Proofs.{ProofView, meant}
+use Rattle.refutation.specs.believed.Proofs.{format_of}
 use Rattle.refutation.specs.declared.omissions.ProofForm.{ProofForm}
 use Rattle.refutation.specs.declared.omissions.ProofForm.TheVariants.{One}
 use Rattle.refutation.specs.declared.token.TreeToken.{TreeToken}

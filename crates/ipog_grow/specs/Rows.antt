@@ -5,7 +5,7 @@ use Rattle.std.specs.Cmp.Lexicographic.{slice_cmp}
 use Rattle.std.specs.List.{list_any}
 use Rattle.std.specs.Option.{option_cmp}
 use Rattle.std.specs.Ordering.{is_lt, nat_cmp}
-use Rattle.definitions.specs.Seeds.{is_same_row}
+use Rattle.definitions.specs.believed.Seeds.{is_same_row}
 
 -- one of the rows is the same as this one
 abbrev pub is_known_row : List (List (Option ℕ)) → List (Option ℕ) → Bool

@@ -1,6 +1,6 @@
 -- Questions that are asked of seed rows.
 use Rattle.std.specs.Prelude.{◌≡◌, ℕ, List}
-use Rattle.cov_model.specs.Sound.{ModelView}
+use Rattle.cov_model.specs.believed.Sound.{ModelView}
 use Rattle.definitions.specs.declared.effort.Effort.{Effort}
 use Rattle.ipog_grow.specs.declared.seeds.SeedQuestions.{SeedQuestions}
 

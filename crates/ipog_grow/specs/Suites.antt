@@ -1,13 +1,15 @@
 -- When a suite is the one that growth gives, and where a run of questions stopped. (This project's rules.)
 use Rattle.std.specs.Prelude.{◌≡◌, ℕ, [], List, map, length, Option, Some, None, All, unwrap_or}
-use Rattle.cov_model.specs.Sound.{ModelView}
+use Rattle.cov_model.specs.believed.Sound.{ModelView}
 use Rattle.definitions.specs.declared.effort.Effort.{Effort}
-use Rattle.definitions.specs.Growth.{growth}
-use Rattle.definitions.specs.Pairs.{cells_of, pairs_of}
-use Rattle.definitions.specs.Seeds.{kept_seeds, dropped_lines}
-use Rattle.definitions.specs.SuiteProof.{AreEagerTrees}
-use Rattle.definitions.specs.Verdict.{as_cells}
-use Rattle.refutation.specs.Proofs.{format_of, omission_meant}
+use Rattle.definitions.specs.believed.Growth.{growth}
+use Rattle.definitions.specs.Pairs.{cells_of}
+use Rattle.definitions.specs.believed.Pairs.{pairs_of}
+use Rattle.definitions.specs.believed.Seeds.{kept_seeds, dropped_lines}
+use Rattle.definitions.specs.believed.SuiteProof.{AreEagerTrees}
+use Rattle.definitions.specs.believed.Verdict.{as_cells}
+use Rattle.refutation.specs.believed.Proofs.{format_of}
+use Rattle.refutation.specs.Proofs.{omission_meant}
 use Rattle.refutation.specs.declared.omissions.Omission.{Omission}
 use Rattle.refutation.specs.declared.omissions.ProofForm.{ProofForm}
 use Rattle.refutation.specs.declared.omissions.ProofForm.TheVariants.{One}

@@ -2,12 +2,13 @@ ghost use Rattle.std.specs.Prelude.{◌≡◌, ◌<◌, ◌^◌, ◌∷◌, [], 
 ghost use Rattle.cov_model.specs.Fits.{FitsModel};
 ghost use Rattle.cov_model.specs.Preference.{OrdersValues};
 ghost use Rattle.definitions.specs.declared.effort.Effort.TheVariants as efforts;
-ghost use Rattle.definitions.specs.Covering.{IsUnserved};
+ghost use Rattle.definitions.specs.believed.Covering.{IsUnserved};
 ghost use Rattle.definitions.specs.Pairs.{cells_of};
 ghost use Rattle.definitions.specs.SliceRows.{IsSliceOf};
-ghost use Rattle.definitions.specs.SuiteProof.{IsEagerTree};
+ghost use Rattle.definitions.specs.believed.SuiteProof.{IsEagerTree};
 ghost use Rattle.feasibility.specs.Refuting.{earlier_tuples};
-ghost use Rattle.refutation.specs.Proofs.{format_of, meant};
+ghost use Rattle.refutation.specs.believed.Proofs.{format_of};
+ghost use Rattle.refutation.specs.Proofs.{meant};
 ghost use Rattle.ipog_grow.specs.Asking.{Grows, IsAsker, Told, extends, first_spent};
 ghost use Rattle.ipog_grow.specs.Completing.{completed};
 ghost use Rattle.ipog_grow.specs.Omissions.{IsOmittedIn};

@@ -1,6 +1,6 @@
 ghost use Rattle.std.specs.Prelude.{◌≡◌, ◌+◌, ◌^◌, ◌<◌, ◌≤◌, ◌∷◌, ◌++◌, [], All, length, filter_map, slice_index_or, take, IfOk, OnOk};
 ghost use Rattle.std.specs.List.{cons_option};
-ghost use Rattle.definitions.specs.Seeds.{distinct};
+ghost use Rattle.definitions.specs.believed.Seeds.{distinct};
 ghost use Rattle.ipog_grow.specs.Asking.{Grows, Told, first_spent};
 ghost use Rattle.ipog_grow.specs.Completing.{completed};
 ghost use Rattle.ipog_grow.specs.Rows.{AreDone};

@@ -1,6 +1,6 @@
 ghost use Rattle.std.specs.Prelude.{◌≡◌, ◌<◌, All, length};
 ghost use Rattle.std.specs.List.{filter};
-ghost use Rattle.definitions.specs.Growth.{is_uncovered};
+ghost use Rattle.definitions.specs.believed.Growth.{is_uncovered};
 ghost use Rattle.ipog_grow.specs.Growing.{GrowsIn, IsInPlay, Keeps, open_tuples};
 
 use cov_model::{Cells, ParamNo, Rows};

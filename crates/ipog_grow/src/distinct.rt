@@ -1,5 +1,5 @@
 ghost use Rattle.std.specs.Prelude.{◌≡◌, ◌+◌, ◌^◌, ◌<◌, ◌≤◌, [], true, All, length, not, slice_index_or, take, IfOk, OnOk};
-ghost use Rattle.definitions.specs.Seeds.{distinct};
+ghost use Rattle.definitions.specs.believed.Seeds.{distinct};
 ghost use Rattle.ipog_grow.specs.Rows.{AreAsLong, AreRising, AreDone, is_known_row, stands_before, with_row};
 
 use crate::fingerprint::are_apart;

@@ -1,8 +1,8 @@
 ghost use Rattle.std.specs.Prelude.{◌≡◌, ◌<◌, ℕ, List, Option, true, All, [], length, slice_index_or, slice_set, OnOk};
 ghost use Rattle.std.specs.List.{filter};
-ghost use Rattle.cov_model.specs.Sound.{param_at};
-ghost use Rattle.cov_model.specs.Rows.{contains};
-ghost use Rattle.definitions.specs.Growth.{is_uncovered};
+ghost use Rattle.cov_model.specs.believed.Sound.{param_at};
+ghost use Rattle.cov_model.specs.believed.Rows.{contains};
+ghost use Rattle.definitions.specs.believed.Growth.{is_uncovered};
 ghost use Rattle.ipog_grow.specs.Asking.{Grows, IsTableOf, Told, filled, first_spent};
 ghost use Rattle.ipog_grow.specs.Growing.{IsClosedBy, IsInPlay, open_tuples};
 

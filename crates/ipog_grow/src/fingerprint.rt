@@ -1,5 +1,5 @@
 ghost use Rattle.std.specs.Prelude.{◌≡◌, ◌+◌, ◌<◌, ℕ, true, length, map, slice_index_or, IfOk};
-ghost use Rattle.definitions.specs.Seeds.{distinct};
+ghost use Rattle.definitions.specs.believed.Seeds.{distinct};
 ghost use Rattle.ipog_grow.specs.Fingerprints.{code_of, fingerprint};
 ghost use Rattle.ipog_grow.specs.Rows.{AreAsLong};
 

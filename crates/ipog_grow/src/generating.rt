@@ -1,9 +1,9 @@
 ghost use Rattle.std.specs.Prelude.{◌≡◌, ◌<◌, ◌≤◌, ◌^◌, [], ℕ, List, Option, All, length, sum_by, unwrap_or, IfOk, OnOk};
 ghost use Rattle.cov_model.specs.Fits.{FitsModel};
 ghost use Rattle.cov_model.specs.Preference.{OrdersValues};
-ghost use Rattle.definitions.specs.Growth.{growth, slices_growth};
-ghost use Rattle.definitions.specs.Search.{first_over};
-ghost use Rattle.definitions.specs.Seeds.{kept_seeds};
+ghost use Rattle.definitions.specs.believed.Growth.{growth, slices_growth};
+ghost use Rattle.definitions.specs.believed.Search.{first_over};
+ghost use Rattle.definitions.specs.believed.Seeds.{kept_seeds};
 ghost use Rattle.definitions.specs.SliceRows.{IsSliceOf};
 ghost use Rattle.feasibility.specs.Refuting.{earlier_tuples};
 ghost use Rattle.row_text.specs.RowFiles.{seeds_seen};

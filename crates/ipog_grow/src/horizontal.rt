@@ -1,7 +1,7 @@
 ghost use Rattle.std.specs.Prelude.{◌≡◌, ◌<◌, List, Option, ℕ, All, [], length, slice_index_or, OnOk};
 ghost use Rattle.std.specs.List.{filter};
-ghost use Rattle.cov_model.specs.Sound.{param_at};
-ghost use Rattle.definitions.specs.Growth.{is_uncovered};
+ghost use Rattle.cov_model.specs.believed.Sound.{param_at};
+ghost use Rattle.definitions.specs.believed.Growth.{is_uncovered};
 ghost use Rattle.ipog_grow.specs.Asking.{Grows, IsTableOf, Told, crossed, first_spent};
 ghost use Rattle.ipog_grow.specs.Growing.{IsInPlay, Keeps, open_tuples};
 

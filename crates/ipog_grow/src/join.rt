@@ -1,7 +1,7 @@
 ghost use Rattle.std.specs.Prelude.{◌≡◌, ◌<◌, ℕ, true, false, None, [], All, length, is_some, slice_index_or, slice_set, IfOk, IfSome, OnOk};
-ghost use Rattle.definitions.specs.Demand.{is_among};
+ghost use Rattle.definitions.specs.believed.Demand.{is_among};
 ghost use Rattle.tuple_index.specs.Places.{RisesFrom};
-ghost use Rattle.definitions.specs.Growth.{agrees, join, union};
+ghost use Rattle.definitions.specs.believed.Growth.{agrees, join, union};
 ghost use Rattle.ipog_grow.specs.Growing.{given_params};
 ghost use Rattle.ipog_grow.specs.Asking.{Grows, Told, IsUnionAt, extends, first_spent};
 

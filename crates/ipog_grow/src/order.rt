@@ -1,8 +1,8 @@
 ghost use Rattle.std.specs.Prelude.{◌≡◌, ◌≤◌, IsPermutation, length, map, slice_index, IfOk, OnOk};
 ghost use Rattle.std.specs.List.{range_with_len};
-ghost use Rattle.cov_model.specs.Preference.{by_falling_weight};
-ghost use Rattle.cov_model.specs.Valid.{param_numbers};
-ghost use Rattle.definitions.specs.Completion.{column_order};
+ghost use Rattle.cov_model.specs.believed.Preference.{by_falling_weight};
+ghost use Rattle.cov_model.specs.believed.Valid.{param_numbers};
+ghost use Rattle.definitions.specs.believed.Completion.{column_order};
 ghost use Rattle.definitions.specs.SliceRows.{IsSliceOf};
 ghost use Rattle.tuple_index.specs.Places.{values_in};
 ghost use Rattle.tuple_index.specs.Plan.{plan_of};

@@ -1,6 +1,6 @@
 ghost use Rattle.std.specs.Prelude.{◌≡◌, ℕ, ◌<◌, ◌≤◌, All, None, length, map, slice_index_or};
 ghost use Rattle.std.specs.List.{range_with_len};
-ghost use Rattle.cov_model.specs.Sound.{ModelView};
+ghost use Rattle.cov_model.specs.believed.Sound.{ModelView};
 ghost use Rattle.tuple_index.specs.Plan.{plan_of, set_at, value_given};
 ghost use Rattle.tuple_index.specs.Places.{RisesFrom};
 ghost use Rattle.uncovered_table.specs.Places.{tuple_at};

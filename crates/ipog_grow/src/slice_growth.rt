@@ -1,10 +1,11 @@
 ghost use Rattle.std.specs.Prelude.{◌≡◌, ◌+◌, ◌^◌, ◌++◌, ◌∷◌, ◌<◌, [], All, IfOk, OnOk, filter_map, length, map};
 ghost use Rattle.cov_model.specs.Preference.{OrdersValues};
-ghost use Rattle.cov_model.specs.Sound.{param_at};
-ghost use Rattle.definitions.specs.Completion.{column_order};
-ghost use Rattle.definitions.specs.Growth.{down, settle};
-ghost use Rattle.definitions.specs.Pairs.{cells_of, pairs_of};
-ghost use Rattle.definitions.specs.Seeds.{distinct};
+ghost use Rattle.cov_model.specs.believed.Sound.{param_at};
+ghost use Rattle.definitions.specs.believed.Completion.{column_order};
+ghost use Rattle.definitions.specs.believed.Growth.{down, settle};
+ghost use Rattle.definitions.specs.Pairs.{cells_of};
+ghost use Rattle.definitions.specs.believed.Pairs.{pairs_of};
+ghost use Rattle.definitions.specs.believed.Seeds.{distinct};
 ghost use Rattle.definitions.specs.SliceRows.{IsSliceOf};
 ghost use Rattle.feasibility.specs.Ends.{Ends};
 ghost use Rattle.feasibility.specs.Refuting.{earlier_tuples};

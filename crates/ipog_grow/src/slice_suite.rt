@@ -1,6 +1,6 @@
 ghost use Rattle.std.specs.Prelude.{◌≡◌, ◌+◌, ◌<◌, ◌≤◌, ◌^◌, ◌++◌, [], All, length, IfOk, OnOk};
 ghost use Rattle.std.specs.List.{filter};
-ghost use Rattle.definitions.specs.Growth.{is_of_slice};
+ghost use Rattle.definitions.specs.believed.Growth.{is_of_slice};
 ghost use Rattle.definitions.specs.SliceRows.{IsSliceOf};
 ghost use Rattle.feasibility.specs.Refuting.{earlier_tuples};
 ghost use Rattle.ipog_grow.specs.Asking.{IsNew, first_spent};

@@ -1,6 +1,6 @@
 ghost use Rattle.std.specs.Prelude.{◌≡◌, ◌<◌, ◌++◌, map, length, IfOk, OnOk};
-ghost use Rattle.cov_model.specs.Sound.{param_at};
-ghost use Rattle.cov_model.specs.Slices.{negative_values, slices};
+ghost use Rattle.cov_model.specs.believed.Sound.{param_at};
+ghost use Rattle.cov_model.specs.believed.Slices.{negative_values, slices};
 ghost use Rattle.ipog_grow.specs.SliceLists.{negative_slices};
 
 use cov_model::{ParamNo, Slice, TestModel, ValueNo};

@@ -1,6 +1,6 @@
 ghost use Rattle.std.specs.Prelude.{◌≡◌, ◌≢◌, ℕ, ◌<◌, ◌≤◌, All, None, if◌then◌else◌, length, slice_index_or, take};
 ghost use Rattle.std.specs.Option.{is_some};
-ghost use Rattle.definitions.specs.Growth.{agrees, union};
+ghost use Rattle.definitions.specs.believed.Growth.{agrees, union};
 ghost use Rattle.ipog_grow.specs.Growing.{given_params};
 
 use cov_model::{Cells, ParamNo, ValueNo};

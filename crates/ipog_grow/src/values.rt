@@ -1,9 +1,9 @@
 ghost use Rattle.std.specs.Prelude.{◌≡◌, ◌<◌, ◌≤◌, ℕ, true, false, Some, None, All, Contains, IsPermutation, [], length, map, slice_index, slice_index_or, slice_set, IfOk, IfSome, OnOk};
 ghost use Rattle.std.specs.List.{range_with_len};
-ghost use Rattle.cov_model.specs.Rows.{contains, is_assigned};
-ghost use Rattle.cov_model.specs.Slices.{slice_values};
-ghost use Rattle.cov_model.specs.Sound.{param_at};
-ghost use Rattle.definitions.specs.Demand.{is_among};
+ghost use Rattle.cov_model.specs.believed.Rows.{contains, is_assigned};
+ghost use Rattle.cov_model.specs.believed.Slices.{slice_values};
+ghost use Rattle.cov_model.specs.believed.Sound.{param_at};
+ghost use Rattle.definitions.specs.believed.Demand.{is_among};
 ghost use Rattle.ipog_grow.specs.Asking.{Grows, Told, first_spent, tried};
 ghost use Rattle.ipog_grow.specs.Growing.{best};
 

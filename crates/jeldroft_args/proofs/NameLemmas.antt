@@ -4,7 +4,7 @@ use Rattle.std.specs.Borrow.{Bor}
 use Rattle.std.specs.Prelude.{cond}
 use Rattle.std.specs.List.{list_any, slice_index_or}
 use Rattle.std.proofs.lemmas.List.{drop_all, drop_more}
-use Rattle.jeldroft_args.specs.Names.{is_same_name, overwritten}
+use Rattle.jeldroft_args.specs.believed.Names.{is_same_name, overwritten}
 
 abbrev pub texts_in : List (Bor (List ℕ)) → List (List ℕ)
 texts_in = map (λ n. n.now)

@@ -3,8 +3,8 @@ use Rattle.std.proofs.Common.{◌≡◌, ◌∙◌, ◌++◌, ◌∷◌, ◌+◌
 use Rattle.std.specs.List.{slice_index_or}
 use Rattle.std.proofs.lemmas.List.{map-append, take_more}
 use Rattle.clap.specs.Words.{App, Rule, Shape, Text, with_rule, with_subcommand}
-use Rattle.jeldroft_args.specs.Arguments.{rule_of_argument}
-use Rattle.jeldroft_args.specs.Programs.{program_of, shape_of_command, shape_with, top_of}
+use Rattle.jeldroft_args.specs.believed.Arguments.{rule_of_argument}
+use Rattle.jeldroft_args.specs.believed.Programs.{program_of, shape_of_command, shape_with, top_of}
 use Rattle.jeldroft_args.specs.declared.argument.Argument.{Argument}
 use Rattle.jeldroft_args.specs.declared.command_name.CommandName.{CommandName}
 

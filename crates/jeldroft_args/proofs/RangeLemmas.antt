@@ -7,13 +7,13 @@ use Rattle.std.proofs.lemmas.Bool.{and_parts, false≢true, leb-true}
 use Rattle.std.proofs.lemmas.Option.{none-some, same_Some}
 use Rattle.clap.specs.Walk.{is_empty}
 use Rattle.clap.specs.Words.{Row, Text, fault_of, subcommand_of}
-use Rattle.value_text.specs.Numbers.{count_of, is_digits}
-use Rattle.jeldroft_args.specs.Names.{overwritten}
-use Rattle.jeldroft_args.specs.Programs.{program_of}
+use Rattle.value_text.specs.believed.Numbers.{count_of, is_digits}
+use Rattle.jeldroft_args.specs.believed.Names.{overwritten}
+use Rattle.jeldroft_args.specs.believed.Programs.{program_of}
 use Rattle.jeldroft_args.specs.Ranges.{AreMarks, AreThreads, IsInRange, IsStrength}
-use Rattle.jeldroft_args.specs.Readings.{has_equal_marks, is_mark, length_of, mark_of, marks_in, read_or, strength_of, threads_of, value_of}
-use Rattle.jeldroft_args.specs.Rules.{excluded_pair, inputs, is_allowed, names_in, outputs, reads_input_twice, unmet_need, unread}
-use Rattle.jeldroft_args.specs.Settings.{asked_in, asked_of, command_in, command_named, length_in, settings_of, strength_in, threads_in}
+use Rattle.jeldroft_args.specs.believed.Readings.{has_equal_marks, is_mark, length_of, mark_of, marks_in, read_or, strength_of, threads_of, value_of}
+use Rattle.jeldroft_args.specs.believed.Rules.{excluded_pair, inputs, is_allowed, names_in, outputs, reads_input_twice, unmet_need, unread}
+use Rattle.jeldroft_args.specs.believed.Settings.{asked_in, asked_of, command_in, command_named, length_in, settings_of, strength_in, threads_in}
 use Rattle.jeldroft_args.specs.declared.argument.Argument.TheVariants as a
 use Rattle.jeldroft_args.specs.declared.command.Command.{Command}
 use Rattle.jeldroft_args.specs.declared.command_name.CommandName.{CommandName}

@@ -13,8 +13,8 @@ use Rattle.clap.specs.declared.error.kind.ErrorKind.TheVariants as kind
 use Rattle.clap.specs.declared.parser.matches.ArgMatches.{ArgMatches}
 use Rattle.jeldroft_args.proofs.SimpleProgram.{simple_program}
 use Rattle.jeldroft_args.specs.Faults.{FitsKind, HasCause, HasNone, is_mistake, is_request}
-use Rattle.jeldroft_args.specs.Programs.{program_of}
-use Rattle.jeldroft_args.specs.Settings.{asked_in, settings_of}
+use Rattle.jeldroft_args.specs.believed.Programs.{program_of}
+use Rattle.jeldroft_args.specs.believed.Settings.{asked_in, settings_of}
 use Rattle.jeldroft_args.specs.declared.args_fault.ArgsFault.{ArgsFault}
 use Rattle.jeldroft_args.specs.declared.args_fault.ArgsFault.TheVariants.{Shown, Refused, OutOfMemory}
 use Rattle.jeldroft_args.specs.declared.command.Command.{Command}

@@ -4,7 +4,7 @@ use Rattle.std.specs.List.{list_all}
 use Rattle.clap.specs.Faults.{has_free_rules, is_simple_and_free}
 use Rattle.clap.specs.Simple.{built_leaf, inherited, is_ready_leaf, is_simple_leaf, marked_built, with_leaf_noted}
 use Rattle.clap.specs.Words.{Shape}
-use Rattle.jeldroft_args.specs.Programs.{program_of, shape_of_command, top_of}
+use Rattle.jeldroft_args.specs.believed.Programs.{program_of, shape_of_command, top_of}
 use Rattle.jeldroft_args.specs.declared.command_name.CommandName.{CommandName}
 use Rattle.jeldroft_args.specs.declared.command_name.CommandName.TheVariants.{Generate, Check, Shrink, Show, Lint, Measure, Suspect, Sequence, Import}
 

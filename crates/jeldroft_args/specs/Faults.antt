@@ -6,8 +6,8 @@ use Rattle.clap.specs.Words.{Kinds, Text, fault_of}
 use Rattle.clap.specs.declared.error.kind.ErrorKind.{ErrorKind}
 use Rattle.clap.specs.declared.error.kind.ErrorKind.TheVariants.{DisplayHelp, DisplayVersion}
 use Rattle.clap.specs.declared.error.kind.ErrorKind.TheVariants as kinds
-use Rattle.jeldroft_args.specs.Programs.{program_of}
-use Rattle.jeldroft_args.specs.Settings.{settings_of}
+use Rattle.jeldroft_args.specs.believed.Programs.{program_of}
+use Rattle.jeldroft_args.specs.believed.Settings.{settings_of}
 use Rattle.jeldroft_args.specs.declared.args_fault.ArgsFault.{ArgsFault}
 use Rattle.jeldroft_args.specs.declared.args_fault.ArgsFault.TheVariants.{Shown, Refused}
 use Rattle.jeldroft_args.specs.declared.args_fault.ArgsFault.TheVariants.{OutOfMemory}

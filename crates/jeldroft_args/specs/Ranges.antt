@@ -1,6 +1,6 @@
 -- What is known of the numbers and marks of every command that words ask for.
 use Rattle.std.specs.Prelude.{◌≡◌, ◌≤◌, ⊤, ℕ, true, false}
-use Rattle.jeldroft_args.specs.Readings.{has_equal_marks, is_mark}
+use Rattle.jeldroft_args.specs.believed.Readings.{has_equal_marks, is_mark}
 use Rattle.jeldroft_args.specs.declared.command.Command.{Command}
 use Rattle.jeldroft_args.specs.declared.command.Command.TheVariants.{Generate, Check, Shrink, Show}
 use Rattle.jeldroft_args.specs.declared.command.Command.TheVariants.{Lint, Measure, Suspect}

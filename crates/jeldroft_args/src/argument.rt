@@ -1,6 +1,6 @@
 ghost use Rattle.std.specs.Prelude.{◌≡◌, None, false};
 ghost use Rattle.clap.specs.Words.{rule_of};
-ghost use Rattle.jeldroft_args.specs.Arguments.{kind_of, letter_of, name_of, rule_of_argument};
+ghost use Rattle.jeldroft_args.specs.believed.Arguments.{kind_of, letter_of, name_of, rule_of_argument};
 
 use clap::{Arg, ArgAction};
 use std::alloc::{AllocError, Global};

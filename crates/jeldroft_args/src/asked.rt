@@ -1,7 +1,7 @@
 //! What each command is asked for.
 ghost use Rattle.std.specs.Prelude.{◌≡◌, IfOk};
 ghost use Rattle.jeldroft_args.specs.Readings.{rows_given};
-ghost use Rattle.jeldroft_args.specs.Settings as defined;
+ghost use Rattle.jeldroft_args.specs.believed.Settings as defined;
 
 use crate::argument::Argument;
 use crate::check::Check;

@@ -1,5 +1,5 @@
 ghost use Rattle.std.specs.Prelude.{◌≡◌};
-ghost use Rattle.jeldroft_args.specs.Programs.{arguments_of, name_of_command};
+ghost use Rattle.jeldroft_args.specs.believed.Programs.{arguments_of, name_of_command};
 
 use crate::argument::Argument;
 

@@ -1,5 +1,5 @@
 ghost use Rattle.std.specs.Prelude.{◌≡◌};
-ghost use Rattle.jeldroft_args.specs.Readings.{delimiter_of};
+ghost use Rattle.jeldroft_args.specs.believed.Readings.{delimiter_of};
 
 /// What stands between the cells of a table that is read.
 #[derive(Debug, Drop, Clone, Copy, PartialEq, Eq)]

@@ -1,5 +1,5 @@
 ghost use Rattle.std.specs.Prelude.{◌≡◌};
-ghost use Rattle.jeldroft_args.specs.Readings.{finding_format_of, format_of};
+ghost use Rattle.jeldroft_args.specs.believed.Readings.{finding_format_of, format_of};
 
 /// The form in which a table or a suite is written.
 #[derive(Debug, Drop, Clone, Copy, PartialEq, Eq)]

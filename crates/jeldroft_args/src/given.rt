@@ -1,9 +1,9 @@
 //! What the words gave for single arguments.
 ghost use Rattle.std.specs.Prelude.{◌≡◌, IfOk, option_map};
 ghost use Rattle.jeldroft_args.specs.Readings.{rows_given};
-ghost use Rattle.jeldroft_args.specs.Readings as readings;
-ghost use Rattle.jeldroft_args.specs.Rules.{is_standard_input, is_used};
-ghost use Rattle.jeldroft_args.specs.Settings as defined;
+ghost use Rattle.jeldroft_args.specs.believed.Readings as readings;
+ghost use Rattle.jeldroft_args.specs.believed.Rules.{is_standard_input, is_used};
+ghost use Rattle.jeldroft_args.specs.believed.Settings as defined;
 
 use crate::argument::{Argument, ArgumentKind};
 use crate::delimiter::Delimiter;

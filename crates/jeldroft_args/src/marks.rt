@@ -1,5 +1,5 @@
 ghost use Rattle.std.specs.Prelude.{◌≡◌};
-ghost use Rattle.jeldroft_args.specs.Readings.{has_equal_marks, is_mark, mark_of};
+ghost use Rattle.jeldroft_args.specs.believed.Readings.{has_equal_marks, is_mark, mark_of};
 
 /// The characters between the parts of a parameter line, as their ASCII codes (PICT's guide). A
 /// mark is a character from 33 to 126 that is no letter, no digit and none of

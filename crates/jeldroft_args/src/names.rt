@@ -1,6 +1,6 @@
 ghost use Rattle.std.specs.Prelude.{◌≡◌, ◌||◌, map, option_map};
 ghost use Rattle.std.specs.List.{list_any};
-ghost use Rattle.jeldroft_args.specs.Names.{is_same_name, overwritten, plain_name};
+ghost use Rattle.jeldroft_args.specs.believed.Names.{is_same_name, overwritten, plain_name};
 
 // A name without `./` at its start.
 fn plain_name(name: &str) -> &str

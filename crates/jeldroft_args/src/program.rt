@@ -2,7 +2,7 @@
 ghost use Rattle.std.specs.Prelude.{◌≡◌, [], false, IfOk};
 ghost use Rattle.clap.specs.Words.{app_of};
 ghost use Rattle.clap.specs.declared.builder.command.Command.TheViews.{out-Command as fields_of};
-ghost use Rattle.jeldroft_args.specs.Programs.{program_of, shape_of_command};
+ghost use Rattle.jeldroft_args.specs.believed.Programs.{program_of, shape_of_command};
 
 use crate::command_name::CommandName;
 use clap::Command;

@@ -5,7 +5,7 @@ ghost use Rattle.jeldroft_args.specs.Readings.{rows_given};
 ghost use Rattle.jeldroft_args.specs.Faults.{FitsKind, HasCause, HasNone};
 ghost use Rattle.jeldroft_args.specs.declared.command.Command.{Command as Asked};
 ghost use Rattle.jeldroft_args.specs.Ranges.{IsInRange};
-ghost use Rattle.jeldroft_args.specs.Settings as defined;
+ghost use Rattle.jeldroft_args.specs.believed.Settings as defined;
 
 use crate::args_fault::ArgsFault;
 use crate::command::Command;

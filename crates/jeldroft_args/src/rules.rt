@@ -1,12 +1,12 @@
 //! Which values and options go together.
 ghost use Rattle.std.specs.Prelude.{◌≡◌, Some, None, map, is_none, IfOk, MatchResult, option_map};
 ghost use Rattle.jeldroft_args.specs.Readings.{rows_given};
-ghost use Rattle.jeldroft_args.specs.Readings as readings;
+ghost use Rattle.jeldroft_args.specs.believed.Readings as readings;
 ghost use Rattle.jeldroft_args.specs.Faults.{HasNone};
-ghost use Rattle.jeldroft_args.specs.Names.{overwritten};
+ghost use Rattle.jeldroft_args.specs.believed.Names.{overwritten};
 ghost use Rattle.jeldroft_args.specs.declared.command.Command.{Command as Asked};
-ghost use Rattle.jeldroft_args.specs.Settings.{command_in};
-ghost use Rattle.jeldroft_args.specs.Rules as defined;
+ghost use Rattle.jeldroft_args.specs.believed.Settings.{command_in};
+ghost use Rattle.jeldroft_args.specs.believed.Rules as defined;
 
 use crate::args_fault::ArgsFault;
 use crate::argument::Argument;

@@ -1,5 +1,5 @@
 ghost use Rattle.std.specs.Prelude.{◌≡◌};
-ghost use Rattle.jeldroft_args.specs.Readings.{strength_of};
+ghost use Rattle.jeldroft_args.specs.believed.Readings.{strength_of};
 
 use value_text::read_count;
 

@@ -1,23 +1,24 @@
 -- How the command ends, and what its status tells.
 use Rattle.std.proofs.Common.{◌≡◌, ◌⊎◌, ℕ, Result, Ok, Err, inl, inr, refl, ap, sym, subst, ◌∙◌, arith}
-use Rattle.outside_io.specs.Seen.{SinkSeen}
-use Rattle.definitions.specs.Laws.{IsCertified}
-use Rattle.definitions.specs.Verdict as defined
-use Rattle.definitions.specs.Verdict.{verdict_text}
+use Rattle.outside_io.specs.believed.Seen.{SinkSeen}
+use Rattle.definitions.specs.believed.Laws.{IsCertified}
+use Rattle.definitions.specs.believed.Verdict as defined
+use Rattle.definitions.specs.believed.Verdict.{verdict_text}
 use Rattle.definitions.proofs.Certified.{certified}
-use Rattle.proof_check.specs.Checks.{verdict_given}
+use Rattle.proof_check.specs.believed.Checks.{verdict_given}
 use Rattle.proof_check.specs.declared.verdict.Verdict.{Verdict}
 use Rattle.command_line.specs.declared.stop.Stop.{Stop}
 use Rattle.command_line.specs.declared.stop.Stop.TheVariants.{OutOfMemory, Spent, BadWord, BadModel, BadConstraint, BadRows, NoResult, BadResult, CannotRead}
 use Rattle.command_line.specs.declared.stop.Stop.TheVariants.{CannotWrite, CannotWriteReport, TooMany, TooLong}
-use Rattle.check_cli.specs.Runs.{HeldFiles, answer_text}
+use Rattle.check_cli.specs.believed.Runs.{HeldFiles}
+use Rattle.check_cli.specs.Runs.{answer_text}
 use Rattle.jeldroft_args.specs.declared.check.Check.{Check}
-use Rattle.jeldroft_files.specs.Failures.{status_of, status_of_stop}
-use Rattle.jeldroft_files.specs.Runs.{IsPrinted, Moment}
+use Rattle.jeldroft_files.specs.believed.Failures.{status_of, status_of_stop}
+use Rattle.jeldroft_files.specs.believed.Runs.{IsPrinted, Moment}
 use Rattle.jeldroft_files.specs.declared.failure.Cause.{Cause}
 use Rattle.jeldroft_files.specs.declared.failure.Cause.TheVariants as causes
 use Rattle.jeldroft_files.specs.declared.failure.Failure.{Failure}
-use Rattle.jeldroft_check.specs.Runs.{ChecksAs, Due, HasReadings, verdict_status}
+use Rattle.jeldroft_check.specs.believed.Runs.{ChecksAs, Due, HasReadings, verdict_status}
 use Rattle.jeldroft_check.specs.Steps.{Answers, Ends, answer_status, end_status}
 use Rattle.jeldroft_check.proofs.OneVerdict.{not_both, one_status, one_verdict}
 

@@ -1,21 +1,21 @@
 -- Files call for one verdict, or for none by causes of one status.
 use Rattle.std.proofs.Common.{◌≡◌, ℕ, List, Option, Ok, Err, ap, sym, subst, ◌∙◌}
 use Rattle.std.proofs.lemmas.Option.{none-some, same_Some}
-use Rattle.cov_model.specs.Sound.{ModelView}
-use Rattle.definitions.specs.Verdict.{Verdict, verdict}
+use Rattle.cov_model.specs.believed.Sound.{ModelView}
+use Rattle.definitions.specs.believed.Verdict.{Verdict, verdict}
 use Rattle.model_lex.specs.declared.options.ModelOpts.{ModelOpts}
-use Rattle.tuple_index.specs.PlanFault.{limit_passed}
+use Rattle.tuple_index.specs.believed.PlanFault.{limit_passed}
 use Rattle.type_check.proofs.OneAnswer.{files_have_one_model, models_are_not_refused, refusals_are_one}
-use Rattle.command_line.specs.Stops.{stop_of_model, stop_of_plan}
+use Rattle.command_line.specs.believed.Stops.{stop_of_model, stop_of_plan}
 use Rattle.command_line.specs.declared.stop.Stop.{Stop}
-use Rattle.proof_check.specs.Checks.{Spells, report_of}
-use Rattle.check_cli.specs.Runs.{HeldFiles, Inputs, stop_of_report}
+use Rattle.proof_check.specs.believed.Checks.{Spells, report_of}
+use Rattle.check_cli.specs.believed.Runs.{HeldFiles, Inputs, stop_of_report}
 use Rattle.jeldroft_args.specs.declared.check.Check.{Check}
-use Rattle.jeldroft_files.specs.Failures.{status_of}
-use Rattle.jeldroft_files.specs.Models.{opts_of}
+use Rattle.jeldroft_files.specs.believed.Failures.{status_of}
+use Rattle.jeldroft_files.specs.believed.Models.{opts_of}
 use Rattle.jeldroft_files.specs.declared.failure.Cause.{Cause}
 use Rattle.jeldroft_files.specs.declared.failure.Cause.TheVariants as causes
-use Rattle.jeldroft_check.specs.Runs.{Due, IsJudged, IsRefused, bad_model, bad_table, inputs_of, too_many, unjudged, unread}
+use Rattle.jeldroft_check.specs.believed.Runs.{Due, IsJudged, IsRefused, bad_model, bad_table, inputs_of, too_many, unjudged, unread}
 
 -- ---- bytes that are judged
 

@@ -1,14 +1,15 @@
 -- The verdict on the three files, from the bytes of each.
 use Rattle.std.proofs.Common.{◌≡◌, ℕ, List, Option, Some, None, Result, Ok, Err, inl, inr, refl, ap, subst, ◌∙◌}
 use Rattle.std.proofs.lemmas.Option.{none-some, same_Some}
-use Rattle.outside_io.specs.Seen.{FolderSeen, KeepsFiles}
-use Rattle.definitions.specs.RowReading as readings
-use Rattle.definitions.specs.Verdict.{verdict}
+use Rattle.outside_io.specs.believed.Seen.{FolderSeen, KeepsFiles}
+use Rattle.definitions.specs.believed.RowReading as readings
+use Rattle.definitions.specs.believed.Verdict.{verdict}
 use Rattle.row_text.specs.Readings.{fault_of}
 use Rattle.row_text.specs.declared.rows_fault.RowsFault.{RowsFault}
 use Rattle.row_text.specs.declared.rows_fault.RowsFault.TheVariants as told_faults
 use Rattle.model_lex.specs.declared.options.ModelOpts.{ModelOpts}
-use Rattle.command_line.specs.Stops.{stop_of_model, stop_of_plan, stop_of_rows}
+use Rattle.command_line.specs.believed.Stops.{stop_of_model, stop_of_plan}
+use Rattle.command_line.specs.Stops.{stop_of_rows}
 use Rattle.command_line.specs.declared.stop.Stop.{Stop}
 use Rattle.command_line.specs.declared.files.FileKind.TheVariants as kinds
 use Rattle.proof_check.specs.Checks.{IsCheckOf}
@@ -16,15 +17,15 @@ use Rattle.proof_check.specs.declared.verdict.CheckFault.{CheckFault}
 use Rattle.proof_check.specs.declared.verdict.CheckFault.TheVariants.{BadModel, Limits, Report, NoMemory}
 use Rattle.proof_check.specs.declared.verdict.Verdict.{Verdict}
 use Rattle.check_cli.specs.RunSteps.{stop_of_check}
-use Rattle.check_cli.specs.Runs.{HeldFiles, Inputs, bytes_of, stop_of_report}
+use Rattle.check_cli.specs.believed.Runs.{HeldFiles, Inputs, bytes_of, stop_of_report}
 use Rattle.jeldroft_args.specs.declared.check.Check.{Check}
-use Rattle.jeldroft_files.specs.Failures.{status_of}
-use Rattle.jeldroft_files.specs.Models.{opts_of}
-use Rattle.jeldroft_files.specs.Tables.{is_comma}
+use Rattle.jeldroft_files.specs.believed.Failures.{status_of}
+use Rattle.jeldroft_files.specs.believed.Models.{opts_of}
+use Rattle.jeldroft_files.specs.believed.Tables.{is_comma}
 use Rattle.jeldroft_files.specs.declared.failure.Cause.{Cause}
 use Rattle.jeldroft_files.specs.declared.failure.Cause.TheVariants as causes
 use Rattle.jeldroft_files.specs.declared.failure.Failure.{Failure}
-use Rattle.jeldroft_check.specs.Runs.{Due, Holds, IsRefused, bad_model, bad_table, in_tabs, inputs_of, join_bytes, or_cause, proof_told, too_many, unjudged, unread}
+use Rattle.jeldroft_check.specs.believed.Runs.{Due, Holds, IsRefused, bad_model, bad_table, in_tabs, inputs_of, join_bytes, or_cause, proof_told, too_many, unjudged, unread}
 use Rattle.jeldroft_check.specs.Steps.{Answers, FailsBy, Judges}
 
 -- ---- bytes that are judged

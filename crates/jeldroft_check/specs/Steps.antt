@@ -1,22 +1,22 @@
 -- The steps of `jeldroft check`. (How this crate works.)
 use Rattle.std.specs.Prelude.{◌≡◌, ◌⊎◌, ℕ, List, Result, Ok, Err}
 use Rattle.std.specs.Global.{Vec}
-use Rattle.outside_io.specs.Seen.{SinkSeen}
-use Rattle.definitions.specs.Verdict as defined
-use Rattle.definitions.specs.Verdict.{verdict, verdict_text}
+use Rattle.outside_io.specs.believed.Seen.{SinkSeen}
+use Rattle.definitions.specs.believed.Verdict as defined
+use Rattle.definitions.specs.believed.Verdict.{verdict, verdict_text}
 use Rattle.model_lex.specs.declared.options.ModelOpts.{ModelOpts}
-use Rattle.proof_check.specs.Checks.{verdict_given}
+use Rattle.proof_check.specs.believed.Checks.{verdict_given}
 use Rattle.proof_check.specs.declared.verdict.Verdict.{Verdict}
 use Rattle.proof_check.specs.declared.verdict.Verdict.TheVariants.{Accepted, BadRow, BadProof, BadOmission, Uncovered}
 use Rattle.command_line.specs.declared.stop.Stop.{Stop}
-use Rattle.check_cli.specs.Runs.{HeldFiles, Inputs}
+use Rattle.check_cli.specs.believed.Runs.{HeldFiles, Inputs}
 use Rattle.jeldroft_args.specs.declared.check.Check.{Check}
-use Rattle.jeldroft_files.specs.Failures.{status_of}
-use Rattle.jeldroft_files.specs.Runs.{IsPrinted}
+use Rattle.jeldroft_files.specs.believed.Failures.{status_of}
+use Rattle.jeldroft_files.specs.believed.Runs.{IsPrinted}
 use Rattle.jeldroft_files.specs.declared.failure.Cause.{Cause}
 use Rattle.jeldroft_files.specs.declared.failure.Cause.TheVariants as causes
 use Rattle.jeldroft_files.specs.declared.failure.Failure.{Failure}
-use Rattle.jeldroft_check.specs.Runs.{Due, IsJudged, IsRefused}
+use Rattle.jeldroft_check.specs.believed.Runs.{Due, IsJudged, IsRefused}
 
 -- memory or a device failed, or the cause is the one that is called for
 abbrev pub FailsBy : (Cause → Type 0) → Cause → Type 0

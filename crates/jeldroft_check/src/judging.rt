@@ -1,12 +1,12 @@
 //! The verdict on the files of the command.
 ghost use Rattle.std.specs.Prelude.{◌≡◌, ◌≤◌, ◌^◌, length};
-ghost use Rattle.outside_io.specs.Seen.{KeepsFiles};
+ghost use Rattle.outside_io.specs.believed.Seen.{KeepsFiles};
 ghost use Rattle.jeldroft_args.specs.Ranges.{AreMarks, AreThreads, IsStrength};
-ghost use Rattle.jeldroft_files.specs.Models as models;
+ghost use Rattle.jeldroft_files.specs.believed.Models as models;
 ghost use Rattle.jeldroft_files.specs.declared.failure.Cause.TheVariants as causes;
 ghost use Rattle.check_cli.specs.RunSteps.{stop_of_check};
-ghost use Rattle.check_cli.specs.Runs.{HeldFiles};
-ghost use Rattle.jeldroft_check.specs.Runs.{Holds};
+ghost use Rattle.check_cli.specs.believed.Runs.{HeldFiles};
+ghost use Rattle.jeldroft_check.specs.believed.Runs.{Holds};
 ghost use Rattle.jeldroft_check.specs.Steps.{Answers, Judges};
 
 use crate::reading::{read_file, read_proof, read_rows};

@@ -1,12 +1,12 @@
 //! The files of the command.
 ghost use Rattle.std.specs.Prelude.{◌≡◌, ◌≤◌, ◌^◌, length, Some, List, Option, ℕ, IfOk};
-ghost use Rattle.outside_io.specs.Seen.{KeepsFiles};
-ghost use Rattle.command_line.specs.Stops.{measured};
-ghost use Rattle.definitions.specs.Limits.{most_bytes};
-ghost use Rattle.check_cli.specs.Runs.{bytes_of};
+ghost use Rattle.outside_io.specs.believed.Seen.{KeepsFiles};
+ghost use Rattle.command_line.specs.believed.Stops.{measured};
+ghost use Rattle.definitions.specs.believed.Limits.{most_bytes};
+ghost use Rattle.check_cli.specs.believed.Runs.{bytes_of};
 ghost use Rattle.command_line.specs.declared.files.FileKind.TheVariants as kinds;
-ghost use Rattle.jeldroft_files.specs.Tables.{is_comma};
-ghost use Rattle.jeldroft_check.specs.Runs.{in_tabs, no_omissions, or_cause, proof_told};
+ghost use Rattle.jeldroft_files.specs.believed.Tables.{is_comma};
+ghost use Rattle.jeldroft_check.specs.believed.Runs.{in_tabs, no_omissions, or_cause, proof_told};
 ghost use Rattle.jeldroft_check.specs.Steps.{ReadsAs};
 
 use command_line::{FileKind, read_whole};

@@ -1,11 +1,12 @@
 ghost use Rattle.std.specs.Prelude.{◌≡◌, None, OnOk, IfErr};
-ghost use Rattle.outside_io.specs.Seen.{KeepsFiles};
-ghost use Rattle.definitions.specs.Laws.{IsCertified};
-ghost use Rattle.check_cli.specs.Runs.{HeldFiles, answer_text};
+ghost use Rattle.outside_io.specs.believed.Seen.{KeepsFiles};
+ghost use Rattle.definitions.specs.believed.Laws.{IsCertified};
+ghost use Rattle.check_cli.specs.believed.Runs.{HeldFiles};
+ghost use Rattle.check_cli.specs.Runs.{answer_text};
 ghost use Rattle.jeldroft_args.specs.Ranges.{AreMarks, AreThreads, IsStrength};
-ghost use Rattle.jeldroft_files.specs.Failures.{status_of};
-ghost use Rattle.jeldroft_files.specs.Runs.{IsPrinted, Leaves, moment};
-ghost use Rattle.jeldroft_check.specs.Runs.{ChecksAs, Due, HasReadings, Holds};
+ghost use Rattle.jeldroft_files.specs.believed.Failures.{status_of};
+ghost use Rattle.jeldroft_files.specs.believed.Runs.{IsPrinted, Leaves, moment};
+ghost use Rattle.jeldroft_check.specs.believed.Runs.{ChecksAs, Due, HasReadings, Holds};
 ghost use Rattle.jeldroft_check.specs.Steps.{Ends, answer_status, end_status};
 
 use crate::judging::verdict_of;

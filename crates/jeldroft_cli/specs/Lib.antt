@@ -1,3 +1,1 @@
-pub mod Commands
-pub mod Offered
-pub mod Promises
+pub mod believed

@@ -1,6 +1,6 @@
 ghost use Rattle.jeldroft_args.specs.Ranges.{IsInRange};
-ghost use Rattle.jeldroft_files.specs.Runs.{moment};
-ghost use Rattle.jeldroft_cli.specs.Promises.{Keeps};
+ghost use Rattle.jeldroft_files.specs.believed.Runs.{moment};
+ghost use Rattle.jeldroft_cli.specs.believed.Promises.{Keeps};
 
 use jeldroft_args::Command;
 use jeldroft_check::run_check;

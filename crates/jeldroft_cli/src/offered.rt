@@ -1,5 +1,5 @@
 ghost use Rattle.std.specs.Prelude.{◌≡◌};
-ghost use Rattle.jeldroft_cli.specs.Offered.{is_of_tables, is_offered};
+ghost use Rattle.jeldroft_cli.specs.believed.Offered.{is_of_tables, is_offered};
 
 use jeldroft_args::{Command, Format};
 use outside_io::{Sink, put_pieces};

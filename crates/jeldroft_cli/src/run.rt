@@ -1,12 +1,12 @@
 ghost use Rattle.std.specs.Prelude.{◌≡◌, ◌⊎◌, ◌≤◌, ℕ, List, Some, None, false, map, true};
 ghost use Rattle.std.specs.String.{string_bytes};
 ghost use Rattle.jeldroft_args.specs.Ranges.{IsInRange};
-ghost use Rattle.jeldroft_args.specs.Settings.{settings_of};
+ghost use Rattle.jeldroft_args.specs.believed.Settings.{settings_of};
 ghost use Rattle.jeldroft_args.specs.declared.command.Command.{Command as Asked};
-ghost use Rattle.jeldroft_files.specs.Runs.{IsUntouched, moment};
-ghost use Rattle.jeldroft_cli.specs.Commands.{commands};
-ghost use Rattle.jeldroft_cli.specs.Offered.{is_offered};
-ghost use Rattle.jeldroft_cli.specs.Promises.{IsUnbegun, Keeps};
+ghost use Rattle.jeldroft_files.specs.believed.Runs.{IsUntouched, moment};
+ghost use Rattle.jeldroft_cli.specs.believed.Commands.{commands};
+ghost use Rattle.jeldroft_cli.specs.believed.Offered.{is_offered};
+ghost use Rattle.jeldroft_cli.specs.believed.Promises.{IsUnbegun, Keeps};
 
 use crate::dispatch::dispatch;
 use crate::offered::{is_offered, refuse_lack};

@@ -1,8 +1,9 @@
 -- What a command does that reads files, and then ends with its answer.
 use Rattle.std.proofs.Common.{◌≡◌, ℕ, List, Option, Some, None, Result, Ok, Err, inl, inr, ap, sym, subst, ◌∙◌, arith}
 use Rattle.std.specs.Prelude.{IfSome}
-use Rattle.outside_io.specs.Seen.{FolderSeen, SinkSeen, KeepsFiles}
-use Rattle.jeldroft_files.specs.Runs.{Ends, IsCalledFor, IsDueOnce, IsWritten, KeepsFile, Leaves, Moment, RunsAs, moment}
+use Rattle.outside_io.specs.believed.Seen.{FolderSeen, SinkSeen, KeepsFiles}
+use Rattle.jeldroft_files.specs.Runs.{Ends, IsCalledFor, IsDueOnce}
+use Rattle.jeldroft_files.specs.believed.Runs.{IsWritten, KeepsFile, Leaves, Moment, RunsAs, moment}
 
 -- ---- files that were only read before
 

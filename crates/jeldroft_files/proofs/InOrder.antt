@@ -3,17 +3,17 @@
 use Rattle.std.proofs.Common.{◌≡◌, ◌≤◌, ◌+◌, ◌==◌, ℕ, Bool, true, false, if◌then◌else◌, None, List, [], ◌∷◌, ◌++◌, refl, sym, arith}
 use Rattle.std.specs.Prelude.{◌≢◌}
 use Rattle.std.proofs.lemmas.Bool.{false≢true}
-use Rattle.model_lex.specs.Lines.{without_mark}
+use Rattle.model_lex.specs.believed.Lines.{without_mark}
 use Rattle.comma_rows.specs.declared.comma_fault.CommaCause.TheVariants.{LoneReturn}
 use Rattle.comma_rows.specs.declared.position.Position.{Position}
 use Rattle.comma_rows.specs.declared.action.Place.{Place}
 use Rattle.comma_rows.specs.declared.action.Place.TheVariants.{LineStart, CellStart, InText, InQuotes, AfterQuote}
 use Rattle.comma_rows.specs.declared.action.Action.{Action}
 use Rattle.comma_rows.specs.declared.action.Action.TheVariants.{Skips, Passes, Adds, EndsCell, EndsRow, Stops}
-use Rattle.comma_rows.specs.Positions.{first_place, next}
-use Rattle.comma_rows.specs.Actions.{action_of, adds_text, ends_line, opens_quotes, outside_quotes, passes_return}
-use Rattle.comma_rows.specs.Reading.{Cell, Reading, at_end, begins_with_feed, comma_cells, follow, read}
-use Rattle.jeldroft_files.specs.Tables.{cell_line, next_line}
+use Rattle.comma_rows.specs.believed.Positions.{first_place, next}
+use Rattle.comma_rows.specs.believed.Actions.{action_of, adds_text, ends_line, opens_quotes, outside_quotes, passes_return}
+use Rattle.comma_rows.specs.believed.Reading.{Cell, Reading, at_end, begins_with_feed, comma_cells, follow, read}
+use Rattle.jeldroft_files.specs.believed.Tables.{cell_line, next_line}
 use Rattle.jeldroft_files.proofs.TabbedLength.{next_within}
 
 -- cells, of which the first may start its row, from a line on

@@ -6,15 +6,15 @@ use Rattle.std.proofs.lemmas.Bool.{cond-false, false≢true, lt-ltb, ne_eqb}
 use Rattle.std.proofs.lemmas.List.{append-nil}
 use Rattle.std.proofs.lemmas.List.Elements.{All-append, All-cons, All-head, All-map, All-nil, All-tail, All-weaker}
 use Rattle.std.proofs.lemmas.List.Splits.{length-slice_split, slice_split_at, slice_split_none}
-use Rattle.model_lex.specs.Lines.{ended_lines, file_lines, is_line_feed, without_return}
+use Rattle.model_lex.specs.believed.Lines.{ended_lines, file_lines, is_line_feed, without_return}
 use Rattle.model_lex.proofs.Cutting.{ended_lines-cons}
-use Rattle.definitions.specs.RowFile.{cells_of_line, without_spaces}
-use Rattle.comma_rows.specs.Reading.{Cell, comma_cells, unless_fault}
+use Rattle.definitions.specs.believed.RowFile.{cells_of_line, without_spaces}
+use Rattle.comma_rows.specs.believed.Reading.{Cell, comma_cells, unless_fault}
 use Rattle.comma_rows.specs.declared.comma_fault.CommaFault.{CommaFault}
 use Rattle.value_text.proofs.ListLemmas.{one_ok}
 use Rattle.comma_rows.specs.Rows.{onto_rows, rows_of}
 use Rattle.jeldroft_files.specs.ReadBack.{CommasReadAsTabs, row_line, shown_cell, tab_rows}
-use Rattle.jeldroft_files.specs.Tables.{shown, shown_byte, tabbed, tabbed_from}
+use Rattle.jeldroft_files.specs.believed.Tables.{shown, shown_byte, tabbed, tabbed_from}
 use Rattle.jeldroft_files.proofs.InOrder.{AreInOrder, cells_in_order}
 
 -- ---- bytes of cells and of lines

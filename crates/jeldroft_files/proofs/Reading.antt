@@ -1,8 +1,8 @@
 -- How the files of a command are read: the options of a model file, and why a reading ends.
 use Rattle.std.proofs.Common.{◌≡◌, ℕ, List, Option, Some, None, Err, Bool, true, length, ◌≤◌, ◌∙◌, refl, subst, sym, arith}
 use Rattle.std.specs.Prelude.{IfSome}
-use Rattle.outside_io.specs.Files.{Files}
-use Rattle.command_line.specs.Loading.{StopsReading}
+use Rattle.outside_io.specs.believed.Files.{Files}
+use Rattle.command_line.specs.believed.Loading.{StopsReading}
 use Rattle.command_line.specs.declared.stop.Stop.{Stop}
 use Rattle.jeldroft_args.specs.Ranges as ranges
 use Rattle.jeldroft_args.specs.declared.model_file.ModelFile.{ModelFile}
@@ -12,10 +12,11 @@ use Rattle.model_lex.specs.declared.options.ModelOpts.{ModelOpts}
 use Rattle.model_parse.specs.RawModels.{AreOpts, IsOrder}
 use Rattle.comma_rows.specs.declared.comma_fault.CommaError.{CommaError}
 use Rattle.comma_rows.specs.declared.comma_fault.CommaError.TheVariants.{Fault, NoMemory}
-use Rattle.definitions.specs.Limits.{RowFile, most_bytes}
-use Rattle.jeldroft_files.specs.Tables.{IsNoTable, StopsTable, as_tabs, cause_of, no_table, out_of_memory}
+use Rattle.definitions.specs.believed.Limits.{RowFile, most_bytes}
+use Rattle.jeldroft_files.specs.Tables.{IsNoTable, StopsTable, cause_of, no_table, out_of_memory}
+use Rattle.jeldroft_files.specs.believed.Tables.{as_tabs}
 use Rattle.jeldroft_files.specs.Tabbing.{Tabs}
-use Rattle.jeldroft_files.specs.Models.{StopsModel, opts_of, order_of}
+use Rattle.jeldroft_files.specs.believed.Models.{StopsModel, opts_of, order_of}
 use Rattle.jeldroft_files.specs.declared.failure.Cause.{Cause}
 use Rattle.jeldroft_files.specs.declared.failure.Cause.TheVariants as causes
 

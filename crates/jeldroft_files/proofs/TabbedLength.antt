@@ -2,17 +2,17 @@
 use Rattle.std.proofs.Common.{◌≡◌, ◌≤◌, ◌^◌, ◌*◌, ◌+◌, ◌-◌, ◌==◌, ◌⊎◌, ℕ, suc, Bool, true, false, None, ◌&&◌, if◌then◌else◌, List, [], ◌∷◌, ◌++◌, length, map, refl, inl, inr, arith, length-append}
 use Rattle.std.proofs.lemmas.Bool.{cases_Bool}
 use Rattle.std.proofs.lemmas.List.{length-map, length-replicate}
-use Rattle.model_lex.specs.Lines.{without_mark}
+use Rattle.model_lex.specs.believed.Lines.{without_mark}
 use Rattle.model_lex.proofs.OrderMark.{unmarked_within}
 use Rattle.comma_rows.specs.declared.position.Position.{Position}
 use Rattle.comma_rows.specs.declared.action.Place.{Place}
 use Rattle.comma_rows.specs.declared.action.Place.TheVariants.{LineStart, CellStart, InText, InQuotes, AfterQuote}
 use Rattle.comma_rows.specs.declared.action.Action.{Action}
 use Rattle.comma_rows.specs.declared.action.Action.TheVariants.{Skips, Passes, Adds, EndsCell, EndsRow, Stops}
-use Rattle.comma_rows.specs.Positions.{first_place, is_inside, next}
-use Rattle.comma_rows.specs.Actions.{action_of}
-use Rattle.comma_rows.specs.Reading.{Cell, Reading, at_end, begins_with_feed, comma_cells, follow, read}
-use Rattle.jeldroft_files.specs.Tables.{cell_text, ending, next_line, parting, shown, shown_byte, tabbed, tabbed_from}
+use Rattle.comma_rows.specs.believed.Positions.{first_place, is_inside, next}
+use Rattle.comma_rows.specs.believed.Actions.{action_of}
+use Rattle.comma_rows.specs.believed.Reading.{Cell, Reading, at_end, begins_with_feed, comma_cells, follow, read}
+use Rattle.jeldroft_files.specs.believed.Tables.{cell_text, ending, next_line, parting, shown, shown_byte, tabbed, tabbed_from}
 
 -- ---- one cell
 

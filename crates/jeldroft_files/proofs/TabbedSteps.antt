@@ -2,9 +2,9 @@
 use Rattle.std.proofs.Common.{◌≡◌, ◌≤◌, ◌^◌, ℕ, Bool, true, List, [], ◌∷◌, ◌++◌, Option, Some, None, Ok, length, ap, sym, subst, ◌∙◌, append_assoc}
 use Rattle.std.proofs.lemmas.List.{append-nil}
 use Rattle.comma_rows.specs.declared.comma_cells.CommaCell.{CommaCell}
-use Rattle.comma_rows.specs.Reading.{Cell, Reading, comma_cells, no_more, unless_fault, with_cell}
+use Rattle.comma_rows.specs.believed.Reading.{Cell, Reading, comma_cells, no_more, unless_fault, with_cell}
 use Rattle.comma_rows.specs.Taking.{Takes, cell_seen}
-use Rattle.jeldroft_files.specs.Tables.{as_tabs, cell_text, next_line, tabbed, tabbed_from}
+use Rattle.jeldroft_files.specs.believed.Tables.{as_tabs, cell_text, next_line, tabbed, tabbed_from}
 use Rattle.jeldroft_files.specs.Tabbing.{AddsCell}
 use Rattle.jeldroft_files.proofs.TabbedLength.{tabbed_short}
 

@@ -1,6 +1,5 @@
-pub mod Failures
-pub mod Models
 pub mod ReadBack
-pub mod Runs
 pub mod Tabbing
+pub mod believed
+pub mod Runs
 pub mod Tables

@@ -1,10 +1,10 @@
 -- What the table whose cells tabs part says: the rows of the one whose cells commas part, each in the line that it begins
 -- in. (This project's rule.)
 use Rattle.std.specs.Prelude.{◌≡◌, true, ℕ, List, [], ◌∷◌, map, Ok}
-use Rattle.comma_rows.specs.Reading.{Cell, comma_cells}
+use Rattle.comma_rows.specs.believed.Reading.{Cell, comma_cells}
 use Rattle.comma_rows.specs.Rows.{rows_of}
-use Rattle.definitions.specs.RowFile.{cells_of_line, filled_lines, without_spaces}
-use Rattle.jeldroft_files.specs.Tables.{as_tabs, shown_byte}
+use Rattle.definitions.specs.believed.RowFile.{cells_of_line, filled_lines, without_spaces}
+use Rattle.jeldroft_files.specs.believed.Tables.{as_tabs, shown_byte}
 
 -- the rows of a table whose cells tabs part, each with its line
 abbrev pub tab_rows : List ℕ → List (ℕ × List (List ℕ))

@@ -1,5 +1,5 @@
 ghost use Rattle.std.specs.Prelude.{◌≡◌};
-ghost use Rattle.jeldroft_files.specs.Failures as statuses;
+ghost use Rattle.jeldroft_files.specs.believed.Failures as statuses;
 
 use crate::refused_model::RefusedModel;
 use comma_rows::CommaFault;

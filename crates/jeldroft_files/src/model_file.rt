@@ -1,11 +1,11 @@
 ghost use Rattle.std.specs.Prelude.{◌≡◌, ◌≤◌, length, Some, IfOk, IfErr, IfSome};
-ghost use Rattle.outside_io.specs.Seen.{KeepsFiles};
-ghost use Rattle.cov_model.specs.Sound.{IsSound};
-ghost use Rattle.definitions.specs.Limits as limits;
+ghost use Rattle.outside_io.specs.believed.Seen.{KeepsFiles};
+ghost use Rattle.cov_model.specs.believed.Sound.{IsSound};
+ghost use Rattle.definitions.specs.believed.Limits as limits;
 ghost use Rattle.model_parse.specs.RawModels.{AreOpts};
-ghost use Rattle.command_line.specs.Loading.{IsLoaded, StopsReading};
+ghost use Rattle.command_line.specs.believed.Loading.{IsLoaded, StopsReading};
 ghost use Rattle.jeldroft_args.specs.Ranges.{AreMarks, IsStrength};
-ghost use Rattle.jeldroft_files.specs.Models.{StopsModel, opts_of, order_of};
+ghost use Rattle.jeldroft_files.specs.believed.Models.{StopsModel, opts_of, order_of};
 
 use crate::failure::{Cause, Failure};
 use crate::refused_model::RefusedModel;

@@ -1,7 +1,8 @@
 ghost use Rattle.std.specs.Prelude.{◌≡◌, Some, option_map, OnOk, OnErr, IfSome, IfErr};
-ghost use Rattle.outside_io.specs.Seen.{KeepsOtherFiles};
-ghost use Rattle.jeldroft_files.specs.Failures.{status_of};
-ghost use Rattle.jeldroft_files.specs.Runs.{Ends, IsPrinted, KeepsFile, Writes, answer_seen, end_status, moment};
+ghost use Rattle.outside_io.specs.believed.Seen.{KeepsOtherFiles};
+ghost use Rattle.jeldroft_files.specs.believed.Failures.{status_of};
+ghost use Rattle.jeldroft_files.specs.Runs.{Ends, Writes, answer_seen, end_status};
+ghost use Rattle.jeldroft_files.specs.believed.Runs.{IsPrinted, KeepsFile, moment};
 
 use crate::failure::Failure;
 use command_line::Stop;

@@ -1,5 +1,5 @@
 ghost use Rattle.std.specs.Prelude.{◌≤◌, length};
-ghost use Rattle.definitions.specs.Limits.{ModelFile, most_bytes};
+ghost use Rattle.definitions.specs.believed.Limits.{ModelFile, most_bytes};
 ghost use Rattle.model_parse.specs.RawModels.{AreOpts};
 
 use model_lex::ModelOpts;
@@ -14,7 +14,7 @@ pub struct RefusedModel {
 
 impl Model for RefusedModel {
     ghost use Rattle.std.specs.Prelude.{◌≤◌, ℕ, List, length};
-    ghost use Rattle.definitions.specs.Limits.{ModelFile, most_bytes};
+    ghost use Rattle.definitions.specs.believed.Limits.{ModelFile, most_bytes};
     ghost use Rattle.model_lex.specs.declared.options.ModelOpts.{ModelOpts};
     ghost use Rattle.model_parse.specs.RawModels.{AreOpts};
 

@@ -1,7 +1,7 @@
 //! A table whose cells commas part, as one whose cells tabs part.
 ghost use Rattle.std.specs.Prelude.{◌≡◌, ◌≤◌, ◌+◌, ◌^◌, [], ◌∷◌, ◌++◌, map, replicate, length, OnOk, IfOk, if◌then◌else◌};
 ghost use Rattle.comma_rows.specs.Taking.{cell_seen};
-ghost use Rattle.jeldroft_files.specs.Tables.{cell_line, parting, shown_byte};
+ghost use Rattle.jeldroft_files.specs.believed.Tables.{cell_line, parting, shown_byte};
 ghost use Rattle.jeldroft_files.specs.Tabbing.{AddsCell, Tabs};
 
 use comma_rows::{CommaCell, CommaCells, CommaError};

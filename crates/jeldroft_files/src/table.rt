@@ -1,6 +1,7 @@
 ghost use Rattle.std.specs.Prelude.{◌≡◌, ◌≤◌, ◌^◌, length, IfOk, IfErr, IfSome};
-ghost use Rattle.outside_io.specs.Seen.{KeepsFiles};
+ghost use Rattle.outside_io.specs.believed.Seen.{KeepsFiles};
 ghost use Rattle.jeldroft_files.specs.Tables as tables;
+ghost use Rattle.jeldroft_files.specs.believed.Tables as believed_tables;
 
 use crate::failure::{Cause, Failure};
 use crate::tabbed::tabbed;
@@ -13,7 +14,7 @@ use std::alloc::Global;
 /// Whether commas part the cells of the table in the file of this name: where the words say so, and, where they say
 /// nothing, where its name ends with `.csv`. Else tabs part them.
 pub fn is_comma(delimiter: Option<Delimiter>, name: &str) -> bool
-    ensures { result ≡ tables.is_comma delimiter name.now }
+    ensures { result ≡ believed_tables.is_comma delimiter name.now }
 {
     match delimiter {
         Some(Delimiter::Tab) => false,
@@ -51,10 +52,10 @@ pub fn read_table<'n, F: Folder>(
     files: &mut F,
 ) -> Result<Vec<u8>, Failure<'n>>
     ensures table { IfOk result (λ bytes. IfSome ((F.seen files.old).files name.now)
-        (λ held. tables.IsTableOf (tables.is_comma delimiter name.now) held bytes.items)) }
+        (λ held. tables.IsTableOf (believed_tables.is_comma delimiter name.now) held bytes.items)) }
     ensures within { IfOk result (λ bytes. length bytes.items ≤ 2 ^ 28) }
     ensures stops { IfErr result (λ failure. IfSome ((F.seen files.old).files name.now)
-        (λ held. tables.StopsTable (tables.is_comma delimiter name.now) held failure.cause)) }
+        (λ held. tables.StopsTable (believed_tables.is_comma delimiter name.now) held failure.cause)) }
     ensures files { KeepsFiles (F.seen files.old) (F.seen files.new) }
 {
     let bytes = match read_whole(alloc, FileKind::Rows, name, files) {

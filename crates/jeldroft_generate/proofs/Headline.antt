@@ -4,41 +4,43 @@ use Rattle.std.specs.Prelude.{All, nat_lt, if◌then◌else◌, IfSome, IsSomeAn
 use Rattle.std.proofs.lemmas.Bool.{ltb-false}
 use Rattle.std.proofs.lemmas.Option.{none-some}
 use Rattle.value_text.proofs.ListLemmas.{one_ok}
-use Rattle.cov_model.specs.Sound.{ModelView, IsSound}
+use Rattle.cov_model.specs.believed.Sound.{ModelView, IsSound}
 use Rattle.cov_model.specs.Fits.{FitsModel}
 use Rattle.cov_model.specs.Preference.{OrdersValues}
 use Rattle.cov_model.proofs.PreferenceLemmas.{OrdersValues-preference}
 use Rattle.cov_model.proofs.RowLemmas.{FitsModel-is_row}
 use Rattle.definitions.specs.declared.effort.Effort.{Effort}
-use Rattle.definitions.specs.Demand.{choices, demanded_tuples}
-use Rattle.definitions.specs.Growth.{growth}
-use Rattle.definitions.specs.RowReading.{RowReading}
+use Rattle.definitions.specs.believed.Demand.{choices, demanded_tuples}
+use Rattle.definitions.specs.believed.Growth.{growth}
+use Rattle.definitions.specs.believed.RowReading.{RowReading}
 use Rattle.definitions.specs.SuiteLaws.{IsSoundProof}
-use Rattle.definitions.specs.SuiteProof.{IsProofOfSuite}
+use Rattle.definitions.specs.believed.SuiteProof.{IsProofOfSuite}
 use Rattle.definitions.proofs.GrowthLaw.{suites_cover}
 use Rattle.definitions.proofs.SuiteLaws.{suites_serve_or_refute}
-use Rattle.outside_io.specs.Files.{Files}
-use Rattle.outside_io.specs.Seen.{FolderSeen, SinkSeen}
-use Rattle.refutation.specs.Proofs.{format_of}
+use Rattle.outside_io.specs.believed.Files.{Files}
+use Rattle.outside_io.specs.believed.Seen.{FolderSeen, SinkSeen}
+use Rattle.refutation.specs.believed.Proofs.{format_of}
 use Rattle.refutation.specs.declared.omissions.ProofForm.{ProofForm}
 use Rattle.refutation.specs.declared.omissions.ProofForm.TheVariants.{One, Two}
-use Rattle.tuple_index.specs.PlanFault as limits
-use Rattle.tuple_index.specs.PlanFault.{limit_passed}
+use Rattle.tuple_index.specs.believed.PlanFault as limits
+use Rattle.tuple_index.specs.believed.PlanFault.{limit_passed}
 use Rattle.tuple_index.specs.declared.fault.PlanFault.TheVariants.{TooManySets, TooManyTuples}
-use Rattle.command_line.specs.Stops.{stop_of_plan}
+use Rattle.command_line.specs.believed.Stops.{stop_of_plan}
 use Rattle.command_line.specs.declared.stop.Stop.{Stop}
-use Rattle.pict_cli.specs.Runs.{CoversOrRefutes, spent_at}
+use Rattle.pict_cli.specs.believed.Runs.{CoversOrRefutes, spent_at}
 use Rattle.pict_cli.proofs.Headline.{suite_rows}
 use Rattle.jeldroft_args.specs.declared.generate.Generate.{Generate}
 use Rattle.jeldroft_args.specs.declared.proof_output.ProofOutput.{ProofOutput}
-use Rattle.jeldroft_files.specs.Models.{opts_of}
-use Rattle.jeldroft_files.specs.Runs.{IsWritten, Moment, moment}
+use Rattle.jeldroft_files.specs.believed.Models.{opts_of}
+use Rattle.jeldroft_files.specs.believed.Runs.{IsWritten, Moment, moment}
 use Rattle.jeldroft_files.specs.declared.failure.Cause.{Cause}
 use Rattle.jeldroft_files.specs.declared.failure.Failure.{Failure}
-use Rattle.jeldroft_generate.specs.Asked.{effort_of, orders_of, proof_form, proof_name, question_over, rows_of}
-use Rattle.jeldroft_generate.specs.Due.{Answers, AreHeld, CallsFor, Held, IsMadeOf, IsProof, Start, reading_of, start_of}
-use Rattle.jeldroft_generate.specs.Given.{GivesModel, and_then, unless}
-use Rattle.jeldroft_generate.specs.Runs.{Covers, Finishes, WritesSuite}
+use Rattle.jeldroft_generate.specs.believed.Asked.{effort_of, orders_of, proof_form, proof_name, question_over, rows_of}
+use Rattle.jeldroft_generate.specs.Due.{Answers, IsMadeOf}
+use Rattle.jeldroft_generate.specs.believed.Due.{AreHeld, CallsFor, Held, IsProof, Start, reading_of, start_of}
+use Rattle.jeldroft_generate.specs.believed.Given.{GivesModel, and_then, unless}
+use Rattle.jeldroft_generate.specs.believed.Runs.{Covers, WritesSuite}
+use Rattle.jeldroft_generate.specs.Runs.{Finishes}
 use Rattle.jeldroft_generate.specs.declared.made.Made.{Made}
 use Rattle.jeldroft_generate.proofs.Reading.{has_model}
 use Rattle.jeldroft_generate.proofs.Runs.{not_zero, proof_of}

@@ -3,21 +3,21 @@ use Rattle.std.proofs.Common.{◌≡◌, ℕ, ◌≤◌, ◌⊎◌, List, length
 use Rattle.std.specs.Prelude.{IfSome}
 use Rattle.std.proofs.lemmas.Option.{none-some, same_Some}
 use Rattle.value_text.proofs.ListLemmas.{one_ok}
-use Rattle.cov_model.specs.Sound.{ModelView}
-use Rattle.definitions.specs.Limits.{ModelFile, most_bytes}
+use Rattle.cov_model.specs.believed.Sound.{ModelView}
+use Rattle.definitions.specs.believed.Limits.{ModelFile, most_bytes}
 use Rattle.model_lex.specs.declared.note.Note.{Note}
 use Rattle.model_lex.specs.declared.options.ModelOpts.{ModelOpts}
-use Rattle.type_check.specs.ModelOf.{Answer, IsAnswerOf}
+use Rattle.type_check.specs.believed.ModelOf.{Answer, IsAnswerOf}
 use Rattle.type_check.proofs.OneAnswer.{one_answer}
-use Rattle.command_line.specs.Loading as reads
-use Rattle.command_line.specs.Loading.{IsLoaded, StopsReading}
+use Rattle.command_line.specs.believed.Loading as reads
+use Rattle.command_line.specs.believed.Loading.{IsLoaded, StopsReading}
 use Rattle.command_line.specs.declared.stop.Stop.{Stop}
-use Rattle.pict_cli.specs.Runs.{HasModel}
-use Rattle.jeldroft_files.specs.Failures.{status_of}
-use Rattle.jeldroft_files.specs.Models.{StopsModel}
+use Rattle.pict_cli.specs.believed.Runs.{HasModel}
+use Rattle.jeldroft_files.specs.believed.Failures.{status_of}
+use Rattle.jeldroft_files.specs.believed.Models.{StopsModel}
 use Rattle.jeldroft_files.specs.declared.failure.Cause.{Cause}
 use Rattle.jeldroft_files.specs.declared.failure.Cause.TheVariants as causes
-use Rattle.jeldroft_generate.specs.Given.{GivesModel, is_missing, is_read, is_too_long, model_or_cause}
+use Rattle.jeldroft_generate.specs.believed.Given.{GivesModel, is_missing, is_read, is_too_long, model_or_cause}
 
 pub one_model : (opts : ModelOpts) (held : Option (List ℕ)) (given other : Result ModelView Cause) → GivesModel opts held given → GivesModel opts held other → given ≡ other
 one_model opts held given other (is_missing none is) (is_missing too same) = is ∙ sym same

@@ -2,19 +2,21 @@
 use Rattle.std.proofs.Common.{◌≡◌, ℕ, ◌⊎◌, List, Option, None, Some, Result, Ok, Err, inl, inr, refl, ap, sym, subst, ◌∙◌, arith}
 use Rattle.std.specs.Prelude.{◌≢◌, IfSome, IsSomeAnd}
 use Rattle.value_text.proofs.ListLemmas.{one_ok}
-use Rattle.outside_io.specs.Seen.{FolderSeen, SinkSeen, KeepsFiles}
+use Rattle.outside_io.specs.believed.Seen.{FolderSeen, SinkSeen, KeepsFiles}
 use Rattle.command_line.specs.declared.stop.Stop.{Stop}
 use Rattle.command_line.specs.declared.stop.Stop.TheVariants as stops
 use Rattle.jeldroft_args.specs.declared.generate.Generate.{Generate}
-use Rattle.jeldroft_files.specs.Failures.{status_of}
-use Rattle.jeldroft_files.specs.Runs.{IsWritten, KeepsFile, Moment, moment}
+use Rattle.jeldroft_files.specs.believed.Failures.{status_of}
+use Rattle.jeldroft_files.specs.believed.Runs.{IsWritten, KeepsFile, Moment, moment}
 use Rattle.jeldroft_files.specs.declared.failure.Cause.{Cause}
 use Rattle.jeldroft_files.specs.declared.failure.Cause.TheVariants as causes
 use Rattle.jeldroft_files.specs.declared.failure.Failure.{Failure}
-use Rattle.jeldroft_generate.specs.Asked.{proof_name}
-use Rattle.jeldroft_generate.specs.Due.{Answers, CallsFor, Held, IsMadeOf, IsProof, Start, start_of}
-use Rattle.jeldroft_generate.specs.Given.{and_then}
-use Rattle.jeldroft_generate.specs.Runs.{Finishes, Generates, Leaves}
+use Rattle.jeldroft_generate.specs.believed.Asked.{proof_name}
+use Rattle.jeldroft_generate.specs.Due.{Answers, IsMadeOf}
+use Rattle.jeldroft_generate.specs.believed.Due.{CallsFor, Held, IsProof, Start, start_of}
+use Rattle.jeldroft_generate.specs.believed.Given.{and_then}
+use Rattle.jeldroft_generate.specs.Runs.{Finishes}
+use Rattle.jeldroft_generate.specs.believed.Runs.{Generates, Leaves}
 use Rattle.jeldroft_generate.specs.declared.made.Made.{Made}
 use Rattle.jeldroft_generate.proofs.Reading.{one_model}
 use Rattle.jeldroft_generate.proofs.Since.{if_some_then, same_kept, written_from}

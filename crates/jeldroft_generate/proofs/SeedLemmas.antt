@@ -2,15 +2,15 @@
 use Rattle.std.proofs.Common.{◌≡◌, ℕ, List, [], Option, None, Some, Ok, ap, sym, ◌∙◌}
 use Rattle.std.specs.Prelude.{option_map, unwrap_or}
 use Rattle.std.proofs.lemmas.Option.{none-some, same_Some}
-use Rattle.cov_model.specs.Sound.{ModelView}
-use Rattle.definitions.specs.RowReading.{RowReading}
-use Rattle.outside_io.specs.Files.{Files}
+use Rattle.cov_model.specs.believed.Sound.{ModelView}
+use Rattle.definitions.specs.believed.RowReading.{RowReading}
+use Rattle.outside_io.specs.believed.Files.{Files}
 use Rattle.row_text.specs.Readings.{HoldsReading}
 use Rattle.row_text.specs.declared.row_file.RowFile as files
 use Rattle.jeldroft_args.specs.declared.delimiter.Delimiter.{Delimiter}
-use Rattle.jeldroft_files.specs.Tables.{is_comma}
-use Rattle.jeldroft_generate.specs.Due.{told_seeds}
-use Rattle.jeldroft_generate.specs.Given.{seeds_of}
+use Rattle.jeldroft_files.specs.believed.Tables.{is_comma}
+use Rattle.jeldroft_generate.specs.believed.Due.{told_seeds}
+use Rattle.jeldroft_generate.specs.believed.Given.{seeds_of}
 
 -- what is told of it stays
 pub told_kept : (seeds : Option (List ℕ)) (before after : Files) (held : Option (Option (List ℕ))) → ((name : List ℕ) → after name ≡ before name)

@@ -1,7 +1,7 @@
 -- Files and outputs as they were before others were read or written.
 use Rattle.std.proofs.Common.{◌≡◌, ℕ, List, Option, None, Some, sym, subst, ◌∙◌}
 use Rattle.std.specs.Prelude.{IfSome}
-use Rattle.jeldroft_files.specs.Runs.{IsPrinted, IsWritten, Moment}
+use Rattle.jeldroft_files.specs.believed.Runs.{IsPrinted, IsWritten, Moment}
 
 pub if_some_then : {A : Type 0} (P Q : A → Type 0) (o : Option A) → ((x : A) → P x → Q x) → IfSome o P → IfSome o Q
 if_some_then P Q None then holds = tt

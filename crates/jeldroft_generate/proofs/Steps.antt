@@ -1,23 +1,24 @@
 -- What the steps of a run give, and how they end.
 use Rattle.std.proofs.Common.{◌≡◌, ℕ, ◌⊎◌, List, Option, None, Some, Result, Ok, Err, inl, inr, refl, sym}
 use Rattle.std.specs.Prelude.{IfSome, option_map}
-use Rattle.cov_model.specs.Sound.{ModelView}
+use Rattle.cov_model.specs.believed.Sound.{ModelView}
 use Rattle.ipog_grow.specs.Suites.{IsSuiteOf}
 use Rattle.ipog_grow.specs.declared.suite.Suite.{Suite}
-use Rattle.refutation.specs.Proofs.{format_of}
-use Rattle.definitions.specs.SuiteProof.{IsProofOfSuite}
+use Rattle.refutation.specs.believed.Proofs.{format_of}
+use Rattle.definitions.specs.believed.SuiteProof.{IsProofOfSuite}
 use Rattle.definitions.specs.declared.effort.Effort.{Effort}
 use Rattle.pict_cli.specs.Steps.{written}
 use Rattle.pict_cli.proofs.Suites.{proof_ready}
 use Rattle.jeldroft_args.specs.declared.generate.Generate.{Generate}
 use Rattle.jeldroft_args.specs.declared.proof_output.ProofOutput.{ProofOutput}
-use Rattle.jeldroft_files.specs.Failures.{status_of}
-use Rattle.jeldroft_files.specs.Models.{opts_of}
+use Rattle.jeldroft_files.specs.believed.Failures.{status_of}
+use Rattle.jeldroft_files.specs.believed.Models.{opts_of}
 use Rattle.jeldroft_files.specs.declared.failure.Cause.{Cause}
 use Rattle.jeldroft_files.specs.declared.failure.Failure.{Failure}
-use Rattle.jeldroft_generate.specs.Asked.{proof_form}
-use Rattle.jeldroft_generate.specs.Due.{Answers, CallsFor, Held, IsMadeOf, start_of}
-use Rattle.jeldroft_generate.specs.Given.{GivesModel}
+use Rattle.jeldroft_generate.specs.believed.Asked.{proof_form}
+use Rattle.jeldroft_generate.specs.Due.{Answers, IsMadeOf}
+use Rattle.jeldroft_generate.specs.believed.Due.{CallsFor, Held, start_of}
+use Rattle.jeldroft_generate.specs.believed.Given.{GivesModel}
 use Rattle.jeldroft_generate.specs.declared.made.Made.{Made}
 
 -- the proof of a suite

@@ -1,60 +1,15 @@
 -- What the files of `generate` call for: a model and seed tests from which a suite grows, or a cause for which there is
 -- none. (The causes and their order are this project's rules.)
-use Rattle.std.specs.Prelude.{◌≡◌, ◌⊎◌, ℕ, List, [], Option, Some, None, Result, Ok, Err, IfSome, option_map, unwrap_or}
-use Rattle.cov_model.specs.Sound.{ModelView, IsSound}
-use Rattle.definitions.specs.RowReading.{RowReading}
-use Rattle.definitions.specs.SuiteProof.{IsProofOfSuite}
-use Rattle.outside_io.specs.Files.{Files}
-use Rattle.refutation.specs.Proofs.{format_of}
-use Rattle.tuple_index.specs.PlanFault.{limit_passed}
-use Rattle.command_line.specs.Stops.{stop_of_plan}
-use Rattle.pict_cli.specs.Runs.{spent_at}
+use Rattle.std.specs.Prelude.{◌≡◌, ◌⊎◌, None, Result, Ok, Err}
+use Rattle.cov_model.specs.believed.Sound.{IsSound}
+use Rattle.tuple_index.specs.believed.PlanFault.{limit_passed}
 use Rattle.jeldroft_args.specs.declared.generate.Generate.{Generate}
-use Rattle.jeldroft_files.specs.Failures.{status_of}
-use Rattle.jeldroft_files.specs.Models.{opts_of}
-use Rattle.jeldroft_files.specs.Tables.{is_comma}
+use Rattle.jeldroft_files.specs.believed.Failures.{status_of}
 use Rattle.jeldroft_files.specs.declared.failure.Cause.{Cause}
 use Rattle.jeldroft_files.specs.declared.failure.Failure.{Failure}
-use Rattle.jeldroft_generate.specs.Asked.{effort_of, orders_of, proof_form, question_over, table_of}
-use Rattle.jeldroft_generate.specs.Given.{GivesModel, and_then, seeds_of, unless}
+use Rattle.jeldroft_generate.specs.believed.Asked.{table_of}
 use Rattle.jeldroft_generate.specs.declared.made.Made.{Made}
-
--- what the files that are read hold: the model file, and the file of seeds where one is named
-pub record Held : Type 0 where
-  pub model : Option (List ℕ)
-  pub seeds : Option (Option (List ℕ))
-
--- what a folder tells of the file of seeds
-abbrev pub told_seeds : Option (List ℕ) → Files → Option (Option (Option (List ℕ)))
-told_seeds None files = Some None
-told_seeds (Some name) files = option_map Some (files name)
-
--- the folder tells what the files hold
-pub record AreHeld (args : Generate) (files : Files) (held : Held) : Type 0 where
-  pub model : files args.model.name ≡ Some held.model
-  pub seeds : told_seeds args.seeds files ≡ Some held.seeds
-
--- a model, and the seed tests from which its suite grows
-pub record Start : Type 0 where
-  pub model : ModelView
-  pub seeds : List (ℕ × List (Option ℕ))
-
--- the seed tests of a model
-abbrev pub reading_of : Generate → ModelView → Option (Option (List ℕ)) → Result RowReading Cause
-reading_of args m held = seeds_of m (is_comma args.delimiter (unwrap_or args.seeds [])) held
-
--- what a model and its file of seeds call for: none where the model demands more than it may, at seeds that have no
--- reading, and where a question of the search costs more than it may
-abbrev pub start_of : Generate → Option (Option (List ℕ)) → ModelView → Result Start Cause
-start_of args held m =
-    unless (option_map stop_of_plan (limit_passed m)) (and_then (reading_of args m held) (λ reading.
-    unless (spent_at (effort_of args.budget) (question_over args m reading.rows)) (Ok (record { model = m; seeds = reading.rows }))))
-
--- the files call for this
-pub record CallsFor (args : Generate) (held : Held) (due : Result Start Cause) : Type 0 where
-  pub given : Result ModelView Cause
-  pub gives : GivesModel (opts_of args.model args.strength) held.model given
-  pub is : due ≡ and_then given (start_of args held.seeds)
+use Rattle.jeldroft_generate.specs.believed.Due.{Start, IsProof}
 
 -- ---- how steps end
 
@@ -62,11 +17,6 @@ pub record CallsFor (args : Generate) (held : Held) (due : Result Start Cause) :
 abbrev pub Answers : {A B : Type 0} → (Result B Cause → Type 0) → (A → B → Type 0) → Result A Failure → Type 0
 Answers {A} {B} Calls Holds (Ok value) = (given : B) × Calls (Ok given) × Holds value given
 Answers {A} {B} Calls Holds (Err failure) = (status_of failure.cause ≡ 3) ⊎ Calls (Err failure.cause)
-
--- a text is the proof of a suite, where one is asked for
-abbrev pub IsProof : Generate → Start → List ℕ → Type 0
-IsProof args start text =
-    IfSome args.proof (λ proof. IsProofOfSuite start.model (orders_of args start.model) start.seeds (effort_of args.budget) (format_of (proof_form proof.format)) text)
 
 -- what was made is the table of the suite, and its proof where one is asked for
 pub record IsMadeOf (args : Generate) (made : Made) (start : Start) : Type 0 where

@@ -1,5 +1,4 @@
-pub mod Asked
-pub mod Given
+pub mod Steps
+pub mod believed
 pub mod Due
 pub mod Runs
-pub mod Steps

@@ -1,7 +1,7 @@
 -- How the steps of a run of `generate` end. (This project's rules.)
 use Rattle.std.specs.Prelude.{◌≡◌, ◌⊎◌, Option, Some}
 use Rattle.command_line.specs.declared.stop.Stop.{Stop}
-use Rattle.jeldroft_files.specs.Failures.{status_of}
+use Rattle.jeldroft_files.specs.believed.Failures.{status_of}
 use Rattle.jeldroft_files.specs.declared.failure.Cause.{Cause}
 use Rattle.jeldroft_files.specs.declared.failure.Cause.TheVariants as causes
 

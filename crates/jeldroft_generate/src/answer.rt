@@ -1,15 +1,16 @@
 ghost use Rattle.std.specs.Prelude.{◌≡◌, ◌≤◌, ◌^◌, ℕ, List, Option, Some, None, All, length, IfOk, IfErr, IfSome, OnOk};
 ghost use Rattle.cov_model.specs.Fits.{FitsModel};
-ghost use Rattle.outside_io.specs.Seen.{KeepsFiles};
-ghost use Rattle.pict_cli.specs.Runs.{spent_at};
+ghost use Rattle.outside_io.specs.believed.Seen.{KeepsFiles};
+ghost use Rattle.pict_cli.specs.believed.Runs.{spent_at};
 ghost use Rattle.pict_cli.specs.Steps.{written};
 ghost use Rattle.row_text.specs.RowFiles.{seeds_seen};
-ghost use Rattle.suite_forms.specs.Suites.{suite_text};
+ghost use Rattle.suite_forms.specs.believed.Suites.{suite_text};
 ghost use Rattle.tuple_index.specs.Plan.{plan_of};
-ghost use Rattle.tuple_index.specs.PlanFault.{limit_passed};
+ghost use Rattle.tuple_index.specs.believed.PlanFault.{limit_passed};
 ghost use Rattle.jeldroft_args.specs.Ranges.{AreThreads};
-ghost use Rattle.jeldroft_generate.specs.Asked.{effort_of, form_of, question_over};
-ghost use Rattle.jeldroft_generate.specs.Due.{Answers, AreHeld, CallsFor, Held, IsMadeOf, start_of, told_seeds};
+ghost use Rattle.jeldroft_generate.specs.believed.Asked.{effort_of, form_of, question_over};
+ghost use Rattle.jeldroft_generate.specs.Due.{Answers, IsMadeOf};
+ghost use Rattle.jeldroft_generate.specs.believed.Due.{AreHeld, CallsFor, Held, start_of, told_seeds};
 ghost use Rattle.jeldroft_generate.specs.Runs.{AreInRange};
 ghost use Rattle.jeldroft_generate.specs.Steps.{EndsAt};
 

@@ -1,6 +1,6 @@
 //! What the settings ask for, as the crates below take it.
 ghost use Rattle.std.specs.Prelude.{◌≡◌, option_map};
-ghost use Rattle.jeldroft_generate.specs.Asked.{effort_of, form_of, proof_asked, proof_form};
+ghost use Rattle.jeldroft_generate.specs.believed.Asked.{effort_of, form_of, proof_asked, proof_form};
 
 use definitions::Effort;
 use jeldroft_args::{Format, Generate};

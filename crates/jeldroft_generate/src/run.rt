@@ -1,7 +1,9 @@
 ghost use Rattle.std.specs.Prelude.{◌≡◌, ℕ};
-ghost use Rattle.jeldroft_files.specs.Runs.{end_status, moment};
-ghost use Rattle.jeldroft_generate.specs.Due.{AreHeld, Held};
-ghost use Rattle.jeldroft_generate.specs.Runs.{AreInRange, Covers, Generates, Leaves};
+ghost use Rattle.jeldroft_files.specs.Runs.{end_status};
+ghost use Rattle.jeldroft_files.specs.believed.Runs.{moment};
+ghost use Rattle.jeldroft_generate.specs.believed.Due.{AreHeld, Held};
+ghost use Rattle.jeldroft_generate.specs.Runs.{AreInRange};
+ghost use Rattle.jeldroft_generate.specs.believed.Runs.{Covers, Generates, Leaves};
 
 use crate::answer::answer;
 use crate::notes::Notes;

@@ -1,9 +1,10 @@
 ghost use Rattle.std.specs.Prelude.{◌≡◌, ℕ, List, Option, Some, IfOk};
-ghost use Rattle.outside_io.specs.Seen.{KeepsFiles};
+ghost use Rattle.outside_io.specs.believed.Seen.{KeepsFiles};
 ghost use Rattle.row_text.specs.Readings.{HoldsReading, IsFileOf};
-ghost use Rattle.jeldroft_files.specs.Tables.{is_comma};
-ghost use Rattle.jeldroft_generate.specs.Due.{Answers, reading_of, told_seeds};
-ghost use Rattle.jeldroft_generate.specs.Given.{seeds_in};
+ghost use Rattle.jeldroft_files.specs.believed.Tables.{is_comma};
+ghost use Rattle.jeldroft_generate.specs.Due.{Answers};
+ghost use Rattle.jeldroft_generate.specs.believed.Due.{reading_of, told_seeds};
+ghost use Rattle.jeldroft_generate.specs.believed.Given.{seeds_in};
 
 use command_line::Stop;
 use cov_model::TestModel;

@@ -1,6 +1,7 @@
 ghost use Rattle.std.specs.Prelude.{◌≡◌, option_map};
-ghost use Rattle.jeldroft_files.specs.Runs.{end_status, moment};
-ghost use Rattle.jeldroft_generate.specs.Asked.{proof_name};
+ghost use Rattle.jeldroft_files.specs.Runs.{end_status};
+ghost use Rattle.jeldroft_files.specs.believed.Runs.{moment};
+ghost use Rattle.jeldroft_generate.specs.believed.Asked.{proof_name};
 ghost use Rattle.jeldroft_generate.specs.Runs.{Finishes, WritesBoth, WritesIf};
 
 use crate::asked::output_name;

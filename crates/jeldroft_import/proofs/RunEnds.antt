@@ -4,16 +4,17 @@ use Rattle.std.specs.Prelude.{IfSome, IsSomeAnd}
 use Rattle.std.specs.declared.vec.Vec.{Vec}
 use Rattle.std.specs.declared.alloc.Global.{Global}
 use Rattle.std.proofs.lemmas.Bool.{cases_Bool}
-use Rattle.outside_io.specs.Seen.{FolderSeen, KeepsFiles, SinkSeen}
-use Rattle.definitions.specs.Limits.{ModelFile, most_bytes}
-use Rattle.acts_front.specs.SameModels.{IsFaithful}
-use Rattle.acts_front.specs.Translation.{translation}
+use Rattle.outside_io.specs.believed.Seen.{FolderSeen, KeepsFiles, SinkSeen}
+use Rattle.definitions.specs.believed.Limits.{ModelFile, most_bytes}
+use Rattle.acts_front.specs.believed.SameModels.{IsFaithful}
+use Rattle.acts_front.specs.believed.Translation.{translation}
 use Rattle.acts_front.specs.declared.code.ActsCode.{ActsCode}
 use Rattle.acts_front.proofs.SayTheSame.{faithful}
 use Rattle.value_text.proofs.ListLemmas.{one_err, one_ok}
-use Rattle.jeldroft_files.specs.Runs.{Ends, IsCalledFor, IsDueOnce, IsWritten, Leaves, Moment, RunsAs, moment}
+use Rattle.jeldroft_files.specs.Runs.{Ends, IsCalledFor, IsDueOnce}
+use Rattle.jeldroft_files.specs.believed.Runs.{IsWritten, Leaves, Moment, RunsAs, moment}
 use Rattle.jeldroft_files.proofs.Ending as endings
-use Rattle.jeldroft_import.specs.Imports.{Due, called_for, status_of, text_of}
+use Rattle.jeldroft_import.specs.believed.Imports.{Due, called_for, status_of, text_of}
 use Rattle.jeldroft_import.specs.Steps.{Gives, answer_seen, end_status}
 use Rattle.jeldroft_import.specs.declared.cause.ImportCause.{ImportCause}
 

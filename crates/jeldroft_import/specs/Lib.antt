@@ -1,2 +1,2 @@
-pub mod Imports
 pub mod Steps
+pub mod believed

@@ -2,7 +2,7 @@
 use Rattle.std.specs.Prelude.{◌≡◌, ℕ, ◌⊎◌, List, Result, Ok, Err}
 use Rattle.std.specs.declared.vec.Vec.{Vec}
 use Rattle.std.specs.declared.alloc.Global.{Global}
-use Rattle.jeldroft_import.specs.Imports.{status_of}
+use Rattle.jeldroft_import.specs.believed.Imports.{status_of}
 use Rattle.jeldroft_import.specs.declared.cause.ImportCause.{ImportCause}
 
 -- a cause that is called for, or that memory or a device failed

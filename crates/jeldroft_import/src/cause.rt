@@ -1,5 +1,5 @@
 ghost use Rattle.std.specs.Prelude.{◌≡◌};
-ghost use Rattle.jeldroft_import.specs.Imports as imports;
+ghost use Rattle.jeldroft_import.specs.believed.Imports as imports;
 
 use acts_front::ActsCode;
 

@@ -1,7 +1,7 @@
 ghost use Rattle.std.specs.Prelude.{◌≤◌, ◌^◌, IfOk, IfSome, length};
-ghost use Rattle.outside_io.specs.Seen.{KeepsFiles};
-ghost use Rattle.acts_front.specs.Translation.{translation};
-ghost use Rattle.jeldroft_import.specs.Imports.{bytes_held, text_of};
+ghost use Rattle.outside_io.specs.believed.Seen.{KeepsFiles};
+ghost use Rattle.acts_front.specs.believed.Translation.{translation};
+ghost use Rattle.jeldroft_import.specs.believed.Imports.{bytes_held, text_of};
 ghost use Rattle.jeldroft_import.specs.Steps.{Gives, Reads};
 
 use crate::cause::ImportCause;

@@ -1,9 +1,10 @@
 ghost use Rattle.std.specs.Prelude.{◌≡◌, ℕ, List, Option, Some, IfSome, IsSomeAnd, not, option_map};
-ghost use Rattle.outside_io.specs.Seen.{KeepsFiles};
-ghost use Rattle.acts_front.specs.SameModels.{IsFaithful};
-ghost use Rattle.jeldroft_files.specs.Runs.{Ends, IsWritten, Leaves, RunsAs, moment};
-ghost use Rattle.jeldroft_import.specs.Imports as imports;
-ghost use Rattle.jeldroft_import.specs.Imports.{Due, called_for};
+ghost use Rattle.outside_io.specs.believed.Seen.{KeepsFiles};
+ghost use Rattle.acts_front.specs.believed.SameModels.{IsFaithful};
+ghost use Rattle.jeldroft_files.specs.Runs.{Ends};
+ghost use Rattle.jeldroft_files.specs.believed.Runs.{IsWritten, Leaves, RunsAs, moment};
+ghost use Rattle.jeldroft_import.specs.believed.Imports as imports;
+ghost use Rattle.jeldroft_import.specs.believed.Imports.{Due, called_for};
 ghost use Rattle.jeldroft_import.specs.Steps.{Gives, answer_seen, end_status};
 
 use crate::cause::ImportCause;

@@ -2,16 +2,17 @@
 use Rattle.std.proofs.Common.{◌≡◌, ℕ, List, Option, Ok, Err, Result, inl, inr, refl, ap, sym, ◌∙◌}
 use Rattle.std.specs.Prelude.{IsErrAnd}
 use Rattle.std.specs.Global.{Vec}
-use Rattle.cov_model.specs.Sound.{ModelView}
+use Rattle.cov_model.specs.believed.Sound.{ModelView}
 use Rattle.model_lex.specs.declared.note.Note.{Note}
 use Rattle.model_lex.specs.declared.options.ModelOpts.{ModelOpts}
-use Rattle.command_line.specs.Loading.{IsLoaded}
-use Rattle.jeldroft_files.specs.Failures.{status_of}
-use Rattle.jeldroft_files.specs.Models.{StopsModel}
+use Rattle.command_line.specs.believed.Loading.{IsLoaded}
+use Rattle.jeldroft_files.specs.believed.Failures.{status_of}
+use Rattle.jeldroft_files.specs.believed.Models.{StopsModel}
 use Rattle.jeldroft_files.specs.Runs.{IsCalledFor, IsDueOnce, answer_seen}
 use Rattle.jeldroft_files.specs.declared.failure.Cause.{Cause}
 use Rattle.jeldroft_files.specs.declared.failure.Failure.{Failure}
-use Rattle.jeldroft_inputs.specs.Inputs.{CallsFor, EndsBy, and_then}
+use Rattle.jeldroft_inputs.specs.believed.Inputs.{CallsFor, and_then}
+use Rattle.jeldroft_inputs.specs.Inputs.{EndsBy}
 use Rattle.jeldroft_inputs.proofs.InputLemmas.{cause_given, model_given, one_model}
 
 -- the answer of a call that passes a failure on

@@ -2,22 +2,23 @@
 use Rattle.std.proofs.Common.{◌≡◌, ℕ, ◌≤◌, List, [], ◌∷◌, map, length, Option, None, Some, Ok, Err, inl, inr, refl, ap, sym, subst, ◌∙◌, arith}
 use Rattle.std.specs.Prelude.{IfSome}
 use Rattle.std.proofs.lemmas.Option.{none-some, same_Some}
-use Rattle.cov_model.specs.Sound.{ModelView}
-use Rattle.definitions.specs.Limits.{ModelFile, most_bytes}
+use Rattle.cov_model.specs.believed.Sound.{ModelView}
+use Rattle.definitions.specs.believed.Limits.{ModelFile, most_bytes}
 use Rattle.model_lex.specs.declared.note.Note.{Note}
 use Rattle.model_lex.specs.declared.options.ModelOpts.{ModelOpts}
 use Rattle.row_text.specs.RowFiles.{row_seen}
 use Rattle.row_text.specs.declared.row_file.FileRow.{FileRow}
-use Rattle.type_check.specs.ModelOf.{IsAnswerOf}
+use Rattle.type_check.specs.believed.ModelOf.{IsAnswerOf}
 use Rattle.type_check.proofs.OneAnswer.{one_answer}
-use Rattle.command_line.specs.Loading as reads
-use Rattle.command_line.specs.Loading.{IsLoaded, StopsReading}
+use Rattle.command_line.specs.believed.Loading as reads
+use Rattle.command_line.specs.believed.Loading.{IsLoaded, StopsReading}
 use Rattle.command_line.specs.declared.stop.Stop.{Stop}
-use Rattle.jeldroft_files.specs.Failures.{status_of}
-use Rattle.jeldroft_files.specs.Models.{StopsModel}
+use Rattle.jeldroft_files.specs.believed.Failures.{status_of}
+use Rattle.jeldroft_files.specs.believed.Models.{StopsModel}
 use Rattle.jeldroft_files.specs.declared.failure.Cause.{Cause}
 use Rattle.jeldroft_files.specs.declared.failure.Cause.TheVariants as causes
-use Rattle.jeldroft_inputs.specs.Inputs.{EndsBy, GivesModel, is_missing, is_read, is_too_long, model_or_cause}
+use Rattle.jeldroft_inputs.specs.Inputs.{EndsBy}
+use Rattle.jeldroft_inputs.specs.believed.Inputs.{GivesModel, is_missing, is_read, is_too_long, model_or_cause}
 use Rattle.jeldroft_inputs.specs.Laws.{ModelFilesGiveOneAnswer}
 
 pub one_model : ModelFilesGiveOneAnswer

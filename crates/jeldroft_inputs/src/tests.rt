@@ -1,8 +1,9 @@
 ghost use Rattle.std.specs.Prelude.{◌≡◌, ℕ, List, Option, Some, Err, IfOk, IfErr};
-ghost use Rattle.outside_io.specs.Seen.{KeepsFiles};
+ghost use Rattle.outside_io.specs.believed.Seen.{KeepsFiles};
 ghost use Rattle.row_text.specs.Readings.{IsFileOf};
-ghost use Rattle.jeldroft_files.specs.Tables.{is_comma};
-ghost use Rattle.jeldroft_inputs.specs.Inputs.{EndsBy, HoldsTests, tests_of};
+ghost use Rattle.jeldroft_files.specs.believed.Tables.{is_comma};
+ghost use Rattle.jeldroft_inputs.specs.Inputs.{EndsBy, HoldsTests};
+ghost use Rattle.jeldroft_inputs.specs.believed.Inputs.{tests_of};
 
 use command_line::Stop;
 use cov_model::TestModel;

@@ -4,11 +4,11 @@ use Rattle.std.specs.Prelude.{IfSome}
 use Rattle.command_line.specs.declared.stop.Stop.{Stop}
 use Rattle.command_line.specs.declared.stop.Stop.TheVariants.{OutOfMemory, Spent, BadWord, BadModel, BadConstraint, BadRows, NoResult, BadResult, CannotRead, CannotWrite, CannotWriteReport, TooMany, TooLong}
 use Rattle.jeldroft_args.specs.declared.lint.Lint.{Lint}
-use Rattle.jeldroft_files.specs.Failures.{status_of, status_of_stop}
-use Rattle.jeldroft_files.specs.Models.{StopsModel}
+use Rattle.jeldroft_files.specs.believed.Failures.{status_of, status_of_stop}
+use Rattle.jeldroft_files.specs.believed.Models.{StopsModel}
 use Rattle.jeldroft_files.specs.declared.failure.Cause.{Cause}
 use Rattle.jeldroft_files.specs.declared.failure.Cause.TheVariants as causes
-use Rattle.jeldroft_lint.specs.Linting.{LintsAs, lint_opts}
+use Rattle.jeldroft_lint.specs.believed.Linting.{LintsAs, lint_opts}
 
 -- the statuses of causes
 stop_status : (stop : Stop) → (status_of_stop stop ≡ 2) ⊎ (status_of_stop stop ≡ 3)
@@ -39,7 +39,7 @@ pub stopped : (args : Lint) (held : Option (List ℕ)) (cause : Cause) → Stops
 stopped args held cause stops = let least = not_below (status_of cause) (cause_status cause) in record {
   clean = λ zero. absurd (omega (arith, least, zero));
   found = λ one. absurd (omega (arith, least, one));
-  refused = λ two. (cause, stops);
+  refused = λ two. (cause, two, stops);
 }
 
 -- what is so of what a folder tells

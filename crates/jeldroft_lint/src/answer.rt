@@ -1,9 +1,11 @@
 ghost use Rattle.std.specs.Prelude.{◌≡◌, ◌≤◌, ℕ, List, Option, Some, All, IfOk, IfErr, IfSome, map};
-ghost use Rattle.outside_io.specs.Seen.{KeepsFiles};
+ghost use Rattle.outside_io.specs.believed.Seen.{KeepsFiles};
 ghost use Rattle.jeldroft_args.specs.Ranges.{AreMarks};
-ghost use Rattle.jeldroft_files.specs.Models.{StopsModel};
-ghost use Rattle.model_findings.specs.Findings.{fact_of, facts};
-ghost use Rattle.jeldroft_lint.specs.Linting.{HasFindings, IsJudged, lint_opts};
+ghost use Rattle.jeldroft_files.specs.believed.Models.{StopsModel};
+ghost use Rattle.model_findings.specs.Findings.{fact_of};
+ghost use Rattle.model_findings.specs.believed.Findings.{facts};
+ghost use Rattle.jeldroft_lint.specs.believed.Linting.{HasFindings, lint_opts};
+ghost use Rattle.jeldroft_lint.specs.Linting.{IsJudged};
 
 use crate::objects::array_of;
 use crate::words::lines_of;

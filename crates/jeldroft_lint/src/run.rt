@@ -1,7 +1,8 @@
 ghost use Rattle.std.specs.Prelude.{◌≡◌, ℕ, List, Option, Some, None};
 ghost use Rattle.jeldroft_args.specs.Ranges.{AreMarks};
-ghost use Rattle.jeldroft_files.specs.Runs.{Leaves, moment};
-ghost use Rattle.jeldroft_lint.specs.Linting.{LintsAs, status_seen};
+ghost use Rattle.jeldroft_files.specs.believed.Runs.{Leaves, moment};
+ghost use Rattle.jeldroft_lint.specs.believed.Linting.{LintsAs};
+ghost use Rattle.jeldroft_lint.specs.Linting.{status_seen};
 
 use crate::answer::answer;
 use jeldroft_args::Lint;

@@ -2,20 +2,22 @@
 use Rattle.std.proofs.Common.{◌≡◌, ℕ, Bool, List, map, Option, None, Some, Result, Ok, Err, inl, inr, ap, sym, ◌∙◌}
 use Rattle.std.specs.Prelude.{IfOk, OnOk, option_map}
 use Rattle.std.proofs.lemmas.Option.{none-some, same_Some}
-use Rattle.cov_model.specs.Sound.{ModelView}
+use Rattle.cov_model.specs.believed.Sound.{ModelView}
 use Rattle.definitions.specs.declared.effort.Effort.{Effort}
-use Rattle.definitions.specs.Figures.{Figures, figures}
-use Rattle.definitions.specs.Search.{first_measured_over}
+use Rattle.definitions.specs.believed.Figures.{Figures, figures}
+use Rattle.definitions.specs.believed.Search.{first_measured_over}
 use Rattle.row_text.specs.RowFiles.{suite_seen}
 use Rattle.row_text.specs.declared.row_file.RowFile.{RowFile}
-use Rattle.tuple_index.specs.PlanFault.{limit_passed}
-use Rattle.command_line.specs.Stops.{stop_of_plan}
+use Rattle.tuple_index.specs.believed.PlanFault.{limit_passed}
+use Rattle.command_line.specs.believed.Stops.{stop_of_plan}
 use Rattle.command_line.specs.declared.stop.Stop.{Stop}
 use Rattle.jeldroft_files.specs.declared.failure.Cause.{Cause}
 use Rattle.jeldroft_files.specs.declared.failure.Cause.TheVariants as causes
-use Rattle.jeldroft_inputs.specs.Inputs.{EndsBy, HoldsTests, and_then, tests_of, unless}
+use Rattle.jeldroft_inputs.specs.Inputs.{EndsBy, HoldsTests}
+use Rattle.jeldroft_inputs.specs.believed.Inputs.{and_then, tests_of, unless}
 use Rattle.jeldroft_inputs.proofs.InputLemmas.{suite_rows}
-use Rattle.jeldroft_measure.specs.Due.{IsSpent, measured, spent_at}
+use Rattle.jeldroft_measure.specs.Due.{IsSpent}
+use Rattle.jeldroft_measure.specs.believed.Due.{measured, spent_at}
 
 pub if_ok_and : {A E : Type 0} {P R : A → Type 0} {Q : Type 0} (result : Result A E) → ((value : A) → P value → Q → R value) → IfOk result P → OnOk result Q → IfOk result R
 if_ok_and (Ok value) then holds and = then value holds and

@@ -1,18 +1,19 @@
 ghost use Rattle.std.specs.Prelude.{◌≡◌, ◌≤◌, ◌^◌, ℕ, List, Option, None, Some, Err, All, length, IfOk, IfErr, OnOk};
 ghost use Rattle.cov_model.specs.Fits.{FitsModel};
-ghost use Rattle.definitions.specs.Figures.{figures};
-ghost use Rattle.definitions.specs.Search.{first_measured_over};
+ghost use Rattle.definitions.specs.believed.Figures.{figures};
+ghost use Rattle.definitions.specs.believed.Search.{first_measured_over};
 ghost use Rattle.feasibility.specs.Ends.{EndsBy as SearchEndsBy};
-ghost use Rattle.outside_io.specs.Seen.{KeepsFiles};
+ghost use Rattle.outside_io.specs.believed.Seen.{KeepsFiles};
 ghost use Rattle.row_text.specs.RowFiles.{suite_seen};
 ghost use Rattle.row_text.specs.Told.{figures_seen};
 ghost use Rattle.tuple_index.specs.Plan.{plan_of};
-ghost use Rattle.tuple_index.specs.PlanFault.{limit_passed};
+ghost use Rattle.tuple_index.specs.believed.PlanFault.{limit_passed};
 ghost use Rattle.jeldroft_args.specs.Ranges.{AreThreads};
-ghost use Rattle.jeldroft_files.specs.Tables.{is_comma};
+ghost use Rattle.jeldroft_files.specs.believed.Tables.{is_comma};
 ghost use Rattle.jeldroft_inputs.specs.Inputs.{EndsBy};
 ghost use Rattle.jeldroft_measure.specs.Due as due;
-ghost use Rattle.jeldroft_measure.specs.Due.{effort_of, spent_at};
+ghost use Rattle.jeldroft_measure.specs.believed.Due as believed_due;
+ghost use Rattle.jeldroft_measure.specs.believed.Due.{effort_of, spent_at};
 
 use command_line::Stop;
 use cov_model::TestModel;
@@ -115,9 +116,9 @@ pub(crate) fn measured<'n, R: Threads + Sync, F: Folder>(
 ) -> Result<Figures, Failure<'n>>
     requires { AreThreads args.now.threads }
     ensures figures { IfOk result (λ figures. (table : Option (List ℕ)) → (F.seen files.old).files args.now.table ≡ Some table →
-        due.measured (effort_of args.now.budget) model.now (is_comma args.now.delimiter args.now.table) table ≡ Ok (figures_seen figures)) }
+        believed_due.measured (effort_of args.now.budget) model.now (is_comma args.now.delimiter args.now.table) table ≡ Ok (figures_seen figures)) }
     ensures stops { IfErr result (λ failure. (table : Option (List ℕ)) → (F.seen files.old).files args.now.table ≡ Some table →
-        EndsBy (λ cause. due.measured (effort_of args.now.budget) model.now (is_comma args.now.delimiter args.now.table) table ≡ Err cause) failure.cause) }
+        EndsBy (λ cause. believed_due.measured (effort_of args.now.budget) model.now (is_comma args.now.delimiter args.now.table) table ≡ Err cause) failure.cause) }
     ensures files { KeepsFiles (F.seen files.old) (F.seen files.new) }
 {
     let plan = make_plan(alloc, model, args.model.name.as_str())?;

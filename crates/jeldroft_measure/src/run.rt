@@ -1,9 +1,10 @@
 ghost use Rattle.std.specs.Prelude.{◌≡◌, ℕ, List, Option, Some, option_map};
-ghost use Rattle.outside_io.specs.Seen.{KeepsFiles};
+ghost use Rattle.outside_io.specs.believed.Seen.{KeepsFiles};
 ghost use Rattle.jeldroft_args.specs.Ranges.{AreMarks, AreThreads, IsStrength};
-ghost use Rattle.jeldroft_files.specs.Failures.{status_of};
-ghost use Rattle.jeldroft_files.specs.Runs.{IsCalledFor, Leaves, RunsAs, answer_seen, end_status, moment};
-ghost use Rattle.jeldroft_measure.specs.Due.{Due, text_of};
+ghost use Rattle.jeldroft_files.specs.believed.Failures.{status_of};
+ghost use Rattle.jeldroft_files.specs.Runs.{IsCalledFor, answer_seen, end_status};
+ghost use Rattle.jeldroft_files.specs.believed.Runs.{Leaves, RunsAs, moment};
+ghost use Rattle.jeldroft_measure.specs.believed.Due.{Due, text_of};
 
 use crate::measuring::measured;
 use crate::telling::tell;

@@ -1,7 +1,7 @@
 ghost use Rattle.std.specs.Prelude.{◌≡◌, ◌++◌, ◌-◌, IfOk, OnOk};
-ghost use Rattle.definitions.specs.Statistics.{number_line};
+ghost use Rattle.definitions.specs.believed.Statistics.{number_line};
 ghost use Rattle.row_text.specs.Told.{figures_seen};
-ghost use Rattle.jeldroft_measure.specs.MeasureText.{covered_text, measure_text, sets_text, tests_text, tuples_text};
+ghost use Rattle.jeldroft_measure.specs.believed.MeasureText.{covered_text, measure_text, sets_text, tests_text, tuples_text};
 
 use itoa::Buffer;
 use row_text::Figures;

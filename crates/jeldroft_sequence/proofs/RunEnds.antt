@@ -4,19 +4,20 @@ use Rattle.std.specs.Prelude.{IfOk, IfSome, IsErrAnd, IsSomeAnd}
 use Rattle.std.specs.declared.vec.Vec.{Vec}
 use Rattle.std.specs.declared.alloc.Global.{Global}
 use Rattle.std.proofs.lemmas.Bool.{cases_Bool}
-use Rattle.outside_io.specs.Seen.{FolderSeen, KeepsFiles, SinkSeen}
-use Rattle.seq_check.specs.EventFile.{events_of}
-use Rattle.seq_check.specs.Events.{AreEvents, EventsView}
-use Rattle.seq_check.specs.Verdicts.{verdict}
+use Rattle.outside_io.specs.believed.Seen.{FolderSeen, KeepsFiles, SinkSeen}
+use Rattle.seq_check.specs.believed.EventFile.{events_of}
+use Rattle.seq_check.specs.believed.Events.{AreEvents, EventsView}
+use Rattle.seq_check.specs.believed.Verdicts.{verdict}
 use Rattle.seq_check.specs.declared.verdict.OrderVerdict.{OrderVerdict}
 use Rattle.seq_check.specs.declared.verdict.OrderVerdict.TheVariants.{Accepted, BadLine, Uncovered}
-use Rattle.seq_cover.specs.Covering.{IsAccepted}
+use Rattle.seq_cover.specs.believed.Covering.{IsAccepted}
 use Rattle.seq_cover.proofs.AcceptedLaws.{grown_accepted, grown_text_covers}
 use Rattle.value_text.proofs.ListLemmas.{one_err, one_ok}
-use Rattle.jeldroft_files.specs.Runs.{Ends, IsCalledFor, IsDueOnce, IsWritten, Leaves, Moment, RunsAs, moment}
+use Rattle.jeldroft_files.specs.Runs.{Ends, IsCalledFor, IsDueOnce}
+use Rattle.jeldroft_files.specs.believed.Runs.{IsWritten, Leaves, Moment, RunsAs, moment}
 use Rattle.jeldroft_files.proofs.Ending as endings
-use Rattle.jeldroft_sequence.specs.Runs.{Judgement, JudgesAs}
-use Rattle.jeldroft_sequence.specs.Sequences.{CoversEvents, HasVerdict, IsJudgementDue, IsReportDue, bytes_held, events_held, events_or, events_read, judgement_of, judgement_on, judgement_read, most_of, report_on, status_of, verdict_status}
+use Rattle.jeldroft_sequence.specs.believed.Runs.{Judgement, JudgesAs}
+use Rattle.jeldroft_sequence.specs.believed.Sequences.{CoversEvents, HasVerdict, IsJudgementDue, IsReportDue, bytes_held, events_held, events_or, events_read, judgement_of, judgement_on, judgement_read, most_of, report_on, status_of, verdict_status}
 use Rattle.jeldroft_sequence.specs.Steps.{Gives, GivesEvents, GivesVerdict, IsDue, Prints, end_status, judgement_seen, report_seen, verdict_seen}
 use Rattle.jeldroft_sequence.specs.declared.cause.SequenceCause.{SequenceCause}
 use Rattle.jeldroft_sequence.specs.declared.cause.SequenceFile.TheVariants.{Events, Report}

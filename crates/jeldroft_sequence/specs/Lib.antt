@@ -1,3 +1,2 @@
-pub mod Runs
-pub mod Sequences
 pub mod Steps
+pub mod believed

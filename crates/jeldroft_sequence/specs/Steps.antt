@@ -2,11 +2,11 @@
 use Rattle.std.specs.Prelude.{◌≡◌, ◌≤◌, ℕ, ◌⊎◌, List, Result, Ok, Err}
 use Rattle.std.specs.declared.vec.Vec.{Vec}
 use Rattle.std.specs.declared.alloc.Global.{Global}
-use Rattle.outside_io.specs.Seen.{KeepsFiles}
-use Rattle.seq_check.specs.Events.{EventsView}
-use Rattle.jeldroft_files.specs.Runs.{IsPrinted, Moment}
-use Rattle.jeldroft_sequence.specs.Runs.{Judgement}
-use Rattle.jeldroft_sequence.specs.Sequences.{status_of}
+use Rattle.outside_io.specs.believed.Seen.{KeepsFiles}
+use Rattle.seq_check.specs.believed.Events.{EventsView}
+use Rattle.jeldroft_files.specs.believed.Runs.{IsPrinted, Moment}
+use Rattle.jeldroft_sequence.specs.believed.Runs.{Judgement}
+use Rattle.jeldroft_sequence.specs.believed.Sequences.{status_of}
 use Rattle.jeldroft_sequence.specs.declared.cause.SequenceCause.{SequenceCause}
 use Rattle.jeldroft_sequence.specs.declared.ended.Ended.{Ended}
 use Rattle.jeldroft_sequence.specs.declared.ended.Ended.TheVariants.{Whole, Refused}

@@ -1,5 +1,5 @@
 ghost use Rattle.std.specs.Prelude.{◌≡◌};
-ghost use Rattle.jeldroft_sequence.specs.Sequences as sequences;
+ghost use Rattle.jeldroft_sequence.specs.believed.Sequences as sequences;
 
 use command_line::FileKind;
 use seq_check::{EventCode, EventLimit, EventsFault};
@@ -55,7 +55,7 @@ impl From<NoMemory> for SequenceCause {
 }
 
 impl From<EventsFault> for SequenceCause {
-    ghost use Rattle.jeldroft_sequence.specs.Sequences.{cause_of};
+    ghost use Rattle.jeldroft_sequence.specs.believed.Sequences.{cause_of};
 
     ghost from_gives = { λ fault cause. cause ≡ cause_of fault };
 

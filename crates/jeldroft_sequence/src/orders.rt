@@ -1,6 +1,6 @@
 ghost use Rattle.std.specs.Prelude.{◌≤◌, IfOk, IfSome, Ok};
-ghost use Rattle.outside_io.specs.Seen.{KeepsFiles};
-ghost use Rattle.jeldroft_sequence.specs.Sequences.{CoversEvents, events_held, report_on};
+ghost use Rattle.outside_io.specs.believed.Seen.{KeepsFiles};
+ghost use Rattle.jeldroft_sequence.specs.believed.Sequences.{CoversEvents, events_held, report_on};
 ghost use Rattle.jeldroft_sequence.specs.Steps.{Gives};
 
 use crate::cause::SequenceCause;

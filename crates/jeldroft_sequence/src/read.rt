@@ -1,8 +1,8 @@
 ghost use Rattle.std.specs.Prelude.{◌≤◌, ◌^◌, IfOk, IfSome, length};
-ghost use Rattle.outside_io.specs.Seen.{KeepsFiles};
-ghost use Rattle.seq_check.specs.Events.{AreEvents};
-ghost use Rattle.seq_check.specs.EventFile.{events_of};
-ghost use Rattle.jeldroft_sequence.specs.Sequences.{bytes_held, events_held, events_or};
+ghost use Rattle.outside_io.specs.believed.Seen.{KeepsFiles};
+ghost use Rattle.seq_check.specs.believed.Events.{AreEvents};
+ghost use Rattle.seq_check.specs.believed.EventFile.{events_of};
+ghost use Rattle.jeldroft_sequence.specs.believed.Sequences.{bytes_held, events_held, events_or};
 ghost use Rattle.jeldroft_sequence.specs.Steps.{Gives, GivesEvents};
 
 use crate::cause::{SequenceCause, SequenceFile};

@@ -1,9 +1,10 @@
 ghost use Rattle.std.specs.Prelude.{◌≡◌, ◌≤◌, ℕ, List, None, Option, Some, option_map};
-ghost use Rattle.seq_cover.specs.Covering.{IsAccepted};
-ghost use Rattle.jeldroft_files.specs.Runs.{Ends, IsWritten, Leaves, RunsAs, moment};
-ghost use Rattle.jeldroft_sequence.specs.Runs.{JudgesAs};
-ghost use Rattle.jeldroft_sequence.specs.Sequences as sequences;
-ghost use Rattle.jeldroft_sequence.specs.Sequences.{CoversEvents, HasVerdict, IsJudgementDue, IsReportDue, output_of};
+ghost use Rattle.seq_cover.specs.believed.Covering.{IsAccepted};
+ghost use Rattle.jeldroft_files.specs.Runs.{Ends};
+ghost use Rattle.jeldroft_files.specs.believed.Runs.{IsWritten, Leaves, RunsAs, moment};
+ghost use Rattle.jeldroft_sequence.specs.believed.Runs.{JudgesAs};
+ghost use Rattle.jeldroft_sequence.specs.believed.Sequences as sequences;
+ghost use Rattle.jeldroft_sequence.specs.believed.Sequences.{CoversEvents, HasVerdict, IsJudgementDue, IsReportDue, output_of};
 ghost use Rattle.jeldroft_sequence.specs.Steps.{Prints, end_status, report_seen, verdict_seen};
 
 use crate::cause::SequenceCause;

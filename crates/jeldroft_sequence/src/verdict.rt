@@ -1,6 +1,6 @@
 ghost use Rattle.std.specs.Prelude.{◌≡◌, ◌≤◌, ◌^◌, IfSome, Ok, length};
-ghost use Rattle.outside_io.specs.Seen.{KeepsFiles};
-ghost use Rattle.jeldroft_sequence.specs.Sequences.{bytes_held, events_held, judgement_on, judgement_read, verdict_status};
+ghost use Rattle.outside_io.specs.believed.Seen.{KeepsFiles};
+ghost use Rattle.jeldroft_sequence.specs.believed.Sequences.{bytes_held, events_held, judgement_on, judgement_read, verdict_status};
 ghost use Rattle.jeldroft_sequence.specs.Steps.{GivesVerdict, ended_status};
 
 use crate::cause::{SequenceCause, SequenceFile};

@@ -2,26 +2,26 @@
 use Rattle.std.proofs.Common.{◌≡◌, ℕ, Bool, true, false, List, map, Option, None, Some, Ok, Err, Result, refl, ap, sym, subst, ◌∙◌, arith}
 use Rattle.std.specs.Prelude.{is_some, option_map}
 use Rattle.std.proofs.lemmas.Bool.{false≢true}
-use Rattle.cov_model.specs.Sound.{ModelView}
-use Rattle.definitions.specs.RowReading.{RowReading}
-use Rattle.definitions.specs.Verdict as defined
-use Rattle.definitions.specs.Verdict.{verdict}
+use Rattle.cov_model.specs.believed.Sound.{ModelView}
+use Rattle.definitions.specs.believed.RowReading.{RowReading}
+use Rattle.definitions.specs.believed.Verdict as defined
+use Rattle.definitions.specs.believed.Verdict.{verdict}
 use Rattle.definitions.proofs.Certified.{certified}
-use Rattle.tuple_index.specs.PlanFault.{limit_passed}
+use Rattle.tuple_index.specs.believed.PlanFault.{limit_passed}
 use Rattle.tuple_index.specs.declared.fault.PlanFault.{PlanFault}
-use Rattle.proof_check.specs.Checks.{verdict_given}
-use Rattle.command_line.specs.Stops.{stop_of_plan}
+use Rattle.proof_check.specs.believed.Checks.{verdict_given}
+use Rattle.command_line.specs.believed.Stops.{stop_of_plan}
 use Rattle.jeldroft_args.specs.declared.format.Format.TheVariants as formats
 use Rattle.jeldroft_args.specs.declared.show.Show.{Show}
-use Rattle.jeldroft_files.specs.Models.{opts_of}
-use Rattle.jeldroft_files.specs.Runs.{Moment}
-use Rattle.jeldroft_files.specs.Tables.{is_comma}
+use Rattle.jeldroft_files.specs.believed.Models.{opts_of}
+use Rattle.jeldroft_files.specs.believed.Runs.{Moment}
+use Rattle.jeldroft_files.specs.believed.Tables.{is_comma}
 use Rattle.jeldroft_files.specs.declared.failure.Cause.{Cause}
-use Rattle.jeldroft_inputs.specs.Inputs.{GivesModel, and_then, tests_of, unless}
-use Rattle.jeldroft_show.specs.Certified.{HoldsCertified}
-use Rattle.jeldroft_show.specs.Due.{Due, HeldFiles, form_of, proof_of, shown_due, shown_words, words_shown}
-use Rattle.jeldroft_show.specs.Shows.{Shown, ShowsAs, status_with}
-use Rattle.jeldroft_show.specs.Words.{is_accepted}
+use Rattle.jeldroft_inputs.specs.believed.Inputs.{GivesModel, and_then, tests_of, unless}
+use Rattle.jeldroft_show.specs.believed.Certified.{HoldsCertified}
+use Rattle.jeldroft_show.specs.believed.Due.{Due, HeldFiles, form_of, proof_of, shown_due, shown_words, words_shown}
+use Rattle.jeldroft_show.specs.believed.Shows.{Shown, ShowsAs, status_with}
+use Rattle.jeldroft_show.specs.believed.Words.{is_accepted}
 
 same_shown : {due : Result Shown Cause} {one other : Shown} → due ≡ Ok one → due ≡ Ok other → one ≡ other
 same_shown e f = cc

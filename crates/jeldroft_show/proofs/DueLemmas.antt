@@ -3,15 +3,15 @@ use Rattle.std.proofs.Common.{◌≡◌, ℕ, ◌≤◌, true, List, [], ◌∷�
 use Rattle.std.specs.Prelude.{IfSome, is_some, option_map, if◌then◌else◌}
 use Rattle.std.proofs.lemmas.Bool.{le-ltb, lt-ltb}
 use Rattle.std.proofs.lemmas.Option.{none-some, same_Some}
-use Rattle.outside_io.specs.Seen.{FolderSeen, KeepsFiles}
-use Rattle.cov_model.specs.Sound.{ModelView}
-use Rattle.definitions.specs.Limits.{ProofFile, most_bytes}
-use Rattle.definitions.specs.RowReading.{RowReading}
-use Rattle.tuple_index.specs.PlanFault.{limit_passed}
+use Rattle.outside_io.specs.believed.Seen.{FolderSeen, KeepsFiles}
+use Rattle.cov_model.specs.believed.Sound.{ModelView}
+use Rattle.definitions.specs.believed.Limits.{ProofFile, most_bytes}
+use Rattle.definitions.specs.believed.RowReading.{RowReading}
+use Rattle.tuple_index.specs.believed.PlanFault.{limit_passed}
 use Rattle.tuple_index.specs.declared.fault.PlanFault.{PlanFault}
 use Rattle.command_line.specs.Loading as reads
 use Rattle.command_line.specs.Loading.{IsUnread}
-use Rattle.command_line.specs.Stops.{stop_of_plan}
+use Rattle.command_line.specs.believed.Stops.{stop_of_plan}
 use Rattle.command_line.specs.declared.files.FileKind.TheVariants as kinds
 use Rattle.command_line.specs.declared.stop.Stop.{Stop}
 use Rattle.command_line.specs.declared.stop.Stop.TheVariants.{TooLong}
@@ -19,18 +19,20 @@ use Rattle.row_text.specs.RowFiles.{row_seen, seeds_seen, suite_seen}
 use Rattle.row_text.specs.declared.row_file.FileRow.{FileRow}
 use Rattle.row_text.specs.declared.row_file.RowFile.{RowFile}
 use Rattle.row_forms.specs.declared.row_form.RowForm.{RowForm}
-use Rattle.suite_forms.specs.Suites.{suite_text}
+use Rattle.suite_forms.specs.believed.Suites.{suite_text}
 use Rattle.jeldroft_args.specs.declared.show.Show.{Show}
-use Rattle.jeldroft_files.specs.Failures.{status_of}
-use Rattle.jeldroft_files.specs.Models.{opts_of}
-use Rattle.jeldroft_files.specs.Tables.{is_comma}
+use Rattle.jeldroft_files.specs.believed.Failures.{status_of}
+use Rattle.jeldroft_files.specs.believed.Models.{opts_of}
+use Rattle.jeldroft_files.specs.believed.Tables.{is_comma}
 use Rattle.jeldroft_files.specs.declared.failure.Cause.{Cause}
 use Rattle.jeldroft_files.specs.declared.failure.Cause.TheVariants as causes
 use Rattle.jeldroft_files.specs.declared.failure.Failure.{Failure}
-use Rattle.jeldroft_inputs.specs.Inputs.{EndsBy, GivesModel, HoldsTests, and_then, tests_of, unless}
+use Rattle.jeldroft_inputs.specs.Inputs.{EndsBy, HoldsTests}
+use Rattle.jeldroft_inputs.specs.believed.Inputs.{GivesModel, and_then, tests_of, unless}
 use Rattle.jeldroft_inputs.proofs.InputLemmas.{at_held, one_model}
-use Rattle.jeldroft_show.specs.Due.{Due, HeldFiles, HoldsSuite, IsLimit, proof_in, proof_of, rows_shown, shown_due, shown_words, words_shown}
-use Rattle.jeldroft_show.specs.Shows.{Shown}
+use Rattle.jeldroft_show.specs.believed.Due.{Due, HeldFiles, HoldsSuite, proof_in, proof_of, rows_shown, shown_due, shown_words, words_shown}
+use Rattle.jeldroft_show.specs.Due.{IsLimit}
+use Rattle.jeldroft_show.specs.believed.Shows.{Shown}
 use Rattle.jeldroft_show.specs.Steps.{Gives, IsCalledFor, shown_by}
 use Rattle.jeldroft_show.specs.declared.answer.Answer.{Answer}
 

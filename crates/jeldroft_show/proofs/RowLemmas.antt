@@ -2,7 +2,7 @@
 use Rattle.std.proofs.Common.{◌≡◌, ℕ, List, map, take, length, All, Option, ◌∙◌, sym, ap, subst}
 use Rattle.std.proofs.lemmas.List.Elements.{All-map, All-take, All-weaker}
 use Rattle.cov_model.specs.Fits.{FitsModel}
-use Rattle.cov_model.specs.Sound.{ModelView}
+use Rattle.cov_model.specs.believed.Sound.{ModelView}
 use Rattle.row_text.specs.declared.row_file.FileRow.{FileRow}
 
 pub as_long : (m : ModelView) (rows : List (List (Option ℕ))) (slice : List (Option ℕ)) {cells : List (Option ℕ)} → All (FitsModel m) rows → FitsModel m cells

@@ -1,17 +1,18 @@
 -- How `show` ends, from its answer and from the end of the writing of it.
 use Rattle.std.proofs.Common.{◌≡◌, ◌≤◌, ◌⊎◌, ℕ, Bool, true, false, List, Option, Some, None, Result, Ok, Err, inl, inr, refl, ap, sym, subst, ◌∙◌, arith}
 use Rattle.std.specs.Prelude.{IfSome}
-use Rattle.outside_io.specs.Seen.{FolderSeen, SinkSeen, KeepsFiles}
+use Rattle.outside_io.specs.believed.Seen.{FolderSeen, SinkSeen, KeepsFiles}
 use Rattle.command_line.specs.declared.stop.Stop.{Stop}
 use Rattle.command_line.specs.declared.stop.Stop.TheVariants.{OutOfMemory, Spent, BadWord, BadModel, BadConstraint, BadRows, NoResult, BadResult, CannotRead}
 use Rattle.command_line.specs.declared.stop.Stop.TheVariants.{CannotWrite, CannotWriteReport, TooMany, TooLong}
-use Rattle.jeldroft_files.specs.Failures.{status_of, status_of_stop}
-use Rattle.jeldroft_files.specs.Runs.{Ends, IsPrinted, IsWritten, KeepsFile, Leaves, Moment, Writes, end_status, moment}
+use Rattle.jeldroft_files.specs.believed.Failures.{status_of, status_of_stop}
+use Rattle.jeldroft_files.specs.Runs.{Ends, Writes, end_status}
+use Rattle.jeldroft_files.specs.believed.Runs.{IsPrinted, IsWritten, KeepsFile, Leaves, Moment, moment}
 use Rattle.jeldroft_files.proofs.Ending.{leaves}
 use Rattle.jeldroft_files.specs.declared.failure.Cause.{Cause}
 use Rattle.jeldroft_files.specs.declared.failure.Cause.TheVariants as causes
 use Rattle.jeldroft_files.specs.declared.failure.Failure.{Failure}
-use Rattle.jeldroft_show.specs.Shows.{LeavesShown, Shown, ShowsAs, status_with}
+use Rattle.jeldroft_show.specs.believed.Shows.{LeavesShown, Shown, ShowsAs, status_with}
 use Rattle.jeldroft_show.specs.Steps.{IsCalledFor, IsSameAnswer, answer_seen, shown_by, status_shown}
 use Rattle.jeldroft_show.specs.declared.answer.Answer.{Answer}
 

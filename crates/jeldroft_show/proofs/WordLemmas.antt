@@ -4,15 +4,15 @@ use Rattle.std.specs.Prelude.{◌==◌, codes}
 use Rattle.std.specs.List.{flat_map}
 use Rattle.std.proofs.lemmas.Bool.{ne_eqb}
 use Rattle.std.proofs.lemmas.List.{length-map}
-use Rattle.cov_model.specs.Sound.{ModelView}
+use Rattle.cov_model.specs.believed.Sound.{ModelView}
 use Rattle.row_text.specs.declared.row_file.FileRow.{FileRow}
-use Rattle.suite_facts.specs.Coverages.{numbers_of, point_of}
-use Rattle.suite_facts.specs.Facts.{SetCount, largest_of, round_counts}
+use Rattle.suite_facts.specs.believed.Coverages.{numbers_of, point_of}
+use Rattle.suite_facts.specs.believed.Facts.{SetCount, largest_of, round_counts}
 use Rattle.suite_facts.specs.declared.coverage.SuiteNumbers.{SuiteNumbers}
 use Rattle.suite_facts.specs.declared.curve.CurvePoint.{CurvePoint}
 use Rattle.proof_check.specs.declared.verdict.Verdict.{Verdict}
-use Rattle.jeldroft_show.specs.Shows.{Shown}
-use Rattle.jeldroft_show.specs.Words.{curve_words, point_words, suite_words, words_of}
+use Rattle.jeldroft_show.specs.believed.Shows.{Shown}
+use Rattle.jeldroft_show.specs.believed.Words.{curve_words, point_words, suite_words, words_of}
 
 pub words_are : (m : ModelView) (file : List FileRow) (numbers : SuiteNumbers) (largest : Option SetCount) (points : List CurvePoint) (counts : List ℕ) (count : ℕ)
     (is_named : Bool) (given : Verdict) (text : List ℕ) → numbers ≡ numbers_of m (map (λ row. row.cells) file) → largest ≡ largest_of m (map (λ row. row.cells) file)

@@ -1,5 +1,3 @@
-pub mod Certified
-pub mod Due
-pub mod Shows
 pub mod Steps
-pub mod Words
+pub mod believed
+pub mod Due

@@ -1,10 +1,10 @@
 -- What the steps of `show` say of each other. (This project's rules.)
 use Rattle.std.specs.Prelude.{◌≡◌, ℕ, List, Result, Ok, Err}
-use Rattle.jeldroft_files.specs.Failures.{status_of}
+use Rattle.jeldroft_files.specs.believed.Failures.{status_of}
 use Rattle.jeldroft_files.specs.declared.failure.Cause.{Cause}
 use Rattle.jeldroft_files.specs.declared.failure.Failure.{Failure}
 use Rattle.jeldroft_inputs.specs.Inputs.{EndsBy}
-use Rattle.jeldroft_show.specs.Shows.{Shown, status_with}
+use Rattle.jeldroft_show.specs.believed.Shows.{Shown, status_with}
 use Rattle.jeldroft_show.specs.declared.answer.Answer.{Answer}
 
 -- an answer as it is shown

@@ -1,11 +1,11 @@
 ghost use Rattle.std.specs.Prelude.{◌≡◌, ℕ, true, List, Option, All, Some, IfOk};
 ghost use Rattle.cov_model.specs.Fits.{FitsModel};
-ghost use Rattle.outside_io.specs.Seen.{KeepsFiles};
+ghost use Rattle.outside_io.specs.believed.Seen.{KeepsFiles};
 ghost use Rattle.jeldroft_args.specs.Ranges.{AreMarks, AreThreads, IsStrength};
-ghost use Rattle.jeldroft_show.specs.Due.{Due, HeldFiles, Holds, HoldsSuite, rows_shown, shown_due};
+ghost use Rattle.jeldroft_show.specs.believed.Due.{Due, HeldFiles, Holds, HoldsSuite, rows_shown, shown_due};
 ghost use Rattle.jeldroft_show.specs.Steps.{Gives, IsCalledFor, shown_by};
 ghost use Rattle.row_text.specs.RowFiles.{suite_seen};
-ghost use Rattle.suite_forms.specs.Suites.{suite_text};
+ghost use Rattle.suite_forms.specs.believed.Suites.{suite_text};
 
 use crate::gaps::lines_with_gaps;
 use crate::judged::show_words;

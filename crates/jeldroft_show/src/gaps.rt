@@ -1,6 +1,6 @@
 ghost use Rattle.std.specs.Prelude.{◌≡◌, All, not};
 ghost use Rattle.cov_model.specs.Fits.{FitsModel};
-ghost use Rattle.cov_model.specs.Rows.{is_complete};
+ghost use Rattle.cov_model.specs.believed.Rows.{is_complete};
 
 use cov_model::{Cells, TestModel};
 use row_text::{RowFile, is_complete};

@@ -1,16 +1,17 @@
 //! The answer that shows a suite in words, with the verdict of the checker.
 ghost use Rattle.std.specs.Prelude.{◌≡◌, ◌≤◌, ◌^◌, ℕ, List, Option, Some, None, Err, Ok, length, is_some, IfOk, IfErr, IfSome, OnOk};
-ghost use Rattle.outside_io.specs.Seen.{KeepsFiles};
-ghost use Rattle.definitions.specs.Verdict.{verdict};
+ghost use Rattle.outside_io.specs.believed.Seen.{KeepsFiles};
+ghost use Rattle.definitions.specs.believed.Verdict.{verdict};
 ghost use Rattle.jeldroft_args.specs.Ranges.{AreThreads};
 ghost use Rattle.jeldroft_inputs.specs.Inputs.{EndsBy};
-ghost use Rattle.jeldroft_show.specs.Due.{HeldFiles, HoldsSuite, IsLimit, no_omissions, proof_in, proof_of, shown_words, words_shown};
+ghost use Rattle.jeldroft_show.specs.believed.Due.{HeldFiles, HoldsSuite, no_omissions, proof_in, proof_of, shown_words, words_shown};
+ghost use Rattle.jeldroft_show.specs.Due.{IsLimit};
 ghost use Rattle.jeldroft_show.specs.Steps.{Gives, shown_by};
-ghost use Rattle.jeldroft_show.specs.Words.{suite_words};
+ghost use Rattle.jeldroft_show.specs.believed.Words.{suite_words};
 ghost use Rattle.row_text.specs.Readings.{IsFileOf};
 ghost use Rattle.row_text.specs.RowFiles.{seeds_seen, suite_seen};
 ghost use Rattle.tuple_index.specs.Plan.{plan_of};
-ghost use Rattle.tuple_index.specs.PlanFault.{limit_passed};
+ghost use Rattle.tuple_index.specs.believed.PlanFault.{limit_passed};
 
 use crate::answer::Answer;
 use crate::gaps::lines_with_gaps;

@@ -1,8 +1,8 @@
 ghost use Rattle.std.specs.Prelude.{◌≡◌, ◌++◌, ◌∷◌, [], All, IfOk, OnOk};
 ghost use Rattle.cov_model.specs.Fits.{FitsModel};
-ghost use Rattle.jeldroft_show.specs.Due.{form_of, is_page};
+ghost use Rattle.jeldroft_show.specs.believed.Due.{form_of, is_page};
 ghost use Rattle.row_text.specs.RowFiles.{suite_seen};
-ghost use Rattle.suite_forms.specs.Suites.{suite_text};
+ghost use Rattle.suite_forms.specs.believed.Suites.{suite_text};
 
 use cov_model::{Rows, TestModel};
 use jeldroft_args::Format;

@@ -1,11 +1,12 @@
 ghost use Rattle.std.specs.Prelude.{◌≡◌, false, true, option_map};
 ghost use Rattle.jeldroft_args.specs.Ranges.{AreMarks, AreThreads, IsStrength};
-ghost use Rattle.jeldroft_files.specs.Runs.{Ends, moment};
+ghost use Rattle.jeldroft_files.specs.Runs.{Ends};
+ghost use Rattle.jeldroft_files.specs.believed.Runs.{moment};
 ghost use Rattle.jeldroft_files.specs.Runs as runs;
-ghost use Rattle.jeldroft_show.specs.Certified.{HoldsCertified};
-ghost use Rattle.jeldroft_show.specs.Due.{Due, HeldFiles, Holds};
-ghost use Rattle.jeldroft_show.specs.Due as due;
-ghost use Rattle.jeldroft_show.specs.Shows.{LeavesShown, ShowsAs};
+ghost use Rattle.jeldroft_show.specs.believed.Certified.{HoldsCertified};
+ghost use Rattle.jeldroft_show.specs.believed.Due.{Due, HeldFiles, Holds};
+ghost use Rattle.jeldroft_show.specs.believed.Due as due;
+ghost use Rattle.jeldroft_show.specs.believed.Shows.{LeavesShown, ShowsAs};
 ghost use Rattle.jeldroft_show.specs.Steps.{IsSameAnswer, answer_seen, status_shown};
 
 use crate::answer::{Answer, make_answer};

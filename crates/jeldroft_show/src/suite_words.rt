@@ -3,7 +3,7 @@ ghost use Rattle.std.specs.Prelude.{◌≡◌, ◌++◌, ◌<◌, Some, length, 
 ghost use Rattle.std.specs.List.{flat_map};
 ghost use Rattle.suite_facts.specs.Coverages.{set_seen};
 ghost use Rattle.tuple_index.specs.Plan.{plan_of};
-ghost use Rattle.jeldroft_show.specs.Words as words;
+ghost use Rattle.jeldroft_show.specs.believed.Words as words;
 
 use crate::words::{
     add, add_combinations, add_counted, add_number, add_pairs, add_params, add_tests,

@@ -1,7 +1,7 @@
 //! Words and numbers at the end of a text.
 ghost use Rattle.std.specs.Prelude.{◌≡◌, ◌++◌, [], codes, decimal, OnOk, if◌then◌else◌};
-ghost use Rattle.cov_model.specs.Meaning.{value_at};
-ghost use Rattle.jeldroft_show.specs.Words.{combinations, counted, first_printed, listed, pair_words, param_words, tests};
+ghost use Rattle.cov_model.specs.believed.Meaning.{value_at};
+ghost use Rattle.jeldroft_show.specs.believed.Words.{combinations, counted, first_printed, listed, pair_words, param_words, tests};
 
 use cov_model::{ParamNo, TestModel, Value, ValueNo};
 use itoa::Buffer;

@@ -1,24 +1,24 @@
 -- Files call for one thing: for a text, or for none by one cause.
 use Rattle.std.proofs.Common.{◌≡◌, ◌≤◌, ◌<◌, ℕ, List, length, Option, Some, None, refl, sym, ap, subst, ◌∙◌, arith}
 use Rattle.std.specs.Prelude.{IsSomeAnd}
-use Rattle.cov_model.specs.Sound.{ModelView}
-use Rattle.definitions.specs.Limits.{ModelFile, most_bytes}
+use Rattle.cov_model.specs.believed.Sound.{ModelView}
+use Rattle.definitions.specs.believed.Limits.{ModelFile, most_bytes}
 use Rattle.model_lex.specs.declared.note.Note.{Note}
 use Rattle.model_lex.specs.declared.options.ModelOpts.{ModelOpts}
-use Rattle.type_check.specs.ModelOf.{IsModelOf, IsRefusalOf}
+use Rattle.type_check.specs.believed.ModelOf.{IsModelOf, IsRefusalOf}
 use Rattle.type_check.proofs.OneAnswer.{files_have_one_model, models_are_not_refused, refusals_are_one}
-use Rattle.command_line.specs.Loading.{IsLoaded, StopsReading, out_of_memory, cannot_read, too_long, is_refused}
-use Rattle.command_line.specs.Stops.{stop_of_model}
+use Rattle.command_line.specs.believed.Loading.{IsLoaded, StopsReading, out_of_memory, cannot_read, too_long, is_refused}
+use Rattle.command_line.specs.believed.Stops.{stop_of_model}
 use Rattle.command_line.specs.declared.stop.Stop.{Stop}
 use Rattle.jeldroft_args.specs.declared.shrink.Shrink.{Shrink}
-use Rattle.jeldroft_files.specs.Failures.{status_of_stop}
-use Rattle.jeldroft_files.specs.Models.{opts_of}
+use Rattle.jeldroft_files.specs.believed.Failures.{status_of_stop}
+use Rattle.jeldroft_files.specs.believed.Models.{opts_of}
 use Rattle.jeldroft_files.specs.Runs.{IsDueOnce}
 use Rattle.row_forms.specs.declared.row_form.RowForm.{RowForm}
 use Rattle.jeldroft_shrink.specs.declared.cause.ShrinkCause.{ShrinkCause}
-use Rattle.jeldroft_shrink.specs.Causes.{status_of}
-use Rattle.jeldroft_shrink.specs.Reading.{Lines, stops_by}
-use Rattle.jeldroft_shrink.specs.Runs.{AreRefused, no_model, bad_model, behind, HaveRows, HeldFiles, IsDue, IsDueIn, LackRows, too_large, bad_table, bad_seeds, Spells, form_of}
+use Rattle.jeldroft_shrink.specs.believed.Causes.{status_of}
+use Rattle.jeldroft_shrink.specs.believed.Reading.{Lines, stops_by}
+use Rattle.jeldroft_shrink.specs.believed.Runs.{AreRefused, no_model, bad_model, behind, HaveRows, HeldFiles, IsDue, IsDueIn, LackRows, too_large, bad_table, bad_seeds, Spells, form_of}
 
 three_not_two : {stop other : Stop} → stop ≡ other → status_of_stop other ≡ 3 → status_of_stop stop ≡ 2 → ⊥
 three_not_two is three two = omega (arith, ap status_of_stop is, three, two)

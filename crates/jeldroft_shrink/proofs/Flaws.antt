@@ -4,18 +4,18 @@ use Rattle.std.specs.Prelude.{option_map, nat_lt}
 use Rattle.std.specs.Option.{option_or}
 use Rattle.std.proofs.lemmas.List.Elements.{All-cons, All-head, All-nil, All-tail}
 use Rattle.cov_model.specs.Fits.{FitsModel}
-use Rattle.cov_model.specs.RowFault.{row_fault}
+use Rattle.cov_model.specs.believed.RowFault.{row_fault}
 use Rattle.cov_model.specs.declared.row_fault.RowWhy.{RowWhy}
-use Rattle.cov_model.specs.Rows.{is_complete}
-use Rattle.cov_model.specs.Sound.{ModelView}
-use Rattle.cov_model.specs.Valid.{is_valid}
+use Rattle.cov_model.specs.believed.Rows.{is_complete}
+use Rattle.cov_model.specs.believed.Sound.{ModelView}
+use Rattle.cov_model.specs.believed.Valid.{is_valid}
 use Rattle.cov_model.proofs.FaultLemmas.{is_none-row_fault}
 use Rattle.row_text.specs.RowFiles.{row_seen}
 use Rattle.row_text.specs.declared.row_file.FileRow.{FileRow}
 use Rattle.shared_marks.proofs.RowLemmas.{complete_is_row}
 use Rattle.jeldroft_shrink.specs.declared.cause.ShrinkCause.{ShrinkCause}
 use Rattle.jeldroft_shrink.specs.declared.cause.ShrinkCause.TheVariants.{TooManyRows, Incomplete, Invalid}
-use Rattle.jeldroft_shrink.specs.Reading.{Lines, first_flaw, given_flaw, most_given, row_flaw}
+use Rattle.jeldroft_shrink.specs.believed.Reading.{Lines, first_flaw, given_flaw, most_given, row_flaw}
 
 -- a row with which nothing is wrong is valid
 row_valid : (m : ModelView) (row : FileRow) → FitsModel m row.cells → row_flaw m (row_seen row) ≡ None → is_valid m row.cells ≡ true

@@ -1,25 +1,25 @@
 -- How the steps that read files answer.
 use Rattle.std.proofs.Common.{◌≡◌, ℕ, List, Option, Some, None, Result, Ok, Err, inl, inr, refl, sym, ap, subst, ◌∙◌}
 use Rattle.std.specs.Prelude.{◌⊎◌, IfErr, IfSome, IsErrAnd}
-use Rattle.cov_model.specs.Sound.{ModelView}
+use Rattle.cov_model.specs.believed.Sound.{ModelView}
 use Rattle.command_line.specs.declared.stop.Stop.{Stop}
 use Rattle.command_line.specs.declared.stop.Stop.TheVariants as stops
 use Rattle.command_line.specs.declared.stop.Stop.TheVariants.{OutOfMemory, TooLong}
 use Rattle.jeldroft_args.specs.declared.shrink.Shrink.{Shrink}
-use Rattle.jeldroft_files.specs.Failures.{status_of_stop}
-use Rattle.jeldroft_files.specs.Models.{StopsModel, opts_of}
+use Rattle.jeldroft_files.specs.believed.Failures.{status_of_stop}
+use Rattle.jeldroft_files.specs.believed.Models.{StopsModel, opts_of}
 use Rattle.jeldroft_files.specs.Runs.{IsCalledFor}
 use Rattle.jeldroft_files.specs.declared.failure.Failure.{Failure}
-use Rattle.outside_io.specs.Files.{Files as NamedFiles}
-use Rattle.outside_io.specs.Seen.{FolderSeen, KeepsFiles}
+use Rattle.outside_io.specs.believed.Files.{Files as NamedFiles}
+use Rattle.outside_io.specs.believed.Seen.{FolderSeen, KeepsFiles}
 use Rattle.row_forms.specs.declared.row_form.RowForm.{RowForm}
-use Rattle.tuple_index.specs.PlanFault.{limit_passed}
+use Rattle.tuple_index.specs.believed.PlanFault.{limit_passed}
 use Rattle.jeldroft_shrink.specs.declared.cause.ShrinkCause.{ShrinkCause}
 use Rattle.jeldroft_shrink.specs.declared.cause.ShrinkCause.TheVariants.{Files, NoTable}
 use Rattle.jeldroft_shrink.specs.declared.cause.ShrinkFailure.{ShrinkFailure}
-use Rattle.jeldroft_shrink.specs.Causes.{status_of}
-use Rattle.jeldroft_shrink.specs.Reading.{Lines, stops_by, tests_of}
-use Rattle.jeldroft_shrink.specs.Runs.{AreRefused, bad_model, behind, HeldFiles, Holds, IsDue, IsDueIn, LackRows, too_large, bad_table, bad_seeds, Spells, form_of, given_of, seeds_of}
+use Rattle.jeldroft_shrink.specs.believed.Causes.{status_of}
+use Rattle.jeldroft_shrink.specs.believed.Reading.{Lines, stops_by, tests_of}
+use Rattle.jeldroft_shrink.specs.believed.Runs.{AreRefused, bad_model, behind, HeldFiles, Holds, IsDue, IsDueIn, LackRows, too_large, bad_table, bad_seeds, Spells, form_of, given_of, seeds_of}
 use Rattle.jeldroft_shrink.specs.Steps.{IsCauseOf, IsLimitOf, answer_seen}
 use Rattle.jeldroft_shrink.specs.declared.answer.Answer.{Answer}
 

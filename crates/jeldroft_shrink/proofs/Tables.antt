@@ -5,40 +5,41 @@ use Rattle.std.proofs.lemmas.Bool.{ltb-false}
 use Rattle.std.proofs.lemmas.List.{length-map}
 use Rattle.std.proofs.lemmas.List.Elements.{All-weaker}
 use Rattle.std.proofs.lemmas.Simd.{map-map}
-use Rattle.outside_io.specs.Seen.{FolderSeen, SinkSeen, KeepsFiles}
+use Rattle.outside_io.specs.believed.Seen.{FolderSeen, SinkSeen, KeepsFiles}
 use Rattle.cov_model.specs.Fits.{FitsModel}
-use Rattle.cov_model.specs.Sound.{IsSound, ModelView}
-use Rattle.cov_model.specs.Valid.{is_row, is_valid}
+use Rattle.cov_model.specs.believed.Sound.{IsSound, ModelView}
+use Rattle.cov_model.specs.believed.Valid.{is_row, is_valid}
 use Rattle.cov_model.proofs.RowLemmas.{FitsModel-is_row}
-use Rattle.definitions.specs.RowReading.{Suite, read_rows}
+use Rattle.definitions.specs.believed.RowReading.{Suite, read_rows}
 use Rattle.definitions.proofs.ReportRead.{reports_are_read}
 use Rattle.model_parse.specs.RawModels.{AreOpts}
 use Rattle.type_check.proofs.OneAnswer.{models_are_sound}
 use Rattle.row_text.specs.RowFiles.{row_seen, seeds_seen, suite_seen}
 use Rattle.row_text.specs.declared.row_file.RowFile.{RowFile}
-use Rattle.command_line.specs.Loading.{IsLoaded}
+use Rattle.command_line.specs.believed.Loading.{IsLoaded}
 use Rattle.model_lex.specs.declared.note.Note.{Note}
 use Rattle.model_lex.specs.declared.options.ModelOpts.{ModelOpts}
 use Rattle.jeldroft_args.specs.Ranges.{AreMarks, IsStrength}
 use Rattle.jeldroft_args.specs.declared.shrink.Shrink.{Shrink}
-use Rattle.jeldroft_files.specs.Models.{opts_of}
-use Rattle.jeldroft_files.specs.Runs.{Ends, IsCalledFor, IsWritten, Leaves, Moment, RunsAs, moment}
+use Rattle.jeldroft_files.specs.believed.Models.{opts_of}
+use Rattle.jeldroft_files.specs.Runs.{Ends, IsCalledFor}
+use Rattle.jeldroft_files.specs.believed.Runs.{IsWritten, Leaves, Moment, RunsAs, moment}
 use Rattle.jeldroft_files.proofs.Ending.{leaves, runs_as}
 use Rattle.jeldroft_files.proofs.Reading.{opts_fit}
 use Rattle.row_forms.specs.declared.row_form.RowForm.{RowForm}
 use Rattle.shared_marks.proofs.OwnTupleLemmas.{of_valid}
-use Rattle.shorter_suites.specs.Laws.{rows_of}
-use Rattle.shorter_suites.specs.Shrinking.{IsShrunk, ServesToo}
+use Rattle.shorter_suites.specs.believed.Laws.{rows_of}
+use Rattle.shorter_suites.specs.believed.Shrinking.{IsShrunk, ServesToo}
 use Rattle.shorter_suites.proofs.Accepting.{accepted_stay}
-use Rattle.suite_forms.specs.Suites.{suite_text}
+use Rattle.suite_forms.specs.believed.Suites.{suite_text}
 use Rattle.suite_forms.proofs.Tabbed.{tsv-is-report}
-use Rattle.jeldroft_files.specs.Tables.{is_comma}
+use Rattle.jeldroft_files.specs.believed.Tables.{is_comma}
 use Rattle.jeldroft_shrink.specs.declared.cause.ShrinkCause.{ShrinkCause}
 use Rattle.jeldroft_shrink.specs.declared.cause.ShrinkCause.TheVariants.{TooManyRows}
-use Rattle.jeldroft_shrink.specs.Causes.{status_of}
-use Rattle.jeldroft_shrink.specs.Reading.{Lines, first_flaw, given_flaw, lines_of, most_given, table_in, tests_of, unless_flawed}
-use Rattle.jeldroft_shrink.specs.Runs.{HeldFiles, IsDue, IsDueIn, IsShorterText, Spells, WritesShorter, form_of}
-use Rattle.jeldroft_shrink.specs.Shorter.{IsShorterTable, IsTextOf}
+use Rattle.jeldroft_shrink.specs.believed.Causes.{status_of}
+use Rattle.jeldroft_shrink.specs.believed.Reading.{Lines, first_flaw, given_flaw, lines_of, most_given, table_in, tests_of, unless_flawed}
+use Rattle.jeldroft_shrink.specs.believed.Runs.{HeldFiles, IsDue, IsDueIn, IsShorterText, Spells, WritesShorter, form_of}
+use Rattle.jeldroft_shrink.specs.believed.Shorter.{IsShorterTable, IsTextOf}
 use Rattle.jeldroft_shrink.proofs.DueOnce.{due_once}
 
 -- the rows of a file, with and without their lines

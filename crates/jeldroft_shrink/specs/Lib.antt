@@ -1,5 +1,2 @@
-pub mod Causes
-pub mod Reading
-pub mod Runs
-pub mod Shorter
 pub mod Steps
+pub mod believed

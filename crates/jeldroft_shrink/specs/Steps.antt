@@ -1,14 +1,14 @@
 -- What the steps of `shrink` say of each other. (This project's rules.)
 use Rattle.std.specs.Prelude.{◌≡◌, ◌⊎◌, ℕ, List, Some, Result, Ok, Err}
-use Rattle.cov_model.specs.Sound.{ModelView}
-use Rattle.command_line.specs.Stops.{stop_of_plan}
-use Rattle.tuple_index.specs.PlanFault.{limit_passed}
+use Rattle.cov_model.specs.believed.Sound.{ModelView}
+use Rattle.command_line.specs.believed.Stops.{stop_of_plan}
+use Rattle.tuple_index.specs.believed.PlanFault.{limit_passed}
 use Rattle.tuple_index.specs.declared.fault.PlanFault.{PlanFault}
 use Rattle.jeldroft_shrink.specs.declared.answer.Answer.{Answer}
 use Rattle.jeldroft_shrink.specs.declared.cause.ShrinkCause.{ShrinkCause}
 use Rattle.jeldroft_shrink.specs.declared.cause.ShrinkFailure.{ShrinkFailure}
-use Rattle.jeldroft_shrink.specs.Causes.{status_of}
-use Rattle.jeldroft_shrink.specs.Reading.{stops_by}
+use Rattle.jeldroft_shrink.specs.believed.Causes.{status_of}
+use Rattle.jeldroft_shrink.specs.believed.Reading.{stops_by}
 
 -- a cause is that of a reading, unless memory or the folder failed
 abbrev pub IsCauseOf : {A : Type 0} → Result A ShrinkCause → ShrinkCause → Type 0

@@ -1,16 +1,16 @@
 ghost use Rattle.std.specs.Prelude.{◌≡◌, ◌⊎◌, true, All, IfOk, IfErr, OnOk, None, Some, option_map};
 ghost use Rattle.cov_model.specs.Fits.{FitsModel};
-ghost use Rattle.cov_model.specs.Valid.{is_valid};
+ghost use Rattle.cov_model.specs.believed.Valid.{is_valid};
 ghost use Rattle.jeldroft_args.specs.Ranges.{AreMarks, IsStrength};
 ghost use Rattle.jeldroft_files.specs.Runs.{IsCalledFor};
-ghost use Rattle.outside_io.specs.Seen.{KeepsFiles};
+ghost use Rattle.outside_io.specs.believed.Seen.{KeepsFiles};
 ghost use Rattle.row_text.specs.RowFiles.{seeds_seen, suite_seen};
 ghost use Rattle.shorter_suites.specs.Bounds.{least_needed};
 ghost use Rattle.tuple_index.specs.Plan.{plan_of};
-ghost use Rattle.tuple_index.specs.PlanFault.{limit_passed};
-ghost use Rattle.jeldroft_shrink.specs.Causes.{status_of};
-ghost use Rattle.jeldroft_shrink.specs.Runs.{HaveRows, HeldFiles, Holds, IsDue, IsShorterText, LackRows, form_of};
-ghost use Rattle.jeldroft_shrink.specs.Shorter.{IsTextOf};
+ghost use Rattle.tuple_index.specs.believed.PlanFault.{limit_passed};
+ghost use Rattle.jeldroft_shrink.specs.believed.Causes.{status_of};
+ghost use Rattle.jeldroft_shrink.specs.believed.Runs.{HaveRows, HeldFiles, Holds, IsDue, IsShorterText, LackRows, form_of};
+ghost use Rattle.jeldroft_shrink.specs.believed.Shorter.{IsTextOf};
 ghost use Rattle.jeldroft_shrink.specs.Steps.{IsLimitOf, answer_seen};
 
 use crate::cause::{ShrinkCause, ShrinkFailure};

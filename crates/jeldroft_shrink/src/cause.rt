@@ -1,6 +1,6 @@
 ghost use Rattle.std.specs.Prelude.{◌≡◌};
-ghost use Rattle.jeldroft_shrink.specs.Causes as statuses;
-ghost use Rattle.jeldroft_shrink.specs.Reading.{stops_by};
+ghost use Rattle.jeldroft_shrink.specs.believed.Causes as statuses;
+ghost use Rattle.jeldroft_shrink.specs.believed.Reading.{stops_by};
 
 use command_line::Stop;
 use cov_model::RowWhy;
@@ -77,7 +77,7 @@ impl<'n> From<Failure<'n>> for ShrinkFailure<'n> {
 
 impl<'n> From<NoMemory> for ShrinkFailure<'n> {
     ghost use Rattle.command_line.specs.declared.stop.Stop.TheVariants as stops;
-    ghost use Rattle.jeldroft_shrink.specs.Reading.{stops_by};
+    ghost use Rattle.jeldroft_shrink.specs.believed.Reading.{stops_by};
 
     ghost from_gives = { λ _ given. given.cause ≡ stops_by stops.OutOfMemory };
 

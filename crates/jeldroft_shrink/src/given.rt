@@ -1,11 +1,11 @@
 ghost use Rattle.std.specs.Prelude.{◌≡◌, ◌≤◌, ◌^◌, true, length, All, IfOk, IfSome, Ok};
 ghost use Rattle.cov_model.specs.Fits.{FitsModel};
-ghost use Rattle.cov_model.specs.Valid.{is_valid};
-ghost use Rattle.outside_io.specs.Seen.{KeepsFiles};
+ghost use Rattle.cov_model.specs.believed.Valid.{is_valid};
+ghost use Rattle.outside_io.specs.believed.Seen.{KeepsFiles};
 ghost use Rattle.row_text.specs.RowFiles.{row_seen, seeds_seen, suite_seen};
 ghost use Rattle.row_text.specs.Readings.{mode_seen};
-ghost use Rattle.jeldroft_files.specs.Tables.{is_comma};
-ghost use Rattle.jeldroft_shrink.specs.Reading.{first_flaw, given_flaw, given_in, lines_of, row_flaw, table_in, tests_of};
+ghost use Rattle.jeldroft_files.specs.believed.Tables.{is_comma};
+ghost use Rattle.jeldroft_shrink.specs.believed.Reading.{first_flaw, given_flaw, given_in, lines_of, row_flaw, table_in, tests_of};
 ghost use Rattle.jeldroft_shrink.specs.Steps.{Gives};
 
 use crate::cause::{ShrinkCause, ShrinkFailure};

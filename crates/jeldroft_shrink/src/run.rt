@@ -1,8 +1,9 @@
 ghost use Rattle.std.specs.Prelude.{◌≡◌, ◌≢◌, option_map};
 ghost use Rattle.jeldroft_args.specs.Ranges.{AreMarks, IsStrength};
-ghost use Rattle.jeldroft_files.specs.Runs.{Ends, Leaves, RunsAs, moment};
-ghost use Rattle.jeldroft_shrink.specs.Causes.{status_of};
-ghost use Rattle.jeldroft_shrink.specs.Runs.{HeldFiles, Holds, IsDue, WritesShorter};
+ghost use Rattle.jeldroft_files.specs.Runs.{Ends};
+ghost use Rattle.jeldroft_files.specs.believed.Runs.{Leaves, RunsAs, moment};
+ghost use Rattle.jeldroft_shrink.specs.believed.Causes.{status_of};
+ghost use Rattle.jeldroft_shrink.specs.believed.Runs.{HeldFiles, Holds, IsDue, WritesShorter};
 ghost use Rattle.jeldroft_shrink.specs.Steps.{answer_seen, end_status};
 
 use crate::answer::{Answer, make_answer};

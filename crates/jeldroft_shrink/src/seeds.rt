@@ -1,8 +1,8 @@
 ghost use Rattle.std.specs.Prelude.{◌≡◌, ℕ, List, [], Option, Some, All, IfOk, IfSome, option_map};
 ghost use Rattle.cov_model.specs.Fits.{FitsModel};
-ghost use Rattle.outside_io.specs.Seen.{KeepsFiles};
+ghost use Rattle.outside_io.specs.believed.Seen.{KeepsFiles};
 ghost use Rattle.row_text.specs.RowFiles.{seeds_seen};
-ghost use Rattle.jeldroft_shrink.specs.Reading.{seeds_in};
+ghost use Rattle.jeldroft_shrink.specs.believed.Reading.{seeds_in};
 ghost use Rattle.jeldroft_shrink.specs.Steps.{Gives};
 
 use crate::cause::ShrinkFailure;

@@ -3,11 +3,11 @@ use Rattle.std.proofs.Common.{◌≡◌, ℕ, zero, suc, ◌<◌, Bool, List, []
 use Rattle.std.specs.Prelude.{count_by}
 use Rattle.std.specs.List.{range_with_len}
 use Rattle.std.proofs.lemmas.List.Elements.{All-append, All-cons, All-filter, All-head, All-map, All-nil, All-tail, All-weaker}
-use Rattle.cov_model.specs.Slices.{value_numbers}
-use Rattle.cov_model.specs.Sound.{ModelView, param_at}
-use Rattle.cov_model.specs.Valid.{param_numbers}
-use Rattle.definitions.specs.Demand.{choose}
-use Rattle.suspect_tuples.specs.Suspects.{failing_rows, has_tuple, is_smallest, passing_rows, suspect_sets, suspect_tuples, suspects, tuples_on}
+use Rattle.cov_model.specs.believed.Slices.{value_numbers}
+use Rattle.cov_model.specs.believed.Sound.{ModelView, param_at}
+use Rattle.cov_model.specs.believed.Valid.{param_numbers}
+use Rattle.definitions.specs.believed.Demand.{choose}
+use Rattle.suspect_tuples.specs.believed.Suspects.{failing_rows, has_tuple, is_smallest, passing_rows, suspect_sets, suspect_tuples, suspects, tuples_on}
 use Rattle.suspect_tuples.specs.Told.{found_seen, suspects_seen}
 use Rattle.suspect_tuples.specs.declared.suspect_list.Found.{Found}
 use Rattle.suspect_tuples.specs.declared.suspect_list.Suspects.{Suspects}

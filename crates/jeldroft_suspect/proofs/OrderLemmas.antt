@@ -8,9 +8,9 @@ use Rattle.std.proofs.lemmas.List.Elements.{All-cons, All-head, All-nil, All-tai
 use Rattle.std.proofs.lemmas.List.FromFn.{get_or-range_with_len, length-range_with_len}
 use Rattle.std.proofs.lemmas.List.Kept.{AllPairs-cons}
 use Rattle.std.proofs.lemmas.List.Sorted.{All-permutation, IsPermutation-cons, IsPermutation-middle, IsPermutation-refl, IsPermutation-trans}
-use Rattle.cov_model.specs.Preference.{by_falling_weight, insert_by_weight}
+use Rattle.cov_model.specs.believed.Preference.{by_falling_weight, insert_by_weight}
 use Rattle.jeldroft_suspect.specs.Laws.{CombinationsAreToldInOrder}
-use Rattle.jeldroft_suspect.specs.SuspectsText.{found_at}
+use Rattle.jeldroft_suspect.specs.believed.SuspectsText.{found_at}
 
 -- a choice between two lists
 either : (P : List ℕ → Type 0) (b : Bool) (xs ys : List ℕ) → (b ≡ true → P xs) → (b ≡ false → P ys) → P (if b then xs else ys)

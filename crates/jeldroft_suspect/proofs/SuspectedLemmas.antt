@@ -1,13 +1,15 @@
 -- What a table of results calls for once it is read.
 use Rattle.std.proofs.Common.{◌≡◌, ℕ, Bool, List, map, Option, Ok, Err, inl, inr, ap, sym, ◌∙◌}
-use Rattle.cov_model.specs.Sound.{ModelView}
+use Rattle.cov_model.specs.believed.Sound.{ModelView}
 use Rattle.row_text.specs.RowFiles.{suite_seen}
-use Rattle.suspect_tuples.specs.Suspects.{Suspects}
+use Rattle.suspect_tuples.specs.believed.Suspects.{Suspects}
 use Rattle.suspect_tuples.specs.declared.result_file.ResultFile.{ResultFile}
 use Rattle.jeldroft_files.specs.declared.failure.Cause.{Cause}
-use Rattle.jeldroft_inputs.specs.Inputs.{EndsBy, and_then}
+use Rattle.jeldroft_inputs.specs.Inputs.{EndsBy}
+use Rattle.jeldroft_inputs.specs.believed.Inputs.{and_then}
 use Rattle.jeldroft_inputs.proofs.InputLemmas.{suite_rows}
-use Rattle.jeldroft_suspect.specs.Due.{HoldsResultsOf, suspected, suspects_in}
+use Rattle.jeldroft_suspect.specs.Due.{HoldsResultsOf}
+use Rattle.jeldroft_suspect.specs.believed.Due.{suspected, suspects_in}
 
 module _ (m : ModelView) (comma : Bool) (table : Option (List ℕ)) (file : ResultFile) (results : HoldsResultsOf m comma table file) where
   behind : suspected m comma table ≡ suspects_in m (suite_seen file.rows) file.failed

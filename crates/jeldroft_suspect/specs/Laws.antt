@@ -1,7 +1,7 @@
 -- In which order combinations are told. (This project's rule.)
 use Rattle.std.specs.Prelude.{◌≡◌, ◌⊎◌, ℕ, ◌<◌, List, AllPairs, IsPermutation, length}
 use Rattle.std.specs.List.{range_with_len}
-use Rattle.jeldroft_suspect.specs.SuspectsText.{falling_places, found_at}
+use Rattle.jeldroft_suspect.specs.believed.SuspectsText.{falling_places, found_at}
 
 -- the combination at a place stands before the one at another: more failing tests have it, or as many, and it was found
 -- first

@@ -1,12 +1,13 @@
 ghost use Rattle.std.specs.Prelude.{◌≡◌, ℕ, List, Option, Some, Ok, Err, IfOk, IfErr};
-ghost use Rattle.outside_io.specs.Seen.{KeepsFiles};
+ghost use Rattle.outside_io.specs.believed.Seen.{KeepsFiles};
 ghost use Rattle.row_text.specs.RowFiles.{suite_seen};
 ghost use Rattle.suspect_tuples.specs.Results.{AreResultsOf};
 ghost use Rattle.suspect_tuples.specs.Told.{suspects_of, suspects_seen};
-ghost use Rattle.jeldroft_files.specs.Tables.{is_comma};
+ghost use Rattle.jeldroft_files.specs.believed.Tables.{is_comma};
 ghost use Rattle.jeldroft_inputs.specs.Inputs.{EndsBy};
 ghost use Rattle.jeldroft_suspect.specs.Due as due;
-ghost use Rattle.jeldroft_suspect.specs.Due.{results_of, suspects_in};
+ghost use Rattle.jeldroft_suspect.specs.believed.Due as believed_due;
+ghost use Rattle.jeldroft_suspect.specs.believed.Due.{results_of, suspects_in};
 
 use command_line::{Quantity, Stop};
 use cov_model::TestModel;
@@ -87,10 +88,10 @@ pub(crate) fn suspected<'n, F: Folder>(
     notes: &mut NoteList,
 ) -> Result<Suspects, Failure<'n>>
     ensures found { IfOk result (λ found. (table : Option (List ℕ)) → (F.seen files.old).files args.now.results ≡ Some table →
-        due.suspected model.now (is_comma args.now.delimiter args.now.results) table ≡ Ok (suspects_seen found)) }
+        believed_due.suspected model.now (is_comma args.now.delimiter args.now.results) table ≡ Ok (suspects_seen found)) }
     ensures pairs { IfOk result (λ found. due.ArePairsFound model.now found.found) }
     ensures stops { IfErr result (λ failure. (table : Option (List ℕ)) → (F.seen files.old).files args.now.results ≡ Some table →
-        EndsBy (λ cause. due.suspected model.now (is_comma args.now.delimiter args.now.results) table ≡ Err cause) failure.cause) }
+        EndsBy (λ cause. believed_due.suspected model.now (is_comma args.now.delimiter args.now.results) table ≡ Err cause) failure.cause) }
     ensures files { KeepsFiles (F.seen files.old) (F.seen files.new) }
 {
     let results = results_in(alloc, model, args, files)?;

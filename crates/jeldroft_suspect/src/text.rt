@@ -1,8 +1,9 @@
 ghost use Rattle.std.specs.Prelude.{◌≡◌, ◌<◌, ◌++◌, ◌∷◌, [], map, flat_map, length, All, IsPermutation, IfOk, OnOk, if◌then◌else◌};
 ghost use Rattle.std.specs.List.{range_with_len};
-ghost use Rattle.cov_model.specs.Preference.{by_falling_weight};
+ghost use Rattle.cov_model.specs.believed.Preference.{by_falling_weight};
 ghost use Rattle.suspect_tuples.specs.Told.{found_seen};
-ghost use Rattle.jeldroft_suspect.specs.SuspectsText.{ArePairsOf, IsPairOf, combination_text, count_text, falling_places, found_at, line_text, others_text, pair_text, suspects_text, value_text};
+ghost use Rattle.jeldroft_suspect.specs.SuspectsText.{ArePairsOf, IsPairOf};
+ghost use Rattle.jeldroft_suspect.specs.believed.SuspectsText.{combination_text, count_text, falling_places, found_at, line_text, others_text, pair_text, suspects_text, value_text};
 
 use cov_model::{ParamNo, TestModel, Value, ValueNo};
 use itoa::Buffer;

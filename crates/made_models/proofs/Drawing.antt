@@ -8,8 +8,9 @@ use Rattle.value_text.proofs.ListLemmas.{range_with_len_more}
 use Rattle.std.specs.List.{flat_map, range_with_len}
 use Rattle.rand_pcg.specs.Lcg.{Lcg}
 use Rattle.rand_pcg.specs.Pcg.{pcg32}
-use Rattle.made_models.specs.Words.{after_words, made_generator, word_of}
-use Rattle.made_models.specs.MadeModel.{Forbidden, constraint_line, constraint_lines, forbidden, forbidden_by, parameter_line, parameter_lines, value_count, value_counts, word}
+use Rattle.made_models.specs.believed.Words.{after_words, made_generator, word_of}
+use Rattle.made_models.specs.believed.MadeModel.{Forbidden, constraint_line, constraint_lines, forbidden, forbidden_by, parameter_line, parameter_lines, value_count, word}
+use Rattle.made_models.specs.MadeModel.{value_counts}
 
 -- one word more
 pub after_words-more : (k : ℕ) (generator : Lcg) → (pcg32 (after_words k generator)).1 ≡ after_words (k + 1) generator

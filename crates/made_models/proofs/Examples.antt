@@ -1,8 +1,8 @@
 -- Numbers of the made model of 7, computed: a script of the generator's published step gave the same.
 use Rattle.std.specs.Prelude.{◌≡◌}
 use Rattle.std.proofs.Common.{refl}
-use Rattle.made_models.specs.Words.{after_words}
-use Rattle.made_models.specs.MadeModel.{forbidden, value_count}
+use Rattle.made_models.specs.believed.Words.{after_words}
+use Rattle.made_models.specs.believed.MadeModel.{forbidden, value_count}
 
 pub first_parameter : value_count 7 0 ≡ 4
 unfolding after_words

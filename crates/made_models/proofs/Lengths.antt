@@ -7,7 +7,7 @@ use Rattle.std.proofs.lemmas.Fmt.{length-decimal-le}
 use Rattle.std.proofs.lemmas.List.Concat.{length-flat_map}
 use Rattle.std.proofs.lemmas.List.FromFn.{get_or-range_with_len, length-range_with_len}
 use Rattle.std.proofs.lemmas.List.Sums.{sum_by-le}
-use Rattle.made_models.specs.MadeModel.{Forbidden, constraint_line, constraint_lines, forbidden, made_text, parameter_line, parameter_lines, value_behind, value_count, word}
+use Rattle.made_models.specs.believed.MadeModel.{Forbidden, constraint_line, constraint_lines, forbidden, made_text, parameter_line, parameter_lines, value_behind, value_count, word}
 
 -- so many pieces of at most so many bytes
 pieces : (f : ℕ → List ℕ) (most count : ℕ) → ((i : ℕ) → i < count → length (f i) ≤ most) → length (flat_map f (range_with_len 0 count)) ≤ count * most

@@ -1,7 +1,7 @@
 ghost use Rattle.std.specs.Prelude.{◌≡◌, ◌≤◌, length, slice_index, All};
-ghost use Rattle.made_models.specs.Words.{after_words, word_of};
-ghost use Rattle.made_models.specs.MadeModel.{forbidden_by};
-ghost use Rattle.made_models.specs.MadeModel as defined;
+ghost use Rattle.made_models.specs.believed.Words.{after_words, word_of};
+ghost use Rattle.made_models.specs.believed.MadeModel.{forbidden_by};
+ghost use Rattle.made_models.specs.believed.MadeModel as defined;
 
 use rand_core::utils::NextWord;
 use rand_pcg::Lcg64Xsh32;
@@ -17,7 +17,7 @@ pub struct Forbidden {
 }
 
 impl Model for Forbidden {
-    ghost use Rattle.made_models.specs.MadeModel as defined;
+    ghost use Rattle.made_models.specs.believed.MadeModel as defined;
 
     ghost Value = { defined.Forbidden };
 

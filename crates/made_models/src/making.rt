@@ -1,7 +1,8 @@
 ghost use Rattle.std.specs.Prelude.{◌≡◌, ◌++◌, IfOk, OnOk};
 ghost use Rattle.std.specs.String.{string_bytes};
-ghost use Rattle.made_models.specs.Words.{after_words, made_generator};
-ghost use Rattle.made_models.specs.MadeModel.{constraint_lines, made_text, parameter_lines, value_counts};
+ghost use Rattle.made_models.specs.believed.Words.{after_words, made_generator};
+ghost use Rattle.made_models.specs.believed.MadeModel.{constraint_lines, made_text, parameter_lines};
+ghost use Rattle.made_models.specs.MadeModel.{value_counts};
 
 use crate::forbidden::Forbidden;
 use crate::texts::{push_constraint, push_parameter};

@@ -1,7 +1,7 @@
 ghost use Rattle.std.specs.Prelude.{◌≡◌, ◌++◌, OnOk};
 ghost use Rattle.std.specs.List.{flat_map, range_with_len};
 ghost use Rattle.std.specs.String.{string_bytes};
-ghost use Rattle.made_models.specs.MadeModel.{constraint_line, parameter_line, value_behind};
+ghost use Rattle.made_models.specs.believed.MadeModel.{constraint_line, parameter_line, value_behind};
 
 use crate::forbidden::Forbidden;
 use itoa::Buffer;

@@ -2,7 +2,7 @@
 
 ghost use Rattle.std.specs.Prelude.{◌≡◌, ◌<◌, ◌≤◌, ◌^◌, All, IfOk, IfSome, IsTrue, length};
 ghost use Rattle.cov_model.specs.Fits.{FitsModel};
-ghost use Rattle.cov_model.specs.Sound.{param_at};
+ghost use Rattle.cov_model.specs.believed.Sound.{param_at};
 
 use cov_model::{Cells, ParamNo, TestModel, ValueNo};
 use model_lex::NoteList;

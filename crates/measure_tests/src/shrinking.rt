@@ -1,7 +1,7 @@
 //! Fewer rows that serve what given rows serve.
 
 ghost use Rattle.std.specs.Prelude.{◌≡◌, true, All, IfOk};
-ghost use Rattle.cov_model.specs.Valid.{is_valid};
+ghost use Rattle.cov_model.specs.believed.Valid.{is_valid};
 
 use cov_model::{Prefs, Rows, TestModel};
 use definitions::Effort;

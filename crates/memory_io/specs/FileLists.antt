@@ -2,7 +2,7 @@
 use Rattle.std.specs.Prelude.{Bool, not, Option, Some, List, ℕ, filter, find}
 use Rattle.std.specs.Option.{option_map}
 use Rattle.std.specs.Str.{bytes_eq}
-use Rattle.outside_io.specs.Files.{Files}
+use Rattle.outside_io.specs.believed.Files.{Files}
 use Rattle.memory_io.specs.declared.file_list.FileHeld.{FileHeld}
 
 -- a file has this name

@@ -1,6 +1,7 @@
 ghost use Rattle.std.specs.Prelude.{◌≡◌, ◌≢◌, ◌<◌, ◌≤◌, [], ◌∷◌, ◌++◌, true, false, length, max, position, unwrap_or, Some, IsSomeAnd, OnOk, OnErr, if◌then◌else◌};
 ghost use Rattle.std.specs.Option.{option_copied};
-ghost use Rattle.outside_io.specs.Faults.{GoesOn, one_more, is_failed_read, is_failed_write};
+ghost use Rattle.outside_io.specs.believed.Faults.{GoesOn};
+ghost use Rattle.outside_io.specs.Faults.{one_more, is_failed_read, is_failed_write};
 
 use crate::copying::copy_up_to;
 use crate::mem_file::MemFile;

@@ -13,7 +13,7 @@ pub struct MemPipe {
 }
 
 impl Model for MemPipe {
-    ghost use Rattle.outside_io.specs.Seen.{SinkSeen};
+    ghost use Rattle.outside_io.specs.believed.Seen.{SinkSeen};
     ghost use Rattle.std.specs.Prelude.{Some};
 
     ghost Value = { SinkSeen };

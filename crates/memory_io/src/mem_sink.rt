@@ -1,6 +1,6 @@
 ghost use Rattle.std.specs.Prelude.{◌≡◌, ℕ, ◌-◌, ◌≤◌, ◌++◌, [], Some, false, length, take, nat_le, IfOk, if◌then◌else◌};
 ghost use Rattle.outside_io.specs.Faults.{one_more, is_failed_write};
-ghost use Rattle.outside_io.specs.Puts.{CountsFaults};
+ghost use Rattle.outside_io.specs.believed.Puts.{CountsFaults};
 
 use outside_io::{Sink, WriteAnswer};
 use std::alloc::Global;

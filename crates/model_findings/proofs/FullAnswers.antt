@@ -1,10 +1,10 @@
 -- What the answers of a search tell that answers every question.
 use Rattle.std.proofs.Common.{◌≡◌, ℕ, Bool, true, false, List, Option, Some, refl, ap, ◌∙◌}
 use Rattle.cov_model.specs.declared.slice.Slice.{Slice}
-use Rattle.cov_model.specs.Sound.{ModelView}
+use Rattle.cov_model.specs.believed.Sound.{ModelView}
 use Rattle.definitions.specs.declared.effort.Effort.TheVariants.{Full}
-use Rattle.definitions.specs.Completion.{first_completion, is_extendable}
-use Rattle.definitions.specs.Search.{plain_cost}
+use Rattle.definitions.specs.believed.Completion.{first_completion, is_extendable}
+use Rattle.definitions.specs.believed.Search.{plain_cost}
 use Rattle.feasibility.specs.declared.answer.Answer.{Answer}
 use Rattle.feasibility.specs.declared.answer.Answer.TheVariants.{Yes, No, Spent}
 use Rattle.full_search.specs.Questions.{QuestionsView, answer_within}

@@ -3,9 +3,9 @@ use Rattle.std.proofs.Common.{◌≡◌, ◌∙◌, ◌++◌, All, Bor, List, []
 use Rattle.std.proofs.lemmas.List.Elements.{All-append, All-push}
 use Rattle.cov_model.specs.declared.constraint.Term.{Term}
 use Rattle.cov_model.specs.declared.parameter.Param.{Param}
-use Rattle.cov_model.specs.Sound.{AreSoundPreds, IsSoundBody, IsSoundPred, IsSoundTerm}
-use Rattle.cov_model.specs.Views.{PredView, PredViews, Leaf, Negated, Each, Either, End, More, BodyView, Plain, IfThen, IfElse}
-use Rattle.model_findings.specs.Terms.{terms_in, terms_in_each, terms_of}
+use Rattle.cov_model.specs.believed.Sound.{AreSoundPreds, IsSoundBody, IsSoundPred, IsSoundTerm}
+use Rattle.cov_model.specs.believed.Views.{PredView, PredViews, Leaf, Negated, Each, Either, End, More, BodyView, Plain, IfThen, IfElse}
+use Rattle.model_findings.specs.believed.Terms.{terms_in, terms_in_each, terms_of}
 
 nothing_sound : (params : List Param) → All (IsSoundTerm params) []
 nothing_sound params k d within = absurd (omega (arith, within))

@@ -3,7 +3,7 @@ use Rattle.std.proofs.Common.{◌≡◌, ℕ, zero, suc, ◌+◌, ◌<◌, List,
 use Rattle.std.proofs.lemmas.Grind.{flat_map-append}
 use Rattle.std.proofs.lemmas.List.{append_assoc, get_or-map, length-map, take_more}
 use Rattle.model_lint.proofs.Steps.{append_nothing}
-use Rattle.model_findings.specs.Findings.{Fact, told_from}
+use Rattle.model_findings.specs.believed.Findings.{Fact, told_from}
 
 -- of the items before a place and the one there
 told_more : {X : Type 0} (told : ℕ → X → List Fact) (n k : ℕ) (xs : List X) (i : ℕ) (d : X) → i < length xs → n + i ≡ k

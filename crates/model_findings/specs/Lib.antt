@@ -1,4 +1,3 @@
 pub mod Answers
-pub mod Terms
-pub mod Comparisons
+pub mod believed
 pub mod Findings

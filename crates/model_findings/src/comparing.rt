@@ -1,11 +1,11 @@
 ghost use Rattle.std.specs.Prelude.{◌≡◌, ◌<◌, ◌∷◌, ◌||◌, [], true, IfOk, length};
 ghost use Rattle.std.specs.List.{list_all};
 ghost use Rattle.cov_model.specs.Fits.{FitsModel};
-ghost use Rattle.cov_model.specs.Kleene.{term_params};
-ghost use Rattle.cov_model.specs.Rows.{is_assigned, with_value};
-ghost use Rattle.cov_model.specs.Sound.{IsLiteralOf, IsSoundTerm, param_at};
-ghost use Rattle.model_lint.specs.Tests.{no_values};
-ghost use Rattle.model_findings.specs.Comparisons.{is_always_true, is_constant, is_ever, is_for_some, is_never_true, is_so, is_unknown, is_unknown_element};
+ghost use Rattle.cov_model.specs.believed.Kleene.{term_params};
+ghost use Rattle.cov_model.specs.believed.Rows.{is_assigned, with_value};
+ghost use Rattle.cov_model.specs.believed.Sound.{IsLiteralOf, IsSoundTerm, param_at};
+ghost use Rattle.model_lint.specs.believed.Tests.{no_values};
+ghost use Rattle.model_findings.specs.believed.Comparisons.{is_always_true, is_constant, is_ever, is_for_some, is_never_true, is_so, is_unknown, is_unknown_element};
 
 use cov_model::{Cells, Literal, ParamNo, Rel, Term, TestModel, Truth, ValueNo};
 use model_lint::copy_literal;

@@ -1,7 +1,8 @@
 ghost use Rattle.std.specs.Prelude.{◌≡◌, ◌<◌, ◌++◌, All, OnOk, length, map};
-ghost use Rattle.cov_model.specs.Sound.{IsLiteralOf, IsSoundTerm, param_at};
-ghost use Rattle.model_findings.specs.Comparisons.{is_unknown};
-ghost use Rattle.model_findings.specs.Findings.{IsExplained, UnknownValue, constant_facts, element_facts, fact_if, fact_of, told_from, unknown_facts};
+ghost use Rattle.cov_model.specs.believed.Sound.{IsLiteralOf, IsSoundTerm, param_at};
+ghost use Rattle.model_findings.specs.believed.Comparisons.{is_unknown};
+ghost use Rattle.model_findings.specs.Findings.{IsExplained, fact_of};
+ghost use Rattle.model_findings.specs.believed.Findings.{UnknownValue, constant_facts, element_facts, fact_if, told_from, unknown_facts};
 
 use crate::comparing::{is_constant, is_unknown, is_unknown_element};
 use crate::finding::{Finding, FindingList};

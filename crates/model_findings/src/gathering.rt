@@ -1,6 +1,7 @@
 ghost use Rattle.std.specs.Prelude.{◌≡◌, All, IfOk, map};
 ghost use Rattle.model_lint.specs.Unused.{IsExplained as IsUnusedExplained, value_of};
-ghost use Rattle.model_findings.specs.Findings.{IsExplained, ValueInNoTest, fact_of, facts, value_facts};
+ghost use Rattle.model_findings.specs.Findings.{IsExplained, fact_of};
+ghost use Rattle.model_findings.specs.believed.Findings.{ValueInNoTest, facts, value_facts};
 
 use crate::finding::{Finding, FindingList};
 use crate::rules::Rules;

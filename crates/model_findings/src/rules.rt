@@ -1,8 +1,9 @@
 ghost use Rattle.std.specs.Prelude.{◌≡◌, ◌<◌, ◌≤◌, ◌&&◌, ◌++◌, All, OnOk, length, map, slice_index_or};
 ghost use Rattle.std.specs.List.{flat_map};
 ghost use Rattle.cov_model.specs.Sound.{no_rule, rule_at};
-ghost use Rattle.model_lint.specs.Constraints.{never_applies, never_excludes};
-ghost use Rattle.model_findings.specs.Findings.{IsExplained, NeverExcludes, PremiseNeverHolds, fact_if, fact_of, rule_facts, term_facts};
+ghost use Rattle.model_lint.specs.believed.Constraints.{never_applies, never_excludes};
+ghost use Rattle.model_findings.specs.Findings.{IsExplained, fact_of};
+ghost use Rattle.model_findings.specs.believed.Findings.{NeverExcludes, PremiseNeverHolds, fact_if, rule_facts, term_facts};
 
 use crate::constraint::Constraint;
 use crate::finding::{Finding, FindingList};

@@ -55,7 +55,7 @@ impl<'a> Model for FullAsker<'a> {
     ghost use Rattle.std.specs.Coded.{codes};
     ghost use Rattle.cov_model.specs.contracts.model.TestModel as tested;
     ghost use Rattle.cov_model.specs.declared.slice.Slice.TheVariants.{Positive};
-    ghost use Rattle.cov_model.specs.Sound.{ModelView};
+    ghost use Rattle.cov_model.specs.believed.Sound.{ModelView};
     ghost use Rattle.definitions.specs.declared.effort.Effort.TheVariants.{Full};
 
     ghost Value = { ModelView };

@@ -1,6 +1,6 @@
 ghost use Rattle.std.specs.Prelude.{◌≡◌, ◌++◌, IfOk, OnOk, map};
 ghost use Rattle.cov_model.specs.Views.{body_view, pred_view, preds_in};
-ghost use Rattle.model_findings.specs.Terms.{terms_in, terms_in_each, terms_of};
+ghost use Rattle.model_findings.specs.believed.Terms.{terms_in, terms_in_each, terms_of};
 
 use cov_model::{Body, Pred, Term};
 use std::alloc::Global;

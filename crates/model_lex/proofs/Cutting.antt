@@ -4,7 +4,7 @@ use Rattle.std.proofs.lemmas.Bool.{ltb-true, ltb-false, ne_eqb}
 use Rattle.std.proofs.lemmas.List.Splits.{slice_split_first, length-slice_split}
 use Rattle.std.specs.List.{slice_split, position, position_or_len, before_first, after_first}
 use Rattle.std.specs.Prelude.{Some, None, nat_lt}
-use Rattle.model_lex.specs.Lines.{ended_lines, file_lines, is_line_feed, without_return}
+use Rattle.model_lex.specs.believed.Lines.{ended_lines, file_lines, is_line_feed, without_return}
 
 pub ended_lines-cons : (line : List ℕ) (lines : List (List ℕ)) → 0 < length lines → ended_lines (line ∷ lines) ≡ line ∷ ended_lines lines
 ended_lines-cons line [] some = absurd (omega arith)

@@ -10,14 +10,16 @@ use Rattle.std.specs.List.{prefix_len}
 use Rattle.std.specs.Option.{option_map}
 use Rattle.std.specs.Prelude.{Option, Some, None, Result, Ok, Err, IfOk, IfSome, if◌then◌else◌, nat_eq}
 use Rattle.std.specs.Str.{IsUtf8, IsCharBoundary}
-use Rattle.value_text.specs.Numbers.{number_of}
+use Rattle.value_text.specs.believed.Numbers.{number_of}
 use Rattle.value_text.specs.declared.fixed.FixedAnswer.{FixedAnswer}
 use Rattle.value_text.specs.declared.fixed.FixedAnswer.TheVariants.{Number as IsNumber, NotNumber, TooWide}
 use Rattle.model_lex.proofs.Runs.{run_len, ascii_number, ascii_word}
-use Rattle.value_text.specs.Texts.{is_blank}
-use Rattle.model_lex.specs.Sections.{first_word, is_word_among, is_word_byte}
-use Rattle.model_lex.specs.Tokens.{HasMarks, StandsBetween, StandsIn, begins_number, begins_relation, first_token, is_punctuation, is_number_byte}
-use Rattle.model_lex.specs.Tokens.{is_pair, is_quotable, keywords, lexed_at, token_at, number_run, number_token, quoted_len, quoted_token}
+use Rattle.value_text.specs.believed.Texts.{is_blank}
+use Rattle.model_lex.specs.believed.Sections.{first_word, is_word_among, is_word_byte}
+use Rattle.model_lex.specs.Tokens.{HasMarks, StandsBetween, StandsIn}
+use Rattle.model_lex.specs.believed.Tokens.{begins_number, begins_relation, first_token, is_punctuation, is_number_byte}
+use Rattle.model_lex.specs.believed.Tokens.{is_pair, is_quotable, keywords, number_run, number_token, quoted_len, quoted_token}
+use Rattle.model_lex.specs.Tokens.{lexed_at, token_at}
 use Rattle.model_lex.specs.declared.diag.DiagCode.{DiagCode}
 use Rattle.model_lex.specs.declared.diag.DiagCode.TheVariants.{NameNotClosed, TextNotClosed, UnknownWord}
 use Rattle.model_lex.specs.declared.token.TokenKind.{TokenKind}

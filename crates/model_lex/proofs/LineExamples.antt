@@ -2,9 +2,9 @@
 use Rattle.std.proofs.Common.{◌≡◌, true, false, [], ◌∷◌, ◌++◌, refl}
 use Rattle.std.specs.Prelude.{Ok, Err, codes}
 use Rattle.std.specs.Str.{chars, is_utf8}
-use Rattle.model_lex.specs.Blanks.{trimmed}
-use Rattle.model_lex.specs.Lines.{file_lines, numbered_lines}
-use Rattle.model_lex.specs.Sections.{opens_rule, sections_of}
+use Rattle.model_lex.specs.believed.Blanks.{trimmed}
+use Rattle.model_lex.specs.believed.Lines.{file_lines, numbered_lines}
+use Rattle.model_lex.specs.believed.Sections.{opens_rule, sections_of}
 use Rattle.model_lex.specs.declared.diag.DiagCode.TheVariants.{LateParameter, NoColon, NotText}
 
 -- one carriage return goes at a line feed and at the end of the file, and the last line needs a byte

@@ -1,9 +1,9 @@
 -- What opens a constraint, word by word.
 use Rattle.std.proofs.Common.{◌≡◌, ℕ, zero, suc, ◌<◌, Bool, true, false, List, [], ◌∷◌, length, drop, get_or, refl, ap, arith, ◌∙◌, sym, one-add, sub-one}
 use Rattle.std.proofs.lemmas.Bool.{lt-ltb}
-use Rattle.model_lex.specs.Blanks.{without_first_blanks}
-use Rattle.value_text.specs.Texts.{is_blank}
-use Rattle.model_lex.specs.Sections.{goes_on, is_opening_mark, opening_len}
+use Rattle.model_lex.specs.believed.Blanks.{without_first_blanks}
+use Rattle.value_text.specs.believed.Texts.{is_blank}
+use Rattle.model_lex.specs.believed.Sections.{goes_on, is_opening_mark, opening_len}
 
 -- what goes on behind a word
 pub goes_on_inside : (n : ℕ) (text : List ℕ) → goes_on n text ≡ goes_on 0 (drop n text)

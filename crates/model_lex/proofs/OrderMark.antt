@@ -4,7 +4,7 @@ use Rattle.std.proofs.Common.{nat_eq}
 use Rattle.std.proofs.lemmas.Bool.{cond_both}
 use Rattle.std.proofs.lemmas.List.{length-drop}
 use Rattle.std.specs.List.{starts_with}
-use Rattle.model_lex.specs.Lines.{byte_order_mark, without_mark}
+use Rattle.model_lex.specs.believed.Lines.{byte_order_mark, without_mark}
 
 -- a file without its byte-order mark is no longer
 pub unmarked_within : (bytes : List ℕ) → length (without_mark bytes) ≤ length bytes

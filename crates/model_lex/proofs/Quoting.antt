@@ -5,7 +5,8 @@ use Rattle.std.proofs.lemmas.Bool.Decides.{nat_tests}
 use Rattle.std.proofs.lemmas.List.{drop_all, drop-drop}
 use Rattle.std.specs.Option.{option_map}
 use Rattle.std.specs.Prelude.{Option, Some, None}
-use Rattle.model_lex.specs.Tokens.{quoted_len, quotes_next}
+use Rattle.model_lex.specs.believed.Tokens.{quoted_len}
+use Rattle.model_lex.specs.Tokens.{quotes_next}
 use Rattle.value_text.proofs.ListLemmas.{add_zero}
 
 -- the text is searched up to a place

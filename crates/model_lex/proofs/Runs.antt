@@ -10,10 +10,10 @@ use Rattle.std.proofs.lemmas.Str.{IsCharBoundary-after_ascii, IsCharBoundary-bef
 use Rattle.std.specs.List.{prefix_len, suffix_len, take_while, list_all}
 use Rattle.std.specs.Prelude.{nat_eq}
 use Rattle.std.specs.Str.{IsUtf8, IsCharBoundary}
-use Rattle.model_lex.specs.Blanks.{is_all_blank, without_first_blanks}
-use Rattle.value_text.specs.Texts.{is_blank}
-use Rattle.model_lex.specs.Sections.{is_word_byte}
-use Rattle.model_lex.specs.Tokens.{is_number_byte}
+use Rattle.model_lex.specs.believed.Blanks.{is_all_blank, without_first_blanks}
+use Rattle.value_text.specs.believed.Texts.{is_blank}
+use Rattle.model_lex.specs.believed.Sections.{is_word_byte}
+use Rattle.model_lex.specs.believed.Tokens.{is_number_byte}
 
 -- the run that `take_while` takes is so long
 pub run_len : (p : ℕ → Bool) (xs : List ℕ) → length (take_while p xs) ≡ prefix_len p xs

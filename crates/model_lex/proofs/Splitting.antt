@@ -7,8 +7,9 @@ use Rattle.std.specs.Str.{IsUtf8, is_utf8}
 use Rattle.model_lex.specs.declared.diag.DiagCode.TheVariants.{NotText}
 use Rattle.std.specs.List.{enumerate_from}
 use Rattle.std.specs.Prelude.{Some, None, Result, Ok, Err}
-use Rattle.model_lex.specs.Lines.{file_lines}
-use Rattle.model_lex.specs.Sections.{Split, is_ignored, kind_of, misplaced, no_lines, put_behind, refusal_of, sections_behind, with_line}
+use Rattle.model_lex.specs.believed.Lines.{file_lines}
+use Rattle.model_lex.specs.believed.Sections.{Split, is_ignored, kind_of, misplaced, no_lines, refusal_of, sections_behind, with_line}
+use Rattle.model_lex.specs.Sections.{put_behind}
 use Rattle.model_lex.specs.declared.diag.Diag.{Diag}
 use Rattle.model_lex.specs.declared.diag.DiagCode.{DiagCode}
 use Rattle.model_lex.specs.declared.line_kind.LineKind.{LineKind}

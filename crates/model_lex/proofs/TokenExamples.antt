@@ -1,7 +1,8 @@
 -- The definitions of tokens, computed on small lines. 92 is the backslash, 34 is `"`.
 use Rattle.std.proofs.Common.{◌≡◌, [], ◌∷◌, ◌++◌, refl}
 use Rattle.std.specs.Prelude.{codes}
-use Rattle.model_lex.specs.Tokens.{name_between, token_at, unquoted}
+use Rattle.model_lex.specs.believed.Tokens.{name_between, unquoted}
+use Rattle.model_lex.specs.Tokens.{token_at}
 use Rattle.model_lex.specs.declared.diag.DiagCode.TheVariants.{StrayCharacter, NameNotClosed, TextNotClosed, BadNumber, NumberTooWide, UnknownWord}
 use Rattle.model_lex.specs.declared.token.Lexed.TheVariants.{Token as Found, End, Bad}
 use Rattle.model_lex.specs.declared.token.TokenKind.TheVariants.{Name, Words, Number, Word, Relation, Mark}

@@ -1,5 +1,3 @@
-pub mod Blanks
-pub mod Codes
-pub mod Lines
+pub mod believed
 pub mod Sections
 pub mod Tokens

@@ -1,9 +1,9 @@
 ghost use Rattle.std.specs.Prelude.{◌≡◌, ◌≤◌, length, take, drop};
 ghost use Rattle.std.specs.List.{prefix_len};
 ghost use Rattle.std.specs.Str.{str_eq_ignore_ascii_case};
-ghost use Rattle.model_lex.specs.Blanks.{without_first_blanks};
-ghost use Rattle.value_text.specs.Texts.{is_blank};
-ghost use Rattle.model_lex.specs.Sections.{is_word_byte, first_word};
+ghost use Rattle.model_lex.specs.believed.Blanks.{without_first_blanks};
+ghost use Rattle.value_text.specs.believed.Texts.{is_blank};
+ghost use Rattle.model_lex.specs.believed.Sections.{is_word_byte, first_word};
 
 /// Whether a byte is a space or a tab.
 pub fn is_blank(byte: u8) -> bool

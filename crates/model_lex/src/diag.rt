@@ -1,5 +1,5 @@
 ghost use Rattle.std.specs.Prelude.{◌≡◌};
-ghost use Rattle.model_lex.specs.Codes.{diag_code, diag_text};
+ghost use Rattle.model_lex.specs.believed.Codes.{diag_code, diag_text};
 
 /// Why a model file is refused: a line, counted from 1, and the reason.
 #[derive(Debug, Drop, Clone, Copy, PartialEq, Eq)]

@@ -1,5 +1,5 @@
 ghost use Rattle.std.specs.Prelude.{◌≡◌};
-ghost use Rattle.model_lex.specs.Codes.{most_of};
+ghost use Rattle.model_lex.specs.believed.Codes.{most_of};
 
 use crate::diag::Diag;
 use value_text::NoMemory;

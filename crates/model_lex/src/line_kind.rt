@@ -1,6 +1,6 @@
 ghost use Rattle.std.specs.Prelude.{◌≡◌, ◌≤◌, length};
 ghost use Rattle.std.specs.List.{list_any};
-ghost use Rattle.model_lex.specs.Sections.{goes_on, has_colon, is_word_among, is_ignored, is_opening_mark, kind_of, misplaced, opening_len, opening_words, opens_group, opens_rule};
+ghost use Rattle.model_lex.specs.believed.Sections.{goes_on, has_colon, is_word_among, is_ignored, is_opening_mark, kind_of, misplaced, opening_len, opening_words, opens_group, opens_rule};
 
 use crate::bytes::{first_word, is_word, without_first_blanks};
 use crate::diag::DiagCode;

@@ -1,7 +1,7 @@
 //! Cutting a file into lines, one after another.
 ghost use Rattle.std.specs.Prelude.{◌≡◌, ◌<◌, ◌∷◌, length};
 ghost use Rattle.std.specs.List.{position, slice_split};
-ghost use Rattle.model_lex.specs.Lines.{ended_lines, file_lines, is_line_feed, without_mark, without_return};
+ghost use Rattle.model_lex.specs.believed.Lines.{ended_lines, file_lines, is_line_feed, without_mark, without_return};
 
 /// The bytes of a file without a byte-order mark at the start.
 pub fn without_mark(bytes: &[u8]) -> &[u8]

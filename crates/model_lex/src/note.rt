@@ -1,5 +1,5 @@
 ghost use Rattle.std.specs.Prelude.{◌≡◌};
-ghost use Rattle.model_lex.specs.Codes.{note_code, note_text};
+ghost use Rattle.model_lex.specs.believed.Codes.{note_code, note_text};
 
 use value_text::OwnedList;
 

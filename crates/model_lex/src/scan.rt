@@ -1,9 +1,10 @@
 ghost use Rattle.std.specs.Prelude.{◌≡◌, ◌<◌, ◌^◌, ◌≤◌, length, drop, IfSome};
 ghost use Rattle.std.specs.List.{prefix_len};
-ghost use Rattle.value_text.specs.Numbers.{number_of};
-ghost use Rattle.model_lex.specs.Sections.{first_word, is_word_among};
-ghost use Rattle.model_lex.specs.Tokens.{begins_number, begins_relation, first_token, is_punctuation, is_number_byte, is_quotable, keywords};
-ghost use Rattle.model_lex.specs.Tokens.{number_run, number_token, quoted_len, quoted_token, quotes_next, relation_len, word_token};
+ghost use Rattle.value_text.specs.believed.Numbers.{number_of};
+ghost use Rattle.model_lex.specs.believed.Sections.{first_word, is_word_among};
+ghost use Rattle.model_lex.specs.believed.Tokens.{begins_number, begins_relation, first_token, is_punctuation, is_number_byte, is_quotable, keywords};
+ghost use Rattle.model_lex.specs.believed.Tokens.{number_run, number_token, quoted_len, quoted_token, relation_len, word_token};
+ghost use Rattle.model_lex.specs.Tokens.{quotes_next};
 
 use crate::bytes::{first_word, is_word};
 use crate::diag::DiagCode;

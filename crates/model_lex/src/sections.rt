@@ -1,5 +1,6 @@
 ghost use Rattle.std.specs.Prelude.{◌≡◌, ◌≤◌, ◌^◌, length, Some, None, IfOk, IfErr, OnOk};
-ghost use Rattle.model_lex.specs.Sections.{Splits, kind_of, line_seen, no_lines, put_behind, refusal_of, sections_of, split_seen};
+ghost use Rattle.model_lex.specs.Sections.{Splits, line_seen, put_behind, split_seen};
+ghost use Rattle.model_lex.specs.believed.Sections.{kind_of, no_lines, refusal_of, sections_of};
 
 use crate::diag::{Diag, DiagCode};
 use crate::fault::ModelFault;

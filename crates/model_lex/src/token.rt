@@ -1,7 +1,7 @@
 ghost use Rattle.std.specs.Prelude.{◌≡◌, ◌+◌, ◌≤◌, drop};
 ghost use Rattle.std.specs.List.{prefix_len};
 ghost use Rattle.std.specs.Str.{IsCharBoundary};
-ghost use Rattle.value_text.specs.Texts.{is_blank};
+ghost use Rattle.value_text.specs.believed.Texts.{is_blank};
 ghost use Rattle.model_lex.specs.Tokens.{HasMarks, IfToken, StandsIn, token_at};
 
 use crate::bytes::blank_len;

@@ -1,7 +1,7 @@
 ghost use Rattle.std.specs.Prelude.{◌≡◌};
 ghost use Rattle.std.specs.List.{suffix_len};
-ghost use Rattle.model_lex.specs.Blanks.{trimmed, without_first_blanks, without_last_blanks};
-ghost use Rattle.value_text.specs.Texts.{is_blank};
+ghost use Rattle.model_lex.specs.believed.Blanks.{trimmed, without_first_blanks, without_last_blanks};
+ghost use Rattle.value_text.specs.believed.Texts.{is_blank};
 
 use crate::bytes::{blank_len, is_blank};
 

@@ -7,17 +7,18 @@ use Rattle.cov_model.specs.declared.demand.Demand.{Demand}
 use Rattle.cov_model.specs.declared.slice.Slice.{Slice}
 use Rattle.cov_model.specs.declared.slice.Slice.TheVariants.{Positive, Negative}
 use Rattle.cov_model.specs.declared.parameter.Param.{Param}
-use Rattle.cov_model.specs.Meaning.{body_holds}
-use Rattle.cov_model.specs.Slices.{slice_values}
-use Rattle.cov_model.specs.Sound.{ModelView, IsSound, IsSoundBody, no_rule}
-use Rattle.cov_model.specs.Valid.{is_row, is_valid, negatives}
-use Rattle.cov_model.specs.Views.{BodyView, Plain, IfThen, IfElse, RuleView}
-use Rattle.definitions.specs.Completion.{completions, is_extendable, meets_rules}
+use Rattle.cov_model.specs.believed.Meaning.{body_holds}
+use Rattle.cov_model.specs.believed.Slices.{slice_values}
+use Rattle.cov_model.specs.believed.Sound.{ModelView, IsSound, IsSoundBody}
+use Rattle.cov_model.specs.Sound.{no_rule}
+use Rattle.cov_model.specs.believed.Valid.{is_row, is_valid, negatives}
+use Rattle.cov_model.specs.believed.Views.{BodyView, Plain, IfThen, IfElse, RuleView}
+use Rattle.definitions.specs.believed.Completion.{completions, is_extendable, meets_rules}
 use Rattle.definitions.proofs.Members.{Has, all_members, all_pass, any_member, member_of_all, of_any, of_filter, of_map, passes_all}
 use Rattle.model_lint.specs.declared.change.Change.{Change}
 use Rattle.model_lint.specs.declared.change.Change.TheVariants.{LeftOut, Kept, Opposite, WithPremise}
 use Rattle.model_lint.specs.Changes.{IsTestOf, change_at, changed, changed_body, changed_rule, is_marked, kept_alone, least_demand}
-use Rattle.model_lint.specs.Tests.{part}
+use Rattle.model_lint.specs.believed.Tests.{part}
 use Rattle.model_lint.proofs.Meanings.{body_same, other}
 use Rattle.model_lint.proofs.Members.{any_agree, all_agree}
 

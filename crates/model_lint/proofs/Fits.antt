@@ -3,12 +3,12 @@ use Rattle.std.proofs.Common.{◌≡◌, ℕ, ◌<◌, true, List, length, get_o
 use Rattle.std.proofs.lemmas.Bool.{cases_eq, false≢true}
 use Rattle.std.proofs.lemmas.List.{get_or-replicate, get_or-set_other, get_or-set_same, length-replicate, length-set}
 use Rattle.cov_model.specs.Fits.{FitsModel}
-use Rattle.cov_model.specs.Rows.{is_assigned, value_in, with_value}
-use Rattle.cov_model.specs.Sound.{ModelView, param_at}
+use Rattle.cov_model.specs.believed.Rows.{is_assigned, value_in, with_value}
+use Rattle.cov_model.specs.believed.Sound.{ModelView, param_at}
 use Rattle.cov_model.proofs.CellLemmas.{assigned_within}
 use Rattle.model_lint.specs.declared.change.Change.{Change}
 use Rattle.model_lint.specs.Changes.{changed}
-use Rattle.model_lint.specs.Tests.{no_values}
+use Rattle.model_lint.specs.believed.Tests.{no_values}
 
 -- what fits a model fits a changed one
 pub fits_changed : (m : ModelView) (changes : List Change) (cells : List (Option ℕ)) → FitsModel m cells → FitsModel (changed m changes) cells

@@ -3,9 +3,9 @@ use Rattle.std.proofs.Common.{◌≡◌, ℕ, ◌&&◌, ◌||◌, not, List, Opt
 use Rattle.cov_model.specs.declared.constraint.Term as terms
 use Rattle.cov_model.specs.declared.constraint.Term.TheVariants.{ValueIs, ParamIs, OneOf, Like, Negative, Positive}
 use Rattle.cov_model.specs.declared.demand.Demand.{Demand}
-use Rattle.cov_model.specs.Meaning.{term_holds, pred_holds, all_hold, any_holds, body_holds}
-use Rattle.cov_model.specs.Sound.{ModelView}
-use Rattle.cov_model.specs.Views.{PredView, PredViews, Leaf, Negated, Each, Either, End, More, BodyView, Plain, IfThen, IfElse, RuleView}
+use Rattle.cov_model.specs.believed.Meaning.{term_holds, pred_holds, all_hold, any_holds, body_holds}
+use Rattle.cov_model.specs.believed.Sound.{ModelView}
+use Rattle.cov_model.specs.believed.Views.{PredView, PredViews, Leaf, Negated, Each, Either, End, More, BodyView, Plain, IfThen, IfElse, RuleView}
 
 -- the model with other constraints and another demand
 abbrev pub other : ModelView → List RuleView → Demand → ModelView

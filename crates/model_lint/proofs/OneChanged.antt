@@ -4,19 +4,20 @@ use Rattle.std.specs.Prelude.{◌==◌, nat_le}
 use Rattle.std.specs.List.{list_all, list_any}
 use Rattle.std.proofs.lemmas.Bool.{and_parts, and_from, cases_eq, eq-eqb, ne_eqb, not_from_false, false≢true}
 use Rattle.std.proofs.lemmas.List.{get_or-set_same, get_or-set_other, get_or-replicate, length-replicate}
-use Rattle.cov_model.specs.Meaning.{body_holds, pred_holds}
-use Rattle.cov_model.specs.Rows.{contains}
-use Rattle.cov_model.specs.Sound.{ModelView, IsSound, no_rule, rule_at}
-use Rattle.cov_model.specs.Valid.{is_row, is_valid, negatives}
-use Rattle.cov_model.specs.Views.{BodyView, Plain, IfThen, IfElse, RuleView}
+use Rattle.cov_model.specs.believed.Meaning.{body_holds, pred_holds}
+use Rattle.cov_model.specs.believed.Rows.{contains}
+use Rattle.cov_model.specs.believed.Sound.{ModelView, IsSound}
+use Rattle.cov_model.specs.Sound.{no_rule, rule_at}
+use Rattle.cov_model.specs.believed.Valid.{is_row, is_valid, negatives}
+use Rattle.cov_model.specs.believed.Views.{BodyView, Plain, IfThen, IfElse, RuleView}
 use Rattle.cov_model.proofs.TupleLemmas.{contains-nothing}
-use Rattle.definitions.specs.Figures.{all_rows}
+use Rattle.definitions.specs.believed.Figures.{all_rows}
 use Rattle.definitions.proofs.Members.{Has, all_pass, has_filter, has_map, of_filter, of_map, passes_all, same_answer}
 use Rattle.model_lint.specs.declared.change.Change.{Change}
 use Rattle.model_lint.specs.declared.change.Change.TheVariants.{LeftOut, Kept, Opposite, WithPremise}
 use Rattle.model_lint.specs.Changes.{change_at, changed, changed_body, changed_rule, least_demand, one_changed}
-use Rattle.model_lint.specs.Constraints.{has_premise, never_applies, never_excludes, premise_holds}
-use Rattle.model_lint.specs.Tests.{has_test, no_values, part}
+use Rattle.model_lint.specs.believed.Constraints.{has_premise, never_applies, never_excludes, premise_holds}
+use Rattle.model_lint.specs.believed.Tests.{has_test, no_values, part}
 use Rattle.model_lint.proofs.ChangedModels.{meets, valid_other, valid_part, valid_with}
 use Rattle.model_lint.proofs.Members.{any_agree}
 use Rattle.model_lint.proofs.ThinMarks.{has_get_or, numbered_rule}

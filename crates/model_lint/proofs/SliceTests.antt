@@ -6,16 +6,16 @@ use Rattle.std.proofs.lemmas.Bool.{and_parts, and_from, or_left, or_right, or_ca
 use Rattle.std.proofs.lemmas.List.FromFn.{length-map-range_with_len, get_or-map-range_with_len}
 use Rattle.cov_model.specs.declared.slice.Slice.{Slice}
 use Rattle.cov_model.specs.declared.slice.Slice.TheVariants.{Positive, Negative}
-use Rattle.cov_model.specs.Sound.{ModelView, param_at}
+use Rattle.cov_model.specs.believed.Sound.{ModelView, param_at}
 use Rattle.cov_model.specs.Fits.{FitsModel}
-use Rattle.cov_model.specs.Rows.{contains, is_assigned, value_in}
-use Rattle.cov_model.specs.Meaning.{value_at}
-use Rattle.cov_model.specs.Valid.{is_row, is_valid, has_value, negatives, param_numbers}
-use Rattle.cov_model.specs.Slices.{value_numbers, positive_values, slice_values, slice_of}
+use Rattle.cov_model.specs.believed.Rows.{contains, is_assigned, value_in}
+use Rattle.cov_model.specs.believed.Meaning.{value_at}
+use Rattle.cov_model.specs.believed.Valid.{is_row, is_valid, has_value, negatives, param_numbers}
+use Rattle.cov_model.specs.believed.Slices.{value_numbers, positive_values, slice_values, slice_of}
 use Rattle.cov_model.proofs.CellLemmas.{assigned_within, contains-refl, contains-value_in, length-slice_values, slice_values-positive, slice_values-own, slice_values-other}
-use Rattle.definitions.specs.Completion.{completions, first_completion, has_slice, is_extendable, meets_rules}
-use Rattle.definitions.specs.Demand.{is_among}
-use Rattle.definitions.specs.Figures.{all_rows}
+use Rattle.definitions.specs.believed.Completion.{completions, first_completion, has_slice, is_extendable, meets_rules}
+use Rattle.definitions.specs.believed.Demand.{is_among}
+use Rattle.definitions.specs.believed.Figures.{all_rows}
 use Rattle.definitions.specs.SliceRows.{IsOfSlice, IsSliceOf}
 use Rattle.definitions.proofs.Members.{Has, all_pass, among_has, any_member, has_filter, of_any, of_among, of_filter, passes_all, same_answer}
 use Rattle.definitions.proofs.Choices.{choice_at, choice_from, choice_completes, completion_is}
@@ -24,7 +24,7 @@ use Rattle.definitions.proofs.Serving.{of_serves, served_is_choice, value_of}
 use Rattle.definitions.proofs.Finishing.{completes}
 use Rattle.model_lint.specs.Changes.{IsTestOf}
 use Rattle.model_lint.specs.Seeking.{in_negative, in_slice_of, in_some_negative, is_cell_of}
-use Rattle.model_lint.specs.Tests.{has_test}
+use Rattle.model_lint.specs.believed.Tests.{has_test}
 
 -- a row of the model is one of all rows
 pub row_listed : (m : ModelView) (row : List (Option ℕ)) → is_row m row ≡ true → Has (all_rows m) row

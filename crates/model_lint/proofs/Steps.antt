@@ -8,9 +8,10 @@ use Rattle.std.proofs.lemmas.List.Elements.{filter-append}
 use Rattle.value_text.specs.declared.no_memory.NoMemory.{NoMemory}
 use Rattle.value_text.proofs.ListLemmas.{range_with_len_more}
 use Rattle.cov_model.specs.declared.constraint.Pred.{Pred}
-use Rattle.cov_model.specs.Sound.{ModelView}
-use Rattle.cov_model.specs.Views.{PredView, PredViews, End, More, RuleView, pred_view, preds_in}
-use Rattle.model_lint.specs.Tests.{is_unused}
+use Rattle.cov_model.specs.believed.Sound.{ModelView}
+use Rattle.cov_model.specs.believed.Views.{PredView, PredViews, End, More, RuleView}
+use Rattle.cov_model.specs.Views.{pred_view, preds_in}
+use Rattle.model_lint.specs.believed.Tests.{is_unused}
 
 -- the numbers from one on are it and those behind it
 pub range_step : (p count : ℕ) → p < count → range_with_len p (count - p) ≡ p ∷ range_with_len (p + 1) (count - (p + 1))

@@ -7,17 +7,19 @@ use Rattle.std.proofs.lemmas.List.{get_or_default, get_or-set_other, length-set,
 use Rattle.std.proofs.lemmas.List.Sums.{sum_by-set}
 use Rattle.cov_model.specs.declared.row_fault.RowWhy.TheVariants.{Rule, Negatives}
 use Rattle.cov_model.specs.declared.slice.Slice.{Slice}
-use Rattle.cov_model.specs.Meaning.{body_holds}
-use Rattle.cov_model.specs.RowFault.{fault_of, first_two, row_fault}
-use Rattle.cov_model.specs.Sound.{ModelView, IsSound, no_rule, rule_at}
-use Rattle.cov_model.specs.Valid.{is_row, negatives}
-use Rattle.cov_model.specs.Views.{RuleView}
-use Rattle.definitions.specs.Completion.{has_slice, is_extendable}
-use Rattle.definitions.specs.Demand.{is_among}
+use Rattle.cov_model.specs.believed.Meaning.{body_holds}
+use Rattle.cov_model.specs.believed.RowFault.{fault_of, first_two, row_fault}
+use Rattle.cov_model.specs.believed.Sound.{ModelView, IsSound}
+use Rattle.cov_model.specs.Sound.{no_rule, rule_at}
+use Rattle.cov_model.specs.believed.Valid.{is_row, negatives}
+use Rattle.cov_model.specs.believed.Views.{RuleView}
+use Rattle.definitions.specs.believed.Completion.{has_slice, is_extendable}
+use Rattle.definitions.specs.believed.Demand.{is_among}
 use Rattle.definitions.proofs.Members.{Has, all_members, among_has, contains_member, has_filter, has_map, of_among, of_filter, of_find, of_map, passes_all, same_answer}
 use Rattle.model_lint.specs.Changes.{IsTestOf, is_marked}
 use Rattle.model_lint.specs.Marks.{IsFalseOn, IsThinTo}
-use Rattle.model_lint.specs.Tests.{IsConflict, part, rule_numbers}
+use Rattle.model_lint.specs.Tests.{IsConflict, rule_numbers}
+use Rattle.model_lint.specs.believed.Tests.{part}
 use Rattle.model_lint.proofs.ChangedModels.{extends_fewer, extends_part, extends_with, meets, valid_part}
 use Rattle.model_lint.proofs.Members.{filter_agree}
 

@@ -1,11 +1,11 @@
 -- Models some of whose constraints are changed: what is asked of them is asked of the whole model. (This project's rule.)
 use Rattle.std.specs.Prelude.{◌≡◌, ℕ, ◌-◌, Bool, true, false, List, [], map, Option, replicate, slice_index_or, slice_set, if◌then◌else◌}
 use Rattle.cov_model.specs.declared.slice.Slice.{Slice}
-use Rattle.cov_model.specs.Rows.{contains}
-use Rattle.cov_model.specs.Slices.{slice_of}
-use Rattle.cov_model.specs.Sound.{ModelView}
-use Rattle.cov_model.specs.Valid.{is_valid}
-use Rattle.cov_model.specs.Views.{Negated, Each, End, More, BodyView, Plain, IfThen, IfElse, RuleView}
+use Rattle.cov_model.specs.believed.Rows.{contains}
+use Rattle.cov_model.specs.believed.Slices.{slice_of}
+use Rattle.cov_model.specs.believed.Sound.{ModelView}
+use Rattle.cov_model.specs.believed.Valid.{is_valid}
+use Rattle.cov_model.specs.believed.Views.{Negated, Each, End, More, BodyView, Plain, IfThen, IfElse, RuleView}
 use Rattle.cov_model.specs.declared.demand.Demand.{Demand}
 use Rattle.model_lint.specs.declared.change.Change.{Change}
 use Rattle.model_lint.specs.declared.change.Change.TheVariants.{LeftOut, Kept, Opposite, WithPremise}

@@ -1,6 +1,6 @@
-pub mod Tests
 pub mod Changes
 pub mod Seeking
 pub mod Marks
-pub mod Constraints
 pub mod Unused
+pub mod believed
+pub mod Tests

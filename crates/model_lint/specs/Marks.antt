@@ -2,11 +2,12 @@
 -- mark. (This project's rule.)
 use Rattle.std.specs.Prelude.{◌≡◌, ℕ, ◌<◌, ◌≤◌, Bool, true, false, List, Option, length, slice_index_or, slice_set}
 use Rattle.cov_model.specs.declared.slice.Slice.{Slice}
-use Rattle.cov_model.specs.Meaning.{body_holds}
-use Rattle.cov_model.specs.Sound.{ModelView, rule_at}
-use Rattle.definitions.specs.Completion.{is_extendable}
+use Rattle.cov_model.specs.believed.Meaning.{body_holds}
+use Rattle.cov_model.specs.believed.Sound.{ModelView}
+use Rattle.cov_model.specs.Sound.{rule_at}
+use Rattle.definitions.specs.believed.Completion.{is_extendable}
 use Rattle.model_lint.specs.Changes.{is_marked}
-use Rattle.model_lint.specs.Tests.{part}
+use Rattle.model_lint.specs.believed.Tests.{part}
 
 -- the constraint of a number is false on a row
 pub record IsFalseOn (m : ModelView) (row : List (Option ℕ)) (number : ℕ) : Type 0 where

@@ -3,12 +3,12 @@ use Rattle.std.specs.Prelude.{ℕ, Bool, true, ◌&&◌, List, [], Option, Some,
 use Rattle.std.specs.List.{list_any}
 use Rattle.cov_model.specs.declared.slice.Slice.{Slice}
 use Rattle.cov_model.specs.declared.slice.Slice.TheVariants.{Negative}
-use Rattle.cov_model.specs.Meaning.{value_at}
-use Rattle.cov_model.specs.Slices.{slice_values, value_numbers}
-use Rattle.cov_model.specs.Sound.{ModelView}
-use Rattle.cov_model.specs.Valid.{param_numbers}
-use Rattle.definitions.specs.Completion.{is_extendable}
-use Rattle.definitions.specs.Demand.{is_among}
+use Rattle.cov_model.specs.believed.Meaning.{value_at}
+use Rattle.cov_model.specs.believed.Slices.{slice_values, value_numbers}
+use Rattle.cov_model.specs.believed.Sound.{ModelView}
+use Rattle.cov_model.specs.believed.Valid.{param_numbers}
+use Rattle.definitions.specs.believed.Completion.{is_extendable}
+use Rattle.definitions.specs.believed.Demand.{is_among}
 
 -- the value of a parameter is negative, and the partial row is extendable in its slice
 abbrev pub in_slice_of : ModelView → List (Option ℕ) → ℕ → ℕ → Bool

@@ -1,7 +1,7 @@
 ghost use Rattle.std.specs.Prelude.{◌≡◌, true, Some, IfOk, length};
 ghost use Rattle.cov_model.specs.Preference.{OrdersValues};
-ghost use Rattle.cov_model.specs.Sound.{ModelView};
-ghost use Rattle.definitions.specs.Completion.{first_completion, is_extendable};
+ghost use Rattle.cov_model.specs.believed.Sound.{ModelView};
+ghost use Rattle.definitions.specs.believed.Completion.{first_completion, is_extendable};
 ghost use Rattle.definitions.specs.SliceRows.{IsOfSlice, IsSliceOf};
 
 use cov_model::{Cells, Prefs, Slice, TestModel};

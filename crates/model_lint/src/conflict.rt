@@ -1,13 +1,14 @@
 ghost use Rattle.std.specs.Prelude.{◌≡◌, ◌<◌, ◌+◌, ◌∷◌, ◌++◌, [], if◌then◌else◌, true, false, None, Ok, IfOk, IfSome, OnOk, is_none, length};
 ghost use Rattle.std.specs.List.{filter};
 ghost use Rattle.cov_model.specs.Fits.{FitsModel};
-ghost use Rattle.cov_model.specs.Valid.{is_row, is_valid};
+ghost use Rattle.cov_model.specs.believed.Valid.{is_row, is_valid};
 ghost use Rattle.cov_model.specs.Preference.{OrdersValues};
-ghost use Rattle.definitions.specs.Completion.{has_slice, is_extendable};
+ghost use Rattle.definitions.specs.believed.Completion.{has_slice, is_extendable};
 ghost use Rattle.definitions.specs.SliceRows.{IsSliceOf};
 ghost use Rattle.model_lint.specs.Changes.{IsTestOf, is_marked};
 ghost use Rattle.model_lint.specs.Marks.{IsFalseOn, IsThinTo};
-ghost use Rattle.model_lint.specs.Tests.{IsConflict, part, rule_numbers};
+ghost use Rattle.model_lint.specs.Tests.{IsConflict, rule_numbers};
+ghost use Rattle.model_lint.specs.believed.Tests.{part};
 
 use crate::changing::{changed_model, kept_alone};
 use crate::completer::Completer;

@@ -2,8 +2,8 @@ ghost use Rattle.std.specs.Prelude.{◌≡◌, ◌≤◌, IfOk, length};
 ghost use Rattle.cov_model.specs.Sound.{rule_at};
 ghost use Rattle.cov_model.specs.Views.{body_view};
 ghost use Rattle.model_lint.specs.Changes.{changed, one_changed};
-ghost use Rattle.model_lint.specs.Constraints.{has_premise, never_applies, never_excludes};
-ghost use Rattle.model_lint.specs.Tests.{has_test, no_values};
+ghost use Rattle.model_lint.specs.believed.Constraints.{has_premise, never_applies, never_excludes};
+ghost use Rattle.model_lint.specs.believed.Tests.{has_test, no_values};
 
 use crate::change::Change;
 use crate::changing::{changed_model, one_changed};

@@ -1,13 +1,13 @@
 ghost use Rattle.std.specs.Prelude.{◌≡◌, ◌<◌, true, false, None, [], IfOk, length, slice_index_or};
 ghost use Rattle.cov_model.specs.Fits.{FitsModel};
 ghost use Rattle.cov_model.specs.Preference.{OrdersValues};
-ghost use Rattle.cov_model.specs.Slices.{slice_values};
-ghost use Rattle.cov_model.specs.Sound.{param_at};
-ghost use Rattle.definitions.specs.Completion.{is_extendable};
-ghost use Rattle.definitions.specs.Demand.{is_among};
+ghost use Rattle.cov_model.specs.believed.Slices.{slice_values};
+ghost use Rattle.cov_model.specs.believed.Sound.{param_at};
+ghost use Rattle.definitions.specs.believed.Completion.{is_extendable};
+ghost use Rattle.definitions.specs.believed.Demand.{is_among};
 ghost use Rattle.definitions.specs.SliceRows.{IsOfSlice, IsSliceOf};
 ghost use Rattle.model_lint.specs.Changes.{IsTestOf};
-ghost use Rattle.model_lint.specs.Tests.{has_test};
+ghost use Rattle.model_lint.specs.believed.Tests.{has_test};
 ghost use Rattle.model_lint.specs.Seeking.{in_negative, in_slice_of, in_some_negative, is_cell_of};
 
 use crate::completer::{Completer, Sought};

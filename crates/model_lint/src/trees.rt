@@ -1,5 +1,6 @@
 ghost use Rattle.std.specs.Prelude.{◌≡◌, IfOk};
-ghost use Rattle.cov_model.specs.Views.{Each, End, More, Negated, body_view, pred_view, preds_in};
+ghost use Rattle.cov_model.specs.believed.Views.{Each, End, More, Negated};
+ghost use Rattle.cov_model.specs.Views.{body_view, pred_view, preds_in};
 ghost use Rattle.model_lint.specs.Changes.{changed_body};
 
 use crate::change::Change;

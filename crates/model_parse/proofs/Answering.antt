@@ -3,10 +3,11 @@ use Rattle.std.proofs.Common.{◌≡◌, ℕ, ◌<◌, true, cond, List, [], ◌
 use Rattle.std.proofs.lemmas.List.{get_or_default, get_or-map, length-map}
 use Rattle.std.specs.Prelude.{◌≢◌, slice_index_or}
 use Rattle.std.specs.Result.{IsErrAnd}
-use Rattle.model_lex.specs.Sections.{Split, line_seen}
+use Rattle.model_lex.specs.believed.Sections.{Split}
+use Rattle.model_lex.specs.Sections.{line_seen}
 use Rattle.model_lex.specs.declared.sections.NumLine.{NumLine}
 use Rattle.cov_model.specs.declared.parameter.Param.{Param}
-use Rattle.cov_model.specs.Sound.{param_at}
+use Rattle.cov_model.specs.believed.Sound.{param_at}
 use Rattle.model_lex.specs.declared.diag.DiagCode.{DiagCode}
 use Rattle.model_lex.specs.declared.fault.ModelFault.{ModelFault}
 use Rattle.model_lex.specs.declared.fault.ModelFault.TheVariants.{NoMemory}
@@ -14,14 +15,14 @@ use Rattle.model_lex.specs.declared.options.ModelOpts.{ModelOpts}
 use Rattle.model_parse.specs.declared.reading.Reading.{Reading}
 use Rattle.cov_model.specs.declared.demand.Demand.{Demand}
 use Rattle.model_parse.specs.GroupSteps.{read_groups}
-use Rattle.model_parse.specs.RawModels.{order_in}
+use Rattle.model_parse.specs.believed.RawModels.{order_in}
 use Rattle.model_parse.specs.ModelSteps.{read_raw, with_demand}
 use Rattle.model_parse.specs.declared.reading.ParamsRead.{ParamsRead}
-use Rattle.model_parse.specs.ParamLines.{line_name}
+use Rattle.model_parse.specs.believed.ParamLines.{line_name}
 use Rattle.model_parse.specs.ParamSteps.{line_list, param_code, read_values, add_param, read_param, read_params}
 use Rattle.model_parse.specs.Rules.{Gives}
 use Rattle.model_parse.specs.Steps.{refused_or, and_then, and_each}
-use Rattle.model_parse.specs.Values.{is_reference, referred, piece_code, value_of}
+use Rattle.model_parse.specs.believed.Values.{is_reference, referred, piece_code, value_of}
 use Rattle.model_parse.specs.ValueSteps.{place_of, add_value, add_piece, values_at}
 
 pub gives_same : {A B : Type 0} (seen : B → A) (result : Result B ModelFault) (wanted wanted' : Result A ModelFault) → wanted ≡ wanted' → Gives wanted seen result → Gives wanted' seen result

@@ -11,7 +11,7 @@ use Rattle.std.proofs.lemmas.Str.{IsCharBoundary-after_ascii, IsCharBoundary-bef
 use Rattle.std.specs.Char.{is_ascii_digit}
 use Rattle.std.specs.List.{prefix_len, suffix_len, list_any, slice_range}
 use Rattle.std.specs.Str.{IsUtf8, IsCharBoundary}
-use Rattle.model_parse.specs.Pieces.{is_byte, begins_with}
+use Rattle.model_parse.specs.believed.Pieces.{is_byte, begins_with}
 use borrow.Author.Tests.{eqb-true}
 
 -- behind an ASCII mark at the start a text may be cut

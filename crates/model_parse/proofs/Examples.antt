@@ -18,11 +18,12 @@ use Rattle.model_lex.specs.declared.note.NoteCode.TheVariants.{RepeatedValueName
 use Rattle.model_lex.specs.declared.options.Marks.{Marks}
 use Rattle.model_lex.specs.declared.options.ModelOpts.{ModelOpts}
 use Rattle.model_lex.specs.declared.options.OrderWord.TheVariants.{Number, Max}
-use Rattle.model_parse.specs.ParamLines.{kept_names, piece_fault}
-use Rattle.model_parse.specs.Rules.{above}
+use Rattle.model_parse.specs.believed.ParamLines.{kept_names, piece_fault}
+use Rattle.model_parse.specs.believed.Rules.{above}
 use Rattle.model_parse.specs.Steps.{refused}
-use Rattle.model_parse.specs.RawModels.{raw_model_of}
-use Rattle.model_parse.specs.Written.{joined, written_param}
+use Rattle.model_parse.specs.believed.RawModels.{raw_model_of}
+use Rattle.model_parse.specs.believed.Written.{joined}
+use Rattle.model_parse.specs.Written.{written_param}
 use Rattle.model_parse.specs.declared.raw_model.RawModel.{RawModel}
 
 -- the default marks, order 1

@@ -8,10 +8,10 @@ use Rattle.std.proofs.lemmas.List.Folds.{list_any_at}
 use Rattle.std.proofs.lemmas.List.Sorted.{IsPermutation-reverse, All-permutation}
 use Rattle.std.proofs.lemmas.List.Splits.{slice_split_none, slice_split_at}
 use Rattle.std.specs.List.{prefix_len, suffix_len, before_first, after_first, before_last, after_last, list_any}
-use Rattle.model_lex.specs.Blanks.{trimmed, without_first_blanks, without_last_blanks}
-use Rattle.value_text.specs.Texts.{is_blank}
-use Rattle.model_parse.specs.Pieces.{is_byte, pieces}
-use Rattle.model_parse.specs.Written.{joined}
+use Rattle.model_lex.specs.believed.Blanks.{trimmed, without_first_blanks, without_last_blanks}
+use Rattle.value_text.specs.believed.Texts.{is_blank}
+use Rattle.model_parse.specs.believed.Pieces.{is_byte, pieces}
+use Rattle.model_parse.specs.believed.Written.{joined}
 
 prefix_run : (p : ℕ → Bool) (front rest : List ℕ) → All (λ b. p b ≡ true) front → 0 < length rest → p (get_or rest 0 0) ≡ false → prefix_len p (front ++ rest) ≡ length front
 prefix_run p [] [] passes some stops = absurd (omega arith)

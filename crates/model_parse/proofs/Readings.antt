@@ -5,7 +5,7 @@ use Rattle.std.specs.Option.{option_or}
 use Rattle.model_lex.specs.declared.diag.DiagCode.{DiagCode}
 use Rattle.model_lex.specs.declared.fault.ModelFault.{ModelFault}
 use Rattle.model_parse.specs.Steps.{and_then, and_each}
-use Rattle.model_parse.specs.Values.{name_code}
+use Rattle.model_parse.specs.believed.Values.{name_code}
 use Rattle.model_parse.specs.ValueSteps.{Kept, names_code, keep_name, keep_names}
 
 -- the items of a loop, as the definition has them

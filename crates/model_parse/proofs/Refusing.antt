@@ -1,6 +1,6 @@
 -- What refuses the lines of parameters and groups is never that memory is wanting.
 use Rattle.std.proofs.Common.{◌≡◌, ◌≢◌, ℕ, List, [], ◌∷◌, Bool, true, false, cond, length, Option, Some, None, Result, Ok, Err, ap, subst}
-use Rattle.model_lex.specs.Sections.{Split}
+use Rattle.model_lex.specs.believed.Sections.{Split}
 use Rattle.model_lex.specs.declared.diag.DiagCode.{DiagCode}
 use Rattle.model_lex.specs.declared.fault.LimitName.{LimitName}
 use Rattle.model_lex.specs.declared.fault.ModelFault.{ModelFault}
@@ -10,14 +10,14 @@ use Rattle.model_lex.specs.declared.options.ModelOpts.{ModelOpts}
 use Rattle.cov_model.specs.declared.demand.Demand.{Demand}
 use Rattle.cov_model.specs.declared.parameter.Param.{Param}
 use Rattle.cov_model.specs.declared.parameter.Value.{Value}
-use Rattle.model_parse.specs.GroupLines.{is_relation}
+use Rattle.model_parse.specs.believed.GroupLines.{is_relation}
 use Rattle.model_parse.specs.GroupSteps.{add_group, group_code, group_list, group_order, member_or, order_text, read_group, read_groups}
-use Rattle.model_parse.specs.ParamLines.{line_name}
+use Rattle.model_parse.specs.believed.ParamLines.{line_name}
 use Rattle.model_parse.specs.ParamSteps.{line_list, param_code, read_param, read_params, read_values}
-use Rattle.model_parse.specs.Pieces.{pieces}
-use Rattle.model_parse.specs.RawModels.{order_in, raw_model_of}
+use Rattle.model_parse.specs.believed.Pieces.{pieces}
+use Rattle.model_parse.specs.believed.RawModels.{order_in, raw_model_of}
 use Rattle.model_parse.specs.Steps.{and_each, and_then, refused, refused_or}
-use Rattle.model_parse.specs.Values.{is_reference, referred}
+use Rattle.model_parse.specs.believed.Values.{is_reference, referred}
 use Rattle.model_parse.specs.ValueSteps.{Kept, add_kept, add_piece, piece_values, place_of, values_at}
 use Rattle.model_parse.specs.ModelSteps.{read_raw}
 use Rattle.model_parse.specs.declared.reading.ParamsRead.{ParamsRead}

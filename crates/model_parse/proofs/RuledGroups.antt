@@ -12,23 +12,23 @@ use Rattle.std.specs.List.{list_any, filter}
 use Rattle.std.specs.Option.{option_or, option_map, option_map_or, option_to_list}
 use Rattle.std.specs.Prelude.{slice_index_or, unwrap_or}
 use Rattle.std.specs.Str.{bytes_eq}
-use Rattle.value_text.specs.Texts.{folded, is_same_text}
-use Rattle.value_text.specs.Numbers.{count_of}
+use Rattle.value_text.specs.believed.Texts.{folded, is_same_text}
+use Rattle.value_text.specs.believed.Numbers.{count_of}
 use Rattle.cov_model.specs.declared.demand.Demand.{Demand}
 use Rattle.cov_model.specs.declared.demand.Group.{Group}
 use Rattle.cov_model.specs.declared.parameter.Param.{Param}
-use Rattle.cov_model.specs.Sound.{no_param, param_at}
-use Rattle.model_lex.specs.Blanks.{without_first_blanks}
-use Rattle.model_lex.specs.Sections.{Split}
+use Rattle.cov_model.specs.believed.Sound.{no_param, param_at}
+use Rattle.model_lex.specs.believed.Blanks.{without_first_blanks}
+use Rattle.model_lex.specs.believed.Sections.{Split}
 use Rattle.model_lex.specs.declared.diag.DiagCode.{DiagCode}
 use Rattle.model_lex.specs.declared.diag.DiagCode.TheVariants.{BadGroupOrder, NoParameters, OrderTooLarge, RelationNoOrder, RepeatedMember, UnknownMember}
 use Rattle.model_lex.specs.declared.fault.LimitName.TheVariants.{Params}
 use Rattle.model_lex.specs.declared.options.ModelOpts.{ModelOpts}
 use Rattle.model_parse.specs.declared.raw_model.RawModel.{RawModel}
-use Rattle.model_parse.specs.GroupLines.{behind_sign, demand_of, form_code, group_fault, group_of, group_pieces, is_relation, member_code, members_of, order_of_group, strength_text, written_order}
-use Rattle.model_parse.specs.ParamLines.{is_repeated, param_of, params_of, place_named}
-use Rattle.model_parse.specs.RawModels.{order_fault, order_in, raw_model_of}
-use Rattle.model_parse.specs.Rules.{above, bad_line, first_some, read_unless, with_earlier}
+use Rattle.model_parse.specs.believed.GroupLines.{behind_sign, demand_of, form_code, group_fault, group_of, group_pieces, is_relation, member_code, members_of, order_of_group, strength_text, written_order}
+use Rattle.model_parse.specs.believed.ParamLines.{is_repeated, param_of, params_of, place_named}
+use Rattle.model_parse.specs.believed.RawModels.{order_fault, order_in, raw_model_of}
+use Rattle.model_parse.specs.believed.Rules.{above, bad_line, first_some, read_unless, with_earlier}
 use Rattle.model_parse.specs.Steps.{and_each, and_then, refused, refused_or}
 use Rattle.model_parse.specs.GroupSteps.{behind_strength, add_group, add_member, braces_code, group_code, group_order, member_or, order_text, read_group, read_groups, relation_code, sub_order}
 use Rattle.model_parse.specs.ModelSteps.{read_raw, with_demand}

@@ -11,11 +11,11 @@ use Rattle.std.proofs.lemmas.Slice.Eq.{bytes_eq-Decides}
 use Rattle.std.specs.List.{list_any, filter}
 use Rattle.std.specs.Option.{option_or, option_map, option_map_or}
 use Rattle.std.specs.Str.{bytes_eq}
-use Rattle.value_text.specs.Texts.{folded}
+use Rattle.value_text.specs.believed.Texts.{folded}
 use Rattle.value_text.proofs.ListLemmas.{list_any-map, option_or-None, place_text}
 use Rattle.cov_model.specs.declared.parameter.Param.{Param}
 use Rattle.cov_model.specs.declared.parameter.Value.{Value}
-use Rattle.cov_model.specs.Sound.{param_at}
+use Rattle.cov_model.specs.believed.Sound.{param_at}
 use Rattle.model_lex.specs.declared.diag.DiagCode.{DiagCode}
 use Rattle.model_lex.specs.declared.diag.DiagCode.TheVariants.{NoParameters, RepeatedParameter, UnknownReference, EmptyParameterName, BadParameterName}
 use Rattle.model_lex.specs.declared.fault.LimitName.TheVariants.{Names, Params, Values}
@@ -25,11 +25,11 @@ use Rattle.model_lex.specs.declared.note.NoteCode.TheVariants.{RepeatedValueName
 use Rattle.model_lex.specs.declared.options.ModelOpts.{ModelOpts}
 use Rattle.model_parse.specs.declared.reading.ParamsRead.{ParamsRead}
 use Rattle.model_parse.specs.declared.reading.Reading.{Reading}
-use Rattle.model_parse.specs.ParamLines.{all_names, called_code, given, is_repeated, kept_names, kept_value, kept_values, line_name, line_pieces, notes_of}
-use Rattle.model_parse.specs.ParamLines.{param_fault, param_of, params_of, piece_fault, place_named, values_code, values_of}
-use Rattle.model_parse.specs.Pieces.{is_unfit}
-use Rattle.model_parse.specs.Rules.{above, bad_line, first_some, read_unless, with_earlier}
-use Rattle.model_parse.specs.Values.{is_reference, piece_code, referred, value_of}
+use Rattle.model_parse.specs.believed.ParamLines.{all_names, called_code, given, is_repeated, kept_names, kept_value, kept_values, line_name, line_pieces, notes_of}
+use Rattle.model_parse.specs.believed.ParamLines.{param_fault, param_of, params_of, piece_fault, place_named, values_code, values_of}
+use Rattle.model_parse.specs.believed.Pieces.{is_unfit}
+use Rattle.model_parse.specs.believed.Rules.{above, bad_line, first_some, read_unless, with_earlier}
+use Rattle.model_parse.specs.believed.Values.{is_reference, piece_code, referred, value_of}
 use Rattle.model_parse.specs.Steps.{and_each, and_then, refused_or}
 use Rattle.model_parse.specs.ValueSteps.{Kept, add_kept, add_piece, add_value, is_known, keep_name, keep_names, piece_values, place_of, values_at}
 use Rattle.model_parse.specs.ParamSteps.{add_param, line_list, param_code, read_param, read_params, read_values}

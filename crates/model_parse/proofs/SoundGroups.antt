@@ -9,20 +9,21 @@ use Rattle.std.proofs.lemmas.List.Folds.{list_any_at}
 use Rattle.std.proofs.lemmas.List.Quantifiers.{all_pairs_push, position-Some}
 use Rattle.std.specs.List.{list_any}
 use Rattle.std.specs.Str.Parse.{digits_value}
-use Rattle.value_text.specs.Numbers.{is_digits}
+use Rattle.value_text.specs.believed.Numbers.{is_digits}
 use Rattle.cov_model.specs.declared.demand.Demand.{Demand}
 use Rattle.cov_model.specs.declared.demand.Group.{Group}
-use Rattle.cov_model.specs.Sound.{IsSoundGroup}
-use Rattle.model_lex.specs.Sections.{Split}
+use Rattle.cov_model.specs.believed.Sound.{IsSoundGroup}
+use Rattle.model_lex.specs.believed.Sections.{Split}
 use Rattle.model_lex.specs.declared.options.ModelOpts.{ModelOpts}
 use Rattle.model_lex.specs.declared.options.OrderWord.{OrderWord}
 use Rattle.model_lex.specs.declared.options.OrderWord.TheVariants.{Number, Max}
 use Rattle.model_parse.specs.declared.reading.ParamsRead.{ParamsRead}
-use Rattle.model_parse.specs.GroupLines.{is_relation}
+use Rattle.model_parse.specs.believed.GroupLines.{is_relation}
 use Rattle.model_parse.specs.GroupSteps.{member_or, add_member, group_code, group_list, group_order, order_text, add_group, read_group, read_groups}
 use Rattle.model_parse.specs.ParamSteps.{read_params}
-use Rattle.model_parse.specs.Pieces.{pieces}
-use Rattle.model_parse.specs.RawModels.{AreOpts, IsOrder, IsSoundRaw, order_in, raw_model_of}
+use Rattle.model_parse.specs.believed.Pieces.{pieces}
+use Rattle.model_parse.specs.RawModels.{AreOpts, IsOrder, IsSoundRaw}
+use Rattle.model_parse.specs.believed.RawModels.{order_in, raw_model_of}
 use Rattle.model_parse.specs.ModelSteps.{read_raw, with_demand}
 use Rattle.model_parse.specs.Steps.{and_each}
 use Rattle.model_parse.specs.ValueSteps.{place_of}

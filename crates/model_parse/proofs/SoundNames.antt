@@ -9,11 +9,11 @@ use Rattle.std.proofs.lemmas.List.Folds.{list_any_none}
 use Rattle.std.specs.List.{prefix_len, suffix_len, before_first, list_any, slice_split, position_or_len}
 use Rattle.std.specs.Prelude.{slice_index}
 use Rattle.value_text.proofs.ListLemmas.{option_or_parts}
-use Rattle.cov_model.specs.Names.{is_name, is_trimmed}
-use Rattle.model_lex.specs.Blanks.{trimmed, without_first_blanks}
-use Rattle.value_text.specs.Texts.{is_blank}
-use Rattle.model_parse.specs.Pieces.{is_byte, pieces, begins_with, is_unfit}
-use Rattle.model_parse.specs.Values.{without_prefix, name_code}
+use Rattle.cov_model.specs.believed.Names.{is_name, is_trimmed}
+use Rattle.model_lex.specs.believed.Blanks.{trimmed, without_first_blanks}
+use Rattle.value_text.specs.believed.Texts.{is_blank}
+use Rattle.model_parse.specs.believed.Pieces.{is_byte, pieces, begins_with, is_unfit}
+use Rattle.model_parse.specs.believed.Values.{without_prefix, name_code}
 use Rattle.model_parse.specs.ValueSteps.{names_code}
 
 -- what is left of a text without the blanks at its ends has none there

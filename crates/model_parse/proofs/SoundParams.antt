@@ -4,17 +4,17 @@ use Rattle.std.proofs.lemmas.Bool.{ltb-false, eqb-false, cond_both}
 use Rattle.std.proofs.lemmas.List.{length-map, length-append, map-append, get_or-map}
 use Rattle.std.proofs.lemmas.List.Elements.{All-nil, All-push}
 use Rattle.std.specs.List.{list_any, before_first}
-use Rattle.value_text.specs.Texts.{folded, is_same_text}
-use Rattle.cov_model.specs.Names.{is_name}
-use Rattle.cov_model.specs.Sound.{IsSoundValue, IsSoundParam, is_numeric}
+use Rattle.value_text.specs.believed.Texts.{folded, is_same_text}
+use Rattle.cov_model.specs.believed.Names.{is_name}
+use Rattle.cov_model.specs.believed.Sound.{IsSoundValue, IsSoundParam, is_numeric}
 use Rattle.cov_model.specs.declared.parameter.Param.{Param}
 use Rattle.cov_model.specs.declared.parameter.Value.{Value}
 use Rattle.model_lex.specs.declared.options.ModelOpts.{ModelOpts}
 use Rattle.model_parse.specs.declared.reading.ParamsRead.{ParamsRead}
 use Rattle.model_parse.specs.declared.reading.Reading.{Reading}
-use Rattle.model_parse.specs.ParamLines.{line_name}
+use Rattle.model_parse.specs.believed.ParamLines.{line_name}
 use Rattle.model_parse.specs.ParamSteps.{line_list, param_code, read_values, add_param, read_param, read_params, no_params}
-use Rattle.model_parse.specs.Pieces.{is_byte, is_unfit, pieces}
+use Rattle.model_parse.specs.believed.Pieces.{is_byte, is_unfit, pieces}
 use Rattle.model_parse.specs.Steps.{and_each}
 use Rattle.model_parse.specs.ValueSteps.{is_known, add_piece}
 use Rattle.model_parse.proofs.Keeping.{then_ok, accepted_ok, any_ok, both_ok, each_ok, each_some, each_counts}

@@ -10,15 +10,15 @@ use Rattle.std.proofs.lemmas.List.Quantifiers.{all_pairs_push, position-Some}
 use Rattle.std.proofs.lemmas.Slice.Eq.{bytes_eq-Decides}
 use Rattle.std.specs.List.{list_any}
 use Rattle.std.specs.Str.{bytes_eq}
-use Rattle.value_text.specs.Texts.{folded, is_same_text}
+use Rattle.value_text.specs.believed.Texts.{folded, is_same_text}
 use Rattle.cov_model.specs.declared.parameter.Param.{Param}
 use Rattle.cov_model.specs.declared.parameter.Value.{Value}
-use Rattle.cov_model.specs.Sound.{IsSoundValue, IsSoundParam, param_at, no_param}
+use Rattle.cov_model.specs.believed.Sound.{IsSoundValue, IsSoundParam, param_at, no_param}
 use Rattle.model_lex.specs.declared.diag.DiagCode.TheVariants.{BadWeight}
 use Rattle.model_lex.specs.declared.options.ModelOpts.{ModelOpts}
 use Rattle.model_parse.specs.declared.reading.Reading.{Reading}
-use Rattle.model_parse.specs.Pieces.{pieces}
-use Rattle.model_parse.specs.Values.{is_reference, referred, without_prefix, weight_of, names_text, names_of, piece_code, value_of}
+use Rattle.model_parse.specs.believed.Pieces.{pieces}
+use Rattle.model_parse.specs.believed.Values.{is_reference, referred, without_prefix, weight_of, names_text, names_of, piece_code, value_of}
 use Rattle.model_parse.specs.ValueSteps.{Kept, is_known, place_of, is_weight, names_code, values_at, piece_values, keep_name, keep_names, add_kept, add_value, add_piece}
 use Rattle.model_parse.proofs.Keeping.{then_ok, accepted_ok, each_some}
 use Rattle.model_parse.proofs.SoundNames.{IsSoundName, part_names, some_pieces}

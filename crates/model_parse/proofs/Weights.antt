@@ -14,8 +14,8 @@ use Rattle.value_text.proofs.DigitLemmas.{all_digits}
 use Rattle.cov_model.specs.declared.parameter.Value.{Value}
 use Rattle.model_lex.specs.declared.options.Marks.{Marks}
 use Rattle.model_lex.specs.declared.diag.DiagCode.TheVariants.{BadWeight}
-use Rattle.model_parse.specs.Pieces.{pieces, begins_with}
-use Rattle.model_parse.specs.Values.{weight_of, names_text, without_prefix, value_of, piece_code}
+use Rattle.model_parse.specs.believed.Pieces.{pieces, begins_with}
+use Rattle.model_parse.specs.believed.Values.{weight_of, names_text, without_prefix, value_of, piece_code}
 use Rattle.model_parse.specs.ValueSteps.{names_code}
 
 -- one more digit

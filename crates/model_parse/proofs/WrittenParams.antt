@@ -7,23 +7,25 @@ use Rattle.std.proofs.lemmas.List.Elements.{All-nil, All-cons, All-head, All-tai
 use Rattle.std.proofs.lemmas.List.Folds.{list_any_none}
 use Rattle.std.proofs.lemmas.Slice.Eq.{bytes_eq-Decides}
 use Rattle.std.specs.Str.{bytes_eq}
-use Rattle.value_text.specs.Texts.{folded, is_same_text, is_blank}
+use Rattle.value_text.specs.believed.Texts.{folded, is_same_text, is_blank}
 use Rattle.cov_model.specs.declared.parameter.Param.{Param}
 use Rattle.cov_model.specs.declared.parameter.Value.{Value}
-use Rattle.cov_model.specs.Sound.{IsSoundValue, IsSoundParam, is_numeric, no_param}
-use Rattle.model_lex.specs.Blanks.{trimmed}
+use Rattle.cov_model.specs.believed.Sound.{IsSoundValue, IsSoundParam, is_numeric, no_param}
+use Rattle.model_lex.specs.believed.Blanks.{trimmed}
 use Rattle.model_lex.specs.declared.note.Note.{Note}
 use Rattle.model_lex.specs.declared.options.Marks.{Marks}
 use Rattle.model_lex.specs.declared.options.ModelOpts.{ModelOpts}
 use Rattle.model_parse.specs.declared.reading.ParamsRead.{ParamsRead}
 use Rattle.model_parse.specs.declared.reading.Reading.{Reading}
-use Rattle.model_parse.specs.ParamLines.{line_name}
+use Rattle.model_parse.specs.believed.ParamLines.{line_name}
 use Rattle.model_parse.specs.ParamSteps.{param_code, read_values, read_param, read_params, no_params}
-use Rattle.model_parse.specs.Pieces.{is_byte, pieces, is_unfit}
-use Rattle.model_parse.specs.RawModels.{AreOpts, order_in}
+use Rattle.model_parse.specs.believed.Pieces.{is_byte, pieces, is_unfit}
+use Rattle.model_parse.specs.RawModels.{AreOpts}
+use Rattle.model_parse.specs.believed.RawModels.{order_in}
 use Rattle.model_parse.specs.Steps.{and_then, and_each}
 use Rattle.model_parse.specs.ValueSteps.{Kept, is_known, keep_name, keep_names, add_kept, add_value, add_piece}
-use Rattle.model_parse.specs.Written.{joined, written_value, written_param, written_lines, IsWritable, ParamsReadBack}
+use Rattle.model_parse.specs.believed.Written.{joined}
+use Rattle.model_parse.specs.Written.{written_value, written_param, written_lines, IsWritable, ParamsReadBack}
 use Rattle.model_parse.proofs.Answering.{read_goes, raw_goes}
 use Rattle.model_parse.proofs.Joining.{IsWhole, AreBlanks, Lacks, trimmed_back, joined_back, before_first_back, after_first_back}
 use Rattle.model_parse.proofs.RuledGroups.{raw_ruled}

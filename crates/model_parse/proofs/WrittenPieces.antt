@@ -11,19 +11,19 @@ use Rattle.std.specs.Char.{is_ascii_digit}
 use Rattle.std.specs.List.{before_last, after_last, list_any}
 use Rattle.std.specs.Prelude.{slice_index_or}
 use Rattle.std.specs.Str.Parse.{digits_value}
-use Rattle.value_text.specs.Numbers.{is_digits}
-use Rattle.cov_model.specs.Names.{is_mark}
-use Rattle.cov_model.specs.Sound.{IsSoundValue}
+use Rattle.value_text.specs.believed.Numbers.{is_digits}
+use Rattle.cov_model.specs.believed.Names.{is_mark}
+use Rattle.cov_model.specs.believed.Sound.{IsSoundValue}
 use Rattle.cov_model.specs.declared.parameter.Param.{Param}
 use Rattle.cov_model.specs.declared.parameter.Value.{Value}
-use Rattle.model_lex.specs.Blanks.{trimmed}
-use Rattle.value_text.specs.Texts.{is_blank}
+use Rattle.model_lex.specs.believed.Blanks.{trimmed}
+use Rattle.value_text.specs.believed.Texts.{is_blank}
 use Rattle.model_lex.specs.declared.options.Marks.{Marks}
 use Rattle.model_lex.specs.declared.options.ModelOpts.{ModelOpts}
-use Rattle.model_parse.specs.Pieces.{is_byte, pieces, begins_with, ends_with_byte, before_end}
+use Rattle.model_parse.specs.believed.Pieces.{is_byte, pieces, begins_with, ends_with_byte, before_end}
 use Rattle.model_parse.specs.RawModels.{AreMarks}
 use Rattle.model_parse.specs.Steps.{refused_or}
-use Rattle.model_parse.specs.Values.{weight_text, has_weight, weight_of, names_text, without_prefix, names_of, value_of, piece_code, is_reference}
+use Rattle.model_parse.specs.believed.Values.{weight_text, has_weight, weight_of, names_text, without_prefix, names_of, value_of, piece_code, is_reference}
 use Rattle.model_parse.specs.ValueSteps.{is_weight, names_code, piece_values}
 use Rattle.model_parse.specs.Written.{written_names, written_weight, written_value, IsWritable}
 use Rattle.model_parse.proofs.Joining.{IsWhole, AreBlanks, Lacks, trimmed_back, joined_back, before_last_back, after_last_back, stands_back, whole_append}

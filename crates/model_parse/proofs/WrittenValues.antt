@@ -12,15 +12,15 @@ use Rattle.std.specs.List.{list_any, list_all}
 use Rattle.std.specs.Prelude.{slice_index_or}
 use Rattle.std.specs.Option.{option_or}
 use Rattle.std.specs.Str.Parse.{AllDigits}
-use Rattle.cov_model.specs.Names.{is_name, is_mark}
-use Rattle.model_lex.specs.Blanks.{trimmed}
-use Rattle.value_text.specs.Texts.{is_blank}
+use Rattle.cov_model.specs.believed.Names.{is_name, is_mark}
+use Rattle.model_lex.specs.believed.Blanks.{trimmed}
+use Rattle.value_text.specs.believed.Texts.{is_blank}
 use Rattle.model_lex.specs.declared.options.Marks.{Marks}
-use Rattle.model_parse.specs.Pieces.{is_byte, begins_with, is_unfit}
+use Rattle.model_parse.specs.believed.Pieces.{is_byte, begins_with, is_unfit}
 use Rattle.model_parse.specs.RawModels.{AreMarks}
-use Rattle.model_parse.specs.Values.{without_prefix, name_code}
+use Rattle.model_parse.specs.believed.Values.{without_prefix, name_code}
 use Rattle.model_parse.specs.ValueSteps.{names_code}
-use Rattle.model_parse.specs.Written.{joined}
+use Rattle.model_parse.specs.believed.Written.{joined}
 use Rattle.model_parse.proofs.Joining.{IsWhole, Lacks, trimmed_back, whole_append, whole_joined, lacks_joined}
 
 -- the digits of a weight

@@ -2,16 +2,16 @@
 -- the rules of `GroupLines` give.
 use Rattle.std.specs.Prelude.{ℕ, Bool, true, false, not, ◌&&◌, ◌||◌, List, [], ◌∷◌, ◌++◌, length, drop, min, Option, Some, None, Result, Ok, ◌==◌, nat_lt, if◌then◌else◌}
 use Rattle.std.specs.List.{list_any}
-use Rattle.value_text.specs.Numbers.{count_of}
-use Rattle.model_lex.specs.Blanks.{trimmed, without_first_blanks}
+use Rattle.value_text.specs.believed.Numbers.{count_of}
+use Rattle.model_lex.specs.believed.Blanks.{trimmed, without_first_blanks}
 use Rattle.model_lex.specs.declared.diag.DiagCode.{DiagCode}
 use Rattle.model_lex.specs.declared.diag.DiagCode.TheVariants.{GroupNotClosed, UnknownMember, RepeatedMember, BadGroupOrder, TextAfterGroup, RelationNoOrder}
 use Rattle.model_lex.specs.declared.fault.ModelFault.{ModelFault}
 use Rattle.model_lex.specs.declared.options.ModelOpts.{ModelOpts}
 use Rattle.cov_model.specs.declared.demand.Demand.{Demand}
 use Rattle.cov_model.specs.declared.demand.Group.{Group}
-use Rattle.model_parse.specs.Pieces.{pieces, begins_with}
-use Rattle.model_parse.specs.GroupLines.{is_relation, behind_sign, strength_text, braced, has_braces, inside_braces, behind_braces}
+use Rattle.model_parse.specs.believed.Pieces.{pieces, begins_with}
+use Rattle.model_parse.specs.believed.GroupLines.{is_relation, behind_sign, strength_text, braced, has_braces, inside_braces, behind_braces}
 use Rattle.model_parse.specs.Steps.{refused, refused_or, and_then, and_each}
 use Rattle.model_parse.specs.ValueSteps.{place_of}
 

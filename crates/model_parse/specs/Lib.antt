@@ -1,12 +1,9 @@
-pub mod Pieces
-pub mod Rules
-pub mod Values
-pub mod ParamLines
-pub mod GroupLines
-pub mod RawModels
-pub mod Written
 pub mod Steps
 pub mod ValueSteps
 pub mod ParamSteps
 pub mod GroupSteps
 pub mod ModelSteps
+pub mod believed
+pub mod RawModels
+pub mod Rules
+pub mod Written

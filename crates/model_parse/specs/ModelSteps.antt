@@ -2,7 +2,7 @@
 -- shows that this is what the rules of `RawModels` give.
 use Rattle.std.specs.Prelude.{ℕ, ◌-◌, List, [], length, Result, Ok, nat_lt, slice_index_or, if◌then◌else◌}
 use Rattle.cov_model.specs.declared.demand.Demand.{Demand}
-use Rattle.model_lex.specs.Sections.{Split}
+use Rattle.model_lex.specs.believed.Sections.{Split}
 use Rattle.model_lex.specs.declared.diag.DiagCode.TheVariants.{OrderTooLarge}
 use Rattle.model_lex.specs.declared.fault.ModelFault.{ModelFault}
 use Rattle.model_lex.specs.declared.options.ModelOpts.{ModelOpts}
@@ -11,7 +11,7 @@ use Rattle.model_parse.specs.declared.raw_model.RawModel.{RawModel}
 use Rattle.model_parse.specs.Steps.{refused, and_then}
 use Rattle.model_parse.specs.ParamSteps.{read_params}
 use Rattle.model_parse.specs.GroupSteps.{read_groups}
-use Rattle.model_parse.specs.RawModels.{order_in}
+use Rattle.model_parse.specs.believed.RawModels.{order_in}
 
 -- the order may not be above the number of parameters; its line is the last of them
 abbrev pub with_demand : List (ℕ × List ℕ) → ParamsRead → Demand → Result RawModel ModelFault

@@ -2,7 +2,7 @@
 -- what the rules of `ParamLines` give.
 use Rattle.std.specs.Prelude.{◌≡◌, ℕ, ◌+◌, Bool, List, [], ◌∷◌, ◌++◌, length, Option, Some, None, Result, Ok, Err, ◌==◌, nat_lt, if◌then◌else◌}
 use Rattle.std.specs.List.{after_first}
-use Rattle.value_text.specs.Texts.{folded}
+use Rattle.value_text.specs.believed.Texts.{folded}
 use Rattle.model_lex.specs.declared.diag.DiagCode.{DiagCode}
 use Rattle.model_lex.specs.declared.diag.DiagCode.TheVariants.{EmptyParameterName, BadParameterName, RepeatedParameter, NoParameters}
 use Rattle.model_lex.specs.declared.fault.LimitName.TheVariants.{Params, Values}
@@ -11,11 +11,11 @@ use Rattle.model_lex.specs.declared.fault.ModelFault.TheVariants.{Limit}
 use Rattle.model_lex.specs.declared.note.Note.{Note}
 use Rattle.model_lex.specs.declared.options.ModelOpts.{ModelOpts}
 use Rattle.cov_model.specs.declared.parameter.Param.{Param}
-use Rattle.cov_model.specs.Sound.{is_numeric}
+use Rattle.cov_model.specs.believed.Sound.{is_numeric}
 use Rattle.model_parse.specs.declared.reading.Reading.{Reading}
 use Rattle.model_parse.specs.declared.reading.ParamsRead.{ParamsRead}
-use Rattle.model_parse.specs.Pieces.{is_byte, pieces, is_unfit}
-use Rattle.model_parse.specs.ParamLines.{line_name}
+use Rattle.model_parse.specs.believed.Pieces.{is_byte, pieces, is_unfit}
+use Rattle.model_parse.specs.believed.ParamLines.{line_name}
 use Rattle.model_parse.specs.Steps.{refused, refused_or, and_then, and_each}
 use Rattle.model_parse.specs.ValueSteps.{is_known, add_piece}
 

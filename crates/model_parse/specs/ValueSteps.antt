@@ -3,7 +3,7 @@
 use Rattle.std.specs.Prelude.{ℕ, Bool, ◌&&◌, List, [], ◌∷◌, ◌++◌, map, length, Option, Some, None, Result, Ok, Err, ◌==◌, nat_le, nat_lt, if◌then◌else◌, position}
 use Rattle.std.specs.List.{list_any}
 use Rattle.std.specs.Str.{bytes_eq}
-use Rattle.value_text.specs.Texts.{folded}
+use Rattle.value_text.specs.believed.Texts.{folded}
 use Rattle.model_lex.specs.declared.diag.DiagCode.{DiagCode}
 use Rattle.model_lex.specs.declared.diag.DiagCode.TheVariants.{UnknownReference}
 use Rattle.model_lex.specs.declared.fault.LimitName.TheVariants.{Names}
@@ -14,11 +14,11 @@ use Rattle.model_lex.specs.declared.note.NoteCode.TheVariants.{RepeatedValueName
 use Rattle.model_lex.specs.declared.options.ModelOpts.{ModelOpts}
 use Rattle.cov_model.specs.declared.parameter.Param.{Param}
 use Rattle.cov_model.specs.declared.parameter.Value.{Value}
-use Rattle.cov_model.specs.Sound.{param_at}
+use Rattle.cov_model.specs.believed.Sound.{param_at}
 use Rattle.model_parse.specs.declared.reading.Reading.{Reading}
 use Rattle.model_parse.specs.Steps.{refused, refused_or, and_then, and_each}
-use Rattle.model_parse.specs.Values.{is_reference, referred, name_code, piece_code, value_of}
-use Rattle.model_parse.specs.Rules.{first_some}
+use Rattle.model_parse.specs.believed.Values.{is_reference, referred, name_code, piece_code, value_of}
+use Rattle.model_parse.specs.believed.Rules.{first_some}
 
 abbrev pub is_weight : ℕ → Bool
 is_weight weight = nat_le 1 weight && nat_le weight 4294967295

@@ -1,19 +1,16 @@
 -- A parameter line as it is written: `NAME: a | b (3), ~c, d`. (PICT's guide; the blanks are this project's rule.)
-use Rattle.std.specs.Prelude.{◌≡◌, ℕ, true, false, not, ◌&&◌, ◌||◌, List, [], ◌∷◌, ◌++◌, map, flat_map, length, Ok, ◌==◌, nat_le, if◌then◌else◌, decimal, All}
+use Rattle.std.specs.Prelude.{◌≡◌, ℕ, true, false, not, ◌&&◌, ◌||◌, List, [], ◌∷◌, ◌++◌, map, length, Ok, ◌==◌, nat_le, if◌then◌else◌, decimal, All}
 use Rattle.std.specs.List.{list_any}
-use Rattle.model_lex.specs.Sections.{Split}
+use Rattle.model_lex.specs.believed.Sections.{Split}
 use Rattle.model_lex.specs.declared.options.Marks.{Marks}
 use Rattle.model_lex.specs.declared.options.ModelOpts.{ModelOpts}
 use Rattle.cov_model.specs.declared.parameter.Param.{Param}
 use Rattle.cov_model.specs.declared.parameter.Value.{Value}
 use Rattle.model_parse.specs.declared.raw_model.RawModel.{RawModel}
-use Rattle.model_parse.specs.Pieces.{is_byte, ends_with_byte}
-use Rattle.model_parse.specs.RawModels.{AreOpts, IsSoundRaw, order_in, raw_model_of}
-
--- texts with another one between each two
-abbrev pub joined : List ℕ → List (List ℕ) → List ℕ
-joined between [] = []
-joined between (text ∷ texts) = text ++ flat_map (λ next. between ++ next) texts
+use Rattle.model_parse.specs.believed.Pieces.{is_byte, ends_with_byte}
+use Rattle.model_parse.specs.RawModels.{AreOpts, IsSoundRaw}
+use Rattle.model_parse.specs.believed.RawModels.{order_in, raw_model_of}
+use Rattle.model_parse.specs.believed.Written.{joined}
 
 -- the names of a value, with the mark of negative values before the first: `a | b`, `~c`
 abbrev pub written_names : Marks → Value → List ℕ

@@ -2,8 +2,8 @@
 ghost use Rattle.std.specs.Prelude.{◌≡◌, ◌<◌, map, drop, length, IfOk, MatchOption, true, false, not, ◌==◌};
 ghost use Rattle.std.specs.List.{before_first, after_first, before_last, after_last, list_all, list_any, suffix_len};
 ghost use Rattle.std.specs.Str.{chars};
-ghost use Rattle.cov_model.specs.Names.{is_plain};
-ghost use Rattle.model_parse.specs.Pieces.{is_byte, pieces, begins_with, ends_with_byte, before_end, is_unfit};
+ghost use Rattle.cov_model.specs.believed.Names.{is_plain};
+ghost use Rattle.model_parse.specs.believed.Pieces.{is_byte, pieces, begins_with, ends_with_byte, before_end, is_unfit};
 
 use model_lex::trimmed;
 use std::alloc::Global;

@@ -4,12 +4,12 @@ ghost use Rattle.std.specs.Char.{is_ascii_digit};
 ghost use Rattle.std.specs.List.{list_any, prefix_len, take_while};
 ghost use Rattle.std.specs.Option.{option_map};
 ghost use Rattle.cov_model.specs.declared.demand.Group.{Group};
-ghost use Rattle.model_lex.specs.Blanks.{without_first_blanks};
+ghost use Rattle.model_lex.specs.believed.Blanks.{without_first_blanks};
 ghost use Rattle.model_lex.specs.Sections.{line_seen};
-ghost use Rattle.model_parse.specs.Pieces.{pieces};
+ghost use Rattle.model_parse.specs.believed.Pieces.{pieces};
 ghost use Rattle.model_parse.specs.Rules.{Gives};
 ghost use Rattle.model_parse.specs.Steps.{and_each};
-ghost use Rattle.model_parse.specs.GroupLines.{has_braces, inside_braces, behind_braces, is_relation, strength_text};
+ghost use Rattle.model_parse.specs.believed.GroupLines.{has_braces, inside_braces, behind_braces, is_relation, strength_text};
 ghost use Rattle.model_parse.specs.GroupSteps.{behind_strength, add_group, add_member, braces_code, group_code, group_list, group_order, order_text, read_group, read_groups, relation_code, sub_order};
 
 use crate::cut::{begins_with, behind_mark, cut_last, pieces};

@@ -1,6 +1,6 @@
 ghost use Rattle.std.specs.Prelude.{◌≡◌, [], ◌∷◌, ◌++◌, length, position, IfOk, IfSome, OnOk, false, ◌<◌};
 ghost use Rattle.std.specs.Str.{bytes_eq};
-ghost use Rattle.value_text.specs.Texts.{folded};
+ghost use Rattle.value_text.specs.believed.Texts.{folded};
 ghost use Rattle.model_parse.specs.ValueSteps.{is_known, place_of};
 
 use indexmap::IndexSet;

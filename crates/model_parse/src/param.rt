@@ -1,9 +1,9 @@
 //! Reading parameter lines.
 ghost use Rattle.std.specs.Prelude.{◌≡◌, ◌<◌, ◌≤◌, ◌++◌, ◌∷◌, [], false, map, length, IfOk, OnOk};
 ghost use Rattle.std.specs.List.{list_all};
-ghost use Rattle.value_text.specs.Numbers.{is_number};
-ghost use Rattle.value_text.specs.Texts.{folded};
-ghost use Rattle.cov_model.specs.Sound.{first_name, is_numeric};
+ghost use Rattle.value_text.specs.believed.Numbers.{is_number};
+ghost use Rattle.value_text.specs.believed.Texts.{folded};
+ghost use Rattle.cov_model.specs.believed.Sound.{first_name, is_numeric};
 ghost use Rattle.model_lex.specs.Sections.{line_seen};
 ghost use Rattle.model_parse.specs.Rules.{Gives};
 ghost use Rattle.model_parse.specs.Steps.{and_each};

@@ -3,12 +3,12 @@ ghost use Rattle.std.specs.Prelude.{◌≡◌, ◌<◌, ◌^◌, ◌∷◌, [], 
 ghost use Rattle.std.specs.Char.{is_ascii_digit};
 ghost use Rattle.std.specs.List.{list_all};
 ghost use Rattle.std.specs.Str.Parse.{digits_value};
-ghost use Rattle.value_text.specs.Numbers.{is_digits};
-ghost use Rattle.cov_model.specs.Sound.{param_at};
-ghost use Rattle.model_parse.specs.Pieces.{begins_with};
+ghost use Rattle.value_text.specs.believed.Numbers.{is_digits};
+ghost use Rattle.cov_model.specs.believed.Sound.{param_at};
+ghost use Rattle.model_parse.specs.believed.Pieces.{begins_with};
 ghost use Rattle.model_parse.specs.Rules.{Gives};
 ghost use Rattle.model_parse.specs.Steps.{and_each, and_then, refused_or};
-ghost use Rattle.model_parse.specs.Values.{has_weight, weight_of, weight_text, names_text, without_prefix, names_of, value_of, name_code, piece_code, is_reference, referred};
+ghost use Rattle.model_parse.specs.believed.Values.{has_weight, weight_of, weight_text, names_text, without_prefix, names_of, value_of, name_code, piece_code, is_reference, referred};
 ghost use Rattle.model_parse.specs.ValueSteps.{names_code, is_known, place_of, piece_values, keep_name, keep_names, add_value, add_piece};
 
 use crate::cut::{before_mark, begins_with, behind_mark, cut_last, is_unfit, pieces};

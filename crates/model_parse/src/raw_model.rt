@@ -1,7 +1,8 @@
 ghost use Rattle.std.specs.Prelude.{◌≡◌, ◌<◌, ◌≤◌, length, map, IfOk};
 ghost use Rattle.model_lex.specs.Sections.{line_seen, split_seen};
 ghost use Rattle.model_parse.specs.Rules.{Gives};
-ghost use Rattle.model_parse.specs.RawModels.{AreOpts, IsSoundRaw, order_in, raw_model_of};
+ghost use Rattle.model_parse.specs.RawModels.{AreOpts, IsSoundRaw};
+ghost use Rattle.model_parse.specs.believed.RawModels.{order_in, raw_model_of};
 ghost use Rattle.model_parse.specs.ModelSteps.{with_demand};
 ghost use Rattle.model_parse.specs.GroupSteps.{read_groups};
 ghost use Rattle.model_parse.specs.Steps.{and_then};

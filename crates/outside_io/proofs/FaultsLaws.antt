@@ -1,7 +1,7 @@
 -- How the words on counts of faults compose over several calls.
 use Rattle.std.proofs.Common.{◌≡◌, ℕ, ◌^◌, ◌<◌, inl, inr, subst, arith}
-use Rattle.outside_io.specs.Faults.{Rose, GoesOn}
-use Rattle.outside_io.specs.Puts.{CountsFaults}
+use Rattle.outside_io.specs.believed.Faults.{Rose, GoesOn}
+use Rattle.outside_io.specs.believed.Puts.{CountsFaults}
 use Rattle.outside_io.specs.declared.answers.WriteAnswer.{WriteAnswer}
 use Rattle.outside_io.specs.declared.answers.WriteAnswer.TheVariants.{Done, Failed}
 

@@ -4,8 +4,8 @@ use Rattle.std.proofs.Math.Seq.{take-append-add}
 use Rattle.std.proofs.lemmas.List.{append-nil, take-append-le, take_min}
 use Rattle.outside_io.specs.declared.answers.WriteAnswer.{WriteAnswer}
 use Rattle.outside_io.specs.declared.answers.WriteAnswer.TheVariants.{Done, Failed}
-use Rattle.outside_io.specs.Seen.{SinkSeen}
-use Rattle.outside_io.specs.Puts.{Puts, PutsBytes, CountsFaults, Leaves, Balances}
+use Rattle.outside_io.specs.believed.Seen.{SinkSeen}
+use Rattle.outside_io.specs.believed.Puts.{Puts, PutsBytes, CountsFaults, Leaves, Balances}
 
 -- some of the first text is some of the joined text
 take-within : (x y : List ℕ) (count : ℕ) → take (min count (length x)) (x ++ y) ≡ take count x

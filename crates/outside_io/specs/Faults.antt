@@ -1,18 +1,11 @@
 -- Counts of faults. A count is 0 in a new object, never falls, ends at 2^64 - 1 and stays there.
 -- (This project's rule.)
-use Rattle.std.specs.Prelude.{◌≡◌, ℕ, ◌+◌, ◌-◌, ◌^◌, ◌<◌, ◌≤◌, ◌⊎◌, List, min, Bool, true, false}
+use Rattle.std.specs.Prelude.{ℕ, ◌+◌, ◌-◌, ◌^◌, List, min, Bool, true, false}
 use Rattle.outside_io.specs.declared.answers.ReadAnswer.{ReadAnswer}
 use Rattle.outside_io.specs.declared.answers.ReadAnswer.TheVariants as read
 use Rattle.outside_io.specs.declared.answers.WriteAnswer.{WriteAnswer}
 use Rattle.outside_io.specs.declared.answers.WriteAnswer.TheVariants as write
-
--- the count rose, or it stands at its last value
-abbrev pub Rose : ℕ → ℕ → Type 0
-Rose old new = (old < new) ⊎ (new ≡ 2 ^ 64 - 1)
-
--- the count didn't fall, and didn't pass its last value
-abbrev pub GoesOn : ℕ → ℕ → Type 0
-GoesOn old new = (old ≤ new) × (old < 2 ^ 64 → new < 2 ^ 64)
+use Rattle.outside_io.specs.believed.Faults.{GoesOn}
 
 -- the count after one more fault
 abbrev pub one_more : ℕ → ℕ

@@ -1,4 +1,3 @@
 pub mod Faults
-pub mod Files
-pub mod Seen
+pub mod believed
 pub mod Puts

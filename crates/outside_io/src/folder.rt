@@ -1,7 +1,7 @@
 ghost use Rattle.std.specs.Prelude.{◌≡◌, ◌≢◌, ◌<◌, ◌≤◌, [], None, Some, length, IfSome, IsSomeAnd};
 ghost use Rattle.outside_io.specs.Faults.{CountsGoOn, is_failed_read, is_failed_write};
-ghost use Rattle.outside_io.specs.Files.{HoldsOldOrPrefix};
-ghost use Rattle.outside_io.specs.Seen.{FolderSeen, KeepsFiles, KeepsOtherFiles, KeepsReadFaults, KeepsWriteFaults, ReadFaultsRose, WriteFaultsRose};
+ghost use Rattle.outside_io.specs.believed.Files.{HoldsOldOrPrefix};
+ghost use Rattle.outside_io.specs.believed.Seen.{FolderSeen, KeepsFiles, KeepsOtherFiles, KeepsReadFaults, KeepsWriteFaults, ReadFaultsRose, WriteFaultsRose};
 
 use crate::answers::{ReadAnswer, WriteAnswer};
 

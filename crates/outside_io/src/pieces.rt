@@ -1,5 +1,5 @@
 ghost use Rattle.std.specs.List.{flat_map};
-ghost use Rattle.outside_io.specs.Puts.{Puts};
+ghost use Rattle.outside_io.specs.believed.Puts.{Puts};
 
 use crate::answers::WriteAnswer;
 use crate::sink::Sink;

@@ -1,5 +1,6 @@
 ghost use Rattle.std.specs.Prelude.{◌≡◌, ◌≢◌, ◌≤◌, [], None, length, if◌then◌else◌};
-ghost use Rattle.outside_io.specs.Faults.{GoesOn, one_more, is_failed_read, is_failed_write};
+ghost use Rattle.outside_io.specs.believed.Faults.{GoesOn};
+ghost use Rattle.outside_io.specs.Faults.{one_more, is_failed_read, is_failed_write};
 
 use crate::answers::{ReadAnswer, WriteAnswer};
 use crate::folder::Folder;

@@ -1,6 +1,7 @@
 ghost use Rattle.std.specs.Prelude.{◌≡◌, None, false, if◌then◌else◌};
-ghost use Rattle.outside_io.specs.Faults.{GoesOn, one_more, is_failed_write};
-ghost use Rattle.outside_io.specs.Puts.{PutsBytes};
+ghost use Rattle.outside_io.specs.believed.Faults.{GoesOn};
+ghost use Rattle.outside_io.specs.Faults.{one_more, is_failed_write};
+ghost use Rattle.outside_io.specs.believed.Puts.{PutsBytes};
 
 use crate::answers::WriteAnswer;
 use crate::sink::Sink;

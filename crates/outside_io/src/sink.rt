@@ -1,6 +1,6 @@
 ghost use Rattle.std.specs.Prelude.{◌≡◌};
-ghost use Rattle.outside_io.specs.Seen.{SinkSeen};
-ghost use Rattle.outside_io.specs.Puts.{Puts};
+ghost use Rattle.outside_io.specs.believed.Seen.{SinkSeen};
+ghost use Rattle.outside_io.specs.believed.Puts.{Puts};
 
 use crate::answers::WriteAnswer;
 

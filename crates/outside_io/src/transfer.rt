@@ -1,5 +1,5 @@
 ghost use Rattle.std.specs.Prelude.{◌≡◌, ◌<◌, ◌≤◌, [], IfSome, OnErr, OnOk, length};
-ghost use Rattle.outside_io.specs.Puts.{PutsBytes};
+ghost use Rattle.outside_io.specs.believed.Puts.{PutsBytes};
 
 use crate::answers::{ReadAnswer, WriteAnswer};
 use std::io::{Error, ErrorKind, Read, Write};

@@ -4,11 +4,12 @@ use Rattle.std.specs.Prelude.{fold}
 use Rattle.std.specs.List.{list_any}
 use Rattle.std.proofs.lemmas.Bool.{cases_Bool, false≢true, or_parts}
 use Rattle.value_text.proofs.ListLemmas.{or_or}
-use Rattle.definitions.specs.Settings.{Setting, Order, Separator, Alias, Prefix, SeedFile, ShuffleValues, CaseCounts, Statistics, Workers}
-use Rattle.definitions.specs.Settings.{Budget, ProofFile, ProofFormat, MeasureFile, Make, SuspectFile, Settings, defaults, set, settings_of}
-use Rattle.definitions.specs.Words.{is_generating, is_measuring}
+use Rattle.definitions.specs.believed.Settings.{Setting, Order, Separator, Alias, Prefix, SeedFile, ShuffleValues, CaseCounts, Statistics, Workers}
+use Rattle.definitions.specs.believed.Settings.{Budget, ProofFile, ProofFormat, MeasureFile, Make, SuspectFile, Settings, defaults, set, settings_of}
+use Rattle.definitions.specs.believed.Words.{is_generating, is_measuring}
 use Rattle.pict_cli.specs.declared.kinds.Kinds.{Kinds}
-use Rattle.pict_cli.specs.Modes.{Mode, makes_suite, mode_beside, mode_in, mode_of, output_of}
+use Rattle.pict_cli.specs.believed.Modes.{Mode, mode_beside, mode_in, mode_of, output_of}
+use Rattle.pict_cli.specs.Modes.{makes_suite}
 use Rattle.pict_cli.specs.Options.{excludes_by_kinds, is_suspecting, joined_kinds, kind_of, kinds_of}
 use Rattle.pict_cli.proofs.KindLemmas.{clash}
 

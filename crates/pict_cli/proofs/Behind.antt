@@ -4,28 +4,31 @@ use Rattle.std.specs.Prelude.{◌≢◌, ◌⊎◌, true, if◌then◌else◌, o
 use Rattle.std.specs.Option.{option_or}
 use Rattle.std.proofs.lemmas.Bool.{false≢true}
 use Rattle.std.proofs.Math.Seq.{take-append-add}
-use Rattle.definitions.specs.RowReading.{RowReading}
-use Rattle.suspect_tuples.specs.ResultReading.{ResultReading}
-use Rattle.cov_model.specs.Sound.{ModelView}
+use Rattle.definitions.specs.believed.RowReading.{RowReading}
+use Rattle.suspect_tuples.specs.believed.ResultReading.{ResultReading}
+use Rattle.cov_model.specs.believed.Sound.{ModelView}
 use Rattle.definitions.specs.declared.effort.Effort.{Effort}
-use Rattle.definitions.specs.Settings.{Settings}
+use Rattle.definitions.specs.believed.Settings.{Settings}
 use Rattle.model_lex.specs.declared.note.Note.{Note}
 use Rattle.row_text.specs.RowFiles.{seeds_seen}
 use Rattle.row_text.specs.declared.row_file.RowFile.{RowFile}
-use Rattle.tuple_index.specs.PlanFault.{IsFaultOf, limit_passed}
+use Rattle.tuple_index.specs.PlanFault.{IsFaultOf}
+use Rattle.tuple_index.specs.believed.PlanFault.{limit_passed}
 use Rattle.tuple_index.specs.declared.fault.PlanFault.{PlanFault}
 use Rattle.tuple_index.specs.declared.fault.PlanFault.TheVariants.{TooManySets, TooManyTuples}
 use Rattle.tuple_index.specs.declared.fault.PlanFault.TheVariants as plan_faults
-use Rattle.command_line.specs.Stops.{stop_of_plan}
+use Rattle.command_line.specs.believed.Stops.{stop_of_plan}
 use Rattle.command_line.specs.declared.files.FileKind.TheVariants as kinds
 use Rattle.command_line.specs.declared.stop.Stop.{Stop}
 use Rattle.command_line.specs.declared.stop.Stop.TheVariants.{CannotRead, CannotWrite, CannotWriteReport}
-use Rattle.outside_io.specs.Seen.{FolderSeen, KeepsReadFaults, ReadFaultsRose}
-use Rattle.pict_cli.specs.Ends.{CountsReads, End, IsAnswered, IsEarly, Stopped, Unread, end_of}
-use Rattle.pict_cli.specs.Modes.{Generate, Measure, Mode, RowSource, Suspect, makes_plan, mode_of, row_file, row_mode}
-use Rattle.pict_cli.specs.RowSources.{later_notes, notes_on, read_bytes, read_row_bytes, read_source, reading_or_none, stop_in, without_results}
-use Rattle.pict_cli.specs.Runs.{EndsBehind, WritesProof, all_notes, cannot_write, cannot_write_proof, comes_whole, file_notes, given_of, limit_due}
-use Rattle.pict_cli.specs.Runs.{must_stop, no_memory, notes_behind, notes_due, notes_told, out_text, reading_of, rows_of_run, rows_unread, stop_due, text_in, work_in}
+use Rattle.outside_io.specs.believed.Seen.{FolderSeen, KeepsReadFaults, ReadFaultsRose}
+use Rattle.pict_cli.specs.believed.Ends.{CountsReads, End, Stopped, Unread, end_of}
+use Rattle.pict_cli.specs.Ends.{IsAnswered, IsEarly}
+use Rattle.pict_cli.specs.believed.Modes.{Generate, Measure, Mode, RowSource, Suspect, makes_plan, mode_of, row_file}
+use Rattle.pict_cli.specs.Modes.{row_mode}
+use Rattle.pict_cli.specs.believed.RowSources.{later_notes, notes_on, read_bytes, read_row_bytes, read_source, reading_or_none, stop_in, without_results}
+use Rattle.pict_cli.specs.believed.Runs.{EndsBehind, WritesProof, all_notes, cannot_write, cannot_write_proof, comes_whole, file_notes, given_of, limit_due}
+use Rattle.pict_cli.specs.believed.Runs.{must_stop, no_memory, notes_behind, notes_due, notes_told, out_text, reading_of, rows_of_run, rows_unread, stop_due, text_in, work_in}
 use Rattle.pict_cli.specs.Steps.{HoldsRows, IsOfRows, StopsRows, StopsWork}
 use Rattle.pict_cli.specs.Steps as steps
 use Rattle.pict_cli.proofs.Early.{stopped_answered}

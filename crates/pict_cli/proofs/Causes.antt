@@ -3,29 +3,29 @@ use Rattle.std.proofs.Common.{◌≡◌, ℕ, ◌<◌, ◌≤◌, List, Option, 
 use Rattle.std.specs.Prelude.{◌⊎◌, ◌≢◌, option_map, IfSome, IsSomeAnd, IsErrAnd}
 use Rattle.std.specs.Option.{option_or}
 use Rattle.std.proofs.lemmas.Option.{none-some, same_Some}
-use Rattle.outside_io.specs.Seen.{WriteFaultsRose, PutFaultsRose}
-use Rattle.cov_model.specs.Sound.{ModelView}
-use Rattle.made_models.specs.MadeModel.{made_text}
-use Rattle.definitions.specs.Limits.{ModelFile, most_bytes}
-use Rattle.definitions.specs.Settings.{Settings}
+use Rattle.outside_io.specs.believed.Seen.{WriteFaultsRose, PutFaultsRose}
+use Rattle.cov_model.specs.believed.Sound.{ModelView}
+use Rattle.made_models.specs.believed.MadeModel.{made_text}
+use Rattle.definitions.specs.believed.Limits.{ModelFile, most_bytes}
+use Rattle.definitions.specs.believed.Settings.{Settings}
 use Rattle.model_lex.specs.declared.note.Note.{Note}
 use Rattle.model_lex.specs.declared.options.ModelOpts.{ModelOpts}
 use Rattle.model_lex.specs.declared.fault.ModelFault.{ModelFault}
-use Rattle.type_check.specs.ModelOf.{IsModelOf, IsRefusalOf}
+use Rattle.type_check.specs.believed.ModelOf.{IsModelOf, IsRefusalOf}
 use Rattle.type_check.proofs.OneAnswer.{models_are_not_refused, refusals_are_one}
-use Rattle.command_line.specs.Loading.{IsRefused, StopsReading, cannot_read, is_refused, out_of_memory, too_long}
-use Rattle.command_line.specs.Stops.{status_of}
-use Rattle.command_line.specs.Told.{end_status}
+use Rattle.command_line.specs.believed.Loading.{IsRefused, StopsReading, cannot_read, is_refused, out_of_memory, too_long}
+use Rattle.command_line.specs.believed.Stops.{status_of}
+use Rattle.command_line.specs.believed.Told.{end_status}
 use Rattle.command_line.specs.declared.files.FileKind.TheVariants as kinds
 use Rattle.command_line.specs.declared.stop.Stop.{Stop}
 use Rattle.command_line.specs.declared.stop.Stop.TheVariants.{CannotRead, CannotWrite, CannotWriteReport}
-use Rattle.pict_cli.specs.Ends.{CountsOut, CountsReads, CountsWrites, Moment, Unwritten, end_of}
-use Rattle.pict_cli.specs.Modes.{RowSource, RowsHeld, mode_of, model_from, model_source, row_source}
-use Rattle.pict_cli.specs.Runs.{Ends, EndsBehind, RunsModel, cannot_write, cannot_write_proof, comes_whole, fault_status, given_of, limit_due, must_stop, no_memory, reading_of, rows_unread, stop_due, work_in}
-use Rattle.pict_cli.specs.RowSources.{stop_in}
+use Rattle.pict_cli.specs.believed.Ends.{CountsOut, CountsReads, CountsWrites, Moment, Unwritten, end_of}
+use Rattle.pict_cli.specs.believed.Modes.{RowSource, RowsHeld, mode_of, model_from, model_source, row_source}
+use Rattle.pict_cli.specs.believed.Runs.{Ends, EndsBehind, RunsModel, cannot_write, cannot_write_proof, comes_whole, fault_status, given_of, limit_due, must_stop, no_memory, reading_of, rows_unread, stop_due, work_in}
+use Rattle.pict_cli.specs.believed.RowSources.{stop_in}
 use Rattle.pict_cli.specs.Steps.{Ran}
-use Rattle.command_line.specs.Words.{opts_of}
-use Rattle.pict_cli.specs.Words.{GetsModelCalmly, ReadsCalmly, WritesCalmly}
+use Rattle.command_line.specs.believed.Words.{opts_of}
+use Rattle.pict_cli.specs.believed.Words.{GetsModelCalmly, ReadsCalmly, WritesCalmly}
 use Rattle.pict_cli.proofs.FromModel.{from_model}
 
 -- why a run on a model ends that needn't stop

@@ -6,16 +6,16 @@ use Rattle.std.specs.declared.string.String.{String}
 use Rattle.std.specs.declared.alloc.Global.{Global}
 use Rattle.std.proofs.lemmas.Bool.{or_parts}
 use Rattle.value_text.proofs.ListLemmas.{option_or_parts}
-use Rattle.definitions.specs.Settings.{Setting, setting_of}
-use Rattle.definitions.specs.Words.{Command, first_faulty, is_faulty, missing_name, read_words, set_by}
+use Rattle.definitions.specs.believed.Settings.{Setting, setting_of}
+use Rattle.definitions.specs.believed.Words.{Command, first_faulty, is_faulty, missing_name, read_words, set_by}
 use Rattle.command_line.proofs.RangeLemmas.{words_fit}
 use Rattle.command_line.proofs.WordLemmas.{by_words, command_read}
-use Rattle.command_line.specs.Words.{TellsFault, settings_in, texts}
+use Rattle.command_line.specs.believed.Words.{TellsFault, settings_in, texts}
 use Rattle.pict_cli.specs.declared.options.Opts.{Opts}
 use Rattle.pict_cli.specs.declared.options.WordFault.{WordFault}
 use Rattle.pict_cli.specs.Options.{command_seen, kind_of, kinds_of, settings_seen}
 use Rattle.pict_cli.specs.Ranges.{FitRun}
-use Rattle.pict_cli.specs.Words.{IsWordFault, asked_by, model_file, model_name}
+use Rattle.pict_cli.specs.believed.Words.{IsWordFault, asked_by, model_file, model_name}
 use Rattle.pict_cli.proofs.Alone.{is_torn, joined_whole, one_whole, whole_unproved}
 use Rattle.pict_cli.proofs.WordLemmas.{about-push, faulty-parts}
 

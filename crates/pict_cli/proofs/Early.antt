@@ -1,18 +1,20 @@
 -- Runs that end before anything is written, and steps that leave the folder as it was.
 use Rattle.std.proofs.Common.{◌≡◌, ℕ, List, Option, None, Some, Ok, Err, Result, sym, ap, subst, ◌∙◌}
 use Rattle.std.specs.Prelude.{IfErr, IfSome, IsSomeAnd}
-use Rattle.outside_io.specs.Faults.{Rose}
-use Rattle.outside_io.specs.Seen.{FolderSeen, SinkSeen, KeepsFiles, KeepsReadFaults, KeepsWriteFaults}
-use Rattle.cov_model.specs.Sound.{ModelView, IsSound}
+use Rattle.outside_io.specs.believed.Faults.{Rose}
+use Rattle.outside_io.specs.believed.Seen.{FolderSeen, SinkSeen, KeepsFiles, KeepsReadFaults, KeepsWriteFaults}
+use Rattle.cov_model.specs.believed.Sound.{ModelView, IsSound}
 use Rattle.definitions.specs.declared.effort.Effort.{Effort}
-use Rattle.definitions.specs.Settings.{Settings}
+use Rattle.definitions.specs.believed.Settings.{Settings}
 use Rattle.model_lex.specs.declared.note.Note.{Note}
 use Rattle.command_line.specs.declared.stop.Stop.{Stop}
 use Rattle.command_line.specs.declared.stop.Stop.TheVariants.{CannotWriteReport}
-use Rattle.pict_cli.specs.Ends.{CountsOut, CountsReads, CountsWrites, End, IsAnswered, IsEarly, IsQuiet, Leaves, Misworded, Moment, Prints}
-use Rattle.pict_cli.specs.Ends.{StaysStill, Stopped, Unanswered, Unprinted, Unread, Unwritten, Whole, end_of, file_read, file_written}
-use Rattle.pict_cli.specs.Modes.{RowSource}
-use Rattle.pict_cli.specs.Runs.{EndsBehind, HoldsProof, RunsModel, WritesProof, given_of, out_text, rows_of_run}
+use Rattle.pict_cli.specs.believed.Ends.{CountsOut, CountsReads, CountsWrites, End, Misworded, Moment, Prints}
+use Rattle.pict_cli.specs.Ends.{IsAnswered, IsEarly, IsQuiet, Leaves}
+use Rattle.pict_cli.specs.Ends.{StaysStill}
+use Rattle.pict_cli.specs.believed.Ends.{Stopped, Unanswered, Unprinted, Unread, Unwritten, Whole, end_of, file_read, file_written}
+use Rattle.pict_cli.specs.believed.Modes.{RowSource}
+use Rattle.pict_cli.specs.believed.Runs.{EndsBehind, HoldsProof, RunsModel, WritesProof, given_of, out_text, rows_of_run}
 
 -- an end is early
 pub stopped_early : (end : End) → end ≡ Stopped → IsEarly end

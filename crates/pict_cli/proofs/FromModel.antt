@@ -4,8 +4,8 @@ use Rattle.model_lex.specs.declared.note.Note.{Note}
 use Rattle.command_line.specs.declared.files.FileKind.TheVariants as kinds
 use Rattle.command_line.specs.declared.stop.Stop.{Stop}
 use Rattle.command_line.specs.declared.stop.Stop.TheVariants.{OutOfMemory, CannotWrite}
-use Rattle.pict_cli.specs.Ends.{Moment}
-use Rattle.pict_cli.specs.Making.{EndsFrom, cannot_write_model, goes_on, no_room}
+use Rattle.pict_cli.specs.believed.Ends.{Moment}
+use Rattle.pict_cli.specs.believed.Making.{EndsFrom, cannot_write_model, goes_on, no_room}
 
 -- from the moment at which it goes on, for want of memory, or since the made model can't be written
 pub from_model : (make : Option ℕ) (name : List ℕ) (GoesOn : Moment → Type 0) (notes row_notes : List Note) (before after : Moment) (end : Result (Unit {0}) Stop) (P : Type 0)

@@ -4,40 +4,42 @@ use Rattle.std.specs.Prelude.{All, ◌&&◌, nat_le, nat_lt, if◌then◌else◌
 use Rattle.std.specs.List.{enumerate_from, list_all}
 use Rattle.std.specs.Option.{option_or}
 use Rattle.outside_io.specs.declared.answers.WriteAnswer.TheVariants.{Done}
-use Rattle.outside_io.specs.Puts.{PutsBytes}
-use Rattle.cov_model.specs.Sound.{ModelView, IsSound}
-use Rattle.cov_model.specs.Preference.{OrdersValues, preference}
-use Rattle.cov_model.specs.Meaning.{body_holds}
-use Rattle.cov_model.specs.Valid.{is_row, is_valid, negatives}
+use Rattle.outside_io.specs.believed.Puts.{PutsBytes}
+use Rattle.cov_model.specs.believed.Sound.{ModelView, IsSound}
+use Rattle.cov_model.specs.Preference.{OrdersValues}
+use Rattle.cov_model.specs.believed.Preference.{preference}
+use Rattle.cov_model.specs.believed.Meaning.{body_holds}
+use Rattle.cov_model.specs.believed.Valid.{is_row, is_valid, negatives}
 use Rattle.cov_model.proofs.PreferenceLemmas.{OrdersValues-preference}
 use Rattle.std.proofs.lemmas.Bool.{and_parts, cases_Bool, false≢true, ltb-false}
 use Rattle.std.proofs.lemmas.Option.{none-some}
-use Rattle.definitions.specs.Covering.{HasFewRows}
-use Rattle.definitions.specs.Demand.{choices, demanded_tuples}
-use Rattle.definitions.specs.Limits.{Rows, most_counted}
-use Rattle.definitions.specs.Settings.{Settings}
+use Rattle.definitions.specs.believed.Covering.{HasFewRows}
+use Rattle.definitions.specs.believed.Demand.{choices, demanded_tuples}
+use Rattle.definitions.specs.believed.Limits.{Rows, most_counted}
+use Rattle.definitions.specs.believed.Settings.{Settings}
 use Rattle.definitions.specs.SuiteLaws.{IsSoundProof}
 use Rattle.definitions.proofs.SuiteLaws.{suite_proofs_are_accepted, suite_proofs_list, suite_proofs_read_back, suites_serve_or_refute}
-use Rattle.suspect_tuples.specs.ResultReading.{ResultReading}
-use Rattle.tuple_index.specs.PlanFault.{limit_passed}
-use Rattle.tuple_index.specs.PlanFault as limits
+use Rattle.suspect_tuples.specs.believed.ResultReading.{ResultReading}
+use Rattle.tuple_index.specs.believed.PlanFault.{limit_passed}
+use Rattle.tuple_index.specs.believed.PlanFault as limits
 use Rattle.tuple_index.specs.declared.fault.PlanFault.{PlanFault}
 use Rattle.tuple_index.specs.declared.fault.PlanFault.TheVariants.{TooManySets, TooManyTuples}
-use Rattle.definitions.specs.Growth.{growth}
-use Rattle.definitions.specs.Report.{report_text}
-use Rattle.definitions.specs.RowFile.{rows_of}
+use Rattle.definitions.specs.believed.Growth.{growth}
+use Rattle.definitions.specs.believed.Report.{report_text}
+use Rattle.definitions.specs.believed.RowFile.{rows_of}
 use Rattle.definitions.proofs.GrowthLaw.{growth_covers, suites_cover, suites_have_few_rows}
-use Rattle.definitions.specs.Verdict.{Accepted, verdict}
+use Rattle.definitions.specs.believed.Verdict.{Accepted, verdict}
 use Rattle.definitions.proofs.ReadBack.{read_back}
 use Rattle.definitions.proofs.ReportRead.{reports_are_read}
 use Rattle.model_lex.specs.declared.note.Note.{Note}
-use Rattle.command_line.specs.Stops.{stop_of_plan}
+use Rattle.command_line.specs.believed.Stops.{stop_of_plan}
 use Rattle.command_line.specs.declared.stop.Stop.{Stop}
-use Rattle.pict_cli.specs.Ends.{Moment}
-use Rattle.pict_cli.specs.Modes.{Generate, Measure, Mode, Report, RowSource, Statistics, Suspect, is_report, makes_plan, makes_suite, mode_of, prints_rows}
-use Rattle.pict_cli.specs.Runs.{AreContained, CoversOrRefutes, EndsBehind, HoldsWholeProof, IsAcceptedWith, IsProof, PrintsSuite}
-use Rattle.pict_cli.specs.Runs.{RunsModel, cannot_write, cannot_write_proof, comes_whole, given_of, growth_of}
-use Rattle.pict_cli.specs.Runs.{must_stop, no_memory, out_text, rows_of_run, rows_unread, seeds_kept, shuffled_by, stop_due, text_in, told_proof}
+use Rattle.pict_cli.specs.believed.Ends.{Moment}
+use Rattle.pict_cli.specs.believed.Modes.{Generate, Measure, Mode, Report, RowSource, Statistics, Suspect, is_report, makes_plan, mode_of, prints_rows}
+use Rattle.pict_cli.specs.Modes.{makes_suite}
+use Rattle.pict_cli.specs.believed.Runs.{AreContained, CoversOrRefutes, EndsBehind, HoldsWholeProof, IsAcceptedWith, IsProof, PrintsSuite}
+use Rattle.pict_cli.specs.believed.Runs.{RunsModel, cannot_write, cannot_write_proof, comes_whole, given_of, growth_of}
+use Rattle.pict_cli.specs.believed.Runs.{must_stop, no_memory, out_text, rows_of_run, rows_unread, seeds_kept, shuffled_by, stop_due, text_in, told_proof}
 
 -- valid rows are rows
 are_rows : (m : ModelView) (rows : List (List (Option ℕ))) → All (λ row. is_valid m row ≡ true) rows → All (λ row. is_row m row ≡ true) rows

@@ -4,9 +4,9 @@ use Rattle.std.specs.List.{list_any}
 use Rattle.std.proofs.Math.Bool.{and-false, and-or_distrib_left, and-or_distrib_right, or-false}
 use Rattle.std.proofs.lemmas.List.Folds.{list_any-append}
 use Rattle.value_text.proofs.ListLemmas.{or_or}
-use Rattle.definitions.specs.Settings.{Setting, Order, Separator, Alias, Prefix, SeedFile, ShuffleValues, CaseCounts}
-use Rattle.definitions.specs.Settings.{Statistics, Workers, Budget, ProofFile, ProofFormat, MeasureFile, Make, SuspectFile}
-use Rattle.definitions.specs.Words.{excludes, exclude_each_other, is_generating, is_measuring, is_of_a_file}
+use Rattle.definitions.specs.believed.Settings.{Setting, Order, Separator, Alias, Prefix, SeedFile, ShuffleValues, CaseCounts}
+use Rattle.definitions.specs.believed.Settings.{Statistics, Workers, Budget, ProofFile, ProofFormat, MeasureFile, Make, SuspectFile}
+use Rattle.definitions.specs.believed.Words.{excludes, exclude_each_other, is_generating, is_measuring, is_of_a_file}
 use Rattle.pict_cli.specs.declared.kinds.Kinds.{Kinds}
 use Rattle.pict_cli.specs.Options.{kind_of, kinds_of, joined_kinds, excludes_by_kinds, is_suspecting, is_making}
 

@@ -1,20 +1,22 @@
 -- Whole runs, from how they got their model and how they went on.
 use Rattle.std.proofs.Common.{◌≡◌, ℕ, List, [], Option, None, Some, Ok, Err, Result, refl, sym, ap, subst, ◌∙◌}
 use Rattle.std.specs.Prelude.{◌≢◌, IfSome, IsSomeAnd, option_map}
-use Rattle.outside_io.specs.Files.{Files}
-use Rattle.outside_io.specs.Seen.{KeepsOtherFiles, KeepsReadFaults, WriteFaultsRose}
-use Rattle.made_models.specs.MadeModel.{made_text}
-use Rattle.definitions.specs.Settings.{Settings}
+use Rattle.outside_io.specs.believed.Files.{Files}
+use Rattle.outside_io.specs.believed.Seen.{KeepsOtherFiles, KeepsReadFaults, WriteFaultsRose}
+use Rattle.made_models.specs.believed.MadeModel.{made_text}
+use Rattle.definitions.specs.believed.Settings.{Settings}
 use Rattle.model_lex.specs.declared.note.Note.{Note}
-use Rattle.command_line.specs.Told.{end_status}
+use Rattle.command_line.specs.believed.Told.{end_status}
 use Rattle.command_line.specs.declared.files.FileKind.TheVariants as kinds
 use Rattle.command_line.specs.declared.stop.Stop.{Stop}
 use Rattle.command_line.specs.declared.stop.Stop.TheVariants.{OutOfMemory, CannotWrite}
-use Rattle.pict_cli.specs.Ends.{CountsOut, End, IsQuiet, Leaves, LeavesAll, Moment, end_of, file_written}
-use Rattle.pict_cli.specs.Making.{EndsFrom, Writes, cannot_write_model, goes_on, no_room}
-use Rattle.pict_cli.specs.Modes.{mode_beside, mode_in, model_from, output_of, row_file_in, row_source, rows_beside, source_in}
-use Rattle.pict_cli.specs.Runs.{Ends}
-use Rattle.pict_cli.specs.Steps.{HoldsMade, Ran, RanOn, StopsMaking, unmade, write_failed}
+use Rattle.pict_cli.specs.believed.Ends.{CountsOut, End, Moment, end_of, file_written}
+use Rattle.pict_cli.specs.Ends.{IsQuiet, Leaves, LeavesAll}
+use Rattle.pict_cli.specs.believed.Making.{EndsFrom, Writes, cannot_write_model, goes_on, no_room}
+use Rattle.pict_cli.specs.believed.Modes.{mode_beside, mode_in, model_from, output_of, row_file_in, row_source, rows_beside, source_in}
+use Rattle.pict_cli.specs.believed.Runs.{Ends}
+use Rattle.pict_cli.specs.believed.Steps.{HoldsMade}
+use Rattle.pict_cli.specs.Steps.{Ran, RanOn, StopsMaking, unmade, write_failed}
 use Rattle.pict_cli.proofs.Early.{leaves_early, reads_from, writes_from}
 use Rattle.pict_cli.proofs.RunEnds.{still_of, untouched_end, zero_is_end}
 

@@ -4,8 +4,9 @@ use Rattle.std.proofs.Common.{take, drop, ◌∙◌, sym, ap, arith, append_asso
 use Rattle.std.specs.List.{flat_map}
 use Rattle.std.proofs.lemmas.List.{append-nil, map-append, take-append-drop, take_more}
 use Rattle.std.proofs.lemmas.List.Concat.{flat_map-append}
-use Rattle.definitions.specs.ProofText.{omission_line, format_line}
-use Rattle.refutation.specs.Proofs.{format_of, omission_meant}
+use Rattle.definitions.specs.believed.ProofText.{omission_line, format_line}
+use Rattle.refutation.specs.believed.Proofs.{format_of}
+use Rattle.refutation.specs.Proofs.{omission_meant}
 use Rattle.refutation.specs.Lines.{line_len, line_text}
 use Rattle.refutation.specs.declared.omissions.Omission.{Omission}
 use Rattle.refutation.specs.declared.omissions.ProofForm.{ProofForm}

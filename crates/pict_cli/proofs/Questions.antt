@@ -3,13 +3,13 @@ use Rattle.std.proofs.Common.{◌≡◌, ℕ, List, Option, None, Some, Err, inl
 use Rattle.std.specs.Prelude.{◌≢◌, ◌⊎◌, option_map}
 use Rattle.std.proofs.lemmas.Option.{none-some, same_Some}
 use Rattle.value_text.proofs.ListLemmas.{nothing_found}
-use Rattle.outside_io.specs.Seen.{FolderSeen, KeepsReadFaults}
-use Rattle.cov_model.specs.Sound.{ModelView}
+use Rattle.outside_io.specs.believed.Seen.{FolderSeen, KeepsReadFaults}
+use Rattle.cov_model.specs.believed.Sound.{ModelView}
 use Rattle.definitions.specs.declared.effort.Effort.{Effort}
 use Rattle.definitions.specs.declared.effort.Effort.TheVariants.{Within, Full}
-use Rattle.definitions.specs.Pairs.{pairs_of}
-use Rattle.definitions.specs.Search.{exceeds, first_over, question_cost}
-use Rattle.definitions.specs.Settings.{Settings}
+use Rattle.definitions.specs.believed.Pairs.{pairs_of}
+use Rattle.definitions.specs.believed.Search.{exceeds, first_over, question_cost}
+use Rattle.definitions.specs.believed.Settings.{Settings}
 use Rattle.feasibility.specs.Ends.{EndsBy}
 use Rattle.feasibility.specs.declared.answer.Question.{Question}
 use Rattle.feasibility.specs.declared.answer.SearchFault.{SearchFault}
@@ -17,8 +17,9 @@ use Rattle.feasibility.specs.declared.answer.SearchFault.TheVariants as faults
 use Rattle.model_lex.specs.declared.note.Note.{Note}
 use Rattle.command_line.specs.declared.stop.Stop.{Stop}
 use Rattle.command_line.specs.declared.stop.Stop.TheVariants.{Spent}
-use Rattle.pict_cli.specs.Ends.{CountsReads, End, IsAnswered, IsEarly, Stopped, Unanswered, end_of}
-use Rattle.pict_cli.specs.Runs.{spent_at}
+use Rattle.pict_cli.specs.believed.Ends.{CountsReads, End, Stopped, Unanswered, end_of}
+use Rattle.pict_cli.specs.Ends.{IsAnswered, IsEarly}
+use Rattle.pict_cli.specs.believed.Runs.{spent_at}
 use Rattle.pict_cli.specs.Steps.{IsDueOrNoMemory, StopsWork, is_due, no_memory}
 use Rattle.pict_cli.proofs.Early.{reads_stopped, stopped_answered}
 

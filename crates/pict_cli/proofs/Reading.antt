@@ -1,20 +1,22 @@
 -- A run whose model file was read, and one whose reading stopped.
 use Rattle.std.proofs.Common.{◌≡◌, ℕ, List, [], Option, None, Some, Err, Result, inl, inr, refl, sym, ap, subst, ◌∙◌}
 use Rattle.std.specs.Prelude.{◌≢◌, IfSome, IsSomeAnd}
-use Rattle.outside_io.specs.Seen.{FolderSeen, KeepsFiles, KeepsReadFaults, KeepsWriteFaults, ReadFaultsRose}
-use Rattle.cov_model.specs.Sound.{ModelView}
+use Rattle.outside_io.specs.believed.Seen.{FolderSeen, KeepsFiles, KeepsReadFaults, KeepsWriteFaults, ReadFaultsRose}
+use Rattle.cov_model.specs.believed.Sound.{ModelView}
 use Rattle.definitions.specs.declared.effort.Effort.{Effort}
-use Rattle.definitions.specs.Settings.{Settings}
+use Rattle.definitions.specs.believed.Settings.{Settings}
 use Rattle.model_lex.specs.declared.note.Note.{Note}
 use Rattle.model_lex.specs.declared.options.ModelOpts.{ModelOpts}
-use Rattle.command_line.specs.Loading.{IsLoaded, IsOfReading, StopsReading}
+use Rattle.command_line.specs.believed.Loading.{IsLoaded, StopsReading}
+use Rattle.command_line.specs.Loading.{IsOfReading}
 use Rattle.command_line.specs.declared.files.FileKind.TheVariants as kinds
 use Rattle.command_line.specs.declared.stop.Stop.{Stop}
 use Rattle.command_line.specs.declared.stop.Stop.TheVariants.{CannotRead}
-use Rattle.pict_cli.specs.Ends.{CountsReads, IsAnswered, IsEarly, Leaves, Moment, Prints, Stopped, Unread, end_of, read_unless_made}
-use Rattle.pict_cli.specs.Modes.{RowSource, row_file, row_source, source_in}
-use Rattle.command_line.specs.Words.{opts_of}
-use Rattle.pict_cli.specs.Runs.{Ends, RunsModel, given_of, out_text, rows_of_run}
+use Rattle.pict_cli.specs.believed.Ends.{CountsReads, Moment, Prints, Stopped, Unread, end_of, read_unless_made}
+use Rattle.pict_cli.specs.Ends.{IsAnswered, IsEarly, Leaves}
+use Rattle.pict_cli.specs.believed.Modes.{RowSource, row_file, row_source, source_in}
+use Rattle.command_line.specs.believed.Words.{opts_of}
+use Rattle.pict_cli.specs.believed.Runs.{Ends, RunsModel, given_of, out_text, rows_of_run}
 use Rattle.pict_cli.specs.Steps.{RanOn}
 use Rattle.pict_cli.proofs.Early.{leaves_early, leaves_from, proof_from, stopped_answered}
 use Rattle.pict_cli.proofs.RunEnds.{ends_loaded, reading_ends}

@@ -2,11 +2,11 @@
 use Rattle.std.proofs.Common.{◌≡◌, ℕ, List, [], map, Option, None, Some, Ok, Err, Result, refl, ap, subst}
 use Rattle.std.specs.Prelude.{IfErr, option_map}
 use Rattle.std.proofs.lemmas.Option.{none-some, same_Some}
-use Rattle.cov_model.specs.Sound.{ModelView}
-use Rattle.definitions.specs.RowReading.{RowMode}
+use Rattle.cov_model.specs.believed.Sound.{ModelView}
+use Rattle.definitions.specs.believed.RowReading.{RowMode}
 use Rattle.row_text.specs.RowFiles.{row_seen}
 use Rattle.row_text.specs.declared.row_file.RowFile.{RowFile}
-use Rattle.pict_cli.specs.Modes.{RowSource, NoRowFile, RowsHeld}
+use Rattle.pict_cli.specs.believed.Modes.{RowSource, NoRowFile, RowsHeld}
 use Rattle.pict_cli.specs.Steps.{HoldsRows}
 
 pub source_held : (o : Option (Option (List ℕ))) (source : RowSource) (P : RowSource → Type 0) → option_map RowsHeld o ≡ Some source

@@ -2,30 +2,33 @@
 use Rattle.std.proofs.Common.{◌≡◌, ℕ, false, ◌≤◌, length, List, Option, None, Some, Ok, Err, Result, inl, inr, refl, ap, subst, ◌∙◌, arith}
 use Rattle.std.specs.Prelude.{◌≢◌, ◌⊎◌, true, IfSome, IsSomeAnd, IsOkAnd}
 use Rattle.value_text.proofs.ListLemmas.{one_ok}
-use Rattle.outside_io.specs.Seen.{FolderSeen, SinkSeen, KeepsFiles, KeepsReadFaults, KeepsWriteFaults}
-use Rattle.cov_model.specs.Sound.{ModelView}
-use Rattle.definitions.specs.Limits.{ModelFile, most_bytes}
-use Rattle.definitions.specs.Settings.{Settings}
+use Rattle.outside_io.specs.believed.Seen.{FolderSeen, SinkSeen, KeepsFiles, KeepsReadFaults, KeepsWriteFaults}
+use Rattle.cov_model.specs.believed.Sound.{ModelView}
+use Rattle.definitions.specs.believed.Limits.{ModelFile, most_bytes}
+use Rattle.definitions.specs.believed.Settings.{Settings}
 use Rattle.model_lex.specs.declared.note.Note.{Note}
 use Rattle.model_lex.specs.declared.options.ModelOpts.{ModelOpts}
-use Rattle.refutation.specs.Proofs.{format_of}
+use Rattle.refutation.specs.believed.Proofs.{format_of}
 use Rattle.refutation.specs.declared.omissions.ProofForm.{ProofForm}
 use Rattle.refutation.specs.declared.omissions.ProofForm.TheVariants.{One, Two}
-use Rattle.type_check.specs.ModelOf.{IsModelOf}
+use Rattle.type_check.specs.believed.ModelOf.{IsModelOf}
 use Rattle.type_check.proofs.OneAnswer.{files_have_one_model}
-use Rattle.command_line.specs.Loading.{IsLoaded, IsOfReading}
-use Rattle.command_line.specs.Told.{end_status}
-use Rattle.command_line.specs.Words.{opts_of}
+use Rattle.command_line.specs.believed.Loading.{IsLoaded}
+use Rattle.command_line.specs.Loading.{IsOfReading}
+use Rattle.command_line.specs.believed.Told.{end_status}
+use Rattle.command_line.specs.believed.Words.{opts_of}
 use Rattle.command_line.specs.declared.files.FileKind.{FileKind}
 use Rattle.command_line.specs.declared.files.FileKind.TheVariants as kinds
 use Rattle.command_line.specs.declared.stop.Stop.{Stop}
 use Rattle.command_line.specs.declared.stop.Stop.TheVariants.{OutOfMemory, Spent, BadWord, BadModel, BadConstraint, BadRows, NoResult}
 use Rattle.command_line.specs.declared.stop.Stop.TheVariants.{BadResult, CannotRead, CannotWrite, CannotWriteReport, TooMany, TooLong}
 use Rattle.pict_cli.specs.declared.options.Opts.{Opts}
-use Rattle.pict_cli.specs.Ends.{CountsOut, CountsReads, CountsWrites, End, IsEarly, IsQuiet, Misworded, Moment, StaysStill, Stopped, Unanswered, Unprinted, Unread, Unwritten, Whole, end_of}
-use Rattle.pict_cli.specs.Modes.{RowSource, is_report, makes_suite, mode_beside, mode_in, mode_of, model_source, output_of, prints_rows, row_source}
+use Rattle.pict_cli.specs.believed.Ends.{CountsOut, CountsReads, CountsWrites, End, Misworded, Moment, Stopped, Unanswered, Unprinted, Unread, Unwritten, Whole, end_of}
+use Rattle.pict_cli.specs.Ends.{IsEarly, IsQuiet, StaysStill}
+use Rattle.pict_cli.specs.believed.Modes.{RowSource, is_report, mode_beside, mode_in, mode_of, model_source, output_of, prints_rows, row_source}
+use Rattle.pict_cli.specs.Modes.{makes_suite}
 use Rattle.pict_cli.specs.Options.{settings_seen}
-use Rattle.pict_cli.specs.Runs.{Ends, HasModel, HoldsWholeProof, IsStatus, PrintsSuite, RunsModel, SpellsModel, rows_of_run, told_proof}
+use Rattle.pict_cli.specs.believed.Runs.{Ends, HasModel, HoldsWholeProof, IsStatus, PrintsSuite, RunsModel, SpellsModel, rows_of_run, told_proof}
 use Rattle.pict_cli.specs.Steps.{Ran}
 use Rattle.pict_cli.proofs.FromModel.{from_model}
 use Rattle.pict_cli.proofs.Headline.{holds_whole_proof, prints_suite}

@@ -2,17 +2,18 @@
 use Rattle.std.proofs.Common.{◌≡◌, ℕ, List, [], ◌∷◌, map, length, Option, None, Some, Ok, Err, Result, refl, sym, ap, subst, ◌∙◌}
 use Rattle.std.specs.Prelude.{IfSome, IfErr, IsErrAnd, option_map}
 use Rattle.std.proofs.lemmas.List.{length-map}
-use Rattle.cov_model.specs.Sound.{ModelView}
+use Rattle.cov_model.specs.believed.Sound.{ModelView}
 use Rattle.definitions.specs.declared.effort.Effort.{Effort}
-use Rattle.definitions.specs.Growth.{growth}
-use Rattle.definitions.specs.Pairs.{pairs_of}
-use Rattle.definitions.specs.SuiteProof.{IsProofOfSuite}
+use Rattle.definitions.specs.believed.Growth.{growth}
+use Rattle.definitions.specs.believed.Pairs.{pairs_of}
+use Rattle.definitions.specs.believed.SuiteProof.{IsProofOfSuite}
 use Rattle.ipog_grow.specs.Suites.{IsSuiteOf}
 use Rattle.ipog_grow.specs.declared.suite.Suite.{Suite}
-use Rattle.refutation.specs.Proofs.{format_of, omission_meant}
+use Rattle.refutation.specs.believed.Proofs.{format_of}
+use Rattle.refutation.specs.Proofs.{omission_meant}
 use Rattle.refutation.specs.declared.omissions.Omission.{Omission}
 use Rattle.refutation.specs.declared.omissions.ProofForm.{ProofForm}
-use Rattle.definitions.specs.Statistics.{Statistics}
+use Rattle.definitions.specs.believed.Statistics.{Statistics}
 use Rattle.command_line.specs.declared.stop.Stop.{Stop}
 use Rattle.pict_cli.specs.Steps.{written}
 

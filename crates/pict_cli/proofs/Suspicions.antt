@@ -3,31 +3,31 @@ use Rattle.std.proofs.Common.{◌≡◌, ℕ, ◌<◌, ◌≤◌, List, map, len
 use Rattle.std.specs.Prelude.{if◌then◌else◌, option_map, IfSome}
 use Rattle.std.proofs.lemmas.Bool.{le-ltb, lt-ltb}
 use Rattle.std.proofs.lemmas.List.{append-nil}
-use Rattle.cov_model.specs.Sound.{ModelView}
-use Rattle.outside_io.specs.Files.{Files}
-use Rattle.definitions.specs.Settings.{Settings}
+use Rattle.cov_model.specs.believed.Sound.{ModelView}
+use Rattle.outside_io.specs.believed.Files.{Files}
+use Rattle.definitions.specs.believed.Settings.{Settings}
 use Rattle.model_lex.specs.declared.note.Note.{Note}
-use Rattle.definitions.specs.Limits as limits
-use Rattle.definitions.specs.Limits.{RowFile, most_bytes, most_counted}
+use Rattle.definitions.specs.believed.Limits as limits
+use Rattle.definitions.specs.believed.Limits.{RowFile, most_bytes, most_counted}
 use Rattle.row_text.specs.RowFiles.{suite_seen}
 use Rattle.row_text.specs.declared.rows_fault.RowsFault.TheVariants as rows_faults
-use Rattle.suspect_tuples.specs.ResultReading.{ResultReading, read_results}
+use Rattle.suspect_tuples.specs.believed.ResultReading.{ResultReading, read_results}
 use Rattle.suspect_tuples.specs.Results.{HoldsResults, result_fault_of}
-use Rattle.suspect_tuples.specs.Suspects as found
-use Rattle.suspect_tuples.specs.Suspects.{candidate_count, failing_rows}
+use Rattle.suspect_tuples.specs.believed.Suspects as found
+use Rattle.suspect_tuples.specs.believed.Suspects.{candidate_count, failing_rows}
 use Rattle.suspect_tuples.specs.Told.{candidates_of, suspects_of}
 use Rattle.suspect_tuples.specs.declared.result_file.ResultFile.{ResultFile}
 use Rattle.suspect_tuples.specs.declared.results_fault.ResultsFault.{ResultsFault}
 use Rattle.suspect_tuples.specs.declared.results_fault.ResultsFault.TheVariants as faults
-use Rattle.tuple_index.specs.PlanFault.{limit_passed, saturated}
-use Rattle.command_line.specs.Stops.{stop_of_plan}
+use Rattle.tuple_index.specs.believed.PlanFault.{limit_passed, saturated}
+use Rattle.command_line.specs.believed.Stops.{stop_of_plan}
 use Rattle.command_line.specs.declared.stop.Stop.{Stop}
 use Rattle.command_line.specs.declared.stop.Stop.TheVariants.{TooLong, TooMany}
 use Rattle.command_line.specs.declared.files.FileKind.TheVariants as kinds
 use Rattle.command_line.specs.declared.stop.Quantity.TheVariants.{SuspectCandidates}
-use Rattle.pict_cli.specs.Modes.{RowSource, RowsHeld, Suspect, makes_plan, mode_of, row_file_in, row_source, rows_beside, source_in}
-use Rattle.pict_cli.specs.RowSources.{or_result_stop, read_result_bytes, read_source}
-use Rattle.pict_cli.specs.Runs.{candidates_stop, limit_due, suite_in}
+use Rattle.pict_cli.specs.believed.Modes.{RowSource, RowsHeld, Suspect, makes_plan, mode_of, row_file_in, row_source, rows_beside, source_in}
+use Rattle.pict_cli.specs.believed.RowSources.{or_result_stop, read_result_bytes, read_source}
+use Rattle.pict_cli.specs.believed.Runs.{candidates_stop, limit_due, suite_in}
 use Rattle.pict_cli.specs.Steps.{HoldsResultsOf, IsDueOrNoMemory, StopsRows, StopsWork, is_due, is_refused, no_memory, no_room, stop_of_results_fault}
 use Rattle.pict_cli.proofs.Measured.{suite_rows}
 use Rattle.pict_cli.proofs.RowFiles.{source_held}

@@ -4,8 +4,8 @@ use Rattle.std.specs.Prelude.{filter_map}
 use Rattle.std.specs.List.{list_any}
 use Rattle.std.specs.Option.{option_map_or}
 use Rattle.std.proofs.lemmas.List.{take_more, drop_more}
-use Rattle.definitions.specs.Settings.{Setting, set, setting_of}
-use Rattle.definitions.specs.Words.{exclude_each_other, is_mark_word, has_equal_marks, set_by, is_faulty, first_faulty}
+use Rattle.definitions.specs.believed.Settings.{Setting, set, setting_of}
+use Rattle.definitions.specs.believed.Words.{exclude_each_other, is_mark_word, has_equal_marks, set_by, is_faulty, first_faulty}
 use Rattle.command_line.proofs.WordLemmas.{set_by-push, settings-push}
 use Rattle.pict_cli.specs.Options.{kind_of, kinds_of, joined_kinds, is_faulty_at}
 use Rattle.pict_cli.proofs.KindLemmas.{clash, excluded-kinds, kinds_of-push}

@@ -1,10 +1,6 @@
-pub mod Ends
-pub mod Making
-pub mod Modes
 pub mod Options
-pub mod Promises
 pub mod Ranges
-pub mod RowSources
-pub mod Runs
+pub mod Ends
+pub mod believed
+pub mod Modes
 pub mod Steps
-pub mod Words

@@ -2,16 +2,16 @@
 use Rattle.std.specs.Prelude.{◌≡◌, ℕ, ◌+◌, Bool, true, false, ◌&&◌, ◌||◌, List, [], ◌∷◌, filter_map, take, drop, slice_index_or}
 use Rattle.std.specs.List.{list_any}
 use Rattle.std.specs.Option.{option_map}
-use Rattle.definitions.specs.Settings as defined
-use Rattle.definitions.specs.Words.{Command, is_generating, is_measuring, is_of_a_file, is_faulty, set_by}
-use Rattle.pict_cli.specs.Modes as modes
+use Rattle.definitions.specs.believed.Settings as defined
+use Rattle.definitions.specs.believed.Words.{Command, is_generating, is_measuring, is_of_a_file, is_faulty, set_by}
+use Rattle.pict_cli.specs.believed.Modes as modes
 use Rattle.pict_cli.specs.declared.kinds.Kinds.{Kinds}
 use Rattle.pict_cli.specs.declared.modes.Mode.{Mode}
 use Rattle.pict_cli.specs.declared.modes.Mode.TheVariants as kinds
 use Rattle.pict_cli.specs.declared.modes.Output.{Output}
 use Rattle.pict_cli.specs.declared.modes.Output.TheVariants as outputs
 use Rattle.pict_cli.specs.declared.options.Opts.{Opts}
-use Rattle.refutation.specs.Proofs.{format_of}
+use Rattle.refutation.specs.believed.Proofs.{format_of}
 use Rattle.command_line.specs.Settings.{order_seen, shuffle_seen}
 
 -- all that is set

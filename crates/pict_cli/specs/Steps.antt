@@ -1,19 +1,19 @@
 -- What the steps of a run say of each other. (This project's rules.)
-use Rattle.std.specs.Prelude.{◌≡◌, ◌≢◌, ℕ, ◌⊎◌, List, ◌++◌, map, take, Option, Some, Result, Ok, Err, IfSome}
-use Rattle.outside_io.specs.Files.{Files, HoldsOldOrPrefix}
-use Rattle.outside_io.specs.Seen.{FolderSeen, KeepsFiles, KeepsWriteFaults, WriteFaultsRose}
-use Rattle.made_models.specs.MadeModel.{made_text}
-use Rattle.cov_model.specs.Sound.{ModelView}
-use Rattle.definitions.specs.ProofText.{proof_text}
-use Rattle.definitions.specs.RowReading.{RowMode, RowReading}
-use Rattle.definitions.specs.Settings.{Settings}
+use Rattle.std.specs.Prelude.{◌≡◌, ℕ, ◌⊎◌, List, ◌++◌, map, take, Option, Some, Result, Ok, Err, IfSome}
+use Rattle.outside_io.specs.believed.Files.{HoldsOldOrPrefix}
+use Rattle.outside_io.specs.believed.Seen.{FolderSeen, KeepsFiles, KeepsWriteFaults, WriteFaultsRose}
+use Rattle.cov_model.specs.believed.Sound.{ModelView}
+use Rattle.definitions.specs.believed.ProofText.{proof_text}
+use Rattle.definitions.specs.believed.RowReading.{RowMode, RowReading}
+use Rattle.definitions.specs.believed.Settings.{Settings}
 use Rattle.model_lex.specs.declared.note.Note.{Note}
-use Rattle.refutation.specs.Proofs.{format_of, omission_meant}
+use Rattle.refutation.specs.believed.Proofs.{format_of}
+use Rattle.refutation.specs.Proofs.{omission_meant}
 use Rattle.refutation.specs.declared.omissions.Omission.{Omission}
 use Rattle.refutation.specs.declared.omissions.ProofForm.{ProofForm}
 use Rattle.row_text.specs.Readings.{HoldsReading}
 use Rattle.row_text.specs.declared.row_file.RowFile.{RowFile}
-use Rattle.suspect_tuples.specs.ResultReading.{ResultReading}
+use Rattle.suspect_tuples.specs.believed.ResultReading.{ResultReading}
 use Rattle.suspect_tuples.specs.Results.{HoldsResults}
 use Rattle.suspect_tuples.specs.declared.result_file.ResultFile.{ResultFile}
 use Rattle.suspect_tuples.specs.declared.results_fault.ResultsFault.{ResultsFault}
@@ -22,12 +22,14 @@ use Rattle.command_line.specs.Stops.{stop_of_rows}
 use Rattle.command_line.specs.declared.files.FileKind.TheVariants as kinds
 use Rattle.command_line.specs.declared.stop.Stop.{Stop}
 use Rattle.command_line.specs.declared.stop.Stop.TheVariants.{BadResult, CannotRead, CannotWrite, NoResult, OutOfMemory}
-use Rattle.command_line.specs.Told.{end_status}
-use Rattle.pict_cli.specs.Ends.{Leaves, LeavesAll, Moment, Stopped, end_of}
-use Rattle.pict_cli.specs.Making.{EndsFrom}
-use Rattle.pict_cli.specs.Modes.{RowSource, model_source, row_source}
-use Rattle.pict_cli.specs.RowSources.{read_result_bytes, read_row_bytes, read_source, without_results}
-use Rattle.pict_cli.specs.Runs.{Ends, notes_behind}
+use Rattle.command_line.specs.believed.Told.{end_status}
+use Rattle.pict_cli.specs.Ends.{Leaves, LeavesAll}
+use Rattle.pict_cli.specs.believed.Ends.{Moment, Stopped, end_of}
+use Rattle.pict_cli.specs.believed.Making.{EndsFrom}
+use Rattle.pict_cli.specs.believed.Modes.{RowSource, model_source, row_source}
+use Rattle.pict_cli.specs.believed.RowSources.{read_result_bytes, read_row_bytes, read_source, without_results}
+use Rattle.pict_cli.specs.believed.Runs.{Ends, notes_behind}
+use Rattle.pict_cli.specs.believed.Steps.{HoldsMade}
 
 -- the text of a proof of this form with these omissions
 abbrev pub written : ProofForm → List Omission → List ℕ
@@ -84,12 +86,6 @@ pub data StopsMaking (name made : List ℕ) (before after : FolderSeen) (stop : 
 pub record RanOn (bytes : Option (Option (List ℕ))) (s : Settings) (seed : ℕ) (name : List ℕ) (before after : Moment) (notes row_notes : List Note) (end : Result (Unit {0}) Stop) : Type 0 where
   pub ends : (held : Option (List ℕ)) → bytes ≡ Some held → Ends s seed held (row_source s before.folder.files) notes row_notes before after end
   pub leaves : Leaves s name before after (end_of end)
-
--- what the folder tells of the model file, after a run that made its model: with every status but those of want of memory
--- and of a fault of writing the file holds the made model, unless the proof was written over it
-abbrev pub HoldsMade : Settings → ℕ → List ℕ → Files → ℕ → Type 0
-HoldsMade s n name files status =
-    status ≢ 1 → status ≢ 8 → (status ≡ 0 → s.proof ≢ Some name) → IfSome (files name) (λ held. held ≡ Some (made_text n))
 
 -- a run on the model file of this name ended so, from one moment to another
 pub record Ran (s : Settings) (seed : ℕ) (name : List ℕ) (before after : Moment) (notes row_notes : List Note) (end : Result (Unit {0}) Stop) : Type 0 where

@@ -1,8 +1,8 @@
 ghost use Rattle.std.specs.Prelude.{◌≡◌, ◌≤◌, ◌^◌, ℕ, [], map, length, All, Option, None, Some, List, option_map, IfOk, IfErr, OnOk};
 ghost use Rattle.cov_model.specs.Fits.{FitsModel};
-ghost use Rattle.cov_model.specs.Sound.{ModelView};
+ghost use Rattle.cov_model.specs.believed.Sound.{ModelView};
 ghost use Rattle.definitions.specs.declared.effort.Effort.TheVariants.{Full};
-ghost use Rattle.definitions.specs.Settings.{Settings};
+ghost use Rattle.definitions.specs.believed.Settings.{Settings};
 ghost use Rattle.feasibility.specs.Ends.{EndsBy};
 ghost use Rattle.ipog_grow.specs.Suites.{IsSuiteOf};
 ghost use Rattle.row_text.specs.RowFiles.{seeds_seen};
@@ -10,7 +10,7 @@ ghost use Rattle.tuple_index.specs.Plan.{plan_of};
 ghost use Rattle.command_line.specs.Settings.{shuffle_seen};
 ghost use Rattle.pict_cli.specs.Options.{settings_seen};
 ghost use Rattle.pict_cli.specs.Ranges.{FitRun};
-ghost use Rattle.pict_cli.specs.Runs.{orders_of, growth_over, shuffled_by, spent_at};
+ghost use Rattle.pict_cli.specs.believed.Runs.{orders_of, growth_over, shuffled_by, spent_at};
 ghost use Rattle.pict_cli.specs.Steps.{IsDueOrNoMemory};
 
 use crate::options::Opts;

@@ -1,11 +1,11 @@
 ghost use Rattle.std.specs.Prelude.{◌≡◌, ◌≤◌, length, Some, IfOk, IfErr, IfSome};
-ghost use Rattle.outside_io.specs.Seen.{KeepsOtherFiles, KeepsReadFaults, KeepsWriteFaults};
-ghost use Rattle.cov_model.specs.Sound.{IsSound};
-ghost use Rattle.made_models.specs.MadeModel.{made_text};
-ghost use Rattle.definitions.specs.Limits.{ModelFile, most_bytes};
+ghost use Rattle.outside_io.specs.believed.Seen.{KeepsOtherFiles, KeepsReadFaults, KeepsWriteFaults};
+ghost use Rattle.cov_model.specs.believed.Sound.{IsSound};
+ghost use Rattle.made_models.specs.believed.MadeModel.{made_text};
+ghost use Rattle.definitions.specs.believed.Limits.{ModelFile, most_bytes};
 ghost use Rattle.model_parse.specs.RawModels.{AreOpts};
-ghost use Rattle.command_line.specs.Loading.{IsLoaded, StopsReading};
-ghost use Rattle.pict_cli.specs.Ends.{Stopped, end_of};
+ghost use Rattle.command_line.specs.believed.Loading.{IsLoaded, StopsReading};
+ghost use Rattle.pict_cli.specs.believed.Ends.{Stopped, end_of};
 ghost use Rattle.pict_cli.specs.Steps.{StopsMaking};
 
 use command_line::{FileKind, Stop};

@@ -1,17 +1,18 @@
 ghost use Rattle.std.specs.Prelude.{◌≡◌, ◌≤◌, ◌^◌, ℕ, List, [], length, All, Option, Some, None, Err, IfOk, IfErr, OnOk};
 ghost use Rattle.cov_model.specs.Fits.{FitsModel};
-ghost use Rattle.definitions.specs.Figures.{figures};
-ghost use Rattle.definitions.specs.Search.{first_measured_over};
-ghost use Rattle.definitions.specs.Statistics.{figures_text};
+ghost use Rattle.definitions.specs.believed.Figures.{figures};
+ghost use Rattle.definitions.specs.believed.Search.{first_measured_over};
+ghost use Rattle.definitions.specs.believed.Statistics.{figures_text};
 ghost use Rattle.row_text.specs.RowFiles.{suite_seen};
 ghost use Rattle.row_text.specs.Told.{figures_seen};
 ghost use Rattle.tuple_index.specs.Plan.{plan_of};
-ghost use Rattle.tuple_index.specs.PlanFault.{limit_passed};
-ghost use Rattle.pict_cli.specs.Ends.{CountsOut, Leaves, Prints, end_of, moment};
-ghost use Rattle.pict_cli.specs.Modes.{Measure, RowSource, mode_of, row_source};
+ghost use Rattle.tuple_index.specs.believed.PlanFault.{limit_passed};
+ghost use Rattle.pict_cli.specs.believed.Ends.{CountsOut, Prints, end_of, moment};
+ghost use Rattle.pict_cli.specs.Ends.{Leaves};
+ghost use Rattle.pict_cli.specs.believed.Modes.{Measure, RowSource, mode_of, row_source};
 ghost use Rattle.pict_cli.specs.Options.{settings_seen};
 ghost use Rattle.pict_cli.specs.Ranges.{FitRun};
-ghost use Rattle.pict_cli.specs.Runs.{RunsModel, spent_at};
+ghost use Rattle.pict_cli.specs.believed.Runs.{RunsModel, spent_at};
 ghost use Rattle.pict_cli.specs.Steps.{IsDueOrNoMemory};
 
 use crate::growing::stop_of_search;

@@ -1,5 +1,5 @@
 ghost use Rattle.std.specs.Prelude.{◌≡◌, option_map};
-ghost use Rattle.pict_cli.specs.Modes.{mode_in, mode_of, output_of, row_file, rows_beside};
+ghost use Rattle.pict_cli.specs.believed.Modes.{mode_in, mode_of, output_of, row_file, rows_beside};
 ghost use Rattle.pict_cli.specs.Options.{mode_seen, output_seen, settings_seen};
 
 use crate::options::Opts;

@@ -1,10 +1,12 @@
 ghost use Rattle.std.specs.Prelude.{◌≡◌, ◌+◌, ◌<◌, [], length, take, Ok, MatchResult, IfSome, None, is_none, option_map};
-ghost use Rattle.definitions.specs.Settings as defined;
+ghost use Rattle.definitions.specs.believed.Settings as defined;
 ghost use Rattle.definitions.specs.Words as reading;
+ghost use Rattle.definitions.specs.believed.Words as believed_reading;
 ghost use Rattle.command_line.specs.Settings.{setting_seen};
-ghost use Rattle.command_line.specs.Words.{HasFault, TellsFault, texts};
+ghost use Rattle.command_line.specs.Words.{HasFault};
+ghost use Rattle.command_line.specs.believed.Words.{TellsFault, texts};
 ghost use Rattle.pict_cli.specs.Options.{settings_seen, command_seen, IsReading, is_faulty_at};
-ghost use Rattle.pict_cli.specs.Runs.{file_names};
+ghost use Rattle.pict_cli.specs.believed.Runs.{file_names};
 
 use crate::kinds::Kinds;
 use command_line::{
@@ -170,9 +172,9 @@ impl<'w> Reading<'w> {
 // What options ask for, of this model file; the first of them is the second word.
 fn read_options<'w>(model: &'w str, options: &'w [String]) -> Result<Opts<'w>, WordFault>
     ensures { MatchResult result
-        (λ opts. (reading.first_faulty 2 [] (texts options.now) ≡ None) × (opts.model.now ≡ model.now)
-        × (settings_seen opts ≡ reading.set_by (texts options.now)))
-        (λ fault. HasFault (reading.first_faulty 2 [] (texts options.now)) fault.index) }
+        (λ opts. (believed_reading.first_faulty 2 [] (texts options.now) ≡ None) × (opts.model.now ≡ model.now)
+        × (settings_seen opts ≡ believed_reading.set_by (texts options.now)))
+        (λ fault. HasFault (believed_reading.first_faulty 2 [] (texts options.now)) fault.index) }
 {
     let mut reading = Reading {
         opts: Opts::of(model),
@@ -196,8 +198,8 @@ fn read_options<'w>(model: &'w str, options: &'w [String]) -> Result<Opts<'w>, W
 /// The first word that has no reading; the first where there is none.
 pub fn read_words<'w>(words: &'w [String]) -> Result<Opts<'w>, WordFault>
     ensures { MatchResult result
-        (λ opts. reading.read_words (texts words.now) ≡ Ok (command_seen opts))
-        (λ fault. TellsFault (reading.read_words (texts words.now)) fault.index) }
+        (λ opts. believed_reading.read_words (texts words.now) ≡ Ok (command_seen opts))
+        (λ fault. TellsFault (believed_reading.read_words (texts words.now)) fault.index) }
 {
     match words {
         [name, options @ ..] if !name.is_empty() => read_options(name.as_str(), options),

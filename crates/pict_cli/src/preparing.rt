@@ -1,13 +1,14 @@
 ghost use Rattle.std.specs.Prelude.{◌≡◌, ◌≤◌, ◌^◌, true, ℕ, List, [], All, Some, None, Err, length, IfOk, IfErr, OnOk};
-ghost use Rattle.outside_io.specs.Seen.{KeepsFiles, KeepsReadFaults, KeepsWriteFaults};
+ghost use Rattle.outside_io.specs.believed.Seen.{KeepsFiles, KeepsReadFaults, KeepsWriteFaults};
 ghost use Rattle.cov_model.specs.Fits.{FitsModel};
 ghost use Rattle.tuple_index.specs.Plan.{plan_of};
-ghost use Rattle.tuple_index.specs.PlanFault.{limit_passed};
+ghost use Rattle.tuple_index.specs.believed.PlanFault.{limit_passed};
 ghost use Rattle.row_text.specs.Readings.{mode_seen};
-ghost use Rattle.pict_cli.specs.Ends.{CountsReads, end_of};
-ghost use Rattle.pict_cli.specs.Modes.{RowSource, makes_plan, mode_of, row_mode, row_source};
+ghost use Rattle.pict_cli.specs.believed.Ends.{CountsReads, end_of};
+ghost use Rattle.pict_cli.specs.believed.Modes.{RowSource, makes_plan, mode_of, row_source};
+ghost use Rattle.pict_cli.specs.Modes.{row_mode};
 ghost use Rattle.pict_cli.specs.Options.{settings_seen};
-ghost use Rattle.pict_cli.specs.Runs.{EndsBehind};
+ghost use Rattle.pict_cli.specs.believed.Runs.{EndsBehind};
 ghost use Rattle.pict_cli.specs.Steps.{HoldsRows, IsOfRows};
 
 use crate::options::Opts;

@@ -1,12 +1,13 @@
 ghost use Rattle.std.specs.Prelude.{◌≡◌, ◌≢◌, ◌⊎◌, ℕ, List, Option, true, None, All, IfErr, IfSome};
-ghost use Rattle.outside_io.specs.Seen.{SinkSeen};
-ghost use Rattle.outside_io.specs.Puts.{Puts};
-ghost use Rattle.cov_model.specs.Valid.{is_row};
+ghost use Rattle.outside_io.specs.believed.Seen.{SinkSeen};
+ghost use Rattle.outside_io.specs.believed.Puts.{Puts};
+ghost use Rattle.cov_model.specs.believed.Valid.{is_row};
 ghost use Rattle.row_text.specs.Told.{statistics_seen};
 ghost use Rattle.row_text.specs.Turns.{AreMadeFor};
-ghost use Rattle.pict_cli.specs.Ends.{CountsOut, Leaves, Prints, end_of, moment};
+ghost use Rattle.pict_cli.specs.believed.Ends.{CountsOut, Prints, end_of, moment};
+ghost use Rattle.pict_cli.specs.Ends.{Leaves};
 ghost use Rattle.pict_cli.specs.Options.{output_seen, settings_seen};
-ghost use Rattle.pict_cli.specs.Runs.{IsProof, WritesProof, suite_text};
+ghost use Rattle.pict_cli.specs.believed.Runs.{IsProof, WritesProof, suite_text};
 
 use crate::modes::Output;
 use crate::options::Opts;

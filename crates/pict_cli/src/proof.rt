@@ -1,6 +1,6 @@
 ghost use Rattle.std.specs.Prelude.{◌≡◌, Some, All, map, length, IfOk, IfErr, IfSome, OnOk};
-ghost use Rattle.outside_io.specs.Files.{HoldsOldOrPrefix};
-ghost use Rattle.outside_io.specs.Seen.{KeepsOtherFiles, KeepsReadFaults, KeepsWriteFaults, WriteFaultsRose};
+ghost use Rattle.outside_io.specs.believed.Files.{HoldsOldOrPrefix};
+ghost use Rattle.outside_io.specs.believed.Seen.{KeepsOtherFiles, KeepsReadFaults, KeepsWriteFaults, WriteFaultsRose};
 ghost use Rattle.pict_cli.specs.Steps.{written};
 
 use crate::options::Opts;

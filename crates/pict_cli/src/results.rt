@@ -1,8 +1,8 @@
 ghost use Rattle.std.specs.Prelude.{◌≡◌, ◌≢◌, List, Option, Some, Err, ℕ, IfOk, IfErr};
-ghost use Rattle.outside_io.specs.Seen.{KeepsFiles, KeepsReadFaults, KeepsWriteFaults, ReadFaultsRose};
+ghost use Rattle.outside_io.specs.believed.Seen.{KeepsFiles, KeepsReadFaults, KeepsWriteFaults, ReadFaultsRose};
 ghost use Rattle.suspect_tuples.specs.Results.{AreResultsOf};
-ghost use Rattle.pict_cli.specs.Modes.{RowsHeld};
-ghost use Rattle.pict_cli.specs.RowSources.{read_result_bytes};
+ghost use Rattle.pict_cli.specs.believed.Modes.{RowsHeld};
+ghost use Rattle.pict_cli.specs.believed.RowSources.{read_result_bytes};
 ghost use Rattle.pict_cli.specs.Steps.{HoldsResultsOf, IsOfRows, StopsRows, stop_of_results_fault};
 
 use command_line::{FileKind, Stop, read_whole};

@@ -1,8 +1,8 @@
 ghost use Rattle.std.specs.Prelude.{◌≡◌, ◌≢◌, ◌⊎◌, ◌≤◌, ◌^◌, ℕ, List, Option, Some, Err, All, map, length, option_map, IfOk, IfErr, IsSomeAnd};
-ghost use Rattle.outside_io.specs.Seen.{KeepsFiles, KeepsReadFaults, KeepsWriteFaults, ReadFaultsRose};
+ghost use Rattle.outside_io.specs.believed.Seen.{KeepsFiles, KeepsReadFaults, KeepsWriteFaults, ReadFaultsRose};
 ghost use Rattle.row_text.specs.Readings.{IsFileOf, mode_seen};
-ghost use Rattle.pict_cli.specs.Modes.{RowSource, RowsHeld, source_in};
-ghost use Rattle.pict_cli.specs.RowSources.{read_row_bytes};
+ghost use Rattle.pict_cli.specs.believed.Modes.{RowSource, RowsHeld, source_in};
+ghost use Rattle.pict_cli.specs.believed.RowSources.{read_row_bytes};
 ghost use Rattle.pict_cli.specs.Steps.{HoldsRows, IsOfRows, StopsRows};
 
 use command_line::{FileKind, Stop, read_whole};

@@ -1,18 +1,18 @@
 ghost use Rattle.std.specs.Prelude.{◌≡◌, ◌≤◌, ◌++◌, ◌+◌, ◌^◌, ℕ, true, length, map, take, sum, All, None, Some, IfOk, IfErr, IfSome, OnOk, option_map, slice_index_or};
 ghost use Rattle.cov_model.specs.Fits.{FitsModel};
-ghost use Rattle.cov_model.specs.Valid.{is_row};
-ghost use Rattle.definitions.specs.Statistics.{statistics};
+ghost use Rattle.cov_model.specs.believed.Valid.{is_row};
+ghost use Rattle.definitions.specs.believed.Statistics.{statistics};
 ghost use Rattle.ipog_grow.specs.Suites.{IsSuiteOf};
 ghost use Rattle.row_text.specs.RowFiles.{seeds_seen};
 ghost use Rattle.row_text.specs.Told.{statistics_seen};
 ghost use Rattle.row_text.specs.Turns.{AreMadeFor};
 ghost use Rattle.tuple_index.specs.Kept.{IsKept};
 ghost use Rattle.tuple_index.specs.Plan.{plan_of};
-ghost use Rattle.tuple_index.specs.PlanFault.{limit_passed};
+ghost use Rattle.tuple_index.specs.believed.PlanFault.{limit_passed};
 ghost use Rattle.pict_cli.specs.Options.{settings_seen};
 ghost use Rattle.pict_cli.specs.Ranges.{FitRun};
-ghost use Rattle.pict_cli.specs.RowSources.{dropped_note, dropped_notes};
-ghost use Rattle.pict_cli.specs.Runs.{IsProof, growth_of, orders_of, growth_over, spent_at};
+ghost use Rattle.pict_cli.specs.believed.RowSources.{dropped_note, dropped_notes};
+ghost use Rattle.pict_cli.specs.believed.Runs.{IsProof, growth_of, orders_of, growth_over, spent_at};
 ghost use Rattle.pict_cli.specs.Steps.{StopsWork};
 
 use crate::growing::grow;

@@ -1,12 +1,13 @@
 ghost use Rattle.std.specs.Prelude.{◌≡◌, ℕ, List, [], None, Some, Err, Option, IfOk, IfErr, OnOk};
 ghost use Rattle.suspect_tuples.specs.Results.{AreResultsOf};
-ghost use Rattle.suspect_tuples.specs.SuspectsText.{suspects_text};
+ghost use Rattle.suspect_tuples.specs.believed.SuspectsText.{suspects_text};
 ghost use Rattle.suspect_tuples.specs.Told.{candidates_of, suspects_of, suspects_seen};
-ghost use Rattle.pict_cli.specs.Ends.{CountsOut, Leaves, Prints, Stopped, end_of, moment};
-ghost use Rattle.pict_cli.specs.Modes.{RowSource, Suspect, mode_of, row_source};
+ghost use Rattle.pict_cli.specs.believed.Ends.{CountsOut, Prints, Stopped, end_of, moment};
+ghost use Rattle.pict_cli.specs.Ends.{Leaves};
+ghost use Rattle.pict_cli.specs.believed.Modes.{RowSource, Suspect, mode_of, row_source};
 ghost use Rattle.pict_cli.specs.Options.{settings_seen};
 ghost use Rattle.pict_cli.specs.Ranges.{FitRun};
-ghost use Rattle.pict_cli.specs.Runs.{RunsModel, candidates_stop};
+ghost use Rattle.pict_cli.specs.believed.Runs.{RunsModel, candidates_stop};
 ghost use Rattle.pict_cli.specs.Steps.{IsDueOrNoMemory};
 
 use crate::options::Opts;

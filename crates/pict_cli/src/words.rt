@@ -1,8 +1,8 @@
 ghost use Rattle.std.specs.Prelude.{◌≡◌, Ok, MatchResult};
 ghost use Rattle.pict_cli.specs.Options.{settings_seen};
 ghost use Rattle.pict_cli.specs.Ranges.{FitRun};
-ghost use Rattle.command_line.specs.Words.{texts};
-ghost use Rattle.pict_cli.specs.Words.{IsWordFault, asked_by, model_file};
+ghost use Rattle.command_line.specs.believed.Words.{texts};
+ghost use Rattle.pict_cli.specs.believed.Words.{IsWordFault, asked_by, model_file};
 
 use crate::options::{Opts, WordFault, read_words};
 

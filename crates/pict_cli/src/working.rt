@@ -1,9 +1,10 @@
 ghost use Rattle.std.specs.Prelude.{◌≡◌, ℕ, List, [], Some};
-ghost use Rattle.pict_cli.specs.Ends.{Leaves, end_of, moment};
-ghost use Rattle.pict_cli.specs.Modes.{RowSource, row_source};
+ghost use Rattle.pict_cli.specs.Ends.{Leaves};
+ghost use Rattle.pict_cli.specs.believed.Ends.{end_of, moment};
+ghost use Rattle.pict_cli.specs.believed.Modes.{RowSource, row_source};
 ghost use Rattle.pict_cli.specs.Options.{settings_seen};
 ghost use Rattle.pict_cli.specs.Ranges.{FitRun};
-ghost use Rattle.pict_cli.specs.Runs.{RunsModel};
+ghost use Rattle.pict_cli.specs.believed.Runs.{RunsModel};
 
 use crate::generating::run_generating;
 use crate::measuring::run_measuring;

@@ -1,7 +1,7 @@
 //! The orders in which values are taken, the faults of rows, and a constraint that is compiled.
 
 ghost use Rattle.std.specs.Prelude.{◌≡◌, true, All, IfOk, length};
-ghost use Rattle.cov_model.specs.Valid.{is_row};
+ghost use Rattle.cov_model.specs.believed.Valid.{is_row};
 
 use compiled_rules::CompiledRules;
 use cov_model::{Cells, Prefs, RowWhy, Rows, TestModel, Truth, Tuple, ValueNo};

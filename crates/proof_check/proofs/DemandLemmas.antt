@@ -5,10 +5,10 @@ use Rattle.std.specs.List.{count_by}
 use Rattle.std.specs.List.Sorted.{IsStrictlySortedBy}
 use Rattle.std.proofs.lemmas.List.{length-map}
 use Rattle.std.proofs.lemmas.Option.{same_Some, slice_get-get_or, slice_get_within}
-use Rattle.cov_model.specs.Meaning.{value_at}
-use Rattle.cov_model.specs.Sound.{ModelView, param_at}
+use Rattle.cov_model.specs.believed.Meaning.{value_at}
+use Rattle.cov_model.specs.believed.Sound.{ModelView, param_at}
 use Rattle.cov_model.specs.Tuples.{IsRising}
-use Rattle.definitions.specs.Demand.{choices, rising, demanded_sets, demanded_tuples, tuples_of}
+use Rattle.definitions.specs.believed.Demand.{choices, rising, demanded_sets, demanded_tuples, tuples_of}
 use Rattle.definitions.specs.Pairs.{cells_of}
 use Rattle.definitions.proofs.Distinct.{NoRepeats, repeats_flat}
 use Rattle.definitions.proofs.Members.{Has, member_of_all, of_flat, of_map, has_place}

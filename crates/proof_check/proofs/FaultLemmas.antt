@@ -1,15 +1,16 @@
 -- The refusal of a report as the fault of a check, and the answer for a model as that for its file.
 use Rattle.std.proofs.Common.{◌≡◌, ℕ, List, None, refl}
 use Rattle.std.specs.Prelude.{Result, Ok, Err, IfSome}
-use Rattle.cov_model.specs.Sound.{ModelView}
-use Rattle.definitions.specs.RowReading as readings
+use Rattle.cov_model.specs.believed.Sound.{ModelView}
+use Rattle.definitions.specs.believed.RowReading as readings
 use Rattle.model_lex.specs.declared.options.ModelOpts.{ModelOpts}
 use Rattle.row_text.specs.Readings.{fault_of}
 use Rattle.row_text.specs.declared.rows_fault.RowsFault.{RowsFault}
 use Rattle.row_text.specs.declared.rows_fault.RowsFault.TheVariants.{NoHeader, Twice, Missing, TooManyRows, Width, NoMemory}
-use Rattle.tuple_index.specs.PlanFault.{limit_passed}
+use Rattle.tuple_index.specs.believed.PlanFault.{limit_passed}
 use Rattle.proof_check.specs.CheckSteps.{IsModelCheckOf}
-use Rattle.proof_check.specs.Checks.{IsCheckOf, Spells, report_of}
+use Rattle.proof_check.specs.Checks.{IsCheckOf}
+use Rattle.proof_check.specs.believed.Checks.{Spells, report_of}
 use Rattle.proof_check.specs.Faults.{fault_of_rows}
 use Rattle.proof_check.specs.declared.verdict.Verdict.{Verdict}
 use Rattle.proof_check.specs.declared.verdict.CheckFault.{CheckFault}

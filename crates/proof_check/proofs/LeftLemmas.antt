@@ -6,10 +6,10 @@ use Rattle.std.proofs.lemmas.Bool.{cases_eq, false_from_ne_true}
 use Rattle.std.proofs.lemmas.Option.{same_Some, slice_get_within}
 use Rattle.std.proofs.lemmas.List.{get_or-replicate, get_or-set_other, get_or-set_same, length-replicate, length-set, map-append, take_more}
 use Rattle.std.proofs.lemmas.List.Folds.{list_any-append}
-use Rattle.cov_model.specs.Sound.{ModelView}
-use Rattle.definitions.specs.Demand.{demanded_tuples}
+use Rattle.cov_model.specs.believed.Sound.{ModelView}
+use Rattle.definitions.specs.believed.Demand.{demanded_tuples}
 use Rattle.definitions.specs.Pairs.{cells_of}
-use Rattle.definitions.specs.Seeds.{is_same_row}
+use Rattle.definitions.specs.believed.Seeds.{is_same_row}
 use Rattle.definitions.proofs.PartialRowLemmas.{same-refl, same_row_is}
 use Rattle.refutation.specs.Checking.{tuples_of}
 use Rattle.refutation.specs.declared.omissions.Omission.{Omission}

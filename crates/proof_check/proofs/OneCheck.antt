@@ -3,18 +3,19 @@ use Rattle.std.proofs.Common.{◌≡◌, ℕ, List, Option, Some, None, is_some,
 use Rattle.std.specs.Prelude.{◌≢◌, Result, Ok, Err}
 use Rattle.std.proofs.lemmas.Bool.{false≢true}
 use Rattle.std.proofs.lemmas.Option.{same_Some}
-use Rattle.cov_model.specs.Sound.{ModelView}
-use Rattle.definitions.specs.RowReading as readings
-use Rattle.definitions.specs.Verdict.{verdict}
+use Rattle.cov_model.specs.believed.Sound.{ModelView}
+use Rattle.definitions.specs.believed.RowReading as readings
+use Rattle.definitions.specs.believed.Verdict.{verdict}
 use Rattle.model_lex.specs.declared.options.ModelOpts.{ModelOpts}
 use Rattle.row_text.specs.Readings.{fault_of}
 use Rattle.row_text.specs.declared.rows_fault.RowsFault.{RowsFault}
 use Rattle.row_text.specs.declared.rows_fault.RowsFault.TheVariants as files
-use Rattle.tuple_index.specs.PlanFault.{limit_passed}
+use Rattle.tuple_index.specs.believed.PlanFault.{limit_passed}
 use Rattle.tuple_index.specs.declared.fault.PlanFault.{PlanFault}
-use Rattle.type_check.specs.ModelOf.{Answer}
+use Rattle.type_check.specs.believed.ModelOf.{Answer}
 use Rattle.type_check.proofs.OneAnswer.{files_have_one_answer}
-use Rattle.proof_check.specs.Checks.{IsCheckOf, report_of, verdict_given}
+use Rattle.proof_check.specs.Checks.{IsCheckOf}
+use Rattle.proof_check.specs.believed.Checks.{report_of, verdict_given}
 use Rattle.proof_check.specs.Laws.{ChecksHaveOneAnswer}
 use Rattle.proof_check.specs.declared.verdict.Verdict.{Verdict}
 use Rattle.proof_check.specs.declared.verdict.CheckFault.{CheckFault}

@@ -8,10 +8,10 @@ use Rattle.std.proofs.lemmas.List.{get_or-set_other, get_or-set_same, get_or_def
 use Rattle.std.proofs.lemmas.List.FromFn.{get_or-map-range_with_len, length-map-range_with_len}
 use Rattle.std.proofs.lemmas.List.Sums.{sum_by-cons}
 use Rattle.value_text.proofs.ListLemmas.{none_at}
-use Rattle.cov_model.specs.Meaning.{value_at}
-use Rattle.cov_model.specs.Slices.{negative_values, value_numbers}
-use Rattle.cov_model.specs.Sound.{ModelView, param_at}
-use Rattle.definitions.specs.Demand.{is_among}
+use Rattle.cov_model.specs.believed.Meaning.{value_at}
+use Rattle.cov_model.specs.believed.Slices.{negative_values, value_numbers}
+use Rattle.cov_model.specs.believed.Sound.{ModelView, param_at}
+use Rattle.definitions.specs.believed.Demand.{is_among}
 use Rattle.definitions.specs.Pairs.{cells_of}
 use Rattle.definitions.proofs.Members.{Has, among_has, has_filter, of_among, of_filter, same_answer}
 use Rattle.definitions.proofs.SliceLemmas.{has_numbers}

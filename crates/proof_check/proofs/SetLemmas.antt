@@ -6,7 +6,7 @@ use Rattle.std.proofs.lemmas.Bool.{cases_lt, false≢true}
 use Rattle.std.proofs.lemmas.Cmp.{nat_list_cmp_total, tied_itself}
 use Rattle.std.proofs.lemmas.List.Elements.{All-from_recursion}
 use Rattle.cov_model.specs.Tuples.{IsRising}
-use Rattle.definitions.specs.Demand.{is_among}
+use Rattle.definitions.specs.believed.Demand.{is_among}
 use Rattle.definitions.proofs.Members.{Has, among_has, of_among, same_answer}
 use Rattle.definitions.proofs.SetOrder.{flipped, lex}
 use Rattle.tuple_index.specs.Places.{RisesFrom}

@@ -1,8 +1,8 @@
 -- The omissions of a proof, one after another.
 use Rattle.std.proofs.Common.{ℕ, ◌+◌, List, take, drop, Option}
-use Rattle.cov_model.specs.Sound.{ModelView}
-use Rattle.definitions.specs.Refutation.{first_unrefuted}
-use Rattle.definitions.specs.Verdict.{as_cells}
+use Rattle.cov_model.specs.believed.Sound.{ModelView}
+use Rattle.definitions.specs.believed.Refutation.{first_unrefuted}
+use Rattle.definitions.specs.believed.Verdict.{as_cells}
 use Rattle.refutation.specs.Checking.{tuples_of}
 use Rattle.refutation.specs.Reading.{omissions_meant}
 use Rattle.refutation.specs.declared.omissions.Omission.{Omission}

@@ -4,12 +4,12 @@ use Rattle.std.specs.Prelude.{All, slice_get, sum}
 use Rattle.std.specs.List.{range_with_len}
 use Rattle.std.proofs.lemmas.Bool.{cases_eq, eq-eqb, ne_eqb}
 use Rattle.std.proofs.lemmas.List.{append-nil, drop_all, get_or-map}
-use Rattle.cov_model.specs.Sound.{ModelView}
-use Rattle.definitions.specs.Pairs.{pairs_from, pairs_of}
+use Rattle.cov_model.specs.believed.Sound.{ModelView}
+use Rattle.definitions.specs.believed.Pairs.{pairs_from, pairs_of}
 use Rattle.tuple_index.specs.Plan.{IsChoice, PlanView, plan_of, set_at, tuple_cells, value_given}
 use Rattle.tuple_index.proofs.RankLemmas.{choice_long}
-use Rattle.cov_model.specs.Slices.{positive_values}
-use Rattle.definitions.specs.Demand.{demanded_sets, demanded_tuples, tuples_of}
+use Rattle.cov_model.specs.believed.Slices.{positive_values}
+use Rattle.definitions.specs.believed.Demand.{demanded_sets, demanded_tuples, tuples_of}
 use Rattle.std.proofs.lemmas.Option.{same_Some, slice_get-get_or}
 use Rattle.std.proofs.lemmas.List.FromFn.{length-map-range_with_len}
 use Rattle.cov_model.specs.Tuples.{IsRising}

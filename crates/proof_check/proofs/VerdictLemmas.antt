@@ -7,19 +7,21 @@ use Rattle.std.proofs.Math.Bool.{and_comm}
 use Rattle.std.proofs.lemmas.List.{get_or-map}
 use Rattle.std.proofs.lemmas.Option.{slice_get-get_or}
 use Rattle.std.proofs.lemmas.Simd.{map-map}
-use Rattle.cov_model.specs.Rows.{is_complete}
-use Rattle.cov_model.specs.Sound.{ModelView}
-use Rattle.cov_model.specs.Valid.{is_valid}
-use Rattle.definitions.specs.Demand.{demanded_tuples}
-use Rattle.definitions.specs.Figures.{is_served, tests_of}
-use Rattle.definitions.specs.Pairs.{cells_of, pairs_of}
-use Rattle.definitions.specs.ProofText as texts
-use Rattle.definitions.specs.ProofText.{omissions_of}
-use Rattle.definitions.specs.Refutation.{first_unrefuted}
-use Rattle.definitions.specs.Seeds.{is_same_row}
-use Rattle.definitions.specs.Verdict.{as_cells, by_omission, by_proof, by_row, first_uncovered, listed, verdict}
+use Rattle.cov_model.specs.believed.Rows.{is_complete}
+use Rattle.cov_model.specs.believed.Sound.{ModelView}
+use Rattle.cov_model.specs.believed.Valid.{is_valid}
+use Rattle.definitions.specs.believed.Demand.{demanded_tuples}
+use Rattle.definitions.specs.believed.Figures.{is_served, tests_of}
+use Rattle.definitions.specs.Pairs.{cells_of}
+use Rattle.definitions.specs.believed.Pairs.{pairs_of}
+use Rattle.definitions.specs.believed.ProofText as texts
+use Rattle.definitions.specs.believed.ProofText.{omissions_of}
+use Rattle.definitions.specs.believed.Refutation.{first_unrefuted}
+use Rattle.definitions.specs.believed.Seeds.{is_same_row}
+use Rattle.definitions.specs.believed.Verdict.{as_cells, by_omission, by_proof, by_row, first_uncovered, listed, verdict}
 use Rattle.refutation.specs.Checking.{tuples_of}
-use Rattle.refutation.specs.Proofs.{ProofView, format_of, omission_meant}
+use Rattle.refutation.specs.Proofs.{ProofView, omission_meant}
+use Rattle.refutation.specs.believed.Proofs.{format_of}
 use Rattle.refutation.specs.Reading.{omissions_meant, proof_meant}
 use Rattle.refutation.specs.declared.omissions.Omission.{Omission}
 use Rattle.row_text.specs.RowFiles.{row_seen, seeds_seen, suite_seen}

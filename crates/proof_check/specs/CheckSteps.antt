@@ -1,12 +1,12 @@
 -- What the steps of a check answer, of which the model was read before. (This project's rule.)
 use Rattle.std.specs.Prelude.{◌≡◌, ℕ, List, Some, None, Result, Ok, Err, IfSome}
-use Rattle.cov_model.specs.Sound.{ModelView}
-use Rattle.definitions.specs.RowReading as readings
-use Rattle.definitions.specs.Verdict as defined
-use Rattle.tuple_index.specs.PlanFault.{limit_passed}
+use Rattle.cov_model.specs.believed.Sound.{ModelView}
+use Rattle.definitions.specs.believed.RowReading as readings
+use Rattle.definitions.specs.believed.Verdict as defined
+use Rattle.tuple_index.specs.believed.PlanFault.{limit_passed}
 use Rattle.row_text.specs.Readings.{fault_of}
 use Rattle.row_text.specs.declared.rows_fault.RowsFault.{RowsFault}
-use Rattle.proof_check.specs.Checks.{report_of, verdict_given}
+use Rattle.proof_check.specs.believed.Checks.{report_of, verdict_given}
 use Rattle.proof_check.specs.declared.verdict.Verdict.{Verdict}
 use Rattle.proof_check.specs.declared.verdict.CheckFault.{CheckFault}
 use Rattle.proof_check.specs.declared.verdict.CheckFault.TheVariants.{BadModel, Limits, Report, NoMemory}

@@ -2,9 +2,9 @@
 use Rattle.std.specs.Prelude.{◌≡◌, ◌≢◌, ℕ, ◌+◌, ◌<◌, ◌≤◌, ◌==◌, Bool, true, false, ◌&&◌, not, List, [], ◌∷◌, length, Option, Some, slice_get, slice_index_or}
 use Rattle.std.specs.Int.{bit_at}
 use Rattle.std.specs.List.{list_any}
-use Rattle.cov_model.specs.Sound.{ModelView}
-use Rattle.definitions.specs.Demand.{demanded_tuples}
-use Rattle.definitions.specs.Seeds.{is_same_row}
+use Rattle.cov_model.specs.believed.Sound.{ModelView}
+use Rattle.definitions.specs.believed.Demand.{demanded_tuples}
+use Rattle.definitions.specs.believed.Seeds.{is_same_row}
 use Rattle.refutation.specs.Checking.{tuples_of}
 use Rattle.refutation.specs.declared.omissions.Omission.{Omission}
 

@@ -1,5 +1,6 @@
 pub mod Faults
 pub mod CheckSteps
-pub mod Checks
 pub mod Left
 pub mod Laws
+pub mod Checks
+pub mod believed

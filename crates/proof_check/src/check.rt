@@ -1,16 +1,17 @@
 ghost use Rattle.std.specs.Prelude.{◌≡◌, ◌≤◌, ◌^◌, [], All, None, IfOk, find, length, not};
-ghost use Rattle.cov_model.specs.Valid.{is_valid};
-ghost use Rattle.definitions.specs.Refutation.{first_unrefuted};
-ghost use Rattle.definitions.specs.Verdict.{as_cells, by_omission, verdict};
+ghost use Rattle.cov_model.specs.believed.Valid.{is_valid};
+ghost use Rattle.definitions.specs.believed.Refutation.{first_unrefuted};
+ghost use Rattle.definitions.specs.believed.Verdict.{as_cells, by_omission, verdict};
 ghost use Rattle.model_parse.specs.RawModels.{AreOpts};
 ghost use Rattle.refutation.specs.Checking.{AreOfModel};
-ghost use Rattle.refutation.specs.Proofs.{format_of};
+ghost use Rattle.refutation.specs.believed.Proofs.{format_of};
 ghost use Rattle.refutation.specs.Reading.{omissions_meant};
 ghost use Rattle.row_text.specs.Readings.{IsFileOf};
 ghost use Rattle.row_text.specs.RowFiles.{seeds_seen, suite_seen};
 ghost use Rattle.tuple_index.specs.Plan.{plan_of};
 ghost use Rattle.proof_check.specs.CheckSteps.{IsModelCheckOf, IsReportCheckOf};
-ghost use Rattle.proof_check.specs.Checks.{IsCheckOf, verdict_given};
+ghost use Rattle.proof_check.specs.Checks.{IsCheckOf};
+ghost use Rattle.proof_check.specs.believed.Checks.{verdict_given};
 
 use crate::rows::first_bad_row;
 use crate::trees::first_bad_tree;

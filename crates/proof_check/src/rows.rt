@@ -1,6 +1,6 @@
 ghost use Rattle.std.specs.Prelude.{◌≡◌, All, find, not, option_map};
 ghost use Rattle.cov_model.specs.Fits.{FitsModel};
-ghost use Rattle.cov_model.specs.Valid.{is_valid};
+ghost use Rattle.cov_model.specs.believed.Valid.{is_valid};
 ghost use Rattle.row_text.specs.RowFiles.{seeds_seen};
 
 use cov_model::{Cells, TestModel};

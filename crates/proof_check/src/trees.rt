@@ -1,8 +1,8 @@
 ghost use Rattle.std.specs.Prelude.{◌≡◌, ◌≤◌, ◌^◌, [], All, IfOk, length};
-ghost use Rattle.definitions.specs.Refutation.{first_unrefuted};
-ghost use Rattle.definitions.specs.Verdict.{as_cells};
+ghost use Rattle.definitions.specs.believed.Refutation.{first_unrefuted};
+ghost use Rattle.definitions.specs.believed.Verdict.{as_cells};
 ghost use Rattle.refutation.specs.Checking.{AreOfModel};
-ghost use Rattle.refutation.specs.Proofs.{format_of};
+ghost use Rattle.refutation.specs.believed.Proofs.{format_of};
 ghost use Rattle.refutation.specs.Reading.{omissions_meant};
 
 use cov_model::{Cells, TestModel};

@@ -1,10 +1,10 @@
 ghost use Rattle.std.specs.Prelude.{◌≡◌, ◌<◌, ◌≤◌, ◌^◌, ◌+◌, ◌%◌, ℕ, List, [], All, Option, Some, None, IfOk};
 ghost use Rattle.std.specs.Prelude.{IfSome, MatchOption, find, length, map, not, option_map, slice_get, slice_index_or, sum, take};
 ghost use Rattle.cov_model.specs.Fits.{FitsModel};
-ghost use Rattle.cov_model.specs.Valid.{is_valid};
-ghost use Rattle.definitions.specs.Demand.{demanded_tuples, tuples_of};
-ghost use Rattle.definitions.specs.Pairs.{pairs_of};
-ghost use Rattle.definitions.specs.Verdict.{first_uncovered};
+ghost use Rattle.cov_model.specs.believed.Valid.{is_valid};
+ghost use Rattle.definitions.specs.believed.Demand.{demanded_tuples, tuples_of};
+ghost use Rattle.definitions.specs.believed.Pairs.{pairs_of};
+ghost use Rattle.definitions.specs.believed.Verdict.{first_uncovered};
 ghost use Rattle.refutation.specs.Checking.{AreOfModel};
 ghost use Rattle.refutation.specs.Reading.{omissions_meant};
 ghost use Rattle.row_text.specs.RowFiles.{suite_seen};

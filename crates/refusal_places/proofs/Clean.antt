@@ -5,7 +5,7 @@ use Rattle.std.specs.Char.{is_control}
 use Rattle.std.proofs.lemmas.Bool.Decides.{leb_tells, nat_tests}
 use Rattle.std.proofs.lemmas.List.Folds.{list_all-append}
 use Rattle.std.proofs.lemmas.Str.{encode_ascii, inside_one}
-use Rattle.cov_model.specs.Names.{is_plain}
+use Rattle.cov_model.specs.believed.Names.{is_plain}
 use Rattle.refusal_places.specs.Told.{is_clean}
 
 -- the bytes of a character that is not ASCII

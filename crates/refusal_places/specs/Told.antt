@@ -1,13 +1,13 @@
 -- What is told of a refusal. (This project's rules.)
 use Rattle.std.specs.Prelude.{◌≡◌, ℕ, Bool, true, List, ◌++◌, codes, decimal}
 use Rattle.std.specs.List.{list_all}
-use Rattle.cov_model.specs.Names.{is_plain}
-use Rattle.model_lex.specs.Codes.{diag_code}
+use Rattle.cov_model.specs.believed.Names.{is_plain}
+use Rattle.model_lex.specs.believed.Codes.{diag_code}
 use Rattle.model_lex.specs.declared.diag.Diag.{Diag}
 use Rattle.model_lex.specs.declared.diag.DiagCode.{DiagCode}
 use Rattle.outside_io.specs.declared.answers.WriteAnswer.{WriteAnswer}
-use Rattle.outside_io.specs.Puts.{Puts}
-use Rattle.outside_io.specs.Seen.{SinkSeen}
+use Rattle.outside_io.specs.believed.Puts.{Puts}
+use Rattle.outside_io.specs.believed.Seen.{SinkSeen}
 
 -- a line that names a file, a line of it and a code, with words between them
 abbrev pub line_of_texts : List ℕ → List ℕ → List ℕ → List ℕ → List ℕ

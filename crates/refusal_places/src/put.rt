@@ -1,7 +1,7 @@
 ghost use Rattle.std.specs.Prelude.{◌≡◌, ◌++◌, ◌≤◌, ◌^◌, true, length, IfOk};
 ghost use Rattle.std.specs.String.{string_bytes};
 ghost use Rattle.model_parse.specs.RawModels.{AreOpts};
-ghost use Rattle.outside_io.specs.Puts.{Puts};
+ghost use Rattle.outside_io.specs.believed.Puts.{Puts};
 ghost use Rattle.refusal_places.specs.Told.{TellsRefusal, is_clean, line_of_texts, refusal_line};
 
 use crate::expectations::expected;

@@ -5,7 +5,7 @@ use Rattle.std.proofs.Math.Nat.{le-max_left, le-max_right}
 use Rattle.std.proofs.Math.Seq.{get_or-append_seam}
 use Rattle.std.proofs.lemmas.List.{get_or_append_left, get_or-set_other, get_or-set_same, length-append}
 use Rattle.std.proofs.lemmas.List.Elements.{All-append}
-use Rattle.definitions.specs.Demand.{is_among}
+use Rattle.definitions.specs.believed.Demand.{is_among}
 use Rattle.definitions.proofs.Members.{among_has, of_among, of_append, has_left, has_right}
 use Rattle.refutation.specs.declared.omissions.Omission.{Omission}
 use Rattle.refutation.specs.Holders.{Adds, AreHolders, EndsBelow, EndsWithin, NeverFalls, last_pair, numbers_at}

@@ -5,7 +5,7 @@ use Rattle.std.specs.List.{join_with_byte}
 use Rattle.std.proofs.lemmas.Fmt.{decimal_digit}
 use Rattle.std.proofs.lemmas.List.{append-nil, map-append, take_more, drop_more}
 use Rattle.std.proofs.lemmas.List.Concat.{flat_map-append}
-use Rattle.definitions.specs.ProofText.{token_text}
+use Rattle.definitions.specs.believed.ProofText.{token_text}
 use Rattle.refutation.specs.declared.omissions.Omission.{Omission}
 use Rattle.refutation.specs.declared.omissions.ProofForm.TheVariants.{One, Two}
 use Rattle.refutation.specs.declared.token.TreeToken.{TreeToken}

@@ -15,7 +15,7 @@ use Rattle.std.proofs.lemmas.Str.Parse.{digit_at, digits_value-take-le}
 use Rattle.memchr.specs.Find.{IsFirstByte, is_byte}
 use Rattle.value_text.proofs.DigitLemmas.{all_digits}
 use Rattle.value_text.proofs.ListLemmas.{position_is}
-use Rattle.definitions.specs.ProofText.{number_where}
+use Rattle.definitions.specs.believed.ProofText.{number_where}
 use Rattle.refutation.specs.Reading.{pieces, is_numeral}
 
 -- ---- cutting

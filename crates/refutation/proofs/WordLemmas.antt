@@ -4,7 +4,7 @@ use Rattle.std.specs.Prelude.{nat_lt, option_map}
 use Rattle.std.specs.Option.{option_zip}
 use Rattle.std.specs.List.{position_or_len, before_first, after_first}
 use Rattle.std.proofs.lemmas.List.{append-nil, drop_more}
-use Rattle.definitions.specs.ProofText.{is_rising, read_each}
+use Rattle.definitions.specs.believed.ProofText.{is_rising, read_each}
 use Rattle.refutation.specs.Reading.{with_front}
 
 -- ---- up to the first that passes

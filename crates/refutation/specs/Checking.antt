@@ -1,13 +1,14 @@
 -- What a tree is checked against, and when tokens begin with trees. (This project's rule.)
 use Rattle.std.specs.Prelude.{◌≡◌, ℕ, ◌<◌, Bool, false, List, ◌++◌, map, length, Option, All, ◌==◌}
 use Rattle.std.specs.List.{list_any}
-use Rattle.cov_model.specs.Sound.{ModelView, param_at}
+use Rattle.cov_model.specs.believed.Sound.{ModelView, param_at}
 use Rattle.definitions.specs.Pairs.{cells_of}
-use Rattle.definitions.specs.Refutation.{refute_paths}
+use Rattle.definitions.specs.believed.Refutation.{refute_paths}
 use Rattle.refutation.specs.declared.omissions.Omission.{Omission}
 use Rattle.refutation.specs.declared.omissions.ProofForm.{ProofForm}
 use Rattle.refutation.specs.declared.token.TreeToken.{TreeToken}
-use Rattle.refutation.specs.Proofs.{format_of, meant}
+use Rattle.refutation.specs.believed.Proofs.{format_of}
+use Rattle.refutation.specs.Proofs.{meant}
 
 -- each parameter and each value of the pairs exists in the model
 abbrev pub AreOfModel : ModelView → List (ℕ × ℕ) → Type 0

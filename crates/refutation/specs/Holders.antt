@@ -2,7 +2,7 @@
 -- rule.)
 use Rattle.std.specs.Prelude.{◌≡◌, ℕ, ◌+◌, ◌-◌, ◌^◌, ◌<◌, ◌≤◌, true, List, [], ◌∷◌, Option, Some, All, length, slice_get, slice_index_or}
 use Rattle.cov_model.specs.Tuples.{IsRising}
-use Rattle.definitions.specs.Demand.{is_among}
+use Rattle.definitions.specs.believed.Demand.{is_among}
 use Rattle.refutation.specs.declared.omissions.Omission.{Omission}
 
 -- the numbers of a pair

@@ -1,12 +1,13 @@
 -- The lines of a proof file, as they are written. (This project's rule.)
 use Rattle.std.specs.Prelude.{ℕ, ◌-◌, ◌^◌, List, ◌∷◌, length, map, min}
 use Rattle.std.specs.List.{flat_map}
-use Rattle.definitions.specs.Pairs.{pair_text}
-use Rattle.definitions.specs.ProofText.{format_line, omission_line, token_text}
+use Rattle.definitions.specs.believed.Pairs.{pair_text}
+use Rattle.definitions.specs.believed.ProofText.{format_line, omission_line, token_text}
 use Rattle.refutation.specs.declared.omissions.Omission.{Omission}
 use Rattle.refutation.specs.declared.omissions.ProofForm.{ProofForm}
 use Rattle.refutation.specs.declared.token.TreeToken.{TreeToken}
-use Rattle.refutation.specs.Proofs.{format_of, meant, omission_meant}
+use Rattle.refutation.specs.believed.Proofs.{format_of}
+use Rattle.refutation.specs.Proofs.{meant, omission_meant}
 
 -- the first line of a proof of this form
 abbrev pub form_text : ProofForm → List ℕ

@@ -1,17 +1,11 @@
 -- What proofs, omissions and tokens of the code mean. (This project's rule.)
-use Rattle.std.specs.Prelude.{ℕ, List, map}
-use Rattle.definitions.specs.ProofText as texts
-use Rattle.definitions.specs.Refutation as tokens
+use Rattle.std.specs.Prelude.{List, map}
+use Rattle.definitions.specs.believed.ProofText as texts
+use Rattle.definitions.specs.believed.Refutation as tokens
 use Rattle.refutation.specs.declared.omissions.Omission.{Omission}
 use Rattle.refutation.specs.declared.omissions.ProofForm.{ProofForm}
-use Rattle.refutation.specs.declared.omissions.ProofForm.TheVariants.{One, Two}
 use Rattle.refutation.specs.declared.token.TreeToken.{TreeToken}
 use Rattle.refutation.specs.declared.token.TreeToken.TheVariants.{Branch, ByRule, ByNegative, ByOmission}
-
--- the number of a format
-abbrev pub format_of : ProofForm → ℕ
-format_of One = 1
-format_of Two = 2
 
 -- what a token of the code means
 abbrev pub meant : TreeToken → tokens.Token

@@ -2,15 +2,16 @@
 use Rattle.std.specs.Prelude.{◌≡◌, ℕ, ◌<◌, Bool, true, ◌&&◌, ◌||◌, not, List, [], ◌++◌, map, length, Option, Some, None, Result, Ok, Err, ◌==◌, slice_index, option_map, option_and_then}
 use Rattle.std.specs.Option.{option_zip}
 use Rattle.std.specs.List.{slice_split, before_first, after_first}
-use Rattle.value_text.specs.Numbers.{is_digits}
-use Rattle.cov_model.specs.Sound.{ModelView}
-use Rattle.definitions.specs.ProofText as texts
-use Rattle.definitions.specs.Refutation.{Token}
+use Rattle.value_text.specs.believed.Numbers.{is_digits}
+use Rattle.cov_model.specs.believed.Sound.{ModelView}
+use Rattle.definitions.specs.believed.ProofText as texts
+use Rattle.definitions.specs.believed.Refutation.{Token}
 use Rattle.refutation.specs.declared.omissions.Omission.{Omission}
 use Rattle.refutation.specs.declared.omissions.ProofForm.{ProofForm}
 use Rattle.refutation.specs.declared.fault.ProofFault.{ProofFault}
 use Rattle.refutation.specs.declared.fault.ProofFault.TheVariants.{Line, NoMemory}
-use Rattle.refutation.specs.Proofs.{ProofView, format_of, omission_meant}
+use Rattle.refutation.specs.Proofs.{ProofView, omission_meant}
+use Rattle.refutation.specs.believed.Proofs.{format_of}
 
 -- the pieces of a text between the bytes that are a mark
 abbrev pub pieces : ℕ → List ℕ → List (List ℕ)

@@ -1,7 +1,8 @@
 -- A tree that was read before, with its text. (This project's rule.)
 use Rattle.std.specs.Prelude.{map}
 use Rattle.refutation.specs.declared.reading.ReadTree.{ReadTree}
-use Rattle.refutation.specs.Proofs.{format_of, meant}
+use Rattle.refutation.specs.believed.Proofs.{format_of}
+use Rattle.refutation.specs.Proofs.{meant}
 use Rattle.refutation.specs.Reading.{ReadsTree, SpellingView, pieces}
 
 -- the words of its text are those of its tokens

@@ -1,8 +1,8 @@
 ghost use Rattle.std.specs.Prelude.{◌≡◌, ◌<◌, ◌≤◌, length, IfOk};
 ghost use Rattle.cov_model.specs.Fits.{FitsModel};
-ghost use Rattle.cov_model.specs.Kleene.{body_truth};
+ghost use Rattle.cov_model.specs.believed.Kleene.{body_truth};
 ghost use Rattle.cov_model.specs.Sound.{rule_at};
-ghost use Rattle.definitions.specs.Search.{is_no};
+ghost use Rattle.definitions.specs.believed.Search.{is_no};
 
 use crate::omissions::Omissions;
 use crate::table_size::table_size;
@@ -24,7 +24,7 @@ pub struct TreeChecker<'a> {
 impl<'a> Model for TreeChecker<'a> {
     ghost use Rattle.std.specs.Prelude.{◌≡◌, IfSome};
     ghost use Rattle.std.specs.Coded.{codes};
-    ghost use Rattle.cov_model.specs.Sound.{ModelView};
+    ghost use Rattle.cov_model.specs.believed.Sound.{ModelView};
     ghost use Rattle.cov_model.specs.contracts.model.TestModel as tested;
 
     ghost Value = { ModelView };

@@ -1,5 +1,5 @@
 ghost use Rattle.std.specs.Prelude.{◌≡◌, ◌≢◌, ℕ, ◌^◌, ◌<◌, ◌≤◌, ◌++◌, ◌∷◌, [], Some, true, length, slice_index_or, OnOk, OnErr};
-ghost use Rattle.definitions.specs.Demand.{is_among};
+ghost use Rattle.definitions.specs.believed.Demand.{is_among};
 ghost use Rattle.refutation.specs.Holders.{Adds, EndsWithin, last_pair, numbers_at};
 
 use cov_model::{ParamNo, Tuple, ValueNo};

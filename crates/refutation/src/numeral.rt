@@ -2,7 +2,7 @@ ghost use Rattle.std.specs.Prelude.{◌≡◌, ◌==◌, ◌<◌, ◌≤◌, ◌
 ghost use Rattle.std.specs.Char.{is_ascii_digit};
 ghost use Rattle.std.specs.List.{list_all};
 ghost use Rattle.std.specs.Str.Parse.{digits_value};
-ghost use Rattle.definitions.specs.ProofText.{number_where};
+ghost use Rattle.definitions.specs.believed.ProofText.{number_where};
 ghost use Rattle.refutation.specs.Reading.{is_numeral};
 
 // Whether each byte is a digit.

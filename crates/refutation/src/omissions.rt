@@ -22,7 +22,7 @@ pub enum ProofForm {
 }
 
 impl ProofForm {
-    ghost use Rattle.refutation.specs.Proofs.{format_of};
+    ghost use Rattle.refutation.specs.believed.Proofs.{format_of};
 
     // Whether trees may cite earlier omissions.
     pub(crate) fn may_cite(self) -> bool

@@ -2,9 +2,10 @@ ghost use Rattle.std.specs.Prelude.{◌≡◌, ◌+◌, ◌<◌, ◌≤◌, ◌^
 ghost use Rattle.std.specs.List.{after_first, before_first};
 ghost use Rattle.cov_model.specs.Tuples.{IsRising};
 ghost use Rattle.definitions.specs.Laws.{IsOmissionOf};
-ghost use Rattle.definitions.specs.ProofText.{is_colon_word, is_rising, omissions_of, read_each, read_format, read_lines, read_omission, read_pair, read_token};
+ghost use Rattle.definitions.specs.believed.ProofText.{is_colon_word, is_rising, omissions_of, read_each, read_format, read_lines, read_omission, read_pair, read_token};
 ghost use Rattle.refutation.specs.Checking.{AreOfModel};
-ghost use Rattle.refutation.specs.Proofs.{format_of, meant, omission_meant};
+ghost use Rattle.refutation.specs.believed.Proofs.{format_of};
+ghost use Rattle.refutation.specs.Proofs.{meant, omission_meant};
 ghost use Rattle.refutation.specs.Repeats.{IsReadTree};
 ghost use Rattle.refutation.specs.Reading.{Gives, LacksTree, LacksTuple, ReadsTree, ReadsTuple, omissions_meant, pieces, proof_meant};
 

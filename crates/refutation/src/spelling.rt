@@ -1,9 +1,10 @@
 ghost use Rattle.std.specs.Prelude.{◌≡◌, ◌<◌, ◌≤◌, ◌^◌, ◌-◌, ◌&&◌, ◌==◌, length, nat_le, nat_lt, None, option_map, if◌then◌else◌};
-ghost use Rattle.cov_model.specs.Sound.{IsSound, param_at};
-ghost use Rattle.definitions.specs.Refutation.{ByOmission};
-ghost use Rattle.definitions.specs.ProofText.{number_where, read_pair, read_token};
+ghost use Rattle.cov_model.specs.believed.Sound.{IsSound, param_at};
+ghost use Rattle.definitions.specs.believed.Refutation.{ByOmission};
+ghost use Rattle.definitions.specs.believed.ProofText.{number_where, read_pair, read_token};
 ghost use Rattle.refutation.specs.Checking.{has_rule};
-ghost use Rattle.refutation.specs.Proofs.{format_of, meant};
+ghost use Rattle.refutation.specs.believed.Proofs.{format_of};
+ghost use Rattle.refutation.specs.Proofs.{meant};
 
 use crate::cutting::split_once;
 use crate::numeral::read_number;

@@ -1,16 +1,17 @@
 ghost use Rattle.std.specs.Prelude.{◌≡◌, ◌<◌, ◌≤◌, ◌||◌, All, IfSome, length, not, option_map, take};
 ghost use Rattle.std.specs.List.{list_all};
 ghost use Rattle.cov_model.specs.Fits.{FitsModel};
-ghost use Rattle.cov_model.specs.Kleene.{body_truth};
-ghost use Rattle.cov_model.specs.Meaning.{value_at};
-ghost use Rattle.cov_model.specs.Rows.{is_assigned};
-ghost use Rattle.cov_model.specs.Sound.{IsSound, ModelView, rule_at};
-ghost use Rattle.cov_model.specs.Valid.{negatives};
+ghost use Rattle.cov_model.specs.believed.Kleene.{body_truth};
+ghost use Rattle.cov_model.specs.believed.Meaning.{value_at};
+ghost use Rattle.cov_model.specs.believed.Rows.{is_assigned};
+ghost use Rattle.cov_model.specs.believed.Sound.{IsSound, ModelView};
+ghost use Rattle.cov_model.specs.Sound.{rule_at};
+ghost use Rattle.cov_model.specs.believed.Valid.{negatives};
 ghost use Rattle.definitions.specs.Pairs.{cells_of};
-ghost use Rattle.definitions.specs.Refutation.{earlier_tuple, is_branch, is_omission_leaf, is_rule_leaf};
-ghost use Rattle.definitions.specs.Search.{is_no};
+ghost use Rattle.definitions.specs.believed.Refutation.{earlier_tuple, is_branch, is_omission_leaf, is_rule_leaf};
+ghost use Rattle.definitions.specs.believed.Search.{is_no};
 ghost use Rattle.refutation.specs.Checking.{AreOfModel, earlier_in, has_param, has_rule, tuple_in, tuples_of};
-ghost use Rattle.refutation.specs.Proofs.{format_of};
+ghost use Rattle.refutation.specs.believed.Proofs.{format_of};
 
 use crate::checker::TreeChecker;
 use crate::omissions::{Omission, Omissions, ProofForm};

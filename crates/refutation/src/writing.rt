@@ -1,6 +1,6 @@
 ghost use Rattle.std.specs.Prelude.{◌≡◌, ◌+◌, ◌-◌, ◌^◌, ◌<◌, ◌≤◌, ◌++◌, ◌∷◌, length, min, decimal, vec_len, vec_capacity, OnOk, OnErr};
-ghost use Rattle.definitions.specs.Pairs.{pair_text};
-ghost use Rattle.definitions.specs.ProofText.{token_text};
+ghost use Rattle.definitions.specs.believed.Pairs.{pair_text};
+ghost use Rattle.definitions.specs.believed.ProofText.{token_text};
 ghost use Rattle.refutation.specs.Proofs.{meant};
 ghost use Rattle.refutation.specs.Lines.{form_text, line_len, line_text, pair_words, spaced, token_words};
 

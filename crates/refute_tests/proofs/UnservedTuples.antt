@@ -3,12 +3,12 @@ use Rattle.std.proofs.Common.{◌≡◌, ℕ, false, List, [], get_or, Option, �
 use Rattle.std.proofs.lemmas.Bool.{false≢true, false_from_ne_true}
 use Rattle.cov_model.specs.declared.slice.Slice.{Slice}
 use Rattle.cov_model.specs.declared.slice.Slice.TheVariants.{Positive}
-use Rattle.cov_model.specs.Sound.{ModelView}
-use Rattle.cov_model.specs.Rows.{value_in}
-use Rattle.cov_model.specs.Slices.{slice_of, slice_values}
-use Rattle.cov_model.specs.Valid.{serves}
-use Rattle.definitions.specs.Completion.{is_extendable}
-use Rattle.definitions.specs.Covering.{IsUnserved}
+use Rattle.cov_model.specs.believed.Sound.{ModelView}
+use Rattle.cov_model.specs.believed.Rows.{value_in}
+use Rattle.cov_model.specs.believed.Slices.{slice_of, slice_values}
+use Rattle.cov_model.specs.believed.Valid.{serves}
+use Rattle.definitions.specs.believed.Completion.{is_extendable}
+use Rattle.definitions.specs.believed.Covering.{IsUnserved}
 use Rattle.definitions.specs.SliceRows.{IsOfSlice}
 use Rattle.definitions.proofs.Members.{of_among}
 use Rattle.definitions.proofs.Serving.{served_extends}

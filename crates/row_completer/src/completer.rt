@@ -38,7 +38,7 @@ impl<'a> Model for RowCompleter<'a> {
     ghost use Rattle.std.specs.Coded.{codes};
     ghost use Rattle.cov_model.specs.contracts.model.TestModel as tested;
     ghost use Rattle.cov_model.specs.Preference.{OrdersValues};
-    ghost use Rattle.cov_model.specs.Sound.{ModelView};
+    ghost use Rattle.cov_model.specs.believed.Sound.{ModelView};
 
     ghost Value = { ModelView };
 

@@ -1,7 +1,7 @@
 ghost use Rattle.std.specs.Prelude.{◌≡◌, true, IfOk};
 ghost use Rattle.std.specs.Option.{option_map_or};
 ghost use Rattle.cov_model.specs.Preference.{OrdersValues};
-ghost use Rattle.definitions.specs.Demand.{is_among};
+ghost use Rattle.definitions.specs.believed.Demand.{is_among};
 ghost use Rattle.definitions.specs.SliceRows.{IsOfSlice, IsSliceOf};
 
 use cov_model::{Cells, Prefs, Slice, TestModel, ValueNo};

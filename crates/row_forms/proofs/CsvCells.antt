@@ -2,17 +2,17 @@
 use Rattle.std.proofs.Common.{◌≡◌, ◌⊎◌, ◌==◌, ℕ, Bool, true, false, List, [], ◌∷◌, ◌++◌, ◌∙◌, refl, sym, ap, subst, inl, inr, append_assoc, append-nil}
 use Rattle.std.specs.Prelude.{◌&&◌, flat_map, length, nat_eq}
 use Rattle.std.specs.List.{list_any, starts_with}
-use Rattle.model_lex.specs.Lines.{byte_order_mark}
+use Rattle.model_lex.specs.believed.Lines.{byte_order_mark}
 use Rattle.std.proofs.lemmas.Bool.{cases_Bool, eqb-true, or_parts}
 use Rattle.comma_rows.specs.declared.position.Position.{Position}
 use Rattle.comma_rows.specs.declared.action.Place.{Place}
 use Rattle.comma_rows.specs.declared.action.Place.TheVariants.{LineStart, CellStart, InText, InQuotes, AfterQuote}
 use Rattle.comma_rows.specs.declared.action.Action.TheVariants.{Adds}
-use Rattle.comma_rows.specs.Positions.{next}
-use Rattle.comma_rows.specs.Actions.{adds_text, action_of, outside_quotes}
-use Rattle.comma_rows.specs.Reading.{Reading, begins_with_feed, read, with_cell}
+use Rattle.comma_rows.specs.believed.Positions.{next}
+use Rattle.comma_rows.specs.believed.Actions.{adds_text, action_of, outside_quotes}
+use Rattle.comma_rows.specs.believed.Reading.{Reading, begins_with_feed, read, with_cell}
 use Rattle.comma_rows.proofs.ReadSteps.{read-byte}
-use Rattle.row_forms.specs.Csv.{csv_cell, doubled, has_blank_end, is_mark, needs_quotes, quoted}
+use Rattle.row_forms.specs.believed.Csv.{csv_cell, doubled, has_blank_end, is_mark, needs_quotes, quoted}
 
 -- the places at which a cell may begin, at which a comma may end it, and at which the end of a line may
 abbrev pub begins_cell : Place → Bool

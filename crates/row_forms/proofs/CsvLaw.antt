@@ -6,20 +6,20 @@ use Rattle.std.proofs.Math.ListN.{length-map}
 use Rattle.std.proofs.lemmas.Bool.{cases_Bool, ne_eqb, or_parts}
 use Rattle.std.proofs.lemmas.List.{map-append}
 use Rattle.std.proofs.lemmas.List.Elements.{recursion_from_All}
-use Rattle.model_lex.specs.Lines.{byte_order_mark, without_mark}
+use Rattle.model_lex.specs.believed.Lines.{byte_order_mark, without_mark}
 use Rattle.comma_rows.specs.declared.position.Position.{Position}
 use Rattle.comma_rows.specs.declared.comma_fault.CommaFault.{CommaFault}
 use Rattle.comma_rows.specs.declared.action.Place.{Place}
 use Rattle.comma_rows.specs.declared.action.Place.TheVariants.{LineStart, CellStart}
-use Rattle.comma_rows.specs.Positions.{first_place, next}
+use Rattle.comma_rows.specs.believed.Positions.{first_place, next}
 use Rattle.comma_rows.specs.Rows.{rows_of}
-use Rattle.comma_rows.specs.Reading.{Cell, Reading, no_more, read, unless_fault, with_cell}
+use Rattle.comma_rows.specs.believed.Reading.{Cell, Reading, no_more, read, unless_fault, with_cell}
 use Rattle.comma_rows.proofs.ReadSteps.{read-end}
 use Rattle.row_forms.specs.declared.row_form.RowForm.TheVariants.{Csv}
-use Rattle.row_forms.specs.Csv.{csv_cell, needs_quotes}
-use Rattle.row_forms.specs.Forms.{parting, text_of}
+use Rattle.row_forms.specs.believed.Csv.{csv_cell, needs_quotes}
+use Rattle.row_forms.specs.believed.Forms.{parting, text_of}
 use Rattle.row_forms.specs.Laws.{CsvReadsBack, texts_of}
-use Rattle.row_forms.specs.Tables.{is_single, name_pieces, pieces, row_text, rows_text, head_text, table_text}
+use Rattle.row_forms.specs.believed.Tables.{is_single, name_pieces, pieces, row_text, rows_text, head_text, table_text}
 use Rattle.row_forms.proofs.CsvCells.{ends_cell, ends_row, cell-run, comma-ends, line-ends}
 use Rattle.row_forms.proofs.Rows.{ended, HasCell, has-cells, has-names, rows-ended, rows-map}
 

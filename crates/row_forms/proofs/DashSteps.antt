@@ -1,7 +1,7 @@
 -- One more cell of the line of dashes.
 use Rattle.std.proofs.Common.{◌≡◌, ◌<◌, ◌+◌, ℕ, zero, suc, List, [], ◌∷◌, ◌++◌, ◌∙◌, Bor, refl, sym, ap, append_assoc, length, drop, arith, add-one}
 use Rattle.std.specs.Prelude.{flat_map}
-use Rattle.row_forms.specs.Forms.{dashes}
+use Rattle.row_forms.specs.believed.Forms.{dashes}
 use Rattle.row_forms.specs.Seen.{names_seen}
 
 abbrev pub dashes_of : List (Bor (List ℕ)) → List ℕ

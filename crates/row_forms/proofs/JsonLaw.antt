@@ -11,9 +11,10 @@ use Rattle.json.specs.Print.{escape, quoted, token_text}
 use Rattle.json.proofs.Printed.Strings.{content-escape, lex-escape}
 use Rattle.json.proofs.Printed.Numbers.{in_word-ended}
 use Rattle.row_forms.specs.declared.row_form.RowForm.TheVariants as form
-use Rattle.row_forms.specs.Json.{cell_value, member_text, row_items, row_members, cell_token}
+use Rattle.row_forms.specs.Json.{cell_value, row_items, row_members}
+use Rattle.row_forms.specs.believed.Json.{member_text, cell_token}
 use Rattle.row_forms.specs.Laws.{JsonReadsBack}
-use Rattle.row_forms.specs.Tables.{is_single, name_pieces, pieces, row_text, rows_text, table_text}
+use Rattle.row_forms.specs.believed.Tables.{is_single, name_pieces, pieces, row_text, rows_text, table_text}
 
 -- ---- the tokens of the text
 

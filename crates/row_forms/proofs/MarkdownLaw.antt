@@ -6,13 +6,14 @@ use Rattle.std.proofs.Math.Seq.{take-append_seam}
 use Rattle.std.proofs.lemmas.Bool.{cases_Bool, eqb-true}
 use Rattle.std.proofs.lemmas.List.{length-append}
 use Rattle.std.proofs.lemmas.List.Elements.{recursion_from_All}
-use Rattle.comma_rows.specs.Reading.{begins_with_feed}
+use Rattle.comma_rows.specs.believed.Reading.{begins_with_feed}
 use Rattle.comma_rows.specs.Rows.{rows_of}
 use Rattle.row_forms.specs.declared.row_form.RowForm.TheVariants.{Markdown}
-use Rattle.row_forms.specs.Forms.{dashes, text_of}
+use Rattle.row_forms.specs.believed.Forms.{dashes, text_of}
 use Rattle.row_forms.specs.Laws.{MarkdownReadsBack}
-use Rattle.row_forms.specs.Markdown.{Spot, AtPipe, InCell, AtFeed, cells_from, escaped, escaped_byte, is_punctuation, without_blanks, without_second}
-use Rattle.row_forms.specs.Tables.{is_single, name_pieces, pieces, row_text, rows_text, table_text}
+use Rattle.row_forms.specs.Markdown.{Spot, AtPipe, InCell, AtFeed, cells_from, without_blanks, without_second}
+use Rattle.row_forms.specs.believed.Markdown.{escaped, escaped_byte, is_punctuation}
+use Rattle.row_forms.specs.believed.Tables.{is_single, name_pieces, pieces, row_text, rows_text, table_text}
 use Rattle.row_forms.proofs.Rows.{ended, HasCell, has-cells, has-names, rows-ended}
 
 -- a byte that is no punctuation

@@ -3,7 +3,7 @@ use Rattle.std.proofs.Common.{◌≡◌, ℕ, List, [], ◌∷◌, ◌++◌, ◌
 use Rattle.std.specs.Prelude.{Option, Some, None}
 use Rattle.json.specs.Token.{Token, key}
 use Rattle.json.specs.Print.{print, print_from, token_text}
-use Rattle.row_forms.specs.Json.{member_text, cell_token}
+use Rattle.row_forms.specs.believed.Json.{member_text, cell_token}
 
 print-member : (name : List ℕ) (cell : Option (List ℕ)) → print (key name ∷ cell_token cell ∷ []) ≡ member_text name cell
 unfolding print_from

@@ -3,7 +3,7 @@ use Rattle.std.proofs.Common.{◌≡◌, ◌<◌, arith, length, Bool, true, fal
 use Rattle.std.specs.Prelude.{flat_map, Option, ℕ}
 use Rattle.std.specs.List.{AllByRecursion}
 use Rattle.comma_rows.specs.Rows.{onto_rows, rows_of}
-use Rattle.row_forms.specs.Forms.{text_of}
+use Rattle.row_forms.specs.believed.Forms.{text_of}
 
 -- the cells of a row, of which the last ends it
 abbrev pub ended : List (List ℕ) → List (List ℕ × Bool)

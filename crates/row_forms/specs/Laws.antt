@@ -3,10 +3,10 @@ use Rattle.std.specs.Prelude.{◌≡◌, ℕ, ◌<◌, List, ◌∷◌, map, len
 use Rattle.json.specs.Json.{document}
 use Rattle.comma_rows.specs.Reading.{comma_texts}
 use Rattle.row_forms.specs.declared.row_form.RowForm.TheVariants.{Csv, Json, Markdown}
-use Rattle.row_forms.specs.Forms.{text_of}
+use Rattle.row_forms.specs.believed.Forms.{text_of}
 use Rattle.row_forms.specs.Json.{table_value}
 use Rattle.row_forms.specs.Markdown.{markdown_texts}
-use Rattle.row_forms.specs.Tables.{table_text}
+use Rattle.row_forms.specs.believed.Tables.{table_text}
 
 -- a table: it has a column, and each row has a cell for each column
 abbrev pub IsTable : List (List ℕ) → List (List (Option (List ℕ))) → Type 0

@@ -1,6 +1,6 @@
 //! Text behind what a vector has.
 ghost use Rattle.std.specs.Prelude.{◌≡◌, ◌++◌, ◌∷◌, [], OnOk};
-ghost use Rattle.row_forms.specs.Forms.{parting};
+ghost use Rattle.row_forms.specs.believed.Forms.{parting};
 
 use value_text::NoMemory;
 

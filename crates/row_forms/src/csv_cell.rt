@@ -1,8 +1,8 @@
 //! A cell of comma-separated values (RFC 4180).
 ghost use Rattle.std.specs.Prelude.{◌≡◌, ◌++◌, ◌∷◌, [], flat_map, OnOk, nat_eq};
 ghost use Rattle.std.specs.List.{list_any, starts_with};
-ghost use Rattle.model_lex.specs.Lines.{byte_order_mark};
-ghost use Rattle.row_forms.specs.Csv.{csv_cell, doubled, has_blank_end, is_blank, is_mark, needs_quotes, quoted};
+ghost use Rattle.model_lex.specs.believed.Lines.{byte_order_mark};
+ghost use Rattle.row_forms.specs.believed.Csv.{csv_cell, doubled, has_blank_end, is_blank, is_mark, needs_quotes, quoted};
 
 use crate::adding::{add, add_byte};
 use value_text::NoMemory;

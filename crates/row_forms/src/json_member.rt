@@ -2,7 +2,7 @@
 ghost use Rattle.std.specs.Prelude.{◌≡◌, ◌++◌, IfOk, OnOk};
 ghost use Rattle.std.specs.Option.{option_copied};
 ghost use Rattle.json.specs.Written.{Writes};
-ghost use Rattle.row_forms.specs.Json.{member_text, cell_token};
+ghost use Rattle.row_forms.specs.believed.Json.{member_text, cell_token};
 
 use crate::adding::add;
 use json::Writer;

@@ -1,6 +1,6 @@
 //! A cell of a table of GitHub's form.
 ghost use Rattle.std.specs.Prelude.{◌≡◌, ◌++◌, ◌∷◌, [], OnOk};
-ghost use Rattle.row_forms.specs.Markdown.{escaped, is_punctuation};
+ghost use Rattle.row_forms.specs.believed.Markdown.{escaped, is_punctuation};
 
 use crate::adding::{add, add_byte};
 use value_text::NoMemory;

@@ -1,6 +1,6 @@
 ghost use Rattle.std.specs.Prelude.{◌≡◌, ◌++◌, flat_map, OnOk};
 ghost use Rattle.std.specs.Option.{option_copied};
-ghost use Rattle.row_forms.specs.Forms.{dashes, head_end, name_piece, piece, row_end, row_start, tail_text, text_of};
+ghost use Rattle.row_forms.specs.believed.Forms.{dashes, head_end, name_piece, piece, row_end, row_start, tail_text, text_of};
 ghost use Rattle.row_forms.specs.Seen.{names_seen};
 
 use crate::adding::{add, add_parting};

@@ -1,6 +1,6 @@
 ghost use Rattle.std.specs.Prelude.{◌≡◌, ◌++◌, true, length, OnOk};
 ghost use Rattle.row_forms.specs.Seen.{cells_seen, names_seen};
-ghost use Rattle.row_forms.specs.Tables.{head_text, is_single, name_pieces, pieces, row_text};
+ghost use Rattle.row_forms.specs.believed.Tables.{head_text, is_single, name_pieces, pieces, row_text};
 
 use crate::adding::add;
 use crate::pieces::Column;

@@ -14,13 +14,13 @@ use Rattle.std.proofs.lemmas.List.Quantifiers.{position-Some}
 use Rattle.std.proofs.lemmas.List.Sums.{count_by-le-length, length-filter}
 use Rattle.std.proofs.lemmas.Option.{slice_get-get_or, slice_get_past}
 use Rattle.value_text.proofs.ListLemmas.{list_any-map, map-get_or-range_with_len, count_map}
-use Rattle.value_text.specs.Texts.{is_same_text}
-use Rattle.cov_model.specs.Sound.{ModelView, no_param}
-use Rattle.cov_model.specs.Valid.{param_numbers}
-use Rattle.definitions.specs.RowFile.{named_param}
-use Rattle.definitions.specs.RowReading.{UnknownColumn, Missing, Twice, Suite, column_count, column_notes, missing_fault, twice_fault}
+use Rattle.value_text.specs.believed.Texts.{is_same_text}
+use Rattle.cov_model.specs.believed.Sound.{ModelView, no_param}
+use Rattle.cov_model.specs.believed.Valid.{param_numbers}
+use Rattle.definitions.specs.believed.RowFile.{named_param}
+use Rattle.definitions.specs.believed.RowReading.{UnknownColumn, Missing, Twice, Suite, column_count, column_notes, missing_fault, twice_fault}
 use Rattle.model_lex.specs.declared.note.Note.{Note}
-use Rattle.row_text.specs.Readings.{note_told}
+use Rattle.row_text.specs.believed.Readings.{note_told}
 use Rattle.row_text.proofs.LookingUp.{position-map}
 
 -- ---- the parameter of each column, and the notes

@@ -11,8 +11,8 @@ use Rattle.std.proofs.lemmas.List.Splits.{length-slice_split, slice_split_first,
 use Rattle.std.proofs.lemmas.List.Sums.{count_by-le-length, fails_before_first, suffix_len-le-length}
 use Rattle.std.proofs.lemmas.Option.{none-some}
 use Rattle.value_text.proofs.ListLemmas.{length-filter-le}
-use Rattle.model_lex.specs.Lines.{ended_lines, file_lines, is_line_feed, without_return}
-use Rattle.definitions.specs.RowFile.{cells_of_line, without_spaces}
+use Rattle.model_lex.specs.believed.Lines.{ended_lines, file_lines, is_line_feed, without_return}
+use Rattle.definitions.specs.believed.RowFile.{cells_of_line, without_spaces}
 use Rattle.row_text.specs.RowLines.{filled_from}
 
 -- a line is taken if it has a byte

@@ -3,8 +3,8 @@ use Rattle.std.proofs.Common.{◌≡◌, ℕ, ◌+◌, ◌<◌, Bool, true, fals
 use Rattle.std.proofs.lemmas.List.{take_more, length-take-le, get_or-map, length-map, append-nil}
 use Rattle.std.specs.List.{join_with_byte}
 use Rattle.cov_model.specs.declared.parameter.Value.{Value}
-use Rattle.cov_model.specs.Sound.{ModelView}
-use Rattle.definitions.specs.Report.{printed, row_line, row_lines}
+use Rattle.cov_model.specs.believed.Sound.{ModelView}
+use Rattle.definitions.specs.believed.Report.{printed, row_line, row_lines}
 use Rattle.row_text.specs.Buffering.{separator}
 
 -- a cell at the end of the others

@@ -3,7 +3,7 @@ use Rattle.std.proofs.Common.{◌≡◌, ℕ, ◌+◌, ◌<◌, List, [], ◌∷
 use Rattle.std.proofs.lemmas.Bool.{cases_eq}
 use Rattle.std.proofs.lemmas.List.{get_or_append_left, get_or_default, get_or_push, length_push}
 use Rattle.cov_model.specs.declared.parameter.Param.{Param}
-use Rattle.cov_model.specs.Sound.{ModelView, no_param}
+use Rattle.cov_model.specs.believed.Sound.{ModelView, no_param}
 use Rattle.row_text.specs.Lookups.{is_value_named, number_of}
 
 -- the names of the values of the first parameters

@@ -13,22 +13,23 @@ use Rattle.std.proofs.lemmas.List.FromFn.{get_or-map-range_with_len, get_or-rang
 use Rattle.std.proofs.lemmas.List.Quantifiers.{position-Some}
 use Rattle.std.proofs.lemmas.List.Sums.{AllPass-from_list_all}
 use Rattle.value_text.proofs.ListLemmas.{option_or_parts}
-use Rattle.cov_model.specs.Sound.{ModelView, param_at}
-use Rattle.value_text.specs.Texts.{is_same_text}
+use Rattle.cov_model.specs.believed.Sound.{ModelView, param_at}
+use Rattle.value_text.specs.believed.Texts.{is_same_text}
 use Rattle.cov_model.specs.Fits.{FitsModel}
-use Rattle.cov_model.specs.Meaning.{no_value}
-use Rattle.definitions.specs.Report.{printed}
-use Rattle.cov_model.specs.Valid.{param_numbers}
+use Rattle.cov_model.specs.believed.Meaning.{no_value}
+use Rattle.definitions.specs.believed.Report.{printed}
+use Rattle.cov_model.specs.believed.Valid.{param_numbers}
 use Rattle.cov_model.proofs.CellLemmas.{assigned_within}
-use Rattle.definitions.specs.Limits.{Rows, most_counted}
-use Rattle.definitions.specs.RowFile.{cell_at, cells_of_line, columns_of, filled_lines, named_param, named_value, row_of_line}
-use Rattle.definitions.specs.RowReading as defined
-use Rattle.definitions.specs.RowReading.{RowReading, column_count, column_notes, count_fault, first_fault, missing_fault, read_numbered}
-use Rattle.definitions.specs.RowReading.{read_under, twice_fault, unless_fault, value_notes, width_fault}
+use Rattle.definitions.specs.believed.Limits.{Rows, most_counted}
+use Rattle.definitions.specs.believed.RowFile.{cell_at, cells_of_line, columns_of, filled_lines, named_param, named_value, row_of_line}
+use Rattle.definitions.specs.believed.RowReading as defined
+use Rattle.definitions.specs.believed.RowReading.{RowReading, column_count, column_notes, count_fault, first_fault, missing_fault, read_numbered}
+use Rattle.definitions.specs.believed.RowReading.{read_under, twice_fault, unless_fault, value_notes, width_fault}
 use Rattle.definitions.proofs.Nothing.{none_found}
-use Rattle.model_lex.specs.Lines.{file_lines, without_mark}
+use Rattle.model_lex.specs.believed.Lines.{file_lines, without_mark}
 use Rattle.model_lex.specs.declared.note.Note.{Note}
-use Rattle.row_text.specs.Readings.{HoldsReading, IsFileOf, fault_of, note_told}
+use Rattle.row_text.specs.Readings.{HoldsReading, IsFileOf, fault_of}
+use Rattle.row_text.specs.believed.Readings.{note_told}
 use Rattle.row_text.specs.RowFiles.{row_seen, seeds_seen}
 use Rattle.row_text.specs.RowLines.{AreOnce}
 use Rattle.row_text.specs.declared.filled_lines.FilledLine.{FilledLine}

@@ -11,19 +11,19 @@ use Rattle.std.proofs.lemmas.List.{get_or_at, get_or-map, drop_more, length-drop
 use Rattle.std.proofs.lemmas.List.Elements.{filter-append}
 use Rattle.std.proofs.lemmas.List.Folds.{list_any_none}
 use Rattle.std.proofs.lemmas.List.FromFn.{length-map-range_with_len, get_or-map-range_with_len}
-use Rattle.value_text.specs.Texts.{is_same_text}
+use Rattle.value_text.specs.believed.Texts.{is_same_text}
 use Rattle.value_text.proofs.ListLemmas.{Some-from_equal, range_with_len_more}
 use Rattle.cov_model.specs.declared.parameter.Value.{Value}
-use Rattle.cov_model.specs.Sound.{ModelView, IsSound, param_at}
-use Rattle.cov_model.specs.Valid.{param_numbers}
+use Rattle.cov_model.specs.believed.Sound.{ModelView, IsSound, param_at}
+use Rattle.cov_model.specs.believed.Valid.{param_numbers}
 use Rattle.cov_model.proofs.SoundLemmas.{param_sound}
-use Rattle.definitions.specs.Report.{printed}
-use Rattle.definitions.specs.RowFile.{cell_at, cells_of_line, columns_of, named_param, named_value, row_of_line}
-use Rattle.definitions.specs.RowReading.{UnknownValue, is_unknown, value_notes}
+use Rattle.definitions.specs.believed.Report.{printed}
+use Rattle.definitions.specs.believed.RowFile.{cell_at, cells_of_line, columns_of, named_param, named_value, row_of_line}
+use Rattle.definitions.specs.believed.RowReading.{UnknownValue, is_unknown, value_notes}
 use Rattle.definitions.proofs.Members.{Has, has_filter, has_range, of_filter}
 use Rattle.definitions.proofs.Names.{name_cell}
 use Rattle.model_lex.specs.declared.note.Note.{Note}
-use Rattle.row_text.specs.Readings.{note_told}
+use Rattle.row_text.specs.believed.Readings.{note_told}
 use Rattle.row_text.specs.RowLines.{AreOnce, is_unknown_cell, with_cell, with_given}
 use Rattle.row_text.proofs.LookingUp.{position_none}
 

@@ -9,10 +9,10 @@ use Rattle.std.proofs.Math.Seq.{map-set_same}
 use Rattle.std.proofs.Math.Nat.{zero-mod, mod-add-mod, mod-lt}
 use Rattle.cov_model.specs.declared.parameter.Param.{Param}
 use Rattle.cov_model.specs.declared.parameter.Value.{Value}
-use Rattle.cov_model.specs.Sound.{ModelView, param_at, no_param}
-use Rattle.cov_model.specs.Rows.{is_assigned, value_in}
-use Rattle.cov_model.specs.Meaning.{value_at}
-use Rattle.definitions.specs.Report.{times_given, printed, printed_turn, cell_text}
+use Rattle.cov_model.specs.believed.Sound.{ModelView, param_at, no_param}
+use Rattle.cov_model.specs.believed.Rows.{is_assigned, value_in}
+use Rattle.cov_model.specs.believed.Meaning.{value_at}
+use Rattle.definitions.specs.believed.Report.{times_given, printed, printed_turn, cell_text}
 use Rattle.row_text.specs.Turns.{IsFor, AreTurns, first_turns, cleared, turns_at, turn_at, after_turn}
 
 -- one more element of a list made element by element

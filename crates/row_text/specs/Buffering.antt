@@ -2,8 +2,8 @@
 use Rattle.std.specs.Prelude.{◌≡◌, ℕ, zero, suc, Bool, true, false, Option, List, [], ◌∷◌, ◌++◌}
 use Rattle.outside_io.specs.declared.answers.WriteAnswer.{WriteAnswer}
 use Rattle.outside_io.specs.declared.answers.WriteAnswer.TheVariants.{Done, Failed}
-use Rattle.outside_io.specs.Seen.{SinkSeen}
-use Rattle.outside_io.specs.Puts.{Puts}
+use Rattle.outside_io.specs.believed.Seen.{SinkSeen}
+use Rattle.outside_io.specs.believed.Puts.{Puts}
 
 -- a buffer: the bytes that are held back, and whether a fault came
 pub record Buffered : Type 0 where

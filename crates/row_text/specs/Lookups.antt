@@ -4,11 +4,11 @@ use Rattle.std.specs.Prelude.{◌≡◌, ℕ, ◌<◌, Bool, List, [], length, O
 use Rattle.std.specs.List.{list_any}
 use Rattle.std.specs.Map.{lookup}
 use Rattle.std.specs.Str.{bytes_eq}
-use Rattle.value_text.specs.Texts.{folded}
+use Rattle.value_text.specs.believed.Texts.{folded}
 use Rattle.cov_model.specs.declared.parameter.Param.{Param}
 use Rattle.cov_model.specs.declared.parameter.Value.{Value}
-use Rattle.cov_model.specs.Sound.{ModelView, param_at}
-use Rattle.definitions.specs.Report.{printed}
+use Rattle.cov_model.specs.believed.Sound.{ModelView, param_at}
+use Rattle.definitions.specs.believed.Report.{printed}
 
 -- the number of a text: that of the first pair with it
 abbrev pub number_of : List (List ℕ × ℕ) → List ℕ → Option ℕ

@@ -1,33 +1,23 @@
 -- What the reading of a row file answers: exactly the reading of the definition, or its fault. Want of memory
 -- is the one answer that says nothing. (PICT's guide for seed files; the faults are this project's rules.)
-use Rattle.std.specs.Prelude.{◌≡◌, ℕ, ◌<◌, ◌≤◌, map, length, Option, Some, None, Result, Ok, Err, All, AllPairs, IfSome}
-use Rattle.model_lex.specs.declared.note.Note.{Note}
-use Rattle.model_lex.specs.declared.note.NoteCode.{NoteCode}
-use Rattle.model_lex.specs.declared.note.NoteCode.TheVariants as kinds
-use Rattle.cov_model.specs.Sound.{ModelView}
+use Rattle.std.specs.Prelude.{◌≡◌, ◌<◌, ◌≤◌, map, length, Option, Some, None, Result, Ok, Err, All, AllPairs, IfSome}
+use Rattle.cov_model.specs.believed.Sound.{ModelView}
 use Rattle.cov_model.specs.Fits.{FitsModel}
-use Rattle.definitions.specs.Limits.{Rows, most_counted}
-use Rattle.definitions.specs.RowReading as defined
-use Rattle.definitions.specs.RowReading.{RowReading, RowNote}
+use Rattle.definitions.specs.believed.Limits.{Rows, most_counted}
+use Rattle.definitions.specs.believed.RowReading as defined
+use Rattle.definitions.specs.believed.RowReading.{RowReading}
 use Rattle.row_text.specs.RowFiles.{seeds_seen}
 use Rattle.row_text.specs.declared.row_file.RowFile.{RowFile}
 use Rattle.row_text.specs.declared.row_file.RowMode.{RowMode}
 use Rattle.row_text.specs.declared.row_file.RowMode.TheVariants.{Seed, Suite}
 use Rattle.row_text.specs.declared.rows_fault.RowsFault.{RowsFault}
 use Rattle.row_text.specs.declared.rows_fault.RowsFault.TheVariants.{NoHeader, Twice, Missing, TooManyRows, Width, NoMemory}
+use Rattle.row_text.specs.believed.Readings.{note_told}
 
 -- the mode of a reading
 abbrev pub mode_seen : RowMode → defined.RowMode
 mode_seen Seed = defined.Seed
 mode_seen Suite = defined.Suite
-
--- the code of a note, and the note as the program holds it
-abbrev pub code_of : RowNote → NoteCode
-code_of defined.UnknownColumn = kinds.UnknownColumn
-code_of defined.UnknownValue = kinds.UnknownValue
-
-abbrev pub note_told : ℕ × RowNote → Note
-note_told note = record { line = note.0; code = code_of note.1 }
 
 -- a row file holds a reading: its rows, each with its line, and its notes
 pub record HoldsReading (file : RowFile) (reading : RowReading) : Type 0 where

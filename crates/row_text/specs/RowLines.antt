@@ -3,11 +3,11 @@
 use Rattle.std.specs.Prelude.{◌≡◌, ℕ, ◌<◌, ◌≤◌, Bool, ◌&&◌, not, List, filter, length, Option, Some, None, Result, Ok, Err, is_none, ◌==◌, nat_lt, slice_set, IfSome, false}
 use Rattle.std.specs.List.{enumerate_from}
 use Rattle.std.specs.Option.{option_map_or}
-use Rattle.model_lex.specs.Lines.{file_lines}
-use Rattle.cov_model.specs.Sound.{ModelView}
-use Rattle.definitions.specs.RowFile.{named_value}
-use Rattle.definitions.specs.RowReading as defined
-use Rattle.definitions.specs.RowReading.{column_count}
+use Rattle.model_lex.specs.believed.Lines.{file_lines}
+use Rattle.cov_model.specs.believed.Sound.{ModelView}
+use Rattle.definitions.specs.believed.RowFile.{named_value}
+use Rattle.definitions.specs.believed.RowReading as defined
+use Rattle.definitions.specs.believed.RowReading.{column_count}
 use Rattle.row_text.specs.Readings.{fault_of}
 use Rattle.row_text.specs.declared.filled_lines.FilledLine.{FilledLine}
 use Rattle.row_text.specs.declared.rows_fault.RowsFault.{RowsFault}

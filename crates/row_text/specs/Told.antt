@@ -1,6 +1,6 @@
 -- Numbers as the program holds them and as definitions name them.
-use Rattle.definitions.specs.Statistics.{Statistics}
-use Rattle.definitions.specs.Figures as defined
+use Rattle.definitions.specs.believed.Statistics.{Statistics}
+use Rattle.definitions.specs.believed.Figures as defined
 use Rattle.row_text.specs.declared.figures.Stats.{Stats}
 use Rattle.row_text.specs.declared.figures.Figures.{Figures}
 

@@ -1,9 +1,9 @@
 -- Which name of each value is shown next: a number for each parameter and each of its values.
 -- (That names take turns is PICT's guide's.)
 use Rattle.std.specs.Prelude.{◌≡◌, ℕ, ◌+◌, ◌%◌, ◌<◌, List, [], map, length, replicate, Option, slice_index, slice_index_or, slice_set}
-use Rattle.cov_model.specs.Sound.{ModelView, param_at}
-use Rattle.cov_model.specs.Meaning.{value_at}
-use Rattle.definitions.specs.Report.{times_given}
+use Rattle.cov_model.specs.believed.Sound.{ModelView, param_at}
+use Rattle.cov_model.specs.believed.Meaning.{value_at}
+use Rattle.definitions.specs.believed.Report.{times_given}
 use Rattle.row_text.specs.declared.turns.Turns.{Turns}
 
 -- before the first row each value of the model shows its first name

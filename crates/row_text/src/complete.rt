@@ -1,5 +1,5 @@
 ghost use Rattle.std.specs.Prelude.{◌≡◌, ◌^◌, ◌<◌, length};
-ghost use Rattle.cov_model.specs.Rows.{is_complete};
+ghost use Rattle.cov_model.specs.believed.Rows.{is_complete};
 
 use cov_model::{Cells, ParamNo};
 

@@ -1,7 +1,7 @@
 //! The cells of a row file without the spaces at their ends.
 ghost use Rattle.std.specs.Prelude.{◌≡◌, ◌≤◌, ◌==◌, length};
 ghost use Rattle.std.specs.List.{prefix_len, suffix_len};
-ghost use Rattle.definitions.specs.RowFile.{without_first_spaces, without_last_spaces, without_spaces};
+ghost use Rattle.definitions.specs.believed.RowFile.{without_first_spaces, without_last_spaces, without_spaces};
 
 /// How many spaces stand at the start of a cell.
 #[tactic(auto, using(model_lex::proofs::Runs::run_len, model_lex::proofs::Runs::run_within))]

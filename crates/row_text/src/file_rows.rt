@@ -1,9 +1,9 @@
 ghost use Rattle.std.specs.Prelude.{◌≡◌, [], ◌∷◌, ◌++◌, ◌<◌, ◌≤◌, ◌==◌, ℕ, List, if◌then◌else◌, map, find, count_by, length, nat_lt, All, IfOk, IfSome, OnOk};
 ghost use Rattle.std.specs.List.{flat_map};
 ghost use Rattle.std.specs.Option.{option_map, option_or};
-ghost use Rattle.definitions.specs.RowFile.{cells_of_line, named_param, row_of_line};
-ghost use Rattle.definitions.specs.RowReading.{count_fault, value_notes, width_fault};
-ghost use Rattle.row_text.specs.Readings.{note_told};
+ghost use Rattle.definitions.specs.believed.RowFile.{cells_of_line, named_param, row_of_line};
+ghost use Rattle.definitions.specs.believed.RowReading.{count_fault, value_notes, width_fault};
+ghost use Rattle.row_text.specs.believed.Readings.{note_told};
 ghost use Rattle.row_text.specs.RowFiles.{seeds_seen};
 ghost use Rattle.row_text.specs.RowLines.{AreOnce, Finds, is_unknown_cell, line_seen, with_cell};
 

@@ -1,5 +1,5 @@
 ghost use Rattle.std.specs.Prelude.{◌≡◌, ◌+◌, ◌<◌, ◌≤◌, ◌^◌, [], ◌∷◌, length, MatchOption, IfSome};
-ghost use Rattle.definitions.specs.RowFile.{filled_lines};
+ghost use Rattle.definitions.specs.believed.RowFile.{filled_lines};
 ghost use Rattle.row_text.specs.RowLines.{filled_from, line_seen};
 
 use model_lex::{cut_line, without_mark};

@@ -1,11 +1,12 @@
 ghost use Rattle.std.specs.Prelude.{◌≡◌, ◌++◌, ◌∷◌, [], ◌<◌, ◌^◌, ◌==◌, ℕ, List, if◌then◌else◌, is_none, false, map, length, count_by, nat_eq, nat_lt, position, All, IfOk, IfSome, OnOk};
 ghost use Rattle.std.specs.List.{list_any, range_with_len};
 ghost use Rattle.std.specs.Option.{option_map_or, option_or};
-ghost use Rattle.cov_model.specs.Sound.{ModelView};
-ghost use Rattle.cov_model.specs.Valid.{param_numbers};
-ghost use Rattle.definitions.specs.RowFile.{cells_of_line, named_param};
-ghost use Rattle.definitions.specs.RowReading.{UnknownColumn, column_notes, column_count, twice_fault, missing_fault};
-ghost use Rattle.row_text.specs.Readings.{mode_seen, note_told};
+ghost use Rattle.cov_model.specs.believed.Sound.{ModelView};
+ghost use Rattle.cov_model.specs.believed.Valid.{param_numbers};
+ghost use Rattle.definitions.specs.believed.RowFile.{cells_of_line, named_param};
+ghost use Rattle.definitions.specs.believed.RowReading.{UnknownColumn, column_notes, column_count, twice_fault, missing_fault};
+ghost use Rattle.row_text.specs.Readings.{mode_seen};
+ghost use Rattle.row_text.specs.believed.Readings.{note_told};
 ghost use Rattle.row_text.specs.RowLines.{Finds};
 
 use crate::filled_lines::FilledLine;

@@ -1,5 +1,5 @@
 ghost use Rattle.std.specs.Prelude.{◌≡◌, [], ◌∷◌, ◌==◌, position, MatchOption};
-ghost use Rattle.definitions.specs.RowFile.{cells_of_line};
+ghost use Rattle.definitions.specs.believed.RowFile.{cells_of_line};
 
 use crate::cuts::without_spaces;
 use std::marker::Model;
@@ -13,7 +13,7 @@ pub struct LineCells<'a> {
 impl<'a> Model for LineCells<'a> {
     ghost use Rattle.std.specs.Prelude.{List, ℕ, []};
     ghost use Rattle.std.specs.Option.{option_map_or};
-    ghost use Rattle.definitions.specs.RowFile.{cells_of_line};
+    ghost use Rattle.definitions.specs.believed.RowFile.{cells_of_line};
 
     ghost Value = { List (List ℕ) };
 

@@ -1,6 +1,6 @@
 ghost use Rattle.std.specs.Prelude.{◌≡◌, List, ℕ};
-ghost use Rattle.outside_io.specs.Seen.{SinkSeen};
-ghost use Rattle.outside_io.specs.Puts.{Puts};
+ghost use Rattle.outside_io.specs.believed.Seen.{SinkSeen};
+ghost use Rattle.outside_io.specs.believed.Puts.{Puts};
 ghost use Rattle.row_text.specs.Buffering.{Holds, Adds, empty_buffer};
 
 use crate::out_buffer::is_fault;

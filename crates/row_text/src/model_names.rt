@@ -1,9 +1,9 @@
 ghost use Rattle.std.specs.Prelude.{◌≡◌, ◌<◌, ◌≤◌, ℕ, List, [], ◌∷◌, Some, None, if◌then◌else◌, length, position, slice_index_or, IfOk, OnOk};
 ghost use Rattle.std.specs.Option.{option_or};
-ghost use Rattle.value_text.specs.Texts.{folded};
-ghost use Rattle.cov_model.specs.Sound.{IsSound, param_at};
-ghost use Rattle.definitions.specs.Report.{printed};
-ghost use Rattle.definitions.specs.RowFile.{named_param, named_value};
+ghost use Rattle.value_text.specs.believed.Texts.{folded};
+ghost use Rattle.cov_model.specs.believed.Sound.{IsSound, param_at};
+ghost use Rattle.definitions.specs.believed.Report.{printed};
+ghost use Rattle.definitions.specs.believed.RowFile.{named_param, named_value};
 ghost use Rattle.row_text.specs.Lookups.{is_param_named, is_value_named, number_of};
 
 use crate::text_numbers::TextNumbers;
@@ -24,7 +24,7 @@ pub(crate) struct ModelNames<'a> {
 
 impl<'a> Model for ModelNames<'a> {
     ghost use Rattle.std.specs.Coded.{codes};
-    ghost use Rattle.cov_model.specs.Sound.{ModelView};
+    ghost use Rattle.cov_model.specs.believed.Sound.{ModelView};
     ghost use Rattle.cov_model.specs.contracts.model.TestModel as tested;
     ghost use Rattle.row_text.specs.Lookups.{AreNamesOf};
 

@@ -1,6 +1,6 @@
 ghost use Rattle.std.specs.Prelude.{◌≡◌};
-ghost use Rattle.outside_io.specs.Puts.{Puts};
-ghost use Rattle.definitions.specs.Statistics.{number_line, numbers_line, statistics_text, figures_text};
+ghost use Rattle.outside_io.specs.believed.Puts.{Puts};
+ghost use Rattle.definitions.specs.believed.Statistics.{number_line, numbers_line, statistics_text, figures_text};
 ghost use Rattle.row_text.specs.Buffering.{Adds};
 ghost use Rattle.row_text.specs.Told.{statistics_seen, figures_seen};
 

@@ -1,7 +1,7 @@
 ghost use Rattle.std.specs.Prelude.{◌≡◌, ◌+◌, ◌++◌, ◌≤◌, ℕ, List, [], Bool, true, false, length, codes, IfOk};
 ghost use Rattle.outside_io.specs.Faults.{is_failed_write};
-ghost use Rattle.outside_io.specs.Seen.{SinkSeen};
-ghost use Rattle.outside_io.specs.Puts.{Puts};
+ghost use Rattle.outside_io.specs.believed.Seen.{SinkSeen};
+ghost use Rattle.outside_io.specs.believed.Puts.{Puts};
 ghost use Rattle.row_text.specs.Buffering.{Holds, Adds, empty_buffer};
 
 use outside_io::{Sink, WriteAnswer};

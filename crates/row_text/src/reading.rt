@@ -1,6 +1,6 @@
 ghost use Rattle.std.specs.Prelude.{◌≡◌, ◌≤◌, ◌^◌, ℕ, List, ◌∷◌, length, IfOk};
-ghost use Rattle.definitions.specs.RowFile.{filled_lines};
-ghost use Rattle.definitions.specs.RowReading.{read_numbered, read_rows};
+ghost use Rattle.definitions.specs.believed.RowFile.{filled_lines};
+ghost use Rattle.definitions.specs.believed.RowReading.{read_numbered, read_rows};
 ghost use Rattle.row_text.specs.Readings.{IsFileOf, Reads, mode_seen};
 ghost use Rattle.row_text.specs.RowLines.{line_seen};
 

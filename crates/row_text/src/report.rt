@@ -1,11 +1,11 @@
 ghost use Rattle.std.specs.Prelude.{◌≡◌, ◌≢◌, ◌++◌, ◌+◌, ◌<◌, ◌≤◌, ℕ, List, [], ◌∷◌, Option, true, length, take, map, All, slice_index_or, if◌then◌else◌};
 ghost use Rattle.std.specs.List.{join_with_byte};
-ghost use Rattle.outside_io.specs.Puts.{Puts};
-ghost use Rattle.cov_model.specs.Meaning.{value_at};
-ghost use Rattle.cov_model.specs.Rows.{value_in};
-ghost use Rattle.cov_model.specs.Sound.{IsSoundValue, param_at};
-ghost use Rattle.cov_model.specs.Valid.{is_row};
-ghost use Rattle.definitions.specs.Report.{cell_text, header_line, row_line, row_lines, report_text};
+ghost use Rattle.outside_io.specs.believed.Puts.{Puts};
+ghost use Rattle.cov_model.specs.believed.Meaning.{value_at};
+ghost use Rattle.cov_model.specs.believed.Rows.{value_in};
+ghost use Rattle.cov_model.specs.believed.Sound.{IsSoundValue, param_at};
+ghost use Rattle.cov_model.specs.believed.Valid.{is_row};
+ghost use Rattle.definitions.specs.believed.Report.{cell_text, header_line, row_line, row_lines, report_text};
 ghost use Rattle.row_text.specs.Buffering.{Adds, separator};
 ghost use Rattle.row_text.specs.Turns.{AreMadeFor, IsFor, AreTurns, turns_at};
 

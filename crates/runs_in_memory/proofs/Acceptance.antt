@@ -1,14 +1,15 @@
 -- What is accepted as a text is accepted by a check of the bytes.
 use Rattle.std.proofs.Common.{◌≡◌, ℕ, List, length, Result, Ok, Err, refl, ap, sym}
 use Rattle.std.specs.Prelude.{◌≢◌, None, IsOkAnd}
-use Rattle.cov_model.specs.Sound.{ModelView}
+use Rattle.cov_model.specs.believed.Sound.{ModelView}
 use Rattle.model_lex.specs.declared.note.Note.{Note}
 use Rattle.model_lex.specs.declared.options.ModelOpts.{ModelOpts}
-use Rattle.definitions.specs.RowReading.{RowReading, RowsFault, Suite, read_rows}
-use Rattle.definitions.specs.Verdict as defined
-use Rattle.type_check.specs.ModelOf.{IsModelOf}
-use Rattle.tuple_index.specs.PlanFault.{limit_passed}
-use Rattle.proof_check.specs.Checks.{IsCheckOf, verdict_given}
+use Rattle.definitions.specs.believed.RowReading.{RowReading, RowsFault, Suite, read_rows}
+use Rattle.definitions.specs.believed.Verdict as defined
+use Rattle.type_check.specs.believed.ModelOf.{IsModelOf}
+use Rattle.tuple_index.specs.believed.PlanFault.{limit_passed}
+use Rattle.proof_check.specs.Checks.{IsCheckOf}
+use Rattle.proof_check.specs.believed.Checks.{verdict_given}
 use Rattle.proof_check.specs.declared.verdict.Verdict.{Verdict}
 use Rattle.proof_check.specs.declared.verdict.Verdict.TheVariants.{Accepted}
 use Rattle.proof_check.specs.declared.verdict.CheckFault.{CheckFault}

@@ -1,7 +1,7 @@
 -- A count of faults that stays 0 doesn't rise.
 use Rattle.std.proofs.Common.{ℕ, List, Option, None, Some, inl, inr, arith}
 use Rattle.std.specs.Prelude.{IsSomeAnd}
-use Rattle.outside_io.specs.Faults.{Rose}
+use Rattle.outside_io.specs.believed.Faults.{Rose}
 
 pub never_rose : ¬ Rose 0 0
 never_rose (inl less) = omega (arith, less)

@@ -1,7 +1,7 @@
 -- Runs over a folder and sinks that tell everything.
 use Rattle.std.proofs.Common.{◌≡◌, ◌≢◌, ℕ, List, Option, Some, None, Result, Ok, Err, refl}
 use Rattle.std.specs.Prelude.{IfSome, IsOkAnd, IsSomeAnd}
-use Rattle.seq_cli.specs.Words.{Asked}
+use Rattle.seq_cli.specs.believed.Words.{Asked}
 
 -- words that have no reading end with status 3
 pub asked_or_three : (asked : Result Asked ℕ) (status other : ℕ) (P : Asked → Type 0) → ((a : Asked) → asked ≡ Ok a → P a) → ((index : ℕ) → asked ≡ Err index → status ≡ 3)

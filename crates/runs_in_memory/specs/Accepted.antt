@@ -1,12 +1,12 @@
 -- What the checker says of what `pict` printed. (This project's rule.)
 use Rattle.std.specs.Prelude.{◌≡◌, ◌≢◌, ℕ, ◌≤◌, List, length, Result, Ok, Err}
-use Rattle.cov_model.specs.Sound.{ModelView}
+use Rattle.cov_model.specs.believed.Sound.{ModelView}
 use Rattle.model_lex.specs.declared.note.Note.{Note}
 use Rattle.model_lex.specs.declared.options.ModelOpts.{ModelOpts}
-use Rattle.definitions.specs.Limits.{Rows, most_counted}
-use Rattle.definitions.specs.RowFile.{rows_of}
-use Rattle.type_check.specs.ModelOf.{IsModelOf}
-use Rattle.pict_cli.specs.Runs.{IsAcceptedWith}
+use Rattle.definitions.specs.believed.Limits.{Rows, most_counted}
+use Rattle.definitions.specs.believed.RowFile.{rows_of}
+use Rattle.type_check.specs.believed.ModelOf.{IsModelOf}
+use Rattle.pict_cli.specs.believed.Runs.{IsAcceptedWith}
 use Rattle.proof_check.specs.Checks.{IsCheckOf}
 use Rattle.proof_check.specs.declared.verdict.Verdict.{Verdict}
 use Rattle.proof_check.specs.declared.verdict.Verdict.TheVariants.{Accepted}

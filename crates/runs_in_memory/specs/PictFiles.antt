@@ -1,9 +1,9 @@
 -- What a folder in memory holds for a run.
 use Rattle.std.specs.Prelude.{ℕ, List, Option, None, Some}
-use Rattle.definitions.specs.Settings.{Settings}
-use Rattle.made_models.specs.MadeModel.{made_text}
+use Rattle.definitions.specs.believed.Settings.{Settings}
+use Rattle.made_models.specs.believed.MadeModel.{made_text}
 use Rattle.memory_io.specs.MemFolder.{Slot, file_of}
-use Rattle.pict_cli.specs.Modes.{RowSource, NoRowFile, RowsHeld, row_file}
+use Rattle.pict_cli.specs.believed.Modes.{RowSource, NoRowFile, RowsHeld, row_file}
 
 -- the row file
 abbrev pub source_under : List Slot → Option (List ℕ) → RowSource

@@ -1,9 +1,9 @@
 ghost use Rattle.std.specs.Prelude.{◌≡◌, ◌++◌, IsOkAnd};
-ghost use Rattle.definitions.specs.Laws.{IsCertified};
-ghost use Rattle.definitions.specs.Verdict.{verdict, verdict_text};
-ghost use Rattle.command_line.specs.Words.{opts_of, texts};
-ghost use Rattle.check_cli.specs.Runs.{HasReadings, HasVerdict, verdict_status};
-ghost use Rattle.check_cli.specs.Words.{asked_by, names_in};
+ghost use Rattle.definitions.specs.believed.Laws.{IsCertified};
+ghost use Rattle.definitions.specs.believed.Verdict.{verdict, verdict_text};
+ghost use Rattle.command_line.specs.believed.Words.{opts_of, texts};
+ghost use Rattle.check_cli.specs.believed.Runs.{HasReadings, HasVerdict, verdict_status};
+ghost use Rattle.check_cli.specs.believed.Words.{asked_by, names_in};
 ghost use Rattle.runs_in_memory.specs.CheckFiles.{held_in};
 
 use check_cli::run_check;

@@ -1,11 +1,11 @@
 ghost use Rattle.std.specs.Prelude.{◌≡◌, ◌≢◌, ◌⊎◌, Ok};
-ghost use Rattle.definitions.specs.Settings.{Settings};
-ghost use Rattle.definitions.specs.Verdict.{verdict};
-ghost use Rattle.command_line.specs.Stops.{status_of};
+ghost use Rattle.definitions.specs.believed.Settings.{Settings};
+ghost use Rattle.definitions.specs.believed.Verdict.{verdict};
+ghost use Rattle.command_line.specs.believed.Stops.{status_of};
 ghost use Rattle.memory_io.specs.FileLists.{told_of};
-ghost use Rattle.command_line.specs.Words.{opts_of, texts};
-ghost use Rattle.check_cli.specs.Runs.{AreRead, HasReadings, HeldFiles, Holds, FilesAreRefused, verdict_status};
-ghost use Rattle.check_cli.specs.Words.{asked_by, names_in};
+ghost use Rattle.command_line.specs.believed.Words.{opts_of, texts};
+ghost use Rattle.check_cli.specs.believed.Runs.{AreRead, HasReadings, HeldFiles, Holds, FilesAreRefused, verdict_status};
+ghost use Rattle.check_cli.specs.believed.Words.{asked_by, names_in};
 
 use check_cli::run_check;
 use command_line::Stop;

@@ -1,13 +1,13 @@
 ghost use Rattle.std.specs.Prelude.{◌≡◌, true, Ok, IfSome, IsOkAnd, option_map};
-ghost use Rattle.definitions.specs.Settings.{Settings};
+ghost use Rattle.definitions.specs.believed.Settings.{Settings};
 ghost use Rattle.memory_io.specs.MemFolder.{file_of};
 ghost use Rattle.runs_in_memory.specs.PictFiles.{model_in, source_of};
-ghost use Rattle.pict_cli.specs.Ends.{moment};
-ghost use Rattle.pict_cli.specs.Modes.{prints_rows};
-ghost use Rattle.pict_cli.specs.Promises.{HasStatus, world};
-ghost use Rattle.pict_cli.specs.Runs.{HasModel, HoldsWholeProof, IsRun, PrintsSuite, rows_of_run};
-ghost use Rattle.command_line.specs.Words.{opts_of, texts};
-ghost use Rattle.pict_cli.specs.Words.{asked_by, model_file};
+ghost use Rattle.pict_cli.specs.believed.Ends.{moment};
+ghost use Rattle.pict_cli.specs.believed.Modes.{prints_rows};
+ghost use Rattle.pict_cli.specs.believed.Promises.{HasStatus, world};
+ghost use Rattle.pict_cli.specs.believed.Runs.{HasModel, HoldsWholeProof, IsRun, PrintsSuite, rows_of_run};
+ghost use Rattle.command_line.specs.believed.Words.{opts_of, texts};
+ghost use Rattle.pict_cli.specs.believed.Words.{asked_by, model_file};
 
 use memory_io::{MemFolder, MemSink};
 use outside_io::{Folder, Sink};

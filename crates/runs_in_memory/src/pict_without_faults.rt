@@ -1,15 +1,15 @@
 ghost use Rattle.std.specs.Prelude.{◌≡◌, ◌≢◌, ◌⊎◌, ◌<◌, ◌≤◌, ℕ, List, length, Some, None, Ok};
-ghost use Rattle.cov_model.specs.Sound.{ModelView};
-ghost use Rattle.definitions.specs.Limits.{ModelFile, most_bytes};
-ghost use Rattle.definitions.specs.Settings.{Settings};
+ghost use Rattle.cov_model.specs.believed.Sound.{ModelView};
+ghost use Rattle.definitions.specs.believed.Limits.{ModelFile, most_bytes};
+ghost use Rattle.definitions.specs.believed.Settings.{Settings};
 ghost use Rattle.model_lex.specs.declared.fault.ModelFault.{ModelFault};
-ghost use Rattle.type_check.specs.ModelOf.{IsRefusalOf};
-ghost use Rattle.command_line.specs.Stops.{status_of};
+ghost use Rattle.type_check.specs.believed.ModelOf.{IsRefusalOf};
+ghost use Rattle.command_line.specs.believed.Stops.{status_of};
 ghost use Rattle.memory_io.specs.FileLists.{told_of};
-ghost use Rattle.command_line.specs.Words.{opts_of, texts};
-ghost use Rattle.pict_cli.specs.Modes.{RowSource, model_source};
-ghost use Rattle.pict_cli.specs.Runs.{fault_status, stop_due};
-ghost use Rattle.pict_cli.specs.Words.{IsSpelled, asked_by, model_file};
+ghost use Rattle.command_line.specs.believed.Words.{opts_of, texts};
+ghost use Rattle.pict_cli.specs.believed.Modes.{RowSource, model_source};
+ghost use Rattle.pict_cli.specs.believed.Runs.{fault_status, stop_due};
+ghost use Rattle.pict_cli.specs.believed.Words.{IsSpelled, asked_by, model_file};
 
 use command_line::Stop;
 use memory_io::{SureFolder, SureSink};

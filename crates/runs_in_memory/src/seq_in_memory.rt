@@ -1,10 +1,10 @@
 ghost use Rattle.std.specs.Prelude.{◌≡◌, None, IfSome, IsOkAnd, IsSomeAnd};
 ghost use Rattle.memory_io.specs.MemFolder.{file_of};
-ghost use Rattle.seq_check.specs.Events.{EventsView};
-ghost use Rattle.seq_cover.specs.Covering.{IsAccepted};
-ghost use Rattle.seq_cli.specs.Runs.{HasVerdict, PrintsCovering, Spells};
-ghost use Rattle.seq_cli.specs.Words.{asked_by};
-ghost use Rattle.command_line.specs.Words.{texts};
+ghost use Rattle.seq_check.specs.believed.Events.{EventsView};
+ghost use Rattle.seq_cover.specs.believed.Covering.{IsAccepted};
+ghost use Rattle.seq_cli.specs.believed.Runs.{HasVerdict, PrintsCovering, Spells};
+ghost use Rattle.seq_cli.specs.believed.Words.{asked_by};
+ghost use Rattle.command_line.specs.believed.Words.{texts};
 
 use memory_io::{MemFolder, MemSink};
 use seq_cli::run_seq;

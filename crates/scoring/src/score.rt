@@ -1,7 +1,7 @@
 ghost use Rattle.std.specs.Prelude.{◌≡◌, ◌+◌, ◌*◌, ◌^◌, ◌<◌, ◌≤◌, length, map};
 ghost use Rattle.std.specs.List.{range_with_len};
 ghost use Rattle.std.specs.Thread.{IsSync};
-ghost use Rattle.cov_model.specs.Sound.{param_at};
+ghost use Rattle.cov_model.specs.believed.Sound.{param_at};
 ghost use Rattle.definitions.specs.SliceRows.{IsOfSlice};
 ghost use Rattle.scoring.specs.Gains.{AreGains};
 ghost use Rattle.uncovered_table.specs.Open.{gain};

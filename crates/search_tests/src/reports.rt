@@ -1,7 +1,7 @@
 //! What reports, statistics and figures are written as.
 
 ghost use Rattle.std.specs.Prelude.{◌≡◌, true, All, IfOk};
-ghost use Rattle.cov_model.specs.Valid.{is_row};
+ghost use Rattle.cov_model.specs.believed.Valid.{is_row};
 ghost use Rattle.row_text.specs.Turns.{AreMadeFor};
 
 use cov_model::{Rows, TestModel, ValueNo};

@@ -10,11 +10,11 @@ use Rattle.std.proofs.lemmas.List.Folds.{list_any-append}
 use Rattle.std.proofs.lemmas.List.FromFn.{length-map-range_with_len}
 use Rattle.std.proofs.lemmas.List.Sums.{AllPass-from_list_all}
 use Rattle.seq_check.specs.Checking.{Checked}
-use Rattle.seq_check.specs.Events.{EventsView, AreEvents}
+use Rattle.seq_check.specs.believed.Events.{EventsView, AreEvents}
 use Rattle.seq_check.specs.EventSets.{IsFront, OpenView, Tells, is_open, places, rises}
-use Rattle.seq_check.specs.OrderReport.{ReportLine, Row, Never, Wrong, is_wrong, never_named, report_line_of, report_lines, row_named}
-use Rattle.seq_check.specs.Orders.{has, is_had, is_sequence, place, sequences, steps}
-use Rattle.seq_check.specs.Verdicts.{by_line, by_sequence, is_left, nevers_in, rows_in, verdict, verdict_on}
+use Rattle.seq_check.specs.believed.OrderReport.{ReportLine, Row, Never, Wrong, is_wrong, never_named, report_line_of, report_lines, row_named}
+use Rattle.seq_check.specs.believed.Orders.{has, is_had, is_sequence, place, sequences, steps}
+use Rattle.seq_check.specs.believed.Verdicts.{by_line, by_sequence, is_left, nevers_in, rows_in, verdict, verdict_on}
 use Rattle.seq_check.specs.declared.verdict.OrderVerdict.TheVariants.{BadLine}
 use Rattle.seq_check.proofs.StepLemmas.{all_kept}
 

@@ -1,10 +1,10 @@
 -- What the definitions say of small files of events and of reports, worked out from the definitions alone.
 use Rattle.std.proofs.Common.{◌≡◌, true, false, [], ◌∷◌, codes, Ok, Err, refl}
-use Rattle.seq_check.specs.Events.{EventsView}
-use Rattle.seq_check.specs.EventFile.{events_of}
-use Rattle.seq_check.specs.OrderReport.{never_line, row_line}
-use Rattle.seq_check.specs.Orders.{arrows, has, is_cycle, is_permitted, sequences, steps}
-use Rattle.seq_check.specs.Verdicts.{verdict, verdict_text}
+use Rattle.seq_check.specs.believed.Events.{EventsView}
+use Rattle.seq_check.specs.believed.EventFile.{events_of}
+use Rattle.seq_check.specs.believed.OrderReport.{never_line, row_line}
+use Rattle.seq_check.specs.believed.Orders.{arrows, has, is_cycle, is_permitted, sequences, steps}
+use Rattle.seq_check.specs.believed.Verdicts.{verdict, verdict_text}
 use Rattle.seq_check.specs.declared.fault.EventCode.TheVariants.{Q1, Q2, Q3, Q4, Q5}
 use Rattle.seq_check.specs.declared.fault.EventsFault.TheVariants.{Bad}
 use Rattle.seq_check.specs.declared.verdict.OrderVerdict.TheVariants.{Accepted, BadLine, Uncovered}

@@ -13,7 +13,7 @@ use Rattle.std.proofs.lemmas.List.Folds.{find_at, find-append}
 use Rattle.std.proofs.lemmas.List.FromFn.{get_or-range_with_len, length-range_with_len}
 use Rattle.std.proofs.lemmas.List.Sums.{position_or_len_is}
 use Rattle.std.proofs.lemmas.Option.{slice_get-get_or}
-use Rattle.seq_check.specs.Orders.{distinct_lists, is_among, lengthened}
+use Rattle.seq_check.specs.believed.Orders.{distinct_lists, is_among, lengthened}
 use Rattle.seq_check.specs.EventSets.{IsFront, OpenView, Tells, is_open}
 use Rattle.value_text.proofs.ListLemmas.{nothing_found}
 

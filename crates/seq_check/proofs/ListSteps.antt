@@ -4,7 +4,7 @@ use Rattle.std.specs.List.{range_with_len}
 use Rattle.std.proofs.lemmas.List.{map-append, append-nil}
 use Rattle.std.proofs.lemmas.List.Elements.{filter-append}
 use Rattle.value_text.proofs.ListLemmas.{range_with_len_more}
-use Rattle.seq_check.specs.Orders.{is_among, lengthened}
+use Rattle.seq_check.specs.believed.Orders.{is_among, lengthened}
 
 module _ (n : ℕ) (front : List ℕ) where
   joined : lengthened (n + 1) front ≡ lengthened n front ++ map (λ event. front ++ event ∷ []) (filter (λ event. not (is_among front event)) (n ∷ []))

@@ -16,8 +16,8 @@ use Rattle.std.specs.Char.{is_ascii_alphanumeric}
 use Rattle.std.specs.List.{list_any}
 use Rattle.std.specs.Str.{bytes_eq, IsUtf8}
 use Rattle.value_text.proofs.ListLemmas.{list_any-position, any_text, place_text}
-use Rattle.seq_check.specs.Events.{is_name}
-use Rattle.seq_check.specs.EventFile.{number_of}
+use Rattle.seq_check.specs.believed.Events.{is_name}
+use Rattle.seq_check.specs.believed.EventFile.{number_of}
 
 -- a name is a text of ASCII characters
 name_byte : (b : ℕ) → (is_ascii_alphanumeric b || eqb b 95) ≡ true → b < 128

@@ -2,8 +2,8 @@
 use Rattle.std.proofs.Common.{◌≡◌, ℕ, ◌+◌, ◌^◌, ◌<◌, ◌≤◌, List, [], ◌∷◌, length, refl, arith, ◌∙◌, append_assoc, ap, sym, Some, None, Err}
 use Rattle.std.proofs.lemmas.List.{append-nil}
 use Rattle.std.specs.List.{enumerate_from}
-use Rattle.model_lex.specs.Lines.{file_lines}
-use Rattle.seq_check.specs.EventFile.{declared, events_in, events_unless, events_with, first_refusal, last_declaring, line_of, names_in, pairs_in, precedences, refusal}
+use Rattle.model_lex.specs.believed.Lines.{file_lines}
+use Rattle.seq_check.specs.believed.EventFile.{declared, events_in, events_unless, events_with, first_refusal, last_declaring, line_of, names_in, pairs_in, precedences, refusal}
 use Rattle.seq_check.specs.Reading.{Declared, Reads, Refuses, SoFar, nothing_declared, with_line}
 use Rattle.seq_check.specs.declared.fault.EventCode.{EventCode}
 use Rattle.seq_check.specs.declared.fault.EventsFault.TheVariants.{Bad, TooMany, NoMemory}

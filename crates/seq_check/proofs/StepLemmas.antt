@@ -8,15 +8,15 @@ use Rattle.std.proofs.lemmas.List.Elements.{All-head, All-tail, All-push}
 use Rattle.std.proofs.lemmas.List.Folds.{list_all-append, list_all-map, list_all_at, list_any-append}
 use Rattle.std.proofs.lemmas.List.FromFn.{get_or-map-range_with_len}
 use Rattle.value_text.proofs.ListLemmas.{list_any-map, list_any-position}
-use Rattle.seq_check.specs.Events.{EventsView, AreEvents}
+use Rattle.seq_check.specs.believed.Events.{EventsView, AreEvents}
 use Rattle.std.proofs.lemmas.List.{length-map, map-append, take_more, take_rest}
 use Rattle.std.proofs.lemmas.List.Quantifiers.{position-Some}
 use Rattle.std.specs.List.{slice_split}
 use Rattle.std.specs.Str.{bytes_eq}
-use Rattle.seq_check.specs.EventFile.{number_of}
+use Rattle.seq_check.specs.believed.EventFile.{number_of}
 use Rattle.seq_check.specs.EventSets.{is_lower, places}
-use Rattle.seq_check.specs.OrderReport.{Row, Wrong, has_marks, is_tab, never_in, never_of, numbers_of, row_in, row_of}
-use Rattle.seq_check.specs.Orders.{arrows, is_among, is_arrow, is_cycle, is_permitted, is_sequence, keeps, neighbours, place, steps}
+use Rattle.seq_check.specs.believed.OrderReport.{Row, Wrong, has_marks, is_tab, never_in, never_of, numbers_of, row_in, row_of}
+use Rattle.seq_check.specs.believed.Orders.{arrows, is_among, is_arrow, is_cycle, is_permitted, is_sequence, keeps, neighbours, place, steps}
 
 abbrev pub apart : ℕ × ℕ → Bool
 apart step = not (eqb step.0 step.1)

@@ -1,9 +1,9 @@
 -- How a report is checked line by line.
 use Rattle.std.specs.Prelude.{◌≡◌, ℕ, ◌+◌, ◌≤◌, ◌^◌, false, List, ◌++◌, length, map, All}
-use Rattle.seq_check.specs.Events.{EventsView}
+use Rattle.seq_check.specs.believed.Events.{EventsView}
 use Rattle.seq_check.specs.EventSets.{OpenView, Tells}
-use Rattle.seq_check.specs.OrderReport.{ReportLine, is_wrong, report_line_of, report_lines}
-use Rattle.seq_check.specs.Verdicts.{is_left, nevers_in, rows_in}
+use Rattle.seq_check.specs.believed.OrderReport.{ReportLine, is_wrong, report_line_of, report_lines}
+use Rattle.seq_check.specs.believed.Verdicts.{is_left, nevers_in, rows_in}
 
 -- what is asked of a report, once some of its lines are read, none of which is wrong, and a rest is left
 pub record Checked (e : EventsView) (report : List ℕ) (o : OpenView) (line rows omissions : ℕ) (rest : List ℕ) : Type 0 where

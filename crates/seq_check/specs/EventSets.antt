@@ -3,9 +3,9 @@ use Rattle.std.specs.Prelude.{◌≡◌, ℕ, ◌+◌, ◌*◌, ◌<◌, ◌⊎�
 use Rattle.std.specs.Prelude.{count_by, nat_lt, if◌then◌else◌, slice_index, slice_index_or, All, Vec, Option, Some, None}
 use Rattle.std.specs.Int.{bit_at}
 use Rattle.std.specs.List.{list_all, range_with_len}
-use Rattle.seq_check.specs.Events.{EventsView}
-use Rattle.seq_check.specs.Orders.{is_arrow, is_permitted, is_sequence, place, steps}
-use Rattle.seq_check.specs.OrderReport.{ReportLine, Row, Never, Wrong}
+use Rattle.seq_check.specs.believed.Events.{EventsView}
+use Rattle.seq_check.specs.believed.Orders.{is_arrow, is_permitted, is_sequence, place, steps}
+use Rattle.seq_check.specs.believed.OrderReport.{ReportLine, Row, Never, Wrong}
 use Rattle.seq_check.specs.declared.report_line.ReportLine as code
 use Rattle.seq_check.specs.declared.report_line.ReportLine.TheVariants as lines
 use Rattle.std.specs.declared.alloc.Global.{Global}

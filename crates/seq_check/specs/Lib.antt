@@ -1,9 +1,4 @@
-pub mod Events
-pub mod Orders
-pub mod EventFile
-pub mod Codes
-pub mod OrderReport
-pub mod Verdicts
 pub mod Reading
 pub mod EventSets
 pub mod Checking
+pub mod believed

@@ -2,9 +2,9 @@
 use Rattle.std.specs.Prelude.{◌≡◌, ◌≢◌, true, AllPairs, ℕ, ◌+◌, ◌<◌, ◌≤◌, ◌^◌, ◌==◌, if◌then◌else◌}
 use Rattle.std.specs.Prelude.{List, [], ◌++◌, length, Option, Some, Result, Ok, Err, All}
 use Rattle.std.specs.List.{enumerate_from}
-use Rattle.model_lex.specs.Lines.{file_lines}
-use Rattle.seq_check.specs.Events.{EventsView, is_name}
-use Rattle.seq_check.specs.EventFile.{Line, Ignored, Event, Precedence, Neither, declared, first_refusal, last_declaring, names_in, pairs_in, precedences}
+use Rattle.model_lex.specs.believed.Lines.{file_lines}
+use Rattle.seq_check.specs.believed.Events.{EventsView, is_name}
+use Rattle.seq_check.specs.believed.EventFile.{Line, Ignored, Event, Precedence, Neither, declared, first_refusal, last_declaring, names_in, pairs_in, precedences}
 use Rattle.seq_check.specs.declared.event_line.EventLine.{EventLine}
 use Rattle.seq_check.specs.declared.event_line.EventLine.TheVariants as lines
 use Rattle.seq_check.specs.declared.fault.EventCode.{EventCode}

@@ -1,11 +1,11 @@
 ghost use Rattle.std.specs.Prelude.{◌≡◌, ◌≤◌, ◌||◌, ◌==◌, true, length, position};
 ghost use Rattle.std.specs.Char.{is_ascii_alphanumeric};
 ghost use Rattle.std.specs.List.{list_all, prefix_len};
-ghost use Rattle.model_lex.specs.Blanks.{without_first_blanks};
-ghost use Rattle.value_text.specs.Texts.{is_blank};
-ghost use Rattle.model_lex.specs.Sections.{is_ignored};
-ghost use Rattle.seq_check.specs.Events.{is_name};
-ghost use Rattle.seq_check.specs.EventFile.{is_space, line_of, precedence_in};
+ghost use Rattle.model_lex.specs.believed.Blanks.{without_first_blanks};
+ghost use Rattle.value_text.specs.believed.Texts.{is_blank};
+ghost use Rattle.model_lex.specs.believed.Sections.{is_ignored};
+ghost use Rattle.seq_check.specs.believed.Events.{is_name};
+ghost use Rattle.seq_check.specs.believed.EventFile.{is_space, line_of, precedence_in};
 ghost use Rattle.seq_check.specs.Reading.{IsNamed, line_seen};
 
 use std::str::from_utf8;

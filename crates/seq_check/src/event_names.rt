@@ -1,5 +1,5 @@
 ghost use Rattle.std.specs.Prelude.{◌≡◌, ◌<◌, [], ◌∷◌, ◌++◌, length, take, None, IfOk, IfSome, OnOk, OnErr};
-ghost use Rattle.seq_check.specs.EventFile.{number_of};
+ghost use Rattle.seq_check.specs.believed.EventFile.{number_of};
 
 use indexmap::IndexSet;
 use std::alloc::Global;

@@ -1,5 +1,5 @@
 ghost use Rattle.std.specs.Prelude.{◌≡◌, ◌≤◌};
-ghost use Rattle.seq_check.specs.Events.{AreEvents, EventsView};
+ghost use Rattle.seq_check.specs.believed.Events.{AreEvents, EventsView};
 
 use std::marker::Model;
 use value_text::{OwnedList, TextList};
@@ -17,7 +17,7 @@ pub struct Events {
 }
 
 impl Model for Events {
-    ghost use Rattle.seq_check.specs.Events.{AreEvents, EventsView};
+    ghost use Rattle.seq_check.specs.believed.Events.{AreEvents, EventsView};
 
     ghost Value = { EventsView };
 

@@ -1,6 +1,6 @@
 ghost use Rattle.std.specs.Prelude.{◌≡◌};
-ghost use Rattle.seq_check.specs.Codes.{event_code, event_text, limit_name};
-ghost use Rattle.seq_check.specs.EventFile.{most};
+ghost use Rattle.seq_check.specs.believed.Codes.{event_code, event_text, limit_name};
+ghost use Rattle.seq_check.specs.believed.EventFile.{most};
 
 use value_text::NoMemory;
 

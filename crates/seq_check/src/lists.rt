@@ -1,7 +1,7 @@
 //! All lists of so many distinct events.
 ghost use Rattle.std.specs.Prelude.{◌≡◌, ◌≤◌, ◌++◌, ◌∷◌, [], IfOk, OnOk};
 ghost use Rattle.std.specs.List.{flat_map};
-ghost use Rattle.seq_check.specs.Orders.{distinct_lists, lengthened};
+ghost use Rattle.seq_check.specs.believed.Orders.{distinct_lists, lengthened};
 
 use std::alloc::Global;
 use value_text::{NoMemory, OwnedList};

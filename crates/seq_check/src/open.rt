@@ -2,7 +2,7 @@ ghost use Rattle.std.specs.Prelude.{◌≡◌, ◌≢◌, ◌<◌, ◌≤◌, �
 ghost use Rattle.std.specs.Prelude.{Bool, true, false, not, All, length, nat_lt, find, option_map, slice_index, IfOk};
 ghost use Rattle.std.specs.Str.{bytes_eq};
 ghost use Rattle.seq_check.specs.EventSets.{AreSets, IsFront, OpenView, Tells, first_of, in_set, in_set_at, is_open, rises, second_of, set_count, set_place};
-ghost use Rattle.seq_check.specs.Orders.{distinct_lists, is_among, lengthened};
+ghost use Rattle.seq_check.specs.believed.Orders.{distinct_lists, is_among, lengthened};
 
 use crate::event_set::EventSet;
 use crate::lists::{NoList, distinct_lists, with_event};

@@ -2,7 +2,7 @@
 ghost use Rattle.std.specs.Prelude.{◌≡◌, ◌==◌, ◌<◌, ◌^◌, All, length, position, IfOk};
 ghost use Rattle.std.specs.List.{list_all};
 ghost use Rattle.seq_check.specs.EventSets.{is_lower, places};
-ghost use Rattle.seq_check.specs.Orders.{place};
+ghost use Rattle.seq_check.specs.believed.Orders.{place};
 
 use std::alloc::Global;
 use value_text::NoMemory;

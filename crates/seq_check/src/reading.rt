@@ -1,6 +1,6 @@
 ghost use Rattle.std.specs.Prelude.{◌≡◌, ◌≤◌, ◌<◌, ◌^◌, ◌⊎◌, ◌∷◌, ◌++◌, [], All, length, IfErr, None, Ok, Err, IfOk, OnOk, OnErr, true};
-ghost use Rattle.seq_check.specs.Events.{AreEvents, is_name};
-ghost use Rattle.seq_check.specs.EventFile.{Event, Precedence, events_of, events_with, line_of, number_of, refusal};
+ghost use Rattle.seq_check.specs.believed.Events.{AreEvents, is_name};
+ghost use Rattle.seq_check.specs.believed.EventFile.{Event, Precedence, events_of, events_with, line_of, number_of, refusal};
 ghost use Rattle.seq_check.specs.Reading.{AreKnown, Declared, Reads, Refuses, SoFar, nothing_declared, with_line};
 
 use crate::event_line::{EventLine, line_of};

@@ -3,10 +3,10 @@ ghost use Rattle.std.specs.Prelude.{◌≡◌, ◌≤◌, ◌<◌, ◌==◌, ◌
 ghost use Rattle.std.specs.Prelude.{slice_index_or, take, drop, ◌-◌, true, [], ◌+◌, ◌&&◌, IfOk, IfSome};
 ghost use Rattle.std.specs.List.{list_all, list_any, slice_split};
 ghost use Rattle.std.specs.Str.{bytes_eq};
-ghost use Rattle.seq_check.specs.EventFile.{is_space, number_of};
+ghost use Rattle.seq_check.specs.believed.EventFile.{is_space, number_of};
 ghost use Rattle.seq_check.specs.EventSets.{AreOf, ArePermitted, IsLine, IsNeverIn, IsRowIn};
-ghost use Rattle.seq_check.specs.OrderReport.{has_marks, is_tab, never_in, numbers_of, report_line_of, row_in};
-ghost use Rattle.seq_check.specs.Orders.{arrows, is_arrow, is_cycle, is_sequence, neighbours, steps};
+ghost use Rattle.seq_check.specs.believed.OrderReport.{has_marks, is_tab, never_in, numbers_of, report_line_of, row_in};
+ghost use Rattle.seq_check.specs.believed.Orders.{arrows, is_arrow, is_cycle, is_sequence, neighbours, steps};
 
 use crate::arrows::Arrows;
 use crate::cut::parts;

@@ -1,5 +1,5 @@
 ghost use Rattle.std.specs.Prelude.{◌≡◌, ◌≤◌, ◌^◌, length, IfOk};
-ghost use Rattle.seq_check.specs.Verdicts.{verdict};
+ghost use Rattle.seq_check.specs.believed.Verdicts.{verdict};
 
 use crate::arrows::Arrows;
 use crate::events::Events;

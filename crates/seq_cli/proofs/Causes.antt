@@ -1,15 +1,15 @@
 -- Which status a run must end with, from what its files hold.
 use Rattle.std.proofs.Common.{◌≡◌, ℕ, ◌<◌, ◌≤◌, ◌⊎◌, List, length, Option, Some, None, Result, Ok, Err, inl, inr, refl, sym, ap, subst, ◌∙◌, arith}
 use Rattle.std.specs.Prelude.{IfSome, IsSomeAnd}
-use Rattle.outside_io.specs.Seen.{FolderSeen, SinkSeen, ReadFaultsRose, PutFaultsRose}
-use Rattle.seq_check.specs.Events.{EventsView}
-use Rattle.seq_check.specs.EventFile.{events_of}
+use Rattle.outside_io.specs.believed.Seen.{FolderSeen, SinkSeen, ReadFaultsRose, PutFaultsRose}
+use Rattle.seq_check.specs.believed.Events.{EventsView}
+use Rattle.seq_check.specs.believed.EventFile.{events_of}
 use Rattle.seq_check.specs.declared.fault.EventsFault.{EventsFault}
-use Rattle.seq_cli.specs.Runs.{AreRead, Ends, HoldsReport, IsRead, IsReportRead, ReadsCalmly, RoseOf, Spells, answer_of, answers}
-use Rattle.seq_cli.specs.Runs.{at_file, behind, cannot_read, is_refused, no_memory, no_report, not_read, too_long, wants_memory}
+use Rattle.seq_cli.specs.believed.Runs.{AreRead, Ends, HoldsReport, IsRead, IsReportRead, ReadsCalmly, RoseOf, Spells, answer_of, answers}
+use Rattle.seq_cli.specs.believed.Runs.{at_file, behind, cannot_read, is_refused, no_memory, no_report, not_read, too_long, wants_memory}
 use Rattle.seq_cli.specs.Steps.{CountsOut, Ran}
-use Rattle.seq_cli.specs.Stops.{end_status, ended_status, most_of, status_of, stop_of}
-use Rattle.seq_cli.specs.Words.{Asked}
+use Rattle.seq_cli.specs.believed.Stops.{end_status, ended_status, most_of, status_of, stop_of}
+use Rattle.seq_cli.specs.believed.Words.{Asked}
 use Rattle.seq_cli.specs.declared.stop.Ended.{Ended}
 use Rattle.seq_cli.specs.declared.stop.Input.{Input}
 use Rattle.seq_cli.specs.declared.stop.Input.TheVariants.{EventFile, ReportFile}

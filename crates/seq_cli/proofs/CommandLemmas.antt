@@ -10,8 +10,8 @@ use Rattle.std.proofs.lemmas.List.{length-map, take_more}
 use Rattle.std.proofs.lemmas.List.Elements.{filter_map-append}
 use Rattle.std.proofs.lemmas.List.Sums.{fold_push, position_or_len_is}
 use Rattle.value_text.proofs.StringLemmas.{word_at}
-use Rattle.seq_cli.specs.Words.{Setting, asked_of, set, set_by, setting_of}
-use Rattle.command_line.specs.Words.{texts}
+use Rattle.seq_cli.specs.believed.Words.{Setting, asked_of, set, set_by, setting_of}
+use Rattle.command_line.specs.believed.Words.{texts}
 
 -- one option more
 pub set_more : (file : List ℕ) (words : List (List ℕ)) (place : ℕ) (setting : Setting) → place < length words → setting_of (get_or words place []) ≡ Some setting

@@ -1,24 +1,24 @@
 -- What is known of a run from how it ended.
 use Rattle.std.proofs.Common.{◌≡◌, ◌≢◌, ℕ, ◌<◌, ◌≤◌, List, length, Option, Some, None, Result, Ok, Err, inl, inr, refl, sym, ap, subst, ◌∙◌, arith}
 use Rattle.std.specs.Prelude.{IfSome, IsSomeAnd}
-use Rattle.outside_io.specs.Files.{Files}
-use Rattle.outside_io.specs.Seen.{FolderSeen, SinkSeen, KeepsReadFaults}
-use Rattle.outside_io.specs.Puts.{Puts, PutsBytes}
+use Rattle.outside_io.specs.believed.Files.{Files}
+use Rattle.outside_io.specs.believed.Seen.{FolderSeen, SinkSeen, KeepsReadFaults}
+use Rattle.outside_io.specs.believed.Puts.{Puts, PutsBytes}
 use Rattle.outside_io.specs.declared.answers.WriteAnswer.TheVariants.{Done}
-use Rattle.seq_check.specs.Events.{AreEvents, EventsView}
-use Rattle.seq_check.specs.EventFile.{events_of}
-use Rattle.seq_check.specs.Verdicts.{verdict}
+use Rattle.seq_check.specs.believed.Events.{AreEvents, EventsView}
+use Rattle.seq_check.specs.believed.EventFile.{events_of}
+use Rattle.seq_check.specs.believed.Verdicts.{verdict}
 use Rattle.seq_check.specs.declared.fault.EventsFault.{EventsFault}
 use Rattle.seq_check.specs.declared.verdict.OrderVerdict.{OrderVerdict}
 use Rattle.seq_check.specs.declared.verdict.OrderVerdict.TheVariants.{Accepted, BadLine, Uncovered}
-use Rattle.seq_cover.specs.Covering.{IsAccepted}
-use Rattle.seq_cover.specs.OrderGrowth.{grown}
-use Rattle.seq_cover.specs.ReportText.{report_text}
-use Rattle.seq_cli.specs.Runs.{AreRead, Ends, HasVerdict, IsRead, IsReportRead, PrintsCovering, ReadFault, RoseOf, Spells, answer_of, answers}
-use Rattle.seq_cli.specs.Runs.{at_file, behind, ended_by}
+use Rattle.seq_cover.specs.believed.Covering.{IsAccepted}
+use Rattle.seq_cover.specs.believed.OrderGrowth.{grown}
+use Rattle.seq_cover.specs.believed.ReportText.{report_text}
+use Rattle.seq_cli.specs.believed.Runs.{AreRead, Ends, HasVerdict, IsRead, IsReportRead, PrintsCovering, ReadFault, RoseOf, Spells, answer_of, answers}
+use Rattle.seq_cli.specs.believed.Runs.{at_file, behind, ended_by}
 use Rattle.seq_cli.specs.Steps.{CountsOut, Ran}
-use Rattle.seq_cli.specs.Stops.{end_status, most_of}
-use Rattle.seq_cli.specs.Words.{Asked}
+use Rattle.seq_cli.specs.believed.Stops.{end_status, most_of}
+use Rattle.seq_cli.specs.believed.Words.{Asked}
 use Rattle.seq_cli.specs.declared.stop.Ended.{Ended}
 use Rattle.seq_cli.specs.declared.stop.Ended.TheVariants.{Whole, Refused}
 use Rattle.seq_cli.specs.declared.stop.Input.{Input}

@@ -1,21 +1,21 @@
 -- Why a step of a run stops, by what it was handed.
 use Rattle.std.proofs.Common.{◌≡◌, ◌≢◌, ℕ, List, Option, Some, None, Result, Ok, Err, inl, inr, ◌⊎◌, refl, sym, ap, subst, ◌∙◌, ◌<◌, length}
 use Rattle.std.specs.Prelude.{IfErr, IfSome, IsErrAnd, IsSomeAnd}
-use Rattle.outside_io.specs.Faults.{Rose}
-use Rattle.outside_io.specs.Files.{Files}
-use Rattle.outside_io.specs.Seen.{FolderSeen, SinkSeen, KeepsFiles, KeepsReadFaults, ReadFaultsRose}
-use Rattle.outside_io.specs.Puts.{Puts}
+use Rattle.outside_io.specs.believed.Faults.{Rose}
+use Rattle.outside_io.specs.believed.Files.{Files}
+use Rattle.outside_io.specs.believed.Seen.{FolderSeen, SinkSeen, KeepsFiles, KeepsReadFaults, ReadFaultsRose}
+use Rattle.outside_io.specs.believed.Puts.{Puts}
 use Rattle.outside_io.specs.declared.answers.WriteAnswer.TheVariants.{Done, Failed}
-use Rattle.seq_check.specs.Events.{EventsView}
-use Rattle.seq_check.specs.EventFile.{events_of}
+use Rattle.seq_check.specs.believed.Events.{EventsView}
+use Rattle.seq_check.specs.believed.EventFile.{events_of}
 use Rattle.seq_check.specs.Reading.{Reads}
 use Rattle.seq_check.specs.declared.fault.EventsFault.{EventsFault}
 use Rattle.seq_check.specs.declared.fault.EventsFault.TheVariants.{Bad, TooMany, NoMemory}
-use Rattle.seq_cli.specs.Runs.{AreRead, IsRead, IsReportRead, RoseOf, StopsAtFile, StopsBehind, StopsReading, answers, behind, cannot_read}
-use Rattle.seq_cli.specs.Runs.{is_refused, no_memory, no_report, too_long, wants_memory}
+use Rattle.seq_cli.specs.believed.Runs.{AreRead, IsRead, IsReportRead, RoseOf, StopsAtFile, StopsBehind, StopsReading, answers, behind, cannot_read}
+use Rattle.seq_cli.specs.believed.Runs.{is_refused, no_memory, no_report, too_long, wants_memory}
 use Rattle.seq_cli.specs.Steps.{CountsOut, IsAnswer, Ran}
-use Rattle.seq_cli.specs.Stops.{most_of, stop_of}
-use Rattle.seq_cli.specs.Words.{Asked}
+use Rattle.seq_cli.specs.believed.Stops.{most_of, stop_of}
+use Rattle.seq_cli.specs.believed.Words.{Asked}
 use Rattle.seq_cli.specs.declared.stop.Ended.{Ended}
 use Rattle.seq_cli.specs.declared.stop.Input.{Input}
 use Rattle.seq_cli.specs.declared.stop.Input.TheVariants.{EventFile, ReportFile}

@@ -1,6 +1,6 @@
 -- What words ask for, as the program has it.
 use Rattle.std.specs.Prelude.{ℕ, option_map}
-use Rattle.seq_cli.specs.Words as words
+use Rattle.seq_cli.specs.believed.Words as words
 use Rattle.seq_cli.specs.declared.command.Command.{Command}
 use Rattle.seq_cli.specs.declared.setting.Length.{Length}
 use Rattle.seq_cli.specs.declared.setting.Length.TheVariants.{Two, Three}

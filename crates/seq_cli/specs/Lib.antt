@@ -1,5 +1,3 @@
-pub mod Words
 pub mod Commands
-pub mod Stops
-pub mod Runs
 pub mod Steps
+pub mod believed

@@ -1,10 +1,10 @@
 -- What the steps of a run of `pictseq` say of each other. (This project's rules.)
 use Rattle.std.specs.Prelude.{◌≡◌, ◌≢◌, ℕ, List, Option, Result, Err}
-use Rattle.outside_io.specs.Files.{Files}
-use Rattle.outside_io.specs.Seen.{FolderSeen, SinkSeen, KeepsReadFaults, PutFaultsRose}
-use Rattle.seq_check.specs.Events.{EventsView}
-use Rattle.seq_cli.specs.Runs.{Ends, IsReportRead, RoseOf, answer_of}
-use Rattle.seq_cli.specs.Words.{Asked}
+use Rattle.outside_io.specs.believed.Files.{Files}
+use Rattle.outside_io.specs.believed.Seen.{FolderSeen, SinkSeen, KeepsReadFaults, PutFaultsRose}
+use Rattle.seq_check.specs.believed.Events.{EventsView}
+use Rattle.seq_cli.specs.believed.Runs.{Ends, IsReportRead, RoseOf, answer_of}
+use Rattle.seq_cli.specs.believed.Words.{Asked}
 use Rattle.seq_cli.specs.declared.stop.Ended.{Ended}
 use Rattle.seq_cli.specs.declared.stop.Input.{Input}
 use Rattle.seq_cli.specs.declared.stop.Stop.{Stop}

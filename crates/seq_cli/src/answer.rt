@@ -1,7 +1,7 @@
 ghost use Rattle.std.specs.Prelude.{◌≡◌, ◌≢◌, ◌≤◌, ◌^◌, Some, None, Err, IfOk, IfErr, IsSomeAnd, length};
-ghost use Rattle.outside_io.specs.Seen.{KeepsFiles, KeepsReadFaults, KeepsWriteFaults, ReadFaultsRose};
+ghost use Rattle.outside_io.specs.believed.Seen.{KeepsFiles, KeepsReadFaults, KeepsWriteFaults, ReadFaultsRose};
 ghost use Rattle.seq_cli.specs.Commands.{asked_seen};
-ghost use Rattle.seq_cli.specs.Runs.{StopsBehind, answer_of, ended_by};
+ghost use Rattle.seq_cli.specs.believed.Runs.{StopsBehind, answer_of, ended_by};
 ghost use Rattle.seq_cli.specs.Steps.{IsAnswer};
 
 use crate::command::Command;

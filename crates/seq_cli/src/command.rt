@@ -1,7 +1,7 @@
 ghost use Rattle.std.specs.Prelude.{◌≡◌, ◌+◌, ◌-◌, ◌^◌, ◌∷◌, [], ℕ, List, min, position, option_map, is_none, filter_map, fold, MatchResult, Some, None, Ok};
 ghost use Rattle.seq_cli.specs.Commands.{asked_seen, setting_seen};
-ghost use Rattle.command_line.specs.Words.{texts};
-ghost use Rattle.seq_cli.specs.Words.{IsWordFault, asked_by, asked_of, set, set_by, setting_of};
+ghost use Rattle.command_line.specs.believed.Words.{texts};
+ghost use Rattle.seq_cli.specs.believed.Words.{IsWordFault, asked_by, asked_of, set, set_by, setting_of};
 
 use crate::setting::{Length, Setting, setting_of};
 use command_line::{WordFault, missing_name};

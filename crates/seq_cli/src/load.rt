@@ -1,7 +1,7 @@
 ghost use Rattle.std.specs.Prelude.{◌≡◌, ◌≢◌, ◌⊎◌, Err, IfOk, IfErr};
-ghost use Rattle.outside_io.specs.Seen.{KeepsFiles, KeepsReadFaults, KeepsWriteFaults, ReadFaultsRose};
+ghost use Rattle.outside_io.specs.believed.Seen.{KeepsFiles, KeepsReadFaults, KeepsWriteFaults, ReadFaultsRose};
 ghost use Rattle.seq_cli.specs.Commands.{asked_seen};
-ghost use Rattle.seq_cli.specs.Runs.{AreRead, IsRead, StopsAtFile, StopsReading};
+ghost use Rattle.seq_cli.specs.believed.Runs.{AreRead, IsRead, StopsAtFile, StopsReading};
 
 use crate::command::Command;
 use crate::stop::{Input, Stop};

@@ -1,17 +1,17 @@
 ghost use Rattle.std.specs.Prelude.{◌≡◌, ◌≢◌, ◌⊎◌, ◌≤◌, ◌<◌, ℕ, List, Option, Some, None, Ok, Err, IsSomeAnd, length};
-ghost use Rattle.outside_io.specs.Seen.{KeepsFiles, KeepsReadFaults, KeepsWriteFaults, ReadFaultsRose, PutFaultsRose};
-ghost use Rattle.definitions.specs.Diagnostics.{word_line};
-ghost use Rattle.command_line.specs.Told.{Tells};
-ghost use Rattle.command_line.specs.Words.{texts};
-ghost use Rattle.seq_check.specs.Events.{EventsView};
-ghost use Rattle.seq_check.specs.EventFile.{events_of};
+ghost use Rattle.outside_io.specs.believed.Seen.{KeepsFiles, KeepsReadFaults, KeepsWriteFaults, ReadFaultsRose, PutFaultsRose};
+ghost use Rattle.definitions.specs.believed.Diagnostics.{word_line};
+ghost use Rattle.command_line.specs.believed.Told.{Tells};
+ghost use Rattle.command_line.specs.believed.Words.{texts};
+ghost use Rattle.seq_check.specs.believed.Events.{EventsView};
+ghost use Rattle.seq_check.specs.believed.EventFile.{events_of};
 ghost use Rattle.seq_check.specs.declared.fault.EventsFault.{EventsFault};
 ghost use Rattle.seq_cli.specs.Commands.{asked_seen};
-ghost use Rattle.seq_cover.specs.Covering.{IsAccepted};
-ghost use Rattle.seq_cli.specs.Runs.{HasVerdict, HoldsReport, IsRun, PrintsCovering, ReadFault, ReadsCalmly, Spells, answer_of};
+ghost use Rattle.seq_cover.specs.believed.Covering.{IsAccepted};
+ghost use Rattle.seq_cli.specs.believed.Runs.{HasVerdict, HoldsReport, IsRun, PrintsCovering, ReadFault, ReadsCalmly, Spells, answer_of};
 ghost use Rattle.seq_cli.specs.Steps.{Ran};
-ghost use Rattle.seq_cli.specs.Stops.{IsStatus, ended_status, most_of, status_of, stop_of};
-ghost use Rattle.seq_cli.specs.Words.{Asked, IsWordFault, asked_by};
+ghost use Rattle.seq_cli.specs.believed.Stops.{IsStatus, ended_status, most_of, status_of, stop_of};
+ghost use Rattle.seq_cli.specs.believed.Words.{Asked, IsWordFault, asked_by};
 
 use crate::answer::make_answer;
 use crate::command::{Command, read_words};

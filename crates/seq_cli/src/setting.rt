@@ -1,7 +1,7 @@
 ghost use Rattle.std.specs.Prelude.{◌≡◌, ◌⊎◌, option_map};
-ghost use Rattle.value_text.specs.Numbers.{count_of};
+ghost use Rattle.value_text.specs.believed.Numbers.{count_of};
 ghost use Rattle.seq_cli.specs.Commands.{events_in, setting_seen};
-ghost use Rattle.seq_cli.specs.Words.{setting_of, valued_setting};
+ghost use Rattle.seq_cli.specs.believed.Words.{setting_of, valued_setting};
 
 use command_line::file_of;
 use value_text::{read_count, same_text};

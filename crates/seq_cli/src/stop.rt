@@ -1,10 +1,10 @@
 ghost use Rattle.std.specs.Prelude.{◌≡◌, ℕ};
-ghost use Rattle.outside_io.specs.Puts.{Puts};
-ghost use Rattle.definitions.specs.Diagnostics.{model_line};
-ghost use Rattle.command_line.specs.Stops.{measured as measured_kind};
-ghost use Rattle.seq_check.specs.Codes.{event_code, event_text};
+ghost use Rattle.outside_io.specs.believed.Puts.{Puts};
+ghost use Rattle.definitions.specs.believed.Diagnostics.{model_line};
+ghost use Rattle.command_line.specs.believed.Stops.{measured as measured_kind};
+ghost use Rattle.seq_check.specs.believed.Codes.{event_code, event_text};
 ghost use Rattle.seq_cli.specs.Commands.{asked_seen};
-ghost use Rattle.seq_cli.specs.Stops.{count_limit_line, ended_status, stop_line, measured, most_of, name_of, status_of};
+ghost use Rattle.seq_cli.specs.believed.Stops.{count_limit_line, ended_status, stop_line, measured, most_of, name_of, status_of};
 
 use crate::command::Command;
 use command_line::{FileKind, put_limit, put_model_line, put_too_long};
@@ -100,7 +100,7 @@ impl From<NoMemory> for Stop {
 }
 
 impl From<EventsFault> for Stop {
-    ghost use Rattle.seq_cli.specs.Stops.{stop_of};
+    ghost use Rattle.seq_cli.specs.believed.Stops.{stop_of};
 
     ghost from_gives = { λ fault stop. stop ≡ stop_of fault };
 

@@ -1,7 +1,7 @@
 ghost use Rattle.std.specs.Prelude.{◌≡◌, IfOk};
-ghost use Rattle.command_line.specs.Told.{Tells};
+ghost use Rattle.command_line.specs.believed.Told.{Tells};
 ghost use Rattle.seq_cli.specs.Commands.{asked_seen};
-ghost use Rattle.seq_cli.specs.Stops.{end_status, end_text};
+ghost use Rattle.seq_cli.specs.believed.Stops.{end_status, end_text};
 
 use crate::command::Command;
 use crate::stop::{Ended, Stop};

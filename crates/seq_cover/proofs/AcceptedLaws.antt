@@ -8,14 +8,15 @@ use Rattle.std.proofs.lemmas.List.Elements.{All-append, All-head, All-map, All-t
 use Rattle.std.proofs.lemmas.List.Folds.{Any-from_list_any, list_any_at, list_any_none}
 use Rattle.std.proofs.lemmas.Slice.Eq.{bytes_eq-Decides}
 use Rattle.value_text.proofs.ListLemmas.{list_any-position, nothing_found}
-use Rattle.seq_check.specs.Events.{AreEvents, EventsView}
-use Rattle.seq_check.specs.OrderReport.{ReportLine, Row, Never, is_wrong, never_line, never_named, report_line_of, report_lines, row_line, row_named}
-use Rattle.seq_check.specs.Orders.{has, has_each, is_cycle, is_had, is_permitted, is_sequence, keeps, sequences}
-use Rattle.seq_check.specs.Verdicts.{by_line, by_sequence, is_left, nevers_in, rows_in, verdict, verdict_on}
+use Rattle.seq_check.specs.believed.Events.{AreEvents, EventsView}
+use Rattle.seq_check.specs.believed.OrderReport.{ReportLine, Row, Never, is_wrong, never_line, never_named, report_line_of, report_lines, row_line, row_named}
+use Rattle.seq_check.specs.believed.Orders.{has, has_each, is_cycle, is_had, is_permitted, is_sequence, keeps, sequences}
+use Rattle.seq_check.specs.believed.Verdicts.{by_line, by_sequence, is_left, nevers_in, rows_in, verdict, verdict_on}
 use Rattle.seq_check.specs.declared.verdict.OrderVerdict.TheVariants.{Accepted}
-use Rattle.seq_cover.specs.Covering.{Covers, IsCovering, IsNeverLine, IsRowLine}
-use Rattle.seq_cover.specs.OrderGrowth.{grown}
-use Rattle.seq_cover.specs.ReportText.{report_text, suite_lines}
+use Rattle.seq_cover.specs.Covering.{Covers}
+use Rattle.seq_cover.specs.believed.Covering.{IsCovering, IsNeverLine, IsRowLine}
+use Rattle.seq_cover.specs.believed.OrderGrowth.{grown}
+use Rattle.seq_cover.specs.believed.ReportText.{report_text, suite_lines}
 use Rattle.seq_cover.specs.declared.suite.Never as code
 use Rattle.seq_cover.specs.declared.suite.OrderSuite.{OrderSuite}
 use Rattle.seq_cover.proofs.CoverLaws.{Any-append_left, IsGood, IsGoodNever, IsGoodRow, IsMet, grown_covers, grown_good, grown_met}

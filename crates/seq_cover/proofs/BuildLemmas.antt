@@ -13,10 +13,10 @@ use Rattle.std.proofs.lemmas.List.Sums.{list_all-from_AllPass}
 use Rattle.seq_check.proofs.Counting.{among-none, among-same, among-without, one_if}
 use Rattle.seq_check.proofs.OnesLemmas.{size_is}
 use Rattle.seq_check.specs.EventSets.{AreBack, OpenView, Tells, in_set, in_set_at, is_open, size_of}
-use Rattle.seq_check.specs.Orders.{is_among, is_arrow, is_had}
+use Rattle.seq_check.specs.believed.Orders.{is_among, is_arrow, is_had}
 use Rattle.seq_check.specs.declared.event_set.EventSet.{EventSet}
 use Rattle.seq_cover.specs.Building.{ArePlaced, ExistBelow, IsBuilt, IsOnce, open_gain}
-use Rattle.seq_cover.specs.OrderGrowth.{can_be_placed, choose, gain}
+use Rattle.seq_cover.specs.believed.OrderGrowth.{can_be_placed, choose, gain}
 use Rattle.seq_cover.proofs.GainLemmas.{count_append, open_gain_is}
 use Rattle.seq_cover.proofs.Leading.{arrows_are}
 

@@ -8,11 +8,12 @@ use Rattle.std.proofs.lemmas.List.Elements.{All-append, All-cons, All-head, All-
 use Rattle.std.proofs.lemmas.List.Folds.{list_all-append, list_any-append}
 use Rattle.std.proofs.lemmas.List.Quantifiers.{Any-push}
 use Rattle.seq_check.proofs.CheckSteps.{steps_exist}
-use Rattle.seq_check.specs.Events.{AreEvents, EventsView}
-use Rattle.seq_check.specs.Orders.{arrows, has, has_each, is_had, is_permitted, is_sequence, keeps, sequences, steps}
-use Rattle.seq_cover.specs.Covering.{Covers, IsNever}
-use Rattle.seq_cover.specs.OrderGrowth.{built_from, grown, nothing_grown, settled, settled_by}
-use Rattle.seq_cover.specs.Ways.{cycle_from, cycle_of, leads}
+use Rattle.seq_check.specs.believed.Events.{AreEvents, EventsView}
+use Rattle.seq_check.specs.believed.Orders.{arrows, has, has_each, is_had, is_permitted, is_sequence, keeps, sequences, steps}
+use Rattle.seq_cover.specs.Covering.{Covers}
+use Rattle.seq_cover.specs.believed.Covering.{IsNever}
+use Rattle.seq_cover.specs.believed.OrderGrowth.{built_from, grown, nothing_grown, settled, settled_by}
+use Rattle.seq_cover.specs.believed.Ways.{cycle_from, cycle_of, leads}
 use Rattle.seq_cover.specs.declared.suite.Never.{Never}
 use Rattle.seq_cover.specs.declared.suite.OrderSuite.{OrderSuite}
 use Rattle.seq_cover.specs.Building.{ExistBelow}

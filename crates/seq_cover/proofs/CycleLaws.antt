@@ -5,9 +5,9 @@ use Rattle.std.specs.List.{list_all, range_with_len}
 use Rattle.std.proofs.lemmas.Bool.{false≢true, and_from, and_parts, both_ways, cases_eq, eq-eqb, eqb-true, false_from_ne_true, lt-ltb, or_cases, or_left, or_right}
 use Rattle.std.proofs.lemmas.List.Elements.{All-cons, All-nil, All-head, All-tail}
 use Rattle.seq_check.proofs.FindLemmas.{first_number}
-use Rattle.seq_check.specs.Orders.{is_arrow, is_cycle, neighbours}
+use Rattle.seq_check.specs.believed.Orders.{is_arrow, is_cycle, neighbours}
 use Rattle.seq_cover.specs.Building.{ExistBelow}
-use Rattle.seq_cover.specs.Ways.{cycle_by, cycle_from, cycle_of, fewest, is_within, leads, next_event, way_back, with_rest}
+use Rattle.seq_cover.specs.believed.Ways.{cycle_by, cycle_from, cycle_of, fewest, is_within, leads, next_event, way_back, with_rest}
 use Rattle.seq_check.proofs.Counting.{among, among-fewer, among-le, below_all, least, passes_among}
 use Rattle.seq_cover.proofs.FindLaws.{found_is, number_found}
 use Rattle.seq_cover.proofs.Leading.{arrows_are}

@@ -1,9 +1,9 @@
 -- What the definitions say of a few events, worked out from the definitions alone.
 use Rattle.std.proofs.Common.{◌≡◌, true, false, [], ◌∷◌, codes, Some, None, refl}
-use Rattle.seq_check.specs.Events.{EventsView}
-use Rattle.seq_check.specs.Orders.{arrows}
-use Rattle.seq_cover.specs.OrderGrowth.{can_be_placed, choose, gain, grown}
-use Rattle.seq_cover.specs.Ways.{cycle_of, is_within, leads}
+use Rattle.seq_check.specs.believed.Events.{EventsView}
+use Rattle.seq_check.specs.believed.Orders.{arrows}
+use Rattle.seq_cover.specs.believed.OrderGrowth.{can_be_placed, choose, gain, grown}
+use Rattle.seq_cover.specs.believed.Ways.{cycle_of, is_within, leads}
 
 abbrev three : EventsView
 three = record { names = codes "a" ∷ codes "b" ∷ codes "c" ∷ []; precedences = (0, 1) ∷ []; len = 2 }

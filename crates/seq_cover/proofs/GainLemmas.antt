@@ -2,11 +2,11 @@
 use Rattle.std.proofs.Common.{◌≡◌, ℕ, zero, suc, ◌+◌, ◌-◌, ◌<◌, ◌⊎◌, inl, inr, Bool, cond, not, List, []}
 use Rattle.std.proofs.Common.{◌∷◌, ◌++◌, length, map, count_by, All, refl, sym, ap, ◌∙◌, arith, zero-add}
 use Rattle.seq_check.specs.EventSets.{OpenView, Tells, is_open}
-use Rattle.seq_check.specs.Orders.{is_had}
+use Rattle.seq_check.specs.believed.Orders.{is_had}
 use Rattle.std.proofs.lemmas.List.Elements.{All-nil, All-cons, All-append, All-map, All-head, All-tail, All-weaker}
 use Rattle.std.proofs.lemmas.List.Sums.{sum_by-append, sum_by-cons}
 use Rattle.seq_cover.specs.Building.{open_gain}
-use Rattle.seq_cover.specs.OrderGrowth.{choose, gain}
+use Rattle.seq_cover.specs.believed.OrderGrowth.{choose, gain}
 use Rattle.value_text.proofs.ListLemmas.{count_map}
 
 pub count_append : {X : Type 0} (p : X → Bool) (xs ys : List X) → count_by p (xs ++ ys) ≡ count_by p xs + count_by p ys

@@ -6,7 +6,7 @@ use Rattle.std.proofs.lemmas.List.{append-nil, take_more}
 use Rattle.std.proofs.lemmas.List.Concat.{flat_map-cons}
 use Rattle.std.proofs.lemmas.List.Sums.{fold-append}
 use Rattle.std.specs.List.{flat_map}
-use Rattle.seq_check.specs.Events.{EventsView}
+use Rattle.seq_check.specs.believed.Events.{EventsView}
 use Rattle.std.proofs.lemmas.List.Elements.{All-push}
 use Rattle.std.proofs.lemmas.List.Folds.{list_any-append}
 use Rattle.std.proofs.lemmas.List.FromFn.{length-map-range_with_len}
@@ -14,7 +14,7 @@ use Rattle.seq_check.proofs.CheckSteps.{steps_exist}
 use Rattle.seq_check.proofs.FindLemmas.{swapped}
 use Rattle.seq_check.proofs.StepLemmas.{all_kept}
 use Rattle.seq_check.specs.EventSets.{AreBack, AreOf, IsFront, OpenView, Tells, in_set_at, is_open, places, rises}
-use Rattle.seq_check.specs.Orders.{distinct_lists, has, is_arrow, is_had, lengthened, place, sequences, steps}
+use Rattle.seq_check.specs.believed.Orders.{distinct_lists, has, is_arrow, is_had, lengthened, place, sequences, steps}
 use Rattle.seq_check.specs.declared.event_set.EventSet.{EventSet}
 use Rattle.value_text.proofs.ListLemmas.{and_not-or}
 

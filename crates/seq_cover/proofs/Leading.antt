@@ -2,8 +2,8 @@
 use Rattle.std.proofs.Common.{◌≡◌, ℕ, true, ◌&&◌, ◌||◌, List, [], ◌∷◌, eqb, All, get_or, refl, sym, subst, inl, inr, ◌⊎◌}
 use Rattle.std.proofs.lemmas.Bool.{false≢true, and_from, and_parts, eq-eqb, eqb-true, or_cases, or_left, or_right}
 use Rattle.std.proofs.lemmas.List.Folds.{list_any_at}
-use Rattle.seq_check.specs.Orders.{is_arrow}
-use Rattle.seq_cover.specs.Ways.{leads}
+use Rattle.seq_check.specs.believed.Orders.{is_arrow}
+use Rattle.seq_cover.specs.believed.Ways.{leads}
 
 -- each arrow of a list is an arrow along it
 pub arrows_are : (pairs : List (ℕ × ℕ)) → All (λ arrow. is_arrow pairs (arrow.0, arrow.1) ≡ true) pairs

@@ -7,7 +7,7 @@ use Rattle.std.proofs.lemmas.List.{append-nil, get_or_append_left, get_or_push, 
 use Rattle.seq_check.proofs.FindLemmas.{first_number, no_number}
 use Rattle.seq_check.specs.EventSets.{in_set, no_events}
 use Rattle.seq_check.specs.declared.event_set.EventSet.{EventSet}
-use Rattle.seq_cover.specs.Ways.{fewest, is_within, next_event, next_near, way_back, with_rest}
+use Rattle.seq_cover.specs.believed.Ways.{fewest, is_within, next_event, next_near, way_back, with_rest}
 use Rattle.seq_cover.specs.Sets.{AreLevels, Holds}
 
 -- the sets so far, and the next

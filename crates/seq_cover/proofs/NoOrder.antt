@@ -3,9 +3,9 @@ use Rattle.std.proofs.Common.{◌≡◌, ℕ, suc, ◌-◌, ◌<◌, true, ◌&&
 use Rattle.std.specs.List.{list_all}
 use Rattle.std.proofs.lemmas.Bool.{and_from, and_parts, eqb-true, false_from_ne_true, ltb-true, or_cases, false≢true}
 use Rattle.std.proofs.lemmas.List.Folds.{list_all-append}
-use Rattle.seq_check.specs.Events.{EventsView}
-use Rattle.seq_check.specs.Orders.{arrows, has, has_each, is_arrow, is_cycle, keeps, neighbours, place, steps}
-use Rattle.seq_cover.specs.Covering.{HasNoOrder}
+use Rattle.seq_check.specs.believed.Events.{EventsView}
+use Rattle.seq_check.specs.believed.Orders.{arrows, has, has_each, is_arrow, is_cycle, keeps, neighbours, place, steps}
+use Rattle.seq_cover.specs.believed.Covering.{HasNoOrder}
 
 -- an arrow is kept
 kept_arrow : (order : List ℕ) (pairs : List (ℕ × ℕ)) (from to : ℕ) → list_all (keeps order) pairs ≡ true → is_arrow pairs (from, to) ≡ true → place order from < place order to

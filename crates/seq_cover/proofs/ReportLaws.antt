@@ -13,14 +13,14 @@ use Rattle.std.proofs.lemmas.List.Sums.{AllPass-from_list_all, list_all-from_All
 use Rattle.std.proofs.lemmas.Slice.Eq.{bytes_eq-Decides}
 use Rattle.value_text.proofs.ListLemmas.{list_any-position}
 use Rattle.definitions.proofs.Cells.{split_joined_by}
-use Rattle.model_lex.specs.Lines.{is_line_feed}
+use Rattle.model_lex.specs.believed.Lines.{is_line_feed}
 use Rattle.model_lex.proofs.Cutting.{first_ended}
 use Rattle.seq_check.proofs.StepLemmas.{never_when}
-use Rattle.seq_check.specs.Events.{AreEvents, EventsView, is_name}
-use Rattle.seq_check.specs.EventFile.{is_space, number_of}
-use Rattle.seq_check.specs.OrderReport.{Row, Never, Wrong, has_marks, is_tab, names_of, never_in, never_line, numbers_of, or_else, report_line_of, report_lines, row_in, row_line, row_of}
-use Rattle.seq_check.specs.Orders.{arrows, is_cycle, is_permitted, is_sequence}
-use Rattle.seq_cover.specs.ReportText.{text_of_lines}
+use Rattle.seq_check.specs.believed.Events.{AreEvents, EventsView, is_name}
+use Rattle.seq_check.specs.believed.EventFile.{is_space, number_of}
+use Rattle.seq_check.specs.believed.OrderReport.{Row, Never, Wrong, has_marks, is_tab, names_of, never_in, never_line, numbers_of, or_else, report_line_of, report_lines, row_in, row_line, row_of}
+use Rattle.seq_check.specs.believed.Orders.{arrows, is_cycle, is_permitted, is_sequence}
+use Rattle.seq_cover.specs.believed.ReportText.{text_of_lines}
 
 -- no byte of a text is this one
 abbrev pub Lacks : ℕ → List ℕ → Type 0

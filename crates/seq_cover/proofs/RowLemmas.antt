@@ -6,7 +6,7 @@ use Rattle.std.proofs.lemmas.List.{append-nil}
 use Rattle.std.proofs.lemmas.List.Elements.{filter-append}
 use Rattle.std.proofs.lemmas.List.Sums.{fold_push}
 use Rattle.value_text.proofs.ListLemmas.{range_with_len_more}
-use Rattle.seq_cover.specs.OrderGrowth.{better, built_from, next_placed, with_next}
+use Rattle.seq_cover.specs.believed.OrderGrowth.{better, built_from, next_placed, with_next}
 
 module _ (p : ℕ → Bool) (n : ℕ) where
   filtered : filter p (range_with_len 0 (n + 1)) ≡ filter p (range_with_len 0 n) ++ cond (p n) (n ∷ []) []

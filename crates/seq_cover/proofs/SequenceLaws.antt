@@ -10,8 +10,8 @@ use Rattle.std.proofs.lemmas.List.FromFn.{get_or-range_with_len, length-range_wi
 use Rattle.std.proofs.lemmas.List.Sums.{AllPass-from_list_all, list_all-from_AllPass}
 use Rattle.seq_check.proofs.FindLemmas.{all_flat, lists_are}
 use Rattle.seq_check.proofs.StepLemmas.{apart, distinct_step}
-use Rattle.seq_check.specs.Events.{EventsView}
-use Rattle.seq_check.specs.Orders.{distinct_lists, is_among, is_sequence, lengthened, sequences, steps}
+use Rattle.seq_check.specs.believed.Events.{EventsView}
+use Rattle.seq_check.specs.believed.Orders.{distinct_lists, is_among, is_sequence, lengthened, sequences, steps}
 
 -- ---- one event more
 

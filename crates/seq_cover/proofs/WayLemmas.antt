@@ -6,9 +6,9 @@ use Rattle.std.proofs.lemmas.Bool.{and_parts, cases_eq, eq-eqb, ne_eqb, lt-ltb, 
 use Rattle.seq_check.proofs.FindLemmas.{first_number, no_number}
 use Rattle.std.proofs.Math.Bool.{or-false}
 use Rattle.seq_check.specs.EventSets.{in_set_at}
-use Rattle.seq_check.specs.Orders.{is_arrow}
+use Rattle.seq_check.specs.believed.Orders.{is_arrow}
 use Rattle.seq_check.specs.declared.event_set.EventSet.{EventSet}
-use Rattle.seq_cover.specs.Ways.{leads, next_near}
+use Rattle.seq_cover.specs.believed.Ways.{leads, next_near}
 use Rattle.seq_cover.specs.Sets.{AreWays}
 
 -- at the place itself nothing is added yet

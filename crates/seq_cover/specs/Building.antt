@@ -2,9 +2,9 @@
 use Rattle.std.specs.Prelude.{◌≡◌, ℕ, ◌-◌, ◌*◌, ◌<◌, ◌≤◌, Bool, ◌&&◌, List, length, count_by, slice_index, All}
 use Rattle.std.specs.List.{range_with_len}
 use Rattle.seq_check.specs.EventSets.{OpenView, in_set, is_open}
-use Rattle.seq_check.specs.Orders.{is_among}
+use Rattle.seq_check.specs.believed.Orders.{is_among}
 use Rattle.seq_check.specs.declared.event_set.EventSet.{EventSet}
-use Rattle.seq_cover.specs.OrderGrowth.{choose}
+use Rattle.seq_cover.specs.believed.OrderGrowth.{choose}
 
 -- arrows are between events below a number
 abbrev pub ExistBelow : ℕ → List (ℕ × ℕ) → Type 0

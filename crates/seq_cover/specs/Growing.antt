@@ -1,8 +1,8 @@
 -- How growth stands between two sequences.
 use Rattle.std.specs.Prelude.{◌≡◌, ℕ, not, List, length}
-use Rattle.seq_check.specs.Events.{EventsView}
+use Rattle.seq_check.specs.believed.Events.{EventsView}
 use Rattle.seq_check.specs.EventSets.{AreBack, AreOf, OpenView, Tells}
-use Rattle.seq_check.specs.Orders.{is_had}
+use Rattle.seq_check.specs.believed.Orders.{is_had}
 use Rattle.seq_check.specs.declared.event_set.EventSet.{EventSet}
 use Rattle.seq_cover.specs.Sets.{AreWays}
 

@@ -3,7 +3,7 @@ use Rattle.std.specs.Prelude.{◌≡◌, ℕ, ◌-◌, ◌<◌, Bool, ◌&&◌, 
 use Rattle.std.specs.declared.alloc.Global.{Global}
 use Rattle.seq_check.specs.EventSets.{in_set, in_set_at}
 use Rattle.seq_check.specs.declared.event_set.EventSet.{EventSet}
-use Rattle.seq_cover.specs.Ways.{fewest, is_within, leads}
+use Rattle.seq_cover.specs.believed.Ways.{fewest, is_within, leads}
 
 -- the sets are the ways along these arrows
 abbrev pub AreWays : List EventSet → List (ℕ × ℕ) → Type 0

@@ -3,7 +3,7 @@ ghost use Rattle.std.specs.Prelude.{◌≡◌, ◌<◌, ◌≤◌, ◌&&◌, ◌
 ghost use Rattle.seq_check.specs.EventSets.{AreOf, in_set};
 ghost use Rattle.seq_check.specs.declared.event_set.EventSet.{EventSet};
 ghost use Rattle.seq_cover.specs.Sets.{AreLevels, Holds, IsFewest};
-ghost use Rattle.seq_cover.specs.Ways.{cycle_by, fewest, next_near, way_back};
+ghost use Rattle.seq_cover.specs.believed.Ways.{cycle_by, fewest, next_near, way_back};
 
 use seq_check::{Arrows, EventSet, NoList};
 use std::alloc::Global;

@@ -1,14 +1,14 @@
 //! Growth: sequence by sequence.
 ghost use Rattle.std.specs.Prelude.{◌≡◌, ◌≤◌, ◌<◌, ◌+◌, ◌-◌, ◌∷◌, ◌++◌, [], ℕ, All, false, length, fold, IfOk, OnOk};
 ghost use Rattle.seq_check.specs.EventSets.{IsFront};
-ghost use Rattle.seq_check.specs.Orders.{arrows, distinct_lists, is_among, is_had, lengthened, sequences};
-ghost use Rattle.seq_check.specs.Verdicts.{verdict};
+ghost use Rattle.seq_check.specs.believed.Orders.{arrows, distinct_lists, is_among, is_had, lengthened, sequences};
+ghost use Rattle.seq_check.specs.believed.Verdicts.{verdict};
 ghost use Rattle.seq_check.specs.declared.verdict.OrderVerdict.TheVariants.{Accepted};
 ghost use Rattle.seq_cover.specs.Covering.{Covers};
 ghost use Rattle.seq_cover.specs.Growing.{AreFixed, IsLeft};
-ghost use Rattle.seq_cover.specs.OrderGrowth.{built_from, grown, nothing_grown, settled, settled_by};
-ghost use Rattle.seq_cover.specs.ReportText.{report_text};
-ghost use Rattle.seq_cover.specs.Ways.{cycle_of};
+ghost use Rattle.seq_cover.specs.believed.OrderGrowth.{built_from, grown, nothing_grown, settled, settled_by};
+ghost use Rattle.seq_cover.specs.believed.ReportText.{report_text};
+ghost use Rattle.seq_cover.specs.believed.Ways.{cycle_of};
 
 use crate::row::build_row;
 use crate::steps::{back_with, cycle_of};

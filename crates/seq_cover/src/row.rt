@@ -2,9 +2,9 @@
 ghost use Rattle.std.specs.Prelude.{◌≡◌, ◌<◌, ◌≤◌, ◌∷◌, ◌++◌, ◌+◌, ◌*◌, ◌||◌, ◌⊎◌, [], ℕ, List, All};
 ghost use Rattle.std.specs.Prelude.{true, false, not, nat_lt, length, is_some, slice_index, IfOk, IfSome};
 ghost use Rattle.seq_check.specs.EventSets.{AreBack, Tells, in_set};
-ghost use Rattle.seq_check.specs.Orders.{is_had};
+ghost use Rattle.seq_check.specs.believed.Orders.{is_had};
 ghost use Rattle.seq_cover.specs.Building.{ArePlaced, ExistBelow, IsOnce, open_gain};
-ghost use Rattle.seq_cover.specs.OrderGrowth.{built_from, can_be_placed, gain, next_placed};
+ghost use Rattle.seq_cover.specs.believed.OrderGrowth.{built_from, can_be_placed, gain, next_placed};
 
 use seq_check::{Arrows, EventSet, NoList, OpenSequences};
 use std::alloc::Global;

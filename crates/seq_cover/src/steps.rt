@@ -1,9 +1,9 @@
 //! The arrows of a sequence: its steps and the precedences.
 ghost use Rattle.std.specs.Prelude.{◌≡◌, ◌<◌, ◌≤◌, ◌++◌, ◌⊎◌, ℕ, List, All, length, IfOk};
 ghost use Rattle.seq_check.specs.EventSets.{AreBack, AreOf};
-ghost use Rattle.seq_check.specs.Orders.{steps};
+ghost use Rattle.seq_check.specs.believed.Orders.{steps};
 ghost use Rattle.seq_cover.specs.Sets.{AreWays};
-ghost use Rattle.seq_cover.specs.Ways.{cycle_of};
+ghost use Rattle.seq_cover.specs.believed.Ways.{cycle_of};
 
 use crate::cycle::cycle_from;
 use crate::ways::{add_steps, first_on_cycle};

@@ -1,9 +1,10 @@
 //! Texts that are made before any of them is written.
 ghost use Rattle.std.specs.Prelude.{◌≡◌, ◌++◌, ℕ, [], ◌∷◌, map, slice_index_or, IfOk, OnOk};
 ghost use Rattle.std.specs.List.{flat_map, join_with_byte};
-ghost use Rattle.seq_check.specs.OrderReport.{names_of, never_line, row_line};
-ghost use Rattle.seq_check.specs.Verdicts.{verdict_text};
-ghost use Rattle.seq_cover.specs.ReportText.{ended_line, part_behind, report_text, text_of_lines};
+ghost use Rattle.seq_check.specs.believed.OrderReport.{names_of, never_line, row_line};
+ghost use Rattle.seq_check.specs.believed.Verdicts.{verdict_text};
+ghost use Rattle.seq_cover.specs.believed.ReportText.{ended_line, report_text, text_of_lines};
+ghost use Rattle.seq_cover.specs.ReportText.{part_behind};
 
 use crate::suite::{Never, NeverList, OrderSuite};
 use itoa::Buffer;

@@ -2,8 +2,8 @@
 ghost use Rattle.std.specs.Prelude.{◌≡◌, ◌<◌, ◌≤◌, ◌&&◌, ◌||◌, ◌==◌, ◌++◌, ◌⊎◌, ℕ, List, All, length, find, IfOk, IfSome};
 ghost use Rattle.std.specs.List.{range_with_len};
 ghost use Rattle.seq_check.specs.EventSets.{in_set_at};
-ghost use Rattle.seq_check.specs.Orders.{steps};
-ghost use Rattle.seq_cover.specs.Ways.{leads};
+ghost use Rattle.seq_check.specs.believed.Orders.{steps};
+ghost use Rattle.seq_cover.specs.believed.Ways.{leads};
 ghost use Rattle.seq_cover.specs.Sets.{AreWays};
 
 use seq_check::Arrows;

@@ -6,7 +6,7 @@ use Rattle.std.proofs.Math.Nat.{mul-div_cancel}
 use Rattle.std.proofs.lemmas.Bool.{or_cases, or_left, or_right}
 use Rattle.std.proofs.lemmas.List.Folds.{list_any-append}
 use Rattle.std.proofs.lemmas.Nat.{pow-add, pow_pos}
-use Rattle.definitions.specs.Demand.{is_among}
+use Rattle.definitions.specs.believed.Demand.{is_among}
 use Rattle.shared_marks.specs.declared.holding.Holding.{Holding}
 use Rattle.shared_marks.specs.Adding.{Adds, IsSameShare, Marks, is_of_word}
 use Rattle.shared_marks.specs.Seats.{IsWhole, SeatView, first_holding, halved, is_held, with_holding, joined, marking, other_half}

@@ -14,7 +14,7 @@ use Rattle.std.proofs.lemmas.Map.Views.{any-filter_same}
 use Rattle.std.proofs.lemmas.Nat.Bits.{bit_at-lt, bit_at_or, bit_at_set_other, bit_at_set_same}
 use Rattle.bit_table.specs.Words.{mark_at}
 use Rattle.bit_table.proofs.SetLemmas.{marked, with_bit}
-use Rattle.definitions.specs.Demand.{is_among}
+use Rattle.definitions.specs.believed.Demand.{is_among}
 use Rattle.shared_marks.specs.Adding.{is_of_word}
 use Rattle.shared_marks.specs.Steps.{has_bit, places_of}
 

@@ -7,7 +7,7 @@ use mathlib.Core.Option.{some}
 use lib.ListN.{get_elem?}
 use Rattle.bit_table.specs.Words.{mark_at, marks_of}
 use Rattle.bit_table.proofs.MarkLemmas.{mark_is, marks_long}
-use Rattle.definitions.specs.Demand.{is_among}
+use Rattle.definitions.specs.believed.Demand.{is_among}
 use Rattle.shared_marks.specs.declared.holding.Holding.{Holding}
 use Rattle.shared_marks.specs.Facts.{IsKept}
 use Rattle.shared_marks.specs.Seats.{IsWhole, is_held}

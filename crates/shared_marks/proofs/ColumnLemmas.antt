@@ -11,12 +11,12 @@ use Rattle.std.proofs.lemmas.List.Elements.{All-get_or, All-nil, All-push}
 use Rattle.value_text.proofs.ListLemmas.{or_or}
 use Rattle.cov_model.specs.declared.slice.Slice.{Slice}
 use Rattle.cov_model.specs.declared.slice.Slice.TheVariants.{Positive, Negative}
-use Rattle.cov_model.specs.Sound.{ModelView}
-use Rattle.cov_model.specs.Rows.{is_complete}
-use Rattle.cov_model.specs.Slices.{positive_values, slice_of}
-use Rattle.cov_model.specs.Valid.{is_valid, serves}
-use Rattle.definitions.specs.Demand.{demanded_tuples}
-use Rattle.definitions.specs.Figures.{is_served, tests_of}
+use Rattle.cov_model.specs.believed.Sound.{ModelView}
+use Rattle.cov_model.specs.believed.Rows.{is_complete}
+use Rattle.cov_model.specs.believed.Slices.{positive_values, slice_of}
+use Rattle.cov_model.specs.believed.Valid.{is_valid, serves}
+use Rattle.definitions.specs.believed.Demand.{demanded_tuples}
+use Rattle.definitions.specs.believed.Figures.{is_served, tests_of}
 use Rattle.tuple_index.specs.Places.{values_in, ways}
 use Rattle.tuple_index.specs.Plan.{plan_of}
 use Rattle.shared_marks.specs.declared.digits.Digit.{Digit}

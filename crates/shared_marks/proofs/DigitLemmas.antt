@@ -11,13 +11,13 @@ use Rattle.std.proofs.lemmas.List.FromFn.{get_or-map-range_with_len, length-map-
 use Rattle.value_text.proofs.ListLemmas.{length-filter-le, pos_right_of_mul, range_with_len_more}
 use Rattle.cov_model.specs.declared.slice.Slice.{Slice}
 use Rattle.cov_model.specs.declared.slice.Slice.TheVariants.{Positive, Negative}
-use Rattle.cov_model.specs.Sound.{IsSound, ModelView, no_param, param_at}
-use Rattle.cov_model.specs.Meaning.{value_at}
-use Rattle.cov_model.specs.Rows.{value_in}
-use Rattle.cov_model.specs.Slices.{negative_values, positive_values, slice_by, slice_of, value_numbers}
-use Rattle.cov_model.specs.Valid.{is_valid, negatives}
+use Rattle.cov_model.specs.believed.Sound.{IsSound, ModelView, no_param, param_at}
+use Rattle.cov_model.specs.believed.Meaning.{value_at}
+use Rattle.cov_model.specs.believed.Rows.{value_in}
+use Rattle.cov_model.specs.believed.Slices.{negative_values, positive_values, slice_by, slice_of, value_numbers}
+use Rattle.cov_model.specs.believed.Valid.{is_valid, negatives}
 use Rattle.cov_model.proofs.RowLemmas.{row_has_value, row_is_assigned}
-use Rattle.definitions.specs.Demand.{demanded_sets, is_among, tuples_of}
+use Rattle.definitions.specs.believed.Demand.{demanded_sets, is_among, tuples_of}
 use Rattle.definitions.proofs.Members.{Has, among_has, has_filter, of_among, same_answer}
 use Rattle.definitions.proofs.Serving.{value_of}
 use Rattle.definitions.proofs.SliceLemmas.{has_negatives, has_numbers, negative_exists, of_negatives}

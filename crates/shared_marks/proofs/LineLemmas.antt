@@ -8,11 +8,11 @@ use Rattle.std.proofs.lemmas.List.{get_or-map, length-map, take-append-drop}
 use Rattle.std.proofs.lemmas.List.Elements.{All-from_get_or, All-take}
 use Rattle.value_text.proofs.ListLemmas.{pos_left_of_mul}
 use Rattle.cov_model.specs.declared.slice.Slice.TheVariants.{Positive}
-use Rattle.cov_model.specs.Sound.{ModelView}
-use Rattle.cov_model.specs.Rows.{value_in}
-use Rattle.cov_model.specs.Slices.{positive_values, slice_of}
-use Rattle.cov_model.specs.Valid.{is_valid}
-use Rattle.definitions.specs.Demand.{demanded_sets, demanded_tuples, tuples_of}
+use Rattle.cov_model.specs.believed.Sound.{ModelView}
+use Rattle.cov_model.specs.believed.Rows.{value_in}
+use Rattle.cov_model.specs.believed.Slices.{positive_values, slice_of}
+use Rattle.cov_model.specs.believed.Valid.{is_valid}
+use Rattle.definitions.specs.believed.Demand.{demanded_sets, demanded_tuples, tuples_of}
 use Rattle.tuple_index.specs.Kept.{IsKept}
 use Rattle.tuple_index.specs.Places.{place, place_of, ways}
 use Rattle.tuple_index.specs.Plan.{PlanView, plan_of, set_at}

@@ -8,14 +8,14 @@ use Rattle.std.proofs.lemmas.Option.{same_Some, slice_get_within}
 use Rattle.std.proofs.lemmas.List.{get_or_default, same_lists}
 use Rattle.std.proofs.lemmas.List.FromFn.{get_or-map-range_with_len, length-map-range_with_len}
 use Rattle.cov_model.specs.declared.slice.Slice.{Slice}
-use Rattle.cov_model.specs.Sound.{ModelView, param_at}
-use Rattle.cov_model.specs.Meaning.{body_holds, value_at}
-use Rattle.cov_model.specs.Rows.{contains, is_assigned, value_in}
-use Rattle.cov_model.specs.Slices.{negative_values, positive_values, slice_by, slice_of, slices, value_numbers}
-use Rattle.cov_model.specs.Valid.{is_row, is_valid, negatives, serves}
+use Rattle.cov_model.specs.believed.Sound.{ModelView, param_at}
+use Rattle.cov_model.specs.believed.Meaning.{body_holds, value_at}
+use Rattle.cov_model.specs.believed.Rows.{contains, is_assigned, value_in}
+use Rattle.cov_model.specs.believed.Slices.{negative_values, positive_values, slice_by, slice_of, slices, value_numbers}
+use Rattle.cov_model.specs.believed.Valid.{is_row, is_valid, negatives, serves}
 use Rattle.cov_model.proofs.CellLemmas.{assigned_within, contains-from, contains-value_in, length-slice_values}
 use Rattle.cov_model.proofs.RowLemmas.{FitsModel-is_row, row_has_value, row_is_assigned}
-use Rattle.definitions.specs.Demand.{demanded_sets, is_among, tuples_in, tuples_of}
+use Rattle.definitions.specs.believed.Demand.{demanded_sets, is_among, tuples_in, tuples_of}
 use Rattle.definitions.proofs.Members.{Has, all_pass, among_has, has_filter, of_among, of_filter, of_flat, same_answer, has_place}
 use Rattle.definitions.proofs.InPlay.{tuple_is}
 use Rattle.definitions.proofs.Serving.{of_serves, value_of}

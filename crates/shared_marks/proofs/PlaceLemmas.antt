@@ -13,11 +13,11 @@ use Rattle.std.proofs.lemmas.List.Concat.{get_or-flat_map, length-flat_map}
 use Rattle.std.proofs.lemmas.List.Elements.{filter-append}
 use Rattle.std.proofs.lemmas.List.Folds.{length-flat_map-take, list_any-append}
 use Rattle.std.proofs.lemmas.List.Sums.{sum-map, sum_by_more}
-use Rattle.cov_model.specs.Sound.{ModelView}
-use Rattle.cov_model.specs.Rows.{is_complete}
-use Rattle.cov_model.specs.Valid.{is_valid, serves}
-use Rattle.definitions.specs.Demand.{demanded_sets, demanded_tuples, tuples_of}
-use Rattle.definitions.specs.Figures.{is_served, tests_of}
+use Rattle.cov_model.specs.believed.Sound.{ModelView}
+use Rattle.cov_model.specs.believed.Rows.{is_complete}
+use Rattle.cov_model.specs.believed.Valid.{is_valid, serves}
+use Rattle.definitions.specs.believed.Demand.{demanded_sets, demanded_tuples, tuples_of}
+use Rattle.definitions.specs.believed.Figures.{is_served, tests_of}
 use Rattle.tuple_index.specs.Plan.{plan_of, set_at}
 use Rattle.shared_marks.specs.Served.{IsServedRank, PlacesAreRanks, base_of, is_rank, is_served_at, served_between}
 

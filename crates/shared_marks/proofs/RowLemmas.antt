@@ -8,9 +8,9 @@ use Rattle.std.proofs.lemmas.List.{drop-drop, drop-map, map-append, take-map, ta
 use Rattle.std.proofs.lemmas.List.Elements.{All-get_or, filter-append}
 use Rattle.std.proofs.lemmas.List.Sums.{AllPass-from_list_all}
 use Rattle.cov_model.specs.Fits.{FitsModel}
-use Rattle.cov_model.specs.Sound.{ModelView, param_at}
-use Rattle.cov_model.specs.Rows.{is_assigned, is_complete, value_in}
-use Rattle.cov_model.specs.Valid.{has_value, is_row, param_numbers}
+use Rattle.cov_model.specs.believed.Sound.{ModelView, param_at}
+use Rattle.cov_model.specs.believed.Rows.{is_assigned, is_complete, value_in}
+use Rattle.cov_model.specs.believed.Valid.{has_value, is_row, param_numbers}
 use Rattle.row_text.specs.declared.row_file.FileRow.{FileRow}
 use Rattle.definitions.proofs.Members.{all_pass}
 use Rattle.definitions.proofs.SliceLemmas.{of_params}

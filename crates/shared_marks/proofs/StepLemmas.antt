@@ -12,7 +12,7 @@ use mathlib.Core.Option.{some}
 use lib.ListN.{get_elem?}
 use Rattle.bit_table.specs.Words.{mark_at}
 use Rattle.bit_table.proofs.SetLemmas.{marked}
-use Rattle.definitions.specs.Demand.{is_among}
+use Rattle.definitions.specs.believed.Demand.{is_among}
 use Rattle.shared_marks.specs.declared.holding.Holding.{Holding}
 use Rattle.shared_marks.specs.Adding.{is_of_word}
 use Rattle.shared_marks.specs.Facts.{IsIdle, IsKept, is_marked, is_seen}

@@ -7,9 +7,9 @@ use Rattle.std.proofs.lemmas.Bool.{or_right}
 use Rattle.std.proofs.lemmas.List.{same_lists}
 use Rattle.std.proofs.lemmas.List.FromFn.{get_or-map-range_with_len, length-map-range_with_len}
 use Rattle.atomic_table.specs.Seated.{TableId}
-use Rattle.cov_model.specs.Sound.{ModelView}
-use Rattle.definitions.specs.Demand.{demanded_tuples, is_among}
-use Rattle.definitions.specs.Figures.{is_served, tests_of}
+use Rattle.cov_model.specs.believed.Sound.{ModelView}
+use Rattle.definitions.specs.believed.Demand.{demanded_tuples, is_among}
+use Rattle.definitions.specs.believed.Figures.{is_served, tests_of}
 use Rattle.definitions.proofs.Members.{same_answer}
 use Rattle.shared_marks.specs.Adding.{Adds, IsSameShare, nothing}
 use Rattle.shared_marks.specs.Seats.{IsWhole, SeatView, first_holding, halved, is_held, with_holding, joined, other_half}

@@ -2,7 +2,7 @@
 use Rattle.std.specs.Prelude.{◌≡◌, ℕ, ◌+◌, ◌-◌, ◌*◌, ◌/◌, ◌^◌, ◌==◌, Bool, true, false, ◌||◌, ◌&&◌, List, nat_le}
 use Rattle.std.specs.List.{list_any}
 use Rattle.bit_table.specs.Words.{mark_at}
-use Rattle.definitions.specs.Demand.{is_among}
+use Rattle.definitions.specs.believed.Demand.{is_among}
 use Rattle.shared_marks.specs.declared.holding.Holding.{Holding}
 use Rattle.shared_marks.specs.Seats.{SeatView, is_held}
 use Rattle.shared_marks.specs.Steps.{has_bit}

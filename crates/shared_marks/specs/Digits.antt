@@ -3,9 +3,9 @@
 use Rattle.std.specs.Prelude.{◌≡◌, ℕ, Bool, false, ◌+◌, ◌*◌, ◌<◌, ◌≤◌, ◌==◌, List, length, drop, map, Option, slice_index_or}
 use Rattle.cov_model.specs.declared.slice.Slice.{Slice}
 use Rattle.cov_model.specs.declared.slice.Slice.TheVariants.{Positive, Negative}
-use Rattle.cov_model.specs.Rows.{value_in}
-use Rattle.cov_model.specs.Slices.{slice_of}
-use Rattle.cov_model.specs.Sound.{ModelView}
+use Rattle.cov_model.specs.believed.Rows.{value_in}
+use Rattle.cov_model.specs.believed.Slices.{slice_of}
+use Rattle.cov_model.specs.believed.Sound.{ModelView}
 use Rattle.tuple_index.specs.Places.{place, place_of, values_in, ways}
 use Rattle.tuple_index.specs.Plan.{plan_of}
 use Rattle.shared_marks.specs.declared.digits.Digit.{Digit}

@@ -3,7 +3,7 @@
 use Rattle.std.specs.Prelude.{◌≡◌, ℕ, ◌*◌, ◌-◌, ◌^◌, ◌≤◌, Bool, true, List, [], length, sum_by, All}
 use Rattle.std.specs.List.{list_any}
 use Rattle.bit_table.specs.Words.{mark_at}
-use Rattle.definitions.specs.Demand.{is_among}
+use Rattle.definitions.specs.believed.Demand.{is_among}
 use Rattle.shared_marks.specs.declared.holding.Holding.{Holding}
 
 -- some seat marked the place

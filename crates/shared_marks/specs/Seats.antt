@@ -2,7 +2,7 @@
 -- numbers, n and k, and stands for n / 2^k. (This project's rule.)
 use Rattle.std.specs.Prelude.{◌≡◌, ℕ, ◌+◌, ◌*◌, ◌^◌, Bool, ◌||◌, [], ◌∷◌, ◌++◌, if◌then◌else◌}
 use Rattle.atomic_table.specs.Seated.{TableId}
-use Rattle.definitions.specs.Demand.{is_among}
+use Rattle.definitions.specs.believed.Demand.{is_among}
 use Rattle.shared_marks.specs.declared.holding.Holding.{Holding}
 
 -- a seat is of a table and holds something

@@ -2,10 +2,10 @@
 -- the sets before, and its rank. (This project's rule.)
 use Rattle.std.specs.Prelude.{◌≡◌, ℕ, ◌+◌, ◌<◌, Bool, false, ◌&&◌, List, length, Option, Some, None, ◌==◌, nat_le, nat_lt, slice_get, sum, take, IfSome}
 use Rattle.std.specs.Option.{option_map_or}
-use Rattle.cov_model.specs.Sound.{ModelView}
-use Rattle.cov_model.specs.Valid.{serves}
-use Rattle.definitions.specs.Demand.{demanded_sets, demanded_tuples, tuples_of}
-use Rattle.definitions.specs.Figures.{is_served, tests_of}
+use Rattle.cov_model.specs.believed.Sound.{ModelView}
+use Rattle.cov_model.specs.believed.Valid.{serves}
+use Rattle.definitions.specs.believed.Demand.{demanded_sets, demanded_tuples, tuples_of}
+use Rattle.definitions.specs.believed.Figures.{is_served, tests_of}
 use Rattle.tuple_index.specs.Plan.{plan_of, set_at}
 
 -- whether one of the rows that is a test serves the demanded tuple at a place

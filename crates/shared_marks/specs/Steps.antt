@@ -4,7 +4,7 @@ use Rattle.std.specs.Prelude.{◌≡◌, ℕ, ◌*◌, ◌%◌, ◌==◌, ◌||�
 use Rattle.std.specs.Int.{bit_at}
 use Rattle.std.specs.List.{range_with_len}
 use Rattle.bit_table.specs.Words.{mark_at}
-use Rattle.definitions.specs.Demand.{is_among}
+use Rattle.definitions.specs.believed.Demand.{is_among}
 use Rattle.shared_marks.specs.declared.holding.Holding.{Holding}
 use Rattle.shared_marks.specs.Facts.{IsKept}
 use Rattle.shared_marks.specs.Seats.{IsWhole, is_held, testing}

@@ -3,10 +3,10 @@
 use Rattle.std.specs.Prelude.{◌≡◌, ℕ, ◌<◌, Bool, true, false, ◌&&◌, List, [], map, length, All, Option, Some, slice_index_or}
 use Rattle.cov_model.specs.declared.slice.Slice.{Slice}
 use Rattle.cov_model.specs.declared.slice.Slice.TheVariants.{Positive, Negative}
-use Rattle.cov_model.specs.Rows.{is_complete, value_in}
-use Rattle.cov_model.specs.Slices.{slice_of}
-use Rattle.cov_model.specs.Sound.{ModelView}
-use Rattle.cov_model.specs.Valid.{is_valid}
+use Rattle.cov_model.specs.believed.Rows.{is_complete, value_in}
+use Rattle.cov_model.specs.believed.Slices.{slice_of}
+use Rattle.cov_model.specs.believed.Sound.{ModelView}
+use Rattle.cov_model.specs.believed.Valid.{is_valid}
 use Rattle.tuple_index.specs.Places.{place, place_of}
 use Rattle.shared_marks.specs.Digits.{own_slice}
 use Rattle.shared_marks.specs.Served.{IsServedRank}

@@ -1,10 +1,10 @@
 ghost use Rattle.std.specs.Prelude.{◌≡◌, ◌^◌, ◌<◌, ◌≤◌, All, false, true, length, map, not, slice_index_or};
 ghost use Rattle.std.specs.List.{filter, range_with_len};
-ghost use Rattle.cov_model.specs.Meaning.{no_value, value_at};
-ghost use Rattle.cov_model.specs.Rows.{value_in};
-ghost use Rattle.cov_model.specs.Slices.{positive_values, slice_of};
-ghost use Rattle.cov_model.specs.Sound.{param_at};
-ghost use Rattle.cov_model.specs.Valid.{is_valid};
+ghost use Rattle.cov_model.specs.believed.Meaning.{no_value, value_at};
+ghost use Rattle.cov_model.specs.believed.Rows.{value_in};
+ghost use Rattle.cov_model.specs.believed.Slices.{positive_values, slice_of};
+ghost use Rattle.cov_model.specs.believed.Sound.{param_at};
+ghost use Rattle.cov_model.specs.believed.Valid.{is_valid};
 ghost use Rattle.tuple_index.specs.Places.{place, place_of, values_in, ways};
 ghost use Rattle.tuple_index.specs.Plan.{plan_of};
 ghost use Rattle.shared_marks.specs.Digits.{AreDigits, IsDigit, is_fixed};

@@ -1,7 +1,7 @@
 ghost use Rattle.std.specs.Prelude.{◌≡◌, ◌&&◌, ◌+◌, ◌≤◌, ◌<◌, ◌^◌, ◌∷◌, [], false, true, All, filter, length, map, not, slice_range, OnOk};
 ghost use Rattle.cov_model.specs.Fits.{FitsModel};
-ghost use Rattle.cov_model.specs.Slices.{slice_of};
-ghost use Rattle.definitions.specs.Demand.{demanded_tuples};
+ghost use Rattle.cov_model.specs.believed.Slices.{slice_of};
+ghost use Rattle.definitions.specs.believed.Demand.{demanded_tuples};
 ghost use Rattle.row_text.specs.RowFiles.{suite_seen};
 ghost use Rattle.tuple_index.specs.Plan.{plan_of, set_at};
 ghost use Rattle.shared_marks.specs.Adding.{Adds, Marks};

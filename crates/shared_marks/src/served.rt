@@ -1,9 +1,9 @@
 ghost use Rattle.std.specs.Prelude.{◌≡◌, ◌&&◌, ◌+◌, ◌≤◌, ◌<◌, true, All, [], ◌∷◌, length, slice_range, sum};
 ghost use Rattle.cov_model.specs.Fits.{FitsModel};
-ghost use Rattle.cov_model.specs.Rows.{is_complete};
-ghost use Rattle.cov_model.specs.Slices.{slice_of};
-ghost use Rattle.cov_model.specs.Valid.{is_valid};
-ghost use Rattle.definitions.specs.Demand.{demanded_sets, demanded_tuples, is_among};
+ghost use Rattle.cov_model.specs.believed.Rows.{is_complete};
+ghost use Rattle.cov_model.specs.believed.Slices.{slice_of};
+ghost use Rattle.cov_model.specs.believed.Valid.{is_valid};
+ghost use Rattle.definitions.specs.believed.Demand.{demanded_sets, demanded_tuples, is_among};
 ghost use Rattle.row_text.specs.RowFiles.{suite_seen};
 ghost use Rattle.tuple_index.specs.Places.{IsOwnSlice, has_part, start_of};
 ghost use Rattle.tuple_index.specs.Plan.{plan_of, set_at};

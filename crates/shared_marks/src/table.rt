@@ -1,6 +1,6 @@
 ghost use Rattle.std.specs.Prelude.{◌≡◌, ◌*◌, ◌^◌, ◌<◌, ◌≤◌, ℕ, true, false, length, map, slice_index_or, IfOk};
 ghost use Rattle.std.specs.List.{range_with_len};
-ghost use Rattle.definitions.specs.Demand.{is_among};
+ghost use Rattle.definitions.specs.believed.Demand.{is_among};
 ghost use Rattle.shared_marks.specs.Adding.{Adds, nothing};
 ghost use Rattle.shared_marks.specs.Seats.{IsWhole, first_holding, halved, with_holding, is_held, joined, marking, noting, other_half, testing};
 ghost use Rattle.shared_marks.specs.Steps.{IsMarkStep, IsTestStep, has_bit, marking_all, places_of};

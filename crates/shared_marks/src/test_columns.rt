@@ -1,6 +1,6 @@
 ghost use Rattle.std.specs.Prelude.{◌≡◌, ◌+◌, ◌*◌, ◌<◌, ◌≤◌, ◌^◌, ◌++◌, ◌∷◌, [], true, ℕ, All, filter, if◌then◌else◌, length, map, replicate, slice_index_or, IfOk, OnOk};
 ghost use Rattle.cov_model.specs.Fits.{FitsModel};
-ghost use Rattle.cov_model.specs.Slices.{slice_of};
+ghost use Rattle.cov_model.specs.believed.Slices.{slice_of};
 ghost use Rattle.tuple_index.specs.Places.{ways};
 ghost use Rattle.tuple_index.specs.Plan.{plan_of};
 ghost use Rattle.shared_marks.specs.TestColumns.{ColumnsView, AreColumns, digit_in, is_plain, is_positive, place_in};

@@ -1,8 +1,8 @@
 ghost use Rattle.std.specs.Prelude.{◌≡◌, ◌+◌, ◌^◌, ◌<◌, ◌≤◌, All, IfOk, length, map, slice_range};
 ghost use Rattle.std.specs.Thread.{IsSync};
 ghost use Rattle.cov_model.specs.Fits.{FitsModel};
-ghost use Rattle.definitions.specs.Demand.{demanded_tuples};
-ghost use Rattle.definitions.specs.Figures.{is_served, tests_of};
+ghost use Rattle.definitions.specs.believed.Demand.{demanded_tuples};
+ghost use Rattle.definitions.specs.believed.Figures.{is_served, tests_of};
 ghost use Rattle.row_text.specs.RowFiles.{suite_seen};
 ghost use Rattle.tuple_index.specs.Plan.{plan_of};
 ghost use Rattle.shared_marks.specs.Adding.{Adds};

@@ -3,15 +3,16 @@ use Rattle.std.proofs.Common.{◌≡◌, ℕ, Bool, true, false, ◌&&◌, not, 
 use Rattle.std.specs.List.{list_any}
 use Rattle.std.proofs.lemmas.Bool.{false≢true}
 use Rattle.std.proofs.lemmas.List.Elements.{All-head, All-tail}
-use Rattle.cov_model.specs.Sound.{ModelView}
-use Rattle.cov_model.specs.Valid.{is_valid}
-use Rattle.definitions.specs.Demand.{demanded_tuples}
-use Rattle.definitions.specs.Figures.{is_served}
-use Rattle.definitions.specs.ProofText.{Omission, omissions_of}
-use Rattle.definitions.specs.Refutation.{first_unrefuted}
-use Rattle.definitions.specs.Seeds.{is_same_row}
-use Rattle.definitions.specs.Verdict.{Verdict, Accepted, BadRow, BadProof, BadOmission, Uncovered, as_cells, by_omission, by_proof, by_row, by_tuple, first_uncovered, listed}
-use Rattle.shorter_suites.specs.Laws.{AcceptedStay, rows_of}
+use Rattle.cov_model.specs.believed.Sound.{ModelView}
+use Rattle.cov_model.specs.believed.Valid.{is_valid}
+use Rattle.definitions.specs.believed.Demand.{demanded_tuples}
+use Rattle.definitions.specs.believed.Figures.{is_served}
+use Rattle.definitions.specs.believed.ProofText.{Omission, omissions_of}
+use Rattle.definitions.specs.believed.Refutation.{first_unrefuted}
+use Rattle.definitions.specs.believed.Seeds.{is_same_row}
+use Rattle.definitions.specs.believed.Verdict.{Verdict, Accepted, BadRow, BadProof, BadOmission, Uncovered, as_cells, by_omission, by_proof, by_row, by_tuple, first_uncovered, listed}
+use Rattle.shorter_suites.specs.Laws.{AcceptedStay}
+use Rattle.shorter_suites.specs.believed.Laws.{rows_of}
 
 abbrev is_accepted : Verdict → Bool
 is_accepted (Accepted rows omissions) = true

@@ -6,16 +6,16 @@ use Rattle.std.proofs.lemmas.Bool.{false≢true, false_from_ne_true, cases_Bool,
 use Rattle.std.proofs.lemmas.List.{get_or_default, same_lists}
 use Rattle.std.proofs.lemmas.List.Sums.{sum_by-cons}
 use Rattle.cov_model.specs.declared.slice.Slice.{Slice}
-use Rattle.cov_model.specs.Rows.{contains, is_assigned}
-use Rattle.cov_model.specs.Slices.{slice_values, slices}
-use Rattle.cov_model.specs.Sound.{ModelView}
-use Rattle.cov_model.specs.Meaning.{body_holds}
-use Rattle.cov_model.specs.Valid.{is_row, is_valid, negatives, serves}
+use Rattle.cov_model.specs.believed.Rows.{contains, is_assigned}
+use Rattle.cov_model.specs.believed.Slices.{slice_values, slices}
+use Rattle.cov_model.specs.believed.Sound.{ModelView}
+use Rattle.cov_model.specs.believed.Meaning.{body_holds}
+use Rattle.cov_model.specs.believed.Valid.{is_row, is_valid, negatives, serves}
 use Rattle.cov_model.proofs.CellLemmas.{contains-value_in}
-use Rattle.definitions.specs.Completion.{has_slice}
-use Rattle.definitions.specs.Demand.{demanded_sets, demanded_tuples, tuples_in}
-use Rattle.definitions.specs.Figures.{is_served}
-use Rattle.definitions.specs.Growth.{is_of_slice}
+use Rattle.definitions.specs.believed.Completion.{has_slice}
+use Rattle.definitions.specs.believed.Demand.{demanded_sets, demanded_tuples, tuples_in}
+use Rattle.definitions.specs.believed.Figures.{is_served}
+use Rattle.definitions.specs.believed.Growth.{is_of_slice}
 use Rattle.definitions.proofs.Choices.{IsChoice}
 use Rattle.definitions.proofs.Distinct.{NoRepeats}
 use Rattle.definitions.proofs.Finishing.{is_of_own_slice}
@@ -27,7 +27,7 @@ use Rattle.definitions.proofs.PartialRowLemmas.{of_slice-is}
 use Rattle.definitions.proofs.Serving.{of_serves, served_is_choice}
 use Rattle.definitions.proofs.SliceLemmas.{IsSlice, is_slice, row_in_slice, slice_is}
 use Rattle.definitions.proofs.Totals.{count, count_less, counted, sum_less, sum_once, sum_ones, sum_swap}
-use Rattle.shorter_suites.specs.Shrinking.{ServesToo}
+use Rattle.shorter_suites.specs.believed.Shrinking.{ServesToo}
 use Rattle.shorter_suites.specs.Bounds.{greatest, most_served, served_in}
 use Rattle.shorter_suites.specs.Laws.{NoneIsShorter}
 

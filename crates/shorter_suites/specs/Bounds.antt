@@ -2,10 +2,10 @@
 -- tuple. (This project's rule.)
 use Rattle.std.specs.Prelude.{ℕ, List, [], ◌∷◌, map, length, max, sum_by, filter, Option}
 use Rattle.cov_model.specs.declared.slice.Slice.{Slice}
-use Rattle.cov_model.specs.Sound.{ModelView}
-use Rattle.cov_model.specs.Slices.{slices}
-use Rattle.definitions.specs.Demand.{demanded_sets, tuples_in}
-use Rattle.definitions.specs.Figures.{is_served}
+use Rattle.cov_model.specs.believed.Sound.{ModelView}
+use Rattle.cov_model.specs.believed.Slices.{slices}
+use Rattle.definitions.specs.believed.Demand.{demanded_sets, tuples_in}
+use Rattle.definitions.specs.believed.Figures.{is_served}
 
 -- how many of the demanded tuples of a set in a slice one of the rows serves
 abbrev pub served_in : ModelView → List (List (Option ℕ)) → Slice → List ℕ → ℕ

@@ -1,14 +1,11 @@
 -- What holds of shorter suites. (This project's rules.)
-use Rattle.std.specs.Prelude.{◌≡◌, ℕ, ◌≤◌, true, List, map, length, Option, All}
-use Rattle.cov_model.specs.Sound.{ModelView}
-use Rattle.cov_model.specs.Valid.{is_valid}
-use Rattle.definitions.specs.Verdict.{IsAccepted}
-use Rattle.shorter_suites.specs.Shrinking.{ServesToo}
+use Rattle.std.specs.Prelude.{◌≡◌, ℕ, ◌≤◌, true, List, length, Option, All}
+use Rattle.cov_model.specs.believed.Sound.{ModelView}
+use Rattle.cov_model.specs.believed.Valid.{is_valid}
+use Rattle.definitions.specs.believed.Verdict.{IsAccepted}
+use Rattle.shorter_suites.specs.believed.Shrinking.{ServesToo}
 use Rattle.shorter_suites.specs.Bounds.{least_needed}
-
--- the rows of numbered lines
-abbrev pub rows_of : List (ℕ × List (Option ℕ)) → List (List (Option ℕ))
-rows_of lines = map (λ line. line.1) lines
+use Rattle.shorter_suites.specs.believed.Laws.{rows_of}
 
 -- a proof that is accepted with a report is accepted with each one of valid rows that serve what the report's serve
 abbrev pub AcceptedStay : Type 0

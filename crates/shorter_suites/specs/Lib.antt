@@ -1,3 +1,3 @@
-pub mod Shrinking
 pub mod Bounds
 pub mod Laws
+pub mod believed

@@ -1,6 +1,6 @@
 -- What a search for fewer rows gives. (This project's rule.)
 use Rattle.std.specs.Prelude.{◌≡◌, ℕ, ◌<◌, List, length, Option, All, AllPairs}
-use Rattle.cov_model.specs.Sound.{ModelView}
+use Rattle.cov_model.specs.believed.Sound.{ModelView}
 use Rattle.cov_model.specs.Fits.{FitsModel}
 
 -- each of the rows stands for a given one, by numbers that rise, and fits the model

@@ -37,7 +37,7 @@ impl Drop for RowRules<'_> {
 impl<'a> Model for RowRules<'a> {
     ghost use Rattle.std.specs.Prelude.{◌≡◌};
     ghost use Rattle.std.specs.Coded.{codes};
-    ghost use Rattle.cov_model.specs.Sound.{ModelView};
+    ghost use Rattle.cov_model.specs.believed.Sound.{ModelView};
     ghost use Rattle.cov_model.specs.Fits.{FitsModel};
     ghost use Rattle.cov_model.specs.contracts.model.TestModel as tested;
 

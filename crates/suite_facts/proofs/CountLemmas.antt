@@ -6,15 +6,17 @@ use Rattle.std.specs.Prelude.{IfSome, nat_lt, sum}
 use Rattle.std.proofs.lemmas.List.{drop_all, drop_more, get_or-drop, get_or-map, get_or-take, length-drop, length-map, length-take-le, same_lists, take_all}
 use Rattle.std.proofs.lemmas.List.Sums.{sum_by_more}
 use Rattle.std.proofs.lemmas.Option.{get_or_from_slice_get, slice_get-get_or}
-use Rattle.cov_model.specs.Sound.{ModelView}
-use Rattle.definitions.specs.Demand.{demanded_sets, demanded_tuples, tuples_of}
-use Rattle.definitions.specs.Figures.{covered, is_served, tests_of}
+use Rattle.cov_model.specs.believed.Sound.{ModelView}
+use Rattle.definitions.specs.believed.Demand.{demanded_sets, demanded_tuples, tuples_of}
+use Rattle.definitions.specs.believed.Figures.{covered, is_served, tests_of}
 use Rattle.tuple_index.specs.Plan.{PlanView, plan_of, set_at}
 use Rattle.shared_marks.specs.Served.{base_of}
 use Rattle.shared_marks.proofs.PlaceLemmas.{all_places, place_within, set_within, tuple_there}
 use Rattle.row_text.specs.declared.row_file.FileRow.{FileRow}
-use Rattle.suite_facts.specs.Coverages.{IsCoverageOf, larger, numbers_of, set_seen, with_set}
-use Rattle.suite_facts.specs.Facts.{AreMarksOf, covered_of, largest_from, largest_of, more_covered}
+use Rattle.suite_facts.specs.Coverages.{IsCoverageOf, larger, set_seen, with_set}
+use Rattle.suite_facts.specs.believed.Coverages.{numbers_of}
+use Rattle.suite_facts.specs.Facts.{AreMarksOf}
+use Rattle.suite_facts.specs.believed.Facts.{covered_of, largest_from, largest_of, more_covered}
 use Rattle.suite_facts.specs.declared.coverage.Coverage.{Coverage}
 use Rattle.suite_facts.specs.declared.coverage.LargestSet.{LargestSet}
 use Rattle.suite_facts.specs.declared.coverage.SuiteNumbers.{SuiteNumbers}

@@ -7,9 +7,9 @@ use Rattle.std.proofs.lemmas.List.{map-append, same_lists, take_more}
 use Rattle.std.proofs.lemmas.List.Elements.{filter-append}
 use Rattle.std.proofs.lemmas.List.FromFn.{get_or-map-range_with_len, length-map-range_with_len}
 use Rattle.atomic_table.specs.Seated.{TableId}
-use Rattle.cov_model.specs.Sound.{ModelView}
-use Rattle.definitions.specs.Demand.{demanded_sets, demanded_tuples, is_among, tuples_of}
-use Rattle.definitions.specs.Figures.{is_served, tests_of}
+use Rattle.cov_model.specs.believed.Sound.{ModelView}
+use Rattle.definitions.specs.believed.Demand.{demanded_sets, demanded_tuples, is_among, tuples_of}
+use Rattle.definitions.specs.believed.Figures.{is_served, tests_of}
 use Rattle.definitions.proofs.Totals.{count_flat}
 use Rattle.shared_marks.specs.declared.holding.Holding.{Holding}
 use Rattle.shared_marks.specs.Adding.{Marks}
@@ -18,7 +18,7 @@ use Rattle.shared_marks.specs.Served.{is_served_at}
 use Rattle.shared_marks.proofs.PlaceLemmas.{none_served, served_all, served_append}
 use Rattle.shared_marks.proofs.RowLemmas.{range_joined}
 use Rattle.value_text.proofs.ListLemmas.{range_with_len_more}
-use Rattle.suite_facts.specs.Facts.{covered_of}
+use Rattle.suite_facts.specs.believed.Facts.{covered_of}
 use Rattle.suite_facts.specs.Marked.{HoldsCovered, KeepsMarked}
 use Rattle.suite_facts.proofs.CountLemmas.{count_marks}
 

@@ -6,7 +6,7 @@ use Rattle.std.proofs.lemmas.Bool.{and_parts, cases_lt, leb-true, ltb-true}
 use Rattle.std.proofs.lemmas.List.{get_or_append_left, get_or_push, length_push, take_more}
 use Rattle.std.proofs.lemmas.List.Elements.{All-cons, All-nil, All-push, All-weaker, filter-append, filter_passes}
 use Rattle.std.proofs.lemmas.List.Kept.{AllPairs-cons, AllPairs-filter}
-use Rattle.suite_facts.specs.Facts.{round_counts, round_numbers}
+use Rattle.suite_facts.specs.believed.Facts.{round_counts, round_numbers}
 
 -- each number is at least the one before
 rises : ℕ → List ℕ → Bool

@@ -1,13 +1,11 @@
 -- The coverage of rows as the program has it.
-use Rattle.std.specs.Prelude.{◌≡◌, ℕ, ◌+◌, ◌<◌, List, length, take, Option, Some, None, nat_lt, option_map, IfSome, if◌then◌else◌}
-use Rattle.cov_model.specs.Sound.{ModelView}
-use Rattle.definitions.specs.Demand.{demanded_sets, demanded_tuples}
+use Rattle.std.specs.Prelude.{◌≡◌, ℕ, ◌+◌, ◌<◌, List, length, Option, Some, None, nat_lt, option_map, IfSome, if◌then◌else◌}
+use Rattle.cov_model.specs.believed.Sound.{ModelView}
+use Rattle.definitions.specs.believed.Demand.{demanded_sets}
 use Rattle.tuple_index.specs.Plan.{plan_of, set_at}
 use Rattle.suite_facts.specs.declared.coverage.Coverage.{Coverage}
 use Rattle.suite_facts.specs.declared.coverage.LargestSet.{LargestSet}
-use Rattle.suite_facts.specs.declared.coverage.SuiteNumbers.{SuiteNumbers}
-use Rattle.suite_facts.specs.declared.curve.CurvePoint.{CurvePoint}
-use Rattle.suite_facts.specs.Facts.{SetCount, covered_of, largest_of}
+use Rattle.suite_facts.specs.believed.Facts.{SetCount, covered_of, largest_of}
 
 -- the set that it names
 abbrev pub set_seen : ModelView → LargestSet → SetCount
@@ -17,20 +15,6 @@ pub record IsCoverageOf (m : ModelView) (rows : List (List (Option ℕ))) (cover
   pub covered : coverage.covered ≡ covered_of m rows
   pub largest : option_map (set_seen m) coverage.largest ≡ largest_of m rows
   pub exists : IfSome coverage.largest (λ found. found.set < length (demanded_sets m))
-
--- how large a suite is, and how much of the demand it covers
-abbrev pub numbers_of : ModelView → List (List (Option ℕ)) → SuiteNumbers
-numbers_of m rows = record {
-  tests = length rows;
-  params = length m.params;
-  sets = length (demanded_sets m);
-  demanded = length (demanded_tuples m);
-  covered = covered_of m rows;
-}
-
--- how much so many of the first rows cover
-abbrev pub point_of : ModelView → List (List (Option ℕ)) → ℕ → CurvePoint
-point_of m rows n = record { tests = n; covered = covered_of m (take n rows) }
 
 -- which of two sets has more covered tuples
 abbrev pub larger : Option LargestSet → LargestSet → Option LargestSet

@@ -1,3 +1,4 @@
-pub mod Coverages
-pub mod Facts
 pub mod Marked
+pub mod Coverages
+pub mod believed
+pub mod Facts

@@ -1,8 +1,8 @@
 -- What a seat holds of a table of marks that no other seat holds. (This project's rule.)
 use Rattle.std.specs.Prelude.{◌≡◌, ℕ, List, take, Option}
 use Rattle.atomic_table.specs.Seated.{TableId}
-use Rattle.cov_model.specs.Sound.{ModelView}
-use Rattle.definitions.specs.Demand.{is_among}
+use Rattle.cov_model.specs.believed.Sound.{ModelView}
+use Rattle.definitions.specs.believed.Demand.{is_among}
 use Rattle.shared_marks.specs.Seats.{IsWhole, SeatView}
 use Rattle.shared_marks.specs.Served.{is_served_at}
 

@@ -1,7 +1,7 @@
 ghost use Rattle.std.specs.Prelude.{◌≡◌, ◌+◌, ◌<◌, ◌≤◌, ◌^◌, ℕ, List, Option, drop, length, sum, take};
 ghost use Rattle.std.specs.List.{filter};
-ghost use Rattle.cov_model.specs.Sound.{ModelView};
-ghost use Rattle.definitions.specs.Figures.{covered};
+ghost use Rattle.cov_model.specs.believed.Sound.{ModelView};
+ghost use Rattle.definitions.specs.believed.Figures.{covered};
 ghost use Rattle.suite_facts.specs.Facts.{AreMarksOf};
 ghost use Rattle.tuple_index.specs.Plan.{plan_of, set_at};
 

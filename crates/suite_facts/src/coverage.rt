@@ -1,9 +1,11 @@
 ghost use Rattle.std.specs.Prelude.{◌≡◌, ◌*◌, ◌<◌, ◌≤◌, ◌^◌, ℕ, List, Option, All, IfOk, length, sum};
 ghost use Rattle.cov_model.specs.Fits.{FitsModel};
-ghost use Rattle.cov_model.specs.Sound.{ModelView};
+ghost use Rattle.cov_model.specs.believed.Sound.{ModelView};
 ghost use Rattle.row_text.specs.RowFiles.{suite_seen};
-ghost use Rattle.suite_facts.specs.Coverages.{IsCoverageOf, larger, numbers_of, with_set};
-ghost use Rattle.suite_facts.specs.Facts.{AreMarksOf, covered_of};
+ghost use Rattle.suite_facts.specs.Coverages.{IsCoverageOf, larger, with_set};
+ghost use Rattle.suite_facts.specs.believed.Coverages.{numbers_of};
+ghost use Rattle.suite_facts.specs.Facts.{AreMarksOf};
+ghost use Rattle.suite_facts.specs.believed.Facts.{covered_of};
 ghost use Rattle.tuple_index.specs.Plan.{plan_of};
 
 use crate::counting::count_set;

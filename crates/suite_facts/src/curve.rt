@@ -1,11 +1,11 @@
 ghost use Rattle.std.specs.Prelude.{◌≡◌, ◌<◌, ◌≤◌, All, AllPairs, IfOk, length, map, take};
 ghost use Rattle.std.specs.List.{filter, range_with_len};
 ghost use Rattle.cov_model.specs.Fits.{FitsModel};
-ghost use Rattle.definitions.specs.Demand.{demanded_tuples, is_among};
+ghost use Rattle.definitions.specs.believed.Demand.{demanded_tuples, is_among};
 ghost use Rattle.row_text.specs.RowFiles.{suite_seen};
 ghost use Rattle.shared_marks.specs.Seats.{IsWhole};
-ghost use Rattle.suite_facts.specs.Coverages.{point_of};
-ghost use Rattle.suite_facts.specs.Facts.{covered_of};
+ghost use Rattle.suite_facts.specs.believed.Coverages.{point_of};
+ghost use Rattle.suite_facts.specs.believed.Facts.{covered_of};
 ghost use Rattle.suite_facts.specs.Marked.{HoldsCovered, KeepsMarked};
 ghost use Rattle.tuple_index.specs.Plan.{plan_of};
 

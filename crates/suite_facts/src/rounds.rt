@@ -1,6 +1,6 @@
 ghost use Rattle.std.specs.Prelude.{◌≡◌, ◌++◌, ◌∷◌, [], IfOk, OnOk, nat_lt};
 ghost use Rattle.std.specs.List.{filter};
-ghost use Rattle.suite_facts.specs.Facts.{round_counts};
+ghost use Rattle.suite_facts.specs.believed.Facts.{round_counts};
 
 use std::alloc::Global;
 use value_text::NoMemory;

@@ -3,15 +3,15 @@ use Rattle.std.proofs.Common.{◌≡◌, ℕ, ◌%◌, ◌<◌, Bool, true, List
 use Rattle.std.specs.Prelude.{Option, Some}
 use Rattle.std.proofs.lemmas.List.{get_or-map}
 use Rattle.std.proofs.Math.Nat.{mod-lt}
-use Rattle.cov_model.specs.Sound.{ModelView}
-use Rattle.cov_model.specs.Meaning.{value_at}
-use Rattle.cov_model.specs.Rows.{is_assigned, value_in}
-use Rattle.definitions.specs.Report.{printed, times_given}
+use Rattle.cov_model.specs.believed.Sound.{ModelView}
+use Rattle.cov_model.specs.believed.Meaning.{value_at}
+use Rattle.cov_model.specs.believed.Rows.{is_assigned, value_in}
+use Rattle.definitions.specs.believed.Report.{printed, times_given}
 use Rattle.row_forms.specs.declared.row_form.RowForm.{RowForm}
-use Rattle.row_forms.specs.Forms.{piece}
+use Rattle.row_forms.specs.believed.Forms.{piece}
 use Rattle.row_text.proofs.Turning.{cell_shown}
 use Rattle.suite_forms.specs.Pieces.{cell_piece, name_pieces}
-use Rattle.suite_forms.specs.Suites.{spelled}
+use Rattle.suite_forms.specs.believed.Suites.{spelled}
 
 pub same_piece : (form : RowForm) (first first' only only' : Bool) (name name' : List ℕ) (cell cell' : Option (List ℕ))
     → first ≡ first' → only ≡ only' → name ≡ name' → cell ≡ cell' → piece form first only name cell ≡ piece form first' only' name' cell'

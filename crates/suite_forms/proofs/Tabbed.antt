@@ -5,15 +5,15 @@ use Rattle.std.specs.List.{AllByRecursion, join_with_byte, list_all}
 use Rattle.std.proofs.lemmas.Bool.{and_parts}
 use Rattle.std.proofs.lemmas.List.{append-nil, length-map}
 use Rattle.std.proofs.lemmas.List.Elements.{recursion_from_All}
-use Rattle.cov_model.specs.Sound.{ModelView}
-use Rattle.cov_model.specs.Rows.{is_assigned}
-use Rattle.cov_model.specs.Valid.{has_value, is_row, param_numbers}
-use Rattle.definitions.specs.Report.{cell_text, row_line, row_lines}
+use Rattle.cov_model.specs.believed.Sound.{ModelView}
+use Rattle.cov_model.specs.believed.Rows.{is_assigned}
+use Rattle.cov_model.specs.believed.Valid.{has_value, is_row, param_numbers}
+use Rattle.definitions.specs.believed.Report.{cell_text, row_line, row_lines}
 use Rattle.row_forms.specs.declared.row_form.RowForm.TheVariants.{Tsv}
-use Rattle.row_forms.specs.Forms.{parting, text_of}
-use Rattle.row_forms.specs.Tables.{is_single, name_pieces, pieces, row_text, rows_text}
+use Rattle.row_forms.specs.believed.Forms.{parting, text_of}
+use Rattle.row_forms.specs.believed.Tables.{is_single, name_pieces, pieces, row_text, rows_text}
 use Rattle.suite_forms.specs.Laws.{TsvIsReport}
-use Rattle.suite_forms.specs.Suites.{param_names, spelled, spelled_row, spelled_rows}
+use Rattle.suite_forms.specs.believed.Suites.{param_names, spelled, spelled_row, spelled_rows}
 use Rattle.suite_forms.proofs.Making.{count_of_params}
 
 -- cells behind the first one, each behind its tab

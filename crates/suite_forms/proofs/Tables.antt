@@ -5,13 +5,13 @@ use Rattle.std.specs.List.{AllByRecursion}
 use Rattle.std.proofs.lemmas.List.{append-nil, drop_all, get_or-map, length-map, take_more}
 use Rattle.std.proofs.lemmas.List.Elements.{All-from_recursion}
 use Rattle.cov_model.specs.declared.parameter.Param.{Param}
-use Rattle.cov_model.specs.Sound.{ModelView, no_param, param_at}
+use Rattle.cov_model.specs.believed.Sound.{ModelView, no_param, param_at}
 use Rattle.row_forms.specs.declared.row_form.RowForm.{RowForm}
-use Rattle.row_forms.specs.Forms.{piece}
+use Rattle.row_forms.specs.believed.Forms.{piece}
 use Rattle.row_forms.specs.Laws.{IsTable}
-use Rattle.row_forms.specs.Tables.{is_single, pieces, row_text, rows_text}
+use Rattle.row_forms.specs.believed.Tables.{is_single, pieces, row_text, rows_text}
 use Rattle.suite_forms.specs.Pieces.{cell_piece}
-use Rattle.suite_forms.specs.Suites.{param_names, spelled, spelled_row, spelled_rows}
+use Rattle.suite_forms.specs.believed.Suites.{param_names, spelled, spelled_row, spelled_rows}
 use Rattle.suite_forms.proofs.Making.{at_param, count_of_params}
 
 -- a place behind another is not the first

@@ -2,14 +2,14 @@
 use Rattle.std.specs.Prelude.{◌≡◌, ℕ, ◌<◌, true, List, [], Option, Some, Ok, All, length}
 use Rattle.json.specs.Json.{document}
 use Rattle.comma_rows.specs.Reading.{comma_texts}
-use Rattle.cov_model.specs.Sound.{ModelView}
-use Rattle.cov_model.specs.Valid.{is_row}
-use Rattle.definitions.specs.Report.{report_text}
+use Rattle.cov_model.specs.believed.Sound.{ModelView}
+use Rattle.cov_model.specs.believed.Valid.{is_row}
+use Rattle.definitions.specs.believed.Report.{report_text}
 use Rattle.row_forms.specs.declared.row_form.RowForm.TheVariants.{Tsv, Csv, Json, Markdown}
 use Rattle.row_forms.specs.Json.{table_value}
 use Rattle.row_forms.specs.Laws.{texts_of}
 use Rattle.row_forms.specs.Markdown.{markdown_texts}
-use Rattle.suite_forms.specs.Suites.{param_names, spelled_rows, suite_text}
+use Rattle.suite_forms.specs.believed.Suites.{param_names, spelled_rows, suite_text}
 
 -- the tab-separated text of complete rows is their report
 abbrev pub TsvIsReport : Type 0

@@ -1,3 +1,3 @@
-pub mod Suites
 pub mod Pieces
 pub mod Laws
+pub mod believed

@@ -2,14 +2,14 @@
 -- of each value. (How they are kept.)
 use Rattle.std.specs.Prelude.{◌≡◌, ℕ, List, map, Option, Some, None, ◌==◌}
 use Rattle.cov_model.specs.declared.parameter.Value.{Value}
-use Rattle.cov_model.specs.Sound.{ModelView, param_at}
-use Rattle.cov_model.specs.Valid.{param_numbers}
-use Rattle.definitions.specs.Report.{printed}
+use Rattle.cov_model.specs.believed.Sound.{ModelView, param_at}
+use Rattle.cov_model.specs.believed.Valid.{param_numbers}
+use Rattle.definitions.specs.believed.Report.{printed}
 use Rattle.row_forms.specs.declared.row_form.RowForm.{RowForm}
-use Rattle.row_forms.specs.Forms.{piece}
-use Rattle.row_forms.specs.Tables.{is_single}
+use Rattle.row_forms.specs.believed.Forms.{piece}
+use Rattle.row_forms.specs.believed.Tables.{is_single}
 use Rattle.suite_forms.specs.declared.cell_pieces.CellPieces.{CellPieces}
-use Rattle.suite_forms.specs.Suites.{param_names}
+use Rattle.suite_forms.specs.believed.Suites.{param_names}
 
 -- what stands in a row for a cell of a parameter
 abbrev pub cell_piece : RowForm → ModelView → ℕ → Option (List ℕ) → List ℕ

@@ -1,11 +1,11 @@
 ghost use Rattle.std.specs.Prelude.{◌≡◌, ◌<◌, ◌==◌, map, length, Some, None, IfOk, if◌then◌else◌, ◌∷◌, [], ◌++◌};
 ghost use Rattle.std.specs.String.{string_bytes};
-ghost use Rattle.cov_model.specs.Sound.{IsSoundValue, param_at};
-ghost use Rattle.cov_model.specs.Meaning.{value_at};
-ghost use Rattle.definitions.specs.Report.{printed};
-ghost use Rattle.row_forms.specs.Tables.{is_single};
+ghost use Rattle.cov_model.specs.believed.Sound.{IsSoundValue, param_at};
+ghost use Rattle.cov_model.specs.believed.Meaning.{value_at};
+ghost use Rattle.definitions.specs.believed.Report.{printed};
+ghost use Rattle.row_forms.specs.believed.Tables.{is_single};
 ghost use Rattle.suite_forms.specs.Pieces.{ArePiecesOf, cell_piece, name_pieces, value_pieces};
-ghost use Rattle.suite_forms.specs.Suites.{param_names};
+ghost use Rattle.suite_forms.specs.believed.Suites.{param_names};
 
 use crate::piece::{NamePieces, Piece, ValuePieces};
 use cov_model::{TestModel, Value};

@@ -1,6 +1,6 @@
 ghost use Rattle.std.specs.Prelude.{◌≡◌, IfOk};
 ghost use Rattle.std.specs.Option.{option_copied};
-ghost use Rattle.row_forms.specs.Forms.{piece};
+ghost use Rattle.row_forms.specs.believed.Forms.{piece};
 
 use row_forms::{Column, RowForm};
 use std::alloc::Global;

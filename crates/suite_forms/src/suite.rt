@@ -1,10 +1,10 @@
 ghost use Rattle.std.specs.Prelude.{◌≡◌, ◌≢◌, ◌++◌, ◌+◌, ◌<◌, ◌==◌, ℕ, true, [], length, take, map, All, slice_index_or, IfOk, OnOk};
 ghost use Rattle.cov_model.specs.Fits.{FitsModel};
 ghost use Rattle.row_forms.specs.Seen.{names_seen};
-ghost use Rattle.row_forms.specs.Tables.{is_single, pieces as row_pieces, row_text, rows_text};
+ghost use Rattle.row_forms.specs.believed.Tables.{is_single, pieces as row_pieces, row_text, rows_text};
 ghost use Rattle.row_text.specs.Turns.{AreTurns, IsFor, first_turns, turns_at};
 ghost use Rattle.suite_forms.specs.Pieces.{ArePiecesOf, cell_piece};
-ghost use Rattle.suite_forms.specs.Suites.{param_names, spelled, spelled_row, spelled_rows, suite_text};
+ghost use Rattle.suite_forms.specs.believed.Suites.{param_names, spelled, spelled_row, spelled_rows, suite_text};
 
 use crate::cell_pieces::CellPieces;
 use crate::name_turns::NameTurns;

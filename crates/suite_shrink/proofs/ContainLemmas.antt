@@ -3,7 +3,7 @@ use Rattle.std.proofs.Common.{◌≡◌, ℕ, ◌<◌, true, false, not, nat_eq,
 use Rattle.std.specs.Option.{option_eq}
 use Rattle.std.proofs.lemmas.Bool.{eq-eqb, false≢true, false_from_ne_true}
 use Rattle.std.proofs.lemmas.Option.{none-some, same_Some}
-use Rattle.cov_model.specs.Rows.{contains, is_assigned}
+use Rattle.cov_model.specs.believed.Rows.{contains, is_assigned}
 use Rattle.cov_model.proofs.CellLemmas.{assigned_within, contains-from, contains-get_or}
 
 -- the row gives what the partial row gives there

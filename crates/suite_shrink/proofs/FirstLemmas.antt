@@ -6,8 +6,8 @@ use Rattle.std.proofs.lemmas.List.{take_all, take_more}
 use Rattle.std.proofs.lemmas.List.Quantifiers.{all_pairs_push}
 use Rattle.std.proofs.lemmas.Option.{slice_get-get_or}
 use Rattle.cov_model.specs.Fits.{FitsModel}
-use Rattle.cov_model.specs.Sound.{ModelView}
-use Rattle.definitions.specs.Seeds.{distinct, is_same_row}
+use Rattle.cov_model.specs.believed.Sound.{ModelView}
+use Rattle.definitions.specs.believed.Seeds.{distinct, is_same_row}
 use Rattle.definitions.proofs.Members.{any_member, has_place}
 use Rattle.distinct_rows.specs.Known.{is_known_row, with_row}
 use Rattle.distinct_rows.proofs.SameRows.{distinct_by-push}

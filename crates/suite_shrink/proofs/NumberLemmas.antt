@@ -2,7 +2,7 @@
 use Rattle.std.proofs.Common.{◌≡◌, ℕ, ◌<◌, List, map, length, get_or, Option, ◌∙◌, sym, subst, arith}
 use Rattle.std.proofs.lemmas.List.{get_or-map, length-map}
 use Rattle.std.proofs.lemmas.List.Elements.{All-get_or, All-map, All-weaker}
-use Rattle.cov_model.specs.Sound.{ModelView}
+use Rattle.cov_model.specs.believed.Sound.{ModelView}
 use Rattle.shrink_search.specs.Fewer.{AreFewer}
 
 -- rows that stand for some of the first ones stand for given ones

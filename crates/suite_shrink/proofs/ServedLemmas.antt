@@ -5,11 +5,11 @@ use Rattle.std.proofs.lemmas.Bool.{and_from, and_parts, false≢true, false_from
 use Rattle.std.proofs.lemmas.List.{get_or-map, take_all, take_more}
 use Rattle.atomic_table.specs.Seated.{TableId}
 use Rattle.cov_model.specs.Fits.{FitsModel}
-use Rattle.cov_model.specs.Rows.{contains, is_assigned, is_complete}
-use Rattle.cov_model.specs.Sound.{ModelView}
-use Rattle.cov_model.specs.Valid.{is_valid, negatives, serves}
-use Rattle.definitions.specs.Demand.{demanded_tuples, is_among}
-use Rattle.definitions.specs.Figures.{is_served, tests_of}
+use Rattle.cov_model.specs.believed.Rows.{contains, is_assigned, is_complete}
+use Rattle.cov_model.specs.believed.Sound.{ModelView}
+use Rattle.cov_model.specs.believed.Valid.{is_valid, negatives, serves}
+use Rattle.definitions.specs.believed.Demand.{demanded_tuples, is_among}
+use Rattle.definitions.specs.believed.Figures.{is_served, tests_of}
 use Rattle.definitions.proofs.Members.{Has, all_members, has_map}
 use Rattle.definitions.proofs.ReadRow.{complete_row}
 use Rattle.row_text.specs.declared.row_file.FileRow.{FileRow}
@@ -20,7 +20,7 @@ use Rattle.shared_marks.proofs.AddingLemmas.{marks_add, marks_same, marks_then}
 use Rattle.shared_marks.proofs.OwnTupleLemmas.{of_valid}
 use Rattle.shared_marks.proofs.PlaceLemmas.{served_append}
 use Rattle.shared_marks.proofs.WorkerLemmas.{all_marked}
-use Rattle.shorter_suites.specs.Shrinking.{ServesToo}
+use Rattle.shorter_suites.specs.believed.Shrinking.{ServesToo}
 
 -- a row of a file of one row
 pub file_fits : (m : ModelView) (rows : List FileRow) (row : List (Option ℕ)) → map (λ one. one.cells) rows ≡ row ∷ [] → FitsModel m row

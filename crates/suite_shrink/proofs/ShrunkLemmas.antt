@@ -2,18 +2,18 @@
 use Rattle.std.proofs.Common.{◌≡◌, ℕ, true, List, All, Option, ◌∙◌, sym, subst}
 use Rattle.std.proofs.lemmas.List.Elements.{All-weaker}
 use Rattle.cov_model.specs.Fits.{FitsModel}
-use Rattle.cov_model.specs.Rows.{contains}
-use Rattle.cov_model.specs.Sound.{ModelView}
-use Rattle.cov_model.specs.Valid.{is_valid, serves}
+use Rattle.cov_model.specs.believed.Rows.{contains}
+use Rattle.cov_model.specs.believed.Sound.{ModelView}
+use Rattle.cov_model.specs.believed.Valid.{is_valid, serves}
 use Rattle.cov_model.proofs.RowLemmas.{FitsModel-is_row}
-use Rattle.definitions.specs.Demand.{demanded_tuples}
-use Rattle.definitions.specs.Figures.{is_served}
-use Rattle.definitions.specs.Seeds.{distinct}
+use Rattle.definitions.specs.believed.Demand.{demanded_tuples}
+use Rattle.definitions.specs.believed.Figures.{is_served}
+use Rattle.definitions.specs.believed.Seeds.{distinct}
 use Rattle.definitions.proofs.Members.{Has, all_members, any_member, member_of_all, of_any}
 use Rattle.definitions.proofs.Once.{apart_pairs, distinct_apart, few_distinct, has_distinct, of_distinct}
 use Rattle.definitions.proofs.PartialRowLemmas.{same_row_is}
 use Rattle.shared_marks.proofs.OwnTupleLemmas.{of_valid}
-use Rattle.shorter_suites.specs.Shrinking.{IsShrunk, is_contained}
+use Rattle.shorter_suites.specs.believed.Shrinking.{IsShrunk, is_contained}
 
 -- valid rows fit the model
 pub valid_fit : (m : ModelView) (rows : List (List (Option ℕ))) → All (λ row. is_valid m row ≡ true) rows → All (FitsModel m) rows

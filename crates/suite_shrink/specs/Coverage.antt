@@ -1,9 +1,9 @@
 -- What given rows serve and contain, beside other rows. (This project's rule.)
 use Rattle.std.specs.Prelude.{◌≡◌, ℕ, Bool, true, List, map, Option}
-use Rattle.cov_model.specs.Sound.{ModelView}
-use Rattle.definitions.specs.Demand.{demanded_tuples}
-use Rattle.definitions.specs.Figures.{is_served}
-use Rattle.shorter_suites.specs.Shrinking.{is_contained}
+use Rattle.cov_model.specs.believed.Sound.{ModelView}
+use Rattle.definitions.specs.believed.Demand.{demanded_tuples}
+use Rattle.definitions.specs.believed.Figures.{is_served}
+use Rattle.shorter_suites.specs.believed.Shrinking.{is_contained}
 
 -- the marks are those of the demanded tuples that the rows serve
 abbrev pub AreMarksOf : ModelView → List (List (Option ℕ)) → List Bool → Type 0

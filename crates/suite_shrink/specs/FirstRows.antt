@@ -1,7 +1,7 @@
 -- The rows that repeat no earlier one. (This project's rule.)
 use Rattle.std.specs.Prelude.{◌≡◌, ℕ, List, take, Option}
-use Rattle.cov_model.specs.Sound.{ModelView}
-use Rattle.definitions.specs.Seeds.{distinct}
+use Rattle.cov_model.specs.believed.Sound.{ModelView}
+use Rattle.definitions.specs.believed.Seeds.{distinct}
 use Rattle.shrink_search.specs.Fewer.{AreFewerBefore}
 
 -- those of the first given rows, so many, which are the known ones

@@ -1,6 +1,6 @@
 ghost use Rattle.std.specs.Prelude.{◌≡◌, true, All, IfOk};
 ghost use Rattle.cov_model.specs.Fits.{FitsModel};
-ghost use Rattle.shorter_suites.specs.Shrinking.{IsShrunk};
+ghost use Rattle.shorter_suites.specs.believed.Shrinking.{IsShrunk};
 ghost use Rattle.suite_shrink.specs.Coverage.{AreMarksOf};
 ghost use Rattle.tuple_index.specs.Plan.{plan_of};
 

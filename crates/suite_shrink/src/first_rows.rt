@@ -1,7 +1,7 @@
 ghost use Rattle.std.specs.Prelude.{◌≡◌, ◌+◌, ◌<◌, All, IfOk, OnOk};
 ghost use Rattle.std.specs.Prelude.{length, map, slice_index_or};
 ghost use Rattle.cov_model.specs.Fits.{FitsModel};
-ghost use Rattle.definitions.specs.Seeds.{distinct};
+ghost use Rattle.definitions.specs.believed.Seeds.{distinct};
 ghost use Rattle.shrink_search.specs.Fewer.{AreFewer};
 ghost use Rattle.suite_shrink.specs.FirstRows.{AreFirst};
 

@@ -1,9 +1,9 @@
 ghost use Rattle.std.specs.Prelude.{◌≡◌, ◌+◌, ◌*◌, ◌^◌, ◌<◌, ◌≤◌, ℕ, List, Option, if◌then◌else◌};
 ghost use Rattle.std.specs.Prelude.{take, drop, length, map, sum, sum_by};
 ghost use Rattle.std.specs.List.{filter};
-ghost use Rattle.cov_model.specs.Meaning.{value_at};
-ghost use Rattle.cov_model.specs.Slices.{negative_values};
-ghost use Rattle.cov_model.specs.Sound.{param_at};
+ghost use Rattle.cov_model.specs.believed.Meaning.{value_at};
+ghost use Rattle.cov_model.specs.believed.Slices.{negative_values};
+ghost use Rattle.cov_model.specs.believed.Sound.{param_at};
 ghost use Rattle.cov_model.specs.declared.slice.Slice.TheVariants.{Negative};
 ghost use Rattle.definitions.specs.SliceRows.{IsSliceOf};
 ghost use Rattle.shorter_suites.specs.Bounds.{least_needed, most_served, served_in};

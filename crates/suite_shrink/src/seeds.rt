@@ -1,6 +1,6 @@
 ghost use Rattle.std.specs.Prelude.{◌≡◌, true, None, All, slice_index_or};
-ghost use Rattle.cov_model.specs.Rows.{contains};
-ghost use Rattle.shorter_suites.specs.Shrinking.{is_contained};
+ghost use Rattle.cov_model.specs.believed.Rows.{contains};
+ghost use Rattle.shorter_suites.specs.believed.Shrinking.{is_contained};
 ghost use Rattle.suite_shrink.specs.Coverage.{Stays};
 
 use cov_model::{Rows, ValueNo};

@@ -1,9 +1,9 @@
 ghost use Rattle.std.specs.Prelude.{◌≡◌, ◌∷◌, [], true, All, IfOk, OnOk, length, map};
 ghost use Rattle.cov_model.specs.Fits.{FitsModel};
-ghost use Rattle.definitions.specs.Demand.{demanded_tuples};
+ghost use Rattle.definitions.specs.believed.Demand.{demanded_tuples};
 ghost use Rattle.shared_marks.specs.Adding.{Marks};
 ghost use Rattle.shared_marks.specs.Served.{is_served_at};
-ghost use Rattle.shorter_suites.specs.Shrinking.{ServesToo};
+ghost use Rattle.shorter_suites.specs.believed.Shrinking.{ServesToo};
 ghost use Rattle.suite_shrink.specs.Coverage.{AreMarksOf};
 ghost use Rattle.tuple_index.specs.Plan.{plan_of};
 

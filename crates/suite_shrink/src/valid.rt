@@ -1,7 +1,7 @@
 ghost use Rattle.std.specs.Prelude.{◌≡◌, true, All, AllPairs, false, IfOk};
 ghost use Rattle.cov_model.specs.Fits.{FitsModel};
-ghost use Rattle.cov_model.specs.Valid.{is_valid};
-ghost use Rattle.definitions.specs.Seeds.{is_same_row};
+ghost use Rattle.cov_model.specs.believed.Valid.{is_valid};
+ghost use Rattle.definitions.specs.believed.Seeds.{is_same_row};
 
 use cov_model::{Cells, Rows, TestModel};
 use distinct_rows::RowSet;

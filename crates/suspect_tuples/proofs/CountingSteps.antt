@@ -4,9 +4,9 @@ use Rattle.std.specs.Prelude.{◌&&◌, not, zip}
 use Rattle.std.proofs.lemmas.List.{get_or-map, length-map, take_more, take_all}
 use Rattle.std.proofs.lemmas.List.Elements.{filter-append}
 use Rattle.std.proofs.lemmas.Slice.Zip.{get_or-zip, length-zip}
-use Rattle.cov_model.specs.Rows.{is_complete}
+use Rattle.cov_model.specs.believed.Rows.{is_complete}
 use Rattle.row_text.specs.declared.row_file.FileRow.{FileRow}
-use Rattle.suspect_tuples.specs.Suspects.{failing_rows, incomplete_rows, passing_rows}
+use Rattle.suspect_tuples.specs.believed.Suspects.{failing_rows, incomplete_rows, passing_rows}
 use Rattle.suspect_tuples.specs.declared.counting.CountedRows.{CountedRows}
 use Rattle.suspect_tuples.proofs.RowListLemmas.{kept_more}
 

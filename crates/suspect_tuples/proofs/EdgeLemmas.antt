@@ -6,7 +6,7 @@ use Rattle.std.proofs.lemmas.List.{append-nil, map-append}
 use Rattle.std.proofs.lemmas.List.Elements.{filter-append}
 use Rattle.std.proofs.lemmas.List.Sums.{sum_by-cons}
 use Rattle.value_text.proofs.ListLemmas.{filter_same}
-use Rattle.suspect_tuples.specs.Suspects.{gives, has_tuple, is_smallest}
+use Rattle.suspect_tuples.specs.believed.Suspects.{gives, has_tuple, is_smallest}
 use Rattle.suspect_tuples.specs.Edges.{edges_behind, is_edge, is_had}
 use Rattle.suspect_tuples.proofs.PartLemmas.{smallest_are_edges}
 

@@ -1,11 +1,11 @@
 -- Files of results, their suspicious tuples and the text of these, computed on a small model.
 use Rattle.std.specs.Prelude.{◌≡◌, ℕ, true, false, List, [], ◌∷◌, ◌++◌, Ok, Err, codes, refl}
 use Rattle.std.specs.Fmt.{digits}
-use Rattle.definitions.specs.RowReading.{UnknownColumn, UnknownValue, Missing}
+use Rattle.definitions.specs.believed.RowReading.{UnknownColumn, UnknownValue, Missing}
 use Rattle.definitions.proofs.Models.{row, table, pair, triple}
-use Rattle.suspect_tuples.specs.ResultReading.{Rows, NoResult, BadResult, ResultReading, read_results}
-use Rattle.suspect_tuples.specs.Suspects.{candidate_count, failing_rows, suspects}
-use Rattle.suspect_tuples.specs.SuspectsText.{suspects_text}
+use Rattle.suspect_tuples.specs.believed.ResultReading.{Rows, NoResult, BadResult, ResultReading, read_results}
+use Rattle.suspect_tuples.specs.believed.Suspects.{candidate_count, failing_rows, suspects}
+use Rattle.suspect_tuples.specs.believed.SuspectsText.{suspects_text}
 
 -- four rows of which the second failed
 abbrev four : List ℕ

@@ -5,9 +5,9 @@ use Rattle.std.specs.List.{list_all, list_any, range_with_len}
 use Rattle.std.proofs.lemmas.Bool.{false≢true, false_from_ne_true, and_parts, and_from}
 use Rattle.std.proofs.lemmas.List.Folds.{list_all-append}
 use Rattle.value_text.proofs.ListLemmas.{range_with_len_more}
-use Rattle.definitions.specs.Demand.{choose}
+use Rattle.definitions.specs.believed.Demand.{choose}
 use Rattle.definitions.proofs.Members.{Has, has_left, has_right, of_append, has_map, of_map, has_flat, of_flat, any_member, of_any, all_pass, passes_all, has_range, of_range, same_answer}
-use Rattle.suspect_tuples.specs.Suspects.{gives, has_tuple, is_smallest, is_suspicious, proper_parts}
+use Rattle.suspect_tuples.specs.believed.Suspects.{gives, has_tuple, is_smallest, is_suspicious, proper_parts}
 use Rattle.suspect_tuples.specs.Edges.{is_edge, is_had}
 
 -- a test that all items pass is passed by all items of a way to take some

@@ -10,18 +10,18 @@ use Rattle.std.proofs.lemmas.List.{get_or_default, length-drop, length-map, nil_
 use Rattle.std.proofs.lemmas.List.Quantifiers.{position-Some}
 use Rattle.std.proofs.lemmas.Slice.Eq.{bytes_eq-Decides}
 use Rattle.value_text.proofs.ListLemmas.{position_is}
-use Rattle.value_text.specs.Texts.{folded, is_same_text}
-use Rattle.cov_model.specs.Sound.{ModelView, IsSound}
+use Rattle.value_text.specs.believed.Texts.{folded, is_same_text}
+use Rattle.cov_model.specs.believed.Sound.{ModelView, IsSound}
 use Rattle.cov_model.specs.declared.parameter.Param.{Param}
-use Rattle.definitions.specs.RowFile.{cells_of_line, filled_lines, named_param, row_of_line}
-use Rattle.definitions.specs.RowReading as rows
-use Rattle.definitions.specs.RowReading.{RowReading, RowNote, RowsFault, Suite, UnknownColumn, column_notes, first_fault, read_rows, read_under, unless_fault, value_notes}
-use Rattle.row_text.specs.Readings.{note_told}
+use Rattle.definitions.specs.believed.RowFile.{cells_of_line, filled_lines, named_param, row_of_line}
+use Rattle.definitions.specs.believed.RowReading as rows
+use Rattle.definitions.specs.believed.RowReading.{RowReading, RowNote, RowsFault, Suite, UnknownColumn, column_notes, first_fault, read_rows, read_under, unless_fault, value_notes}
+use Rattle.row_text.specs.believed.Readings.{note_told}
 use Rattle.row_text.proofs.LookingUp.{position_none}
 use Rattle.row_text.proofs.LineSteps.{length_cells, tabs_within}
 use Rattle.row_text.proofs.RowSteps.{next_of_left}
-use Rattle.suspect_tuples.specs.ResultReading as defined
-use Rattle.suspect_tuples.specs.ResultReading.{ResultReading, notes_beside, read_results, result_column, results_numbered, results_under, unless_bad}
+use Rattle.suspect_tuples.specs.believed.ResultReading as defined
+use Rattle.suspect_tuples.specs.believed.ResultReading.{ResultReading, notes_beside, read_results, result_column, results_numbered, results_under, unless_bad}
 
 -- folding keeps a colon, and makes none
 colon_kept : (byte : ℕ) → (to_ascii_lowercase byte == 58) ≡ (byte == 58)

@@ -12,14 +12,14 @@ use Rattle.std.proofs.lemmas.List.Folds.{list_all-append}
 use Rattle.std.proofs.lemmas.List.Sums.{AllPass-from_list_all}
 use Rattle.std.proofs.lemmas.Nat.Bits.{bit_at-lt, bit_at-trailing_zeros, bit_at_and}
 use Rattle.cov_model.specs.Fits.{FitsModel}
-use Rattle.cov_model.specs.Rows.{is_assigned, value_in}
-use Rattle.cov_model.specs.Sound.{ModelView, no_param, param_at}
-use Rattle.definitions.specs.Demand.{is_among}
+use Rattle.cov_model.specs.believed.Rows.{is_assigned, value_in}
+use Rattle.cov_model.specs.believed.Sound.{ModelView, no_param, param_at}
+use Rattle.definitions.specs.believed.Demand.{is_among}
 use Rattle.definitions.proofs.Members.{any_member, of_among}
 use Rattle.suspect_tuples.specs.Edges.{is_had}
 use Rattle.suspect_tuples.specs.RowBits.{MarkHaving, MarksHaving, has_at}
 use Rattle.suspect_tuples.specs.RowTables.{AreParamSets}
-use Rattle.suspect_tuples.specs.Suspects.{gives, has_tuple}
+use Rattle.suspect_tuples.specs.believed.Suspects.{gives, has_tuple}
 use Rattle.suspect_tuples.specs.ValueRows.{AreGiven, AreValueRows, KeepsHaving, KeepsPair, is_many, words_in}
 use Rattle.suspect_tuples.specs.declared.value_rows.ValueRows.{ValueRows}
 use Rattle.suspect_tuples.specs.declared.value_rows.ValueRows.TheVariants.{Few, Many}

@@ -12,9 +12,9 @@ use Rattle.std.proofs.lemmas.Nat.Bits.{bit_at-zero}
 use Rattle.bit_table.specs.Words.{mark_at, marks_of}
 use Rattle.bit_table.proofs.MarkLemmas.{no_marks}
 use Rattle.bit_table.proofs.SetLemmas.{is_there, marked, stays, with_bit}
-use Rattle.definitions.specs.Demand.{is_among}
+use Rattle.definitions.specs.believed.Demand.{is_among}
 use Rattle.suspect_tuples.specs.RowBits.{has_at}
-use Rattle.suspect_tuples.specs.Suspects.{has_tuple}
+use Rattle.suspect_tuples.specs.believed.Suspects.{has_tuple}
 
 -- whether a row contains the tuple
 pub has_here : (rows : List (List (Option ℕ))) (tuple : List (ℕ × ℕ)) (at : ℕ) (d : List (Option ℕ)) → at < length rows

@@ -6,13 +6,13 @@ use Rattle.std.proofs.lemmas.List.{length-map}
 use Rattle.std.proofs.lemmas.Slice.Zip.{length-zip}
 use Rattle.value_text.proofs.ListLemmas.{length-filter-le}
 use Rattle.cov_model.specs.Fits.{FitsModel}
-use Rattle.cov_model.specs.Sound.{ModelView, IsSound}
+use Rattle.cov_model.specs.believed.Sound.{ModelView, IsSound}
 use Rattle.definitions.proofs.Members.{Has, all_members, member_of_all, of_filter, of_map}
 use Rattle.row_text.specs.declared.row_file.FileRow.{FileRow}
-use Rattle.tuple_index.specs.PlanFault.{saturated}
+use Rattle.tuple_index.specs.believed.PlanFault.{saturated}
 use Rattle.tuple_index.proofs.SaturatedLemmas.{saturated-product}
 use Rattle.suspect_tuples.specs.Sets.{AreWide}
-use Rattle.suspect_tuples.specs.Suspects.{candidate_count, suspect_sets}
+use Rattle.suspect_tuples.specs.believed.Suspects.{candidate_count, suspect_sets}
 use Rattle.suspect_tuples.proofs.CountingSteps.{cells_seen}
 
 -- the rows fit the model, and are as long as the list of parameters

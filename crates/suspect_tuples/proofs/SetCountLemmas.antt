@@ -6,8 +6,8 @@ use Rattle.std.proofs.lemmas.Bool.Decides.{nat_tests}
 use Rattle.std.proofs.lemmas.List.{length-map, map-append, get_or-replicate, length-replicate}
 use Rattle.std.proofs.lemmas.List.FromFn.{length-map-range_with_len, get_or-map-range_with_len}
 use Rattle.value_text.proofs.ListLemmas.{range_with_len_more}
-use Rattle.definitions.specs.Demand.{choose}
-use Rattle.tuple_index.specs.PlanFault.{saturated}
+use Rattle.definitions.specs.believed.Demand.{choose}
+use Rattle.tuple_index.specs.believed.PlanFault.{saturated}
 use Rattle.suspect_tuples.specs.SetCounts.{AreCounts, next_count, ways_up_to}
 use Rattle.suspect_tuples.proofs.WalkLemmas.{range_step}
 

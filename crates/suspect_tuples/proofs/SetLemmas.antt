@@ -4,12 +4,12 @@ use Rattle.std.proofs.Common.{length, get_or, All, AllPairs, Option, inl, refl, 
 use Rattle.std.proofs.lemmas.List.{append-nil, get_or_default, map-append, take-append-le, take_all}
 use Rattle.std.proofs.lemmas.List.Elements.{All-cons, All-nil}
 use Rattle.std.proofs.lemmas.List.Quantifiers.{all_pairs_push}
-use Rattle.cov_model.specs.Sound.{ModelView, IsSound, no_param, param_at}
+use Rattle.cov_model.specs.believed.Sound.{ModelView, IsSound, no_param, param_at}
 use Rattle.cov_model.specs.declared.parameter.Param.{Param}
 use Rattle.cov_model.specs.Tuples.{IsRising}
 use Rattle.definitions.proofs.Members.{has_right, member_of_all}
 use Rattle.suspect_tuples.specs.Sets.{AreBefore, AreParams, AreWide}
-use Rattle.suspect_tuples.specs.Suspects.{tuples_on}
+use Rattle.suspect_tuples.specs.believed.Suspects.{tuples_on}
 use Rattle.suspect_tuples.proofs.WalkLemmas.{tuples_up_to}
 
 -- a list with an item is its first and the rest, and one without is empty

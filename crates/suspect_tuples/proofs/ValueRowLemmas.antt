@@ -7,9 +7,9 @@ use Rattle.std.proofs.lemmas.Bool.{and_right, cases_eq, cases_lt, eq-eqb, le-ltb
 use Rattle.std.proofs.lemmas.List.{append-nil, get_or-map, get_or-set_other, get_or-set_same, get_or_append_left, get_or_push, length-map, map-set}
 use Rattle.std.proofs.lemmas.List.Elements.{All-get_or, All-push, All-weaker}
 use Rattle.std.proofs.lemmas.List.Folds.{list_any-append}
-use Rattle.definitions.specs.Demand.{is_among}
+use Rattle.definitions.specs.believed.Demand.{is_among}
 use Rattle.suspect_tuples.specs.RowBits.{has_at}
-use Rattle.suspect_tuples.specs.Suspects.{gives}
+use Rattle.suspect_tuples.specs.believed.Suspects.{gives}
 use Rattle.suspect_tuples.specs.ValueRows.{AreNumbers, AreValueRows, KeepsHaving, KeepsNumbers, is_value}
 use Rattle.suspect_tuples.specs.declared.value_rows.ValueRows.{ValueRows}
 use Rattle.suspect_tuples.specs.declared.value_rows.ValueRows.TheVariants.{Few, Many}

@@ -5,11 +5,11 @@ use Rattle.std.proofs.lemmas.List.{append-nil}
 use Rattle.std.proofs.lemmas.List.Concat.{flat_map-append}
 use Rattle.std.proofs.lemmas.List.FromFn.{get_or-range_with_len, length-range_with_len}
 use Rattle.value_text.proofs.ListLemmas.{range_with_len_more}
-use Rattle.cov_model.specs.Sound.{ModelView}
-use Rattle.cov_model.specs.Valid.{param_numbers}
-use Rattle.definitions.specs.Demand.{choose}
+use Rattle.cov_model.specs.believed.Sound.{ModelView}
+use Rattle.cov_model.specs.believed.Valid.{param_numbers}
+use Rattle.definitions.specs.believed.Demand.{choose}
 use Rattle.tuple_index.proofs.ChoiceLemmas.{choose_step, choose_end}
-use Rattle.suspect_tuples.specs.Suspects.{gives, tuples_on}
+use Rattle.suspect_tuples.specs.believed.Suspects.{gives, tuples_on}
 use Rattle.suspect_tuples.specs.Edges.{edges_behind, tuples_behind}
 use Rattle.suspect_tuples.proofs.EdgeLemmas.{edges_append, edges_narrow}
 

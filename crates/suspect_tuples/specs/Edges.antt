@@ -3,8 +3,8 @@
 -- this program finds them; no public clause speaks of it.)
 use Rattle.std.specs.Prelude.{ℕ, Bool, ◌&&◌, not, List, ◌++◌, map, filter, flat_map, count_by, Option}
 use Rattle.std.specs.List.{list_all, list_any}
-use Rattle.cov_model.specs.Sound.{ModelView}
-use Rattle.suspect_tuples.specs.Suspects.{has_tuple, proper_parts, tuples_on}
+use Rattle.cov_model.specs.believed.Sound.{ModelView}
+use Rattle.suspect_tuples.specs.believed.Suspects.{has_tuple, proper_parts, tuples_on}
 
 -- one of the rows contains the tuple
 abbrev pub is_had : List (List (Option ℕ)) → List (ℕ × ℕ) → Bool

@@ -1,6 +1,3 @@
-pub mod ResultReading
-pub mod Suspects
-pub mod SuspectsText
 pub mod Results
 pub mod Told
 pub mod Edges
@@ -9,3 +6,4 @@ pub mod Sets
 pub mod RowBits
 pub mod ValueRows
 pub mod RowTables
+pub mod believed

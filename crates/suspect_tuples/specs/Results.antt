@@ -1,12 +1,12 @@
 -- What the reading of a file of results answers: exactly the reading of the definition, or its fault. Want of memory
 -- is the one answer that says nothing. (This project's rule.)
 use Rattle.std.specs.Prelude.{◌≡◌, length, Option, Some, None, Result, Ok, Err, option_map, IfSome}
-use Rattle.cov_model.specs.Sound.{ModelView}
+use Rattle.cov_model.specs.believed.Sound.{ModelView}
 use Rattle.row_text.specs.Readings.{HoldsReading, IsFileOf, fault_of}
 use Rattle.row_text.specs.declared.rows_fault.RowsFault.{RowsFault}
 use Rattle.row_text.specs.declared.rows_fault.RowsFault.TheVariants as rows
-use Rattle.suspect_tuples.specs.ResultReading as defined
-use Rattle.suspect_tuples.specs.ResultReading.{ResultReading}
+use Rattle.suspect_tuples.specs.believed.ResultReading as defined
+use Rattle.suspect_tuples.specs.believed.ResultReading.{ResultReading}
 use Rattle.suspect_tuples.specs.declared.result_file.ResultFile.{ResultFile}
 use Rattle.suspect_tuples.specs.declared.results_fault.ResultsFault.{ResultsFault}
 use Rattle.suspect_tuples.specs.declared.results_fault.ResultsFault.TheVariants.{Rows, NoResult, BadResult, NoMemory}

@@ -3,7 +3,7 @@
 use Rattle.std.specs.Prelude.{◌≡◌, ℕ, ◌+◌, ◌*◌, ◌<◌, ◌==◌, false, List, Bool, Option, map, slice_index_or}
 use Rattle.std.specs.Int.{bit_at}
 use Rattle.bit_table.specs.Words.{mark_at}
-use Rattle.suspect_tuples.specs.Suspects.{has_tuple}
+use Rattle.suspect_tuples.specs.believed.Suspects.{has_tuple}
 
 -- whether the row at a place contains the tuple; there is none past the last row
 abbrev pub has_at : List (List (Option ℕ)) → List (ℕ × ℕ) → ℕ → Bool

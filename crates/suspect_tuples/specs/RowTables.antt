@@ -1,7 +1,7 @@
 -- What is kept of rows that are looked up. (How this program finds the smallest suspicious tuples; no public clause
 -- speaks of it.)
 use Rattle.std.specs.Prelude.{◌≡◌, ℕ, ◌<◌, List, [], Option, length, slice_index_or}
-use Rattle.cov_model.specs.Sound.{ModelView, param_at}
+use Rattle.cov_model.specs.believed.Sound.{ModelView, param_at}
 use Rattle.suspect_tuples.specs.RowBits.{MarkHaving}
 use Rattle.suspect_tuples.specs.ValueRows.{AreGiven, AreValueRows}
 use Rattle.suspect_tuples.specs.declared.value_rows.ValueRows.{ValueRows}

@@ -2,8 +2,8 @@
 -- public clause speaks of it.)
 use Rattle.std.specs.Prelude.{◌≡◌, ◌≤◌, ◌==◌, ℕ, ◌+◌, ◌-◌, List, length, slice_index_or, if◌then◌else◌}
 use Rattle.std.specs.List.{flat_map, range_with_len}
-use Rattle.definitions.specs.Demand.{choose}
-use Rattle.tuple_index.specs.PlanFault.{saturated}
+use Rattle.definitions.specs.believed.Demand.{choose}
+use Rattle.tuple_index.specs.believed.PlanFault.{saturated}
 
 -- the number of ways to take 1 to k of the items
 abbrev pub ways_up_to : ℕ → List ℕ → ℕ

@@ -1,7 +1,7 @@
 -- Sets of parameters as they are walked. (How this program finds the smallest suspicious tuples; no public clause
 -- speaks of it.)
 use Rattle.std.specs.Prelude.{◌≡◌, ℕ, ◌<◌, List, Option, length, All, AllPairs}
-use Rattle.cov_model.specs.Sound.{ModelView}
+use Rattle.cov_model.specs.believed.Sound.{ModelView}
 
 -- parameters of the model, rising
 pub record AreParams (m : ModelView) (set : List ℕ) : Type 0 where

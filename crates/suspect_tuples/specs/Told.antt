@@ -1,11 +1,11 @@
 -- Suspicious tuples as the program holds them and as definitions name them, and when there are too many candidates.
 use Rattle.std.specs.Prelude.{◌≡◌, ℕ, ◌<◌, List, map}
-use Rattle.cov_model.specs.Sound.{ModelView}
-use Rattle.definitions.specs.Limits.{SuspectCandidates, most_counted}
+use Rattle.cov_model.specs.believed.Sound.{ModelView}
+use Rattle.definitions.specs.believed.Limits.{SuspectCandidates, most_counted}
 use Rattle.row_text.specs.RowFiles.{suite_seen}
-use Rattle.tuple_index.specs.PlanFault.{saturated}
-use Rattle.suspect_tuples.specs.Suspects as defined
-use Rattle.suspect_tuples.specs.Suspects.{candidate_count, failing_rows}
+use Rattle.tuple_index.specs.believed.PlanFault.{saturated}
+use Rattle.suspect_tuples.specs.believed.Suspects as defined
+use Rattle.suspect_tuples.specs.believed.Suspects.{candidate_count, failing_rows}
 use Rattle.suspect_tuples.specs.declared.result_file.ResultFile.{ResultFile}
 use Rattle.suspect_tuples.specs.declared.suspect_list.Found.{Found}
 use Rattle.suspect_tuples.specs.declared.suspect_list.Suspects.{Suspects}

@@ -2,7 +2,7 @@
 -- public clause speaks of it.)
 use Rattle.std.specs.Prelude.{◌≡◌, ℕ, ◌<◌, ◌==◌, ◌&&◌, Bool, true, false, List, [], ◌∷◌, All, Option, Some, None, length, nat_lt, slice_get, slice_index_or}
 use Rattle.bit_table.specs.Words.{mark_at}
-use Rattle.definitions.specs.Demand.{is_among}
+use Rattle.definitions.specs.believed.Demand.{is_among}
 use Rattle.suspect_tuples.specs.RowBits.{MarkHaving, has_at}
 use Rattle.suspect_tuples.specs.declared.value_rows.ValueRows.{ValueRows}
 use Rattle.suspect_tuples.specs.declared.value_rows.ValueRows.TheVariants.{Few, Many}

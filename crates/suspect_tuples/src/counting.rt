@@ -1,6 +1,6 @@
 ghost use Rattle.std.specs.Prelude.{◌≡◌, ◌+◌, ◌<◌, ◌^◌, ◌++◌, ◌∷◌, [], ◌&&◌, not, if◌then◌else◌, All, length, map, IfOk, OnOk};
-ghost use Rattle.cov_model.specs.Rows.{is_complete};
-ghost use Rattle.suspect_tuples.specs.Suspects.{failing_rows, incomplete_rows, passing_rows};
+ghost use Rattle.cov_model.specs.believed.Rows.{is_complete};
+ghost use Rattle.suspect_tuples.specs.believed.Suspects.{failing_rows, incomplete_rows, passing_rows};
 
 use crate::row_list::RowList;
 use cov_model::Cells;

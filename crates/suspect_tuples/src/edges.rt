@@ -3,7 +3,7 @@ ghost use Rattle.std.specs.List.{list_all, range_with_len};
 ghost use Rattle.cov_model.specs.Tuples.{IsRising};
 ghost use Rattle.suspect_tuples.specs.Edges.{edges_behind, is_edge, is_had};
 ghost use Rattle.suspect_tuples.specs.Sets.{AreParams, AreWide};
-ghost use Rattle.suspect_tuples.specs.Suspects.{tuples_on};
+ghost use Rattle.suspect_tuples.specs.believed.Suspects.{tuples_on};
 ghost use Rattle.suspect_tuples.specs.Told.{found_seen};
 
 use crate::row_bits::RowBits;

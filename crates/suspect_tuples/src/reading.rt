@@ -1,9 +1,9 @@
 ghost use Rattle.std.specs.Prelude.{◌≡◌, ◌≢◌, ◌+◌, ◌≤◌, ◌<◌, ◌^◌, Some, None, if◌then◌else◌, [], codes, drop};
 ghost use Rattle.std.specs.Prelude.{false, find, is_none, length, map, position, slice_index_or, unwrap_or, IfOk, IfErr, IfSome, OnOk};
-ghost use Rattle.definitions.specs.RowFile.{cells_of_line};
-ghost use Rattle.suspect_tuples.specs.ResultReading.{has_failed, read_results, result_fault, result_of_line};
+ghost use Rattle.definitions.specs.believed.RowFile.{cells_of_line};
+ghost use Rattle.suspect_tuples.specs.believed.ResultReading.{has_failed, read_results, result_fault, result_of_line};
 ghost use Rattle.suspect_tuples.specs.Results.{AreResultsOf, ReadsResults, result_fault_of};
-ghost use Rattle.value_text.specs.Texts.{is_same_text};
+ghost use Rattle.value_text.specs.believed.Texts.{is_same_text};
 
 use crate::result_file::{FlagList, ResultFile};
 use crate::results_fault::ResultsFault;

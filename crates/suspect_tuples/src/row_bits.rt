@@ -1,7 +1,7 @@
 ghost use Rattle.std.specs.Prelude.{◌≡◌, ◌<◌, ◌^◌, ◌++◌, ◌∷◌, [], ℕ, List, Option, None, true, All, length, remove, slice_index_or, IfOk, IfSome};
 ghost use Rattle.std.specs.Option.{option_copied};
 ghost use Rattle.cov_model.specs.Fits.{FitsModel};
-ghost use Rattle.definitions.specs.Demand.{is_among};
+ghost use Rattle.definitions.specs.believed.Demand.{is_among};
 ghost use Rattle.suspect_tuples.specs.Edges.{is_had};
 ghost use Rattle.suspect_tuples.specs.RowBits.{MarksHaving, has_at};
 ghost use Rattle.suspect_tuples.specs.RowTables.{AreParamSets, AreRowBits};

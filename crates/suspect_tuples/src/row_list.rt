@@ -1,6 +1,6 @@
 ghost use Rattle.std.specs.Prelude.{◌≡◌, ◌<◌, ◌==◌, ◌++◌, ◌∷◌, [], All, filter, length, slice_index_or, IfOk, OnOk};
 ghost use Rattle.suspect_tuples.specs.RowBits.{has_at};
-ghost use Rattle.suspect_tuples.specs.Suspects.{gives, has_tuple};
+ghost use Rattle.suspect_tuples.specs.believed.Suspects.{gives, has_tuple};
 
 use cov_model::{Cells, ParamNo, ValueNo};
 use std::alloc::Global;

@@ -1,6 +1,6 @@
 ghost use Rattle.std.specs.Prelude.{◌≡◌, ◌+◌, ◌/◌, ◌<◌, ◌==◌, ◌||◌, ℕ, All, length, nat_lt, slice_index_or, IfOk};
 ghost use Rattle.bit_table.specs.Words.{mark_at};
-ghost use Rattle.definitions.specs.Demand.{is_among};
+ghost use Rattle.definitions.specs.believed.Demand.{is_among};
 
 use std::alloc::Global;
 use std::marker::Model;

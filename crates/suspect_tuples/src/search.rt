@@ -1,5 +1,5 @@
 ghost use Rattle.std.specs.Prelude.{◌≡◌, ◌≤◌, IfOk, IfErr, OnOk};
-ghost use Rattle.definitions.specs.Limits.{SuspectCandidates, most_counted};
+ghost use Rattle.definitions.specs.believed.Limits.{SuspectCandidates, most_counted};
 ghost use Rattle.suspect_tuples.specs.Results.{AreResultsOf};
 ghost use Rattle.suspect_tuples.specs.Told.{IsSuspectFault, candidates_of, suspects_of, suspects_seen};
 

@@ -1,7 +1,7 @@
 ghost use Rattle.std.specs.Prelude.{◌≡◌, ◌<◌, ◌^◌, ℕ, List, length, map, IfOk};
 ghost use Rattle.std.specs.List.{range_with_len};
 ghost use Rattle.suspect_tuples.specs.SetCounts.{next_count, ways_up_to};
-ghost use Rattle.tuple_index.specs.PlanFault.{saturated};
+ghost use Rattle.tuple_index.specs.believed.PlanFault.{saturated};
 
 use std::alloc::Global;
 use value_text::NoMemory;

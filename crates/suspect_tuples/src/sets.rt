@@ -1,10 +1,10 @@
 ghost use Rattle.std.specs.Prelude.{◌≡◌, ◌≤◌, ◌<◌, ◌^◌, ◌++◌, [], All, drop, length, map, IfOk, OnOk};
 ghost use Rattle.cov_model.specs.Fits.{FitsModel};
-ghost use Rattle.cov_model.specs.Valid.{param_numbers};
-ghost use Rattle.definitions.specs.Demand.{choose};
+ghost use Rattle.cov_model.specs.believed.Valid.{param_numbers};
+ghost use Rattle.definitions.specs.believed.Demand.{choose};
 ghost use Rattle.suspect_tuples.specs.Edges.{edges_behind, tuples_behind};
 ghost use Rattle.suspect_tuples.specs.Sets.{AreBefore, AreWide};
-ghost use Rattle.suspect_tuples.specs.Suspects.{suspect_tuples};
+ghost use Rattle.suspect_tuples.specs.believed.Suspects.{suspect_tuples};
 ghost use Rattle.suspect_tuples.specs.Told.{found_seen};
 
 use crate::edges::add_edges;

@@ -1,8 +1,8 @@
-ghost use Rattle.definitions.specs.Pairs.{pair_text, pairs_text};
-ghost use Rattle.outside_io.specs.Puts.{Puts};
+ghost use Rattle.definitions.specs.believed.Pairs.{pair_text, pairs_text};
+ghost use Rattle.outside_io.specs.believed.Puts.{Puts};
 ghost use Rattle.row_text.specs.Buffering.{Adds};
 ghost use Rattle.std.specs.Prelude.{◌∷◌, flat_map, map};
-ghost use Rattle.suspect_tuples.specs.SuspectsText.{suspect_line, suspects_text};
+ghost use Rattle.suspect_tuples.specs.believed.SuspectsText.{suspect_line, suspects_text};
 ghost use Rattle.suspect_tuples.specs.Told.{found_seen, suspects_seen};
 
 use crate::suspect_list::{Found, Suspects};

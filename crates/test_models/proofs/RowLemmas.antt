@@ -2,12 +2,12 @@
 use Rattle.std.proofs.Common.{◌≡◌, ℕ, ◌<◌, true, false, not, List, length, get_or, Option, Some, None, is_some, unwrap_or, sym, ap, subst}
 use Rattle.std.proofs.lemmas.Bool.{false≢true}
 use Rattle.cov_model.specs.declared.slice.Slice.TheVariants.{Positive}
-use Rattle.cov_model.specs.Sound.{ModelView, param_at}
-use Rattle.cov_model.specs.Meaning.{value_at}
-use Rattle.cov_model.specs.Rows.{is_assigned, value_in}
-use Rattle.cov_model.specs.Slices.{value_numbers}
+use Rattle.cov_model.specs.believed.Sound.{ModelView, param_at}
+use Rattle.cov_model.specs.believed.Meaning.{value_at}
+use Rattle.cov_model.specs.believed.Rows.{is_assigned, value_in}
+use Rattle.cov_model.specs.believed.Slices.{value_numbers}
 use Rattle.definitions.specs.SliceRows.{IsOfSlice}
-use Rattle.definitions.specs.Demand.{is_among}
+use Rattle.definitions.specs.believed.Demand.{is_among}
 use Rattle.definitions.proofs.Members.{has_filter, among_has}
 use Rattle.definitions.proofs.SliceLemmas.{values_at, values_positive, has_numbers}
 use Rattle.test_models.specs.Rows.{IsPositiveCell}

@@ -1,5 +1,5 @@
 ghost use Rattle.std.specs.Prelude.{◌≡◌, ◌<◌, true, IsTrue, IfSome, length};
-ghost use Rattle.cov_model.specs.Valid.{is_row};
+ghost use Rattle.cov_model.specs.believed.Valid.{is_row};
 ghost use Rattle.definitions.specs.SliceRows.{IsOfSlice};
 ghost use Rattle.test_models.specs.Rows.{IsPositiveCell};
 

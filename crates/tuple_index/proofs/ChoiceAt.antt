@@ -8,11 +8,11 @@ use Rattle.std.proofs.lemmas.List.{get_or_past}
 use Rattle.std.proofs.lemmas.List.FromFn.{get_or-map-range_with_len, length-map-range_with_len}
 use Rattle.std.proofs.Math.Bool.{or-false}
 use Rattle.cov_model.specs.declared.slice.Slice.TheVariants.{Positive, Negative}
-use Rattle.cov_model.specs.Sound.{ModelView}
-use Rattle.cov_model.specs.Meaning.{value_at}
-use Rattle.cov_model.specs.Valid.{param_numbers}
-use Rattle.cov_model.specs.Slices.{positive_values, negative_values, value_numbers}
-use Rattle.definitions.specs.Demand.{is_among}
+use Rattle.cov_model.specs.believed.Sound.{ModelView}
+use Rattle.cov_model.specs.believed.Meaning.{value_at}
+use Rattle.cov_model.specs.believed.Valid.{param_numbers}
+use Rattle.cov_model.specs.believed.Slices.{positive_values, negative_values, value_numbers}
+use Rattle.definitions.specs.believed.Demand.{is_among}
 use Rattle.definitions.proofs.Members.{Has, of_append, of_map, of_flat, of_filter, among_has, of_among, has_place}
 use Rattle.tuple_index.specs.Plan.{PlanView, plan_of, IsChoice, are_values, is_negative, is_value, negative_count}
 use Rattle.tuple_index.specs.Places.{RisesFrom, values_in, negatives_of, value_lists, negative_lists, tuple_lists}

@@ -8,7 +8,7 @@ use Rattle.std.proofs.Math.Seq.{take-length}
 use Rattle.std.specs.Prelude.{slice_get}
 use Rattle.std.proofs.lemmas.Option.{get_or_from_slice_get}
 use Rattle.value_text.proofs.ListLemmas.{map-get_or-range_with_len}
-use Rattle.definitions.specs.Demand.{choose, unions}
+use Rattle.definitions.specs.believed.Demand.{choose, unions}
 
 -- one item more of a list whose pieces are put one after another
 pub flat_step : {X Y : Type 0} (f : X → List Y) (xs : List X) (i : ℕ) (x : X) (before after whole : List Y) → i < length xs → x ≡ get_or xs i x

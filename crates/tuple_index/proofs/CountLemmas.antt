@@ -5,8 +5,8 @@ use Rattle.std.proofs.lemmas.List.{length-map, map-append}
 use Rattle.std.proofs.lemmas.List.Concat.{flat_map-append}
 use Rattle.std.proofs.lemmas.List.Sums.{sum_by-cons}
 use Rattle.cov_model.specs.declared.demand.Group.{Group}
-use Rattle.cov_model.specs.Sound.{ModelView}
-use Rattle.definitions.specs.Demand.{choose, unions, units, singles, choices}
+use Rattle.cov_model.specs.believed.Sound.{ModelView}
+use Rattle.definitions.specs.believed.Demand.{choose, unions, units, singles, choices}
 use Rattle.tuple_index.specs.Counts.{products, group_ways, unit_counts, choice_count}
 use Rattle.tuple_index.proofs.PlaceLemmas.{length-flat_map_same}
 use Rattle.std.proofs.lemmas.List.Folds.{flat_map-map}

@@ -3,9 +3,9 @@ use Rattle.std.proofs.Common.{◌≡◌, ℕ, zero, suc, ◌+◌, ◌<◌, ◌�
 use Rattle.std.specs.Prelude.{slice_get}
 use Rattle.std.proofs.lemmas.Option.{slice_get_within}
 use Rattle.std.proofs.lemmas.List.FromFn.{get_or-map-range_with_len}
-use Rattle.cov_model.specs.Sound.{ModelView}
-use Rattle.cov_model.specs.Slices.{slices}
-use Rattle.definitions.specs.Demand.{demanded_sets, tuples_in, tuples_of}
+use Rattle.cov_model.specs.believed.Sound.{ModelView}
+use Rattle.cov_model.specs.believed.Slices.{slices}
+use Rattle.definitions.specs.believed.Demand.{demanded_sets, tuples_in, tuples_of}
 use Rattle.definitions.proofs.Members.{Has, has_place}
 use Rattle.definitions.proofs.Distinct.{NoRepeats, repeats_flat}
 use Rattle.definitions.proofs.SliceLemmas.{is_slice, slice_is}

@@ -5,7 +5,7 @@ use Rattle.std.specs.List.{flat_map, range_with_len}
 use Rattle.std.proofs.lemmas.Bool.{cases_eq, eq-eqb}
 use Rattle.std.proofs.lemmas.Bool.Decides.{nat_tests}
 use Rattle.std.proofs.lemmas.List.{map-append}
-use Rattle.definitions.specs.Demand.{is_among, value_choices}
+use Rattle.definitions.specs.believed.Demand.{is_among, value_choices}
 use Rattle.tuple_index.specs.Plan.{value_given}
 use Rattle.tuple_index.specs.Places.{RisesFrom, value_lists}
 

@@ -8,7 +8,7 @@ use Rattle.std.proofs.lemmas.List.Sums.{get_or-le-sum_by, sum_by-cons}
 use Rattle.std.proofs.lemmas.List.{at_drop_more, at_drop_all, drop_more}
 use Rattle.tuple_index.specs.Plan.{PlanView}
 use Rattle.tuple_index.specs.Places.{RisesFrom, ways, place, place_of, negative_ways, ways_before}
-use Rattle.tuple_index.specs.PlanFault.{saturated}
+use Rattle.tuple_index.specs.believed.PlanFault.{saturated}
 use Rattle.tuple_index.proofs.SaturatedLemmas.{saturated-factor, saturated-digit}
 
 -- the ways of the members so far, times those of the rest

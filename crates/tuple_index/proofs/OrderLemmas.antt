@@ -16,8 +16,8 @@ use Rattle.std.proofs.lemmas.List.Sorted.{list_any-IsPermutation}
 use Rattle.std.proofs.lemmas.List.Elements.{All-from_recursion}
 use Rattle.std.proofs.Math.Bool.{and-false, and-true}
 use Rattle.value_text.proofs.ListLemmas.{list_any-map, or_twice}
-use Rattle.cov_model.specs.Sound.{ModelView}
-use Rattle.definitions.specs.Demand.{choices, demanded_sets, in_order, is_among, rising, with_set}
+use Rattle.cov_model.specs.believed.Sound.{ModelView}
+use Rattle.definitions.specs.believed.Demand.{choices, demanded_sets, in_order, is_among, rising, with_set}
 use Rattle.definitions.proofs.SetOrder.{lex, flipped, above_more, sorted_in_order, each_in_order}
 use Rattle.tuple_index.specs.Places.{RisesFrom}
 use Rattle.tuple_index.proofs.ListingLemmas.{rises_lower}

@@ -7,15 +7,15 @@ use Rattle.std.proofs.lemmas.List.{get_or-map, length-map}
 use Rattle.std.proofs.lemmas.List.Concat.{length-flat_map}
 use Rattle.std.proofs.lemmas.List.FromFn.{length-map-range_with_len}
 use Rattle.std.proofs.lemmas.List.Sums.{sum-map}
-use Rattle.cov_model.specs.Sound.{ModelView, no_param, param_at}
-use Rattle.cov_model.specs.Slices.{positive_values}
-use Rattle.cov_model.specs.Valid.{param_numbers}
-use Rattle.definitions.specs.Demand.{choices, demanded_sets, demanded_tuples, rising, tuples_of}
+use Rattle.cov_model.specs.believed.Sound.{ModelView, no_param, param_at}
+use Rattle.cov_model.specs.believed.Slices.{positive_values}
+use Rattle.cov_model.specs.believed.Valid.{param_numbers}
+use Rattle.definitions.specs.believed.Demand.{choices, demanded_sets, demanded_tuples, rising, tuples_of}
 use Rattle.tuple_index.specs.declared.fault.PlanFault.TheVariants.{TooManySets, TooManyTuples}
 use Rattle.tuple_index.specs.Kept.{IsKept, of_values, with_sets}
 use Rattle.tuple_index.specs.Places.{RisesFrom, tuple_count, tuple_lists}
 use Rattle.tuple_index.specs.Plan.{PlanView, plan_of, tuple_cells}
-use Rattle.tuple_index.specs.PlanFault.{limit_passed, saturated}
+use Rattle.tuple_index.specs.believed.PlanFault.{limit_passed, saturated}
 use Rattle.tuple_index.specs.Signs.{values_of_sign}
 use Rattle.value_text.proofs.ListLemmas.{map-get_or-range_with_len}
 use Rattle.tuple_index.proofs.ListingLemmas.{map_map}

@@ -6,14 +6,14 @@ use Rattle.std.specs.Prelude.{sum, ◌==◌, slice_get, if◌then◌else◌}
 use Rattle.std.specs.Option.{option_map}
 use Rattle.std.proofs.lemmas.Option.{slice_get_within, slice_get-map}
 use Rattle.std.proofs.lemmas.List.FromFn.{length-map-range_with_len}
-use Rattle.cov_model.specs.Sound.{ModelView}
-use Rattle.cov_model.specs.Slices.{positive_values}
+use Rattle.cov_model.specs.believed.Sound.{ModelView}
+use Rattle.cov_model.specs.believed.Slices.{positive_values}
 use Rattle.std.proofs.lemmas.Bool.{cases_eq, false≢true, and_parts, eq-eqb}
 use Rattle.std.proofs.lemmas.Bool.Decides.{nat_tests}
 use Rattle.std.proofs.lemmas.List.Sums.{sum_by-cons, get_or-le-sum_by}
 use Rattle.cov_model.specs.declared.slice.Slice.{Slice}
 use Rattle.cov_model.specs.declared.slice.Slice.TheVariants.{Positive, Negative}
-use Rattle.definitions.specs.Demand.{is_among, tuples_of}
+use Rattle.definitions.specs.believed.Demand.{is_among, tuples_of}
 use Rattle.tuple_index.specs.Kept.{IsKept}
 use Rattle.tuple_index.specs.Plan.{PlanView, plan_of, set_at, tuple_cells, IsChoice, are_values, is_negative, is_value, negative_count}
 use Rattle.tuple_index.specs.Places.{RisesFrom, values_in, negatives_of, value_lists, ways, place_of, place, negative_ways, ways_before}

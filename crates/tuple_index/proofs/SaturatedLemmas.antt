@@ -1,7 +1,7 @@
 -- Numbers up to the greatest of 64 bits, saturated: sums and products of such numbers.
 use Rattle.std.proofs.Common.{inl, inr, ◌≡◌, ℕ, zero, suc, ◌+◌, ◌*◌, ◌-◌, ◌^◌, min, ◌∙◌, sym, ap, arith}
 use Rattle.std.proofs.lemmas.Bool.{cases_lt}
-use Rattle.tuple_index.specs.PlanFault.{saturated}
+use Rattle.tuple_index.specs.believed.PlanFault.{saturated}
 
 capped : (m a b c : ℕ) → min (min a m * b + c) m ≡ min (a * b + c) m
 capped m a zero c = grind arith

@@ -9,10 +9,10 @@ use Rattle.std.proofs.lemmas.List.Concat.{flat_map-append}
 use Rattle.std.proofs.lemmas.List.FromFn.{length-map-range_with_len, get_or-map-range_with_len}
 use Rattle.std.proofs.lemmas.List.Folds.{flat_map-map}
 use Rattle.cov_model.specs.declared.slice.Slice.TheVariants.{Positive, Negative}
-use Rattle.cov_model.specs.Sound.{ModelView}
-use Rattle.cov_model.specs.Valid.{param_numbers}
-use Rattle.cov_model.specs.Slices.{slice_values, positive_values, negative_values}
-use Rattle.definitions.specs.Demand.{is_among, tuples_in, tuples_of}
+use Rattle.cov_model.specs.believed.Sound.{ModelView}
+use Rattle.cov_model.specs.believed.Valid.{param_numbers}
+use Rattle.cov_model.specs.believed.Slices.{slice_values, positive_values, negative_values}
+use Rattle.definitions.specs.believed.Demand.{is_among, tuples_in, tuples_of}
 use Rattle.tuple_index.specs.Plan.{plan_of, tuple_cells}
 use Rattle.tuple_index.specs.Places.{RisesFrom, value_lists, values_in, negative_lists, tuple_lists}
 use Rattle.tuple_index.proofs.ListingLemmas.{apart_test, map_flat_map, flat_map_same, value_choices_lists, spread, not_among_before}

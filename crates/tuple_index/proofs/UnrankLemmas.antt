@@ -12,7 +12,7 @@ use Rattle.std.proofs.lemmas.Bool.{cases_lt}
 use Rattle.cov_model.specs.declared.slice.Slice.TheVariants.{Positive, Negative}
 use Rattle.tuple_index.specs.Plan.{PlanView}
 use Rattle.tuple_index.specs.Places.{values_in, negatives_of, value_lists, ways, negative_ways, negative_lists, tuple_lists, tuple_count}
-use Rattle.tuple_index.specs.PlanFault.{saturated}
+use Rattle.tuple_index.specs.believed.PlanFault.{saturated}
 use Rattle.tuple_index.proofs.PlaceLemmas.{length-value_lists, slice_get-pieces, slice_get-append_left, slice_get-append_right}
 use Rattle.tuple_index.proofs.RankLemmas.{length_negative, length-negative_lists}
 

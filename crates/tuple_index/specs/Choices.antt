@@ -3,8 +3,8 @@
 use Rattle.std.specs.Prelude.{ℕ, List, min, length}
 use Rattle.std.specs.List.{flat_map}
 use Rattle.cov_model.specs.declared.demand.Group.{Group}
-use Rattle.cov_model.specs.Sound.{ModelView}
-use Rattle.definitions.specs.Demand.{choose, unions, units}
+use Rattle.cov_model.specs.believed.Sound.{ModelView}
+use Rattle.definitions.specs.believed.Demand.{choose, unions, units}
 
 -- the unions over any as many units as the order says, or over all where there are fewer
 abbrev pub unit_choices : ModelView → List (List ℕ)

@@ -1,9 +1,9 @@
 -- How many choices of demanded sets there are, counted before any is listed. (This project's rule.)
-use Rattle.tuple_index.specs.PlanFault.{saturated}
+use Rattle.tuple_index.specs.believed.PlanFault.{saturated}
 use Rattle.std.specs.Prelude.{◌≡◌, ◌≤◌, ◌==◌, slice_index_or, if◌then◌else◌, ℕ, zero, suc, ◌+◌, ◌*◌, ◌-◌, min, List, [], ◌∷◌, ◌++◌, map, length, sum_by, replicate}
 use Rattle.cov_model.specs.declared.demand.Group.{Group}
-use Rattle.cov_model.specs.Sound.{ModelView}
-use Rattle.definitions.specs.Demand.{singles}
+use Rattle.cov_model.specs.believed.Sound.{ModelView}
+use Rattle.definitions.specs.believed.Demand.{singles}
 
 -- the sum of the products of any k of the counts
 abbrev pub products : ℕ → List ℕ → ℕ

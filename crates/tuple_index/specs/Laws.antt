@@ -1,7 +1,7 @@
 -- What holds of ranks. (This project's rule.)
 use Rattle.std.specs.Prelude.{◌≡◌, ◌↔◌, ℕ, List, All, Some, slice_get}
-use Rattle.cov_model.specs.Sound.{ModelView}
-use Rattle.definitions.specs.Demand.{demanded_sets, tuples_of}
+use Rattle.cov_model.specs.believed.Sound.{ModelView}
+use Rattle.definitions.specs.believed.Demand.{demanded_sets, tuples_of}
 use Rattle.tuple_index.specs.Plan.{IsChoice, plan_of, tuple_cells}
 
 -- the tuple of these values of a set has this rank

@@ -1,9 +1,9 @@
 -- What a plan tells of a model's demand, and the tuples as values of the members of a set.
 use Rattle.std.specs.Prelude.{◌≡◌, ℕ, ◌+◌, ◌≤◌, Bool, true, false, ◌&&◌, ◌||◌, List, [], ◌∷◌, map, length, Option, Some, None, ◌==◌, slice_index_or, if◌then◌else◌}
-use Rattle.cov_model.specs.Sound.{ModelView}
-use Rattle.cov_model.specs.Valid.{param_numbers}
-use Rattle.cov_model.specs.Slices.{positive_values, negative_values}
-use Rattle.definitions.specs.Demand.{is_among, demanded_sets, tuples_of}
+use Rattle.cov_model.specs.believed.Sound.{ModelView}
+use Rattle.cov_model.specs.believed.Valid.{param_numbers}
+use Rattle.cov_model.specs.believed.Slices.{positive_values, negative_values}
+use Rattle.definitions.specs.believed.Demand.{is_among, demanded_sets, tuples_of}
 
 -- a plan: the demanded sets, the number of demanded tuples of each, and the numbers of the values of
 -- each parameter that aren't negative, and of those that are

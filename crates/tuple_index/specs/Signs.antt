@@ -2,7 +2,7 @@
 use Rattle.std.specs.Prelude.{ℕ, Bool, not, List, length, slice_index_or, if◌then◌else◌}
 use Rattle.std.specs.List.{filter, range_with_len}
 use Rattle.cov_model.specs.declared.parameter.Value.{Value}
-use Rattle.cov_model.specs.Meaning.{no_value}
+use Rattle.cov_model.specs.believed.Meaning.{no_value}
 
 -- whether a value has the sign
 abbrev pub has_sign : Bool → List Value → ℕ → Bool

@@ -1,6 +1,6 @@
 ghost use Rattle.std.specs.Prelude.{◌≡◌, ◌++◌, map, length, IfOk, OnOk};
 ghost use Rattle.std.specs.List.{flat_map};
-ghost use Rattle.definitions.specs.Demand.{choose};
+ghost use Rattle.definitions.specs.believed.Demand.{choose};
 
 use std::alloc::Global;
 use value_text::{NoMemory, OwnedList};

@@ -1,8 +1,8 @@
-ghost use Rattle.definitions.specs.Demand.{choices, singles};
+ghost use Rattle.definitions.specs.believed.Demand.{choices, singles};
 ghost use Rattle.std.specs.Prelude.{◌++◌, sum_by, OnOk, ◌≡◌, ◌<◌, [], map, length, IfOk};
 ghost use Rattle.std.specs.List.{range_with_len};
 ghost use Rattle.tuple_index.specs.Counts.{IsRow, group_ways, next_entry, products};
-ghost use Rattle.tuple_index.specs.PlanFault.{saturated};
+ghost use Rattle.tuple_index.specs.believed.PlanFault.{saturated};
 
 use crate::demand::is_single;
 use cov_model::{Group, TestModel};

@@ -1,7 +1,7 @@
 ghost use Rattle.std.specs.Prelude.{◌≡◌, ◌<◌, ◌++◌, [], ◌∷◌, map, min, not, length, slice_index_or, IfOk, OnOk};
 ghost use Rattle.std.specs.List.{filter, flat_map, list_any, range_with_len};
-ghost use Rattle.cov_model.specs.Valid.{param_numbers};
-ghost use Rattle.definitions.specs.Demand.{choose, is_among, rising, singles, unions, units};
+ghost use Rattle.cov_model.specs.believed.Valid.{param_numbers};
+ghost use Rattle.definitions.specs.believed.Demand.{choose, is_among, rising, singles, unions, units};
 
 use crate::choices::{Ways, cross, ways_to_choose};
 use crate::values::{is_listed, push_rising};

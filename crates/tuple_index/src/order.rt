@@ -1,7 +1,7 @@
 ghost use Rattle.std.specs.Prelude.{◌≡◌, true, map, IfOk};
 ghost use Rattle.std.specs.Ordering.{is_lt, nat_cmp};
 ghost use Rattle.std.specs.Cmp.Lexicographic.{slice_cmp};
-ghost use Rattle.definitions.specs.Demand.{in_order};
+ghost use Rattle.definitions.specs.believed.Demand.{in_order};
 
 use cov_model::ParamNo;
 use packed_lists::PackedLists;

@@ -1,11 +1,12 @@
 ghost use Rattle.std.specs.Prelude.{◌≡◌, ◌+◌, ◌*◌, true, ◌^◌, ◌<◌, ◌≤◌, ℕ, List, [], All, Some, None, IfErr, IfOk, OnOk, length, map, take, sum, sum_by, slice_get, slice_index_or};
-ghost use Rattle.cov_model.specs.Sound.{ModelView};
-ghost use Rattle.definitions.specs.Demand.{is_among, tuples_of};
+ghost use Rattle.cov_model.specs.believed.Sound.{ModelView};
+ghost use Rattle.definitions.specs.believed.Demand.{is_among, tuples_of};
 ghost use Rattle.tuple_index.specs.Kept.{IsKept, of_values, with_sets};
 ghost use Rattle.tuple_index.specs.Places.{RisesFrom, IsOwnSlice, has_part, ways_in, negative_lists, negative_ways, IsSliceOfPlan, negatives_of, place, place_of, rank_of};
 ghost use Rattle.tuple_index.specs.Places.{slice_given, start_of, tuple_count, tuple_lists, value_lists, values_in, ways, ways_before};
 ghost use Rattle.tuple_index.specs.Plan.{IsChoice, is_negative, plan_of, set_at, tuple_cells};
-ghost use Rattle.tuple_index.specs.PlanFault.{IsFaultOf, limit_passed, saturated};
+ghost use Rattle.tuple_index.specs.PlanFault.{IsFaultOf};
+ghost use Rattle.tuple_index.specs.believed.PlanFault.{limit_passed, saturated};
 
 use crate::bases::bases_of;
 use crate::count::count_choices;

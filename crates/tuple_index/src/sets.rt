@@ -1,7 +1,7 @@
 ghost use Rattle.std.specs.Prelude.{◌≡◌, ◌++◌, [], ◌∷◌, map, min, length, IfOk, OnOk};
 ghost use Rattle.std.specs.List.{range_with_len};
-ghost use Rattle.cov_model.specs.Valid.{param_numbers};
-ghost use Rattle.definitions.specs.Demand.{choose, demanded_sets, rising};
+ghost use Rattle.cov_model.specs.believed.Valid.{param_numbers};
+ghost use Rattle.definitions.specs.believed.Demand.{choose, demanded_sets, rising};
 ghost use Rattle.tuple_index.specs.Choices.{subsets, unit_choices};
 
 use crate::demand::{push_unions, units_of};

@@ -1,5 +1,5 @@
 ghost use Rattle.std.specs.Prelude.{◌≡◌, ◌<◌, ◌≤◌, ◌++◌, [], ◌∷◌, length, map, IfOk, OnOk};
-ghost use Rattle.definitions.specs.Demand.{is_among, rising};
+ghost use Rattle.definitions.specs.believed.Demand.{is_among, rising};
 ghost use Rattle.tuple_index.specs.Places.{rises_from};
 ghost use Rattle.tuple_index.specs.Signs.{has_sign, values_of_sign};
 

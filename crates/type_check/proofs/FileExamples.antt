@@ -7,25 +7,25 @@ use Rattle.model_lex.specs.declared.fault.ModelFault.TheVariants.{Bad, BadRule}
 use Rattle.model_lex.specs.declared.note.NoteCode.TheVariants.{RepeatedValueName}
 use Rattle.model_lex.specs.declared.options.ModelOpts.{ModelOpts}
 use Rattle.model_lex.specs.declared.options.OrderWord.TheVariants as orders
-use Rattle.cov_model.specs.Sound.{ModelView}
+use Rattle.cov_model.specs.believed.Sound.{ModelView}
 use Rattle.cov_model.specs.declared.parameter.Param.{Param}
 use Rattle.cov_model.specs.declared.parameter.Value.{Value}
 use Rattle.cov_model.specs.declared.demand.Demand.{Demand}
-use Rattle.cov_model.specs.Views as views
+use Rattle.cov_model.specs.believed.Views as views
 use Rattle.cov_model.specs.declared.constraint.Literal.TheVariants as literal
 use Rattle.cov_model.specs.declared.constraint.Rel.TheVariants as rel
 use Rattle.cov_model.specs.declared.constraint.Term.TheVariants as term
-use Rattle.constraint_ast.specs.Grammar.{value_is, last_unit, last_conj, if_then, plain, no_rule, next_rule}
-use Rattle.constraint_ast.specs.Lexing.{Spell}
-use Rattle.constraint_ast.specs.Trees.{Leaf, IfThen, Plain, RuleTree}
+use Rattle.constraint_ast.specs.believed.Grammar.{value_is, last_unit, last_conj, if_then, plain, no_rule, next_rule}
+use Rattle.constraint_ast.specs.believed.Lexing.{Spell}
+use Rattle.constraint_ast.specs.believed.Trees.{Leaf, IfThen, Plain, RuleTree}
 use Rattle.constraint_ast.specs.declared.tree.RawRel.TheVariants.{Eq}
 use Rattle.constraint_ast.specs.declared.tree.RawLiteral.TheVariants.{Number, Words}
 use Rattle.constraint_ast.specs.declared.tree.RawTerm.TheVariants.{ValueIs}
 use Rattle.constraint_ast.proofs.Refusal.{refused}
-use Rattle.model_lex.specs.Sections.{Split, sections_of}
-use Rattle.model_parse.specs.RawModels.{raw_model_of}
+use Rattle.model_lex.specs.believed.Sections.{Split, sections_of}
+use Rattle.model_parse.specs.believed.RawModels.{raw_model_of}
 use Rattle.model_parse.specs.declared.raw_model.RawModel.{RawModel}
-use Rattle.type_check.specs.ModelOf.{IsModelOf, IsRefusalOf, by_grammar, by_model, by_params, by_rules, by_sections, in_sections}
+use Rattle.type_check.specs.believed.ModelOf.{IsModelOf, IsRefusalOf, by_grammar, by_model, by_params, by_rules, by_sections, in_sections}
 
 -- the default marks and order
 abbrev opts : ModelOpts

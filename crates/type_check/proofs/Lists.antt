@@ -10,7 +10,7 @@ use Rattle.model_lex.specs.declared.fault.ModelFault.TheVariants.{BadRule}
 use Rattle.constraint_ast.specs.Reading.{IfRefused}
 use Rattle.constraint_ast.specs.declared.tree.RawLiteral.{RawLiteral}
 use Rattle.constraint_ast.specs.declared.tree.RawTerm.TheVariants.{OneOf}
-use Rattle.type_check.specs.Checking.{is_of_type, given_that, literal_of, numeric_at, param_named, term_refusal_or, term_of, with_param}
+use Rattle.type_check.specs.believed.Checking.{is_of_type, given_that, literal_of, numeric_at, param_named, term_refusal_or, term_of, with_param}
 
 module _ (fold : Bool) (params : List Param) (name : List ℕ) (values : List RawLiteral) (line p : ℕ) where
   differ : param_named fold params name ≡ Some p → list_all (is_of_type (numeric_at params p)) values ≡ false → term_of fold params (OneOf name values) ≡ Err TypeMismatch

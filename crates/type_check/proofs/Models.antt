@@ -1,21 +1,22 @@
 -- What the passes answer in the words of the answer of a file.
-use Rattle.cov_model.specs.Sound.{ModelView}
-use Rattle.cov_model.specs.Views.{RuleView}
+use Rattle.cov_model.specs.believed.Sound.{ModelView}
+use Rattle.cov_model.specs.believed.Views.{RuleView}
 use Rattle.std.proofs.Common.{◌≡◌, ◌≢◌, List, None, map, refl, sym, subst}
 use Rattle.std.specs.Prelude.{Ok, Err}
 use Rattle.cov_model.specs.declared.parameter.Param.{Param}
-use Rattle.model_lex.specs.Sections.{Split}
+use Rattle.model_lex.specs.believed.Sections.{Split}
 use Rattle.model_lex.specs.declared.fault.ModelFault.{ModelFault}
 use Rattle.model_lex.specs.declared.fault.ModelFault.TheVariants.{Bad, BadRule, Limit, NoMemory}
 use Rattle.model_lex.specs.declared.options.ModelOpts.{ModelOpts}
-use Rattle.model_parse.specs.RawModels.{raw_model_of}
+use Rattle.model_parse.specs.believed.RawModels.{raw_model_of}
 use Rattle.model_parse.specs.declared.raw_model.RawModel.{RawModel}
-use Rattle.constraint_ast.specs.Lexing.{AreRefused, Spell}
+use Rattle.constraint_ast.specs.believed.Lexing.{AreRefused, Spell}
 use Rattle.constraint_ast.specs.Reading.{IfRefused}
-use Rattle.constraint_ast.specs.Trees.{RuleTree, rule_tree}
+use Rattle.constraint_ast.specs.believed.Trees.{RuleTree}
+use Rattle.constraint_ast.specs.Trees.{rule_tree}
 use Rattle.constraint_ast.specs.declared.tree.RawRule.{RawRule}
-use Rattle.type_check.specs.Constraints.{rules_fault}
-use Rattle.type_check.specs.ModelOf.{IsAnswerIn, by_grammar, by_model, model_of}
+use Rattle.type_check.specs.believed.Constraints.{rules_fault}
+use Rattle.type_check.specs.believed.ModelOf.{IsAnswerIn, by_grammar, by_model, model_of}
 
 -- what a fault says of a file with these sections, unless memory was refused
 abbrev pub Refuses : ModelOpts → Split → ModelFault → Type 0

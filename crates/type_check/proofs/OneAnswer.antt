@@ -2,24 +2,26 @@
 -- parameters and groups, and of the one reading of the constraint lines.
 use Rattle.std.proofs.Common.{◌≡◌, ◌≢◌, refl, ℕ, List, Option, Some, None, inl, inr, IfOk, sym, ap, subst, ◌∙◌}
 use Rattle.std.specs.Prelude.{◌⊎◌, Result, Ok, Err, IfErr}
-use Rattle.cov_model.specs.Sound.{IsSound, ModelView}
-use Rattle.model_lex.specs.Sections.{Split, Splits, sections_of}
+use Rattle.cov_model.specs.believed.Sound.{IsSound, ModelView}
+use Rattle.model_lex.specs.believed.Sections.{Split, sections_of}
+use Rattle.model_lex.specs.Sections.{Splits}
 use Rattle.model_lex.specs.declared.diag.Diag.{Diag}
 use Rattle.model_lex.specs.declared.fault.ModelFault.{ModelFault}
 use Rattle.model_lex.specs.declared.fault.ModelFault.TheVariants.{Bad, BadRule, Limit, NoMemory}
 use Rattle.model_lex.specs.declared.note.Note.{Note}
 use Rattle.model_lex.specs.declared.options.ModelOpts.{ModelOpts}
-use Rattle.model_parse.specs.RawModels.{AreOpts, IsSoundRaw, raw_model_of}
+use Rattle.model_parse.specs.RawModels.{AreOpts, IsSoundRaw}
+use Rattle.model_parse.specs.believed.RawModels.{raw_model_of}
 use Rattle.model_parse.specs.declared.raw_model.RawModel.{RawModel}
 use Rattle.model_parse.proofs.Refusing.{raw_refusal}
 use Rattle.model_parse.proofs.SoundGroups.{raw_ok}
 use Rattle.value_text.proofs.ListLemmas.{one_ok}
-use Rattle.constraint_ast.specs.Lexing.{AreRefused, Spell}
-use Rattle.constraint_ast.specs.Trees.{RuleTree}
+use Rattle.constraint_ast.specs.believed.Lexing.{AreRefused, Spell}
+use Rattle.constraint_ast.specs.believed.Trees.{RuleTree}
 use Rattle.constraint_ast.proofs.OneReading.{lines_have_one_reading}
-use Rattle.type_check.specs.Constraints.{rules_fault}
+use Rattle.type_check.specs.believed.Constraints.{rules_fault}
 use Rattle.type_check.specs.Laws.{FilesHaveOneAnswer, ModelsAreSound}
-use Rattle.type_check.specs.ModelOf.{Answer, IsAnswerIn, IsAnswerOf, IsModelOf, IsRefusalOf, by_grammar, by_model, by_params, by_rules, by_sections, in_sections, model_of}
+use Rattle.type_check.specs.believed.ModelOf.{Answer, IsAnswerIn, IsAnswerOf, IsModelOf, IsRefusalOf, by_grammar, by_model, by_params, by_rules, by_sections, in_sections, model_of}
 use Rattle.type_check.proofs.RuleLists.{rules_refusal}
 use Rattle.type_check.proofs.Soundness.{model_sound}
 

@@ -7,18 +7,21 @@ use Rattle.cov_model.specs.declared.parameter.Param.{Param}
 use Rattle.cov_model.specs.declared.constraint.Pred as preds
 use Rattle.cov_model.specs.declared.constraint.Pred.{Pred}
 use Rattle.cov_model.specs.Views as views
-use Rattle.cov_model.specs.Views.{PredView, PredViews, pred_view, preds_in}
+use Rattle.cov_model.specs.believed.Views as believed_views
+use Rattle.cov_model.specs.believed.Views.{PredView, PredViews}
+use Rattle.cov_model.specs.Views.{pred_view, preds_in}
 use Rattle.cov_model.specs.declared.constraint.Term as terms
 use Rattle.model_lex.specs.declared.diag.Diag.{Diag}
 use Rattle.model_lex.specs.declared.diag.DiagCode.{DiagCode}
 use Rattle.model_lex.specs.declared.fault.ModelFault.{ModelFault}
 use Rattle.model_lex.specs.declared.fault.ModelFault.TheVariants.{Bad, BadRule, Limit, NoMemory}
 use Rattle.constraint_ast.specs.Reading.{IfRefused}
-use Rattle.constraint_ast.specs.Trees.{Tree, Trees, Each, Either, tree_of, trees_in}
+use Rattle.constraint_ast.specs.believed.Trees.{Tree, Trees, Each, Either}
+use Rattle.constraint_ast.specs.Trees.{tree_of, trees_in}
 use Rattle.constraint_ast.specs.declared.tree.RawPred.{RawPred}
 use Rattle.constraint_ast.specs.declared.tree.RawTerm.{RawTerm}
-use Rattle.type_check.specs.Checking.{term_of, terms_of, terms_in, first_refusal, term_refusal_or}
-use Rattle.type_check.specs.Constraints.{pred_of, preds_of}
+use Rattle.type_check.specs.believed.Checking.{term_of, terms_of, terms_in, first_refusal, term_refusal_or}
+use Rattle.type_check.specs.believed.Constraints.{pred_of, preds_of}
 
 -- what follows of a refusal
 pub refused_also : {P Q : Diag → Type 0} (fault : ModelFault) → ((diag : Diag) → P diag → Q diag) → IfRefused fault P → IfRefused fault Q
@@ -77,24 +80,24 @@ module _ (fold : Bool) (params : List Param) where
 
   -- the parts of a conjunction or a disjunction
   pub each_of : (trees : Trees) (parts : List Pred) → preds_in parts ≡ preds_of fold params trees → pred_view (preds.All parts) ≡ pred_of fold params (Each trees)
-  each_of trees parts are = views.each_is parts ∙ ap views.Each are
+  each_of trees parts are = views.each_is parts ∙ ap believed_views.Each are
 
   pub either_of : (trees : Trees) (parts : List Pred) → preds_in parts ≡ preds_of fold params trees → pred_view (preds.Any parts) ≡ pred_of fold params (Either trees)
-  either_of trees parts are = views.either_is parts ∙ ap views.Either are
+  either_of trees parts are = views.either_is parts ∙ ap believed_views.Either are
 
   -- one more predicate
   abbrev joined : PredViews → PredView → PredViews
-  joined views.End view = views.More view views.End
-  joined (views.More first rest) view = views.More first (joined rest view)
+  joined believed_views.End view = believed_views.More view believed_views.End
+  joined (believed_views.More first rest) view = believed_views.More first (joined rest view)
 
   more_preds : (list : List Pred) (pred : Pred) → preds_in (list ++ pred ∷ []) ≡ joined (preds_in list) (pred_view pred)
   more_preds [] pred = refl
-  more_preds (first ∷ list) pred = ap (λ rest. views.More (pred_view first) rest) (more_preds list pred)
+  more_preds (first ∷ list) pred = ap (λ rest. believed_views.More (pred_view first) rest) (more_preds list pred)
 
   more_trees : (front : List RawPred) (part : RawPred)
       → preds_of fold params (trees_in (front ++ part ∷ [])) ≡ joined (preds_of fold params (trees_in front)) (pred_of fold params (tree_of part))
   more_trees [] part = refl
-  more_trees (first ∷ front) part = ap (λ rest. views.More (pred_of fold params (tree_of first)) rest) (more_trees front part)
+  more_trees (first ∷ front) part = ap (λ rest. believed_views.More (pred_of fold params (tree_of first)) rest) (more_trees front part)
 
   terms_behind : (front : List RawPred) (part : RawPred) (rest : List RawPred)
       → terms_in (trees_in (front ++ part ∷ rest)) ≡ terms_in (trees_in front) ++ (terms_of (tree_of part) ++ terms_in (trees_in rest))

@@ -13,10 +13,11 @@ use Rattle.model_lex.specs.declared.fault.LimitName.TheVariants.{Rules}
 use Rattle.model_lex.specs.declared.fault.ModelFault.{ModelFault}
 use Rattle.model_lex.specs.declared.fault.ModelFault.TheVariants.{Limit, NoMemory}
 use Rattle.constraint_ast.specs.Reading.{IfRefused}
-use Rattle.constraint_ast.specs.Trees.{RuleTree, body_tree, rule_tree}
+use Rattle.constraint_ast.specs.believed.Trees.{RuleTree}
+use Rattle.constraint_ast.specs.Trees.{body_tree, rule_tree}
 use Rattle.constraint_ast.specs.declared.tree.RawRule.{RawRule}
-use Rattle.type_check.specs.Checking.{body_terms, first_refusal, rules_terms}
-use Rattle.type_check.specs.Constraints.{body_of, fault_of, rule_of, rules_fault, rules_from}
+use Rattle.type_check.specs.believed.Checking.{body_terms, first_refusal, rules_terms}
+use Rattle.type_check.specs.believed.Constraints.{body_of, fault_of, rule_of, rules_fault, rules_from}
 use Rattle.type_check.proofs.Refusals.{behind_none, refused_also, split_at, stays}
 
 module _ (fold : Bool) (params : List Param) where

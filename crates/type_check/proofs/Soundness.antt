@@ -8,27 +8,27 @@ use Rattle.std.proofs.lemmas.Grind.{common_steps}
 use Rattle.std.proofs.lemmas.List.Elements.{All-cons, All-map, All-nil}
 use Rattle.std.proofs.lemmas.List.Quantifiers.{position-Some}
 use Rattle.std.proofs.lemmas.List.Sums.{AllPass-from_list_all}
-use Rattle.cov_model.specs.Sound.{IsLiteralOf, IsSound, IsSoundBody, IsSoundPred, AreSoundPreds, IsSoundTerm, no_param, param_at}
+use Rattle.cov_model.specs.believed.Sound.{IsLiteralOf, IsSound, IsSoundBody, IsSoundPred, AreSoundPreds, IsSoundTerm, no_param, param_at}
 use Rattle.cov_model.specs.declared.parameter.Param.{Param}
-use Rattle.cov_model.specs.Views.{RuleView}
+use Rattle.cov_model.specs.believed.Views.{RuleView}
 use Rattle.cov_model.specs.declared.constraint.Term as terms
 use Rattle.cov_model.specs.declared.constraint.Term.TheVariants as term
 use Rattle.model_lex.specs.declared.diag.DiagCode.{DiagCode}
 use Rattle.model_lex.specs.declared.diag.DiagCode.TheVariants.{UnknownParameter, TypeMismatch, LikeNeedsText}
-use Rattle.value_text.specs.Texts.{is_same_text}
+use Rattle.value_text.specs.believed.Texts.{is_same_text}
 use Rattle.value_text.proofs.ListLemmas.{ok-err, one_ok}
-use Rattle.constraint_ast.specs.Trees.{Tree, Trees, Leaf, Negated, Each, Either, End, More, BodyTree, Plain, IfThen, IfElse, RuleTree}
+use Rattle.constraint_ast.specs.believed.Trees.{Tree, Trees, Leaf, Negated, Each, Either, End, More, BodyTree, Plain, IfThen, IfElse, RuleTree}
 use Rattle.constraint_ast.specs.declared.tree.RawLiteral.{RawLiteral}
 use Rattle.constraint_ast.specs.declared.tree.RawLiteral.TheVariants.{Number, Words}
 use Rattle.constraint_ast.specs.declared.tree.RawTerm.{RawTerm}
 use Rattle.constraint_ast.specs.declared.tree.RawTerm.TheVariants.{ValueIs, ParamIs, OneOf, Like, Negative, Positive}
-use Rattle.type_check.specs.Checking.{body_terms, first_refusal, given_that, is_of_type, is_same_type, literal_of, numeric_at}
-use Rattle.type_check.specs.Checking.{param_named, term_refusal_or, rel_of, rules_terms, term_of, terms_in, terms_of, with_param}
+use Rattle.type_check.specs.believed.Checking.{body_terms, first_refusal, given_that, is_of_type, is_same_type, literal_of, numeric_at}
+use Rattle.type_check.specs.believed.Checking.{param_named, term_refusal_or, rel_of, rules_terms, term_of, terms_in, terms_of, with_param}
 use Rattle.model_lex.specs.declared.options.ModelOpts.{ModelOpts}
 use Rattle.model_parse.specs.RawModels.{AreOpts, IsSoundRaw}
 use Rattle.model_parse.specs.declared.raw_model.RawModel.{RawModel}
-use Rattle.type_check.specs.Constraints.{body_of, found_term, pred_of, preds_of, rule_of, rules_fault, rules_from}
-use Rattle.type_check.specs.ModelOf.{model_of}
+use Rattle.type_check.specs.believed.Constraints.{body_of, found_term, pred_of, preds_of, rule_of, rules_fault, rules_from}
+use Rattle.type_check.specs.believed.ModelOf.{model_of}
 use Rattle.type_check.proofs.Refusals.{no_diag, none_parts}
 use Rattle.type_check.proofs.RuleLists.{told_parts}
 

@@ -7,18 +7,18 @@ use Rattle.model_lex.specs.declared.fault.LimitName.TheVariants.{Rules}
 use Rattle.model_lex.specs.declared.fault.ModelFault.TheVariants.{BadRule, Limit}
 use Rattle.cov_model.specs.Sample.{sample_params, sample_texts}
 use Rattle.cov_model.specs.declared.parameter.Param.{Param}
-use Rattle.cov_model.specs.Views as views
+use Rattle.cov_model.specs.believed.Views as views
 use Rattle.cov_model.specs.declared.constraint.Literal.TheVariants as literal
 use Rattle.cov_model.specs.declared.constraint.Rel.TheVariants as rel
 use Rattle.cov_model.specs.declared.constraint.Term as terms
 use Rattle.cov_model.specs.declared.constraint.Term.TheVariants as term
-use Rattle.constraint_ast.specs.Trees.{Leaf, Negated, Each, Either, End, More, Trees, Plain, IfThen, IfElse, RuleTree}
+use Rattle.constraint_ast.specs.believed.Trees.{Leaf, Negated, Each, Either, End, More, Trees, Plain, IfThen, IfElse, RuleTree}
 use Rattle.constraint_ast.specs.declared.tree.RawRel.TheVariants.{Eq, Ne, Gt, Ge, Lt, Le}
 use Rattle.constraint_ast.specs.declared.tree.RawLiteral.TheVariants.{Number, Words}
 use Rattle.constraint_ast.specs.declared.tree.RawTerm.{RawTerm}
 use Rattle.constraint_ast.specs.declared.tree.RawTerm.TheVariants.{ValueIs, ParamIs, OneOf, Like, Negative, Positive}
-use Rattle.type_check.specs.Checking.{term_of, rules_terms, first_refusal}
-use Rattle.type_check.specs.Constraints.{fault_of, rules_fault, rules_from}
+use Rattle.type_check.specs.believed.Checking.{term_of, rules_terms, first_refusal}
+use Rattle.type_check.specs.believed.Constraints.{fault_of, rules_fault, rules_from}
 
 -- a term, where letters of either case are one
 abbrev read : RawTerm → Result terms.Term DiagCode

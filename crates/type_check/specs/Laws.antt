@@ -1,11 +1,11 @@
 -- What holds of the answers of files. (This project's rules.)
 use Rattle.std.specs.Prelude.{◌≡◌, ◌≢◌, ℕ, List, Err}
-use Rattle.cov_model.specs.Sound.{IsSound, ModelView}
+use Rattle.cov_model.specs.believed.Sound.{IsSound, ModelView}
 use Rattle.model_lex.specs.declared.fault.ModelFault.TheVariants.{NoMemory}
 use Rattle.model_lex.specs.declared.note.Note.{Note}
 use Rattle.model_lex.specs.declared.options.ModelOpts.{ModelOpts}
 use Rattle.model_parse.specs.RawModels.{AreOpts}
-use Rattle.type_check.specs.ModelOf.{Answer, IsAnswerOf, IsModelOf}
+use Rattle.type_check.specs.believed.ModelOf.{Answer, IsAnswerOf, IsModelOf}
 
 -- there is one answer and no other, and it isn't that memory is wanting
 pub record HasOneAnswer (opts : ModelOpts) (bytes : List ℕ) : Type 0 where

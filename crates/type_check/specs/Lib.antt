@@ -1,4 +1,2 @@
-pub mod Checking
-pub mod Constraints
-pub mod ModelOf
 pub mod Laws
+pub mod believed

@@ -1,9 +1,10 @@
 ghost use Rattle.std.specs.Prelude.{◌≡◌, ◌≤◌, Some, None, IfOk, IfErr, length};
 ghost use Rattle.constraint_ast.specs.Reading.{IfRefused};
-ghost use Rattle.cov_model.specs.Views.{Negated, body_view, pred_view, preds_in};
+ghost use Rattle.cov_model.specs.believed.Views.{Negated};
+ghost use Rattle.cov_model.specs.Views.{body_view, pred_view, preds_in};
 ghost use Rattle.constraint_ast.specs.Trees.{body_tree, tree_of, trees_in};
-ghost use Rattle.type_check.specs.Checking.{body_terms, first_refusal, terms_in, terms_of};
-ghost use Rattle.type_check.specs.Constraints.{body_of, pred_of, preds_of};
+ghost use Rattle.type_check.specs.believed.Checking.{body_terms, first_refusal, terms_in, terms_of};
+ghost use Rattle.type_check.specs.believed.Constraints.{body_of, pred_of, preds_of};
 
 use crate::scope::Scope;
 use constraint_ast::{RawBody, RawPred};

@@ -1,7 +1,7 @@
 ghost use Rattle.std.specs.Prelude.{◌≡◌, ◌≢◌, ◌≤◌, ◌^◌, ◌⊎◌, Ok, Err, IfOk, IfErr, length};
 ghost use Rattle.model_lex.specs.Sections.{AreSections, split_seen};
 ghost use Rattle.model_parse.specs.RawModels.{AreOpts};
-ghost use Rattle.type_check.specs.ModelOf.{Answer, IsAnswerIn, IsAnswerOf, IsModelOf, IsRefusalOf};
+ghost use Rattle.type_check.specs.believed.ModelOf.{Answer, IsAnswerIn, IsAnswerOf, IsModelOf, IsRefusalOf};
 
 use crate::scope::Scope;
 use constraint_ast::parse_rules;

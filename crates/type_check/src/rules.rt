@@ -2,8 +2,8 @@ ghost use Rattle.std.specs.Prelude.{◌≡◌, ◌≢◌, ◌≤◌, ◌+◌, []
 ghost use Rattle.constraint_ast.specs.Reading.{IfRefused};
 ghost use Rattle.cov_model.specs.Views.{rule_view};
 ghost use Rattle.constraint_ast.specs.Trees.{rule_tree};
-ghost use Rattle.type_check.specs.Checking.{first_refusal, rules_terms};
-ghost use Rattle.type_check.specs.Constraints.{rules_fault, rules_from};
+ghost use Rattle.type_check.specs.believed.Checking.{first_refusal, rules_terms};
+ghost use Rattle.type_check.specs.believed.Constraints.{rules_fault, rules_from};
 
 use crate::scope::Scope;
 use constraint_ast::RawRule;

@@ -1,7 +1,7 @@
 ghost use Rattle.std.specs.Prelude.{◌≡◌, ◌<◌, ◌≤◌, Some, None, Ok, IfOk, IfErr, IfSome, OnErr, length, map};
 ghost use Rattle.std.specs.List.{list_all};
 ghost use Rattle.constraint_ast.specs.Reading.{IfRefused};
-ghost use Rattle.type_check.specs.Checking.{is_of_type, is_same_type, literal_of, numeric_at, param_named, term_refusal_or, rel_of, term_of};
+ghost use Rattle.type_check.specs.believed.Checking.{is_of_type, is_same_type, literal_of, numeric_at, param_named, term_refusal_or, rel_of, term_of};
 
 use crate::fault::refused;
 use constraint_ast::{RawLiteral, RawRel, RawTerm};

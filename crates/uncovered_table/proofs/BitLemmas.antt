@@ -11,8 +11,8 @@ use Rattle.std.proofs.lemmas.List.FromFn.{length-map-range_with_len}
 use Rattle.std.proofs.Math.Bool.{or-true}
 use Rattle.value_text.proofs.ListLemmas.{range_with_len_more}
 use Rattle.cov_model.specs.declared.slice.Slice.{Slice}
-use Rattle.cov_model.specs.Sound.{ModelView}
-use Rattle.definitions.specs.Demand.{demanded_sets}
+use Rattle.cov_model.specs.believed.Sound.{ModelView}
+use Rattle.definitions.specs.believed.Demand.{demanded_sets}
 use Rattle.uncovered_table.specs.Bits.{bit_of, first_bit, tuple_count}
 use Rattle.uncovered_table.specs.Places.{is_place, places_in, set_at, slice_places, slice_start}
 use Rattle.uncovered_table.proofs.ChoiceLemmas.{any_listed}

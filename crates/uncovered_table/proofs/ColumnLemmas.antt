@@ -8,7 +8,7 @@ use Rattle.std.proofs.lemmas.Bool.Decides.{nat_tests}
 use Rattle.std.proofs.lemmas.List.Elements.{filter-append}
 use Rattle.std.proofs.Math.Bool.{or-true}
 use Rattle.value_text.proofs.ListLemmas.{filter_swap}
-use Rattle.definitions.specs.Completion.{falling}
+use Rattle.definitions.specs.believed.Completion.{falling}
 use Rattle.uncovered_table.specs.Lasts.{lowest, lower, with_last}
 
 -- the first number below n after which none is as low, or else d

@@ -4,8 +4,8 @@ use Rattle.std.proofs.Common.{get_or, drop, ◌∙◌, refl, sym, subst, ap, ari
 use Rattle.std.specs.Prelude.{◌==◌, if◌then◌else◌}
 use Rattle.std.specs.List.{range_with_len}
 use Rattle.std.proofs.lemmas.Bool.{cases_eq, eq-eqb}
-use Rattle.cov_model.specs.Sound.{ModelView}
-use Rattle.cov_model.specs.Rows.{contains}
+use Rattle.cov_model.specs.believed.Sound.{ModelView}
+use Rattle.cov_model.specs.believed.Rows.{contains}
 use Rattle.tuple_index.specs.Plan.{tuple_cells, value_given}
 use Rattle.tuple_index.specs.Places.{RisesFrom}
 use Rattle.tuple_index.proofs.ListingLemmas.{apart_test, value_given_before}

@@ -7,9 +7,9 @@ use Rattle.std.proofs.lemmas.Bool.{cases_eq, false≢true, cases_Bool}
 use Rattle.std.proofs.lemmas.Bool.Decides.{nat_tests}
 use Rattle.value_text.proofs.ListLemmas.{pos_left_of_mul, pos_right_of_mul}
 use Rattle.cov_model.specs.declared.slice.Slice.{Slice}
-use Rattle.cov_model.specs.Sound.{ModelView}
-use Rattle.definitions.specs.Completion.{column_order}
-use Rattle.definitions.specs.Demand.{demanded_sets, is_among}
+use Rattle.cov_model.specs.believed.Sound.{ModelView}
+use Rattle.definitions.specs.believed.Completion.{column_order}
+use Rattle.definitions.specs.believed.Demand.{demanded_sets, is_among}
 use Rattle.definitions.specs.SliceRows.{IsSliceOf}
 use Rattle.tuple_index.specs.Kept.{IsKept}
 use Rattle.tuple_index.specs.Places.{has_part, ways}

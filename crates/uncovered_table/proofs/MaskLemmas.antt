@@ -5,7 +5,7 @@ use Rattle.std.specs.List.{list_any}
 use Rattle.std.proofs.Math.Bool.{or-true, or-false, or_assoc}
 use Rattle.std.proofs.lemmas.Bool.{cases_eq, cases_lt}
 use Rattle.std.proofs.lemmas.Bool.Decides.{nat_tests}
-use Rattle.definitions.specs.Demand.{is_among}
+use Rattle.definitions.specs.believed.Demand.{is_among}
 use Rattle.uncovered_table.specs.Words.{bit_in, sum_to}
 use Rattle.uncovered_table.specs.Masks.{AreAll, AreWithout, IsCleared, IsMask, begin_at, bit_for, hot, restricted}
 use Rattle.uncovered_table.proofs.WordLemmas.{bit-small, sum-more, sum-same}

@@ -11,8 +11,8 @@ use Rattle.std.proofs.lemmas.List.Sums.{length-filter}
 use Rattle.std.proofs.Math.Bool.{and-true, and-false}
 use Rattle.value_text.proofs.ListLemmas.{filter-filter, filter_all}
 use Rattle.cov_model.specs.declared.slice.Slice.{Slice}
-use Rattle.cov_model.specs.Sound.{ModelView}
-use Rattle.definitions.specs.Demand.{demanded_sets}
+use Rattle.cov_model.specs.believed.Sound.{ModelView}
+use Rattle.definitions.specs.believed.Demand.{demanded_sets}
 use Rattle.uncovered_table.specs.Bits.{bit_of, first_bit, is_marked, marked, tuple_count}
 use Rattle.uncovered_table.specs.Open.{all_open, closed, is_open}
 use Rattle.uncovered_table.specs.Places.{is_place, places_in, set_at, slice_places, slice_start}

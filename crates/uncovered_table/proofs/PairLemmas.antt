@@ -11,9 +11,9 @@ use Rattle.std.proofs.lemmas.List.Elements.{All-head, All-tail, All-weaker}
 use Rattle.std.proofs.lemmas.List.Sums.{sum_by-cons}
 use Rattle.std.proofs.Math.Bool.{and-true, or-true}
 use Rattle.cov_model.specs.declared.slice.Slice.{Slice}
-use Rattle.cov_model.specs.Sound.{ModelView}
-use Rattle.definitions.specs.Completion.{column_order}
-use Rattle.definitions.specs.Demand.{demanded_sets, is_among}
+use Rattle.cov_model.specs.believed.Sound.{ModelView}
+use Rattle.definitions.specs.believed.Completion.{column_order}
+use Rattle.definitions.specs.believed.Demand.{demanded_sets, is_among}
 use Rattle.tuple_index.specs.Kept.{IsKept}
 use Rattle.tuple_index.specs.Places.{RisesFrom, ways}
 use Rattle.tuple_index.specs.Plan.{plan_of}

@@ -5,9 +5,9 @@ use Rattle.std.proofs.lemmas.List.FromFn.{length-map-range_with_len, length-rang
 use Rattle.std.proofs.lemmas.List.Sums.{count_by-le-length, length-filter}
 use Rattle.std.proofs.lemmas.Bool.{cases_Bool}
 use Rattle.cov_model.specs.declared.slice.Slice.{Slice}
-use Rattle.cov_model.specs.Sound.{IsSound, ModelView, param_at}
-use Rattle.cov_model.specs.Slices.{positive_values, value_numbers}
-use Rattle.definitions.specs.Demand.{demanded_sets}
+use Rattle.cov_model.specs.believed.Sound.{IsSound, ModelView, param_at}
+use Rattle.cov_model.specs.believed.Slices.{positive_values, value_numbers}
+use Rattle.definitions.specs.believed.Demand.{demanded_sets}
 use Rattle.definitions.specs.SliceRows.{IsSliceOf}
 use Rattle.tuple_index.specs.Kept.{IsKept}
 use Rattle.tuple_index.specs.Plan.{PlanView, plan_of}

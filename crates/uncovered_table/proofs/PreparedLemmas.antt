@@ -11,7 +11,7 @@ use Rattle.std.proofs.lemmas.List.{length-take, drop_more, take_all, take-append
 use Rattle.std.proofs.Math.Seq.{get_or-append_seam}
 use Rattle.std.proofs.Common.{length-drop, ◌-◌, take, length-append}
 use Rattle.std.proofs.lemmas.List.Elements.{All-take, All-drop, All-append, All-cons, All-nil}
-use Rattle.cov_model.specs.Sound.{ModelView}
+use Rattle.cov_model.specs.believed.Sound.{ModelView}
 use Rattle.cov_model.specs.declared.slice.Slice.{Slice}
 use Rattle.definitions.specs.SliceRows.{IsSliceOf}
 use Rattle.tuple_index.specs.Kept.{IsKept}

@@ -9,7 +9,7 @@ use Rattle.std.proofs.lemmas.List.{length-set, set-get_or, take-set, take_more_s
 use Rattle.std.proofs.lemmas.List.Elements.{All-cons, All-head, All-nil, All-tail}
 use Rattle.std.proofs.lemmas.List.Sums.{sum_by-cons}
 use Rattle.cov_model.specs.declared.slice.Slice.{Slice}
-use Rattle.cov_model.specs.Sound.{ModelView}
+use Rattle.cov_model.specs.believed.Sound.{ModelView}
 use Rattle.tuple_index.specs.Kept.{IsKept}
 use Rattle.tuple_index.specs.Plan.{plan_of}
 use Rattle.uncovered_table.specs.declared.prepared.ColumnLines.{ColumnLines}

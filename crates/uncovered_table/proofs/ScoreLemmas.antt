@@ -4,7 +4,7 @@ use Rattle.std.specs.List.{range_with_len}
 use Rattle.std.proofs.lemmas.List.{ext_get_or}
 use Rattle.std.proofs.lemmas.List.Elements.{All-get_or}
 use Rattle.std.proofs.lemmas.List.FromFn.{get_or-map-range_with_len, length-map-range_with_len}
-use Rattle.cov_model.specs.Sound.{IsSound, IsSoundParam, ModelView, no_param, param_at}
+use Rattle.cov_model.specs.believed.Sound.{IsSound, IsSoundParam, ModelView, no_param, param_at}
 
 pub values_few : (m : ModelView) (p : ℕ) → IsSound m → p < length m.params → length (param_at m.params p).values ≤ 4095
 values_few m p sound within = (All-get_or (IsSoundParam m.prefix m.fold) m.params p no_param within sound.params).few

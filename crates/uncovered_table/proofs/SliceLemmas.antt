@@ -11,11 +11,11 @@ use Rattle.std.proofs.lemmas.List.Sums.{sum_by-append, sum_by-cons, take_while-c
 use Rattle.std.proofs.Math.Bool.{or-true}
 use Rattle.cov_model.specs.declared.slice.Slice.{Slice}
 use Rattle.cov_model.specs.declared.slice.Slice.TheVariants.{Positive, Negative}
-use Rattle.cov_model.specs.Sound.{ModelView, param_at}
-use Rattle.cov_model.specs.Meaning.{value_at}
-use Rattle.cov_model.specs.Valid.{param_numbers}
-use Rattle.cov_model.specs.Slices.{negative_values, positive_values, slice_values}
-use Rattle.definitions.specs.Demand.{is_among, tuples_in}
+use Rattle.cov_model.specs.believed.Sound.{ModelView, param_at}
+use Rattle.cov_model.specs.believed.Meaning.{value_at}
+use Rattle.cov_model.specs.believed.Valid.{param_numbers}
+use Rattle.cov_model.specs.believed.Slices.{negative_values, positive_values, slice_values}
+use Rattle.definitions.specs.believed.Demand.{is_among, tuples_in}
 use Rattle.definitions.specs.SliceRows.{IsSliceOf}
 use Rattle.tuple_index.specs.Plan.{plan_of, tuple_cells}
 use Rattle.tuple_index.specs.Places.{IsOwnSlice, RisesFrom, has_part, negatives_of, negative_ways, place_of, start_of, value_lists, values_in, ways, ways_before, ways_in}

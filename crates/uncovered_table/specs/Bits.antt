@@ -4,8 +4,8 @@ use Rattle.std.specs.Prelude.{nat_lt, option_and_then, option_map, slice_index_o
 use Rattle.std.specs.List.{filter, flat_map, range_with_len}
 use Rattle.std.specs.Option.{option_or}
 use Rattle.cov_model.specs.declared.slice.Slice.{Slice}
-use Rattle.cov_model.specs.Sound.{ModelView}
-use Rattle.definitions.specs.Demand.{demanded_sets, tuples_in}
+use Rattle.cov_model.specs.believed.Sound.{ModelView}
+use Rattle.definitions.specs.believed.Demand.{demanded_sets, tuples_in}
 use Rattle.uncovered_table.specs.Digits.{cell_digit, digit_of, number_of, own_values, with_digit}
 use Rattle.uncovered_table.specs.declared.block.Line.{Line}
 use Rattle.uncovered_table.specs.Open.{OpenView, is_after}

@@ -3,8 +3,8 @@
 use Rattle.std.specs.Prelude.{◌≡◌, ◌<◌, ℕ, Bool, not, ◌+◌, ◌*◌, List, [], ◌∷◌, length, Option, Some, None, ◌==◌, nat_lt, option_and_then, slice_index_or, if◌then◌else◌}
 use Rattle.cov_model.specs.declared.slice.Slice.{Slice}
 use Rattle.cov_model.specs.declared.slice.Slice.TheVariants.{Positive, Negative}
-use Rattle.cov_model.specs.Sound.{ModelView, param_at}
-use Rattle.cov_model.specs.Meaning.{value_at}
+use Rattle.cov_model.specs.believed.Sound.{ModelView, param_at}
+use Rattle.cov_model.specs.believed.Meaning.{value_at}
 use Rattle.tuple_index.specs.Plan.{plan_of}
 use Rattle.tuple_index.specs.Places.{place_of, values_in, ways}
 

@@ -2,11 +2,11 @@
 use Rattle.std.specs.Prelude.{◌≡◌, ℕ, Bool, true, ◌<◌, List, [], ◌∷◌, ◌++◌, map, length, Option, Some, None, slice_index_or, slice_set, nat_lt, if◌then◌else◌}
 use Rattle.std.specs.List.{filter, last_or}
 use Rattle.cov_model.specs.declared.slice.Slice.{Slice}
-use Rattle.cov_model.specs.Sound.{ModelView}
-use Rattle.cov_model.specs.Slices.{value_numbers}
-use Rattle.cov_model.specs.Valid.{param_numbers}
-use Rattle.definitions.specs.Demand.{is_among, demanded_sets}
-use Rattle.definitions.specs.Completion.{column_order}
+use Rattle.cov_model.specs.believed.Sound.{ModelView}
+use Rattle.cov_model.specs.believed.Slices.{value_numbers}
+use Rattle.cov_model.specs.believed.Valid.{param_numbers}
+use Rattle.definitions.specs.believed.Demand.{is_among, demanded_sets}
+use Rattle.definitions.specs.believed.Completion.{column_order}
 use Rattle.definitions.specs.SliceRows.{IsSliceOf}
 use Rattle.tuple_index.specs.Plan.{PlanView, plan_of}
 use Rattle.uncovered_table.specs.declared.block.Block.{Block}

@@ -1,7 +1,7 @@
 -- Masks of digits: a bit for each digit of each parameter, in order.
 use Rattle.std.specs.List.{list_any}
 use Rattle.std.specs.Prelude.{◌≡◌, ℕ, zero, suc, ◌+◌, ◌-◌, ◌<◌, ◌≤◌, ◌==◌, List, length, min, Option, Some, None, slice_index_or, if◌then◌else◌}
-use Rattle.definitions.specs.Demand.{is_among}
+use Rattle.definitions.specs.believed.Demand.{is_among}
 use Rattle.uncovered_table.specs.Words.{bit_in}
 
 -- where the bits of a parameter begin, by how many digits each has

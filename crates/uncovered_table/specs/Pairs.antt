@@ -2,8 +2,8 @@
 -- of each other parameter.
 use Rattle.std.specs.Prelude.{◌≡◌, ℕ, Bool, ◌||◌, ◌+◌, ◌<◌, ◌≤◌, ◌*◌, List, [], ◌∷◌, length, map, IfSome, Option, None, Some, ◌==◌, slice_index_or, if◌then◌else◌}
 use Rattle.cov_model.specs.declared.slice.Slice.{Slice}
-use Rattle.cov_model.specs.Sound.{ModelView}
-use Rattle.definitions.specs.Demand.{is_among}
+use Rattle.cov_model.specs.believed.Sound.{ModelView}
+use Rattle.definitions.specs.believed.Demand.{is_among}
 use Rattle.tuple_index.specs.Places.{RisesFrom}
 use Rattle.uncovered_table.specs.declared.pairs.PairBits.{PairBits}
 use Rattle.uncovered_table.specs.Bits.{InPlay, held_count, sets_in_play}

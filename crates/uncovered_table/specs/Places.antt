@@ -4,11 +4,11 @@ use Rattle.std.specs.Prelude.{ℕ, Bool, true, false, not, ◌&&◌, ◌||◌, L
 use Rattle.std.specs.List.{flat_map, range_with_len}
 use Rattle.cov_model.specs.declared.slice.Slice.{Slice}
 use Rattle.cov_model.specs.declared.slice.Slice.TheVariants.{Positive, Negative}
-use Rattle.cov_model.specs.Sound.{ModelView}
-use Rattle.cov_model.specs.Slices.{slices}
-use Rattle.definitions.specs.Demand.{demanded_sets, tuples_in, tuples_of}
-use Rattle.definitions.specs.Completion.{column_order}
-use Rattle.definitions.specs.Growth.{ends_with}
+use Rattle.cov_model.specs.believed.Sound.{ModelView}
+use Rattle.cov_model.specs.believed.Slices.{slices}
+use Rattle.definitions.specs.believed.Demand.{demanded_sets, tuples_in, tuples_of}
+use Rattle.definitions.specs.believed.Completion.{column_order}
+use Rattle.definitions.specs.believed.Growth.{ends_with}
 
 -- the demanded set of a number, and the tuple of a place
 abbrev pub set_at : ModelView → ℕ → List ℕ

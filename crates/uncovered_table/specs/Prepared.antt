@@ -2,7 +2,7 @@
 use Rattle.std.specs.Prelude.{◌≡◌, ◌⊎◌, ℕ, Bool, ◌+◌, ◌<◌, ◌≤◌, All, length, slice_range, take, drop, ◌++◌, List, [], ◌∷◌, Option, Some, None, ◌==◌, slice_index_or, if◌then◌else◌}
 use Rattle.bit_table.specs.Marks.{NoneSet}
 use Rattle.cov_model.specs.declared.slice.Slice.{Slice}
-use Rattle.cov_model.specs.Sound.{ModelView}
+use Rattle.cov_model.specs.believed.Sound.{ModelView}
 use Rattle.uncovered_table.specs.declared.prepared.Part.{Part}
 use Rattle.uncovered_table.specs.declared.prepared.Prepared.{Prepared}
 use Rattle.uncovered_table.specs.declared.prepared.ColumnLines.{ColumnLines}

@@ -1,7 +1,7 @@
 -- What a table keeps.
 use Rattle.std.specs.Prelude.{◌≡◌, ℕ, Bool, IfSome, List, Option, length}
 use Rattle.cov_model.specs.declared.slice.Slice.{Slice}
-use Rattle.cov_model.specs.Sound.{ModelView}
+use Rattle.cov_model.specs.believed.Sound.{ModelView}
 use Rattle.uncovered_table.specs.declared.pairs.PairBits.{PairBits}
 use Rattle.uncovered_table.specs.declared.prepared.ColumnLines.{ColumnLines}
 use Rattle.uncovered_table.specs.Masks.{AreBegins}

@@ -4,7 +4,7 @@ ghost use Rattle.uncovered_table.specs.Bits.{InPlay, all_cleared, bit_count, cle
 ghost use Rattle.uncovered_table.specs.Digits.{HasAllValues, cell_digit, own_values, with_digit};
 ghost use Rattle.uncovered_table.specs.Places.{slice_places};
 ghost use Rattle.uncovered_table.specs.Prepared.{AreLinesOf, AreReady, digit_in};
-ghost use Rattle.cov_model.specs.Sound.{param_at};
+ghost use Rattle.cov_model.specs.believed.Sound.{param_at};
 
 use crate::block::Line;
 use crate::counts::put_ready;

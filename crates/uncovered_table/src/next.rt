@@ -1,7 +1,7 @@
 ghost use Rattle.std.specs.Prelude.{◌≡◌, ◌<◌, ◌≤◌, ◌^◌, ℕ, IfSome, None, length, slice_index_or, true};
 ghost use Rattle.std.specs.List.{list_any};
 ghost use Rattle.std.specs.List.Sorted.{IsNonDecreasingBy};
-ghost use Rattle.definitions.specs.Demand.{demanded_sets};
+ghost use Rattle.definitions.specs.believed.Demand.{demanded_sets};
 ghost use Rattle.uncovered_table.specs.Bits.{InPlay, next_in, next_of, sets_in_play, skipped};
 ghost use Rattle.uncovered_table.specs.Places.{is_place, set_at, slice_places, slice_start};
 

@@ -1,6 +1,6 @@
 ghost use Rattle.std.specs.Prelude.{◌≡◌, ◌<◌, ◌≤◌, All, IfSome, None, length, true};
-ghost use Rattle.cov_model.specs.Sound.{IsSound, param_at};
-ghost use Rattle.definitions.specs.Demand.{demanded_sets};
+ghost use Rattle.cov_model.specs.believed.Sound.{IsSound, param_at};
+ghost use Rattle.definitions.specs.believed.Demand.{demanded_sets};
 ghost use Rattle.definitions.specs.SliceRows.{IsSliceOf};
 ghost use Rattle.tuple_index.specs.Kept.{IsKept};
 ghost use Rattle.tuple_index.specs.Places.{RisesFrom, values_in};

@@ -1,6 +1,6 @@
 ghost use Rattle.std.specs.Prelude.{◌≡◌, ◌∷◌, [], Bool, List, false, ◌+◌, ◌*◌, ◌<◌, ◌≤◌, ◌^◌, ◌==◌, ℕ, All, IfOk, IfSome, OnOk, Some, if◌then◌else◌, length, option_map, slice_index_or, slice_range};
 ghost use Rattle.uncovered_table.specs.Prepared.{AreLines, AreLinesOf, ArePushed, AreReady, IsComplete, IsLeft, digit_in, sum_of, with_part};
-ghost use Rattle.definitions.specs.Demand.{demanded_sets};
+ghost use Rattle.definitions.specs.believed.Demand.{demanded_sets};
 ghost use Rattle.definitions.specs.SliceRows.{IsOfSlice};
 ghost use Rattle.uncovered_table.specs.Bits.{InPlay, held_bit, sets_in_play};
 ghost use Rattle.uncovered_table.specs.Digits.{cell_digit, joined, own_values, step_of, with_digit};

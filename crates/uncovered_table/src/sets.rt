@@ -1,7 +1,7 @@
 ghost use Rattle.std.specs.Prelude.{◌≡◌, ◌<◌, ◌≤◌, ◌^◌, All, IfOk, length, true};
 ghost use Rattle.std.specs.List.{list_any};
-ghost use Rattle.cov_model.specs.Sound.{IsSound, param_at};
-ghost use Rattle.definitions.specs.Demand.{demanded_sets};
+ghost use Rattle.cov_model.specs.believed.Sound.{IsSound, param_at};
+ghost use Rattle.definitions.specs.believed.Demand.{demanded_sets};
 ghost use Rattle.definitions.specs.SliceRows.{IsOfSlice, IsSliceOf};
 ghost use Rattle.tuple_index.specs.Kept.{IsKept};
 ghost use Rattle.tuple_index.specs.Plan.{plan_of};

@@ -1,7 +1,7 @@
 ghost use Rattle.std.specs.Prelude.{◌≡◌, ◌+◌, ◌^◌, ◌≤◌, map, ◌<◌, ◌&&◌, All, IfOk, IfSome, length, not, true};
 ghost use Rattle.std.specs.List.{filter, list_any, range_with_len};
-ghost use Rattle.cov_model.specs.Rows.{contains};
-ghost use Rattle.cov_model.specs.Sound.{IsSound, param_at};
+ghost use Rattle.cov_model.specs.believed.Rows.{contains};
+ghost use Rattle.cov_model.specs.believed.Sound.{IsSound, param_at};
 ghost use Rattle.definitions.specs.SliceRows.{IsOfSlice, IsSliceOf};
 ghost use Rattle.tuple_index.specs.Plan.{plan_of};
 ghost use Rattle.uncovered_table.specs.Bits.{sets_in_play};

@@ -1,6 +1,6 @@
 ghost use Rattle.std.specs.Prelude.{◌≡◌, ◌<◌, ℕ, [], IfOk, IfSome, None, OnOk, Some, if◌then◌else◌, length, map, replicate, true};
-ghost use Rattle.cov_model.specs.Valid.{param_numbers};
-ghost use Rattle.definitions.specs.Demand.{demanded_sets};
+ghost use Rattle.cov_model.specs.believed.Valid.{param_numbers};
+ghost use Rattle.definitions.specs.believed.Demand.{demanded_sets};
 ghost use Rattle.uncovered_table.specs.Bits.{sets_in_play, tuple_count};
 ghost use Rattle.uncovered_table.specs.Digits.{HasAllValues};
 ghost use Rattle.uncovered_table.specs.Kept.{AreBlocks, AreTablesOf, digits_of, firsts_of, play_column, with_set};

@@ -8,8 +8,8 @@ use Rattle.std.proofs.lemmas.Bool.{and_parts}
 use Rattle.std.proofs.lemmas.Str.Ascii.{lowercase_ascii}
 use Rattle.std.proofs.Math.Utf8.{scalar, scalars, low_scalar}
 use Rattle.std.specs.Char.{to_ascii_lowercase, IsScalar}
-use Rattle.value_text.specs.Texts.{folded}
-use Rattle.value_text.specs.Like.{folded_chars}
+use Rattle.value_text.specs.believed.Texts.{folded}
+use Rattle.value_text.specs.believed.Like.{folded_chars}
 
 -- the character under the case rule
 abbrev pub folded_char : Bool → ℕ → ℕ

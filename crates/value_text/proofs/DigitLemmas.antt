@@ -10,7 +10,7 @@ use Rattle.std.specs.Int.{IsInRange}
 use Rattle.std.specs.Char.{is_ascii_digit, digit_value}
 use Rattle.std.specs.Str.Parse.{AllDigits, digits_value, digits_value_after}
 use Rattle.std.proofs.Math.Nat.{pow-le-pow_right, pow-suc}
-use Rattle.value_text.specs.Numbers.{is_digits}
+use Rattle.value_text.specs.believed.Numbers.{is_digits}
 
 -- a text that is not empty is digits where each byte is one
 pub is_digits_nonempty : (text : List ℕ) → 0 < length text → is_digits text ≡ list_all is_ascii_digit text

@@ -4,9 +4,9 @@ use Rattle.std.specs.Str.{chars}
 use Rattle.std.specs.Cmp.Lexicographic.{texts_ties}
 use Rattle.std.specs.Ordering.{eq_by_cmp}
 use Rattle.std.specs.declared.cmp.Ordering.TheVariants.{Less, Greater}
-use Rattle.value_text.specs.Texts.{folded, is_same_text, text_order}
-use Rattle.value_text.specs.Numbers.{number_of, is_number, count_of}
-use Rattle.value_text.specs.Like.{matches, is_like}
+use Rattle.value_text.specs.believed.Texts.{folded, is_same_text, text_order}
+use Rattle.value_text.specs.believed.Numbers.{number_of, is_number, count_of}
+use Rattle.value_text.specs.believed.Like.{matches, is_like}
 use Rattle.value_text.specs.declared.fixed.FixedAnswer.TheVariants.{Number, NotNumber, TooWide}
 
 -- ---- numbers

@@ -4,7 +4,7 @@ use Rattle.std.proofs.Common.{List, [], ◌∷◌, drop, refl, sym, ◌∙◌, a
 use Rattle.std.proofs.lemmas.Bool.{and_parts, or_left, false_from_ne_true}
 use Rattle.std.proofs.Math.Bool.{or-true}
 use Rattle.std.specs.Cmp.{both_ways}
-use Rattle.value_text.specs.Like.{matches}
+use Rattle.value_text.specs.believed.Like.{matches}
 use Rattle.value_text.specs.PatternParts.{Continues}
 
 -- a `*` may be nothing

@@ -8,7 +8,7 @@ use Rattle.std.proofs.Math.Bool.{and-true}
 use Rattle.std.specs.List.{list_all, position, position_or_len}
 use Rattle.std.specs.Char.{is_ascii_digit}
 use Rattle.std.specs.Str.Parse.{digits_value}
-use Rattle.value_text.specs.Numbers.{is_digits, is_point, without_sign, is_decimal}
+use Rattle.value_text.specs.believed.Numbers.{is_digits, is_point, without_sign, is_decimal}
 use Rattle.value_text.proofs.DigitLemmas.{value_small, digits_value-append}
 use Rattle.value_text.proofs.ListLemmas.{list_any-position}
 

@@ -1,5 +1,3 @@
-pub mod Texts
-pub mod Numbers
-pub mod Like
 pub mod formers
 pub mod PatternParts
+pub mod believed

@@ -1,6 +1,6 @@
 -- How the part of a pattern before its first `*` fits the start of a text.
 use Rattle.std.specs.Prelude.{◌≡◌, ℕ, ◌<◌, ◌≤◌, Bool, true, false, List, ◌∷◌, length, drop}
-use Rattle.value_text.specs.Like.{matches, folded_chars}
+use Rattle.value_text.specs.believed.Like.{matches, folded_chars}
 use Rattle.value_text.specs.declared.pattern.PartMatch.{PartMatch}
 use Rattle.value_text.specs.declared.pattern.PartMatch.TheVariants.{Whole, TextEnds, Differs, Star}
 

@@ -2,7 +2,7 @@ ghost use Rattle.std.specs.Prelude.{◌≡◌};
 ghost use Rattle.std.specs.Cmp.Lexicographic.{slice_cmp};
 ghost use Rattle.std.specs.Ordering.{nat_cmp};
 ghost use Rattle.std.specs.Str.{str_to_ascii_lowercase};
-ghost use Rattle.value_text.specs.Texts.{is_same_text, text_order};
+ghost use Rattle.value_text.specs.believed.Texts.{is_same_text, text_order};
 
 use std::cmp::Ordering;
 

@@ -1,5 +1,5 @@
 ghost use Rattle.std.specs.Prelude.{◌≡◌};
-ghost use Rattle.value_text.specs.Numbers.{count_of};
+ghost use Rattle.value_text.specs.believed.Numbers.{count_of};
 
 use crate::digits::{is_digits, value_of};
 

@@ -2,7 +2,7 @@ ghost use Rattle.std.specs.Prelude.{◌≡◌, ◌<◌, ◌≤◌, ◌^◌, leng
 ghost use Rattle.std.specs.Char.{is_ascii_digit};
 ghost use Rattle.std.specs.List.{list_all};
 ghost use Rattle.std.specs.Str.Parse.{digits_value};
-ghost use Rattle.value_text.specs.Numbers.{is_digits};
+ghost use Rattle.value_text.specs.believed.Numbers.{is_digits};
 
 /// Whether a text is one or more digits, and nothing else.
 #[tactic(auto, using(crate::proofs::DigitLemmas::is_digits_nonempty))]

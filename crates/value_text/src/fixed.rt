@@ -2,7 +2,7 @@ ghost use Rattle.std.specs.Prelude.{◌≡◌, ◌≤◌, ◌*◌, ◌^◌, ◌-
 ghost use Rattle.std.specs.Char.{is_ascii_digit};
 ghost use Rattle.std.specs.List.{list_all};
 ghost use Rattle.std.specs.Str.Parse.{digits_value};
-ghost use Rattle.value_text.specs.Numbers.{number_of, is_minus, without_sign, is_point, is_decimal, whole_digits, decimal_digits};
+ghost use Rattle.value_text.specs.believed.Numbers.{number_of, is_minus, without_sign, is_point, is_decimal, whole_digits, decimal_digits};
 
 use crate::digits::{is_digits, value_of};
 use std::marker::Model;

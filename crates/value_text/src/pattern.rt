@@ -1,5 +1,5 @@
 ghost use Rattle.std.specs.Prelude.{◌≡◌, ◌<◌, [], ◌∷◌, length, IfNone, IfSome};
-ghost use Rattle.value_text.specs.Like.{is_like, folded_chars};
+ghost use Rattle.value_text.specs.believed.Like.{is_like, folded_chars};
 ghost use Rattle.value_text.specs.PatternParts.{IsPartMatch};
 
 /// Whether a pattern matches a whole text: `*` is any run of characters, also none, `?` is any one

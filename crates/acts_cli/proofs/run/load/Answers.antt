@@ -1,7 +1,7 @@
 use Rattle.std.proofs.Common.{◌≡◌, ◌<◌, ◌≤◌, Err, Ok, length, refl, subst}
 use Rattle.std.specs.Prelude.{IfSome, IsSomeAnd}
 use Rattle.acts_front.specs.Reading.{Translates}
-use Rattle.acts_front.specs.Translation.{translation}
+use Rattle.acts_front.specs.believed.Translation.{translation}
 use Rattle.acts_cli.proofs.Loading.{refused, translated, unread}
 use Rattle.acts_cli.proofs.run.load.Goals as goal
 

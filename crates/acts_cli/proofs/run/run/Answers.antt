@@ -1,7 +1,7 @@
 use Rattle.std.proofs.Common.{◌≡◌, ◌∙◌, Some, refl, subst}
 use Rattle.std.specs.Prelude.{IfSome}
-use Rattle.outside_io.specs.Faults.{Rose}
-use Rattle.outside_io.specs.Files.{HoldsOldOrPrefix}
+use Rattle.outside_io.specs.believed.Faults.{Rose}
+use Rattle.outside_io.specs.believed.Files.{HoldsOldOrPrefix}
 use Rattle.acts_cli.specs.Runs.{asked_seen}
 use Rattle.acts_cli.proofs.Loading.{loaded, stopped}
 use Rattle.acts_cli.proofs.run.run.Goals as goal

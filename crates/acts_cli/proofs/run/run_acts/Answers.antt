@@ -1,5 +1,5 @@
 use Rattle.std.proofs.Common.{◌∙◌, sym}
-use Rattle.command_line.specs.Words.{texts}
+use Rattle.command_line.specs.believed.Words.{texts}
 use Rattle.acts_cli.proofs.RunEnds as ends
 use Rattle.acts_cli.proofs.RunEnds.{unasked, written_faithful, zero_is_end}
 use Rattle.acts_cli.proofs.run.run_acts.Goals as goal

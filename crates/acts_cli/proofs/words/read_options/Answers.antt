@@ -2,7 +2,7 @@ use Rattle.std.proofs.Common.{not, ap, sym, ◌∙◌}
 use Rattle.std.specs.String.{string_bytes}
 use Rattle.value_text.proofs.ListLemmas.{list_any-map}
 use Rattle.acts_front.proofs.Mapped.{position-map}
-use Rattle.acts_cli.specs.Words.{is_case_word}
+use Rattle.acts_cli.specs.believed.Words.{is_case_word}
 use Rattle.acts_cli.proofs.words.read_options.Goals as goal
 
 pub returns-in-Some : goal.returns-in-Some

@@ -8,7 +8,7 @@ use Rattle.std.proofs.lemmas.Str.Ascii.{IsAscii-from_all}
 use Rattle.std.specs.Char.{is_ascii_digit}
 use Rattle.std.specs.Prelude.{is_some}
 use Rattle.std.specs.Str.{IsUtf8}
-use Rattle.value_text.specs.Numbers.{count_of, is_digits}
+use Rattle.value_text.specs.believed.Numbers.{count_of, is_digits}
 use Rattle.acts_front.proofs.relation.is_strength.Goals as goal
 
 digit_byte : (b : ℕ) → is_ascii_digit b ≡ true → b < 128

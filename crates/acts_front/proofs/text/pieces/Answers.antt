@@ -2,7 +2,7 @@ use Rattle.std.proofs.Common.{ℕ, List, Bor, eqb, rules, tests}
 use Rattle.std.proofs.lemmas.Iterator.{YieldsList-from_map_by}
 use Rattle.std.proofs.lemmas.Iterator.Consumers.{YieldsList-at, map_from_collect}
 use Rattle.std.proofs.lemmas.Iterator.Splits.{YieldsList-from_slice_split}
-use Rattle.model_lex.specs.Blanks.{trimmed}
+use Rattle.model_lex.specs.believed.Blanks.{trimmed}
 use Rattle.acts_front.proofs.text.pieces.Goals as goal
 
 pub returns : goal.returns

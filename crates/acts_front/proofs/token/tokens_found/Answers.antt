@@ -2,7 +2,7 @@ use Rattle.std.proofs.Common.{◌∙◌, sym, ap, subst, arith, ◌<◌, length,
 use Rattle.std.proofs.lemmas.Bool.{eqb-true, eqb-false}
 use Rattle.std.proofs.lemmas.List.{map-append, take_rest}
 use Rattle.acts_front.specs.Reading.{token_seen, tokens_seen}
-use Rattle.acts_front.specs.Tokens.{first_found, tokens_behind, tokens_found}
+use Rattle.acts_front.specs.believed.Tokens.{first_found, tokens_behind, tokens_found}
 use Rattle.acts_front.proofs.TokenLists.{all_read, more_tokens, none_read, one_read}
 use Rattle.acts_front.proofs.token.tokens_found.Goals as goal
 

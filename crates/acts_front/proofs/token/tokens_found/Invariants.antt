@@ -1,6 +1,6 @@
 use Rattle.std.proofs.Common.{◌≡◌, length}
 use Rattle.acts_front.specs.Reading.{tokens_seen}
-use Rattle.acts_front.specs.Tokens.{tokens_behind, tokens_found}
+use Rattle.acts_front.specs.believed.Tokens.{tokens_behind, tokens_found}
 use Rattle.acts_front.proofs.TokenLists.{more_tokens}
 use Rattle.acts_front.proofs.token.tokens_found.Given as goal
 

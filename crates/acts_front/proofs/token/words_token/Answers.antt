@@ -1,7 +1,7 @@
 use Rattle.std.proofs.Common.{◌≡◌, ◌∙◌, sym, ap, true, false, take, refl}
 use Rattle.std.specs.List.{list_any}
 use Rattle.std.specs.Prelude.{is_some}
-use Rattle.model_parse.specs.Pieces.{is_byte}
+use Rattle.model_parse.specs.believed.Pieces.{is_byte}
 use Rattle.acts_front.proofs.Mapped.{is_some-position}
 use Rattle.acts_front.proofs.token.words_token.Goals as goal
 

@@ -1,6 +1,6 @@
 use Rattle.std.proofs.Common.{◌≡◌, ◌∙◌, ◌≤◌, ◌^◌, length, Err, sym, refl, arith, rules}
 use Rattle.std.proofs.lemmas.Bool.{eqb-true}
-use Rattle.model_lex.specs.Lines.{without_mark}
+use Rattle.model_lex.specs.believed.Lines.{without_mark}
 use Rattle.acts_front.proofs.SayTheSame.{faithful}
 use Rattle.acts_front.proofs.Translating.{begins, ends, goes_on, refused, undeclared}
 use Rattle.acts_front.proofs.translator.translate.Goals as goal

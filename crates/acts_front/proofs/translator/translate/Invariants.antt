@@ -1,5 +1,5 @@
 use Rattle.std.proofs.Common.{length}
-use Rattle.model_lex.specs.Lines.{numbered_lines}
+use Rattle.model_lex.specs.believed.Lines.{numbered_lines}
 use Rattle.acts_front.specs.Reading.{SoFar}
 use Rattle.acts_front.proofs.translator.translate.Given as goal
 

@@ -1,6 +1,6 @@
 use Rattle.std.proofs.Common.{[], ◌++◌, ◌∙◌, ap, codes, get_or}
 use Rattle.acts_front.specs.Reading.{token_seen}
-use Rattle.acts_front.specs.Translation.{token_text}
+use Rattle.acts_front.specs.believed.Translation.{token_text}
 use Rattle.acts_front.specs.declared.token.Token.{Token}
 use Rattle.acts_front.specs.declared.token.Token.TheVariants.{Name}
 use Rattle.acts_front.proofs.Joined.{one_more}

@@ -1,7 +1,7 @@
 use Rattle.std.proofs.Common.{◌≡◌, ◌∙◌, true, false, sym, append-nil}
 use Rattle.std.specs.List.{list_any}
 use Rattle.value_text.proofs.ListLemmas.{list_any-map}
-use Rattle.acts_front.specs.Constraints.{is_arrow}
+use Rattle.acts_front.specs.believed.Constraints.{is_arrow}
 use Rattle.acts_front.specs.Reading.{token_seen, tokens_seen}
 use Rattle.acts_front.proofs.write.put_opening.Goals as goal
 

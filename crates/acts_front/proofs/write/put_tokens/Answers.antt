@@ -1,9 +1,9 @@
 use Rattle.std.proofs.Common.{◌≡◌, ◌++◌, ◌∙◌, [], ap, sym, subst, codes}
 use Rattle.std.specs.Prelude.{OnOk}
 use Rattle.std.proofs.lemmas.Simd.{map-map}
-use Rattle.model_parse.specs.Written.{joined}
+use Rattle.model_parse.specs.believed.Written.{joined}
 use Rattle.acts_front.specs.Reading.{token_seen}
-use Rattle.acts_front.specs.Translation.{token_text}
+use Rattle.acts_front.specs.believed.Translation.{token_text}
 use Rattle.acts_front.specs.declared.token.Token.TheVariants.{Name}
 use Rattle.acts_front.proofs.Joined.{all_put}
 use Rattle.acts_front.proofs.write.put_tokens.Goals as goal

@@ -1,5 +1,5 @@
 use Rattle.std.proofs.Common.{Err, ap, subst, sym}
-use Rattle.check_cli.specs.Runs.{Ends}
+use Rattle.check_cli.specs.believed.Runs.{Ends}
 use Rattle.check_cli.proofs.RunEnds.{printed_ends, stopped_ends}
 use Rattle.check_cli.proofs.run.check.Goals as goal
 use Rattle.value_text.proofs.ListLemmas.{is_err, one_err}

@@ -2,7 +2,7 @@ use Rattle.std.proofs.Common.{◌≡◌, Err, ap, subst, sym, ◌∙◌}
 use Rattle.model_parse.specs.RawModels.{AreOpts}
 use Rattle.command_line.proofs.OptsLemmas.{same_opts}
 use Rattle.proof_check.specs.Checks.{IsCheckOf}
-use Rattle.check_cli.specs.Runs.{Inputs}
+use Rattle.check_cli.specs.believed.Runs.{Inputs}
 use Rattle.check_cli.proofs.RunEnds.{check_stops}
 use Rattle.check_cli.proofs.run.judge.Goals as goal
 

@@ -1,17 +1,17 @@
 use Rattle.std.proofs.Common.{◌≡◌, Err, inl, inr, sym, ap, subst, ◌∙◌}
 use Rattle.std.specs.Prelude.{◌⊎◌}
-use Rattle.outside_io.specs.Seen.{PutFaultsRose}
-use Rattle.outside_io.specs.Puts.{Puts}
+use Rattle.outside_io.specs.believed.Seen.{PutFaultsRose}
+use Rattle.outside_io.specs.believed.Puts.{Puts}
 use Rattle.outside_io.specs.declared.answers.WriteAnswer.TheVariants.{Failed}
-use Rattle.definitions.specs.Laws.{IsCertified}
-use Rattle.definitions.specs.Verdict.{verdict, verdict_text}
-use Rattle.command_line.specs.Stops.{status_of}
+use Rattle.definitions.specs.believed.Laws.{IsCertified}
+use Rattle.definitions.specs.believed.Verdict.{verdict, verdict_text}
+use Rattle.command_line.specs.believed.Stops.{status_of}
 use Rattle.command_line.specs.declared.stop.Stop.{Stop}
 use Rattle.command_line.specs.declared.stop.Stop.TheVariants.{CannotRead}
-use Rattle.command_line.specs.Told.{Tells, end_text}
-use Rattle.command_line.specs.Words.{texts}
+use Rattle.command_line.specs.believed.Told.{Tells, end_text}
+use Rattle.command_line.specs.believed.Words.{texts}
 use Rattle.check_cli.specs.RunSteps.{CountsOut}
-use Rattle.check_cli.specs.Runs.{AreRead, HasReadings, HasVerdict, Holds, IsRefusal, FilesAreRefused, IsRun, IsStatus, IsTold, ReadsRose, end_status, inputs_of, unread, verdict_status}
+use Rattle.check_cli.specs.believed.Runs.{AreRead, HasReadings, HasVerdict, Holds, IsRefusal, FilesAreRefused, IsRun, IsStatus, IsTold, ReadsRose, end_status, inputs_of, unread, verdict_status}
 use Rattle.check_cli.specs.Words.{command_seen}
 use Rattle.check_cli.proofs.RunEnds.{accepted_told, broken_told, complete_end, counts_stay, eight_is_end, for_asked, names_given, not_three, nothing_written}
 use Rattle.check_cli.proofs.RunEnds.{refusal_has_cause, refused_end, seven_is_end, status_known, verdict_is_end, verdict_told}

@@ -1,6 +1,6 @@
 use Rattle.std.proofs.Common.{◌++◌, sym, ap, ◌∙◌, subst, append_assoc}
 use Rattle.std.specs.Prelude.{codes, decimal}
-use Rattle.outside_io.specs.Puts.{Puts}
+use Rattle.outside_io.specs.believed.Puts.{Puts}
 use Rattle.check_cli.proofs.verdict_line.put_accepted.Goals as goal
 
 pub returns : goal.returns

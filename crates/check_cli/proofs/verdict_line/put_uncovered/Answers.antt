@@ -1,8 +1,8 @@
 use Rattle.std.proofs.Common.{◌++◌, subst}
 use Rattle.std.specs.Prelude.{codes}
-use Rattle.definitions.specs.Pairs.{pairs_text}
+use Rattle.definitions.specs.believed.Pairs.{pairs_text}
 use Rattle.outside_io.specs.declared.answers.WriteAnswer.TheVariants.{Done, Failed}
-use Rattle.outside_io.specs.Puts.{Puts}
+use Rattle.outside_io.specs.believed.Puts.{Puts}
 use Rattle.outside_io.proofs.PutsLaws.{Puts-then, Puts-stopped}
 use Rattle.check_cli.proofs.verdict_line.put_uncovered.Goals as goal
 

@@ -1,6 +1,6 @@
 use Rattle.std.proofs.Common.{◌≡◌, ◌+◌, [], take, drop}
-use Rattle.definitions.specs.Words.{first_faulty_for_checker}
-use Rattle.command_line.specs.Words.{texts}
+use Rattle.definitions.specs.believed.Words.{first_faulty_for_checker}
+use Rattle.command_line.specs.believed.Words.{texts}
 use Rattle.check_cli.specs.WordSteps.{IsReading}
 use Rattle.check_cli.specs.Words.{names_seen}
 use Rattle.check_cli.proofs.words.read_options.Given as goal

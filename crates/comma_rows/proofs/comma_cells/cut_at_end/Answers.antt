@@ -1,6 +1,6 @@
 use Rattle.std.proofs.Common.{◌∙◌, ap}
 use Rattle.comma_rows.specs.declared.action.Place.{Place}
-use Rattle.comma_rows.specs.Reading.{at_end}
+use Rattle.comma_rows.specs.believed.Reading.{at_end}
 use Rattle.comma_rows.proofs.ReadSteps.{read-end, ends-cell}
 use Rattle.comma_rows.proofs.comma_cells.cut_at_end.Goals as goal
 

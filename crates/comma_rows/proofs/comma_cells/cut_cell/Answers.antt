@@ -1,6 +1,6 @@
 use Rattle.std.proofs.Common.{◌∙◌, [], ℕ, List, sym, ap}
 use Rattle.comma_rows.specs.declared.action.Action.TheVariants.{Skips, Passes, Adds, EndsCell, EndsRow, Stops}
-use Rattle.comma_rows.specs.Reading.{read}
+use Rattle.comma_rows.specs.believed.Reading.{read}
 use Rattle.comma_rows.proofs.ReadSteps.{goes-on, room-behind}
 use Rattle.comma_rows.proofs.comma_cells.cut_cell.Goals as goal
 

@@ -1,5 +1,5 @@
 use Rattle.std.proofs.Common.{◌≡◌, [], length}
-use Rattle.comma_rows.specs.Reading.{read}
+use Rattle.comma_rows.specs.believed.Reading.{read}
 use Rattle.comma_rows.specs.Taking.{HasRoom}
 use Rattle.comma_rows.proofs.comma_cells.cut_cell.Given as goal
 

@@ -1,6 +1,6 @@
 use Rattle.std.proofs.Common.{◌≡◌, ◌≤◌, Some, length, subst, sym}
 use Rattle.std.specs.Prelude.{IfSome}
-use Rattle.definitions.specs.Limits.{ModelFile, most_bytes}
+use Rattle.definitions.specs.believed.Limits.{ModelFile, most_bytes}
 use Rattle.command_line.proofs.Loading.{goes_on, refused_of_reading, refused_whole, unread_whole}
 use Rattle.command_line.proofs.load.load_model.Goals as goal
 

@@ -1,8 +1,8 @@
 use Rattle.std.proofs.Common.{◌&&◌, None, true, sym, ap, lit<}
 use Rattle.std.proofs.lemmas.Str.Pattern.{split_once_first}
 use Rattle.std.specs.List.{before_first}
-use Rattle.value_text.specs.Texts.{is_same_text}
-use Rattle.definitions.specs.Settings.{is_colon}
+use Rattle.value_text.specs.believed.Texts.{is_same_text}
+use Rattle.definitions.specs.believed.Settings.{is_colon}
 use Rattle.command_line.proofs.Colons.{no_colon}
 use Rattle.command_line.proofs.setting.is_named.Goals as goal
 

@@ -1,7 +1,7 @@
 use Rattle.std.proofs.Common.{None, sym, ap, lit<, ◌∙◌, if◌then◌else◌}
 use Rattle.std.proofs.lemmas.Str.Pattern.{split_once_first}
 use Rattle.std.specs.List.{after_first}
-use Rattle.definitions.specs.Settings.{bare_setting, is_colon, valued_setting}
+use Rattle.definitions.specs.believed.Settings.{bare_setting, is_colon, valued_setting}
 use Rattle.command_line.proofs.Colons.{no_colon}
 use Rattle.command_line.proofs.setting.setting_of.Goals as goal
 

@@ -1,6 +1,6 @@
 use Rattle.std.proofs.Common.{◌++◌, ap, subst}
 use Rattle.std.specs.Prelude.{codes}
-use Rattle.outside_io.specs.Puts.{Puts}
+use Rattle.outside_io.specs.believed.Puts.{Puts}
 use Rattle.command_line.proofs.stop.put_opening.Goals as goal
 
 pub returns : goal.returns

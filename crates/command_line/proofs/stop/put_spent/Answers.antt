@@ -1,6 +1,6 @@
 use Rattle.std.proofs.Common.{subst}
-use Rattle.outside_io.specs.Puts.{Puts}
-use Rattle.definitions.specs.Pairs.{pairs_text}
+use Rattle.outside_io.specs.believed.Puts.{Puts}
+use Rattle.definitions.specs.believed.Pairs.{pairs_text}
 use Rattle.outside_io.specs.declared.answers.WriteAnswer.TheVariants.{Done, Failed}
 use Rattle.command_line.proofs.PutLines.{Puts-spent, Puts-spent_opening, Puts-spent_pairs}
 use Rattle.command_line.proofs.stop.put_spent.Goals as goal

@@ -1,7 +1,7 @@
 use Rattle.std.proofs.Common.{◌++◌, ◌∙◌, ap, subst}
 use Rattle.std.specs.Prelude.{codes, decimal}
-use Rattle.outside_io.specs.Puts.{Puts}
-use Rattle.model_lex.specs.Codes.{note_code, note_text}
+use Rattle.outside_io.specs.believed.Puts.{Puts}
+use Rattle.model_lex.specs.believed.Codes.{note_code, note_text}
 use Rattle.command_line.proofs.PieceSums.{seven_pieces}
 use Rattle.command_line.proofs.told.put_note.Goals as goal
 

@@ -1,5 +1,5 @@
 use Rattle.outside_io.proofs.PutsLaws.{Puts-stopped, Puts-then}
-use Rattle.command_line.specs.Told.{end_text, row_notes_text}
+use Rattle.command_line.specs.believed.Told.{end_text, row_notes_text}
 use Rattle.command_line.proofs.told.put_rows_end.Goals as goal
 
 pub returns-in-Done : goal.returns-in-Done

@@ -1,6 +1,6 @@
 use Rattle.std.proofs.Common.{◌++◌}
 use Rattle.outside_io.proofs.PutsLaws.{Puts-stopped}
-use Rattle.command_line.specs.Told.{end_text, notes_text, row_notes_text, seed_text}
+use Rattle.command_line.specs.believed.Told.{end_text, notes_text, row_notes_text, seed_text}
 use Rattle.command_line.proofs.PutTold.{Puts-second, Puts-three}
 use Rattle.command_line.proofs.told.tell.Goals as goal
 

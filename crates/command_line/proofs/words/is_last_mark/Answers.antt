@@ -3,8 +3,8 @@ use Rattle.std.specs.List.{list_any}
 use Rattle.std.specs.String.{string_bytes}
 use Rattle.std.proofs.lemmas.List.{get_or-map, drop-map, take_rest}
 use Rattle.value_text.proofs.ListLemmas.{list_any-map}
-use Rattle.definitions.specs.Words as reading
-use Rattle.command_line.specs.Words.{texts}
+use Rattle.definitions.specs.believed.Words as reading
+use Rattle.command_line.specs.believed.Words.{texts}
 use Rattle.command_line.proofs.words.is_last_mark.Goals as goal
 
 pub returns-then-is_mark_word : goal.returns-then-is_mark_word

@@ -1,6 +1,6 @@
 use Rattle.std.proofs.Common.{◌≡◌, [], false, below_more, get_or, length, sym, ◌∙◌, arith}
 use Rattle.std.specs.Prelude.{◌==◌}
-use Rattle.command_line.specs.Words.{texts}
+use Rattle.command_line.specs.believed.Words.{texts}
 use Rattle.command_line.proofs.NameLemmas.{first_missing, none_missing}
 use Rattle.command_line.proofs.words.missing_name.Goals as goal
 

@@ -1,6 +1,6 @@
 use Rattle.std.proofs.Common.{◌≡◌, ℕ, ◌<◌, [], false, get_or, length}
 use Rattle.std.specs.Prelude.{◌==◌}
-use Rattle.command_line.specs.Words.{texts}
+use Rattle.command_line.specs.believed.Words.{texts}
 use Rattle.command_line.proofs.words.missing_name.Given as goal
 
 abbrev pub invariant-loop-place : goal.invariant-loop-place

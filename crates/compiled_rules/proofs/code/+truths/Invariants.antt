@@ -1,5 +1,5 @@
 use Rattle.std.proofs.Common.{◌≡◌, drop}
-use Rattle.cov_model.specs.Kleene.{and_of, or_of}
+use Rattle.cov_model.specs.believed.Kleene.{and_of, or_of}
 use Rattle.compiled_rules.specs.Codes.{all_codes, any_codes}
 use Rattle.compiled_rules.proofs.code.+truths.Given as goal
 

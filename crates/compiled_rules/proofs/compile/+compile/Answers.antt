@@ -1,7 +1,7 @@
 use Rattle.std.proofs.Common.{rules, arith, All, subst, sym}
 use Rattle.cov_model.specs.declared.constraint.Pred.{the_lemmas}
 use Rattle.cov_model.specs.Views.{pred_view}
-use Rattle.cov_model.specs.Sound.{IsSoundPred}
+use Rattle.cov_model.specs.believed.Sound.{IsSoundPred}
 use Rattle.cov_model.proofs.TruthLemmas.{each_sound, either_sound}
 use Rattle.compiled_rules.specs.Codes.{AreCodesOf}
 use Rattle.compiled_rules.proofs.ListLemmas.{extends_more, codes_more, all_is_code, any_is_code}

@@ -1,6 +1,6 @@
 use Rattle.std.proofs.Common.{◌≡◌, ◌++◌, ◌∙◌, length, set, Some, ap, subst, arith}
 use Rattle.std.proofs.lemmas.List.{append_assoc}
-use Rattle.cov_model.specs.Sound.{param_at}
+use Rattle.cov_model.specs.believed.Sound.{param_at}
 use Rattle.compiled_rules.specs.Codes.{truths_over, PairTruths}
 use Rattle.compiled_rules.proofs.PairLemmas.{pairs_more, two_is_code}
 use Rattle.compiled_rules.proofs.compile.compile_two.Goals as goal

@@ -1,6 +1,6 @@
 use Rattle.std.proofs.Common.{◌≡◌, ◌++◌, List, Bool, length}
 use Rattle.cov_model.specs.Fits.{FitsModel}
-use Rattle.cov_model.specs.Sound.{param_at}
+use Rattle.cov_model.specs.believed.Sound.{param_at}
 use Rattle.compiled_rules.specs.Codes.{PairTruths}
 use Rattle.compiled_rules.proofs.compile.compile_two.Given as goal
 

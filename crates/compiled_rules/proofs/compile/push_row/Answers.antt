@@ -1,7 +1,7 @@
 use Rattle.std.proofs.Common.{◌≡◌, ◌++◌, ◌∷◌, ◌∙◌, [], Some, set, sym, ap, subst, arith, rules}
 use Rattle.std.proofs.lemmas.List.{set-set}
 use Rattle.cov_model.specs.Fits.{FitsModel}
-use Rattle.cov_model.specs.Kleene.{term_truth}
+use Rattle.cov_model.specs.believed.Kleene.{term_truth}
 use Rattle.compiled_rules.specs.Codes.{is_yes}
 use Rattle.compiled_rules.proofs.TermLemmas.{FitsModel-set, row_more}
 use Rattle.compiled_rules.proofs.compile.push_row.Goals as goal

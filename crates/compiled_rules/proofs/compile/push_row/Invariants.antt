@@ -1,8 +1,8 @@
 use Rattle.std.proofs.Common.{◌≡◌, ◌++◌, ℕ, Some, map, set, length}
 use Rattle.std.specs.List.{range_with_len}
 use Rattle.cov_model.specs.Fits.{FitsModel}
-use Rattle.cov_model.specs.Sound.{param_at}
-use Rattle.cov_model.specs.Kleene.{term_truth}
+use Rattle.cov_model.specs.believed.Sound.{param_at}
+use Rattle.cov_model.specs.believed.Kleene.{term_truth}
 use Rattle.compiled_rules.specs.Codes.{is_yes}
 use Rattle.compiled_rules.proofs.compile.push_row.Given as goal
 

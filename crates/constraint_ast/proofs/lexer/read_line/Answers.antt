@@ -1,6 +1,6 @@
 use Rattle.std.proofs.Common.{◌≡◌, ap, sym, subst, ◌∙◌}
 use Rattle.std.specs.Prelude.{Err}
-use Rattle.constraint_ast.specs.Lexing.{meant, tokens_in}
+use Rattle.constraint_ast.specs.believed.Lexing.{meant, tokens_in}
 use Rattle.constraint_ast.specs.Reading.{IfRefused}
 use Rattle.constraint_ast.proofs.Lexing.{at_start, ends_line, handed_on, next_token, no_meaning_fault, no_token, slice_marks}
 use Rattle.constraint_ast.proofs.lexer.read_line.Goals as goal

@@ -1,7 +1,7 @@
 use Rattle.std.proofs.Common.{◌≡◌, drop, map}
 use Rattle.std.specs.Prelude.{Ok}
 use Rattle.model_lex.specs.Sections.{line_seen}
-use Rattle.constraint_ast.specs.Lexing.{both_tokens, tokens_of}
+use Rattle.constraint_ast.specs.believed.Lexing.{both_tokens, tokens_of}
 use Rattle.constraint_ast.proofs.lexer.read_tokens.Given as goal
 
 abbrev pub invariant-loop-line : goal.invariant-loop-line

@@ -1,7 +1,7 @@
 use Rattle.std.proofs.Common.{◌≡◌, map, subst, sym, ap, ◌∙◌}
 use Rattle.std.specs.Prelude.{Ok, Err}
 use Rattle.model_lex.specs.Sections.{line_seen}
-use Rattle.constraint_ast.specs.Lexing.{AreRefused, tokens_of}
+use Rattle.constraint_ast.specs.believed.Lexing.{AreRefused, tokens_of}
 use Rattle.constraint_ast.specs.Reading.{IfRefused}
 use Rattle.constraint_ast.proofs.Answer.{lines_refused, lines_spelled, no_tokens, only_no_memory, only_these}
 use Rattle.constraint_ast.proofs.Lexing.{handed_on}

@@ -1,6 +1,6 @@
 use Rattle.std.proofs.Common.{◌≡◌, true, false, ◌++◌, get_or, rules, refl, ap, ◌∙◌}
 use Rattle.std.specs.String.{string_bytes}
-use Rattle.model_lex.specs.Tokens.{is_quotable}
+use Rattle.model_lex.specs.believed.Tokens.{is_quotable}
 use Rattle.constraint_ast.proofs.Backslashes.{begins, copies, passes}
 use Rattle.constraint_ast.proofs.writer.push_quoted.Goals as goal
 

@@ -1,5 +1,5 @@
 use Rattle.std.proofs.Common.{◌≡◌, ◌-◌}
-use Rattle.cov_model.specs.Preference.{shuffled, shuffled_to}
+use Rattle.cov_model.specs.believed.Preference.{shuffled, shuffled_to}
 use Rattle.cov_model.proofs.prefs.shuffle.Given as goal
 
 abbrev pub invariant-loop-i : goal.invariant-loop-i

@@ -1,6 +1,6 @@
 use Rattle.std.proofs.Common.{rules}
 use Rattle.std.proofs.lemmas.Fn.{always_returns_same}
-use Rattle.cov_model.specs.Preference.{weight_in}
+use Rattle.cov_model.specs.believed.Preference.{weight_in}
 use Rattle.cov_model.proofs.SortLemmas.{by_falling_weight-sort}
 use Rattle.cov_model.proofs.prefs.sort_by_weight.Goals as goal
 

@@ -1,7 +1,7 @@
 use Rattle.std.proofs.Common.{length, ◌∙◌, sym, ap}
 use Rattle.std.proofs.lemmas.List.{length-map}
-use Rattle.definitions.specs.Demand.{demanded_tuples}
-use Rattle.definitions.specs.Figures.{is_served, tests_of}
+use Rattle.definitions.specs.believed.Demand.{demanded_tuples}
+use Rattle.definitions.specs.believed.Figures.{is_served, tests_of}
 use Rattle.row_text.specs.RowFiles.{suite_seen}
 use Rattle.coverage_measure.proofs.FigureLemmas.{figures_are, tuples_are}
 use Rattle.coverage_measure.proofs.measuring.measure.Goals as goal

@@ -1,9 +1,9 @@
 use Rattle.std.proofs.Common.{◌+◌, ◌<◌, ℕ, List, [], length, ap, sym, subst, ◌∙◌, arith}
 use Rattle.std.proofs.lemmas.Result.{err_from_is_err_and}
-use Rattle.cov_model.specs.Sound.{ModelView}
+use Rattle.cov_model.specs.believed.Sound.{ModelView}
 use Rattle.definitions.specs.declared.effort.Effort.{Effort}
-use Rattle.definitions.specs.Demand.{demanded_sets, tuples_of}
-use Rattle.definitions.specs.Search.{first_over}
+use Rattle.definitions.specs.believed.Demand.{demanded_sets, tuples_of}
+use Rattle.definitions.specs.believed.Search.{first_over}
 use Rattle.tuple_index.specs.Plan.{PlanView, set_at}
 use Rattle.feasibility.specs.Ends.{EndsBy}
 use Rattle.coverage_measure.specs.SetFigures.{IsWithin}

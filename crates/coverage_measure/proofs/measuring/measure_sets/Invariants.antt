@@ -1,8 +1,8 @@
 use Rattle.std.proofs.Common.{◌≡◌, ℕ, List, Option, None, All, map, take}
 use Rattle.std.specs.List.{flat_map}
-use Rattle.definitions.specs.Demand.{demanded_sets, demanded_tuples, tuples_of}
-use Rattle.definitions.specs.Figures.{is_served, tests_of}
-use Rattle.definitions.specs.Search.{first_over}
+use Rattle.definitions.specs.believed.Demand.{demanded_sets, demanded_tuples, tuples_of}
+use Rattle.definitions.specs.believed.Figures.{is_served, tests_of}
+use Rattle.definitions.specs.believed.Search.{first_over}
 use Rattle.coverage_measure.specs.Asking.{IsFor}
 use Rattle.coverage_measure.specs.SetFigures.{IsWithin, set_figures}
 use Rattle.coverage_measure.proofs.measuring.measure_sets.Given as goal

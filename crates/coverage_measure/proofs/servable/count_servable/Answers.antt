@@ -1,12 +1,12 @@
 use Rattle.std.proofs.Common.{◌<◌, ◌^◌, ℕ, List, length, get_or, refl, ◌∙◌, sym, ap, subst, arith}
 use Rattle.std.proofs.lemmas.List.{get_or_default}
 use Rattle.std.proofs.lemmas.Result.{err_from_is_err_and}
-use Rattle.cov_model.specs.Sound.{ModelView}
+use Rattle.cov_model.specs.believed.Sound.{ModelView}
 use Rattle.cov_model.specs.declared.slice.Slice.TheVariants.{Positive}
 use Rattle.definitions.specs.declared.effort.Effort.{Effort}
-use Rattle.definitions.specs.Demand.{tuples_in, tuples_of}
-use Rattle.definitions.specs.Figures.{all_rows, is_served}
-use Rattle.definitions.specs.Search.{first_over}
+use Rattle.definitions.specs.believed.Demand.{tuples_in, tuples_of}
+use Rattle.definitions.specs.believed.Figures.{all_rows, is_served}
+use Rattle.definitions.specs.believed.Search.{first_over}
 use Rattle.feasibility.specs.Ends.{EndsBy}
 use Rattle.tuple_index.specs.Places.{RisesFrom}
 use Rattle.tuple_index.specs.Plan.{set_at}

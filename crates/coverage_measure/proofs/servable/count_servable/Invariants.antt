@@ -1,5 +1,5 @@
 use Rattle.std.proofs.Common.{◌≡◌, All}
-use Rattle.definitions.specs.Figures.{all_rows, is_served}
+use Rattle.definitions.specs.believed.Figures.{all_rows, is_served}
 use Rattle.feasibility.specs.Tree.{no_values}
 use Rattle.tuple_index.specs.Plan.{set_at}
 use Rattle.coverage_measure.specs.Asking.{IsFor}

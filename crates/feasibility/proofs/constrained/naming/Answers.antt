@@ -6,8 +6,8 @@ use Rattle.cov_model.specs.declared.constraint.Rule.{Rule}
 use Rattle.cov_model.specs.Sound.{no_rule}
 use Rattle.cov_model.specs.Views.{body_view}
 use Rattle.cov_model.proofs.SoundLemmas.{rule_seen}
-use Rattle.definitions.specs.Demand.{is_among}
-use Rattle.definitions.specs.Search.{body_params}
+use Rattle.definitions.specs.believed.Demand.{is_among}
+use Rattle.definitions.specs.believed.Search.{body_params}
 use Rattle.feasibility.proofs.Naming.{naming_is}
 use Rattle.feasibility.proofs.constrained.naming.Goals as goal
 

@@ -1,8 +1,8 @@
 use Rattle.std.proofs.Common.{◌≡◌, map, take}
 use Rattle.std.specs.List.{filter}
 use Rattle.cov_model.specs.Views.{body_view}
-use Rattle.definitions.specs.Demand.{is_among}
-use Rattle.definitions.specs.Search.{body_params}
+use Rattle.definitions.specs.believed.Demand.{is_among}
+use Rattle.definitions.specs.believed.Search.{body_params}
 use Rattle.feasibility.proofs.constrained.naming.Given as goal
 
 -- the list has the numbers of those of the constraints before this place that name the parameter

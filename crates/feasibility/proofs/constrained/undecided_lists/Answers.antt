@@ -3,7 +3,7 @@ use Rattle.std.specs.List.{range_with_len}
 use Rattle.std.proofs.lemmas.List.{length-set}
 use Rattle.std.proofs.lemmas.List.FromFn.{map-range_with_len_more}
 use Rattle.value_text.proofs.ListLemmas.{none_at}
-use Rattle.cov_model.specs.Sound.{ModelView}
+use Rattle.cov_model.specs.believed.Sound.{ModelView}
 use Rattle.feasibility.specs.Live.{AreRules}
 use Rattle.feasibility.specs.Tree.{naming, undecided, undecided_on}
 use Rattle.feasibility.proofs.Naming.{naming_exist}

@@ -1,8 +1,9 @@
 use Rattle.std.proofs.Common.{◌≡◌, ℕ, ◌<◌, Bool, ◌++◌, ◌∷◌, ◌∙◌, [], true, false, not, sym, ap, rules, append-nil, length, subst, arith}
 use Rattle.std.specs.List.{filter, range_with_len}
 use Rattle.compiled_rules.specs.Codes.{is_yes}
-use Rattle.cov_model.specs.Kleene.{body_truth}
-use Rattle.cov_model.specs.Sound.{ModelView, param_at, rule_at}
+use Rattle.cov_model.specs.believed.Kleene.{body_truth}
+use Rattle.cov_model.specs.believed.Sound.{ModelView, param_at}
+use Rattle.cov_model.specs.Sound.{rule_at}
 use Rattle.definitions.specs.Completion.{with_value}
 use Rattle.feasibility.specs.Tree.{no_values}
 use Rattle.feasibility.proofs.Naming.{filter_range_more}

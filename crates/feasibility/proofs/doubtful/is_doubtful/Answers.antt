@@ -4,8 +4,9 @@ use Rattle.std.proofs.lemmas.List.{length-replicate, length-set}
 use Rattle.value_text.proofs.ListLemmas.{none_at}
 use Rattle.compiled_rules.specs.Codes.{is_yes}
 use Rattle.cov_model.specs.Fits.{FitsModel}
-use Rattle.cov_model.specs.Kleene.{body_truth}
-use Rattle.cov_model.specs.Sound.{ModelView, rule_at}
+use Rattle.cov_model.specs.believed.Kleene.{body_truth}
+use Rattle.cov_model.specs.believed.Sound.{ModelView}
+use Rattle.cov_model.specs.Sound.{rule_at}
 use Rattle.feasibility.specs.Tree.{no_values}
 use Rattle.feasibility.proofs.Nodes.{FitsModel-with_value, length-none, set_clear}
 use Rattle.feasibility.proofs.doubtful.is_doubtful.Goals as goal

@@ -1,8 +1,8 @@
 use Rattle.std.proofs.Common.{◌≡◌, ◌++◌, ◌∷◌, ◌∙◌, [], true, false, sym, ap, rules, append-nil}
 use Rattle.std.specs.List.{filter, range_with_len}
 use Rattle.cov_model.specs.Views.{body_view}
-use Rattle.definitions.specs.Demand.{is_among}
-use Rattle.definitions.specs.Search.{body_params}
+use Rattle.definitions.specs.believed.Demand.{is_among}
+use Rattle.definitions.specs.believed.Search.{body_params}
 use Rattle.feasibility.proofs.Naming.{filter_range_more}
 use Rattle.feasibility.proofs.members.members.Goals as goal
 use Rattle.feasibility.proofs.members.members.Goals.{then-body_names+in_ok-push, else-body_names}

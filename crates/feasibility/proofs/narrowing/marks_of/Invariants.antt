@@ -1,5 +1,5 @@
 use Rattle.std.proofs.Common.{◌≡◌, ◌<◌, ℕ, false, length, get_or, take}
-use Rattle.definitions.specs.Demand.{is_among}
+use Rattle.definitions.specs.believed.Demand.{is_among}
 use Rattle.feasibility.proofs.narrowing.marks_of.Given as goal
 
 abbrev pub invariant-loop-w : goal.invariant-loop-w

@@ -1,7 +1,7 @@
 use Rattle.std.proofs.Common.{◌≡◌, ◌<◌, length, ℕ, [], ◌∷◌, ◌++◌, Option, ◌∙◌, sym, ap, subst, take, arith}
 use Rattle.std.proofs.lemmas.Grind.{common_steps}
 use Rattle.cov_model.specs.Tuples.{IsRising}
-use Rattle.definitions.specs.Pairs.{pairs_of}
+use Rattle.definitions.specs.believed.Pairs.{pairs_of}
 use Rattle.definitions.proofs.PairLists.{pair_at, pairs_of-more, pairs_of-rise}
 use Rattle.std.proofs.lemmas.List.{append-nil, take_all}
 use Rattle.feasibility.proofs.question.tuple_of.Goals as goal

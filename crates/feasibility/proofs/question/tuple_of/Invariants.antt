@@ -1,5 +1,5 @@
 use Rattle.std.proofs.Common.{◌≡◌, length, take}
-use Rattle.definitions.specs.Pairs.{pairs_of}
+use Rattle.definitions.specs.believed.Pairs.{pairs_of}
 use Rattle.feasibility.proofs.question.tuple_of.Given as goal
 
 -- the pairs of the places before this one

@@ -1,7 +1,7 @@
 use Rattle.std.proofs.Common.{◌≡◌, ℕ, List, [], ◌∙◌, sym, ap, subst, get_or, IfOk}
 use Rattle.cov_model.specs.declared.slice.Slice.{Slice}
 use Rattle.cov_model.specs.declared.slice.Slice.TheVariants.{Negative}
-use Rattle.cov_model.specs.Slices.{slice_values}
+use Rattle.cov_model.specs.believed.Slices.{slice_values}
 use Rattle.cov_model.proofs.CellLemmas.{slice_values-other, slice_values-own, slice_values-positive}
 use Rattle.feasibility.proofs.values.declared.Goals as goal
 

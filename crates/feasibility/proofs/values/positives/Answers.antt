@@ -1,6 +1,6 @@
 use Rattle.std.proofs.Common.{◌≡◌, ◌++◌, ◌∷◌, ◌∙◌, ℕ, [], true, false, not, sym, ap, arith, rules, append-nil}
 use Rattle.std.specs.List.{filter, range_with_len}
-use Rattle.cov_model.specs.Meaning.{value_at}
+use Rattle.cov_model.specs.believed.Meaning.{value_at}
 use Rattle.feasibility.proofs.Naming.{filter_range_more}
 use Rattle.feasibility.proofs.values.positives.Goals as goal
 use Rattle.feasibility.proofs.values.positives.Goals.{then-not-is_negative+in_ok-push, else-not-is_negative}

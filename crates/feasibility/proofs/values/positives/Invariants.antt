@@ -1,7 +1,7 @@
 use Rattle.std.proofs.Common.{◌≡◌, length, not}
 use Rattle.std.specs.List.{filter, range_with_len}
-use Rattle.cov_model.specs.Meaning.{value_at}
-use Rattle.cov_model.specs.Sound.{param_at}
+use Rattle.cov_model.specs.believed.Meaning.{value_at}
+use Rattle.cov_model.specs.believed.Sound.{param_at}
 use Rattle.feasibility.proofs.values.positives.Given as goal
 
 -- the list has those of the values before this one

@@ -2,9 +2,9 @@ use Rattle.std.proofs.Common.{◌≡◌, ◌+◌, ◌<◌, ◌++◌, ◌∷◌, 
 use Rattle.std.specs.List.{filter}
 use Rattle.std.proofs.lemmas.List.{take_all, take_more}
 use Rattle.std.proofs.lemmas.List.Elements.{All-get_or, filter-append}
-use Rattle.cov_model.specs.Slices.{slice_values}
-use Rattle.cov_model.specs.Sound.{param_at}
-use Rattle.definitions.specs.Demand.{is_among}
+use Rattle.cov_model.specs.believed.Slices.{slice_values}
+use Rattle.cov_model.specs.believed.Sound.{param_at}
+use Rattle.definitions.specs.believed.Demand.{is_among}
 use Rattle.feasibility.proofs.values.preferred.Goals as goal
 use Rattle.feasibility.proofs.values.preferred.Goals.{then-is_in_slice+in_ok-push, else-is_in_slice}
 

@@ -1,7 +1,7 @@
 use Rattle.std.proofs.Common.{◌≡◌, [], take, slice_index_or}
 use Rattle.std.specs.List.{filter}
-use Rattle.cov_model.specs.Slices.{slice_values}
-use Rattle.definitions.specs.Demand.{is_among}
+use Rattle.cov_model.specs.believed.Slices.{slice_values}
+use Rattle.definitions.specs.believed.Demand.{is_among}
 use Rattle.feasibility.proofs.values.preferred.Given as goal
 
 -- the list has those of the values before this place that are of the slice

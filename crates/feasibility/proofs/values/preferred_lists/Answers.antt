@@ -1,7 +1,7 @@
 use Rattle.std.proofs.Common.{◌++◌, ◌∷◌, [], ◌∙◌, sym, ap, map, zero-add}
 use Rattle.std.specs.List.{range_with_len}
 use Rattle.std.proofs.lemmas.List.FromFn.{map-range_with_len_more}
-use Rattle.definitions.specs.Completion.{preferred_at}
+use Rattle.definitions.specs.believed.Completion.{preferred_at}
 use Rattle.feasibility.proofs.values.preferred_lists.Goals as goal
 
 pub loop-p-preserved : goal.loop-p-preserved

@@ -1,6 +1,6 @@
 use Rattle.std.proofs.Common.{◌≡◌, map, length}
 use Rattle.std.specs.List.{range_with_len}
-use Rattle.definitions.specs.Completion.{preferred_at}
+use Rattle.definitions.specs.believed.Completion.{preferred_at}
 use Rattle.feasibility.proofs.values.preferred_lists.Given as goal
 
 -- the lists of the parameters before this one

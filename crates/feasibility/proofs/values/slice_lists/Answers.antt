@@ -1,6 +1,6 @@
 use Rattle.std.proofs.Common.{◌++◌, ◌∷◌, [], ◌∙◌, sym, ap, take, arith}
 use Rattle.std.proofs.lemmas.List.{take_all, take_more}
-use Rattle.cov_model.specs.Slices.{slice_values}
+use Rattle.cov_model.specs.believed.Slices.{slice_values}
 use Rattle.cov_model.proofs.CellLemmas.{length-slice_values}
 use Rattle.feasibility.proofs.values.slice_lists.Goals as goal
 

@@ -1,5 +1,5 @@
 use Rattle.std.proofs.Common.{◌≡◌, length, take}
-use Rattle.cov_model.specs.Slices.{slice_values}
+use Rattle.cov_model.specs.believed.Slices.{slice_values}
 use Rattle.feasibility.proofs.values.slice_lists.Given as goal
 
 -- the lists of the parameters before this one

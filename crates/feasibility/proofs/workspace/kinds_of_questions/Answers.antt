@@ -1,6 +1,6 @@
 use Rattle.std.proofs.Common.{◌+◌, ◌*◌, ◌<◌, length, ap, arith}
 use Rattle.std.proofs.Math.Nat.{mul-pos}
-use Rattle.definitions.specs.Search.{constrained_params}
+use Rattle.definitions.specs.believed.Search.{constrained_params}
 use Rattle.feasibility.proofs.Naming.{constrained_exists}
 use Rattle.feasibility.proofs.workspace.kinds_of_questions.Goals as goal
 

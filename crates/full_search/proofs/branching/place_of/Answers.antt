@@ -1,6 +1,6 @@
 use Rattle.std.proofs.Common.{◌∙◌, arith}
 use Rattle.std.proofs.lemmas.List.{get_or_default}
-use Rattle.definitions.specs.Search.{constrained_params}
+use Rattle.definitions.specs.believed.Search.{constrained_params}
 use Rattle.definitions.proofs.Members.{contains_member, of_among}
 use Rattle.full_search.proofs.branching.place_of.Goals as goal
 

@@ -1,8 +1,8 @@
 use Rattle.std.proofs.Common.{◌≡◌, ◌≢◌, ◌-◌, ℕ, List, None, true, length, get_or, arith, ap, subst, sym, inl, inr}
-use Rattle.cov_model.specs.Rows.{is_assigned}
+use Rattle.cov_model.specs.believed.Rows.{is_assigned}
 use Rattle.definitions.specs.Completion.{with_value}
 use Rattle.definitions.specs.Pairs.{cells_of}
-use Rattle.definitions.specs.Refutation.{ByOmission, is_leaf, is_omission_leaf, is_rule_leaf}
+use Rattle.definitions.specs.believed.Refutation.{ByOmission, is_leaf, is_omission_leaf, is_rule_leaf}
 use Rattle.refutation.specs.declared.omissions.Omission.{Omission}
 use Rattle.refutation.specs.declared.token.TreeToken.{TreeToken}
 use Rattle.refutation.specs.Proofs.{meant}

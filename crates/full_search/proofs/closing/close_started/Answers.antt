@@ -2,9 +2,9 @@ use Rattle.std.proofs.Common.{◌≡◌, ◌∷◌, ◌∙◌, [], Some, None, l
 use Rattle.std.specs.Prelude.{find}
 use Rattle.std.specs.List.{list_any, range_with_len}
 use Rattle.std.proofs.lemmas.Bool.{not-true, or_parts}
-use Rattle.cov_model.specs.Valid.{param_numbers}
-use Rattle.definitions.specs.Refutation.{is_omission_leaf}
-use Rattle.definitions.specs.Search.{breaks_a_rule, is_failing, is_stuck}
+use Rattle.cov_model.specs.believed.Valid.{param_numbers}
+use Rattle.definitions.specs.believed.Refutation.{is_omission_leaf}
+use Rattle.definitions.specs.believed.Search.{breaks_a_rule, is_failing, is_stuck}
 use Rattle.refutation.specs.declared.token.TreeToken.TheVariants.{ByOmission}
 use Rattle.feasibility.specs.Live.{ShowsLive}
 use Rattle.feasibility.specs.Tree.{TreeView}

@@ -1,5 +1,5 @@
 use Rattle.std.proofs.Common.{◌≡◌, ℕ, ◌∙◌, not, length, List, Option, Some, sym, ap, subst}
-use Rattle.definitions.specs.Search.{constrained_params, is_failing}
+use Rattle.definitions.specs.believed.Search.{constrained_params, is_failing}
 use Rattle.live_sets.specs.Trail.{undone}
 use Rattle.live_sets.proofs.TrailLemmas.{since_more}
 use Rattle.feasibility.specs.Live.{ShowsLive}

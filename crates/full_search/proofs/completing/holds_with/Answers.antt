@@ -2,7 +2,7 @@ use Rattle.std.proofs.Common.{◌≡◌, ℕ, ◌∙◌, not, List, [], Option, 
 use Rattle.std.proofs.lemmas.Bool.{not-false}
 use Rattle.value_text.proofs.ListLemmas.{none_of}
 use Rattle.definitions.specs.Completion.{with_value}
-use Rattle.definitions.specs.Search.{is_failing}
+use Rattle.definitions.specs.believed.Search.{is_failing}
 use Rattle.live_sets.specs.Trail.{LiveView, mark_at, undone}
 use Rattle.feasibility.specs.Tree.{IsListed, constrained_at}
 use Rattle.feasibility.proofs.Naming.{constrained_exists}

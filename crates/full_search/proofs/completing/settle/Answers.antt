@@ -1,5 +1,5 @@
 use Rattle.std.proofs.Common.{ℕ, ◌∙◌, List, [], Option, get_or, sym, ap, subst, arith, is_some}
-use Rattle.cov_model.specs.Rows.{is_assigned}
+use Rattle.cov_model.specs.believed.Rows.{is_assigned}
 use Rattle.feasibility.specs.Tree.{constrained_at}
 use Rattle.feasibility.proofs.Naming.{constrained_exists}
 use Rattle.full_search.specs.Searching.{HasRoom}

@@ -1,5 +1,5 @@
 use Rattle.std.proofs.Common.{◌≡◌, length}
-use Rattle.definitions.specs.Search.{constrained_params}
+use Rattle.definitions.specs.believed.Search.{constrained_params}
 use Rattle.live_sets.specs.Trail.{IsSince}
 use Rattle.full_search.specs.Completing.{HasRow, IsSettled}
 use Rattle.full_search.specs.Searching.{HasRoom}

@@ -1,6 +1,6 @@
 use Rattle.std.proofs.Common.{◌<◌, ◌∙◌, [], get_or, sym, ap, subst}
 use Rattle.definitions.specs.Completion.{with_value}
-use Rattle.definitions.specs.Search.{breaks_a_rule}
+use Rattle.definitions.specs.believed.Search.{breaks_a_rule}
 use Rattle.feasibility.proofs.NarrowedSets.{count_none}
 use Rattle.feasibility.proofs.Nodes.{listed_at}
 use Rattle.full_search.specs.Reasons.{GrowsBy}

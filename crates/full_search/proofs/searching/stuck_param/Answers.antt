@@ -1,7 +1,7 @@
 use Rattle.std.proofs.Common.{◌≡◌, ◌<◌, ◌⊎◌, ◌∙◌, ℕ, [], true, get_or, is_some, sym, ap, subst, arith, inl, inr}
 use Rattle.std.specs.List.{count_by}
 use Rattle.std.proofs.lemmas.Bool.{cases_eq}
-use Rattle.cov_model.specs.Rows.{is_assigned}
+use Rattle.cov_model.specs.believed.Rows.{is_assigned}
 use Rattle.feasibility.proofs.Paths.{unmarked_from}
 use Rattle.full_search.proofs.searching.stuck_param.Goals as goal
 use Rattle.full_search.proofs.searching.stuck_param.Goals.{then-is_some, else-is_some+then-count-gt0}

@@ -1,6 +1,6 @@
 use Rattle.std.proofs.Common.{◌≡◌, ℕ, ◌-◌, ◌<◌, [], true, length, get_or, ◌⊎◌}
 use Rattle.std.specs.List.{count_by}
-use Rattle.cov_model.specs.Rows.{is_assigned}
+use Rattle.cov_model.specs.believed.Rows.{is_assigned}
 use Rattle.full_search.proofs.searching.stuck_param.Given as goal
 
 -- each parameter before this one has a value or a mark

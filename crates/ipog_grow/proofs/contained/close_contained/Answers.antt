@@ -1,5 +1,5 @@
 use Rattle.std.proofs.Common.{◌≡◌, ◌∙◌, ◌<◌, ◌+◌, [], ℕ, List, Option, length, get_or, false, ap, refl, sym, subst, arith}
-use Rattle.cov_model.specs.Rows.{is_assigned}
+use Rattle.cov_model.specs.believed.Rows.{is_assigned}
 use Rattle.uncovered_table.specs.Open.{OpenView, row_closed}
 use Rattle.ipog_grow.proofs.ContainedLemmas.{Started, started-none, started-closed, started-free}
 use Rattle.ipog_grow.proofs.contained.close_contained.Goals as goal

@@ -3,10 +3,10 @@ use Rattle.std.specs.Prelude.{IfSome}
 use Rattle.std.proofs.lemmas.List.{set-get_or}
 use Rattle.std.proofs.lemmas.Result.{err_from_is_err_and}
 use Rattle.cov_model.proofs.CellLemmas.{contains-refl}
-use Rattle.cov_model.specs.Rows.{contains, is_assigned}
-use Rattle.cov_model.specs.Sound.{ModelView, param_at}
+use Rattle.cov_model.specs.believed.Rows.{contains, is_assigned}
+use Rattle.cov_model.specs.believed.Sound.{ModelView, param_at}
 use Rattle.cov_model.specs.declared.slice.Slice.{Slice}
-use Rattle.definitions.specs.Growth.{Filled}
+use Rattle.definitions.specs.believed.Growth.{Filled}
 use Rattle.definitions.specs.SliceRows.{IsOfSlice}
 use Rattle.uncovered_table.specs.Open.{row_closed}
 use Rattle.ipog_grow.specs.Asking.{Grows, first_spent, filled, tried}

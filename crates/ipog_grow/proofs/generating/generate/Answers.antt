@@ -4,11 +4,11 @@ use Rattle.std.proofs.lemmas.List.Elements.{All-map}
 use Rattle.std.proofs.lemmas.Result.{err_from_is_err_and}
 use Rattle.cov_model.specs.declared.slice.Slice.{Slice}
 use Rattle.cov_model.specs.Fits.{FitsModel}
-use Rattle.cov_model.specs.Slices.{slices}
-use Rattle.definitions.specs.Completion.{has_slice}
-use Rattle.definitions.specs.Growth.{slices_growth}
-use Rattle.definitions.specs.Search.{exceeds, question_cost}
-use Rattle.definitions.specs.Seeds.{asked_seeds}
+use Rattle.cov_model.specs.believed.Slices.{slices}
+use Rattle.definitions.specs.believed.Completion.{has_slice}
+use Rattle.definitions.specs.believed.Growth.{slices_growth}
+use Rattle.definitions.specs.believed.Search.{exceeds, question_cost}
+use Rattle.definitions.specs.believed.Seeds.{asked_seeds}
 use Rattle.definitions.specs.SliceRows.{IsSliceOf}
 use Rattle.row_text.specs.RowFiles.{row_seen, seeds_seen}
 use Rattle.tuple_index.specs.Plan.{PlanView}

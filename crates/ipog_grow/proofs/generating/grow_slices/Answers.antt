@@ -4,7 +4,7 @@ use Rattle.std.proofs.lemmas.List.Sums.{sum_by-append, sum_by-cons}
 use Rattle.std.proofs.lemmas.Result.{err_from_is_err_and}
 use Rattle.cov_model.specs.declared.slice.Slice.{Slice}
 use Rattle.cov_model.specs.declared.slice.Slice.TheVariants.{Positive}
-use Rattle.definitions.specs.Growth.{is_of_slice, slices_growth}
+use Rattle.definitions.specs.believed.Growth.{is_of_slice, slices_growth}
 use Rattle.feasibility.specs.Refuting.{earlier_tuples}
 use Rattle.full_search.specs.Questions.{QuestionsView}
 use Rattle.ipog_grow.specs.Asking.{first_spent}

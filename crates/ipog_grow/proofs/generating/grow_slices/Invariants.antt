@@ -1,5 +1,5 @@
 use Rattle.std.proofs.Common.{◌≡◌, ◌≤◌, All, ℕ, List, Option, length, sum_by, take}
-use Rattle.definitions.specs.Seeds.{kept_seeds}
+use Rattle.definitions.specs.believed.Seeds.{kept_seeds}
 use Rattle.feasibility.specs.Refuting.{earlier_tuples}
 use Rattle.ipog_grow.specs.Omissions.{AreOmissionsOf, met_count}
 use Rattle.ipog_grow.proofs.Slicing.{SlicesGrown}

@@ -2,8 +2,8 @@ use Rattle.std.proofs.Common.{◌∙◌, map, length, ap, arith}
 use Rattle.std.specs.Prelude.{slice_index}
 use Rattle.std.specs.List.{range_with_len}
 use Rattle.std.proofs.lemmas.List.FromFn.{length-map-range_with_len}
-use Rattle.cov_model.specs.Preference.{by_falling_weight}
-use Rattle.cov_model.specs.Slices.{positive_values}
+use Rattle.cov_model.specs.believed.Preference.{by_falling_weight}
+use Rattle.cov_model.specs.believed.Slices.{positive_values}
 use Rattle.tuple_index.specs.Places.{values_in}
 use Rattle.tuple_index.specs.Plan.{PlanView, plan_of}
 use Rattle.ipog_grow.proofs.Ranking.{ordered}

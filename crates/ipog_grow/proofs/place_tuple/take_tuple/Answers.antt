@@ -2,7 +2,7 @@ use Rattle.std.proofs.Common.{◌≡◌, ◌∙◌, ◌||◌, ◌+◌, ◌∷◌
 use Rattle.std.proofs.Common.{set as list_set}
 use Rattle.std.proofs.lemmas.Bool.{cases_eq, ne_eqb}
 use Rattle.std.proofs.lemmas.List.{drop_all, length-set, get_or-set_other, get_or-set_same}
-use Rattle.definitions.specs.Demand.{is_among}
+use Rattle.definitions.specs.believed.Demand.{is_among}
 use Rattle.ipog_grow.proofs.Giving.{given_exist}
 use Rattle.ipog_grow.proofs.Uniting.{given_away}
 use Rattle.ipog_grow.proofs.place_tuple.take_tuple.Goals as goal

@@ -1,5 +1,5 @@
 use Rattle.std.proofs.Common.{◌≡◌, ℕ, None, false, drop, length, get_or}
-use Rattle.definitions.specs.Demand.{is_among}
+use Rattle.definitions.specs.believed.Demand.{is_among}
 use Rattle.ipog_grow.proofs.place_tuple.take_tuple.Given as goal
 
 -- only those that are left may have values

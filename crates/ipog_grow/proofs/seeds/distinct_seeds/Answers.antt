@@ -3,7 +3,7 @@ use Rattle.std.proofs.lemmas.List.{take_more, take_all, map-append}
 use Rattle.std.proofs.lemmas.List.Elements.{All-map}
 use Rattle.cov_model.specs.Fits.{FitsModel}
 use Rattle.row_text.specs.declared.row_file.FileRow.{FileRow}
-use Rattle.definitions.specs.Seeds.{distinct_by, seed_rows}
+use Rattle.definitions.specs.believed.Seeds.{distinct_by, seed_rows}
 use Rattle.row_text.specs.RowFiles.{row_seen}
 use Rattle.ipog_grow.proofs.Seeding.{gathered-next, seed_rows-fit, fit-map}
 use Rattle.ipog_grow.proofs.seeds.distinct_seeds.Goals as goal

@@ -1,5 +1,5 @@
 use Rattle.std.proofs.Common.{◌≡◌, All, length, map, take}
-use Rattle.definitions.specs.Seeds.{distinct_by, seed_rows}
+use Rattle.definitions.specs.believed.Seeds.{distinct_by, seed_rows}
 use Rattle.row_text.specs.RowFiles.{row_seen}
 use Rattle.ipog_grow.proofs.seeds.distinct_seeds.Given as goal
 

@@ -1,7 +1,7 @@
 use Rattle.std.proofs.Common.{◌≡◌, ◌+◌, ◌&&◌, ℕ, Bool, cond, length, filter, ◌∙◌, sym, ap, arith}
 use Rattle.std.specs.List.{range_with_len}
-use Rattle.cov_model.specs.Meaning.{given_value}
-use Rattle.cov_model.specs.Rows.{is_assigned}
+use Rattle.cov_model.specs.believed.Meaning.{given_value}
+use Rattle.cov_model.specs.believed.Rows.{is_assigned}
 use Rattle.ipog_grow.proofs.Seeding.{passing-count}
 use Rattle.ipog_grow.proofs.seeds.is_of_some_slice.Goals as goal
 use Rattle.ipog_grow.proofs.seeds.is_of_some_slice.Goals.{then-is_negative, else-is_negative}

@@ -1,7 +1,7 @@
 use Rattle.std.proofs.Common.{◌≡◌, ◌≤◌, ◌&&◌, length}
 use Rattle.std.specs.List.{filter, range_with_len}
-use Rattle.cov_model.specs.Meaning.{given_value}
-use Rattle.cov_model.specs.Rows.{is_assigned}
+use Rattle.cov_model.specs.believed.Meaning.{given_value}
+use Rattle.cov_model.specs.believed.Rows.{is_assigned}
 use Rattle.ipog_grow.proofs.seeds.is_of_some_slice.Given as goal
 
 -- how many parameters before this one have a negative value

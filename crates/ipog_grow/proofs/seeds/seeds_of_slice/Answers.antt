@@ -2,8 +2,8 @@ use Rattle.std.proofs.Common.{◌≡◌, ◌+◌, ◌<◌, ◌++◌, ◌∷◌, 
 use Rattle.std.proofs.lemmas.List.{append-nil}
 use Rattle.cov_model.specs.contracts.slice.SlicePartialEq as equal
 use Rattle.cov_model.specs.declared.slice.Slice.{Slice}
-use Rattle.cov_model.specs.Slices.{slice_of}
-use Rattle.definitions.specs.Growth.{is_of_slice}
+use Rattle.cov_model.specs.believed.Slices.{slice_of}
+use Rattle.definitions.specs.believed.Growth.{is_of_slice}
 use Rattle.ipog_grow.proofs.OfSlice.{slice_of-test, filter-more, seeds-long}
 use Rattle.ipog_grow.proofs.seeds.seeds_of_slice.Goals as goal
 use Rattle.ipog_grow.proofs.seeds.seeds_of_slice.Goals.{then-eq+in_ok-push, else-eq}

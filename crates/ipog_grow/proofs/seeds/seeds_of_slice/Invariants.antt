@@ -1,5 +1,5 @@
 use Rattle.std.proofs.Common.{◌≡◌, length, take, filter}
-use Rattle.definitions.specs.Growth.{is_of_slice}
+use Rattle.definitions.specs.believed.Growth.{is_of_slice}
 use Rattle.ipog_grow.proofs.seeds.seeds_of_slice.Given as goal
 
 -- the seeds of the slice before this place

@@ -3,8 +3,8 @@ use Rattle.std.proofs.lemmas.List.{take_more, take_all, map-append}
 use Rattle.std.proofs.lemmas.List.Elements.{All-append, All-cons, All-filter, All-nil}
 use Rattle.std.proofs.lemmas.Result.{err_from_is_err_and}
 use Rattle.cov_model.specs.Fits.{FitsModel}
-use Rattle.definitions.specs.Completion.{can_be_served, has_slice}
-use Rattle.definitions.specs.Search.{first_over}
+use Rattle.definitions.specs.believed.Completion.{can_be_served, has_slice}
+use Rattle.definitions.specs.believed.Search.{first_over}
 use Rattle.row_text.specs.RowFiles.{row_seen}
 use Rattle.row_text.specs.declared.row_file.FileRow.{FileRow}
 use Rattle.ipog_grow.proofs.Splitting.{Split, split-next, split-spent, split_at, ends-by}

@@ -1,8 +1,8 @@
 use Rattle.std.proofs.Common.{◌≡◌, ℕ, List, Option, map, filter, not, ◌∙◌, ap, subst}
 use Rattle.std.specs.Prelude.{IfOk}
-use Rattle.definitions.specs.Completion.{can_be_served, has_slice}
-use Rattle.definitions.specs.Search.{first_over}
-use Rattle.definitions.specs.Seeds.{seed_rows}
+use Rattle.definitions.specs.believed.Completion.{can_be_served, has_slice}
+use Rattle.definitions.specs.believed.Search.{first_over}
+use Rattle.definitions.specs.believed.Seeds.{seed_rows}
 use Rattle.feasibility.specs.Ends.{Ends}
 use Rattle.row_text.specs.RowFiles.{row_seen}
 use Rattle.row_text.specs.declared.row_file.FileRow.{FileRow}

@@ -1,11 +1,12 @@
 use Rattle.std.proofs.Common.{◌≡◌, ◌++◌, ℕ, Bool, List, [], Option, Err, None, All, length, filter, filter_map, map, ◌∙◌, sym, ap, subst, arith}
 use Rattle.std.proofs.lemmas.List.{length-map}
 use Rattle.std.proofs.lemmas.Result.{on_ok_weaker}
-use Rattle.definitions.specs.Completion.{column_order}
-use Rattle.definitions.specs.Growth.{Grown, is_of_slice}
-use Rattle.definitions.specs.Pairs.{cells_of, pairs_of}
-use Rattle.definitions.specs.Search.{exceeds, question_cost}
-use Rattle.definitions.specs.Seeds.{distinct}
+use Rattle.definitions.specs.believed.Completion.{column_order}
+use Rattle.definitions.specs.believed.Growth.{Grown, is_of_slice}
+use Rattle.definitions.specs.Pairs.{cells_of}
+use Rattle.definitions.specs.believed.Pairs.{pairs_of}
+use Rattle.definitions.specs.believed.Search.{exceeds, question_cost}
+use Rattle.definitions.specs.believed.Seeds.{distinct}
 use Rattle.definitions.specs.SliceRows.{IsSliceOf}
 use Rattle.full_search.specs.Questions.{QuestionsView}
 use Rattle.ipog_grow.specs.Asking.{Grows, Told, columns_grown, first_spent}

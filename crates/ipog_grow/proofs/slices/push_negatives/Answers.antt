@@ -4,8 +4,8 @@ use Rattle.std.proofs.lemmas.List.{append-nil, append_assoc, get_or_default}
 use Rattle.std.proofs.lemmas.Grind.{common_steps}
 use Rattle.cov_model.specs.declared.slice.Slice.{Slice}
 use Rattle.cov_model.specs.declared.slice.Slice.TheVariants.{Negative}
-use Rattle.cov_model.specs.Meaning.{value_at, no_value}
-use Rattle.cov_model.specs.Sound.{param_at}
+use Rattle.cov_model.specs.believed.Meaning.{value_at, no_value}
+use Rattle.cov_model.specs.believed.Sound.{param_at}
 use Rattle.cov_model.specs.declared.parameter.Value.{Value}
 use Rattle.ipog_grow.proofs.SliceSteps.{passing-more}
 use Rattle.ipog_grow.proofs.slices.push_negatives.Goals as goal

@@ -1,8 +1,8 @@
 use Rattle.std.proofs.Common.{◌≡◌, ◌++◌, length, map}
 use Rattle.std.specs.List.{filter, range_with_len}
 use Rattle.cov_model.specs.declared.slice.Slice.TheVariants.{Negative}
-use Rattle.cov_model.specs.Meaning.{value_at}
-use Rattle.cov_model.specs.Sound.{param_at}
+use Rattle.cov_model.specs.believed.Meaning.{value_at}
+use Rattle.cov_model.specs.believed.Sound.{param_at}
 use Rattle.ipog_grow.proofs.slices.push_negatives.Given as goal
 
 -- the slices of the values before this one

@@ -1,6 +1,6 @@
 use Rattle.std.proofs.Common.{◌≡◌, drop}
 use Rattle.std.specs.List.{list_all}
-use Rattle.definitions.specs.Growth.{agrees}
+use Rattle.definitions.specs.believed.Growth.{agrees}
 use Rattle.ipog_grow.proofs.Giving.{agree_at}
 use Rattle.ipog_grow.proofs.unions.agree.Given as goal
 

@@ -1,6 +1,6 @@
 use Rattle.std.proofs.Common.{rules, []}
 use Rattle.jeldroft_args.proofs.NameLemmas.{any_found, any_none, any_passed}
-use Rattle.jeldroft_args.specs.Names.{is_same_name}
+use Rattle.jeldroft_args.specs.believed.Names.{is_same_name}
 use Rattle.jeldroft_args.proofs.names.has_name.Goals as goal
 
 pub returns-then-is_same_name : goal.returns-then-is_same_name

@@ -1,6 +1,6 @@
 use Rattle.std.proofs.Common.{◌≡◌, drop}
 use Rattle.std.specs.List.{list_any}
-use Rattle.jeldroft_args.specs.Names.{is_same_name}
+use Rattle.jeldroft_args.specs.believed.Names.{is_same_name}
 use Rattle.jeldroft_args.proofs.NameLemmas.{texts_in}
 use Rattle.jeldroft_args.proofs.names.has_name.Given as goal
 

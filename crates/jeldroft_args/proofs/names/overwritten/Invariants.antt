@@ -1,5 +1,5 @@
 use Rattle.std.proofs.Common.{◌≡◌, drop}
-use Rattle.jeldroft_args.specs.Names.{overwritten}
+use Rattle.jeldroft_args.specs.believed.Names.{overwritten}
 use Rattle.jeldroft_args.proofs.NameLemmas.{texts_in}
 use Rattle.jeldroft_args.proofs.names.overwritten.Given as goal
 

@@ -1,7 +1,7 @@
 use Rattle.std.proofs.Common.{rules, ap, ◌∙◌}
 use Rattle.clap.specs.Words.{App}
 use Rattle.jeldroft_args.specs.declared.command_name.CommandName.TheVariants.{Generate}
-use Rattle.jeldroft_args.specs.Programs.{shape_of_command}
+use Rattle.jeldroft_args.specs.believed.Programs.{shape_of_command}
 use Rattle.jeldroft_args.proofs.program.program.Goals as goal
 use Rattle.jeldroft_args.proofs.ProgramLemmas.{with_command}
 

@@ -1,6 +1,6 @@
 use Rattle.std.proofs.Common.{◌≡◌, take}
 use Rattle.clap.specs.Words.{app_of}
-use Rattle.jeldroft_args.specs.Programs.{program_of}
+use Rattle.jeldroft_args.specs.believed.Programs.{program_of}
 use Rattle.jeldroft_args.proofs.program.program.Given as goal
 
 abbrev pub invariant-loop-name : goal.invariant-loop-name

@@ -1,6 +1,6 @@
 use Rattle.std.proofs.Common.{rules, ap, ◌∙◌}
-use Rattle.jeldroft_args.specs.Arguments.{rule_of_argument}
-use Rattle.jeldroft_args.specs.Programs.{arguments_of, name_of_command}
+use Rattle.jeldroft_args.specs.believed.Arguments.{rule_of_argument}
+use Rattle.jeldroft_args.specs.believed.Programs.{arguments_of, name_of_command}
 use Rattle.jeldroft_args.specs.declared.argument.Argument.TheVariants.{Model}
 use Rattle.jeldroft_args.proofs.program.subcommand.Goals as goal
 use Rattle.jeldroft_args.proofs.ProgramLemmas.{with_argument}

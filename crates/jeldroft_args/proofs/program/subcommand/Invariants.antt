@@ -1,7 +1,7 @@
 use Rattle.std.proofs.Common.{◌≡◌, false, take}
 use Rattle.clap.specs.Words.{app_of}
 use Rattle.clap.specs.declared.builder.command.Command.TheViews.{out-Command as fields_of}
-use Rattle.jeldroft_args.specs.Programs.{arguments_of, name_of_command}
+use Rattle.jeldroft_args.specs.believed.Programs.{arguments_of, name_of_command}
 use Rattle.jeldroft_args.proofs.ProgramLemmas.{app_with}
 use Rattle.jeldroft_args.proofs.program.subcommand.Given as goal
 

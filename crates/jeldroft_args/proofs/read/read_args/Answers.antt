@@ -6,7 +6,7 @@ use Rattle.std.proofs.lemmas.Result.{IfOk-weaker}
 use Rattle.jeldroft_args.proofs.RangeLemmas.{settings_fit}
 use Rattle.jeldroft_args.specs.Faults.{HasCause}
 use Rattle.jeldroft_args.specs.Ranges.{IsInRange}
-use Rattle.jeldroft_args.specs.Settings.{asked_in, settings_of}
+use Rattle.jeldroft_args.specs.believed.Settings.{asked_in, settings_of}
 use Rattle.jeldroft_args.proofs.read.read_args.Goals as goal
 
 pub returns-in-Ok-clause-asked : goal.returns-in-Ok-clause-asked

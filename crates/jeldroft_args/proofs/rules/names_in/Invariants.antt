@@ -1,6 +1,6 @@
 use Rattle.std.proofs.Common.{◌≡◌, ◌++◌, drop, map}
 use Rattle.jeldroft_args.specs.Readings.{rows_given}
-use Rattle.jeldroft_args.specs.Rules.{names_in}
+use Rattle.jeldroft_args.specs.believed.Rules.{names_in}
 use Rattle.jeldroft_args.proofs.rules.names_in.Given as goal
 
 abbrev pub invariant-loop-argument : goal.invariant-loop-argument

@@ -1,7 +1,7 @@
 use Rattle.std.proofs.Common.{rules}
 use Rattle.jeldroft_args.specs.Readings.{rows_given}
 use Rattle.jeldroft_args.proofs.ListLemmas.{found, none_left, passed}
-use Rattle.jeldroft_args.specs.Rules.{is_unmet}
+use Rattle.jeldroft_args.specs.believed.Rules.{is_unmet}
 use Rattle.jeldroft_args.specs.declared.argument.Argument.TheVariants.{Model}
 use Rattle.jeldroft_args.proofs.rules.unmet_need.Goals as goal
 

@@ -1,7 +1,7 @@
 use Rattle.std.proofs.Common.{rules, not}
 use Rattle.jeldroft_args.specs.Readings.{rows_given}
 use Rattle.jeldroft_args.proofs.ListLemmas.{found, none_left, passed}
-use Rattle.jeldroft_args.specs.Rules.{is_read}
+use Rattle.jeldroft_args.specs.believed.Rules.{is_read}
 use Rattle.jeldroft_args.specs.declared.argument.Argument.TheVariants.{Model}
 use Rattle.jeldroft_args.proofs.rules.unread.Goals as goal
 

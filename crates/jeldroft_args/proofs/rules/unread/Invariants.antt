@@ -1,7 +1,7 @@
 use Rattle.std.proofs.Common.{◌≡◌, drop, not}
 use Rattle.std.specs.Prelude.{find}
 use Rattle.jeldroft_args.specs.Readings.{rows_given}
-use Rattle.jeldroft_args.specs.Rules.{is_read, unread}
+use Rattle.jeldroft_args.specs.believed.Rules.{is_read, unread}
 use Rattle.jeldroft_args.proofs.rules.unread.Given as goal
 
 abbrev pub invariant-loop-argument : goal.invariant-loop-argument

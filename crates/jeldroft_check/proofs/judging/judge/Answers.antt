@@ -1,7 +1,7 @@
 use Rattle.std.proofs.Common.{Err, subst, sym}
 use Rattle.model_parse.specs.RawModels.{AreOpts}
 use Rattle.proof_check.specs.Checks.{IsCheckOf}
-use Rattle.jeldroft_files.specs.Models.{opts_of}
+use Rattle.jeldroft_files.specs.believed.Models.{opts_of}
 use Rattle.jeldroft_files.proofs.Reading.{opts_fit}
 use Rattle.jeldroft_check.proofs.Verdicts.{stops}
 use Rattle.jeldroft_check.proofs.judging.judge.Goals as goal

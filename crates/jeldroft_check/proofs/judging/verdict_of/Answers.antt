@@ -1,6 +1,6 @@
 use Rattle.std.proofs.Common.{ap, subst, sym, ◌∙◌}
 use Rattle.value_text.proofs.ListLemmas.{is_err}
-use Rattle.jeldroft_files.specs.Models.{opts_of}
+use Rattle.jeldroft_files.specs.believed.Models.{opts_of}
 use Rattle.jeldroft_check.specs.Steps.{Answers}
 use Rattle.jeldroft_check.proofs.Verdicts.{holds_after, judged, no_proof, same_judged}
 use Rattle.jeldroft_check.proofs.judging.verdict_of.Goals as goal

@@ -1,4 +1,4 @@
-use Rattle.jeldroft_files.specs.Runs.{moment}
+use Rattle.jeldroft_files.specs.believed.Runs.{moment}
 use Rattle.jeldroft_check.proofs.Ending.{certified_end, checks_as}
 use Rattle.jeldroft_check.proofs.run.run_check.Goals as goal
 

@@ -1,6 +1,6 @@
 use Rattle.std.proofs.Common.{subst, sym}
-use Rattle.jeldroft_files.specs.Runs.{moment}
-use Rattle.jeldroft_cli.specs.Promises.{Keeps}
+use Rattle.jeldroft_files.specs.believed.Runs.{moment}
+use Rattle.jeldroft_cli.specs.believed.Promises.{Keeps}
 use Rattle.jeldroft_cli.proofs.dispatch.dispatch.Goals as goal
 
 pub returns-in-Shrink : goal.returns-in-Shrink

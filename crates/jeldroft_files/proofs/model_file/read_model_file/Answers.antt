@@ -1,6 +1,6 @@
 use Rattle.std.proofs.Common.{subst, sym}
 use Rattle.model_parse.specs.RawModels.{AreOpts}
-use Rattle.jeldroft_files.specs.Models.{opts_of}
+use Rattle.jeldroft_files.specs.believed.Models.{opts_of}
 use Rattle.jeldroft_files.proofs.Reading.{opts_fit, stops_read}
 use Rattle.jeldroft_files.proofs.model_file.read_model_file.Goals as goal
 

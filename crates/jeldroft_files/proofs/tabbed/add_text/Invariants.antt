@@ -1,5 +1,5 @@
 use Rattle.std.proofs.Common.{◌≡◌, ◌++◌, map, take}
-use Rattle.jeldroft_files.specs.Tables.{shown_byte}
+use Rattle.jeldroft_files.specs.believed.Tables.{shown_byte}
 use Rattle.jeldroft_files.proofs.tabbed.add_text.Given as goal
 
 abbrev pub invariant-loop-byte : goal.invariant-loop-byte

@@ -1,6 +1,6 @@
 use Rattle.std.proofs.Common.{◌≡◌, ◌≤◌, ◌++◌, length}
-use Rattle.comma_rows.specs.Reading.{comma_cells}
-use Rattle.jeldroft_files.specs.Tables.{tabbed, tabbed_from}
+use Rattle.comma_rows.specs.believed.Reading.{comma_cells}
+use Rattle.jeldroft_files.specs.believed.Tables.{tabbed, tabbed_from}
 use Rattle.jeldroft_files.proofs.tabbed.tabbed.Given as goal
 
 -- the table has a byte for each line, and with the cells that are left it is the whole; their fault is that of all

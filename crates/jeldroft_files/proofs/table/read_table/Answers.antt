@@ -1,4 +1,4 @@
-use Rattle.jeldroft_files.specs.Tables.{is_comma}
+use Rattle.jeldroft_files.specs.believed.Tables.{is_comma}
 use Rattle.jeldroft_files.proofs.Reading.{stops_table}
 use Rattle.jeldroft_files.proofs.table.read_table.Goals as goal
 

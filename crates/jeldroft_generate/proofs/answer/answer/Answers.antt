@@ -1,6 +1,6 @@
 use Rattle.std.proofs.Common.{◌∙◌}
-use Rattle.command_line.specs.Loading.{IsLoaded}
-use Rattle.jeldroft_files.specs.Models.{StopsModel, opts_of}
+use Rattle.command_line.specs.believed.Loading.{IsLoaded}
+use Rattle.jeldroft_files.specs.believed.Models.{StopsModel, opts_of}
 use Rattle.jeldroft_generate.proofs.Reading.{at_held, cause_given, model_given}
 use Rattle.jeldroft_generate.proofs.SeedLemmas.{told_kept}
 use Rattle.jeldroft_generate.proofs.Steps.{calls_for, calls_for_none}

@@ -4,8 +4,8 @@ use Rattle.cov_model.specs.Fits.{FitsModel}
 use Rattle.ipog_grow.specs.Suites.{IsSuiteOf}
 use Rattle.ipog_grow.specs.declared.suite.Suite.{Suite}
 use Rattle.row_text.specs.RowFiles.{seeds_seen}
-use Rattle.suite_forms.specs.Suites.{suite_text}
-use Rattle.jeldroft_generate.specs.Asked.{effort_of, form_of, orders_of, proof_asked}
+use Rattle.suite_forms.specs.believed.Suites.{suite_text}
+use Rattle.jeldroft_generate.specs.believed.Asked.{effort_of, form_of, orders_of, proof_asked}
 use Rattle.jeldroft_generate.proofs.Headline.{rows_fit}
 use Rattle.jeldroft_generate.proofs.Steps.{proof_made}
 use Rattle.jeldroft_generate.proofs.answer.make_suite.Goals as goal

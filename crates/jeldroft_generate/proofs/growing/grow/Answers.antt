@@ -1,4 +1,4 @@
-use Rattle.definitions.specs.Growth.{growth}
+use Rattle.definitions.specs.believed.Growth.{growth}
 use Rattle.row_text.specs.RowFiles.{seeds_seen}
 use Rattle.pict_cli.proofs.Questions.{ends_full}
 use Rattle.jeldroft_generate.proofs.growing.grow.Goals as goal

@@ -1,6 +1,7 @@
 use Rattle.std.proofs.Common.{sym, subst, ◌∙◌}
-use Rattle.jeldroft_files.specs.Runs.{end_status, moment}
-use Rattle.jeldroft_generate.specs.Runs.{Generates, Leaves}
+use Rattle.jeldroft_files.specs.Runs.{end_status}
+use Rattle.jeldroft_files.specs.believed.Runs.{moment}
+use Rattle.jeldroft_generate.specs.believed.Runs.{Generates, Leaves}
 use Rattle.jeldroft_generate.proofs.Headline.{covers_zero}
 use Rattle.jeldroft_generate.proofs.Runs.{generates, leaves}
 use Rattle.jeldroft_generate.proofs.run.run_generate.Goals as goal

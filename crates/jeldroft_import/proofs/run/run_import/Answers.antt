@@ -1,5 +1,5 @@
 use Rattle.std.proofs.Common.{not}
-use Rattle.jeldroft_files.specs.Runs.{moment}
+use Rattle.jeldroft_files.specs.believed.Runs.{moment}
 use Rattle.jeldroft_import.proofs.RunEnds as ends
 use Rattle.jeldroft_import.proofs.run.run_import.Goals as goal
 

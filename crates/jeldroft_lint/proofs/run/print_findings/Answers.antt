@@ -1,6 +1,6 @@
 use Rattle.std.proofs.Common.{List, Option, ℕ}
-use Rattle.jeldroft_files.specs.Models.{StopsModel}
-use Rattle.jeldroft_lint.specs.Linting.{lint_opts}
+use Rattle.jeldroft_files.specs.believed.Models.{StopsModel}
+use Rattle.jeldroft_lint.specs.believed.Linting.{lint_opts}
 use Rattle.jeldroft_lint.proofs.Ending.{stopped, told_is}
 use Rattle.jeldroft_lint.proofs.run.print_findings.Goals as goal
 

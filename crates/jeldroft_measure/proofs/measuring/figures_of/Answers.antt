@@ -1,6 +1,6 @@
 use Rattle.std.proofs.Common.{None}
-use Rattle.cov_model.specs.Preference.{preference}
-use Rattle.definitions.specs.Demand.{demanded_tuples}
+use Rattle.cov_model.specs.believed.Preference.{preference}
+use Rattle.definitions.specs.believed.Demand.{demanded_tuples}
 use Rattle.jeldroft_measure.proofs.SearchLemmas.{ends_full}
 use Rattle.jeldroft_measure.proofs.measuring.figures_of.Goals as goal
 

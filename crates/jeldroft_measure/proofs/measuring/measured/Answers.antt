@@ -1,9 +1,9 @@
 use Rattle.std.proofs.Common.{◌≡◌, ℕ, List, Option, Some, subst}
 use Rattle.std.proofs.lemmas.Result.{IfErr-weaker}
 use Rattle.row_text.specs.Told.{figures_seen}
-use Rattle.jeldroft_files.specs.Tables.{is_comma}
+use Rattle.jeldroft_files.specs.believed.Tables.{is_comma}
 use Rattle.jeldroft_inputs.specs.Inputs.{HoldsTests}
-use Rattle.jeldroft_measure.specs.Due.{effort_of}
+use Rattle.jeldroft_measure.specs.believed.Due.{effort_of}
 use Rattle.jeldroft_measure.proofs.MeasuredLemmas.{if_ok_and, measured_ends, measured_is}
 use Rattle.jeldroft_measure.proofs.measuring.measured.Goals as goal
 

@@ -1,11 +1,11 @@
 use Rattle.std.proofs.Common.{◌≡◌, subst, sym}
 use Rattle.row_text.specs.Told.{figures_seen}
-use Rattle.jeldroft_files.specs.Failures.{status_of}
+use Rattle.jeldroft_files.specs.believed.Failures.{status_of}
 use Rattle.jeldroft_files.specs.Runs.{IsCalledFor}
-use Rattle.jeldroft_files.specs.Tables.{is_comma}
+use Rattle.jeldroft_files.specs.believed.Tables.{is_comma}
 use Rattle.jeldroft_inputs.proofs.Calling.{called_step, called_stopped, seen_failed}
-use Rattle.jeldroft_measure.specs.Due.{effort_of, measured, text_of}
-use Rattle.jeldroft_measure.specs.MeasureText.{measure_text}
+use Rattle.jeldroft_measure.specs.believed.Due.{effort_of, measured, text_of}
+use Rattle.jeldroft_measure.specs.believed.MeasureText.{measure_text}
 use Rattle.jeldroft_measure.proofs.run.text_of.Goals as goal
 
 pub returns-in_err-figures-clause-due : goal.returns-in_err-figures-clause-due

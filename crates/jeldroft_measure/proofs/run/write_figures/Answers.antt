@@ -1,9 +1,10 @@
 use Rattle.std.proofs.Common.{subst}
-use Rattle.jeldroft_files.specs.Models.{opts_of}
-use Rattle.jeldroft_files.specs.Runs.{Ends, answer_seen, end_status, moment}
+use Rattle.jeldroft_files.specs.believed.Models.{opts_of}
+use Rattle.jeldroft_files.specs.Runs.{Ends, answer_seen, end_status}
+use Rattle.jeldroft_files.specs.believed.Runs.{moment}
 use Rattle.jeldroft_files.proofs.Ending as ending
 use Rattle.jeldroft_inputs.proofs.Calling.{due_once}
-use Rattle.jeldroft_measure.specs.Due.{text_of}
+use Rattle.jeldroft_measure.specs.believed.Due.{text_of}
 use Rattle.jeldroft_measure.proofs.run.write_figures.Goals as goal
 
 pub returns-clause-runs : goal.returns-clause-runs

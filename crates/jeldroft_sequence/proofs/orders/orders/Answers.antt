@@ -1,6 +1,6 @@
 use Rattle.std.proofs.Common.{◌≡◌, Ok, subst}
 use Rattle.std.specs.Prelude.{IfSome}
-use Rattle.jeldroft_sequence.specs.Sequences.{events_held}
+use Rattle.jeldroft_sequence.specs.believed.Sequences.{events_held}
 use Rattle.jeldroft_sequence.proofs.RunEnds.{grown_covers}
 use Rattle.jeldroft_sequence.proofs.orders.orders.Goals as goal
 

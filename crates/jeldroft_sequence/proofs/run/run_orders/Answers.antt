@@ -1,4 +1,4 @@
-use Rattle.jeldroft_files.specs.Runs.{moment}
+use Rattle.jeldroft_files.specs.believed.Runs.{moment}
 use Rattle.jeldroft_sequence.proofs.RunEnds as ends
 use Rattle.jeldroft_sequence.proofs.run.run_orders.Goals as goal
 

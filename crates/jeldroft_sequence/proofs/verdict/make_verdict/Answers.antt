@@ -1,6 +1,6 @@
 use Rattle.std.proofs.Common.{◌≡◌, Ok, subst}
 use Rattle.std.specs.Prelude.{IfSome}
-use Rattle.jeldroft_sequence.specs.Sequences.{events_held}
+use Rattle.jeldroft_sequence.specs.believed.Sequences.{events_held}
 use Rattle.jeldroft_sequence.specs.Steps.{IsDue}
 use Rattle.jeldroft_sequence.proofs.RunEnds.{no_events, on_events}
 use Rattle.jeldroft_sequence.proofs.verdict.make_verdict.Goals as goal

@@ -1,5 +1,5 @@
 use Rattle.std.proofs.Common.{subst, sym}
-use Rattle.jeldroft_show.specs.Due.{shown_due}
+use Rattle.jeldroft_show.specs.believed.Due.{shown_due}
 use Rattle.jeldroft_show.specs.Steps.{Gives}
 use Rattle.jeldroft_show.proofs.answer.show_suite.Goals as goal
 

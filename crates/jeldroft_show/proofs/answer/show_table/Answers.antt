@@ -1,10 +1,11 @@
 use Rattle.std.proofs.Common.{◌≡◌, Err, inl, ap, subst, sym, ◌∙◌}
 use Rattle.std.proofs.lemmas.Result.{err_from_is_err_and}
-use Rattle.jeldroft_files.specs.Failures.{status_of}
-use Rattle.jeldroft_files.specs.Tables.{is_comma}
-use Rattle.jeldroft_inputs.specs.Inputs.{EndsBy, HoldsTests, tests_of}
+use Rattle.jeldroft_files.specs.believed.Failures.{status_of}
+use Rattle.jeldroft_files.specs.believed.Tables.{is_comma}
+use Rattle.jeldroft_inputs.specs.Inputs.{EndsBy, HoldsTests}
+use Rattle.jeldroft_inputs.specs.believed.Inputs.{tests_of}
 use Rattle.value_text.proofs.ListLemmas.{is_err}
-use Rattle.jeldroft_show.specs.Due.{rows_shown}
+use Rattle.jeldroft_show.specs.believed.Due.{rows_shown}
 use Rattle.jeldroft_show.specs.Steps.{Gives}
 use Rattle.jeldroft_show.proofs.DueLemmas.{rows_ended, rows_given}
 use Rattle.jeldroft_show.proofs.answer.show_table.Goals as goal

@@ -1,6 +1,6 @@
 use Rattle.std.proofs.Common.{is_some, ap, ◌∙◌}
 use Rattle.row_text.specs.RowFiles.{suite_seen}
-use Rattle.jeldroft_show.specs.Words.{is_accepted, suite_words}
+use Rattle.jeldroft_show.specs.believed.Words.{is_accepted, suite_words}
 use Rattle.jeldroft_show.proofs.WordLemmas.{shown_with}
 use Rattle.jeldroft_show.proofs.judged.judge.Goals as goal
 

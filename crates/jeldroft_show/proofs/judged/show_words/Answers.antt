@@ -1,11 +1,12 @@
 use Rattle.std.proofs.Common.{◌≡◌, Err, inl, ap, subst, sym, ◌∙◌, is_some}
 use Rattle.std.proofs.lemmas.Result.{err_from_is_err_and}
-use Rattle.jeldroft_files.specs.Failures.{status_of}
-use Rattle.jeldroft_files.specs.Tables.{is_comma}
-use Rattle.jeldroft_inputs.specs.Inputs.{EndsBy, HoldsTests, tests_of}
+use Rattle.jeldroft_files.specs.believed.Failures.{status_of}
+use Rattle.jeldroft_files.specs.believed.Tables.{is_comma}
+use Rattle.jeldroft_inputs.specs.Inputs.{EndsBy, HoldsTests}
+use Rattle.jeldroft_inputs.specs.believed.Inputs.{tests_of}
 use Rattle.row_text.specs.RowFiles.{seeds_seen, suite_seen}
 use Rattle.value_text.proofs.ListLemmas.{is_err}
-use Rattle.jeldroft_show.specs.Due.{shown_words, words_shown}
+use Rattle.jeldroft_show.specs.believed.Due.{shown_words, words_shown}
 use Rattle.jeldroft_show.specs.Steps.{Gives}
 use Rattle.jeldroft_show.proofs.DueLemmas.{limit_ends, proof_ends, suite_kept, tests_end, words_given}
 use Rattle.jeldroft_show.proofs.judged.show_words.Goals as goal

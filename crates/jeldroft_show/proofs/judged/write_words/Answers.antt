@@ -4,7 +4,7 @@ use Rattle.suite_facts.specs.Coverages.{set_seen}
 use Rattle.suite_facts.proofs.RoundLemmas.{rounds_rise, rounds_within}
 use Rattle.tuple_index.specs.Plan.{PlanView}
 use Rattle.row_text.specs.RowFiles.{suite_seen}
-use Rattle.jeldroft_show.specs.Words.{suite_words}
+use Rattle.jeldroft_show.specs.believed.Words.{suite_words}
 use Rattle.jeldroft_show.proofs.WordLemmas.{words_are}
 use Rattle.jeldroft_show.proofs.judged.write_words.Goals as goal
 

@@ -1,7 +1,8 @@
 use Rattle.std.proofs.Common.{refl, subst, sym}
-use Rattle.jeldroft_files.specs.Runs.{Ends, end_status, moment}
-use Rattle.jeldroft_show.specs.Due.{Due, form_of}
-use Rattle.jeldroft_show.specs.Shows.{LeavesShown, ShowsAs}
+use Rattle.jeldroft_files.specs.Runs.{Ends, end_status}
+use Rattle.jeldroft_files.specs.believed.Runs.{moment}
+use Rattle.jeldroft_show.specs.believed.Due.{Due, form_of}
+use Rattle.jeldroft_show.specs.believed.Shows.{LeavesShown, ShowsAs}
 use Rattle.jeldroft_show.specs.Steps.{IsCalledFor, answer_seen}
 use Rattle.jeldroft_show.proofs.CertifiedLemmas.{certified_by}
 use Rattle.jeldroft_show.proofs.DueLemmas.{due_once}

@@ -1,6 +1,6 @@
 use Rattle.std.proofs.Common.{◌≡◌, ◌++◌, take}
 use Rattle.std.specs.List.{flat_map}
-use Rattle.jeldroft_show.specs.Words.{point_words}
+use Rattle.jeldroft_show.specs.believed.Words.{point_words}
 use Rattle.jeldroft_show.proofs.suite_words.add_points.Given as goal
 
 abbrev pub invariant-loop-point : goal.invariant-loop-point

@@ -1,7 +1,7 @@
 use Rattle.std.proofs.Common.{◌≡◌, ◌++◌, Some, ap, subst, ◌∙◌}
 use Rattle.std.specs.Prelude.{OnOk}
 use Rattle.tuple_index.specs.Plan.{PlanView, set_at}
-use Rattle.jeldroft_show.specs.Words.{set_words}
+use Rattle.jeldroft_show.specs.believed.Words.{set_words}
 use Rattle.jeldroft_show.proofs.suite_words.add_set.Goals as goal
 
 pub returns : goal.returns

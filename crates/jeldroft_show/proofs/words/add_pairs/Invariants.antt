@@ -1,5 +1,5 @@
 use Rattle.std.proofs.Common.{◌≡◌, ◌++◌, drop}
-use Rattle.jeldroft_show.specs.Words.{listed, listed_from, pair_words}
+use Rattle.jeldroft_show.specs.believed.Words.{listed, listed_from, pair_words}
 use Rattle.jeldroft_show.proofs.words.add_pairs.Given as goal
 
 -- what is added with what the pairs that are left add is what all add

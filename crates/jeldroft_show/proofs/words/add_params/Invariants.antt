@@ -1,5 +1,5 @@
 use Rattle.std.proofs.Common.{◌≡◌, ◌++◌, drop}
-use Rattle.jeldroft_show.specs.Words.{listed, listed_from, param_words}
+use Rattle.jeldroft_show.specs.believed.Words.{listed, listed_from, param_words}
 use Rattle.jeldroft_show.proofs.words.add_params.Given as goal
 
 -- what is added with what the parameters that are left add is what all add

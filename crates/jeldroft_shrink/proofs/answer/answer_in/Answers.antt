@@ -1,6 +1,6 @@
 use Rattle.std.proofs.Common.{◌∙◌}
-use Rattle.jeldroft_files.specs.Models.{StopsModel, opts_of}
-use Rattle.command_line.specs.Loading.{IsLoaded}
+use Rattle.jeldroft_files.specs.believed.Models.{StopsModel, opts_of}
+use Rattle.command_line.specs.believed.Loading.{IsLoaded}
 use Rattle.jeldroft_shrink.proofs.ReadLemmas.{due_from, holds_after, model_stops, suite_stops, told}
 use Rattle.jeldroft_shrink.proofs.answer.answer_in.Goals as goal
 

@@ -2,11 +2,11 @@ use Rattle.std.proofs.Common.{◌≡◌, ◌⊎◌, None, Some, Ok, sym, subst}
 use Rattle.std.specs.Prelude.{IfErr, IfSome}
 use Rattle.value_text.proofs.ListLemmas.{is_err}
 use Rattle.row_text.specs.RowFiles.{seeds_seen}
-use Rattle.tuple_index.specs.PlanFault.{limit_passed}
-use Rattle.jeldroft_files.specs.Tables.{is_comma}
-use Rattle.jeldroft_shrink.specs.Causes.{status_of}
-use Rattle.jeldroft_shrink.specs.Reading.{given_in, seeds_in}
-use Rattle.jeldroft_shrink.specs.Runs.{HeldFiles, Holds, LackRows}
+use Rattle.tuple_index.specs.believed.PlanFault.{limit_passed}
+use Rattle.jeldroft_files.specs.believed.Tables.{is_comma}
+use Rattle.jeldroft_shrink.specs.believed.Causes.{status_of}
+use Rattle.jeldroft_shrink.specs.believed.Reading.{given_in, seeds_in}
+use Rattle.jeldroft_shrink.specs.believed.Runs.{HeldFiles, Holds, LackRows}
 use Rattle.jeldroft_shrink.specs.Steps.{IsCauseOf}
 use Rattle.jeldroft_shrink.proofs.ReadLemmas.{holds_after, lack_seeds, lack_table, told_at}
 use Rattle.jeldroft_shrink.proofs.answer.read_tests.Goals as goal

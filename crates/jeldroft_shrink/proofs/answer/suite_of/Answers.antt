@@ -2,8 +2,8 @@ use Rattle.std.proofs.Common.{◌≡◌, ◌⊎◌, sym, subst}
 use Rattle.std.specs.Prelude.{IfErr}
 use Rattle.value_text.proofs.ListLemmas.{is_err}
 use Rattle.row_text.specs.RowFiles.{seeds_seen}
-use Rattle.jeldroft_shrink.specs.Causes.{status_of}
-use Rattle.jeldroft_shrink.specs.Runs.{HeldFiles, Holds, LackRows}
+use Rattle.jeldroft_shrink.specs.believed.Causes.{status_of}
+use Rattle.jeldroft_shrink.specs.believed.Runs.{HeldFiles, Holds, LackRows}
 use Rattle.jeldroft_shrink.proofs.ReadLemmas.{lack_limit, lack_memory}
 use Rattle.jeldroft_shrink.proofs.answer.suite_of.Goals as goal
 

@@ -1,6 +1,6 @@
 use Rattle.std.proofs.Common.{◌≡◌, drop, map}
 use Rattle.row_text.specs.RowFiles.{row_seen, seeds_seen}
-use Rattle.jeldroft_shrink.specs.Reading.{first_flaw}
+use Rattle.jeldroft_shrink.specs.believed.Reading.{first_flaw}
 use Rattle.jeldroft_shrink.proofs.given.first_flaw.Given as goal
 
 -- nothing is wrong with the rows before this one

@@ -1,10 +1,10 @@
 use Rattle.std.proofs.Common.{sym, subst}
 use Rattle.std.specs.Prelude.{IfSome}
 use Rattle.value_text.proofs.ListLemmas.{is_err}
-use Rattle.definitions.specs.RowReading.{Suite}
+use Rattle.definitions.specs.believed.RowReading.{Suite}
 use Rattle.row_text.specs.RowFiles.{seeds_seen}
-use Rattle.jeldroft_files.specs.Tables.{is_comma}
-use Rattle.jeldroft_shrink.specs.Reading.{given_in, lines_of, table_in, tests_of}
+use Rattle.jeldroft_files.specs.believed.Tables.{is_comma}
+use Rattle.jeldroft_shrink.specs.believed.Reading.{given_in, lines_of, table_in, tests_of}
 use Rattle.jeldroft_shrink.specs.Steps.{Gives}
 use Rattle.jeldroft_shrink.proofs.ReadLemmas.{then_told, unread_tests}
 use Rattle.jeldroft_shrink.proofs.given.read_given.Goals as goal

@@ -1,6 +1,6 @@
 use Rattle.std.proofs.Common.{inr, sym, ap}
 use Rattle.row_text.specs.RowFiles.{seeds_seen}
-use Rattle.jeldroft_shrink.specs.Reading.{unless_flawed}
+use Rattle.jeldroft_shrink.specs.believed.Reading.{unless_flawed}
 use Rattle.jeldroft_shrink.proofs.Flaws.{none_flawed, rows_valid}
 use Rattle.jeldroft_shrink.proofs.given.unless_flawed.Goals as goal
 

@@ -1,5 +1,5 @@
 use Rattle.std.proofs.Common.{◌∙◌, sym}
-use Rattle.jeldroft_files.specs.Runs.{moment}
+use Rattle.jeldroft_files.specs.believed.Runs.{moment}
 use Rattle.jeldroft_shrink.specs.Steps.{answer_seen, end_status}
 use Rattle.jeldroft_shrink.proofs.Tables.{left, not_one, run, writes_shorter}
 use Rattle.jeldroft_shrink.proofs.run.run_shrink.Goals as goal

@@ -1,9 +1,9 @@
 use Rattle.std.proofs.Common.{◌≡◌, true, All, sym, subst}
 use Rattle.std.specs.Prelude.{IfOk}
-use Rattle.cov_model.specs.Valid.{is_valid}
+use Rattle.cov_model.specs.believed.Valid.{is_valid}
 use Rattle.row_text.specs.RowFiles.{suite_seen}
 use Rattle.shorter_suites.specs.Bounds.{least_needed}
-use Rattle.shorter_suites.specs.Shrinking.{IsShrunk}
+use Rattle.shorter_suites.specs.believed.Shrinking.{IsShrunk}
 use Rattle.jeldroft_shrink.proofs.suite.fewer_tests.Goals as goal
 
 pub shrink-requires-clause-valid : goal.shrink-requires-clause-valid

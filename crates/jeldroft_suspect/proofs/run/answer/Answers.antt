@@ -1,10 +1,10 @@
 use Rattle.std.proofs.Common.{subst, sym, ◌∙◌}
-use Rattle.jeldroft_files.specs.Failures.{status_of}
-use Rattle.jeldroft_files.specs.Models.{opts_of}
+use Rattle.jeldroft_files.specs.believed.Failures.{status_of}
+use Rattle.jeldroft_files.specs.believed.Models.{opts_of}
 use Rattle.jeldroft_files.specs.Runs.{IsCalledFor, answer_seen}
 use Rattle.jeldroft_inputs.proofs.Calling.{called_for, called_unread, seen_failed}
 use Rattle.jeldroft_inputs.proofs.InputLemmas.{at_held}
-use Rattle.jeldroft_suspect.specs.Due.{Due, text_of}
+use Rattle.jeldroft_suspect.specs.believed.Due.{Due, text_of}
 use Rattle.jeldroft_suspect.proofs.run.answer.Goals as goal
 
 pub returns-in_err-model-clause-due : goal.returns-in_err-model-clause-due

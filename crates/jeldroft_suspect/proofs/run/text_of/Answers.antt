@@ -1,11 +1,11 @@
 use Rattle.std.proofs.Common.{◌≡◌, map, ap, subst, sym, ◌∙◌}
 use Rattle.suspect_tuples.specs.Told.{found_seen, suspects_seen}
-use Rattle.jeldroft_files.specs.Failures.{status_of}
+use Rattle.jeldroft_files.specs.believed.Failures.{status_of}
 use Rattle.jeldroft_files.specs.Runs.{IsCalledFor}
-use Rattle.jeldroft_files.specs.Tables.{is_comma}
+use Rattle.jeldroft_files.specs.believed.Tables.{is_comma}
 use Rattle.jeldroft_inputs.proofs.Calling.{called_step, called_stopped, seen_failed}
-use Rattle.jeldroft_suspect.specs.Due.{suspected, text_of}
-use Rattle.jeldroft_suspect.specs.SuspectsText.{suspects_text}
+use Rattle.jeldroft_suspect.specs.believed.Due.{suspected, text_of}
+use Rattle.jeldroft_suspect.specs.believed.SuspectsText.{suspects_text}
 use Rattle.jeldroft_suspect.proofs.run.text_of.Goals as goal
 
 pub returns-in_err-suspects-clause-due : goal.returns-in_err-suspects-clause-due

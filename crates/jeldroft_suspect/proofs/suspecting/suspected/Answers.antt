@@ -1,7 +1,7 @@
 use Rattle.std.proofs.lemmas.Result.{IfErr-weaker, IfOk-weaker}
 use Rattle.row_text.specs.RowFiles.{suite_seen}
 use Rattle.suspect_tuples.specs.Told.{suspects_seen}
-use Rattle.jeldroft_files.specs.Tables.{is_comma}
+use Rattle.jeldroft_files.specs.believed.Tables.{is_comma}
 use Rattle.jeldroft_suspect.proofs.FoundLemmas.{found_pairs}
 use Rattle.jeldroft_suspect.proofs.SuspectedLemmas.{suspected_ends, suspected_is}
 use Rattle.jeldroft_suspect.proofs.suspecting.suspected.Goals as goal

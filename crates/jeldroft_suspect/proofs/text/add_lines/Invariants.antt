@@ -1,7 +1,7 @@
 use Rattle.std.proofs.Common.{◌≡◌, ◌++◌, map, take}
 use Rattle.std.specs.List.{flat_map}
 use Rattle.suspect_tuples.specs.Told.{found_seen}
-use Rattle.jeldroft_suspect.specs.SuspectsText.{found_at, line_text}
+use Rattle.jeldroft_suspect.specs.believed.SuspectsText.{found_at, line_text}
 use Rattle.jeldroft_suspect.proofs.text.add_lines.Given as goal
 
 abbrev pub invariant-loop-at : goal.invariant-loop-at

@@ -1,5 +1,5 @@
 use Rattle.std.proofs.Common.{◌≡◌, ◌++◌, take}
-use Rattle.jeldroft_suspect.specs.SuspectsText.{others_text}
+use Rattle.jeldroft_suspect.specs.believed.SuspectsText.{others_text}
 use Rattle.jeldroft_suspect.proofs.text.add_others.Given as goal
 
 abbrev pub invariant-loop-pair : goal.invariant-loop-pair

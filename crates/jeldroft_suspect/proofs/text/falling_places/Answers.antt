@@ -3,9 +3,9 @@ use Rattle.std.specs.Prelude.{All}
 use Rattle.std.specs.List.{range_with_len}
 use Rattle.std.proofs.lemmas.List.{length-map}
 use Rattle.std.proofs.lemmas.List.Sorted.{All-permutation}
-use Rattle.cov_model.specs.Preference.{by_falling_weight}
+use Rattle.cov_model.specs.believed.Preference.{by_falling_weight}
 use Rattle.suspect_tuples.specs.Told.{found_seen}
-use Rattle.jeldroft_suspect.specs.SuspectsText.{found_at}
+use Rattle.jeldroft_suspect.specs.believed.SuspectsText.{found_at}
 use Rattle.jeldroft_suspect.proofs.TextLemmas.{places_exist}
 use Rattle.jeldroft_suspect.proofs.text.falling_places.Goals as goal
 

@@ -2,7 +2,7 @@ use Rattle.std.proofs.Common.{map, rules}
 use Rattle.std.proofs.lemmas.Fn.{always_returns_same}
 use Rattle.cov_model.proofs.SortLemmas.{by_falling_weight-sort}
 use Rattle.suspect_tuples.specs.Told.{found_seen}
-use Rattle.jeldroft_suspect.specs.SuspectsText.{found_at}
+use Rattle.jeldroft_suspect.specs.believed.SuspectsText.{found_at}
 use Rattle.jeldroft_suspect.proofs.text.sort_by_count.Goals as goal
 
 pub returns-clause-sorted : goal.returns-clause-sorted

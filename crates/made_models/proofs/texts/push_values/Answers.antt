@@ -1,4 +1,4 @@
-use Rattle.made_models.specs.MadeModel.{value_behind}
+use Rattle.made_models.specs.believed.MadeModel.{value_behind}
 use Rattle.std.specs.String.{string_bytes}
 use Rattle.made_models.proofs.Drawing.{text_more}
 use Rattle.made_models.proofs.texts.push_values.Goals as goal

@@ -1,6 +1,6 @@
 use Rattle.std.proofs.Common.{ℕ, ◌<◌, None, get_or, length}
 use Rattle.std.specs.Prelude.{IfSome}
-use Rattle.cov_model.specs.Sound.{param_at}
+use Rattle.cov_model.specs.believed.Sound.{param_at}
 use Rattle.marks_tests.proofs.files.is_of_model.Given as goal
 
 abbrev pub invariant-loop-p : goal.invariant-loop-p

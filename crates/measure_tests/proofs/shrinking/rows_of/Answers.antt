@@ -1,7 +1,7 @@
 use Rattle.std.proofs.Common.{rules, ◌≡◌, true, length, All, ◌∙◌, sym, ap, subst, slice_index_or}
 use Rattle.std.proofs.lemmas.List.Elements.{All-push}
 use Rattle.cov_model.specs.Fits.{FitsModel}
-use Rattle.cov_model.specs.Valid.{is_valid}
+use Rattle.cov_model.specs.believed.Valid.{is_valid}
 use Rattle.shared_marks.proofs.OwnTupleLemmas.{of_valid}
 use Rattle.shared_marks.proofs.RowLemmas.{complete_is_row}
 use Rattle.measure_tests.proofs.shrinking.rows_of.Goals as goal

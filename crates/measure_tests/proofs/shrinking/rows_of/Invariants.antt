@@ -1,5 +1,5 @@
 use Rattle.std.proofs.Common.{◌≡◌, true, All}
-use Rattle.cov_model.specs.Valid.{is_valid}
+use Rattle.cov_model.specs.believed.Valid.{is_valid}
 use Rattle.measure_tests.proofs.shrinking.rows_of.Given as goal
 
 abbrev pub invariant-loop-row : goal.invariant-loop-row

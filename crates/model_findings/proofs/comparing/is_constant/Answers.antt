@@ -1,6 +1,6 @@
 use Rattle.std.proofs.Common.{◌||◌, ap, sym, ◌∙◌}
 use Rattle.cov_model.specs.declared.constraint.Term.{Term}
-use Rattle.model_findings.specs.Comparisons.{is_always_true, is_constant, is_never_true}
+use Rattle.model_findings.specs.believed.Comparisons.{is_always_true, is_constant, is_never_true}
 use Rattle.model_findings.proofs.comparing.is_constant.Goals as goal
 
 pub returns-in-ParamIs-clause-is : goal.returns-in-ParamIs-clause-is

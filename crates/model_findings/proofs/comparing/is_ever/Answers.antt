@@ -1,7 +1,7 @@
 use Rattle.std.proofs.Common.{List, ℕ, ap, sym, ◌∙◌}
-use Rattle.cov_model.specs.Kleene.{term_params}
-use Rattle.model_lint.specs.Tests.{no_values}
-use Rattle.model_findings.specs.Comparisons.{is_for_some, is_so}
+use Rattle.cov_model.specs.believed.Kleene.{term_params}
+use Rattle.model_lint.specs.believed.Tests.{no_values}
+use Rattle.model_findings.specs.believed.Comparisons.{is_for_some, is_so}
 use Rattle.model_findings.proofs.comparing.is_ever.Goals as goal
 
 pub returns-in-ParamIs-clause-is : goal.returns-in-ParamIs-clause-is

@@ -1,6 +1,7 @@
 use Rattle.std.proofs.Common.{◌≡◌, All, map, take}
 use Rattle.model_lint.specs.Unused.{value_of}
-use Rattle.model_findings.specs.Findings.{IsExplained, ValueInNoTest, fact_of}
+use Rattle.model_findings.specs.Findings.{IsExplained, fact_of}
+use Rattle.model_findings.specs.believed.Findings.{ValueInNoTest}
 use Rattle.model_findings.proofs.gathering.unused_findings.Given as goal
 
 -- the values before this one are told

@@ -1,6 +1,6 @@
 use Rattle.std.proofs.Common.{◌≡◌, ◌++◌, drop, map}
 use Rattle.cov_model.specs.Views.{preds_in}
-use Rattle.model_findings.specs.Terms.{terms_in_each}
+use Rattle.model_findings.specs.believed.Terms.{terms_in_each}
 use Rattle.model_findings.proofs.terms.+terms.Given as goal
 
 -- with the terms of the predicates from here on they are those of all

@@ -1,5 +1,5 @@
 use Rattle.std.proofs.Common.{◌∙◌, ◌∷◌, ap, map, sym}
-use Rattle.model_lex.specs.Lines.{file_lines, without_return}
+use Rattle.model_lex.specs.believed.Lines.{file_lines, without_return}
 use Rattle.model_lex.proofs.lines.cut_line.Goals as goal
 
 pub returns-clause-lines : goal.returns-clause-lines

@@ -1,6 +1,6 @@
 use Rattle.std.proofs.Common.{◌∙◌, ap}
 use Rattle.std.specs.List.{prefix_len}
-use Rattle.model_lex.specs.Tokens.{is_number_byte}
+use Rattle.model_lex.specs.believed.Tokens.{is_number_byte}
 use Rattle.model_lex.proofs.Runs.{ascii_number, run_ends}
 use Rattle.model_lex.proofs.scan.number_token.Goals as goal
 

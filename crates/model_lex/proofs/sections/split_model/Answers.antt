@@ -1,5 +1,6 @@
 use Rattle.std.proofs.Common.{◌∙◌, sym}
-use Rattle.model_lex.specs.Sections.{sections_of, split_seen}
+use Rattle.model_lex.specs.believed.Sections.{sections_of}
+use Rattle.model_lex.specs.Sections.{split_seen}
 use Rattle.model_lex.proofs.Splitting.{sorts}
 use Rattle.model_lex.proofs.sections.split_model.Goals as goal
 

@@ -1,5 +1,6 @@
 use Rattle.std.proofs.Common.{◌<◌, length, drop, ap, sym, ◌∙◌, arith, length-drop}
-use Rattle.model_lex.specs.Tokens.{first_token, lexed_at}
+use Rattle.model_lex.specs.believed.Tokens.{first_token}
+use Rattle.model_lex.specs.Tokens.{lexed_at}
 use Rattle.model_lex.proofs.Forms.{HasForm, form_at, has_marks, stands, token_behind_blanks}
 use Rattle.model_lex.proofs.token.next_token.Goals as goal
 use Rattle.model_lex.proofs.token.next_token.Goals.{In-Ok}

@@ -1,7 +1,7 @@
 use Rattle.std.proofs.Common.{drop, ap, arith, ◌∙◌}
 use Rattle.std.proofs.lemmas.List.{take_rest}
 use Rattle.std.specs.List.{prefix_len}
-use Rattle.value_text.specs.Texts.{is_blank}
+use Rattle.value_text.specs.believed.Texts.{is_blank}
 use Rattle.model_lex.proofs.Runs.{ascii_blank, run_boundary}
 use Rattle.model_lex.proofs.token.token_start.Goals as goal
 

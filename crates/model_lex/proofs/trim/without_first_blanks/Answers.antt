@@ -1,6 +1,6 @@
 use Rattle.std.proofs.Common.{ap, ◌∙◌}
 use Rattle.std.specs.List.{prefix_len}
-use Rattle.value_text.specs.Texts.{is_blank}
+use Rattle.value_text.specs.believed.Texts.{is_blank}
 use Rattle.model_lex.proofs.Runs.{ascii_blank, run_ends}
 use Rattle.model_lex.proofs.trim.without_first_blanks.Goals as goal
 

@@ -1,7 +1,7 @@
 use Rattle.std.proofs.Common.{◌≡◌, ap, ◌∙◌, arith}
 use Rattle.std.specs.List.{suffix_len}
 use Rattle.std.proofs.lemmas.List.Sums.{suffix_len-le-length}
-use Rattle.value_text.specs.Texts.{is_blank}
+use Rattle.value_text.specs.believed.Texts.{is_blank}
 use Rattle.model_lex.proofs.Runs.{ascii_blank, suffix_cut}
 use Rattle.model_lex.proofs.trim.without_last_blanks.Goals as goal
 

@@ -2,7 +2,7 @@ use Rattle.std.specs.Prelude.{Ok}
 use Rattle.std.proofs.Common.{◌≡◌, Bool, List, true, filter, length, refl, sym, subst, ◌∙◌, arith}
 use Rattle.std.proofs.lemmas.Bool.{false_from_ne_true, false≢true}
 use Rattle.std.proofs.lemmas.Grind.{common_steps}
-use Rattle.definitions.specs.Completion.{is_extendable}
+use Rattle.definitions.specs.believed.Completion.{is_extendable}
 use Rattle.model_lint.specs.Changes.{is_marked}
 use Rattle.model_lint.specs.Marks.{IsThinTo}
 use Rattle.model_lint.specs.Tests.{rule_numbers}

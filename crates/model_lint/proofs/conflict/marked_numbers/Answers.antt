@@ -1,7 +1,7 @@
 use Rattle.std.proofs.Common.{◌<◌, arith, ap, length}
 use Rattle.std.proofs.lemmas.Grind.{common_steps}
 use Rattle.cov_model.specs.Sound.{no_rule}
-use Rattle.cov_model.specs.Views.{RuleView}
+use Rattle.cov_model.specs.believed.Views.{RuleView}
 use Rattle.cov_model.proofs.SoundLemmas.{rule_seen}
 use Rattle.model_lint.specs.Changes.{is_marked}
 use Rattle.model_lint.proofs.Steps.{next_marked}

@@ -1,8 +1,8 @@
 use Rattle.std.proofs.Common.{◌≡◌, arith, ap, length, ◌∙◌}
 use Rattle.std.proofs.lemmas.Grind.{common_steps}
-use Rattle.cov_model.specs.Sound.{ModelView}
+use Rattle.cov_model.specs.believed.Sound.{ModelView}
 use Rattle.model_lint.specs.Changes.{changed, one_changed}
-use Rattle.model_lint.specs.Tests.{has_test, no_values}
+use Rattle.model_lint.specs.believed.Tests.{has_test, no_values}
 use Rattle.model_lint.proofs.Steps.{ok_also}
 use Rattle.model_lint.proofs.constraints.has_test_with.Goals as goal
 

@@ -1,5 +1,6 @@
 use Rattle.std.proofs.Common.{◌++◌, List, ℕ, ap, sym, ◌∙◌}
-use Rattle.model_lint.specs.Tests.{is_unused, unused_in, values_of}
+use Rattle.model_lint.specs.believed.Tests.{is_unused, values_of}
+use Rattle.model_lint.specs.Tests.{unused_in}
 use Rattle.model_lint.proofs.Steps.{params_more}
 use Rattle.model_lint.proofs.unused.unused_values.Goals as goal
 

@@ -1,6 +1,6 @@
 use Rattle.std.proofs.Common.{◌≡◌, All, filter, flat_map, length, map}
 use Rattle.std.specs.List.{range_with_len}
-use Rattle.model_lint.specs.Tests.{is_unused, values_of}
+use Rattle.model_lint.specs.believed.Tests.{is_unused, values_of}
 use Rattle.model_lint.specs.Unused.{IsExplained, value_of}
 use Rattle.model_lint.proofs.unused.unused_values.Given as goal
 

@@ -1,6 +1,6 @@
 use Rattle.std.proofs.Common.{◌≡◌, ◌-◌, ap, ◌∙◌, arith, not, length, take, drop}
 use Rattle.std.specs.List.{suffix_len}
-use Rattle.model_parse.specs.Pieces.{is_byte}
+use Rattle.model_parse.specs.believed.Pieces.{is_byte}
 use Rattle.model_parse.proofs.Cuts.{LastMark, last_mark, none_behind, front_is}
 use Rattle.model_parse.proofs.cut.cut_last.Goals as goal
 use Rattle.model_parse.proofs.cut.cut_last.Goals.{Else-behind-text}

@@ -2,7 +2,7 @@ use Rattle.std.proofs.Common.{ℕ, List, rules, tests, Bor, ◌∙◌}
 use Rattle.std.proofs.lemmas.Iterator.{YieldsList-from_map_by}
 use Rattle.std.proofs.lemmas.Iterator.Consumers.{YieldsList-at, map_from_collect}
 use Rattle.std.proofs.lemmas.Iterator.Splits.{YieldsList-from_str_split}
-use Rattle.model_lex.specs.Blanks.{trimmed}
+use Rattle.model_lex.specs.believed.Blanks.{trimmed}
 use Rattle.model_parse.proofs.cut.pieces.Goals as goal
 
 pub returns : goal.returns

@@ -1,5 +1,5 @@
 use Rattle.std.proofs.Common.{◌≡◌, Result, Ok, Err, sym, ◌∙◌, ap}
-use Rattle.model_lex.specs.Blanks.{trimmed}
+use Rattle.model_lex.specs.believed.Blanks.{trimmed}
 use Rattle.model_lex.specs.Sections.{line_seen}
 use Rattle.model_lex.specs.declared.fault.ModelFault.{ModelFault}
 use Rattle.model_parse.specs.ParamSteps.{read_values, read_param, add_param}

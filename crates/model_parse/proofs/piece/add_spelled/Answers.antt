@@ -1,8 +1,8 @@
 use Rattle.std.proofs.Common.{◌≡◌, ℕ, List, [], None, Bor, map, sym, ◌∙◌, ap}
 use Rattle.std.specs.Prelude.{slice_index_or}
 use Rattle.cov_model.specs.declared.parameter.Value.{Value}
-use Rattle.model_parse.specs.Pieces.{begins_with}
-use Rattle.model_parse.specs.Values.{without_prefix, piece_code, value_of}
+use Rattle.model_parse.specs.believed.Pieces.{begins_with}
+use Rattle.model_parse.specs.believed.Values.{without_prefix, piece_code, value_of}
 use Rattle.model_parse.specs.ValueSteps.{add_value, names_code}
 use Rattle.model_parse.proofs.Answering.{gives_same, accepted_is}
 use Rattle.model_parse.proofs.Weights.{Spells, spelled}

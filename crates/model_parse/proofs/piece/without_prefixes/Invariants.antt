@@ -1,5 +1,5 @@
 use Rattle.std.proofs.Common.{◌≡◌, ℕ, List, Bor, map, take}
-use Rattle.model_parse.specs.Values.{without_prefix}
+use Rattle.model_parse.specs.believed.Values.{without_prefix}
 use Rattle.model_parse.proofs.piece.without_prefixes.Given as goal
 
 abbrev pub invariant-loop-part : goal.invariant-loop-part

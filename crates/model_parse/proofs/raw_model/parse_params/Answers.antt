@@ -1,7 +1,8 @@
 use Rattle.std.proofs.Common.{◌≡◌, Ok, map, length, refl, sym, ◌∙◌, ap}
 use Rattle.model_lex.specs.Sections.{line_seen, split_seen}
 use Rattle.model_parse.specs.GroupSteps.{read_groups}
-use Rattle.model_parse.specs.RawModels.{IsSoundRaw, order_in, raw_model_of}
+use Rattle.model_parse.specs.RawModels.{IsSoundRaw}
+use Rattle.model_parse.specs.believed.RawModels.{order_in, raw_model_of}
 use Rattle.model_parse.specs.ModelSteps.{with_demand}
 use Rattle.model_parse.specs.Steps.{and_then}
 use Rattle.model_parse.specs.declared.raw_model.RawModel.{RawModel}

@@ -2,7 +2,7 @@ use Rattle.std.proofs.Common.{◌≡◌, map, length, sym, ap, ◌∙◌}
 use Rattle.model_lex.specs.Sections.{line_seen}
 use Rattle.model_parse.specs.GroupSteps.{read_groups}
 use Rattle.model_parse.specs.ModelSteps.{with_demand}
-use Rattle.model_parse.specs.RawModels.{order_in}
+use Rattle.model_parse.specs.believed.RawModels.{order_in}
 use Rattle.model_parse.specs.Steps.{and_then}
 use Rattle.model_parse.proofs.Answering.{gives_fault}
 use Rattle.model_parse.proofs.raw_model.read_demand.Goals as goal

@@ -1,12 +1,13 @@
 use Rattle.std.proofs.Common.{◌≡◌, [], true, ap, refl, subst, sym, ◌∙◌}
 use Rattle.std.specs.Prelude.{All}
-use Rattle.cov_model.specs.Valid.{is_row}
+use Rattle.cov_model.specs.believed.Valid.{is_row}
 use Rattle.row_text.specs.RowFiles.{seeds_seen}
 use Rattle.row_text.specs.Told.{statistics_seen}
-use Rattle.pict_cli.specs.Ends.{CountsReads, IsAnswered, IsEarly, Prints, end_of, moment}
-use Rattle.pict_cli.specs.Modes.{Generate, makes_plan}
+use Rattle.pict_cli.specs.believed.Ends.{CountsReads, Prints, end_of, moment}
+use Rattle.pict_cli.specs.Ends.{IsAnswered, IsEarly}
+use Rattle.pict_cli.specs.believed.Modes.{Generate, makes_plan}
 use Rattle.pict_cli.specs.Options.{output_seen, settings_seen}
-use Rattle.pict_cli.specs.Runs.{EndsBehind, growth_of, growth_over, rows_of_run, shuffled_by, suite_text}
+use Rattle.pict_cli.specs.believed.Runs.{EndsBehind, growth_of, growth_over, rows_of_run, shuffled_by, suite_text}
 use Rattle.pict_cli.proofs.Behind.{ends_by, file_read, given_in, proof_same, rows_answered, rows_early, text_same, within_due, work_stopped, work_written}
 use Rattle.pict_cli.proofs.Early.{leaves_early, leaves_from, proof_from, runs_early}
 use Rattle.pict_cli.proofs.Headline.{suite_rows}

@@ -1,11 +1,11 @@
 use Rattle.std.proofs.Common.{ap, subst, ◌∙◌}
-use Rattle.cov_model.specs.Preference.{preference}
-use Rattle.definitions.specs.Growth.{growth}
-use Rattle.definitions.specs.Search.{first_over}
+use Rattle.cov_model.specs.believed.Preference.{preference}
+use Rattle.definitions.specs.believed.Growth.{growth}
+use Rattle.definitions.specs.believed.Search.{first_over}
 use Rattle.feasibility.specs.Ends.{EndsBy}
 use Rattle.row_text.specs.RowFiles.{seeds_seen}
 use Rattle.pict_cli.specs.Options.{settings_seen}
-use Rattle.pict_cli.specs.Runs.{growth_over}
+use Rattle.pict_cli.specs.believed.Runs.{growth_over}
 use Rattle.pict_cli.proofs.Questions.{ends_full}
 use Rattle.pict_cli.proofs.growing.grow.Goals as goal
 

@@ -1,7 +1,7 @@
-use Rattle.cov_model.specs.Preference.{preference}
+use Rattle.cov_model.specs.believed.Preference.{preference}
 use Rattle.std.proofs.Common.{None}
-use Rattle.definitions.specs.Demand.{demanded_tuples}
-use Rattle.definitions.specs.Search.{first_measured_over}
+use Rattle.definitions.specs.believed.Demand.{demanded_tuples}
+use Rattle.definitions.specs.believed.Search.{first_measured_over}
 use Rattle.pict_cli.proofs.Questions.{ends_full}
 use Rattle.pict_cli.proofs.measuring.figures_of.Goals as goal
 

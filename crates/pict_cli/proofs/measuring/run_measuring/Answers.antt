@@ -1,12 +1,14 @@
 use Rattle.std.proofs.Common.{[], ap, inl, refl, subst, sym, ◌∙◌}
 use Rattle.std.proofs.lemmas.List.{append-nil}
-use Rattle.definitions.specs.Figures.{figures}
-use Rattle.definitions.specs.Search.{first_measured_over}
-use Rattle.definitions.specs.Statistics.{figures_text}
-use Rattle.pict_cli.specs.Ends.{CountsReads, IsAnswered, IsEarly, Prints, end_of, moment}
-use Rattle.pict_cli.specs.Modes.{Measure, makes_plan, makes_suite}
+use Rattle.definitions.specs.believed.Figures.{figures}
+use Rattle.definitions.specs.believed.Search.{first_measured_over}
+use Rattle.definitions.specs.believed.Statistics.{figures_text}
+use Rattle.pict_cli.specs.believed.Ends.{CountsReads, Prints, end_of, moment}
+use Rattle.pict_cli.specs.Ends.{IsAnswered, IsEarly}
+use Rattle.pict_cli.specs.believed.Modes.{Measure, makes_plan}
+use Rattle.pict_cli.specs.Modes.{makes_suite}
 use Rattle.pict_cli.specs.Options.{settings_seen}
-use Rattle.pict_cli.specs.Runs.{EndsBehind, rows_of_run, spent_at}
+use Rattle.pict_cli.specs.believed.Runs.{EndsBehind, rows_of_run, spent_at}
 use Rattle.pict_cli.proofs.Behind.{ends_by, file_read, given_in, rows_answered, rows_early, text_same, within_due, work_stopped, work_written}
 use Rattle.pict_cli.proofs.Early.{leaves_early, leaves_from, leaves_printed, runs_early}
 use Rattle.pict_cli.proofs.Measured.{suite_rows, writes_none}

@@ -1,7 +1,7 @@
 use Rattle.std.proofs.Common.{◌≡◌, ◌+◌, [], take, drop}
-use Rattle.definitions.specs.Words.{first_faulty}
+use Rattle.definitions.specs.believed.Words.{first_faulty}
 use Rattle.pict_cli.specs.Options.{IsReading}
-use Rattle.command_line.specs.Words.{texts}
+use Rattle.command_line.specs.believed.Words.{texts}
 use Rattle.pict_cli.proofs.options.read_options.Given as goal
 
 abbrev pub invariant-loop-place : goal.invariant-loop-place

@@ -1,14 +1,14 @@
 use Rattle.std.proofs.Common.{◌≡◌, ℕ, List, [], Some, Err, inr, ap, refl, subst, sym}
 use Rattle.std.specs.Prelude.{IsSomeAnd}
-use Rattle.outside_io.specs.Seen.{ReadFaultsRose}
-use Rattle.command_line.specs.Stops.{stop_of_plan}
+use Rattle.outside_io.specs.believed.Seen.{ReadFaultsRose}
+use Rattle.command_line.specs.believed.Stops.{stop_of_plan}
 use Rattle.command_line.specs.declared.files.FileKind.TheVariants as kinds
 use Rattle.command_line.specs.declared.stop.Stop.TheVariants.{CannotRead}
-use Rattle.pict_cli.specs.Ends.{CountsReads, end_of}
-use Rattle.pict_cli.specs.Modes.{RowSource, row_source, source_in}
+use Rattle.pict_cli.specs.believed.Ends.{CountsReads, end_of}
+use Rattle.pict_cli.specs.believed.Modes.{RowSource, row_source, source_in}
 use Rattle.pict_cli.specs.Options.{settings_seen}
-use Rattle.pict_cli.specs.RowSources.{read_row_bytes}
-use Rattle.pict_cli.specs.Runs.{EndsBehind}
+use Rattle.pict_cli.specs.believed.RowSources.{read_row_bytes}
+use Rattle.pict_cli.specs.believed.Runs.{EndsBehind}
 use Rattle.pict_cli.specs.Steps.{HoldsRows, IsOfRows, StopsRows}
 use Rattle.pict_cli.proofs.Behind.{limited, plan_stopped, rows_counted, rows_stopped, stops_rows, within_due}
 use Rattle.pict_cli.proofs.Early.{reads_stopped}

@@ -1,6 +1,6 @@
 use Rattle.std.proofs.Common.{◌≡◌, Ok, Some, subst, sym}
-use Rattle.suspect_tuples.specs.ResultReading.{read_results}
-use Rattle.pict_cli.specs.Modes.{RowsHeld}
+use Rattle.suspect_tuples.specs.believed.ResultReading.{read_results}
+use Rattle.pict_cli.specs.believed.Modes.{RowsHeld}
 use Rattle.pict_cli.specs.Steps.{HoldsResultsOf}
 use Rattle.pict_cli.proofs.Reading.{at_told}
 use Rattle.pict_cli.proofs.Suspicions.{results_read}

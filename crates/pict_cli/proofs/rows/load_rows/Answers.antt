@@ -1,8 +1,8 @@
 use Rattle.std.proofs.Common.{◌≡◌, Some, subst}
 use Rattle.std.specs.Prelude.{option_map}
 use Rattle.row_text.specs.Readings.{mode_seen}
-use Rattle.pict_cli.specs.Modes.{source_in}
-use Rattle.pict_cli.specs.RowSources.{read_row_bytes}
+use Rattle.pict_cli.specs.believed.Modes.{source_in}
+use Rattle.pict_cli.specs.believed.RowSources.{read_row_bytes}
 use Rattle.pict_cli.specs.Steps.{StopsRows}
 use Rattle.pict_cli.proofs.RowFiles.{if_err_then, no_file, source_held}
 use Rattle.pict_cli.proofs.rows.load_rows.Goals as goal

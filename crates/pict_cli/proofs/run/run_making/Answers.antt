@@ -1,7 +1,7 @@
 use Rattle.std.proofs.Common.{◌≤◌, ◌∙◌, length, refl, sym, subst, arith}
-use Rattle.definitions.specs.Limits.{ModelFile, most_bytes}
+use Rattle.definitions.specs.believed.Limits.{ModelFile, most_bytes}
 use Rattle.made_models.proofs.Lengths.{made_text_is_short}
-use Rattle.pict_cli.specs.Ends.{moment}
+use Rattle.pict_cli.specs.believed.Ends.{moment}
 use Rattle.pict_cli.specs.Options.{settings_seen}
 use Rattle.pict_cli.proofs.MadeRuns.{ran_on_made, ran_unmade}
 use Rattle.pict_cli.proofs.run.run_making.Goals as goal

@@ -2,7 +2,7 @@ use Rattle.std.proofs.Common.{◌≡◌, Err, ap, refl, subst, sym}
 use Rattle.model_parse.specs.RawModels.{AreOpts}
 use Rattle.command_line.specs.declared.files.FileKind.TheVariants as kinds
 use Rattle.command_line.specs.declared.stop.Stop.TheVariants.{CannotRead}
-use Rattle.pict_cli.specs.Ends.{moment}
+use Rattle.pict_cli.specs.believed.Ends.{moment}
 use Rattle.pict_cli.specs.Options.{settings_seen}
 use Rattle.pict_cli.proofs.Reading.{leaves_unread, ran_loaded, ran_unread}
 use Rattle.command_line.proofs.OptsLemmas.{same_opts}

@@ -1,7 +1,7 @@
 use Rattle.std.proofs.Common.{Some, refl, subst, sym}
 use Rattle.model_parse.specs.RawModels.{AreOpts}
-use Rattle.command_line.specs.Loading.{IsLoaded, StopsReading}
-use Rattle.pict_cli.specs.Ends.{moment}
+use Rattle.command_line.specs.believed.Loading.{IsLoaded, StopsReading}
+use Rattle.pict_cli.specs.believed.Ends.{moment}
 use Rattle.pict_cli.specs.Options.{settings_seen}
 use Rattle.pict_cli.proofs.Early.{leaves_early, reads_stopped, stopped_answered, stopped_early}
 use Rattle.pict_cli.proofs.Reading.{ran_loaded, ran_unread}

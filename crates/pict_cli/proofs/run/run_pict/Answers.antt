@@ -1,17 +1,18 @@
 use Rattle.std.proofs.Common.{◌≡◌, Ok, arith, inl, inr, refl, sym, ap, subst, ◌∙◌}
 use Rattle.std.specs.Prelude.{IfSome, IsSomeAnd}
 use Rattle.value_text.proofs.ListLemmas.{one_ok}
-use Rattle.outside_io.specs.Seen.{ReadFaultsRose, WriteFaultsRose}
+use Rattle.outside_io.specs.believed.Seen.{ReadFaultsRose, WriteFaultsRose}
 use Rattle.command_line.specs.declared.files.FileKind.TheVariants as kinds
-use Rattle.definitions.specs.Settings.{Settings}
-use Rattle.pict_cli.specs.Ends.{CountsOut, CountsReads, CountsWrites, IsQuiet, KeepsOthers, KeepsUnwritten, end_of}
+use Rattle.definitions.specs.believed.Settings.{Settings}
+use Rattle.pict_cli.specs.believed.Ends.{CountsOut, CountsReads, CountsWrites, KeepsOthers, KeepsUnwritten, end_of}
+use Rattle.pict_cli.specs.Ends.{IsQuiet}
 use Rattle.pict_cli.specs.Options.{settings_seen}
 use Rattle.pict_cli.specs.Ranges.{FitRun}
-use Rattle.pict_cli.specs.Steps.{HoldsMade}
-use Rattle.pict_cli.specs.Words.{asked_by, model_file, read_of_asked, written_of_asked}
-use Rattle.pict_cli.specs.Runs.{IsStatus, file_names, used_seed}
-use Rattle.command_line.specs.Told.{Tells, end_status, told_text}
-use Rattle.command_line.specs.Words.{texts}
+use Rattle.pict_cli.specs.believed.Steps.{HoldsMade}
+use Rattle.pict_cli.specs.believed.Words.{asked_by, model_file, read_of_asked, written_of_asked}
+use Rattle.pict_cli.specs.believed.Runs.{IsStatus, file_names, used_seed}
+use Rattle.command_line.specs.believed.Told.{Tells, end_status, told_text}
+use Rattle.command_line.specs.believed.Words.{texts}
 use Rattle.pict_cli.proofs.Causes.{complete_end, long_end, missing_end, missing_rows_end, refused_end, stopped_end}
 use Rattle.pict_cli.proofs.RunEnds.{calm_end, covers_whole, eight_is_end, form_known, not_three, not_two, proof_whole, quiet_of}
 use Rattle.pict_cli.proofs.RunEnds.{ran_asked, seven_is_end, status_known, unbroken_end, untouched_end, unwritten_end}

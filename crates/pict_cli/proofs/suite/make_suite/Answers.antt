@@ -1,13 +1,13 @@
 use Rattle.std.proofs.Common.{◌++◌, length, map, take, ap, refl, sym, ◌∙◌}
 use Rattle.std.proofs.lemmas.List.{append-nil}
-use Rattle.definitions.specs.Statistics.{statistics}
+use Rattle.definitions.specs.believed.Statistics.{statistics}
 use Rattle.coverage_measure.proofs.FigureLemmas.{tuples_are}
 use Rattle.row_text.specs.RowFiles.{seeds_seen}
 use Rattle.row_text.specs.Told.{statistics_seen}
 use Rattle.command_line.specs.declared.stop.Stop.TheVariants.{OutOfMemory}
 use Rattle.pict_cli.specs.Options.{settings_seen}
-use Rattle.pict_cli.specs.RowSources.{dropped_note, dropped_notes}
-use Rattle.pict_cli.specs.Runs.{growth_over, notes_behind, orders_of, spent_at}
+use Rattle.pict_cli.specs.believed.RowSources.{dropped_note, dropped_notes}
+use Rattle.pict_cli.specs.believed.Runs.{growth_over, notes_behind, orders_of, spent_at}
 use Rattle.pict_cli.specs.Steps.{StopsWork, no_memory}
 use Rattle.pict_cli.proofs.Questions.{none_spent}
 use Rattle.pict_cli.proofs.Suites.{if_err_of, omitted_count, proof_ready, same_statistics}

@@ -1,6 +1,6 @@
 use Rattle.std.proofs.Common.{◌++◌, ap, sym, ◌∙◌}
 use Rattle.std.proofs.lemmas.List.{take-map}
-use Rattle.pict_cli.specs.RowSources.{dropped_note}
+use Rattle.pict_cli.specs.believed.RowSources.{dropped_note}
 use Rattle.pict_cli.proofs.Suites.{if_err}
 use Rattle.pict_cli.proofs.suite.push_dropped.Goals as goal
 

@@ -1,5 +1,5 @@
 use Rattle.std.proofs.Common.{◌≡◌, ◌++◌, map, take}
-use Rattle.pict_cli.specs.RowSources.{dropped_note}
+use Rattle.pict_cli.specs.believed.RowSources.{dropped_note}
 use Rattle.pict_cli.proofs.suite.push_dropped.Given as goal
 
 abbrev pub invariant-loop-line : goal.invariant-loop-line

@@ -1,15 +1,17 @@
 use Rattle.std.proofs.Common.{◌≡◌, [], None, Err, ap, inl, refl, subst, sym, ◌∙◌}
 use Rattle.std.specs.Prelude.{IsSomeAnd}
 use Rattle.std.proofs.lemmas.List.{append-nil}
-use Rattle.outside_io.specs.Seen.{ReadFaultsRose}
-use Rattle.suspect_tuples.specs.SuspectsText.{suspects_text}
+use Rattle.outside_io.specs.believed.Seen.{ReadFaultsRose}
+use Rattle.suspect_tuples.specs.believed.SuspectsText.{suspects_text}
 use Rattle.command_line.specs.declared.files.FileKind.TheVariants as kinds
 use Rattle.command_line.specs.declared.stop.Stop.TheVariants.{CannotRead}
-use Rattle.pict_cli.specs.Ends.{CountsReads, IsAnswered, IsEarly, Prints, end_of, moment}
-use Rattle.pict_cli.specs.Modes.{Suspect, makes_suite, row_file_in, rows_beside}
+use Rattle.pict_cli.specs.believed.Ends.{CountsReads, Prints, end_of, moment}
+use Rattle.pict_cli.specs.Ends.{IsAnswered, IsEarly}
+use Rattle.pict_cli.specs.believed.Modes.{Suspect, row_file_in, rows_beside}
+use Rattle.pict_cli.specs.Modes.{makes_suite}
 use Rattle.pict_cli.specs.Options.{settings_seen}
-use Rattle.pict_cli.specs.RowSources.{read_bytes, read_result_bytes, read_source}
-use Rattle.pict_cli.specs.Runs.{EndsBehind, candidates_stop, rows_of_run}
+use Rattle.pict_cli.specs.believed.RowSources.{read_bytes, read_result_bytes, read_source}
+use Rattle.pict_cli.specs.believed.Runs.{EndsBehind, candidates_stop, rows_of_run}
 use Rattle.pict_cli.specs.Steps.{HoldsResultsOf, IsDueOrNoMemory, StopsRows}
 use Rattle.pict_cli.proofs.Behind.{ends_by, rows_answered, rows_counted, rows_early, rows_stopped, text_same, work_stopped, work_written}
 use Rattle.pict_cli.proofs.Early.{leaves_early, leaves_from, leaves_printed, reads_stopped, runs_early, stopped_answered, stopped_early}

@@ -1,7 +1,7 @@
 use Rattle.std.proofs.Common.{sym, subst}
 use Rattle.cov_model.proofs.RowLemmas.{FitsModel-is_row}
 use Rattle.cov_model.specs.Fits.{FitsModel}
-use Rattle.cov_model.specs.Sound.{ModelView}
+use Rattle.cov_model.specs.believed.Sound.{ModelView}
 use Rattle.plan_tests.proofs.models.compiled_truth.Goals as goal
 
 pub truth-requires-clause-fits : goal.truth-requires-clause-fits

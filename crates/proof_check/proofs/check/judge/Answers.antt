@@ -1,12 +1,12 @@
 use Rattle.std.proofs.Common.{◌≡◌, [], find, not, ◌∙◌, sym, ap}
 use Rattle.std.proofs.lemmas.Result.{IfOk-weaker}
-use Rattle.cov_model.specs.Valid.{is_valid}
-use Rattle.definitions.specs.Refutation.{first_unrefuted}
-use Rattle.definitions.specs.Verdict.{as_cells, by_omission, verdict}
-use Rattle.refutation.specs.Proofs.{format_of}
+use Rattle.cov_model.specs.believed.Valid.{is_valid}
+use Rattle.definitions.specs.believed.Refutation.{first_unrefuted}
+use Rattle.definitions.specs.believed.Verdict.{as_cells, by_omission, verdict}
+use Rattle.refutation.specs.believed.Proofs.{format_of}
 use Rattle.refutation.specs.Reading.{omissions_meant}
 use Rattle.row_text.specs.RowFiles.{seeds_seen, suite_seen}
-use Rattle.proof_check.specs.Checks.{verdict_given}
+use Rattle.proof_check.specs.believed.Checks.{verdict_given}
 use Rattle.proof_check.proofs.VerdictLemmas.{judged, none_bad, none_mapped}
 use Rattle.proof_check.proofs.check.judge.Goals as goal
 

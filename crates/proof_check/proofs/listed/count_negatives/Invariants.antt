@@ -1,6 +1,6 @@
 use Rattle.std.proofs.Common.{◌≡◌, take}
 use Rattle.std.specs.List.{count_by}
-use Rattle.cov_model.specs.Meaning.{value_at}
+use Rattle.cov_model.specs.believed.Meaning.{value_at}
 use Rattle.proof_check.proofs.listed.count_negatives.Given as goal
 
 abbrev pub invariant-loop-pair : goal.invariant-loop-pair

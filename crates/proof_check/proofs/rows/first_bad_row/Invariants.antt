@@ -1,6 +1,6 @@
 use Rattle.std.proofs.Common.{◌≡◌, find, not, drop}
 use Rattle.std.specs.Prelude.{map}
-use Rattle.cov_model.specs.Valid.{is_valid}
+use Rattle.cov_model.specs.believed.Valid.{is_valid}
 use Rattle.row_text.specs.RowFiles.{row_seen}
 use Rattle.proof_check.proofs.rows.first_bad_row.Given as goal
 

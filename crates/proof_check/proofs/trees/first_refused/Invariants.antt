@@ -1,5 +1,5 @@
 use Rattle.std.proofs.Common.{◌≡◌, length}
-use Rattle.refutation.specs.Proofs.{format_of}
+use Rattle.refutation.specs.believed.Proofs.{format_of}
 use Rattle.proof_check.proofs.TreeSteps.{first_from}
 use Rattle.proof_check.proofs.trees.first_refused.Given as goal
 

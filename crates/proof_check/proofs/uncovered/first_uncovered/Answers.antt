@@ -1,8 +1,8 @@
 use Rattle.std.proofs.Common.{◌≡◌, [], get_or, option_map, ◌∙◌}
 use Rattle.std.proofs.lemmas.Result.{IfOk-weaker}
-use Rattle.definitions.specs.Demand.{demanded_tuples}
-use Rattle.definitions.specs.Pairs.{pairs_of}
-use Rattle.definitions.specs.Verdict.{first_uncovered}
+use Rattle.definitions.specs.believed.Demand.{demanded_tuples}
+use Rattle.definitions.specs.believed.Pairs.{pairs_of}
+use Rattle.definitions.specs.believed.Verdict.{first_uncovered}
 use Rattle.refutation.specs.Reading.{omissions_meant}
 use Rattle.row_text.specs.RowFiles.{suite_seen}
 use Rattle.proof_check.proofs.VerdictLemmas.{open_found}

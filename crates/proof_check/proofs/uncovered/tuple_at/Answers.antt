@@ -1,8 +1,8 @@
 use Rattle.std.proofs.Common.{◌≡◌, ℕ, ◌-◌, List, [], Option, Some, get_or, ap, arith}
 use Rattle.std.specs.Prelude.{slice_get, sum}
 use Rattle.std.proofs.lemmas.Result.{IfOk-weaker}
-use Rattle.definitions.specs.Demand.{demanded_tuples, tuples_of}
-use Rattle.definitions.specs.Pairs.{pairs_of}
+use Rattle.definitions.specs.believed.Demand.{demanded_tuples, tuples_of}
+use Rattle.definitions.specs.believed.Pairs.{pairs_of}
 use Rattle.tuple_index.specs.Plan.{PlanView, set_at}
 use Rattle.shared_marks.proofs.PlaceLemmas.{all_places}
 use Rattle.proof_check.proofs.TupleSteps.{in_place}

@@ -1,8 +1,8 @@
 use Rattle.std.proofs.Common.{◌≡◌, ℕ, List, Option, Some, length, ◌∙◌, sym, ap, subst, arith}
 use Rattle.std.specs.Prelude.{slice_get}
 use Rattle.std.proofs.lemmas.Result.{IfOk-weaker}
-use Rattle.definitions.specs.Demand.{tuples_of}
-use Rattle.definitions.specs.Pairs.{pairs_of}
+use Rattle.definitions.specs.believed.Demand.{tuples_of}
+use Rattle.definitions.specs.believed.Pairs.{pairs_of}
 use Rattle.tuple_index.specs.Places.{RisesFrom}
 use Rattle.tuple_index.specs.Plan.{set_at}
 use Rattle.tuple_index.proofs.RankLemmas.{choice_long}

@@ -1,5 +1,5 @@
 use Rattle.std.proofs.Common.{◌≡◌, ◌-◌, drop}
-use Rattle.definitions.specs.ProofText.{is_rising}
+use Rattle.definitions.specs.believed.ProofText.{is_rising}
 use Rattle.refutation.proofs.reading.is_rising.Given as goal
 
 abbrev pub invariant-loop-i : goal.invariant-loop-i

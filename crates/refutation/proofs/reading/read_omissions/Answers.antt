@@ -1,8 +1,8 @@
 use Rattle.std.proofs.Common.{◌≡◌, Ok, ◌∙◌, sym, ap}
 use Rattle.std.specs.Prelude.{option_map}
-use Rattle.definitions.specs.ProofText.{omissions_of, read_lines, with_format}
+use Rattle.definitions.specs.believed.ProofText.{omissions_of, read_lines, with_format}
 use Rattle.definitions.proofs.ProofFiles.{proofs_have_one_text}
-use Rattle.refutation.specs.Proofs.{format_of}
+use Rattle.refutation.specs.believed.Proofs.{format_of}
 use Rattle.refutation.specs.Reading.{omissions_meant, pieces, proof_meant}
 use Rattle.refutation.proofs.FileLemmas.{first_format, tuples_exist}
 use Rattle.refutation.proofs.reading.read_omissions.Goals as goal

@@ -1,12 +1,12 @@
 use Rattle.std.proofs.Common.{◌≡◌, ◌∙◌, ◌^◌, ◌-◌, length, sym, ap, subst}
-use Rattle.cov_model.specs.Sound.{ModelView}
+use Rattle.cov_model.specs.believed.Sound.{ModelView}
 use Rattle.cov_model.specs.declared.slice.Slice.{Slice}
 use Rattle.cov_model.specs.declared.slice.Slice.TheVariants.{Positive}
-use Rattle.cov_model.specs.Slices.{slice_of}
-use Rattle.definitions.specs.Completion.{is_extendable}
-use Rattle.definitions.specs.Covering.{IsUnserved}
+use Rattle.cov_model.specs.believed.Slices.{slice_of}
+use Rattle.definitions.specs.believed.Completion.{is_extendable}
+use Rattle.definitions.specs.believed.Covering.{IsUnserved}
 use Rattle.definitions.specs.Pairs.{cells_of}
-use Rattle.definitions.specs.Search.{plain_cost}
+use Rattle.definitions.specs.believed.Search.{plain_cost}
 use Rattle.definitions.specs.SliceRows.{IsOfSlice}
 use Rattle.feasibility.specs.Answers.{answer_of}
 use Rattle.feasibility.specs.Solving.{SolverView}

@@ -1,6 +1,6 @@
 use Rattle.std.proofs.Common.{◌≡◌, ◌++◌, take}
 use Rattle.std.specs.Prelude.{flat_map}
-use Rattle.row_forms.specs.Csv.{doubled}
+use Rattle.row_forms.specs.believed.Csv.{doubled}
 use Rattle.row_forms.proofs.csv_cell.add_doubled.Given as goal
 
 abbrev pub invariant-loop-byte : goal.invariant-loop-byte

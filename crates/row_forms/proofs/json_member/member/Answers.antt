@@ -1,7 +1,7 @@
 use Rattle.std.proofs.Common.{◌∙◌, ◌++◌, ◌∷◌, [], List, ap}
 use Rattle.std.specs.Option.{option_copied}
 use Rattle.json.specs.Token.{Token, key}
-use Rattle.row_forms.specs.Json.{cell_token}
+use Rattle.row_forms.specs.believed.Json.{cell_token}
 use Rattle.row_forms.proofs.MemberText.{written-member}
 use Rattle.row_forms.proofs.json_member.member.Goals as goal
 

@@ -1,5 +1,5 @@
 use Rattle.std.proofs.Common.{◌≡◌, ◌++◌, take}
-use Rattle.row_forms.specs.Markdown.{escaped}
+use Rattle.row_forms.specs.believed.Markdown.{escaped}
 use Rattle.row_forms.proofs.markdown_cell.add_escaped.Given as goal
 
 abbrev pub invariant-loop-byte : goal.invariant-loop-byte

@@ -1,6 +1,6 @@
 use Rattle.std.proofs.Common.{◌≡◌, ◌++◌, drop}
 use Rattle.std.specs.Prelude.{flat_map}
-use Rattle.row_forms.specs.Forms.{dashes}
+use Rattle.row_forms.specs.believed.Forms.{dashes}
 use Rattle.row_forms.specs.Seen.{names_seen}
 use Rattle.row_forms.proofs.pieces.add_dashes.Given as goal
 

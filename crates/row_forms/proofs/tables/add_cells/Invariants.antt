@@ -1,6 +1,6 @@
 use Rattle.std.proofs.Common.{◌≡◌, ◌++◌, true, drop}
 use Rattle.row_forms.specs.Seen.{cells_seen, names_seen}
-use Rattle.row_forms.specs.Tables.{is_single, pieces}
+use Rattle.row_forms.specs.believed.Tables.{is_single, pieces}
 use Rattle.row_forms.proofs.tables.add_cells.Given as goal
 
 -- what is added with what the cells that are left add is what all add

@@ -1,5 +1,5 @@
 use Rattle.std.proofs.Common.{◌≡◌, length, find, nat_lt}
-use Rattle.definitions.specs.RowFile.{cells_of_line}
+use Rattle.definitions.specs.believed.RowFile.{cells_of_line}
 use Rattle.row_text.proofs.file_rows.first_wide.Given as goal
 
 abbrev pub invariant-loop-line : goal.invariant-loop-line

@@ -1,7 +1,7 @@
 use Rattle.std.proofs.Common.{map, ◌++◌, refl, sym, ◌∙◌, ap, subst}
-use Rattle.definitions.specs.RowFile.{named_param, row_of_line}
-use Rattle.definitions.specs.RowReading.{value_notes}
-use Rattle.row_text.specs.Readings.{note_told}
+use Rattle.definitions.specs.believed.RowFile.{named_param, row_of_line}
+use Rattle.definitions.specs.believed.RowReading.{value_notes}
+use Rattle.row_text.specs.believed.Readings.{note_told}
 use Rattle.row_text.specs.RowLines.{AreOnce, line_seen}
 use Rattle.row_text.proofs.ReadingSteps.{line_goes_on}
 use Rattle.row_text.proofs.file_rows.read_lines.Goals as goal

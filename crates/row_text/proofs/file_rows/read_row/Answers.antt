@@ -1,8 +1,8 @@
 use Rattle.std.proofs.Common.{◌<◌, ◌∷◌, [], ◌++◌, Bool, cond, None, length, get_or, refl, ◌∙◌, ap, arith}
 use Rattle.std.specs.Prelude.{replicate}
-use Rattle.definitions.specs.RowFile.{cells_of_line}
-use Rattle.definitions.specs.RowReading.{UnknownValue}
-use Rattle.row_text.specs.Readings.{note_told}
+use Rattle.definitions.specs.believed.RowFile.{cells_of_line}
+use Rattle.definitions.specs.believed.RowReading.{UnknownValue}
+use Rattle.row_text.specs.believed.Readings.{note_told}
 use Rattle.row_text.specs.RowLines.{is_unknown_cell, with_cell}
 use Rattle.row_text.proofs.RowSteps.{next_of_left, row_begins, row_ends, row_goes_on}
 use Rattle.row_text.proofs.file_rows.read_row.Goals as goal

@@ -1,5 +1,5 @@
 use Rattle.std.proofs.Common.{◌≡◌, ◌≤◌, length}
-use Rattle.definitions.specs.RowFile.{cells_of_line}
+use Rattle.definitions.specs.believed.RowFile.{cells_of_line}
 use Rattle.row_text.proofs.RowSteps.{RowSoFar}
 use Rattle.row_text.proofs.file_rows.read_row.Given as goal
 

@@ -4,7 +4,7 @@ use Rattle.std.specs.Option.{option_or}
 use Rattle.std.proofs.lemmas.Bool.{cond-false, cond-true}
 use Rattle.std.proofs.lemmas.List.FromFn.{length-map-range_with_len}
 use Rattle.std.specs.List.{count_by}
-use Rattle.definitions.specs.RowReading.{missing_fault}
+use Rattle.definitions.specs.believed.RowReading.{missing_fault}
 use Rattle.row_text.specs.Readings.{mode_seen}
 use Rattle.row_text.proofs.ColumnSteps.{counts_are, is_of, twice_is}
 use Rattle.row_text.proofs.header.check_columns.Goals as goal

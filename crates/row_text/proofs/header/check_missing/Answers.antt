@@ -1,6 +1,6 @@
 use Rattle.std.proofs.Common.{sym, ◌∙◌, ap}
 use Rattle.std.specs.Option.{option_map}
-use Rattle.definitions.specs.RowReading.{Missing}
+use Rattle.definitions.specs.believed.RowReading.{Missing}
 use Rattle.row_text.proofs.ColumnSteps.{missing_is}
 use Rattle.row_text.proofs.header.check_missing.Goals as goal
 

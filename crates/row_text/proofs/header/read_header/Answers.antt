@@ -1,7 +1,7 @@
 use Rattle.std.proofs.Common.{map, length, ◌∙◌, ap, refl, ◌<◌}
 use Rattle.std.specs.Prelude.{IfSome}
 use Rattle.std.proofs.lemmas.List.Elements.{All-same}
-use Rattle.definitions.specs.RowFile.{cells_of_line, named_param}
+use Rattle.definitions.specs.believed.RowFile.{cells_of_line, named_param}
 use Rattle.row_text.proofs.ColumnSteps.{header_begins, header_ends, header_goes_on, params_exist}
 use Rattle.row_text.proofs.header.read_header.Goals as goal
 

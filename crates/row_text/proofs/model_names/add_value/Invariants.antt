@@ -2,8 +2,8 @@ use Rattle.std.proofs.Common.{◌≡◌, ℕ, List, cond, Some, None, take}
 use Rattle.std.specs.List.{list_any}
 use Rattle.std.specs.Option.{option_or}
 use Rattle.std.specs.Str.{bytes_eq}
-use Rattle.value_text.specs.Texts.{folded}
-use Rattle.definitions.specs.Report.{printed}
+use Rattle.value_text.specs.believed.Texts.{folded}
+use Rattle.definitions.specs.believed.Report.{printed}
 use Rattle.row_text.specs.Lookups.{number_of}
 use Rattle.row_text.proofs.model_names.add_value.Given as goal
 

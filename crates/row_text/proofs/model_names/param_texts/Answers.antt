@@ -1,7 +1,7 @@
 use Rattle.std.proofs.Common.{◌≡◌, Some, None, cond, get_or, ◌∙◌, sym, ap, ap₂}
 use Rattle.std.specs.Option.{option_or}
 use Rattle.std.specs.Str.{bytes_eq}
-use Rattle.value_text.specs.Texts.{folded}
+use Rattle.value_text.specs.believed.Texts.{folded}
 use Rattle.row_text.specs.Lookups.{is_param_named}
 use Rattle.row_text.proofs.LookingUp.{position_more}
 use Rattle.row_text.proofs.model_names.param_texts.Goals as goal

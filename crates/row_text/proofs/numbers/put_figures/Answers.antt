@@ -1,4 +1,4 @@
-use Rattle.definitions.specs.Statistics.{figures_text}
+use Rattle.definitions.specs.believed.Statistics.{figures_text}
 use Rattle.row_text.specs.Told.{figures_seen}
 use Rattle.row_text.proofs.Sending.{Adds-then, Holds-all}
 use Rattle.row_text.proofs.numbers.put_figures.Goals as goal

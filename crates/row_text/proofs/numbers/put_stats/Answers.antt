@@ -1,4 +1,4 @@
-use Rattle.definitions.specs.Statistics.{statistics_text}
+use Rattle.definitions.specs.believed.Statistics.{statistics_text}
 use Rattle.row_text.specs.Told.{statistics_seen}
 use Rattle.row_text.proofs.Sending.{Adds-then, Holds-all}
 use Rattle.row_text.proofs.numbers.put_stats.Goals as goal

@@ -1,5 +1,5 @@
 use Rattle.std.proofs.Common.{◌∷◌, sym, ap, subst, ◌∙◌}
-use Rattle.definitions.specs.RowReading.{read_numbered}
+use Rattle.definitions.specs.believed.RowReading.{read_numbered}
 use Rattle.row_text.specs.Readings.{Reads, mode_seen}
 use Rattle.row_text.specs.RowLines.{line_seen}
 use Rattle.row_text.proofs.reading.read_rows.Goals as goal

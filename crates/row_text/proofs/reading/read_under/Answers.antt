@@ -1,7 +1,7 @@
 use Rattle.std.proofs.Common.{◌≡◌, length, Err, sym, ◌∙◌, ap, rules, arith}
 use Rattle.value_text.proofs.ListLemmas.{option_or_parts}
-use Rattle.definitions.specs.RowFile.{cells_of_line}
-use Rattle.definitions.specs.RowReading.{count_fault, missing_fault, twice_fault, width_fault}
+use Rattle.definitions.specs.believed.RowFile.{cells_of_line}
+use Rattle.definitions.specs.believed.RowReading.{count_fault, missing_fault, twice_fault, width_fault}
 use Rattle.row_text.specs.Readings.{mode_seen}
 use Rattle.row_text.specs.RowFiles.{seeds_seen}
 use Rattle.row_text.specs.RowLines.{line_seen}

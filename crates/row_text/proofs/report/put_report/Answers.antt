@@ -1,5 +1,5 @@
 use Rattle.std.proofs.Common.{sym, subst, ◌∙◌}
-use Rattle.definitions.specs.Report.{report_text}
+use Rattle.definitions.specs.believed.Report.{report_text}
 use Rattle.row_text.specs.Turns.{IsFor}
 use Rattle.row_text.proofs.Turning.{first_turns-IsFor}
 use Rattle.row_text.proofs.Sending.{Adds-then, Holds-all}

@@ -2,8 +2,8 @@ use Rattle.std.proofs.Common.{◌≡◌, ◌<◌, ◌≤◌, ◌+◌, ◌++◌, 
 use Rattle.std.specs.List.{join_with_byte, range_with_len}
 use Rattle.std.proofs.lemmas.List.FromFn.{length-range_with_len, get_or-range_with_len, length-map-range_with_len}
 use Rattle.std.proofs.lemmas.List.{take_all}
-use Rattle.cov_model.specs.Valid.{param_numbers}
-use Rattle.definitions.specs.Report.{cell_text}
+use Rattle.cov_model.specs.believed.Valid.{param_numbers}
+use Rattle.definitions.specs.believed.Report.{cell_text}
 use Rattle.row_text.specs.Turns.{AreTurns, turns_at}
 use Rattle.row_text.proofs.Lines.{line_more}
 use Rattle.row_text.proofs.Sending.{Adds-then, Adds-same}

@@ -1,8 +1,8 @@
 use Rattle.std.proofs.Common.{ℕ, ◌+◌, ◌<◌, ◌≤◌, [], map, take, length}
 use Rattle.std.specs.Prelude.{slice_index_or}
 use Rattle.std.specs.List.{join_with_byte}
-use Rattle.cov_model.specs.Valid.{param_numbers}
-use Rattle.definitions.specs.Report.{cell_text}
+use Rattle.cov_model.specs.believed.Valid.{param_numbers}
+use Rattle.definitions.specs.believed.Report.{cell_text}
 use Rattle.row_text.specs.Buffering.{Adds}
 use Rattle.row_text.specs.Turns.{IsFor, AreTurns, turns_at}
 use Rattle.row_text.proofs.report.put_row.Given as goal

@@ -1,5 +1,5 @@
 use Rattle.std.proofs.Common.{ℕ, ◌<◌, [], take, length}
-use Rattle.definitions.specs.Report.{row_lines}
+use Rattle.definitions.specs.believed.Report.{row_lines}
 use Rattle.row_text.specs.Buffering.{Adds}
 use Rattle.row_text.specs.Turns.{IsFor, AreTurns, turns_at}
 use Rattle.row_text.proofs.report.put_rows.Given as goal

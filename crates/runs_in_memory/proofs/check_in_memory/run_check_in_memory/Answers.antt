@@ -1,12 +1,12 @@
 use Rattle.std.proofs.Common.{◌^◌, ◌-◌, ◌++◌, refl, arith}
 use Rattle.std.specs.Prelude.{min}
 use Rattle.std.proofs.lemmas.Option.{same_Some}
-use Rattle.definitions.specs.Laws.{IsCertified}
-use Rattle.definitions.specs.Verdict.{verdict, verdict_text}
-use Rattle.definitions.specs.Words.{read_check_words}
-use Rattle.command_line.specs.Words.{opts_of, texts}
-use Rattle.check_cli.specs.Runs.{HasReadings}
-use Rattle.check_cli.specs.Words.{names_in}
+use Rattle.definitions.specs.believed.Laws.{IsCertified}
+use Rattle.definitions.specs.believed.Verdict.{verdict, verdict_text}
+use Rattle.definitions.specs.believed.Words.{read_check_words}
+use Rattle.command_line.specs.believed.Words.{opts_of, texts}
+use Rattle.check_cli.specs.believed.Runs.{HasReadings}
+use Rattle.check_cli.specs.believed.Words.{names_in}
 use Rattle.runs_in_memory.specs.CheckFiles.{held_in}
 use Rattle.check_cli.proofs.RunEnds.{asked_or_three, readings_then, three_is_none}
 use Rattle.runs_in_memory.proofs.check_in_memory.run_check_in_memory.Goals as goal

@@ -1,11 +1,11 @@
 use Rattle.std.proofs.Common.{◌≡◌, ◌^◌, ◌-◌, ℕ, List, Option, None, Some, true, ap, refl}
 use Rattle.std.specs.Prelude.{min, option_and_then}
 use Rattle.memory_io.specs.MemFolder.{Slot, file_of}
-use Rattle.definitions.specs.Settings.{Settings}
+use Rattle.definitions.specs.believed.Settings.{Settings}
 use Rattle.runs_in_memory.specs.PictFiles.{model_in, model_under, source_of, source_under}
-use Rattle.pict_cli.specs.Modes.{model_from, model_source, prints_rows, row_file, row_source, source_in}
-use Rattle.command_line.specs.Words.{opts_of, texts}
-use Rattle.pict_cli.specs.Words.{asked_by, model_file}
+use Rattle.pict_cli.specs.believed.Modes.{model_from, model_source, prints_rows, row_file, row_source, source_in}
+use Rattle.command_line.specs.believed.Words.{opts_of, texts}
+use Rattle.pict_cli.specs.believed.Words.{asked_by, model_file}
 use Rattle.pict_cli.proofs.RunEnds.{asked_or_three, model_then, prints_of_a_file}
 use Rattle.runs_in_memory.proofs.SeqRuns.{each_name}
 use Rattle.runs_in_memory.proofs.pict_in_memory.run_pict_in_memory.Goals as goal

@@ -1,7 +1,7 @@
 use Rattle.std.proofs.Common.{◌^◌, ◌-◌, refl, arith}
 use Rattle.std.specs.Prelude.{min}
-use Rattle.seq_cli.specs.Words.{asked_by}
-use Rattle.command_line.specs.Words.{texts}
+use Rattle.seq_cli.specs.believed.Words.{asked_by}
+use Rattle.command_line.specs.believed.Words.{texts}
 use Rattle.runs_in_memory.proofs.SeqRuns.{asked_or_three, each_name, some_then}
 use Rattle.runs_in_memory.proofs.seq_in_memory.run_seq_in_memory.Goals as goal
 

@@ -1,6 +1,6 @@
 use Rattle.std.proofs.Common.{◌≡◌, ◌∙◌, length, true, sym, ap}
 use Rattle.std.proofs.lemmas.List.Elements.{All-weaker}
-use Rattle.cov_model.specs.Valid.{is_row}
+use Rattle.cov_model.specs.believed.Valid.{is_row}
 use Rattle.cov_model.proofs.RowLemmas.{FitsModel-is_row}
 use Rattle.search_tests.proofs.reports.rows_of.Goals as goal
 

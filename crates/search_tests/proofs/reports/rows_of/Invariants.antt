@@ -1,5 +1,5 @@
 use Rattle.std.proofs.Common.{◌≡◌, true, All}
-use Rattle.cov_model.specs.Valid.{is_row}
+use Rattle.cov_model.specs.believed.Valid.{is_row}
 use Rattle.search_tests.proofs.reports.rows_of.Given as goal
 
 abbrev pub invariant-loop-first : goal.invariant-loop-first

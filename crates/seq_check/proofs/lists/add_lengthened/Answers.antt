@@ -1,5 +1,5 @@
 use Rattle.std.proofs.Common.{◌≡◌, ◌++◌, ◌∷◌, [], ◌∙◌, ap, sym, rules, append_assoc}
-use Rattle.seq_check.specs.Orders.{lengthened}
+use Rattle.seq_check.specs.believed.Orders.{lengthened}
 use Rattle.seq_check.proofs.ListSteps.{lengthened_skips, lengthened_takes}
 use Rattle.seq_check.proofs.lists.add_lengthened.Goals as goal
 

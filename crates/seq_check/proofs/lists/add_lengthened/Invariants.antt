@@ -1,5 +1,5 @@
 use Rattle.std.proofs.Common.{◌≡◌, ◌++◌}
-use Rattle.seq_check.specs.Orders.{lengthened}
+use Rattle.seq_check.specs.believed.Orders.{lengthened}
 use Rattle.seq_check.proofs.lists.add_lengthened.Given as goal
 
 abbrev pub invariant-loop-event : goal.invariant-loop-event

@@ -1,5 +1,5 @@
 use Rattle.std.proofs.Common.{◌≡◌}
-use Rattle.seq_check.specs.Orders.{distinct_lists}
+use Rattle.seq_check.specs.believed.Orders.{distinct_lists}
 use Rattle.seq_check.proofs.lists.distinct_lists.Given as goal
 
 abbrev pub invariant-loop-turn : goal.invariant-loop-turn

@@ -1,6 +1,6 @@
 use Rattle.std.proofs.Common.{◌≡◌, ◌∙◌, ◌++◌, ◌∷◌, [], ap, sym, rules}
 use Rattle.seq_check.specs.EventSets.{places}
-use Rattle.seq_check.specs.Orders.{place}
+use Rattle.seq_check.specs.believed.Orders.{place}
 use Rattle.seq_check.proofs.PlaceLemmas.{mapped_more}
 use Rattle.seq_check.proofs.places.places_of.Goals as goal
 

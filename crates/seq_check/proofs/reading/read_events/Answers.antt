@@ -1,6 +1,6 @@
 use Rattle.std.proofs.Common.{◌≡◌, ◌∙◌, sym, arith, rules, ◌≤◌, length, ◌^◌, Err}
 use Rattle.std.proofs.lemmas.Bool.{eqb-true}
-use Rattle.model_lex.specs.Lines.{without_mark}
+use Rattle.model_lex.specs.believed.Lines.{without_mark}
 use Rattle.seq_check.proofs.ReadingSteps.{begins, reads, stops, ends}
 use Rattle.seq_check.proofs.reading.read_events.Goals as goal
 use Rattle.model_lex.proofs.OrderMark.{unmarked_within}

@@ -1,5 +1,5 @@
 use Rattle.std.proofs.Common.{length}
-use Rattle.model_lex.specs.Lines.{numbered_lines}
+use Rattle.model_lex.specs.believed.Lines.{numbered_lines}
 use Rattle.seq_check.specs.Reading.{SoFar}
 use Rattle.seq_check.proofs.reading.read_events.Given as goal
 

@@ -1,7 +1,7 @@
 use Rattle.std.proofs.Common.{◌&&◌, ◌∙◌, ap, sym, not, eqb, drop, get_or, arith}
 use Rattle.std.specs.List.{list_all}
 use Rattle.std.proofs.lemmas.List.{take_rest}
-use Rattle.seq_check.specs.Orders.{steps}
+use Rattle.seq_check.specs.believed.Orders.{steps}
 use Rattle.seq_check.proofs.StepLemmas.{apart, distinct_step}
 use Rattle.seq_check.proofs.report_line.+are_distinct.Goals as goal
 

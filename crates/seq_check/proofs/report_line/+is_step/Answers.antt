@@ -1,7 +1,7 @@
 use Rattle.std.proofs.Common.{◌&&◌, ◌||◌, ◌∙◌, ap, sym, eqb, drop, get_or, arith}
 use Rattle.std.specs.List.{list_any}
 use Rattle.std.proofs.lemmas.List.{take_rest}
-use Rattle.seq_check.specs.Orders.{is_arrow, steps}
+use Rattle.seq_check.specs.believed.Orders.{is_arrow, steps}
 use Rattle.seq_check.proofs.StepLemmas.{arrow_step}
 use Rattle.seq_check.proofs.report_line.+is_step.Goals as goal
 

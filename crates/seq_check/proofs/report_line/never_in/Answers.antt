@@ -1,6 +1,6 @@
 use Rattle.std.proofs.Common.{◌≡◌, ℕ, ◌+◌, ◌-◌, List, ◌∙◌, cond, ap, sym, Bor, map, take, drop, Some, arith}
 use Rattle.std.proofs.lemmas.Bool.{and_parts}
-use Rattle.seq_check.specs.OrderReport.{Never, Wrong, has_marks, numbers_of}
+use Rattle.seq_check.specs.believed.OrderReport.{Never, Wrong, has_marks, numbers_of}
 use Rattle.seq_check.proofs.StepLemmas.{good_is, never_when, rest_of}
 use Rattle.seq_check.proofs.report_line.never_in.Goals as goal
 

@@ -1,6 +1,6 @@
 use Rattle.std.proofs.Common.{ℕ, ◌-◌, List, ◌∙◌, ap, sym, Bor, map, take, drop}
 use Rattle.std.proofs.lemmas.List.{take-map}
-use Rattle.seq_check.specs.OrderReport.{numbers_of}
+use Rattle.seq_check.specs.believed.OrderReport.{numbers_of}
 use Rattle.seq_check.proofs.StepLemmas.{drop_map}
 use Rattle.seq_check.proofs.report_line.numbers_between.Goals as goal
 

@@ -1,5 +1,5 @@
 use Rattle.std.proofs.Common.{◌≡◌, ℕ, List, [], ◌∷◌, ◌++◌, ◌∙◌, ap, sym, Bor, get_or, rules}
-use Rattle.seq_check.specs.EventFile.{number_of}
+use Rattle.seq_check.specs.believed.EventFile.{number_of}
 use Rattle.seq_check.proofs.StepLemmas.{none_known, one_known}
 use Rattle.seq_check.proofs.report_line.numbers_of.Goals as goal
 

@@ -1,6 +1,6 @@
 use Rattle.std.proofs.Common.{◌≡◌, ◌<◌, All, true, map, take, length, unwrap_or, is_some}
 use Rattle.std.specs.List.{list_all}
-use Rattle.seq_check.specs.EventFile.{number_of}
+use Rattle.seq_check.specs.believed.EventFile.{number_of}
 use Rattle.seq_check.proofs.report_line.numbers_of.Given as goal
 
 abbrev pub invariant-loop-text : goal.invariant-loop-text

@@ -2,7 +2,7 @@ use Rattle.std.proofs.Common.{◌≡◌, ◌&&◌, ◌∙◌, ap, length}
 use Rattle.std.specs.List.{list_all}
 use Rattle.std.proofs.lemmas.List.FromFn.{length-map-range_with_len}
 use Rattle.seq_check.specs.EventSets.{is_lower, places}
-use Rattle.seq_check.specs.Orders.{place}
+use Rattle.seq_check.specs.believed.Orders.{place}
 use Rattle.seq_check.proofs.StepLemmas.{below_is, lower_is, permitted_by}
 use Rattle.seq_check.proofs.report_line.permitted_places.Goals as goal
 

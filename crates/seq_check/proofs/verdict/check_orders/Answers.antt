@@ -5,9 +5,9 @@ use Rattle.std.proofs.lemmas.Bool.{eqb-true}
 use Rattle.std.proofs.lemmas.List.Elements.{All-weaker}
 use Rattle.std.proofs.lemmas.List.FromFn.{length-map-range_with_len}
 use Rattle.seq_check.specs.EventSets.{IsFront, IsLine, Tells, is_open, rises}
-use Rattle.seq_check.specs.OrderReport.{report_line_of}
-use Rattle.seq_check.specs.Orders.{distinct_lists, place}
-use Rattle.seq_check.specs.Verdicts.{rows_in}
+use Rattle.seq_check.specs.believed.OrderReport.{report_line_of}
+use Rattle.seq_check.specs.believed.Orders.{distinct_lists, place}
+use Rattle.seq_check.specs.believed.Verdicts.{rows_in}
 use Rattle.seq_check.specs.declared.verdict.OrderVerdict.TheVariants.{Accepted}
 use Rattle.seq_check.proofs.CheckSteps.{begins, after_row, after_never, at_wrong, ended, sequence_fits}
 use Rattle.seq_check.proofs.verdict.check_orders.Goals as goal

@@ -1,7 +1,7 @@
 use Rattle.std.proofs.Common.{◌≡◌, Some, ap, subst, sym, ◌∙◌}
 use Rattle.std.specs.Prelude.{option_map}
 use Rattle.seq_cli.specs.Commands.{asked_seen}
-use Rattle.seq_cli.specs.Runs.{IsReportRead, answer_of}
+use Rattle.seq_cli.specs.believed.Runs.{IsReportRead, answer_of}
 use Rattle.seq_cli.proofs.Stopping.{no_report_read}
 use Rattle.seq_cli.proofs.answer.make_answer.Goals as goal
 

@@ -2,8 +2,8 @@ use Rattle.std.proofs.Common.{◌≡◌, true, false, [], Some, get_or, is_none,
 use Rattle.std.proofs.lemmas.List.{length-map, take_all}
 use Rattle.std.specs.String.{string_bytes}
 use Rattle.seq_cli.specs.Commands.{setting_seen}
-use Rattle.seq_cli.specs.Words.{set, set_by, setting_of}
-use Rattle.command_line.specs.Words.{texts}
+use Rattle.seq_cli.specs.believed.Words.{set, set_by, setting_of}
+use Rattle.command_line.specs.believed.Words.{texts}
 use Rattle.seq_cli.proofs.CommandLemmas.{many_words, set_more}
 use Rattle.command_line.proofs.NameLemmas.{placed_nowhere}
 use Rattle.seq_cli.proofs.command.read_options.Goals as goal

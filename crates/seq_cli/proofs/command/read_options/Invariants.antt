@@ -1,7 +1,7 @@
 use Rattle.std.proofs.Common.{◌≡◌, ℕ, ◌<◌, [], false, is_none, get_or, take}
 use Rattle.seq_cli.specs.Commands.{asked_seen}
-use Rattle.seq_cli.specs.Words.{set_by, setting_of}
-use Rattle.command_line.specs.Words.{texts}
+use Rattle.seq_cli.specs.believed.Words.{set_by, setting_of}
+use Rattle.command_line.specs.believed.Words.{texts}
 use Rattle.seq_cli.proofs.command.read_options.Given as goal
 
 abbrev pub invariant-loop-place : goal.invariant-loop-place

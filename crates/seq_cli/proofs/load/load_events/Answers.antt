@@ -1,5 +1,5 @@
 use Rattle.std.proofs.Common.{Err, subst}
-use Rattle.seq_check.specs.EventFile.{events_of}
+use Rattle.seq_check.specs.believed.EventFile.{events_of}
 use Rattle.seq_check.specs.Reading.{Reads}
 use Rattle.seq_cli.specs.Commands.{asked_seen}
 use Rattle.seq_cli.proofs.Stopping.{refused_file}

@@ -1,6 +1,6 @@
 use Rattle.std.proofs.Common.{◌<◌, ◌≤◌, inl, inr, length, refl, subst}
 use Rattle.std.specs.Prelude.{IfSome, IsSomeAnd}
-use Rattle.seq_cli.specs.Runs.{cannot_read, too_long}
+use Rattle.seq_cli.specs.believed.Runs.{cannot_read, too_long}
 use Rattle.seq_cli.proofs.load.read_input.Goals as goal
 
 pub returns-in-TooLong : goal.returns-in-TooLong

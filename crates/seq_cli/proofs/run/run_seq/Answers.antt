@@ -1,6 +1,6 @@
 use Rattle.std.proofs.Common.{subst}
-use Rattle.command_line.specs.Told.{Tells}
-use Rattle.seq_cli.specs.Stops.{end_text}
+use Rattle.command_line.specs.believed.Told.{Tells}
+use Rattle.seq_cli.specs.believed.Stops.{end_text}
 use Rattle.seq_cli.proofs.Causes.{complete_end, long_end, refused_end, report_long_end}
 use Rattle.seq_cli.proofs.RunEnds.{accepts_end, calm_end, covers_end, ran_asked, read_end, refuses_end, unbroken_end}
 use Rattle.seq_cli.proofs.run.run_seq.Goals as goal

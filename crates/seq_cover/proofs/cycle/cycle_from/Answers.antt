@@ -1,6 +1,6 @@
 use Rattle.std.proofs.Common.{◌≡◌, suc, ◌-◌, ◌∙◌, ◌∷◌, length, ap, sym, subst, arith}
 use Rattle.seq_cover.specs.Sets.{AreLevels, IsFewest}
-use Rattle.seq_cover.specs.Ways.{cycle_by, way_back}
+use Rattle.seq_cover.specs.believed.Ways.{cycle_by, way_back}
 use Rattle.seq_cover.proofs.cycle.cycle_from.Goals as goal
 
 pub returns-in_ok-way_along-in-Some : goal.returns-in_ok-way_along-in-Some

@@ -1,7 +1,7 @@
 use Rattle.std.proofs.Common.{◌≡◌, ◌+◌, ◌-◌, ◌<◌, ◌∙◌, ◌||◌, ◌∷◌, ◌++◌, [], eqb, length, ap, sym, subst, arith, rules, true, false, is_some, Some}
 use Rattle.std.proofs.lemmas.List.{length_push}
 use Rattle.seq_cover.specs.Sets.{AreLevels}
-use Rattle.seq_cover.specs.Ways.{fewest, is_within}
+use Rattle.seq_cover.specs.believed.Ways.{fewest, is_within}
 use Rattle.seq_cover.proofs.LevelLemmas.{Climbs, climbs_from, climbs_on, fewest_here, fewest_nowhere, one_level_more}
 use Rattle.seq_cover.proofs.cycle.levels_to.Goals as goal
 

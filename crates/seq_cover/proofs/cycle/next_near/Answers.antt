@@ -1,6 +1,6 @@
 use Rattle.std.proofs.Common.{◌∙◌, ◌&&◌, ap}
 use Rattle.seq_check.specs.EventSets.{in_set}
-use Rattle.seq_check.specs.Orders.{is_arrow}
+use Rattle.seq_check.specs.believed.Orders.{is_arrow}
 use Rattle.seq_cover.proofs.WayLemmas.{first_near}
 use Rattle.seq_cover.proofs.cycle.next_near.Goals as goal
 

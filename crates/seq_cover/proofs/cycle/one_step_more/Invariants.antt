@@ -1,7 +1,7 @@
 use Rattle.std.proofs.Common.{◌≡◌, ℕ, ◌<◌, ◌&&◌, ◌||◌, List, Bool, nat_lt, is_some}
 use Rattle.seq_check.specs.EventSets.{AreOf, in_set}
 use Rattle.seq_cover.specs.Sets.{Holds}
-use Rattle.seq_cover.specs.Ways.{next_near}
+use Rattle.seq_cover.specs.believed.Ways.{next_near}
 use Rattle.seq_cover.proofs.cycle.one_step_more.Given as goal
 
 abbrev pub invariant-loop-event : goal.invariant-loop-event

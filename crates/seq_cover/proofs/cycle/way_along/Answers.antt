@@ -1,5 +1,5 @@
 use Rattle.std.proofs.Common.{◌≡◌, ◌-◌, ◌∷◌, ◌++◌, [], ◌∙◌, ap, sym, arith, rules}
-use Rattle.seq_cover.specs.Ways.{is_within, way_back}
+use Rattle.seq_cover.specs.believed.Ways.{is_within, way_back}
 use Rattle.seq_cover.proofs.LevelLemmas.{back_ends, back_on}
 use Rattle.seq_cover.proofs.cycle.way_along.Goals as goal
 

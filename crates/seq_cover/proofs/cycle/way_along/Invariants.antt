@@ -1,7 +1,7 @@
 use Rattle.std.proofs.Common.{◌≡◌, ℕ, ◌<◌, ◌≤◌, ◌∷◌, ◌++◌, List, length}
 use Rattle.seq_check.specs.EventSets.{AreOf}
 use Rattle.seq_cover.specs.Sets.{AreLevels}
-use Rattle.seq_cover.specs.Ways.{way_back}
+use Rattle.seq_cover.specs.believed.Ways.{way_back}
 use Rattle.seq_cover.proofs.cycle.way_along.Given as goal
 
 abbrev pub invariant-loop-at : goal.invariant-loop-at

@@ -1,8 +1,8 @@
 use Rattle.std.proofs.Common.{◌≡◌, length, subst, sym}
-use Rattle.seq_check.specs.Verdicts.{verdict}
+use Rattle.seq_check.specs.believed.Verdicts.{verdict}
 use Rattle.seq_check.specs.declared.verdict.OrderVerdict.TheVariants.{Accepted}
 use Rattle.seq_cover.specs.Covering.{Covers}
-use Rattle.seq_cover.specs.ReportText.{report_text}
+use Rattle.seq_cover.specs.believed.ReportText.{report_text}
 use Rattle.seq_cover.specs.declared.suite.OrderSuite.{OrderSuite}
 use Rattle.seq_cover.proofs.AcceptedLaws.{grown_accepted}
 use Rattle.seq_cover.proofs.CoverLaws.{grown_covers}

@@ -2,7 +2,7 @@ use Rattle.std.proofs.Common.{◌≡◌, ℕ, ◌+◌, ◌-◌, ◌*◌, ◌<◌
 use Rattle.std.specs.Vec.{with_items}
 use Rattle.std.proofs.lemmas.List.{with_items_is}
 use Rattle.seq_cover.specs.Building.{IsBuilt}
-use Rattle.seq_cover.specs.OrderGrowth.{built_from, next_placed, with_next}
+use Rattle.seq_cover.specs.believed.OrderGrowth.{built_from, next_placed, with_next}
 use Rattle.seq_cover.proofs.BuildLemmas.{built_more, gains_told, nothing_built}
 use Rattle.seq_cover.proofs.RowLemmas.{build_step}
 use Rattle.seq_cover.proofs.row.build_row.Goals as goal

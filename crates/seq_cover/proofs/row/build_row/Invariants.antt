@@ -1,8 +1,8 @@
 use Rattle.std.proofs.Common.{◌≡◌, ℕ, ◌-◌, [], List, not}
 use Rattle.seq_check.specs.EventSets.{AreBack, Tells}
-use Rattle.seq_check.specs.Orders.{is_had}
+use Rattle.seq_check.specs.believed.Orders.{is_had}
 use Rattle.seq_cover.specs.Building.{ExistBelow, IsBuilt}
-use Rattle.seq_cover.specs.OrderGrowth.{built_from}
+use Rattle.seq_cover.specs.believed.OrderGrowth.{built_from}
 use Rattle.seq_cover.proofs.row.build_row.Given as goal
 
 abbrev pub invariant-loop-turn : goal.invariant-loop-turn

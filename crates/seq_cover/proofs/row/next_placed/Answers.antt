@@ -1,6 +1,6 @@
 use Rattle.std.proofs.Common.{◌≡◌, ◌∙◌, None, fold, filter, get_or, length, refl, ap, sym, arith}
 use Rattle.std.specs.List.{range_with_len}
-use Rattle.seq_cover.specs.OrderGrowth.{better, can_be_placed, gain}
+use Rattle.seq_cover.specs.believed.OrderGrowth.{better, can_be_placed, gain}
 use Rattle.seq_cover.proofs.RowLemmas.{best_skips, best_stays, best_changes}
 use Rattle.seq_cover.proofs.row.next_placed.Goals as goal
 

@@ -2,7 +2,7 @@ use Rattle.std.proofs.Common.{◌≡◌, ℕ, ◌<◌, List, None, IfSome, false
 use Rattle.std.specs.List.{range_with_len}
 use Rattle.seq_check.specs.EventSets.{AreBack, in_set}
 use Rattle.seq_cover.specs.Building.{ArePlaced, ExistBelow}
-use Rattle.seq_cover.specs.OrderGrowth.{better, can_be_placed, gain}
+use Rattle.seq_cover.specs.believed.OrderGrowth.{better, can_be_placed, gain}
 use Rattle.seq_cover.proofs.row.next_placed.Given as goal
 
 abbrev pub invariant-loop-event : goal.invariant-loop-event

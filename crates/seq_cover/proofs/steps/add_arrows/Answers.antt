@@ -1,6 +1,6 @@
 use Rattle.std.proofs.Common.{ℕ, List, ◌∷◌, ◌++◌, get_or, sym, subst, arith}
 use Rattle.seq_check.specs.EventSets.{AreOf}
-use Rattle.seq_check.specs.Orders.{steps}
+use Rattle.seq_check.specs.believed.Orders.{steps}
 use Rattle.seq_cover.proofs.WayLemmas.{two_items, three_items}
 use Rattle.seq_cover.proofs.GrowLemmas.{arrow_more}
 use Rattle.seq_cover.proofs.steps.add_arrows.Goals as goal

@@ -1,6 +1,6 @@
 use Rattle.std.proofs.Common.{◌≡◌, ◌++◌, take}
 use Rattle.std.specs.List.{join_with_byte}
-use Rattle.seq_check.specs.OrderReport.{names_of}
+use Rattle.seq_check.specs.believed.OrderReport.{names_of}
 use Rattle.seq_cover.proofs.text.add_names.Given as goal
 
 abbrev pub invariant-loop-place : goal.invariant-loop-place

@@ -1,6 +1,6 @@
 use Rattle.std.proofs.Common.{◌≡◌, ◌++◌, map, take}
-use Rattle.seq_check.specs.OrderReport.{never_line}
-use Rattle.seq_cover.specs.ReportText.{text_of_lines}
+use Rattle.seq_check.specs.believed.OrderReport.{never_line}
+use Rattle.seq_cover.specs.believed.ReportText.{text_of_lines}
 use Rattle.seq_cover.proofs.text.add_nevers.Given as goal
 
 abbrev pub invariant-loop-never : goal.invariant-loop-never

@@ -1,8 +1,8 @@
 use Rattle.std.proofs.Common.{◌≡◌, List, ℕ, sym, ap, ◌∙◌, ◌++◌, append_assoc}
 use Rattle.std.specs.Prelude.{codes, decimal}
 use Rattle.std.specs.List.{join_with_byte}
-use Rattle.seq_check.specs.OrderReport.{names_of}
-use Rattle.seq_check.specs.Verdicts.{verdict_text}
+use Rattle.seq_check.specs.believed.OrderReport.{names_of}
+use Rattle.seq_check.specs.believed.Verdicts.{verdict_text}
 use Rattle.std.proofs.lemmas.Result.{on_ok_weaker}
 use Rattle.seq_cover.proofs.TextLemmas.{three_behind}
 use Rattle.seq_cover.proofs.text.add_verdict.Goals as goal

@@ -1,5 +1,5 @@
 use Rattle.std.proofs.Common.{ℕ, List, ◌∷◌, ◌++◌, get_or, sym, subst, arith}
-use Rattle.seq_check.specs.Orders.{steps}
+use Rattle.seq_check.specs.believed.Orders.{steps}
 use Rattle.seq_cover.specs.Sets.{AreWays}
 use Rattle.seq_cover.proofs.WayLemmas.{way_more, two_items, three_items}
 use Rattle.seq_cover.proofs.ways.add_steps.Goals as goal

@@ -1,6 +1,6 @@
 use Rattle.std.proofs.Common.{◌∙◌, sym, arith}
 use Rattle.seq_check.proofs.FindLemmas.{first_number, no_number}
-use Rattle.seq_cover.specs.Ways.{leads}
+use Rattle.seq_cover.specs.believed.Ways.{leads}
 use Rattle.seq_cover.proofs.ways.first_on_cycle.Goals as goal
 
 pub returns-then-has-clause-value : goal.returns-then-has-clause-value

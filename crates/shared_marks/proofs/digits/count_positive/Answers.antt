@@ -1,6 +1,6 @@
 use Rattle.std.proofs.Common.{◌≡◌, ◌∙◌, ℕ, Bool, true, false, not, get_or, arith, ap}
 use Rattle.std.proofs.lemmas.List.{get_or_default}
-use Rattle.cov_model.specs.Meaning.{no_value}
+use Rattle.cov_model.specs.believed.Meaning.{no_value}
 use Rattle.cov_model.specs.declared.parameter.Value.{Value}
 use Rattle.shared_marks.proofs.DigitLemmas.{count_next}
 use Rattle.shared_marks.proofs.digits.count_positive.Goals.{then-not-values-w, else-not-values-w}

@@ -1,6 +1,6 @@
 use Rattle.std.proofs.Common.{◌≡◌, ◌≤◌, length, get_or, not}
 use Rattle.std.specs.List.{filter, range_with_len}
-use Rattle.cov_model.specs.Meaning.{no_value}
+use Rattle.cov_model.specs.believed.Meaning.{no_value}
 use Rattle.shared_marks.proofs.digits.count_positive.Given as goal
 
 abbrev pub invariant-loop-w : goal.invariant-loop-w

@@ -1,6 +1,6 @@
 use Rattle.std.proofs.Common.{◌≡◌, ◌∙◌, ap, arith, length, sym}
-use Rattle.cov_model.specs.Meaning.{value_at}
-use Rattle.cov_model.specs.Rows.{value_in}
+use Rattle.cov_model.specs.believed.Meaning.{value_at}
+use Rattle.cov_model.specs.believed.Rows.{value_in}
 use Rattle.tuple_index.specs.Places.{place_of}
 use Rattle.shared_marks.specs.Digits.{is_fixed}
 use Rattle.shared_marks.proofs.DigitLemmas.{fixed_digit, own_exists, plain_digit}

@@ -1,6 +1,6 @@
 use Rattle.std.proofs.Common.{◌∙◌, ap, arith, length, get_or, not, List}
 use Rattle.std.specs.List.{filter, range_with_len}
-use Rattle.cov_model.specs.Meaning.{no_value}
+use Rattle.cov_model.specs.believed.Meaning.{no_value}
 use Rattle.cov_model.specs.declared.parameter.Value.{Value}
 use Rattle.shared_marks.proofs.DigitLemmas.{digit_counted, digit_is_value}
 use Rattle.shared_marks.proofs.digits.positive_digit.Goals as goal

@@ -1,6 +1,6 @@
 use Rattle.std.proofs.Common.{◌∙◌, ap, arith, length}
 use Rattle.std.proofs.lemmas.List.FromFn.{length-map-range_with_len}
-use Rattle.cov_model.specs.Slices.{positive_values}
+use Rattle.cov_model.specs.believed.Slices.{positive_values}
 use Rattle.shared_marks.proofs.DigitLemmas.{positives_few, radix_is}
 use Rattle.shared_marks.proofs.digits.radix_of.Goals as goal
 

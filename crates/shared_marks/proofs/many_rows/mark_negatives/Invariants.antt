@@ -1,6 +1,6 @@
 use Rattle.std.proofs.Common.{map, not, take}
 use Rattle.std.specs.List.{filter}
-use Rattle.cov_model.specs.Slices.{slice_of}
+use Rattle.cov_model.specs.believed.Slices.{slice_of}
 use Rattle.shared_marks.specs.Adding.{Marks}
 use Rattle.shared_marks.specs.TestColumns.{is_positive}
 use Rattle.shared_marks.specs.Served.{is_served_at}

@@ -1,5 +1,5 @@
 use Rattle.std.proofs.Common.{◌≡◌, ◌+◌, [], ◌∷◌, length, ◌∙◌, ap, arith}
-use Rattle.definitions.specs.Demand.{demanded_sets}
+use Rattle.definitions.specs.believed.Demand.{demanded_sets}
 use Rattle.shared_marks.specs.Served.{base_of, served_between}
 use Rattle.shared_marks.proofs.AddingLemmas.{marks_none, marks_same, marks_then}
 use Rattle.shared_marks.proofs.PlaceLemmas.{base_end, base_more, between_more, between_none}

@@ -1,6 +1,6 @@
 use Rattle.std.proofs.Common.{◌≡◌, length, ◌∙◌, ap}
 use Rattle.std.specs.Prelude.{sum}
-use Rattle.definitions.specs.Demand.{demanded_tuples}
+use Rattle.definitions.specs.believed.Demand.{demanded_tuples}
 use Rattle.row_text.specs.RowFiles.{suite_seen}
 use Rattle.shared_marks.proofs.PlaceLemmas.{all_places}
 use Rattle.shared_marks.proofs.WorkerLemmas.{all_marked}

@@ -1,5 +1,5 @@
 use Rattle.std.proofs.Common.{◌≡◌, ◌≤◌, ◌*◌, ◌^◌, ℕ, List, Option}
-use Rattle.cov_model.specs.Sound.{ModelView}
+use Rattle.cov_model.specs.believed.Sound.{ModelView}
 use Rattle.tuple_index.specs.Plan.{plan_of}
 use Rattle.suite_facts.specs.Facts.{AreMarksOf}
 use Rattle.suite_facts.proofs.CountLemmas.{IsCoverageTo}

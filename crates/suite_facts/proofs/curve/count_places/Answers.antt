@@ -1,5 +1,5 @@
 use Rattle.std.proofs.Common.{cond, ◌∙◌, ap, arith}
-use Rattle.definitions.specs.Demand.{is_among}
+use Rattle.definitions.specs.believed.Demand.{is_among}
 use Rattle.suite_facts.proofs.CurveLemmas.{at_most_one, count_more, from_is, kept_then}
 use Rattle.suite_facts.proofs.curve.count_places.Goals as goal
 

@@ -1,6 +1,6 @@
 use Rattle.std.proofs.Common.{◌≡◌, ◌≤◌, ◌<◌, ℕ, length, map, take, get_or}
 use Rattle.row_text.specs.RowFiles.{suite_seen}
-use Rattle.suite_facts.specs.Coverages.{point_of}
+use Rattle.suite_facts.specs.believed.Coverages.{point_of}
 use Rattle.suite_facts.specs.Marked.{HoldsCovered}
 use Rattle.suite_facts.proofs.curve.cover_each.Given as goal
 

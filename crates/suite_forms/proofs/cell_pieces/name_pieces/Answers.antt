@@ -1,6 +1,6 @@
 use Rattle.std.proofs.Common.{List, ℕ, get_or, length, ap, ◌∙◌, arith}
 use Rattle.std.specs.Prelude.{Some}
-use Rattle.definitions.specs.Report.{printed}
+use Rattle.definitions.specs.believed.Report.{printed}
 use Rattle.suite_forms.specs.Pieces.{cell_piece}
 use Rattle.suite_forms.proofs.Making.{made_more}
 use Rattle.suite_forms.proofs.Spelling.{same_piece}

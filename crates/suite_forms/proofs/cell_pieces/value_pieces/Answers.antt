@@ -2,7 +2,7 @@ use Rattle.std.proofs.Common.{List, get_or, length, ap, ◌∙◌, arith}
 use Rattle.std.proofs.lemmas.List.{get_or_default}
 use Rattle.cov_model.specs.declared.parameter.Param.{Param}
 use Rattle.cov_model.specs.declared.parameter.Value.{Value}
-use Rattle.cov_model.specs.Sound.{no_param, param_at}
+use Rattle.cov_model.specs.believed.Sound.{no_param, param_at}
 use Rattle.suite_forms.specs.Pieces.{name_pieces}
 use Rattle.suite_forms.proofs.Making.{made_more}
 use Rattle.suite_forms.proofs.cell_pieces.value_pieces.Goals as goal

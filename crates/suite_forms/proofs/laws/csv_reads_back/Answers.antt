@@ -1,5 +1,5 @@
 use Rattle.std.proofs.Common.{[]}
-use Rattle.suite_forms.specs.Suites.{param_names, spelled_rows}
+use Rattle.suite_forms.specs.believed.Suites.{param_names, spelled_rows}
 use Rattle.suite_forms.proofs.Tables.{suite-IsTable}
 use Rattle.suite_forms.proofs.laws.csv_reads_back.Goals as goal
 

@@ -1,5 +1,5 @@
 use Rattle.std.proofs.Common.{[]}
-use Rattle.suite_forms.specs.Suites.{param_names, spelled_rows}
+use Rattle.suite_forms.specs.believed.Suites.{param_names, spelled_rows}
 use Rattle.suite_forms.proofs.laws.json_reads_back.Goals as goal
 
 pub returns : goal.returns

@@ -1,7 +1,7 @@
 use Rattle.std.proofs.Common.{◌<◌, ◌≤◌, ◌+◌, ◌++◌, [], length, get_or, take, true, sym, ap, subst, arith, below_more}
-use Rattle.row_forms.specs.Tables.{is_single, pieces}
+use Rattle.row_forms.specs.believed.Tables.{is_single, pieces}
 use Rattle.row_text.specs.Turns.{AreTurns, turns_at}
-use Rattle.suite_forms.specs.Suites.{param_names, spelled_row}
+use Rattle.suite_forms.specs.believed.Suites.{param_names, spelled_row}
 use Rattle.suite_forms.proofs.Tables.{cell-added, cells-added}
 use Rattle.suite_forms.proofs.suite.add_cells.Goals as goal
 

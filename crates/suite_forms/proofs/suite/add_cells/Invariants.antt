@@ -1,8 +1,8 @@
 use Rattle.std.proofs.Common.{ℕ, ◌≡◌, ◌++◌, ◌+◌, ◌<◌, ◌≤◌, ◌==◌, [], true, drop, take, length}
 use Rattle.std.specs.Prelude.{slice_index_or}
-use Rattle.row_forms.specs.Tables.{is_single, pieces}
+use Rattle.row_forms.specs.believed.Tables.{is_single, pieces}
 use Rattle.row_text.specs.Turns.{AreTurns, IsFor, turns_at}
-use Rattle.suite_forms.specs.Suites.{param_names, spelled_row}
+use Rattle.suite_forms.specs.believed.Suites.{param_names, spelled_row}
 use Rattle.suite_forms.proofs.suite.add_cells.Given as goal
 
 -- what is added with what the cells that are left add is what all add

@@ -1,8 +1,8 @@
 use Rattle.std.proofs.Common.{◌++◌, [], true, refl, sym, subst, arith}
-use Rattle.row_forms.specs.Tables.{rows_text}
+use Rattle.row_forms.specs.believed.Tables.{rows_text}
 use Rattle.row_text.specs.Turns.{AreTurns, IsFor, turns_at}
 use Rattle.row_text.proofs.Turning.{AreTurns-first, first_turns-IsFor}
-use Rattle.suite_forms.specs.Suites.{param_names, spelled_rows}
+use Rattle.suite_forms.specs.believed.Suites.{param_names, spelled_rows}
 use Rattle.suite_forms.proofs.Tables.{row-added, rows-added}
 use Rattle.suite_forms.proofs.suite.add_rows.Goals as goal
 

@@ -1,7 +1,7 @@
 use Rattle.std.proofs.Common.{ℕ, ◌≡◌, ◌++◌, ◌<◌, ◌==◌, [], true, drop, take, length}
-use Rattle.row_forms.specs.Tables.{rows_text}
+use Rattle.row_forms.specs.believed.Tables.{rows_text}
 use Rattle.row_text.specs.Turns.{AreTurns, IsFor, turns_at}
-use Rattle.suite_forms.specs.Suites.{param_names, spelled_rows}
+use Rattle.suite_forms.specs.believed.Suites.{param_names, spelled_rows}
 use Rattle.suite_forms.proofs.suite.add_rows.Given as goal
 
 -- what is added with what the rows that are left add is what all add

@@ -4,12 +4,12 @@ use Rattle.std.specs.List.{All}
 use Rattle.std.proofs.lemmas.List.{length-map}
 use Rattle.std.proofs.lemmas.List.Elements.{All-get_or}
 use Rattle.cov_model.specs.Fits.{FitsModel}
-use Rattle.cov_model.specs.Meaning.{value_at}
-use Rattle.cov_model.specs.Rows.{is_assigned, value_in}
-use Rattle.cov_model.specs.Sound.{ModelView, param_at}
+use Rattle.cov_model.specs.believed.Meaning.{value_at}
+use Rattle.cov_model.specs.believed.Rows.{is_assigned, value_in}
+use Rattle.cov_model.specs.believed.Sound.{ModelView, param_at}
 use Rattle.row_text.specs.Turns.{AreTurns, IsFor, after_turn, turns_at}
 use Rattle.row_text.proofs.Turning.{AreTurns-more, IsFor-count, IsFor-length, after_turn-IsFor}
-use Rattle.definitions.specs.Report.{printed}
+use Rattle.definitions.specs.believed.Report.{printed}
 use Rattle.suite_forms.specs.Pieces.{cell_piece}
 use Rattle.suite_forms.proofs.Spelling.{piece_shown}
 use Rattle.suite_forms.proofs.suite.cell_bytes.Goals as goal

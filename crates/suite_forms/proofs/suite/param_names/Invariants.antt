@@ -1,6 +1,6 @@
 use Rattle.std.proofs.Common.{◌≡◌, take}
 use Rattle.row_forms.specs.Seen.{names_seen}
-use Rattle.suite_forms.specs.Suites.{param_names}
+use Rattle.suite_forms.specs.believed.Suites.{param_names}
 use Rattle.suite_forms.proofs.suite.param_names.Given as goal
 
 abbrev pub invariant-loop-param : goal.invariant-loop-param

@@ -1,5 +1,5 @@
 use Rattle.std.proofs.Common.{◌≡◌, ◌≤◌, ◌^◌, List, ℕ, Option, map, take}
-use Rattle.definitions.specs.Demand.{demanded_sets}
+use Rattle.definitions.specs.believed.Demand.{demanded_sets}
 use Rattle.shorter_suites.specs.Bounds.{greatest, served_in}
 use Rattle.suite_shrink.specs.Coverage.{AreMarksOf}
 use Rattle.suite_shrink.proofs.least.most_served.Given as goal

@@ -1,5 +1,5 @@
 use Rattle.std.proofs.Common.{◌≡◌, false, take}
-use Rattle.shorter_suites.specs.Shrinking.{is_contained}
+use Rattle.shorter_suites.specs.believed.Shrinking.{is_contained}
 use Rattle.suite_shrink.proofs.seeds.is_contained.Given as goal
 
 -- no row before this one contains it

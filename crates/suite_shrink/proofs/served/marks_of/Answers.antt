@@ -1,6 +1,6 @@
 use Rattle.std.proofs.Common.{◌≡◌, length, ◌∙◌, ap}
 use Rattle.std.specs.Prelude.{sum}
-use Rattle.definitions.specs.Demand.{demanded_tuples}
+use Rattle.definitions.specs.believed.Demand.{demanded_tuples}
 use Rattle.shared_marks.proofs.PlaceLemmas.{all_places}
 use Rattle.suite_shrink.proofs.ServedLemmas.{marks_are}
 use Rattle.suite_shrink.proofs.served.marks_of.Goals as goal

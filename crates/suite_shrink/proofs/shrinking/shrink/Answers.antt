@@ -1,10 +1,10 @@
 use Rattle.std.proofs.Common.{length, ◌∙◌, sym, ap, subst}
 use Rattle.std.specs.Prelude.{sum}
 use Rattle.std.proofs.lemmas.List.{length-map}
-use Rattle.definitions.specs.Demand.{demanded_tuples}
-use Rattle.definitions.specs.Figures.{is_served}
+use Rattle.definitions.specs.believed.Demand.{demanded_tuples}
+use Rattle.definitions.specs.believed.Figures.{is_served}
 use Rattle.shared_marks.proofs.PlaceLemmas.{all_places}
-use Rattle.shorter_suites.specs.Shrinking.{IsShrunk}
+use Rattle.shorter_suites.specs.believed.Shrinking.{IsShrunk}
 use Rattle.suite_shrink.proofs.ShrunkLemmas.{distinct_shrunk, valid_fit}
 use Rattle.suite_shrink.proofs.shrinking.shrink.Goals as goal
 

@@ -1,6 +1,6 @@
 use Rattle.std.proofs.Common.{◌≡◌, false, take}
 use Rattle.std.specs.Prelude.{AllPairs}
-use Rattle.definitions.specs.Seeds.{is_same_row}
+use Rattle.definitions.specs.believed.Seeds.{is_same_row}
 use Rattle.suite_shrink.proofs.valid.are_distinct.Given as goal
 
 -- the rows before this one are known, and no two are the same

@@ -1,5 +1,5 @@
 use Rattle.std.proofs.Common.{◌≡◌, true, All, length, take}
-use Rattle.cov_model.specs.Valid.{is_valid}
+use Rattle.cov_model.specs.believed.Valid.{is_valid}
 use Rattle.suite_shrink.proofs.valid.are_valid.Given as goal
 
 -- the rows before this one are valid

@@ -3,7 +3,7 @@ use Rattle.std.proofs.lemmas.List.{append-nil, length-drop, length-take-le}
 use Rattle.std.proofs.lemmas.List.Elements.{All-filter, All-same}
 use Rattle.cov_model.specs.Tuples.{IsRising}
 use Rattle.suspect_tuples.specs.Edges.{edges_behind}
-use Rattle.suspect_tuples.specs.Suspects.{gives, tuples_on}
+use Rattle.suspect_tuples.specs.believed.Suspects.{gives, tuples_on}
 use Rattle.suspect_tuples.specs.Told.{found_seen}
 use Rattle.suspect_tuples.proofs.EdgeLemmas.{edges_of_none}
 use Rattle.suspect_tuples.proofs.WalkLemmas.{value_step}

@@ -1,5 +1,5 @@
 use Rattle.std.proofs.Common.{◌≡◌, [], length, get_or}
-use Rattle.definitions.specs.RowFile.{cells_of_line}
+use Rattle.definitions.specs.believed.RowFile.{cells_of_line}
 use Rattle.suspect_tuples.proofs.reading.cell_at.Given as goal
 
 abbrev pub invariant-loop-cell : goal.invariant-loop-cell

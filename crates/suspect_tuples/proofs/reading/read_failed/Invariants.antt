@@ -1,6 +1,6 @@
 use Rattle.std.proofs.Common.{◌≡◌, ◌++◌, false, map, length}
 use Rattle.std.specs.Prelude.{unwrap_or}
-use Rattle.suspect_tuples.specs.ResultReading.{result_fault, result_of_line}
+use Rattle.suspect_tuples.specs.believed.ResultReading.{result_fault, result_of_line}
 use Rattle.suspect_tuples.proofs.reading.read_failed.Given as goal
 
 abbrev pub invariant-loop-line : goal.invariant-loop-line

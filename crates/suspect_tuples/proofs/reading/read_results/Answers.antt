@@ -1,11 +1,11 @@
 use Rattle.std.proofs.Common.{◌≡◌, ℕ, List, Err, None, Some, false, drop, length, position, ap, sym, ◌∙◌, rules, arith}
 use Rattle.std.specs.Prelude.{codes, unwrap_or}
 use Rattle.std.proofs.lemmas.List.{length-map}
-use Rattle.value_text.specs.Texts.{is_same_text}
-use Rattle.definitions.specs.RowFile.{cells_of_line}
+use Rattle.value_text.specs.believed.Texts.{is_same_text}
+use Rattle.definitions.specs.believed.RowFile.{cells_of_line}
 use Rattle.row_text.specs.RowFiles.{row_seen}
 use Rattle.row_text.specs.RowLines.{line_seen}
-use Rattle.suspect_tuples.specs.ResultReading.{result_column, result_fault, result_of_line, results_beside, results_under, unless_bad}
+use Rattle.suspect_tuples.specs.believed.ResultReading.{result_column, result_fault, result_of_line, results_beside, results_under, unless_bad}
 use Rattle.suspect_tuples.specs.Results.{result_fault_of}
 use Rattle.suspect_tuples.proofs.ResultSteps.{bad_told, notes_read, results_opened, rows_read}
 use Rattle.suspect_tuples.proofs.reading.read_results.Goals as goal

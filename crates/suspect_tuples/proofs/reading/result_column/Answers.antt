@@ -1,5 +1,5 @@
 use Rattle.std.proofs.Common.{◌≡◌, None, sym, ◌∙◌, rules, arith}
-use Rattle.definitions.specs.RowFile.{cells_of_line}
+use Rattle.definitions.specs.believed.RowFile.{cells_of_line}
 use Rattle.row_text.proofs.RowSteps.{next_of_left}
 use Rattle.suspect_tuples.proofs.ResultSteps.{column_found, column_nowhere, column_passed, no_more_cells}
 use Rattle.suspect_tuples.proofs.reading.result_column.Goals as goal

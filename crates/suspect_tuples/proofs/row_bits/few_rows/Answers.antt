@@ -2,7 +2,7 @@ use Rattle.std.proofs.Common.{◌≡◌, ◌∙◌, Some, true, get_or, ap, subs
 use Rattle.std.specs.Option.{option_copied}
 use Rattle.std.proofs.lemmas.List.{take_all, take_more}
 use Rattle.std.proofs.lemmas.List.Elements.{All-push}
-use Rattle.definitions.specs.Demand.{is_among}
+use Rattle.definitions.specs.believed.Demand.{is_among}
 use Rattle.suspect_tuples.specs.ValueRows.{AreMany, KeepsPair, is_many, rows_of}
 use Rattle.suspect_tuples.specs.declared.value_rows.ValueRows.TheVariants.{Few}
 use Rattle.suspect_tuples.proofs.RowBitLemmas.{member_has}

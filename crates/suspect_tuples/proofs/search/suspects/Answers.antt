@@ -4,13 +4,13 @@ use Rattle.std.proofs.lemmas.List.{length-map}
 use Rattle.std.proofs.lemmas.List.FromFn.{length-range_with_len}
 use Rattle.std.proofs.lemmas.List.Elements.{All-same}
 use Rattle.cov_model.specs.Fits.{FitsModel}
-use Rattle.cov_model.specs.Rows.{is_complete}
-use Rattle.cov_model.specs.Valid.{param_numbers}
+use Rattle.cov_model.specs.believed.Rows.{is_complete}
+use Rattle.cov_model.specs.believed.Valid.{param_numbers}
 use Rattle.cov_model.specs.declared.demand.Demand.{Demand}
 use Rattle.row_text.specs.declared.row_file.FileRow.{FileRow}
-use Rattle.tuple_index.specs.PlanFault.{saturated}
+use Rattle.tuple_index.specs.believed.PlanFault.{saturated}
 use Rattle.suspect_tuples.specs.SetCounts.{ways_up_to}
-use Rattle.suspect_tuples.specs.Suspects.{failing_rows, passing_rows}
+use Rattle.suspect_tuples.specs.believed.Suspects.{failing_rows, passing_rows}
 use Rattle.suspect_tuples.proofs.CountingSteps.{cells_seen}
 use Rattle.suspect_tuples.proofs.SearchLemmas.{few_kept, fit_kept, fit_rows, short_rows, told_candidates, wide_rows}
 use Rattle.suspect_tuples.proofs.search.suspects.Goals as goal

@@ -1,10 +1,10 @@
 use Rattle.std.proofs.Common.{◌≡◌, ◌+◌, ◌++◌, [], map, ap, sym, ◌∙◌, arith}
 use Rattle.std.specs.List.{flat_map, range_with_len}
-use Rattle.cov_model.specs.Valid.{param_numbers}
+use Rattle.cov_model.specs.believed.Valid.{param_numbers}
 use Rattle.cov_model.specs.declared.demand.Demand.{Demand}
-use Rattle.definitions.specs.Demand.{choose}
+use Rattle.definitions.specs.believed.Demand.{choose}
 use Rattle.suspect_tuples.specs.Edges.{edges_behind, tuples_behind}
-use Rattle.suspect_tuples.specs.Suspects.{suspect_sets, tuples_on}
+use Rattle.suspect_tuples.specs.believed.Suspects.{suspect_sets, tuples_on}
 use Rattle.suspect_tuples.specs.Told.{found_seen}
 use Rattle.suspect_tuples.proofs.EdgeLemmas.{edges_are_smallest, edges_of_none}
 use Rattle.suspect_tuples.proofs.SetLemmas.{no_items}

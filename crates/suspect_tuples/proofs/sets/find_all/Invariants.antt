@@ -1,9 +1,9 @@
 use Rattle.std.proofs.Common.{◌≡◌, [], map}
 use Rattle.std.specs.List.{flat_map, range_with_len}
-use Rattle.cov_model.specs.Valid.{param_numbers}
-use Rattle.definitions.specs.Demand.{choose}
+use Rattle.cov_model.specs.believed.Valid.{param_numbers}
+use Rattle.definitions.specs.believed.Demand.{choose}
 use Rattle.suspect_tuples.specs.Edges.{edges_behind}
-use Rattle.suspect_tuples.specs.Suspects.{tuples_on}
+use Rattle.suspect_tuples.specs.believed.Suspects.{tuples_on}
 use Rattle.suspect_tuples.specs.Told.{found_seen}
 use Rattle.suspect_tuples.proofs.sets.find_all.Given as goal
 

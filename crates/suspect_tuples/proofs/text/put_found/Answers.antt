@@ -1,6 +1,6 @@
 use Rattle.std.proofs.Common.{ap, ◌∙◌, ◌++◌}
 use Rattle.std.specs.Prelude.{codes}
-use Rattle.definitions.specs.Pairs.{pairs_text}
+use Rattle.definitions.specs.believed.Pairs.{pairs_text}
 use Rattle.row_text.proofs.Sending.{Adds-then, Adds-same}
 use Rattle.suspect_tuples.proofs.text.put_found.Goals as goal
 

@@ -3,7 +3,7 @@ use Rattle.std.specs.List.{flat_map}
 use Rattle.std.proofs.lemmas.List.{take_all}
 use Rattle.std.proofs.lemmas.List.Folds.{flat_map-map}
 use Rattle.row_text.proofs.Sending.{Adds-then, Adds-same}
-use Rattle.suspect_tuples.specs.SuspectsText.{suspect_line}
+use Rattle.suspect_tuples.specs.believed.SuspectsText.{suspect_line}
 use Rattle.suspect_tuples.specs.Told.{found_seen}
 use Rattle.suspect_tuples.specs.declared.suspect_list.Found.{Found}
 use Rattle.suspect_tuples.proofs.TextSteps.{pieces_more}

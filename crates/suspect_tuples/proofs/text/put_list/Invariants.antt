@@ -1,7 +1,7 @@
 use Rattle.std.proofs.Common.{take}
 use Rattle.std.specs.List.{flat_map}
 use Rattle.row_text.specs.Buffering.{Adds}
-use Rattle.suspect_tuples.specs.SuspectsText.{suspect_line}
+use Rattle.suspect_tuples.specs.believed.SuspectsText.{suspect_line}
 use Rattle.suspect_tuples.specs.Told.{found_seen}
 use Rattle.suspect_tuples.proofs.text.put_list.Given as goal
 

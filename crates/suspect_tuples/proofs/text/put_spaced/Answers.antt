@@ -1,7 +1,7 @@
 use Rattle.std.proofs.Common.{ap, refl, get_or, ◌∷◌, arith}
 use Rattle.std.specs.List.{flat_map}
 use Rattle.std.proofs.lemmas.List.{take_all}
-use Rattle.definitions.specs.Pairs.{pair_text}
+use Rattle.definitions.specs.believed.Pairs.{pair_text}
 use Rattle.row_text.proofs.Sending.{Adds-then, Adds-same}
 use Rattle.suspect_tuples.proofs.TextSteps.{pieces_more}
 use Rattle.suspect_tuples.proofs.text.put_spaced.Goals as goal

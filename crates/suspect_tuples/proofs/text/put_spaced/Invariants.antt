@@ -1,6 +1,6 @@
 use Rattle.std.proofs.Common.{◌∷◌, take}
 use Rattle.std.specs.List.{flat_map}
-use Rattle.definitions.specs.Pairs.{pair_text}
+use Rattle.definitions.specs.believed.Pairs.{pair_text}
 use Rattle.row_text.specs.Buffering.{Adds}
 use Rattle.suspect_tuples.proofs.text.put_spaced.Given as goal
 

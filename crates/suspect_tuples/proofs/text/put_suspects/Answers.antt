@@ -1,9 +1,9 @@
 use Rattle.std.proofs.Common.{ap, ◌++◌, ◌∙◌, length, map, sym, ◌≡◌, ℕ, List}
 use Rattle.std.specs.Prelude.{codes, flat_map}
 use Rattle.std.proofs.lemmas.List.{length-map}
-use Rattle.definitions.specs.Statistics.{number_line}
+use Rattle.definitions.specs.believed.Statistics.{number_line}
 use Rattle.row_text.proofs.Sending.{Adds-then, Adds-same, Holds-all}
-use Rattle.suspect_tuples.specs.SuspectsText.{suspects_text, suspect_line}
+use Rattle.suspect_tuples.specs.believed.SuspectsText.{suspects_text, suspect_line}
 use Rattle.suspect_tuples.specs.Told.{suspects_seen, found_seen}
 use Rattle.suspect_tuples.specs.declared.suspect_list.Found.{Found}
 use Rattle.suspect_tuples.proofs.text.put_suspects.Goals as goal

@@ -1,6 +1,6 @@
 use Rattle.std.proofs.Common.{◌<◌, ◌++◌, ◌∷◌, ◌-◌, ◌+◌, map, ◌∙◌, ap, arith}
 use Rattle.std.proofs.lemmas.List.{take_rest}
-use Rattle.definitions.specs.Demand.{choose}
+use Rattle.definitions.specs.believed.Demand.{choose}
 use Rattle.tuple_index.proofs.ChoiceLemmas.{choose_step, choose_end}
 use Rattle.tuple_index.proofs.choices.+ways_to_choose.Goals as goal
 

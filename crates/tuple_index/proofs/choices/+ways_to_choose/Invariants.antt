@@ -1,5 +1,5 @@
 use Rattle.std.proofs.Common.{◌≡◌, ◌++◌, drop}
-use Rattle.definitions.specs.Demand.{choose}
+use Rattle.definitions.specs.believed.Demand.{choose}
 use Rattle.tuple_index.proofs.choices.+ways_to_choose.Given as goal
 
 abbrev pub decreases-ways_to_choose : goal.decreases-ways_to_choose

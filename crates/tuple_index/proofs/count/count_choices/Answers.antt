@@ -1,9 +1,9 @@
 use Rattle.std.proofs.Common.{◌≡◌, ◌++◌, ◌∙◌, ℕ, List, ap, map, min, length, sum_by, arith}
 use Rattle.std.proofs.lemmas.Grind.{common_steps}
 use Rattle.cov_model.specs.declared.demand.Group.{Group}
-use Rattle.definitions.specs.Demand.{singles}
+use Rattle.definitions.specs.believed.Demand.{singles}
 use Rattle.tuple_index.specs.Counts.{group_ways, products}
-use Rattle.tuple_index.specs.PlanFault.{saturated}
+use Rattle.tuple_index.specs.believed.PlanFault.{saturated}
 use Rattle.tuple_index.proofs.RowLemmas.{count_is}
 use Rattle.tuple_index.proofs.count.count_choices.Goals as goal
 

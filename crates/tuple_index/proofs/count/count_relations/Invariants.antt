@@ -1,6 +1,6 @@
 use Rattle.std.proofs.Common.{◌≡◌, ◌≤◌, ◌+◌, ◌-◌, ◌^◌, drop, sum_by}
 use Rattle.tuple_index.specs.Counts.{group_ways}
-use Rattle.tuple_index.specs.PlanFault.{saturated}
+use Rattle.tuple_index.specs.believed.PlanFault.{saturated}
 use Rattle.tuple_index.proofs.count.count_relations.Given as goal
 
 abbrev pub invariant-loop-relation : goal.invariant-loop-relation

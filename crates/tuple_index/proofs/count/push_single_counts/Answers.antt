@@ -1,7 +1,7 @@
 use Rattle.std.proofs.Common.{[], ◌∷◌, ◌++◌, ℕ, Bool, not, arith, ◌≡◌, ◌∙◌, sym, ap}
 use Rattle.std.specs.List.{list_any}
 use Rattle.std.proofs.lemmas.Grind.{common_steps}
-use Rattle.definitions.specs.Demand.{is_among}
+use Rattle.definitions.specs.believed.Demand.{is_among}
 use Rattle.tuple_index.proofs.ChoiceLemmas.{single_found, single_passed}
 use Rattle.tuple_index.proofs.count.push_single_counts.Goals.{then-is_single+in_ok-push, else-is_single}
 use Rattle.tuple_index.proofs.count.push_single_counts.Goals as goal

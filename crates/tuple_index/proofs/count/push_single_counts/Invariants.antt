@@ -1,6 +1,6 @@
 use Rattle.std.proofs.Common.{◌≡◌, ◌++◌, ◌-◌, map, not, length}
 use Rattle.std.specs.List.{filter, list_any, range_with_len}
-use Rattle.definitions.specs.Demand.{is_among, singles}
+use Rattle.definitions.specs.believed.Demand.{is_among, singles}
 use Rattle.tuple_index.proofs.count.push_single_counts.Given as goal
 
 abbrev pub invariant-loop-p : goal.invariant-loop-p

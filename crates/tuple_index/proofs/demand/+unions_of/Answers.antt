@@ -1,7 +1,7 @@
 use Rattle.std.proofs.Common.{◌≡◌, [], List, ℕ, map, get_or, ◌∙◌, ap, sym, Some, IfOk, subst, arith}
 use Rattle.std.proofs.lemmas.List.{take_rest}
 use Rattle.std.proofs.lemmas.Option.{slice_get-get_or}
-use Rattle.definitions.specs.Demand.{unions}
+use Rattle.definitions.specs.believed.Demand.{unions}
 use Rattle.tuple_index.proofs.ChoiceLemmas.{unions_first}
 use Rattle.tuple_index.proofs.demand.+unions_of.Goals as goal
 

@@ -1,6 +1,6 @@
 use Rattle.std.proofs.Common.{Bool, ◌≡◌, ◌<◌, length, get_or, subst, ◌∙◌, sym, ap}
 use Rattle.cov_model.specs.declared.demand.Group.{Group}
-use Rattle.definitions.specs.Demand.{is_among}
+use Rattle.definitions.specs.believed.Demand.{is_among}
 use Rattle.tuple_index.proofs.ChoiceLemmas.{any_step}
 use Rattle.tuple_index.proofs.demand.is_single.Goals as goal
 

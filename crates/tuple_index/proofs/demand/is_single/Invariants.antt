@@ -1,6 +1,6 @@
 use Rattle.std.proofs.Common.{◌≡◌, drop}
 use Rattle.std.specs.List.{list_any}
-use Rattle.definitions.specs.Demand.{is_among}
+use Rattle.definitions.specs.believed.Demand.{is_among}
 use Rattle.tuple_index.proofs.demand.is_single.Given as goal
 
 abbrev pub invariant-loop-sub : goal.invariant-loop-sub

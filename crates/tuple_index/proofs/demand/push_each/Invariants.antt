@@ -1,5 +1,5 @@
 use Rattle.std.proofs.Common.{◌≡◌, ◌++◌, map, take}
-use Rattle.definitions.specs.Demand.{rising}
+use Rattle.definitions.specs.believed.Demand.{rising}
 use Rattle.tuple_index.proofs.demand.push_each.Given as goal
 
 abbrev pub invariant-loop-choice : goal.invariant-loop-choice

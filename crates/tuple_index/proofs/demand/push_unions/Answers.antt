@@ -1,6 +1,6 @@
 use Rattle.std.proofs.Common.{◌≡◌, ◌++◌, [], List, ℕ, map, get_or, ◌∙◌, sym, ap, length}
 use Rattle.std.specs.List.{flat_map, range_with_len}
-use Rattle.definitions.specs.Demand.{choose, rising, unions}
+use Rattle.definitions.specs.believed.Demand.{choose, rising, unions}
 use Rattle.tuple_index.proofs.ListingLemmas.{map_flat_map}
 use Rattle.tuple_index.proofs.ChoiceLemmas.{flat_step, flat_end, choices_at}
 use Rattle.tuple_index.proofs.demand.push_unions.Goals as goal

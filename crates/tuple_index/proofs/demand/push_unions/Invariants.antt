@@ -1,6 +1,6 @@
 use Rattle.std.proofs.Common.{◌≡◌, ◌++◌, [], drop, map, get_or}
 use Rattle.std.specs.List.{flat_map}
-use Rattle.definitions.specs.Demand.{rising, unions}
+use Rattle.definitions.specs.believed.Demand.{rising, unions}
 use Rattle.tuple_index.proofs.demand.push_unions.Given as goal
 
 abbrev pub invariant-loop-pick : goal.invariant-loop-pick

@@ -1,5 +1,5 @@
 use Rattle.std.proofs.Common.{◌≡◌, take, map}
-use Rattle.definitions.specs.Demand.{choose}
+use Rattle.definitions.specs.believed.Demand.{choose}
 use Rattle.tuple_index.proofs.demand.units_of.Given as goal
 
 abbrev pub invariant-loop-sub : goal.invariant-loop-sub

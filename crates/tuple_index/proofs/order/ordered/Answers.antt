@@ -1,6 +1,6 @@
 use Rattle.std.proofs.Common.{◌≡◌, List, ℕ, IfOk, map, ◌∙◌, ap, subst}
 use Rattle.std.proofs.lemmas.List.Filters.{dedup_is}
-use Rattle.definitions.specs.Demand.{in_order}
+use Rattle.definitions.specs.believed.Demand.{in_order}
 use Rattle.tuple_index.proofs.OrderLemmas.{ordered_parts}
 use Rattle.tuple_index.proofs.order.ordered.Goals as goal
 

@@ -1,7 +1,7 @@
 use Rattle.std.proofs.Common.{◌≡◌, ◌<◌, ◌++◌, ◌∷◌, [], ◌-◌, ◌+◌, List, ℕ, get_or, map, drop, vec_len, ◌∙◌, ap, arith, append_assoc}
 use Rattle.std.proofs.lemmas.Grind.{common_steps}
 use Rattle.std.proofs.lemmas.List.{take_rest}
-use Rattle.definitions.specs.Demand.{choose, rising}
+use Rattle.definitions.specs.believed.Demand.{choose, rising}
 use Rattle.tuple_index.proofs.ListingLemmas.{map_same}
 use Rattle.tuple_index.proofs.ChoiceLemmas.{made_step, made_end, taken_off}
 use Rattle.tuple_index.proofs.sets.+push_choices.Goals as goal

@@ -1,5 +1,5 @@
 use Rattle.std.proofs.Common.{◌≡◌, ◌++◌, drop, map}
-use Rattle.definitions.specs.Demand.{choose, rising}
+use Rattle.definitions.specs.believed.Demand.{choose, rising}
 use Rattle.tuple_index.proofs.sets.+push_choices.Given as goal
 
 abbrev pub decreases-push_choices : goal.decreases-push_choices

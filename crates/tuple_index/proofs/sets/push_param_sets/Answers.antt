@@ -1,7 +1,7 @@
 use Rattle.std.proofs.Common.{◌≡◌, ◌++◌, OnOk, List, ℕ, min, map, length, ◌∙◌, sym, ap, subst, arith}
 use Rattle.std.proofs.lemmas.Grind.{common_steps}
-use Rattle.cov_model.specs.Valid.{param_numbers}
-use Rattle.definitions.specs.Demand.{choose, rising}
+use Rattle.cov_model.specs.believed.Valid.{param_numbers}
+use Rattle.definitions.specs.believed.Demand.{choose, rising}
 use Rattle.tuple_index.proofs.PlainLemmas.{choices_plain}
 use Rattle.tuple_index.proofs.sets.push_param_sets.Goals as goal
 

@@ -1,6 +1,6 @@
 use Rattle.std.proofs.Common.{◌++◌, List, ℕ, map, ◌∙◌, sym, ap}
 use Rattle.cov_model.specs.declared.demand.Group.{Group}
-use Rattle.definitions.specs.Demand.{choose, rising}
+use Rattle.definitions.specs.believed.Demand.{choose, rising}
 use Rattle.tuple_index.proofs.ListingLemmas.{map_flat_map}
 use Rattle.tuple_index.proofs.ChoiceLemmas.{flat_step, flat_end}
 use Rattle.tuple_index.proofs.sets.push_relations.Goals as goal

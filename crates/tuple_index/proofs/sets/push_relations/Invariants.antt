@@ -1,6 +1,6 @@
 use Rattle.std.proofs.Common.{◌≡◌, ◌++◌, drop, map}
 use Rattle.std.specs.List.{flat_map}
-use Rattle.definitions.specs.Demand.{choose, rising}
+use Rattle.definitions.specs.believed.Demand.{choose, rising}
 use Rattle.tuple_index.proofs.sets.push_relations.Given as goal
 
 abbrev pub invariant-loop-relation : goal.invariant-loop-relation

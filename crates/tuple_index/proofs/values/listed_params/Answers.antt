@@ -1,7 +1,7 @@
 use Rattle.std.proofs.Common.{[], ◌∷◌, ◌++◌, ℕ, arith, ◌≡◌, ◌∙◌, sym, ap}
 use Rattle.std.proofs.lemmas.List.{map-id}
 use Rattle.std.proofs.lemmas.Grind.{common_steps}
-use Rattle.definitions.specs.Demand.{is_among, rising}
+use Rattle.definitions.specs.believed.Demand.{is_among, rising}
 use Rattle.tuple_index.proofs.ChoiceLemmas.{single_found, single_passed, single_end}
 use Rattle.tuple_index.proofs.values.listed_params.Goals.{then-is_listed+in_ok-push, else-is_listed}
 use Rattle.tuple_index.proofs.values.listed_params.Goals as goal

@@ -1,6 +1,6 @@
 use Rattle.std.proofs.Common.{◌≡◌, ◌++◌, ◌-◌, map, length}
 use Rattle.std.specs.List.{filter, range_with_len}
-use Rattle.definitions.specs.Demand.{is_among, rising}
+use Rattle.definitions.specs.believed.Demand.{is_among, rising}
 use Rattle.tuple_index.proofs.values.listed_params.Given as goal
 
 abbrev pub invariant-loop-p : goal.invariant-loop-p

@@ -1,10 +1,10 @@
 use Rattle.std.proofs.Common.{◌≡◌, ◌∙◌, ap, map, None, subst, sym}
-use Rattle.cov_model.specs.Sound.{IsSound}
+use Rattle.cov_model.specs.believed.Sound.{IsSound}
 use Rattle.cov_model.specs.Views.{rule_view}
 use Rattle.constraint_ast.specs.Trees.{rule_tree}
 use Rattle.model_lex.specs.Sections.{split_seen}
-use Rattle.type_check.specs.Constraints.{rules_fault, rules_from}
-use Rattle.type_check.specs.ModelOf.{by_params, by_rules}
+use Rattle.type_check.specs.believed.Constraints.{rules_fault, rules_from}
+use Rattle.type_check.specs.believed.ModelOf.{by_params, by_rules}
 use Rattle.constraint_ast.proofs.Lexing.{handed_on}
 use Rattle.type_check.proofs.Models.{Refuses, grammar_refused, model_read, read_through, with_rules}
 use Rattle.type_check.proofs.Soundness.{model_sound}

@@ -1,5 +1,5 @@
 use Rattle.std.proofs.Common.{◌≡◌, map, take}
-use Rattle.type_check.specs.Checking.{literal_of}
+use Rattle.type_check.specs.believed.Checking.{literal_of}
 use Rattle.type_check.proofs.scope.literals_of.Given as goal
 
 abbrev pub invariant-loop-literal : goal.invariant-loop-literal

@@ -1,7 +1,7 @@
 use Rattle.std.proofs.Common.{◌+◌, ◌*◌, ◌<◌, ◌∙◌, All, None, ap, arith, drop, get_or, length, subst, sym}
 use Rattle.std.specs.Prelude.{IfSome}
 use Rattle.std.proofs.lemmas.List.{length-drop}
-use Rattle.cov_model.specs.Sound.{param_at}
+use Rattle.cov_model.specs.believed.Sound.{param_at}
 use Rattle.uncovered_table.specs.Bits.{bit_count, line_bit}
 use Rattle.uncovered_table.proofs.ValueLemmas.{bits_fit, bits_of_line, bits_within, digit_from, digits_long, value_line}
 use Rattle.uncovered_table.proofs.held.add_set.Goals as goal

@@ -1,5 +1,5 @@
 use Rattle.std.proofs.Common.{arith, length}
-use Rattle.definitions.specs.Demand.{demanded_sets}
+use Rattle.definitions.specs.believed.Demand.{demanded_sets}
 use Rattle.uncovered_table.proofs.BitLemmas.{bits_before}
 use Rattle.uncovered_table.proofs.prepared.has_open.Goals as goal
 

@@ -1,6 +1,6 @@
 use Rattle.std.proofs.Common.{◌∙◌, sym, rules}
 use Rattle.value_text.proofs.LikeLemmas.{ends_whole, ends_short, next_star}
-use Rattle.value_text.specs.Like.{folded_chars}
+use Rattle.value_text.specs.believed.Like.{folded_chars}
 use Rattle.value_text.proofs.pattern.like.Goals as goal
 
 pub returns-in-Whole : goal.returns-in-Whole

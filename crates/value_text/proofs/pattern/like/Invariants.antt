@@ -1,5 +1,5 @@
 use Rattle.std.proofs.Common.{◌≡◌, ◌+◌, length}
-use Rattle.value_text.specs.Like.{is_like, folded_chars}
+use Rattle.value_text.specs.believed.Like.{is_like, folded_chars}
 use Rattle.value_text.proofs.LikeLemmas.{matches_after}
 use denote.Text.{Utf8}
 use denote.Shadow.{shadow}

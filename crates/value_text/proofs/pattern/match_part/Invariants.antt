@@ -1,5 +1,5 @@
 use Rattle.std.proofs.Common.{◌≤◌, length}
-use Rattle.value_text.specs.Like.{folded_chars}
+use Rattle.value_text.specs.believed.Like.{folded_chars}
 use Rattle.value_text.specs.PatternParts.{Continues}
 use denote.Text.{Utf8}
 use denote.Shadow.{shadow}

@@ -1,5 +1,5 @@
 use Rattle.std.proofs.Common.{◌≡◌, ◌∙◌, ◌∷◌, ◌++◌, ap, sym, encode_utf8}
-use Rattle.value_text.specs.Like.{folded_chars}
+use Rattle.value_text.specs.believed.Like.{folded_chars}
 use Rattle.value_text.proofs.CharLemmas.{folded_chars_step, folded_char}
 use Rattle.value_text.proofs.pattern.next_char.Goals as goal
 use Rattle.value_text.proofs.pattern.next_char.Goals.{then-fold, else-fold}

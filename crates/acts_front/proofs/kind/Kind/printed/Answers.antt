@@ -1,7 +1,7 @@
 use Rattle.std.proofs.Common.{ℕ, List, Bor, rules, tests}
 use Rattle.std.proofs.lemmas.Iterator.{YieldsList-from_map_by, YieldsList-from_slice}
 use Rattle.std.proofs.lemmas.Iterator.Consumers.{YieldsList-at, map_from_collect}
-use Rattle.acts_front.specs.Translation.{value_text}
+use Rattle.acts_front.specs.believed.Translation.{value_text}
 use Rattle.acts_front.proofs.kind.Kind.printed.Goals as goal
 
 pub returns : goal.returns

@@ -1,7 +1,7 @@
 use Rattle.std.proofs.Common.{◌∙◌, ap}
 use Rattle.std.specs.Prelude.{is_some}
 use Rattle.std.specs.Str.{bytes_eq}
-use Rattle.value_text.specs.Texts.{folded}
+use Rattle.value_text.specs.believed.Texts.{folded}
 use Rattle.acts_front.proofs.Mapped.{is_some-position}
 use Rattle.acts_front.proofs.name_set.NameSet.holds.Goals as goal
 

@@ -1,8 +1,8 @@
 use Rattle.std.proofs.Common.{◌≡◌, ◌++◌, ◌∙◌, map, ap, sym, subst, codes, append_assoc}
 use Rattle.std.specs.Prelude.{OnOk}
 use Rattle.std.proofs.lemmas.Simd.{map-map}
-use Rattle.model_parse.specs.Written.{joined}
-use Rattle.acts_front.specs.Translation.{value_text}
+use Rattle.model_parse.specs.believed.Written.{joined}
+use Rattle.acts_front.specs.believed.Translation.{value_text}
 use Rattle.acts_front.proofs.parameter.Parameter.put.Goals as goal
 
 pub returns : goal.returns

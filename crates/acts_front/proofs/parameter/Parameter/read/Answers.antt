@@ -2,8 +2,8 @@ use Rattle.std.proofs.Common.{◌≡◌, ◌∙◌, sym, ap, true, false, Some, 
 use Rattle.std.proofs.lemmas.List.{take_rest}
 use Rattle.std.proofs.lemmas.List.Folds.{list_all-map}
 use Rattle.std.specs.List.{list_all}
-use Rattle.model_parse.specs.Pieces.{begins_with, pieces}
-use Rattle.acts_front.specs.ParameterLines.{behind_kind, is_name, is_value, kind_in, name_in, values_in}
+use Rattle.model_parse.specs.believed.Pieces.{begins_with, pieces}
+use Rattle.acts_front.specs.believed.ParameterLines.{behind_kind, is_name, is_value, kind_in, name_in, values_in}
 use Rattle.acts_front.proofs.LineForms.{parameter_is}
 use Rattle.acts_front.proofs.parameter.Parameter.read.Goals as goal
 

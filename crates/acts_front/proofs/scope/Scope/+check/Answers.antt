@@ -1,9 +1,10 @@
 use Rattle.std.proofs.Common.{◌≡◌, List, ◌∙◌, ◌∷◌, ap, sym, subst}
 use Rattle.std.specs.Prelude.{IfOk, option_map}
-use Rattle.acts_front.specs.Constraints.{conj_of, is_and, is_or, parts, unit_of}
+use Rattle.acts_front.specs.Constraints.{conj_of}
+use Rattle.acts_front.specs.believed.Constraints.{is_and, is_or, parts, unit_of}
 use Rattle.acts_front.specs.Findings.{finding_in}
 use Rattle.acts_front.specs.Reading.{token_seen, tokens_seen}
-use Rattle.acts_front.specs.Tokens.{Token, Name, Not, Open}
+use Rattle.acts_front.specs.believed.Tokens.{Token, Name, Not, Open}
 use Rattle.acts_front.proofs.Units.{enclosed_found, named_found, negated_found}
 use Rattle.acts_front.proofs.Worst.{IsWorst, conj_found, disj_found, worst_last}
 use Rattle.acts_front.proofs.scope.Scope.+check.Goals as goal

@@ -1,6 +1,7 @@
 use Rattle.std.proofs.Common.{◌+◌, ◌*◌}
 use Rattle.std.specs.Prelude.{option_map}
-use Rattle.acts_front.specs.Constraints.{conj_of, is_and, is_or, parts, unit_of}
+use Rattle.acts_front.specs.Constraints.{conj_of}
+use Rattle.acts_front.specs.believed.Constraints.{is_and, is_or, parts, unit_of}
 use Rattle.acts_front.specs.Findings.{finding_in}
 use Rattle.acts_front.specs.Reading.{tokens_seen}
 use Rattle.acts_front.proofs.Worst.{IsWorst, ahead_len}

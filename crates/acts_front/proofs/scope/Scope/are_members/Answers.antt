@@ -1,7 +1,7 @@
 use Rattle.std.proofs.Common.{◌≡◌, ◌∙◌, ◌&&◌, [], not, map, sym, ap, true, false}
 use Rattle.std.proofs.lemmas.List.Folds.{list_all-map}
 use Rattle.std.specs.List.{list_all}
-use Rattle.acts_front.specs.ParameterLines.{is_declared, has_repeated}
+use Rattle.acts_front.specs.believed.ParameterLines.{is_declared, has_repeated}
 use Rattle.acts_front.proofs.scope.Scope.are_members.Goals as goal
 
 pub returns-then-not-branch : goal.returns-then-not-branch

@@ -1,5 +1,5 @@
 use Rattle.std.proofs.Common.{ap, refl, Some}
-use Rattle.acts_front.specs.Constraints.{OfWhole, OfText, OfTruth, OfParameter, operand_in}
+use Rattle.acts_front.specs.believed.Constraints.{OfWhole, OfText, OfTruth, OfParameter, operand_in}
 use Rattle.acts_front.specs.Reading.{token_seen}
 use Rattle.acts_front.specs.declared.kind.Kind.TheVariants.{Int, Enum, Boolean}
 use Rattle.acts_front.proofs.Terms.{compared_is}

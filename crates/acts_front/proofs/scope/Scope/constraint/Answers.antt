@@ -1,8 +1,8 @@
 use Rattle.std.proofs.Common.{◌≡◌, ◌+◌, ◌∙◌, ap, sym, subst}
 use Rattle.std.proofs.lemmas.List.{take_rest}
 use Rattle.std.specs.Prelude.{IfOk}
-use Rattle.acts_front.specs.Constraints.{disj_of}
-use Rattle.constraint_ast.specs.Grammar.{most_open}
+use Rattle.acts_front.specs.believed.Constraints.{disj_of}
+use Rattle.constraint_ast.specs.believed.Grammar.{most_open}
 use Rattle.acts_front.specs.Findings.{finding_in, worse}
 use Rattle.acts_front.specs.Reading.{token_seen, tokens_seen}
 use Rattle.acts_front.proofs.Arrows.{no_arrow, one_arrow}

@@ -1,5 +1,5 @@
 use Rattle.std.proofs.Common.{◌∙◌, ap}
-use Rattle.acts_front.specs.ParameterLines.{is_declared}
+use Rattle.acts_front.specs.believed.ParameterLines.{is_declared}
 use Rattle.acts_front.proofs.Scopes.{declares}
 use Rattle.acts_front.proofs.scope.Scope.declares.Goals as goal
 

@@ -1,6 +1,6 @@
 use Rattle.std.proofs.Common.{◌∙◌, sym, ap, Some, ℕ, List, Bor}
 use Rattle.std.proofs.Math.ListN.{get_or-map}
-use Rattle.acts_front.specs.ParameterLines.{Declared, kind_named}
+use Rattle.acts_front.specs.believed.ParameterLines.{Declared, kind_named}
 use Rattle.acts_front.specs.declared.kind.Kind.{Kind}
 use Rattle.acts_front.proofs.Scopes.{kind_at, kind_nowhere}
 use Rattle.acts_front.proofs.scope.Scope.kind.Goals as goal

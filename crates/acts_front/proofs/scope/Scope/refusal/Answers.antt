@@ -1,9 +1,9 @@
 use Rattle.std.proofs.Common.{◌≡◌, ◌∙◌, true, false, map, length, ap, sym}
 use Rattle.std.proofs.lemmas.List.{length-map}
 use Rattle.std.specs.Prelude.{is_some}
-use Rattle.value_text.specs.Numbers.{count_of}
+use Rattle.value_text.specs.believed.Numbers.{count_of}
 use Rattle.acts_front.specs.Reading.{relation_seen}
-use Rattle.acts_front.specs.RelationLines.{are_members}
+use Rattle.acts_front.specs.believed.RelationLines.{are_members}
 use Rattle.acts_front.proofs.LineForms.{related_is, unrelated_is}
 use Rattle.acts_front.proofs.scope.Scope.refusal.Goals as goal
 

@@ -1,10 +1,10 @@
 use Rattle.std.proofs.Common.{◌≡◌, ◌∙◌, Some, ap, sym, subst}
 use Rattle.std.specs.Prelude.{option_map}
 use Rattle.std.specs.Result.{result_map_both}
-use Rattle.acts_front.specs.ActsFiles.{constraint_line}
+use Rattle.acts_front.specs.believed.ActsFiles.{constraint_line}
 use Rattle.acts_front.specs.Reading.{Adds, tokens_seen}
-use Rattle.acts_front.specs.Tokens.{tokens_found}
-use Rattle.acts_front.specs.Translation.{translated_text}
+use Rattle.acts_front.specs.believed.Tokens.{tokens_found}
+use Rattle.acts_front.specs.believed.Translation.{translated_text}
 use Rattle.acts_front.proofs.translator.Translator.add_constraint.Goals as goal
 
 pub returns-in-Some : goal.returns-in-Some

@@ -1,8 +1,8 @@
 use Rattle.std.proofs.Common.{◌≡◌, ◌∙◌, Ok, true, ap, refl, sym, subst}
 use Rattle.std.specs.List.{list_all}
-use Rattle.acts_front.specs.ActsFiles.{line_gives, section_in, text_gives}
-use Rattle.acts_front.specs.Lines as lines
-use Rattle.acts_front.specs.Lines.{is_allowed}
+use Rattle.acts_front.specs.believed.ActsFiles.{line_gives, section_in, text_gives}
+use Rattle.acts_front.specs.believed.Lines as lines
+use Rattle.acts_front.specs.believed.Lines.{is_allowed}
 use Rattle.acts_front.specs.Reading.{Adds, ended}
 use Rattle.acts_front.specs.declared.translator.Translator.{Translator}
 use Rattle.acts_front.proofs.Adding.{adds_ended}

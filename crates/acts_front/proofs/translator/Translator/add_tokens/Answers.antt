@@ -1,10 +1,10 @@
 use Rattle.std.proofs.Common.{◌≡◌, ◌∙◌, None, Ok, Some, ap, refl, sym, subst}
-use Rattle.acts_front.specs.ActsFiles.{OfConstraint}
-use Rattle.acts_front.specs.Constraints.{cons_of}
-use Rattle.constraint_ast.specs.Grammar.{most_open}
+use Rattle.acts_front.specs.believed.ActsFiles.{OfConstraint}
+use Rattle.acts_front.specs.believed.Constraints.{cons_of}
+use Rattle.constraint_ast.specs.believed.Grammar.{most_open}
 use Rattle.acts_front.specs.Findings.{code_of, finding_of}
 use Rattle.acts_front.specs.Reading.{Adds, tokens_seen}
-use Rattle.acts_front.specs.Translation.{translated_text}
+use Rattle.acts_front.specs.believed.Translation.{translated_text}
 use Rattle.acts_front.proofs.Adding.{nothing_declared}
 use Rattle.acts_front.proofs.Codes.{spelled_fits, spelled_refused}
 use Rattle.acts_front.proofs.translator.Translator.add_tokens.Goals as goal

@@ -3,10 +3,10 @@ use Rattle.std.specs.Prelude.{All, filter_map}
 use Rattle.std.specs.String.{string_bytes}
 use Rattle.std.proofs.lemmas.List.{take_more, length-map}
 use Rattle.value_text.proofs.StringLemmas.{word_at}
-use Rattle.definitions.specs.Settings.{set, setting_of}
-use Rattle.definitions.specs.Words.{has_equal_marks, is_of_checker, set_by}
+use Rattle.definitions.specs.believed.Settings.{set, setting_of}
+use Rattle.definitions.specs.believed.Words.{has_equal_marks, is_of_checker, set_by}
 use Rattle.command_line.specs.Settings.{setting_seen}
-use Rattle.command_line.specs.Words.{texts}
+use Rattle.command_line.specs.believed.Words.{texts}
 use Rattle.command_line.proofs.WordLemmas.{set_by-push}
 use Rattle.check_cli.proofs.WordLemmas.{faulty-by, known-push}
 use Rattle.check_cli.proofs.words.CheckOpts.with_option.Goals as goal

@@ -1,6 +1,7 @@
 use Rattle.std.proofs.Common.{refl, ap, arith, ◌∙◌, length, length-append}
-use Rattle.constraint_ast.specs.Grammar.{most_open}
-use Rattle.constraint_ast.specs.Trees.{End, More, added, any_of, tree_of, trees_in}
+use Rattle.constraint_ast.specs.believed.Grammar.{most_open}
+use Rattle.constraint_ast.specs.believed.Trees.{End, More, any_of}
+use Rattle.constraint_ast.specs.Trees.{added, tree_of, trees_in}
 use Rattle.constraint_ast.specs.Machine.{After, Need, Part, run}
 use Rattle.constraint_ast.proofs.Parts.{all_is, any_is, where_none, with_more}
 use Rattle.constraint_ast.proofs.parser.Parser.+parse.Goals as goal

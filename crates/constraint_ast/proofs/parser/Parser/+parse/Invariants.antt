@@ -1,6 +1,7 @@
 use Rattle.std.proofs.Common.{◌≡◌, ◌+◌, ◌*◌, ◌<◌, length}
-use Rattle.constraint_ast.specs.Grammar.{most_open}
-use Rattle.constraint_ast.specs.Trees.{Trees, End, trees_in}
+use Rattle.constraint_ast.specs.believed.Grammar.{most_open}
+use Rattle.constraint_ast.specs.believed.Trees.{Trees, End}
+use Rattle.constraint_ast.specs.Trees.{trees_in}
 use Rattle.constraint_ast.specs.Machine.{Need, Outer, Part, run}
 use Rattle.constraint_ast.proofs.parser.Parser.+parse.Given as goal
 

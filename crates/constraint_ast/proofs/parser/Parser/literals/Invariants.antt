@@ -1,5 +1,5 @@
 use Rattle.std.proofs.Common.{◌≡◌, ℕ, ◌<◌, List, [], length}
-use Rattle.constraint_ast.specs.Grammar.{most_open}
+use Rattle.constraint_ast.specs.believed.Grammar.{most_open}
 use Rattle.constraint_ast.specs.Machine.{Around, Itemed, Opened, run}
 use Rattle.constraint_ast.proofs.parser.Parser.literals.Given as goal
 

@@ -1,5 +1,5 @@
 use Rattle.std.proofs.Common.{◌≡◌, length, map}
-use Rattle.constraint_ast.specs.Grammar.{most_open}
+use Rattle.constraint_ast.specs.believed.Grammar.{most_open}
 use Rattle.constraint_ast.specs.Trees.{rule_tree}
 use Rattle.constraint_ast.specs.Machine.{Between, run, with_rules}
 use Rattle.constraint_ast.proofs.parser.Parser.rules.Given as goal

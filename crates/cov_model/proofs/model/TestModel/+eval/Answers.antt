@@ -1,6 +1,6 @@
 use Rattle.std.proofs.Common.{rules, arith, All, subst, sym}
 use Rattle.cov_model.specs.declared.constraint.Pred.{the_lemmas}
-use Rattle.cov_model.specs.Sound.{IsSoundPred}
+use Rattle.cov_model.specs.believed.Sound.{IsSoundPred}
 use Rattle.cov_model.specs.Views.{pred_view}
 use Rattle.cov_model.proofs.TruthLemmas.{each_sound, each_truth, either_sound, either_truth}
 use Rattle.cov_model.proofs.model.TestModel.+eval.Goals as goal

@@ -1,6 +1,6 @@
 use Rattle.std.proofs.Common.{◌≡◌, drop}
 use Rattle.cov_model.specs.Views.{preds_in}
-use Rattle.cov_model.specs.Kleene.{all_truth, any_truth, and_of, or_of}
+use Rattle.cov_model.specs.believed.Kleene.{all_truth, any_truth, and_of, or_of}
 use Rattle.cov_model.proofs.model.TestModel.+eval.Given as goal
 
 abbrev pub invariant-all_truth-loop-part : goal.invariant-all_truth-loop-part

@@ -3,7 +3,7 @@ use Rattle.std.specs.List.{list_any}
 use Rattle.std.specs.Ordering.{is_eq}
 use Rattle.std.proofs.lemmas.Grind.{common_steps}
 use Rattle.cov_model.specs.declared.constraint.Literal.{Literal}
-use Rattle.cov_model.specs.Meaning.{literal_order, operand_of}
+use Rattle.cov_model.specs.believed.Meaning.{literal_order, operand_of}
 use Rattle.cov_model.proofs.TruthLemmas.{term_truth-OneOf_none}
 use Rattle.cov_model.proofs.model.TestModel.one_of.Goals as goal
 

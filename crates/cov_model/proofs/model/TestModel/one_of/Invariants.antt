@@ -1,7 +1,7 @@
 use Rattle.std.proofs.Common.{◌≡◌, false, take}
 use Rattle.std.specs.List.{list_any}
 use Rattle.std.specs.Ordering.{is_eq}
-use Rattle.cov_model.specs.Meaning.{literal_order, operand_of}
+use Rattle.cov_model.specs.believed.Meaning.{literal_order, operand_of}
 use Rattle.cov_model.proofs.model.TestModel.one_of.Given as goal
 
 abbrev pub invariant-loop-literal : goal.invariant-loop-literal

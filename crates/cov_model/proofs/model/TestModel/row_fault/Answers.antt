@@ -2,8 +2,8 @@ use Rattle.std.proofs.Common.{◌≡◌, ◌<◌, not, arith, ap, ◌∙◌, sym
 use Rattle.std.proofs.lemmas.Grind.{common_steps}
 use Rattle.cov_model.specs.declared.row_fault.RowWhy.TheVariants.{Rule}
 use Rattle.cov_model.specs.Sound.{no_rule}
-use Rattle.cov_model.specs.Meaning.{body_holds}
-use Rattle.cov_model.specs.RowFault.{row_fault}
+use Rattle.cov_model.specs.believed.Meaning.{body_holds}
+use Rattle.cov_model.specs.believed.RowFault.{row_fault}
 use Rattle.cov_model.proofs.RowLemmas.{FitsModel-is_row}
 use Rattle.cov_model.proofs.FaultLemmas.{false_rule, find-drop_more, is_none-row_fault}
 use Rattle.cov_model.proofs.SoundLemmas.{rule_seen, seen_sound}

@@ -1,5 +1,5 @@
 use Rattle.std.proofs.Common.{◌≡◌, not, drop, find}
-use Rattle.cov_model.specs.Meaning.{body_holds}
+use Rattle.cov_model.specs.believed.Meaning.{body_holds}
 use Rattle.cov_model.proofs.model.TestModel.row_fault.Given as goal
 
 -- no constraint before this place is false

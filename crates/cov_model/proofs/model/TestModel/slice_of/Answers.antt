@@ -1,7 +1,7 @@
 use Rattle.std.proofs.Common.{None, ◌&&◌, sym, refl, ◌∙◌, arith}
-use Rattle.cov_model.specs.Rows.{is_assigned, value_in}
-use Rattle.cov_model.specs.Meaning.{given_value}
-use Rattle.cov_model.specs.Valid.{negatives}
+use Rattle.cov_model.specs.believed.Rows.{is_assigned, value_in}
+use Rattle.cov_model.specs.believed.Meaning.{given_value}
+use Rattle.cov_model.specs.believed.Valid.{negatives}
 use Rattle.cov_model.proofs.FaultLemmas.{passed_more, unless_passed}
 use Rattle.cov_model.proofs.model.TestModel.slice_of.Goals as goal
 

@@ -1,8 +1,8 @@
 use Rattle.std.proofs.Common.{◌≡◌, ◌-◌, ◌&&◌, length}
 use Rattle.std.specs.List.{filter, range_with_len}
-use Rattle.cov_model.specs.Rows.{is_assigned}
-use Rattle.cov_model.specs.Meaning.{given_value}
-use Rattle.cov_model.specs.Valid.{negatives}
+use Rattle.cov_model.specs.believed.Rows.{is_assigned}
+use Rattle.cov_model.specs.believed.Meaning.{given_value}
+use Rattle.cov_model.specs.believed.Valid.{negatives}
 use Rattle.cov_model.proofs.model.TestModel.slice_of.Given as goal
 
 -- the negatives are those from here on

@@ -1,8 +1,8 @@
 use Rattle.std.proofs.Common.{◌<◌, ◌&&◌, arith}
 use Rattle.std.proofs.lemmas.Grind.{common_steps}
-use Rattle.cov_model.specs.Rows.{is_assigned}
-use Rattle.cov_model.specs.Meaning.{given_value}
-use Rattle.cov_model.specs.Valid.{negatives}
+use Rattle.cov_model.specs.believed.Rows.{is_assigned}
+use Rattle.cov_model.specs.believed.Meaning.{given_value}
+use Rattle.cov_model.specs.believed.Valid.{negatives}
 use Rattle.cov_model.proofs.FaultLemmas.{found_more, passed_more}
 use Rattle.cov_model.proofs.model.TestModel.two_negatives.Goals.{then-gives_negative+in-None, else-gives_negative}
 use Rattle.cov_model.proofs.model.TestModel.two_negatives.Goals as goal

@@ -1,9 +1,9 @@
 use Rattle.std.proofs.Common.{◌≡◌, ◌-◌, ◌&&◌, ◌++◌, length}
 use Rattle.std.specs.Option.{option_to_list}
 use Rattle.std.specs.List.{filter, range_with_len}
-use Rattle.cov_model.specs.Rows.{is_assigned}
-use Rattle.cov_model.specs.Meaning.{given_value}
-use Rattle.cov_model.specs.Valid.{negatives}
+use Rattle.cov_model.specs.believed.Rows.{is_assigned}
+use Rattle.cov_model.specs.believed.Meaning.{given_value}
+use Rattle.cov_model.specs.believed.Valid.{negatives}
 use Rattle.cov_model.proofs.model.TestModel.two_negatives.Given as goal
 
 -- the negatives are the one found, if any, and those from here on

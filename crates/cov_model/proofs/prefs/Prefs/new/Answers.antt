@@ -1,6 +1,7 @@
 use Rattle.std.proofs.Common.{◌≡◌, map, subst, sym, arith}
 use Rattle.std.proofs.lemmas.Grind.{common_steps}
-use Rattle.cov_model.specs.Preference.{OrdersValues, preference}
+use Rattle.cov_model.specs.Preference.{OrdersValues}
+use Rattle.cov_model.specs.believed.Preference.{preference}
 use Rattle.cov_model.proofs.PreferenceLemmas.{OrdersValues-preference}
 use Rattle.cov_model.proofs.prefs.Prefs.new.Goals as goal
 

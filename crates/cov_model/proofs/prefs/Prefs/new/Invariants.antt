@@ -1,5 +1,5 @@
 use Rattle.std.proofs.Common.{◌≡◌, ◌++◌, drop, map}
-use Rattle.cov_model.specs.Preference.{preference, preferences}
+use Rattle.cov_model.specs.believed.Preference.{preference, preferences}
 use Rattle.cov_model.proofs.prefs.Prefs.new.Given as goal
 
 -- the orders so far, and those of the parameters that are left

@@ -1,6 +1,6 @@
 use Rattle.std.proofs.Common.{◌<◌, ◌+◌, length, get_or, set, take, drop, find, None, refl, ◌∙◌, sym, ap, subst, arith}
 use Rattle.std.proofs.lemmas.Result.{err_from_is_err_and}
-use Rattle.cov_model.specs.Sound.{ModelView}
+use Rattle.cov_model.specs.believed.Sound.{ModelView}
 use Rattle.cov_model.proofs.CellLemmas.{length-slice_values}
 use Rattle.feasibility.specs.Ends.{EndsBy}
 use Rattle.feasibility.proofs.Nodes.{set_clear}

@@ -1,5 +1,5 @@
 use Rattle.std.proofs.Common.{◌≡◌, IfOk, length, ap, subst, arith}
-use Rattle.cov_model.specs.Sound.{ModelView}
+use Rattle.cov_model.specs.believed.Sound.{ModelView}
 use Rattle.feasibility.specs.Ends.{Ends}
 use Rattle.coverage_measure.proofs.AskLemmas.{are_tuples, slice_at}
 use Rattle.coverage_measure.proofs.QuestionLemmas.{slice_few}

@@ -1,10 +1,10 @@
 use Rattle.std.proofs.Common.{◌≡◌, ◌+◌, ◌<◌, ◌≤◌, All, length, ◌∙◌, sym, ap, subst, arith}
 use Rattle.std.proofs.lemmas.List.FromFn.{length-range_with_len}
 use Rattle.std.proofs.lemmas.Result.{err_from_is_err_and}
-use Rattle.cov_model.specs.Slices.{value_numbers}
-use Rattle.cov_model.specs.Sound.{ModelView, no_param, param_at}
-use Rattle.definitions.specs.Figures.{all_rows, is_served}
-use Rattle.definitions.specs.Search.{first_over}
+use Rattle.cov_model.specs.believed.Slices.{value_numbers}
+use Rattle.cov_model.specs.believed.Sound.{ModelView, no_param, param_at}
+use Rattle.definitions.specs.believed.Figures.{all_rows, is_served}
+use Rattle.definitions.specs.believed.Search.{first_over}
 use Rattle.feasibility.specs.Tree.{no_values}
 use Rattle.tuple_index.proofs.TupleLemmas.{among_below}
 use Rattle.coverage_measure.specs.Asking.{IsFor, tally}

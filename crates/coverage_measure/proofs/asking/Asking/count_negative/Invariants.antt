@@ -1,6 +1,6 @@
 use Rattle.std.proofs.Common.{◌≡◌, All}
-use Rattle.cov_model.specs.Slices.{value_numbers}
-use Rattle.definitions.specs.Figures.{all_rows, is_served}
+use Rattle.cov_model.specs.believed.Slices.{value_numbers}
+use Rattle.definitions.specs.believed.Figures.{all_rows, is_served}
 use Rattle.feasibility.specs.Tree.{no_values}
 use Rattle.coverage_measure.specs.Asking.{IsFor}
 use Rattle.coverage_measure.proofs.CountLemmas.{IsCounted, is_over, tuples_with}

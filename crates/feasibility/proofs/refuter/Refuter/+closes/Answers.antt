@@ -6,12 +6,12 @@ use Rattle.std.specs.Result.{OnOk}
 use Rattle.std.proofs.lemmas.Bool.{and_from, not-false, not-true}
 use Rattle.std.proofs.lemmas.Result.{on_ok_weaker}
 use Rattle.cov_model.specs.Fits.{FitsModel}
-use Rattle.cov_model.specs.Meaning.{value_at}
-use Rattle.cov_model.specs.Rows.{is_assigned}
-use Rattle.cov_model.specs.Sound.{param_at}
+use Rattle.cov_model.specs.believed.Meaning.{value_at}
+use Rattle.cov_model.specs.believed.Rows.{is_assigned}
+use Rattle.cov_model.specs.believed.Sound.{param_at}
 use Rattle.definitions.specs.Completion.{with_value}
-use Rattle.definitions.specs.Refutation.{is_omission_leaf}
-use Rattle.definitions.specs.Search.{Outcome, breaks_a_rule, constrained_params, is_failing, visit}
+use Rattle.definitions.specs.believed.Refutation.{is_omission_leaf}
+use Rattle.definitions.specs.believed.Search.{Outcome, breaks_a_rule, constrained_params, is_failing, visit}
 use Rattle.definitions.proofs.Members.{of_among}
 use Rattle.live_sets.specs.Trail.{mark_at}
 use Rattle.refutation.specs.declared.token.TreeToken.TheVariants.{Branch, ByOmission}

@@ -5,9 +5,9 @@ use Rattle.std.specs.Result.{OnOk}
 use Rattle.std.proofs.lemmas.Bool.{not-false, not-true, or_parts}
 use Rattle.std.proofs.lemmas.Result.{on_ok_weaker}
 use Rattle.cov_model.specs.Fits.{FitsModel}
-use Rattle.cov_model.specs.Valid.{param_numbers}
-use Rattle.definitions.specs.Refutation.{is_omission_leaf}
-use Rattle.definitions.specs.Search.{Outcome, breaks_a_rule, constrained_params, is_failing, is_stuck, visit}
+use Rattle.cov_model.specs.believed.Valid.{param_numbers}
+use Rattle.definitions.specs.believed.Refutation.{is_omission_leaf}
+use Rattle.definitions.specs.believed.Search.{Outcome, breaks_a_rule, constrained_params, is_failing, is_stuck, visit}
 use Rattle.refutation.specs.declared.token.TreeToken.TheVariants.{ByOmission}
 use Rattle.feasibility.specs.Live.{ShowsFailure, ShowsLive}
 use Rattle.feasibility.specs.Refuting.{Closes, HasNoLeaf, IsPath}

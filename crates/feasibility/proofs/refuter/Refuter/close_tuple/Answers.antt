@@ -1,6 +1,6 @@
 use Rattle.std.proofs.Common.{◌≡◌, ◌∷◌, ◌∙◌, [], ℕ, sym, ap, subst}
 use Rattle.std.specs.Result.{OnOk}
-use Rattle.definitions.specs.Search.{Outcome, constrained_params, visit}
+use Rattle.definitions.specs.believed.Search.{Outcome, constrained_params, visit}
 use Rattle.feasibility.specs.Refuting.{Closes}
 use Rattle.feasibility.proofs.Deciding.{fails_stays}
 use Rattle.feasibility.proofs.Paths.{failure_stays}

@@ -1,5 +1,5 @@
 use Rattle.std.proofs.Common.{◌∙◌, sym, ap}
-use Rattle.refutation.specs.Proofs.{format_of}
+use Rattle.refutation.specs.believed.Proofs.{format_of}
 use Rattle.feasibility.proofs.Paths.{none_cited}
 use Rattle.feasibility.proofs.refuter.Refuter.first_cited.Goals as goal
 

@@ -1,6 +1,6 @@
 use Rattle.std.proofs.Common.{◌∙◌, None, find, get_or, length, set, ap}
 use Rattle.std.specs.List.{range_with_len}
-use Rattle.definitions.specs.Refutation.{is_omission_leaf}
+use Rattle.definitions.specs.believed.Refutation.{is_omission_leaf}
 use Rattle.feasibility.proofs.Nodes.{none_of, set_clear}
 use Rattle.feasibility.proofs.refuter.Refuter.first_cited_with.Goals as goal
 

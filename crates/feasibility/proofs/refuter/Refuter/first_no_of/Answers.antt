@@ -1,5 +1,5 @@
 use Rattle.std.proofs.Common.{◌≡◌, ◌∙◌, true, false, get_or, sym, ap}
-use Rattle.cov_model.specs.Sound.{ModelView}
+use Rattle.cov_model.specs.believed.Sound.{ModelView}
 use Rattle.feasibility.specs.Live.{no_on}
 use Rattle.feasibility.specs.Tree.{TreeView}
 use Rattle.feasibility.proofs.Leaves.{item_found, item_passed}

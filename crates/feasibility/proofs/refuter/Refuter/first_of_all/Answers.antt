@@ -1,5 +1,5 @@
 use Rattle.std.proofs.Common.{◌<◌, ◌∙◌, length, sym, arith}
-use Rattle.definitions.specs.Refutation.{is_omission_leaf}
+use Rattle.definitions.specs.believed.Refutation.{is_omission_leaf}
 use Rattle.feasibility.proofs.Leaves.{number_found, number_passed}
 use Rattle.feasibility.proofs.Paths.{cited_leaf}
 use Rattle.feasibility.proofs.refuter.Refuter.first_of_all.Goals as goal

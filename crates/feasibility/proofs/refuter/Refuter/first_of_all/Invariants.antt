@@ -1,6 +1,6 @@
 use Rattle.std.proofs.Common.{◌≡◌, None, find, length}
 use Rattle.std.specs.List.{range_with_len}
-use Rattle.definitions.specs.Refutation.{is_omission_leaf}
+use Rattle.definitions.specs.believed.Refutation.{is_omission_leaf}
 use Rattle.feasibility.proofs.refuter.Refuter.first_of_all.Given as goal
 
 -- none of the omissions before this one is a leaf

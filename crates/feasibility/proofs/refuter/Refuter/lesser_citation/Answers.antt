@@ -1,6 +1,6 @@
 use Rattle.std.proofs.Common.{◌≡◌, ◌∙◌, None, find, sym, subst}
 use Rattle.std.proofs.lemmas.List.{take_all}
-use Rattle.definitions.specs.Refutation.{is_omission_leaf}
+use Rattle.definitions.specs.believed.Refutation.{is_omission_leaf}
 use Rattle.feasibility.proofs.Citing.{lowers_end, lowers_none, lowers_to}
 use Rattle.feasibility.proofs.Leaves.{item_passed}
 use Rattle.feasibility.proofs.refuter.Refuter.lesser_citation.Goals as goal

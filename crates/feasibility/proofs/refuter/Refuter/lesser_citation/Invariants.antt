@@ -1,5 +1,5 @@
 use Rattle.std.proofs.Common.{◌≡◌, None, find, take}
-use Rattle.definitions.specs.Refutation.{is_omission_leaf}
+use Rattle.definitions.specs.believed.Refutation.{is_omission_leaf}
 use Rattle.feasibility.proofs.refuter.Refuter.lesser_citation.Given as goal
 
 -- none of the omissions before this one is a leaf

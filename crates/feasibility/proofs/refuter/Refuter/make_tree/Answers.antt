@@ -1,6 +1,6 @@
 use Rattle.std.proofs.Common.{◌∷◌, ◌∙◌, [], true, sym, ap, subst}
-use Rattle.definitions.specs.Search.{constrained_params, visit}
-use Rattle.refutation.specs.Proofs.{format_of}
+use Rattle.definitions.specs.believed.Search.{constrained_params, visit}
+use Rattle.refutation.specs.believed.Proofs.{format_of}
 use Rattle.feasibility.specs.KeptTrees.{IsKeptTree, IsTreeFor}
 use Rattle.feasibility.specs.Refuting.{Closes, IsPath}
 use Rattle.feasibility.proofs.KeptTrees.{tree_is_kept, tree_made}

@@ -1,6 +1,6 @@
 use Rattle.std.proofs.Common.{◌≡◌, ℕ, Option, List, false, length, ◌∙◌, sym, ap, subst}
 use Rattle.cov_model.specs.Fits.{FitsModel}
-use Rattle.definitions.specs.Search.{constrained_params, visit}
+use Rattle.definitions.specs.believed.Search.{constrained_params, visit}
 use Rattle.feasibility.specs.declared.answer.Answer.{Answer}
 use Rattle.feasibility.specs.Answers.{answer_of, searched}
 use Rattle.feasibility.specs.KeptTrees.{IsTreeFor}

@@ -1,6 +1,6 @@
 use Rattle.std.proofs.Common.{◌≡◌, sym, subst}
-use Rattle.definitions.specs.Completion.{is_extendable}
-use Rattle.definitions.specs.Search.{plain_cost}
+use Rattle.definitions.specs.believed.Completion.{is_extendable}
+use Rattle.definitions.specs.believed.Search.{plain_cost}
 use Rattle.feasibility.specs.Answers.{answer_of}
 use Rattle.definitions.specs.SliceRows.{IsOfSlice}
 use Rattle.feasibility.specs.Solving.{SolverView}

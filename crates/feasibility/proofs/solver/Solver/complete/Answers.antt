@@ -1,6 +1,6 @@
 use Rattle.std.proofs.Common.{ap, arith, length, ◌≡◌, ◌∙◌, sym, subst, Some}
-use Rattle.definitions.specs.Completion.{is_extendable, first_completion}
-use Rattle.definitions.specs.Search.{plain_cost}
+use Rattle.definitions.specs.believed.Completion.{is_extendable, first_completion}
+use Rattle.definitions.specs.believed.Search.{plain_cost}
 use Rattle.feasibility.specs.Answers.{answer_of}
 use Rattle.feasibility.specs.Path.{filled}
 use Rattle.definitions.specs.SliceRows.{IsOfSlice}

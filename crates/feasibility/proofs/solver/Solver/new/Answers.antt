@@ -1,7 +1,7 @@
 use Rattle.std.proofs.Common.{◌∙◌, sym, ap, subst}
 use Rattle.cov_model.specs.Preference.{OrdersValues}
-use Rattle.cov_model.specs.Sound.{ModelView}
-use Rattle.definitions.specs.Completion.{preferred_values}
+use Rattle.cov_model.specs.believed.Sound.{ModelView}
+use Rattle.definitions.specs.believed.Completion.{preferred_values}
 use Rattle.definitions.specs.SliceRows.{IsSliceOf}
 use Rattle.feasibility.specs.Tree.{TreeView}
 use Rattle.feasibility.proofs.solver.Solver.new.Goals as goal

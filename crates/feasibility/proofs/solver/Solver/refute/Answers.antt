@@ -1,11 +1,11 @@
 use Rattle.std.proofs.Common.{◌≡◌, ◌∙◌, length, sym, ap, subst, arith}
 use Rattle.std.proofs.lemmas.List.{length-map}
-use Rattle.cov_model.specs.Slices.{slice_of}
-use Rattle.definitions.specs.Covering.{IsUnserved}
+use Rattle.cov_model.specs.believed.Slices.{slice_of}
+use Rattle.definitions.specs.believed.Covering.{IsUnserved}
 use Rattle.definitions.specs.Pairs.{cells_of}
-use Rattle.definitions.specs.Search.{constrained_params, visit}
+use Rattle.definitions.specs.believed.Search.{constrained_params, visit}
 use Rattle.definitions.specs.SliceRows.{IsOfSlice}
-use Rattle.refutation.specs.Proofs.{format_of}
+use Rattle.refutation.specs.believed.Proofs.{format_of}
 use Rattle.refutation.specs.declared.omissions.Omission.{Omission}
 use Rattle.feasibility.specs.KeptTrees.{IsKeptTree}
 use Rattle.feasibility.specs.Recurring.{AreAnswered}

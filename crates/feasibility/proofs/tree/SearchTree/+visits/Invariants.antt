@@ -1,5 +1,5 @@
 use Rattle.std.proofs.Common.{◌≡◌, ◌-◌, ◌+◌, ◌*◌, length, drop, get_or}
-use Rattle.definitions.specs.Search.{constrained_params, visit}
+use Rattle.definitions.specs.believed.Search.{constrained_params, visit}
 use Rattle.feasibility.specs.Path.{reached}
 use Rattle.feasibility.proofs.Visits.{Going}
 use Rattle.feasibility.proofs.tree.SearchTree.+visits.Given as goal

@@ -1,5 +1,5 @@
 use Rattle.std.proofs.Common.{◌≡◌, ℕ, ◌<◌, None, length, get_or}
-use Rattle.definitions.specs.Search.{constrained_params}
+use Rattle.definitions.specs.believed.Search.{constrained_params}
 use Rattle.feasibility.proofs.tree.SearchTree.agree_on_named.Given as goal
 
 abbrev pub invariant-loop-i : goal.invariant-loop-i

@@ -1,5 +1,5 @@
 use Rattle.std.proofs.Common.{◌∙◌, refl, sym, ap, subst, arith}
-use Rattle.definitions.specs.Search.{Outcome, constrained_params}
+use Rattle.definitions.specs.believed.Search.{Outcome, constrained_params}
 use Rattle.feasibility.specs.Answers.{answer_of}
 use Rattle.feasibility.specs.Path.{reached}
 use Rattle.feasibility.specs.Recurring.{AreAnswered, IsAnswered}

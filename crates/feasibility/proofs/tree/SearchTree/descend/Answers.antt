@@ -1,5 +1,5 @@
 use Rattle.std.proofs.Common.{◌≡◌, ◌-◌, ◌+◌, ◌∙◌, true, refl, ap, subst, arith}
-use Rattle.definitions.specs.Search.{constrained_params}
+use Rattle.definitions.specs.believed.Search.{constrained_params}
 use Rattle.live_sets.proofs.TrailLemmas.{since_more, since_self}
 use Rattle.feasibility.specs.Descent.{ComesTo}
 use Rattle.feasibility.specs.Tree.{constrained_from}

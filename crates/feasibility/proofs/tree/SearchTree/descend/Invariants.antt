@@ -1,5 +1,5 @@
 use Rattle.std.proofs.Common.{◌≡◌, ◌-◌, ◌<◌, length}
-use Rattle.definitions.specs.Search.{constrained_params}
+use Rattle.definitions.specs.believed.Search.{constrained_params}
 use Rattle.live_sets.specs.Trail.{IsSince}
 use Rattle.feasibility.specs.Descent.{ComesTo, IsNode}
 use Rattle.feasibility.specs.Tree.{constrained_from}

@@ -1,6 +1,6 @@
 use Rattle.std.proofs.Common.{◌∙◌, length, ap, is_some, arith}
 use Rattle.value_text.proofs.ListLemmas.{none_at}
-use Rattle.cov_model.specs.Rows.{is_assigned}
+use Rattle.cov_model.specs.believed.Rows.{is_assigned}
 use Rattle.feasibility.proofs.Deciding.{empty_stops}
 use Rattle.feasibility.proofs.tree.SearchTree.has_values.Goals as goal
 

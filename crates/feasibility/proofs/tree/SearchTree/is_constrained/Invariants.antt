@@ -1,6 +1,6 @@
 use Rattle.std.proofs.Common.{◌≡◌, false, length, take}
-use Rattle.definitions.specs.Demand.{is_among}
-use Rattle.definitions.specs.Search.{constrained_params}
+use Rattle.definitions.specs.believed.Demand.{is_among}
+use Rattle.definitions.specs.believed.Search.{constrained_params}
 use Rattle.feasibility.proofs.tree.SearchTree.is_constrained.Given as goal
 
 -- none of the constrained parameters before this place is the one

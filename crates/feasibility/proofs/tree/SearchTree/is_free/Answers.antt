@@ -1,7 +1,7 @@
 use Rattle.std.proofs.Common.{◌≡◌, ◌∙◌, ◌<◌, ℕ, List, false, length, sym, ap, arith}
 use Rattle.std.proofs.lemmas.Bool.Decides.{nat_tests}
 use Rattle.std.proofs.lemmas.Grind.{common_steps}
-use Rattle.cov_model.specs.Rows.{is_assigned}
+use Rattle.cov_model.specs.believed.Rows.{is_assigned}
 use Rattle.cov_model.specs.Sound.{rule_at}
 use Rattle.feasibility.specs.Tree.{doubtful}
 use Rattle.feasibility.proofs.TwoFree.{free_of_fewer}

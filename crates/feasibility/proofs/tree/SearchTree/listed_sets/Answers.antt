@@ -1,6 +1,6 @@
 use Rattle.std.proofs.Common.{◌≡◌, ◌++◌, ◌∷◌, [], true, length, get_or, ◌∙◌, sym, ap, subst, refl, arith, rules, eq-eqb, ◌==◌}
 use Rattle.std.proofs.lemmas.List.Folds.{list_any_at}
-use Rattle.definitions.specs.Demand.{is_among}
+use Rattle.definitions.specs.believed.Demand.{is_among}
 use Rattle.feasibility.specs.Live.{ListMarks, AreMarks}
 use Rattle.live_sets.specs.Trail.{LiveView}
 use Rattle.feasibility.proofs.ListedSets.{marks_more, marks_all}

@@ -2,7 +2,7 @@ use Rattle.std.proofs.Common.{◌≡◌, ◌<◌, ◌+◌, ◌++◌, ◌∷◌, 
 use Rattle.std.specs.List.{count_by}
 use Rattle.std.proofs.lemmas.Grind.{common_steps}
 use Rattle.std.proofs.lemmas.List.{take_more, take_all}
-use Rattle.cov_model.specs.Rows.{is_assigned}
+use Rattle.cov_model.specs.believed.Rows.{is_assigned}
 use Rattle.cov_model.specs.Sound.{rule_at}
 use Rattle.live_sets.proofs.TrailLemmas.{since_more}
 use Rattle.feasibility.specs.Live.{Narrowed}

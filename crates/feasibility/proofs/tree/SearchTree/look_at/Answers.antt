@@ -1,5 +1,5 @@
 use Rattle.std.proofs.Common.{◌∙◌, sym, ap}
-use Rattle.definitions.specs.Search.{is_no}
+use Rattle.definitions.specs.believed.Search.{is_no}
 use Rattle.compiled_rules.specs.Codes.{is_yes}
 use Rattle.feasibility.proofs.Looking.{broken_stops, looked_holds}
 use Rattle.feasibility.proofs.tree.SearchTree.look_at.Goals as goal

@@ -1,7 +1,7 @@
 use Rattle.std.proofs.Common.{◌≡◌, ◌<◌, true, length, get_or, arith}
 use Rattle.std.proofs.lemmas.Bool.Decides.{nat_tests}
 use Rattle.std.proofs.lemmas.Grind.{common_steps}
-use Rattle.cov_model.specs.Rows.{is_assigned}
+use Rattle.cov_model.specs.believed.Rows.{is_assigned}
 use Rattle.cov_model.specs.Sound.{rule_at}
 use Rattle.feasibility.proofs.Naming.{member_exists, member_named}
 use Rattle.feasibility.proofs.tree.SearchTree.names_earlier.Goals as goal

@@ -1,5 +1,5 @@
 use Rattle.std.proofs.Common.{◌<◌, length, ap, arith}
-use Rattle.definitions.specs.Search.{constrained_params}
+use Rattle.definitions.specs.believed.Search.{constrained_params}
 use Rattle.feasibility.proofs.Naming.{constrained_exists}
 use Rattle.feasibility.proofs.tree.SearchTree.place_of.Goals as goal
 

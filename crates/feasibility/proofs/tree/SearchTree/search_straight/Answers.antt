@@ -1,6 +1,6 @@
 use Rattle.std.proofs.Common.{◌≡◌, ◌∙◌, true, sym, ap}
 use Rattle.std.proofs.lemmas.Bool.{not-false}
-use Rattle.definitions.specs.Search.{constrained_params, is_failing}
+use Rattle.definitions.specs.believed.Search.{constrained_params, is_failing}
 use Rattle.feasibility.specs.Path.{reached}
 use Rattle.feasibility.proofs.Visits.{told_fails}
 use Rattle.feasibility.proofs.tree.SearchTree.search_straight.Goals as goal

@@ -1,7 +1,7 @@
 use Rattle.std.proofs.Common.{◌≡◌, ◌<◌, ◌+◌, ◌++◌, ◌∙◌, [], List, Bool, None, is_some, false, not, if◌then◌else◌, take, length, get_or, refl, sym, ap, subst, arith, append-nil}
 use Rattle.std.proofs.lemmas.List.{take_all}
-use Rattle.cov_model.specs.Rows.{is_assigned, value_in}
-use Rattle.definitions.specs.Search.{constrained_params}
+use Rattle.cov_model.specs.believed.Rows.{is_assigned, value_in}
+use Rattle.definitions.specs.believed.Search.{constrained_params}
 use Rattle.live_sets.proofs.TrailLemmas.{since_more}
 use Rattle.feasibility.specs.Live.{AreRules, AreSeen, LookedAt, Stops, undecided_of}
 use Rattle.feasibility.specs.Tree.{no_values, undecided}

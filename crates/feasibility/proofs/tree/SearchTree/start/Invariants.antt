@@ -1,5 +1,5 @@
 use Rattle.std.proofs.Common.{◌≡◌, length, take}
-use Rattle.definitions.specs.Search.{constrained_params}
+use Rattle.definitions.specs.believed.Search.{constrained_params}
 use Rattle.feasibility.specs.Live.{LookedAt, undecided_of}
 use Rattle.feasibility.proofs.tree.SearchTree.start.Given as goal
 

@@ -1,5 +1,5 @@
 use Rattle.std.proofs.Common.{◌≡◌, ◌≢◌, ℕ, ◌<◌, get_or, length}
-use Rattle.definitions.specs.Search.{constrained_params}
+use Rattle.definitions.specs.believed.Search.{constrained_params}
 use Rattle.feasibility.proofs.tree.SearchTree.undecided.Given as goal
 
 -- none of the constrained parameters before this place is the one

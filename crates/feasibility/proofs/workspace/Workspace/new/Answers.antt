@@ -1,6 +1,6 @@
 use Rattle.std.proofs.Common.{◌≡◌, ℕ, List, Option, None, length, replicate, ◌∙◌, sym, ap, subst}
-use Rattle.cov_model.specs.Sound.{ModelView}
-use Rattle.definitions.specs.Search.{is_failing}
+use Rattle.cov_model.specs.believed.Sound.{ModelView}
+use Rattle.definitions.specs.believed.Search.{is_failing}
 use Rattle.feasibility.specs.Live.{ShowsFailure, ShowsLive}
 use Rattle.feasibility.specs.KeptTrees.{IsKeptTree, no_tree}
 use Rattle.feasibility.specs.Recurring.{AreAnswered, unanswered}

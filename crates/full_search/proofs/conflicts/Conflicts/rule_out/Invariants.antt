@@ -1,5 +1,5 @@
 use Rattle.std.proofs.Common.{◌≡◌, length}
-use Rattle.definitions.specs.Search.{constrained_params}
+use Rattle.definitions.specs.believed.Search.{constrained_params}
 use Rattle.full_search.specs.Conflicts.{AreKept}
 use Rattle.full_search.proofs.conflicts.Conflicts.rule_out.Given as goal
 

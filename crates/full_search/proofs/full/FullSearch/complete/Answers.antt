@@ -1,5 +1,5 @@
 use Rattle.std.proofs.Common.{◌≡◌, ℕ, ◌∙◌, List, sym, subst}
-use Rattle.definitions.specs.Completion.{is_extendable}
+use Rattle.definitions.specs.believed.Completion.{is_extendable}
 use Rattle.definitions.specs.SliceRows.{IsOfSlice}
 use Rattle.feasibility.specs.Solving.{SolverView}
 use Rattle.feasibility.specs.Tree.{IsListed}

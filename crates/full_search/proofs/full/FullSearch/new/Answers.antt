@@ -1,9 +1,9 @@
 use Rattle.std.proofs.Common.{◌≡◌, ℕ, ◌∙◌, List, Option, None, length, replicate, sym, ap, subst}
 use Rattle.std.proofs.lemmas.List.{length-replicate}
 use Rattle.cov_model.specs.Preference.{OrdersValues}
-use Rattle.cov_model.specs.Sound.{ModelView}
-use Rattle.definitions.specs.Completion.{preferred_values}
-use Rattle.definitions.specs.Search.{is_failing}
+use Rattle.cov_model.specs.believed.Sound.{ModelView}
+use Rattle.definitions.specs.believed.Completion.{preferred_values}
+use Rattle.definitions.specs.believed.Search.{is_failing}
 use Rattle.definitions.specs.SliceRows.{IsSliceOf}
 use Rattle.definitions.proofs.PartialRowLemmas.{length-preferred_values}
 use Rattle.feasibility.specs.Live.{ShowsFailure, ShowsLive}

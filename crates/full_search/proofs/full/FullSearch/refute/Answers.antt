@@ -1,12 +1,13 @@
 use Rattle.std.proofs.Common.{◌≡◌, ℕ, true, ◌∙◌, List, [], ◌∷◌, Option, length, map, sym, subst, arith}
 use Rattle.std.proofs.lemmas.List.{length-map}
 use Rattle.cov_model.specs.Fits.{FitsModel}
-use Rattle.cov_model.specs.Slices.{slice_of}
-use Rattle.definitions.specs.Covering.{IsUnserved}
+use Rattle.cov_model.specs.believed.Slices.{slice_of}
+use Rattle.definitions.specs.believed.Covering.{IsUnserved}
 use Rattle.definitions.specs.Pairs.{cells_of}
-use Rattle.definitions.specs.Refutation.{is_eager}
+use Rattle.definitions.specs.believed.Refutation.{is_eager}
 use Rattle.definitions.specs.SliceRows.{IsOfSlice}
-use Rattle.refutation.specs.Proofs.{format_of, meant}
+use Rattle.refutation.specs.believed.Proofs.{format_of}
+use Rattle.refutation.specs.Proofs.{meant}
 use Rattle.refutation.specs.declared.omissions.Omission.{Omission}
 use Rattle.refutation.specs.declared.token.TreeToken.{TreeToken}
 use Rattle.feasibility.specs.Refuting.{Closes, IsPath, RefuterView, earlier_tuples}

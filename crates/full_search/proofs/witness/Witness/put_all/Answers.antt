@@ -1,7 +1,7 @@
 use Rattle.std.proofs.Common.{◌≡◌, ◌∙◌, ◌+◌, ◌<◌, ℕ, Option, Some, None, [], true, length, get_or, is_some, unwrap_or, sym, ap, subst, arith}
 use Rattle.definitions.specs.Completion.{with_value}
-use Rattle.definitions.specs.Demand.{is_among}
-use Rattle.definitions.specs.Search.{constrained_params}
+use Rattle.definitions.specs.believed.Demand.{is_among}
+use Rattle.definitions.specs.believed.Search.{constrained_params}
 use Rattle.feasibility.specs.declared.constrained.Constrained.{Constrained}
 use Rattle.feasibility.specs.Tree.{constrained_at}
 use Rattle.feasibility.proofs.Naming.{constrained_exists}

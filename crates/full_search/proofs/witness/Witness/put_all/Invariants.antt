@@ -1,7 +1,7 @@
 use Rattle.std.proofs.Common.{◌≡◌, ℕ, None, true, length, get_or}
-use Rattle.cov_model.specs.Rows.{is_assigned}
-use Rattle.definitions.specs.Demand.{is_among}
-use Rattle.definitions.specs.Search.{constrained_params}
+use Rattle.cov_model.specs.believed.Rows.{is_assigned}
+use Rattle.definitions.specs.believed.Demand.{is_among}
+use Rattle.definitions.specs.believed.Search.{constrained_params}
 use Rattle.feasibility.specs.Tree.{constrained_at}
 use Rattle.full_search.specs.Witnesses.{IsWitness}
 use Rattle.full_search.proofs.WitnessRows.{GivesBelow}

@@ -1,5 +1,5 @@
 use Rattle.std.proofs.Common.{◌≡◌, ◌∙◌, ap, sym, subst, Some}
-use Rattle.definitions.specs.Search.{plain_cost}
+use Rattle.definitions.specs.believed.Search.{plain_cost}
 use Rattle.full_search.specs.Questions.{answer_within}
 use Rattle.ipog_grow.specs.Asking.{AskerView, IsSoundContext, extends}
 use Rattle.ipog_grow.proofs.Asking.{asked}

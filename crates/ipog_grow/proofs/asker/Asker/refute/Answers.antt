@@ -1,9 +1,10 @@
 use Rattle.std.proofs.Common.{◌≡◌, ℕ, List, Option, length, map, sym, ap, subst, ◌∙◌}
 use Rattle.std.specs.Prelude.{Err}
 use Rattle.definitions.specs.Pairs.{cells_of}
-use Rattle.definitions.specs.SuiteProof.{IsEagerTree}
+use Rattle.definitions.specs.believed.SuiteProof.{IsEagerTree}
 use Rattle.feasibility.specs.Refuting.{earlier_tuples}
-use Rattle.refutation.specs.Proofs.{format_of, meant}
+use Rattle.refutation.specs.believed.Proofs.{format_of}
+use Rattle.refutation.specs.Proofs.{meant}
 use Rattle.ipog_grow.specs.declared.asker.Asker.TheInside.{Inside}
 use Rattle.full_search.specs.Questions.{QuestionsView}
 use Rattle.ipog_grow.specs.Asking.{AskerView}

@@ -2,8 +2,8 @@ use Rattle.std.proofs.Common.{◌≡◌, ◌∙◌, ◌<◌, ◌+◌, ◌++◌, 
 use Rattle.std.specs.List.{range_with_len}
 use Rattle.std.proofs.lemmas.Result.{err_from_is_err_and}
 use Rattle.std.proofs.lemmas.List.Elements.{All-head}
-use Rattle.cov_model.specs.Sound.{ModelView}
-use Rattle.definitions.specs.Pairs.{pairs_of}
+use Rattle.cov_model.specs.believed.Sound.{ModelView}
+use Rattle.definitions.specs.believed.Pairs.{pairs_of}
 use Rattle.full_search.specs.Questions.{QuestionsView}
 use Rattle.ipog_grow.specs.Asking.{Grows, IsReady, Told, first_spent, column_grown, columns_grown}
 use Rattle.ipog_grow.proofs.Asking.{told-err}

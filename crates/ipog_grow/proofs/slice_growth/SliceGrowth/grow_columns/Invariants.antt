@@ -1,5 +1,5 @@
 use Rattle.std.proofs.Common.{◌≡◌, length, drop}
-use Rattle.definitions.specs.Completion.{column_order}
+use Rattle.definitions.specs.believed.Completion.{column_order}
 use Rattle.ipog_grow.proofs.Taking.{Taking}
 use Rattle.ipog_grow.proofs.slice_growth.SliceGrowth.grow_columns.Given as goal
 

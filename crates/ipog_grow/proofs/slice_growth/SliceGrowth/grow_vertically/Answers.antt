@@ -2,10 +2,10 @@ use Rattle.std.proofs.Common.{◌≡◌, ◌∙◌, ◌++◌, [], ℕ, ◌<◌, 
 use Rattle.std.specs.List.{list_any}
 use Rattle.std.proofs.lemmas.Result.{err_from_is_err_and}
 use Rattle.value_text.proofs.ListLemmas.{none_of}
-use Rattle.cov_model.specs.Sound.{ModelView, param_at}
+use Rattle.cov_model.specs.believed.Sound.{ModelView, param_at}
 use Rattle.cov_model.specs.declared.slice.Slice.{Slice}
-use Rattle.definitions.specs.Growth.{down, settle}
-use Rattle.definitions.specs.Pairs.{pairs_of}
+use Rattle.definitions.specs.believed.Growth.{down, settle}
+use Rattle.definitions.specs.believed.Pairs.{pairs_of}
 use Rattle.tuple_index.specs.Places.{RisesFrom}
 use Rattle.uncovered_table.specs.Places.{is_place, slice_places, tuple_at}
 use Rattle.ipog_grow.specs.Growing.{open_tuples}

@@ -1,10 +1,10 @@
 use Rattle.std.proofs.Common.{List, ◌<◌, ◌∙◌, ◌∷◌, ◌++◌, [], ℕ, Err, Option, None, IfSome, length, get_or, ap, sym, subst, arith}
 use Rattle.std.proofs.lemmas.Result.{err_from_is_err_and}
 use Rattle.std.proofs.lemmas.List.{get_or-set_same}
-use Rattle.cov_model.specs.Sound.{ModelView, param_at}
+use Rattle.cov_model.specs.believed.Sound.{ModelView, param_at}
 use Rattle.cov_model.specs.declared.slice.Slice.{Slice}
 use Rattle.definitions.specs.SliceRows.{IsOfSlice}
-use Rattle.definitions.specs.Growth.{join, settle, union}
+use Rattle.definitions.specs.believed.Growth.{join, settle, union}
 use Rattle.uncovered_table.specs.Open.{row_closed}
 use Rattle.full_search.specs.Questions.{QuestionsView}
 use Rattle.ipog_grow.specs.Asking.{Grows, Told, extends, first_spent, omitted_alone, rows_alone}

@@ -1,6 +1,6 @@
 use Rattle.std.proofs.Common.{◌∙◌, ap, slice_index}
-use Rattle.made_models.specs.Words.{word_of}
-use Rattle.made_models.specs.MadeModel.{forbidden_by}
+use Rattle.made_models.specs.believed.Words.{word_of}
+use Rattle.made_models.specs.believed.MadeModel.{forbidden_by}
 use Rattle.made_models.proofs.Drawing.{draws_four}
 use Rattle.made_models.proofs.forbidden.Forbidden.draw.Goals as goal
 

@@ -1,8 +1,8 @@
 use Rattle.std.proofs.Common.{◌≡◌, ◌∷◌, [], ℕ, true, false, arith, length}
 use Rattle.std.proofs.lemmas.Grind.{common_steps}
-use Rattle.cov_model.specs.Rows.{with_value}
-use Rattle.model_lint.specs.Tests.{no_values}
-use Rattle.model_findings.specs.Comparisons.{is_for_some, is_so}
+use Rattle.cov_model.specs.believed.Rows.{with_value}
+use Rattle.model_lint.specs.believed.Tests.{no_values}
+use Rattle.model_findings.specs.believed.Comparisons.{is_for_some, is_so}
 use Rattle.model_lint.proofs.Steps.{found_here, none_here}
 use Rattle.model_findings.proofs.comparing.Asked.is_for_some.Goals as goal
 

@@ -1,9 +1,9 @@
 use Rattle.std.proofs.Common.{◌≡◌, ◌-◌, ◌∷◌, [], length}
 use Rattle.std.specs.List.{list_any, range_with_len}
-use Rattle.cov_model.specs.Rows.{with_value}
-use Rattle.cov_model.specs.Sound.{param_at}
-use Rattle.model_lint.specs.Tests.{no_values}
-use Rattle.model_findings.specs.Comparisons.{is_for_some, is_so}
+use Rattle.cov_model.specs.believed.Rows.{with_value}
+use Rattle.cov_model.specs.believed.Sound.{param_at}
+use Rattle.model_lint.specs.believed.Tests.{no_values}
+use Rattle.model_findings.specs.believed.Comparisons.{is_for_some, is_so}
 use Rattle.model_findings.proofs.comparing.Asked.is_for_some.Given as goal
 
 -- the answer is that of the values from here on

@@ -1,8 +1,9 @@
 use Rattle.std.proofs.Common.{◌≡◌, ◌<◌, ◌∙◌, Bor, arith, get_or, length, map, rules}
 use Rattle.std.proofs.lemmas.Grind.{common_steps}
 use Rattle.cov_model.specs.declared.constraint.Term.{Term}
-use Rattle.cov_model.specs.Sound.{IsSoundTerm}
-use Rattle.model_findings.specs.Findings.{constant_facts, fact_of}
+use Rattle.cov_model.specs.believed.Sound.{IsSoundTerm}
+use Rattle.model_findings.specs.believed.Findings.{constant_facts}
+use Rattle.model_findings.specs.Findings.{fact_of}
 use Rattle.model_findings.proofs.Telling.{mapped_at, next_mapped}
 use Rattle.model_findings.proofs.constraint.Constraint.add_each_constant.Goals as goal
 

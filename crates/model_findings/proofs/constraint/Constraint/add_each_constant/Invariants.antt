@@ -1,5 +1,6 @@
 use Rattle.std.proofs.Common.{◌≡◌, ◌++◌, All, length, map, take}
-use Rattle.model_findings.specs.Findings.{IsExplained, constant_facts, fact_of, told_from}
+use Rattle.model_findings.specs.Findings.{IsExplained, fact_of}
+use Rattle.model_findings.specs.believed.Findings.{constant_facts, told_from}
 use Rattle.model_findings.proofs.constraint.Constraint.add_each_constant.Given as goal
 
 -- what is so of the terms before this one is told

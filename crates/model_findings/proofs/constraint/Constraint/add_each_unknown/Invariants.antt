@@ -1,5 +1,6 @@
 use Rattle.std.proofs.Common.{◌≡◌, ◌++◌, All, length, map, take}
-use Rattle.model_findings.specs.Findings.{IsExplained, unknown_facts, fact_of, told_from}
+use Rattle.model_findings.specs.Findings.{IsExplained, fact_of}
+use Rattle.model_findings.specs.believed.Findings.{unknown_facts, told_from}
 use Rattle.model_findings.proofs.constraint.Constraint.add_each_unknown.Given as goal
 
 -- what is so of the terms before this one is told

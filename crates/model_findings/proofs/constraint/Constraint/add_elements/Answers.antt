@@ -1,6 +1,7 @@
 use Rattle.std.proofs.Common.{◌≡◌, ◌<◌, ◌∙◌, arith, get_or, length, map, rules}
 use Rattle.std.proofs.lemmas.Grind.{common_steps}
-use Rattle.model_findings.specs.Findings.{element_facts, fact_of}
+use Rattle.model_findings.specs.believed.Findings.{element_facts}
+use Rattle.model_findings.specs.Findings.{fact_of}
 use Rattle.model_findings.proofs.Telling.{next_told}
 use Rattle.model_findings.proofs.constraint.Constraint.add_elements.Goals as goal
 

@@ -1,5 +1,6 @@
 use Rattle.std.proofs.Common.{◌≡◌, ◌++◌, All, length, map, take}
-use Rattle.model_findings.specs.Findings.{IsExplained, element_facts, fact_of, told_from}
+use Rattle.model_findings.specs.Findings.{IsExplained, fact_of}
+use Rattle.model_findings.specs.believed.Findings.{element_facts, told_from}
 use Rattle.model_findings.proofs.constraint.Constraint.add_elements.Given as goal
 
 -- the elements before this one are told

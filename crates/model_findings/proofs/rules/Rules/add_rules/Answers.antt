@@ -1,7 +1,8 @@
 use Rattle.std.proofs.Common.{◌<◌, ◌∙◌, arith, ap, length, map}
 use Rattle.std.proofs.lemmas.Grind.{common_steps}
 use Rattle.cov_model.specs.Sound.{no_rule}
-use Rattle.model_findings.specs.Findings.{fact_of, rule_facts}
+use Rattle.model_findings.specs.Findings.{fact_of}
+use Rattle.model_findings.specs.believed.Findings.{rule_facts}
 use Rattle.model_findings.proofs.Telling.{next_flat}
 use Rattle.model_findings.proofs.rules.Rules.add_rules.Goals as goal
 

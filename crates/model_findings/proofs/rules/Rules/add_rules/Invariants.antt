@@ -1,5 +1,6 @@
 use Rattle.std.proofs.Common.{◌≡◌, ◌++◌, All, flat_map, length, map, take}
-use Rattle.model_findings.specs.Findings.{IsExplained, fact_of, rule_facts}
+use Rattle.model_findings.specs.Findings.{IsExplained, fact_of}
+use Rattle.model_findings.specs.believed.Findings.{rule_facts}
 use Rattle.model_findings.proofs.rules.Rules.add_rules.Given as goal
 
 -- what is so of the constraints before this one is told

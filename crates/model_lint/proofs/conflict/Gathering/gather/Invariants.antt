@@ -1,7 +1,7 @@
 use Rattle.std.proofs.Common.{◌≡◌, true, length}
-use Rattle.definitions.specs.Completion.{is_extendable}
+use Rattle.definitions.specs.believed.Completion.{is_extendable}
 use Rattle.model_lint.specs.Changes.{IsTestOf, is_marked}
-use Rattle.model_lint.specs.Tests.{part}
+use Rattle.model_lint.specs.believed.Tests.{part}
 use Rattle.model_lint.proofs.ThinMarks.{unmarked}
 use Rattle.model_lint.proofs.conflict.Gathering.gather.Given as goal
 

@@ -1,7 +1,7 @@
 use Rattle.std.proofs.Common.{◌≡◌, arith, ap, map, subst, ◌∙◌}
 use Rattle.std.proofs.lemmas.Grind.{common_steps}
-use Rattle.cov_model.specs.Sound.{ModelView}
-use Rattle.definitions.specs.Completion.{is_extendable}
+use Rattle.cov_model.specs.believed.Sound.{ModelView}
+use Rattle.definitions.specs.believed.Completion.{is_extendable}
 use Rattle.model_lint.specs.Changes.{IsTestOf, changed, kept_alone}
 use Rattle.model_lint.proofs.ChangedModels.{extends_kept, kept_test}
 use Rattle.model_lint.proofs.Steps.{ok_also}

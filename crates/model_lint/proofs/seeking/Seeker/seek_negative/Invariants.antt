@@ -1,6 +1,6 @@
 use Rattle.std.proofs.Common.{◌≡◌, ◌-◌, length}
 use Rattle.std.specs.List.{list_any, range_with_len}
-use Rattle.cov_model.specs.Sound.{param_at}
+use Rattle.cov_model.specs.believed.Sound.{param_at}
 use Rattle.model_lint.specs.Seeking.{in_negative, in_slice_of}
 use Rattle.model_lint.proofs.seeking.Seeker.seek_negative.Given as goal
 

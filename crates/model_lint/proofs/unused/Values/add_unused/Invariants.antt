@@ -1,7 +1,7 @@
 use Rattle.std.proofs.Common.{◌≡◌, ◌++◌, All, filter, length, map}
 use Rattle.std.specs.List.{range_with_len}
-use Rattle.cov_model.specs.Sound.{param_at}
-use Rattle.model_lint.specs.Tests.{is_unused}
+use Rattle.cov_model.specs.believed.Sound.{param_at}
+use Rattle.model_lint.specs.believed.Tests.{is_unused}
 use Rattle.model_lint.specs.Unused.{IsExplained, value_of}
 use Rattle.model_lint.proofs.unused.Values.add_unused.Given as goal
 

@@ -1,7 +1,7 @@
 use Rattle.std.proofs.Common.{◌≡◌, true, arith, sym}
 use Rattle.std.proofs.lemmas.Grind.{common_steps}
 use Rattle.cov_model.specs.declared.slice.Slice.TheVariants.{Positive}
-use Rattle.definitions.specs.Completion.{is_extendable}
+use Rattle.definitions.specs.believed.Completion.{is_extendable}
 use Rattle.model_lint.proofs.SliceTests.{slice_test}
 use Rattle.model_lint.proofs.unused.Values.is_in_test.Goals as goal
 

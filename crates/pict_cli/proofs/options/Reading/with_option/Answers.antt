@@ -3,11 +3,11 @@ use Rattle.std.specs.Prelude.{filter_map}
 use Rattle.std.specs.String.{string_bytes}
 use Rattle.std.proofs.lemmas.List.{take_more, length-map}
 use Rattle.value_text.proofs.StringLemmas.{word_at}
-use Rattle.definitions.specs.Settings.{set, setting_of}
-use Rattle.definitions.specs.Words.{has_equal_marks, set_by}
+use Rattle.definitions.specs.believed.Settings.{set, setting_of}
+use Rattle.definitions.specs.believed.Words.{has_equal_marks, set_by}
 use Rattle.command_line.specs.Settings.{setting_seen}
 use Rattle.pict_cli.specs.Options.{kind_of, kinds_of, joined_kinds}
-use Rattle.command_line.specs.Words.{texts}
+use Rattle.command_line.specs.believed.Words.{texts}
 use Rattle.command_line.proofs.WordLemmas.{set_by-push}
 use Rattle.pict_cli.proofs.KindLemmas.{clash}
 use Rattle.pict_cli.proofs.WordLemmas.{faulty-by, about-push}

@@ -1,5 +1,5 @@
 use Rattle.std.proofs.Common.{◌≡◌, ◌+◌, ◌++◌, ◌∷◌, [], ℕ, true, length, List, Some, sym, subst, rules}
-use Rattle.definitions.specs.Demand.{is_among}
+use Rattle.definitions.specs.believed.Demand.{is_among}
 use Rattle.refutation.specs.declared.omissions.Omission.{Omission}
 use Rattle.refutation.specs.Holders.{AreHolders, last_pair, numbers_at}
 use Rattle.refutation.proofs.HolderLemmas.{holders_kept, holders_more}

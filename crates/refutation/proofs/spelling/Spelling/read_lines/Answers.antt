@@ -1,8 +1,9 @@
 use Rattle.std.proofs.Common.{◌≡◌, ◌+◌, ◌∷◌, ◌++◌, [], Some, length, ◌∙◌, sym, ap, arith}
 use Rattle.std.specs.Prelude.{option_map}
 use Rattle.std.proofs.lemmas.List.{length_push, map-append}
-use Rattle.definitions.specs.ProofText.{read_lines, read_omission}
-use Rattle.refutation.specs.Proofs.{format_of, omission_meant}
+use Rattle.definitions.specs.believed.ProofText.{read_lines, read_omission}
+use Rattle.refutation.specs.believed.Proofs.{format_of}
+use Rattle.refutation.specs.Proofs.{omission_meant}
 use Rattle.refutation.specs.Reading.{omissions_meant, pieces, with_omissions}
 use Rattle.refutation.proofs.FileLemmas.{lines_more, lines_stop}
 use Rattle.refutation.proofs.spelling.Spelling.read_lines.Goals as goal

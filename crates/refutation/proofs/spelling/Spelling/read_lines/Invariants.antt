@@ -1,7 +1,7 @@
 use Rattle.std.proofs.Common.{◌≡◌, ◌+◌, ◌≤◌, length}
 use Rattle.std.specs.Prelude.{IfSome}
-use Rattle.definitions.specs.ProofText.{read_lines}
-use Rattle.refutation.specs.Proofs.{format_of}
+use Rattle.definitions.specs.believed.ProofText.{read_lines}
+use Rattle.refutation.specs.believed.Proofs.{format_of}
 use Rattle.refutation.specs.Reading.{omissions_meant, pieces, with_omissions}
 use Rattle.refutation.specs.Repeats.{IsReadTree}
 use Rattle.refutation.proofs.spelling.Spelling.read_lines.Given as goal

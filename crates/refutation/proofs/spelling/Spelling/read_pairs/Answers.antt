@@ -1,6 +1,6 @@
 use Rattle.std.proofs.Common.{◌≡◌, false, ◌∙◌, sym, ap, subst}
 use Rattle.std.specs.List.{after_first, before_first}
-use Rattle.definitions.specs.ProofText.{is_colon_word, read_pair}
+use Rattle.definitions.specs.believed.ProofText.{is_colon_word, read_pair}
 use Rattle.refutation.proofs.WordLemmas.{ReadSoFar, after_first-no, before_first-no, read_more}
 use Rattle.refutation.proofs.spelling.Spelling.read_pairs.Goals as goal
 

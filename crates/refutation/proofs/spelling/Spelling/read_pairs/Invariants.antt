@@ -1,6 +1,6 @@
 use Rattle.std.proofs.Common.{◌≡◌, length}
 use Rattle.std.specs.List.{after_first, before_first}
-use Rattle.definitions.specs.ProofText.{is_colon_word, read_pair}
+use Rattle.definitions.specs.believed.ProofText.{is_colon_word, read_pair}
 use Rattle.refutation.proofs.WordLemmas.{ReadSoFar}
 use Rattle.refutation.proofs.spelling.Spelling.read_pairs.Given as goal
 

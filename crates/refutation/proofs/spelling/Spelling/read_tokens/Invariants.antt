@@ -1,6 +1,7 @@
 use Rattle.std.proofs.Common.{map, length}
-use Rattle.definitions.specs.ProofText.{read_token}
-use Rattle.refutation.specs.Proofs.{format_of, meant}
+use Rattle.definitions.specs.believed.ProofText.{read_token}
+use Rattle.refutation.specs.believed.Proofs.{format_of}
+use Rattle.refutation.specs.Proofs.{meant}
 use Rattle.refutation.proofs.WordLemmas.{ReadSoFar}
 use Rattle.refutation.proofs.spelling.Spelling.read_tokens.Given as goal
 

@@ -1,6 +1,6 @@
 use Rattle.std.proofs.Common.{◌||◌, not, ◌∙◌, sym, ap, subst}
 use Rattle.std.specs.List.{list_all}
-use Rattle.cov_model.specs.Meaning.{value_at}
+use Rattle.cov_model.specs.believed.Meaning.{value_at}
 use Rattle.cov_model.specs.Tuples.{IsRising}
 use Rattle.refutation.specs.Checking.{has_param}
 use Rattle.refutation.proofs.LeafLemmas.{negatives_in}

@@ -1,5 +1,5 @@
 use Rattle.std.proofs.Common.{◌∙◌, sym, ap, subst}
-use Rattle.cov_model.specs.Sound.{IsSound}
+use Rattle.cov_model.specs.believed.Sound.{IsSound}
 use Rattle.refutation.specs.Checking.{has_rule}
 use Rattle.refutation.proofs.LeafLemmas.{has_rule_range, rule_leaf-none, rule_leaf-some}
 use Rattle.refutation.proofs.tree_check.TreeCheck.is_rule_leaf.Goals as goal

@@ -1,6 +1,6 @@
 use Rattle.std.proofs.Common.{◌≡◌, ◌∙◌, ap}
-use Rattle.value_text.specs.Texts.{folded}
-use Rattle.definitions.specs.RowFile.{named_param}
+use Rattle.value_text.specs.believed.Texts.{folded}
+use Rattle.definitions.specs.believed.RowFile.{named_param}
 use Rattle.row_text.specs.Lookups.{number_of}
 use Rattle.row_text.proofs.model_names.ModelNames.param.Goals as goal
 

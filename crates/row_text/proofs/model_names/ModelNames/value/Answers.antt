@@ -1,7 +1,7 @@
 use Rattle.std.proofs.Common.{◌≡◌, ◌<◌, length, get_or, [], ◌∙◌, ap, arith}
 use Rattle.std.proofs.lemmas.List.{get_or_default}
-use Rattle.value_text.specs.Texts.{folded}
-use Rattle.definitions.specs.RowFile.{named_value}
+use Rattle.value_text.specs.believed.Texts.{folded}
+use Rattle.definitions.specs.believed.RowFile.{named_value}
 use Rattle.row_text.specs.Lookups.{number_of}
 use Rattle.row_text.proofs.model_names.ModelNames.value.Goals as goal
 

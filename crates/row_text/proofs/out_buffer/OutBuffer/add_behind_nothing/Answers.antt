@@ -1,5 +1,5 @@
 use Rattle.std.proofs.Common.{◌++◌, sym, subst, ap, ◌∙◌}
-use Rattle.outside_io.specs.Puts.{Puts}
+use Rattle.outside_io.specs.believed.Puts.{Puts}
 use Rattle.row_text.proofs.Sending.{Adds-put, Adds-failed}
 use Rattle.row_text.proofs.out_buffer.OutBuffer.add_behind_nothing.Goals as goal
 

@@ -1,5 +1,5 @@
 use Rattle.std.proofs.Common.{subst, sym, ap, ◌∙◌}
-use Rattle.outside_io.specs.Puts.{Puts}
+use Rattle.outside_io.specs.believed.Puts.{Puts}
 use Rattle.row_text.proofs.Sending.{Holds-finished}
 use Rattle.row_text.proofs.out_buffer.OutBuffer.finish.Goals as goal
 

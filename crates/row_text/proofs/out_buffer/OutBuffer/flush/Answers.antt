@@ -1,6 +1,6 @@
 use Rattle.std.proofs.Common.{[], sym, subst, ap, ◌∙◌}
 use Rattle.std.proofs.lemmas.List.{append-nil}
-use Rattle.outside_io.specs.Puts.{Puts}
+use Rattle.outside_io.specs.believed.Puts.{Puts}
 use Rattle.row_text.proofs.Sending.{Adds-put}
 use Rattle.row_text.proofs.out_buffer.OutBuffer.flush.Goals as goal
 

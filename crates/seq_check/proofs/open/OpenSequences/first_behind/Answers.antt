@@ -1,7 +1,7 @@
 use Rattle.std.proofs.Common.{◌≡◌, ◌&&◌, ◌∙◌, true, not, nat_lt, Some, None, inl, inr, refl, sym, ap, arith}
 use Rattle.std.proofs.lemmas.Bool.{and_from, and_left, and_right, cases_lt, le-ltb, lt-ltb}
 use Rattle.seq_check.specs.EventSets.{is_open}
-use Rattle.seq_check.specs.Orders.{is_among}
+use Rattle.seq_check.specs.believed.Orders.{is_among}
 use Rattle.seq_check.proofs.FindLemmas.{first_lengthened}
 use Rattle.seq_check.proofs.open.OpenSequences.first_behind.Goals as goal
 

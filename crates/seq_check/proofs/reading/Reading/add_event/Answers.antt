@@ -1,5 +1,5 @@
 use Rattle.std.proofs.Common.{◌≡◌, [], ◌∷◌, ◌++◌, None, ◌∙◌, ap, sym, rules}
-use Rattle.seq_check.specs.EventFile.{number_of}
+use Rattle.seq_check.specs.believed.EventFile.{number_of}
 use Rattle.seq_check.specs.Reading.{Declared}
 use Rattle.seq_check.proofs.NameLemmas.{known_more}
 use Rattle.seq_check.proofs.reading.Reading.add_event.Goals as goal

@@ -1,5 +1,5 @@
 use Rattle.std.proofs.Common.{◌≡◌, arith, rules, subst}
-use Rattle.seq_check.specs.Events.{AreEvents}
+use Rattle.seq_check.specs.believed.Events.{AreEvents}
 use Rattle.seq_check.specs.Reading.{Declared}
 use Rattle.seq_check.proofs.reading.Reading.kept_pairs.Goals as goal
 

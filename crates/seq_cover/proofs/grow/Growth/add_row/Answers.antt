@@ -4,9 +4,9 @@ use Rattle.std.proofs.lemmas.Result.{on_ok_weaker}
 use Rattle.std.proofs.lemmas.List.FromFn.{length-map-range_with_len}
 use Rattle.seq_check.proofs.CheckSteps.{steps_exist}
 use Rattle.seq_check.specs.EventSets.{IsFront, Tells, is_open, places, rises}
-use Rattle.seq_check.specs.Orders.{arrows, is_had, place, steps}
+use Rattle.seq_check.specs.believed.Orders.{arrows, is_had, place, steps}
 use Rattle.seq_cover.specs.Growing.{IsLeft}
-use Rattle.seq_cover.specs.OrderGrowth.{built_from}
+use Rattle.seq_cover.specs.believed.OrderGrowth.{built_from}
 use Rattle.seq_cover.proofs.GrowLemmas.{row_closes}
 use Rattle.seq_cover.proofs.grow.Growth.add_row.Goals as goal
 

@@ -1,8 +1,8 @@
 use Rattle.std.proofs.Common.{◌∷◌, ◌++◌, [], ◌∙◌, fold, ap, sym}
 use Rattle.std.proofs.lemmas.List.Sums.{fold_push}
 use Rattle.seq_check.proofs.ListSteps.{lengthened_skips, lengthened_takes}
-use Rattle.seq_check.specs.Orders.{lengthened}
-use Rattle.seq_cover.specs.OrderGrowth.{settled}
+use Rattle.seq_check.specs.believed.Orders.{lengthened}
+use Rattle.seq_cover.specs.believed.OrderGrowth.{settled}
 use Rattle.seq_cover.proofs.grow.Growth.settle_all.Goals as goal
 
 pub loop-last-preserved-then-contains : goal.loop-last-preserved-then-contains

@@ -1,7 +1,7 @@
 use Rattle.std.proofs.Common.{◌≡◌, ◌+◌, ◌-◌, ◌∙◌, fold, length, ap, sym, true, arith, inl, inr, get_or}
 use Rattle.seq_check.proofs.FindLemmas.{list_is}
-use Rattle.seq_check.specs.Orders.{lengthened}
-use Rattle.seq_cover.specs.OrderGrowth.{settled}
+use Rattle.seq_check.specs.believed.Orders.{lengthened}
+use Rattle.seq_cover.specs.believed.OrderGrowth.{settled}
 use Rattle.seq_cover.proofs.GrowLemmas.{fold_lists}
 use Rattle.seq_cover.proofs.grow.Growth.settle_fronts.Goals as goal
 

@@ -1,8 +1,8 @@
 use Rattle.std.proofs.Common.{◌≡◌, fold, take, length}
 use Rattle.std.specs.List.{flat_map}
-use Rattle.seq_check.specs.Orders.{lengthened}
+use Rattle.seq_check.specs.believed.Orders.{lengthened}
 use Rattle.seq_cover.specs.Growing.{IsLeft}
-use Rattle.seq_cover.specs.OrderGrowth.{settled}
+use Rattle.seq_cover.specs.believed.OrderGrowth.{settled}
 use Rattle.seq_cover.proofs.grow.Growth.settle_fronts.Given as goal
 
 abbrev pub invariant-loop-front : goal.invariant-loop-front

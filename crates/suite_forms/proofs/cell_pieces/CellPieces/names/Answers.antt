@@ -1,7 +1,7 @@
 use Rattle.std.proofs.Common.{get_or, length, ap, ◌∙◌, arith}
 use Rattle.std.proofs.lemmas.List.{get_or-map, length-map}
-use Rattle.cov_model.specs.Meaning.{no_value}
-use Rattle.cov_model.specs.Sound.{param_at}
+use Rattle.cov_model.specs.believed.Meaning.{no_value}
+use Rattle.cov_model.specs.believed.Sound.{param_at}
 use Rattle.suite_forms.specs.Pieces.{name_pieces, value_pieces}
 use Rattle.suite_forms.proofs.Making.{at_param, count_of_params}
 use Rattle.suite_forms.proofs.cell_pieces.CellPieces.names.Goals as goal

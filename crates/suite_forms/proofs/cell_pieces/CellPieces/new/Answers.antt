@@ -1,7 +1,7 @@
 use Rattle.std.proofs.Common.{◌<◌, ◌≤◌, length, map, ap, ◌∙◌, arith, refl}
 use Rattle.std.specs.Prelude.{None}
 use Rattle.std.proofs.lemmas.List.{take_all}
-use Rattle.cov_model.specs.Valid.{param_numbers}
+use Rattle.cov_model.specs.believed.Valid.{param_numbers}
 use Rattle.suite_forms.specs.Pieces.{cell_piece, value_pieces}
 use Rattle.suite_forms.proofs.Making.{count_of_params, made_param}
 use Rattle.suite_forms.proofs.Spelling.{same_piece}

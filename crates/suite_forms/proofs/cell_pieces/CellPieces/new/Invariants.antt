@@ -1,6 +1,6 @@
 use Rattle.std.proofs.Common.{◌≡◌, map, take}
 use Rattle.std.specs.Prelude.{None}
-use Rattle.cov_model.specs.Valid.{param_numbers}
+use Rattle.cov_model.specs.believed.Valid.{param_numbers}
 use Rattle.suite_forms.specs.Pieces.{cell_piece, value_pieces}
 use Rattle.suite_forms.proofs.cell_pieces.CellPieces.new.Given as goal
 

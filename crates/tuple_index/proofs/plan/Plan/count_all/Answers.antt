@@ -1,6 +1,6 @@
 use Rattle.std.proofs.Common.{arith, ap, sym, subst, length, All, ◌<◌, [], ◌∙◌}
 use Rattle.tuple_index.specs.Places.{tuple_count}
-use Rattle.tuple_index.specs.PlanFault.{saturated}
+use Rattle.tuple_index.specs.believed.PlanFault.{saturated}
 use Rattle.tuple_index.proofs.LoopLemmas.{exist_at, sum_step, sum_end}
 use Rattle.tuple_index.proofs.plan.Plan.count_all.Goals as goal
 

@@ -1,6 +1,6 @@
 use Rattle.std.proofs.Common.{◌≡◌, ◌≤◌, ◌+◌, ◌-◌, ◌^◌, drop, sum_by}
 use Rattle.tuple_index.specs.Places.{tuple_count}
-use Rattle.tuple_index.specs.PlanFault.{saturated}
+use Rattle.tuple_index.specs.believed.PlanFault.{saturated}
 use Rattle.tuple_index.proofs.plan.Plan.count_all.Given as goal
 
 abbrev pub invariant-loop-i : goal.invariant-loop-i

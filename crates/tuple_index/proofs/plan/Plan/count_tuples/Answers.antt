@@ -1,7 +1,7 @@
 use Rattle.std.proofs.Common.{arith, sum_by, ap, ◌∙◌, ◌+◌}
 use Rattle.cov_model.specs.declared.slice.Slice.TheVariants.{Positive}
 use Rattle.tuple_index.specs.Places.{negative_ways, ways, values_in}
-use Rattle.tuple_index.specs.PlanFault.{saturated}
+use Rattle.tuple_index.specs.believed.PlanFault.{saturated}
 use Rattle.tuple_index.proofs.SaturatedLemmas.{saturated-add}
 use Rattle.tuple_index.proofs.LoopLemmas.{sum_step, sum_end}
 use Rattle.tuple_index.proofs.plan.Plan.count_tuples.Goals as goal

@@ -1,6 +1,6 @@
 use Rattle.std.proofs.Common.{◌≡◌, length}
-use Rattle.definitions.specs.Demand.{demanded_tuples}
-use Rattle.tuple_index.specs.PlanFault.{saturated}
+use Rattle.definitions.specs.believed.Demand.{demanded_tuples}
+use Rattle.tuple_index.specs.believed.PlanFault.{saturated}
 use Rattle.tuple_index.proofs.PlanLemmas.{made_is, none_passed, sets_few, sets_rise, total_told, tuples_passed}
 use Rattle.tuple_index.proofs.plan.Plan.new.Goals as goal
 

@@ -1,6 +1,6 @@
 use Rattle.std.proofs.Common.{◌≡◌, ◌≤◌, ◌^◌, ◌-◌, ◌*◌, ◌+◌, drop}
 use Rattle.tuple_index.specs.Places.{values_in, ways, place}
-use Rattle.tuple_index.specs.PlanFault.{saturated}
+use Rattle.tuple_index.specs.believed.PlanFault.{saturated}
 use Rattle.tuple_index.proofs.plan.Plan.place.Given as goal
 
 abbrev pub invariant-loop-i : goal.invariant-loop-i

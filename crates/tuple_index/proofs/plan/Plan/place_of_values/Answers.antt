@@ -1,7 +1,7 @@
 use Rattle.std.proofs.Common.{ℕ, ◌+◌, ◌∙◌, ap}
 use Rattle.cov_model.specs.declared.slice.Slice.{Slice}
 use Rattle.tuple_index.specs.Places.{place, start_of, values_in}
-use Rattle.tuple_index.specs.PlanFault.{saturated}
+use Rattle.tuple_index.specs.believed.PlanFault.{saturated}
 use Rattle.tuple_index.proofs.SaturatedLemmas.{saturated-both}
 use Rattle.tuple_index.proofs.plan.Plan.place_of_values.Goals as goal
 

@@ -1,7 +1,7 @@
 use Rattle.std.proofs.Common.{◌≡◌, ◌+◌, ◌∙◌, ap, drop, length, get_or}
 use Rattle.std.proofs.lemmas.List.{take_rest}
 use Rattle.tuple_index.specs.Places.{values_in, ways}
-use Rattle.tuple_index.specs.PlanFault.{saturated}
+use Rattle.tuple_index.specs.believed.PlanFault.{saturated}
 use Rattle.tuple_index.proofs.UnrankLemmas.{parts, left_within, put_step, put_end}
 use Rattle.tuple_index.proofs.plan.Plan.put_values.Goals as goal
 

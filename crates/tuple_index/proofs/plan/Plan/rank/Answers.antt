@@ -1,7 +1,7 @@
 use Rattle.std.proofs.Common.{◌≡◌, ◌∙◌, ap, arith, length, sym, subst}
 use Rattle.std.specs.Prelude.{slice_get}
 use Rattle.tuple_index.specs.Plan.{set_at}
-use Rattle.definitions.specs.Demand.{tuples_of}
+use Rattle.definitions.specs.believed.Demand.{tuples_of}
 use Rattle.tuple_index.specs.Places.{RisesFrom, rank_of}
 use Rattle.tuple_index.proofs.RankLemmas.{choice_long, rank_inside, rank_within, slice_get-rank_of, slice_get-tuples_of}
 use Rattle.tuple_index.proofs.plan.Plan.rank.Goals as goal

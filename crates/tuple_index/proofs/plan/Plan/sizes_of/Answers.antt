@@ -2,7 +2,7 @@ use Rattle.std.proofs.Common.{arith, ap, sym, subst, length, map, take, All, ◌
 use Rattle.std.proofs.lemmas.Grind.{common_steps}
 use Rattle.std.proofs.lemmas.List.{map_more}
 use Rattle.tuple_index.specs.Places.{tuple_count}
-use Rattle.tuple_index.specs.PlanFault.{saturated}
+use Rattle.tuple_index.specs.believed.PlanFault.{saturated}
 use Rattle.tuple_index.proofs.LoopLemmas.{exist_at, told_size}
 use Rattle.tuple_index.proofs.plan.Plan.sizes_of.Goals as goal
 

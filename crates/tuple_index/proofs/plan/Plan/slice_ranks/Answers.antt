@@ -1,7 +1,7 @@
 use Rattle.std.proofs.Common.{◌≡◌, ◌∙◌, ap, arith, sym, true}
 use Rattle.std.proofs.lemmas.Grind.{common_steps}
 use Rattle.tuple_index.specs.Places.{has_part, start_of, values_in, ways}
-use Rattle.tuple_index.specs.PlanFault.{saturated}
+use Rattle.tuple_index.specs.believed.PlanFault.{saturated}
 use Rattle.tuple_index.proofs.SliceLemmas.{SliceWithin, slice_within}
 use Rattle.tuple_index.proofs.plan.Plan.slice_ranks.Goals as goal
 

@@ -1,6 +1,6 @@
 use Rattle.std.proofs.Common.{◌≡◌, ◌≤◌, ◌^◌, ◌-◌, ◌+◌, drop}
 use Rattle.tuple_index.specs.Places.{ways_before}
-use Rattle.tuple_index.specs.PlanFault.{saturated}
+use Rattle.tuple_index.specs.believed.PlanFault.{saturated}
 use Rattle.tuple_index.proofs.plan.Plan.ways_before.Given as goal
 
 abbrev pub invariant-loop-p : goal.invariant-loop-p

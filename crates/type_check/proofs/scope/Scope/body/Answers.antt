@@ -1,6 +1,6 @@
 use Rattle.std.proofs.Common.{rules, ◌++◌, ◌∙◌}
 use Rattle.constraint_ast.specs.Trees.{tree_of}
-use Rattle.type_check.specs.Checking.{terms_of}
+use Rattle.type_check.specs.believed.Checking.{terms_of}
 use Rattle.type_check.proofs.Refusals.{behind_none, refused_behind, refused_front}
 use Rattle.type_check.proofs.scope.Scope.body.Goals as goal
 

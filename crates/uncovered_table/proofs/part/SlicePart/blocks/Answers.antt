@@ -1,6 +1,6 @@
 use Rattle.std.proofs.Common.{◌+◌, ◌≡◌, ◌<◌, ◌++◌, ◌∷◌, [], arith, length, subst, sym}
 use Rattle.std.proofs.lemmas.Grind.{common_steps}
-use Rattle.definitions.specs.Demand.{demanded_sets}
+use Rattle.definitions.specs.believed.Demand.{demanded_sets}
 use Rattle.uncovered_table.specs.declared.block.Block.{Block}
 use Rattle.uncovered_table.specs.Kept.{AreBlocks}
 use Rattle.uncovered_table.proofs.BitLemmas.{first_bit_more}

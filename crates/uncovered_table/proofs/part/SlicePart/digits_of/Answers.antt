@@ -3,7 +3,7 @@ use Rattle.std.proofs.Common.{◌+◌, ◌≡◌, ◌<◌, ◌≤◌, ◌∙◌,
 use Rattle.std.specs.Prelude.{if◌then◌else◌}
 use Rattle.std.specs.List.{range_with_len}
 use Rattle.std.proofs.lemmas.Grind.{common_steps}
-use Rattle.cov_model.specs.Sound.{param_at}
+use Rattle.cov_model.specs.believed.Sound.{param_at}
 use Rattle.uncovered_table.specs.Digits.{digit_of, is_own}
 use Rattle.uncovered_table.proofs.ChoiceLemmas.{own_passing}
 use Rattle.uncovered_table.proofs.TableLemmas.{digits_more, next_more}

@@ -1,6 +1,6 @@
 use Rattle.std.proofs.Common.{◌≡◌, ◌<◌, ◌∙◌, All, ap, length, subst, sym}
 use Rattle.std.specs.Prelude.{IfSome}
-use Rattle.definitions.specs.Demand.{demanded_sets}
+use Rattle.definitions.specs.believed.Demand.{demanded_sets}
 use Rattle.uncovered_table.specs.Kept.{last_column}
 use Rattle.uncovered_table.specs.Places.{set_at}
 use Rattle.uncovered_table.proofs.PartLemmas.{all_planned, last_known, one_planned}

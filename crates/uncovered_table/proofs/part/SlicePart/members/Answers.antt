@@ -1,5 +1,5 @@
 use Rattle.std.proofs.Common.{◌≡◌, ◌∙◌, ◌<◌, ap, arith, length, subst, sym}
-use Rattle.definitions.specs.Demand.{demanded_sets}
+use Rattle.definitions.specs.believed.Demand.{demanded_sets}
 use Rattle.tuple_index.specs.Places.{RisesFrom}
 use Rattle.tuple_index.proofs.LoopLemmas.{rises_within}
 use Rattle.uncovered_table.specs.Places.{set_at}

@@ -1,5 +1,5 @@
 use Rattle.std.proofs.Common.{◌≡◌, map}
-use Rattle.cov_model.specs.Valid.{param_numbers}
+use Rattle.cov_model.specs.believed.Valid.{param_numbers}
 use Rattle.uncovered_table.proofs.TableLemmas.{first_in_play}
 use Rattle.uncovered_table.proofs.part.SlicePart.plays.Given as goal
 

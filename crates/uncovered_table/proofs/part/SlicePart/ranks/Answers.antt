@@ -1,5 +1,5 @@
 use Rattle.std.proofs.Common.{◌<◌, length, subst, sym}
-use Rattle.definitions.specs.Demand.{demanded_sets}
+use Rattle.definitions.specs.believed.Demand.{demanded_sets}
 use Rattle.tuple_index.specs.Places.{IsOwnSlice}
 use Rattle.uncovered_table.proofs.PartLemmas.{RanksKnown, ranks_known}
 use Rattle.uncovered_table.proofs.SliceLemmas.{own_slice}

@@ -1,5 +1,5 @@
 use Rattle.std.proofs.Common.{◌≡◌, ◌∙◌, arith, length, map, subst}
-use Rattle.cov_model.specs.Valid.{param_numbers}
+use Rattle.cov_model.specs.believed.Valid.{param_numbers}
 use Rattle.uncovered_table.specs.Kept.{digits_of}
 use Rattle.uncovered_table.proofs.TableLemmas.{lists_long, read_list}
 use Rattle.uncovered_table.proofs.sets.SliceSets.digits.Goals as goal

@@ -1,5 +1,5 @@
 use Rattle.std.proofs.Common.{◌≡◌, ◌∙◌, All, ap, arith, length, map, subst, sym}
-use Rattle.cov_model.specs.Valid.{param_numbers}
+use Rattle.cov_model.specs.believed.Valid.{param_numbers}
 use Rattle.uncovered_table.specs.Bits.{InPlay, sets_in_play}
 use Rattle.uncovered_table.proofs.GainLemmas.{all_in_play}
 use Rattle.uncovered_table.proofs.TableLemmas.{lists_long, play_few, read_list}

@@ -1,5 +1,5 @@
 use Rattle.std.proofs.Common.{◌<◌, ◌∙◌, ap, arith, length}
-use Rattle.definitions.specs.Demand.{demanded_sets}
+use Rattle.definitions.specs.believed.Demand.{demanded_sets}
 use Rattle.uncovered_table.proofs.PlaceLemmas.{places_few}
 use Rattle.uncovered_table.proofs.TableLemmas.{last_block}
 use Rattle.uncovered_table.proofs.sets.SliceSets.size.Goals as goal

@@ -1,6 +1,6 @@
 use Rattle.std.proofs.Common.{◌∙◌, None, ap, arith, get_or, length, zero-add}
 use Rattle.std.proofs.lemmas.List.FromFn.{get_or-map-range_with_len, length-map-range_with_len}
-use Rattle.cov_model.specs.Sound.{param_at}
+use Rattle.cov_model.specs.believed.Sound.{param_at}
 use Rattle.uncovered_table.specs.Digits.{digit_of, own_values}
 use Rattle.uncovered_table.proofs.sets.SliceSets.value_digit.Goals as goal
 

@@ -1,0 +1,10 @@
+pub mod ActsFiles
+pub mod Codes
+pub mod Constraints
+pub mod Lines
+pub mod Meaning
+pub mod ParameterLines
+pub mod RelationLines
+pub mod SameModels
+pub mod Tokens
+pub mod Translation

@@ -1,0 +1,10 @@
+pub mod Kleene
+pub mod Meaning
+pub mod Names
+pub mod Preference
+pub mod RowFault
+pub mod Rows
+pub mod Slices
+pub mod Sound
+pub mod Valid
+pub mod Views

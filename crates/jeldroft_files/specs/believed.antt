@@ -1,0 +1,4 @@
+pub mod Failures
+pub mod Models
+pub mod Runs
+pub mod Tables

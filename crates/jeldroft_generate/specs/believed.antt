@@ -1,0 +1,4 @@
+pub mod Asked
+pub mod Due
+pub mod Given
+pub mod Runs

@@ -1,0 +1,4 @@
+pub mod Certified
+pub mod Due
+pub mod Shows
+pub mod Words

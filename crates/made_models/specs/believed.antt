@@ -1,0 +1,2 @@
+pub mod MadeModel
+pub mod Words

@@ -1,0 +1,4 @@
+pub mod Covering
+pub mod OrderGrowth
+pub mod ReportText
+pub mod Ways

@@ -1,0 +1,2 @@
+pub mod Coverages
+pub mod Facts

@@ -1,0 +1,3 @@
+pub mod ResultReading
+pub mod Suspects
+pub mod SuspectsText
