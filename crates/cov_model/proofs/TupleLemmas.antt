@@ -10,7 +10,8 @@ use Rattle.std.proofs.lemmas.Option.{none-some, same_Some}
 use Rattle.std.proofs.lemmas.List.{get_or-set_same, get_or-set_other, length-set, length-replicate, set_past}
 use Rattle.value_text.proofs.ListLemmas.{none_at}
 use Rattle.cov_model.specs.believed.Rows.{contains, is_assigned, with_value}
-use Rattle.cov_model.specs.Tuples.{IsRising, cells_of}
+use Rattle.cov_model.specs.Tuples.{IsRising}
+use Rattle.cov_model.specs.believed.Tuples.{cells_of}
 use Rattle.cov_model.proofs.CellLemmas.{assigned_within, contains-from, contains-get_or}
 
 pub length-cells_of : (n : ℕ) (pairs : List (ℕ × ℕ)) → length (cells_of n pairs) ≡ n

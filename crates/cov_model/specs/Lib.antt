@@ -1,5 +1,4 @@
 pub mod Stored
-pub mod Tuples
 pub mod PackedRows
 pub mod Fits
 pub mod Laws
@@ -8,3 +7,4 @@ pub mod believed
 pub mod Preference
 pub mod Sound
 pub mod Views
+pub mod Tuples

@@ -8,3 +8,4 @@ pub mod Slices
 pub mod Sound
 pub mod Valid
 pub mod Views
+pub mod Tuples

@@ -1,7 +1,7 @@
 ghost use Rattle.std.specs.Prelude.{◌≡◌, ◌<◌, ◌∷◌, [], Option, Some, None, length, replicate, slice_index_or, slice_set, IfOk};
 ghost use Rattle.std.specs.List.{list_all};
 ghost use Rattle.cov_model.specs.believed.Rows.{contains, with_value};
-ghost use Rattle.cov_model.specs.Tuples.{cells_of};
+ghost use Rattle.cov_model.specs.believed.Tuples.{cells_of};
 
 use crate::parameter::{ParamNo, ValueNo};
 use crate::tuple::Tuple;

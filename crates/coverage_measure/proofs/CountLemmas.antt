@@ -16,7 +16,7 @@ use Rattle.cov_model.specs.believed.Sound.{ModelView}
 use Rattle.cov_model.specs.believed.Slices.{negative_values, slice_values, value_numbers}
 use Rattle.definitions.specs.declared.effort.Effort.{Effort}
 use Rattle.definitions.specs.believed.Completion.{preferred_values}
-use Rattle.definitions.specs.Completion.{with_value}
+use Rattle.cov_model.specs.believed.Rows.{with_value}
 use Rattle.definitions.specs.believed.Demand.{demanded_sets, is_among, tuples_in, tuples_of}
 use Rattle.definitions.specs.believed.Search.{Outcome, constrained_params, exceeds, question_cost}
 use Rattle.definitions.proofs.Members.{of_among}

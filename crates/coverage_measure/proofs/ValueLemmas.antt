@@ -11,7 +11,7 @@ use Rattle.cov_model.specs.declared.slice.Slice.TheVariants.{Positive, Negative}
 use Rattle.cov_model.specs.believed.Sound.{ModelView}
 use Rattle.cov_model.specs.believed.Slices.{slice_values}
 use Rattle.cov_model.proofs.CellLemmas.{length-slice_values}
-use Rattle.definitions.specs.Completion.{with_value}
+use Rattle.cov_model.specs.believed.Rows.{with_value}
 use Rattle.definitions.specs.believed.Demand.{is_among, tuples_in, value_choices}
 use Rattle.definitions.specs.SliceRows.{IsSliceOf}
 use Rattle.definitions.proofs.Members.{of_among}

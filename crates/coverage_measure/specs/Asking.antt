@@ -6,7 +6,7 @@ use Rattle.cov_model.specs.declared.slice.Slice.{Slice}
 use Rattle.cov_model.specs.believed.Slices.{slice_values}
 use Rattle.cov_model.specs.believed.Sound.{ModelView}
 use Rattle.definitions.specs.declared.effort.Effort.{Effort}
-use Rattle.definitions.specs.Completion.{with_value}
+use Rattle.cov_model.specs.believed.Rows.{with_value}
 use Rattle.definitions.specs.believed.Demand.{is_among}
 use Rattle.definitions.specs.believed.Search.{exceeds, plain_cost, plain_search}
 use Rattle.definitions.specs.SliceRows.{IsOfSlice, IsSliceOf}

@@ -14,7 +14,7 @@ use Rattle.cov_model.proofs.CellLemmas.{contains-assigned, contains-trans}
 use Rattle.definitions.specs.believed.Demand.{demanded_tuples}
 use Rattle.definitions.specs.believed.Seeds.{is_same_row}
 use Rattle.definitions.specs.believed.Refutation.{first_unrefuted}
-use Rattle.definitions.specs.Pairs.{cells_of}
+use Rattle.cov_model.specs.believed.Tuples.{cells_of}
 use Rattle.definitions.specs.believed.ProofText.{Omission, omissions_of}
 use Rattle.definitions.specs.believed.Figures.{is_served}
 use Rattle.definitions.specs.believed.Verdict.{Verdict, Accepted, BadRow, BadProof, BadOmission, Uncovered, IsListed, by_row, by_proof, by_omission, by_tuple, as_cells, first_uncovered, listed}

@@ -4,9 +4,8 @@ use Rattle.std.proofs.Common.{Option, inl, inr, ◌∙◌, ap, subst, refl, arit
 use Rattle.std.specs.List.{list_any, list_all}
 use Rattle.std.proofs.lemmas.Bool.{false≢true, cases_Bool, and_parts, and_from, or_cases, or_left, or_right}
 use Rattle.std.proofs.lemmas.List.Folds.{list_all-append, list_any-append}
-use Rattle.cov_model.specs.believed.Rows.{contains, is_assigned}
+use Rattle.cov_model.specs.believed.Rows.{contains, is_assigned, with_value}
 use Rattle.cov_model.proofs.CellLemmas.{contains-refl, contains-trans}
-use Rattle.definitions.specs.Completion.{with_value}
 use Rattle.definitions.specs.believed.Growth.{agrees, union, first_extendable, values_by_gain, fill, across, Joined, join}
 use Rattle.definitions.proofs.Members.{Has, of_map}
 use Rattle.definitions.proofs.PartialRowLemmas.{with_value-contains, union-contains_row, union-contains_tuple}

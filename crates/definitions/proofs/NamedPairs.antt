@@ -5,10 +5,10 @@ use Rattle.std.proofs.lemmas.List.{get_or-set_same, get_or-set_other, get_or-rep
 use Rattle.cov_model.specs.believed.Sound.{ModelView, IsSound, param_at}
 use Rattle.cov_model.specs.believed.Slices.{slice_of}
 use Rattle.cov_model.specs.Tuples.{IsRising}
+use Rattle.cov_model.specs.believed.Tuples.{cells_of}
 use Rattle.cov_model.proofs.CellLemmas.{length-slice_values}
 pub use Rattle.cov_model.proofs.TupleLemmas.{behind_first, length-cells_of}
 use Rattle.definitions.specs.believed.Demand.{is_among}
-use Rattle.definitions.specs.Pairs.{cells_of}
 use Rattle.definitions.proofs.Members.{Has}
 use Rattle.definitions.proofs.SliceLemmas.{slice_of_is, value_exists}
 use Rattle.definitions.proofs.Demanded.{demanded_has}

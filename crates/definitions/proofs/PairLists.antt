@@ -3,7 +3,7 @@ use Rattle.std.proofs.Common.{◌≡◌, ℕ, zero, suc, set, replicate, zero-ad
 use Rattle.std.proofs.Common.{◌++◌, take, length, get_or, Option, Some, None, ◌∙◌, ap, refl, inl, inr, arith}
 use Rattle.std.proofs.lemmas.List.{take_more, length-take-le, replicate_more, append_assoc, append-nil}
 use Rattle.cov_model.specs.Tuples.{IsRising}
-use Rattle.definitions.specs.Pairs.{cells_of}
+use Rattle.cov_model.specs.believed.Tuples.{cells_of}
 use Rattle.definitions.specs.believed.Pairs.{pairs_from, pairs_of}
 use Rattle.definitions.proofs.Members.{Has}
 

@@ -10,13 +10,12 @@ use Rattle.std.proofs.lemmas.List.FromFn.{length-map-range_with_len, get_or-map-
 use Rattle.cov_model.specs.declared.slice.Slice.{Slice}
 use Rattle.cov_model.specs.declared.slice.Slice.TheVariants.{Positive, Negative}
 use Rattle.cov_model.specs.believed.Sound.{ModelView}
-use Rattle.cov_model.specs.believed.Rows.{contains, is_assigned, value_in}
+use Rattle.cov_model.specs.believed.Rows.{contains, is_assigned, value_in, with_value}
 use Rattle.cov_model.specs.believed.Valid.{negatives}
 use Rattle.cov_model.specs.believed.Slices.{slice_values, slice_by, slice_of}
 use Rattle.cov_model.proofs.CellLemmas.{contains-from, contains-refl, contains-trans}
 use Rattle.definitions.specs.believed.Demand.{is_among}
 use Rattle.definitions.specs.believed.Completion.{preferred_values, has_slice}
-use Rattle.definitions.specs.Completion.{with_value}
 use Rattle.definitions.specs.believed.Seeds.{is_same_row}
 use Rattle.definitions.specs.believed.Growth.{agrees, union, is_of_slice}
 use Rattle.definitions.proofs.Members.{Has, of_among}

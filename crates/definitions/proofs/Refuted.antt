@@ -13,14 +13,13 @@ use Rattle.cov_model.specs.declared.truth.Truth.{Truth}
 use Rattle.cov_model.specs.declared.truth.Truth.TheVariants.{Yes, No, Unknown}
 use Rattle.cov_model.specs.believed.Views.{RuleView}
 use Rattle.cov_model.specs.believed.Sound.{ModelView, param_at}
-use Rattle.cov_model.specs.believed.Rows.{contains, is_assigned, value_in}
+use Rattle.cov_model.specs.believed.Rows.{contains, is_assigned, value_in, with_value}
 use Rattle.cov_model.specs.believed.Meaning.{given_value, value_at, body_holds}
 use Rattle.cov_model.specs.believed.Kleene.{body_truth}
 use Rattle.cov_model.specs.believed.Valid.{is_valid, is_row, serves, negatives, param_numbers}
 use Rattle.cov_model.proofs.CellLemmas.{contains-get_or, contains-trans}
 use Rattle.cov_model.proofs.KnownLemmas.{no_stays}
 use Rattle.cov_model.proofs.RowLemmas.{row_has_value}
-use Rattle.definitions.specs.Completion.{with_value}
 use Rattle.definitions.specs.believed.Search.{is_no}
 use Rattle.definitions.specs.believed.Refutation.{Token, Branch, ByRule, ByNegative, ByOmission, is_rule_leaf, is_negative_leaf}
 use Rattle.definitions.specs.believed.Refutation.{is_omission_leaf, earlier_tuple, is_branch, branches, refute_paths, refutes, first_unrefuted}

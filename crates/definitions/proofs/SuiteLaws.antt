@@ -11,12 +11,12 @@ use Rattle.std.proofs.lemmas.Map.Keys.{IsDistinct-from_apart}
 use Rattle.std.proofs.lemmas.Map.Made.{length-le_from_is_member}
 use Rattle.cov_model.specs.believed.Sound.{ModelView}
 use Rattle.cov_model.specs.Tuples.{IsRising}
+use Rattle.cov_model.specs.believed.Tuples.{cells_of}
 use Rattle.cov_model.specs.believed.Valid.{is_valid, serves}
 use Rattle.definitions.specs.declared.effort.Effort.{Effort}
 use Rattle.definitions.specs.believed.Demand.{demanded_tuples}
 use Rattle.definitions.specs.believed.Seeds.{is_same_row}
 use Rattle.definitions.specs.believed.Growth.{growth}
-use Rattle.definitions.specs.Pairs.{cells_of}
 use Rattle.definitions.specs.believed.Pairs.{pairs_of}
 use Rattle.definitions.specs.believed.Refutation.{Token, refutes, are_eager}
 use Rattle.definitions.specs.believed.ProofText.{Omission, omissions_of}

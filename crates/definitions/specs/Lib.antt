@@ -1,9 +1,7 @@
 pub mod SliceRows
-pub mod Completion
 pub mod believed
 pub mod Covering
 pub mod Diagnostics
 pub mod Laws
-pub mod Pairs
 pub mod RowReading
 pub mod SuiteLaws

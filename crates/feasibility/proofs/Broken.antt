@@ -10,10 +10,9 @@ use Rattle.value_text.proofs.ListLemmas.{Some-unwrap_or, none_at, none_of}
 use Rattle.cov_model.specs.believed.Sound.{ModelView, IsSound}
 use Rattle.cov_model.specs.Sound.{no_rule, rule_at}
 use Rattle.cov_model.specs.believed.Kleene.{body_truth}
-use Rattle.cov_model.specs.believed.Rows.{is_assigned, value_in}
+use Rattle.cov_model.specs.believed.Rows.{is_assigned, value_in, with_value}
 use Rattle.cov_model.specs.believed.Valid.{param_numbers}
 use Rattle.cov_model.proofs.CellLemmas.{assigned_within}
-use Rattle.definitions.specs.Completion.{with_value}
 use Rattle.definitions.specs.believed.Demand.{is_among}
 use Rattle.definitions.specs.believed.Search.{body_params, breaks_a_rule, constrained_params, is_no}
 use Rattle.definitions.proofs.Members.{Has, among_has, any_member, has_contained, has_filter, has_flat, has_map, member_of_all, of_among, of_any, same_answer}

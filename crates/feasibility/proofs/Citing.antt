@@ -12,7 +12,7 @@ use Rattle.std.proofs.lemmas.List.Elements.{All-get_or}
 use Rattle.cov_model.specs.believed.Rows.{contains, is_assigned}
 use Rattle.cov_model.specs.believed.Valid.{negatives}
 use Rattle.cov_model.proofs.CellLemmas.{contains-get_or}
-use Rattle.definitions.specs.Pairs.{cells_of}
+use Rattle.cov_model.specs.believed.Tuples.{cells_of}
 use Rattle.definitions.specs.believed.Refutation.{earlier_tuple, is_omission_leaf}
 use Rattle.definitions.proofs.Members.{Has, among_has, find_some, has_range, of_among, of_find, of_range, has_place}
 use Rattle.definitions.proofs.NamedPairs.{pair_stands}

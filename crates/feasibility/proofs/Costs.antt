@@ -5,8 +5,7 @@ use Rattle.std.proofs.lemmas.Bool.{false≢true, cases_eq, cases_lt, eq-eqb, ne_
 use Rattle.std.proofs.lemmas.List.{drop_all, drop_more}
 use Rattle.std.proofs.lemmas.List.Sums.{sum_by-cons}
 use Rattle.cov_model.specs.believed.Sound.{ModelView}
-use Rattle.cov_model.specs.believed.Rows.{is_assigned}
-use Rattle.definitions.specs.Completion.{with_value}
+use Rattle.cov_model.specs.believed.Rows.{is_assigned, with_value}
 use Rattle.definitions.specs.believed.Demand.{is_among}
 use Rattle.definitions.specs.believed.Search.{Outcome, is_failing, try_values, visit}
 use Rattle.definitions.proofs.Members.{Has}

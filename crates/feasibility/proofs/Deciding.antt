@@ -5,9 +5,8 @@ use Rattle.std.proofs.lemmas.Bool.{false≢true, cases_Bool, cases_eq, and_parts
 use Rattle.std.proofs.lemmas.List.{length-replicate, length-set}
 use Rattle.value_text.proofs.ListLemmas.{Some-unwrap_or}
 use Rattle.cov_model.specs.believed.Sound.{ModelView, IsSound, param_at}
-use Rattle.cov_model.specs.believed.Rows.{is_assigned, value_in}
+use Rattle.cov_model.specs.believed.Rows.{is_assigned, value_in, with_value}
 use Rattle.cov_model.specs.believed.Valid.{param_numbers}
-use Rattle.definitions.specs.Completion.{with_value}
 use Rattle.definitions.specs.believed.Demand.{is_among}
 use Rattle.definitions.specs.believed.Search.{breaks_a_rule, constrained_params, is_failing, is_stuck}
 use Rattle.definitions.proofs.Members.{Has, among_has, any_member, has_range, of_among, of_any}

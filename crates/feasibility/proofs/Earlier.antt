@@ -7,10 +7,9 @@ use Rattle.std.proofs.lemmas.List.Folds.{list_any_at}
 use Rattle.value_text.proofs.ListLemmas.{Some-unwrap_or}
 use Rattle.cov_model.specs.believed.Sound.{ModelView, IsSound}
 use Rattle.cov_model.specs.Sound.{no_rule}
-use Rattle.cov_model.specs.believed.Rows.{is_assigned, value_in}
+use Rattle.cov_model.specs.believed.Rows.{is_assigned, value_in, with_value}
 use Rattle.cov_model.specs.believed.Valid.{param_numbers}
 use Rattle.cov_model.proofs.CellLemmas.{assigned_within}
-use Rattle.definitions.specs.Completion.{with_value}
 use Rattle.definitions.specs.believed.Demand.{is_among}
 use Rattle.definitions.specs.believed.Search.{body_params, constrained_params}
 use Rattle.definitions.proofs.Contained.{left}

@@ -8,7 +8,7 @@ use Rattle.cov_model.specs.believed.Sound.{ModelView, IsSound}
 use Rattle.cov_model.specs.Sound.{no_rule, rule_at}
 use Rattle.cov_model.specs.believed.Kleene.{body_truth}
 use Rattle.compiled_rules.specs.Codes.{is_yes}
-use Rattle.definitions.specs.Completion.{with_value}
+use Rattle.cov_model.specs.believed.Rows.{with_value}
 use Rattle.definitions.specs.believed.Demand.{is_among}
 use Rattle.definitions.specs.believed.Search.{body_params, breaks_a_rule, is_no}
 use Rattle.definitions.proofs.Members.{Has, any_member, contains_member, member_of_all, of_among, of_filter}

@@ -7,8 +7,7 @@ use Rattle.std.proofs.lemmas.List.Folds.{list_any-append}
 use Rattle.cov_model.specs.believed.Sound.{ModelView, param_at}
 use Rattle.cov_model.specs.Sound.{rule_at}
 use Rattle.cov_model.specs.believed.Kleene.{body_truth}
-use Rattle.cov_model.specs.believed.Rows.{is_assigned}
-use Rattle.definitions.specs.Completion.{with_value}
+use Rattle.cov_model.specs.believed.Rows.{is_assigned, with_value}
 use Rattle.definitions.specs.believed.Demand.{is_among}
 use Rattle.definitions.specs.believed.Search.{body_params, is_no}
 use Rattle.definitions.proofs.Members.{among_has, has_filter, has_range}

@@ -16,13 +16,12 @@ use Rattle.cov_model.specs.believed.Sound.{ModelView, IsSound, param_at}
 use Rattle.cov_model.specs.Sound.{no_rule, rule_at}
 use Rattle.cov_model.specs.believed.Kleene.{body_truth}
 use Rattle.cov_model.specs.Fits.{FitsModel}
-use Rattle.cov_model.specs.believed.Rows.{is_assigned, value_in}
+use Rattle.cov_model.specs.believed.Rows.{is_assigned, value_in, with_value}
 use Rattle.compiled_rules.specs.Codes.{is_yes}
 use Rattle.cov_model.specs.believed.Valid.{param_numbers}
 use Rattle.cov_model.specs.declared.constraint.Pred as preds
 use Rattle.cov_model.specs.declared.constraint.Pred.{Pred}
 use Rattle.definitions.specs.believed.Demand.{is_among}
-use Rattle.definitions.specs.Completion.{with_value}
 use Rattle.definitions.specs.believed.Search.{pred_params, parts_params, body_params, constrained_params}
 use Rattle.definitions.proofs.Members.{Has, all_members as members_are, any_member, contains_member, has_contained, has_filter, of_filter, of_range}
 use Rattle.definitions.proofs.Nothing.{nothing_kept}

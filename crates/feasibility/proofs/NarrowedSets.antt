@@ -15,7 +15,7 @@ use Rattle.std.proofs.lemmas.List.Elements.{All-filter}
 use Rattle.cov_model.specs.believed.Views.{BodyView}
 use Rattle.cov_model.specs.believed.Sound.{ModelView, param_at}
 use Rattle.cov_model.specs.Sound.{rule_at}
-use Rattle.definitions.specs.Completion.{with_value}
+use Rattle.cov_model.specs.believed.Rows.{with_value}
 use Rattle.definitions.specs.believed.Demand.{is_among}
 use Rattle.definitions.proofs.Members.{all_members as members_are, among_has, has_filter, has_range, of_range}
 use Rattle.definitions.proofs.PartialRowLemmas.{among_head}

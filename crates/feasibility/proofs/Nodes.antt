@@ -4,7 +4,7 @@ use Rattle.std.proofs.lemmas.Bool.{cases_eq}
 use Rattle.std.proofs.lemmas.List.{get_or-set_other, get_or-set_same, get_or_default, length-replicate, length-set, same_lists, set-get_or, set-set}
 use Rattle.std.proofs.lemmas.List.Folds.{list_any_at}
 use Rattle.cov_model.specs.believed.Sound.{ModelView}
-use Rattle.definitions.specs.Completion.{with_value}
+use Rattle.cov_model.specs.believed.Rows.{with_value}
 use Rattle.definitions.specs.believed.Demand.{is_among}
 use Rattle.feasibility.specs.Path.{filled, filled_cell}
 use Rattle.feasibility.specs.Tree.{no_values}

@@ -13,14 +13,13 @@ use Rattle.cov_model.specs.declared.slice.Slice.TheVariants.{Positive, Negative}
 use Rattle.cov_model.specs.believed.Sound.{ModelView, param_at}
 use Rattle.cov_model.specs.Fits.{FitsModel}
 use Rattle.cov_model.specs.believed.Meaning.{value_at}
-use Rattle.cov_model.specs.believed.Rows.{is_assigned, value_in}
+use Rattle.cov_model.specs.believed.Rows.{is_assigned, value_in, with_value}
 use Rattle.cov_model.specs.believed.Valid.{negatives}
 use Rattle.cov_model.specs.believed.Slices.{slice_by, slice_of, slice_values}
 use Rattle.definitions.specs.believed.Completion.{has_slice, preferred_values}
-use Rattle.definitions.specs.Completion.{with_value}
 use Rattle.definitions.specs.believed.Demand.{is_among}
 use Rattle.cov_model.specs.Preference.{OrdersValues}
-use Rattle.definitions.specs.Pairs.{cells_of}
+use Rattle.cov_model.specs.believed.Tuples.{cells_of}
 use Rattle.definitions.specs.believed.Refutation.{is_negative_leaf, is_omission_leaf}
 use Rattle.definitions.specs.believed.Search.{breaks_a_rule}
 use Rattle.definitions.specs.SliceRows.{IsOfSlice, IsSliceOf}

@@ -7,9 +7,8 @@ use Rattle.std.proofs.lemmas.List.Elements.{All-get_or, All-replicate, All-set}
 use Rattle.std.proofs.lemmas.List.{get_or-set_other, get_or_default, get_or_past, length-replicate, length-set}
 use Rattle.value_text.proofs.ListLemmas.{none_at}
 use Rattle.cov_model.specs.believed.Sound.{ModelView}
-use Rattle.cov_model.specs.believed.Rows.{is_assigned}
+use Rattle.cov_model.specs.believed.Rows.{is_assigned, with_value}
 use Rattle.cov_model.specs.believed.Valid.{param_numbers}
-use Rattle.definitions.specs.Completion.{with_value}
 use Rattle.definitions.specs.believed.Demand.{is_among}
 use Rattle.definitions.specs.believed.Search.{Outcome, breaks_a_rule, constrained_params, is_failing, is_stuck, try_values, visit}
 use Rattle.definitions.proofs.Members.{Has, contains_member, has_filter}

@@ -10,10 +10,9 @@ use Rattle.cov_model.specs.believed.Views.{RuleView}
 use Rattle.cov_model.specs.believed.Sound.{ModelView}
 use Rattle.cov_model.specs.believed.Kleene.{body_truth}
 use Rattle.cov_model.specs.believed.Meaning.{given_value, value_at}
-use Rattle.cov_model.specs.believed.Rows.{is_assigned}
+use Rattle.cov_model.specs.believed.Rows.{is_assigned, with_value}
 use Rattle.cov_model.specs.believed.Slices.{value_numbers}
 use Rattle.cov_model.specs.believed.Valid.{param_numbers}
-use Rattle.definitions.specs.Completion.{with_value}
 use Rattle.definitions.specs.believed.Demand.{is_among}
 use Rattle.definitions.specs.believed.Refutation.{Token, Branch, ByRule, ByNegative, ByOmission, are_eager, branches, is_branch, is_eager, is_first_leaf, is_leaf}
 use Rattle.definitions.specs.believed.Refutation.{is_negative_leaf, is_rule_leaf, leaves, refute_paths}

@@ -13,14 +13,13 @@ use Rattle.cov_model.specs.declared.truth.Truth.{Truth}
 use Rattle.cov_model.specs.declared.truth.Truth.TheVariants.{Yes, No, Unknown}
 use Rattle.cov_model.specs.believed.Views.{RuleView}
 use Rattle.cov_model.specs.believed.Sound.{ModelView, IsSound, IsSoundBody, param_at}
-use Rattle.cov_model.specs.believed.Rows.{contains, is_assigned, value_in}
+use Rattle.cov_model.specs.believed.Rows.{contains, is_assigned, value_in, with_value}
 use Rattle.cov_model.specs.believed.Meaning.{body_holds}
 use Rattle.cov_model.specs.believed.Kleene.{known, body_truth}
 use Rattle.cov_model.specs.believed.Valid.{param_numbers, is_row, has_value}
 use Rattle.cov_model.proofs.KnownLemmas.{no_stays, rows_are_known}
 use Rattle.cov_model.proofs.CellLemmas.{contains-get_or}
 use Rattle.definitions.specs.believed.Demand.{is_among}
-use Rattle.definitions.specs.Completion.{with_value}
 use Rattle.definitions.specs.believed.Completion.{meets_rules}
 use Rattle.definitions.specs.believed.Search.{Outcome, body_params, breaks_a_rule, is_no, is_stuck, is_failing, try_values, visit}
 pub use Rattle.definitions.proofs.Refuted.{contains-with as contains-with_value}

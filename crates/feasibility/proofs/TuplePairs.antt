@@ -4,9 +4,8 @@ use Rattle.std.specs.List.{list_any}
 use Rattle.std.proofs.lemmas.Bool.{cases_eq, eq-eqb, ne_eqb}
 use Rattle.std.proofs.lemmas.List.{get_or-set_other, get_or-set_same}
 use Rattle.value_text.proofs.ListLemmas.{none_at}
-use Rattle.cov_model.specs.believed.Rows.{is_assigned}
-use Rattle.definitions.specs.Completion.{with_value}
-use Rattle.definitions.specs.Pairs.{cells_of}
+use Rattle.cov_model.specs.believed.Rows.{is_assigned, with_value}
+use Rattle.cov_model.specs.believed.Tuples.{cells_of}
 use Rattle.definitions.proofs.NamedPairs.{length-cells_of}
 
 -- one of the pairs is of the parameter

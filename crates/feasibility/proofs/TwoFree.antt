@@ -6,12 +6,11 @@ use Rattle.std.proofs.lemmas.Bool.{cases_Bool, cases_eq, false_from_ne_true, fal
 use Rattle.std.proofs.lemmas.List.{get_or-set_other, get_or-set_same, length-set}
 use Rattle.std.proofs.lemmas.List.FromFn.{length-range_with_len}
 use Rattle.cov_model.specs.believed.Kleene.{body_truth}
-use Rattle.cov_model.specs.believed.Rows.{is_assigned}
+use Rattle.cov_model.specs.believed.Rows.{is_assigned, with_value}
 use Rattle.cov_model.specs.believed.Slices.{value_numbers}
 use Rattle.cov_model.specs.believed.Sound.{ModelView, param_at}
 use Rattle.cov_model.specs.Sound.{rule_at}
 use Rattle.compiled_rules.specs.Codes.{is_yes}
-use Rattle.definitions.specs.Completion.{with_value}
 use Rattle.feasibility.specs.Live.{IsFree, NoValueBreaks, no_on}
 use Rattle.feasibility.specs.Tree.{doubtful, no_values}
 use Rattle.feasibility.proofs.Broken.{longer_alone, longer_set}

@@ -1,8 +1,7 @@
 -- Where plain search ends when it succeeds. (This project's rule.)
 use Rattle.std.specs.Prelude.{ℕ, List, [], ◌∷◌, Option, Some, None, slice_index_or, slice_get, if◌then◌else◌}
 use Rattle.cov_model.specs.believed.Sound.{ModelView}
-use Rattle.cov_model.specs.believed.Rows.{is_assigned}
-use Rattle.definitions.specs.Completion.{with_value}
+use Rattle.cov_model.specs.believed.Rows.{is_assigned, with_value}
 use Rattle.definitions.specs.believed.Search.{Outcome, visit}
 
 -- a cell without a value gets the first of the list

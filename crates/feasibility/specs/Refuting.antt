@@ -6,11 +6,10 @@ use Rattle.cov_model.specs.declared.slice.Slice.TheVariants.{Positive, Negative}
 use Rattle.cov_model.specs.believed.Sound.{ModelView, param_at}
 use Rattle.cov_model.specs.Fits.{FitsModel}
 use Rattle.cov_model.specs.believed.Meaning.{value_at}
-use Rattle.cov_model.specs.believed.Rows.{contains, is_assigned}
+use Rattle.cov_model.specs.believed.Rows.{contains, is_assigned, with_value}
 use Rattle.cov_model.specs.believed.Valid.{negatives}
-use Rattle.definitions.specs.Completion.{with_value}
 use Rattle.definitions.specs.believed.Demand.{is_among}
-use Rattle.definitions.specs.Pairs.{cells_of}
+use Rattle.cov_model.specs.believed.Tuples.{cells_of}
 use Rattle.definitions.specs.believed.Refutation.{Token, are_eager, is_negative_leaf, leaves, refute_paths}
 use Rattle.definitions.specs.believed.Search.{visit}
 use Rattle.definitions.specs.believed.SuiteProof.{branch_count}

@@ -5,10 +5,9 @@ use Rattle.std.specs.List.{filter, list_any, range_with_len}
 use Rattle.cov_model.specs.believed.Views.{BodyView}
 use Rattle.cov_model.specs.believed.Sound.{ModelView, param_at}
 use Rattle.cov_model.specs.Sound.{rule_at}
-use Rattle.cov_model.specs.believed.Rows.{is_assigned, value_in}
+use Rattle.cov_model.specs.believed.Rows.{is_assigned, value_in, with_value}
 use Rattle.cov_model.specs.believed.Kleene.{body_truth}
 use Rattle.cov_model.specs.believed.Slices.{value_numbers}
-use Rattle.definitions.specs.Completion.{with_value}
 use Rattle.definitions.specs.believed.Demand.{is_among}
 use Rattle.definitions.specs.believed.Search.{body_params, constrained_params}
 use Rattle.compiled_rules.specs.Codes.{is_yes}

@@ -2,9 +2,8 @@ ghost use Rattle.std.specs.Prelude.{◌≡◌, ◌+◌, ◌<◌, ◌≤◌, ◌�
 ghost use Rattle.std.specs.List.{count_by, range_with_len};
 ghost use Rattle.cov_model.specs.Fits.{FitsModel};
 ghost use Rattle.cov_model.specs.believed.Meaning.{value_at};
-ghost use Rattle.cov_model.specs.believed.Rows.{is_assigned};
+ghost use Rattle.cov_model.specs.believed.Rows.{is_assigned, with_value};
 ghost use Rattle.cov_model.specs.believed.Sound.{param_at};
-ghost use Rattle.definitions.specs.Completion.{with_value};
 ghost use Rattle.definitions.specs.believed.Demand.{is_among};
 ghost use Rattle.definitions.specs.believed.Refutation.{is_omission_leaf};
 ghost use Rattle.definitions.specs.believed.Search.{breaks_a_rule, constrained_params, is_failing, visit};

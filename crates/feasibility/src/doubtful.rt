@@ -4,7 +4,7 @@ ghost use Rattle.cov_model.specs.believed.Kleene.{body_truth};
 ghost use Rattle.cov_model.specs.believed.Sound.{param_at};
 ghost use Rattle.cov_model.specs.Sound.{rule_at};
 ghost use Rattle.compiled_rules.specs.Codes.{is_yes};
-ghost use Rattle.definitions.specs.Completion.{with_value};
+ghost use Rattle.cov_model.specs.believed.Rows.{with_value};
 ghost use Rattle.feasibility.specs.Tree.{all_doubtful, all_members, doubtful, doubtful_by, members, no_values};
 
 use crate::values::put_list;

@@ -2,8 +2,7 @@ ghost use Rattle.std.specs.Prelude.{◌≡◌, ℕ, ◌+◌, ◌<◌, ◌≤◌,
 ghost use Rattle.cov_model.specs.Fits.{FitsModel};
 ghost use Rattle.cov_model.specs.believed.Sound.{param_at};
 ghost use Rattle.cov_model.specs.Sound.{rule_at};
-ghost use Rattle.cov_model.specs.believed.Rows.{is_assigned};
-ghost use Rattle.definitions.specs.Completion.{with_value};
+ghost use Rattle.cov_model.specs.believed.Rows.{is_assigned, with_value};
 ghost use Rattle.definitions.specs.believed.Search.{constrained_params, is_failing};
 ghost use Rattle.live_sets.specs.Trail.{IsSince, mark_at};
 ghost use Rattle.feasibility.specs.Live.{AreRules, AreSeen, BreaksNoMark, EachHasOne, HasShape, IsFree, ListMarks, LookedAt, NamesEarlier, Narrowed};

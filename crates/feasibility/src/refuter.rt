@@ -5,7 +5,7 @@ ghost use Rattle.cov_model.specs.believed.Rows.{is_assigned};
 ghost use Rattle.cov_model.specs.believed.Meaning.{value_at};
 ghost use Rattle.cov_model.specs.believed.Sound.{IsSound, param_at};
 ghost use Rattle.cov_model.specs.believed.Valid.{negatives};
-ghost use Rattle.definitions.specs.Pairs.{cells_of};
+ghost use Rattle.cov_model.specs.believed.Tuples.{cells_of};
 ghost use Rattle.definitions.specs.believed.Refutation.{is_omission_leaf};
 ghost use Rattle.definitions.specs.believed.Search.{constrained_params};
 ghost use Rattle.refutation.specs.Holders.{EndsWithin, NeverFalls};
@@ -33,7 +33,7 @@ impl<'t> Model for Refuter<'t> {
     ghost use Rattle.std.specs.Prelude.{length};
     ghost use Rattle.std.specs.Coded.{codes};
     ghost use Rattle.cov_model.specs.contracts.model.TestModel as tested;
-    ghost use Rattle.definitions.specs.Pairs.{cells_of};
+    ghost use Rattle.cov_model.specs.believed.Tuples.{cells_of};
     ghost use Rattle.refutation.specs.believed.Proofs.{format_of};
     ghost use Rattle.feasibility.specs.Refuting.{IsRefuter, RefuterView, earlier_tuples};
 

@@ -1,7 +1,7 @@
 ghost use Rattle.std.specs.Prelude.{◌≡◌, ◌≤◌, ◌<◌, ◌^◌, true, length, map, Err, OnOk, OnErr};
 ghost use Rattle.cov_model.specs.believed.Slices.{slice_of};
 ghost use Rattle.definitions.specs.believed.Covering.{IsUnserved};
-ghost use Rattle.definitions.specs.Pairs.{cells_of};
+ghost use Rattle.cov_model.specs.believed.Tuples.{cells_of};
 ghost use Rattle.definitions.specs.believed.Refutation.{is_eager};
 ghost use Rattle.definitions.specs.believed.Search.{plain_cost};
 ghost use Rattle.definitions.specs.SliceRows.{IsOfSlice};

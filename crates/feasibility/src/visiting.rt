@@ -1,8 +1,7 @@
 ghost use Rattle.std.specs.Prelude.{◌≡◌, ◌+◌, ◌-◌, ◌<◌, ◌≤◌, true, false, None, [], length, slice_index_or, slice_set};
 ghost use Rattle.cov_model.specs.Fits.{FitsModel};
-ghost use Rattle.cov_model.specs.believed.Rows.{is_assigned};
+ghost use Rattle.cov_model.specs.believed.Rows.{is_assigned, with_value};
 ghost use Rattle.cov_model.specs.believed.Sound.{IsSound};
-ghost use Rattle.definitions.specs.Completion.{with_value};
 ghost use Rattle.definitions.specs.believed.Demand.{is_among};
 ghost use Rattle.definitions.specs.believed.Search.{constrained_params, is_failing};
 ghost use Rattle.feasibility.specs.Answers.{VisitTells, answer_of, searched};

@@ -3,8 +3,7 @@ use Rattle.std.proofs.Common.{◌≡◌, ℕ, ◌≤◌, Bool, true, false, List
 use Rattle.std.proofs.Common.{Option, Some, ◌∙◌, sym, ap, subst, refl, arith, append_assoc, length-append}
 use Rattle.std.proofs.lemmas.Bool.{false≢true}
 use Rattle.std.proofs.lemmas.List.{length-set}
-use Rattle.cov_model.specs.believed.Rows.{is_assigned}
-use Rattle.definitions.specs.Completion.{with_value}
+use Rattle.cov_model.specs.believed.Rows.{is_assigned, with_value}
 use Rattle.live_sets.specs.Trail.{LiveView}
 use Rattle.refutation.specs.declared.token.TreeToken.{TreeToken}
 use Rattle.refutation.specs.declared.token.TreeToken.TheVariants.{Branch}

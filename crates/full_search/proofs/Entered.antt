@@ -2,10 +2,9 @@
 use Rattle.std.proofs.Common.{◌≡◌, ℕ, ◌<◌, Bool, true, false, not, List, [], length, Option, unwrap_or, get_or, ◌∙◌, sym, ap, arith}
 use Rattle.std.proofs.lemmas.Bool.{and_parts, not-true}
 use Rattle.cov_model.specs.Fits.{FitsModel}
-use Rattle.cov_model.specs.believed.Rows.{is_assigned}
+use Rattle.cov_model.specs.believed.Rows.{is_assigned, with_value}
 use Rattle.cov_model.specs.believed.Sound.{param_at}
 use Rattle.cov_model.proofs.CellLemmas.{assigned_within}
-use Rattle.definitions.specs.Completion.{with_value}
 use Rattle.definitions.specs.believed.Demand.{is_among}
 use Rattle.definitions.specs.Laws.{GivesListed}
 use Rattle.definitions.specs.believed.Search.{breaks_a_rule, is_failing}

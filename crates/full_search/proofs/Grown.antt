@@ -3,11 +3,10 @@ use Rattle.std.proofs.Common.{◌≡◌, ◌≢◌, ℕ, ◌+◌, ◌<◌, ◌�
 use Rattle.std.proofs.lemmas.Bool.{cases_eq, cases_lt}
 use Rattle.std.proofs.lemmas.List.{get_or-set_other, get_or-set_same, get_or_default, get_or_past, length-set}
 use Rattle.value_text.proofs.ListLemmas.{none_at, none_of}
-use Rattle.cov_model.specs.believed.Rows.{is_assigned}
+use Rattle.cov_model.specs.believed.Rows.{is_assigned, with_value}
 use Rattle.cov_model.specs.believed.Sound.{ModelView}
 use Rattle.cov_model.specs.Sound.{rule_at}
 use Rattle.cov_model.proofs.CellLemmas.{assigned_within}
-use Rattle.definitions.specs.Completion.{with_value}
 use Rattle.definitions.specs.believed.Demand.{is_among}
 use Rattle.definitions.specs.believed.Search.{body_params}
 use Rattle.definitions.proofs.Members.{Has, contains_member, has_filter, has_range}

@@ -6,9 +6,8 @@ use Rattle.std.proofs.Math.Seq.{drop-append_seam, take-append_seam}
 use Rattle.std.proofs.lemmas.Bool.{and_from}
 use Rattle.std.proofs.lemmas.List.{length-map}
 use Rattle.value_text.proofs.ListLemmas.{length-filter-le}
-use Rattle.cov_model.specs.believed.Rows.{is_assigned}
+use Rattle.cov_model.specs.believed.Rows.{is_assigned, with_value}
 use Rattle.cov_model.specs.believed.Sound.{param_at}
-use Rattle.definitions.specs.Completion.{with_value}
 use Rattle.definitions.specs.believed.SuiteProof.{branch_count, is_branching}
 use Rattle.refutation.specs.declared.token.TreeToken.{TreeToken}
 use Rattle.refutation.specs.declared.token.TreeToken.TheVariants.{Branch}

@@ -6,11 +6,10 @@ use Rattle.std.proofs.lemmas.Bool.{false≢true, cases_eq}
 use Rattle.std.proofs.lemmas.List.{get_or-set_other, get_or-set_same, length-replicate, length-set, set-get_or, set-set, take_all}
 use Rattle.std.proofs.lemmas.Option.{none-some}
 use Rattle.value_text.proofs.ListLemmas.{Some-unwrap_or}
-use Rattle.cov_model.specs.believed.Rows.{contains, is_assigned, value_in}
+use Rattle.cov_model.specs.believed.Rows.{contains, is_assigned, value_in, with_value}
 use Rattle.cov_model.specs.believed.Sound.{IsSound, ModelView}
 use Rattle.cov_model.specs.Sound.{rule_at}
 use Rattle.cov_model.proofs.CellLemmas.{contains-from, contains-get_or}
-use Rattle.definitions.specs.Completion.{with_value}
 use Rattle.definitions.specs.believed.Demand.{is_among}
 use Rattle.definitions.specs.believed.Search.{body_params, breaks_a_rule, is_no}
 use Rattle.definitions.proofs.Members.{among_has, has_contained}

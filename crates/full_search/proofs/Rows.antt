@@ -6,10 +6,9 @@ use Rattle.value_text.proofs.ListLemmas.{list_any-find, none_at}
 use Rattle.cov_model.specs.declared.slice.Slice.{Slice}
 use Rattle.cov_model.specs.Preference.{OrdersValues}
 use Rattle.cov_model.specs.believed.Sound.{ModelView, IsSound}
-use Rattle.cov_model.specs.believed.Rows.{is_assigned}
+use Rattle.cov_model.specs.believed.Rows.{is_assigned, with_value}
 use Rattle.cov_model.specs.believed.Valid.{param_numbers}
 use Rattle.definitions.specs.believed.Completion.{completions, meets_rules, is_extendable, preferred_values}
-use Rattle.definitions.specs.Completion.{with_value}
 use Rattle.definitions.specs.believed.Search.{breaks_a_rule, constrained_params, is_failing, is_stuck, visit}
 use Rattle.definitions.specs.SliceRows.{IsOfSlice, IsSliceOf}
 use Rattle.definitions.proofs.Choices.{completions_are_rows}

@@ -7,9 +7,8 @@ use Rattle.std.proofs.lemmas.Bool.{false≢true, cases_eq}
 use Rattle.std.proofs.lemmas.List.{get_or-set_other, get_or-set_same}
 use Rattle.value_text.proofs.ListLemmas.{none_of}
 use Rattle.cov_model.specs.believed.Sound.{ModelView, IsSound}
-use Rattle.cov_model.specs.believed.Rows.{is_assigned}
+use Rattle.cov_model.specs.believed.Rows.{is_assigned, with_value}
 use Rattle.definitions.specs.believed.Completion.{meets_rules}
-use Rattle.definitions.specs.Completion.{with_value}
 use Rattle.definitions.specs.believed.Search.{constrained_params, is_failing}
 use Rattle.definitions.proofs.Members.{Has, has_filter}
 use Rattle.definitions.proofs.SliceLemmas.{has_params}

@@ -15,12 +15,11 @@ use Rattle.cov_model.specs.believed.Sound.{ModelView, IsSound}
 use Rattle.cov_model.specs.Sound.{no_rule, rule_at}
 use Rattle.cov_model.specs.believed.Kleene.{body_truth}
 use Rattle.cov_model.specs.believed.Meaning.{value_at}
-use Rattle.cov_model.specs.believed.Rows.{contains, is_assigned}
+use Rattle.cov_model.specs.believed.Rows.{contains, is_assigned, with_value}
 use Rattle.cov_model.specs.believed.Valid.{negatives}
 use Rattle.cov_model.proofs.CellLemmas.{contains-assigned, contains-from, contains-get_or}
-use Rattle.definitions.specs.Completion.{with_value}
 use Rattle.definitions.specs.believed.Demand.{is_among}
-use Rattle.definitions.specs.Pairs.{cells_of}
+use Rattle.cov_model.specs.believed.Tuples.{cells_of}
 use Rattle.definitions.specs.believed.Refutation.{Token, Branch, ByRule, ByNegative, ByOmission, earlier_tuple, is_first_leaf, is_leaf, is_negative_leaf, is_omission_leaf, is_rule_leaf, is_same_token}
 use Rattle.definitions.specs.believed.Search.{body_params, is_no}
 use Rattle.definitions.proofs.Members.{any_member, contains_member, of_any}

@@ -2,10 +2,9 @@
 use Rattle.std.proofs.Common.{◌≡◌, ℕ, ◌+◌, ◌<◌, ◌≤◌, Bool, true, false, List, [], ◌++◌, length, take, All, Option, Some, get_or, set, ◌∙◌, sym, subst, refl, arith}
 use Rattle.std.proofs.lemmas.Bool.{false≢true}
 use Rattle.std.proofs.lemmas.List.{length-set}
-use Rattle.cov_model.specs.believed.Rows.{is_assigned}
+use Rattle.cov_model.specs.believed.Rows.{is_assigned, with_value}
 use Rattle.cov_model.proofs.CellLemmas.{contains-from}
 use Rattle.definitions.specs.believed.Completion.{meets_rules}
-use Rattle.definitions.specs.Completion.{with_value}
 use Rattle.feasibility.specs.Tree.{TreeView}
 use Rattle.full_search.specs.Reasons.{Grows, HasNoRow, IsPart, IsReason}
 use Rattle.full_search.specs.Searching.{HasRoom, SearchTells, TriedTells}

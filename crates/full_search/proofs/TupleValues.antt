@@ -7,7 +7,7 @@ use Rattle.std.proofs.lemmas.List.Folds.{list_any-append}
 use Rattle.value_text.proofs.ListLemmas.{none_of}
 use Rattle.cov_model.specs.believed.Rows.{is_assigned}
 use Rattle.cov_model.proofs.CellLemmas.{assigned_within}
-use Rattle.definitions.specs.Pairs.{cells_of}
+use Rattle.cov_model.specs.believed.Tuples.{cells_of}
 use Rattle.definitions.proofs.NamedPairs.{length-cells_of}
 use Rattle.feasibility.proofs.Broken.{shorter_free}
 use Rattle.feasibility.proofs.TuplePairs.{gives_pair, has_param}

@@ -10,7 +10,7 @@ use Rattle.cov_model.specs.declared.truth.Truth.{Truth}
 use Rattle.cov_model.specs.declared.truth.Truth.TheVariants.{Yes, No, Unknown}
 use Rattle.cov_model.specs.believed.Kleene.{body_truth}
 use Rattle.cov_model.specs.believed.Meaning.{body_holds}
-use Rattle.cov_model.specs.believed.Rows.{is_assigned}
+use Rattle.cov_model.specs.believed.Rows.{is_assigned, with_value}
 use Rattle.cov_model.specs.believed.Sound.{ModelView, IsSound}
 use Rattle.cov_model.specs.Sound.{no_rule, rule_at}
 use Rattle.cov_model.specs.believed.Valid.{param_numbers}
@@ -19,7 +19,6 @@ use Rattle.cov_model.proofs.CellLemmas.{contains-refl}
 use Rattle.cov_model.proofs.KnownLemmas.{yes_stays}
 use Rattle.compiled_rules.specs.Codes.{is_yes}
 use Rattle.definitions.specs.believed.Completion.{meets_rules}
-use Rattle.definitions.specs.Completion.{with_value}
 use Rattle.definitions.specs.believed.Demand.{is_among}
 use Rattle.definitions.specs.Laws.{GivesListed}
 use Rattle.definitions.specs.believed.Search.{body_params, constrained_params}

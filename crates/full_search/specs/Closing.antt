@@ -3,7 +3,7 @@
 use Rattle.std.specs.Prelude.{◌≡◌, ℕ, true, false, List, [], ◌∷◌, length, All, Option}
 use Rattle.cov_model.specs.believed.Meaning.{value_at}
 use Rattle.cov_model.specs.believed.Sound.{ModelView}
-use Rattle.definitions.specs.Completion.{with_value}
+use Rattle.cov_model.specs.believed.Rows.{with_value}
 use Rattle.definitions.specs.believed.Refutation.{Token, is_first_leaf, is_leaf, leaves}
 use Rattle.definitions.specs.believed.Search.{breaks_a_rule}
 use Rattle.live_sets.specs.Trail.{LiveView, mark_at}

@@ -1,8 +1,7 @@
 ghost use Rattle.std.specs.Prelude.{◌≡◌, ◌≢◌, ◌<◌, ◌≤◌, ◌++◌, ◌∷◌, ℕ, false, true, [], length, take, drop, slice_index_or, All, IfOk, IfSome, OnOk, None};
-ghost use Rattle.cov_model.specs.believed.Rows.{is_assigned};
+ghost use Rattle.cov_model.specs.believed.Rows.{is_assigned, with_value};
 ghost use Rattle.cov_model.specs.believed.Sound.{param_at};
-ghost use Rattle.definitions.specs.Completion.{with_value};
-ghost use Rattle.definitions.specs.Pairs.{cells_of};
+ghost use Rattle.cov_model.specs.believed.Tuples.{cells_of};
 ghost use Rattle.definitions.specs.believed.Search.{breaks_a_rule, constrained_params};
 ghost use Rattle.live_sets.specs.Trail.{IsSince, mark_at};
 ghost use Rattle.refutation.specs.Proofs.{meant};

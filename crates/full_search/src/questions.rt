@@ -4,7 +4,7 @@ ghost use Rattle.cov_model.specs.believed.Slices.{slice_of};
 ghost use Rattle.definitions.specs.believed.Completion.{first_completion, is_extendable};
 ghost use Rattle.definitions.specs.believed.Covering.{IsUnserved};
 ghost use Rattle.definitions.specs.believed.Demand.{is_among};
-ghost use Rattle.definitions.specs.Pairs.{cells_of};
+ghost use Rattle.cov_model.specs.believed.Tuples.{cells_of};
 ghost use Rattle.definitions.specs.believed.Refutation.{is_eager};
 ghost use Rattle.definitions.specs.believed.Search.{constrained_params, exceeds, plain_cost};
 ghost use Rattle.definitions.specs.SliceRows.{IsOfSlice, IsSliceOf};

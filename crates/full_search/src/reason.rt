@@ -1,8 +1,7 @@
 ghost use Rattle.std.specs.Prelude.{◌≡◌, ◌^◌, ◌<◌, ◌≤◌, true, false, Some, None, [], length, replicate, slice_index_or, slice_set};
-ghost use Rattle.cov_model.specs.believed.Rows.{is_assigned};
+ghost use Rattle.cov_model.specs.believed.Rows.{is_assigned, with_value};
 ghost use Rattle.cov_model.specs.Fits.{FitsModel};
 ghost use Rattle.cov_model.specs.believed.Sound.{param_at};
-ghost use Rattle.definitions.specs.Completion.{with_value};
 ghost use Rattle.definitions.specs.believed.Search.{breaks_a_rule};
 ghost use Rattle.feasibility.specs.Live.{no_on};
 ghost use Rattle.full_search.specs.Reasons.{Grows, GrowsBy, HasMembers, HasNoRow, IsPart};

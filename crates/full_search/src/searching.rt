@@ -1,7 +1,6 @@
 ghost use Rattle.std.specs.Prelude.{◌≡◌, ◌≢◌, ◌<◌, true, false, [], ◌∷◌, length, All, slice_index_or};
 ghost use Rattle.std.specs.List.{count_by};
-ghost use Rattle.cov_model.specs.believed.Rows.{is_assigned};
-ghost use Rattle.definitions.specs.Completion.{with_value};
+ghost use Rattle.cov_model.specs.believed.Rows.{is_assigned, with_value};
 ghost use Rattle.definitions.specs.believed.Demand.{is_among};
 ghost use Rattle.definitions.specs.believed.Search.{breaks_a_rule, constrained_params};
 ghost use Rattle.live_sets.specs.Trail.{IsSince};

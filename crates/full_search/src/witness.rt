@@ -1,7 +1,7 @@
 ghost use Rattle.std.specs.Prelude.{◌≡◌, ◌<◌, ◌≤◌, true, false, suc, length, slice_index_or, slice_set, [], All, IfOk};
 ghost use Rattle.cov_model.specs.Fits.{FitsModel};
 ghost use Rattle.definitions.specs.believed.Completion.{meets_rules};
-ghost use Rattle.definitions.specs.Completion.{with_value};
+ghost use Rattle.cov_model.specs.believed.Rows.{with_value};
 ghost use Rattle.definitions.specs.believed.Demand.{is_among};
 ghost use Rattle.definitions.specs.believed.Search.{constrained_params};
 ghost use Rattle.feasibility.specs.Live.{AreRules};

@@ -10,11 +10,10 @@ use Rattle.value_text.proofs.ListLemmas.{length-filter-le}
 use Rattle.cov_model.proofs.CellLemmas.{contains-value_in}
 use Rattle.cov_model.specs.believed.Sound.{ModelView, param_at}
 use Rattle.cov_model.specs.declared.slice.Slice.{Slice}
-use Rattle.cov_model.specs.believed.Rows.{contains, is_assigned, value_in}
+use Rattle.cov_model.specs.believed.Rows.{contains, is_assigned, value_in, with_value}
 use Rattle.cov_model.specs.believed.Slices.{slice_values}
 use Rattle.definitions.specs.believed.Demand.{is_among}
 use Rattle.definitions.specs.believed.Completion.{falling, preferred_values}
-use Rattle.definitions.specs.Completion.{with_value}
 use Rattle.definitions.specs.believed.Growth.{first_extendable, is_uncovered}
 use Rattle.definitions.proofs.PartialRowLemmas.{get_or-preferred_values}
 use Rattle.feasibility.proofs.Extendable.{preferred_listed, slice_exist}

@@ -15,7 +15,7 @@ use Rattle.full_search.specs.Questions.{QuestionsView}
 use Rattle.ipog_grow.specs.Asking.{Grows, columns_grown, extends, first_spent}
 use Rattle.ipog_grow.specs.Growing.{GrowsIn}
 use Rattle.ipog_grow.specs.Omissions.{IsOmittedIn, IsOmittedTuple}
-use Rattle.definitions.specs.Pairs.{cells_of}
+use Rattle.cov_model.specs.believed.Tuples.{cells_of}
 use Rattle.definitions.specs.believed.Pairs.{pairs_of}
 use Rattle.definitions.proofs.PairLists.{cells_of-pairs}
 use Rattle.ipog_grow.proofs.Spending.{find-none}

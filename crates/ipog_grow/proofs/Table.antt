@@ -12,9 +12,8 @@ use Rattle.uncovered_table.proofs.BitLemmas.{same_places}
 use Rattle.value_text.proofs.ListLemmas.{filter_same, filter-filter, filter_swap, filter_all}
 use Rattle.cov_model.specs.declared.slice.Slice.{Slice}
 use Rattle.cov_model.specs.believed.Sound.{ModelView}
-use Rattle.cov_model.specs.believed.Rows.{contains}
+use Rattle.cov_model.specs.believed.Rows.{contains, with_value}
 use Rattle.definitions.specs.believed.Demand.{is_among, demanded_sets, tuples_in}
-use Rattle.definitions.specs.Completion.{with_value}
 use Rattle.definitions.specs.believed.Completion.{column_order}
 use Rattle.definitions.specs.believed.Growth.{tuples_in_play}
 use Rattle.definitions.specs.SliceRows.{IsSliceOf}

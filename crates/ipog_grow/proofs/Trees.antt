@@ -6,7 +6,7 @@ use Rattle.cov_model.specs.Fits.{FitsModel}
 use Rattle.cov_model.specs.believed.Sound.{ModelView}
 use Rattle.definitions.specs.declared.effort.Effort.{Effort}
 use Rattle.definitions.specs.believed.Covering.{IsUnserved}
-use Rattle.definitions.specs.Pairs.{cells_of}
+use Rattle.cov_model.specs.believed.Tuples.{cells_of}
 use Rattle.definitions.specs.believed.Pairs.{pairs_of}
 use Rattle.definitions.specs.believed.Refutation.{Token}
 use Rattle.definitions.specs.believed.SuiteProof.{AreEagerTrees, IsEagerTree}

@@ -12,10 +12,9 @@ use Rattle.std.proofs.lemmas.Map.Keys.{IsDistinct-IsPermutation, IsDistinct-tail
 use Rattle.ipog_grow.proofs.Spending.{find-later, find-earlier}
 use Rattle.definitions.proofs.PartialRowLemmas.{with_value-contains}
 use Rattle.cov_model.specs.believed.Sound.{param_at}
-use Rattle.cov_model.specs.believed.Rows.{contains, is_assigned}
+use Rattle.cov_model.specs.believed.Rows.{contains, is_assigned, with_value}
 use Rattle.cov_model.specs.believed.Slices.{slice_values}
 use Rattle.definitions.specs.believed.Demand.{is_among}
-use Rattle.definitions.specs.Completion.{with_value}
 use Rattle.definitions.specs.believed.Search.{exceeds, question_cost}
 use Rattle.definitions.specs.believed.Growth.{Filled, first_extendable}
 use Rattle.ipog_grow.specs.Growing.{best}

@@ -17,11 +17,10 @@ use Rattle.cov_model.specs.declared.slice.Slice.{Slice}
 use Rattle.cov_model.specs.declared.slice.Slice.TheVariants.{Positive, Negative}
 use Rattle.cov_model.specs.believed.Sound.{ModelView}
 use Rattle.cov_model.specs.believed.Meaning.{value_at, given_value}
-use Rattle.cov_model.specs.believed.Rows.{contains, is_assigned, value_in}
+use Rattle.cov_model.specs.believed.Rows.{contains, is_assigned, value_in, with_value}
 use Rattle.cov_model.specs.believed.Valid.{param_numbers}
 use Rattle.cov_model.specs.believed.Slices.{slice_values, slice_by, slice_of}
 use Rattle.definitions.specs.believed.Demand.{is_among, demanded_sets, tuples_in}
-use Rattle.definitions.specs.Completion.{with_value}
 use Rattle.definitions.specs.believed.Completion.{column_order}
 use Rattle.definitions.specs.believed.Growth.{union, tuples_in_play}
 use Rattle.definitions.specs.SliceRows.{IsSliceOf, IsOfSlice}

@@ -5,7 +5,7 @@ use Rattle.std.specs.List.{filter}
 use Rattle.cov_model.specs.believed.Sound.{IsSound}
 use Rattle.cov_model.specs.Preference.{OrdersValues}
 use Rattle.definitions.specs.believed.Completion.{is_extendable, preferred_values, falling}
-use Rattle.definitions.specs.Completion.{with_value}
+use Rattle.cov_model.specs.believed.Rows.{with_value}
 use Rattle.definitions.specs.believed.Pairs.{pairs_of}
 use Rattle.definitions.specs.believed.Growth.{Filled, Grown, across, agrees, column, columns, fill, union, first_extendable, is_uncovered, tuples_in_play}
 use Rattle.definitions.specs.believed.Search.{first_over}

@@ -7,7 +7,7 @@ use Rattle.definitions.specs.declared.effort.Effort.{Effort}
 use Rattle.definitions.specs.believed.Completion.{column_order}
 use Rattle.definitions.specs.believed.Covering.{IsUnserved}
 use Rattle.definitions.specs.believed.Growth.{tuples_in_play}
-use Rattle.definitions.specs.Pairs.{cells_of}
+use Rattle.cov_model.specs.believed.Tuples.{cells_of}
 use Rattle.definitions.specs.believed.Pairs.{pairs_of}
 use Rattle.definitions.specs.believed.SuiteProof.{IsEagerTree}
 use Rattle.feasibility.specs.Refuting.{earlier_tuples}

@@ -3,7 +3,7 @@ use Rattle.std.specs.Prelude.{◌≡◌, ℕ, [], List, map, length, Option, Som
 use Rattle.cov_model.specs.believed.Sound.{ModelView}
 use Rattle.definitions.specs.declared.effort.Effort.{Effort}
 use Rattle.definitions.specs.believed.Growth.{growth}
-use Rattle.definitions.specs.Pairs.{cells_of}
+use Rattle.cov_model.specs.believed.Tuples.{cells_of}
 use Rattle.definitions.specs.believed.Pairs.{pairs_of}
 use Rattle.definitions.specs.believed.Seeds.{kept_seeds, dropped_lines}
 use Rattle.definitions.specs.believed.SuiteProof.{AreEagerTrees}

@@ -3,7 +3,7 @@ ghost use Rattle.cov_model.specs.Fits.{FitsModel};
 ghost use Rattle.cov_model.specs.Preference.{OrdersValues};
 ghost use Rattle.definitions.specs.declared.effort.Effort.TheVariants as efforts;
 ghost use Rattle.definitions.specs.believed.Covering.{IsUnserved};
-ghost use Rattle.definitions.specs.Pairs.{cells_of};
+ghost use Rattle.cov_model.specs.believed.Tuples.{cells_of};
 ghost use Rattle.definitions.specs.SliceRows.{IsSliceOf};
 ghost use Rattle.definitions.specs.believed.SuiteProof.{IsEagerTree};
 ghost use Rattle.feasibility.specs.Refuting.{earlier_tuples};

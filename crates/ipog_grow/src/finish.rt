@@ -1,5 +1,5 @@
 ghost use Rattle.std.specs.Prelude.{◌≡◌, ◌+◌, ◌<◌, ◌^◌, ◌++◌, ◌∷◌, [], All, length, filter_map, map, IfOk, OnOk};
-ghost use Rattle.definitions.specs.Pairs.{cells_of};
+ghost use Rattle.cov_model.specs.believed.Tuples.{cells_of};
 ghost use Rattle.definitions.specs.believed.Seeds.{distinct};
 ghost use Rattle.feasibility.specs.Refuting.{earlier_tuples};
 ghost use Rattle.ipog_grow.specs.Asking.{Grows, first_spent};

@@ -3,7 +3,7 @@ ghost use Rattle.cov_model.specs.Preference.{OrdersValues};
 ghost use Rattle.cov_model.specs.believed.Sound.{param_at};
 ghost use Rattle.definitions.specs.believed.Completion.{column_order};
 ghost use Rattle.definitions.specs.believed.Growth.{down, settle};
-ghost use Rattle.definitions.specs.Pairs.{cells_of};
+ghost use Rattle.cov_model.specs.believed.Tuples.{cells_of};
 ghost use Rattle.definitions.specs.believed.Pairs.{pairs_of};
 ghost use Rattle.definitions.specs.believed.Seeds.{distinct};
 ghost use Rattle.definitions.specs.SliceRows.{IsSliceOf};

@@ -1,6 +1,5 @@
 ghost use Rattle.std.specs.Prelude.{◌≡◌, ◌+◌, ◌<◌, [], length, take, Ok, MatchResult, IfSome, None, is_none, option_map};
 ghost use Rattle.definitions.specs.believed.Settings as defined;
-ghost use Rattle.definitions.specs.Words as reading;
 ghost use Rattle.definitions.specs.believed.Words as believed_reading;
 ghost use Rattle.command_line.specs.Settings.{setting_seen};
 ghost use Rattle.command_line.specs.Words.{HasFault};

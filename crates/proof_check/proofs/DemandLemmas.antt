@@ -8,8 +8,8 @@ use Rattle.std.proofs.lemmas.Option.{same_Some, slice_get-get_or, slice_get_with
 use Rattle.cov_model.specs.believed.Meaning.{value_at}
 use Rattle.cov_model.specs.believed.Sound.{ModelView, param_at}
 use Rattle.cov_model.specs.Tuples.{IsRising}
+use Rattle.cov_model.specs.believed.Tuples.{cells_of}
 use Rattle.definitions.specs.believed.Demand.{choices, rising, demanded_sets, demanded_tuples, tuples_of}
-use Rattle.definitions.specs.Pairs.{cells_of}
 use Rattle.definitions.proofs.Distinct.{NoRepeats, repeats_flat}
 use Rattle.definitions.proofs.Members.{Has, member_of_all, of_flat, of_map, has_place}
 use Rattle.definitions.proofs.MetOnce.{sets_once}

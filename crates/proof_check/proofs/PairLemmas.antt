@@ -12,7 +12,7 @@ use Rattle.cov_model.specs.believed.Meaning.{value_at}
 use Rattle.cov_model.specs.believed.Slices.{negative_values, value_numbers}
 use Rattle.cov_model.specs.believed.Sound.{ModelView, param_at}
 use Rattle.definitions.specs.believed.Demand.{is_among}
-use Rattle.definitions.specs.Pairs.{cells_of}
+use Rattle.cov_model.specs.believed.Tuples.{cells_of}
 use Rattle.definitions.proofs.Members.{Has, among_has, has_filter, of_among, of_filter, same_answer}
 use Rattle.definitions.proofs.SliceLemmas.{has_numbers}
 use Rattle.tuple_index.specs.Plan.{are_values, is_negative, is_value, negative_count, plan_of, tuple_cells, value_given}

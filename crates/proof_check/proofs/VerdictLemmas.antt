@@ -12,7 +12,7 @@ use Rattle.cov_model.specs.believed.Sound.{ModelView}
 use Rattle.cov_model.specs.believed.Valid.{is_valid}
 use Rattle.definitions.specs.believed.Demand.{demanded_tuples}
 use Rattle.definitions.specs.believed.Figures.{is_served, tests_of}
-use Rattle.definitions.specs.Pairs.{cells_of}
+use Rattle.cov_model.specs.believed.Tuples.{cells_of}
 use Rattle.definitions.specs.believed.Pairs.{pairs_of}
 use Rattle.definitions.specs.believed.ProofText as texts
 use Rattle.definitions.specs.believed.ProofText.{omissions_of}

@@ -5,7 +5,7 @@ ghost use Rattle.std.specs.Ordering.{nat_cmp};
 ghost use Rattle.std.specs.Cmp.Lexicographic.{slice_cmp};
 ghost use Rattle.cov_model.specs.believed.Meaning.{value_at};
 ghost use Rattle.definitions.specs.believed.Demand.{demanded_tuples};
-ghost use Rattle.definitions.specs.Pairs.{cells_of};
+ghost use Rattle.cov_model.specs.believed.Tuples.{cells_of};
 ghost use Rattle.refutation.specs.Checking.{AreOfModel};
 ghost use Rattle.tuple_index.specs.Plan.{plan_of, set_at};
 ghost use Rattle.proof_check.specs.Left.{AreLeft, Clears, IsPlaceOf, LacksPlace};

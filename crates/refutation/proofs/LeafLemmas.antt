@@ -9,14 +9,13 @@ use Rattle.std.proofs.lemmas.List.{get_or_default, get_or-set_other, get_or-set_
 use Rattle.std.proofs.lemmas.Option.{slice_get-map, slice_get-get_or, slice_get_past}
 use Rattle.cov_model.specs.believed.Meaning.{given_value, value_at}
 use Rattle.cov_model.specs.believed.Kleene.{body_truth}
-use Rattle.cov_model.specs.believed.Rows.{is_assigned}
+use Rattle.cov_model.specs.believed.Rows.{is_assigned, with_value}
 use Rattle.cov_model.specs.believed.Sound.{ModelView, IsSound}
 use Rattle.cov_model.specs.Sound.{no_rule, rule_at}
 use Rattle.cov_model.specs.Tuples.{IsRising}
+use Rattle.cov_model.specs.believed.Tuples.{cells_of}
 use Rattle.cov_model.specs.believed.Valid.{negatives, param_numbers}
 use Rattle.cov_model.specs.believed.Views.{RuleView}
-use Rattle.definitions.specs.Completion.{with_value}
-use Rattle.definitions.specs.Pairs.{cells_of}
 use Rattle.definitions.specs.believed.Refutation.{earlier_tuple, is_negative_leaf, is_rule_leaf}
 use Rattle.definitions.specs.believed.Search.{is_no}
 use Rattle.definitions.proofs.Members.{Has, contains_member, has_contained, of_any, any_member, has_filter, of_filter, has_range, of_range, all_pass, passes_all, member_of_all, same_answer}

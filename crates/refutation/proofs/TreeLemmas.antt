@@ -5,10 +5,9 @@ use Rattle.std.proofs.lemmas.List.{drop_more, drop_all, set-set, set-get_or}
 use Rattle.std.proofs.lemmas.List.FromFn.{length-map-range_with_len, get_or-map-range_with_len}
 use Rattle.cov_model.specs.Fits.{FitsModel}
 use Rattle.cov_model.specs.believed.Meaning.{value_at}
-use Rattle.cov_model.specs.believed.Rows.{contains, is_assigned}
+use Rattle.cov_model.specs.believed.Rows.{contains, is_assigned, with_value}
 use Rattle.cov_model.specs.believed.Sound.{ModelView, param_at}
 use Rattle.cov_model.proofs.CellLemmas.{contains-assigned, contains-trans}
-use Rattle.definitions.specs.Completion.{with_value}
 use Rattle.definitions.specs.believed.Refutation.{branches, is_branch, is_negative_leaf}
 use Rattle.definitions.proofs.PartialRowLemmas.{with_value-contains}
 use Rattle.refutation.specs.declared.token.TreeToken.{TreeToken}

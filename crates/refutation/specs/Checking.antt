@@ -2,7 +2,7 @@
 use Rattle.std.specs.Prelude.{◌≡◌, ℕ, ◌<◌, Bool, false, List, ◌++◌, map, length, Option, All, ◌==◌}
 use Rattle.std.specs.List.{list_any}
 use Rattle.cov_model.specs.believed.Sound.{ModelView, param_at}
-use Rattle.definitions.specs.Pairs.{cells_of}
+use Rattle.cov_model.specs.believed.Tuples.{cells_of}
 use Rattle.definitions.specs.believed.Refutation.{refute_paths}
 use Rattle.refutation.specs.declared.omissions.Omission.{Omission}
 use Rattle.refutation.specs.declared.omissions.ProofForm.{ProofForm}

@@ -1,10 +1,9 @@
 ghost use Rattle.std.specs.Prelude.{◌≡◌, ◌<◌, ◌≤◌, true, false, [], ◌∷◌, All, MatchOption, OnSome, length, map, take};
 ghost use Rattle.cov_model.specs.Fits.{FitsModel};
 ghost use Rattle.cov_model.specs.believed.Meaning.{value_at};
-ghost use Rattle.cov_model.specs.believed.Rows.{contains, is_assigned};
+ghost use Rattle.cov_model.specs.believed.Rows.{contains, is_assigned, with_value};
 ghost use Rattle.cov_model.specs.believed.Sound.{param_at};
-ghost use Rattle.definitions.specs.Completion.{with_value};
-ghost use Rattle.definitions.specs.Pairs.{cells_of};
+ghost use Rattle.cov_model.specs.believed.Tuples.{cells_of};
 ghost use Rattle.definitions.specs.believed.Refutation.{is_negative_leaf, refutes};
 ghost use Rattle.refutation.specs.Checking.{AreOfModel, BeginsWithTrees, LacksTrees, tuple_in, tuples_of};
 ghost use Rattle.refutation.specs.believed.Proofs.{format_of};

@@ -7,7 +7,7 @@ ghost use Rattle.cov_model.specs.believed.Rows.{is_assigned};
 ghost use Rattle.cov_model.specs.believed.Sound.{IsSound, ModelView};
 ghost use Rattle.cov_model.specs.Sound.{rule_at};
 ghost use Rattle.cov_model.specs.believed.Valid.{negatives};
-ghost use Rattle.definitions.specs.Pairs.{cells_of};
+ghost use Rattle.cov_model.specs.believed.Tuples.{cells_of};
 ghost use Rattle.definitions.specs.believed.Refutation.{earlier_tuple, is_branch, is_omission_leaf, is_rule_leaf};
 ghost use Rattle.definitions.specs.believed.Search.{is_no};
 ghost use Rattle.refutation.specs.Checking.{AreOfModel, earlier_in, has_param, has_rule, tuple_in, tuples_of};

@@ -1,7 +1,7 @@
 //! Tuples that no row serves, and their trees.
 
 ghost use Rattle.std.specs.Prelude.{◌≡◌, ◌<◌, ◌^◌, length, IfOk};
-ghost use Rattle.definitions.specs.Pairs.{cells_of};
+ghost use Rattle.cov_model.specs.believed.Tuples.{cells_of};
 
 use cov_model::{Cells, ParamNo, Prefs, Slice, TestModel, Tuple, ValueNo};
 use feasibility::{Answer, RefuteFault, Solver};

@@ -13,7 +13,7 @@ use Rattle.std.proofs.lemmas.List.Sums.{sum_by-cons}
 use Rattle.cov_model.specs.declared.slice.Slice.{Slice}
 use Rattle.cov_model.specs.believed.Sound.{ModelView, param_at}
 use Rattle.cov_model.specs.believed.Slices.{value_numbers}
-use Rattle.definitions.specs.Completion.{with_value}
+use Rattle.cov_model.specs.believed.Rows.{with_value}
 use Rattle.definitions.specs.believed.Demand.{is_among}
 use Rattle.definitions.specs.SliceRows.{IsSliceOf}
 use Rattle.tuple_index.specs.Kept.{IsKept}

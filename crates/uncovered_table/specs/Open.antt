@@ -4,8 +4,7 @@ use Rattle.std.specs.Prelude.{◌≡◌, ℕ, Bool, true, not, ◌&&◌, List, l
 use Rattle.std.specs.List.{filter, list_any}
 use Rattle.cov_model.specs.declared.slice.Slice.{Slice}
 use Rattle.cov_model.specs.believed.Sound.{ModelView}
-use Rattle.cov_model.specs.believed.Rows.{contains}
-use Rattle.definitions.specs.Completion.{with_value}
+use Rattle.cov_model.specs.believed.Rows.{contains, with_value}
 use Rattle.uncovered_table.specs.Places.{is_behind, is_in_play, is_place, slice_places, tuple_at}
 
 -- a table of open tuples: the model, the slice, and the places of the open tuples in order

@@ -9,12 +9,11 @@ use Rattle.std.specs.Option.{option_map_or}
 use Rattle.cov_model.specs.declared.slice.Slice.{Slice}
 use Rattle.cov_model.specs.declared.slice.Slice.TheVariants.{Positive, Negative}
 use Rattle.cov_model.specs.believed.Sound.{ModelView}
-use Rattle.cov_model.specs.believed.Rows.{contains, is_assigned, value_in}
+use Rattle.cov_model.specs.believed.Rows.{contains, is_assigned, value_in, with_value}
 use Rattle.cov_model.specs.believed.Valid.{negatives}
 use Rattle.cov_model.specs.believed.Slices.{slices}
 use Rattle.definitions.specs.believed.Demand.{is_among, demanded_sets, tuples_in}
 use Rattle.definitions.specs.believed.Completion.{falling, column_order, preferred_values, is_extendable, first_completion}
-use Rattle.definitions.specs.Completion.{with_value}
 use Rattle.definitions.specs.believed.Seeds.{distinct, asked_seeds, kept_seeds}
 
 -- no parameter has one value in the one partial row and another in the other

@@ -7,11 +7,10 @@ use Rattle.std.specs.Prelude.{length, filter, Option, Some, None, is_none, ◌==
 use Rattle.std.specs.List.{list_all, list_any, range_with_len, slice_get}
 use Rattle.std.specs.Option.{option_map_or}
 use Rattle.cov_model.specs.believed.Sound.{ModelView}
-use Rattle.cov_model.specs.believed.Rows.{contains, is_assigned}
+use Rattle.cov_model.specs.believed.Rows.{contains, is_assigned, with_value}
 use Rattle.cov_model.specs.believed.Kleene.{body_truth}
 use Rattle.cov_model.specs.believed.Valid.{negatives}
 use Rattle.cov_model.specs.believed.Slices.{value_numbers}
-use Rattle.definitions.specs.Completion.{with_value}
 use Rattle.definitions.specs.believed.Search.{is_no}
 
 -- a branch on a parameter, or a leaf: by the constraint of a number, by a negative value, by the omission

@@ -8,7 +8,7 @@ use Rattle.cov_model.specs.declared.truth.Truth.TheVariants.{Yes, No, Unknown}
 use Rattle.cov_model.specs.believed.Views.{PredView, PredViews, Leaf, Negated, Each, Either, End, More, BodyView, Plain, IfThen, IfElse}
 use Rattle.cov_model.specs.believed.Sound.{ModelView}
 use Rattle.cov_model.specs.believed.Preference.{preference}
-use Rattle.cov_model.specs.believed.Rows.{is_assigned}
+use Rattle.cov_model.specs.believed.Rows.{is_assigned, with_value}
 use Rattle.cov_model.specs.believed.Kleene.{term_params, body_truth}
 use Rattle.cov_model.specs.believed.Valid.{param_numbers}
 use Rattle.cov_model.specs.believed.Slices.{slice_of}
@@ -16,7 +16,6 @@ use Rattle.definitions.specs.declared.effort.Effort.{Effort}
 use Rattle.definitions.specs.declared.effort.Effort.TheVariants.{Within, Full}
 use Rattle.definitions.specs.believed.Demand.{demanded_tuples, is_among}
 use Rattle.definitions.specs.believed.Completion.{preferred_values}
-use Rattle.definitions.specs.Completion.{with_value}
 
 -- the parameters that a predicate names
 abbrev mutual

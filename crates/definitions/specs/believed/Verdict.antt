@@ -6,7 +6,7 @@ use Rattle.cov_model.specs.believed.Valid.{is_valid}
 use Rattle.definitions.specs.believed.Demand.{demanded_tuples}
 use Rattle.definitions.specs.believed.Seeds.{is_same_row}
 use Rattle.definitions.specs.believed.Refutation.{Token, first_unrefuted}
-use Rattle.definitions.specs.Pairs.{cells_of}
+use Rattle.cov_model.specs.believed.Tuples.{cells_of}
 use Rattle.definitions.specs.believed.Pairs.{cells_text}
 use Rattle.definitions.specs.believed.ProofText.{Omission, omissions_of}
 use Rattle.definitions.specs.believed.Figures.{is_served}

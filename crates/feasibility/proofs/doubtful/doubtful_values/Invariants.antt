@@ -4,7 +4,7 @@ use Rattle.compiled_rules.specs.Codes.{is_yes}
 use Rattle.cov_model.specs.believed.Kleene.{body_truth}
 use Rattle.cov_model.specs.believed.Sound.{param_at}
 use Rattle.cov_model.specs.Sound.{rule_at}
-use Rattle.definitions.specs.Completion.{with_value}
+use Rattle.cov_model.specs.believed.Rows.{with_value}
 use Rattle.feasibility.specs.Tree.{no_values}
 use Rattle.feasibility.proofs.doubtful.doubtful_values.Given as goal
 

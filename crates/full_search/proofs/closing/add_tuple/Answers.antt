@@ -1,6 +1,6 @@
 use Rattle.std.proofs.Common.{◌≡◌, ◌≢◌, ◌+◌, ℕ, List, None, true, get_or, length, arith, sym, subst}
 use Rattle.cov_model.specs.believed.Rows.{is_assigned}
-use Rattle.definitions.specs.Pairs.{cells_of}
+use Rattle.cov_model.specs.believed.Tuples.{cells_of}
 use Rattle.full_search.proofs.Grown.{GrowsWith}
 use Rattle.full_search.proofs.TupleValues.{IsPairBefore, pairs_all, pairs_more, pairs_past}
 use Rattle.full_search.proofs.closing.add_tuple.Goals as goal

@@ -1,9 +1,8 @@
 use Rattle.std.proofs.Common.{◌≡◌, ◌<◌, ◌∙◌, length, arith, sym, ap, subst, refl}
 use Rattle.std.specs.Option.{IfSome}
 use Rattle.std.proofs.lemmas.Bool.{false≢true}
-use Rattle.cov_model.specs.believed.Rows.{is_assigned}
+use Rattle.cov_model.specs.believed.Rows.{is_assigned, with_value}
 use Rattle.cov_model.specs.believed.Sound.{param_at}
-use Rattle.definitions.specs.Completion.{with_value}
 use Rattle.definitions.specs.believed.Search.{breaks_a_rule}
 use Rattle.refutation.specs.Proofs.{meant}
 use Rattle.feasibility.specs.Live.{HasUnmarked}

@@ -1,7 +1,7 @@
 use Rattle.std.proofs.Common.{◌≡◌, ◌∙◌, false, true, sym, refl, subst}
 use Rattle.std.specs.Option.{IsSome}
 use Rattle.cov_model.specs.believed.Meaning.{value_at}
-use Rattle.definitions.specs.Completion.{with_value}
+use Rattle.cov_model.specs.believed.Rows.{with_value}
 use Rattle.definitions.specs.believed.Refutation.{ByNegative, ByOmission, ByRule}
 use Rattle.feasibility.proofs.Leaves.{negative_first, no_leaf, omission_first, rule_first, some_no}
 use Rattle.feasibility.proofs.Paths.{negative_value, positive_value}

@@ -1,7 +1,7 @@
 use Rattle.std.proofs.Common.{◌≡◌, ℕ, ◌∙◌, not, List, [], Option, Some, None, get_or, set, sym, ap, subst, arith, refl}
 use Rattle.std.proofs.lemmas.Bool.{not-false}
 use Rattle.value_text.proofs.ListLemmas.{none_of}
-use Rattle.definitions.specs.Completion.{with_value}
+use Rattle.cov_model.specs.believed.Rows.{with_value}
 use Rattle.definitions.specs.believed.Search.{is_failing}
 use Rattle.live_sets.specs.Trail.{LiveView, mark_at, undone}
 use Rattle.feasibility.specs.Tree.{IsListed, constrained_at}

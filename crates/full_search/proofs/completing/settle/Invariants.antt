@@ -1,5 +1,5 @@
 use Rattle.std.proofs.Common.{◌≡◌, ℕ, ◌<◌, [], get_or, length}
-use Rattle.definitions.specs.Completion.{with_value}
+use Rattle.cov_model.specs.believed.Rows.{with_value}
 use Rattle.full_search.specs.Completing.{HasRow}
 use Rattle.full_search.specs.Reasons.{HasNoRow}
 use Rattle.full_search.specs.Searching.{HasRoom}

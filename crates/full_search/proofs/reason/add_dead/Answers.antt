@@ -1,5 +1,5 @@
 use Rattle.std.proofs.Common.{◌≡◌, ◌∙◌, None, true, get_or, set, sym, ap, subst, arith}
-use Rattle.definitions.specs.Completion.{with_value}
+use Rattle.cov_model.specs.believed.Rows.{with_value}
 use Rattle.definitions.specs.believed.Search.{breaks_a_rule}
 use Rattle.feasibility.specs.Live.{no_on}
 use Rattle.feasibility.proofs.Nodes.{none_of, set_clear}

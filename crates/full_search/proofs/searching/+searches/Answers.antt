@@ -3,8 +3,7 @@ use Rattle.std.specs.Option.{IsSome}
 use Rattle.std.proofs.lemmas.List.{get_or_default}
 use Rattle.value_text.proofs.ListLemmas.{Some-unwrap_or}
 use Rattle.cov_model.specs.Fits.{FitsModel}
-use Rattle.cov_model.specs.believed.Rows.{is_assigned}
-use Rattle.definitions.specs.Completion.{with_value}
+use Rattle.cov_model.specs.believed.Rows.{is_assigned, with_value}
 use Rattle.definitions.specs.believed.Demand.{is_among}
 use Rattle.live_sets.specs.Trail.{mark_at}
 use Rattle.feasibility.specs.Descent.{IsNode}

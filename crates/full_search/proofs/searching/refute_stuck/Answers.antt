@@ -1,5 +1,5 @@
 use Rattle.std.proofs.Common.{◌<◌, ◌∙◌, [], get_or, sym, ap, subst}
-use Rattle.definitions.specs.Completion.{with_value}
+use Rattle.cov_model.specs.believed.Rows.{with_value}
 use Rattle.definitions.specs.believed.Search.{breaks_a_rule}
 use Rattle.feasibility.proofs.NarrowedSets.{count_none}
 use Rattle.feasibility.proofs.Nodes.{listed_at}

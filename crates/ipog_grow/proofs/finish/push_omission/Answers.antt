@@ -1,7 +1,7 @@
 use Rattle.std.proofs.Common.{[], ◌∷◌, length, ◌∙◌, ap}
 use Rattle.std.proofs.lemmas.List.{map-append}
 use Rattle.std.proofs.lemmas.Result.{on_ok_weaker}
-use Rattle.definitions.specs.Pairs.{cells_of}
+use Rattle.cov_model.specs.believed.Tuples.{cells_of}
 use Rattle.feasibility.specs.Refuting.{earlier_tuples}
 use Rattle.refutation.specs.declared.omissions.Omission.{Omission}
 use Rattle.full_search.specs.Questions.{QuestionsView}

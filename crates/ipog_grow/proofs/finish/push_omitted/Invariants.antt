@@ -1,5 +1,5 @@
 use Rattle.std.proofs.Common.{◌≡◌, ◌++◌, length, map}
-use Rattle.definitions.specs.Pairs.{cells_of}
+use Rattle.cov_model.specs.believed.Tuples.{cells_of}
 use Rattle.feasibility.specs.Refuting.{earlier_tuples}
 use Rattle.ipog_grow.specs.Omissions.{AreOmissionsOf}
 use Rattle.ipog_grow.proofs.finish.push_omitted.Given as goal

@@ -3,7 +3,7 @@ use Rattle.std.proofs.lemmas.List.{length-map}
 use Rattle.std.proofs.lemmas.Result.{on_ok_weaker}
 use Rattle.definitions.specs.believed.Completion.{column_order}
 use Rattle.definitions.specs.believed.Growth.{Grown, is_of_slice}
-use Rattle.definitions.specs.Pairs.{cells_of}
+use Rattle.cov_model.specs.believed.Tuples.{cells_of}
 use Rattle.definitions.specs.believed.Pairs.{pairs_of}
 use Rattle.definitions.specs.believed.Search.{exceeds, question_cost}
 use Rattle.definitions.specs.believed.Seeds.{distinct}

@@ -1,9 +1,8 @@
 use Rattle.std.proofs.Common.{◌∙◌, Bool, List, Option, Some, ℕ, length, ap, sym, subst}
 use Rattle.std.proofs.lemmas.List.{length-set}
 use Rattle.std.proofs.lemmas.Result.{err_from_is_err_and}
-use Rattle.definitions.specs.Completion.{with_value}
+use Rattle.cov_model.specs.believed.Rows.{contains, with_value}
 use Rattle.cov_model.proofs.CellLemmas.{contains-refl}
-use Rattle.cov_model.specs.believed.Rows.{contains}
 use Rattle.full_search.specs.Questions.{QuestionsView}
 use Rattle.ipog_grow.specs.Asking.{Grows}
 use Rattle.ipog_grow.proofs.Asking.{answered, told-answer}

@@ -1,6 +1,6 @@
 use Rattle.std.proofs.Common.{length, sym, subst}
 use Rattle.std.specs.Prelude.{MatchOption}
-use Rattle.definitions.specs.Pairs.{cells_of}
+use Rattle.cov_model.specs.believed.Tuples.{cells_of}
 use Rattle.proof_check.specs.Left.{Clears, IsPlaceOf, LacksPlace}
 use Rattle.proof_check.proofs.LeftLemmas.{clears_none, clears_place}
 use Rattle.definitions.proofs.NamedPairs.{length-cells_of}

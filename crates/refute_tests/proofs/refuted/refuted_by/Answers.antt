@@ -5,7 +5,7 @@ use Rattle.cov_model.specs.declared.slice.Slice.TheVariants.{Positive}
 use Rattle.cov_model.specs.believed.Slices.{slice_of}
 use Rattle.definitions.specs.believed.Completion.{is_extendable}
 use Rattle.definitions.specs.believed.Covering.{IsUnserved}
-use Rattle.definitions.specs.Pairs.{cells_of}
+use Rattle.cov_model.specs.believed.Tuples.{cells_of}
 use Rattle.definitions.specs.believed.Search.{plain_cost}
 use Rattle.definitions.specs.SliceRows.{IsOfSlice}
 use Rattle.feasibility.specs.Answers.{answer_of}

@@ -1,7 +1,7 @@
 use Rattle.std.proofs.Common.{◌∷◌, [], ◌∙◌, length, sym, ap}
 use Rattle.std.specs.List.{list_all}
 use Rattle.cov_model.specs.believed.Rows.{contains}
-use Rattle.cov_model.specs.Tuples.{cells_of}
+use Rattle.cov_model.specs.believed.Tuples.{cells_of}
 use Rattle.cov_model.proofs.TupleLemmas.{contains_each}
 use Rattle.cov_model.proofs.cells.Cells.contains.Goals as goal
 

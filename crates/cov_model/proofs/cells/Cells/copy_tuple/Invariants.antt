@@ -1,5 +1,5 @@
 use Rattle.std.proofs.Common.{◌≡◌, drop, length}
-use Rattle.cov_model.specs.Tuples.{cells_of}
+use Rattle.cov_model.specs.believed.Tuples.{cells_of}
 use Rattle.cov_model.proofs.cells.Cells.copy_tuple.Given as goal
 
 -- the cells are those of the pairs from this one on

@@ -7,9 +7,8 @@ use Rattle.std.proofs.lemmas.Bool.{and_from, not-false, not-true}
 use Rattle.std.proofs.lemmas.Result.{on_ok_weaker}
 use Rattle.cov_model.specs.Fits.{FitsModel}
 use Rattle.cov_model.specs.believed.Meaning.{value_at}
-use Rattle.cov_model.specs.believed.Rows.{is_assigned}
+use Rattle.cov_model.specs.believed.Rows.{is_assigned, with_value}
 use Rattle.cov_model.specs.believed.Sound.{param_at}
-use Rattle.definitions.specs.Completion.{with_value}
 use Rattle.definitions.specs.believed.Refutation.{is_omission_leaf}
 use Rattle.definitions.specs.believed.Search.{Outcome, breaks_a_rule, constrained_params, is_failing, visit}
 use Rattle.definitions.proofs.Members.{of_among}

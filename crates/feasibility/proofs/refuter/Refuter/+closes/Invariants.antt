@@ -1,7 +1,7 @@
 use Rattle.std.proofs.Common.{◌≡◌, ◌-◌, ◌+◌, ◌*◌, drop, length, map}
 use Rattle.std.specs.List.{range_with_len, sum_by}
 use Rattle.cov_model.specs.believed.Sound.{param_at}
-use Rattle.definitions.specs.Completion.{with_value}
+use Rattle.cov_model.specs.believed.Rows.{with_value}
 use Rattle.definitions.specs.believed.Search.{constrained_params}
 use Rattle.feasibility.specs.Refuting.{Closes, value_cost}
 use Rattle.feasibility.proofs.refuter.Refuter.+closes.Given as goal

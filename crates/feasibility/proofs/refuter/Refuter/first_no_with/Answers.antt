@@ -1,5 +1,5 @@
 use Rattle.std.proofs.Common.{◌∙◌, None, find, get_or, set, ap, sym, subst}
-use Rattle.definitions.specs.Completion.{with_value}
+use Rattle.cov_model.specs.believed.Rows.{with_value}
 use Rattle.feasibility.specs.Live.{AreRules, no_on}
 use Rattle.feasibility.proofs.LeastRules.{undecided_least}
 use Rattle.feasibility.proofs.Naming.{undecided_exist}

@@ -2,9 +2,8 @@ use Rattle.std.proofs.Common.{◌≡◌, ◌<◌, ◌∷◌, ◌∙◌, [], not,
 use Rattle.std.specs.Prelude.{nat_lt}
 use Rattle.std.specs.List.{range_with_len}
 use Rattle.std.proofs.lemmas.Bool.{and_from}
-use Rattle.cov_model.specs.believed.Rows.{is_assigned}
+use Rattle.cov_model.specs.believed.Rows.{is_assigned, with_value}
 use Rattle.cov_model.specs.believed.Sound.{param_at}
-use Rattle.definitions.specs.Completion.{with_value}
 use Rattle.definitions.specs.believed.Search.{breaks_a_rule}
 use Rattle.feasibility.specs.Refuting.{Closes}
 use Rattle.feasibility.proofs.AddedTrees.{closes_branch, closes_next}

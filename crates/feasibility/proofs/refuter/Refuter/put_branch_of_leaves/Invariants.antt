@@ -1,7 +1,7 @@
 use Rattle.std.proofs.Common.{◌≡◌, length, map}
 use Rattle.std.specs.List.{range_with_len}
 use Rattle.cov_model.specs.believed.Sound.{param_at}
-use Rattle.definitions.specs.Completion.{with_value}
+use Rattle.cov_model.specs.believed.Rows.{with_value}
 use Rattle.feasibility.specs.Refuting.{Closes}
 use Rattle.feasibility.proofs.refuter.Refuter.put_branch_of_leaves.Given as goal
 

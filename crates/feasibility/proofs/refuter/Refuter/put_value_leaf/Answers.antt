@@ -2,7 +2,7 @@ use Rattle.std.proofs.Common.{◌≡◌, ◌∙◌, true, false, sym, refl, subs
 use Rattle.std.specs.Option.{IsSome}
 use Rattle.std.proofs.lemmas.Result.{on_ok_weaker}
 use Rattle.cov_model.specs.believed.Meaning.{value_at}
-use Rattle.definitions.specs.Completion.{with_value}
+use Rattle.cov_model.specs.believed.Rows.{with_value}
 use Rattle.refutation.specs.declared.token.TreeToken.TheVariants.{ByRule, ByNegative}
 use Rattle.feasibility.proofs.AddedTrees.{closes_leaf}
 use Rattle.feasibility.proofs.Leaves.{negative_first, rule_first, some_no}

@@ -2,8 +2,7 @@ use Rattle.std.proofs.Common.{◌≡◌, ◌∙◌, ◌+◌, true, false, Some, 
 use Rattle.std.proofs.lemmas.Bool.{not-true}
 use Rattle.std.proofs.lemmas.List.{length-set}
 use Rattle.cov_model.specs.Fits.{FitsModel}
-use Rattle.cov_model.specs.believed.Rows.{is_assigned}
-use Rattle.definitions.specs.Completion.{with_value}
+use Rattle.cov_model.specs.believed.Rows.{is_assigned, with_value}
 use Rattle.definitions.specs.believed.Search.{constrained_params, is_failing}
 use Rattle.feasibility.specs.Descent.{ComesTo, IsFirstLive}
 use Rattle.feasibility.specs.Live.{ShowsLive}

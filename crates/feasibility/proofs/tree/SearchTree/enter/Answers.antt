@@ -1,6 +1,6 @@
 use Rattle.std.proofs.Common.{◌≡◌, ℕ, ◌<◌, ◌∙◌, get_or, length, sym, ap, subst, arith}
 use Rattle.cov_model.specs.Fits.{FitsModel}
-use Rattle.definitions.specs.Completion.{with_value}
+use Rattle.cov_model.specs.believed.Rows.{with_value}
 use Rattle.definitions.specs.believed.Search.{constrained_params}
 use Rattle.feasibility.specs.Live.{AreRules, EachHasOne, LookedAt, Stops}
 use Rattle.feasibility.specs.Tree.{undecided}

@@ -1,5 +1,5 @@
 use Rattle.std.proofs.Common.{◌∙◌, ◌&&◌, Bool, sym, ap}
-use Rattle.definitions.specs.Completion.{with_value}
+use Rattle.cov_model.specs.believed.Rows.{with_value}
 use Rattle.feasibility.specs.Live.{no_on}
 use Rattle.feasibility.proofs.NarrowedSets.{narrowed_keep, narrowed_take}
 use Rattle.feasibility.proofs.tree.SearchTree.narrow_value.Goals as goal

@@ -3,7 +3,7 @@ use Rattle.std.proofs.lemmas.List.{length-map}
 use Rattle.cov_model.specs.Fits.{FitsModel}
 use Rattle.cov_model.specs.believed.Slices.{slice_of}
 use Rattle.definitions.specs.believed.Covering.{IsUnserved}
-use Rattle.definitions.specs.Pairs.{cells_of}
+use Rattle.cov_model.specs.believed.Tuples.{cells_of}
 use Rattle.definitions.specs.believed.Refutation.{is_eager}
 use Rattle.definitions.specs.SliceRows.{IsOfSlice}
 use Rattle.refutation.specs.believed.Proofs.{format_of}

@@ -1,6 +1,6 @@
 use Rattle.std.proofs.Common.{◌≡◌, ◌<◌, ◌∙◌, Some, false, length, set, sym, ap, subst, arith}
 use Rattle.cov_model.specs.Fits.{FitsModel}
-use Rattle.definitions.specs.Completion.{with_value}
+use Rattle.cov_model.specs.believed.Rows.{with_value}
 use Rattle.feasibility.specs.declared.constrained.Constrained.{Constrained}
 use Rattle.feasibility.specs.Live.{AreRules}
 use Rattle.feasibility.specs.Tree.{constrained_at}

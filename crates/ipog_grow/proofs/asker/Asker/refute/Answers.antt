@@ -1,6 +1,6 @@
 use Rattle.std.proofs.Common.{◌≡◌, ℕ, List, Option, length, map, sym, ap, subst, ◌∙◌}
 use Rattle.std.specs.Prelude.{Err}
-use Rattle.definitions.specs.Pairs.{cells_of}
+use Rattle.cov_model.specs.believed.Tuples.{cells_of}
 use Rattle.definitions.specs.believed.SuiteProof.{IsEagerTree}
 use Rattle.feasibility.specs.Refuting.{earlier_tuples}
 use Rattle.refutation.specs.believed.Proofs.{format_of}

@@ -1,8 +1,7 @@
 use Rattle.std.proofs.Common.{◌≡◌, ℕ, ◌∷◌, [], None, length, set, ◌∙◌, ap, sym, subst, arith}
 use Rattle.cov_model.specs.Fits.{FitsModel}
-use Rattle.cov_model.specs.believed.Rows.{contains}
+use Rattle.cov_model.specs.believed.Rows.{contains, with_value}
 use Rattle.cov_model.specs.believed.Sound.{ModelView, param_at}
-use Rattle.definitions.specs.Completion.{with_value}
 use Rattle.definitions.specs.believed.Refutation.{is_negative_leaf}
 use Rattle.refutation.specs.Checking.{BeginsWithTrees, CheckView, LacksTrees, tuple_in}
 use Rattle.refutation.proofs.TreeLemmas.{free_count, branch_stops, branch_ends, goes_more, child_is, set_clear}

@@ -2,7 +2,7 @@ use Rattle.std.proofs.Common.{◌≡◌, length, ◌∙◌, ap, sym, subst}
 use Rattle.cov_model.specs.Fits.{FitsModel}
 use Rattle.cov_model.specs.believed.Rows.{contains}
 use Rattle.cov_model.proofs.CellLemmas.{contains-refl}
-use Rattle.definitions.specs.Pairs.{cells_of}
+use Rattle.cov_model.specs.believed.Tuples.{cells_of}
 use Rattle.definitions.specs.believed.Refutation.{is_negative_leaf}
 use Rattle.refutation.specs.Checking.{tuple_in}
 use Rattle.refutation.proofs.LeafLemmas.{negative_leaf-start}
