@@ -24,7 +24,7 @@ use Rattle.tuple_index.proofs.ListingLemmas.{map_same}
 use Rattle.uncovered_table.specs.declared.block.Block.{Block}
 use Rattle.uncovered_table.specs.Bits.{bit_of, first_bit, sets_in_play, tuple_count}
 use Rattle.uncovered_table.specs.Digits.{digit_of}
-use Rattle.uncovered_table.specs.Kept.{AreBlocks, IsBlock, play_column, with_set}
+use Rattle.uncovered_table.specs.Kept.{AreBegins, IsBlock, play_column, with_set}
 use Rattle.uncovered_table.specs.Places.{ends_with_column, is_place, set_at, slice_places}
 use Rattle.uncovered_table.proofs.BitLemmas.{bit_known, bits_before, first_bit_more}
 use Rattle.uncovered_table.proofs.ColumnLemmas.{filter_no, filter_yes}
@@ -36,17 +36,23 @@ pub bits_few : (m : ModelView) (slice : Slice) (set : ℕ) → IsKept (plan_of m
     → first_bit m slice set + tuple_count m slice set ≤ 2 ^ 26
 bits_few m slice set kept own exists = omega (arith, bits_before m slice set (length (demanded_sets m)) exists, places_few m slice kept own)
 
--- the blocks of one set more
-pub blocks_more : (m : ModelView) (slice : Slice) (set : ℕ) (blocks : List Block) (block : Block) → AreBlocks m slice set blocks → IsBlock m slice set block
-    → AreBlocks m slice (set + 1) (blocks ++ block ∷ [])
-blocks_more m slice set blocks block so_far this = record {
-  many = length-append blocks (block ∷ []) ∙ ap (λ n. n + 1) so_far.many;
-  each = λ s other within. elim (cases_lt s set) [
-    | inl before ↦ subst (IsBlock m slice s) (sym (get_or_append_left blocks (block ∷ []) other s (omega (arith, before, so_far.many))))
-        (so_far.each s other before)
+-- where the bits of no set begin
+pub begins_none : (m : ModelView) (slice : Slice) → AreBegins m slice 0 (0 ∷ [])
+begins_none m slice = record {
+  many = refl;
+  each = λ s other within. let none : 0 ≡ s = omega (arith, within) in subst (λ k. get_or (0 ∷ []) k other ≡ first_bit m slice k) none refl;
+}
+
+-- where the bits begin, with those of one set more
+pub begins_more : (m : ModelView) (slice : Slice) (set end : ℕ) (begins : List ℕ) → AreBegins m slice set begins → end ≡ first_bit m slice (set + 1)
+    → AreBegins m slice (set + 1) (begins ++ end ∷ [])
+begins_more m slice set end begins so_far this = record {
+  many = length-append begins (end ∷ []) ∙ ap (λ n. n + 1) so_far.many;
+  each = λ s other within. elim (cases_lt s (set + 1)) [
+    | inl before ↦ get_or_append_left begins (end ∷ []) other s (omega (arith, before, so_far.many)) ∙ so_far.each s other (omega (arith, before))
     | inr least ↦
-        let here : set ≡ s = omega (arith, least, within) in
-        subst (IsBlock m slice s) (sym (get_or_push blocks block other s (so_far.many ∙ here))) (subst (λ k. IsBlock m slice k block) here this)
+        let here : set + 1 ≡ s = omega (arith, least, within) in
+        get_or_push begins end other s (so_far.many ∙ here) ∙ this ∙ ap (first_bit m slice) here
   ];
 }
 

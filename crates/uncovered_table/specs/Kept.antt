@@ -1,5 +1,5 @@
 -- What a table keeps of its parts.
-use Rattle.std.specs.Prelude.{◌≡◌, ℕ, Bool, true, ◌<◌, List, [], ◌∷◌, ◌++◌, map, length, Option, Some, None, slice_index_or, slice_set, nat_lt, if◌then◌else◌}
+use Rattle.std.specs.Prelude.{◌≡◌, ℕ, Bool, true, ◌+◌, ◌<◌, ◌≤◌, List, [], ◌∷◌, ◌++◌, map, length, Option, Some, None, slice_index_or, slice_set, nat_lt, if◌then◌else◌}
 use Rattle.std.specs.List.{filter, last_or}
 use Rattle.cov_model.specs.declared.slice.Slice.{Slice}
 use Rattle.cov_model.specs.believed.Sound.{ModelView}
@@ -38,10 +38,10 @@ pub record IsBlock (m : ModelView) (slice : Slice) (set : ℕ) (block : Block) :
   pub start : 0 < block.count → block.start ≡ slice_start m (set_at m set) slice
   pub count : block.count ≡ tuple_count m slice set
 
--- those of the first sets
-pub record AreBlocks (m : ModelView) (slice : Slice) (sets : ℕ) (blocks : List Block) : Type 0 where
-  pub many : length blocks ≡ sets
-  pub each : (set : ℕ) (other : Block) → set < sets → IsBlock m slice set (slice_index_or blocks set other)
+-- where the bits of each of the first sets begin, and where those of the last of them end
+pub record AreBegins (m : ModelView) (slice : Slice) (sets : ℕ) (begins : List ℕ) : Type 0 where
+  pub many : length begins ≡ sets + 1
+  pub each : (set other : ℕ) → set ≤ sets → slice_index_or begins set other ≡ first_bit m slice set
 
 -- the digits of the values of a parameter
 abbrev pub digits_of : ModelView → Slice → ℕ → List (Option ℕ)
@@ -53,8 +53,8 @@ firsts_of m slice p = map (first_bit m slice) (sets_in_play m slice p)
 
 -- the bits of each set, the sets in play for each column and their first bits, and the digits of each parameter's values; in plain tables each value
 -- is its own digit
-pub record AreTablesOf (v : SliceView) (blocks : List Block) (plays firsts : List (List ℕ)) (digits : List (List (Option ℕ))) (plain : Bool) : Type 0 where
-  pub blocks_are : AreBlocks v.model v.slice (length (demanded_sets v.model)) blocks
+pub record AreTablesOf (v : SliceView) (begins : List ℕ) (plays firsts : List (List ℕ)) (digits : List (List (Option ℕ))) (plain : Bool) : Type 0 where
+  pub begins_are : AreBegins v.model v.slice (length (demanded_sets v.model)) begins
   pub plays_are : plays ≡ map (sets_in_play v.model v.slice) (param_numbers v.model)
   pub firsts_are : firsts ≡ map (firsts_of v.model v.slice) (param_numbers v.model)
   pub digits_are : digits ≡ map (digits_of v.model v.slice) (param_numbers v.model)

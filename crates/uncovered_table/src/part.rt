@@ -137,6 +137,17 @@ impl<'a> SlicePart<'a> {
         self.by.slice_ranks(set, self.slice)
     }
 
+    // The first of these ranks, where the set has tuples in the slice. Those of the positive slice are the first of all.
+    pub(crate) fn first_rank(&self, set: u32) -> u32
+        requires { set < length (demanded_sets self.now.model) }
+        ensures { 0 < tuple_count self.now.model self.now.slice set → result ≡ slice_start self.now.model (set_at self.now.model set) self.now.slice }
+    {
+        match self.slice {
+            Slice::Positive => 0,
+            Slice::Negative(..) => self.ranks(set).0,
+        }
+    }
+
     // The last parameter of a set in the column order of the slice.
     pub(crate) fn last_column(&self, set: u32) -> Option<ParamNo>
         requires { set < length (demanded_sets self.now.model) }

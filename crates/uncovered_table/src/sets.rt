@@ -38,7 +38,7 @@ impl<'a> Model for SliceSets<'a> {
 
     ghost view = { λ a. a.part };
 
-    ghost invariant = { λ a. AreTablesOf a.part a.tables.blocks.items (map (λ list. list.items) a.tables.plays.items)
+    ghost invariant = { λ a. AreTablesOf a.part a.tables.begins.items (map (λ list. list.items) a.tables.plays.items)
         (map (λ list. list.items) a.tables.firsts.items) (map (λ list. list.items) a.tables.digits.items) a.tables.plain };
 }
 
@@ -86,7 +86,13 @@ impl<'a> SliceSets<'a> {
         requires { set < length (demanded_sets self.now.model) }
         ensures { IsBlock self.now.model self.now.slice set result }
     {
-        self.tables.blocks[set as usize]
+        let first = self.tables.begins[set as usize];
+        let end = self.tables.begins[set as usize + 1];
+        Block {
+            first,
+            start: self.part.first_rank(set),
+            count: end - first,
+        }
     }
 
     // The bit of a place.

@@ -1,11 +1,10 @@
 ghost use Rattle.std.specs.Prelude.{◌≡◌, ◌<◌, ℕ, [], IfOk, IfSome, None, OnOk, Some, if◌then◌else◌, length, map, replicate, true};
 ghost use Rattle.cov_model.specs.believed.Valid.{param_numbers};
 ghost use Rattle.definitions.specs.believed.Demand.{demanded_sets};
-ghost use Rattle.uncovered_table.specs.Bits.{sets_in_play, tuple_count};
+ghost use Rattle.uncovered_table.specs.Bits.{sets_in_play};
 ghost use Rattle.uncovered_table.specs.Digits.{HasAllValues};
-ghost use Rattle.uncovered_table.specs.Kept.{AreBlocks, AreTablesOf, digits_of, firsts_of, play_column, with_set};
+ghost use Rattle.uncovered_table.specs.Kept.{AreBegins, AreTablesOf, digits_of, firsts_of, play_column, with_set};
 
-use crate::block::Block;
 use crate::part::SlicePart;
 use cov_model::ParamNo;
 use std::alloc::Global;
@@ -14,8 +13,8 @@ use value_text::NoMemory;
 // What is kept of the demanded sets of a slice and of its values.
 #[derive(Drop)]
 pub(crate) struct SliceTables {
-    // Where each set has its bits.
-    pub(crate) blocks: Vec<Block>,
+    // Where the bits of each set begin, and where those of the last one end.
+    pub(crate) begins: Vec<u32>,
     // For each column the sets in play that have tuples in the slice.
     pub(crate) plays: Vec<Vec<u32>>,
     // And their first bits, side by side for those who walk over these sets.
@@ -56,38 +55,20 @@ fn digit_if(own: bool, next: u16) -> Option<u16>
 }
 
 impl<'a> SlicePart<'a> {
-    // Where each set has its bits.
-    fn blocks(&self, alloc: Global) -> Result<Vec<Block>, NoMemory>
-        ensures { IfOk result (λ blocks. AreBlocks self.now.model self.now.slice (length (demanded_sets self.now.model)) blocks.items) }
+    // Where the bits of each set begin, and where those of the last one end.
+    fn bit_begins(&self, alloc: Global) -> Result<Vec<u32>, NoMemory>
+        ensures { IfOk result (λ begins. AreBegins self.now.model self.now.slice (length (demanded_sets self.now.model)) begins.items) }
     {
         self.assert_invariant();
-        let mut blocks = Vec::new(alloc);
-        let mut first: u32 = 0;
-        for set in 0..self.set_count() {
-            let (start, count) = self.ranks(set);
-            let block = Block {
-                first,
-                start,
-                count,
-            };
-            blocks.push(block)?;
-            first += count;
+        let count = self.set_count();
+        let mut begins = Vec::with_capacity(alloc, count as usize + 1)?;
+        let mut begin: u32 = 0;
+        begins.push(begin)?;
+        for set in 0..count {
+            begin += self.ranks(set).1;
+            begins.push(begin)?;
         }
-        Ok(blocks)
-    }
-
-    // The column for which a set is in play that has so many tuples in the slice, if it has one.
-    fn column_for(&self, set: u32, count: u32) -> Option<ParamNo>
-        requires set { set < length (demanded_sets self.now.model) }
-        requires count { count ≡ tuple_count self.now.model self.now.slice set }
-        ensures value { result ≡ play_column self.now.model self.now.slice set }
-        ensures own { IfSome result (λ p. p < length self.now.model.params) }
-    {
-        if count > 0 {
-            self.last_column(set)
-        } else {
-            None
-        }
+        Ok(begins)
     }
 
     // The column for which a set is in play, if it has a tuple in the slice.
@@ -96,21 +77,21 @@ impl<'a> SlicePart<'a> {
         ensures value { result ≡ play_column self.now.model self.now.slice set }
         ensures own { IfSome result (λ p. p < length self.now.model.params) }
     {
-        let count = self.ranks(set).1;
-        self.column_for(set, count)
+        if self.ranks(set).1 > 0 {
+            self.last_column(set)
+        } else {
+            None
+        }
     }
 
     // For each column the sets in play that have tuples in the slice.
-    fn plays(&self, alloc: Global, blocks: &[Block]) -> Result<Vec<Vec<u32>>, NoMemory>
-        requires { AreBlocks self.now.model self.now.slice (length (demanded_sets self.now.model)) blocks.now }
+    fn plays(&self, alloc: Global) -> Result<Vec<Vec<u32>>, NoMemory>
         ensures { IfOk result (λ lists. map (λ list. list.items) lists.items ≡ map (sets_in_play self.now.model self.now.slice)
             (param_numbers self.now.model)) }
     {
         let mut lists = empty_lists(alloc, self.param_count())?;
         for set in 0..self.set_count() {
-            let block = blocks[set as usize];
-            let column = self.column_for(set, block.count);
-            push_set(&mut lists, column, set)?;
+            push_set(&mut lists, self.play_column(set), set)?;
         }
         Ok(lists)
     }
@@ -119,18 +100,17 @@ impl<'a> SlicePart<'a> {
     fn firsts_of(
         &self,
         alloc: Global,
-        blocks: &[Block],
+        begins: &[u32],
         column: ParamNo,
         sets: &[u32],
     ) -> Result<Vec<u32>, NoMemory>
-        requires blocks { AreBlocks self.now.model self.now.slice (length (demanded_sets self.now.model)) blocks.now }
+        requires begins { AreBegins self.now.model self.now.slice (length (demanded_sets self.now.model)) begins.now }
         requires sets { sets.now ≡ sets_in_play self.now.model self.now.slice column }
         ensures { IfOk result (λ firsts. firsts.items ≡ firsts_of self.now.model self.now.slice column) }
     {
-        let mut firsts = Vec::new(alloc);
+        let mut firsts = Vec::with_capacity(alloc, sets.len())?;
         for set in sets {
-            let block = blocks[*set as usize];
-            firsts.push(block.first)?;
+            firsts.push(begins[*set as usize])?;
         }
         Ok(firsts)
     }
@@ -139,17 +119,17 @@ impl<'a> SlicePart<'a> {
     fn firsts(
         &self,
         alloc: Global,
-        blocks: &[Block],
+        begins: &[u32],
         plays: &[Vec<u32>],
     ) -> Result<Vec<Vec<u32>>, NoMemory>
-        requires blocks { AreBlocks self.now.model self.now.slice (length (demanded_sets self.now.model)) blocks.now }
+        requires begins { AreBegins self.now.model self.now.slice (length (demanded_sets self.now.model)) begins.now }
         requires plays { map (λ list. list.items) plays.now ≡ map (sets_in_play self.now.model self.now.slice) (param_numbers self.now.model) }
         ensures { IfOk result (λ lists. map (λ list. list.items) lists.items ≡ map (firsts_of self.now.model self.now.slice) (param_numbers self.now.model)) }
     {
         self.assert_invariant();
         let mut lists = Vec::new(alloc);
         for p in 0..self.param_count() {
-            let firsts = self.firsts_of(alloc, blocks, p as ParamNo, plays[p].as_slice())?;
+            let firsts = self.firsts_of(alloc, begins, p as ParamNo, plays[p].as_slice())?;
             lists.push(firsts)?;
         }
         Ok(lists)
@@ -199,15 +179,15 @@ impl<'a> SlicePart<'a> {
 
     // The tables of the slice.
     pub(crate) fn tables(&self, alloc: Global) -> Result<SliceTables, NoMemory>
-        ensures { IfOk result (λ tables. AreTablesOf self.now tables.blocks.items (map (λ list. list.items) tables.plays.items)
+        ensures { IfOk result (λ tables. AreTablesOf self.now tables.begins.items (map (λ list. list.items) tables.plays.items)
             (map (λ list. list.items) tables.firsts.items) (map (λ list. list.items) tables.digits.items) tables.plain) }
     {
-        let blocks = self.blocks(alloc)?;
-        let plays = self.plays(alloc, blocks.as_slice())?;
-        let firsts = self.firsts(alloc, blocks.as_slice(), plays.as_slice())?;
+        let begins = self.bit_begins(alloc)?;
+        let plays = self.plays(alloc)?;
+        let firsts = self.firsts(alloc, begins.as_slice(), plays.as_slice())?;
         let digits = self.digits(alloc)?;
         Ok(SliceTables {
-            blocks,
+            begins,
             plays,
             firsts,
             digits,
