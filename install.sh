@@ -47,7 +47,7 @@ install -m 644 "$top/completions/jeldroft.zsh" "$zsh/_jeldroft"
 install -m 644 "$top/completions/jeldroft.fish" "$fish/jeldroft.fish"
 # the pages name each other, and the examples, by their places in the repository
 install -m 644 "$top/README.md" "$doc/"
-for page in start.md guide.md reference.md troubles.md differences.md pictcheck.md pictacts.md pictseq.md definitions.md coverage.svg; do
+for page in start.md guide.md pict.md reference.md troubles.md differences.md pictcheck.md pictacts.md pictseq.md definitions.md coverage.svg; do
     install -m 644 "$top/docs/$page" "$doc/docs/"
 done
 cp -R "$top/examples" "$doc/"
