@@ -3,7 +3,6 @@ use Rattle.std.specs.Prelude.{◌≡◌, ◌≢◌, ℕ, List, Some, IfSome}
 use Rattle.outside_io.specs.believed.Files.{Files}
 use Rattle.made_models.specs.believed.MadeModel.{made_text}
 use Rattle.definitions.specs.believed.Settings.{Settings}
-use Rattle.pict_cli.specs.Steps.{written}
 
 -- what the folder tells of the model file, after a run that made its model: with every status but those of want of memory
 -- and of a fault of writing the file holds the made model, unless the proof was written over it
