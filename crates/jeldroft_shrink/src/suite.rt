@@ -24,6 +24,7 @@ fn opts_of(args: &Shrink) -> ShrinkOpts {
     ShrinkOpts {
         random: args.shrinking.random,
         rounds: args.shrinking.rounds,
+        spread: args.shrinking.spread,
         effort,
     }
 }

@@ -131,6 +131,58 @@ const GIVEN: &[Given<'static>] = &[
     },
 ];
 
+// A model, the files of its rows and of seed rows, and the file of the rows once their values are spread. No row can be
+// spared, and of the values that a cell may get one is so heavy that the others don't come.
+struct Spread<'a> {
+    model: &'a str,
+    rows: &'a str,
+    seeds: &'a str,
+    spread: &'a str,
+}
+
+const SPREAD: &[Spread<'static>] = &[
+    // The first row can do without x, then the third one can't.
+    Spread {
+        model: "A: 1, 2, 3\nB: x, y (4294967295)\nC: u\n\n{ A, B } @ 1\n",
+        rows: "A\tB\tC\n1\tx\tu\n2\ty\tu\n3\tx\tu\n",
+        seeds: "A\n",
+        spread: "A\tB\tC\n1\ty\tu\n2\ty\tu\n3\tx\tu\n",
+    },
+    Spread {
+        model: "A: 1, 2, 3\nB: x (4294967295), y\nC: u\n\n{ A, B } @ 1\n",
+        rows: "A\tB\tC\n1\tx\tu\n2\ty\tu\n3\tx\tu\n",
+        seeds: "A\n",
+        spread: "A\tB\tC\n1\tx\tu\n2\ty\tu\n3\tx\tu\n",
+    },
+    // A constraint, or a seed row, keeps x in the first row.
+    Spread {
+        model: "A: 1, 2, 3\nB: x, y (4294967295)\nC: u\n\n{ A, B } @ 1\n\nIF [A] = 1 THEN [B] = \"x\";\n",
+        rows: "A\tB\tC\n1\tx\tu\n2\ty\tu\n3\tx\tu\n",
+        seeds: "A\n",
+        spread: "A\tB\tC\n1\tx\tu\n2\ty\tu\n3\ty\tu\n",
+    },
+    Spread {
+        model: "A: 1, 2, 3\nB: x, y (4294967295)\nC: u\n\n{ A, B } @ 1\n",
+        rows: "A\tB\tC\n1\tx\tu\n2\ty\tu\n3\tx\tu\n",
+        seeds: "A\tB\n1\tx\n",
+        spread: "A\tB\tC\n1\tx\tu\n2\ty\tu\n3\ty\tu\n",
+    },
+    // Each pair is in one row alone.
+    Spread {
+        model: "A: 1, 2\nB: x, y (4294967295)\nC: u, v (4294967295)\n",
+        rows: "A\tB\tC\n1\tx\tu\n1\ty\tv\n2\tx\tv\n2\ty\tu\n",
+        seeds: "A\n",
+        spread: "A\tB\tC\n1\tx\tu\n1\ty\tv\n2\tx\tv\n2\ty\tu\n",
+    },
+    // The second row, which the seed row keeps, would become the third one.
+    Spread {
+        model: "A: 1, 2\nB: x, y (4294967295)\nC: u, v (4294967295)\nD: d\n\n{ A, B, C } @ 1\n\nIF [A] = 2 THEN [B] = \"x\";\n",
+        rows: "A\tB\tC\tD\n2\tx\tu\td\n1\tx\tv\td\n1\ty\tv\td\n",
+        seeds: "A\tC\n1\tv\n",
+        spread: "A\tB\tC\tD\n2\tx\tu\td\n1\tx\tv\td\n1\ty\tv\td\n",
+    },
+];
+
 // The rows of a text, if all are valid.
 fn rows_of(alloc: Global, model: &TestModel, text: &str) -> Result<Rows, Fail>
     ensures { IfOk result (λ rows. All (λ row. is_valid model.now row ≡ true) rows) }
@@ -164,51 +216,89 @@ fn seeds_of(alloc: Global, model: &TestModel, text: &str) -> Result<Rows, Fail> 
 }
 
 // The fewer rows that are found.
-fn shrunk(alloc: Global, given: &Given<'_>) -> Result<Shrunk, Fail> {
-    let model = model_of(alloc, given.model)?;
-    let plan = Plan::new(alloc, &model)?;
-    let prefs = Prefs::new(alloc, &model, None)?;
-    let rows = rows_of(alloc, &model, given.rows)?;
-    let seeds = seeds_of(alloc, &model, given.seeds)?;
+fn shrunk(
+    alloc: Global,
+    model: &TestModel,
+    rows: &str,
+    seeds: &str,
+    rounds: u64,
+    spread: bool,
+) -> Result<Shrunk, Fail> {
+    let plan = Plan::new(alloc, model)?;
+    let prefs = Prefs::new(alloc, model, None)?;
+    let rows = rows_of(alloc, model, rows)?;
+    let seeds = seeds_of(alloc, model, seeds)?;
     let of = PlannedModel {
-        model: &model,
+        model,
         prefs: &prefs,
         plan: &plan,
     };
     let opts = ShrinkOpts {
         random: 7,
-        rounds: given.rounds,
+        rounds,
+        spread,
         effort: Effort::Full,
     };
     Ok(shrink(alloc, &of, &rows, &seeds, &opts)?)
 }
 
-// Whether two answers are the same.
-fn are_same(one: &Shrunk, other: &Shrunk) -> bool {
-    if one.rows.len() != other.rows.len() {
-        return false;
-    }
-    for i in 0..one.rows.len() {
-        if one.rows.row(i) != other.rows.row(i) {
-            return false;
-        }
-    }
-    one.numbers.as_slice() == other.numbers.as_slice()
+// Whether rows are the same.
+fn are_equal(one: &Rows, other: &Rows) -> bool {
+    one.len() == other.len() && (0..one.len()).all(|i| one.row(i) == other.row(i))
 }
 
 #[test]
 fn fewer_rows_are_found(rt: HostRuntime) -> Result<(), Fail> {
+    let alloc = rt.alloc();
     for given in GIVEN {
-        let found = shrunk(rt.alloc(), given)?;
         let text = given.rows;
+        let model = model_of(alloc, given.model)?;
+        let found = shrunk(alloc, &model, text, given.seeds, given.rounds, false)?;
         assert!(rt; found.proposed, "{text}");
         assert!(rt; found.rows.len() == given.left, "{text}");
         assert!(rt; found.least == given.least, "{text}");
         if let Some(numbers) = given.numbers {
             assert!(rt; found.numbers.as_slice() == numbers, "{text}");
         }
-        let again = shrunk(rt.alloc(), given)?;
-        assert!(rt; are_same(&found, &again), "{text}");
+        let again = shrunk(alloc, &model, text, given.seeds, given.rounds, false)?;
+        assert!(rt; are_equal(&found.rows, &again.rows), "{text}");
+        assert!(rt;
+            found.numbers.as_slice() == again.numbers.as_slice(),
+            "{text}"
+        );
+    }
+    Ok(())
+}
+
+#[test]
+fn spreading_takes_and_adds_no_row(rt: HostRuntime) -> Result<(), Fail> {
+    let alloc = rt.alloc();
+    for given in GIVEN {
+        let text = given.rows;
+        let model = model_of(alloc, given.model)?;
+        let found = shrunk(alloc, &model, text, given.seeds, given.rounds, false)?;
+        let spread = shrunk(alloc, &model, text, given.seeds, given.rounds, true)?;
+        assert!(rt; spread.proposed, "{text}");
+        assert!(rt;
+            spread.numbers.as_slice() == found.numbers.as_slice(),
+            "{text}"
+        );
+    }
+    Ok(())
+}
+
+#[test]
+fn values_that_nothing_needs_are_drawn_by_weight(rt: HostRuntime) -> Result<(), Fail> {
+    let alloc = rt.alloc();
+    for given in SPREAD {
+        let text = given.model;
+        let model = model_of(alloc, text)?;
+        let found = shrunk(alloc, &model, given.rows, given.seeds, 0, true)?;
+        assert!(rt; found.proposed, "{text}");
+        assert!(rt;
+            are_equal(&found.rows, &rows_of(alloc, &model, given.spread)?),
+            "{text}"
+        );
     }
     Ok(())
 }

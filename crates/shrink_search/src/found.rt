@@ -72,8 +72,19 @@ impl FoundRows {
         }
     }
 
+    // Those of these numbers whose rows are kept.
+    pub(crate) fn kept_among(&self, alloc: Global, numbers: &[u32]) -> Result<Vec<u32>, NoMemory> {
+        let mut kept = Vec::with_capacity(alloc, numbers.len())?;
+        for number in numbers {
+            if self.is_kept(*number as usize) {
+                kept.push(*number)?;
+            }
+        }
+        Ok(kept)
+    }
+
     // The value of a parameter in the row of this number.
-    fn value(&self, number: usize, p: ParamNo) -> Option<ValueNo> {
+    pub(crate) fn value(&self, number: usize, p: ParamNo) -> Option<ValueNo> {
         let at = number.wrapping_mul(self.params).wrapping_add(p as usize);
         self.values.get(at).copied()
     }

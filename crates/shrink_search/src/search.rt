@@ -7,9 +7,12 @@ use crate::completer::Completer;
 use crate::forcing::ForcedRow;
 use crate::found::{FewerRows, FoundRows};
 use crate::rules::RowRules;
-use crate::seeds::holders;
+use crate::seeds::{fix_seeds, holders};
+use crate::slice_rows::{SliceRows, by_slice};
 use crate::slice_search::SliceSearch;
+use crate::spreading::spread_slice;
 use crate::suite::Suite;
+use crate::task::Task;
 use crate::tuples::SliceTuples;
 use crate::values::SliceValues;
 use crate::words::Words;
@@ -19,7 +22,7 @@ use tuple_index::Plan;
 use value_text::NoMemory;
 
 // The most rows of a slice among which is searched: a number of rows and two more have 16 bits.
-const MOST_ROWS: usize = 65_533;
+pub(crate) const MOST_ROWS: usize = 65_533;
 
 /// How long is searched, and by which random words.
 #[derive(Debug, Drop, Clone, Copy, PartialEq, Eq)]
@@ -28,17 +31,8 @@ pub struct SearchOpts {
     pub rounds: u64,
     /// The number of the random words, which are those of `Lcg64Xsh32::new(random, 2)`.
     pub random: u64,
-}
-
-// What the search is about, for all slices.
-#[derive(Clone, Copy)]
-struct Task<'a> {
-    model: &'a TestModel,
-    plan: &'a Plan,
-    rows: &'a Rows,
-    seeds: &'a Rows,
-    holders: &'a [Option<u32>],
-    opts: SearchOpts,
+    /// Whether values that can change without a loss are drawn anew, once no shorter suite is looked for.
+    pub spread: bool,
 }
 
 /// Searches for fewer rows that serve the demanded tuples which the given rows serve (tabu search by single values).
@@ -64,6 +58,7 @@ pub fn search_fewer<C: Completer>(
 {
     let holders = holders(alloc, rows, seeds)?;
     let slices = slices_of(alloc, model, rows)?;
+    let groups = by_slice(alloc, slices.as_slice())?;
     let mut found = FoundRows::new(alloc, model.params().len(), rows.len())?;
     let task = Task {
         model,
@@ -73,7 +68,18 @@ pub fn search_fewer<C: Completer>(
         holders: holders.as_slice(),
         opts: *opts,
     };
-    search_slices(alloc, task, slices.as_slice(), completer, &mut found)?;
+    let mut words = Words::new(opts.random);
+    search_slices(
+        alloc,
+        task,
+        groups.as_slice(),
+        &mut words,
+        completer,
+        &mut found,
+    )?;
+    if opts.spread {
+        spread_slices(alloc, task, groups.as_slice(), &mut words, &mut found)?;
+    }
     found.list(alloc, model, rows)
 }
 
@@ -90,72 +96,49 @@ fn slices_of(alloc: Global, model: &TestModel, rows: &Rows) -> Result<Vec<Slice>
     Ok(slices)
 }
 
-// Searches in each slice, in the order of their first rows.
+// Searches in each slice.
 fn search_slices<C: Completer>(
     alloc: Global,
     task: Task<'_>,
-    slices: &[Slice],
+    groups: &[SliceRows],
+    words: &mut Words,
     completer: &mut C,
     found: &mut FoundRows,
 ) -> Result<(), NoMemory> {
-    let mut words = Words::new(task.opts.random);
-    let mut done = vec![in alloc; false; slices.len()]?;
-    let mut numbers = Vec::with_capacity(alloc, slices.len())?;
-    for first in 0..slices.len() {
-        if done.get(first).copied().unwrap_or(true) {
-            continue;
-        }
-        gather(slices, first, &mut done, &mut numbers)?;
-        let slice = slices[first];
-        completer.enter(slice)?;
-        search_slice(
-            alloc,
-            task,
-            slice,
-            numbers.as_slice(),
-            &mut words,
-            completer,
-            found,
-        )?;
+    for group in groups {
+        completer.enter(group.slice)?;
+        search_slice(alloc, task, group, words, completer, found)?;
     }
     Ok(())
 }
 
-// The numbers of the rows that are of the slice of this one. They are done then.
-fn gather(
-    slices: &[Slice],
-    first: usize,
-    done: &mut Vec<bool>,
-    numbers: &mut Vec<u32>,
+// Spreads the values of the rows that were found in each slice.
+fn spread_slices(
+    alloc: Global,
+    task: Task<'_>,
+    groups: &[SliceRows],
+    words: &mut Words,
+    found: &mut FoundRows,
 ) -> Result<(), NoMemory> {
-    numbers.clear();
-    let Some(slice) = slices.get(first) else {
-        return Ok(());
-    };
-    for (i, other) in slices.iter().enumerate() {
-        if other == slice {
-            numbers.push(i.min(u32::MAX as usize) as u32)?;
-            if let Some(is_done) = done.get_mut(i) {
-                *is_done = true;
-            }
-        }
+    for group in groups {
+        spread_slice(alloc, task, group, words, found)?;
     }
     Ok(())
 }
 
-// Searches in a slice of which these are the given rows.
+// Searches in a slice.
 fn search_slice<C: Completer>(
     alloc: Global,
     task: Task<'_>,
-    slice: Slice,
-    numbers: &[u32],
+    group: &SliceRows,
     words: &mut Words,
     completer: &mut C,
     found: &mut FoundRows,
 ) -> Result<(), NoMemory> {
     let params = task.model.params().len();
-    let values = SliceValues::new(alloc, task.model, slice)?;
-    let tuples = SliceTuples::new(alloc, task.plan, slice, &values, params)?;
+    let numbers = group.numbers.as_slice();
+    let values = SliceValues::new(alloc, task.model, group.slice)?;
+    let tuples = SliceTuples::new(alloc, task.plan, group.slice, &values, params)?;
     let best = search_tuples(alloc, task, &values, &tuples, numbers, words, completer)?;
     put_found(&best, &values, params, found);
     Ok(())
@@ -217,28 +200,6 @@ fn put_row(cells: &[Option<ValueNo>], row: usize, values: &SliceValues, suite: &
             if let Some(digit) = values.digit(p, *v) {
                 suite.put(p, row, digit);
             }
-        }
-        p = p.saturating_add(1);
-    }
-}
-
-// The values of each seed have to stay in the row that contains it.
-fn fix_seeds(task: Task<'_>, numbers: &[u32], suite: &mut Suite<'_>) {
-    for seed in 0..task.seeds.len() {
-        if let Some(Some(number)) = task.holders.get(seed) {
-            if let Ok(row) = numbers.binary_search(number) {
-                fix_row(task.seeds.row(seed), row, suite);
-            }
-        }
-    }
-}
-
-// The values that a seed row gives have to stay in a row.
-fn fix_row(seed: &[Option<ValueNo>], row: usize, suite: &mut Suite<'_>) {
-    let mut p: ParamNo = 0;
-    for cell in seed {
-        if cell.is_some() {
-            suite.fix(p, row);
         }
         p = p.saturating_add(1);
     }

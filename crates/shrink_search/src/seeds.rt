@@ -1,4 +1,6 @@
-use cov_model::{Rows, ValueNo};
+use crate::suite::Suite;
+use crate::task::Task;
+use cov_model::{ParamNo, Rows, ValueNo};
 use std::alloc::Global;
 use value_text::NoMemory;
 
@@ -35,4 +37,26 @@ pub(crate) fn holders(
         list.push(holder(rows, seeds.row(seed)))?;
     }
     Ok(list)
+}
+
+// The values of each seed have to stay in the row that contains it.
+pub(crate) fn fix_seeds(task: Task<'_>, numbers: &[u32], suite: &mut Suite<'_>) {
+    for seed in 0..task.seeds.len() {
+        if let Some(Some(number)) = task.holders.get(seed) {
+            if let Ok(row) = numbers.binary_search(number) {
+                fix_row(task.seeds.row(seed), row, suite);
+            }
+        }
+    }
+}
+
+// The values that a seed row gives have to stay in a row.
+fn fix_row(seed: &[Option<ValueNo>], row: usize, suite: &mut Suite<'_>) {
+    let mut p: ParamNo = 0;
+    for cell in seed {
+        if cell.is_some() {
+            suite.fix(p, row);
+        }
+        p = p.saturating_add(1);
+    }
 }

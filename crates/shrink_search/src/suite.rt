@@ -170,6 +170,27 @@ impl<'t> Suite<'t> {
         }
     }
 
+    // The number of the given row that a row was.
+    pub(crate) fn origin(&self, row: usize) -> u32 {
+        match self.origins.get(row) {
+            Some(origin) => *origin,
+            None => 0,
+        }
+    }
+
+    // Whether a row repeats another one, once a parameter whose change loses no tuple has this digit. A row that alone
+    // serves a tuple doesn't: the other one would serve it too.
+    pub(crate) fn is_repeated(&self, p: ParamNo, row: usize, digit: Digit) -> bool {
+        self.alone.get(row).copied().unwrap_or(0) == 0
+            && (0..self.count).any(|other| other != row && self.is_repetition(p, row, digit, other))
+    }
+
+    // Whether a row is another one, once a parameter has this digit.
+    fn is_repetition(&self, p: ParamNo, row: usize, digit: Digit, other: usize) -> bool {
+        self.digit(p, other) == digit
+            && (0..self.params()).all(|q| q == p || self.digit(q, row) == self.digit(q, other))
+    }
+
     // Copies the rows.
     pub(crate) fn keep(&self, best: &mut BestRows) {
         best.copy_from(self.digits.as_slice(), self.origins.as_slice(), self.count);

@@ -6,6 +6,7 @@
 //!   on the search being right. What it proposes is compared with the given rows, and where it fails,
 //!   the distinct ones of the given rows are the answer.
 //! - It says too how many rows any suite needs that serves what the given rows serve.
+//! - `contains` tells whether a row contains a seed row.
 #![tactic(auto)]
 
 mod accepting;
@@ -19,4 +20,5 @@ mod shrinking;
 mod valid;
 
 pub use planned_model::PlannedModel;
+pub use seeds::contains;
 pub use shrinking::{ShrinkOpts, Shrunk, shrink};

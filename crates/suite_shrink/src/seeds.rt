@@ -15,8 +15,8 @@ fn value_at(row: &[Option<ValueNo>], p: usize) -> Option<ValueNo>
     }
 }
 
-// Whether a row gives every value that a partial row gives.
-fn contains(row: &[Option<ValueNo>], part: &[Option<ValueNo>]) -> bool
+/// Whether a row gives every value that a partial row gives.
+pub fn contains(row: &[Option<ValueNo>], part: &[Option<ValueNo>]) -> bool
     ensures { result ≡ contains row.now part.now }
 {
     for p in 0..part.len() {

@@ -25,6 +25,8 @@ pub struct ShrinkOpts {
     pub random: u64,
     /// How many moves are tried for each number of rows.
     pub rounds: u64,
+    /// Whether cells whose change would lose no combination take other values, once no shorter suite is looked for.
+    pub spread: bool,
     /// What one question may cost. Where a question costs more, a move isn't made.
     pub effort: Effort,
 }
@@ -78,6 +80,7 @@ fn propose(
     let search = SearchOpts {
         rounds: opts.rounds,
         random: opts.random,
+        spread: opts.spread,
     };
     let found = search_fewer(
         alloc,
