@@ -19,8 +19,8 @@ pub(crate) fn is_offered(command: &Command) -> bool
     ensures { result ≡ is_offered command.now }
 {
     match command {
-        Command::Generate(args) => args.shrinking.is_none() && is_of_tables(args.format),
-        Command::Shrink(args) => !args.shrinking.spread && is_of_tables(args.format),
+        Command::Generate(args) => is_of_tables(args.format),
+        Command::Shrink(args) => is_of_tables(args.format),
         Command::Check(_)
         | Command::Show(_)
         | Command::Lint(_)
@@ -31,24 +31,13 @@ pub(crate) fn is_offered(command: &Command) -> bool
     }
 }
 
-// What this version doesn't have.
-fn lack(command: &Command) -> &'static str {
-    match command {
-        Command::Generate(args) if args.shrinking.is_some() => {
-            "generate --shrink isn't there yet; `jeldroft shrink` makes the table shorter"
-        }
-        Command::Shrink(args) if args.shrinking.spread => "--spread isn't there yet",
-        _ => "a table is written as tsv, csv, json or markdown",
-    }
-}
-
 /// Says what this version doesn't have, and gives the exit status.
-pub(crate) fn refuse_lack<E: Sink>(command: &Command, diag: &mut E) -> u8
+pub(crate) fn refuse_lack<E: Sink>(diag: &mut E) -> u8
     ensures { result ≡ 2 }
 {
-    let words = lack(command);
-    let _ = put_pieces(diag, &["jeldroft: error: "]);
-    let _ = put_pieces(diag, &[words]);
-    let _ = put_pieces(diag, &["\n"]);
+    let _ = put_pieces(
+        diag,
+        &["jeldroft: error: a table is written as tsv, csv, json or markdown\n"],
+    );
     2
 }

@@ -45,7 +45,7 @@ fn run_command<R: Threads + Sync, F: Folder, O: Sink, E: Sink>(
         IsUntouched (moment (F.seen files.old) (O.seen out.old)) (moment (F.seen files.new) (O.seen out.new)) × (result ≡ 2) }
 {
     if !is_offered(command) {
-        return refuse_lack(command, diag);
+        return refuse_lack(diag);
     }
     dispatch(rt, alloc, command, files, out, diag, terminal)
 }

@@ -1,10 +1,12 @@
 -- The table that was written covers what can be covered.
 use Rattle.std.proofs.Common.{◌≡◌, ℕ, ◌^◌, ◌<◌, ◌⊎◌, true, false, Bool, List, length, Option, None, Some, Result, Ok, Err, inl, inr, refl, sym, subst, arith}
-use Rattle.std.specs.Prelude.{All, nat_lt, if◌then◌else◌, IfSome, IsSomeAnd, option_and_then, option_map, unwrap_or}
+use Rattle.std.specs.Prelude.{All, nat_lt, slice_index_or, if◌then◌else◌, IfSome, IsSomeAnd, option_and_then, option_map, unwrap_or}
 use Rattle.std.proofs.lemmas.Bool.{ltb-false}
+use Rattle.std.proofs.lemmas.List.Folds.{Any-from_list_any, list_any-from_Any}
 use Rattle.std.proofs.lemmas.Option.{none-some}
 use Rattle.value_text.proofs.ListLemmas.{one_ok}
 use Rattle.cov_model.specs.believed.Sound.{ModelView, IsSound}
+use Rattle.cov_model.specs.believed.Valid.{is_valid, serves}
 use Rattle.cov_model.specs.Fits.{FitsModel}
 use Rattle.cov_model.specs.Preference.{OrdersValues}
 use Rattle.cov_model.proofs.PreferenceLemmas.{OrdersValues-preference}
@@ -31,15 +33,17 @@ use Rattle.pict_cli.specs.believed.Runs.{CoversOrRefutes, spent_at}
 use Rattle.pict_cli.proofs.Headline.{suite_rows}
 use Rattle.jeldroft_args.specs.declared.generate.Generate.{Generate}
 use Rattle.jeldroft_args.specs.declared.proof_output.ProofOutput.{ProofOutput}
+use Rattle.jeldroft_args.specs.declared.shrinking.Shrinking.{Shrinking}
+use Rattle.shorter_suites.specs.believed.Laws as lines
 use Rattle.jeldroft_files.specs.believed.Models.{opts_of}
 use Rattle.jeldroft_files.specs.believed.Runs.{IsWritten, Moment, moment}
 use Rattle.jeldroft_files.specs.declared.failure.Cause.{Cause}
 use Rattle.jeldroft_files.specs.declared.failure.Failure.{Failure}
-use Rattle.jeldroft_generate.specs.believed.Asked.{effort_of, orders_of, proof_form, proof_name, question_over, rows_of}
+use Rattle.jeldroft_generate.specs.believed.Asked.{AreRowsFor, effort_of, orders_of, proof_form, proof_format, proof_name, question_over, rows_of}
 use Rattle.jeldroft_generate.specs.Due.{Answers, IsMadeOf}
 use Rattle.jeldroft_generate.specs.believed.Due.{AreHeld, CallsFor, Held, IsProof, Start, reading_of, start_of}
 use Rattle.jeldroft_generate.specs.believed.Given.{GivesModel, and_then, unless}
-use Rattle.jeldroft_generate.specs.believed.Runs.{Covers, WritesSuite}
+use Rattle.jeldroft_generate.specs.believed.Runs.{Covers, WritesSuite, told_proof}
 use Rattle.jeldroft_generate.specs.Runs.{Finishes}
 use Rattle.jeldroft_generate.specs.declared.made.Made.{Made}
 use Rattle.jeldroft_generate.proofs.Reading.{has_model}
@@ -49,6 +53,24 @@ use Rattle.jeldroft_generate.proofs.Since.{written_from}
 -- the rows of a suite fit its model
 pub rows_fit : (args : Generate) (m : ModelView) (seeds : List (ℕ × List (Option ℕ))) → IsSound m → All (FitsModel m) (rows_of args m seeds)
 rows_fit args m seeds sound = λ k d within. FitsModel-is_row m _ (suite_rows m args.shuffle seeds sound k d within)
+
+-- and are valid
+pub rows_valid : (args : Generate) (m : ModelView) (seeds : List (ℕ × List (Option ℕ))) → IsSound m → All (λ row. is_valid m row ≡ true) (rows_of args m seeds)
+rows_valid args m seeds sound = (suites_cover m (orders_of args m) seeds sound (OrdersValues-preference m args.shuffle)).valid
+
+-- rows in place of rows that cover what can be covered do so too
+still_covers : (shrinking : Option Shrinking) (m : ModelView) (format : ℕ) (proof : Option (Option (List ℕ))) (grown seeds rows : List (List (Option ℕ)))
+    → AreRowsFor shrinking m grown seeds rows → CoversOrRefutes m format proof grown → CoversOrRefutes m format proof rows
+still_covers None m format proof grown seeds rows are covers = subst (CoversOrRefutes m format proof) (sym are) covers
+still_covers (Some shrinking) m format proof grown seeds rows are covers = record {
+  valid = are.valid;
+  served = λ k d inside.
+      let tuple = slice_index_or (demanded_tuples m) k d in
+      elim (covers.served k d inside) [
+        | inl some ↦ inl (Any-from_list_any (λ row. serves m row tuple) rows (are.serves k d inside (list_any-from_Any (λ row. serves m row tuple) grown some)))
+        | inr none ↦ inr none
+      ];
+}
 
 -- fewer than 2^32 tuples are demanded
 second_false : {X : Type 0} (x y : X) (first second : Bool) → (if first then Some x else if second then Some y else None) ≡ None → second ≡ false
@@ -139,12 +161,13 @@ covers_zero args folder read out after status (Ok made) answers ends zero held i
     let made_of = answer.2 in
     let proof = proof_of (proof_name args) (IsProof args start) made.proof.items after.folder made_of.proof (ends.proof_written zero apart) in
     let writes : WritesSuite args m start.seeds (moment folder out) after = record {
-      rows = rows_of args m start.seeds;
-      grown = refl;
-      written = subst (λ text. IsWritten args.output text (moment folder out) after) made_of.table
+      rows = made_of.table.rows;
+      are = made_of.table.are;
+      written = subst (λ text. IsWritten args.output text (moment folder out) after) made_of.table.is
           (written_from args.output made.table.items (moment folder out) (moment read out) after refl (ends.written zero));
       covers =
-          covers_told m (orders_of args m) start.seeds (effort_of args.budget) made_of.sound (OrdersValues-preference m args.shuffle) made_of.within args.proof after.folder.files proof;
+          still_covers args.shrinking m (proof_format args) (told_proof args after.folder.files) (rows_of args m start.seeds) (lines.rows_of start.seeds) made_of.table.rows made_of.table.are
+          (covers_told m (orders_of args m) start.seeds (effort_of args.budget) made_of.sound (OrdersValues-preference m args.shuffle) made_of.within args.proof after.folder.files proof);
     } in
     let found = from_given args held (moment folder out) after start answer.1.given answer.1.gives answer.1.is made_of.sound made_of.within writes in
     has_model (opts_of args.model args.strength) held.model found.0 (IsCovered args held (moment folder out) after) found.1 found.2

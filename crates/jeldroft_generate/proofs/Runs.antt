@@ -7,7 +7,7 @@ use Rattle.command_line.specs.declared.stop.Stop.{Stop}
 use Rattle.command_line.specs.declared.stop.Stop.TheVariants as stops
 use Rattle.jeldroft_args.specs.declared.generate.Generate.{Generate}
 use Rattle.jeldroft_files.specs.believed.Failures.{status_of}
-use Rattle.jeldroft_files.specs.believed.Runs.{IsWritten, KeepsFile, Moment, moment}
+use Rattle.jeldroft_files.specs.believed.Runs.{KeepsFile, Moment, moment}
 use Rattle.jeldroft_files.specs.declared.failure.Cause.{Cause}
 use Rattle.jeldroft_files.specs.declared.failure.Cause.TheVariants as causes
 use Rattle.jeldroft_files.specs.declared.failure.Failure.{Failure}
@@ -93,7 +93,11 @@ module _ (args : Generate) (folder read : FolderSeen) (out : SinkSeen) (after : 
     done = λ zero. (
       start,
       called,
-      subst (λ text. IsWritten args.output text (moment folder out) after) is.table (written_from args.output made.table.items (moment folder out) (moment read out) after refl (ends.written zero)),
+      record {
+        table = made.table.items;
+        is = is.table;
+        written = written_from args.output made.table.items (moment folder out) (moment read out) after refl (ends.written zero);
+      },
       λ apart. proof_of (proof_name args) (IsProof args start) made.proof.items after.folder is.proof (ends.proof_written zero apart),
     );
     refused = λ two. elim ends.known [

@@ -7,7 +7,7 @@ use Rattle.jeldroft_args.specs.declared.generate.Generate.{Generate}
 use Rattle.jeldroft_files.specs.believed.Failures.{status_of}
 use Rattle.jeldroft_files.specs.declared.failure.Cause.{Cause}
 use Rattle.jeldroft_files.specs.declared.failure.Failure.{Failure}
-use Rattle.jeldroft_generate.specs.believed.Asked.{table_of}
+use Rattle.jeldroft_generate.specs.believed.Asked.{IsTable}
 use Rattle.jeldroft_generate.specs.declared.made.Made.{Made}
 use Rattle.jeldroft_generate.specs.believed.Due.{Start, IsProof}
 
@@ -22,5 +22,5 @@ Answers {A} {B} Calls Holds (Err failure) = (status_of failure.cause ≡ 3) ⊎ 
 pub record IsMadeOf (args : Generate) (made : Made) (start : Start) : Type 0 where
   pub sound : IsSound start.model
   pub within : limit_passed start.model ≡ None
-  pub table : made.table.items ≡ table_of args start.model start.seeds
+  pub table : IsTable args start.model start.seeds made.table.items
   pub proof : IsProof args start made.proof.items

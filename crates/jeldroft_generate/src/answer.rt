@@ -15,17 +15,19 @@ ghost use Rattle.jeldroft_generate.specs.Runs.{AreInRange};
 ghost use Rattle.jeldroft_generate.specs.Steps.{EndsAt};
 
 use crate::asked::form_of;
-use crate::growing::{grow, make_plan, shrunk};
+use crate::growing::{grow, make_plan};
 use crate::made::Made;
 use crate::notes::Notes;
 use crate::proof_text::proof_of;
 use crate::seeds::read_seeds;
+use crate::shrinking::tests_of;
 use crate::telling::Summary;
+use crate::tests::Tests;
 use cov_model::TestModel;
-use ipog_grow::Suite;
 use jeldroft_args::Generate;
 use jeldroft_files::{Failure, read_model_file};
 use outside_io::Folder;
+use refutation::Omissions;
 use row_text::RowFile;
 use std::alloc::Global;
 use std::thread::Threads;
@@ -33,24 +35,25 @@ use suite_forms::suite_text;
 use tuple_index::Plan;
 use value_text::{NoMemory, OwnedList};
 
-// The texts of a suite.
+// The texts of a suite: its tests, and the combinations that no test can have.
 fn texts_of(
     alloc: Global,
     args: &Generate,
     model: &TestModel,
     plan: &Plan,
-    suite: &Suite,
+    tests: &Tests,
+    omitted: &Omissions,
 ) -> Result<Made, NoMemory>
-    requires { All (λ row. FitsModel model.now row) suite.now.rows }
-    ensures table { IfOk result (λ made. made.table.items ≡ suite_text (form_of args.now.format) model.now suite.now.rows) }
-    ensures proof { IfOk result (λ made. IfSome args.now.proof (λ _. made.proof.items ≡ written suite.now.omitted.form suite.now.omitted.omissions)) }
+    requires { All (λ row. FitsModel model.now row) tests.now.rows }
+    ensures table { IfOk result (λ made. made.table.items ≡ suite_text (form_of args.now.format) model.now tests.now.rows) }
+    ensures proof { IfOk result (λ made. IfSome args.now.proof (λ _. made.proof.items ≡ written omitted.now.form omitted.now.omissions)) }
 {
-    let table = suite_text(alloc, form_of(args.format), model, &suite.rows)?;
-    let proof = proof_of(alloc, args, &suite.omitted)?;
+    let table = suite_text(alloc, form_of(args.format), model, &tests.rows)?;
+    let proof = proof_of(alloc, args, omitted)?;
     Ok(Made {
         table,
         proof,
-        summary: Summary::of(model, plan, suite),
+        summary: Summary::of(model, plan, tests, omitted),
     })
 }
 
@@ -75,9 +78,9 @@ fn make_suite<'n, R: Threads + Sync>(
 {
     model.assert_invariant();
     let grown = grow(rt, alloc, args, model, plan, seeds)?;
-    let suite = shrunk(grown, args.shrinking);
-    let made = texts_of(alloc, args, model, plan, &suite)?;
-    notes.dropped = suite.dropped;
+    let tests = tests_of(alloc, args, model, plan, seeds, grown.rows)?;
+    let made = texts_of(alloc, args, model, plan, &tests, &grown.omitted)?;
+    notes.dropped = grown.dropped;
     Ok(made)
 }
 

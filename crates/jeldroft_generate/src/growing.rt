@@ -21,7 +21,7 @@ use cov_model::{Prefs, TestModel};
 use definitions::Effort;
 use feasibility::SearchFault;
 use ipog_grow::{GrowOpts, Suite, generate};
-use jeldroft_args::{Generate, Shrinking};
+use jeldroft_args::Generate;
 use jeldroft_files::Failure;
 use row_text::RowFile;
 use std::alloc::Global;
@@ -94,15 +94,5 @@ pub(crate) fn grow<'n, R: Threads + Sync>(
     match generate(rt, alloc, model, plan, &prefs, seeds, &opts, &OpenGate) {
         Ok(suite) => Ok(suite),
         Err(fault) => Err(Failure::at(args.model.name.as_str(), stop_of_search(fault, effort))),
-    }
-}
-
-/// The suite made shorter, where that is asked for. It is not made shorter yet: this is the place for it.
-pub(crate) fn shrunk(suite: Suite, shrinking: Option<Shrinking>) -> Suite
-    ensures { result ≡ suite }
-{
-    match shrinking {
-        None => suite,
-        Some(_) => suite,
     }
 }

@@ -4,19 +4,22 @@
 //!   command is for: after status 0 every test of the table is valid, and every demanded combination is in one of them, or
 //!   no test can have it, and then the proof, where one is asked for, lists it with a tree that refutes it.
 //!
-//! The tests are those of `pict` with the same seeds and shuffle. All memory is taken before the first byte is written;
-//! the proof is written before the table.
+//! The tests are those of `pict` with the same seeds and shuffle, or, where that is asked for, fewer in their place with
+//! the same coverage. All memory is taken before the first byte is written; the proof is written before the table.
 #![tactic(auto)]
 
 mod answer;
 mod asked;
+mod fewer;
 mod growing;
 mod made;
 mod notes;
 mod proof_text;
 mod run;
 mod seeds;
+mod shrinking;
 mod telling;
+mod tests;
 mod writing;
 
 pub use run::run_generate;

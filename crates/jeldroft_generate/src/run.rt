@@ -27,12 +27,12 @@ fn status_of(end: &Result<Summary, Failure<'_>>) -> u8
 
 /// Runs `jeldroft generate` with its settings, and gives the exit status.
 ///
-/// The steps come in this order: model file, limits of what it demands, file of seeds, growth, write of the proof file,
-/// write of the table to the output file or to `out`. All memory is taken before the first byte is written. Statuses: 0
-/// where the table was written whole, 2 where the model or another file is refused, a limit is passed, or a question of the
-/// search costs more than the budget, 3 where memory, reading or writing failed. A reader of `out` that has gone away is no
-/// failure. What is told goes to `diag`, whose faults change nothing; the line that sums up only where `terminal` says
-/// that it is one.
+/// The steps come in this order: model file, limits of what it demands, file of seeds, growth, fewer tests where they are
+/// asked for, write of the proof file, write of the table to the output file or to `out`. All memory is taken before the
+/// first byte is written. Statuses: 0 where the table was written whole, 2 where the model or another file is refused, a
+/// limit is passed, or a question of the search costs more than the budget, 3 where memory, reading or writing failed. A
+/// reader of `out` that has gone away is no failure. What is told goes to `diag`, whose faults change nothing; the line
+/// that sums up only where `terminal` says that it is one.
 pub fn run_generate<R: Threads + Sync, F: Folder, O: Sink, E: Sink>(
     rt: &R,
     alloc: Global,
@@ -47,7 +47,8 @@ pub fn run_generate<R: Threads + Sync, F: Folder, O: Sink, E: Sink>(
     // The headline: after status 0 the model file spells a model, the seeds have a reading, and the table was written of
     // tests of which each is valid, and every demanded combination is served by one of them, or no test serves it, and
     // then the proof, where one is asked for, lists it with a tree that refutes it. The tests are those that grow from the
-    // seeds with the same preferences as in a run of `pict`. Premises: the folder tells what the files held that are read,
+    // seeds with the same preferences as in a run of `pict`; or, where fewer are asked for, fewer in their place, no two the
+    // same, in which each seed is contained that is in those. Premises: the folder tells what the files held that are read,
     // and the table and the proof go to two files.
     ensures headline { result ≡ 0 → Covers args.now (moment (F.seen files.old) (O.seen out.old)) (moment (F.seen files.new) (O.seen out.new)) }
 

@@ -1,12 +1,14 @@
 //! What a run tells on standard error.
+use crate::fewer::Fewer;
 use crate::notes::Notes;
+use crate::tests::Tests;
 use cov_model::TestModel;
-use ipog_grow::Suite;
 use itoa::Buffer;
 use jeldroft_args::Generate;
 use jeldroft_files::Failure;
 use jeldroft_words::{tell_dropped_seed, tell_failure, tell_notes, tell_table_notes};
 use outside_io::{Sink, put_pieces};
+use refutation::Omissions;
 use shared_marks::count_tuples;
 use std::alloc::Global;
 use tuple_index::Plan;
@@ -21,23 +23,56 @@ pub(crate) struct Summary {
     // How many combinations of their values are demanded, and how many of them no test can have.
     combinations: u64,
     impossible: u64,
+    // Where the tests are in place of those that grew, what is told of that.
+    fewer: Option<Fewer>,
 }
 
 impl Summary {
-    /// What is said of a suite.
-    pub(crate) fn of(model: &TestModel, plan: &Plan, suite: &Suite) -> Summary {
+    /// What is said of tests, and of the combinations that no test can have.
+    pub(crate) fn of(
+        model: &TestModel,
+        plan: &Plan,
+        tests: &Tests,
+        omitted: &Omissions,
+    ) -> Summary {
         Summary {
-            tests: suite.rows.len() as u64,
+            tests: tests.rows.len() as u64,
             strength: model.demand().order,
             combinations: u64::from(count_tuples(plan)),
-            impossible: suite.omitted.len() as u64,
+            impossible: omitted.len() as u64,
+            fewer: tests.fewer,
+        }
+    }
+
+    // Writes how many tests were in place of these.
+    fn tell_grown<E: Sink>(&self, diag: &mut E) {
+        if let Some(fewer) = &self.fewer {
+            let _ = put_pieces(diag, &[" in place of "]);
+            put_number(fewer.grown, diag);
+        }
+    }
+
+    // Writes how many tests any suite with this coverage needs.
+    fn tell_least<E: Sink>(&self, diag: &mut E) {
+        match &self.fewer {
+            Some(fewer) if fewer.least == self.tests => {
+                let _ = put_pieces(diag, &["; no suite with this coverage is shorter"]);
+            }
+            Some(fewer) => {
+                let _ = put_pieces(diag, &["; at least "]);
+                put_number(fewer.least, diag);
+                let _ = put_pieces(diag, &[" are needed for this coverage"]);
+            }
+            None => {}
         }
     }
 
     // Writes the line.
     fn tell<E: Sink>(&self, diag: &mut E) {
         put_number(self.tests, diag);
-        let _ = put_pieces(diag, &[" tests cover "]);
+        let _ = put_pieces(diag, &[" tests"]);
+        self.tell_grown(diag);
+        let _ = put_pieces(diag, &[" cover "]);
         put_number(self.combinations.saturating_sub(self.impossible), diag);
         let _ = put_pieces(diag, &[" of "]);
         put_number(self.combinations, diag);
@@ -49,6 +84,7 @@ impl Summary {
             put_number(self.impossible, diag);
             let _ = put_pieces(diag, &[" (--proof lists them)"]);
         }
+        self.tell_least(diag);
         let _ = put_pieces(diag, &["\n"]);
     }
 }

@@ -11,3 +11,5 @@ mod files;
 mod generate;
 #[cfg(test)]
 mod pipe;
+#[cfg(test)]
+mod shrink;

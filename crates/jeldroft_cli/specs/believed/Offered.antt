@@ -1,5 +1,5 @@
 -- Which of the commands that words can ask for this version has. (This project's rule.)
-use Rattle.std.specs.Prelude.{Bool, true, false, not, ◌&&◌, is_none}
+use Rattle.std.specs.Prelude.{Bool, true, false}
 use Rattle.jeldroft_args.specs.declared.command.Command.{Command}
 use Rattle.jeldroft_args.specs.declared.command.Command.TheVariants.{Generate, Check, Shrink, Show, Lint, Measure, Suspect, Sequence, Import}
 use Rattle.jeldroft_args.specs.declared.format.Format.{Format}
@@ -14,11 +14,11 @@ is_of_tables Markdown = true
 is_of_tables Text = false
 is_of_tables Html = false
 
--- a suite isn't made shorter while it is generated, and cells that aren't needed don't vary
+-- tables are written in the forms of tables
 abbrev pub is_offered : Command → Bool
-is_offered (Generate g) = is_none g.shrinking && is_of_tables g.format
+is_offered (Generate g) = is_of_tables g.format
 is_offered (Check c) = true
-is_offered (Shrink s) = not s.shrinking.spread && is_of_tables s.format
+is_offered (Shrink s) = is_of_tables s.format
 is_offered (Show s) = true
 is_offered (Lint l) = true
 is_offered (Measure m) = true

@@ -10,7 +10,7 @@ use Rattle.jeldroft_files.specs.believed.Failures.{status_of}
 use Rattle.jeldroft_files.specs.believed.Models.{opts_of}
 use Rattle.jeldroft_files.specs.believed.Runs.{IsUntouched, IsWritten, KeepsFile, Moment}
 use Rattle.jeldroft_files.specs.declared.failure.Cause.{Cause}
-use Rattle.jeldroft_generate.specs.believed.Asked.{form_of, proof_format, proof_name, rows_of, table_of}
+use Rattle.jeldroft_generate.specs.believed.Asked.{AreRows, IsTable, form_of, proof_format, proof_name}
 use Rattle.jeldroft_generate.specs.believed.Due.{AreHeld, CallsFor, Held, IsProof, Start, reading_of}
 
 -- the table and the proof don't go to one file
@@ -26,8 +26,9 @@ told_proof args files = option_and_then files (proof_name args)
 -- the table of a suite was written, to the output file or to standard output
 pub record WritesSuite (args : Generate) (m : ModelView) (seeds : List (ℕ × List (Option ℕ))) (before after : Moment) : Type 0 where
   pub rows : List (List (Option ℕ))
-  -- they are what grows from the seeds with these preferences, as in a run of `pict`
-  pub grown : rows ≡ rows_of args m seeds
+  -- they are what grows from the seeds with these preferences, as in a run of `pict`; or, where fewer are asked for, fewer
+  -- in place of these
+  pub are : AreRows args m seeds rows
   pub written : IsWritten args.output (suite_text (form_of args.format) m rows) before after
   -- every row is valid, and every demanded tuple is served by one of them, or no row serves it, and then the proof lists
   -- it with a tree that refutes it
@@ -41,6 +42,12 @@ Covers args before after = (held : Held) → AreHeld args before.folder.files he
 
 -- ---- what a run does
 
+-- the table of a suite was written
+pub record WritesTable (args : Generate) (start : Start) (before after : Moment) : Type 0 where
+  pub table : List ℕ
+  pub is : IsTable args start.model start.seeds table
+  pub written : IsWritten args.output table before after
+
 -- the proof file holds what it held, or the whole proof
 abbrev pub KeepsProof : Generate → Start → Moment → Moment → Type 0
 KeepsProof args start before after =
@@ -53,7 +60,7 @@ HoldsProof args start after = IfSome (proof_name args) (λ name. IfSome (after.f
 -- what a run does whose files hold this
 pub record Generates (args : Generate) (held : Held) (before after : Moment) (status : ℕ) : Type 0 where
   -- 0: the table of the suite was written that the files call for, and before it its proof, where one is asked for
-  pub done : status ≡ 0 → (start : Start) × CallsFor args held (Ok start) × IsWritten args.output (table_of args start.model start.seeds) before after
+  pub done : status ≡ 0 → (start : Start) × CallsFor args held (Ok start) × WritesTable args start before after
       × (AreApart (proof_name args) args.output → HoldsProof args start after)
   -- 2: they call for none
   pub refused : status ≡ 2 → (cause : Cause) × CallsFor args held (Err cause)
