@@ -6,7 +6,7 @@ use Rattle.std.proofs.lemmas.List.{drop_all, drop-drop, take_more}
 use Rattle.std.proofs.lemmas.Str.{IsCharBoundary-before_ascii, IsCharBoundary-start}
 use Rattle.std.specs.Str.{IsUtf8, IsCharBoundary}
 use Rattle.model_lex.specs.believed.Tokens.{is_quotable}
-use Rattle.constraint_ast.specs.RuleText.{quoted}
+use Rattle.constraint_ast.specs.believed.RuleText.{quoted}
 
 -- at a byte that is quoted, and at another
 plain_here : (text : List ℕ) → 0 < length text → is_quotable (get_or text 0 0) ≡ false → quoted text ≡ get_or text 0 0 ∷ quoted (drop 1 text)

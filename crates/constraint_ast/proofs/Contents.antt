@@ -6,7 +6,7 @@ use Rattle.std.specs.Prelude.{All}
 use Rattle.constraint_ast.specs.believed.Trees.{Tree, Trees, Leaf, Negated, Each, Either, End, More, all_of, any_of, RuleTree}
 use Rattle.constraint_ast.specs.believed.Grammar.{AreConjs, AreLiterals, AreRules, AreUnits, IsRule, IsUnit, if_else, if_then, last_conj, last_literal, last_unit, like, negation}
 use Rattle.constraint_ast.specs.believed.Grammar.{next_conj, next_literal, next_rule, next_unit, no_rule, none_of, not_like, one_of, param_is, parens, plain, sign_term, signed, value_is}
-use Rattle.constraint_ast.specs.RuleText.{all_has_parens, any_has_parens, body_tokens, in_parens, literals_before, more_before, more_literals, term_before, tree_before, trees_before}
+use Rattle.constraint_ast.specs.believed.RuleText.{all_has_parens, any_has_parens, body_tokens, in_parens, literals_before, more_before, more_literals, term_before, tree_before, trees_before}
 use Rattle.constraint_ast.specs.declared.token.LineToken.{LineToken}
 use Rattle.constraint_ast.specs.declared.token.RuleToken.{RuleToken}
 use Rattle.constraint_ast.specs.declared.token.RuleToken.TheVariants.{Name, Literal, And, Or, Semicolon}

@@ -3,7 +3,7 @@ use Rattle.std.proofs.Common.{◌≡◌, ℕ, zero, suc, ◌+◌, ◌-◌, ◌*�
 use Rattle.std.proofs.Common.{◌∷◌, ◌++◌, refl, ap, sym, subst, arith, ◌∙◌, append_assoc, append-nil}
 use Rattle.std.proofs.lemmas.Bool.{ne_eqb}
 use Rattle.std.proofs.Math.Nat.{pow-le-pow_right, pow-suc}
-use Rattle.constraint_ast.specs.RuleText.{decimals}
+use Rattle.constraint_ast.specs.believed.RuleText.{decimals}
 
 -- so many decimals are left
 pub record DecimalsLeft (old now : List ℕ) (fraction places left : ℕ) : Type 0 where

@@ -14,7 +14,7 @@ use Rattle.std.proofs.lemmas.Nat.{pow-add}
 use Rattle.std.proofs.lemmas.Str.{digit_value_digit}
 use Rattle.std.proofs.lemmas.Str.Parse.{digit_at}
 use Rattle.value_text.proofs.DigitLemmas.{digits_value-append}
-use Rattle.constraint_ast.specs.RuleText.{decimals}
+use Rattle.constraint_ast.specs.believed.RuleText.{decimals}
 
 -- ---- runs
 

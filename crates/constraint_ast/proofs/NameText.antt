@@ -12,7 +12,7 @@ use Rattle.model_lex.specs.believed.Blanks.{trimmed, without_first_blanks, witho
 use Rattle.value_text.specs.believed.Texts.{is_blank}
 use Rattle.model_lex.specs.believed.Tokens.{is_quotable, name_between, quoted_len, unquoted}
 use Rattle.model_lex.proofs.Opening.{solid}
-use Rattle.constraint_ast.specs.RuleText.{quoted}
+use Rattle.constraint_ast.specs.believed.RuleText.{quoted}
 
 -- ---- what is quoted
 

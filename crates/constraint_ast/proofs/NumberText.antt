@@ -17,7 +17,7 @@ use Rattle.model_lex.specs.believed.Tokens.{begins_number, is_number_byte}
 use Rattle.value_text.specs.believed.Numbers.{decimal_digits, has_point, is_decimal, is_digits, is_minus, is_point, number_of, scaled_size, whole_digits, without_sign}
 use Rattle.value_text.specs.declared.fixed.FixedAnswer.TheVariants.{Number, NotNumber, TooWide}
 use Rattle.value_text.proofs.DigitLemmas.{digits_value-append, value_small}
-use Rattle.constraint_ast.specs.RuleText.{decimals, fraction, number_text, size_text}
+use Rattle.constraint_ast.specs.believed.RuleText.{decimals, fraction, number_text, size_text}
 use Rattle.constraint_ast.proofs.Digits.{Decimals, Write, decimals_are, run_prefix, whole_writes}
 
 -- ---- the text of a size

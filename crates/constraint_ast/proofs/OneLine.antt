@@ -17,7 +17,7 @@ use Rattle.model_lex.specs.declared.line_kind.LineKind.{LineKind}
 use Rattle.model_lex.specs.declared.line_kind.LineKind.TheVariants.{Param, Group, Rule}
 use Rattle.constraint_ast.specs.Laws.{RuleTextIsOneLine}
 use Rattle.constraint_ast.specs.believed.Lexing.{inside}
-use Rattle.constraint_ast.specs.RuleText.{body_tokens, closes, number_text, opens, quoted, relation_text, spaced, token_text}
+use Rattle.constraint_ast.specs.believed.RuleText.{body_tokens, closes, number_text, opens, quoted, relation_text, spaced, token_text}
 use Rattle.constraint_ast.specs.believed.Trees.{RuleTree}
 use Rattle.constraint_ast.specs.declared.token.RuleToken.{RuleToken}
 use Rattle.constraint_ast.specs.declared.token.RuleToken.TheVariants.{Name, Literal, Relation, Sign}

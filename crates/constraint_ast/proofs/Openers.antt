@@ -11,7 +11,7 @@ use Rattle.model_lex.proofs.Opening.{goes_on_inside}
 use Rattle.constraint_ast.specs.believed.Grammar.{at, AreConjs, AreRules, AreUnits, IsRule, IsUnit, if_else, if_then, last_conj, last_unit, like, negation}
 use Rattle.constraint_ast.specs.believed.Grammar.{next_conj, next_rule, next_unit, none_of, not_like, one_of, param_is, parens, plain, signed, value_is}
 use Rattle.constraint_ast.specs.Laws.{RuleTextOpens}
-use Rattle.constraint_ast.specs.RuleText.{body_tokens, spaced, token_text}
+use Rattle.constraint_ast.specs.believed.RuleText.{body_tokens, spaced, token_text}
 use Rattle.constraint_ast.specs.believed.Trees.{RuleTree, Tree, Trees}
 use Rattle.constraint_ast.specs.declared.token.LineToken.{LineToken}
 use Rattle.constraint_ast.specs.declared.token.RuleToken.{RuleToken}

@@ -6,7 +6,8 @@ use Rattle.constraint_ast.specs.believed.Trees.{Tree, Trees, Leaf, Negated, End,
 use Rattle.constraint_ast.specs.believed.Trees as trees
 use Rattle.constraint_ast.specs.believed.Grammar.{at, AreConjs, AreLiterals, AreRules, AreUnits, IsRule, IsUnit, if_else, if_then, last_conj, last_literal, last_unit, like, negation}
 use Rattle.constraint_ast.specs.believed.Grammar.{next_conj, next_literal, next_rule, next_unit, no_rule, none_of, not_like, one_of, param_is, parens, plain, signed, value_is, sign_term}
-use Rattle.constraint_ast.specs.RuleText.{body_tokens, literals_before, more_before, more_literals, rule_at, tree_at, tree_before, trees_at, trees_before}
+use Rattle.constraint_ast.specs.believed.RuleText.{body_tokens, literals_before, more_before, more_literals, tree_before, trees_before}
+use Rattle.constraint_ast.specs.RuleText.{rule_at, tree_at, trees_at}
 use Rattle.constraint_ast.specs.declared.token.LineToken.{LineToken}
 use Rattle.constraint_ast.specs.declared.token.RuleToken.{RuleToken}
 use Rattle.constraint_ast.specs.declared.token.RuleToken.TheVariants.{Literal, Then, Else, And, Or, CloseParen, CloseBrace, Comma, Semicolon}

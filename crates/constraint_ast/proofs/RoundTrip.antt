@@ -5,7 +5,8 @@ use Rattle.std.specs.Prelude.{Ok}
 use Rattle.constraint_ast.specs.believed.Grammar.{at, AreRules, most_open}
 use Rattle.constraint_ast.specs.Laws.{RuleTextReadsBack}
 use Rattle.constraint_ast.specs.believed.Lexing.{both_tokens, inside, tokens_in, tokens_of, Spell}
-use Rattle.constraint_ast.specs.RuleText.{body_tokens, rule_at, rule_text}
+use Rattle.constraint_ast.specs.believed.RuleText.{body_tokens, rule_text}
+use Rattle.constraint_ast.specs.RuleText.{rule_at}
 use Rattle.constraint_ast.specs.believed.Trees.{RuleTree}
 use Rattle.constraint_ast.specs.declared.token.LineToken.{LineToken}
 use Rattle.constraint_ast.proofs.Contents.{TokensAre, WrittenAre, rules_are}

@@ -7,7 +7,8 @@ use Rattle.constraint_ast.specs.believed.Grammar.{most_open}
 use Rattle.constraint_ast.specs.believed.Trees.{Tree, Trees, Leaf, Negated, Each, Either, End, More, RuleTree, BodyTree, Plain, IfThen, IfElse}
 use Rattle.constraint_ast.specs.believed.Lexing.{Spell, tokens_of}
 use Rattle.constraint_ast.specs.Machine.{Between, run}
-use Rattle.constraint_ast.specs.RuleText.{number_text, rule_at, rule_text}
+use Rattle.constraint_ast.specs.believed.RuleText.{number_text, rule_text}
+use Rattle.constraint_ast.specs.RuleText.{rule_at}
 use Rattle.constraint_ast.specs.declared.token.LineToken.{LineToken}
 use Rattle.constraint_ast.specs.declared.tree.RawLiteral.{RawLiteral}
 use Rattle.constraint_ast.specs.declared.tree.RawLiteral.TheVariants.{Words, Number}

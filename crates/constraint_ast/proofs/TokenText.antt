@@ -16,7 +16,7 @@ use Rattle.value_text.specs.believed.Numbers.{number_of}
 use Rattle.value_text.specs.declared.fixed.FixedAnswer.TheVariants.{Number as IsNumber}
 use Rattle.constraint_ast.specs.believed.Grammar.{at}
 use Rattle.constraint_ast.specs.believed.Lexing.{inside, meant, number_meant, token_before, tokens_in}
-use Rattle.constraint_ast.specs.RuleText.{closes, number_text, opens, quoted, relation_text, spaced, token_text}
+use Rattle.constraint_ast.specs.believed.RuleText.{closes, number_text, opens, quoted, relation_text, spaced, token_text}
 use Rattle.constraint_ast.specs.declared.token.RuleToken.{RuleToken}
 use Rattle.constraint_ast.specs.declared.token.RuleToken.TheVariants.{Name, Literal, Relation, If, Then, Else, And, Or, Not, In, Like}
 use Rattle.constraint_ast.specs.declared.token.RuleToken.TheVariants.{Sign, OpenParen, CloseParen, OpenBrace, CloseBrace, Comma, Semicolon}

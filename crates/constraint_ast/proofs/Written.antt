@@ -1,7 +1,7 @@
 -- What is written of a line, token by token.
 use Rattle.std.proofs.Common.{◌≡◌, ℕ, suc, ◌+◌, ◌<◌, Bool, true, false, List, [], ◌∷◌, length, drop, get_or, refl, ap, sym, ◌∙◌, drop-cons, add-one}
 use Rattle.std.specs.Prelude.{Result, Ok, Err, OnOk}
-use Rattle.constraint_ast.specs.RuleText.{in_parens, more_literals}
+use Rattle.constraint_ast.specs.believed.RuleText.{in_parens, more_literals}
 use Rattle.constraint_ast.specs.Writing.{Writes, closed_if, line_with, opened_if}
 use Rattle.constraint_ast.specs.declared.token.RuleToken.{RuleToken}
 use Rattle.constraint_ast.specs.declared.token.RuleToken.TheVariants.{Literal, Comma}

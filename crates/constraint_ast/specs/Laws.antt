@@ -7,7 +7,8 @@ use Rattle.model_lex.specs.declared.diag.Diag.{Diag}
 use Rattle.constraint_ast.specs.believed.Trees.{RuleTree}
 use Rattle.constraint_ast.specs.believed.Grammar.{AreRules, Refused}
 use Rattle.constraint_ast.specs.believed.Lexing.{AreRefused, Spell}
-use Rattle.constraint_ast.specs.RuleText.{rule_at, rule_text}
+use Rattle.constraint_ast.specs.RuleText.{rule_at}
+use Rattle.constraint_ast.specs.believed.RuleText.{rule_text}
 use Rattle.constraint_ast.specs.declared.token.LineToken.{LineToken}
 
 -- tokens spell at most one list of constraints

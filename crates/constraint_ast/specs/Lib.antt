@@ -1,7 +1,7 @@
 pub mod Machine
 pub mod Reading
-pub mod RuleText
 pub mod Laws
 pub mod Writing
 pub mod believed
 pub mod Trees
+pub mod RuleText

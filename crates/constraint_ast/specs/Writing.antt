@@ -1,7 +1,7 @@
 -- What the functions that write a line add to it.
 use Rattle.std.specs.Prelude.{◌≡◌, ℕ, Bool, true, false, ◌||◌, List, [], ◌∷◌, ◌++◌, if◌then◌else◌}
 use Rattle.std.specs.String.{string_bytes}
-use Rattle.constraint_ast.specs.RuleText.{spaced, tree_before}
+use Rattle.constraint_ast.specs.believed.RuleText.{spaced, tree_before}
 use Rattle.constraint_ast.specs.believed.Trees.{Tree}
 use Rattle.constraint_ast.specs.declared.token.RuleToken.{RuleToken}
 use Rattle.constraint_ast.specs.declared.token.RuleToken.TheVariants.{If, Then, OpenParen, CloseParen}

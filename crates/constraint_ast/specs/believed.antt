@@ -1,3 +1,4 @@
 pub mod Grammar
 pub mod Lexing
 pub mod Trees
+pub mod RuleText

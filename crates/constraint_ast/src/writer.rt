@@ -1,7 +1,7 @@
 ghost use Rattle.std.specs.Prelude.{◌≡◌, ◌<◌, ◌+◌, ◌^◌, ◌++◌, ◌∷◌, ◌||◌, [], false, true, if◌then◌else◌, IfOk, OnOk};
 ghost use Rattle.std.specs.String.{string_bytes};
-ghost use Rattle.constraint_ast.specs.RuleText.{all_has_parens, any_has_parens, body_tokens, decimals, fraction, literals_before, number_text};
-ghost use Rattle.constraint_ast.specs.RuleText.{quoted, relation_text, rule_text, size_text, term_before, tree_before, trees_before};
+ghost use Rattle.constraint_ast.specs.believed.RuleText.{all_has_parens, any_has_parens, body_tokens, decimals, fraction, literals_before, number_text};
+ghost use Rattle.constraint_ast.specs.believed.RuleText.{quoted, relation_text, rule_text, size_text, term_before, tree_before, trees_before};
 ghost use Rattle.constraint_ast.specs.Trees.{body_tree, rule_tree, tree_of, trees_in};
 ghost use Rattle.constraint_ast.specs.Writing.{Puts, Writes, closed_if, if_tokens, line_with, opened_if};
 

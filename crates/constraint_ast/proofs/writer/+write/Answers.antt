@@ -1,5 +1,5 @@
 use Rattle.std.proofs.Common.{ap, sym, ◌∙◌}
-use Rattle.constraint_ast.specs.RuleText.{all_has_parens, any_has_parens, tree_before, trees_before}
+use Rattle.constraint_ast.specs.believed.RuleText.{all_has_parens, any_has_parens, tree_before, trees_before}
 use Rattle.constraint_ast.specs.Trees.{tree_of, trees_in}
 use Rattle.constraint_ast.specs.Writing.{closed_if, line_with, opened_if}
 use Rattle.constraint_ast.specs.declared.token.RuleToken.TheVariants.{And, Or}

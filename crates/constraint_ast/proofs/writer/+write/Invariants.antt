@@ -1,5 +1,5 @@
 use Rattle.std.proofs.Common.{drop}
-use Rattle.constraint_ast.specs.RuleText.{more_before}
+use Rattle.constraint_ast.specs.believed.RuleText.{more_before}
 use Rattle.constraint_ast.specs.Trees.{trees_in}
 use Rattle.constraint_ast.proofs.Written.{Leaves}
 use Rattle.constraint_ast.proofs.writer.+write.Given as goal

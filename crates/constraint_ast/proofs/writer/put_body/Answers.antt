@@ -1,5 +1,5 @@
 use Rattle.std.proofs.Common.{[], ◌∷◌, ap, ◌∙◌}
-use Rattle.constraint_ast.specs.RuleText.{body_tokens, tree_before}
+use Rattle.constraint_ast.specs.believed.RuleText.{body_tokens, tree_before}
 use Rattle.constraint_ast.specs.Trees.{body_tree, tree_of}
 use Rattle.constraint_ast.specs.Writing.{line_with}
 use Rattle.constraint_ast.specs.declared.token.RuleToken.TheVariants.{Else, Semicolon}

@@ -1,5 +1,5 @@
 use Rattle.std.proofs.Common.{◌+◌, ◌-◌, List, ◌∷◌, take, drop, length, ap, ◌∙◌}
-use Rattle.constraint_ast.specs.RuleText.{more_literals}
+use Rattle.constraint_ast.specs.believed.RuleText.{more_literals}
 use Rattle.constraint_ast.specs.Writing.{line_with}
 use Rattle.constraint_ast.specs.declared.token.RuleToken.TheVariants.{Literal}
 use Rattle.constraint_ast.specs.declared.tree.RawLiteral.{RawLiteral}

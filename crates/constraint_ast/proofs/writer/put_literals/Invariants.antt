@@ -1,5 +1,5 @@
 use Rattle.std.proofs.Common.{drop}
-use Rattle.constraint_ast.specs.RuleText.{more_literals}
+use Rattle.constraint_ast.specs.believed.RuleText.{more_literals}
 use Rattle.constraint_ast.proofs.Written.{Leaves}
 use Rattle.constraint_ast.proofs.writer.put_literals.Given as goal
 

@@ -1,5 +1,5 @@
 use Rattle.std.proofs.Common.{◌∷◌, ap, sym, ◌∙◌}
-use Rattle.constraint_ast.specs.RuleText.{literals_before, term_before}
+use Rattle.constraint_ast.specs.believed.RuleText.{literals_before, term_before}
 use Rattle.constraint_ast.specs.Writing.{line_with}
 use Rattle.constraint_ast.specs.declared.token.RuleToken.TheVariants.{Name, Literal, Relation, In, Like, OpenBrace, CloseBrace}
 use Rattle.constraint_ast.specs.declared.tree.RawLiteral.TheVariants.{Words}
