@@ -31,6 +31,8 @@ pub enum Argument {
     /// The format of the proof file that is written.
     ProofFormat,
     /// The form in which a table is written.
+    TableFormat,
+    /// The form in which a suite is shown.
     Format,
     /// The form in which findings are written.
     FindingFormat,
@@ -64,6 +66,8 @@ pub enum Argument {
     InvalidMark,
     /// What stands between the cells of a table that is read.
     Delimiter,
+    /// The column in which results stand.
+    ResultColumn,
     /// Whether warnings are left out.
     NoWarnings,
     /// Whether the line that sums up is left out.
@@ -99,7 +103,7 @@ impl Argument {
             Argument::Seeds => "seeds",
             Argument::Proof => "proof",
             Argument::ProofFormat => "proof-format",
-            Argument::Format | Argument::FindingFormat => "format",
+            Argument::TableFormat | Argument::Format | Argument::FindingFormat => "format",
             Argument::Output => "output",
             Argument::Report => "check",
             Argument::Shrink => "shrink",
@@ -115,6 +119,7 @@ impl Argument {
             Argument::AliasSeparator => "alias-separator",
             Argument::InvalidMark => "invalid-mark",
             Argument::Delimiter => "delimiter",
+            Argument::ResultColumn => "result",
             Argument::NoWarnings => "no-warnings",
             Argument::Quiet => "quiet",
         }
@@ -127,7 +132,7 @@ impl Argument {
         match self {
             Argument::Strength | Argument::SequenceLength => Some('t'),
             Argument::Proof => Some('p'),
-            Argument::Format | Argument::FindingFormat => Some('f'),
+            Argument::TableFormat | Argument::Format | Argument::FindingFormat => Some('f'),
             Argument::Output => Some('o'),
             Argument::Quiet => Some('q'),
             _ => None,
@@ -162,10 +167,12 @@ impl Argument {
             Argument::SequenceLength => "2|3",
             Argument::Seeds | Argument::Proof | Argument::Output | Argument::Report => "FILE",
             Argument::ProofFormat => "1|2",
+            Argument::TableFormat => "tsv|csv|json|markdown",
             Argument::Format => "tsv|csv|json|markdown|text|html",
             Argument::FindingFormat => "text|json",
             Argument::Separator | Argument::AliasSeparator | Argument::InvalidMark => "C",
             Argument::Delimiter => "tab|comma",
+            Argument::ResultColumn => "NAME",
             _ => "N",
         }
     }
@@ -177,9 +184,11 @@ impl Argument {
             Argument::Strength => "a number from 1 to 256, or max",
             Argument::SequenceLength => "2 or 3",
             Argument::ProofFormat => "1 or 2",
+            Argument::TableFormat => "tsv, csv, json or markdown",
             Argument::Format => "tsv, csv, json, markdown, text or html",
             Argument::FindingFormat => "text or json",
             Argument::Delimiter => "tab or comma",
+            Argument::ResultColumn => "the name of a column",
             Argument::Separator | Argument::AliasSeparator | Argument::InvalidMark => {
                 "one ASCII character that is no letter, digit or blank and none of \
                  \" # ( ) : < > @ [ \\ ] { }"
@@ -217,9 +226,8 @@ impl Argument {
             Argument::Seeds => "A table of seed tests, whole or partial",
             Argument::Proof => "Write the proof file",
             Argument::ProofFormat => "The format of the proof file [default: 1]",
-            Argument::Format => {
-                "The form of the output [default: tsv for `generate` and `shrink`, text for `show`]"
-            }
+            Argument::TableFormat => "The form of the table [default: tsv]",
+            Argument::Format => "The form of the output [default: text]",
             Argument::FindingFormat => "The form of the findings [default: text]",
             Argument::Output => "Write this file instead of standard output",
             Argument::Report => "Check this report instead of generating one",
@@ -242,6 +250,9 @@ impl Argument {
             Argument::Delimiter => {
                 "What stands between the cells of a table that is read [default: comma where its \
                  name ends with .csv, else tab]"
+            }
+            Argument::ResultColumn => {
+                "The column of RESULTS that says pass, fail or skip [default: :result]"
             }
             Argument::NoWarnings => "Print no warnings",
             Argument::Quiet => "Don't print the line that sums up",

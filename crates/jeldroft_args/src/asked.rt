@@ -7,7 +7,6 @@ use crate::argument::Argument;
 use crate::check::Check;
 use crate::command::Command;
 use crate::command_name::CommandName;
-use crate::format::Format;
 use crate::generate::Generate;
 use crate::given;
 use crate::import::Import;
@@ -24,8 +23,8 @@ use value_text::NoMemory;
 fn generate(alloc: Global, matches: &ArgMatches<'_>) -> Result<Generate, NoMemory>
     ensures { IfOk result (λ asked. asked ≡ defined.generate_in (rows_given matches.now)) }
 {
-    let seeds = given::optional_file(alloc, matches, Argument::Seeds)?;
-    let output = given::optional_file(alloc, matches, Argument::Output)?;
+    let seeds = given::optional_name(alloc, matches, Argument::Seeds)?;
+    let output = given::optional_name(alloc, matches, Argument::Output)?;
     let proof = given::proof(alloc, matches)?;
     let model = given::model(alloc, matches)?;
     let shrinking = if given::is_on(matches, Argument::Shrink) {
@@ -39,7 +38,7 @@ fn generate(alloc: Global, matches: &ArgMatches<'_>) -> Result<Generate, NoMemor
         seeds,
         delimiter: given::delimiter(matches),
         proof,
-        format: given::format(matches, Format::Tsv),
+        format: given::table_format(matches),
         output,
         shrinking,
         shuffle: given::shuffle(matches),
@@ -54,7 +53,7 @@ fn check(alloc: Global, matches: &ArgMatches<'_>) -> Result<Check, NoMemory>
     ensures { IfOk result (λ asked. asked ≡ defined.check_in (rows_given matches.now)) }
 {
     let table = given::file(alloc, matches, Argument::Table)?;
-    let proof = given::optional_file(alloc, matches, Argument::TableProof)?;
+    let proof = given::optional_name(alloc, matches, Argument::TableProof)?;
     let model = given::model(alloc, matches)?;
     Ok(Check {
         model,
@@ -70,8 +69,8 @@ fn shrink(alloc: Global, matches: &ArgMatches<'_>) -> Result<Shrink, NoMemory>
     ensures { IfOk result (λ asked. asked ≡ defined.shrink_in (rows_given matches.now)) }
 {
     let table = given::file(alloc, matches, Argument::Table)?;
-    let seeds = given::optional_file(alloc, matches, Argument::Seeds)?;
-    let output = given::optional_file(alloc, matches, Argument::Output)?;
+    let seeds = given::optional_name(alloc, matches, Argument::Seeds)?;
+    let output = given::optional_name(alloc, matches, Argument::Output)?;
     let model = given::model(alloc, matches)?;
     Ok(Shrink {
         model,
@@ -79,7 +78,7 @@ fn shrink(alloc: Global, matches: &ArgMatches<'_>) -> Result<Shrink, NoMemory>
         strength: given::strength(matches),
         seeds,
         delimiter: given::delimiter(matches),
-        format: given::format(matches, Format::Tsv),
+        format: given::table_format(matches),
         output,
         shrinking: given::shrinking(matches),
         budget: given::budget(matches),
@@ -92,8 +91,8 @@ fn show(alloc: Global, matches: &ArgMatches<'_>) -> Result<Show, NoMemory>
     ensures { IfOk result (λ asked. asked ≡ defined.show_in (rows_given matches.now)) }
 {
     let table = given::file(alloc, matches, Argument::Table)?;
-    let proof = given::optional_file(alloc, matches, Argument::TableProof)?;
-    let output = given::optional_file(alloc, matches, Argument::Output)?;
+    let proof = given::optional_name(alloc, matches, Argument::TableProof)?;
+    let output = given::optional_name(alloc, matches, Argument::Output)?;
     let model = given::model(alloc, matches)?;
     Ok(Show {
         model,
@@ -101,7 +100,7 @@ fn show(alloc: Global, matches: &ArgMatches<'_>) -> Result<Show, NoMemory>
         proof,
         strength: given::strength(matches),
         delimiter: given::delimiter(matches),
-        format: given::format(matches, Format::Text),
+        format: given::format(matches),
         output,
         threads: given::threads(matches),
         no_warnings: given::is_on(matches, Argument::NoWarnings),
@@ -123,7 +122,7 @@ fn measure(alloc: Global, matches: &ArgMatches<'_>) -> Result<Measure, NoMemory>
     ensures { IfOk result (λ asked. asked ≡ defined.measure_in (rows_given matches.now)) }
 {
     let table = given::file(alloc, matches, Argument::Table)?;
-    let output = given::optional_file(alloc, matches, Argument::Output)?;
+    let output = given::optional_name(alloc, matches, Argument::Output)?;
     let model = given::model(alloc, matches)?;
     Ok(Measure {
         model,
@@ -140,12 +139,14 @@ fn suspect(alloc: Global, matches: &ArgMatches<'_>) -> Result<Suspect, NoMemory>
     ensures { IfOk result (λ asked. asked ≡ defined.suspect_in (rows_given matches.now)) }
 {
     let results = given::file(alloc, matches, Argument::Results)?;
-    let output = given::optional_file(alloc, matches, Argument::Output)?;
+    let result = given::optional_name(alloc, matches, Argument::ResultColumn)?;
+    let output = given::optional_name(alloc, matches, Argument::Output)?;
     let model = given::model(alloc, matches)?;
     Ok(Suspect {
         model,
         results,
         strength: given::strength(matches),
+        result,
         delimiter: given::delimiter(matches),
         output,
     })
@@ -155,8 +156,8 @@ fn sequence(alloc: Global, matches: &ArgMatches<'_>) -> Result<Sequence, NoMemor
     ensures { IfOk result (λ asked. asked ≡ defined.sequence_in (rows_given matches.now)) }
 {
     let events = given::file(alloc, matches, Argument::Events)?;
-    let report = given::optional_file(alloc, matches, Argument::Report)?;
-    let output = given::optional_file(alloc, matches, Argument::Output)?;
+    let report = given::optional_name(alloc, matches, Argument::Report)?;
+    let output = given::optional_name(alloc, matches, Argument::Output)?;
     Ok(Sequence {
         events,
         length: given::length(matches),
@@ -169,7 +170,7 @@ fn import(alloc: Global, matches: &ArgMatches<'_>) -> Result<Import, NoMemory>
     ensures { IfOk result (λ asked. asked ≡ defined.import_in (rows_given matches.now)) }
 {
     let file = given::file(alloc, matches, Argument::ActsFile)?;
-    let output = given::optional_file(alloc, matches, Argument::Output)?;
+    let output = given::optional_name(alloc, matches, Argument::Output)?;
     Ok(Import {
         file,
         case_sensitive: given::is_on(matches, Argument::CaseSensitive),

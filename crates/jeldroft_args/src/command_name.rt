@@ -83,7 +83,7 @@ static GENERATE: [Argument; 21] = [
     Argument::Seeds,
     Argument::Proof,
     Argument::ProofFormat,
-    Argument::Format,
+    Argument::TableFormat,
     Argument::Output,
     Argument::Shrink,
     Argument::Spread,
@@ -119,7 +119,7 @@ static SHRINK: [Argument; 17] = [
     Argument::Table,
     Argument::Strength,
     Argument::Seeds,
-    Argument::Format,
+    Argument::TableFormat,
     Argument::Output,
     Argument::Spread,
     Argument::Rounds,
@@ -174,10 +174,11 @@ static MEASURE: [Argument; 11] = [
     Argument::Delimiter,
 ];
 
-static SUSPECT: [Argument; 9] = [
+static SUSPECT: [Argument; 10] = [
     Argument::Model,
     Argument::Results,
     Argument::Strength,
+    Argument::ResultColumn,
     Argument::Output,
     Argument::CaseSensitive,
     Argument::Separator,

@@ -1,5 +1,5 @@
 ghost use Rattle.std.specs.Prelude.{◌≡◌};
-ghost use Rattle.jeldroft_args.specs.believed.Readings.{finding_format_of, format_of};
+ghost use Rattle.jeldroft_args.specs.believed.Readings.{finding_format_of, format_of, table_format_of};
 
 /// The form in which a table or a suite is written.
 #[derive(Debug, Drop, Clone, Copy, PartialEq, Eq)]
@@ -19,9 +19,9 @@ pub enum Format {
 }
 
 impl Format {
-    // What a value says.
-    pub(crate) fn of(text: &str) -> Option<Format>
-        ensures { result ≡ format_of text.now }
+    // What a value says of a table.
+    pub(crate) fn of_table(text: &str) -> Option<Format>
+        ensures { result ≡ table_format_of text.now }
     {
         if text == "tsv" {
             Some(Format::Tsv)
@@ -31,12 +31,21 @@ impl Format {
             Some(Format::Json)
         } else if text == "markdown" {
             Some(Format::Markdown)
-        } else if text == "text" {
+        } else {
+            None
+        }
+    }
+
+    // What a value says of a suite that is shown.
+    pub(crate) fn of(text: &str) -> Option<Format>
+        ensures { result ≡ format_of text.now }
+    {
+        if text == "text" {
             Some(Format::Text)
         } else if text == "html" {
             Some(Format::Html)
         } else {
-            None
+            Format::of_table(text)
         }
     }
 }

@@ -134,8 +134,8 @@ pub(crate) fn file(
     Text::copy(alloc, value_of(matches, argument).unwrap_or(""))
 }
 
-// The name of a file that may be named.
-pub(crate) fn optional_file(
+// The name of a file that may be named, or of a column.
+pub(crate) fn optional_name(
     alloc: Global,
     matches: &ArgMatches<'_>,
     argument: Argument,
@@ -209,12 +209,21 @@ pub(crate) fn proof(
     }
 }
 
-pub(crate) fn format(matches: &ArgMatches<'_>, usual: Format) -> Format
-    ensures { result ≡ defined.format_in usual (rows_given matches.now) }
+pub(crate) fn table_format(matches: &ArgMatches<'_>) -> Format
+    ensures { result ≡ defined.table_format_in (rows_given matches.now) }
+{
+    match value_of(matches, Argument::TableFormat) {
+        Some(text) => Format::of_table(text).unwrap_or(Format::Tsv),
+        None => Format::Tsv,
+    }
+}
+
+pub(crate) fn format(matches: &ArgMatches<'_>) -> Format
+    ensures { result ≡ defined.format_in (rows_given matches.now) }
 {
     match value_of(matches, Argument::Format) {
-        Some(text) => Format::of(text).unwrap_or(usual),
-        None => usual,
+        Some(text) => Format::of(text).unwrap_or(Format::Text),
+        None => Format::Text,
     }
 }
 

@@ -54,7 +54,9 @@ fn has_reading(argument: Argument, text: &str) -> bool
     ensures { result ≡ readings.has_reading argument text.now }
 {
     match argument {
-        Argument::Model | Argument::Table | Argument::Results => !text.is_empty(),
+        Argument::Model | Argument::Table | Argument::Results | Argument::ResultColumn => {
+            !text.is_empty()
+        }
         Argument::TableProof
         | Argument::Events
         | Argument::ActsFile
@@ -65,6 +67,7 @@ fn has_reading(argument: Argument, text: &str) -> bool
         Argument::Strength => Strength::of(text).is_some(),
         Argument::SequenceLength => given::length_of(text).is_some(),
         Argument::ProofFormat => given::proof_format_of(text).is_some(),
+        Argument::TableFormat => Format::of_table(text).is_some(),
         Argument::Format => Format::of(text).is_some(),
         Argument::FindingFormat => FindingFormat::of(text).is_some(),
         Argument::Shuffle | Argument::Random => given::number_of(text).is_some(),

@@ -12,6 +12,8 @@ pub struct Suspect {
     pub results: Text,
     /// How many parameters are combined.
     pub strength: Strength,
+    /// The column in which the results stand; `:result` where this isn't said.
+    pub result: Option<Text>,
     /// What stands between the cells of the table; by its name where this isn't said.
     pub delimiter: Option<Delimiter>,
     /// The file of the combinations; else standard output.

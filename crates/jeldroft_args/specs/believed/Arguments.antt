@@ -21,6 +21,7 @@ name_of a.SequenceLength = codes "strength"
 name_of a.Seeds = codes "seeds"
 name_of a.Proof = codes "proof"
 name_of a.ProofFormat = codes "proof-format"
+name_of a.TableFormat = codes "format"
 name_of a.Format = codes "format"
 name_of a.FindingFormat = codes "format"
 name_of a.Output = codes "output"
@@ -38,6 +39,7 @@ name_of a.Separator = codes "separator"
 name_of a.AliasSeparator = codes "alias-separator"
 name_of a.InvalidMark = codes "invalid-mark"
 name_of a.Delimiter = codes "delimiter"
+name_of a.ResultColumn = codes "result"
 name_of a.NoWarnings = codes "no-warnings"
 name_of a.Quiet = codes "quiet"
 
@@ -46,6 +48,7 @@ abbrev pub letter_of : Argument → Option ℕ
 letter_of a.Strength = Some 116
 letter_of a.SequenceLength = Some 116
 letter_of a.Proof = Some 112
+letter_of a.TableFormat = Some 102
 letter_of a.Format = Some 102
 letter_of a.FindingFormat = Some 102
 letter_of a.Output = Some 111

@@ -25,14 +25,14 @@ name_of_command Import = codes "import"
 
 -- the arguments of a command, its files first
 abbrev pub arguments_of : CommandName → List Argument
-arguments_of Generate = a.Model ∷ a.Strength ∷ a.Seeds ∷ a.Proof ∷ a.ProofFormat ∷ a.Format
+arguments_of Generate = a.Model ∷ a.Strength ∷ a.Seeds ∷ a.Proof ∷ a.ProofFormat ∷ a.TableFormat
     ∷ a.Output ∷ a.Shrink ∷ a.Spread ∷ a.Rounds ∷ a.Random ∷ a.Shuffle ∷ a.Budget ∷ a.Threads
     ∷ a.CaseSensitive ∷ a.Separator ∷ a.AliasSeparator ∷ a.InvalidMark ∷ a.Delimiter
     ∷ a.NoWarnings ∷ a.Quiet ∷ []
 arguments_of Check = a.Model ∷ a.Table ∷ a.TableProof ∷ a.Strength ∷ a.Threads
     ∷ a.CaseSensitive ∷ a.Separator ∷ a.AliasSeparator ∷ a.InvalidMark ∷ a.Delimiter ∷ []
-arguments_of Shrink = a.Model ∷ a.Table ∷ a.Strength ∷ a.Seeds ∷ a.Format ∷ a.Output ∷ a.Spread
-    ∷ a.Rounds ∷ a.Random ∷ a.Budget ∷ a.CaseSensitive ∷ a.Separator ∷ a.AliasSeparator
+arguments_of Shrink = a.Model ∷ a.Table ∷ a.Strength ∷ a.Seeds ∷ a.TableFormat ∷ a.Output
+    ∷ a.Spread ∷ a.Rounds ∷ a.Random ∷ a.Budget ∷ a.CaseSensitive ∷ a.Separator ∷ a.AliasSeparator
     ∷ a.InvalidMark ∷ a.Delimiter ∷ a.NoWarnings ∷ a.Quiet ∷ []
 arguments_of Show = a.Model ∷ a.Table ∷ a.TableProof ∷ a.Strength ∷ a.Format ∷ a.Output
     ∷ a.Threads ∷ a.CaseSensitive ∷ a.Separator ∷ a.AliasSeparator ∷ a.InvalidMark ∷ a.Delimiter
@@ -41,8 +41,8 @@ arguments_of Lint = a.Model ∷ a.All ∷ a.FindingFormat ∷ a.CaseSensitive �
     ∷ a.AliasSeparator ∷ a.InvalidMark ∷ []
 arguments_of Measure = a.Model ∷ a.Table ∷ a.Strength ∷ a.Output ∷ a.Budget ∷ a.Threads
     ∷ a.CaseSensitive ∷ a.Separator ∷ a.AliasSeparator ∷ a.InvalidMark ∷ a.Delimiter ∷ []
-arguments_of Suspect = a.Model ∷ a.Results ∷ a.Strength ∷ a.Output ∷ a.CaseSensitive
-    ∷ a.Separator ∷ a.AliasSeparator ∷ a.InvalidMark ∷ a.Delimiter ∷ []
+arguments_of Suspect = a.Model ∷ a.Results ∷ a.Strength ∷ a.ResultColumn ∷ a.Output
+    ∷ a.CaseSensitive ∷ a.Separator ∷ a.AliasSeparator ∷ a.InvalidMark ∷ a.Delimiter ∷ []
 arguments_of Sequence = a.Events ∷ a.SequenceLength ∷ a.Report ∷ a.Output ∷ []
 arguments_of Import = a.ActsFile ∷ a.Output ∷ a.CaseSensitive ∷ []
 

@@ -61,15 +61,21 @@ number_of text = count_of text 0 (2 ^ 64 - 1)
 
 -- ---- names
 
-abbrev pub format_of : Text → Option Format
-format_of text =
+-- the forms of a table
+abbrev pub table_format_of : Text → Option Format
+table_format_of text =
     if bytes_eq text (codes "tsv") then Some format.Tsv
     else if bytes_eq text (codes "csv") then Some format.Csv
     else if bytes_eq text (codes "json") then Some format.Json
     else if bytes_eq text (codes "markdown") then Some format.Markdown
-    else if bytes_eq text (codes "text") then Some format.Text
-    else if bytes_eq text (codes "html") then Some format.Html
     else None
+
+-- those of a suite that is shown
+abbrev pub format_of : Text → Option Format
+format_of text =
+    if bytes_eq text (codes "text") then Some format.Text
+    else if bytes_eq text (codes "html") then Some format.Html
+    else table_format_of text
 
 abbrev pub finding_format_of : Text → Option FindingFormat
 finding_format_of text =
@@ -121,19 +127,19 @@ has_equal_marks marks = (marks.separator == marks.alias) || (marks.separator == 
 abbrev pub is_dash : Text → Bool
 is_dash text = bytes_eq text (codes "-")
 
--- a file is named; `-`, standard input, stands only for a model or a table
-abbrev pub is_input : Text → Bool
-is_input text = not (length text == 0)
+abbrev pub is_name : Text → Bool
+is_name text = not (length text == 0)
 
+-- `-`, standard input, stands only for a model or a table
 abbrev pub is_file : Text → Bool
-is_file text = not (length text == 0) && not (is_dash text)
+is_file text = is_name text && not (is_dash text)
 
 -- ---- which values have a reading
 
 abbrev pub has_reading : Argument → Text → Bool
-has_reading a.Model text = is_input text
-has_reading a.Table text = is_input text
-has_reading a.Results text = is_input text
+has_reading a.Model text = is_name text
+has_reading a.Table text = is_name text
+has_reading a.Results text = is_name text
 has_reading a.TableProof text = is_file text
 has_reading a.Events text = is_file text
 has_reading a.ActsFile text = is_file text
@@ -144,6 +150,7 @@ has_reading a.Report text = is_file text
 has_reading a.Strength text = is_some (strength_of text)
 has_reading a.SequenceLength text = is_some (length_of text)
 has_reading a.ProofFormat text = is_some (proof_format_of text)
+has_reading a.TableFormat text = is_some (table_format_of text)
 has_reading a.Format text = is_some (format_of text)
 has_reading a.FindingFormat text = is_some (finding_format_of text)
 has_reading a.Shuffle text = is_some (number_of text)
@@ -155,6 +162,7 @@ has_reading a.Separator text = is_some (mark_of text)
 has_reading a.AliasSeparator text = is_some (mark_of text)
 has_reading a.InvalidMark text = is_some (mark_of text)
 has_reading a.Delimiter text = is_some (delimiter_of text)
+has_reading a.ResultColumn text = is_name text
 has_reading a.Shrink text = true
 has_reading a.Spread text = true
 has_reading a.All text = true

@@ -7,7 +7,8 @@ use Rattle.clap.specs.Walk.{is_empty}
 use Rattle.jeldroft_args.specs.believed.Programs.{name_of_command, program_of}
 use Rattle.jeldroft_args.specs.believed.Readings.{budget_of, delimiter_of, finding_format_of, format_of}
 use Rattle.jeldroft_args.specs.believed.Readings.{is_on, length_of, marks_in, number_of, proof_format_of}
-use Rattle.jeldroft_args.specs.believed.Readings.{read_or, rounds_of, strength_of, threads_of, value_of}
+use Rattle.jeldroft_args.specs.believed.Readings.{read_or, rounds_of, strength_of, table_format_of}
+use Rattle.jeldroft_args.specs.believed.Readings.{threads_of, value_of}
 use Rattle.jeldroft_args.specs.believed.Rules.{is_allowed}
 use Rattle.jeldroft_args.specs.declared.argument.Argument.{Argument}
 use Rattle.jeldroft_args.specs.declared.argument.Argument.TheVariants as a
@@ -67,8 +68,12 @@ abbrev pub proof_in : List Row → Option ProofOutput
 proof_in rows = option_map (λ name. record { name = name; format = proof_format_in rows })
     (value_of a.Proof rows)
 
-abbrev pub format_in : Format → List Row → Format
-format_in usual rows = read_or format_of usual (value_of a.Format rows)
+-- a table has tabs between its cells, and a suite is shown in words, where no word says the form
+abbrev pub table_format_in : List Row → Format
+table_format_in rows = read_or table_format_of Tsv (value_of a.TableFormat rows)
+
+abbrev pub format_in : List Row → Format
+format_in rows = read_or format_of PlainText (value_of a.Format rows)
 
 abbrev pub finding_format_in : List Row → FindingFormat
 finding_format_in rows = read_or finding_format_of finding.Text (value_of a.FindingFormat rows)
@@ -109,7 +114,7 @@ generate_in rows = record {
   seeds = value_of a.Seeds rows;
   delimiter = delimiter_in rows;
   proof = proof_in rows;
-  format = format_in Tsv rows;
+  format = table_format_in rows;
   output = value_of a.Output rows;
   shrinking = if is_on a.Shrink rows then Some (shrinking_in rows) else None;
   shuffle = shuffle_in rows;
@@ -136,7 +141,7 @@ shrink_in rows = record {
   strength = strength_in rows;
   seeds = value_of a.Seeds rows;
   delimiter = delimiter_in rows;
-  format = format_in Tsv rows;
+  format = table_format_in rows;
   output = value_of a.Output rows;
   shrinking = shrinking_in rows;
   budget = budget_in rows;
@@ -151,7 +156,7 @@ show_in rows = record {
   proof = value_of a.TableProof rows;
   strength = strength_in rows;
   delimiter = delimiter_in rows;
-  format = format_in PlainText rows;
+  format = format_in rows;
   output = value_of a.Output rows;
   threads = threads_in rows;
   no_warnings = is_on a.NoWarnings rows;
@@ -180,6 +185,7 @@ suspect_in rows = record {
   model = model_in rows;
   results = file_in a.Results rows;
   strength = strength_in rows;
+  result = value_of a.ResultColumn rows;
   delimiter = delimiter_in rows;
   output = value_of a.Output rows;
 }
