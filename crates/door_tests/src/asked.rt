@@ -89,8 +89,8 @@ fn measure(alloc: Global, asked: &Measure) -> Result<String, AllocError> {
 fn suspect(alloc: Global, asked: &Suspect) -> Result<String, AllocError> {
     let model = model(alloc, &asked.model)?;
     let (results, strength) = (asked.results.as_str(), asked.strength);
-    let (delimiter, output) = (asked.delimiter, name(&asked.output));
-    format!(in alloc; "suspect {model} {results} {strength:?} {delimiter:?} {output}")
+    let (result, delimiter, output) = (name(&asked.result), asked.delimiter, name(&asked.output));
+    format!(in alloc; "suspect {model} {results} {strength:?} {result} {delimiter:?} {output}")
 }
 
 fn sequence(alloc: Global, asked: &Sequence) -> Result<String, AllocError> {
@@ -150,7 +150,7 @@ const ASKED: &[(&str, &str)] = &[
         "measure m t",
         "measure m ,|~ false t Number(2) None . None 1",
     ),
-    ("suspect m r", "suspect m ,|~ false r Number(2) None ."),
+    ("suspect m r", "suspect m ,|~ false r Number(2) . None ."),
     ("sequence e", "sequence e 2 . ."),
     ("import a.acts", "import a.acts false ."),
     // Every option of each command.
@@ -179,8 +179,8 @@ const ASKED: &[(&str, &str)] = &[
         "measure m ,|~ false t Number(3) Some(Tab) o Some(5) 6",
     ),
     (
-        "suspect m r -t 3 -o o --delimiter tab",
-        "suspect m ,|~ false r Number(3) Some(Tab) o",
+        "suspect m r -t 3 --result Status -o o --delimiter tab",
+        "suspect m ,|~ false r Number(3) Status Some(Tab) o",
     ),
     ("sequence e --strength 3 --check r", "sequence e 3 r ."),
     ("sequence e -o o", "sequence e 2 . o"),
@@ -229,7 +229,16 @@ const ASKED: &[(&str, &str)] = &[
         "generate - ,|~ false Number(2) . None . 0 Tsv . None None None 1 false false",
     ),
     ("check m -", "check m ,|~ false - . Number(2) None 1"),
-    ("suspect - r", "suspect - ,|~ false r Number(2) None ."),
+    ("suspect - r", "suspect - ,|~ false r Number(2) . None ."),
+    // The column of results is named as the table has it.
+    (
+        "suspect m r --result=:RESULT",
+        "suspect m ,|~ false r Number(2) :RESULT None .",
+    ),
+    (
+        "suspect --result - m r",
+        "suspect m ,|~ false r Number(2) - None .",
+    ),
     // Marks may change places.
     (
         "lint m --separator | --alias-separator ,",

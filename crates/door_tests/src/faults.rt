@@ -217,7 +217,26 @@ const ENDS: &[(&str, End, &str, &str)] = &[
         "generate m -f xml",
         End::Refused,
         "jeldroft: error: invalid value 'xml' for '--format",
+        "tsv, csv, json or markdown\n",
+    ),
+    (
+        "show m t -f xml",
+        End::Refused,
+        "jeldroft: error: invalid value 'xml' for '--format",
         "tsv, csv, json, markdown, text or html\n",
+    ),
+    // A table is no text and no page.
+    (
+        "generate m -f text",
+        End::Refused,
+        "jeldroft: error: invalid value 'text' for '--format <tsv|csv|json|markdown>': tsv, csv, json or markdown\n",
+        "",
+    ),
+    (
+        "shrink m t -f html",
+        End::Refused,
+        "jeldroft: error: invalid value 'html' for '--format <tsv|csv|json|markdown>': tsv, csv, json or markdown\n",
+        "",
     ),
     (
         "lint m -f csv",
@@ -259,6 +278,24 @@ const ENDS: &[(&str, End, &str, &str)] = &[
         "check m t --threads 65",
         End::Refused,
         "jeldroft: error: invalid value '65' for '--threads <N>': a number from 1 to 64\n",
+        "",
+    ),
+    (
+        "suspect m r --result=",
+        End::Refused,
+        "jeldroft: error: invalid value '' for '--result <NAME>': the name of a column\n",
+        "",
+    ),
+    (
+        "suspect m r --result",
+        End::Refused,
+        "jeldroft: error: a value is required for '--result <NAME>'",
+        "",
+    ),
+    (
+        "measure m t --result Status",
+        End::Refused,
+        "jeldroft: error: unexpected argument '--result' found\n",
         "",
     ),
     (
