@@ -12,7 +12,7 @@ _jeldroft() {
         show) options="--strength --format --output --threads --case-sensitive --separator --alias-separator --invalid-mark --delimiter --no-warnings --help" ;;
         lint) options="--all --format --case-sensitive --separator --alias-separator --invalid-mark --help" ;;
         measure) options="--strength --output --budget --threads --case-sensitive --separator --alias-separator --invalid-mark --delimiter --help" ;;
-        suspect) options="--strength --output --case-sensitive --separator --alias-separator --invalid-mark --delimiter --help" ;;
+        suspect) options="--strength --result --output --case-sensitive --separator --alias-separator --invalid-mark --delimiter --help" ;;
         sequence) options="--strength --check --output --help" ;;
         import) options="--output --case-sensitive --help" ;;
     esac
@@ -27,6 +27,7 @@ _jeldroft() {
         --proof-format) values="1 2" ;;
         --proof|-p) values="" ;;
         --random) values="" ;;
+        --result) values="" ;;
         --rounds) values="" ;;
         --seeds) values="" ;;
         --separator) values="" ;;

@@ -25,8 +25,8 @@ _jeldroft() {
                 '-p[Write the proof file]:FILE:_files' \
                 '--proof[Write the proof file]:FILE:_files' \
                 '--proof-format[The format of the proof file \[default\: 1\]]:1|2:(1 2)' \
-                '-f[The form of the output \[default\: tsv for `generate` and `shrink`, text for `show`\]]:tsv|csv|json|markdown|text|html:(tsv csv json markdown text html)' \
-                '--format[The form of the output \[default\: tsv for `generate` and `shrink`, text for `show`\]]:tsv|csv|json|markdown|text|html:(tsv csv json markdown text html)' \
+                '-f[The form of the table \[default\: tsv\]]:tsv|csv|json|markdown:(tsv csv json markdown)' \
+                '--format[The form of the table \[default\: tsv\]]:tsv|csv|json|markdown:(tsv csv json markdown)' \
                 '-o[Write this file instead of standard output]:FILE:_files' \
                 '--output[Write this file instead of standard output]:FILE:_files' \
                 '--shrink[Look for fewer tests with the same coverage]' \
@@ -65,8 +65,8 @@ _jeldroft() {
                 '-t[How many parameters are combined \[default\: 2\]]:N|max:' \
                 '--strength[How many parameters are combined \[default\: 2\]]:N|max:' \
                 '--seeds[A table of seed tests, whole or partial]:FILE:_files' \
-                '-f[The form of the output \[default\: tsv for `generate` and `shrink`, text for `show`\]]:tsv|csv|json|markdown|text|html:(tsv csv json markdown text html)' \
-                '--format[The form of the output \[default\: tsv for `generate` and `shrink`, text for `show`\]]:tsv|csv|json|markdown|text|html:(tsv csv json markdown text html)' \
+                '-f[The form of the table \[default\: tsv\]]:tsv|csv|json|markdown:(tsv csv json markdown)' \
+                '--format[The form of the table \[default\: tsv\]]:tsv|csv|json|markdown:(tsv csv json markdown)' \
                 '-o[Write this file instead of standard output]:FILE:_files' \
                 '--output[Write this file instead of standard output]:FILE:_files' \
                 '--spread[Vary the values of cells that no combination needs]' \
@@ -88,8 +88,8 @@ _jeldroft() {
             _arguments \
                 '-t[How many parameters are combined \[default\: 2\]]:N|max:' \
                 '--strength[How many parameters are combined \[default\: 2\]]:N|max:' \
-                '-f[The form of the output \[default\: tsv for `generate` and `shrink`, text for `show`\]]:tsv|csv|json|markdown|text|html:(tsv csv json markdown text html)' \
-                '--format[The form of the output \[default\: tsv for `generate` and `shrink`, text for `show`\]]:tsv|csv|json|markdown|text|html:(tsv csv json markdown text html)' \
+                '-f[The form of the output \[default\: text\]]:tsv|csv|json|markdown|text|html:(tsv csv json markdown text html)' \
+                '--format[The form of the output \[default\: text\]]:tsv|csv|json|markdown|text|html:(tsv csv json markdown text html)' \
                 '-o[Write this file instead of standard output]:FILE:_files' \
                 '--output[Write this file instead of standard output]:FILE:_files' \
                 '--threads[How many threads there are at most \[default\: 1\]]:N:' \
@@ -134,6 +134,7 @@ _jeldroft() {
             _arguments \
                 '-t[How many parameters are combined \[default\: 2\]]:N|max:' \
                 '--strength[How many parameters are combined \[default\: 2\]]:N|max:' \
+                '--result[The column of RESULTS that says pass, fail or skip \[default\: \:result\]]:NAME:' \
                 '-o[Write this file instead of standard output]:FILE:_files' \
                 '--output[Write this file instead of standard output]:FILE:_files' \
                 '--case-sensitive[Names that differ in case alone are different]' \
