@@ -4,7 +4,7 @@ ghost use Rattle.jeldroft_files.specs.believed.Failures as statuses;
 use crate::refused_model::RefusedModel;
 use comma_rows::CommaFault;
 use command_line::Stop;
-use value_text::NoMemory;
+use value_text::{NoMemory, Text};
 
 /// Why a command ends without what it is asked for.
 #[derive(Drop)]
@@ -24,6 +24,8 @@ pub struct Failure<'n> {
     pub cause: Cause,
     /// The model file, where what it holds is refused: so what is told can show the place.
     pub refused: Option<RefusedModel>,
+    /// The name of the parameter that has no column in a table, where that is the cause.
+    pub column: Option<Text>,
 }
 
 impl Cause {
@@ -53,6 +55,33 @@ impl<'n> Failure<'n> {
             file,
             cause: Cause::Stop(stop),
             refused: None,
+            column: None,
+        }
+    }
+
+    /// The same failure, with the name of the parameter that has no column, if there is one.
+    pub fn naming(self, column: Option<Text>) -> Failure<'n>
+        ensures file { result.file.now ≡ self.entry.file.now }
+        ensures cause { result.cause ≡ self.entry.cause }
+    {
+        Failure {
+            file: self.file,
+            cause: self.cause,
+            refused: self.refused,
+            column,
+        }
+    }
+
+    /// The same failure, with the model file that is refused.
+    pub fn showing(self, refused: RefusedModel) -> Failure<'n>
+        ensures file { result.file.now ≡ self.entry.file.now }
+        ensures cause { result.cause ≡ self.entry.cause }
+    {
+        Failure {
+            file: self.file,
+            cause: self.cause,
+            refused: Some(refused),
+            column: self.column,
         }
     }
 }

@@ -86,6 +86,7 @@ pub fn read_model_file<'n, F: Folder>(
             file: name,
             cause: Cause::Stop(stop),
             refused: Some(RefusedModel::new(bytes, opts)),
+            column: None,
         }),
     }
 }

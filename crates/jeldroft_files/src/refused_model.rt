@@ -26,7 +26,8 @@ impl Model for RefusedModel {
 }
 
 impl RefusedModel {
-    pub(crate) fn new(bytes: Vec<u8>, opts: ModelOpts) -> RefusedModel
+    /// A file of these bytes, which were read so.
+    pub fn new(bytes: Vec<u8>, opts: ModelOpts) -> RefusedModel
         requires within { length bytes.items ≤ most_bytes ModelFile }
         requires opts { AreOpts opts }
     {

@@ -50,14 +50,22 @@ fn tell_file<E: Sink>(file: &str, words: &str, diag: &mut E) {
     finding.text("\n");
 }
 
-// Writes the line of a table that has no column for a parameter.
-fn tell_no_column<E: Sink>(file: &str, number: u16, diag: &mut E) {
-    let mut buffer = Buffer::new();
-    let digits = buffer.format(number);
+// Writes the line of a table that has no column for the parameter of this name.
+fn tell_no_column<E: Sink>(file: &str, name: &str, diag: &mut E) {
     let mut finding = Finding::on(diag, file);
-    finding.text(": error: no column for parameter number ");
+    finding.text(": error: no column for the parameter ");
+    finding.text(name);
+    finding.text(" [F3]\n");
+}
+
+// The same where the name isn't at hand: by the place of the parameter in the model, from 1.
+fn tell_no_nth_column<E: Sink>(file: &str, number: u16, diag: &mut E) {
+    let mut buffer = Buffer::new();
+    let digits = buffer.format(u32::from(number) + 1);
+    let mut finding = Finding::on(diag, file);
+    finding.text(": error: no column for the parameter at place ");
     finding.text(digits);
-    finding.text(" of the model, counted from 0 [F3]\n");
+    finding.text(" of the model [F3]\n");
 }
 
 // Writes the line of a refusal of a table.
@@ -69,7 +77,7 @@ fn tell_rows_fault<E: Sink>(file: &str, fault: RowsFault, stop: &Stop, diag: &mu
         RowsFault::Twice(line) => {
             tell_row_line(file, line, "two columns are of one parameter [F2]", diag);
         }
-        RowsFault::Missing(parameter) => tell_no_column(file, parameter, diag),
+        RowsFault::Missing(parameter) => tell_no_nth_column(file, parameter, diag),
         RowsFault::Width(line) => {
             tell_row_line(
                 file,
@@ -162,5 +170,9 @@ pub fn tell_cause<E: Sink>(
 
 /// Writes the line that says why a command ended without what it was asked for.
 pub fn tell_failure<E: Sink>(alloc: Global, failure: &Failure<'_>, diag: &mut E) {
+    if let Some(name) = &failure.column {
+        tell_no_column(failure.file, name.as_str(), diag);
+        return;
+    }
     tell_cause(alloc, failure.file, &failure.cause, &failure.refused, diag);
 }

@@ -28,6 +28,13 @@ impl<'s, E: Sink> Finding<'s, E> {
         self.text(digits);
     }
 
+    /// Adds a column behind a colon, where it is known.
+    pub(crate) fn column(&mut self, column: Option<u32>) {
+        if let Some(column) = column {
+            self.place(column);
+        }
+    }
+
     /// Adds a code in brackets, and ends the line.
     pub(crate) fn code(&mut self, code: &str) {
         self.text(" [");

@@ -2,20 +2,26 @@
 //! follow, `FILE:LINE: error: WORDS [CODE]`.
 //!
 //! - `tell_failure` and `tell_cause` say why a command ended without what it was asked for.
-//! - `tell_notes` gives the warnings on a file by their lines, `tell_table_notes` those on a table with what stands there.
+//! - `tell_notes` gives the warnings on a file by their lines, `tell_table_notes` and `tell_text_notes` those on a table
+//!   with what stands there. `FileNotes` keeps those on a model file and a table until they are told.
+//! - `forbidding_rule` finds a constraint that forbids a row by itself.
 //!
 //! What is told changes nothing else: a fault of the sink is passed over. Where memory is wanting, a line says less.
 #![tactic(auto)]
 
 mod comma_words;
 mod failure;
+mod file_notes;
 mod finding;
+mod forbidding;
 mod lookup;
 mod notes;
 mod shown;
 mod table_notes;
 
 pub use failure::{tell_cause, tell_failure};
+pub use file_notes::FileNotes;
+pub use forbidding::forbidding_rule;
 pub use notes::tell_notes;
 pub use shown::Shown;
-pub use table_notes::{tell_dropped_seed, tell_table_notes};
+pub use table_notes::{tell_dropped_seed, tell_forbidden_seed, tell_table_notes, tell_text_notes};

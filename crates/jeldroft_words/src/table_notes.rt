@@ -2,20 +2,55 @@ use crate::finding::Finding;
 use crate::lookup::{has_value_named, param_named};
 use crate::shown::Shown;
 use cov_model::{Param, TestModel};
+use itoa::Buffer;
+use jeldroft_files::TableText;
 use model_lex::{Note, NoteCode};
 use outside_io::Sink;
 use std::str::from_utf8;
 
-// A line of a table whose cells tabs part, below its header.
+// A line of a table whose cells tabs part.
 #[derive(Drop, Clone, Copy)]
 struct TableLine<'a> {
+    // The line with the names of the parameters.
     header: &'a str,
     text: &'a str,
+    // Whether its columns are those of the file.
+    is_exact: bool,
+}
+
+impl TableLine<'_> {
+    // The column, where it is known.
+    fn column(&self, column: u32) -> Option<u32> {
+        if self.is_exact { Some(column) } else { None }
+    }
 }
 
 // A cell without the spaces at its ends.
 fn without_spaces(cell: &str) -> &str {
     cell.trim_matches(' ')
+}
+
+// A count as a column.
+fn columns(count: usize) -> u32 {
+    match u32::try_from(count) {
+        Ok(columns) => columns,
+        Err(_) => u32::MAX,
+    }
+}
+
+// The column of the text of a cell, which begins in this column with spaces.
+fn text_column(start: u32, cell: &str) -> u32 {
+    let spaces = cell
+        .len()
+        .saturating_sub(cell.trim_start_matches(' ').len());
+    start.saturating_add(columns(spaces))
+}
+
+// The column in which the next cell begins.
+fn next_column(start: u32, cell: &str) -> u32 {
+    start
+        .saturating_add(columns(cell.chars().count()))
+        .saturating_add(1)
 }
 
 // The parameter of a column.
@@ -51,10 +86,11 @@ fn warn<E: Sink>(file: &str, note: &Note, words: &str, diag: &mut E) {
 }
 
 // Writes the warning on a column that no parameter has.
-fn warn_of_column<E: Sink>(file: &str, note: &Note, name: &str, diag: &mut E) {
+fn warn_of_column<E: Sink>(file: &str, note: &Note, column: Option<u32>, name: &str, diag: &mut E) {
     let shown = Shown::of(name.as_bytes());
     let mut finding = Finding::on(diag, file);
     finding.place(note.line);
+    finding.column(column);
     finding.text(": warning: no parameter is named \"");
     finding.text(shown.text());
     finding.text(shown.end());
@@ -63,10 +99,18 @@ fn warn_of_column<E: Sink>(file: &str, note: &Note, name: &str, diag: &mut E) {
 }
 
 // Writes the warning on a cell of a parameter's column that names none of its values.
-fn warn_of_value<E: Sink>(file: &str, note: &Note, param: &Param, cell: &str, diag: &mut E) {
+fn warn_of_value<E: Sink>(
+    file: &str,
+    note: &Note,
+    column: Option<u32>,
+    param: &Param,
+    cell: &str,
+    diag: &mut E,
+) {
     let shown = Shown::of(cell.as_bytes());
     let mut finding = Finding::on(diag, file);
     finding.place(note.line);
+    finding.column(column);
     finding.text(": warning: column ");
     finding.text(param.name.as_str());
     finding.text(": \"");
@@ -79,23 +123,25 @@ fn warn_of_value<E: Sink>(file: &str, note: &Note, param: &Param, cell: &str, di
 // Writes the warning on a cell of the header that names no parameter: on the one behind so many others.
 fn tell_column<E: Sink>(
     file: &str,
-    header: &str,
+    header: TableLine<'_>,
     others: usize,
     model: &TestModel,
     note: &Note,
     diag: &mut E,
 ) {
     let mut left = others;
-    for cell in header.split('\t') {
+    let mut start = 1;
+    for cell in header.text.split('\t') {
         let name = without_spaces(cell);
-        if param_named(model, name).is_some() {
-            continue;
+        if param_named(model, name).is_none() {
+            if left == 0 {
+                let column = header.column(text_column(start, cell));
+                warn_of_column(file, note, column, name, diag);
+                return;
+            }
+            left -= 1;
         }
-        if left == 0 {
-            warn_of_column(file, note, name, diag);
-            return;
-        }
-        left -= 1;
+        start = next_column(start, cell);
     }
 }
 
@@ -109,16 +155,18 @@ fn tell_value<E: Sink>(
     diag: &mut E,
 ) {
     let mut left = others;
-    for (column, cell) in line.text.split('\t').enumerate() {
+    let mut start = 1;
+    for (number, cell) in line.text.split('\t').enumerate() {
         let name = without_spaces(cell);
-        let Some(param) = param_misnamed(model, line.header, column, name) else {
-            continue;
-        };
-        if left == 0 {
-            warn_of_value(file, note, param, name, diag);
-            return;
+        if let Some(param) = param_misnamed(model, line.header, number, name) {
+            if left == 0 {
+                let column = line.column(text_column(start, cell));
+                warn_of_value(file, note, column, param, name, diag);
+                return;
+            }
+            left -= 1;
         }
-        left -= 1;
+        start = next_column(start, cell);
     }
 }
 
@@ -133,7 +181,7 @@ fn tell_line<E: Sink>(
     for (others, note) in notes.iter().enumerate() {
         match note.code {
             NoteCode::UnknownColumn => {
-                tell_column(file, line.text, others, model, note, diag);
+                tell_column(file, line, others, model, note, diag);
             }
             NoteCode::UnknownValue => tell_value(file, line, others, model, note, diag),
             NoteCode::RepeatedValueName | NoteCode::RowDropped => {
@@ -163,27 +211,76 @@ fn header_of(text: &str) -> &str {
     ""
 }
 
-// Writes the warnings on cells, which are in the order of their lines.
-fn tell_cells<E: Sink>(file: &str, text: &str, model: &TestModel, notes: &[Note], diag: &mut E) {
-    let header = header_of(text);
-    let mut rest = notes;
-    for (number, text) in text.lines().enumerate() {
-        if rest.is_empty() {
-            return;
-        }
-        let Some((here, behind)) = rest.split_at_checked(count_on(rest, number)) else {
-            return;
-        };
-        tell_line(file, TableLine { header, text }, model, here, diag);
-        rest = behind;
-    }
-}
-
 // A text without a byte-order mark at its start.
 fn without_mark(text: &str) -> &str {
     match text.strip_prefix('\u{feff}') {
         Some(rest) => rest,
         None => text,
+    }
+}
+
+// Writes the warnings on cells, which are in the order of their lines. The columns of a line are those of the file where
+// the file has the same line, or one with commas and without quotes.
+fn tell_cells<E: Sink>(
+    file: &str,
+    text: &str,
+    whole: &str,
+    model: &TestModel,
+    notes: &[Note],
+    diag: &mut E,
+) {
+    let header = header_of(text);
+    let mut file_lines = whole.lines();
+    let mut rest = notes;
+    for (number, text) in text.lines().enumerate() {
+        if rest.is_empty() {
+            return;
+        }
+        let is_exact = match file_lines.next() {
+            Some(line) => line == text || !line.contains('"'),
+            None => false,
+        };
+        let Some((here, behind)) = rest.split_at_checked(count_on(rest, number)) else {
+            return;
+        };
+        let line = TableLine {
+            header,
+            text,
+            is_exact,
+        };
+        tell_line(file, line, model, here, diag);
+        rest = behind;
+    }
+}
+
+// Writes the warnings on a table in words that don't say what stands there.
+fn tell_plainly<E: Sink>(file: &str, notes: &[Note], diag: &mut E) {
+    for note in notes {
+        warn(file, note, note.code.text(), diag);
+    }
+}
+
+// Writes the warnings on a table, by its bytes with tabs and those of the file.
+fn tell_notes_of<E: Sink>(
+    file: &str,
+    bytes: &[u8],
+    whole: &[u8],
+    model: &TestModel,
+    notes: &[Note],
+    diag: &mut E,
+) {
+    match (from_utf8(bytes), from_utf8(whole)) {
+        (Ok(text), Ok(whole)) => {
+            tell_cells(
+                file,
+                without_mark(text),
+                without_mark(whole),
+                model,
+                notes,
+                diag,
+            );
+        }
+        _ => tell_plainly(file, notes, diag),
     }
 }
 
@@ -196,14 +293,24 @@ pub fn tell_table_notes<E: Sink>(
     notes: &[Note],
     diag: &mut E,
 ) {
-    match from_utf8(bytes) {
-        Ok(text) => tell_cells(file, without_mark(text), model, notes, diag),
-        Err(_) => {
-            for note in notes {
-                warn(file, note, note.code.text(), diag);
-            }
-        }
-    }
+    tell_notes_of(file, bytes, b"", model, notes, diag);
+}
+
+/// The same, with the columns of the file where they are known: of a table with commas in each row without quotes.
+pub fn tell_text_notes<E: Sink>(
+    file: &str,
+    table: &TableText,
+    model: &TestModel,
+    notes: &[Note],
+    diag: &mut E,
+) {
+    let tabs = table.tabs.as_slice();
+    let whole = if table.commas.is_empty() {
+        tabs
+    } else {
+        table.commas.as_slice()
+    };
+    tell_notes_of(file, tabs, whole, model, notes, diag);
 }
 
 /// Writes the warning on a seed test, in this line of the file, that no valid test contains.
@@ -218,4 +325,26 @@ pub fn tell_dropped_seed<E: Sink>(file: &str, line: u32, diag: &mut E) {
         "no valid test contains this row; it is left out",
         diag,
     );
+}
+
+/// Writes the warning on a seed test, in this line of the file, that a constraint of the model file forbids by itself.
+pub fn tell_forbidden_seed<E: Sink>(
+    file: &str,
+    line: u32,
+    number: u32,
+    rule_line: u32,
+    diag: &mut E,
+) {
+    let mut number_buffer = Buffer::new();
+    let mut line_buffer = Buffer::new();
+    let number = number_buffer.format(number);
+    let rule_line = line_buffer.format(rule_line);
+    let mut finding = Finding::on(diag, file);
+    finding.place(line);
+    finding.text(": warning: constraint ");
+    finding.text(number);
+    finding.text(" (line ");
+    finding.text(rule_line);
+    finding.text(") forbids this row; it is left out");
+    finding.code(NoteCode::RowDropped.code());
 }

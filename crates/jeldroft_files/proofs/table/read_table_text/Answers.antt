@@ -1,6 +1,6 @@
 use Rattle.jeldroft_files.specs.believed.Tables.{is_comma}
 use Rattle.jeldroft_files.proofs.Reading.{stops_table}
-use Rattle.jeldroft_files.proofs.table.read_table.Goals as goal
+use Rattle.jeldroft_files.proofs.table.read_table_text.Goals as goal
 
 pub returns-clause-stops : goal.returns-clause-stops
 returns-clause-stops g c =

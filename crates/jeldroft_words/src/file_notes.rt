@@ -1,0 +1,46 @@
+use crate::notes::tell_notes;
+use crate::table_notes::tell_text_notes;
+use cov_model::TestModel;
+use jeldroft_files::TableText;
+use model_lex::NoteList;
+use outside_io::Sink;
+use std::alloc::Global;
+use value_text::OwnedList;
+
+/// What there is to warn of in a model file, and in a table of tests of its model.
+#[derive(Drop)]
+pub struct FileNotes {
+    /// Notes on the model file.
+    pub model: NoteList,
+    /// The model, where it was read.
+    pub read: Option<TestModel>,
+    /// The table.
+    pub table: TableText,
+    /// Notes on the table.
+    pub rows: NoteList,
+}
+
+impl FileNotes {
+    /// Nothing to warn of. Takes no memory.
+    pub fn none(alloc: Global) -> FileNotes {
+        FileNotes {
+            model: OwnedList::new(alloc),
+            read: None,
+            table: TableText::none(alloc),
+            rows: OwnedList::new(alloc),
+        }
+    }
+
+    /// Writes the warnings on the model file of this name.
+    pub fn tell_model<E: Sink>(&self, file: &str, diag: &mut E) {
+        tell_notes(file, self.model.as_slice(), diag);
+    }
+
+    /// Writes the warnings on the table of this name: with what stands in its cells, where the model was read.
+    pub fn tell_table<E: Sink>(&self, file: &str, diag: &mut E) {
+        match &self.read {
+            Some(model) => tell_text_notes(file, &self.table, model, self.rows.as_slice(), diag),
+            None => tell_notes(file, self.rows.as_slice(), diag),
+        }
+    }
+}
