@@ -22,8 +22,8 @@ use definitions::Effort;
 use feasibility::SearchFault;
 use jeldroft_args::Measure;
 use jeldroft_files::Failure;
-use jeldroft_inputs::read_tests;
-use model_lex::NoteList;
+use jeldroft_inputs::read_table_of_tests;
+use jeldroft_words::FileNotes;
 use outside_io::Folder;
 use row_text::{Figures, RowFile};
 use std::alloc::Global;
@@ -112,7 +112,7 @@ pub(crate) fn measured<'n, R: Threads + Sync, F: Folder>(
     model: &TestModel,
     args: &'n Measure,
     files: &mut F,
-    notes: &mut NoteList,
+    notes: &mut FileNotes,
 ) -> Result<Figures, Failure<'n>>
     requires { AreThreads args.now.threads }
     ensures figures { IfOk result (λ figures. (table : Option (List ℕ)) → (F.seen files.old).files args.now.table ≡ Some table →
@@ -122,8 +122,9 @@ pub(crate) fn measured<'n, R: Threads + Sync, F: Folder>(
     ensures files { KeepsFiles (F.seen files.old) (F.seen files.new) }
 {
     let plan = make_plan(alloc, model, args.model.name.as_str())?;
-    let tests = read_tests(alloc, args.table.as_str(), args.delimiter, model, files)?;
+    let name = args.table.as_str();
+    let tests = read_table_of_tests(alloc, name, args.delimiter, model, files, &mut notes.table)?;
     let figures = figures_of(rt, alloc, model, &plan, &tests, args);
-    *notes = tests.notes;
+    notes.rows = tests.notes;
     figures
 }

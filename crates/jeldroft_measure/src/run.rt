@@ -12,7 +12,7 @@ use crate::text::measure_text;
 use cov_model::TestModel;
 use jeldroft_args::Measure;
 use jeldroft_files::{Failure, end_with, read_model_file, status_of_end};
-use model_lex::NoteList;
+use jeldroft_words::FileNotes;
 use outside_io::{Folder, Sink};
 use std::alloc::Global;
 use std::thread::Threads;
@@ -24,7 +24,7 @@ fn text_of<'n, R: Threads + Sync, F: Folder>(
     model: &TestModel,
     args: &'n Measure,
     files: &mut F,
-    notes: &mut NoteList,
+    notes: &mut FileNotes,
 ) -> Result<Vec<u8>, Failure<'n>>
     requires { AreThreads args.now.threads }
     ensures due { (table : Option (List ℕ)) → (F.seen files.old).files args.now.table ≡ Some table →
@@ -42,8 +42,7 @@ fn answer<'n, R: Threads + Sync, F: Folder>(
     alloc: Global,
     args: &'n Measure,
     files: &mut F,
-    model_notes: &mut NoteList,
-    notes: &mut NoteList,
+    notes: &mut FileNotes,
 ) -> Result<Vec<u8>, Failure<'n>>
     requires marks { AreMarks args.now.model.marks }
     requires strength { IsStrength args.now.strength }
@@ -53,8 +52,10 @@ fn answer<'n, R: Threads + Sync, F: Folder>(
     ensures files { KeepsFiles (F.seen files.old) (F.seen files.new) }
 {
     let (model, found) = read_model_file(alloc, &args.model, args.strength, files)?;
-    *model_notes = found;
-    text_of(rt, alloc, &model, args, files, notes)
+    notes.model = found;
+    let text = text_of(rt, alloc, &model, args, files, notes);
+    notes.read = Some(model);
+    text
 }
 
 // The name of the output file, if there is one.
@@ -74,8 +75,7 @@ fn write_figures<'n, R: Threads + Sync, F: Folder, O: Sink>(
     args: &'n Measure,
     files: &mut F,
     out: &mut O,
-    model_notes: &mut NoteList,
-    notes: &mut NoteList,
+    notes: &mut FileNotes,
 ) -> Result<(), Failure<'n>>
     requires marks { AreMarks args.now.model.marks }
     requires strength { IsStrength args.now.strength }
@@ -85,7 +85,7 @@ fn write_figures<'n, R: Threads + Sync, F: Folder, O: Sink>(
         (moment (F.seen files.old) (O.seen out.old)) (moment (F.seen files.new) (O.seen out.new)) (end_status result) }
     ensures leaves { Leaves args.now.output (moment (F.seen files.old) (O.seen out.old)) (moment (F.seen files.new) (O.seen out.new)) (end_status result) }
 {
-    let answer = answer(rt, alloc, args, files, model_notes, notes);
+    let answer = answer(rt, alloc, args, files, notes);
     end_with(answer, output_of(args), files, out)
 }
 
@@ -118,9 +118,8 @@ pub fn run_measure<R: Threads + Sync, F: Folder, O: Sink, E: Sink>(
     // Without that premise: what stays as it was.
     ensures leaves { Leaves args.now.output (moment (F.seen files.old) (O.seen out.old)) (moment (F.seen files.new) (O.seen out.new)) result }
 {
-    let mut model_notes = NoteList::new(alloc);
-    let mut notes = NoteList::new(alloc);
-    let end = write_figures(rt, alloc, args, files, out, &mut model_notes, &mut notes);
-    tell(alloc, args, &model_notes, &notes, &end, diag);
+    let mut notes = FileNotes::none(alloc);
+    let end = write_figures(rt, alloc, args, files, out, &mut notes);
+    tell(alloc, args, &notes, &end, diag);
     status_of_end(&end)
 }

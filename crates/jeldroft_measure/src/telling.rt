@@ -1,7 +1,6 @@
 use jeldroft_args::Measure;
 use jeldroft_files::Failure;
-use jeldroft_words::{tell_failure, tell_notes};
-use model_lex::NoteList;
+use jeldroft_words::{FileNotes, tell_failure};
 use outside_io::Sink;
 use std::alloc::Global;
 
@@ -9,13 +8,12 @@ use std::alloc::Global;
 pub(crate) fn tell<E: Sink>(
     alloc: Global,
     args: &Measure,
-    model_notes: &NoteList,
-    notes: &NoteList,
+    notes: &FileNotes,
     end: &Result<(), Failure<'_>>,
     diag: &mut E,
 ) {
-    tell_notes(args.model.name.as_str(), model_notes.as_slice(), diag);
-    tell_notes(args.table.as_str(), notes.as_slice(), diag);
+    notes.tell_model(args.model.name.as_str(), diag);
+    notes.tell_table(args.table.as_str(), diag);
     if let Err(failure) = end {
         tell_failure(alloc, failure, diag);
     }

@@ -12,7 +12,7 @@ returns-clause-figures g c =
     let args = c.args.args.now in
     let tests =
     subst (λ name. (table : Option (List ℕ)) → (g.F.Folder.seen c.args.files.now).files name ≡ Some table → HoldsTests c.args.model.now (is_comma args.delimiter name) table c.in_ok-tests.tests)
-    c.as_str-2.ensures.value c.in_ok-tests.ensures.tests in
+    c.as_str-name.ensures.value c.in_ok-tests.ensures.tests in
     if_ok_and c.figures_of-figures.result (λ figures is answered table told.
     measured_is (effort_of args.budget) c.args.model.now (is_comma args.delimiter args.table) table c.in_ok-plan.ensures.within c.in_ok-tests.tests
     (tests table told) (figures_seen figures) is answered)
@@ -23,7 +23,7 @@ returns-clause-stops g c =
     let args = c.args.args.now in
     let tests =
     subst (λ name. (table : Option (List ℕ)) → (g.F.Folder.seen c.args.files.now).files name ≡ Some table → HoldsTests c.args.model.now (is_comma args.delimiter name) table c.in_ok-tests.tests)
-    c.as_str-2.ensures.value c.in_ok-tests.ensures.tests in
+    c.as_str-name.ensures.value c.in_ok-tests.ensures.tests in
     IfErr-weaker c.figures_of-figures.result _ _ (λ failure ends table told.
     measured_ends (effort_of args.budget) c.args.model.now (is_comma args.delimiter args.table) table c.in_ok-plan.ensures.within c.in_ok-tests.tests
     (tests table told) failure.cause ends)

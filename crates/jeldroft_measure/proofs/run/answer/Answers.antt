@@ -18,8 +18,8 @@ pub returns-clause-due : goal.returns-clause-due
 returns-clause-due g c = λ model table told told_table.
     let args = c.args.args.now in
     called_for (opts_of args.model args.strength) model (λ m. text_of args m table) c.in_ok-model.model c.in_ok-model.found
-    (at_held _ _ model told c.in_ok-model.ensures.model.1) (answer_seen c.text_of.result)
-    (c.text_of.ensures.due table (c.read_model_file.ensures.files args.table ∙ told_table))
+    (at_held _ _ model told c.in_ok-model.ensures.model.1) (answer_seen c.text_of-text.result)
+    (c.text_of-text.ensures.due table (c.read_model_file.ensures.files args.table ∙ told_table))
 
 pub returns-clause-files : goal.returns-clause-files
-returns-clause-files g c = λ name. c.text_of.ensures.files name ∙ c.read_model_file.ensures.files name
+returns-clause-files g c = λ name. c.text_of-text.ensures.files name ∙ c.read_model_file.ensures.files name
