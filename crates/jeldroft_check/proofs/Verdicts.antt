@@ -26,7 +26,7 @@ use Rattle.jeldroft_files.specs.declared.failure.Cause.{Cause}
 use Rattle.jeldroft_files.specs.declared.failure.Cause.TheVariants as causes
 use Rattle.jeldroft_files.specs.declared.failure.Failure.{Failure}
 use Rattle.jeldroft_check.specs.believed.Runs.{Due, Holds, IsRefused, bad_model, bad_table, in_tabs, inputs_of, join_bytes, or_cause, proof_told, too_many, unjudged, unread}
-use Rattle.jeldroft_check.specs.Steps.{Answers, FailsBy, Judges}
+use Rattle.jeldroft_check.specs.Steps.{Answers, FailsBy, Judges, end_seen}
 
 -- ---- bytes that are judged
 
@@ -54,6 +54,13 @@ same_judged opts end {model} {table} {proof} {model'} {table'} {proof'} a b c is
     subst (λ p. Judges opts (record { model = model'; report = table'; proof = p }) end) c
     (subst (λ t. Judges opts (record { model = model'; report = t; proof = proof }) end) b
     (subst (λ m. Judges opts (record { model = m; report = table; proof = proof }) end) a is))
+
+-- an end with the same verdict, or the same cause
+pub same_answer : (args : Check) (held : HeldFiles) (end other : Result Verdict Failure) → end_seen other ≡ end_seen end → Answers args held end → Answers args held other
+same_answer args held (Ok given) (Ok same) is (due, called, holds) = let e : same ≡ given = cc in (due, called, e ∙ holds)
+same_answer args held (Ok given) (Err failure) is answers = cc
+same_answer args held (Err failure) (Ok given) is answers = cc
+same_answer args held (Err failure) (Err same) is fails = let e : failure.cause ≡ same.cause = cc in subst (FailsBy (λ cause. Due args held (Err cause))) e fails
 
 -- ---- files that are read
 

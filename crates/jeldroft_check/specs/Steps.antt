@@ -16,6 +16,7 @@ use Rattle.jeldroft_files.specs.believed.Runs.{IsPrinted}
 use Rattle.jeldroft_files.specs.declared.failure.Cause.{Cause}
 use Rattle.jeldroft_files.specs.declared.failure.Cause.TheVariants as causes
 use Rattle.jeldroft_files.specs.declared.failure.Failure.{Failure}
+use Rattle.jeldroft_files.specs.declared.table.TableText.{TableText}
 use Rattle.jeldroft_check.specs.believed.Runs.{Due, IsJudged, IsRefused}
 
 -- memory or a device failed, or the cause is the one that is called for
@@ -26,6 +27,10 @@ FailsBy called cause = (status_of cause ≡ 3) ⊎ called cause
 abbrev pub ReadsAs : Result (List ℕ) Cause → Result (Vec ℕ) Failure → Type 0
 ReadsAs due (Ok bytes) = due ≡ Ok bytes.items
 ReadsAs due (Err failure) = FailsBy (λ cause. due ≡ Err cause) failure.cause
+
+abbrev pub ReadsTableAs : Result (List ℕ) Cause → Result TableText Failure → Type 0
+ReadsTableAs due (Ok text) = due ≡ Ok text.tabs.items
+ReadsTableAs due (Err failure) = FailsBy (λ cause. due ≡ Err cause) failure.cause
 
 -- the bytes of the three files are judged
 abbrev pub Judges : ModelOpts → Inputs → Result Verdict Failure → Type 0
@@ -49,6 +54,11 @@ answer_status (BadRow line) = 1
 answer_status (BadProof line) = 1
 answer_status (BadOmission line) = 1
 answer_status (Uncovered pairs) = 1
+
+-- the verdict of an end, or its cause
+abbrev pub end_seen : Result Verdict Failure → Result Verdict Cause
+end_seen (Ok given) = Ok given
+end_seen (Err failure) = Err failure.cause
 
 abbrev pub end_status : Result Verdict Failure → ℕ
 end_status (Ok given) = answer_status given

@@ -9,6 +9,8 @@ ghost use Rattle.check_cli.specs.believed.Runs.{HeldFiles};
 ghost use Rattle.jeldroft_check.specs.believed.Runs.{Holds};
 ghost use Rattle.jeldroft_check.specs.Steps.{Answers, Judges};
 
+use crate::notes::Notes;
+use crate::noting::explained;
 use crate::reading::{read_file, read_proof, read_rows};
 use command_line::{FileKind, Stop};
 use jeldroft_args::Check;
@@ -64,7 +66,8 @@ fn judge<'n, R: Threads + Sync>(
     }
 }
 
-/// The verdict on the three files, which are read whole before one of them is looked at.
+/// The verdict on the three files, which are read whole before one of them is looked at. `notes` gets what there is to
+/// tell of them where they aren't accepted.
 ///
 /// # Errors
 ///
@@ -75,6 +78,7 @@ pub(crate) fn verdict_of<'n, R: Threads + Sync, F: Folder>(
     alloc: Global,
     args: &'n Check,
     files: &mut F,
+    notes: &mut Notes,
 ) -> Result<Verdict, Failure<'n>>
     requires marks { AreMarks args.now.model.marks }
     requires strength { IsStrength args.now.strength }
@@ -85,12 +89,13 @@ pub(crate) fn verdict_of<'n, R: Threads + Sync, F: Folder>(
     let model = read_file(alloc, FileKind::Model, args.model.name.as_str(), files)?;
     let table = read_rows(alloc, args, files)?;
     let proof = read_proof(alloc, args, files)?;
-    judge(
+    let end = judge(
         rt,
         alloc,
         args,
         model.as_slice(),
-        table.as_slice(),
+        table.tabs.as_slice(),
         proof.as_slice(),
-    )
+    );
+    explained(alloc, args, end, model, table, notes)
 }

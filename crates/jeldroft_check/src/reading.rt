@@ -7,11 +7,11 @@ ghost use Rattle.check_cli.specs.believed.Runs.{bytes_of};
 ghost use Rattle.command_line.specs.declared.files.FileKind.TheVariants as kinds;
 ghost use Rattle.jeldroft_files.specs.believed.Tables.{is_comma};
 ghost use Rattle.jeldroft_check.specs.believed.Runs.{in_tabs, no_omissions, or_cause, proof_told};
-ghost use Rattle.jeldroft_check.specs.Steps.{ReadsAs};
+ghost use Rattle.jeldroft_check.specs.Steps.{ReadsAs, ReadsTableAs};
 
 use command_line::{FileKind, read_whole};
 use jeldroft_args::Check;
-use jeldroft_files::{Failure, read_table};
+use jeldroft_files::{Failure, TableText, read_table_text};
 use outside_io::Folder;
 use std::alloc::Global;
 use value_text::NoMemory;
@@ -38,22 +38,22 @@ pub(crate) fn read_file<'n, F: Folder>(
     }
 }
 
-/// The bytes of the table, with tabs between its cells.
+/// The bytes of the table.
 ///
 /// # Errors
 ///
-/// As `read_table`.
+/// As `read_table_text`.
 pub(crate) fn read_rows<'n, F: Folder>(
     alloc: Global,
     args: &'n Check,
     files: &mut F,
-) -> Result<Vec<u8>, Failure<'n>>
+) -> Result<TableText, Failure<'n>>
     ensures reads { (held : Option (List ℕ)) → (F.seen files.old).files args.now.table ≡ Some held →
-        ReadsAs (in_tabs (is_comma args.now.delimiter args.now.table) (bytes_of kinds.Rows held)) result }
-    ensures within { IfOk result (λ bytes. length bytes.items ≤ 2 ^ 28) }
+        ReadsTableAs (in_tabs (is_comma args.now.delimiter args.now.table) (bytes_of kinds.Rows held)) result }
+    ensures within { IfOk result (λ text. length text.tabs.items ≤ 2 ^ 28) }
     ensures files { KeepsFiles (F.seen files.old) (F.seen files.new) }
 {
-    read_table(alloc, args.table.as_str(), args.delimiter, files)
+    read_table_text(alloc, args.table.as_str(), args.delimiter, files)
 }
 
 // The bytes of a proof without omissions.

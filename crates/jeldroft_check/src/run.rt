@@ -10,11 +10,12 @@ ghost use Rattle.jeldroft_check.specs.believed.Runs.{ChecksAs, Due, HasReadings,
 ghost use Rattle.jeldroft_check.specs.Steps.{Ends, answer_status, end_status};
 
 use crate::judging::verdict_of;
+use crate::notes::Notes;
+use crate::telling::tell;
 use check_cli::put_verdict;
 use command_line::Stop;
 use jeldroft_args::Check;
 use jeldroft_files::Failure;
-use jeldroft_words::tell_failure;
 use outside_io::{Folder, Sink, WriteAnswer};
 use proof_check::Verdict;
 use std::alloc::Global;
@@ -44,6 +45,7 @@ fn check<'n, R: Threads + Sync, F: Folder, O: Sink>(
     args: &'n Check,
     files: &mut F,
     out: &mut O,
+    notes: &mut Notes,
 ) -> Result<Verdict, Failure<'n>>
     requires marks { AreMarks args.now.model.marks }
     requires strength { IsStrength args.now.strength }
@@ -52,7 +54,7 @@ fn check<'n, R: Threads + Sync, F: Folder, O: Sink>(
     ensures unprinted { IfErr result (λ failure. status_of failure.cause ≡ 2 → O.seen out.new ≡ O.seen out.old) }
     ensures files { KeepsFiles (F.seen files.old) (F.seen files.new) }
 {
-    let verdict = verdict_of(rt, alloc, args, files)?;
+    let verdict = verdict_of(rt, alloc, args, files, notes)?;
     print(&verdict, out)?;
     Ok(verdict)
 }
@@ -86,7 +88,8 @@ fn status_of_end(end: &Result<Verdict, Failure<'_>>) -> u8
 /// table, verdict, write of its line to `out`. All memory is taken before the first byte is written. Statuses: 0 where the
 /// table and the proof are accepted; 1 where they are refused, and then the line says why; 2 where the model file or the
 /// table is refused, or a limit is passed; 3 where memory, a read or a write failed. A reader of `out` that has gone away
-/// changes no status. With 2 and 3 `diag` is told why, and its faults change nothing.
+/// changes no status. With 1, 2 and 3 `diag` is told why,
+/// in names of the model, and its faults change nothing.
 pub fn run_check<R: Threads + Sync, F: Folder, O: Sink, E: Sink>(
     rt: &R,
     alloc: Global,
@@ -111,9 +114,8 @@ pub fn run_check<R: Threads + Sync, F: Folder, O: Sink, E: Sink>(
     // Without that premise: no file changes, and with status 2 nothing is printed.
     ensures leaves { Leaves None (moment (F.seen files.old) (O.seen out.old)) (moment (F.seen files.new) (O.seen out.new)) result }
 {
-    let end = check(rt, alloc, args, files, out);
-    if let Err(failure) = &end {
-        tell_failure(alloc, failure, diag);
-    }
+    let mut notes = Notes::none(alloc);
+    let end = check(rt, alloc, args, files, out, &mut notes);
+    tell(alloc, args, &end, &notes, diag);
     status_of_end(&end)
 }
