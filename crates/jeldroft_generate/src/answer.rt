@@ -15,6 +15,8 @@ ghost use Rattle.jeldroft_generate.specs.Runs.{AreInRange};
 ghost use Rattle.jeldroft_generate.specs.Steps.{EndsAt};
 
 use crate::asked::form_of;
+use crate::dropped_seed::dropped_seeds;
+use crate::findings::finding_lines;
 use crate::growing::{grow, make_plan};
 use crate::made::Made;
 use crate::notes::Notes;
@@ -80,7 +82,10 @@ fn make_suite<'n, R: Threads + Sync>(
     let grown = grow(rt, alloc, args, model, plan, seeds)?;
     let tests = tests_of(alloc, args, model, plan, seeds, grown.rows)?;
     let made = texts_of(alloc, args, model, plan, &tests, &grown.omitted)?;
-    notes.dropped = grown.dropped;
+    if let Ok(dropped) = dropped_seeds(alloc, model, seeds, &grown.dropped) {
+        notes.dropped = dropped;
+    }
+    notes.findings = finding_lines(alloc, args, model, &tests.rows);
     Ok(made)
 }
 
@@ -99,8 +104,8 @@ fn make_of_model<'n, R: Threads + Sync, F: Folder>(
     ensures files { KeepsFiles (F.seen files.old) (F.seen files.new) }
 {
     let plan = make_plan(alloc, model, args.model.name.as_str())?;
-    let file = read_seeds(alloc, args, model, files, &mut notes.table)?;
-    notes.seeds = file.notes;
+    let file = read_seeds(alloc, args, model, files, &mut notes.files.table)?;
+    notes.files.rows = file.notes;
     let seeds = RowFile {
         rows: file.rows,
         notes: OwnedList::new(alloc),
@@ -127,9 +132,9 @@ pub(crate) fn answer<'n, R: Threads + Sync, F: Folder>(
 {
     match read_model_file(alloc, &args.model, args.strength, files) {
         Ok((model, warnings)) => {
-            notes.model = warnings;
+            notes.files.model = warnings;
             let made = make_of_model(rt, alloc, args, &model, files, notes);
-            notes.read = Some(model);
+            notes.files.read = Some(model);
             made
         }
         Err(failure) => Err(failure),

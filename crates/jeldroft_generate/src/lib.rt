@@ -10,7 +10,9 @@
 
 mod answer;
 mod asked;
+mod dropped_seed;
 mod fewer;
+mod findings;
 mod growing;
 mod made;
 mod notes;

@@ -1,32 +1,25 @@
-use cov_model::TestModel;
-use ipog_grow::LineList;
-use model_lex::NoteList;
+use crate::dropped_seed::DroppedSeed;
+use jeldroft_words::FileNotes;
 use std::alloc::Global;
 use value_text::OwnedList;
 
 /// What there is to warn of.
 #[derive(Drop)]
 pub(crate) struct Notes {
-    /// Notes on the model file.
-    pub model: NoteList,
-    /// The model, where it was read.
-    pub read: Option<TestModel>,
-    /// The bytes of the file of seeds, with tabs between its cells.
-    pub table: Vec<u8>,
-    /// Notes on the file of seeds.
-    pub seeds: NoteList,
-    /// The lines of the seeds that aren't kept.
-    pub dropped: LineList,
+    /// In the model file and in the file of seeds.
+    pub files: FileNotes,
+    /// The lines that tell what is odd about the model.
+    pub findings: Vec<u8>,
+    /// The seeds that aren't kept.
+    pub dropped: OwnedList<DroppedSeed>,
 }
 
 impl Notes {
     /// Nothing to warn of.
     pub(crate) fn new(alloc: Global) -> Notes {
         Notes {
-            model: OwnedList::new(alloc),
-            read: None,
-            table: Vec::new(alloc),
-            seeds: OwnedList::new(alloc),
+            files: FileNotes::none(alloc),
+            findings: Vec::new(alloc),
             dropped: OwnedList::new(alloc),
         }
     }

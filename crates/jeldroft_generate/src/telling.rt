@@ -2,11 +2,11 @@
 use crate::fewer::Fewer;
 use crate::notes::Notes;
 use crate::tests::Tests;
-use cov_model::TestModel;
+use cov_model::{Demand, TestModel};
 use itoa::Buffer;
 use jeldroft_args::Generate;
 use jeldroft_files::Failure;
-use jeldroft_words::{tell_dropped_seed, tell_failure, tell_notes, tell_table_notes};
+use jeldroft_words::tell_failure;
 use outside_io::{Sink, put_pieces};
 use refutation::Omissions;
 use shared_marks::count_tuples;
@@ -18,13 +18,22 @@ use tuple_index::Plan;
 pub(crate) struct Summary {
     // How many tests there are.
     tests: u64,
-    // How many parameters are combined.
-    strength: u32,
+    // How many parameters are combined, where that is so of each combination.
+    strength: Option<u32>,
     // How many combinations of their values are demanded, and how many of them no test can have.
     combinations: u64,
     impossible: u64,
     // Where the tests are in place of those that grew, what is told of that.
     fewer: Option<Fewer>,
+}
+
+// How many parameters are combined, where no sub-model and no relation asks for more or fewer.
+fn strength_of(demand: &Demand) -> Option<u32> {
+    if demand.subs.is_empty() && demand.relations.is_empty() {
+        Some(demand.order)
+    } else {
+        None
+    }
 }
 
 impl Summary {
@@ -37,7 +46,7 @@ impl Summary {
     ) -> Summary {
         Summary {
             tests: tests.rows.len() as u64,
-            strength: model.demand().order,
+            strength: strength_of(model.demand()),
             combinations: u64::from(count_tuples(plan)),
             impossible: omitted.len() as u64,
             fewer: tests.fewer,
@@ -69,16 +78,21 @@ impl Summary {
 
     // Writes the line.
     fn tell<E: Sink>(&self, diag: &mut E) {
-        put_number(self.tests, diag);
-        let _ = put_pieces(diag, &[" tests"]);
+        put_count(self.tests, " test", diag);
         self.tell_grown(diag);
-        let _ = put_pieces(diag, &[" cover "]);
+        let covers = if self.tests == 1 {
+            " covers "
+        } else {
+            " cover "
+        };
+        let _ = put_pieces(diag, &[covers]);
         put_number(self.combinations.saturating_sub(self.impossible), diag);
         let _ = put_pieces(diag, &[" of "]);
-        put_number(self.combinations, diag);
-        let _ = put_pieces(diag, &[" combinations of "]);
-        put_number(u64::from(self.strength), diag);
-        let _ = put_pieces(diag, &[" parameters"]);
+        put_count(self.combinations, " combination", diag);
+        if let Some(strength) = self.strength {
+            let _ = put_pieces(diag, &[" of "]);
+            put_count(u64::from(strength), " parameter", diag);
+        }
         if self.impossible > 0 {
             let _ = put_pieces(diag, &["; no test can have the other "]);
             put_number(self.impossible, diag);
@@ -101,26 +115,25 @@ fn put_number<E: Sink>(number: u64, diag: &mut E) {
     }
 }
 
-// Writes the warnings on the file of seeds: with what stands in its cells, where the model was read.
+// Writes a number of things.
+fn put_count<E: Sink>(number: u64, thing: &str, diag: &mut E) {
+    put_number(number, diag);
+    let ending = if number == 1 { "" } else { "s" };
+    let _ = put_pieces(diag, &[thing, ending]);
+}
+
+// Writes the warnings on the file of seeds: on its cells, and on the seeds that aren't kept.
 fn tell_seeds<E: Sink>(file: &str, notes: &Notes, diag: &mut E) {
-    match &notes.read {
-        Some(model) => tell_table_notes(
-            file,
-            notes.table.as_slice(),
-            model,
-            notes.seeds.as_slice(),
-            diag,
-        ),
-        None => tell_notes(file, notes.seeds.as_slice(), diag),
-    }
-    for line in notes.dropped.as_slice() {
-        tell_dropped_seed(file, *line, diag);
+    notes.files.tell_table(file, diag);
+    for seed in notes.dropped.as_slice() {
+        seed.tell(file, diag);
     }
 }
 
 // Writes the warnings.
 fn tell_warnings<E: Sink>(args: &Generate, notes: &Notes, diag: &mut E) {
-    tell_notes(args.model.name.as_str(), notes.model.as_slice(), diag);
+    notes.files.tell_model(args.model.name.as_str(), diag);
+    let _ = diag.put(notes.findings.as_slice());
     if let Some(seeds) = &args.seeds {
         tell_seeds(seeds.as_str(), notes, diag);
     }

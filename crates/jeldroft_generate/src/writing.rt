@@ -37,8 +37,10 @@ fn write_made<'n, F: Folder, O: Sink>(
     ensures { WritesBoth (proof_name args.now) args.now.output made.now.proof.items made.now.table.items
         (moment (F.seen files.old) (O.seen out.old)) (moment (F.seen files.new) (O.seen out.new)) (end_status result) }
 {
-    write_proof(&args.proof, made.proof.as_slice(), files, out)?;
-    write_text(made.table.as_slice(), output_name(args), files, out)
+    match write_proof(&args.proof, made.proof.as_slice(), files, out) {
+        Ok(()) => write_text(made.table.as_slice(), output_name(args), files, out),
+        Err(failure) => Err(failure),
+    }
 }
 
 /// Ends a run: what was made is written, and what is told of it handed on; where nothing was made, its failure is.
