@@ -60,16 +60,18 @@ fn holds(folder: &MemFolder, left: &[(&str, &str)]) -> bool {
         .all(|(name, text)| folder.held(name) == Some(text.as_bytes()))
 }
 
-/// Runs a case with this standard output; whether all but that comes as the case says.
+/// Runs a case with this standard output, and with a standard error that may be a terminal; whether all but what standard
+/// output gets comes as the case says.
 ///
 /// # Errors
 ///
 /// `NoMemory` where the words, the folder or the sinks could not be had.
-pub fn ends_with<R: Threads + Sync, O: Sink>(
+pub fn ends_beside<R: Threads + Sync, O: Sink>(
     rt: &R,
     alloc: Global,
     case: &Case<'_>,
     out: &mut O,
+    terminal: bool,
 ) -> Result<bool, NoMemory> {
     let words = words_of(alloc, case.words)?;
     let mut folder = folder_of(alloc, case.files)?;
@@ -81,10 +83,24 @@ pub fn ends_with<R: Threads + Sync, O: Sink>(
         &mut folder,
         out,
         &mut told,
-        false,
+        terminal,
     );
     let is_told = told.bytes() == case.told.as_bytes();
     Ok(status == case.status && is_told && holds(&folder, case.left))
+}
+
+/// The same without a terminal.
+///
+/// # Errors
+///
+/// As `ends_beside`.
+pub fn ends_with<R: Threads + Sync, O: Sink>(
+    rt: &R,
+    alloc: Global,
+    case: &Case<'_>,
+    out: &mut O,
+) -> Result<bool, NoMemory> {
+    ends_beside(rt, alloc, case, out, false)
 }
 
 /// Whether a run leaves what the case says.

@@ -29,7 +29,7 @@ const CASES: &[Case<'static>] = &[
         files: &[("m", MODEL), ("t", "A\tB\n1\tx\n2\tx\n"), ("p", PROOF)],
         status: 1,
         out: UNCOVERED,
-        told: "",
+        told: "t: error: no test covers A = 2 and B = y, and the proof doesn't list this combination\n",
         left: &[],
     },
     // without a proof each combination that no test has is uncovered
@@ -38,7 +38,7 @@ const CASES: &[Case<'static>] = &[
         files: &[("m", MODEL), ("t", TABLE)],
         status: 1,
         out: "refused: uncovered 0=0 1=1\n",
-        told: "",
+        told: "t: error: no test covers A = 1 and B = y, and no proof was given\n",
         left: &[],
     },
     Case {
@@ -74,7 +74,7 @@ const CASES: &[Case<'static>] = &[
         ],
         status: 1,
         out: "refused: report line 5: not a valid row\n",
-        told: "",
+        told: "t.csv:5: error: constraint 1 (line 3) forbids this test\n",
         left: &[],
     },
     Case {
@@ -90,7 +90,20 @@ const CASES: &[Case<'static>] = &[
         files: &[("m", MODEL), ("t", "A\n1\n"), ("p", PROOF)],
         status: 2,
         out: "",
-        told: "t: error: no column for parameter number 1 of the model, counted from 0 [F3]\n",
+        told: "t: error: no column for the parameter B [F3]\n",
+        left: &[],
+    },
+    // what is no value in a cell
+    Case {
+        words: &["check", "m", "t"],
+        files: &[
+            ("m", "A: 1, 2\nB: x, y\n"),
+            ("t", "A\tB\n1\tx\n1\tq\n2\tx\n2\ty\n"),
+        ],
+        status: 1,
+        out: "refused: report line 3: not a valid row\n",
+        told: "t:3:3: warning: column B: \"q\" is no value of it; the cell is ignored [V3]\n\
+            t:3: error: this test has no value of B\n",
         left: &[],
     },
     Case {

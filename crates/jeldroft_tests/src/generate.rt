@@ -109,8 +109,8 @@ const CASES: &[Case<'static>] = &[
         files: &[("m", FULL), ("s", "A\tC\n3\tx\n2\tx\n")],
         status: 0,
         out: "A\tB\n2\tx\n1\tx\n1\ty\n2\ty\n",
-        told: "s:1: warning: no parameter is named \"C\"; the column is ignored [V2]\n\
-            s:2: warning: column A: \"3\" is no value of it; the cell is ignored [V3]\n",
+        told: "s:1:3: warning: no parameter is named \"C\"; the column is ignored [V2]\n\
+            s:2:1: warning: column A: \"3\" is no value of it; the cell is ignored [V3]\n",
         left: &[],
     },
     Case {

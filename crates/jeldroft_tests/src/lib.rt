@@ -13,3 +13,5 @@ mod generate;
 mod pipe;
 #[cfg(test)]
 mod shrink;
+#[cfg(test)]
+mod told;

@@ -20,7 +20,7 @@ const REFUSED: Case<'static> = Case {
     files: &[("m", MODEL), ("t", TABLE)],
     status: 1,
     out: "ref",
-    told: "",
+    told: "t: error: no test covers A = 1 and B = y, and no proof was given\n",
     left: &[],
 };
 
