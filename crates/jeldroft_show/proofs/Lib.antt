@@ -1,5 +1,6 @@
 pub mod CertifiedLemmas
 pub mod DueLemmas
+pub mod OmissionLemmas
 pub mod RowLemmas
 pub mod ShowEnds
 pub mod WordLemmas

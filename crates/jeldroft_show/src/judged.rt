@@ -1,13 +1,15 @@
 //! The answer that shows a suite in words, with the verdict of the checker.
-ghost use Rattle.std.specs.Prelude.{◌≡◌, ◌≤◌, ◌^◌, ℕ, List, Option, Some, None, Err, Ok, length, is_some, IfOk, IfErr, IfSome, OnOk};
+ghost use Rattle.std.specs.Prelude.{◌≡◌, ◌≤◌, ◌^◌, ℕ, List, Option, Some, None, Err, Ok, length, map, is_some, IfOk, IfErr, IfSome, OnOk};
 ghost use Rattle.outside_io.specs.believed.Seen.{KeepsFiles};
+ghost use Rattle.definitions.specs.believed.ProofText.{omissions_of};
 ghost use Rattle.definitions.specs.believed.Verdict.{verdict};
+ghost use Rattle.refutation.specs.Proofs.{omission_meant};
 ghost use Rattle.jeldroft_args.specs.Ranges.{AreThreads};
 ghost use Rattle.jeldroft_inputs.specs.Inputs.{EndsBy};
 ghost use Rattle.jeldroft_show.specs.believed.Due.{HeldFiles, HoldsSuite, no_omissions, proof_in, proof_of, shown_words, words_shown};
 ghost use Rattle.jeldroft_show.specs.Due.{IsLimit};
 ghost use Rattle.jeldroft_show.specs.Steps.{Gives, shown_by};
-ghost use Rattle.jeldroft_show.specs.believed.Words.{suite_words};
+ghost use Rattle.jeldroft_show.specs.believed.Words.{omissions_told, suite_words};
 ghost use Rattle.row_text.specs.Readings.{IsFileOf};
 ghost use Rattle.row_text.specs.RowFiles.{seeds_seen, suite_seen};
 ghost use Rattle.tuple_index.specs.Plan.{plan_of};
@@ -15,6 +17,7 @@ ghost use Rattle.tuple_index.specs.believed.PlanFault.{limit_passed};
 
 use crate::answer::Answer;
 use crate::gaps::lines_with_gaps;
+use crate::omissions::omissions_told;
 use crate::suite_words::{SuiteFacts, is_accepted, suite_words};
 use command_line::{FileKind, Stop, read_whole};
 use cov_model::TestModel;
@@ -23,6 +26,7 @@ use jeldroft_files::Failure;
 use jeldroft_inputs::read_tests;
 use outside_io::Folder;
 use proof_check::{Verdict, check_rows};
+use refutation::Omissions;
 use row_text::RowFile;
 use std::alloc::Global;
 use std::thread::Threads;
@@ -93,7 +97,7 @@ fn read_proof<'n, F: Folder>(
     }
 }
 
-// The words that show a suite with this verdict.
+// The words that show a suite with this verdict, and with the omissions that are explained.
 fn write_words<R: Threads + Sync>(
     rt: &R,
     alloc: Global,
@@ -101,12 +105,14 @@ fn write_words<R: Threads + Sync>(
     model: &TestModel,
     plan: &Plan,
     tests: &RowFile,
+    omissions: &Omissions,
     verdict: &Verdict,
 ) -> Result<Vec<u8>, NoMemory>
     requires plan { plan.now ≡ plan_of model.now }
     requires tests { IsFileOf model.now tests.now }
     requires threads { AreThreads args.now.threads }
-    ensures { IfOk result (λ text. text.items ≡ suite_words model.now (suite_seen tests.now) (is_some args.now.proof) verdict.now) }
+    ensures { IfOk result (λ text. text.items ≡ suite_words model.now (suite_seen tests.now) (is_some args.now.proof)
+        (map omission_meant omissions.now.omissions) verdict.now) }
 {
     let coverage = coverage_of(rt, alloc, model, plan, tests, args.threads, &OpenGate)?;
     let numbers = numbers_of(model, plan, tests, coverage.covered);
@@ -118,9 +124,32 @@ fn write_words<R: Threads + Sync>(
         points: points.as_slice(),
         is_proof_named: args.proof.is_some(),
         verdict,
+        proof: omissions,
     };
     let text = suite_words(alloc, model, plan, &facts)?;
     Ok(text)
+}
+
+// The words that show a suite with this verdict on it and on a proof.
+fn write_judged<R: Threads + Sync>(
+    rt: &R,
+    alloc: Global,
+    args: &Show,
+    model: &TestModel,
+    plan: &Plan,
+    tests: &RowFile,
+    proof: &[u8],
+    verdict: &Verdict,
+) -> Result<Vec<u8>, NoMemory>
+    requires plan { plan.now ≡ plan_of model.now }
+    requires tests { IsFileOf model.now tests.now }
+    requires proof { length proof.now ≤ 2 ^ 28 }
+    requires threads { AreThreads args.now.threads }
+    ensures { IfOk result (λ text. text.items ≡ suite_words model.now (suite_seen tests.now) (is_some args.now.proof)
+        (omissions_told verdict.now (omissions_of model.now proof.now)) verdict.now) }
+{
+    let omissions = omissions_told(alloc, model, verdict, proof)?;
+    write_words(rt, alloc, args, model, plan, tests, &omissions, verdict)
 }
 
 // The answer that shows tests in words, with the verdict on them and on a proof.
@@ -149,7 +178,7 @@ fn judge<R: Threads + Sync>(
         args.threads,
         &OpenGate,
     )?;
-    let text = write_words(rt, alloc, args, model, plan, &tests, &verdict)?;
+    let text = write_judged(rt, alloc, args, model, plan, &tests, proof, &verdict)?;
     let gaps = lines_with_gaps(alloc, model, &tests)?;
     Ok(Answer {
         text,

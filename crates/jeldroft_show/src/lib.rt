@@ -1,9 +1,10 @@
 //! `jeldroft show`: a suite in the forms that other tools read, or in words.
 //!
 //! - `run_show` reads a model, a table of tests and its proof, if one is named. It writes the table's rows as a table with
-//!   tabs, as comma-separated values, as json or as Markdown, or says in words what the rows cover and whether the checker
-//!   accepts them. Its clause `shows` cites specs/Shows, specs/Due and specs/Words: which text the bytes of the files call
-//!   for, and for which causes they call for none; as words the status is 0 exactly where the checker accepts.
+//!   tabs, as comma-separated values, as json or as Markdown, or says in words what the rows cover, whether the checker
+//!   accepts them, and why combinations are left out. Its clause `shows` cites specs/Shows, specs/Due and specs/Words:
+//!   which text the bytes of the files call for, and for which causes they call for none; as words the status is 0 exactly
+//!   where the checker accepts.
 //!
 //! All memory is taken before the first byte is written. The verdict is that of `proof_check`, and nothing here stands on
 //! the search.
@@ -12,10 +13,10 @@
 mod answer;
 mod gaps;
 mod judged;
+mod omissions;
 mod rows;
 mod run;
 mod suite_words;
 mod tell;
-mod words;
 
 pub use run::run_show;

@@ -1,15 +1,19 @@
 //! The text that says in words what a suite covers, whether it is accepted, and why not.
-ghost use Rattle.std.specs.Prelude.{◌≡◌, ◌++◌, ◌<◌, Some, length, option_map, OnOk, IfOk, IfSome, decimal};
+ghost use Rattle.std.specs.Prelude.{◌≡◌, ◌++◌, ◌<◌, Some, length, map, option_map, OnOk, IfOk, IfSome, decimal};
 ghost use Rattle.std.specs.List.{flat_map};
 ghost use Rattle.suite_facts.specs.Coverages.{set_seen};
 ghost use Rattle.tuple_index.specs.Plan.{plan_of};
+ghost use Rattle.model_words.specs.believed.Words as plain;
+ghost use Rattle.refutation.specs.Proofs.{omission_meant};
 ghost use Rattle.jeldroft_show.specs.believed.Words as words;
 
-use crate::words::{
-    add, add_combinations, add_counted, add_number, add_pairs, add_params, add_tests,
-};
 use cov_model::{ParamNo, TestModel, ValueNo};
+use model_words::{
+    add, add_combinations, add_counted, add_left_out, add_number, add_pairs, add_params, add_tests,
+    add_two,
+};
 use proof_check::Verdict;
+use refutation::Omissions;
 use std::alloc::Global;
 use suite_facts::{CurvePoint, LargestSet, SuiteNumbers};
 use tuple_index::Plan;
@@ -59,24 +63,6 @@ fn add_coverage(numbers: &SuiteNumbers, accepted: bool, text: &mut Vec<u8>) -> R
     add_rest(numbers, accepted, text)
 }
 
-// Adds two numbers, by the texts around them.
-fn add_two(
-    opening: &str,
-    first: u32,
-    middle: &str,
-    second: u32,
-    ending: &str,
-    text: &mut Vec<u8>,
-) -> Result<(), NoMemory>
-    ensures { OnOk result (text.new.items ≡ text.old.items ++ (opening.now ++ (decimal first ++ (middle.now ++ (decimal second ++ ending.now))))) }
-{
-    add(opening, text)?;
-    add_number(u64::from(first), text)?;
-    add(middle, text)?;
-    add_number(u64::from(second), text)?;
-    add(ending, text)
-}
-
 // Adds that the suite is accepted.
 fn add_accepted(rows: u32, omissions: u32, text: &mut Vec<u8>) -> Result<(), NoMemory>
     ensures { OnOk result (text.new.items ≡ text.old.items ++ words.accepted_words rows omissions) }
@@ -108,7 +94,7 @@ fn add_around(
     ending: &str,
     text: &mut Vec<u8>,
 ) -> Result<(), NoMemory>
-    ensures { OnOk result (text.new.items ≡ text.old.items ++ (opening.now ++ (words.listed (words.pair_words model.now) pairs.now ++ ending.now))) }
+    ensures { OnOk result (text.new.items ≡ text.old.items ++ (opening.now ++ (plain.listed (plain.pair_words model.now) pairs.now ++ ending.now))) }
 {
     add(opening, text)?;
     add_pairs(model, pairs, text)?;
@@ -175,7 +161,7 @@ fn add_need(
     text: &mut Vec<u8>,
 ) -> Result<(), NoMemory>
     ensures { OnOk result (text.new.items ≡ text.old.items
-        ++ (opening.now ++ (words.tests tests ++ (middle.now ++ (words.listed (words.param_words model.now) params.now ++ ending.now))))) }
+        ++ (opening.now ++ (plain.tests tests ++ (middle.now ++ (plain.listed (plain.param_words model.now) params.now ++ ending.now))))) }
 {
     add(opening, text)?;
     add_tests(u64::from(tests), text)?;
@@ -303,6 +289,8 @@ pub(crate) struct SuiteFacts<'a> {
     pub(crate) is_proof_named: bool,
     /// The verdict.
     pub(crate) verdict: &'a Verdict,
+    /// The omissions of the proof that are explained.
+    pub(crate) proof: &'a Omissions,
 }
 
 // Adds how many tests every suite needs, where the suite is accepted.
@@ -324,7 +312,8 @@ fn add_least_if(
 }
 
 /// The text that says in words what a suite covers: how many of the demanded combinations are covered, the verdict, how
-/// many tests every suite needs where this one is accepted, and how many combinations the first tests cover.
+/// many tests every suite needs where this one is accepted, why combinations are left out, and how many combinations the
+/// first tests cover.
 ///
 /// # Errors
 ///
@@ -338,7 +327,7 @@ pub(crate) fn suite_words(
     requires plan { plan.now ≡ plan_of model.now }
     requires exists { IfSome facts.now.largest (λ found. found.set < length plan.now.sets) }
     ensures { IfOk result (λ text. text.items ≡ words.words_of model.now facts.now.numbers.now (option_map (set_seen model.now) facts.now.largest)
-        facts.now.points.now facts.now.is_proof_named facts.now.verdict.now) }
+        facts.now.points.now facts.now.is_proof_named (map omission_meant facts.now.proof.now.omissions) facts.now.verdict.now) }
 {
     let accepted = is_accepted(facts.verdict);
     let mut text = Vec::new(alloc);
@@ -346,6 +335,7 @@ pub(crate) fn suite_words(
     add_verdict(model, facts.verdict, &mut text)?;
     add_no_proof(facts.is_proof_named, accepted, &mut text)?;
     add_least_if(accepted, model, plan, facts.largest, &mut text)?;
+    add_left_out(alloc, model, facts.proof, &mut text)?;
     add_curve(facts.numbers, facts.points, &mut text)?;
     Ok(text)
 }

@@ -3,6 +3,7 @@ use Rattle.std.specs.Prelude.{◌≡◌, ℕ, Bool, true, false, List, length, m
 use Rattle.outside_io.specs.believed.Files.{Files}
 use Rattle.cov_model.specs.believed.Sound.{ModelView}
 use Rattle.definitions.specs.believed.Limits.{ProofFile, most_bytes}
+use Rattle.definitions.specs.believed.ProofText.{omissions_of}
 use Rattle.definitions.specs.believed.Verdict.{verdict}
 use Rattle.tuple_index.specs.believed.PlanFault.{limit_passed}
 use Rattle.proof_check.specs.believed.Checks.{verdict_given}
@@ -21,7 +22,7 @@ use Rattle.jeldroft_files.specs.declared.failure.Cause.{Cause}
 use Rattle.jeldroft_files.specs.declared.failure.Cause.TheVariants as causes
 use Rattle.jeldroft_inputs.specs.believed.Inputs.{GivesModel, and_then, tests_of, unless}
 use Rattle.jeldroft_show.specs.believed.Shows.{Shown}
-use Rattle.jeldroft_show.specs.believed.Words.{is_accepted, suite_words}
+use Rattle.jeldroft_show.specs.believed.Words.{is_accepted, omissions_told, suite_words}
 
 -- what the names of the files hold: a file, or none
 pub record HeldFiles : Type 0 where
@@ -80,7 +81,7 @@ proof_of (Some name) held = proof_in held
 abbrev pub shown_words : ModelView → List (ℕ × List (Option ℕ)) → List (List (Option ℕ)) → Bool → List ℕ → Shown
 shown_words m lines rows is_named bytes =
     let given = verdict_given (verdict m lines bytes) in
-    record { text = suite_words m rows is_named given; accepted = is_accepted given }
+    record { text = suite_words m rows is_named (omissions_told given (omissions_of m bytes)) given; accepted = is_accepted given }
 
 -- the suite of the table in words
 abbrev pub words_shown : Show → ModelView → HeldFiles → Result Shown Cause

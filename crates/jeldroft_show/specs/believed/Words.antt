@@ -1,44 +1,16 @@
--- The text that says in words what a suite covers, whether it is accepted, and why not. (This project's rule.)
-use Rattle.std.specs.Prelude.{ℕ, ◌*◌, ◌-◌, ◌/◌, ◌==◌, ◌||◌, Bool, true, false, List, [], ◌∷◌, ◌++◌, length, map, Option, Some, None, codes, decimal, slice_index_or, if◌then◌else◌}
+-- The text that says in words what a suite covers, whether it is accepted, why not, and why combinations are left out. (This project's rule.)
+use Rattle.std.specs.Prelude.{ℕ, ◌*◌, ◌-◌, ◌/◌, ◌==◌, ◌||◌, Bool, true, false, List, [], ◌++◌, length, map, Option, Some, None, Result, Ok, Err, codes, decimal, if◌then◌else◌}
 use Rattle.std.specs.List.{flat_map}
-use Rattle.cov_model.specs.declared.parameter.Value.{Value}
-use Rattle.cov_model.specs.believed.Meaning.{value_at}
-use Rattle.cov_model.specs.believed.Sound.{ModelView, param_at}
-use Rattle.definitions.specs.believed.Report.{printed}
+use Rattle.cov_model.specs.believed.Sound.{ModelView}
+use Rattle.definitions.specs.believed.ProofText.{Omission}
+use Rattle.model_words.specs.believed.Explanations.{left_out_words}
+use Rattle.model_words.specs.believed.Words.{combinations, counted, listed, pair_words, param_words, tests}
 use Rattle.suite_facts.specs.believed.Facts.{SetCount, largest_of, round_counts}
 use Rattle.suite_facts.specs.believed.Coverages.{numbers_of, point_of}
 use Rattle.suite_facts.specs.declared.coverage.SuiteNumbers.{SuiteNumbers}
 use Rattle.suite_facts.specs.declared.curve.CurvePoint.{CurvePoint}
 use Rattle.proof_check.specs.declared.verdict.Verdict.{Verdict}
 use Rattle.proof_check.specs.declared.verdict.Verdict.TheVariants.{Accepted, BadRow, BadProof, BadOmission, Uncovered}
-
--- a number with what it counts
-abbrev pub counted : ℕ → List ℕ → List ℕ → List ℕ
-counted n one many = decimal n ++ 32 ∷ (if n == 1 then one else many)
-
-abbrev pub tests : ℕ → List ℕ
-tests n = counted n (codes "test") (codes "tests")
-
-abbrev pub combinations : ℕ → List ℕ
-combinations n = counted n (codes "combination") (codes "combinations")
-
--- items in words, with a comma behind all but the last
-abbrev pub listed_from : {X : Type 0} → (X → List ℕ) → Bool → List X → List ℕ
-listed_from words is_first [] = []
-listed_from words is_first (item ∷ items) = (if is_first then [] else codes ", ") ++ (words item ++ listed_from words false items)
-
-abbrev pub listed : {X : Type 0} → (X → List ℕ) → List X → List ℕ
-listed words items = listed_from words true items
-
--- a parameter by its name, and a value by its first name, with the mark of an invalid value
-abbrev pub param_words : ModelView → ℕ → List ℕ
-param_words m p = (param_at m.params p).name
-
-abbrev pub first_printed : ModelView → Value → List ℕ
-first_printed m value = printed m value (slice_index_or value.names 0 [])
-
-abbrev pub pair_words : ModelView → ℕ × ℕ → List ℕ
-pair_words m pair = param_words m pair.0 ++ (codes " = " ++ first_printed m (value_at m pair.0 pair.1))
 
 -- how large the suite is, and how much of the demand it covers; nothing more is left where it is accepted
 abbrev pub size_words : SuiteNumbers → List ℕ
@@ -91,6 +63,18 @@ abbrev pub least_words : ModelView → Option SetCount → Bool → List ℕ
 least_words m largest true = set_words m largest
 least_words m largest false = []
 
+-- the omissions of a proof that are explained: all, where the verdict is that each tree refutes its combination
+abbrev pub omissions_read : Result (ℕ × List Omission) ℕ → List Omission
+omissions_read (Ok proof) = proof.1
+omissions_read (Err line) = []
+
+abbrev pub omissions_told : Verdict → Result (ℕ × List Omission) ℕ → List Omission
+omissions_told (Accepted rows omissions) proof = omissions_read proof
+omissions_told (Uncovered pairs) proof = omissions_read proof
+omissions_told (BadRow line) proof = []
+omissions_told (BadProof line) proof = []
+omissions_told (BadOmission line) proof = []
+
 -- how many combinations the first tests cover, and how many of a hundred that is
 abbrev pub point_words : ℕ → CurvePoint → List ℕ
 point_words demanded point =
@@ -100,12 +84,12 @@ abbrev pub curve_words : SuiteNumbers → List CurvePoint → List ℕ
 curve_words n points =
     if (n.tests == 0) || (n.demanded == 0) then [] else codes "Covered after\n" ++ flat_map (point_words n.demanded) points
 
--- the text of a suite with this verdict
-abbrev pub words_of : ModelView → SuiteNumbers → Option SetCount → List CurvePoint → Bool → Verdict → List ℕ
-words_of m numbers largest points is_named given =
+-- the text of a suite with this verdict, and with the omissions that are explained
+abbrev pub words_of : ModelView → SuiteNumbers → Option SetCount → List CurvePoint → Bool → List Omission → Verdict → List ℕ
+words_of m numbers largest points is_named omissions given =
     coverage_words numbers (is_accepted given) ++ (verdict_words m given ++ (proof_words is_named (is_accepted given)
-    ++ (least_words m largest (is_accepted given) ++ curve_words numbers points)))
+    ++ (least_words m largest (is_accepted given) ++ (left_out_words m omissions ++ curve_words numbers points))))
 
-abbrev pub suite_words : ModelView → List (List (Option ℕ)) → Bool → Verdict → List ℕ
-suite_words m rows is_named given =
-    words_of m (numbers_of m rows) (largest_of m rows) (map (point_of m rows) (round_counts (length rows))) is_named given
+abbrev pub suite_words : ModelView → List (List (Option ℕ)) → Bool → List Omission → Verdict → List ℕ
+suite_words m rows is_named omissions given =
+    words_of m (numbers_of m rows) (largest_of m rows) (map (point_of m rows) (round_counts (length rows))) is_named omissions given
