@@ -12,6 +12,8 @@ mod generate;
 #[cfg(test)]
 mod pipe;
 #[cfg(test)]
+mod show;
+#[cfg(test)]
 mod shrink;
 #[cfg(test)]
 mod told;
