@@ -1,3 +1,4 @@
+pub mod FileTexts
 pub mod LineLemmas
 pub mod ListLemmas
 pub mod SpellingLemmas
