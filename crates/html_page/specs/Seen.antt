@@ -4,7 +4,7 @@ use Rattle.html_page.specs.Pieces as pieces
 use Rattle.html_page.specs.declared.attribute.Attribute.{Attribute}
 use Rattle.html_page.specs.declared.attribute.AttributeName.TheVariants as attribute
 use Rattle.html_page.specs.declared.piece.Piece.{Piece}
-use Rattle.html_page.specs.declared.piece.Piece.TheVariants.{Doctype, Start, StartWith, Meta, Title, TitleWithId, Style, Text, End}
+use Rattle.html_page.specs.declared.piece.Piece.TheVariants.{Doctype, Start, StartWith, Meta, Title, TitleWithId, Style, Text, Bytes, End}
 
 abbrev pub attribute_seen : Attribute → pieces.Attribute
 attribute_seen attribute = record { name = attribute.name; value = attribute.value.now }
@@ -21,4 +21,5 @@ piece_seen (Title text) = pieces.Title [] text.now
 piece_seen (TitleWithId id text) = pieces.Title (id_attribute id.now ∷ []) text.now
 piece_seen Style = pieces.Style
 piece_seen (Text text) = pieces.Text text.now
+piece_seen (Bytes text) = pieces.Text text.now
 piece_seen (End tag) = pieces.End tag

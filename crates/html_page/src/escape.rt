@@ -31,10 +31,10 @@ fn put_byte(out: &mut Vec<u8>, byte: u8) -> Result<(), NoMemory>
 
 /// Adds a text, escaped.
 #[tactic(auto, unfolding(crate::specs::Pieces::escape))]
-pub(crate) fn put_escaped(out: &mut Vec<u8>, text: &str) -> Result<(), NoMemory>
+pub(crate) fn put_escaped(out: &mut Vec<u8>, text: &[u8]) -> Result<(), NoMemory>
     ensures { OnOk result (out.new.items ≡ out.old.items ++ escape text.now) }
 {
-    for byte in text.as_bytes() {
+    for byte in text {
         put_byte(out, *byte)?;
     }
     Ok(())

@@ -42,6 +42,13 @@ impl PageText {
         self.bytes.as_slice()
     }
 
+    /// The bytes, with their memory.
+    pub fn into_bytes(self) -> Vec<u8>
+        ensures { result.items ≡ self }
+    {
+        self.bytes
+    }
+
     /// Takes the text away and keeps its memory, so that a page can be written a part at a time.
     pub fn clear(&mut self)
         ensures { self.new ≡ [] }
@@ -60,7 +67,7 @@ impl PageText {
     }
 
     // Adds a text, escaped.
-    fn put_text(&mut self, text: &str) -> Result<(), NoMemory>
+    fn put_text(&mut self, text: &[u8]) -> Result<(), NoMemory>
         ensures { OnOk result (self.new ≡ self.old ++ escape text.now) }
     {
         put_escaped(&mut self.bytes, text)
@@ -71,7 +78,7 @@ impl PageText {
         ensures { OnOk result (self.new ≡ self.old ++ attribute_text (attribute_seen attribute.now)) }
     {
         self.put_plain(&[" ", attribute.name.text(), "=\""])?;
-        self.put_text(attribute.value)?;
+        self.put_text(attribute.value.as_bytes())?;
         self.put_plain(&["\""])
     }
 
@@ -106,7 +113,7 @@ impl PageText {
         ensures { OnOk result (self.new ≡ self.old ++ title_text (map attribute_seen attributes.now) text.now) }
     {
         self.put_start("title", attributes)?;
-        self.put_text(text)?;
+        self.put_text(text.as_bytes())?;
         self.put_end("title")
     }
 
@@ -133,7 +140,8 @@ impl PageText {
             Piece::Title(text) => self.put_title(&[], text),
             Piece::TitleWithId(id, text) => self.put_title_with_id(id, text),
             Piece::Style => self.put_plain(&["<style>", STYLE, "</style>"]),
-            Piece::Text(text) => self.put_text(text),
+            Piece::Text(text) => self.put_text(text.as_bytes()),
+            Piece::Bytes(text) => self.put_text(text),
             Piece::End(tag) => self.put_end(tag.name()),
         }
     }

@@ -20,6 +20,8 @@ pub enum Piece<'a, 't> {
     Style,
     /// A text.
     Text(&'t str),
+    /// A text as its bytes (UTF-8).
+    Bytes(&'t [u8]),
     /// The end tag of an element.
     End(Tag),
 }

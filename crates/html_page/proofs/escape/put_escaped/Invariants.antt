@@ -4,4 +4,4 @@ use Rattle.html_page.specs.Pieces.{escaped}
 use Rattle.html_page.proofs.escape.put_escaped.Given as goal
 
 abbrev pub invariant-loop-byte : goal.invariant-loop-byte
-invariant-loop-byte l = l.out.items ≡ l.fn.out.items ++ flat_map escaped (take l.byte-index l.byte-items)
+invariant-loop-byte l = l.out.items ≡ l.fn.out.items ++ flat_map escaped (take l.byte-index l.text)
