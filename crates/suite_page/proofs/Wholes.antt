@@ -6,13 +6,22 @@ use Rattle.html_page.specs.Pieces.{Piece, Start, End, pieces_text}
 use Rattle.html_page.specs.Trees.{Content, all_of, content_text, followed_by, page_text, pieces_of}
 use Rattle.html_page.specs.declared.tag.Tag.TheVariants as tag
 use Rattle.html_page.proofs.TreeTexts.{no_pieces, pieces_behind, pieces_followed, text_followed, text_of_all}
-use Rattle.suite_page.specs.Document.{closing, document_tree, left_out, opening}
+use Rattle.suite_page.specs.Document.{Suite, closing, document_tree, left_out, opening, suite_tree}
 use Rattle.suite_page.specs.Laws.{PagesAreWhole, group_parts, left_out_parts, tests_parts}
 use Rattle.suite_page.specs.LeftOut.{Group, group_closing, group_opening, group_tree, item_tree, left_out_closing, left_out_opening, more_combinations}
 use Rattle.suite_page.specs.Sections.{section_opening}
 use Rattle.suite_page.specs.Pictures.{picture_tree}
 use Rattle.suite_page.specs.TestsTable.{Test, name_tree, test_tree, tests_closing, tests_opening, tests_tree, more_tests, table_opening}
 use Rattle.suite_page.specs.Verdicts.{numbers_tree, verdict_tree}
+
+-- three texts behind another
+pub three : (before a b z one two now : List ℕ) → one ≡ before ++ a → two ≡ one ++ b → now ≡ two ++ z → now ≡ before ++ (a ++ b ++ z)
+three before a b z one two now begins goes_on ends =
+    ends ∙ ap (λ bytes. bytes ++ z) (goes_on ∙ ap (λ bytes. bytes ++ b) begins)
+    ∙ append_assoc (before ++ a) b z ∙ append_assoc before a (b ++ z) ∙ ap (λ bytes. before ++ bytes) (sym (append_assoc a b z))
+
+pub two_behind : (before a b one now : List ℕ) → one ≡ before ++ a → now ≡ one ++ b → now ≡ before ++ (a ++ b)
+two_behind before a b one now begins ends = ends ∙ ap (λ bytes. bytes ++ b) begins ∙ append_assoc before a b
 
 -- pieces, trees for items, and pieces
 row_of : {X : Type 0} (tree : X → Content) (items : List X) (first last : List Piece)
@@ -37,7 +46,7 @@ nested names tests more row head body end_body table div section =
     ∙ sym (append_assoc ((names ++ row ∷ []) ++ rows) (table ∷ []) (div ∷ (more ++ section ∷ [])))
     ∙ sym (append_assoc (((names ++ row ∷ []) ++ rows) ++ table ∷ []) (div ∷ more) (section ∷ []))
 
-tests_whole : (names : List (List ℕ)) (tests : List Test) (more : ℕ) → tests_parts names tests more ≡ content_text (tests_tree names tests more)
+pub tests_whole : (names : List (List ℕ)) (tests : List Test) (more : ℕ) → tests_parts names tests more ≡ content_text (tests_tree names tests more)
 tests_whole names tests more =
     row_of test_tree tests (tests_opening names) (tests_closing more)
     ∙ ap (λ pieces. pieces_text (section_opening (codes "Tests") ++ table_opening ++ pieces))
@@ -56,7 +65,7 @@ groups_whole (group ∷ groups) =
     ∙ ap (λ bytes. content_text (group_tree group) ++ bytes) (groups_whole groups)
     ∙ sym (flat_map-cons (λ one. content_text (group_tree one)) group groups)
 
-left_out_whole : (groups : List Group) (more : ℕ) → left_out_parts groups more ≡ content_text (left_out groups more)
+pub left_out_whole : (groups : List Group) (more : ℕ) → left_out_parts groups more ≡ content_text (left_out groups more)
 left_out_whole [] more = sym no_pieces
 left_out_whole (group ∷ groups) more =
     ap (λ bytes. pieces_text left_out_opening ++ bytes ++ pieces_text (left_out_closing more)) (groups_whole (group ∷ groups))
@@ -84,21 +93,31 @@ in_a_row a b c d e =
     ∙ ap (λ bytes. content_text a ++ bytes) (text_followed b (followed_by c (followed_by d e))
     ∙ ap (λ bytes. content_text b ++ bytes) (text_followed c (followed_by d e) ∙ ap (λ bytes. content_text c ++ bytes) (text_followed d e)))
 
-pub pages_whole : PagesAreWhole
-pages_whole suite =
-    let verdict = verdict_tree suite.name suite.accepted suite.reason in
+-- the trees of a page, between its beginning and its end
+pub trees_whole : (suite : Suite)
+    → pieces_text (opening suite.name) ++ content_text (verdict_tree suite.name suite.accepted suite.verdict suite.remark)
+    ++ content_text (numbers_tree suite.numbers) ++ content_text (picture_tree suite.picture)
+    ++ content_text (tests_tree suite.names suite.tests suite.more_tests) ++ content_text (left_out suite.groups suite.more_combinations)
+    ++ pieces_text closing ≡ page_text (suite_tree suite)
+trees_whole suite =
+    let verdict = verdict_tree suite.name suite.accepted suite.verdict suite.remark in
     let numbers = numbers_tree suite.numbers in
     let picture = picture_tree suite.picture in
     let tests = tests_tree suite.names suite.tests suite.more_tests in
     let others = left_out suite.groups suite.more_combinations in
     let o = pieces_text (opening suite.name) in
-    let v = content_text verdict in
-    let n = content_text numbers in
-    let p = content_text picture in
-    let t = content_text tests in
-    let l = content_text others in
-    ap (λ bytes. o ++ v ++ n ++ p ++ bytes ++ left_out_parts suite.groups suite.more_combinations ++ pieces_text closing) (tests_whole suite.names suite.tests suite.more_tests)
-    ∙ ap (λ bytes. o ++ v ++ n ++ p ++ t ++ bytes ++ pieces_text closing) (left_out_whole suite.groups suite.more_combinations)
-    ∙ ap (λ bytes. bytes ++ pieces_text closing) (regroup o v n p t l)
+    ap (λ bytes. bytes ++ pieces_text closing)
+    (regroup o (content_text verdict) (content_text numbers) (content_text picture) (content_text tests) (content_text others))
     ∙ ap (λ bytes. o ++ bytes ++ pieces_text closing) (sym (in_a_row verdict numbers picture tests others))
     ∙ document_whole suite.name (followed_by verdict (followed_by numbers (followed_by picture (followed_by tests others))))
+
+pub pages_whole : PagesAreWhole
+pages_whole suite =
+    let o = pieces_text (opening suite.name) in
+    let v = content_text (verdict_tree suite.name suite.accepted suite.verdict suite.remark) in
+    let n = content_text (numbers_tree suite.numbers) in
+    let p = content_text (picture_tree suite.picture) in
+    let t = content_text (tests_tree suite.names suite.tests suite.more_tests) in
+    ap (λ bytes. o ++ v ++ n ++ p ++ bytes ++ left_out_parts suite.groups suite.more_combinations ++ pieces_text closing) (tests_whole suite.names suite.tests suite.more_tests)
+    ∙ ap (λ bytes. o ++ v ++ n ++ p ++ t ++ bytes ++ pieces_text closing) (left_out_whole suite.groups suite.more_combinations)
+    ∙ trees_whole suite

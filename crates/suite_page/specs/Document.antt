@@ -9,13 +9,14 @@ use Rattle.suite_page.specs.Pictures.{Picture, picture_tree}
 use Rattle.suite_page.specs.TestsTable.{Test, tests_tree}
 use Rattle.suite_page.specs.Verdicts.{numbers_tree, verdict_tree}
 
--- What a page says: the model file's name, the verdict and why, the numbers in sentences, the picture, the names of the
--- parameters, the tests that are shown and how many follow, and the groups of combinations that are left out and how
--- many combinations follow.
+-- What a page says: the model file's name, the verdict and a remark on it, the numbers in sentences, the picture, the
+-- names of the parameters, the tests that are shown and how many follow, and the groups of combinations that are left
+-- out and how many combinations follow.
 pub record Suite : Type 0 where
   pub name : List ℕ
   pub accepted : Bool
-  pub reason : List ℕ
+  pub verdict : List ℕ
+  pub remark : List ℕ
   pub numbers : List (List ℕ)
   pub picture : Picture
   pub names : List (List ℕ)
@@ -63,7 +64,7 @@ left_out (group ∷ groups) more = left_out_tree (group ∷ groups) more
 abbrev pub suite_tree : Suite → Content
 suite_tree suite =
     document_tree suite.name
-    (followed_by (verdict_tree suite.name suite.accepted suite.reason)
+    (followed_by (verdict_tree suite.name suite.accepted suite.verdict suite.remark)
     (followed_by (numbers_tree suite.numbers)
     (followed_by (picture_tree suite.picture)
     (followed_by (tests_tree suite.names suite.tests suite.more_tests) (left_out suite.groups suite.more_combinations)))))

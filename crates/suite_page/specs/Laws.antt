@@ -27,7 +27,7 @@ left_out_parts (group ∷ groups) more =
 -- the parts of a page
 abbrev pub parts : Suite → List ℕ
 parts suite =
-    pieces_text (opening suite.name) ++ content_text (verdict_tree suite.name suite.accepted suite.reason)
+    pieces_text (opening suite.name) ++ content_text (verdict_tree suite.name suite.accepted suite.verdict suite.remark)
     ++ content_text (numbers_tree suite.numbers) ++ content_text (picture_tree suite.picture)
     ++ tests_parts suite.names suite.tests suite.more_tests ++ left_out_parts suite.groups suite.more_combinations
     ++ pieces_text closing

@@ -1,5 +1,5 @@
 -- The picture of a suite: covered combinations by number of tests.
-use Rattle.std.specs.Prelude.{ℕ, ◌+◌, ◌-◌, ◌*◌, ◌/◌, List, [], ◌∷◌, ◌++◌, ◌==◌, min, if◌then◌else◌, codes, decimal}
+use Rattle.std.specs.Prelude.{ℕ, Bool, ◌+◌, ◌-◌, ◌*◌, ◌/◌, List, [], ◌∷◌, ◌++◌, ◌==◌, min, if◌then◌else◌, codes, decimal}
 use Rattle.std.specs.List.{flat_map}
 use Rattle.html_page.specs.Pieces.{Attribute}
 use Rattle.html_page.specs.Trees.{Content, nothing, text, element, title, followed_by}
@@ -9,11 +9,14 @@ use Rattle.html_page.specs.declared.tag.Tag.TheVariants as tag
 use Rattle.suite_page.specs.Sections.{words_for}
 use Rattle.suite_page.specs.declared.picture.Point.{Point}
 
+-- The curve; how many tests there are, how many combinations they cover, and how many can be covered. Where that isn't
+-- known, it is how many are demanded.
 pub record Picture : Type 0 where
   pub points : List Point
   pub tests : ℕ
   pub covered : ℕ
   pub total : ℕ
+  pub is_known : Bool
 
 abbrev pub given : AttributeName → List ℕ → Attribute
 given name value = record { name = name; value = value }
@@ -35,6 +38,19 @@ place_text x y = codes " " ++ decimal x ++ codes "," ++ decimal y
 abbrev pub points_text : Picture → List ℕ
 points_text picture = flat_map (λ point. place_text (across point.tests picture.tests) (down point.covered picture.total)) picture.points
 
+-- what the total counts
+abbrev pub total_words : Bool → ℕ → List ℕ
+total_words is_known total =
+    if is_known
+    then words_for total (codes " combination that can be covered.") (codes " combinations that can be covered.")
+    else words_for total (codes " demanded combination.") (codes " demanded combinations.")
+
+abbrev pub caption : Bool → List ℕ
+caption is_known =
+    if is_known
+    then codes "The curve shows what the first tests cover, the dashed line all that can be covered."
+    else codes "The curve shows what the first tests cover, the dashed line all that is demanded."
+
 -- `60 tests cover 9 of 10 combinations that can be covered.`
 abbrev pub description : Picture → Content
 description picture =
@@ -42,7 +58,7 @@ description picture =
     (element tag.Desc (given attribute.Id (codes "picture-text") ∷ [])
     (text (decimal picture.tests) (text (words_for picture.tests (codes " test covers ") (codes " tests cover "))
     (text (decimal picture.covered) (text (codes " of ") (text (decimal picture.total)
-    (text (words_for picture.total (codes " combination that can be covered.") (codes " combinations that can be covered.")) nothing))))))
+    (text (total_words picture.is_known picture.total) nothing))))))
     nothing)
 
 -- the axes, and the line of all that can be covered; a curve through points
@@ -88,7 +104,7 @@ picture_tree picture =
     ∷ given attribute.AriaLabelledBy (codes "picture-title picture-text") ∷ []
     ) (drawing picture)
     (element tag.Figcaption []
-    (text (codes "The curve shows what the first tests cover, the dashed line all that can be covered.") nothing)
+    (text (caption picture.is_known) nothing)
     nothing)
     ) nothing)
     ) nothing

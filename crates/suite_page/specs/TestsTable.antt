@@ -1,5 +1,5 @@
 -- The table of tests: a row for each, with its number, under the names of the parameters.
-use Rattle.std.specs.Prelude.{ℕ, Bool, List, [], ◌∷◌, ◌++◌, if◌then◌else◌, codes, decimal}
+use Rattle.std.specs.Prelude.{ℕ, Bool, false, List, [], ◌∷◌, ◌++◌, if◌then◌else◌, codes, decimal}
 use Rattle.html_page.specs.Pieces.{Attribute, Piece, Start, End, Text}
 use Rattle.html_page.specs.Trees.{Content, nothing, text, element, all_of, pieces_of}
 use Rattle.html_page.specs.declared.attribute.AttributeName.{AttributeName}
@@ -14,6 +14,9 @@ pub record Cell : Type 0 where
 pub record Test : Type 0 where
   pub number : ℕ
   pub cells : List Cell
+
+abbrev pub no_cell : Cell
+no_cell = record { text = []; is_invalid = false }
 
 abbrev pub given : AttributeName → List ℕ → Attribute
 given name value = record { name = name; value = value }
@@ -35,6 +38,14 @@ test_tree test =
     element tag.Tr [] (
     element tag.Th (given attribute.Scope (codes "row") ∷ []) (text (decimal test.number) nothing) (all_of cell_tree test.cells)
     ) nothing
+
+-- its pieces before the cells, and behind them
+abbrev pub test_opening : ℕ → List Piece
+test_opening number =
+    Start tag.Tr [] ∷ Start tag.Th (given attribute.Scope (codes "row") ∷ []) ∷ Text (decimal number) ∷ End tag.Th ∷ []
+
+abbrev pub test_closing : List Piece
+test_closing = End tag.Tr ∷ []
 
 abbrev pub scroll : List Attribute
 scroll =

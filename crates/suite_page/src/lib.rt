@@ -3,9 +3,9 @@
 //! A page is written in this order, and may be taken out of memory between any two calls (`PageText::clear`):
 //!
 //! 1. `put_opening` with the model file's name, `put_verdict`, `put_numbers`, `put_picture`.
-//! 2. `put_tests_opening`, `put_test` for each test that is shown, `put_tests_closing`.
-//! 3. Where combinations are left out: `put_left_out_opening`; for each group `put_group_opening`, `put_combination`
-//!    for each of its combinations, `put_group_closing`; then `put_left_out_closing`.
+//! 2. `put_tests_opening`; for each test that is shown `put_test_opening`, `put_cell` for each of its cells and
+//!    `put_test_closing`; then `put_tests_closing`.
+//! 3. `put_left_out` with the combinations that are left out, which it puts into groups.
 //! 4. `put_closing`.
 //!
 //! `pages_are_whole` says that these parts in a row are the text of one tree, and so, by the law of `html_page`, that
@@ -23,10 +23,9 @@ mod verdict;
 
 pub use document::{put_closing, put_opening};
 pub use laws::pages_are_whole;
-pub use left_out::{
-    put_combination, put_group_closing, put_group_opening, put_left_out_closing,
-    put_left_out_opening,
-};
+pub use left_out::{Omission, put_left_out};
 pub use picture::{Picture, Point, put_picture};
-pub use tests_table::{Cell, put_test, put_tests_closing, put_tests_opening};
+pub use tests_table::{
+    Cell, put_cell, put_test_closing, put_test_opening, put_tests_closing, put_tests_opening,
+};
 pub use verdict::{put_numbers, put_verdict};

@@ -1,7 +1,7 @@
 ghost use Rattle.std.specs.Prelude.{◌≡◌, ◌++◌, ◌≤◌, OnOk, IfOk};
 ghost use Rattle.std.specs.String.{string_bytes};
 ghost use Rattle.html_page.specs.Trees.{content_text};
-ghost use Rattle.suite_page.specs.Pictures.{across, axes, curve_tree, description, down, drawing, label_tree, labels, picture_tree, place_text, points_text, share, tests_label, total_label};
+ghost use Rattle.suite_page.specs.Pictures.{across, axes, caption, curve_tree, description, down, drawing, label_tree, labels, picture_tree, place_text, points_text, share, tests_label, total_label, total_words};
 ghost use Rattle.suite_page.specs.Seen.{picture_seen};
 
 use crate::section::{put_counted, put_section, words_for};
@@ -18,13 +18,14 @@ pub struct Point {
 }
 
 /// What the picture shows: a curve through points, with rising numbers of tests; how many tests there are, how many
-/// combinations they cover, and how many can be covered.
+/// combinations they cover, and how many can be covered. Where that isn't known, it is how many are demanded.
 #[derive(Clone, Copy)]
 pub struct Picture<'a> {
     pub points: &'a [Point],
     pub tests: u64,
     pub covered: u64,
     pub total: u64,
+    pub is_known: bool,
 }
 
 // How much of 1600 a part is of a whole, rounded down.
@@ -81,16 +82,38 @@ fn points_text(alloc: Global, picture: &Picture<'_>) -> Result<String, NoMemory>
     Ok(text)
 }
 
+// The words for what the total counts.
+fn total_words(is_known: bool, total: u64) -> &'static str
+    ensures { result.now ≡ total_words is_known total }
+{
+    if is_known {
+        words_for(
+            total,
+            " combination that can be covered.",
+            " combinations that can be covered.",
+        )
+    } else {
+        words_for(total, " demanded combination.", " demanded combinations.")
+    }
+}
+
+// The caption.
+fn caption(is_known: bool) -> &'static str
+    ensures { result.now ≡ caption is_known }
+{
+    if is_known {
+        "The curve shows what the first tests cover, the dashed line all that can be covered."
+    } else {
+        "The curve shows what the first tests cover, the dashed line all that is demanded."
+    }
+}
+
 // Adds the title and the description.
 fn put_description(page: &mut PageText, picture: &Picture<'_>) -> Result<(), NoMemory>
     ensures { OnOk result (page.new ≡ page.old ++ content_text (description (picture_seen picture.now))) }
 {
     let covered = words_for(picture.tests, " test covers ", " tests cover ");
-    let all = words_for(
-        picture.total,
-        " combination that can be covered.",
-        " combinations that can be covered.",
-    );
+    let all = total_words(picture.is_known, picture.total);
     page.put(&[Piece::TitleWithId("picture-title", "Covered combinations by number of tests")])?;
     page.put(&[Piece::StartWith(
         Tag::Desc,
@@ -106,7 +129,7 @@ fn put_description(page: &mut PageText, picture: &Picture<'_>) -> Result<(), NoM
     Ok(())
 }
 
-// Adds the axes, and the line of all that can be covered.
+// Adds the axes, and the line of the total.
 fn put_axes(page: &mut PageText) -> Result<(), NoMemory>
     ensures { OnOk result (page.new ≡ page.old ++ content_text axes) }
 {
@@ -193,7 +216,7 @@ fn put_label<'a>(
     ])
 }
 
-// Adds the label of the line of all that can be covered.
+// Adds the label of the line of the total.
 fn put_total(page: &mut PageText, total: u64) -> Result<(), NoMemory>
     ensures { OnOk result (page.new ≡ page.old ++ content_text (total_label total)) }
 {
@@ -210,7 +233,7 @@ fn put_tests(page: &mut PageText, tests: u64) -> Result<(), NoMemory>
     put_label(page, "3250", "2100", "end", digits.format(tests), words)
 }
 
-// Adds the labels of the axes and of the line of all that can be covered.
+// Adds the labels of the axes and of the line of the total.
 fn put_labels(page: &mut PageText, picture: &Picture<'_>) -> Result<(), NoMemory>
     ensures { OnOk result (page.new ≡ page.old ++ content_text (labels (picture_seen picture.now))) }
 {
@@ -271,9 +294,7 @@ pub fn put_picture(
     page.put(&[
         Piece::End(Tag::Svg),
         Piece::Start(Tag::Figcaption),
-        Piece::Text(
-            "The curve shows what the first tests cover, the dashed line all that can be covered.",
-        ),
+        Piece::Text(caption(picture.is_known)),
         Piece::End(Tag::Figcaption),
         Piece::End(Tag::Figure),
         Piece::End(Tag::Section),

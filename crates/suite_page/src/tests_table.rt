@@ -2,7 +2,7 @@ ghost use Rattle.std.specs.Prelude.{◌≡◌, ◌++◌, OnOk, map};
 ghost use Rattle.html_page.specs.Pieces.{pieces_text};
 ghost use Rattle.html_page.specs.Trees.{all_of, content_text};
 ghost use Rattle.suite_page.specs.Seen.{cell_seen};
-ghost use Rattle.suite_page.specs.TestsTable.{cell_tree, name_tree, test_tree, tests_closing, tests_opening};
+ghost use Rattle.suite_page.specs.TestsTable.{cell_tree, name_tree, test_closing, test_opening, tests_closing, tests_opening};
 
 use crate::section::{put_more, put_number, put_section};
 use html_page::{Attribute, AttributeName, PageText, Piece, Tag};
@@ -92,8 +92,12 @@ pub fn put_tests_opening(page: &mut PageText, names: &[&str]) -> Result<(), NoMe
     Ok(())
 }
 
-// Adds a cell.
-fn put_cell(page: &mut PageText, cell: &Cell<'_>) -> Result<(), NoMemory>
+/// A cell of a test.
+///
+/// # Errors
+///
+/// `NoMemory` where the text could not grow.
+pub fn put_cell(page: &mut PageText, cell: &Cell<'_>) -> Result<(), NoMemory>
     ensures { OnOk result (page.new ≡ page.old ++ content_text (cell_tree (cell_seen cell.now))) }
 {
     if !cell.is_invalid {
@@ -126,23 +130,13 @@ fn put_cell(page: &mut PageText, cell: &Cell<'_>) -> Result<(), NoMemory>
     ])
 }
 
-// Adds cells.
-fn put_cells(page: &mut PageText, cells: &[Cell<'_>]) -> Result<(), NoMemory>
-    ensures { OnOk result (page.new ≡ page.old ++ content_text (all_of cell_tree (map cell_seen cells.now))) }
-{
-    for cell in cells {
-        put_cell(page, cell)?;
-    }
-    Ok(())
-}
-
-/// A test: a row with its number and its cells, in the order of the parameters.
+/// Begins a test: a row with its number, in which its cells follow in the order of the parameters.
 ///
 /// # Errors
 ///
 /// `NoMemory` where the text could not grow.
-pub fn put_test(page: &mut PageText, number: u64, cells: &[Cell<'_>]) -> Result<(), NoMemory>
-    ensures { OnOk result (page.new ≡ page.old ++ content_text (test_tree (record { number = number; cells = map cell_seen cells.now }))) }
+pub fn put_test_opening(page: &mut PageText, number: u64) -> Result<(), NoMemory>
+    ensures { OnOk result (page.new ≡ page.old ++ pieces_text (test_opening number)) }
 {
     page.put(&[
         Piece::Start(Tag::Tr),
@@ -156,9 +150,18 @@ pub fn put_test(page: &mut PageText, number: u64, cells: &[Cell<'_>]) -> Result<
     ])?;
     put_number(page, number)?;
     page.put(&[Piece::End(Tag::Th)])?;
-    put_cells(page, cells)?;
-    page.put(&[Piece::End(Tag::Tr)])?;
     Ok(())
+}
+
+/// Ends a test.
+///
+/// # Errors
+///
+/// `NoMemory` where the text could not grow.
+pub fn put_test_closing(page: &mut PageText) -> Result<(), NoMemory>
+    ensures { OnOk result (page.new ≡ page.old ++ pieces_text test_closing) }
+{
+    page.put(&[Piece::End(Tag::Tr)])
 }
 
 /// Ends the section of the tests, and says how many more there are.

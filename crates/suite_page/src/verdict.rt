@@ -1,7 +1,7 @@
 ghost use Rattle.std.specs.Prelude.{◌≡◌, ◌++◌, OnOk, map};
 ghost use Rattle.html_page.specs.Pieces.{pieces_text};
 ghost use Rattle.html_page.specs.Trees.{all_of, content_text};
-ghost use Rattle.suite_page.specs.Verdicts.{heading_tree, numbers_tree, reason_tree, sentence_tree, verdict_class, verdict_tree, verdict_word, word_pieces};
+ghost use Rattle.suite_page.specs.Verdicts.{heading_tree, numbers_tree, reason_tree, sentence_tree, verdict_class, verdict_tree};
 
 use crate::section::put_section;
 use html_page::{Attribute, AttributeName, PageText, Piece, Tag};
@@ -18,17 +18,6 @@ fn class_of(accepted: bool) -> &'static str
     }
 }
 
-// The verdict in a word or two.
-fn word_of(accepted: bool) -> &'static str
-    ensures { result.now ≡ verdict_word accepted }
-{
-    if accepted {
-        "Accepted."
-    } else {
-        "Not accepted."
-    }
-}
-
 // Adds the heading.
 fn put_heading(page: &mut PageText, name: &str) -> Result<(), NoMemory>
     ensures { OnOk result (page.new ≡ page.old ++ content_text (heading_tree name.now)) }
@@ -40,9 +29,14 @@ fn put_heading(page: &mut PageText, name: &str) -> Result<(), NoMemory>
     ])
 }
 
-// Begins the paragraph of the verdict.
-fn put_word(page: &mut PageText, accepted: bool) -> Result<(), NoMemory>
-    ensures { OnOk result (page.new ≡ page.old ++ pieces_text (word_pieces accepted)) }
+// Adds the paragraph of the verdict.
+fn put_reason<'a>(
+    page: &mut PageText,
+    accepted: bool,
+    verdict: &'a [u8],
+    remark: &'a [u8],
+) -> Result<(), NoMemory>
+    ensures { OnOk result (page.new ≡ page.old ++ content_text (reason_tree accepted verdict.now remark.now)) }
 {
     page.put(&[
         Piece::StartWith(
@@ -53,61 +47,65 @@ fn put_word(page: &mut PageText, accepted: bool) -> Result<(), NoMemory>
             }],
         ),
         Piece::Start(Tag::Strong),
-        Piece::Text(word_of(accepted)),
+        Piece::Bytes(verdict),
         Piece::End(Tag::Strong),
         Piece::Text(" "),
+        Piece::Bytes(remark),
+        Piece::End(Tag::P),
     ])
 }
 
-// Adds the paragraph of the verdict.
-fn put_reason(page: &mut PageText, accepted: bool, sentence: &str) -> Result<(), NoMemory>
-    ensures { OnOk result (page.new ≡ page.old ++ content_text (reason_tree accepted sentence.now)) }
-{
-    put_word(page, accepted)?;
-    page.put(&[Piece::Text(sentence), Piece::End(Tag::P)])?;
-    Ok(())
-}
-
-/// The heading with the model file's name, and the verdict with a sentence that says why.
+/// The heading with the model file's name, and the verdict with a remark on it.
 ///
 /// # Errors
 ///
 /// `NoMemory` where the text could not grow.
-pub fn put_verdict(
+pub fn put_verdict<'a>(
     page: &mut PageText,
     name: &str,
     accepted: bool,
-    sentence: &str,
+    verdict: &'a [u8],
+    remark: &'a [u8],
 ) -> Result<(), NoMemory>
-    ensures { OnOk result (page.new ≡ page.old ++ content_text (verdict_tree name.now accepted sentence.now)) }
+    ensures { OnOk result (page.new ≡ page.old ++ content_text (verdict_tree name.now accepted verdict.now remark.now)) }
 {
     page.put(&[Piece::Start(Tag::Header)])?;
     put_heading(page, name)?;
-    put_reason(page, accepted, sentence)?;
+    put_reason(page, accepted, verdict, remark)?;
     page.put(&[Piece::End(Tag::Header)])?;
     Ok(())
 }
 
+// Adds a paragraph, where there is something to say.
+fn put_sentence(page: &mut PageText, sentence: &[u8]) -> Result<(), NoMemory>
+    ensures { OnOk result (page.new ≡ page.old ++ content_text (sentence_tree sentence.now)) }
+{
+    if sentence.is_empty() {
+        return Ok(());
+    }
+    page.put(&[
+        Piece::Start(Tag::P),
+        Piece::Bytes(sentence),
+        Piece::End(Tag::P),
+    ])
+}
+
 // Adds a paragraph for each sentence.
-fn put_sentences(page: &mut PageText, sentences: &[&str]) -> Result<(), NoMemory>
+fn put_sentences(page: &mut PageText, sentences: &[&[u8]]) -> Result<(), NoMemory>
     ensures { OnOk result (page.new ≡ page.old ++ content_text (all_of sentence_tree (map (λ sentence. sentence.now) sentences.now))) }
 {
     for sentence in sentences {
-        page.put(&[
-            Piece::Start(Tag::P),
-            Piece::Text(sentence),
-            Piece::End(Tag::P),
-        ])?;
+        put_sentence(page, sentence)?;
     }
     Ok(())
 }
 
-/// The numbers of the suite: a paragraph for each sentence.
+/// The numbers of the suite: a paragraph for each sentence that isn't empty.
 ///
 /// # Errors
 ///
 /// `NoMemory` where the text could not grow.
-pub fn put_numbers(page: &mut PageText, sentences: &[&str]) -> Result<(), NoMemory>
+pub fn put_numbers(page: &mut PageText, sentences: &[&[u8]]) -> Result<(), NoMemory>
     ensures { OnOk result (page.new ≡ page.old ++ content_text (numbers_tree (map (λ sentence. sentence.now) sentences.now))) }
 {
     put_section(page, "Numbers")?;

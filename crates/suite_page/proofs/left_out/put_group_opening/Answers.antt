@@ -12,7 +12,7 @@ returns c =
     let first = Start tag.Details opened ∷ Start tag.Summary [] ∷ Text (codes "Combinations left out: ") ∷ [] in
     let number = Text (decimal c.args.count) ∷ [] in
     let last = End tag.Summary ∷ Start tag.Ul of_constraints ∷ [] in
-    around (summary_opening c.args.count) (all_of item_tree (map (λ text. text.now) c.args.constraints.now)) (End tag.Ul ∷ Start tag.Ul [] ∷ [])
+    around (summary_opening c.args.count) (all_of item_tree (map (λ text. text.items) c.args.constraints.now)) (End tag.Ul ∷ Start tag.Ul [] ∷ [])
     c.args.page.now c.put-2.new.self c.put_items.new.page c.put-3.new.self
     (behind (first ++ number) last c.args.page.now c.put_number.new.page c.put-2.new.self
     (behind first number c.args.page.now c.put.new.self c.put_number.new.page c.in_ok-put.ensures c.in_ok-put_number.ensures)

@@ -5,5 +5,5 @@ use Rattle.suite_page.proofs.left_out.put_items.Goals as goal
 
 pub returns : goal.returns
 returns c =
-    all_put item_tree (λ item. item.now) c.args.texts.now c.loop-text.text-index c.args.page.now c.loop-text.page c.loop-text.invariant
+    all_put item_tree (λ item. item.items) c.args.texts.now c.loop-text.text-index c.args.page.now c.loop-text.page c.loop-text.invariant
     (omega (arith, c.loop-text-test.false))

@@ -5,7 +5,7 @@ use Rattle.html_page.specs.declared.attribute.AttributeName.TheVariants as attri
 use Rattle.html_page.specs.declared.tag.Tag.TheVariants as tag
 use Rattle.html_page.proofs.TreeTexts.{behind}
 use Rattle.suite_page.specs.Sections.{words_for}
-use Rattle.suite_page.specs.Pictures.{given}
+use Rattle.suite_page.specs.Pictures.{given, total_words}
 use Rattle.suite_page.proofs.picture.put_description.Goals as goal
 
 pub returns : goal.returns
@@ -15,7 +15,7 @@ returns c =
     let name = Title (given attribute.Id (codes "picture-title") ∷ []) (codes "Covered combinations by number of tests") in
     let start = Start tag.Desc (given attribute.Id (codes "picture-text") ∷ []) in
     let covered = words_for picture.tests (codes " test covers ") (codes " tests cover ") in
-    let all = words_for picture.total (codes " combination that can be covered.") (codes " combinations that can be covered.") in
+    let all = total_words picture.is_known picture.total in
     let one = Text (decimal picture.tests) ∷ Text covered ∷ [] in
     let two = Text (decimal picture.covered) ∷ Text (codes " of ") ∷ [] in
     let three = Text (decimal picture.total) ∷ Text all ∷ [] in
@@ -26,5 +26,5 @@ returns c =
     (behind (name ∷ []) (start ∷ []) page c.put.new.self c.put-2.new.self c.in_ok-put.ensures c.in_ok-put-2.ensures)
     (c.in_ok-put_counted.ensures ∙ ap (λ w. c.put-2.new.self ++ pieces_text (Text (decimal picture.tests) ∷ Text w ∷ [])) c.words_for-covered.ensures))
     c.in_ok-put_counted-2.ensures)
-    (c.in_ok-put_counted-3.ensures ∙ ap (λ w. c.put_counted-2.new.page ++ pieces_text (Text (decimal picture.total) ∷ Text w ∷ [])) c.words_for-all.ensures))
+    (c.in_ok-put_counted-3.ensures ∙ ap (λ w. c.put_counted-2.new.page ++ pieces_text (Text (decimal picture.total) ∷ Text w ∷ [])) c.total_words-all.ensures))
     c.in_ok-put-3.ensures

@@ -9,7 +9,7 @@ use Rattle.suite_page.proofs.verdict.put_verdict.Goals as goal
 pub returns : goal.returns
 returns c =
     let heading = heading_tree c.args.name.now in
-    let reason = reason_tree c.args.accepted c.args.sentence.now in
+    let reason = reason_tree c.args.accepted c.args.verdict.now c.args.remark.now in
     around (Start tag.Header [] ∷ []) (followed_by heading reason) (End tag.Header ∷ []) c.args.page.now c.put.new.self c.put_reason.new.page c.put-2.new.self
     c.in_ok-put.ensures
     (tree_behind heading reason c.put.new.self c.put_heading.new.page c.put_reason.new.page c.in_ok-put_heading.ensures c.in_ok-put_reason.ensures)
