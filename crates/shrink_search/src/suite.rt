@@ -1,22 +1,25 @@
 use crate::best::BestRows;
 use crate::counts::{Counts, Entered, Left};
 use crate::open::OpenPlaces;
-use crate::tuples::{SliceTuples, Target};
+use crate::tuples::{Member, SliceTuples, Target};
 use crate::values::Digit;
 use crate::words::Words;
 use cov_model::ParamNo;
 use std::alloc::Global;
 use value_text::NoMemory;
 
-// The rows of a slice, and what they serve. The numbers of a parameter, one for each row, stand side by side.
+// The rows of a slice, and what they serve.
 pub(crate) struct Suite<'t> {
     tuples: &'t SliceTuples,
     // how many rows there is room for, and how many there are
     room: usize,
     count: usize,
     params: usize,
+    // the digits by parameter and row, and the same by row and parameter: rows are searched by the first, and a change of
+    // a row goes by the second
     digits: Vec<Digit>,
-    // by parameter and row: how many tuples no other row serves that have the row's value of the parameter
+    by_row: Vec<Digit>,
+    // by row and parameter: how many tuples no other row serves that have the row's value of the parameter
     needed: Vec<u32>,
     // by row: how many tuples no other row serves
     alone: Vec<u32>,
@@ -40,6 +43,7 @@ impl Drop for Suite<'_> {
             count: _,
             params: _,
             digits: _,
+            by_row: _,
             needed: _,
             alone: _,
             fixed: _,
@@ -95,6 +99,7 @@ impl<'t> Suite<'t> {
             count: 0,
             params,
             digits: vec![in alloc; 0; cells]?,
+            by_row: vec![in alloc; 0; cells]?,
             needed: vec![in alloc; 0; cells]?,
             alone: vec![in alloc; 0; room]?,
             fixed: vec![in alloc; false; fixable]?,
@@ -129,6 +134,12 @@ impl<'t> Suite<'t> {
         (p as usize).wrapping_mul(self.room)
     }
 
+    // Where the numbers of a row begin.
+    #[inline]
+    fn line(&self, row: usize) -> usize {
+        row.wrapping_mul(self.params)
+    }
+
     // The digit of a parameter in a row.
     #[inline]
     pub(crate) fn digit(&self, p: ParamNo, row: usize) -> Digit {
@@ -141,7 +152,7 @@ impl<'t> Suite<'t> {
     // How many tuples no other row serves that have the value of a parameter in a row.
     #[inline]
     pub(crate) fn needed(&self, p: ParamNo, row: usize) -> u32 {
-        match self.needed.get(self.column(p).wrapping_add(row)) {
+        match self.needed.get(self.line(row).wrapping_add(p as usize)) {
             Some(number) => *number,
             None => 0,
         }
@@ -210,6 +221,10 @@ impl<'t> Suite<'t> {
         if let Some(own) = self.digits.get_mut(at) {
             *own = digit;
         }
+        let at = self.line(row).wrapping_add(p as usize);
+        if let Some(own) = self.by_row.get_mut(at) {
+            *own = digit;
+        }
     }
 
     // The value of a parameter in a row has to stay.
@@ -226,31 +241,29 @@ impl<'t> Suite<'t> {
     // Counts what the rows serve: what they don't serve now has never to be served. Tells the greatest number of
     // tuples of one set that they serve.
     pub(crate) fn begin(&mut self) -> u32 {
-        let tuples = self.tuples;
-        for row in 0..self.count {
-            for set in 0..tuples.set_count() {
-                let place = self.place(set, row);
-                let _ = self.counts.enter(place, number_of(row));
-            }
-        }
         let mut most = 0;
-        for set in 0..tuples.set_count() {
-            most = most.max(self.counts.served(tuples.set(set).0, tuples.end(set)));
+        for set in 0..self.tuples.set_count() {
+            most = most.max(self.count_set(set));
         }
         self.counts.excuse();
-        for row in 0..self.count {
-            self.count_singles(row);
-        }
         most
     }
 
-    // Counts the tuples that a row alone serves.
-    fn count_singles(&mut self, row: usize) {
-        for set in 0..self.tuples.set_count() {
-            if self.counts.is_single(self.place(set, row)) {
-                self.raise_need(set, row);
+    // Counts the rows that serve the tuples of a set. Tells how many of them are served.
+    fn count_set(&mut self, set: u32) -> u32 {
+        let tuples = self.tuples;
+        let (base, members) = tuples.set(set);
+        for row in 0..self.count {
+            let place = self.place(base, members, row);
+            let _ = self.counts.enter(place, number_of(row));
+        }
+        for row in 0..self.count {
+            let place = self.place(base, members, row);
+            if self.counts.is_single(place) {
+                self.raise_need(members, row);
             }
         }
+        self.counts.served(base, tuples.end(set))
     }
 
     // The number of rows with a value that has to stay.
@@ -264,92 +277,85 @@ impl<'t> Suite<'t> {
         count
     }
 
-    // The place of the tuple of a set that a row serves.
+    // The place of the tuple of a set that a row serves, by the set's first place and its members.
     #[inline]
-    fn place(&self, set: u32, row: usize) -> u32 {
-        let (base, members) = self.tuples.set(set);
+    fn place(&self, base: u32, members: &[Member], row: usize) -> u32 {
+        let line = self.line(row);
         let mut place = base;
         for member in members {
-            let digit = u32::from(self.digit(member.param, row));
+            let digit = match self.by_row.get(line.wrapping_add(member.param as usize)) {
+                Some(digit) => u32::from(*digit),
+                None => 0,
+            };
             place = place.wrapping_add(digit.wrapping_mul(member.stride));
         }
         place
     }
 
-    // A row alone serves its tuple of a set.
+    // A row alone serves its tuple of a set with these members.
     #[inline]
-    fn raise_need(&mut self, set: u32, row: usize) {
-        let tuples = self.tuples;
+    fn raise_need(&mut self, members: &[Member], row: usize) {
         raise(&mut self.alone, row);
-        for member in tuples.set(set).1 {
-            let at = self.column(member.param).wrapping_add(row);
-            raise(&mut self.needed, at);
+        let line = self.line(row);
+        for member in members {
+            raise(&mut self.needed, line.wrapping_add(member.param as usize));
         }
     }
 
-    // A row doesn't alone serve its tuple of a set any more.
+    // A row doesn't alone serve its tuple of a set with these members any more.
     #[inline]
-    fn lower_need(&mut self, set: u32, row: usize) {
-        let tuples = self.tuples;
+    fn lower_need(&mut self, members: &[Member], row: usize) {
         lower(&mut self.alone, row);
-        for member in tuples.set(set).1 {
-            let at = self.column(member.param).wrapping_add(row);
-            lower(&mut self.needed, at);
+        let line = self.line(row);
+        for member in members {
+            lower(&mut self.needed, line.wrapping_add(member.param as usize));
         }
     }
 
-    // A row ceases to serve a place of a set.
+    // A row ceases to serve a place of a set with these members.
     #[inline]
-    fn leave(&mut self, set: u32, place: u32, row: usize) -> Result<(), NoMemory> {
+    fn leave(&mut self, members: &[Member], place: u32, row: usize) -> Result<(), NoMemory> {
         match self.counts.leave(place, number_of(row)) {
             Left::Open => {
                 self.open = self.open.saturating_add(1);
                 self.open_places.add(place)?;
-                self.lower_need(set, row);
+                self.lower_need(members, row);
             }
-            Left::Single(other) => self.raise_need(set, other as usize),
+            Left::Single(other) => self.raise_need(members, other as usize),
             Left::Shared => {}
         }
         Ok(())
     }
 
-    // A row comes to serve a place of a set.
+    // A row comes to serve a place of a set with these members.
     #[inline]
-    fn enter(&mut self, set: u32, place: u32, row: usize) {
+    fn enter(&mut self, members: &[Member], place: u32, row: usize) {
         match self.counts.enter(place, number_of(row)) {
             Entered::Single => {
                 self.open = self.open.saturating_sub(1);
-                self.raise_need(set, row);
+                self.raise_need(members, row);
             }
-            Entered::NotSingle(other) => self.lower_need(set, other as usize),
+            Entered::NotSingle(other) => self.lower_need(members, other as usize),
             Entered::Shared => {}
         }
-    }
-
-    // The place of the tuple of a set that a row serves, and what a step of a member's digit adds to it.
-    #[inline]
-    fn place_by(&self, set: u32, row: usize, p: ParamNo) -> (u32, u32) {
-        let (base, members) = self.tuples.set(set);
-        let mut place = base;
-        let mut stride = 0;
-        for member in members {
-            let digit = u32::from(self.digit(member.param, row));
-            place = place.wrapping_add(digit.wrapping_mul(member.stride));
-            if member.param == p {
-                stride = member.stride;
-            }
-        }
-        (place, stride)
     }
 
     // Gives a parameter another digit in a row.
     pub(crate) fn change(&mut self, p: ParamNo, row: usize, digit: Digit) -> Result<(), NoMemory> {
         let tuples = self.tuples;
+        let Some(sets) = tuples.sets_of(p) else {
+            return Ok(());
+        };
         let steps = u32::from(digit).wrapping_sub(u32::from(self.digit(p, row)));
-        for set in tuples.sets_of(p) {
-            let (place, stride) = self.place_by(*set, row, p);
-            self.leave(*set, place, row)?;
-            self.enter(*set, place.wrapping_add(steps.wrapping_mul(stride)), row);
+        for number in 0..sets.len() {
+            let (base, members) = sets.set(number);
+            let stride = match members.first() {
+                Some(own) => own.stride,
+                None => 0,
+            };
+            let place = self.place(base, members, row);
+            self.leave(members, place, row)?;
+            self.enter(members, place.wrapping_add(steps.wrapping_mul(stride)), row);
         }
         self.put(p, row, digit);
         Ok(())
@@ -377,9 +383,11 @@ impl<'t> Suite<'t> {
 
     // Takes a row away. The last row gets its number.
     pub(crate) fn remove(&mut self, row: usize) -> Result<(), NoMemory> {
-        for set in 0..self.tuples.set_count() {
-            let place = self.place(set, row);
-            self.leave(set, place, row)?;
+        let tuples = self.tuples;
+        for set in 0..tuples.set_count() {
+            let (base, members) = tuples.set(set);
+            let place = self.place(base, members, row);
+            self.leave(members, place, row)?;
         }
         let last = self.count.saturating_sub(1);
         if row != last {
@@ -391,16 +399,27 @@ impl<'t> Suite<'t> {
 
     // A row gets another number, in place of the row that had it.
     fn move_row(&mut self, from: usize, to: usize) {
-        for set in 0..self.tuples.set_count() {
-            let place = self.place(set, from);
+        let tuples = self.tuples;
+        for set in 0..tuples.set_count() {
+            let (base, members) = tuples.set(set);
+            let place = self.place(base, members, from);
             self.counts.renumber(place, number_of(from), number_of(to));
         }
-        for p in 0..self.params {
-            let column = p.wrapping_mul(self.room);
-            let (source, target) = (column.wrapping_add(from), column.wrapping_add(to));
-            copy_item(&mut self.digits, source, target);
-            copy_item(&mut self.needed, source, target);
-            copy_item(&mut self.fixed, source, target);
+        for p in 0..self.params() {
+            let digit = self.digit(p, from);
+            self.put(p, to, digit);
+            let column = self.column(p);
+            copy_item(
+                &mut self.fixed,
+                column.wrapping_add(from),
+                column.wrapping_add(to),
+            );
+            let (source, target) = (self.line(from), self.line(to));
+            copy_item(
+                &mut self.needed,
+                source.wrapping_add(p as usize),
+                target.wrapping_add(p as usize),
+            );
         }
         copy_item(&mut self.alone, from, to);
         copy_item(&mut self.held, from, to);

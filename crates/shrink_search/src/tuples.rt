@@ -19,6 +19,14 @@ struct SetShape {
     end: u32,
 }
 
+// The sets of which a parameter is a member. Among the members of each the parameter is the first one. They stand one
+// behind another, since a change of the parameter's value goes through all of them.
+#[derive(Drop)]
+pub(crate) struct OwnSets {
+    sets: Vec<SetShape>,
+    members: Vec<Member>,
+}
+
 // A digit that a tuple gives a parameter.
 #[derive(Clone, Copy)]
 pub(crate) struct Target {
@@ -31,7 +39,7 @@ pub(crate) struct Target {
 pub(crate) struct SliceTuples {
     sets: Vec<SetShape>,
     members: Vec<Member>,
-    sets_of: Vec<Vec<u32>>,
+    sets_of: Vec<OwnSets>,
     size: u32,
 }
 
@@ -45,6 +53,54 @@ fn is_part(members: &[ParamNo], slice: Slice) -> bool {
     match slice {
         Slice::Positive => true,
         Slice::Negative(q, _) => members.iter().any(|p| *p == q),
+    }
+}
+
+// The members between two places of a list.
+#[inline]
+fn part(members: &[Member], begin: u32, end: u32) -> &[Member] {
+    members.get(begin as usize..end as usize).unwrap_or(&[])
+}
+
+impl OwnSets {
+    // Room for so many sets with so many members.
+    fn new(alloc: Global, sets: usize, members: usize) -> Result<OwnSets, NoMemory> {
+        Ok(OwnSets {
+            sets: Vec::with_capacity(alloc, sets)?,
+            members: Vec::with_capacity(alloc, members)?,
+        })
+    }
+
+    // Puts a set behind the others, of which the parameter is this member.
+    fn push(&mut self, base: u32, own: Member, members: &[Member]) -> Result<(), NoMemory> {
+        let begin = small(self.members.len());
+        self.members.push(own)?;
+        for member in members {
+            if member.param != own.param {
+                self.members.push(*member)?;
+            }
+        }
+        let end = small(self.members.len());
+        self.sets.push(SetShape { base, begin, end })?;
+        Ok(())
+    }
+
+    // The number of sets.
+    #[inline]
+    pub(crate) fn len(&self) -> usize {
+        self.sets.len()
+    }
+
+    // The first place of the set of this number among them, and its members.
+    #[inline]
+    pub(crate) fn set(&self, number: usize) -> (u32, &[Member]) {
+        match self.sets.get(number) {
+            Some(shape) => (
+                shape.base,
+                part(self.members.as_slice(), shape.begin, shape.end),
+            ),
+            None => (0, &[]),
+        }
     }
 }
 
@@ -95,24 +151,28 @@ impl SliceTuples {
 
     // Lists for each parameter the sets of which it is a member.
     fn list_sets(&mut self, alloc: Global, params: usize) -> Result<(), NoMemory> {
-        let mut counts = vec![in alloc; 0usize; params]?;
-        for member in self.members.as_slice() {
-            if let Some(count) = counts.get_mut(member.param as usize) {
-                *count = count.saturating_add(1);
+        let sets = self.sets.as_slice();
+        let members = self.members.as_slice();
+        let mut counts = vec![in alloc; (0usize, 0usize); params]?;
+        for shape in sets {
+            let own = part(members, shape.begin, shape.end);
+            for member in own {
+                if let Some(count) = counts.get_mut(member.param as usize) {
+                    count.0 = count.0.saturating_add(1);
+                    count.1 = count.1.saturating_add(own.len());
+                }
             }
         }
         for count in counts.as_slice() {
-            self.sets_of.push(Vec::with_capacity(alloc, *count)?)?;
+            self.sets_of.push(OwnSets::new(alloc, count.0, count.1)?)?;
         }
-        let mut set: u32 = 0;
-        for shape in self.sets.as_slice() {
-            let members = self.members.get(shape.begin as usize..shape.end as usize);
-            for member in members.unwrap_or(&[]) {
+        for shape in sets {
+            let own = part(members, shape.begin, shape.end);
+            for member in own {
                 if let Some(sets) = self.sets_of.get_mut(member.param as usize) {
-                    sets.push(set)?;
+                    sets.push(shape.base, *member, own)?;
                 }
             }
-            set = set.saturating_add(1);
         }
         Ok(())
     }
@@ -130,11 +190,11 @@ impl SliceTuples {
     // The first place of a set, and its members.
     #[inline]
     pub(crate) fn set(&self, set: u32) -> (u32, &[Member]) {
-        let Some(shape) = self.sets.get(set as usize) else {
-            return (0, &[]);
-        };
-        match self.members.get(shape.begin as usize..shape.end as usize) {
-            Some(members) => (shape.base, members),
+        match self.sets.get(set as usize) {
+            Some(shape) => (
+                shape.base,
+                part(self.members.as_slice(), shape.begin, shape.end),
+            ),
             None => (0, &[]),
         }
     }
@@ -149,11 +209,8 @@ impl SliceTuples {
 
     // The sets of which a parameter is a member.
     #[inline]
-    pub(crate) fn sets_of(&self, p: ParamNo) -> &[u32] {
-        match self.sets_of.get(p as usize) {
-            Some(sets) => sets.as_slice(),
-            None => &[],
-        }
+    pub(crate) fn sets_of(&self, p: ParamNo) -> Option<&OwnSets> {
+        self.sets_of.get(p as usize)
     }
 
     // The set to which a place belongs.
