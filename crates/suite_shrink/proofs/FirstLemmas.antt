@@ -1,5 +1,5 @@
 -- The rows that repeat no earlier one, one after another.
-use Rattle.std.proofs.Common.{◌≡◌, ℕ, ◌+◌, ◌<◌, ◌≤◌, Bool, true, false, not, cond, List, [], ◌∷◌, ◌++◌, take, length, get_or, All, Option, ◌∙◌, refl, sym, ap, subst}
+use Rattle.std.proofs.Common.{◌≡◌, ℕ, ◌+◌, ◌<◌, ◌≤◌, true, false, cond, List, [], ◌∷◌, ◌++◌, take, length, get_or, All, Option, ◌∙◌, sym, ap, subst}
 use Rattle.std.specs.Prelude.{AllPairs}
 use Rattle.std.proofs.lemmas.Bool.{false≢true, false_from_ne_true}
 use Rattle.std.proofs.lemmas.List.{take_all, take_more}
@@ -76,8 +76,3 @@ apart_more rows known after i within are apart is differs =
         let other = get_or rows k d in
         false_from_ne_true (is_same_row other row) (λ same.
         false≢true (sym none ∙ any_member (λ known. is_same_row known row) rows other (has_place rows k other (slice_get-get_or rows k d inside)) same))
-
--- a row that isn't new is known
-pub known_if : (b : Bool) → not b ≡ false → b ≡ true
-known_if true is = refl
-known_if false is = absurd (false≢true (sym is))

@@ -3,5 +3,5 @@ mod NumberLemmas
 mod ContainLemmas
 mod ServedLemmas
 mod WithinLemmas
-mod ShrunkLemmas
+pub mod ShrunkLemmas
 mod LeastLemmas

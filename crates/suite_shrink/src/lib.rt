@@ -6,11 +6,12 @@
 //!   on the search being right. What it proposes is compared with the given rows, and where it fails,
 //!   the distinct ones of the given rows are the answer.
 //! - It says too how many rows any suite needs that serves what the given rows serve.
-//! - `contains` tells whether a row contains a seed row.
+//! - `is_contained` tells whether a row contains a seed row, and `copied_rows` copies the rows of a file.
 #![tactic(auto)]
 
 mod accepting;
 mod comparing;
+mod copied;
 mod first_rows;
 mod least;
 mod planned_model;
@@ -19,6 +20,7 @@ mod served;
 mod shrinking;
 mod valid;
 
+pub use copied::copied_rows;
 pub use planned_model::PlannedModel;
-pub use seeds::contains;
+pub use seeds::is_contained;
 pub use shrinking::{ShrinkOpts, Shrunk, shrink};

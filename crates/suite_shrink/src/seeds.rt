@@ -15,8 +15,8 @@ fn value_at(row: &[Option<ValueNo>], p: usize) -> Option<ValueNo>
     }
 }
 
-/// Whether a row gives every value that a partial row gives.
-pub fn contains(row: &[Option<ValueNo>], part: &[Option<ValueNo>]) -> bool
+// Whether a row gives every value that a partial row gives.
+fn contains(row: &[Option<ValueNo>], part: &[Option<ValueNo>]) -> bool
     ensures { result ≡ contains row.now part.now }
 {
     for p in 0..part.len() {
@@ -27,8 +27,8 @@ pub fn contains(row: &[Option<ValueNo>], part: &[Option<ValueNo>]) -> bool
     true
 }
 
-// Whether one of the rows contains a partial row.
-fn is_contained(rows: &Rows, part: &[Option<ValueNo>]) -> bool
+/// Whether one of the rows gives every value that a partial row gives.
+pub fn is_contained(rows: &Rows, part: &[Option<ValueNo>]) -> bool
     ensures { result ≡ is_contained rows.now part.now }
 {
     for i in 0..rows.len() {

@@ -1,8 +1,8 @@
 use Rattle.std.proofs.Common.{◌++◌, [], ◌∷◌, List, Option, ℕ, ◌+◌, ◌∙◌, sym, ap, subst}
-use Rattle.std.proofs.lemmas.Bool.{not-true}
+use Rattle.std.proofs.lemmas.Bool.{not-false, not-true}
 use Rattle.distinct_rows.specs.Known.{is_known_row, with_row}
 use Rattle.suite_shrink.specs.FirstRows.{AreFirst}
-use Rattle.suite_shrink.proofs.FirstLemmas.{first_known, first_new, known_if}
+use Rattle.suite_shrink.proofs.FirstLemmas.{first_known, first_new}
 use Rattle.suite_shrink.proofs.first_rows.add_row.Goals as goal
 
 pub returns-then-not-branch : goal.returns-then-not-branch
@@ -10,7 +10,7 @@ returns-then-not-branch c =
     let known = c.args.known.now in
     first_known c.args.model.now c.args.given.now c.args.number known c.add.new.self c.args.first.now.numbers.items c.args.first.now.rows c.requires.before
     c.requires.number (c.in_ok-add.ensures.rows ∙ ap (with_row known) c.row.ensures)
-    (ap (is_known_row known) (sym c.row.ensures) ∙ known_if (is_known_row known c.row.result.now) (sym c.in_ok-add.ensures.added ∙ c.if-not-branch.true))
+    (ap (is_known_row known) (sym c.row.ensures) ∙ not-false (is_known_row known c.row.result.now) (sym c.in_ok-add.ensures.added ∙ c.if-not-branch.true))
 
 pub returns : goal.returns
 returns c =
