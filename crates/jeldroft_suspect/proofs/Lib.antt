@@ -1,4 +1,7 @@
+pub mod CellLemmas
 pub mod FoundLemmas
 pub mod OrderLemmas
+pub mod RanLemmas
+pub mod ResultLemmas
 pub mod SuspectedLemmas
 pub mod TextLemmas

@@ -17,11 +17,11 @@ either : (P : List ℕ → Type 0) (b : Bool) (xs ys : List ℕ) → (b ≡ true
 either P true xs ys first second = first refl
 either P false xs ys first second = second refl
 
--- the first of numbers, and the others
-first_with : (R : ℕ → ℕ → Type 0) (x : ℕ) (xs : List ℕ) → AllPairs R (x ∷ xs) → All (R x) xs
+-- the first of a list, and the others
+pub first_with : {X : Type 0} (R : X → X → Type 0) (x : X) (xs : List X) → AllPairs R (x ∷ xs) → All (R x) xs
 first_with R x xs pairs = λ k d within. pairs 0 (suc k) d (omega arith) (omega (arith, within))
 
-others : (R : ℕ → ℕ → Type 0) (x : ℕ) (xs : List ℕ) → AllPairs R (x ∷ xs) → AllPairs R xs
+pub others : {X : Type 0} (R : X → X → Type 0) (x : X) (xs : List X) → AllPairs R (x ∷ xs) → AllPairs R xs
 others R x xs pairs = λ i j d before within. pairs (suc i) (suc j) d (omega (arith, before)) (omega (arith, within))
 
 module _ (count : ℕ → ℕ) where

@@ -1,4 +1,5 @@
 pub mod Laws
 pub mod Due
+pub mod Results
 pub mod believed
 pub mod SuspectsText

@@ -9,6 +9,7 @@ ghost use Rattle.jeldroft_suspect.specs.believed.Due.{Due, text_of};
 use crate::suspecting::suspected;
 use crate::telling::tell;
 use crate::text::suspects_text;
+use crate::told::Told;
 use cov_model::TestModel;
 use jeldroft_args::Suspect;
 use jeldroft_files::{Failure, end_with, read_model_file, status_of_end};
@@ -16,30 +17,30 @@ use model_lex::NoteList;
 use outside_io::{Folder, Sink};
 use std::alloc::Global;
 
-// The text of the combinations, with the notes on the table of results.
+// The text of the combinations, with what is told of the table of results.
 fn text_of<'n, F: Folder>(
     alloc: Global,
     model: &TestModel,
     args: &'n Suspect,
     files: &mut F,
-    notes: &mut NoteList,
+    told: &mut Told,
 ) -> Result<Vec<u8>, Failure<'n>>
     ensures due { (table : Option (List ℕ)) → (F.seen files.old).files args.now.results ≡ Some table →
         IsCalledFor status_of (λ due. due ≡ text_of args.now model.now table) (answer_seen result) }
     ensures files { KeepsFiles (F.seen files.old) (F.seen files.new) }
 {
-    let suspects = suspected(alloc, model, args, files, notes)?;
+    let suspects = suspected(alloc, model, args, files, told)?;
     let text = suspects_text(alloc, model, suspects.found.as_slice())?;
     Ok(text)
 }
 
-// The text of the combinations, with the notes on the model file and on the table of results.
+// The text of the combinations, with the notes on the model file and what is told of the table of results.
 fn answer<'n, F: Folder>(
     alloc: Global,
     args: &'n Suspect,
     files: &mut F,
     model_notes: &mut NoteList,
-    notes: &mut NoteList,
+    told: &mut Told,
 ) -> Result<Vec<u8>, Failure<'n>>
     requires marks { AreMarks args.now.model.marks }
     requires strength { IsStrength args.now.strength }
@@ -49,7 +50,7 @@ fn answer<'n, F: Folder>(
 {
     let (model, found) = read_model_file(alloc, &args.model, args.strength, files)?;
     *model_notes = found;
-    text_of(alloc, &model, args, files, notes)
+    text_of(alloc, &model, args, files, told)
 }
 
 // The name of the output file, if there is one.
@@ -62,14 +63,14 @@ fn output_of(args: &Suspect) -> Option<&str>
     }
 }
 
-// Looks for the combinations, and writes the text, with the notes on the files.
+// Looks for the combinations, and writes the text, with what is told of the files.
 fn write_suspects<'n, F: Folder, O: Sink>(
     alloc: Global,
     args: &'n Suspect,
     files: &mut F,
     out: &mut O,
     model_notes: &mut NoteList,
-    notes: &mut NoteList,
+    told: &mut Told,
 ) -> Result<(), Failure<'n>>
     requires marks { AreMarks args.now.model.marks }
     requires strength { IsStrength args.now.strength }
@@ -78,12 +79,12 @@ fn write_suspects<'n, F: Folder, O: Sink>(
         (moment (F.seen files.old) (O.seen out.old)) (moment (F.seen files.new) (O.seen out.new)) (end_status result) }
     ensures leaves { Leaves args.now.output (moment (F.seen files.old) (O.seen out.old)) (moment (F.seen files.new) (O.seen out.new)) (end_status result) }
 {
-    let answer = answer(alloc, args, files, model_notes, notes);
+    let answer = answer(alloc, args, files, model_notes, told);
     end_with(answer, output_of(args), files, out)
 }
 
 /// Looks for the combinations of values that only failing tests have, the smallest ones, writes a line for each, by
-/// falling number of failing tests that have it, and gives the exit status.
+/// falling number of failing tests that have it, and gives the exit status. Skipped tests don't count.
 ///
 /// The steps come in this order: read of the model file, read of the table of results, the search, write of the text, to
 /// the output file or else to standard output. All memory is taken before the first byte is written. Statuses: 0 where the
@@ -109,8 +110,8 @@ pub fn run_suspect<F: Folder, O: Sink, E: Sink>(
     ensures leaves { Leaves args.now.output (moment (F.seen files.old) (O.seen out.old)) (moment (F.seen files.new) (O.seen out.new)) result }
 {
     let mut model_notes = NoteList::new(alloc);
-    let mut notes = NoteList::new(alloc);
-    let end = write_suspects(alloc, args, files, out, &mut model_notes, &mut notes);
-    tell(alloc, args, &model_notes, &notes, &end, diag);
+    let mut told = Told::nothing(alloc);
+    let end = write_suspects(alloc, args, files, out, &mut model_notes, &mut told);
+    tell(alloc, args, &model_notes, &told, &end, diag);
     status_of_end(&end)
 }

@@ -1,14 +1,18 @@
-ghost use Rattle.std.specs.Prelude.{◌≡◌, ℕ, List, Option, Some, Ok, Err, IfOk, IfErr};
+ghost use Rattle.std.specs.Prelude.{◌≡◌, ◌≤◌, ◌^◌, ℕ, List, Option, Some, Ok, Err, length, IfOk, IfErr};
 ghost use Rattle.outside_io.specs.believed.Seen.{KeepsFiles};
 ghost use Rattle.row_text.specs.RowFiles.{suite_seen};
 ghost use Rattle.suspect_tuples.specs.Results.{AreResultsOf};
 ghost use Rattle.suspect_tuples.specs.Told.{suspects_of, suspects_seen};
-ghost use Rattle.jeldroft_files.specs.believed.Tables.{is_comma};
 ghost use Rattle.jeldroft_inputs.specs.Inputs.{EndsBy};
 ghost use Rattle.jeldroft_suspect.specs.Due as due;
+ghost use Rattle.jeldroft_suspect.specs.Results.{results_seen};
 ghost use Rattle.jeldroft_suspect.specs.believed.Due as believed_due;
-ghost use Rattle.jeldroft_suspect.specs.believed.Due.{results_of, suspects_in};
+ghost use Rattle.jeldroft_suspect.specs.believed.Due.{result_name, results_of, suspects_in};
+ghost use Rattle.jeldroft_suspect.specs.believed.Results.{results_in};
 
+use crate::reading::read_results;
+use crate::refusal::refusal_of;
+use crate::told::Told;
 use command_line::{Quantity, Stop};
 use cov_model::TestModel;
 use jeldroft_args::Suspect;
@@ -16,7 +20,8 @@ use jeldroft_files::{Failure, read_table};
 use model_lex::NoteList;
 use outside_io::Folder;
 use std::alloc::Global;
-use suspect_tuples::{ResultFile, ResultsFault, SuspectFault, Suspects, read_results, suspects};
+use suspect_tuples::{ResultFile, ResultsFault, SuspectFault, Suspects, suspects};
+use value_text::{NoMemory, same_text};
 
 // Why a command ends whose table of results is refused.
 fn stop_of_results(fault: ResultsFault) -> Stop
@@ -30,26 +35,81 @@ fn stop_of_results(fault: ResultsFault) -> Stop
     }
 }
 
-// The tests of the table with their results.
-fn results_in<'n, F: Folder>(
+// The name of the column of results.
+fn result_name(args: &Suspect) -> &str
+    ensures { result.now ≡ result_name args.now }
+{
+    match &args.result {
+        Some(name) => name.as_str(),
+        None => ":result",
+    }
+}
+
+// The tests of a table that ran, with their results.
+fn results_in<'n>(
+    alloc: Global,
+    bytes: &[u8],
+    model: &TestModel,
+    args: &'n Suspect,
+    told: &mut Told,
+) -> Result<ResultFile, Failure<'n>>
+    requires { length bytes.now ≤ 2 ^ 28 }
+    ensures results { IfOk result (λ file. results_in model.now (believed_due.result_name args.now) bytes.now ≡ Ok (results_seen file)) }
+    ensures fit { IfOk result (AreResultsOf model.now) }
+    ensures stops { IfErr result (λ failure. EndsBy (λ cause. results_in model.now (believed_due.result_name args.now) bytes.now ≡ Err cause) failure.cause) }
+{
+    let name = result_name(args);
+    match read_results(alloc, bytes, name, model) {
+        Ok(file) => Ok(file),
+        Err(fault) => {
+            told.refusal = refusal_of(alloc, bytes, name, model.fold(), &fault);
+            Err(Failure::at(args.results.as_str(), stop_of_results(fault)))
+        }
+    }
+}
+
+// Those of the table that the words name.
+fn results_of<'n, F: Folder>(
     alloc: Global,
     model: &TestModel,
     args: &'n Suspect,
     files: &mut F,
+    told: &mut Told,
 ) -> Result<ResultFile, Failure<'n>>
     ensures results { IfOk result (λ file. (table : Option (List ℕ)) → (F.seen files.old).files args.now.results ≡ Some table →
-        due.HoldsResultsOf model.now (is_comma args.now.delimiter args.now.results) table file) }
+        results_of args.now model.now table ≡ Ok (results_seen file)) }
     ensures fit { IfOk result (AreResultsOf model.now) }
     ensures stops { IfErr result (λ failure. (table : Option (List ℕ)) → (F.seen files.old).files args.now.results ≡ Some table →
-        EndsBy (λ cause. results_of model.now (is_comma args.now.delimiter args.now.results) table ≡ Err cause) failure.cause) }
+        EndsBy (λ cause. results_of args.now model.now table ≡ Err cause) failure.cause) }
     ensures files { KeepsFiles (F.seen files.old) (F.seen files.new) }
 {
-    let name = args.results.as_str();
-    let bytes = read_table(alloc, name, args.delimiter, files)?;
-    match read_results(alloc, bytes.as_slice(), model) {
-        Ok(file) => Ok(file),
-        Err(fault) => Err(Failure::at(name, stop_of_results(fault))),
+    let bytes = read_table(alloc, args.results.as_str(), args.delimiter, files)?;
+    results_in(alloc, bytes.as_slice(), model, args, told)
+}
+
+// Whether a column of this name is that of a parameter.
+fn is_of_parameter(model: &TestModel, name: &str) -> bool {
+    let fold = model.fold();
+    model
+        .params()
+        .as_slice()
+        .iter()
+        .any(|param| same_text(param.name.as_str(), name, fold))
+}
+
+// The notes on a table but for that on its column of results: those on the header come first, and are all the same.
+fn notes_beside(
+    alloc: Global,
+    model: &TestModel,
+    args: &Suspect,
+    results: &ResultFile,
+) -> Result<NoteList, NoMemory> {
+    let noted = usize::from(!is_of_parameter(model, result_name(args)));
+    let mut notes = NoteList::new(alloc);
+    for note in results.rows.notes.iter().skip(noted) {
+        notes.push(*note)?;
     }
+    Ok(notes)
 }
 
 // The combinations that only failing ones of the tests have.
@@ -75,7 +135,7 @@ fn suspects_of<'n>(
     }
 }
 
-/// The combinations that only failing tests in the table have, with the notes on it.
+/// The combinations that only failing tests in the table have, with what is told of it.
 ///
 /// # Errors
 ///
@@ -85,18 +145,16 @@ pub(crate) fn suspected<'n, F: Folder>(
     model: &TestModel,
     args: &'n Suspect,
     files: &mut F,
-    notes: &mut NoteList,
+    told: &mut Told,
 ) -> Result<Suspects, Failure<'n>>
     ensures found { IfOk result (λ found. (table : Option (List ℕ)) → (F.seen files.old).files args.now.results ≡ Some table →
-        believed_due.suspected model.now (is_comma args.now.delimiter args.now.results) table ≡ Ok (suspects_seen found)) }
+        believed_due.suspected args.now model.now table ≡ Ok (suspects_seen found)) }
     ensures pairs { IfOk result (λ found. due.ArePairsFound model.now found.found) }
     ensures stops { IfErr result (λ failure. (table : Option (List ℕ)) → (F.seen files.old).files args.now.results ≡ Some table →
-        EndsBy (λ cause. believed_due.suspected model.now (is_comma args.now.delimiter args.now.results) table ≡ Err cause) failure.cause) }
+        EndsBy (λ cause. believed_due.suspected args.now model.now table ≡ Err cause) failure.cause) }
     ensures files { KeepsFiles (F.seen files.old) (F.seen files.new) }
 {
-    let results = results_in(alloc, model, args, files)?;
-    let found = suspects_of(alloc, model, &results, args);
-    let rows = results.rows;
-    *notes = rows.notes;
-    found
+    let results = results_of(alloc, model, args, files, told)?;
+    told.notes = notes_beside(alloc, model, args, &results)?;
+    suspects_of(alloc, model, &results, args)
 }
