@@ -10,10 +10,14 @@ mod files;
 #[cfg(test)]
 mod generate;
 #[cfg(test)]
+mod import;
+#[cfg(test)]
 mod pipe;
 #[cfg(test)]
 mod show;
 #[cfg(test)]
 mod shrink;
+#[cfg(test)]
+mod suspect;
 #[cfg(test)]
 mod told;
