@@ -91,10 +91,8 @@ fn put_finding<E: Sink>(
 
 /// Writes that the file of this name declares no parameter.
 fn put_no_parameter<E: Sink>(name: &str, diag: &mut E) -> WriteAnswer {
-    put_pieces(
-        diag,
-        &[name, ": error: ", explanation(ActsCode::A8), " [A8]\n"],
-    )
+    let _ = put_pieces(diag, &[name]);
+    put_pieces(diag, &[": error: ", explanation(ActsCode::A8), " [A8]\n"])
 }
 
 /// Writes where a line of the file is refused and why, and under it the line.

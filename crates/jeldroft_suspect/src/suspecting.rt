@@ -16,12 +16,12 @@ use crate::told::Told;
 use command_line::{Quantity, Stop};
 use cov_model::TestModel;
 use jeldroft_args::Suspect;
-use jeldroft_files::{Failure, read_table};
+use jeldroft_files::{Failure, missing_column, read_table};
 use model_lex::NoteList;
 use outside_io::Folder;
 use std::alloc::Global;
 use suspect_tuples::{ResultFile, ResultsFault, SuspectFault, Suspects, suspects};
-use value_text::{NoMemory, same_text};
+use value_text::{NoMemory, Text, same_text};
 
 // Why a command ends whose table of results is refused.
 fn stop_of_results(fault: ResultsFault) -> Stop
@@ -45,6 +45,14 @@ fn result_name(args: &Suspect) -> &str
     }
 }
 
+// The name of the parameter that has no column, where that is the fault.
+fn column_of(alloc: Global, model: &TestModel, fault: &ResultsFault) -> Option<Text> {
+    match fault {
+        ResultsFault::Rows(fault) => missing_column(alloc, model, *fault),
+        ResultsFault::NoResult | ResultsFault::BadResult(_) | ResultsFault::NoMemory => None,
+    }
+}
+
 // The tests of a table that ran, with their results.
 fn results_in<'n>(
     alloc: Global,
@@ -63,7 +71,8 @@ fn results_in<'n>(
         Ok(file) => Ok(file),
         Err(fault) => {
             told.refusal = refusal_of(alloc, bytes, name, model.fold(), &fault);
-            Err(Failure::at(args.results.as_str(), stop_of_results(fault)))
+            let column = column_of(alloc, model, &fault);
+            Err(Failure::at(args.results.as_str(), stop_of_results(fault)).naming(column))
         }
     }
 }

@@ -90,6 +90,11 @@ const CASES: &[Case<'static>] = &[
         &[("m", MODEL), ("r", STATUS)],
         "r:1: error: no column is named \":result\"; the columns are A, B, Status [F5]\n",
     ),
+    refused(
+        &["suspect", "m", "r"],
+        &[("m", MODEL), ("r", "A\t:result\n1\tpass\n")],
+        "r: error: no column for the parameter B [F3]\n",
+    ),
     // A word that is none for a result, or none at all.
     refused(
         &["suspect", "m", "r"],
