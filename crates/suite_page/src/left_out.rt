@@ -131,11 +131,7 @@ fn count_alike(omissions: &[Omission], causes: &[u32]) -> u64
 }
 
 // Adds a combination, in words, if these leave it out.
-fn put_if_alike(
-    page: &mut PageText,
-    omission: &Omission,
-    causes: &[u32],
-) -> Result<(), NoMemory>
+fn put_if_alike(page: &mut PageText, omission: &Omission, causes: &[u32]) -> Result<(), NoMemory>
     ensures { OnOk result (page.new ≡ page.old
         ++ flat_map combination_text (filter (λ one. is_by causes.now (omission_seen one)) (omission.now ∷ []))) }
 {
@@ -146,11 +142,7 @@ fn put_if_alike(
 }
 
 // Adds the combinations of a list that these leave out.
-fn put_alike(
-    page: &mut PageText,
-    omissions: &[Omission],
-    causes: &[u32],
-) -> Result<(), NoMemory>
+fn put_alike(page: &mut PageText, omissions: &[Omission], causes: &[u32]) -> Result<(), NoMemory>
     ensures { OnOk result (page.new ≡ page.old
         ++ flat_map combination_text (filter (λ one. is_by causes.now (omission_seen one)) omissions.now)) }
 {
