@@ -139,11 +139,18 @@ fn the_curve_goes_through_its_points(rt: HostRuntime) -> Result<(), Fail> {
 const OMITTED: &[(&str, &[u32], &[&str])] = &[
     ("A = 1, B = 2", &[3], &["line 7: IF [A] = 1 THEN [B] <> 2;"]),
     ("C = ~1, D = ~2", &[0], &["one invalid value at most"]),
-    ("A = 1, B = 2, E = 5", &[3], &["line 7: IF [A] = 1 THEN [B] <> 2;"]),
+    (
+        "A = 1, B = 2, E = 5",
+        &[3],
+        &["line 7: IF [A] = 1 THEN [B] <> 2;"],
+    ),
     (
         "C = ~1, B = 2",
         &[0, 3],
-        &["one invalid value at most", "line 7: IF [A] = 1 THEN [B] <> 2;"],
+        &[
+            "one invalid value at most",
+            "line 7: IF [A] = 1 THEN [B] <> 2;",
+        ],
     ),
 ];
 
