@@ -1,0 +1,4 @@
+pub mod Cells
+pub mod Citing
+pub mod Curving
+pub mod Putting
