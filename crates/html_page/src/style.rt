@@ -3,7 +3,8 @@
 /// Widths from 320 pixels on: only the table of tests scrolls sideways, and its head and the numbers of the tests stay
 /// in view. Colours are light or dark as the reader prefers; each text has a contrast of at least 4.5 to what is
 /// behind it, and lines of the picture have one of at least 3 (WCAG 2.2, level AA). What has the focus has an outline.
-/// On paper nothing is cut off, and the head of the table stands on each sheet.
+/// On paper nothing is cut off, and the head of the table stands on each sheet; a table of more than eight columns has
+/// eight cells in a line, in its head and in each test.
 pub const STYLE: &str = "
 :root{color-scheme:light dark;--page:#fff;--ink:#1b1b1f;--quiet:#55565c;--edge:#c9cad1;--head:#e9ebf0;
 --stripe:#f5f6f9;--line:#0b5cad;--good:#0b6b34;--good-page:#e7f6ec;--bad:#a3161b;--bad-page:#fdeaea;
@@ -14,7 +15,7 @@ pub const STYLE: &str = "
 *{box-sizing:border-box}
 body{margin:0;background:var(--page);color:var(--ink);font:1rem/1.5 system-ui,sans-serif}
 main{max-width:80rem;margin:0 auto;padding:1rem}
-h1{margin:0 0 .5rem;font-size:1.6rem;line-height:1.2;overflow-wrap:anywhere}
+h1{margin:0 0 .5rem;font-size:clamp(1.2rem,5vw,1.6rem);line-height:1.2;overflow-wrap:anywhere}
 h2{margin:2rem 0 .5rem;font-size:1.25rem}
 p,ul,figure{margin:.5rem 0}
 ul{padding-left:1.25rem}
@@ -50,5 +51,8 @@ list-style:none}
 @media (min-width:40rem){main{padding:1rem 2rem}svg text{font-size:100px}}
 @media print{.scroll{width:auto;max-height:none;overflow:visible;border:0}
 thead th,tbody th{position:static}table{width:auto}th,td{min-width:0}
-tr,li,figure{break-inside:avoid}}
+tr,li,figure{break-inside:avoid}
+table:has(th:nth-child(9)) :is(thead,tbody){display:block}
+table:has(th:nth-child(9)) tr{display:flex;flex-wrap:wrap;border-bottom:1px solid}
+table:has(th:nth-child(9)) :is(th,td){flex:0 0 12.5%;padding:.1rem .3rem;border:0;font-size:.7rem}}
 ";
