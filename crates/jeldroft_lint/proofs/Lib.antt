@@ -1,1 +1,4 @@
 pub mod Ending
+pub mod Lookups
+pub mod Told
+pub mod Tokens

@@ -1,2 +1,3 @@
 pub mod Linting
+pub mod Texts
 pub mod believed

@@ -1,12 +1,20 @@
 -- What `lint` says of a model file. (This project's rule.)
-use Rattle.std.specs.Prelude.{◌≡◌, ◌≢◌, ◌⊎◌, ℕ, List, [], Result, Ok, Err}
+use Rattle.std.specs.Prelude.{◌≡◌, ℕ, List, Option, Result, Ok, Err}
+use Rattle.cov_model.specs.believed.Sound.{ModelView}
+use Rattle.jeldroft_args.specs.declared.lint.Lint.{Lint}
 use Rattle.jeldroft_files.specs.believed.Failures.{status_of}
 use Rattle.jeldroft_files.specs.declared.failure.Failure.{Failure}
-use Rattle.model_findings.specs.believed.Findings.{Fact}
+use Rattle.jeldroft_lint.specs.declared.remark.Remark.{Remark}
+use Rattle.jeldroft_lint.specs.believed.Linting.{HasRemarks, status_with, text_of}
+use Rattle.jeldroft_lint.specs.believed.Remarks.{Tells}
 
--- the status of an answer: 0 where nothing is found, else 1
-abbrev pub IsJudged : ℕ → List Fact → Type 0
-IsJudged status found = ((status ≡ 0) × (found ≡ [])) ⊎ ((status ≡ 1) × (found ≢ []))
+-- a text and a status are those of what is told of a model
+abbrev pub IsReport : Lint → ModelView → List ℕ → ℕ → Type 0
+IsReport args m text status = (told : List Remark) × Tells m args.all told × ((status ≡ status_with told) × (text ≡ text_of args told))
+
+-- and of the model that a file spells
+abbrev pub IsAnswer : Lint → Option (List ℕ) → List ℕ → ℕ → Type 0
+IsAnswer args held text status = HasRemarks args held (λ told. (status ≡ status_with told) × (text ≡ text_of args told))
 
 -- the status of an end
 abbrev pub status_seen : Result ℕ Failure → ℕ

@@ -1,1 +1,4 @@
+pub mod Kinds
 pub mod Linting
+pub mod Remarks
+pub mod Texts

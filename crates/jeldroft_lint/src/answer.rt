@@ -1,18 +1,22 @@
-ghost use Rattle.std.specs.Prelude.{◌≡◌, ◌≤◌, ℕ, List, Option, Some, All, IfOk, IfErr, IfSome, map};
+ghost use Rattle.std.specs.Prelude.{◌≡◌, ◌≤◌, IfErr, IfOk, IfSome};
 ghost use Rattle.outside_io.specs.believed.Seen.{KeepsFiles};
 ghost use Rattle.jeldroft_args.specs.Ranges.{AreMarks};
 ghost use Rattle.jeldroft_files.specs.believed.Models.{StopsModel};
-ghost use Rattle.model_findings.specs.Findings.{fact_of};
-ghost use Rattle.model_findings.specs.believed.Findings.{facts};
-ghost use Rattle.jeldroft_lint.specs.believed.Linting.{HasFindings, lint_opts};
-ghost use Rattle.jeldroft_lint.specs.Linting.{IsJudged};
+ghost use Rattle.jeldroft_lint.specs.Linting.{IsAnswer, IsReport};
+ghost use Rattle.jeldroft_lint.specs.believed.Linting.{lint_opts, status_with, text_of};
+ghost use Rattle.jeldroft_lint.specs.believed.Remarks.{Tells};
 
+use crate::hints::hints_of;
+use crate::lines::lines_of;
 use crate::objects::array_of;
-use crate::words::lines_of;
+use crate::order::in_order;
+use crate::remark::Remark;
+use crate::remarks::remarks_of;
 use cov_model::TestModel;
 use jeldroft_args::{FindingFormat, Lint, Strength};
 use jeldroft_files::{Failure, read_model_file};
-use model_findings::{FindingList, findings};
+use model_findings::findings;
+use model_lex::NoteList;
 use outside_io::Folder;
 use std::alloc::Global;
 use value_text::NoMemory;
@@ -24,35 +28,54 @@ pub(crate) struct Report {
     pub(crate) status: u8,
 }
 
-// The status of a list of findings.
-fn status_of(found: &FindingList) -> u8
-    ensures judged { IsJudged result (map fact_of found.now) }
-    ensures few { result ≤ 1 }
+// The status that goes with what is told.
+fn status_with(told: &[Remark]) -> u8
+    ensures { result ≡ status_with told.now }
 {
-    if found.is_empty() { 0 } else { 1 }
-}
-
-// The findings of a model in the form that is asked for.
-fn text_of(
-    alloc: Global,
-    args: &Lint,
-    model: &TestModel,
-    found: &FindingList,
-) -> Result<Vec<u8>, NoMemory> {
-    match args.format {
-        FindingFormat::Text => lines_of(alloc, args, model, found),
-        FindingFormat::Json => array_of(alloc, args, model, found),
+    match told {
+        [] => 0,
+        [_, ..] => 1,
     }
 }
 
-// What is told of a model.
-fn report_of(alloc: Global, args: &Lint, model: &TestModel) -> Result<Report, NoMemory>
-    ensures judged { IfOk result (λ report. IsJudged report.status (facts model.now args.now.all)) }
-    ensures few { IfOk result (λ report. report.status ≤ 1) }
+// What is told in the form that is asked for.
+fn text_of(alloc: Global, args: &Lint, told: &[Remark]) -> Result<Vec<u8>, NoMemory>
+    ensures { IfOk result (λ text. text.items ≡ text_of args.now told.now) }
 {
-    let found = findings(alloc, model, args.all)?;
-    let text = text_of(alloc, args, model, &found)?;
-    let status = status_of(&found);
+    let file = args.model.name.as_str();
+    match args.format {
+        FindingFormat::Text => lines_of(alloc, file, told),
+        FindingFormat::Json => array_of(alloc, file, told),
+    }
+}
+
+// What is told of a model, in order.
+fn told_of(
+    alloc: Global,
+    model: &TestModel,
+    notes: &NoteList,
+    all: bool,
+) -> Result<Vec<Remark>, NoMemory>
+    ensures { IfOk result (λ told. Tells model.now all told.items) }
+{
+    let found = findings(alloc, model, all)?;
+    let hints = hints_of(alloc, model, notes.as_slice(), &found)?;
+    let remarks = remarks_of(alloc, model, &found)?;
+    in_order(remarks, hints)
+}
+
+// What is printed of a model.
+fn report_of(
+    alloc: Global,
+    args: &Lint,
+    model: &TestModel,
+    notes: &NoteList,
+) -> Result<Report, NoMemory>
+    ensures { IfOk result (λ report. IsReport args.now model.now report.text.items report.status) }
+{
+    let told = told_of(alloc, model, notes, args.all)?;
+    let text = text_of(alloc, args, told.as_slice())?;
+    let status = status_with(told.as_slice());
     Ok(Report { text, status })
 }
 
@@ -63,12 +86,12 @@ pub(crate) fn answer<'n, F: Folder>(
     files: &mut F,
 ) -> Result<Report, Failure<'n>>
     requires marks { AreMarks args.now.model.marks }
+    ensures told { IfOk result (λ report. IfSome ((F.seen files.old).files args.now.model.name) (λ held. IsAnswer args.now held report.text.items report.status)) }
     ensures few { IfOk result (λ report. report.status ≤ 1) }
-    ensures told { IfOk result (λ report. IfSome ((F.seen files.old).files args.now.model.name) (λ held. HasFindings args.now held (IsJudged report.status))) }
     ensures stops { IfErr result (λ failure. IfSome ((F.seen files.old).files args.now.model.name) (λ held. StopsModel (lint_opts args.now) held failure.cause)) }
     ensures files { KeepsFiles (F.seen files.old) (F.seen files.new) }
 {
-    let (model, _notes) = read_model_file(alloc, &args.model, Strength::Number(1), files)?;
-    let report = report_of(alloc, args, &model)?;
+    let (model, notes) = read_model_file(alloc, &args.model, Strength::Number(1), files)?;
+    let report = report_of(alloc, args, &model, &notes)?;
     Ok(report)
 }

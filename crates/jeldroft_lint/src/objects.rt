@@ -1,150 +1,154 @@
-use crate::words::{add_words, finding_line, name_of};
-use cov_model::TestModel;
-use jeldroft_args::Lint;
+//! What is told as an array of objects.
+ghost use Rattle.std.specs.Prelude.{◌≡◌, ◌∷◌, [], IfOk, OnOk, codes, decimal, map};
+ghost use Rattle.std.specs.Option.{option_copied};
+ghost use Rattle.json.specs.Token.{key, number, string};
+ghost use Rattle.jeldroft_lint.specs.believed.Kinds.{kind_name};
+ghost use Rattle.jeldroft_lint.specs.believed.Texts.{array_text, array_tokens, line_token, number_tokens, object_tokens, objects_tokens, place_tokens, subject_tokens, text_token};
+ghost use Rattle.jeldroft_lint.specs.Texts.{Adds};
+
+use crate::kind::Kind;
+use crate::remark::Remark;
 use json::Writer;
-use model_findings::{Finding, FindingList};
+use model_lint::RuleNumbers;
 use std::alloc::{AllocError, Global};
-use std::str::from_utf8;
-use value_text::NoMemory;
+use value_text::{NoMemory, Text};
+
+// A text, if there is one.
+fn str_of(text: &Option<Text>) -> Option<&str>
+    ensures { option_copied result ≡ text.now }
+{
+    match text {
+        Some(text) => Some(text.as_str()),
+        None => None,
+    }
+}
 
 // Writes a text, or null where there is none.
-fn put_text(text: Option<&str>, writer: &mut Writer) -> Result<(), AllocError> {
+fn put_text(text: Option<&str>, writer: &mut Writer) -> Result<(), AllocError>
+    ensures { OnOk result (Adds writer.old writer.new (text_token (option_copied text.entry) ∷ [])) }
+{
     match text {
         Some(text) => writer.string(text),
         None => writer.null(),
     }
 }
 
-// Writes where a finding stands; the column isn't known.
-fn put_place(args: &Lint, line: u32, writer: &mut Writer) -> Result<(), AllocError> {
-    writer.key("file")?;
-    writer.string(args.model.name.as_str())?;
-    writer.key("line")?;
-    if line > 0 {
-        writer.u64(u64::from(line))?;
+// Writes a line, or null where there is none.
+fn put_line(line: u32, writer: &mut Writer) -> Result<(), AllocError>
+    ensures { OnOk result (Adds writer.old writer.new (line_token line ∷ [])) }
+{
+    if line == 0 {
+        writer.null()
     } else {
-        writer.null()?;
-    }
-    writer.key("column")?;
-    writer.null()
-}
-
-// The name of the parameter whose value a finding is about.
-fn parameter_of<'a>(model: &'a TestModel, finding: &Finding) -> Option<&'a str> {
-    let Finding::ValueInNoTest(one) = finding else {
-        return None;
-    };
-    match model.params().get(one.parameter as usize) {
-        Some(param) => Some(param.name.as_str()),
-        None => None,
+        writer.u64(u64::from(line))
     }
 }
 
-// The first name of the value that a finding is about.
-fn value_of<'a>(model: &'a TestModel, finding: &Finding) -> Option<&'a str> {
-    let Finding::ValueInNoTest(one) = finding else {
-        return None;
-    };
-    let Some(param) = model.params().get(one.parameter as usize) else {
-        return None;
-    };
-    let Some(value) = param.values.get(one.value as usize) else {
-        return None;
-    };
-    match value.names.get(0) {
-        Some(name) => Some(name.as_str()),
-        None => None,
-    }
+// Writes a member that is a text.
+fn put_member(name: &str, text: Option<&str>, writer: &mut Writer) -> Result<(), AllocError>
+    ensures { OnOk result (Adds writer.old writer.new (key name.now ∷ text_token (option_copied text.entry) ∷ [])) }
+{
+    writer.key(name)?;
+    put_text(text, writer)
 }
 
-// Writes the numbers of the constraints that a finding tells.
-fn put_constraints(finding: &Finding, writer: &mut Writer) -> Result<(), AllocError> {
+// Writes a member that may have no text.
+fn put_optional(name: &str, text: &Option<Text>, writer: &mut Writer) -> Result<(), AllocError>
+    ensures { OnOk result (Adds writer.old writer.new (key name.now ∷ text_token text.now ∷ [])) }
+{
+    put_member(name, str_of(text), writer)
+}
+
+// Writes the member of the name.
+fn put_name(kind: Kind, writer: &mut Writer) -> Result<(), AllocError>
+    ensures { OnOk result (Adds writer.old writer.new (key (codes "name") ∷ string (kind_name kind) ∷ [])) }
+{
+    put_member("name", Some(kind.name()), writer)
+}
+
+// Writes the member of the words.
+fn put_words(words: &Text, writer: &mut Writer) -> Result<(), AllocError>
+    ensures { OnOk result (Adds writer.old writer.new (key (codes "text") ∷ string words.now ∷ [])) }
+{
+    put_member("text", Some(words.as_str()), writer)
+}
+
+// Writes where a remark stands; the column isn't known.
+fn put_place(file: &str, line: u32, writer: &mut Writer) -> Result<(), AllocError>
+    ensures { OnOk result (Adds writer.old writer.new (place_tokens file.now line)) }
+{
+    put_member("file", Some(file), writer)?;
+    writer.key("line")?;
+    put_line(line, writer)?;
+    put_member("column", None, writer)
+}
+
+// Writes numbers.
+fn put_numbers(numbers: &[u32], writer: &mut Writer) -> Result<(), AllocError>
+    ensures { OnOk result (Adds writer.old writer.new (map (λ n. number (decimal n)) numbers.now)) }
+{
+    for number in numbers {
+        writer.u64(u64::from(*number))?;
+    }
+    Ok(())
+}
+
+// Writes the member of the constraints.
+fn put_constraints(numbers: &RuleNumbers, writer: &mut Writer) -> Result<(), AllocError>
+    ensures { OnOk result (Adds writer.old writer.new (number_tokens numbers.now)) }
+{
+    writer.key("constraints")?;
     writer.begin_array()?;
-    match finding {
-        Finding::NoTest(numbers) => {
-            for number in numbers.as_slice() {
-                writer.u64(u64::from(*number))?;
-            }
-        }
-        Finding::ValueInNoTest(one) => {
-            for number in one.constraints.as_slice() {
-                writer.u64(u64::from(*number))?;
-            }
-        }
-        Finding::UnknownValue(number, _)
-        | Finding::UnknownElement(number, _, _)
-        | Finding::ConstantComparison(number, _)
-        | Finding::NeverExcludes(number)
-        | Finding::PremiseNeverHolds(number) => writer.u64(u64::from(*number))?,
-    }
+    put_numbers(numbers.as_slice(), writer)?;
     writer.end_array()
 }
 
-// Writes a finding with its words as an object.
-fn put_members(
-    args: &Lint,
-    model: &TestModel,
-    finding: &Finding,
-    words: &[u8],
-    writer: &mut Writer,
-) -> Result<(), AllocError> {
+// Writes what a remark is about.
+fn put_subject(remark: &Remark, writer: &mut Writer) -> Result<(), AllocError>
+    ensures { OnOk result (Adds writer.old writer.new (subject_tokens remark.now)) }
+{
+    put_optional("parameter", &remark.parameter, writer)?;
+    put_optional("value", &remark.value, writer)?;
+    put_constraints(&remark.constraints, writer)
+}
+
+// Writes a remark as an object.
+fn put_object(file: &str, remark: &Remark, writer: &mut Writer) -> Result<(), AllocError>
+    ensures { OnOk result (Adds writer.old writer.new (object_tokens file.now remark.now)) }
+{
     writer.begin_object()?;
-    writer.key("name")?;
-    writer.string(name_of(finding))?;
-    put_place(args, finding_line(model, finding), writer)?;
-    writer.key("parameter")?;
-    put_text(parameter_of(model, finding), writer)?;
-    writer.key("value")?;
-    put_text(value_of(model, finding), writer)?;
-    writer.key("constraints")?;
-    put_constraints(finding, writer)?;
-    writer.key("text")?;
-    match from_utf8(words) {
-        Ok(text) => writer.string(text)?,
-        Err(_) => writer.null()?,
-    }
+    put_name(remark.kind, writer)?;
+    put_place(file, remark.line, writer)?;
+    put_subject(remark, writer)?;
+    put_words(&remark.words, writer)?;
     writer.end_object()
 }
 
-// Writes a finding as an object.
-fn put_object(
-    alloc: Global,
-    args: &Lint,
-    model: &TestModel,
-    finding: &Finding,
-    writer: &mut Writer,
-) -> Result<(), NoMemory> {
-    let mut words = Vec::new(alloc);
-    add_words(alloc, model, finding, &mut words)?;
-    put_members(args, model, finding, words.as_slice(), writer)?;
-    Ok(())
-}
-
-// Writes findings as an array of objects.
-fn put_array(
-    alloc: Global,
-    args: &Lint,
-    model: &TestModel,
-    found: &FindingList,
-    writer: &mut Writer,
-) -> Result<(), NoMemory> {
-    writer.begin_array()?;
-    for finding in found.as_slice() {
-        put_object(alloc, args, model, finding, writer)?;
+// Writes remarks as objects.
+fn put_objects(file: &str, told: &[Remark], writer: &mut Writer) -> Result<(), AllocError>
+    ensures { OnOk result (Adds writer.old writer.new (objects_tokens file.now told.now)) }
+{
+    for remark in told {
+        put_object(file, remark, writer)?;
     }
-    writer.end_array()?;
     Ok(())
 }
 
-/// The findings of a model as an array of objects.
-pub(crate) fn array_of(
-    alloc: Global,
-    args: &Lint,
-    model: &TestModel,
-    found: &FindingList,
-) -> Result<Vec<u8>, NoMemory> {
+// Writes remarks as an array.
+fn put_array(file: &str, told: &[Remark], writer: &mut Writer) -> Result<(), AllocError>
+    ensures { OnOk result (Adds writer.old writer.new (array_tokens file.now told.now)) }
+{
+    writer.begin_array()?;
+    put_objects(file, told, writer)?;
+    writer.end_array()
+}
+
+/// What is told of the model in a file of this name as an array of objects.
+pub(crate) fn array_of(alloc: Global, file: &str, told: &[Remark]) -> Result<Vec<u8>, NoMemory>
+    ensures { IfOk result (λ text. text.items ≡ array_text file.now told.now) }
+{
     let mut writer = Writer::new(Vec::new(alloc));
-    put_array(alloc, args, model, found, &mut writer)?;
+    put_array(file, told, &mut writer)?;
     let mut text = writer.into_inner();
     text.push(b'\n')?;
     Ok(text)

@@ -1,7 +1,7 @@
 ghost use Rattle.std.specs.Prelude.{◌≡◌, ℕ, List, Option, Some, None};
 ghost use Rattle.jeldroft_args.specs.Ranges.{AreMarks};
 ghost use Rattle.jeldroft_files.specs.believed.Runs.{Leaves, moment};
-ghost use Rattle.jeldroft_lint.specs.believed.Linting.{LintsAs};
+ghost use Rattle.jeldroft_lint.specs.believed.Linting.{LintsAs, Prints};
 ghost use Rattle.jeldroft_lint.specs.Linting.{status_seen};
 
 use crate::answer::answer;
@@ -20,6 +20,7 @@ fn print_findings<'n, F: Folder, O: Sink>(
 ) -> Result<u8, Failure<'n>>
     requires marks { AreMarks args.now.model.marks }
     ensures lints { (held : Option (List ℕ)) → (F.seen files.old).files args.now.model.name ≡ Some held → LintsAs args.now held (status_seen result) }
+    ensures prints { (held : Option (List ℕ)) → (F.seen files.old).files args.now.model.name ≡ Some held → Prints args.now held (O.seen out.old) (O.seen out.new) (status_seen result) }
     ensures leaves { Leaves None (moment (F.seen files.old) (O.seen out.old)) (moment (F.seen files.new) (O.seen out.new)) (status_seen result) }
 {
     match answer(alloc, args, files) {
@@ -56,9 +57,13 @@ pub fn run_lint<F: Folder, O: Sink, E: Sink>(
 ) -> u8
     requires marks { AreMarks args.now.model.marks }
 
-    // With 0 the model has no finding, with 1 it has one, and with 2 the file is refused. Premise: the folder tells what
-    // the file held.
+    // With 0 nothing is told of the model, and it has no finding; with 1 something is told of it; and with 2 the file is
+    // refused. Premise: the folder tells what the file held.
     ensures lints { (held : Option (List ℕ)) → (F.seen files.old).files args.now.model.name ≡ Some held → LintsAs args.now held result }
+
+    // With 0 and 1 what is printed is a line, or an object, for each finding of the model, and for hints, in the order of
+    // lines. Premise as before.
+    ensures prints { (held : Option (List ℕ)) → (F.seen files.old).files args.now.model.name ≡ Some held → Prints args.now held (O.seen out.old) (O.seen out.new) result }
 
     // Without it: no file changes, and a model that is refused prints nothing.
     ensures leaves { Leaves None (moment (F.seen files.old) (O.seen out.old)) (moment (F.seen files.new) (O.seen out.new)) result }

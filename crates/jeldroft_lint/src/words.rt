@@ -1,80 +1,109 @@
-use cov_model::{Literal, Param, Term, TestModel};
-use jeldroft_args::Lint;
-use model_findings::{Finding, FindingList, terms_of};
-use model_lint::RuleNumbers;
+//! Findings in words.
+use crate::meant::meant_value;
+use crate::names::{param_name, rule_line};
+use crate::sameness::is_true_of_all;
+use crate::spelling::{literal_words, param_words, relation_words, value_words};
+use cov_model::{Literal, Param, ParamNo, Rel, Term, TestModel, ValueNo};
+use model_findings::{Finding, terms_of};
+use model_lint::{RuleNumbers, UnusedValue};
 use std::alloc::Global;
 use value_text::NoMemory;
 
-// Adds text.
-fn add(text: &str, into: &mut Vec<u8>) -> Result<(), NoMemory> {
-    into.extend_from_slice(text.as_bytes())?;
-    Ok(())
-}
-
-// Adds a number.
-fn add_number(number: u64, into: &mut Vec<u8>) -> Result<(), NoMemory> {
-    let mut digits = itoa::Buffer::new();
-    add(digits.format(number), into)
-}
-
-// The line of the model file where a constraint begins; 0 where there is none of this number.
-fn line_of(model: &TestModel, number: u32) -> u32 {
-    for rule in model.rules().as_slice() {
-        if rule.number == number {
-            return rule.line;
-        }
-    }
-    0
-}
-
-// Adds where a finding stands: the file, and the line where one is known.
-fn add_place(args: &Lint, line: u32, into: &mut Vec<u8>) -> Result<(), NoMemory> {
-    add(args.model.name.as_str(), into)?;
-    if line > 0 {
-        add(":", into)?;
-        add_number(u64::from(line), into)?;
-    }
-    add(": warning: ", into)
-}
-
-// Adds the constraints that are told with a finding.
-fn add_constraints(
+// The constraints that are told with a finding about tests.
+fn constraints_words(
+    alloc: Global,
     model: &TestModel,
     numbers: &RuleNumbers,
-    into: &mut Vec<u8>,
-) -> Result<(), NoMemory> {
+) -> Result<String, NoMemory> {
+    let mut words = String::new(alloc);
     let mut parting = ": ";
     for number in numbers.as_slice() {
-        add(parting, into)?;
-        add("constraint ", into)?;
-        add_number(u64::from(*number), into)?;
-        add(" (line ", into)?;
-        add_number(u64::from(line_of(model, *number)), into)?;
-        add(")", into)?;
+        let line = rule_line(model, *number);
+        let one = format!(in alloc; "{parting}constraint {number} (line {line})")?;
+        words.push_str(one.as_str())?;
         parting = ", ";
     }
     if numbers.len() == 1 {
-        add(" forbids it", into)?;
+        words.push_str(" forbids it")?;
     } else if numbers.len() > 1 {
-        add(" forbid it together", into)?;
+        words.push_str(" forbid it together")?;
     }
-    Ok(())
+    Ok(words)
 }
 
-// Adds a value of a parameter in words.
-fn add_value(param: &Param, v: u16, into: &mut Vec<u8>) -> Result<(), NoMemory> {
-    add(param.name.as_str(), into)?;
-    add(" = ", into)?;
-    if let Some(value) = param.values.get(v as usize) {
-        if let Some(name) = value.names.get(0) {
-            add(name.as_str(), into)?;
-        }
-    }
-    Ok(())
+// A value of a parameter, as `Method = PATCH`.
+fn pair_words(
+    alloc: Global,
+    model: &TestModel,
+    p: ParamNo,
+    v: ValueNo,
+) -> Result<String, NoMemory> {
+    let Some(param) = model.params().get(p as usize) else {
+        return Ok(String::new(alloc));
+    };
+    let Some(value) = param.values.get(v as usize) else {
+        return Ok(String::new(alloc));
+    };
+    let name = param.name.as_str();
+    let shown = value_words(alloc, model, value)?;
+    Ok(format!(in alloc; "{name} = {shown}")?)
 }
 
-// Adds what a comparison is about, and how it is written where it compares with a text.
-fn add_term(model: &TestModel, term: &Term, into: &mut Vec<u8>) -> Result<(), NoMemory> {
+// That a value is in no test.
+fn unused_words(alloc: Global, model: &TestModel, one: &UnusedValue) -> Result<String, NoMemory> {
+    let pair = pair_words(alloc, model, one.parameter, one.value)?;
+    let why = constraints_words(alloc, model, &one.constraints)?;
+    Ok(format!(in alloc; "{pair} is in no test{why}")?)
+}
+
+// A question whether another value is meant by a text; nothing where none is near.
+fn question(alloc: Global, param: &Param, literal: &Literal) -> Result<String, NoMemory> {
+    let Literal::Words(text) = literal else {
+        return Ok(String::new(alloc));
+    };
+    match meant_value(alloc, param, text.as_str())? {
+        Some(name) => Ok(format!(in alloc; "; did you mean \"{name}\"?")?),
+        None => Ok(String::new(alloc)),
+    }
+}
+
+// That a literal is no value of a parameter, and what comes of it.
+fn literal_is_none(
+    alloc: Global,
+    model: &TestModel,
+    param: &Param,
+    literal: &Literal,
+    effect: &str,
+) -> Result<String, NoMemory> {
+    let text = literal_words(alloc, literal)?;
+    let values = param_words(alloc, model, param)?;
+    let meant = question(alloc, param, literal)?;
+    Ok(format!(in alloc; "{text} is no value of {values}; {effect}{meant}")?)
+}
+
+// That no value of a parameter matches a pattern.
+fn pattern_is_none(
+    alloc: Global,
+    model: &TestModel,
+    param: &Param,
+    pattern: &str,
+) -> Result<String, NoMemory> {
+    let values = param_words(alloc, model, param)?;
+    Ok(format!(in alloc;
+        "no value of {values} matches \"{pattern}\"; the comparison is never true"
+    )?)
+}
+
+// What comes of a comparison with what no value is.
+fn effect_of(rel: Rel) -> &'static str {
+    match rel {
+        Rel::Ne => "the comparison is always true",
+        Rel::Eq | Rel::Gt | Rel::Ge | Rel::Lt | Rel::Le => "the comparison is never true",
+    }
+}
+
+// The parameter of a term; of two the first.
+fn param_of<'a>(model: &'a TestModel, term: &Term) -> Option<&'a Param> {
     let p = match term {
         Term::ValueIs(p, _, _)
         | Term::ParamIs(p, _, _)
@@ -83,41 +112,89 @@ fn add_term(model: &TestModel, term: &Term, into: &mut Vec<u8>) -> Result<(), No
         | Term::Negative(p)
         | Term::Positive(p) => *p,
     };
-    if let Some(param) = model.params().get(p as usize) {
-        add("[", into)?;
-        add(param.name.as_str(), into)?;
-        add("]", into)?;
-    }
-    Ok(())
+    model.params().get(p as usize)
 }
 
-// Adds a literal.
-fn add_literal(literal: &Literal, into: &mut Vec<u8>) -> Result<(), NoMemory> {
-    match literal {
-        Literal::Words(text) => {
-            add("\"", into)?;
-            add(text.as_str(), into)?;
-            add("\"", into)
-        }
-        Literal::Number(_) => add("the number", into),
-    }
-}
-
-// Adds what no value of its parameter is in a comparison; of an IN list the element at a place.
-fn add_unknown(term: &Term, element: usize, into: &mut Vec<u8>) -> Result<(), NoMemory> {
+// That a term compares with what no value of its parameter is; of a list the element at a place.
+fn unknown_words(
+    alloc: Global,
+    model: &TestModel,
+    term: &Term,
+    element: usize,
+) -> Result<String, NoMemory> {
+    let Some(param) = param_of(model, term) else {
+        return Ok(String::new(alloc));
+    };
     match term {
-        Term::ValueIs(_, _, literal) => add_literal(literal, into),
-        Term::OneOf(_, literals) => match literals.get(element) {
-            Some(literal) => add_literal(literal, into),
-            None => Ok(()),
-        },
-        Term::Like(_, pattern) => {
-            add("the pattern \"", into)?;
-            add(pattern.as_str(), into)?;
-            add("\"", into)
+        Term::ValueIs(_, rel, literal) => {
+            literal_is_none(alloc, model, param, literal, effect_of(*rel))
         }
-        Term::ParamIs(_, _, _) | Term::Negative(_) | Term::Positive(_) => Ok(()),
+        Term::OneOf(_, literals) => match literals.get(element) {
+            Some(literal) => {
+                literal_is_none(alloc, model, param, literal, "no value equals this element")
+            }
+            None => Ok(String::new(alloc)),
+        },
+        Term::Like(_, pattern) => pattern_is_none(alloc, model, param, pattern.as_str()),
+        Term::ParamIs(_, _, _) | Term::Negative(_) | Term::Positive(_) => Ok(String::new(alloc)),
     }
+}
+
+// The elements of a list.
+fn elements_words(alloc: Global, literals: &[Literal]) -> Result<String, NoMemory> {
+    let mut words = String::new(alloc);
+    let mut parting = "";
+    for literal in literals {
+        let text = literal_words(alloc, literal)?;
+        words.push_str(parting)?;
+        words.push_str(text.as_str())?;
+        parting = ", ";
+    }
+    Ok(words)
+}
+
+// A comparison as it is written in a constraint.
+fn comparison_words(alloc: Global, model: &TestModel, term: &Term) -> Result<String, NoMemory> {
+    match term {
+        Term::ValueIs(p, rel, literal) => {
+            let (name, relation) = (param_name(model, *p), relation_words(*rel));
+            let text = literal_words(alloc, literal)?;
+            Ok(format!(in alloc; "[{name}] {relation} {text}")?)
+        }
+        Term::ParamIs(p, rel, q) => {
+            let (name, relation) = (param_name(model, *p), relation_words(*rel));
+            let other = param_name(model, *q);
+            Ok(format!(in alloc; "[{name}] {relation} [{other}]")?)
+        }
+        Term::OneOf(p, literals) => {
+            let name = param_name(model, *p);
+            let elements = elements_words(alloc, literals.as_slice())?;
+            Ok(format!(in alloc; "[{name}] IN {{{elements}}}")?)
+        }
+        Term::Like(p, pattern) => {
+            let (name, text) = (param_name(model, *p), pattern.as_str());
+            Ok(format!(in alloc; "[{name}] LIKE \"{text}\"")?)
+        }
+        Term::Negative(p) => {
+            let name = param_name(model, *p);
+            Ok(format!(in alloc; "ISNEGATIVE([{name}])")?)
+        }
+        Term::Positive(p) => {
+            let name = param_name(model, *p);
+            Ok(format!(in alloc; "ISPOSITIVE([{name}])")?)
+        }
+    }
+}
+
+// That a comparison is the same for every value.
+fn constant_words(alloc: Global, model: &TestModel, term: &Term) -> Result<String, NoMemory> {
+    let comparison = comparison_words(alloc, model, term)?;
+    let how = if is_true_of_all(model, term) {
+        "always"
+    } else {
+        "never"
+    };
+    Ok(format!(in alloc; "{comparison} is {how} true, whatever the values")?)
 }
 
 // What is told of a term.
@@ -129,142 +206,53 @@ enum Oddity {
     Constant,
 }
 
-// Adds what is told of the term at a place of a constraint.
-fn add_comparison(
+// What is told of the term at a place of a constraint.
+fn term_words(
     alloc: Global,
     model: &TestModel,
     number: u32,
     place: usize,
     oddity: Oddity,
-    into: &mut Vec<u8>,
-) -> Result<(), NoMemory> {
-    add("constraint ", into)?;
-    add_number(u64::from(number), into)?;
-    add(": ", into)?;
-    for rule in model.rules().as_slice() {
-        if rule.number == number {
-            let terms = terms_of(alloc, &rule.body)?;
-            if let Some(term) = terms.get(place) {
-                match oddity {
-                    Oddity::Unknown(element) => {
-                        add_unknown(term, element, into)?;
-                        add(" is no value of ", into)?;
-                        add_term(model, term, into)?;
-                        add("; the comparison is the same for every value", into)?;
-                    }
-                    Oddity::Constant => {
-                        add("a comparison of ", into)?;
-                        add_term(model, term, into)?;
-                        add(" is the same for every value", into)?;
-                    }
-                }
-            }
-        }
-    }
-    Ok(())
-}
-
-// The line that a finding is about; 0 where it is about none.
-pub(crate) fn finding_line(model: &TestModel, finding: &Finding) -> u32 {
-    match finding {
-        Finding::NoTest(_) => 0,
-        Finding::ValueInNoTest(one) => match model.params().get(one.parameter as usize) {
-            Some(param) => param.line,
-            None => 0,
-        },
-        Finding::UnknownValue(number, _)
-        | Finding::UnknownElement(number, _, _)
-        | Finding::ConstantComparison(number, _)
-        | Finding::NeverExcludes(number)
-        | Finding::PremiseNeverHolds(number) => line_of(model, *number),
+) -> Result<String, NoMemory> {
+    let Some(rule) = model.rules().get((number as usize).saturating_sub(1)) else {
+        return Ok(String::new(alloc));
+    };
+    let terms = terms_of(alloc, &rule.body)?;
+    let Some(term) = terms.get(place) else {
+        return Ok(String::new(alloc));
+    };
+    match oddity {
+        Oddity::Unknown(element) => unknown_words(alloc, model, term, element),
+        Oddity::Constant => constant_words(alloc, model, term),
     }
 }
 
-// The name of a finding.
-pub(crate) fn name_of(finding: &Finding) -> &'static str {
-    match finding {
-        Finding::NoTest(_) => "no-test",
-        Finding::ValueInNoTest(_) => "value-in-no-test",
-        Finding::UnknownValue(_, _) | Finding::UnknownElement(_, _, _) => "unknown-value",
-        Finding::ConstantComparison(_, _) => "constant-comparison",
-        Finding::NeverExcludes(_) => "never-excludes",
-        Finding::PremiseNeverHolds(_) => "premise-never-holds",
-    }
-}
-
-// Adds the words of a finding.
-pub(crate) fn add_words(
+/// The words of a finding.
+pub(crate) fn words_of(
     alloc: Global,
     model: &TestModel,
     finding: &Finding,
-    into: &mut Vec<u8>,
-) -> Result<(), NoMemory> {
+) -> Result<String, NoMemory> {
     match finding {
         Finding::NoTest(constraints) => {
-            add("the model has no test", into)?;
-            add_constraints(model, constraints, into)
+            let why = constraints_words(alloc, model, constraints)?;
+            Ok(format!(in alloc; "the model has no test{why}")?)
         }
-        Finding::ValueInNoTest(one) => {
-            if let Some(param) = model.params().get(one.parameter as usize) {
-                add_value(param, one.value, into)?;
-            }
-            add(" is in no test", into)?;
-            add_constraints(model, &one.constraints, into)
-        }
+        Finding::ValueInNoTest(one) => unused_words(alloc, model, one),
         Finding::UnknownValue(number, place) => {
-            add_comparison(alloc, model, *number, *place, Oddity::Unknown(0), into)
+            term_words(alloc, model, *number, *place, Oddity::Unknown(0))
         }
         Finding::UnknownElement(number, place, element) => {
-            add_comparison(
-                alloc,
-                model,
-                *number,
-                *place,
-                Oddity::Unknown(*element),
-                into,
-            )
+            term_words(alloc, model, *number, *place, Oddity::Unknown(*element))
         }
         Finding::ConstantComparison(number, place) => {
-            add_comparison(alloc, model, *number, *place, Oddity::Constant, into)
+            term_words(alloc, model, *number, *place, Oddity::Constant)
         }
-        Finding::NeverExcludes(number) => {
-            add("constraint ", into)?;
-            add_number(u64::from(*number), into)?;
-            add(" excludes no test that meets the other constraints", into)
-        }
-        Finding::PremiseNeverHolds(number) => {
-            add("the condition of constraint ", into)?;
-            add_number(u64::from(*number), into)?;
-            add(" is true of no test", into)
-        }
+        Finding::NeverExcludes(number) => Ok(format!(in alloc;
+            "constraint {number} excludes no test that meets the other constraints"
+        )?),
+        Finding::PremiseNeverHolds(number) => Ok(format!(in alloc;
+            "the condition of constraint {number} is true of no test"
+        )?),
     }
-}
-
-// Adds a finding as a line.
-fn add_line(
-    alloc: Global,
-    args: &Lint,
-    model: &TestModel,
-    finding: &Finding,
-    into: &mut Vec<u8>,
-) -> Result<(), NoMemory> {
-    add_place(args, finding_line(model, finding), into)?;
-    add_words(alloc, model, finding, into)?;
-    add(" [", into)?;
-    add(name_of(finding), into)?;
-    add("]\n", into)
-}
-
-/// The findings of a model, one line each.
-pub(crate) fn lines_of(
-    alloc: Global,
-    args: &Lint,
-    model: &TestModel,
-    found: &FindingList,
-) -> Result<Vec<u8>, NoMemory> {
-    let mut text = Vec::new(alloc);
-    for finding in found.as_slice() {
-        add_line(alloc, args, model, finding, &mut text)?;
-    }
-    Ok(text)
 }

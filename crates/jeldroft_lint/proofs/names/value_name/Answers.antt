@@ -1,0 +1,12 @@
+use Rattle.std.proofs.Common.{◌∙◌, List, ap}
+use Rattle.std.specs.Prelude.{slice_get, slice_index_or}
+use Rattle.cov_model.specs.believed.Meaning.{no_value}
+use Rattle.cov_model.specs.believed.Sound.{first_name, no_param}
+use Rattle.cov_model.specs.declared.parameter.Param.{Param}
+use Rattle.jeldroft_lint.proofs.Lookups.{missing}
+use Rattle.jeldroft_lint.proofs.names.value_name.Goals as goal
+
+pub returns-in-None : goal.returns-in-None
+returns-in-None c =
+    ap (λ (param : Param). first_name (slice_index_or param.values c.args.v no_value)) (missing c.args.model.now.params c.args.p no_param
+    (c.in-None.ensures.value ∙ ap (λ (params : List Param). slice_get params c.args.p) c.params.ensures.value))
