@@ -12,6 +12,8 @@ mod generate;
 #[cfg(test)]
 mod import;
 #[cfg(test)]
+mod lint;
+#[cfg(test)]
 mod pipe;
 #[cfg(test)]
 mod show;
