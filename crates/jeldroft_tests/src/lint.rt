@@ -11,75 +11,88 @@ struct Linted<'a> {
     out: &'a str,
 }
 
-// One of which something is told.
-const fn found<'a>(model: &'a str, out: &'a str) -> Linted<'a> {
-    Linted {
-        words: &["lint", "m"],
-        model,
-        status: 1,
-        out,
-    }
-}
-
-// One of which nothing is told.
-const fn clean<'a>(model: &'a str) -> Linted<'a> {
-    Linted {
-        words: &["lint", "m"],
-        model,
-        status: 0,
-        out: "",
-    }
-}
+const LINT: &[&str] = &["lint", "m"];
 
 const SAID_TWICE: &str =
     "A: 1, 2\nB: x, y\n[A] = 1 OR [B] = \"x\";\nIF [A] = 2 THEN [B] = \"x\";\n";
 
 const FINDINGS: &[Linted<'static>] = &[
-    clean("A: 1, 2\nB: x, y\nIF [A] = 1 THEN [B] = \"x\";\n"),
-    clean("A: 5, 20, ~-1\nB: x, y\nIF ISPOSITIVE([A]) THEN [A] > 6 OR [B] = \"x\";\n"),
+    Linted {
+        words: LINT,
+        model: "A: 1, 2\nB: x, y\nIF [A] = 1 THEN [B] = \"x\";\n",
+        status: 0,
+        out: "",
+    },
+    Linted {
+        words: LINT,
+        model: "A: 5, 20, ~-1\nB: x, y\nIF ISPOSITIVE([A]) THEN [A] > 6 OR [B] = \"x\";\n",
+        status: 0,
+        out: "",
+    },
     // no test
-    found(
-        "A: 1, 2\nB: x, y\n[A] = 1;\n[A] = 2;\n",
-        "m: warning: the model has no test: constraint 1 (line 3), constraint 2 (line 4) forbid it together [no-test]\n",
-    ),
+    Linted {
+        words: LINT,
+        model: "A: 1, 2\nB: x, y\n[A] = 1;\n[A] = 2;\n",
+        status: 1,
+        out: "m: warning: the model has no test: constraint 1 (line 3), constraint 2 (line 4) forbid it together [no-test]\n",
+    },
     // a value in no test
-    found(
-        "A: 1, 2\nB: x, y\n[A] = 1;\n",
-        "m:1: warning: A = 2 is in no test: constraint 1 (line 3) forbids it [value-in-no-test]\n",
-    ),
+    Linted {
+        words: LINT,
+        model: "A: 1, 2\nB: x, y\n[A] = 1;\n",
+        status: 1,
+        out: "m:1: warning: A = 2 is in no test: constraint 1 (line 3) forbids it [value-in-no-test]\n",
+    },
     // a mistyped value takes a method of a web interface away
-    found(
-        "Method: GET, PATCH\nChunked: yes, no\nIF [Method] = \"PATCH\" THEN [Chunked] = \"true\";\n",
-        "m:1: warning: Method = PATCH is in no test: constraint 1 (line 3) forbids it [value-in-no-test]
+    Linted {
+        words: LINT,
+        model: "Method: GET, PATCH\nChunked: yes, no\nIF [Method] = \"PATCH\" THEN [Chunked] = \"true\";\n",
+        status: 1,
+        out: "m:1: warning: Method = PATCH is in no test: constraint 1 (line 3) forbids it [value-in-no-test]
 m:3: warning: \"true\" is no value of Chunked (yes, no); the comparison is never true [unknown-value]
 m:3: warning: the condition of constraint 1 is true of no test [premise-never-holds]\n",
-    ),
+    },
     // comparisons with what no value is
-    found(
-        "A: x, y\nB: 1, 2\n[A] <> \"z\" OR [B] = 1;\n",
-        "m:3: warning: \"z\" is no value of A (x, y); the comparison is always true [unknown-value]\n",
-    ),
-    found(
-        "A: cat, cow\nB: 1, 2\nIF [B] = 1 THEN NOT [A] LIKE \"d*\";\n",
-        "m:3: warning: no value of A (cat, cow) matches \"d*\"; the comparison is never true [unknown-value]\n",
-    ),
-    found(
-        "Color: red, green\nB: 1, 2\nIF [B] = 1 THEN [Color] IN {\"red\", \"grean\"};\n",
-        "m:3: warning: \"grean\" is no value of Color (red, green); no value equals this element; did you mean \"green\"? [unknown-value]\n",
-    ),
-    found(
-        "Size: 10, 100\nB: 1, 2\nIF [B] = 1 THEN [Size] <> 20.50 AND [Size] <> -7;\n",
-        "m:3: warning: 20.5 is no value of Size (10, 100); the comparison is always true [unknown-value]
+    Linted {
+        words: LINT,
+        model: "A: x, y\nB: 1, 2\n[A] <> \"z\" OR [B] = 1;\n",
+        status: 1,
+        out: "m:3: warning: \"z\" is no value of A (x, y); the comparison is always true [unknown-value]\n",
+    },
+    Linted {
+        words: LINT,
+        model: "A: cat, cow\nB: 1, 2\nIF [B] = 1 THEN NOT [A] LIKE \"d*\";\n",
+        status: 1,
+        out: "m:3: warning: no value of A (cat, cow) matches \"d*\"; the comparison is never true [unknown-value]\n",
+    },
+    Linted {
+        words: LINT,
+        model: "Color: red, green\nB: 1, 2\nIF [B] = 1 THEN [Color] IN {\"red\", \"grean\"};\n",
+        status: 1,
+        out: "m:3: warning: \"grean\" is no value of Color (red, green); no value equals this element; did you mean \"green\"? [unknown-value]\n",
+    },
+    Linted {
+        words: LINT,
+        model: "Size: 10, 100\nB: 1, 2\nIF [B] = 1 THEN [Size] <> 20.50 AND [Size] <> -7;\n",
+        status: 1,
+        out: "m:3: warning: 20.5 is no value of Size (10, 100); the comparison is always true [unknown-value]
 m:3: warning: -7 is no value of Size (10, 100); the comparison is always true [unknown-value]\n",
-    ),
+    },
     // other comparisons that are the same for every value
-    found(
-        "A: 1, 2\nB: 3, 4\nIF [A] < [B] THEN NOT [A] > 9;\n",
-        "m:3: warning: [A] < [B] is always true, whatever the values [constant-comparison]
+    Linted {
+        words: LINT,
+        model: "A: 1, 2\nB: 3, 4\nIF [A] < [B] THEN NOT [A] > 9;\n",
+        status: 1,
+        out: "m:3: warning: [A] < [B] is always true, whatever the values [constant-comparison]
 m:3: warning: [A] > 9 is never true, whatever the values [constant-comparison]\n",
-    ),
+    },
     // constraints that say nothing new are told where all is asked for
-    clean(SAID_TWICE),
+    Linted {
+        words: LINT,
+        model: SAID_TWICE,
+        status: 0,
+        out: "",
+    },
     Linted {
         words: &["lint", "--all", "m"],
         model: SAID_TWICE,
@@ -88,45 +101,61 @@ m:3: warning: [A] > 9 is never true, whatever the values [constant-comparison]\n
 m:4: warning: constraint 2 excludes no test that meets the other constraints [never-excludes]\n",
     },
     // a condition that is true of no test
-    found(
-        "A: 1, 2\nB: x, y\nNOT ([A] = 1 AND [B] = \"x\");\nIF [A] = 1 AND [B] = \"x\" THEN [A] = 2;\n",
-        "m:4: warning: the condition of constraint 2 is true of no test [premise-never-holds]\n",
-    ),
+    Linted {
+        words: LINT,
+        model: "A: 1, 2\nB: x, y\nNOT ([A] = 1 AND [B] = \"x\");\nIF [A] = 1 AND [B] = \"x\" THEN [A] = 2;\n",
+        status: 1,
+        out: "m:4: warning: the condition of constraint 2 is true of no test [premise-never-holds]\n",
+    },
     // two constraints on a line: by kinds
-    found(
-        "A: 1, 2\nB: x, y\n[A] <= 5; [B] <> \"z\";\n",
-        "m:3: warning: \"z\" is no value of B (x, y); the comparison is always true [unknown-value]
+    Linted {
+        words: LINT,
+        model: "A: 1, 2\nB: x, y\n[A] <= 5; [B] <> \"z\";\n",
+        status: 1,
+        out: "m:3: warning: \"z\" is no value of B (x, y); the comparison is always true [unknown-value]
 m:3: warning: [A] <= 5 is always true, whatever the values [constant-comparison]\n",
-    ),
+    },
 ];
 
 const HINTS: &[Linted<'static>] = &[
-    found(
-        "Age: 5, 20, ~-1\nB: x, y\n[Age] > 0;\n",
-        "m:1: warning: Age = ~-1 is in no test: constraint 1 (line 3) forbids it [value-in-no-test]
+    Linted {
+        words: LINT,
+        model: "Age: 5, 20, ~-1\nB: x, y\n[Age] > 0;\n",
+        status: 1,
+        out: "m:1: warning: Age = ~-1 is in no test: constraint 1 (line 3) forbids it [value-in-no-test]
 m:3: warning: constraint 1 keeps the invalid value ~-1 of Age from every test; IF ISPOSITIVE([Age]) THEN .. would let it pass [constraint-on-invalid]\n",
-    ),
-    found(
-        "A: 1, 2, 1\nB: x, y\n",
-        "m:1: warning: a name of a value stands here a second time, and is dropped [same-value-twice]\n",
-    ),
-    found(
-        "A: 1, 2\nIF A = 1 THEN B: 2, 3\n",
-        "m:2: warning: \"IF A = 1 THEN B\" is a parameter; the line of a constraint has names in brackets, as IF [Name] = .. [looks-like-constraint]\n",
-    ),
-    found(
-        "A: 1, 2 (0.5)\nB: x, y\n",
-        "m:1: warning: \"2 (0.5)\" is the whole name of a value; a weight is a whole number from 1 on [looks-like-weight]\n",
-    ),
-    found(
-        "A: 1\nB: x, y\n",
-        "m:1: warning: A has one value, which each test has [single-value]\n",
-    ),
-    found(
-        "A: iOS | iPadOS, Linux\nB: 1, 2\nIF [B] = 1 THEN [A] <> \"iPadOS\";\n",
-        "m:3: warning: \"iPadOS\" is no value of A (iOS, Linux); the comparison is always true [unknown-value]
+    },
+    Linted {
+        words: LINT,
+        model: "A: 1, 2, 1\nB: x, y\n",
+        status: 1,
+        out: "m:1: warning: a name of a value stands here a second time, and is dropped [same-value-twice]\n",
+    },
+    Linted {
+        words: LINT,
+        model: "A: 1, 2\nIF A = 1 THEN B: 2, 3\n",
+        status: 1,
+        out: "m:2: warning: \"IF A = 1 THEN B\" is a parameter; the line of a constraint has names in brackets, as IF [Name] = .. [looks-like-constraint]\n",
+    },
+    Linted {
+        words: LINT,
+        model: "A: 1, 2 (0.5)\nB: x, y\n",
+        status: 1,
+        out: "m:1: warning: \"2 (0.5)\" is the whole name of a value; a weight is a whole number from 1 on [looks-like-weight]\n",
+    },
+    Linted {
+        words: LINT,
+        model: "A: 1\nB: x, y\n",
+        status: 1,
+        out: "m:1: warning: A has one value, which each test has [single-value]\n",
+    },
+    Linted {
+        words: LINT,
+        model: "A: iOS | iPadOS, Linux\nB: 1, 2\nIF [B] = 1 THEN [A] <> \"iPadOS\";\n",
+        status: 1,
+        out: "m:3: warning: \"iPadOS\" is no value of A (iOS, Linux); the comparison is always true [unknown-value]
 m:3: warning: \"iPadOS\" is a later name of the value iOS of A; constraints see the first [unused-alias-in-constraint]\n",
-    ),
+    },
 ];
 
 const OBJECTS: &[Linted<'static>] = &[

@@ -15,7 +15,7 @@ use Rattle.jeldroft_args.specs.declared.format.Format.TheVariants as formats
 use Rattle.jeldroft_args.specs.declared.command.Command.{Command}
 use Rattle.jeldroft_args.specs.declared.command.Command.TheVariants as asks
 use Rattle.jeldroft_check.specs.believed.Runs as checks
-use Rattle.jeldroft_lint.specs.believed.Linting.{LintsAs}
+use Rattle.jeldroft_lint.specs.believed.Linting.{LintsAs, Prints}
 use Rattle.jeldroft_generate.specs.believed.Due as generates
 use Rattle.jeldroft_generate.specs.believed.Runs as generated
 use Rattle.jeldroft_shrink.specs.believed.Causes as shrinks
@@ -88,6 +88,7 @@ pub record KeepsShow (args : Show) (before after : Moment) (status : ℕ) : Type
 
 pub record KeepsLint (args : Lint) (before after : Moment) (status : ℕ) : Type 0 where
   pub lints : (held : Option (List ℕ)) → before.folder.files args.model.name ≡ Some held → LintsAs args held status
+  pub prints : (held : Option (List ℕ)) → before.folder.files args.model.name ≡ Some held → Prints args held before.out after.out status
   pub leaves : Leaves None before after status
 
 -- what is promised of a command
