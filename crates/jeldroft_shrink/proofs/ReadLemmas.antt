@@ -9,13 +9,14 @@ use Rattle.jeldroft_args.specs.declared.shrink.Shrink.{Shrink}
 use Rattle.jeldroft_files.specs.believed.Failures.{status_of_stop}
 use Rattle.jeldroft_files.specs.believed.Models.{StopsModel, opts_of}
 use Rattle.jeldroft_files.specs.Runs.{IsCalledFor}
+use Rattle.jeldroft_files.specs.declared.failure.Cause.TheVariants as causes
 use Rattle.jeldroft_files.specs.declared.failure.Failure.{Failure}
 use Rattle.outside_io.specs.believed.Files.{Files as NamedFiles}
 use Rattle.outside_io.specs.believed.Seen.{FolderSeen, KeepsFiles}
 use Rattle.row_forms.specs.declared.row_form.RowForm.{RowForm}
 use Rattle.tuple_index.specs.believed.PlanFault.{limit_passed}
 use Rattle.jeldroft_shrink.specs.declared.cause.ShrinkCause.{ShrinkCause}
-use Rattle.jeldroft_shrink.specs.declared.cause.ShrinkCause.TheVariants.{Files, NoTable}
+use Rattle.jeldroft_shrink.specs.declared.cause.ShrinkCause.TheVariants.{Files, NoTable, TooManyRows, Incomplete, Invalid}
 use Rattle.jeldroft_shrink.specs.declared.cause.ShrinkFailure.{ShrinkFailure}
 use Rattle.jeldroft_shrink.specs.believed.Causes.{status_of}
 use Rattle.jeldroft_shrink.specs.believed.Reading.{Lines, stops_by, tests_of}
@@ -102,6 +103,14 @@ stop_status (stops.CannotWrite kind) = inr refl
 stop_status stops.CannotWriteReport = inr refl
 stop_status (stops.TooMany quantity count) = inl refl
 stop_status (stops.TooLong kind) = inl refl
+
+pub ended : (cause : ShrinkCause) → (status_of cause ≡ 2) ⊎ (status_of cause ≡ 3)
+ended (Files (causes.Stop stop)) = stop_status stop
+ended (Files (causes.Comma fault)) = inl refl
+ended NoTable = inl refl
+ended (TooManyRows count) = inl refl
+ended (Incomplete line) = inl refl
+ended (Invalid line why) = inl refl
 
 module _ (args : Shrink) (held : HeldFiles) (form : RowForm) where
   refused_called : (cause : ShrinkCause) → form_of args.format ≡ Some form → AreRefused args held cause

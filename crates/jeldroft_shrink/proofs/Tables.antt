@@ -1,15 +1,14 @@
 -- What a table of fewer tests is worth.
 use Rattle.std.proofs.Common.{◌≡◌, ◌≤◌, ℕ, Bool, true, false, cond, List, length, Option, Some, None, Result, Ok, Err, inl, inr, refl, sym, ap, subst, ◌∙◌, All, arith}
-use Rattle.std.specs.Prelude.{nat_lt}
+use Rattle.std.specs.Prelude.{IfOk, nat_lt}
 use Rattle.std.proofs.lemmas.Bool.{ltb-false}
 use Rattle.std.proofs.lemmas.List.{length-map}
 use Rattle.std.proofs.lemmas.List.Elements.{All-weaker}
 use Rattle.std.proofs.lemmas.Simd.{map-map}
+use Rattle.outside_io.specs.believed.Files.{Files as NamedFiles}
 use Rattle.outside_io.specs.believed.Seen.{FolderSeen, SinkSeen, KeepsFiles}
-use Rattle.cov_model.specs.Fits.{FitsModel}
 use Rattle.cov_model.specs.believed.Sound.{IsSound, ModelView}
 use Rattle.cov_model.specs.believed.Valid.{is_row, is_valid}
-use Rattle.cov_model.proofs.RowLemmas.{FitsModel-is_row}
 use Rattle.definitions.specs.believed.RowReading.{Suite, read_rows}
 use Rattle.definitions.proofs.ReportRead.{reports_are_read}
 use Rattle.model_parse.specs.RawModels.{AreOpts}
@@ -28,33 +27,56 @@ use Rattle.jeldroft_files.proofs.Ending.{leaves, runs_as}
 use Rattle.jeldroft_files.proofs.Reading.{opts_fit}
 use Rattle.row_forms.specs.declared.row_form.RowForm.{RowForm}
 use Rattle.shared_marks.proofs.OwnTupleLemmas.{of_valid}
+use Rattle.shorter_suites.specs.Bounds.{least_needed}
 use Rattle.shorter_suites.specs.believed.Laws.{rows_of}
 use Rattle.shorter_suites.specs.believed.Shrinking.{IsShrunk, ServesToo}
 use Rattle.shorter_suites.proofs.Accepting.{accepted_stay}
+use Rattle.shorter_suites.proofs.Counting.{none_is_shorter}
 use Rattle.suite_forms.specs.believed.Suites.{suite_text}
 use Rattle.suite_forms.proofs.Tabbed.{tsv-is-report}
 use Rattle.jeldroft_files.specs.believed.Tables.{is_comma}
 use Rattle.jeldroft_shrink.specs.declared.cause.ShrinkCause.{ShrinkCause}
 use Rattle.jeldroft_shrink.specs.declared.cause.ShrinkCause.TheVariants.{TooManyRows}
 use Rattle.jeldroft_shrink.specs.believed.Causes.{status_of}
-use Rattle.jeldroft_shrink.specs.believed.Reading.{Lines, first_flaw, given_flaw, lines_of, most_given, table_in, tests_of, unless_flawed}
-use Rattle.jeldroft_shrink.specs.believed.Runs.{HeldFiles, IsDue, IsDueIn, IsShorterText, Spells, WritesShorter, form_of}
-use Rattle.jeldroft_shrink.specs.believed.Shorter.{IsShorterTable, IsTextOf}
+use Rattle.jeldroft_shrink.specs.believed.Reading.{Lines, first_flaw, given_flaw, lines_of, most_given, tests_of, unless_flawed}
+use Rattle.jeldroft_shrink.specs.believed.Runs.{HeldFiles, Holds, IsDue, IsDueIn, IsShorterText, Spells, WritesShorter, form_of}
+use Rattle.jeldroft_shrink.specs.believed.Shorter.{IsShorterTable}
+use Rattle.jeldroft_shrink.specs.Steps.{HasTable, IsAnswered, IsTableOf, answer_seen, end_status}
+use Rattle.jeldroft_shrink.specs.Told.{SumsUp, TellsLast, sum_line}
+use Rattle.jeldroft_shrink.specs.declared.answer.Answer.{Answer}
+use Rattle.jeldroft_shrink.specs.declared.answer.Table.{Table}
+use Rattle.jeldroft_shrink.specs.declared.cause.ShrinkFailure.{ShrinkFailure}
 use Rattle.jeldroft_shrink.proofs.DueOnce.{due_once}
+use Rattle.jeldroft_shrink.proofs.ReadLemmas.{ended}
 
 -- the rows of a file, with and without their lines
 pub rows_seen : (file : RowFile) → rows_of (seeds_seen file) ≡ suite_seen file
 rows_seen file = map-map (λ (line : ℕ × List (Option ℕ)). line.1) row_seen file.rows
 
--- valid rows fit the model
-pub valid_fit : (m : ModelView) (rows : List (List (Option ℕ))) → All (λ row. is_valid m row ≡ true) rows → All (FitsModel m) rows
-valid_fit m rows valid = All-weaker (λ row. is_valid m row ≡ true) (FitsModel m) (λ row holds. FitsModel-is_row m row (of_valid m row holds).complete) rows valid
+-- the table of a shorter suite of the rows of files
+pub table_is : (form : RowForm) (m : ModelView) (given seeds : RowFile) (were rows : List (List (Option ℕ))) (table : Table) → were ≡ suite_seen given
+    → IsShrunk m were (suite_seen seeds) rows → table.text.items ≡ suite_text form m rows → table.numbers.tests ≡ length rows
+    → table.numbers.given ≡ length were → table.numbers.least ≡ least_needed m were → IsTableOf form m (seeds_seen given) (seeds_seen seeds) table
+table_is form m given seeds were rows table copied shrunk text tests given_count least =
+    let same : were ≡ rows_of (seeds_seen given) = copied ∙ sym (rows_seen given) in
+    record {
+      rows = rows;
+      shrunk = subst (λ g. IsShrunk m g (rows_of (seeds_seen seeds)) rows) same (subst (λ s. IsShrunk m were s rows) (sym (rows_seen seeds)) shrunk);
+      text = text;
+      tests = tests;
+      were = given_count ∙ ap length same ∙ length-map (seeds_seen given) (λ line. line.1);
+      least = least ∙ ap (least_needed m) same;
+    }
 
--- the text of a shorter suite
-pub text_of : (form : RowForm) (m : ModelView) (given seeds : RowFile) (rows : List (List (Option ℕ))) (text : List ℕ)
-    → IsShrunk m (suite_seen given) (suite_seen seeds) rows → text ≡ suite_text form m rows → IsTextOf form m (seeds_seen given) (seeds_seen seeds) text
-text_of form m given seeds rows text shrunk is =
-    (rows, subst (λ g. IsShrunk m g (rows_of (seeds_seen seeds)) rows) (sym (rows_seen given)) (subst (λ s. IsShrunk m (suite_seen given) s rows) (sym (rows_seen seeds)) shrunk), is)
+-- it is what the files call for
+abbrev pub text_due : (args : Shrink) (held : HeldFiles) (form : RowForm) (m : ModelView) (table : Table) → HasTable args held form m table
+    → IsShorterText args held form m table.text.items
+text_due args held form m table has = record {
+  given = has.given;
+  seeds = has.seeds;
+  have = has.have;
+  is = (has.is.rows, has.is.shrunk, has.is.text);
+}
 
 -- ---- how many rows are given
 
@@ -98,7 +120,7 @@ loaded_sound opts (Some bytes) m notes are loaded = models_are_sound opts bytes 
 
 module _ (args : Shrink) (marks : AreMarks args.model.marks) (strength : IsStrength args.strength) (held : HeldFiles) where
   -- the table of a shorter suite was written
-  worth : (before after : Moment) (form : RowForm) (text : List ℕ) (m : ModelView) → form_of args.format ≡ Some form → Spells args held m
+  abbrev worth : (before after : Moment) (form : RowForm) (text : List ℕ) (m : ModelView) → form_of args.format ≡ Some form → Spells args held m
       → IsShorterText args held form m text → IsWritten args.output text before after → WritesShorter args held before after
   worth before after form text m formed spelled short written = record {
     form = form;
@@ -112,7 +134,7 @@ module _ (args : Shrink) (marks : AreMarks args.model.marks) (strength : IsStren
     shorter =
         shorter_table m form short.given short.seeds short.is.0
         (loaded_sound (opts_of args.model args.strength) held.model m spelled.0 (opts_fit args.model args.strength marks strength) spelled.1)
-        (tests_few m (lines_of m Suite (table_in (is_comma args.delimiter args.table) held.table)) short.given short.have.tests) short.is.1;
+        (tests_few m (lines_of m Suite (is_comma args.delimiter args.table) held.table) short.given short.have.tests) short.is.1;
     written = subst (λ t. IsWritten args.output t before after) short.is.2 written;
   }
 
@@ -154,3 +176,49 @@ not_one (Err status) output before after given ends one = elim ends.1 [
   | inl two ↦ omega (arith, one, ends.0, two)
   | inr three ↦ omega (arith, one, ends.0, three)
 ]
+
+-- ---- what is told of it
+
+written_since : (output : Option (List ℕ)) (text : List ℕ) (folder read : FolderSeen) (out : SinkSeen) (after : Moment)
+    → IsWritten output text (moment read out) after → IsWritten output text (moment folder out) after
+written_since (Some name) text folder read out after written = written
+written_since None text folder read out after written = written
+
+pub answered_at : (args : Shrink) (files : NamedFiles) (held : HeldFiles) → Holds files args held → (r : Result Answer ShrinkFailure)
+    → IfOk r (λ answer. (h : HeldFiles) → Holds files args h → IsAnswered args h answer.suite.table) → IfOk r (λ answer. IsAnswered args held answer.suite.table)
+answered_at args files held holds (Ok answer) are = are held holds
+answered_at args files held holds (Err failure) none = tt
+
+stop_told : (cause : ShrinkCause) → status_of cause ≡ 0 → ⊥
+stop_told cause zero = elim (ended cause) [
+  | inl two ↦ omega (arith, zero, two)
+  | inr three ↦ omega (arith, zero, three)
+]
+
+module _ (args : Shrink) (marks : AreMarks args.model.marks) (strength : IsStrength args.strength) (held : HeldFiles) (folder read : FolderSeen) (out told : SinkSeen)
+    (after : Moment) (output : Option (List ℕ)) (named : output ≡ args.output) where
+  sums_up : (answer : Answer) → IsAnswered args held answer.suite.table → Ends (Ok answer.suite.table.text.items) output (moment read out) after 0
+      → TellsLast (sum_line answer.suite.table.numbers.tests answer.suite.table.numbers.given answer.suite.table.numbers.least) told
+      → SumsUp args held (moment folder out) after told
+  sums_up answer answered ends told_last =
+      let table = answer.suite.table in
+      let has = answered.has in
+      let written = subst (λ o. IsWritten o table.text.items (moment folder out) after) named
+      (written_since output table.text.items folder read out after (ends.written refl)) in
+      record {
+        wrote = worth args marks strength held (moment folder out) after answered.form table.text.items answered.m answered.formed answered.spelled
+            (text_due args held answered.form answered.m table has) written;
+        sums = subst (λ n. TellsLast (sum_line (length has.is.rows) (length has.given) n) told) has.is.least
+            (subst (λ n. TellsLast (sum_line (length has.is.rows) n table.numbers.least) told) has.is.were
+            (subst (λ n. TellsLast (sum_line n table.numbers.given table.numbers.least) told) has.is.tests told_last));
+        least = λ rows valid serves. none_is_shorter answered.m (rows_of has.given) rows valid serves;
+      }
+
+  pub told_sum : (answer end : Result Answer ShrinkFailure) (status : ℕ) → IfOk answer (λ given. IsAnswered args held given.suite.table)
+      → Ends (answer_seen answer) output (moment read out) after (end_status end) → IfOk end (λ given. answer ≡ Ok given)
+      → IfOk end (λ given. TellsLast (sum_line given.suite.table.numbers.tests given.suite.table.numbers.given given.suite.table.numbers.least) told)
+      → status ≡ end_status end → status ≡ 0 → SumsUp args held (moment folder out) after told
+  told_sum answer (Err failure) status answered ends same last is zero = absurd (stop_told failure.cause (sym is ∙ zero))
+  told_sum answer (Ok given) status answered ends same last is zero =
+      sums_up given (subst (λ r. IfOk r (λ one. IsAnswered args held one.suite.table)) same answered)
+      (subst (λ r. Ends (answer_seen r) output (moment read out) after 0) same ends) last

@@ -1,2 +1,4 @@
+pub mod Lost
 pub mod Steps
+pub mod Told
 pub mod believed

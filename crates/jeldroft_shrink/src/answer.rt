@@ -5,13 +5,12 @@ ghost use Rattle.jeldroft_args.specs.Ranges.{AreMarks, IsStrength};
 ghost use Rattle.jeldroft_files.specs.Runs.{IsCalledFor};
 ghost use Rattle.outside_io.specs.believed.Seen.{KeepsFiles};
 ghost use Rattle.row_text.specs.RowFiles.{seeds_seen, suite_seen};
-ghost use Rattle.shorter_suites.specs.Bounds.{least_needed};
 ghost use Rattle.tuple_index.specs.Plan.{plan_of};
 ghost use Rattle.tuple_index.specs.believed.PlanFault.{limit_passed};
 ghost use Rattle.jeldroft_shrink.specs.believed.Causes.{status_of};
-ghost use Rattle.jeldroft_shrink.specs.believed.Runs.{HaveRows, HeldFiles, Holds, IsDue, IsShorterText, LackRows, form_of};
-ghost use Rattle.jeldroft_shrink.specs.believed.Shorter.{IsTextOf};
-ghost use Rattle.jeldroft_shrink.specs.Steps.{IsLimitOf, answer_seen};
+ghost use Rattle.jeldroft_shrink.specs.believed.Runs.{HaveRows, HeldFiles, Holds, IsDue, LackRows, form_of};
+ghost use Rattle.jeldroft_shrink.specs.Lost.{lost_lines};
+ghost use Rattle.jeldroft_shrink.specs.Steps.{HasTable, IsAnswered, IsLimitOf, IsTableOf, answer_seen};
 
 use crate::cause::{ShrinkCause, ShrinkFailure};
 use crate::given::read_given;
@@ -28,6 +27,7 @@ use row_forms::RowForm;
 use row_text::RowFile;
 use std::alloc::Global;
 use suite_forms::suite_text;
+use suite_shrink::copied_rows;
 use tuple_index::Plan;
 use value_text::NoMemory;
 
@@ -49,6 +49,8 @@ pub(crate) struct Table {
     pub text: Vec<u8>,
     /// Its numbers.
     pub numbers: Numbers,
+    /// The lines of the seed rows that no given row contains.
+    pub lost: Vec<u32>,
 }
 
 /// A table of fewer tests, and what is told of the files of rows.
@@ -60,8 +62,6 @@ pub(crate) struct Suite {
     pub table_notes: NoteList,
     /// Notes on the file of seed rows.
     pub seed_notes: NoteList,
-    /// The lines of the seed rows that no given row contains.
-    pub lost: Vec<u32>,
 }
 
 /// What `shrink` writes, and what it tells.
@@ -149,17 +149,23 @@ fn table_of(
     requires valid { All (λ row. is_valid model.now row ≡ true) (suite_seen tests.now.given) }
     requires fit { All (λ row. FitsModel model.now row.cells) tests.now.given.rows }
     requires partial { All (λ row. FitsModel model.now row.cells) tests.now.seeds.rows }
-    ensures text { IfOk result (λ table. IsTextOf form model.now (seeds_seen tests.now.given) (seeds_seen tests.now.seeds) table.text.items) }
-    ensures least { IfOk result (λ table. table.numbers.least ≡ least_needed model.now (suite_seen tests.now.given)) }
+    ensures table { IfOk result (IsTableOf form model.now (seeds_seen tests.now.given) (seeds_seen tests.now.seeds)) }
+    ensures lost { IfOk result (λ table. table.lost.items ≡ lost_lines (suite_seen tests.now.given) (seeds_seen tests.now.seeds)) }
 {
-    let fewer = fewer_tests(alloc, model, plan, &tests.given, &tests.seeds, args)?;
+    let given = copied_rows(alloc, model, &tests.given)?;
+    let fewer = fewer_tests(alloc, model, plan, &given, &tests.seeds, args)?;
+    let lost = lost_lines(alloc, &given, &tests.seeds)?;
     let text = suite_text(alloc, form, model, &fewer.rows)?;
     let numbers = Numbers {
-        given: tests.given.rows.len(),
+        given: given.len(),
         tests: fewer.rows.len(),
         least: fewer.least,
     };
-    Ok(Table { text, numbers })
+    Ok(Table {
+        text,
+        numbers,
+        lost,
+    })
 }
 
 // The table of fewer tests of a model, and what is told of the files of rows.
@@ -170,8 +176,8 @@ fn suite_of<'n, F: Folder>(
     model: &TestModel,
     files: &mut F,
 ) -> Result<Suite, ShrinkFailure<'n>>
-    ensures text { IfOk result (λ suite. (held : HeldFiles) → Holds (F.seen files.old).files args.now held
-        → IsShorterText args.now held form model.now suite.table.text.items) }
+    ensures table { IfOk result (λ suite. (held : HeldFiles) → Holds (F.seen files.old).files args.now held
+        → HasTable args.now held form model.now suite.table) }
     ensures stops { IfErr result (λ failure. (held : HeldFiles) → Holds (F.seen files.old).files args.now held
         → (status_of failure.cause ≡ 3) ⊎ LackRows args.now held model.now failure.cause) }
     ensures files { KeepsFiles (F.seen files.old) (F.seen files.new) }
@@ -179,13 +185,11 @@ fn suite_of<'n, F: Folder>(
     let plan = plan_of(alloc, model, args.model.name.as_str())?;
     let tests = read_tests(alloc, args, model, files)?;
     let table = table_of(alloc, args, form, model, &plan, &tests)?;
-    let lost = lost_lines(alloc, &tests.given, &tests.seeds)?;
     let Tests { given, seeds } = tests;
     Ok(Suite {
         table,
         table_notes: given.notes,
         seed_notes: seeds.notes,
-        lost,
     })
 }
 
@@ -201,6 +205,8 @@ fn answer_in<'n, F: Folder>(
     requires formed { form_of args.now.format ≡ Some form }
     ensures called { (held : HeldFiles) → Holds (F.seen files.old).files args.now held
         → IsCalledFor status_of (IsDue args.now held) (answer_seen result) }
+    ensures table { IfOk result (λ answer. (held : HeldFiles) → Holds (F.seen files.old).files args.now held
+        → IsAnswered args.now held answer.suite.table) }
     ensures files { KeepsFiles (F.seen files.old) (F.seen files.new) }
 {
     let (model, model_notes) = read_model_file(alloc, &args.model, args.strength, files)?;
@@ -223,6 +229,8 @@ pub(crate) fn make_answer<'n, F: Folder>(
     requires strength { IsStrength args.now.strength }
     ensures called { (held : HeldFiles) → Holds (F.seen files.old).files args.now held
         → IsCalledFor status_of (IsDue args.now held) (answer_seen result) }
+    ensures table { IfOk result (λ answer. (held : HeldFiles) → Holds (F.seen files.old).files args.now held
+        → IsAnswered args.now held answer.suite.table) }
     ensures files { KeepsFiles (F.seen files.old) (F.seen files.new) }
 {
     match form_of(args.format) {

@@ -4,8 +4,10 @@ ghost use Rattle.cov_model.specs.believed.Valid.{is_valid};
 ghost use Rattle.outside_io.specs.believed.Seen.{KeepsFiles};
 ghost use Rattle.row_text.specs.RowFiles.{row_seen, seeds_seen, suite_seen};
 ghost use Rattle.row_text.specs.Readings.{mode_seen};
+ghost use Rattle.definitions.specs.believed.RowReading.{read_rows};
 ghost use Rattle.jeldroft_files.specs.believed.Tables.{is_comma};
-ghost use Rattle.jeldroft_shrink.specs.believed.Reading.{first_flaw, given_flaw, given_in, lines_of, row_flaw, table_in, tests_of};
+ghost use Rattle.jeldroft_inputs.specs.believed.Inputs.{rows_or_cause};
+ghost use Rattle.jeldroft_shrink.specs.believed.Reading.{first_flaw, given_flaw, given_in, lines_of, lines_read, row_flaw, tests_of};
 ghost use Rattle.jeldroft_shrink.specs.Steps.{Gives};
 
 use crate::cause::{ShrinkCause, ShrinkFailure};
@@ -29,7 +31,7 @@ fn read_bytes<'n>(
     bytes: &[u8],
 ) -> Result<RowFile, ShrinkFailure<'n>>
     requires within { length bytes.now ≤ 2 ^ 28 }
-    ensures reads { Gives seeds_seen (lines_of model.now (mode_seen mode) (Ok bytes.now)) result }
+    ensures reads { Gives seeds_seen (lines_read (rows_or_cause (read_rows model.now (mode_seen mode) bytes.now))) result }
     ensures fit { IfOk result (λ file. All (λ row. FitsModel model.now row.cells) file.rows) }
 {
     match read_rows(alloc, bytes, model, mode) {
@@ -48,7 +50,7 @@ pub(crate) fn read_file<'n, F: Folder>(
     files: &mut F,
 ) -> Result<RowFile, ShrinkFailure<'n>>
     ensures reads { IfSome ((F.seen files.old).files name.now) (λ held.
-        Gives seeds_seen (lines_of model.now (mode_seen mode) (table_in (is_comma delimiter name.now) held)) result) }
+        Gives seeds_seen (lines_of model.now (mode_seen mode) (is_comma delimiter name.now) held) result) }
     ensures fit { IfOk result (λ file. All (λ row. FitsModel model.now row.cells) file.rows) }
     ensures files { KeepsFiles (F.seen files.old) (F.seen files.new) }
 {

@@ -1,10 +1,11 @@
-ghost use Rattle.std.specs.Prelude.{◌≡◌, ◌≢◌, option_map};
+ghost use Rattle.std.specs.Prelude.{◌≡◌, ◌≢◌, true, false, Ok, IfOk, option_map};
 ghost use Rattle.jeldroft_args.specs.Ranges.{AreMarks, IsStrength};
 ghost use Rattle.jeldroft_files.specs.Runs.{Ends};
 ghost use Rattle.jeldroft_files.specs.believed.Runs.{Leaves, RunsAs, moment};
 ghost use Rattle.jeldroft_shrink.specs.believed.Causes.{status_of};
 ghost use Rattle.jeldroft_shrink.specs.believed.Runs.{HeldFiles, Holds, IsDue, WritesShorter};
 ghost use Rattle.jeldroft_shrink.specs.Steps.{answer_seen, end_status};
+ghost use Rattle.jeldroft_shrink.specs.Told.{SumsUp, TellsLast, sum_line};
 
 use crate::answer::{Answer, make_answer};
 use crate::cause::ShrinkFailure;
@@ -31,8 +32,9 @@ fn write_answer<'n, F: Folder, O: Sink>(
     files: &mut F,
     out: &mut O,
 ) -> Result<Answer, ShrinkFailure<'n>>
-    ensures { Ends (answer_seen answer.entry) (option_map (λ name. name.now) output.entry)
+    ensures ends { Ends (answer_seen answer.entry) (option_map (λ name. name.now) output.entry)
         (moment (F.seen files.old) (O.seen out.old)) (moment (F.seen files.new) (O.seen out.new)) (end_status result) }
+    ensures same { IfOk result (λ given. answer.entry ≡ Ok given) }
 {
     let answer = answer?;
     write_text(answer.suite.table.text.as_slice(), output, files, out)?;
@@ -47,7 +49,9 @@ fn finish<E: Sink>(
     terminal: bool,
     diag: &mut E,
 ) -> u8
-    ensures { result ≡ end_status end.now }
+    ensures status { result ≡ end_status end.now }
+    ensures told { terminal ≡ true → args.now.quiet ≡ false → IfOk end.now (λ answer. TellsLast (sum_line answer.suite.table.numbers.tests
+        answer.suite.table.numbers.given answer.suite.table.numbers.least) (E.seen diag.new)) }
 {
     match end {
         Ok(answer) => {
@@ -84,6 +88,11 @@ pub fn run_shrink<F: Folder, O: Sink, E: Sink>(
     // Premise: the folder tells what the files held.
     ensures shorter { result ≡ 0 → (held : HeldFiles) → Holds (F.seen files.old).files args.now held →
         WritesShorter args.now held (moment (F.seen files.old) (O.seen out.old)) (moment (F.seen files.new) (O.seen out.new)) }
+
+    // On a terminal, unless silence is asked for, the last line that is told sums it up: the number of tests that were
+    // given, of those in their place, and one below which no tests have this coverage. Premise: as above.
+    ensures told { result ≡ 0 → terminal ≡ true → args.now.quiet ≡ false → (held : HeldFiles) → Holds (F.seen files.old).files args.now held →
+        SumsUp args.now held (moment (F.seen files.old) (O.seen out.old)) (moment (F.seen files.new) (O.seen out.new)) (E.seen diag.new) }
 
     // Each status has its cause, and each cause its status, unless memory or a device fails. Premise: as above.
     ensures runs { (held : HeldFiles) → Holds (F.seen files.old).files args.now held →

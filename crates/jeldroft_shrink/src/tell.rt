@@ -1,3 +1,7 @@
+ghost use Rattle.std.specs.Prelude.{◌≡◌, true, false};
+ghost use Rattle.outside_io.specs.believed.Puts.{Puts};
+ghost use Rattle.jeldroft_shrink.specs.Told.{TellsLast, met_line, open_line, sum_line};
+
 use crate::answer::{Answer, Numbers};
 use crate::cause::{ShrinkCause, ShrinkFailure};
 use cov_model::RowWhy;
@@ -5,7 +9,7 @@ use itoa::Buffer;
 use jeldroft_args::Shrink;
 use jeldroft_words::{tell_cause, tell_notes};
 use model_lex::Note;
-use outside_io::{Sink, put_pieces};
+use outside_io::{Sink, WriteAnswer, put_pieces};
 use std::alloc::Global;
 
 // Tells of a line of a file.
@@ -28,8 +32,11 @@ fn tell_seeds<E: Sink>(file: &str, notes: &[Note], lost: &[u32], diag: &mut E) {
     }
 }
 
-// Tells what is odd about the files.
+// Tells what is odd about the files, unless that isn't wanted.
 fn tell_warnings<E: Sink>(answer: &Answer, args: &Shrink, diag: &mut E) {
+    if args.no_warnings {
+        return;
+    }
     let suite = &answer.suite;
     tell_notes(
         args.model.name.as_str(),
@@ -41,53 +48,69 @@ fn tell_warnings<E: Sink>(answer: &Answer, args: &Shrink, diag: &mut E) {
         tell_seeds(
             seeds.as_str(),
             suite.seed_notes.as_slice(),
-            suite.lost.as_slice(),
+            suite.table.lost.as_slice(),
             diag,
         );
     }
+}
+
+// Sums up: how many tests there are in place of how many, where no suite is shorter.
+fn tell_met<E: Sink>(tests: usize, given: usize, diag: &mut E) -> WriteAnswer
+    ensures { Puts result (E.seen diag.old) (E.seen diag.new) (met_line tests given) }
+{
+    let mut tests_buffer = Buffer::new();
+    let mut given_buffer = Buffer::new();
+    put_pieces(
+        diag,
+        &[
+            tests_buffer.format(tests),
+            " tests in place of ",
+            given_buffer.format(given),
+            "; no suite with this coverage is shorter\n",
+        ],
+    )
 }
 
 // Sums up: how many tests there are in place of how many, and how many are needed at least.
-fn tell_numbers<E: Sink>(numbers: Numbers, diag: &mut E) {
-    let mut tests = Buffer::new();
-    let mut given = Buffer::new();
-    let mut least = Buffer::new();
-    let tests_text = tests.format(numbers.tests);
-    let given_text = given.format(numbers.given);
-    if numbers.tests as u64 == numbers.least {
-        let _ = put_pieces(
-            diag,
-            &[
-                tests_text,
-                " tests in place of ",
-                given_text,
-                "; no suite with this coverage is shorter\n",
-            ],
-        );
-        return;
-    }
-    let least_text = least.format(numbers.least);
-    let _ = put_pieces(
+fn tell_open<E: Sink>(tests: usize, given: usize, least: u64, diag: &mut E) -> WriteAnswer
+    ensures { Puts result (E.seen diag.old) (E.seen diag.new) (open_line tests given least) }
+{
+    let mut tests_buffer = Buffer::new();
+    let mut given_buffer = Buffer::new();
+    let mut least_buffer = Buffer::new();
+    put_pieces(
         diag,
         &[
-            tests_text,
+            tests_buffer.format(tests),
             " tests in place of ",
-            given_text,
+            given_buffer.format(given),
             "; at least ",
-            least_text,
+            least_buffer.format(least),
             " are needed for this coverage\n",
         ],
-    );
+    )
+}
+
+// Sums up.
+fn tell_numbers<E: Sink>(numbers: Numbers, diag: &mut E) -> WriteAnswer
+    ensures { Puts result (E.seen diag.old) (E.seen diag.new) (sum_line numbers.tests numbers.given numbers.least) }
+{
+    if numbers.tests as u64 == numbers.least {
+        return tell_met(numbers.tests, numbers.given, diag);
+    }
+    tell_open(numbers.tests, numbers.given, numbers.least, diag)
 }
 
 /// Tells what is odd about the files, and on a terminal how many tests there are now.
-pub(crate) fn tell_answer<E: Sink>(answer: &Answer, args: &Shrink, terminal: bool, diag: &mut E) {
-    if !args.no_warnings {
-        tell_warnings(answer, args, diag);
+pub(crate) fn tell_answer<E: Sink>(answer: &Answer, args: &Shrink, terminal: bool, diag: &mut E)
+    ensures { terminal ≡ true → args.now.quiet ≡ false → TellsLast (sum_line answer.now.suite.table.numbers.tests answer.now.suite.table.numbers.given
+        answer.now.suite.table.numbers.least) (E.seen diag.new) }
+{
+    tell_warnings(answer, args, diag);
+    if args.quiet || !terminal {
+        return;
     }
-    if terminal && !args.quiet {
-        tell_numbers(answer.suite.table.numbers, diag);
-    }
+    let _ = tell_numbers(answer.suite.table.numbers, diag);
 }
 
 // Tells that a row isn't valid.

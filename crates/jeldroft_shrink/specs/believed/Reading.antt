@@ -5,18 +5,13 @@ use Rattle.std.specs.Option.{option_or}
 use Rattle.cov_model.specs.believed.Sound.{ModelView}
 use Rattle.cov_model.specs.believed.RowFault.{row_fault}
 use Rattle.cov_model.specs.believed.Rows.{is_complete}
-use Rattle.definitions.specs.believed.Limits.{RowFile, most_bytes}
-use Rattle.definitions.specs.believed.RowReading as readings
 use Rattle.definitions.specs.believed.RowReading.{RowMode, RowReading, Seed, Suite, read_rows}
-use Rattle.comma_rows.specs.declared.comma_fault.CommaFault.{CommaFault}
-use Rattle.row_text.specs.declared.rows_fault.RowsFault.TheVariants as told_faults
-use Rattle.command_line.specs.declared.files.FileKind.TheVariants as kinds
-use Rattle.command_line.specs.declared.stop.Quantity.TheVariants as quantities
 use Rattle.command_line.specs.declared.stop.Stop.{Stop}
-use Rattle.command_line.specs.declared.stop.Stop.TheVariants.{BadRows, CannotRead, TooLong, TooMany}
 use Rattle.jeldroft_args.specs.declared.delimiter.Delimiter.{Delimiter}
-use Rattle.jeldroft_files.specs.believed.Tables.{as_tabs, is_comma}
+use Rattle.jeldroft_files.specs.believed.Tables.{is_comma}
+use Rattle.jeldroft_files.specs.declared.failure.Cause.{Cause}
 use Rattle.jeldroft_files.specs.declared.failure.Cause.TheVariants as causes
+use Rattle.jeldroft_inputs.specs.believed.Inputs.{and_then, rows_or_cause, table_of}
 use Rattle.jeldroft_shrink.specs.declared.cause.ShrinkCause.{ShrinkCause}
 use Rattle.jeldroft_shrink.specs.declared.cause.ShrinkCause.TheVariants.{Files, TooManyRows, Incomplete, Invalid}
 
@@ -27,33 +22,14 @@ Lines = List (ℕ × List (Option ℕ))
 abbrev pub stops_by : Stop → ShrinkCause
 stops_by stop = Files (causes.Stop stop)
 
--- the bytes of a file of rows as tabs part its cells, or why there are none: there is no file, it has more bytes than it
--- may, or it is no text of comma-separated values
-abbrev pub parted : Result (List ℕ) CommaFault → Result (List ℕ) ShrinkCause
-parted (Ok bytes) = Ok bytes
-parted (Err fault) = Err (Files (causes.Comma fault))
-
-abbrev pub table_in : Bool → Option (List ℕ) → Result (List ℕ) ShrinkCause
-table_in comma None = Err (stops_by (CannotRead kinds.Rows))
-table_in comma (Some bytes) =
-    if nat_lt (most_bytes RowFile) (length bytes) then Err (stops_by (TooLong kinds.Rows)) else parted (as_tabs comma bytes)
-
--- the rows of a reading, or why there is none
-abbrev pub stop_of_rows : readings.RowsFault → Stop
-stop_of_rows readings.NoHeader = BadRows told_faults.NoHeader
-stop_of_rows (readings.Twice line) = BadRows (told_faults.Twice line)
-stop_of_rows (readings.Missing p) = BadRows (told_faults.Missing p)
-stop_of_rows (readings.TooManyRows count) = TooMany quantities.Rows count
-stop_of_rows (readings.Width line) = BadRows (told_faults.Width line)
-
-abbrev pub lines_read : Result RowReading readings.RowsFault → Result Lines ShrinkCause
+-- the rows of a reading, or the cause for none
+abbrev pub lines_read : Result RowReading Cause → Result Lines ShrinkCause
 lines_read (Ok reading) = Ok reading.rows
-lines_read (Err fault) = Err (stops_by (stop_of_rows fault))
+lines_read (Err cause) = Err (Files cause)
 
--- the same of the bytes of a file, if there are any
-abbrev pub lines_of : ModelView → RowMode → Result (List ℕ) ShrinkCause → Result Lines ShrinkCause
-lines_of m mode (Ok bytes) = lines_read (read_rows m mode bytes)
-lines_of m mode (Err cause) = Err cause
+-- the rows of a file of rows
+abbrev pub lines_of : ModelView → RowMode → Bool → Option (List ℕ) → Result Lines ShrinkCause
+lines_of m mode comma held = lines_read (and_then (table_of comma held) (λ bytes. rows_or_cause (read_rows m mode bytes)))
 
 -- what is wrong with a row: it leaves a parameter without a value, or it isn't valid
 abbrev pub row_flaw : ModelView → ℕ × List (Option ℕ) → Option ShrinkCause
@@ -82,9 +58,9 @@ tests_of m (Err cause) = Err cause
 
 -- the rows of the table: they are tests
 abbrev pub given_in : ModelView → Bool → Option (List ℕ) → Result Lines ShrinkCause
-given_in m comma held = tests_of m (lines_of m Suite (table_in comma held))
+given_in m comma held = tests_of m (lines_of m Suite comma held)
 
 -- the seed rows, where a file of them is named
 abbrev pub seeds_in : ModelView → Option Delimiter → Option (List ℕ) → Option (List ℕ) → Result Lines ShrinkCause
 seeds_in m delimiter None held = Ok []
-seeds_in m delimiter (Some name) held = lines_of m Seed (table_in (is_comma delimiter name) held)
+seeds_in m delimiter (Some name) held = lines_of m Seed (is_comma delimiter name) held

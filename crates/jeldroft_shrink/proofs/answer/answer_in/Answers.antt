@@ -2,6 +2,7 @@ use Rattle.std.proofs.Common.{◌∙◌}
 use Rattle.jeldroft_files.specs.believed.Models.{StopsModel, opts_of}
 use Rattle.command_line.specs.believed.Loading.{IsLoaded}
 use Rattle.jeldroft_shrink.proofs.ReadLemmas.{due_from, holds_after, model_stops, suite_stops, told}
+use Rattle.jeldroft_shrink.proofs.Tables.{text_due}
 use Rattle.jeldroft_shrink.proofs.answer.answer_in.Goals as goal
 
 pub returns-in_err-model-clause-called : goal.returns-in_err-model-clause-called
@@ -30,7 +31,7 @@ returns-clause-called g c = λ held holds.
         c.in_ok-model.model_notes,
         told (λ h. IsLoaded (opts_of args.model args.strength) h c.in_ok-model.model c.in_ok-model.model_notes) holds.model c.in_ok-model.ensures.model.1,
       ),
-      c.in_ok-suite.ensures.text held later,
+      text_due args held c.args.form c.in_ok-model.model c.in_ok-suite.suite.table (c.in_ok-suite.ensures.table held later),
     )
 
 pub returns-in_err-suite-clause-files : goal.returns-in_err-suite-clause-files
@@ -38,3 +39,18 @@ returns-in_err-suite-clause-files g c = λ name. c.suite_of.ensures.files name �
 
 pub returns-clause-files : goal.returns-clause-files
 returns-clause-files g c = λ name. c.suite_of.ensures.files name ∙ c.read_model_file.ensures.files name
+
+pub returns-clause-table : goal.returns-clause-table
+returns-clause-table g c = λ held holds.
+    let args = c.args.args.now in
+    let later = holds_after (g.F.Folder.seen c.args.files.now) (g.F.Folder.seen c.read_model_file.new.files) args held c.read_model_file.ensures.files holds in
+    record {
+      form = c.args.form;
+      formed = c.requires.formed;
+      m = c.in_ok-model.model;
+      spelled = (
+        c.in_ok-model.model_notes,
+        told (λ h. IsLoaded (opts_of args.model args.strength) h c.in_ok-model.model c.in_ok-model.model_notes) holds.model c.in_ok-model.ensures.model.1,
+      );
+      has = c.in_ok-suite.ensures.table held later;
+    }

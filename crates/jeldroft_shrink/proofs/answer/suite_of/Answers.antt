@@ -7,12 +7,12 @@ use Rattle.jeldroft_shrink.specs.believed.Runs.{HeldFiles, Holds, LackRows}
 use Rattle.jeldroft_shrink.proofs.ReadLemmas.{lack_limit, lack_memory}
 use Rattle.jeldroft_shrink.proofs.answer.suite_of.Goals as goal
 
-pub returns-clause-text : goal.returns-clause-text
-returns-clause-text g c = λ held holds. record {
+pub returns-clause-table : goal.returns-clause-table
+returns-clause-table g c = λ held holds. record {
   given = seeds_seen c.in_ok-tests.tests.given;
   seeds = seeds_seen c.in_ok-tests.tests.seeds;
   have = c.in_ok-tests.ensures.tests held holds c.in_ok-plan.ensures.within;
-  is = c.in_ok-table.ensures.text;
+  is = c.in_ok-table.ensures.table;
 }
 
 pub returns-in_err-plan-clause-stops : goal.returns-in_err-plan-clause-stops
@@ -33,7 +33,3 @@ returns-in_err-tests-clause-stops g c =
 pub returns-in_err-table-clause-stops : goal.returns-in_err-table-clause-stops
 returns-in_err-table-clause-stops g c =
     lack_memory c.args.args.now (g.F.Folder.seen c.args.files.now).files c.args.model.now c.from_residual-in_err-table.result c.from_residual-in_err-table.ensures.1
-
-pub returns-in_err-lost-clause-stops : goal.returns-in_err-lost-clause-stops
-returns-in_err-lost-clause-stops g c =
-    lack_memory c.args.args.now (g.F.Folder.seen c.args.files.now).files c.args.model.now c.from_residual-in_err-lost.result c.from_residual-in_err-lost.ensures.1
