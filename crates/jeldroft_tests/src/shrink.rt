@@ -1,8 +1,15 @@
 //! Fewer tests: whole runs of `shrink`, and of `generate --shrink`.
 
-use crate::case::{Case, MODEL, PROOF, TABLE, ends_as};
+use crate::case::{Case, MODEL, PROOF, TABLE, ends_as, ends_with};
+use memory_io::MemSink;
+use std::alloc::Global;
+use std::thread::Threads;
+use value_text::NoMemory;
 
 const FULL: &str = "A: 1, 2\nB: x, y\n";
+
+// Three parameters of three values, which are the same.
+const CUBE: &str = "A: 1, 2, 3\nB: 1, 2, 3\nC: 1, 2, 3\n";
 
 const PAIRS: &str = "A\tB\n1\tx\n1\ty\n2\tx\n2\ty\n";
 
@@ -72,6 +79,18 @@ const CASES: &[Case<'static>] = &[
         told: "s:3: warning: no given test contains this row\n",
         left: &[],
     },
+    // tests with an invalid value are for themselves: nothing needs the last of them
+    Case {
+        words: &["shrink", "m", "t", "--rounds", "0"],
+        files: &[
+            ("m", "A: 1, ~n\nB: x, y\nC: u, v\n"),
+            ("t", "A\tB\tC\n~n\tx\tu\n1\tx\tv\n~n\ty\tv\n~n\tx\tv\n"),
+        ],
+        status: 0,
+        out: "A\tB\tC\n~n\tx\tu\n1\tx\tv\n~n\ty\tv\n",
+        told: "",
+        left: &[],
+    },
     // while a table is generated: there are as many tests as any suite needs
     Case {
         words: &["generate", "m", "--shrink", "-o", "t", "-p", "p"],
@@ -88,4 +107,47 @@ fn makes_fewer_tests(rt: HostRuntime) {
     for (number, case) in CASES.iter().enumerate() {
         assert!(rt; ends_as(&rt, rt.alloc(), case) == Ok(true), "case {number}");
     }
+}
+
+// A table of so many tests of the cube, of which 27 aren't repeated.
+fn table_of(alloc: Global, tests: usize) -> Result<String, NoMemory> {
+    let mut text = String::from_str(alloc, "A\tB\tC\n")?;
+    for test in 0..tests {
+        text.push_str(["1\t", "2\t", "3\t"][test % 3])?;
+        text.push_str(["1\t", "2\t", "3\t"][test / 3 % 3])?;
+        text.push_str(["1\n", "2\n", "3\n"][test / 9 % 3])?;
+    }
+    Ok(text)
+}
+
+// Whether a run on a table of so many tests ends so, and whether it prints the same once more.
+fn ends_twice<R: Threads + Sync>(
+    rt: &R,
+    alloc: Global,
+    tests: usize,
+    status: u8,
+    told: &str,
+) -> Result<bool, NoMemory> {
+    let text = table_of(alloc, tests)?;
+    let case = Case {
+        words: &["shrink", "m", "t", "--spread"],
+        files: &[("m", CUBE), ("t", text.as_str())],
+        status,
+        out: "",
+        told,
+        left: &[],
+    };
+    let mut first = MemSink::up_to(alloc, 1 << 12)?;
+    let mut second = MemSink::up_to(alloc, 1 << 12)?;
+    let ended = ends_with(rt, alloc, &case, &mut first)?;
+    let again = ends_with(rt, alloc, &case, &mut second)?;
+    let is_printed = first.bytes().len() > 0;
+    Ok(ended && again && is_printed == (status == 0) && first.bytes() == second.bytes())
+}
+
+#[test]
+fn takes_as_many_tests_as_it_may(rt: HostRuntime) {
+    let refusal = "t: error: 65534 tests, and at most 65533 can be made fewer\n";
+    assert!(rt; ends_twice(&rt, rt.alloc(), 65_533, 0, "") == Ok(true));
+    assert!(rt; ends_twice(&rt, rt.alloc(), 65_534, 2, refusal) == Ok(true));
 }
