@@ -1,3 +1,6 @@
 pub mod Parts
 pub mod Seen
-pub mod believed
+pub mod Curves
+pub mod Omitted
+pub mod Pages
+pub mod Tests

@@ -5,10 +5,10 @@ use Rattle.cov_model.specs.believed.Sound.{ModelView}
 use Rattle.definitions.specs.believed.ProofText as proofs
 use Rattle.html_page.specs.Pieces.{pieces_text}
 use Rattle.html_page.specs.Trees.{Content, content_text}
-use Rattle.model_page.specs.believed.Curves.{picture_of}
-use Rattle.model_page.specs.believed.Omitted.{omitted}
-use Rattle.model_page.specs.believed.Pages.{PageWords, most_shown}
-use Rattle.model_page.specs.believed.Tests.{param_names, test_of}
+use Rattle.model_page.specs.Curves.{picture_of}
+use Rattle.model_page.specs.Omitted.{omitted}
+use Rattle.model_page.specs.Pages.{PageWords, most_shown}
+use Rattle.model_page.specs.Tests.{param_names, test_of}
 use Rattle.suite_page.specs.Document.{left_out, opening}
 use Rattle.suite_page.specs.LeftOut.{groups_of}
 use Rattle.suite_page.specs.Pictures.{picture_tree}

@@ -7,7 +7,7 @@ use Rattle.suite_page.specs.Pictures.{picture_tree}
 use Rattle.suite_page.specs.Verdicts.{numbers_tree, verdict_tree}
 use Rattle.suite_page.proofs.Wholes.{three, two_behind}
 use Rattle.model_page.specs.Seen.{words_seen}
-use Rattle.model_page.specs.believed.Curves.{picture_of}
+use Rattle.model_page.specs.Curves.{picture_of}
 use Rattle.model_page.proofs.page.put_head.Goals as goal
 
 pub returns : goal.returns

@@ -7,7 +7,7 @@ use Rattle.suite_page.specs.Document.{closing}
 use Rattle.suite_page.proofs.Wholes.{three, two_behind, trees_whole}
 use Rattle.model_page.specs.Parts.{head_text, omitted_part, tests_part}
 use Rattle.model_page.specs.Seen.{words_seen}
-use Rattle.model_page.specs.believed.Pages.{suite_of}
+use Rattle.model_page.specs.Pages.{suite_of}
 use Rattle.model_page.proofs.page.write_page.Goals as goal
 
 pub returns : goal.returns

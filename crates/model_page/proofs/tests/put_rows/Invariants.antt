@@ -3,7 +3,7 @@ use Rattle.std.specs.List.{flat_map, range_with_len}
 use Rattle.html_page.specs.Trees.{content_text}
 use Rattle.row_text.specs.RowFiles.{suite_seen}
 use Rattle.suite_page.specs.TestsTable.{test_tree}
-use Rattle.model_page.specs.believed.Tests.{test_of}
+use Rattle.model_page.specs.Tests.{test_of}
 use Rattle.model_page.proofs.tests.put_rows.Given as goal
 
 -- the rows before this one

@@ -10,8 +10,8 @@ use Rattle.row_text.specs.declared.row_file.FileRow.{FileRow}
 use Rattle.suite_page.specs.TestsTable.{test_tree, tests_closing, tests_opening}
 use Rattle.suite_page.proofs.Wholes.{tests_whole, three}
 use Rattle.model_page.specs.Parts.{tests_part}
-use Rattle.model_page.specs.believed.Pages.{most_shown}
-use Rattle.model_page.specs.believed.Tests.{param_names, test_of}
+use Rattle.model_page.specs.Pages.{most_shown}
+use Rattle.model_page.specs.Tests.{param_names, test_of}
 use Rattle.model_page.proofs.tests.put_tests.Goals as goal
 
 pub returns : goal.returns

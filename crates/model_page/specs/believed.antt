@@ -1,4 +1,0 @@
-pub mod Curves
-pub mod Omitted
-pub mod Pages
-pub mod Tests
