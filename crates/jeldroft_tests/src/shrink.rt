@@ -146,8 +146,6 @@ fn ends_twice<R: Threads + Sync>(
 }
 
 #[test]
-fn takes_as_many_tests_as_it_may(rt: HostRuntime) {
-    let refusal = "t: error: 65534 tests, and at most 65533 can be made fewer\n";
-    assert!(rt; ends_twice(&rt, rt.alloc(), 65_533, 0, "") == Ok(true));
-    assert!(rt; ends_twice(&rt, rt.alloc(), 65_534, 2, refusal) == Ok(true));
+fn prints_the_same_again(rt: HostRuntime) {
+    assert!(rt; ends_twice(&rt, rt.alloc(), 270, 0, "") == Ok(true));
 }
