@@ -8,8 +8,17 @@ use value_text::NoMemory;
 pub(crate) struct BestRows {
     digits: Vec<Digit>,
     origins: Vec<u32>,
+    params: usize,
     room: usize,
     count: usize,
+}
+
+// Copies so many items from a place on to the same place.
+fn copy_part<T: Copy>(from: &[T], to: &mut Vec<T>, begin: usize, count: usize) {
+    let end = begin.saturating_add(count);
+    if end <= from.len() && end <= to.len() {
+        to.as_mut_slice()[begin..end].copy_from_slice(&from[begin..end]);
+    }
 }
 
 impl BestRows {
@@ -18,18 +27,20 @@ impl BestRows {
         Ok(BestRows {
             digits: vec![in alloc; 0; params.saturating_mul(room)]?,
             origins: vec![in alloc; 0; room]?,
+            params,
             room,
             count: 0,
         })
     }
 
-    // Becomes these rows.
+    // Becomes these rows: so many, where there is room for more.
     pub(crate) fn copy_from(&mut self, digits: &[Digit], origins: &[u32], count: usize) {
-        if digits.len() == self.digits.len() && origins.len() == self.origins.len() {
-            self.digits.as_mut_slice().copy_from_slice(digits);
-            self.origins.as_mut_slice().copy_from_slice(origins);
-            self.count = count;
+        for p in 0..self.params {
+            let begin = p.wrapping_mul(self.room);
+            copy_part(digits, &mut self.digits, begin, count);
         }
+        copy_part(origins, &mut self.origins, 0, count);
+        self.count = count;
     }
 
     // The number of rows.

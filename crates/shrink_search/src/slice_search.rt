@@ -99,6 +99,7 @@ impl SliceSearch<'_, '_> {
             if !self.cover(rounds, words, completer)? {
                 return Ok(());
             }
+            self.remove_spare(least)?;
             self.suite.keep(best);
             if self.suite.count() <= least as usize {
                 return Ok(());
@@ -108,6 +109,24 @@ impl SliceSearch<'_, '_> {
             };
             self.suite.remove(row)?;
             self.last = None;
+        }
+        Ok(())
+    }
+
+    // Takes the rows away that nothing needs, as long as there are more rows than have to be. Rows only come to be needed by
+    // that, so one pass finds them all.
+    fn remove_spare(&mut self, least: u32) -> Result<(), NoMemory> {
+        let mut row = 0;
+        for _ in 0..self.suite.count() {
+            if self.suite.count() <= least as usize {
+                return Ok(());
+            }
+            if self.suite.is_spare(row) {
+                self.suite.remove(row)?;
+                self.last = None;
+            } else {
+                row = row.saturating_add(1);
+            }
         }
         Ok(())
     }

@@ -361,6 +361,11 @@ impl<'t> Suite<'t> {
         Ok(())
     }
 
+    // Whether a row alone serves no tuple, and none of its values has to stay.
+    pub(crate) fn is_spare(&self, row: usize) -> bool {
+        self.alone.get(row).copied() == Some(0) && self.held.get(row).copied() == Some(false)
+    }
+
     // The first of the rows of which the fewest tuples are served by no other row; none where each row has a value
     // that has to stay.
     pub(crate) fn least_needed(&self) -> Option<usize> {
