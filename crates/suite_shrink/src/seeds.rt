@@ -43,7 +43,8 @@ pub fn is_contained(rows: &Rows, part: &[Option<ValueNo>]) -> bool
 fn stays(given: &Rows, rows: &Rows, seed: &[Option<ValueNo>]) -> bool
     ensures { result ≡ true → Stays given.now rows.now seed.now }
 {
-    !is_contained(given, seed) || is_contained(rows, seed)
+    // these rows are fewer, and contain most seed rows
+    is_contained(rows, seed) || !is_contained(given, seed)
 }
 
 // Whether each seed row that a given row contains is contained in one of the rows.
