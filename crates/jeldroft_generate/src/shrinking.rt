@@ -1,4 +1,4 @@
-ghost use Rattle.std.specs.Prelude.{◌≡◌, ◌∷◌, ◌++◌, [], true, All, IfOk, OnOk};
+ghost use Rattle.std.specs.Prelude.{◌≡◌, true, All, IfOk};
 ghost use Rattle.cov_model.specs.Fits.{FitsModel};
 ghost use Rattle.cov_model.specs.believed.Valid.{is_valid};
 ghost use Rattle.row_text.specs.RowFiles.{suite_seen};
@@ -11,9 +11,9 @@ use crate::fewer::Fewer;
 use crate::tests::Tests;
 use cov_model::{Prefs, Rows, TestModel};
 use jeldroft_args::{Generate, Shrinking};
-use row_text::{FileRow, RowFile};
+use row_text::RowFile;
 use std::alloc::Global;
-use suite_shrink::{PlannedModel, ShrinkOpts, shrink};
+use suite_shrink::{PlannedModel, ShrinkOpts, copied_rows, shrink};
 use tuple_index::Plan;
 use value_text::NoMemory;
 
@@ -25,29 +25,6 @@ fn opts_of(shrinking: Shrinking, budget: Option<u64>) -> ShrinkOpts {
         effort: effort_of(budget),
         spread: shrinking.spread,
     }
-}
-
-// Adds the values that a seed row gives.
-fn add_seed(model: &TestModel, seed: &FileRow, rows: &mut Rows) -> Result<(), NoMemory>
-    requires seed { FitsModel model.now seed.now.cells }
-    requires rows { All (FitsModel model.now) rows.old }
-    ensures rows { OnOk result (rows.new ≡ rows.old ++ seed.now.cells ∷ []) }
-    ensures fit { OnOk result (All (FitsModel model.now) rows.new) }
-{
-    let _ = model;
-    rows.push(seed.cells.as_slice())
-}
-
-// The values that the seed rows give.
-fn seed_rows(alloc: Global, model: &TestModel, seeds: &RowFile) -> Result<Rows, NoMemory>
-    requires { All (λ seed. FitsModel model.now seed.cells) seeds.now.rows }
-    ensures { IfOk result (λ rows. rows ≡ suite_seen seeds.now) }
-{
-    let mut rows = Rows::new(alloc);
-    for seed in seeds.rows.as_slice() {
-        add_seed(model, seed, &mut rows)?;
-    }
-    Ok(rows)
 }
 
 // Fewer tests in place of those that grew, in which the seed rows stay.
@@ -72,7 +49,7 @@ fn fewer_tests(
         prefs: &prefs,
         plan,
     };
-    let seeds = seed_rows(alloc, model, seeds)?;
+    let seeds = copied_rows(alloc, model, seeds)?;
     let opts = opts_of(shrinking, args.budget);
     let shrunk = shrink(alloc, &of, grown, &seeds, &opts)?;
     let fewer = Fewer {
