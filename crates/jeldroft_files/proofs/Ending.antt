@@ -7,7 +7,7 @@ use Rattle.jeldroft_files.specs.believed.Runs.{IsWritten, KeepsFile, Leaves, Mom
 
 -- ---- files that were only read before
 
-written_since : (output : Option (List ℕ)) (text : List ℕ) (folder read : FolderSeen) (out : SinkSeen) (after : Moment)
+pub written_since : (output : Option (List ℕ)) (text : List ℕ) (folder read : FolderSeen) (out : SinkSeen) (after : Moment)
     → IsWritten output text (moment read out) after → IsWritten output text (moment folder out) after
 written_since (Some name) text folder read out after written = written
 written_since None text folder read out after written = written
