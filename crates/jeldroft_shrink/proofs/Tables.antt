@@ -23,7 +23,7 @@ use Rattle.jeldroft_args.specs.declared.shrink.Shrink.{Shrink}
 use Rattle.jeldroft_files.specs.believed.Models.{opts_of}
 use Rattle.jeldroft_files.specs.Runs.{Ends, IsCalledFor}
 use Rattle.jeldroft_files.specs.believed.Runs.{IsWritten, Leaves, Moment, RunsAs, moment}
-use Rattle.jeldroft_files.proofs.Ending.{leaves, runs_as}
+use Rattle.jeldroft_files.proofs.Ending.{leaves, runs_as, written_since}
 use Rattle.jeldroft_files.proofs.Reading.{opts_fit}
 use Rattle.row_forms.specs.declared.row_form.RowForm.{RowForm}
 use Rattle.shared_marks.proofs.OwnTupleLemmas.{of_valid}
@@ -53,20 +53,19 @@ use Rattle.jeldroft_shrink.proofs.ReadLemmas.{ended}
 pub rows_seen : (file : RowFile) → rows_of (seeds_seen file) ≡ suite_seen file
 rows_seen file = map-map (λ (line : ℕ × List (Option ℕ)). line.1) row_seen file.rows
 
--- the table of a shorter suite of the rows of files
-pub table_is : (form : RowForm) (m : ModelView) (given seeds : RowFile) (were rows : List (List (Option ℕ))) (table : Table) → were ≡ suite_seen given
+-- the table of a shorter suite of rows, which are those of lines
+pub table_is : (form : RowForm) (m : ModelView) (seeds : RowFile) (were rows : List (List (Option ℕ))) (table : Table)
     → IsShrunk m were (suite_seen seeds) rows → table.text.items ≡ suite_text form m rows → table.numbers.tests ≡ length rows
-    → table.numbers.given ≡ length were → table.numbers.least ≡ least_needed m were → IsTableOf form m (seeds_seen given) (seeds_seen seeds) table
-table_is form m given seeds were rows table copied shrunk text tests given_count least =
-    let same : were ≡ rows_of (seeds_seen given) = copied ∙ sym (rows_seen given) in
-    record {
-      rows = rows;
-      shrunk = subst (λ g. IsShrunk m g (rows_of (seeds_seen seeds)) rows) same (subst (λ s. IsShrunk m were s rows) (sym (rows_seen seeds)) shrunk);
-      text = text;
-      tests = tests;
-      were = given_count ∙ ap length same ∙ length-map (seeds_seen given) (λ line. line.1);
-      least = least ∙ ap (least_needed m) same;
-    }
+    → table.numbers.given ≡ length were → table.numbers.least ≡ least_needed m were
+    → (lines : Lines) → were ≡ rows_of lines → IsTableOf form m lines (seeds_seen seeds) table
+table_is form m seeds were rows table shrunk text tests count least lines same = record {
+  rows = rows;
+  shrunk = subst (λ g. IsShrunk m g (rows_of (seeds_seen seeds)) rows) same (subst (λ s. IsShrunk m were s rows) (sym (rows_seen seeds)) shrunk);
+  text = text;
+  tests = tests;
+  were = count ∙ ap length same ∙ length-map lines (λ line. line.1);
+  least = least ∙ ap (least_needed m) same;
+}
 
 -- it is what the files call for
 abbrev pub text_due : (args : Shrink) (held : HeldFiles) (form : RowForm) (m : ModelView) (table : Table) → HasTable args held form m table
@@ -178,11 +177,6 @@ not_one (Err status) output before after given ends one = elim ends.1 [
 ]
 
 -- ---- what is told of it
-
-written_since : (output : Option (List ℕ)) (text : List ℕ) (folder read : FolderSeen) (out : SinkSeen) (after : Moment)
-    → IsWritten output text (moment read out) after → IsWritten output text (moment folder out) after
-written_since (Some name) text folder read out after written = written
-written_since None text folder read out after written = written
 
 pub answered_at : (args : Shrink) (files : NamedFiles) (held : HeldFiles) → Holds files args held → (r : Result Answer ShrinkFailure)
     → IfOk r (λ answer. (h : HeldFiles) → Holds files args h → IsAnswered args h answer.suite.table) → IfOk r (λ answer. IsAnswered args held answer.suite.table)

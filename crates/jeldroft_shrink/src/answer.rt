@@ -5,9 +5,11 @@ ghost use Rattle.jeldroft_args.specs.Ranges.{AreMarks, IsStrength};
 ghost use Rattle.jeldroft_files.specs.Runs.{IsCalledFor};
 ghost use Rattle.outside_io.specs.believed.Seen.{KeepsFiles};
 ghost use Rattle.row_text.specs.RowFiles.{seeds_seen, suite_seen};
+ghost use Rattle.shorter_suites.specs.believed.Laws.{rows_of};
 ghost use Rattle.tuple_index.specs.Plan.{plan_of};
 ghost use Rattle.tuple_index.specs.believed.PlanFault.{limit_passed};
 ghost use Rattle.jeldroft_shrink.specs.believed.Causes.{status_of};
+ghost use Rattle.jeldroft_shrink.specs.believed.Reading.{Lines};
 ghost use Rattle.jeldroft_shrink.specs.believed.Runs.{HaveRows, HeldFiles, Holds, IsDue, LackRows, form_of};
 ghost use Rattle.jeldroft_shrink.specs.Lost.{lost_lines};
 ghost use Rattle.jeldroft_shrink.specs.Steps.{HasTable, IsAnswered, IsLimitOf, IsTableOf, answer_seen};
@@ -15,10 +17,11 @@ ghost use Rattle.jeldroft_shrink.specs.Steps.{HasTable, IsAnswered, IsLimitOf, I
 use crate::cause::{ShrinkCause, ShrinkFailure};
 use crate::given::read_given;
 use crate::lost::lost_lines;
+use crate::named::Named;
 use crate::seeds::read_seeds;
 use crate::suite::fewer_tests;
 use command_line::Stop;
-use cov_model::TestModel;
+use cov_model::{Rows, TestModel};
 use jeldroft_args::{Format, Shrink};
 use jeldroft_files::read_model_file;
 use model_lex::NoteList;
@@ -136,6 +139,17 @@ fn read_tests<'n, F: Folder>(
     Ok(Tests { given, seeds })
 }
 
+// The rows of a file in one piece of memory, and the notes on it. Each row of a file has memory of its own, which is given
+// back.
+fn pack(alloc: Global, model: &TestModel, file: RowFile) -> Result<(Rows, NoteList), NoMemory>
+    requires { All (λ row. FitsModel model.now row.cells) file.rows }
+    ensures { IfOk result (λ packed. packed.0 ≡ suite_seen file.entry) }
+{
+    let rows = copied_rows(alloc, model, &file)?;
+    let RowFile { rows: _, notes } = file;
+    Ok((rows, notes))
+}
+
 // The table of fewer tests in place of these.
 fn table_of(
     alloc: Global,
@@ -143,18 +157,17 @@ fn table_of(
     form: RowForm,
     model: &TestModel,
     plan: &Plan,
-    tests: &Tests,
+    given: &Rows,
+    seeds: &RowFile,
 ) -> Result<Table, NoMemory>
     requires plan { plan.now ≡ plan_of model.now }
-    requires valid { All (λ row. is_valid model.now row ≡ true) (suite_seen tests.now.given) }
-    requires fit { All (λ row. FitsModel model.now row.cells) tests.now.given.rows }
-    requires partial { All (λ row. FitsModel model.now row.cells) tests.now.seeds.rows }
-    ensures table { IfOk result (IsTableOf form model.now (seeds_seen tests.now.given) (seeds_seen tests.now.seeds)) }
-    ensures lost { IfOk result (λ table. table.lost.items ≡ lost_lines (suite_seen tests.now.given) (seeds_seen tests.now.seeds)) }
+    requires valid { All (λ row. is_valid model.now row ≡ true) given.now }
+    requires partial { All (λ row. FitsModel model.now row.cells) seeds.now.rows }
+    ensures table { IfOk result (λ table. (lines : Lines) → given.now ≡ rows_of lines → IsTableOf form model.now lines (seeds_seen seeds.now) table) }
+    ensures lost { IfOk result (λ table. table.lost.items ≡ lost_lines given.now (seeds_seen seeds.now)) }
 {
-    let given = copied_rows(alloc, model, &tests.given)?;
-    let fewer = fewer_tests(alloc, model, plan, &given, &tests.seeds, args)?;
-    let lost = lost_lines(alloc, &given, &tests.seeds)?;
+    let fewer = fewer_tests(alloc, model, plan, given, seeds, args)?;
+    let lost = lost_lines(alloc, given, seeds)?;
     let text = suite_text(alloc, form, model, &fewer.rows)?;
     let numbers = Numbers {
         given: given.len(),
@@ -184,11 +197,12 @@ fn suite_of<'n, F: Folder>(
 {
     let plan = plan_of(alloc, model, args.model.name.as_str())?;
     let tests = read_tests(alloc, args, model, files)?;
-    let table = table_of(alloc, args, form, model, &plan, &tests)?;
     let Tests { given, seeds } = tests;
+    let (rows, table_notes) = pack(alloc, model, given)?;
+    let table = table_of(alloc, args, form, model, &plan, &rows, &seeds)?;
     Ok(Suite {
         table,
-        table_notes: given.notes,
+        table_notes,
         seed_notes: seeds.notes,
     })
 }
@@ -239,6 +253,7 @@ pub(crate) fn make_answer<'n, F: Folder>(
             file: "",
             cause: ShrinkCause::NoTable,
             refused: None,
+            named: Named::Nothing,
         }),
     }
 }

@@ -2,6 +2,7 @@ ghost use Rattle.std.specs.Prelude.{◌≡◌};
 ghost use Rattle.jeldroft_shrink.specs.believed.Causes as statuses;
 ghost use Rattle.jeldroft_shrink.specs.believed.Reading.{stops_by};
 
+use crate::named::Named;
 use command_line::Stop;
 use cov_model::RowWhy;
 use jeldroft_files::{Cause, Failure, RefusedModel};
@@ -31,6 +32,8 @@ pub(crate) struct ShrinkFailure<'n> {
     pub cause: ShrinkCause,
     /// The model file, where what it holds is refused.
     pub refused: Option<RefusedModel>,
+    /// What the line names that says so.
+    pub named: Named,
 }
 
 impl ShrinkCause {
@@ -57,6 +60,19 @@ impl<'n> ShrinkFailure<'n> {
             file,
             cause: ShrinkCause::Files(Cause::Stop(stop)),
             refused: None,
+            named: Named::Nothing,
+        }
+    }
+
+    // The same failure, which names this.
+    pub(crate) fn naming(self, named: Named) -> ShrinkFailure<'n>
+        ensures { result.cause ≡ self.entry.cause }
+    {
+        ShrinkFailure {
+            file: self.file,
+            cause: self.cause,
+            refused: self.refused,
+            named,
         }
     }
 }
@@ -71,6 +87,7 @@ impl<'n> From<Failure<'n>> for ShrinkFailure<'n> {
             file: failure.file,
             cause: ShrinkCause::Files(failure.cause),
             refused: failure.refused,
+            named: Named::of_column(failure.column),
         }
     }
 }

@@ -11,6 +11,7 @@ ghost use Rattle.jeldroft_shrink.specs.believed.Reading.{first_flaw, given_flaw,
 ghost use Rattle.jeldroft_shrink.specs.Steps.{Gives};
 
 use crate::cause::{ShrinkCause, ShrinkFailure};
+use crate::named::{fault_named, flaw_named};
 use command_line::Stop;
 use cov_model::TestModel;
 use jeldroft_args::Delimiter;
@@ -36,7 +37,10 @@ fn read_bytes<'n>(
 {
     match read_rows(alloc, bytes, model, mode) {
         Ok(file) => Ok(file),
-        Err(fault) => Err(ShrinkFailure::stop(name, Stop::from(fault))),
+        Err(fault) => {
+            let named = fault_named(alloc, model, fault);
+            Err(ShrinkFailure::stop(name, Stop::from(fault)).naming(named))
+        }
     }
 }
 
@@ -101,6 +105,7 @@ fn given_flaw(model: &TestModel, file: &RowFile) -> Option<ShrinkCause>
 
 // The rows of a file, unless something is wrong with them.
 fn unless_flawed<'n>(
+    alloc: Global,
     model: &TestModel,
     name: &'n str,
     file: RowFile,
@@ -111,11 +116,15 @@ fn unless_flawed<'n>(
     ensures fit { IfOk result (λ given. All (λ row. FitsModel model.now row.cells) given.rows) }
 {
     match given_flaw(model, &file) {
-        Some(cause) => Err(ShrinkFailure {
-            file: name,
-            cause,
-            refused: None,
-        }),
+        Some(cause) => {
+            let named = flaw_named(alloc, model, &file, &cause);
+            Err(ShrinkFailure {
+                file: name,
+                cause,
+                refused: None,
+                named,
+            })
+        }
         None => Ok(file),
     }
 }
@@ -140,5 +149,5 @@ pub(crate) fn read_given<'n, F: Folder>(
     ensures files { KeepsFiles (F.seen files.old) (F.seen files.new) }
 {
     let file = read_file(alloc, model, RowMode::Suite, name, delimiter, files)?;
-    unless_flawed(model, name, file)
+    unless_flawed(alloc, model, name, file)
 }

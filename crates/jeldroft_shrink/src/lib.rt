@@ -15,6 +15,7 @@ mod answer;
 mod cause;
 mod given;
 mod lost;
+mod named;
 mod run;
 mod seeds;
 mod suite;

@@ -4,10 +4,11 @@ ghost use Rattle.jeldroft_shrink.specs.Told.{TellsLast, met_line, open_line, sum
 
 use crate::answer::{Answer, Numbers};
 use crate::cause::{ShrinkCause, ShrinkFailure};
+use crate::named::Named;
 use cov_model::RowWhy;
 use itoa::Buffer;
 use jeldroft_args::Shrink;
-use jeldroft_words::{tell_cause, tell_notes};
+use jeldroft_words::{tell_cause, tell_no_column, tell_notes};
 use model_lex::Note;
 use outside_io::{Sink, WriteAnswer, put_pieces};
 use std::alloc::Global;
@@ -113,26 +114,30 @@ pub(crate) fn tell_answer<E: Sink>(answer: &Answer, args: &Shrink, terminal: boo
     let _ = tell_numbers(answer.suite.table.numbers, diag);
 }
 
-// Tells that a row isn't valid.
-fn tell_invalid<E: Sink>(file: &str, line: u32, why: RowWhy, diag: &mut E) {
-    match why {
-        RowWhy::Rule(number) => {
-            let mut line_buffer = Buffer::new();
+// Tells which constraint a test breaks.
+fn tell_broken<E: Sink>(file: &str, line: u32, number: u32, named: &Named, diag: &mut E) {
+    let mut line_buffer = Buffer::new();
+    let mut number_buffer = Buffer::new();
+    let line = line_buffer.format(line);
+    let number = number_buffer.format(number);
+    let _ = put_pieces(diag, &[file, ":", line, ": error: constraint ", number]);
+    let _ = match named {
+        Named::Rule(at, text) => {
             let mut buffer = Buffer::new();
-            let line = line_buffer.format(line);
-            let number = buffer.format(number);
-            let _ = put_pieces(
+            let at = buffer.format(*at);
+            put_pieces(
                 diag,
-                &[
-                    file,
-                    ":",
-                    line,
-                    ": error: constraint ",
-                    number,
-                    " forbids this test\n",
-                ],
-            );
+                &[" (line ", at, ") forbids this test: ", text.as_str(), "\n"],
+            )
         }
+        _ => put_pieces(diag, &[" forbids this test\n"]),
+    };
+}
+
+// Tells that a row isn't valid.
+fn tell_invalid<E: Sink>(file: &str, line: u32, why: RowWhy, named: &Named, diag: &mut E) {
+    match why {
+        RowWhy::Rule(number) => tell_broken(file, line, number, named, diag),
         RowWhy::Negatives(..) => tell_line(
             file,
             line,
@@ -140,6 +145,17 @@ fn tell_invalid<E: Sink>(file: &str, line: u32, why: RowWhy, diag: &mut E) {
             diag,
         ),
     }
+}
+
+// Tells that a test leaves a parameter without a value.
+fn tell_incomplete<E: Sink>(file: &str, line: u32, named: &Named, diag: &mut E) {
+    let mut buffer = Buffer::new();
+    let line = buffer.format(line);
+    let _ = put_pieces(diag, &[file, ":", line, ": error: this test "]);
+    let _ = match named {
+        Named::Param(name) => put_pieces(diag, &["has no value of ", name.as_str(), "\n"]),
+        _ => put_pieces(diag, &["leaves a parameter without a value\n"]),
+    };
 }
 
 // Tells that a table has too many rows.
@@ -160,8 +176,12 @@ fn tell_count<E: Sink>(file: &str, count: u64, diag: &mut E) {
 /// Tells why there is no table.
 pub(crate) fn tell_failure<E: Sink>(alloc: Global, failure: &ShrinkFailure<'_>, diag: &mut E) {
     let file = failure.file;
+    let named = &failure.named;
     match &failure.cause {
-        ShrinkCause::Files(cause) => tell_cause(alloc, file, cause, &failure.refused, diag),
+        ShrinkCause::Files(cause) => match named {
+            Named::Column(name) => tell_no_column(file, name.as_str(), diag),
+            _ => tell_cause(alloc, file, cause, &failure.refused, diag),
+        },
         ShrinkCause::NoTable => {
             let _ = put_pieces(
                 diag,
@@ -169,12 +189,7 @@ pub(crate) fn tell_failure<E: Sink>(alloc: Global, failure: &ShrinkFailure<'_>, 
             );
         }
         ShrinkCause::TooManyRows(count) => tell_count(file, *count, diag),
-        ShrinkCause::Incomplete(line) => tell_line(
-            file,
-            *line,
-            "error: this test leaves a parameter without a value",
-            diag,
-        ),
-        ShrinkCause::Invalid(line, why) => tell_invalid(file, *line, *why, diag),
+        ShrinkCause::Incomplete(line) => tell_incomplete(file, *line, named, diag),
+        ShrinkCause::Invalid(line, why) => tell_invalid(file, *line, *why, named, diag),
     }
 }

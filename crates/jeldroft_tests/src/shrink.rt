@@ -55,7 +55,7 @@ const CASES: &[Case<'static>] = &[
         files: &[("m", MODEL), ("t", "A\tB\n2\ty\n1\ty\n"), ("r", "old\n")],
         status: 2,
         out: "",
-        told: "t:3: error: constraint 1 forbids this test\n",
+        told: "t:3: error: constraint 1 (line 3) forbids this test: IF [A] = 1 THEN [B] = \"x\";\n",
         left: &[("r", "old\n")],
     },
     Case {
@@ -63,7 +63,26 @@ const CASES: &[Case<'static>] = &[
         files: &[("m", FULL), ("t", "A\tB\n1\tx\n2\t\n")],
         status: 2,
         out: "",
-        told: "t:3: error: this test leaves a parameter without a value\n",
+        told: "t:3: error: this test has no value of B\n",
+        left: &[],
+    },
+    Case {
+        words: &["shrink", "m", "t"],
+        files: &[
+            ("m", "A: 1, ~2\nB: x, ~y\n"),
+            ("t", "A\tB\n~2\tx\n~2\t~y\n"),
+        ],
+        status: 2,
+        out: "",
+        told: "t:3: error: more than one value of this test is invalid\n",
+        left: &[],
+    },
+    Case {
+        words: &["shrink", "m", "t"],
+        files: &[("m", FULL), ("t", "B\nx\n")],
+        status: 2,
+        out: "",
+        told: "t: error: no column for the parameter A [F3]\n",
         left: &[],
     },
     // a seed that no test has
@@ -148,4 +167,41 @@ fn ends_twice<R: Threads + Sync>(
 #[test]
 fn prints_the_same_again(rt: HostRuntime) {
     assert!(rt; ends_twice(&rt, rt.alloc(), 270, 0, "") == Ok(true));
+}
+
+// A table of so many tests of one parameter.
+fn long_table(alloc: Global, tests: usize) -> Result<String, NoMemory> {
+    let mut text = String::from_str(alloc, "A\n")?;
+    for test in 0..tests {
+        text.push_str(["1\n", "2\n"][test % 2])?;
+    }
+    Ok(text)
+}
+
+// Whether a run on so many tests ends so.
+fn ends_long<R: Threads + Sync>(
+    rt: &R,
+    alloc: Global,
+    tests: usize,
+    status: u8,
+    out: &str,
+    told: &str,
+) -> Result<bool, NoMemory> {
+    let text = long_table(alloc, tests)?;
+    let case = Case {
+        words: &["shrink", "m", "t", "-t1"],
+        files: &[("m", "A: 1, 2\n"), ("t", text.as_str())],
+        status,
+        out,
+        told,
+        left: &[],
+    };
+    ends_as(rt, alloc, &case)
+}
+
+#[test]
+fn takes_as_many_tests_as_may_be(rt: HostRuntime) {
+    assert!(rt; ends_long(&rt, rt.alloc(), 65_533, 0, "A\n1\n2\n", "") == Ok(true));
+    let told = "t: error: 65534 tests, and at most 65533 can be made fewer\n";
+    assert!(rt; ends_long(&rt, rt.alloc(), 65_534, 2, "", told) == Ok(true));
 }

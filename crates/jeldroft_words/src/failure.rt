@@ -50,8 +50,8 @@ fn tell_file<E: Sink>(file: &str, words: &str, diag: &mut E) {
     finding.text("\n");
 }
 
-// Writes the line of a table that has no column for the parameter of this name.
-fn tell_no_column<E: Sink>(file: &str, name: &str, diag: &mut E) {
+/// Writes the line of a table that has no column for the parameter of this name.
+pub fn tell_no_column<E: Sink>(file: &str, name: &str, diag: &mut E) {
     let mut finding = Finding::on(diag, file);
     finding.text(": error: no column for the parameter ");
     finding.text(name);

@@ -1,7 +1,8 @@
 //! The words in which `jeldroft` tells what it found: one finding a line, in the form that editors and build systems
 //! follow, `FILE:LINE: error: WORDS [CODE]`.
 //!
-//! - `tell_failure` and `tell_cause` say why a command ended without what it was asked for.
+//! - `tell_failure` and `tell_cause` say why a command ended without what it was asked for, `tell_no_column` that a table
+//!   has no column for a parameter.
 //! - `tell_notes` gives the warnings on a file by their lines, `tell_table_notes` and `tell_text_notes` those on a table
 //!   with what stands there. `FileNotes` keeps those on a model file and a table until they are told.
 //! - `forbidding_rule` finds a constraint that forbids a row by itself.
@@ -19,7 +20,7 @@ mod notes;
 mod shown;
 mod table_notes;
 
-pub use failure::{tell_cause, tell_failure};
+pub use failure::{tell_cause, tell_failure, tell_no_column};
 pub use file_notes::FileNotes;
 pub use forbidding::forbidding_rule;
 pub use notes::tell_notes;
