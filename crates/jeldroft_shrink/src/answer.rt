@@ -143,7 +143,7 @@ fn read_tests<'n, F: Folder>(
 // back.
 fn pack(alloc: Global, model: &TestModel, file: RowFile) -> Result<(Rows, NoteList), NoMemory>
     requires { All (λ row. FitsModel model.now row.cells) file.rows }
-    ensures { IfOk result (λ packed. packed.0 ≡ suite_seen file.entry) }
+    ensures { IfOk result (λ packed. packed.0 ≡ suite_seen file) }
 {
     let rows = copied_rows(alloc, model, &file)?;
     let RowFile { rows: _, notes } = file;
