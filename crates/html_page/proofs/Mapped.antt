@@ -3,7 +3,7 @@ use Rattle.std.proofs.Common.{◌≡◌, ℕ, ◌≤◌, List, ◌++◌, length,
 use Rattle.std.proofs.lemmas.List.{take_all}
 use Rattle.std.proofs.lemmas.List.Folds.{flat_map-map}
 use Rattle.std.specs.List.{flat_map}
-use Rattle.html_page.specs.Pieces.{attribute_text, attributes_text, piece_text, pieces_text}
+use Rattle.html_page.specs.believed.Pieces.{attribute_text, attributes_text, piece_text, pieces_text}
 use Rattle.html_page.specs.Seen.{attribute_seen, piece_seen}
 use Rattle.html_page.specs.declared.attribute.Attribute.{Attribute}
 use Rattle.html_page.specs.declared.piece.Piece.{Piece}

@@ -6,7 +6,7 @@ use Rattle.std.proofs.lemmas.List.Concat.{flat_map-cons}
 use Rattle.std.specs.Prelude.{if◌then◌else◌}
 use Rattle.std.specs.List.{flat_map}
 use Rattle.html_page.specs.Laws.{characters, shown}
-use Rattle.html_page.specs.Pieces.{escape, escaped, replacement}
+use Rattle.html_page.specs.believed.Pieces.{escape, escaped, replacement}
 use Rattle.html_page.specs.Tokens.{Character, Opened, attribute_value, data_state, tokens_from}
 
 -- what a byte of a text is read as

@@ -4,14 +4,14 @@ use Rattle.std.specs.List.{list_all}
 use Rattle.std.proofs.lemmas.Bool.{false≢true}
 use Rattle.std.proofs.lemmas.Grind.{flat_map-append}
 use Rattle.std.proofs.lemmas.List.Concat.{flat_map-cons}
-use Rattle.html_page.specs.Names.{attribute_name, tag_name}
+use Rattle.html_page.specs.believed.Names.{attribute_name, tag_name}
 use Rattle.html_page.specs.Laws.{PagesReadBack, attribute_shown, characters, shown, tree_tokens}
-use Rattle.html_page.specs.Pieces.{Attribute, Piece, Doctype, Start, Meta, Title, Style, Text, End, attribute_text, attributes_text, end_text, escape, piece_text, pieces_text, start_text, title_text}
+use Rattle.html_page.specs.believed.Pieces.{Attribute, Piece, Doctype, Start, Meta, Title, Style, Text, End, attribute_text, attributes_text, end_text, escape, piece_text, pieces_text, start_text, title_text}
 use Rattle.html_page.specs.Tokens as tokens
 use Rattle.html_page.specs.Tokens.{Token, StartTag, EndTag, Character, Opened, State, after_attribute_value, after_start}
 use Rattle.html_page.specs.Tokens.{attribute_value, before_attribute_name, before_attribute_value, data_state, raw_text, tag_open, end_tag_open, is_changed, tokens_from}
-use Rattle.html_page.specs.Trees as trees
-use Rattle.html_page.specs.Trees.{Content, page_text, pieces_of}
+use Rattle.html_page.specs.believed.Trees as trees
+use Rattle.html_page.specs.believed.Trees.{Content, page_text, pieces_of}
 use Rattle.html_page.specs.declared.attribute.AttributeName.{AttributeName}
 use Rattle.html_page.specs.declared.attribute.AttributeName.TheVariants as attribute
 use Rattle.html_page.specs.declared.style.TheConstants.{STYLE}

@@ -5,8 +5,9 @@ use Rattle.std.proofs.lemmas.List.{take_all}
 use Rattle.std.proofs.lemmas.List.Concat.{flat_map-cons}
 use Rattle.std.proofs.lemmas.List.Folds.{flat_map-map}
 use Rattle.std.specs.List.{flat_map}
-use Rattle.html_page.specs.Pieces.{Piece, Start, End, Text, Meta, Title, Style, piece_text, pieces_text}
-use Rattle.html_page.specs.Trees.{Content, nothing, text, element, meta, title, style, all_of, content_text, followed_by, pieces_of}
+use Rattle.html_page.specs.believed.Pieces.{Piece, Start, End, Text, Meta, Title, Style, piece_text, pieces_text}
+use Rattle.html_page.specs.believed.Trees.{Content, nothing, text, element, meta, title, style, all_of, followed_by, pieces_of}
+use Rattle.html_page.specs.Trees.{content_text}
 
 -- pieces behind others
 pub pieces_behind : (one two : List Piece) → pieces_text (one ++ two) ≡ pieces_text one ++ pieces_text two

@@ -1,10 +1,10 @@
 -- The text of a page, read as HTML, is its tree again.
 use Rattle.std.specs.Prelude.{◌≡◌, ℕ, List, [], ◌∷◌, ◌++◌, ◌==◌, if◌then◌else◌, map, codes}
 use Rattle.std.specs.List.{flat_map}
-use Rattle.html_page.specs.Names.{attribute_name, tag_name}
-use Rattle.html_page.specs.Pieces.{Attribute, replacement}
+use Rattle.html_page.specs.believed.Names.{attribute_name, tag_name}
+use Rattle.html_page.specs.believed.Pieces.{Attribute, replacement}
 use Rattle.html_page.specs.Tokens.{Token, Doctype, StartTag, EndTag, Character, tokens_of}
-use Rattle.html_page.specs.Trees.{Content, nothing, text, element, meta, title, style, page_text}
+use Rattle.html_page.specs.believed.Trees.{Content, nothing, text, element, meta, title, style, page_text}
 use Rattle.html_page.specs.declared.style.TheConstants.{STYLE}
 
 -- a text with U+FFFD for each NUL

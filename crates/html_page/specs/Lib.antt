@@ -1,6 +1,5 @@
-pub mod Names
-pub mod Pieces
-pub mod Trees
 pub mod Tokens
 pub mod Seen
 pub mod Laws
+pub mod believed
+pub mod Trees

@@ -1,6 +1,6 @@
 -- What the code's attributes and pieces are.
 use Rattle.std.specs.Prelude.{ℕ, List, [], ◌∷◌, map}
-use Rattle.html_page.specs.Pieces as pieces
+use Rattle.html_page.specs.believed.Pieces as pieces
 use Rattle.html_page.specs.declared.attribute.Attribute.{Attribute}
 use Rattle.html_page.specs.declared.attribute.AttributeName.TheVariants as attribute
 use Rattle.html_page.specs.declared.piece.Piece.{Piece}

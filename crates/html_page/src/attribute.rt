@@ -1,5 +1,5 @@
 ghost use Rattle.std.specs.Prelude.{◌≡◌};
-ghost use Rattle.html_page.specs.Names.{attribute_name};
+ghost use Rattle.html_page.specs.believed.Names.{attribute_name};
 
 /// The attributes that an element may have (HTML, WAI-ARIA; from `ViewBox` on SVG).
 #[derive(Debug, Clone, Copy, PartialEq, Eq)]

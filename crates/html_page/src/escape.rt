@@ -1,5 +1,5 @@
 ghost use Rattle.std.specs.Prelude.{◌≡◌, ◌++◌, OnOk, MatchOption, ◌∷◌, []};
-ghost use Rattle.html_page.specs.Pieces.{escape, escaped};
+ghost use Rattle.html_page.specs.believed.Pieces.{escape, escaped};
 
 use value_text::NoMemory;
 
@@ -30,7 +30,7 @@ fn put_byte(out: &mut Vec<u8>, byte: u8) -> Result<(), NoMemory>
 }
 
 /// Adds a text, escaped.
-#[tactic(auto, unfolding(crate::specs::Pieces::escape))]
+#[tactic(auto, unfolding(crate::specs::believed::Pieces::escape))]
 pub(crate) fn put_escaped(out: &mut Vec<u8>, text: &[u8]) -> Result<(), NoMemory>
     ensures { OnOk result (out.new.items ≡ out.old.items ++ escape text.now) }
 {

@@ -1,6 +1,6 @@
 ghost use Rattle.std.specs.Prelude.{◌≡◌, ◌++◌, [], ◌∷◌, map, OnOk};
 ghost use Rattle.std.specs.List.{flat_map};
-ghost use Rattle.html_page.specs.Pieces.{attribute_text, attributes_text, end_text, escape, pieces_text, piece_text, start_text, title_text};
+ghost use Rattle.html_page.specs.believed.Pieces.{attribute_text, attributes_text, end_text, escape, pieces_text, piece_text, start_text, title_text};
 ghost use Rattle.html_page.specs.Seen.{attribute_seen, id_attribute, piece_seen};
 
 use crate::attribute::{Attribute, AttributeName};

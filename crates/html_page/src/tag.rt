@@ -1,5 +1,5 @@
 ghost use Rattle.std.specs.Prelude.{◌≡◌};
-ghost use Rattle.html_page.specs.Names.{tag_name};
+ghost use Rattle.html_page.specs.believed.Names.{tag_name};
 
 /// The elements that a page may have and that are written with an end tag (HTML; the last ones, from `Svg` on, SVG).
 #[derive(Debug, Clone, Copy, PartialEq, Eq)]

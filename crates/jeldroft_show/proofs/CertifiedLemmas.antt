@@ -1,6 +1,6 @@
 -- A suite that `show` accepts is accepted by the checker.
 use Rattle.std.proofs.Common.{◌≡◌, ℕ, Bool, true, false, List, map, Option, None, Some, Ok, Err, Result, refl, ap, sym, subst, ◌∙◌, arith}
-use Rattle.std.specs.Prelude.{is_some, option_map}
+use Rattle.std.specs.Prelude.{option_map}
 use Rattle.std.proofs.lemmas.Bool.{false≢true}
 use Rattle.cov_model.specs.believed.Sound.{ModelView}
 use Rattle.definitions.specs.believed.RowReading.{RowReading}
@@ -11,7 +11,6 @@ use Rattle.tuple_index.specs.believed.PlanFault.{limit_passed}
 use Rattle.tuple_index.specs.declared.fault.PlanFault.{PlanFault}
 use Rattle.proof_check.specs.believed.Checks.{verdict_given}
 use Rattle.command_line.specs.believed.Stops.{stop_of_plan}
-use Rattle.jeldroft_args.specs.declared.format.Format.TheVariants as formats
 use Rattle.jeldroft_args.specs.declared.show.Show.{Show}
 use Rattle.jeldroft_files.specs.believed.Models.{opts_of}
 use Rattle.jeldroft_files.specs.believed.Runs.{Moment}
@@ -47,7 +46,7 @@ words_accepted args m held shown gives is accepted =
         → (read : Result RowReading Cause) → tests_of m (is_comma args.delimiter args.table) held.table ≡ read
         → (given : Result (List ℕ) Cause) → proof_of args.proof held.proof ≡ given
         → unless (option_map stop_of_plan limit) (and_then read (λ reading. and_then given (λ bytes.
-        Ok (shown_words m reading.rows (map (λ row. row.1) reading.rows) (is_some args.proof) bytes)))) ≡ Ok shown
+        Ok (shown_words args m reading.rows (map (λ row. row.1) reading.rows) bytes)))) ≡ Ok shown
         → HoldsCertified args held
     at (Some fault) within read tests given proof e = absurd (not_both e refl)
     at None within (Err cause) tests given proof e = absurd (not_both e refl)
@@ -78,8 +77,8 @@ due_accepted args held shown due accepted = at due.given due.gives due.is
     at (Ok m) gives is = words_accepted args m held shown gives (sym is) accepted
     at (Err cause) gives is = absurd (not_both (sym is) refl)
 
-pub certified_by : (args : Show) (held : HeldFiles) (output : Option (List ℕ)) (before after : Moment) (status : ℕ) → args.format ≡ formats.Text → status ≡ 0
+pub certified_by : (args : Show) (held : HeldFiles) (output : Option (List ℕ)) (before after : Moment) (status : ℕ) → form_of args.format ≡ None → status ≡ 0
     → ShowsAs (Due (form_of args.format) args held) output before after status → HoldsCertified args held
-certified_by args held output before after status is_text zero shows =
+certified_by args held output before after status no_form zero shows =
     let done = shows.done (omega (arith, zero)) in
-    due_accepted args held done.0 (subst (λ form. Due form args held (Ok done.0)) (ap form_of is_text) done.1) (status_zero done.0.accepted (sym done.2 ∙ zero))
+    due_accepted args held done.0 (subst (λ form. Due form args held (Ok done.0)) no_form done.1) (status_zero done.0.accepted (sym done.2 ∙ zero))

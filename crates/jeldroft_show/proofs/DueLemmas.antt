@@ -1,6 +1,6 @@
 -- What the files of `show` call for: one thing, which the steps give.
 use Rattle.std.proofs.Common.{◌≡◌, ℕ, ◌≤◌, true, List, [], ◌∷◌, map, length, Option, None, Some, Ok, Err, Result, inl, inr, refl, ap, sym, subst, ◌∙◌}
-use Rattle.std.specs.Prelude.{IfSome, is_some, option_map, if◌then◌else◌}
+use Rattle.std.specs.Prelude.{IfSome, option_map, if◌then◌else◌}
 use Rattle.std.proofs.lemmas.Bool.{le-ltb, lt-ltb}
 use Rattle.std.proofs.lemmas.Option.{none-some, same_Some}
 use Rattle.outside_io.specs.believed.Seen.{FolderSeen, KeepsFiles}
@@ -77,7 +77,7 @@ proof_kept (Some name) held before after keeps holds = keeps name ∙ holds
 
 -- the model passes no limit, and the tests of a table and the proof were read
 abbrev words_last : Show → ModelView → List (ℕ × List (Option ℕ)) → List ℕ → Result Shown Cause
-words_last args m lines bytes = Ok (shown_words m lines (map (λ row. row.1) lines) (is_some args.proof) bytes)
+words_last args m lines bytes = Ok (shown_words args m lines (map (λ row. row.1) lines) bytes)
 
 abbrev words_step : Show → ModelView → HeldFiles → RowReading → Result Shown Cause
 words_step args m held reading = and_then (proof_of args.proof held.proof) (words_last args m reading.rows)
@@ -89,13 +89,13 @@ words_within args m held within =
 
 pub words_given : (args : Show) (m : ModelView) (held : HeldFiles) (tests : RowFile) (bytes : List ℕ) (answer : Answer) → limit_passed m ≡ None
     → HoldsTests m (is_comma args.delimiter args.table) held.table tests → proof_of args.proof held.proof ≡ Ok bytes
-    → shown_by answer ≡ shown_words m (seeds_seen tests) (suite_seen tests) (is_some args.proof) bytes → Gives (words_shown args m held) (Ok answer)
+    → shown_by answer ≡ shown_words args m (seeds_seen tests) (suite_seen tests) bytes → Gives (words_shown args m held) (Ok answer)
 words_given args m held tests bytes answer within holds proof shown =
     words_within args m held within
     ∙ ap (λ read. and_then read (words_step args m held)) holds.read
     ∙ ap (λ given. and_then given (words_last args m holds.reading.rows)) proof
     ∙ ap (λ lines. words_last args m lines bytes) (sym holds.holds.rows)
-    ∙ ap (λ rows. Ok (shown_words m (seeds_seen tests) rows (is_some args.proof) bytes)) (suite_rows tests.rows)
+    ∙ ap (λ rows. Ok (shown_words args m (seeds_seen tests) rows bytes)) (suite_rows tests.rows)
     ∙ sym (ap Ok shown)
 
 -- or they weren't

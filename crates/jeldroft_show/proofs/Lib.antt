@@ -4,3 +4,4 @@ pub mod OmissionLemmas
 pub mod RowLemmas
 pub mod ShowEnds
 pub mod WordLemmas
+pub mod PageLemmas

@@ -1,13 +1,12 @@
 -- How `show` ends, from its answer and from the end of the writing of it.
 use Rattle.std.proofs.Common.{◌≡◌, ◌≤◌, ◌⊎◌, ℕ, Bool, true, false, List, Option, Some, None, Result, Ok, Err, inl, inr, refl, ap, sym, subst, ◌∙◌, arith}
-use Rattle.std.specs.Prelude.{IfSome}
 use Rattle.outside_io.specs.believed.Seen.{FolderSeen, SinkSeen, KeepsFiles}
 use Rattle.command_line.specs.declared.stop.Stop.{Stop}
 use Rattle.command_line.specs.declared.stop.Stop.TheVariants.{OutOfMemory, Spent, BadWord, BadModel, BadConstraint, BadRows, NoResult, BadResult, CannotRead}
 use Rattle.command_line.specs.declared.stop.Stop.TheVariants.{CannotWrite, CannotWriteReport, TooMany, TooLong}
 use Rattle.jeldroft_files.specs.believed.Failures.{status_of, status_of_stop}
 use Rattle.jeldroft_files.specs.Runs.{Ends, Writes, end_status}
-use Rattle.jeldroft_files.specs.believed.Runs.{IsPrinted, IsWritten, KeepsFile, Leaves, Moment, moment}
+use Rattle.jeldroft_files.specs.believed.Runs.{IsPrinted, IsWritten, Leaves, Moment, moment}
 use Rattle.jeldroft_files.proofs.Ending.{leaves}
 use Rattle.jeldroft_files.specs.declared.failure.Cause.{Cause}
 use Rattle.jeldroft_files.specs.declared.failure.Cause.TheVariants as causes
@@ -107,23 +106,6 @@ module _ (Due : Result Shown Cause → Type 0) (output : Option (List ℕ)) (fir
   shows (Err given) (Err failure) (inr due) ends same = subst (ShowsAs Due output first after) (sym ends.0) (ended given.cause due)
 
 -- ---- what it leaves as it was
-
-kept_by : (output : Option (List ℕ)) (folder : FolderSeen) → IfSome output (λ name. KeepsFile name folder folder)
-kept_by None folder = tt
-kept_by (Some name) folder = go (folder.files name) refl
-  where
-    go : (file : Option (Option (List ℕ))) → file ≡ folder.files name → IfSome file (λ held. folder.files name ≡ Some held)
-    go None same = tt
-    go (Some held) same = sym same
-
-pub leaves_none : (output : Option (List ℕ)) (moment : Moment) → LeavesShown output moment moment 2
-leaves_none output moment = record {
-  known = omega arith;
-  others = λ name other. refl;
-  kept = λ two. kept_by output moment.folder;
-  unprinted = λ file. refl;
-  refused = λ two. record { out = refl; files = λ name. refl };
-}
 
 with_status : {output : Option (List ℕ)} {first after : Moment} (end : Result Answer Failure) → Leaves output first after (end_status end)
     → LeavesShown output first after (status_shown end)

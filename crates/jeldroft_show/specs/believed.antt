@@ -1,4 +1,5 @@
 pub mod Certified
 pub mod Due
+pub mod Pages
 pub mod Shows
 pub mod Words

@@ -71,7 +71,7 @@ fn show_table<'n, F: Folder>(
     Ok(answer)
 }
 
-// The answer that shows a table in a form, or else in words.
+// The answer that shows a table in a form, or else in words or as a page.
 fn show_suite<'n, R: Threads + Sync, F: Folder>(
     rt: &R,
     alloc: Global,
@@ -90,12 +90,12 @@ fn show_suite<'n, R: Threads + Sync, F: Folder>(
     }
 }
 
-/// The answer that shows a table in a form, or else in words, and notes on the model file.
+/// The answer that shows a table in a form, or else in words or as a page, and notes on the model file.
 ///
 /// # Errors
 ///
-/// A failure of the model file, of the table or of the proof; in words `TooMany` where the model demands more than there
-/// may be; or `OutOfMemory`.
+/// A failure of the model file, of the table or of the proof; in words and as a page `TooMany` where the model demands more
+/// than there may be; or `OutOfMemory`.
 pub(crate) fn make_answer<'n, R: Threads + Sync, F: Folder>(
     rt: &R,
     alloc: Global,

@@ -1,4 +1,4 @@
-//! The answer that shows a suite in words, with the verdict of the checker.
+//! The answer that shows a suite in words or as a page, with the verdict of the checker.
 ghost use Rattle.std.specs.Prelude.{◌≡◌, ◌≤◌, ◌^◌, ℕ, List, Option, Some, None, Err, Ok, length, map, is_some, IfOk, IfErr, IfSome, OnOk};
 ghost use Rattle.outside_io.specs.believed.Seen.{KeepsFiles};
 ghost use Rattle.definitions.specs.believed.ProofText.{omissions_of};
@@ -6,7 +6,7 @@ ghost use Rattle.definitions.specs.believed.Verdict.{verdict};
 ghost use Rattle.refutation.specs.Proofs.{omission_meant};
 ghost use Rattle.jeldroft_args.specs.Ranges.{AreThreads};
 ghost use Rattle.jeldroft_inputs.specs.Inputs.{EndsBy};
-ghost use Rattle.jeldroft_show.specs.believed.Due.{HeldFiles, HoldsSuite, no_omissions, proof_in, proof_of, shown_words, words_shown};
+ghost use Rattle.jeldroft_show.specs.believed.Due.{HeldFiles, HoldsSuite, no_omissions, proof_in, proof_of, shown_words, text_shown, words_shown};
 ghost use Rattle.jeldroft_show.specs.Due.{IsLimit};
 ghost use Rattle.jeldroft_show.specs.Steps.{Gives, shown_by};
 ghost use Rattle.jeldroft_show.specs.believed.Words.{omissions_told, suite_words};
@@ -18,6 +18,8 @@ ghost use Rattle.tuple_index.specs.believed.PlanFault.{limit_passed};
 use crate::answer::Answer;
 use crate::gaps::lines_with_gaps;
 use crate::omissions::omissions_told;
+use crate::page_words::write_suite_page;
+use crate::rows::is_page;
 use crate::suite_words::{SuiteFacts, is_accepted, suite_words};
 use command_line::{FileKind, Stop, read_whole};
 use cov_model::TestModel;
@@ -130,7 +132,39 @@ fn write_words<R: Threads + Sync>(
     Ok(text)
 }
 
-// The words that show a suite with this verdict on it and on a proof.
+// The words that show a suite with this verdict, or its page.
+fn write_text<R: Threads + Sync>(
+    rt: &R,
+    alloc: Global,
+    args: &Show,
+    model: &TestModel,
+    plan: &Plan,
+    tests: &RowFile,
+    omissions: &Omissions,
+    verdict: &Verdict,
+) -> Result<Vec<u8>, NoMemory>
+    requires plan { plan.now ≡ plan_of model.now }
+    requires tests { IsFileOf model.now tests.now }
+    requires threads { AreThreads args.now.threads }
+    ensures { IfOk result (λ text. text.items ≡ text_shown args.now model.now (suite_seen tests.now) (map omission_meant omissions.now.omissions) verdict.now) }
+{
+    if is_page(args.format) {
+        write_suite_page(
+            rt,
+            alloc,
+            args,
+            model,
+            plan,
+            tests,
+            omissions.as_slice(),
+            verdict,
+        )
+    } else {
+        write_words(rt, alloc, args, model, plan, tests, omissions, verdict)
+    }
+}
+
+// The words or the page that show a suite with this verdict on it and on a proof.
 fn write_judged<R: Threads + Sync>(
     rt: &R,
     alloc: Global,
@@ -145,14 +179,13 @@ fn write_judged<R: Threads + Sync>(
     requires tests { IsFileOf model.now tests.now }
     requires proof { length proof.now ≤ 2 ^ 28 }
     requires threads { AreThreads args.now.threads }
-    ensures { IfOk result (λ text. text.items ≡ suite_words model.now (suite_seen tests.now) (is_some args.now.proof)
-        (omissions_told verdict.now (omissions_of model.now proof.now)) verdict.now) }
+    ensures { IfOk result (λ text. text.items ≡ text_shown args.now model.now (suite_seen tests.now) (omissions_told verdict.now (omissions_of model.now proof.now)) verdict.now) }
 {
     let omissions = omissions_told(alloc, model, verdict, proof)?;
-    write_words(rt, alloc, args, model, plan, tests, &omissions, verdict)
+    write_text(rt, alloc, args, model, plan, tests, &omissions, verdict)
 }
 
-// The answer that shows tests in words, with the verdict on them and on a proof.
+// The answer that shows tests in words or as a page, with the verdict on them and on a proof.
 fn judge<R: Threads + Sync>(
     rt: &R,
     alloc: Global,
@@ -166,7 +199,7 @@ fn judge<R: Threads + Sync>(
     requires tests { IsFileOf model.now tests }
     requires proof { length proof.now ≤ 2 ^ 28 }
     requires threads { AreThreads args.now.threads }
-    ensures { IfOk result (λ answer. shown_by answer ≡ shown_words model.now (seeds_seen tests) (suite_seen tests) (is_some args.now.proof) proof.now) }
+    ensures { IfOk result (λ answer. shown_by answer ≡ shown_words args.now model.now (seeds_seen tests) (suite_seen tests) proof.now) }
 {
     let verdict = check_rows(
         rt,
@@ -188,7 +221,7 @@ fn judge<R: Threads + Sync>(
     })
 }
 
-/// The answer that shows a table of tests of a model in words.
+/// The answer that shows a table of tests of a model in words or as a page.
 ///
 /// # Errors
 ///

@@ -54,8 +54,12 @@ fn add_rest(numbers: &SuiteNumbers, accepted: bool, text: &mut Vec<u8>) -> Resul
     }
 }
 
-// Adds how large the suite is, and how much of the demand it covers.
-fn add_coverage(numbers: &SuiteNumbers, accepted: bool, text: &mut Vec<u8>) -> Result<(), NoMemory>
+/// Adds how large the suite is, and how much of the demand it covers.
+pub(crate) fn add_coverage(
+    numbers: &SuiteNumbers,
+    accepted: bool,
+    text: &mut Vec<u8>,
+) -> Result<(), NoMemory>
     ensures { OnOk result (text.new.items ≡ text.old.items ++ words.coverage_words numbers.now accepted) }
 {
     add_size(numbers, text)?;
@@ -112,8 +116,12 @@ fn add_uncovered(
     add_around("refused: no test covers ", model, pairs, "\n", text)
 }
 
-// Adds the verdict.
-fn add_verdict(model: &TestModel, verdict: &Verdict, text: &mut Vec<u8>) -> Result<(), NoMemory>
+/// Adds the verdict.
+pub(crate) fn add_verdict(
+    model: &TestModel,
+    verdict: &Verdict,
+    text: &mut Vec<u8>,
+) -> Result<(), NoMemory>
     ensures { OnOk result (text.new.items ≡ text.old.items ++ words.verdict_words model.now verdict.now) }
 {
     match verdict {
@@ -140,8 +148,12 @@ fn add_verdict(model: &TestModel, verdict: &Verdict, text: &mut Vec<u8>) -> Resu
     }
 }
 
-// Adds that there is no proof, where one might have changed the verdict.
-fn add_no_proof(is_named: bool, accepted: bool, text: &mut Vec<u8>) -> Result<(), NoMemory>
+/// Adds that there is no proof, where one might have changed the verdict.
+pub(crate) fn add_no_proof(
+    is_named: bool,
+    accepted: bool,
+    text: &mut Vec<u8>,
+) -> Result<(), NoMemory>
     ensures { OnOk result (text.new.items ≡ text.old.items ++ words.proof_words is_named accepted) }
 {
     if is_named || accepted {
@@ -293,8 +305,8 @@ pub(crate) struct SuiteFacts<'a> {
     pub(crate) proof: &'a Omissions,
 }
 
-// Adds how many tests every suite needs, where the suite is accepted.
-fn add_least_if(
+/// Adds how many tests every suite needs, where the suite is accepted.
+pub(crate) fn add_least_if(
     accepted: bool,
     model: &TestModel,
     plan: &Plan,

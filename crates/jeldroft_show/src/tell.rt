@@ -52,11 +52,3 @@ pub(crate) fn tell_end<E: Sink>(
         Err(failure) => tell_failure(alloc, failure, diag),
     }
 }
-
-/// Tells that there are no pages.
-pub(crate) fn tell_no_page<E: Sink>(diag: &mut E) {
-    let _ = put_pieces(
-        diag,
-        &["jeldroft: error: a suite is shown as text, tsv, csv, json or markdown\n"],
-    );
-}

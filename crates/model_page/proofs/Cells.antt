@@ -9,8 +9,8 @@ use Rattle.cov_model.specs.believed.Sound.{ModelView}
 use Rattle.cov_model.specs.declared.parameter.Value.{Value}
 use Rattle.definitions.specs.believed.Report.{printed_turn, times_given}
 use Rattle.row_text.specs.declared.row_file.FileRow.{FileRow}
-use Rattle.suite_page.specs.TestsTable.{Cell, no_cell}
-use Rattle.model_page.specs.Tests.{cell_of}
+use Rattle.suite_page.specs.believed.TestsTable.{Cell, no_cell}
+use Rattle.model_page.specs.believed.Tests.{cell_of}
 
 -- the cell of a value that was shown so many times
 abbrev pub shown : ModelView → Value → ℕ → Cell

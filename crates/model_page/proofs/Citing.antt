@@ -8,7 +8,7 @@ use Rattle.cov_model.specs.believed.Sound.{ModelView}
 use Rattle.definitions.specs.believed.ProofText as proofs
 use Rattle.refutation.specs.Proofs.{omission_meant}
 use Rattle.refutation.specs.declared.omissions.Omission.{Omission}
-use Rattle.model_page.specs.Omitted.{cited_words}
+use Rattle.model_page.specs.believed.Omitted.{cited_words}
 
 -- the words for an omission that is cited, or for none
 pub cited_found : (m : ModelView) (omissions : List Omission) (i number : ℕ) (found : Option Omission) → slice_get omissions i ≡ found → i ≡ number - 1

@@ -10,7 +10,7 @@ use Rattle.std.proofs.lemmas.Nat.{div_below, le-div}
 use Rattle.cov_model.specs.believed.Sound.{ModelView}
 use Rattle.suite_facts.specs.believed.Coverages.{point_of}
 use Rattle.model_page.specs.Seen.{point_seen}
-use Rattle.model_page.specs.Curves.{curve_counts, point_at}
+use Rattle.model_page.specs.believed.Curves.{curve_counts, point_at}
 
 -- the end of a step
 module _ (count steps : ℕ) where

@@ -4,7 +4,8 @@ use Rattle.std.proofs.lemmas.Grind.{flat_map-append}
 use Rattle.std.proofs.lemmas.List.Folds.{flat_map-map}
 use Rattle.std.specs.List.{flat_map, range_with_len}
 use Rattle.value_text.proofs.ListLemmas.{range_with_len_more}
-use Rattle.html_page.specs.Trees.{Content, all_of, content_text}
+use Rattle.html_page.specs.believed.Trees.{Content, all_of}
+use Rattle.html_page.specs.Trees.{content_text}
 use Rattle.html_page.proofs.TreeTexts.{text_of_all}
 
 -- the text of one number more

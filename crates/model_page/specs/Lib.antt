@@ -1,6 +1,3 @@
 pub mod Parts
 pub mod Seen
-pub mod Curves
-pub mod Omitted
-pub mod Pages
-pub mod Tests
+pub mod believed

@@ -3,17 +3,19 @@ use Rattle.std.specs.Prelude.{ℕ, ◌-◌, ◌++◌, List, length, map, min, ta
 use Rattle.std.specs.List.{range_with_len}
 use Rattle.cov_model.specs.believed.Sound.{ModelView}
 use Rattle.definitions.specs.believed.ProofText as proofs
-use Rattle.html_page.specs.Pieces.{pieces_text}
-use Rattle.html_page.specs.Trees.{Content, content_text}
-use Rattle.model_page.specs.Curves.{picture_of}
-use Rattle.model_page.specs.Omitted.{omitted}
-use Rattle.model_page.specs.Pages.{PageWords, most_shown}
-use Rattle.model_page.specs.Tests.{param_names, test_of}
-use Rattle.suite_page.specs.Document.{left_out, opening}
-use Rattle.suite_page.specs.LeftOut.{groups_of}
-use Rattle.suite_page.specs.Pictures.{picture_tree}
-use Rattle.suite_page.specs.TestsTable.{tests_tree}
-use Rattle.suite_page.specs.Verdicts.{numbers_tree, verdict_tree}
+use Rattle.html_page.specs.believed.Pieces.{pieces_text}
+use Rattle.html_page.specs.believed.Trees.{Content}
+use Rattle.html_page.specs.Trees.{content_text}
+use Rattle.model_page.specs.believed.Curves.{picture_of}
+use Rattle.model_page.specs.believed.Omitted.{omitted}
+use Rattle.model_page.specs.believed.Pages.{PageWords, most_shown}
+use Rattle.model_page.specs.believed.Tests.{param_names, test_of}
+use Rattle.suite_page.specs.believed.Document.{left_out}
+use Rattle.suite_page.specs.Document.{opening}
+use Rattle.suite_page.specs.believed.LeftOut.{groups_of}
+use Rattle.suite_page.specs.believed.Pictures.{picture_tree}
+use Rattle.suite_page.specs.believed.TestsTable.{tests_tree}
+use Rattle.suite_page.specs.believed.Verdicts.{numbers_tree, verdict_tree}
 
 -- what stands before the tests
 abbrev pub head_text : ModelView → List (List (Option ℕ)) → PageWords → List ℕ

@@ -2,7 +2,7 @@
 use Rattle.std.specs.Prelude.{map}
 use Rattle.suite_facts.specs.declared.curve.CurvePoint.{CurvePoint}
 use Rattle.suite_page.specs.declared.picture.Point.{Point}
-use Rattle.model_page.specs.Pages as pages
+use Rattle.model_page.specs.believed.Pages as pages
 use Rattle.model_page.specs.declared.page.PageWords.{PageWords}
 
 abbrev pub words_seen : PageWords → pages.PageWords

@@ -5,9 +5,9 @@ ghost use Rattle.cov_model.specs.believed.Meaning.{value_at};
 ghost use Rattle.cov_model.specs.believed.Rows.{is_assigned, value_in};
 ghost use Rattle.definitions.specs.believed.Report.{printed, printed_turn};
 ghost use Rattle.html_page.specs.Trees.{content_text};
-ghost use Rattle.model_page.specs.Tests.{cell_of};
+ghost use Rattle.model_page.specs.believed.Tests.{cell_of};
 ghost use Rattle.row_text.specs.RowFiles.{suite_seen};
-ghost use Rattle.suite_page.specs.TestsTable.{cell_tree, no_cell};
+ghost use Rattle.suite_page.specs.believed.TestsTable.{cell_tree, no_cell};
 
 use cov_model::{Cells, TestModel, Value, ValueNo};
 use html_page::PageText;

@@ -2,7 +2,7 @@
 ghost use Rattle.std.specs.Prelude.{◌≡◌, ◌≤◌, ◌<◌, ◌+◌, ◌*◌, ◌/◌, ◌^◌, All, IfOk, length, map};
 ghost use Rattle.cov_model.specs.Fits.{FitsModel};
 ghost use Rattle.model_page.specs.Seen.{point_seen};
-ghost use Rattle.model_page.specs.Curves.{curve_counts, point_at};
+ghost use Rattle.model_page.specs.believed.Curves.{curve_counts, point_at};
 ghost use Rattle.row_text.specs.RowFiles.{suite_seen};
 ghost use Rattle.tuple_index.specs.Plan.{plan_of};
 

@@ -2,8 +2,8 @@
 ghost use Rattle.std.specs.Prelude.{◌≡◌, ◌++◌, ◌-◌, IfOk, OnOk, Some, map, slice_get, take};
 ghost use Rattle.std.specs.List.{flat_map};
 ghost use Rattle.cov_model.specs.Views.{rule_view};
-ghost use Rattle.model_page.specs.Omitted.{causes_of, cited_words, combination_words, omitted, reason_of, rule_reason};
-ghost use Rattle.model_page.specs.Pages.{most_shown};
+ghost use Rattle.model_page.specs.believed.Omitted.{causes_of, cited_words, combination_words, omitted, reason_of, rule_reason};
+ghost use Rattle.model_page.specs.believed.Pages.{most_shown};
 ghost use Rattle.model_words.specs.Seen.{explanation_seen};
 ghost use Rattle.model_words.specs.believed.Explanations.{explained};
 ghost use Rattle.model_words.specs.believed.Words.{listed, pair_words};

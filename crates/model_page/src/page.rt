@@ -1,15 +1,16 @@
 //! The whole of a page.
 ghost use Rattle.std.specs.Prelude.{◌≡◌, ◌≤◌, ◌^◌, ◌++◌, All, IfOk, OnOk, if◌then◌else◌, length, map};
 ghost use Rattle.cov_model.specs.Fits.{FitsModel};
-ghost use Rattle.html_page.specs.Trees.{content_text, page_text};
+ghost use Rattle.html_page.specs.Trees.{content_text};
+ghost use Rattle.html_page.specs.believed.Trees.{page_text};
 ghost use Rattle.model_page.specs.Parts.{head_text, omitted_part};
 ghost use Rattle.model_page.specs.Seen.{words_seen};
-ghost use Rattle.model_page.specs.Curves.{picture_of};
-ghost use Rattle.model_page.specs.Pages.{page_of};
+ghost use Rattle.model_page.specs.believed.Curves.{picture_of};
+ghost use Rattle.model_page.specs.believed.Pages.{page_of};
 ghost use Rattle.refutation.specs.Proofs.{omission_meant};
 ghost use Rattle.row_text.specs.RowFiles.{suite_seen};
 ghost use Rattle.suite_facts.specs.believed.Coverages.{numbers_of};
-ghost use Rattle.suite_page.specs.Pictures.{picture_tree};
+ghost use Rattle.suite_page.specs.believed.Pictures.{picture_tree};
 ghost use Rattle.tuple_index.specs.Plan.{plan_of};
 
 use crate::curve::curve_points;

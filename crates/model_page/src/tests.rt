@@ -4,10 +4,10 @@ ghost use Rattle.std.specs.List.{flat_map, range_with_len};
 ghost use Rattle.cov_model.specs.believed.Valid.{param_numbers};
 ghost use Rattle.html_page.specs.Trees.{content_text};
 ghost use Rattle.model_page.specs.Parts.{tests_part};
-ghost use Rattle.model_page.specs.Pages.{most_shown};
-ghost use Rattle.model_page.specs.Tests.{cell_of, param_names, test_of};
+ghost use Rattle.model_page.specs.believed.Pages.{most_shown};
+ghost use Rattle.model_page.specs.believed.Tests.{cell_of, param_names, test_of};
 ghost use Rattle.row_text.specs.RowFiles.{suite_seen};
-ghost use Rattle.suite_page.specs.TestsTable.{cell_tree, test_tree};
+ghost use Rattle.suite_page.specs.believed.TestsTable.{cell_tree, test_tree};
 
 use crate::cell::put_cell_of;
 use cov_model::TestModel;

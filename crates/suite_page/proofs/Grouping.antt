@@ -5,13 +5,14 @@ use Rattle.std.proofs.lemmas.List.{get_or-map, length-map, take-map}
 use Rattle.std.proofs.lemmas.List.Folds.{flat_map-map}
 use Rattle.std.specs.List.{filter, flat_map, list_any, range_with_len}
 use Rattle.value_text.proofs.ListLemmas.{list_any-map, range_with_len_more}
-use Rattle.html_page.specs.Pieces.{pieces_text}
+use Rattle.html_page.specs.believed.Pieces.{pieces_text}
 use Rattle.html_page.specs.Trees.{content_text}
 use Rattle.html_page.proofs.TreeTexts.{no_pieces}
-use Rattle.suite_page.specs.Document.{left_out}
+use Rattle.suite_page.specs.believed.Document.{left_out}
 use Rattle.suite_page.specs.Laws.{group_parts}
-use Rattle.suite_page.specs.LeftOut as defined
-use Rattle.suite_page.specs.LeftOut.{Group, group_at, group_closing, group_of, group_opening, groups_of, is_by, item_tree, left_out_closing, left_out_opening, no_omission, omission_at}
+use Rattle.suite_page.specs.believed.LeftOut as defined
+use Rattle.suite_page.specs.believed.LeftOut.{Group, group_at, group_of, groups_of, is_by, item_tree, no_omission, omission_at}
+use Rattle.suite_page.specs.LeftOut.{group_closing, group_opening, left_out_closing, left_out_opening}
 use Rattle.suite_page.specs.Seen.{combination_text, omission_seen}
 use Rattle.suite_page.specs.declared.left_out.Omission.{Omission}
 use Rattle.suite_page.proofs.Wholes.{left_out_whole, three}

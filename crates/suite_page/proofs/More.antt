@@ -1,12 +1,12 @@
 -- How many follow, where some do and where none does; and a sentence that says nothing.
 use Rattle.std.proofs.Common.{◌≡◌, ◌≢◌, ℕ, zero, suc, List, [], ◌∷◌, ◌++◌, ◌∙◌, length, refl, sym, ap, append-nil, codes, arith}
 use Rattle.std.specs.Prelude.{decimal}
-use Rattle.html_page.specs.Pieces.{Start, End, Text, pieces_text}
+use Rattle.html_page.specs.believed.Pieces.{Start, End, Text, pieces_text}
 use Rattle.html_page.specs.Trees.{content_text}
 use Rattle.html_page.specs.declared.tag.Tag.TheVariants as tag
 use Rattle.html_page.proofs.TreeTexts.{behind, no_pieces}
-use Rattle.suite_page.specs.Sections.{more_tree, words_for}
-use Rattle.suite_page.specs.Verdicts.{sentence_tree}
+use Rattle.suite_page.specs.believed.Sections.{more_tree, words_for}
+use Rattle.suite_page.specs.believed.Verdicts.{sentence_tree}
 
 pub more_none : (count : ℕ) (one several before : List ℕ) → count ≡ 0 → before ≡ before ++ content_text (more_tree count one several)
 more_none zero one several before none = sym (ap (λ bytes. before ++ bytes) no_pieces ∙ append-nil before)

@@ -2,17 +2,21 @@
 use Rattle.std.proofs.Common.{◌≡◌, ℕ, List, [], ◌∷◌, ◌++◌, ◌∙◌, refl, sym, ap, codes, append_assoc}
 use Rattle.std.proofs.lemmas.List.Concat.{flat_map-cons}
 use Rattle.std.specs.List.{flat_map}
-use Rattle.html_page.specs.Pieces.{Piece, Start, End, pieces_text}
-use Rattle.html_page.specs.Trees.{Content, all_of, content_text, followed_by, page_text, pieces_of}
+use Rattle.html_page.specs.believed.Pieces.{Piece, Start, End, pieces_text}
+use Rattle.html_page.specs.believed.Trees.{Content, all_of, followed_by, page_text, pieces_of}
+use Rattle.html_page.specs.Trees.{content_text}
 use Rattle.html_page.specs.declared.tag.Tag.TheVariants as tag
 use Rattle.html_page.proofs.TreeTexts.{no_pieces, pieces_behind, pieces_followed, text_followed, text_of_all}
-use Rattle.suite_page.specs.Document.{Suite, closing, document_tree, left_out, opening, suite_tree}
+use Rattle.suite_page.specs.believed.Document.{Suite, document_tree, left_out, suite_tree}
+use Rattle.suite_page.specs.Document.{closing, opening}
 use Rattle.suite_page.specs.Laws.{PagesAreWhole, group_parts, left_out_parts, tests_parts}
-use Rattle.suite_page.specs.LeftOut.{Group, group_closing, group_opening, group_tree, item_tree, left_out_closing, left_out_opening, more_combinations}
+use Rattle.suite_page.specs.believed.LeftOut.{Group, group_tree, item_tree, more_combinations}
+use Rattle.suite_page.specs.LeftOut.{group_closing, group_opening, left_out_closing, left_out_opening}
 use Rattle.suite_page.specs.Sections.{section_opening}
-use Rattle.suite_page.specs.Pictures.{picture_tree}
-use Rattle.suite_page.specs.TestsTable.{Test, name_tree, test_tree, tests_closing, tests_opening, tests_tree, more_tests, table_opening}
-use Rattle.suite_page.specs.Verdicts.{numbers_tree, verdict_tree}
+use Rattle.suite_page.specs.believed.Pictures.{picture_tree}
+use Rattle.suite_page.specs.believed.TestsTable.{Test, name_tree, test_tree, tests_tree, more_tests}
+use Rattle.suite_page.specs.TestsTable.{tests_closing, tests_opening, table_opening}
+use Rattle.suite_page.specs.believed.Verdicts.{numbers_tree, verdict_tree}
 
 -- three texts behind another
 pub three : (before a b z one two now : List ℕ) → one ≡ before ++ a → two ≡ one ++ b → now ≡ two ++ z → now ≡ before ++ (a ++ b ++ z)

@@ -1,13 +1,17 @@
 -- The parts of a page in a row are the text of its tree.
 use Rattle.std.specs.Prelude.{◌≡◌, ℕ, List, [], ◌∷◌, ◌++◌}
 use Rattle.std.specs.List.{flat_map}
-use Rattle.html_page.specs.Pieces.{pieces_text}
-use Rattle.html_page.specs.Trees.{content_text, page_text}
-use Rattle.suite_page.specs.Document.{Suite, closing, opening, suite_tree}
-use Rattle.suite_page.specs.LeftOut.{Group, group_closing, group_opening, item_tree, left_out_closing, left_out_opening}
-use Rattle.suite_page.specs.Pictures.{picture_tree}
-use Rattle.suite_page.specs.TestsTable.{Test, test_tree, tests_closing, tests_opening}
-use Rattle.suite_page.specs.Verdicts.{numbers_tree, verdict_tree}
+use Rattle.html_page.specs.believed.Pieces.{pieces_text}
+use Rattle.html_page.specs.Trees.{content_text}
+use Rattle.html_page.specs.believed.Trees.{page_text}
+use Rattle.suite_page.specs.believed.Document.{Suite, suite_tree}
+use Rattle.suite_page.specs.Document.{closing, opening}
+use Rattle.suite_page.specs.believed.LeftOut.{Group, item_tree}
+use Rattle.suite_page.specs.LeftOut.{group_closing, group_opening, left_out_closing, left_out_opening}
+use Rattle.suite_page.specs.believed.Pictures.{picture_tree}
+use Rattle.suite_page.specs.believed.TestsTable.{Test, test_tree}
+use Rattle.suite_page.specs.TestsTable.{tests_closing, tests_opening}
+use Rattle.suite_page.specs.believed.Verdicts.{numbers_tree, verdict_tree}
 
 -- the parts of the section of tests, of a group, and of the section of what is left out, if something is
 abbrev pub tests_parts : List (List ℕ) → List Test → ℕ → List ℕ

@@ -1,8 +1,7 @@
-pub mod Document
-pub mod LeftOut
 pub mod Laws
-pub mod Pictures
-pub mod Sections
 pub mod Seen
+pub mod Document
+pub mod believed
+pub mod LeftOut
+pub mod Sections
 pub mod TestsTable
-pub mod Verdicts

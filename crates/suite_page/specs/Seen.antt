@@ -1,9 +1,9 @@
 -- What the code's cells, pictures and omissions are.
 use Rattle.std.specs.Prelude.{ℕ, List, map}
 use Rattle.html_page.specs.Trees.{content_text}
-use Rattle.suite_page.specs.LeftOut as left_out
-use Rattle.suite_page.specs.Pictures as pictures
-use Rattle.suite_page.specs.TestsTable as tests
+use Rattle.suite_page.specs.believed.LeftOut as left_out
+use Rattle.suite_page.specs.believed.Pictures as pictures
+use Rattle.suite_page.specs.believed.TestsTable as tests
 use Rattle.suite_page.specs.declared.left_out.Omission.{Omission}
 use Rattle.suite_page.specs.declared.picture.Picture.{Picture}
 use Rattle.suite_page.specs.declared.tests_table.Cell.{Cell}

@@ -1,7 +1,8 @@
 ghost use Rattle.std.specs.Prelude.{◌≡◌, ◌++◌, OnOk, IfOk, codes};
 ghost use Rattle.std.specs.String.{string_bytes};
-ghost use Rattle.html_page.specs.Pieces.{pieces_text};
-ghost use Rattle.suite_page.specs.Document.{closing, opening, title_of};
+ghost use Rattle.html_page.specs.believed.Pieces.{pieces_text};
+ghost use Rattle.suite_page.specs.Document.{closing, opening};
+ghost use Rattle.suite_page.specs.believed.Document.{title_of};
 
 use html_page::{Attribute, AttributeName, PageText, Piece, Tag};
 use std::alloc::Global;

@@ -1,10 +1,12 @@
 ghost use Rattle.std.specs.Prelude.{◌≡◌, ◌<◌, ◌++◌, ◌∷◌, [], OnOk, length, map};
 ghost use Rattle.std.specs.List.{filter, flat_map, list_any};
-ghost use Rattle.html_page.specs.Pieces.{pieces_text};
-ghost use Rattle.html_page.specs.Trees.{all_of, content_text};
-ghost use Rattle.suite_page.specs.Document.{left_out};
+ghost use Rattle.html_page.specs.believed.Pieces.{pieces_text};
+ghost use Rattle.html_page.specs.believed.Trees.{all_of};
+ghost use Rattle.html_page.specs.Trees.{content_text};
+ghost use Rattle.suite_page.specs.believed.Document.{left_out};
 ghost use Rattle.suite_page.specs.Laws.{group_parts};
-ghost use Rattle.suite_page.specs.LeftOut.{group_at, group_closing, group_of, group_opening, groups_of, is_by, item_tree, left_out_closing, left_out_opening};
+ghost use Rattle.suite_page.specs.believed.LeftOut.{group_at, group_of, groups_of, is_by, item_tree};
+ghost use Rattle.suite_page.specs.LeftOut.{group_closing, group_opening, left_out_closing, left_out_opening};
 ghost use Rattle.suite_page.specs.Seen.{combination_text, omission_seen};
 
 use crate::section::{put_more, put_number, put_section};

@@ -1,7 +1,7 @@
 ghost use Rattle.std.specs.Prelude.{◌≡◌, ◌++◌, ◌≤◌, OnOk, IfOk};
 ghost use Rattle.std.specs.String.{string_bytes};
 ghost use Rattle.html_page.specs.Trees.{content_text};
-ghost use Rattle.suite_page.specs.Pictures.{across, axes, caption, curve_tree, description, down, drawing, label_tree, labels, picture_tree, place_text, points_text, share, tests_label, total_label, total_words};
+ghost use Rattle.suite_page.specs.believed.Pictures.{across, axes, caption, curve_tree, description, down, drawing, label_tree, labels, picture_tree, place_text, points_text, share, tests_label, total_label, total_words};
 ghost use Rattle.suite_page.specs.Seen.{picture_seen};
 
 use crate::section::{put_counted, put_section, words_for};

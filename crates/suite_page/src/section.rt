@@ -1,8 +1,9 @@
 ghost use Rattle.std.specs.Prelude.{◌≡◌, ◌++◌, [], ◌∷◌, OnOk, decimal};
-ghost use Rattle.html_page.specs.Pieces.{pieces_text};
-ghost use Rattle.html_page.specs.Pieces as pieces;
+ghost use Rattle.html_page.specs.believed.Pieces.{pieces_text};
+ghost use Rattle.html_page.specs.believed.Pieces as pieces;
 ghost use Rattle.html_page.specs.Trees.{content_text};
-ghost use Rattle.suite_page.specs.Sections.{more_tree, section_opening, words_for};
+ghost use Rattle.suite_page.specs.believed.Sections.{more_tree, words_for};
+ghost use Rattle.suite_page.specs.Sections.{section_opening};
 
 use html_page::{PageText, Piece, Tag};
 use itoa::Buffer;

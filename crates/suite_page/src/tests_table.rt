@@ -1,8 +1,10 @@
 ghost use Rattle.std.specs.Prelude.{◌≡◌, ◌++◌, OnOk, map};
-ghost use Rattle.html_page.specs.Pieces.{pieces_text};
-ghost use Rattle.html_page.specs.Trees.{all_of, content_text};
+ghost use Rattle.html_page.specs.believed.Pieces.{pieces_text};
+ghost use Rattle.html_page.specs.believed.Trees.{all_of};
+ghost use Rattle.html_page.specs.Trees.{content_text};
 ghost use Rattle.suite_page.specs.Seen.{cell_seen};
-ghost use Rattle.suite_page.specs.TestsTable.{cell_tree, name_tree, test_closing, test_opening, tests_closing, tests_opening};
+ghost use Rattle.suite_page.specs.believed.TestsTable.{cell_tree, name_tree};
+ghost use Rattle.suite_page.specs.TestsTable.{test_closing, test_opening, tests_closing, tests_opening};
 
 use crate::section::{put_more, put_number, put_section};
 use html_page::{Attribute, AttributeName, PageText, Piece, Tag};

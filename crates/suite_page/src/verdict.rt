@@ -1,7 +1,8 @@
 ghost use Rattle.std.specs.Prelude.{◌≡◌, ◌++◌, OnOk, map};
-ghost use Rattle.html_page.specs.Pieces.{pieces_text};
-ghost use Rattle.html_page.specs.Trees.{all_of, content_text};
-ghost use Rattle.suite_page.specs.Verdicts.{heading_tree, numbers_tree, reason_tree, sentence_tree, verdict_class, verdict_tree};
+ghost use Rattle.html_page.specs.believed.Pieces.{pieces_text};
+ghost use Rattle.html_page.specs.believed.Trees.{all_of};
+ghost use Rattle.html_page.specs.Trees.{content_text};
+ghost use Rattle.suite_page.specs.believed.Verdicts.{heading_tree, numbers_tree, reason_tree, sentence_tree, verdict_class, verdict_tree};
 
 use crate::section::put_section;
 use html_page::{Attribute, AttributeName, PageText, Piece, Tag};

@@ -1,5 +1,5 @@
 -- What each command promises of a run, from one moment to another: what the contract of its call says.
-use Rattle.std.specs.Prelude.{◌≡◌, ◌≢◌, ℕ, false, true, not, List, Option, Some, None, IsSomeAnd}
+use Rattle.std.specs.Prelude.{◌≡◌, ◌≢◌, ℕ, not, List, Option, Some, None, IsSomeAnd}
 use Rattle.definitions.specs.believed.Laws.{IsCertified}
 use Rattle.check_cli.specs.believed.Runs as checked
 use Rattle.jeldroft_args.specs.declared.check.Check.{Check}
@@ -11,7 +11,6 @@ use Rattle.jeldroft_args.specs.declared.generate.Generate.{Generate}
 use Rattle.jeldroft_args.specs.declared.shrink.Shrink.{Shrink}
 use Rattle.jeldroft_args.specs.declared.show.Show.{Show}
 use Rattle.jeldroft_args.specs.declared.lint.Lint.{Lint}
-use Rattle.jeldroft_args.specs.declared.format.Format.TheVariants as formats
 use Rattle.jeldroft_args.specs.declared.command.Command.{Command}
 use Rattle.jeldroft_args.specs.declared.command.Command.TheVariants as asks
 use Rattle.jeldroft_check.specs.believed.Runs as checks
@@ -80,10 +79,9 @@ pub record KeepsShrink (args : Shrink) (before after : Moment) (status : ℕ) : 
   pub answered : status ≢ 1
 
 pub record KeepsShow (args : Show) (before after : Moment) (status : ℕ) : Type 0 where
-  pub certified : status ≡ 0 → (held : due.HeldFiles) → args.format ≡ formats.Text → due.Holds before.folder.files args held → HoldsCertified args held
-  pub shows : (held : due.HeldFiles) → due.is_page args.format ≡ false → due.Holds before.folder.files args held
+  pub certified : status ≡ 0 → (held : due.HeldFiles) → due.form_of args.format ≡ None → due.Holds before.folder.files args held → HoldsCertified args held
+  pub shows : (held : due.HeldFiles) → due.Holds before.folder.files args held
       → shown.ShowsAs (due.Due (due.form_of args.format) args held) args.output before after status
-  pub no_page : due.is_page args.format ≡ true → status ≡ 2
   pub leaves : shown.LeavesShown args.output before after status
 
 pub record KeepsLint (args : Lint) (before after : Moment) (status : ℕ) : Type 0 where

@@ -3,7 +3,7 @@ use Rattle.std.specs.Prelude.{◌≡◌, ℕ, Bool, true, false, List, length, m
 use Rattle.outside_io.specs.believed.Files.{Files}
 use Rattle.cov_model.specs.believed.Sound.{ModelView}
 use Rattle.definitions.specs.believed.Limits.{ProofFile, most_bytes}
-use Rattle.definitions.specs.believed.ProofText.{omissions_of}
+use Rattle.definitions.specs.believed.ProofText.{Omission, omissions_of}
 use Rattle.definitions.specs.believed.Verdict.{verdict}
 use Rattle.tuple_index.specs.believed.PlanFault.{limit_passed}
 use Rattle.proof_check.specs.believed.Checks.{verdict_given}
@@ -21,6 +21,8 @@ use Rattle.jeldroft_files.specs.believed.Tables.{is_comma}
 use Rattle.jeldroft_files.specs.declared.failure.Cause.{Cause}
 use Rattle.jeldroft_files.specs.declared.failure.Cause.TheVariants as causes
 use Rattle.jeldroft_inputs.specs.believed.Inputs.{GivesModel, and_then, tests_of, unless}
+use Rattle.proof_check.specs.declared.verdict.Verdict.{Verdict}
+use Rattle.jeldroft_show.specs.believed.Pages.{suite_page}
 use Rattle.jeldroft_show.specs.believed.Shows.{Shown}
 use Rattle.jeldroft_show.specs.believed.Words.{is_accepted, omissions_told, suite_words}
 
@@ -76,20 +78,27 @@ abbrev pub proof_of : Option (List ℕ) → Option (List ℕ) → Result (List �
 proof_of None held = Ok no_omissions
 proof_of (Some name) held = proof_in held
 
--- the words on rows, each with its line, and on a proof, which may not be named: they say what the checker says, and the
--- suite is accepted where the checker accepts it
-abbrev pub shown_words : ModelView → List (ℕ × List (Option ℕ)) → List (List (Option ℕ)) → Bool → List ℕ → Shown
-shown_words m lines rows is_named bytes =
-    let given = verdict_given (verdict m lines bytes) in
-    record { text = suite_words m rows is_named (omissions_told given (omissions_of m bytes)) given; accepted = is_accepted given }
+-- the words on a suite with this verdict, or its page
+abbrev pub text_shown : Show → ModelView → List (List (Option ℕ)) → List Omission → Verdict → List ℕ
+text_shown args m rows omissions given =
+    if is_page args.format
+    then suite_page args.model.name m rows (is_some args.proof) omissions given
+    else suite_words m rows (is_some args.proof) omissions given
 
--- the suite of the table in words
+-- the words or the page on rows, each with its line, and on a proof, which may not be named: they say what the checker
+-- says, and the suite is accepted where the checker accepts it
+abbrev pub shown_words : Show → ModelView → List (ℕ × List (Option ℕ)) → List (List (Option ℕ)) → List ℕ → Shown
+shown_words args m lines rows bytes =
+    let given = verdict_given (verdict m lines bytes) in
+    record { text = text_shown args m rows (omissions_told given (omissions_of m bytes)) given; accepted = is_accepted given }
+
+-- the suite of the table in words, or its page
 abbrev pub words_shown : Show → ModelView → HeldFiles → Result Shown Cause
 words_shown args m held =
     unless (option_map stop_of_plan (limit_passed m)) (and_then (tests_of m (is_comma args.delimiter args.table) held.table) (λ reading.
-    and_then (proof_of args.proof held.proof) (λ bytes. Ok (shown_words m reading.rows (map (λ row. row.1) reading.rows) (is_some args.proof) bytes))))
+    and_then (proof_of args.proof held.proof) (λ bytes. Ok (shown_words args m reading.rows (map (λ row. row.1) reading.rows) bytes))))
 
--- what is shown in a form, or else in words
+-- what is shown in a form, or else in words or as a page
 abbrev pub shown_due : Option RowForm → Show → ModelView → HeldFiles → Result Shown Cause
 shown_due (Some form) args m held = rows_shown form args m held.table
 shown_due None args m held = words_shown args m held

@@ -1,6 +1,6 @@
 use Rattle.std.proofs.Common.{◌≡◌, ◌++◌, take}
 use Rattle.std.specs.List.{flat_map}
-use Rattle.html_page.specs.Pieces.{escaped}
+use Rattle.html_page.specs.believed.Pieces.{escaped}
 use Rattle.html_page.proofs.escape.put_escaped.Given as goal
 
 abbrev pub invariant-loop-byte : goal.invariant-loop-byte

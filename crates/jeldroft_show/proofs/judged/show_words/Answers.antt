@@ -1,4 +1,4 @@
-use Rattle.std.proofs.Common.{◌≡◌, Err, inl, ap, subst, sym, ◌∙◌, is_some}
+use Rattle.std.proofs.Common.{◌≡◌, Err, inl, ap, subst, sym, ◌∙◌}
 use Rattle.std.proofs.lemmas.Result.{err_from_is_err_and}
 use Rattle.jeldroft_files.specs.believed.Failures.{status_of}
 use Rattle.jeldroft_files.specs.believed.Tables.{is_comma}
@@ -53,7 +53,7 @@ returns-clause-gives g c = λ held holds.
     (c.in_ok-tests.ensures.tests held.table (ap (g.F.Folder.seen c.args.files.now).files c.as_str-2.ensures.value ∙ holds.table)))
     (c.in_ok-proof.ensures.proof held.proof
     (suite_kept args held (g.F.Folder.seen c.args.files.now) (g.F.Folder.seen c.read_tests.new.files) c.in_ok-tests.ensures.files holds).proof)
-    (c.in_ok-answer.ensures ∙ ap (shown_words m (seeds_seen tests) (suite_seen tests) (is_some args.proof)) c.as_slice.ensures.value)
+    (c.in_ok-answer.ensures ∙ ap (shown_words args m (seeds_seen tests) (suite_seen tests)) c.as_slice.ensures.value)
 
 pub returns-clause-files : goal.returns-clause-files
 returns-clause-files g c = λ name. c.in_ok-proof.ensures.files name ∙ c.in_ok-tests.ensures.files name

@@ -2,8 +2,8 @@ use Rattle.std.proofs.Common.{◌≡◌, ◌++◌, ◌<◌, List, [], get_or, le
 use Rattle.std.specs.Prelude.{None, OnOk}
 use Rattle.html_page.specs.Trees.{content_text}
 use Rattle.row_text.specs.declared.row_file.FileRow.{FileRow}
-use Rattle.suite_page.specs.TestsTable.{cell_tree}
-use Rattle.model_page.specs.Tests.{cell_of}
+use Rattle.suite_page.specs.believed.TestsTable.{cell_tree}
+use Rattle.model_page.specs.believed.Tests.{cell_of}
 use Rattle.model_page.proofs.Cells.{cell_absent, cell_given}
 use Rattle.model_page.proofs.cell.put_cell_of.Goals as goal
 

@@ -4,7 +4,7 @@ use Rattle.row_text.specs.RowFiles.{suite_seen}
 use Rattle.row_text.specs.declared.row_file.FileRow.{FileRow}
 use Rattle.suite_facts.specs.believed.Coverages.{point_of}
 use Rattle.model_page.specs.Seen.{point_seen}
-use Rattle.model_page.specs.Curves.{curve_counts}
+use Rattle.model_page.specs.believed.Curves.{curve_counts}
 use Rattle.model_page.proofs.Curving.{counts_rise, counts_within, points_are}
 use Rattle.model_page.proofs.curve.curve_points.Goals as goal
 

@@ -2,7 +2,7 @@ use Rattle.std.proofs.Common.{◌≡◌, ◌++◌, map, take}
 use Rattle.std.specs.Prelude.{◌-◌, slice_get}
 use Rattle.std.specs.List.{flat_map}
 use Rattle.refutation.specs.Proofs.{omission_meant}
-use Rattle.model_page.specs.Omitted.{cited_words}
+use Rattle.model_page.specs.believed.Omitted.{cited_words}
 use Rattle.model_page.proofs.omitted.add_cited.Given as goal
 
 abbrev pub invariant-loop-number : goal.invariant-loop-number

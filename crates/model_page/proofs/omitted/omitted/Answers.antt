@@ -2,8 +2,8 @@ use Rattle.std.proofs.Common.{List, ℕ, take, map, ap, ◌∙◌}
 use Rattle.std.proofs.lemmas.List.{take_min}
 use Rattle.refutation.specs.Proofs.{omission_meant}
 use Rattle.refutation.specs.declared.omissions.Omission.{Omission}
-use Rattle.model_page.specs.Omitted.{omitted}
-use Rattle.model_page.specs.Pages.{most_shown}
+use Rattle.model_page.specs.believed.Omitted.{omitted}
+use Rattle.model_page.specs.believed.Pages.{most_shown}
 use Rattle.model_page.proofs.Citing.{first_omitted}
 use Rattle.model_page.proofs.omitted.omitted.Goals as goal
 

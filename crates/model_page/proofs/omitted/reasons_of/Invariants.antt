@@ -1,5 +1,5 @@
 use Rattle.std.proofs.Common.{◌≡◌, map, take}
-use Rattle.model_page.specs.Omitted.{reason_of}
+use Rattle.model_page.specs.believed.Omitted.{reason_of}
 use Rattle.model_page.proofs.omitted.reasons_of.Given as goal
 
 abbrev pub invariant-loop-cause : goal.invariant-loop-cause

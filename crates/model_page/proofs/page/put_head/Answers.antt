@@ -1,13 +1,13 @@
 use Rattle.std.proofs.Common.{◌++◌, ◌∙◌, map}
-use Rattle.html_page.specs.Pieces.{pieces_text}
+use Rattle.html_page.specs.believed.Pieces.{pieces_text}
 use Rattle.html_page.specs.Trees.{content_text}
 use Rattle.row_text.specs.RowFiles.{suite_seen}
 use Rattle.suite_page.specs.Document.{opening}
-use Rattle.suite_page.specs.Pictures.{picture_tree}
-use Rattle.suite_page.specs.Verdicts.{numbers_tree, verdict_tree}
+use Rattle.suite_page.specs.believed.Pictures.{picture_tree}
+use Rattle.suite_page.specs.believed.Verdicts.{numbers_tree, verdict_tree}
 use Rattle.suite_page.proofs.Wholes.{three, two_behind}
 use Rattle.model_page.specs.Seen.{words_seen}
-use Rattle.model_page.specs.Curves.{picture_of}
+use Rattle.model_page.specs.believed.Curves.{picture_of}
 use Rattle.model_page.proofs.page.put_head.Goals as goal
 
 pub returns : goal.returns

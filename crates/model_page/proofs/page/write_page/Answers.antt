@@ -1,5 +1,5 @@
 use Rattle.std.proofs.Common.{[], ◌++◌, ◌∙◌, map, ap}
-use Rattle.html_page.specs.Pieces.{pieces_text}
+use Rattle.html_page.specs.believed.Pieces.{pieces_text}
 use Rattle.html_page.specs.Trees.{content_text}
 use Rattle.refutation.specs.Proofs.{omission_meant}
 use Rattle.row_text.specs.RowFiles.{suite_seen}
@@ -7,7 +7,7 @@ use Rattle.suite_page.specs.Document.{closing}
 use Rattle.suite_page.proofs.Wholes.{three, two_behind, trees_whole}
 use Rattle.model_page.specs.Parts.{head_text, omitted_part, tests_part}
 use Rattle.model_page.specs.Seen.{words_seen}
-use Rattle.model_page.specs.Pages.{suite_of}
+use Rattle.model_page.specs.believed.Pages.{suite_of}
 use Rattle.model_page.proofs.page.write_page.Goals as goal
 
 pub returns : goal.returns

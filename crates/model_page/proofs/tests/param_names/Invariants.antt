@@ -1,5 +1,5 @@
 use Rattle.std.proofs.Common.{◌≡◌, map, take}
-use Rattle.model_page.specs.Tests.{param_names}
+use Rattle.model_page.specs.believed.Tests.{param_names}
 use Rattle.model_page.proofs.tests.param_names.Given as goal
 
 abbrev pub invariant-loop-param : goal.invariant-loop-param

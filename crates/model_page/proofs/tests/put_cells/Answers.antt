@@ -1,8 +1,8 @@
 use Rattle.std.proofs.Common.{[], get_or, take}
 use Rattle.html_page.specs.Trees.{content_text}
 use Rattle.row_text.specs.RowFiles.{suite_seen}
-use Rattle.suite_page.specs.TestsTable.{cell_tree}
-use Rattle.model_page.specs.Tests.{cell_of}
+use Rattle.suite_page.specs.believed.TestsTable.{cell_tree}
+use Rattle.model_page.specs.believed.Tests.{cell_of}
 use Rattle.model_page.proofs.Putting.{one_more}
 use Rattle.model_page.proofs.tests.put_cells.Goals as goal
 

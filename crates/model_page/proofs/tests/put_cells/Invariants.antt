@@ -3,8 +3,8 @@ use Rattle.std.specs.Prelude.{slice_index_or}
 use Rattle.std.specs.List.{flat_map, range_with_len}
 use Rattle.html_page.specs.Trees.{content_text}
 use Rattle.row_text.specs.RowFiles.{suite_seen}
-use Rattle.suite_page.specs.TestsTable.{cell_tree}
-use Rattle.model_page.specs.Tests.{cell_of}
+use Rattle.suite_page.specs.believed.TestsTable.{cell_tree}
+use Rattle.model_page.specs.believed.Tests.{cell_of}
 use Rattle.model_page.proofs.tests.put_cells.Given as goal
 
 -- the cells before this one

@@ -1,7 +1,7 @@
 use Rattle.html_page.specs.Trees.{content_text}
 use Rattle.row_text.specs.RowFiles.{suite_seen}
-use Rattle.suite_page.specs.TestsTable.{test_tree}
-use Rattle.model_page.specs.Tests.{test_of}
+use Rattle.suite_page.specs.believed.TestsTable.{test_tree}
+use Rattle.model_page.specs.believed.Tests.{test_of}
 use Rattle.model_page.proofs.Putting.{one_more}
 use Rattle.model_page.proofs.tests.put_rows.Goals as goal
 

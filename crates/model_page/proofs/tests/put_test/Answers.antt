@@ -1,10 +1,11 @@
 use Rattle.std.proofs.Common.{◌+◌, ◌++◌, ◌∙◌, [], ap, get_or, map, take}
 use Rattle.cov_model.specs.believed.Valid.{param_numbers}
-use Rattle.html_page.specs.Trees.{all_of}
+use Rattle.html_page.specs.believed.Trees.{all_of}
 use Rattle.html_page.proofs.TreeTexts.{around}
 use Rattle.row_text.specs.RowFiles.{suite_seen}
-use Rattle.suite_page.specs.TestsTable.{cell_tree, test_closing, test_opening}
-use Rattle.model_page.specs.Tests.{cell_of}
+use Rattle.suite_page.specs.believed.TestsTable.{cell_tree}
+use Rattle.suite_page.specs.TestsTable.{test_closing, test_opening}
+use Rattle.model_page.specs.believed.Tests.{cell_of}
 use Rattle.model_page.proofs.Putting.{made_trees}
 use Rattle.model_page.proofs.tests.put_test.Goals as goal
 

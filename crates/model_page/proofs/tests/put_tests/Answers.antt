@@ -3,15 +3,16 @@ use Rattle.std.specs.Prelude.{min}
 use Rattle.std.specs.List.{flat_map, range_with_len}
 use Rattle.std.proofs.lemmas.List.{length-map}
 use Rattle.std.proofs.lemmas.List.Folds.{flat_map-map}
-use Rattle.html_page.specs.Pieces.{pieces_text}
+use Rattle.html_page.specs.believed.Pieces.{pieces_text}
 use Rattle.html_page.specs.Trees.{content_text}
 use Rattle.row_text.specs.RowFiles.{suite_seen}
 use Rattle.row_text.specs.declared.row_file.FileRow.{FileRow}
-use Rattle.suite_page.specs.TestsTable.{test_tree, tests_closing, tests_opening}
+use Rattle.suite_page.specs.believed.TestsTable.{test_tree}
+use Rattle.suite_page.specs.TestsTable.{tests_closing, tests_opening}
 use Rattle.suite_page.proofs.Wholes.{tests_whole, three}
 use Rattle.model_page.specs.Parts.{tests_part}
-use Rattle.model_page.specs.Pages.{most_shown}
-use Rattle.model_page.specs.Tests.{param_names, test_of}
+use Rattle.model_page.specs.believed.Pages.{most_shown}
+use Rattle.model_page.specs.believed.Tests.{param_names, test_of}
 use Rattle.model_page.proofs.tests.put_tests.Goals as goal
 
 pub returns : goal.returns

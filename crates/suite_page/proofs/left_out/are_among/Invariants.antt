@@ -1,6 +1,6 @@
 use Rattle.std.proofs.Common.{◌≡◌, false, take}
 use Rattle.std.specs.List.{list_any}
-use Rattle.suite_page.specs.LeftOut.{is_by}
+use Rattle.suite_page.specs.believed.LeftOut.{is_by}
 use Rattle.suite_page.specs.Seen.{omission_seen}
 use Rattle.suite_page.proofs.left_out.are_among.Given as goal
 

@@ -1,6 +1,6 @@
 use Rattle.std.proofs.Common.{◌≡◌, ◌≤◌, length, take}
 use Rattle.std.specs.List.{filter}
-use Rattle.suite_page.specs.LeftOut.{is_by}
+use Rattle.suite_page.specs.believed.LeftOut.{is_by}
 use Rattle.suite_page.specs.Seen.{omission_seen}
 use Rattle.suite_page.proofs.left_out.count_alike.Given as goal
 

@@ -1,6 +1,6 @@
 use Rattle.std.proofs.Common.{◌≡◌, ◌++◌, take}
 use Rattle.std.specs.List.{filter, flat_map}
-use Rattle.suite_page.specs.LeftOut.{is_by}
+use Rattle.suite_page.specs.believed.LeftOut.{is_by}
 use Rattle.suite_page.specs.Seen.{combination_text, omission_seen}
 use Rattle.suite_page.proofs.left_out.put_alike.Given as goal
 

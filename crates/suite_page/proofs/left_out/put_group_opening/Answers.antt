@@ -1,10 +1,11 @@
 use Rattle.std.proofs.Common.{[], ◌∷◌, ◌++◌, map, codes}
 use Rattle.std.specs.Prelude.{decimal}
-use Rattle.html_page.specs.Pieces.{Start, End, Text}
-use Rattle.html_page.specs.Trees.{all_of}
+use Rattle.html_page.specs.believed.Pieces.{Start, End, Text}
+use Rattle.html_page.specs.believed.Trees.{all_of}
 use Rattle.html_page.specs.declared.tag.Tag.TheVariants as tag
 use Rattle.html_page.proofs.TreeTexts.{around, behind}
-use Rattle.suite_page.specs.LeftOut.{item_tree, of_constraints, opened, summary_opening}
+use Rattle.suite_page.specs.believed.LeftOut.{item_tree, of_constraints, opened}
+use Rattle.suite_page.specs.LeftOut.{summary_opening}
 use Rattle.suite_page.proofs.left_out.put_group_opening.Goals as goal
 
 pub returns : goal.returns

@@ -1,7 +1,7 @@
 use Rattle.std.proofs.Common.{◌≡◌, ◌++◌, map}
 use Rattle.std.specs.List.{flat_map, range_with_len}
 use Rattle.suite_page.specs.Laws.{group_parts}
-use Rattle.suite_page.specs.LeftOut.{group_at}
+use Rattle.suite_page.specs.believed.LeftOut.{group_at}
 use Rattle.suite_page.specs.Seen.{omission_seen}
 use Rattle.suite_page.proofs.left_out.put_groups.Given as goal
 

@@ -1,6 +1,6 @@
 use Rattle.std.proofs.Common.{arith}
 use Rattle.html_page.proofs.TreeTexts.{all_put}
-use Rattle.suite_page.specs.LeftOut.{item_tree}
+use Rattle.suite_page.specs.believed.LeftOut.{item_tree}
 use Rattle.suite_page.proofs.left_out.put_items.Goals as goal
 
 pub returns : goal.returns

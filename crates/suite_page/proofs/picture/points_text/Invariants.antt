@@ -1,7 +1,7 @@
 use Rattle.std.proofs.Common.{◌≡◌, take}
 use Rattle.std.specs.List.{flat_map}
 use Rattle.std.specs.String.{string_bytes}
-use Rattle.suite_page.specs.Pictures.{across, down, place_text}
+use Rattle.suite_page.specs.believed.Pictures.{across, down, place_text}
 use Rattle.suite_page.proofs.picture.points_text.Given as goal
 
 abbrev pub invariant-loop-point : goal.invariant-loop-point

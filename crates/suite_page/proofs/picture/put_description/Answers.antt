@@ -1,11 +1,11 @@
 use Rattle.std.proofs.Common.{[], ◌∷◌, ◌++◌, ◌∙◌, ap, codes}
 use Rattle.std.specs.Prelude.{decimal}
-use Rattle.html_page.specs.Pieces.{Start, End, Text, Title, pieces_text}
+use Rattle.html_page.specs.believed.Pieces.{Start, End, Text, Title, pieces_text}
 use Rattle.html_page.specs.declared.attribute.AttributeName.TheVariants as attribute
 use Rattle.html_page.specs.declared.tag.Tag.TheVariants as tag
 use Rattle.html_page.proofs.TreeTexts.{behind}
-use Rattle.suite_page.specs.Sections.{words_for}
-use Rattle.suite_page.specs.Pictures.{given, total_words}
+use Rattle.suite_page.specs.believed.Sections.{words_for}
+use Rattle.suite_page.specs.believed.Pictures.{given, total_words}
 use Rattle.suite_page.proofs.picture.put_description.Goals as goal
 
 pub returns : goal.returns

@@ -1,7 +1,8 @@
 use Rattle.std.proofs.Common.{◌++◌, ◌∙◌, ap}
-use Rattle.html_page.specs.Trees.{content_text, followed_by}
+use Rattle.html_page.specs.Trees.{content_text}
+use Rattle.html_page.specs.believed.Trees.{followed_by}
 use Rattle.html_page.proofs.TreeTexts.{tree_behind}
-use Rattle.suite_page.specs.Pictures.{axes, curve_tree, description, labels, points_text}
+use Rattle.suite_page.specs.believed.Pictures.{axes, curve_tree, description, labels, points_text}
 use Rattle.suite_page.specs.Seen.{picture_seen}
 use Rattle.suite_page.proofs.picture.put_drawing.Goals as goal
 

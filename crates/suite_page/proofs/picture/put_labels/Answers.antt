@@ -1,7 +1,7 @@
 use Rattle.std.proofs.Common.{[], codes}
-use Rattle.html_page.specs.Trees.{followed_by}
+use Rattle.html_page.specs.believed.Trees.{followed_by}
 use Rattle.html_page.proofs.TreeTexts.{tree_behind}
-use Rattle.suite_page.specs.Pictures.{label_tree, tests_label, total_label}
+use Rattle.suite_page.specs.believed.Pictures.{label_tree, tests_label, total_label}
 use Rattle.suite_page.proofs.picture.put_labels.Goals as goal
 
 pub returns : goal.returns

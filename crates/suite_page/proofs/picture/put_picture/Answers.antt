@@ -1,10 +1,10 @@
 use Rattle.std.proofs.Common.{ℕ, List, [], ◌∷◌, ◌++◌, ◌∙◌, ap, codes}
-use Rattle.html_page.specs.Pieces.{Piece, Start, End, Text, pieces_text}
+use Rattle.html_page.specs.believed.Pieces.{Piece, Start, End, Text, pieces_text}
 use Rattle.html_page.specs.declared.attribute.AttributeName.TheVariants as attribute
 use Rattle.html_page.specs.declared.tag.Tag.TheVariants as tag
 use Rattle.html_page.proofs.TreeTexts.{around, behind}
 use Rattle.suite_page.specs.Sections.{section_opening}
-use Rattle.suite_page.specs.Pictures.{caption, drawing, given}
+use Rattle.suite_page.specs.believed.Pictures.{caption, drawing, given}
 use Rattle.suite_page.specs.Seen.{picture_seen}
 use Rattle.suite_page.proofs.picture.put_picture.Goals as goal
 

@@ -1,6 +1,6 @@
 use Rattle.std.proofs.Common.{[], ◌∷◌}
 use Rattle.std.specs.Prelude.{decimal}
-use Rattle.html_page.specs.Pieces.{Text}
+use Rattle.html_page.specs.believed.Pieces.{Text}
 use Rattle.html_page.proofs.TreeTexts.{behind}
 use Rattle.suite_page.proofs.section.put_counted.Goals as goal
 

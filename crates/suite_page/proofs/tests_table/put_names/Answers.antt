@@ -1,6 +1,6 @@
 use Rattle.std.proofs.Common.{arith}
 use Rattle.html_page.proofs.TreeTexts.{all_put}
-use Rattle.suite_page.specs.TestsTable.{name_tree}
+use Rattle.suite_page.specs.believed.TestsTable.{name_tree}
 use Rattle.suite_page.proofs.tests_table.put_names.Goals as goal
 
 pub returns : goal.returns

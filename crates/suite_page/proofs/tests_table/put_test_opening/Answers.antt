@@ -1,10 +1,10 @@
 use Rattle.std.proofs.Common.{[], ◌∷◌, codes}
 use Rattle.std.specs.Prelude.{decimal}
-use Rattle.html_page.specs.Pieces.{Start, End, Text}
+use Rattle.html_page.specs.believed.Pieces.{Start, End, Text}
 use Rattle.html_page.specs.declared.attribute.AttributeName.TheVariants as attribute
 use Rattle.html_page.specs.declared.tag.Tag.TheVariants as tag
 use Rattle.html_page.proofs.TreeTexts.{behind}
-use Rattle.suite_page.specs.TestsTable.{given}
+use Rattle.suite_page.specs.believed.TestsTable.{given}
 use Rattle.suite_page.proofs.tests_table.put_test_opening.Goals as goal
 
 pub returns : goal.returns

@@ -1,8 +1,8 @@
 use Rattle.std.proofs.Common.{[], ◌∷◌}
-use Rattle.html_page.specs.Pieces.{End}
+use Rattle.html_page.specs.believed.Pieces.{End}
 use Rattle.html_page.specs.declared.tag.Tag.TheVariants as tag
 use Rattle.html_page.proofs.TreeTexts.{around}
-use Rattle.suite_page.specs.TestsTable.{more_tests}
+use Rattle.suite_page.specs.believed.TestsTable.{more_tests}
 use Rattle.suite_page.proofs.tests_table.put_tests_closing.Goals as goal
 
 pub returns : goal.returns

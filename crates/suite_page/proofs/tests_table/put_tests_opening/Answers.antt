@@ -1,10 +1,11 @@
 use Rattle.std.proofs.Common.{[], ◌∷◌, ◌++◌, map, codes}
-use Rattle.html_page.specs.Pieces.{Start, End}
-use Rattle.html_page.specs.Trees.{all_of}
+use Rattle.html_page.specs.believed.Pieces.{Start, End}
+use Rattle.html_page.specs.believed.Trees.{all_of}
 use Rattle.html_page.specs.declared.tag.Tag.TheVariants as tag
 use Rattle.html_page.proofs.TreeTexts.{around, behind}
 use Rattle.suite_page.specs.Sections.{section_opening}
-use Rattle.suite_page.specs.TestsTable.{name_tree, table_opening}
+use Rattle.suite_page.specs.believed.TestsTable.{name_tree}
+use Rattle.suite_page.specs.TestsTable.{table_opening}
 use Rattle.suite_page.proofs.tests_table.put_tests_opening.Goals as goal
 
 pub returns : goal.returns

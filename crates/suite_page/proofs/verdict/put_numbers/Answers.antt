@@ -1,10 +1,10 @@
 use Rattle.std.proofs.Common.{[], ◌∷◌, map, codes}
-use Rattle.html_page.specs.Pieces.{End}
-use Rattle.html_page.specs.Trees.{all_of}
+use Rattle.html_page.specs.believed.Pieces.{End}
+use Rattle.html_page.specs.believed.Trees.{all_of}
 use Rattle.html_page.specs.declared.tag.Tag.TheVariants as tag
 use Rattle.html_page.proofs.TreeTexts.{around}
 use Rattle.suite_page.specs.Sections.{section_opening}
-use Rattle.suite_page.specs.Verdicts.{sentence_tree}
+use Rattle.suite_page.specs.believed.Verdicts.{sentence_tree}
 use Rattle.suite_page.proofs.verdict.put_numbers.Goals as goal
 
 pub returns : goal.returns

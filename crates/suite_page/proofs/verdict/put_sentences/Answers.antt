@@ -1,6 +1,6 @@
 use Rattle.std.proofs.Common.{arith}
 use Rattle.html_page.proofs.TreeTexts.{all_put}
-use Rattle.suite_page.specs.Verdicts.{sentence_tree}
+use Rattle.suite_page.specs.believed.Verdicts.{sentence_tree}
 use Rattle.suite_page.proofs.verdict.put_sentences.Goals as goal
 
 pub returns : goal.returns

@@ -1,7 +1,7 @@
 use Rattle.std.proofs.Common.{◌≡◌, ◌++◌, take}
 use Rattle.std.specs.List.{flat_map}
 use Rattle.html_page.specs.Trees.{content_text}
-use Rattle.suite_page.specs.Verdicts.{sentence_tree}
+use Rattle.suite_page.specs.believed.Verdicts.{sentence_tree}
 use Rattle.suite_page.proofs.verdict.put_sentences.Given as goal
 
 abbrev pub invariant-loop-sentence : goal.invariant-loop-sentence

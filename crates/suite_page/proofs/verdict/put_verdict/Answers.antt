@@ -1,9 +1,9 @@
 use Rattle.std.proofs.Common.{[], ◌∷◌}
-use Rattle.html_page.specs.Pieces.{Start, End}
-use Rattle.html_page.specs.Trees.{followed_by}
+use Rattle.html_page.specs.believed.Pieces.{Start, End}
+use Rattle.html_page.specs.believed.Trees.{followed_by}
 use Rattle.html_page.specs.declared.tag.Tag.TheVariants as tag
 use Rattle.html_page.proofs.TreeTexts.{around, tree_behind}
-use Rattle.suite_page.specs.Verdicts.{heading_tree, reason_tree}
+use Rattle.suite_page.specs.believed.Verdicts.{heading_tree, reason_tree}
 use Rattle.suite_page.proofs.verdict.put_verdict.Goals as goal
 
 pub returns : goal.returns

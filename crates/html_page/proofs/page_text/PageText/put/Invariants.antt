@@ -1,6 +1,6 @@
 use Rattle.std.proofs.Common.{◌≡◌, ◌++◌, take}
 use Rattle.std.specs.List.{flat_map}
-use Rattle.html_page.specs.Pieces.{piece_text}
+use Rattle.html_page.specs.believed.Pieces.{piece_text}
 use Rattle.html_page.specs.Seen.{piece_seen}
 use Rattle.html_page.proofs.page_text.PageText.put.Given as goal
 

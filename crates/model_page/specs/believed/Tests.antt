@@ -5,7 +5,7 @@ use Rattle.cov_model.specs.believed.Rows.{is_assigned, value_in}
 use Rattle.cov_model.specs.believed.Sound.{ModelView}
 use Rattle.cov_model.specs.believed.Valid.{param_numbers}
 use Rattle.definitions.specs.believed.Report.{cell_text}
-use Rattle.suite_page.specs.TestsTable.{Cell, Test, no_cell}
+use Rattle.suite_page.specs.believed.TestsTable.{Cell, Test, no_cell}
 
 abbrev pub param_names : ModelView → List (List ℕ)
 param_names m = map (λ param. param.name) m.params

@@ -1,6 +1,6 @@
 -- The head of a page: the model file's name, the verdict, and the numbers of the suite.
 use Rattle.std.specs.Prelude.{ℕ, Bool, List, [], ◌∷◌, if◌then◌else◌, codes}
-use Rattle.html_page.specs.Trees.{Content, nothing, text, element, all_of, followed_by}
+use Rattle.html_page.specs.believed.Trees.{Content, nothing, text, element, all_of, followed_by}
 use Rattle.html_page.specs.declared.attribute.AttributeName.TheVariants as attribute
 use Rattle.html_page.specs.declared.tag.Tag.TheVariants as tag
 

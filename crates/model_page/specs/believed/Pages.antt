@@ -3,12 +3,12 @@ use Rattle.std.specs.Prelude.{ℕ, ◌-◌, Bool, List, length, map, min, take, 
 use Rattle.std.specs.List.{range_with_len}
 use Rattle.cov_model.specs.believed.Sound.{ModelView}
 use Rattle.definitions.specs.believed.ProofText as proofs
-use Rattle.html_page.specs.Trees.{Content}
-use Rattle.model_page.specs.Curves.{picture_of}
-use Rattle.model_page.specs.Omitted.{omitted}
-use Rattle.model_page.specs.Tests.{param_names, test_of}
-use Rattle.suite_page.specs.Document.{Suite, suite_tree}
-use Rattle.suite_page.specs.LeftOut.{groups_of}
+use Rattle.html_page.specs.believed.Trees.{Content}
+use Rattle.model_page.specs.believed.Curves.{picture_of}
+use Rattle.model_page.specs.believed.Omitted.{omitted}
+use Rattle.model_page.specs.believed.Tests.{param_names, test_of}
+use Rattle.suite_page.specs.believed.Document.{Suite, suite_tree}
+use Rattle.suite_page.specs.believed.LeftOut.{groups_of}
 
 -- so many tests, and so many combinations that are left out, are shown
 abbrev pub most_shown : ℕ

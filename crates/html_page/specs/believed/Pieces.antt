@@ -1,7 +1,7 @@
 -- The pieces that the text of a page is made of: tags, texts, and the style that each page has.
 use Rattle.std.specs.Prelude.{ℕ, List, [], ◌∷◌, ◌++◌, ◌==◌, if◌then◌else◌, codes}
 use Rattle.std.specs.List.{flat_map}
-use Rattle.html_page.specs.Names.{attribute_name, tag_name}
+use Rattle.html_page.specs.believed.Names.{attribute_name, tag_name}
 use Rattle.html_page.specs.declared.attribute.AttributeName.{AttributeName}
 use Rattle.html_page.specs.declared.style.TheConstants.{STYLE}
 use Rattle.html_page.specs.declared.tag.Tag.{Tag}

@@ -7,7 +7,7 @@ use Rattle.definitions.specs.believed.ProofText as proofs
 use Rattle.model_words.specs.believed.Constraints.{rule_words}
 use Rattle.model_words.specs.believed.Explanations.{Explanation, explained}
 use Rattle.model_words.specs.believed.Words.{listed, pair_words}
-use Rattle.suite_page.specs.LeftOut.{Omission}
+use Rattle.suite_page.specs.believed.LeftOut.{Omission}
 
 -- a constraint, with its line in the model file
 abbrev pub rule_reason : ModelView → Option RuleView → List ℕ

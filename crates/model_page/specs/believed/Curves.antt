@@ -5,7 +5,7 @@ use Rattle.std.specs.List.{range_with_len}
 use Rattle.cov_model.specs.believed.Sound.{ModelView}
 use Rattle.suite_facts.specs.believed.Coverages.{numbers_of}
 use Rattle.suite_facts.specs.believed.Facts.{covered_of}
-use Rattle.suite_page.specs.Pictures.{Picture}
+use Rattle.suite_page.specs.believed.Pictures.{Picture}
 use Rattle.suite_page.specs.declared.picture.Point.{Point}
 
 -- the numbers of tests at which the curve has a point

@@ -1,12 +1,12 @@
 -- The picture of a suite: covered combinations by number of tests.
 use Rattle.std.specs.Prelude.{ℕ, Bool, ◌+◌, ◌-◌, ◌*◌, ◌/◌, List, [], ◌∷◌, ◌++◌, ◌==◌, min, if◌then◌else◌, codes, decimal}
 use Rattle.std.specs.List.{flat_map}
-use Rattle.html_page.specs.Pieces.{Attribute}
-use Rattle.html_page.specs.Trees.{Content, nothing, text, element, title, followed_by}
+use Rattle.html_page.specs.believed.Pieces.{Attribute}
+use Rattle.html_page.specs.believed.Trees.{Content, nothing, text, element, title, followed_by}
 use Rattle.html_page.specs.declared.attribute.AttributeName.{AttributeName}
 use Rattle.html_page.specs.declared.attribute.AttributeName.TheVariants as attribute
 use Rattle.html_page.specs.declared.tag.Tag.TheVariants as tag
-use Rattle.suite_page.specs.Sections.{words_for}
+use Rattle.suite_page.specs.believed.Sections.{words_for}
 use Rattle.suite_page.specs.declared.picture.Point.{Point}
 
 -- The curve; how many tests there are, how many combinations they cover, and how many can be covered. Where that isn't

@@ -1,0 +1,4 @@
+pub mod Curves
+pub mod Omitted
+pub mod Pages
+pub mod Tests
