@@ -1,17 +1,14 @@
-ghost use Rattle.std.specs.Prelude.{◌≡◌, ◌⊎◌, ◌≤◌, ℕ, List, Some, None, false, map, true};
+ghost use Rattle.std.specs.Prelude.{◌≡◌, ◌⊎◌, ◌≤◌, Some, None, map};
 ghost use Rattle.std.specs.String.{string_bytes};
-ghost use Rattle.jeldroft_args.specs.Ranges.{IsInRange};
 ghost use Rattle.jeldroft_args.specs.believed.Settings.{settings_of};
 ghost use Rattle.jeldroft_args.specs.declared.command.Command.{Command as Asked};
-ghost use Rattle.jeldroft_files.specs.believed.Runs.{IsUntouched, moment};
+ghost use Rattle.jeldroft_files.specs.believed.Runs.{moment};
 ghost use Rattle.jeldroft_cli.specs.believed.Commands.{commands};
-ghost use Rattle.jeldroft_cli.specs.believed.Offered.{is_offered};
 ghost use Rattle.jeldroft_cli.specs.believed.Promises.{IsUnbegun, Keeps};
 
 use crate::dispatch::dispatch;
-use crate::offered::{is_offered, refuse_lack};
 use crate::told::answer_words;
-use jeldroft_args::{Command, CommandName, read_args};
+use jeldroft_args::{CommandName, read_args};
 use outside_io::{Folder, Sink};
 use std::alloc::Global;
 use std::thread::Threads;
@@ -29,27 +26,6 @@ const COMMANDS: [CommandName; 9] = [
     CommandName::Import,
 ];
 
-// Runs a command that the words ask for, if this version has it.
-fn run_command<R: Threads + Sync, F: Folder, O: Sink, E: Sink>(
-    rt: &R,
-    alloc: Global,
-    command: &Command,
-    files: &mut F,
-    out: &mut O,
-    diag: &mut E,
-    terminal: bool,
-) -> u8
-    requires { IsInRange command.now }
-    ensures keeps { is_offered command.now ≡ true → Keeps command.now (moment (F.seen files.old) (O.seen out.old)) (moment (F.seen files.new) (O.seen out.new)) result }
-    ensures lacks { is_offered command.now ≡ false →
-        IsUntouched (moment (F.seen files.old) (O.seen out.old)) (moment (F.seen files.new) (O.seen out.new)) × (result ≡ 2) }
-{
-    if !is_offered(command) {
-        return refuse_lack(diag);
-    }
-    dispatch(rt, alloc, command, files, out, diag, terminal)
-}
-
 /// Runs `jeldroft` on its words, those behind the program's name, and gives the exit status.
 ///
 /// Statuses: 0 where what is asked for was done, and of help and the version; 1 where the answer is no; 2 where the
@@ -65,23 +41,17 @@ pub fn run_jeldroft<R: Threads + Sync, F: Folder, O: Sink, E: Sink>(
     diag: &mut E,
     terminal: bool,
 ) -> u8
-    // The command that the words ask for does what its contract says, unless memory is refused before it begins. Premise:
-    // this version has it.
+    // The command that the words ask for does what its contract says, unless memory is refused before it begins.
     ensures keeps { (asked : Asked) → settings_of commands (map string_bytes words.now) ≡ Some asked →
-        is_offered asked ≡ true →
         IsUnbegun (moment (F.seen files.old) (O.seen out.old)) (moment (F.seen files.new) (O.seen out.new)) result
         ⊎ Keeps asked (moment (F.seen files.old) (O.seen out.old)) (moment (F.seen files.new) (O.seen out.new)) result }
-
-    // A command that it doesn't have: nothing is printed and no file changes, and the status is 2, or 3 for want of memory.
-    ensures lacks { (asked : Asked) → settings_of commands (map string_bytes words.now) ≡ Some asked → is_offered asked ≡ false →
-        IsUntouched (moment (F.seen files.old) (O.seen out.old)) (moment (F.seen files.new) (O.seen out.new)) × ((result ≡ 2) ⊎ (result ≡ 3)) }
 
     // Words that ask for nothing: no file changes, and with status 2 nothing is printed.
     ensures refused { settings_of commands (map string_bytes words.now) ≡ None →
         (F.seen files.new ≡ F.seen files.old) × (result ≤ 3) × (result ≡ 2 → O.seen out.new ≡ O.seen out.old) }
 {
     match read_args(alloc, &COMMANDS, words) {
-        Ok(command) => run_command(rt, alloc, &command, files, out, diag, terminal),
+        Ok(command) => dispatch(rt, alloc, &command, files, out, diag, terminal),
         Err(fault) => answer_words(&fault, out, diag),
     }
 }
