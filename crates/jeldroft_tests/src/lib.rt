@@ -14,6 +14,8 @@ mod import;
 #[cfg(test)]
 mod lint;
 #[cfg(test)]
+mod page;
+#[cfg(test)]
 mod pipe;
 #[cfg(test)]
 mod show;
