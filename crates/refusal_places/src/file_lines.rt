@@ -40,12 +40,12 @@ fn line_end(file: &[u8], from: usize) -> usize
     }
 }
 
-// A line of a file without its line end; nothing at the end of the file where there is no such line.
-pub(crate) fn line_span(file: &[u8], line: u32) -> Span
+// What stands in a file from the start of a line to its line end.
+pub(crate) fn line_from(file: &[u8], from: usize, line: u32) -> Span
+    requires { from ≤ length file.now }
     ensures line { result.line ≡ line }
     ensures within { result.to ≤ length file.now }
 {
-    let from = behind_feeds(file, file_start(file), line.saturating_sub(1));
     let end = line_end(file, from);
     let to = if from < end && file[end - 1] == b'\r' {
         end - 1
@@ -53,4 +53,13 @@ pub(crate) fn line_span(file: &[u8], line: u32) -> Span
         end
     };
     Span { line, from, to }
+}
+
+// A line of a file without its line end; nothing at the end of the file where there is no such line.
+pub(crate) fn line_span(file: &[u8], line: u32) -> Span
+    ensures line { result.line ≡ line }
+    ensures within { result.to ≤ length file.now }
+{
+    let from = behind_feeds(file, file_start(file), line.saturating_sub(1));
+    line_from(file, from, line)
 }

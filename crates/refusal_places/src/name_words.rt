@@ -70,12 +70,6 @@ fn lines_before(file: &[u8], part: Span) -> &[u8] {
     &file[..line_span(file, part.line).from]
 }
 
-// What stands between the first and the last byte of a part, without blanks.
-fn inside(part: Span, file: &[u8]) -> Span {
-    let end = (part.to - part.from).saturating_sub(1);
-    part.part(1, end).trimmed(file)
-}
-
 /// The message of a reference to no earlier parameter; `None` where it has no name.
 pub(crate) fn reference_message(
     alloc: Global,
@@ -85,7 +79,7 @@ pub(crate) fn reference_message(
 ) -> Result<Option<String>, NoMemory>
     requires { AreOpts opts.now }
 {
-    let name = text_of(alloc, file, inside(part, file))?;
+    let name = text_of(alloc, file, part.inside(file))?;
     if name.is_empty() {
         return Ok(None);
     }
@@ -126,7 +120,7 @@ pub(crate) fn unknown_message(
 {
     let shown = quoted(alloc, file, part)?;
     let message = format!(in alloc; "no parameter is named {shown}")?;
-    let name = text_of(alloc, file, inside(part, file))?;
+    let name = text_of(alloc, file, part.inside(file))?;
     let lines = constraints_head(alloc, file)?.bytes(file);
     with_param(
         alloc,

@@ -32,11 +32,20 @@ fn changes(alloc: Global, word: &str, name: &str) -> Result<usize, NoMemory> {
 fn most_changes(word: &str) -> usize
     ensures { result ≤ 2 }
 {
-    if word.chars().count() <= 4 { 1 } else { 2 }
+    match word.chars().count() {
+        0..=2 => 0,
+        3 | 4 => 1,
+        _ => 2,
+    }
 }
 
-/// The first of the nearest of some names, where one is near enough to be meant.
-pub(crate) fn nearest<'a>(
+/// The first of the nearest of some names, where one is near enough to be meant by a word: as many changes of
+/// a character lead to it as may be slips in a word of this length, of which ASCII letters are taken in any case.
+///
+/// # Errors
+///
+/// `NoMemory` where memory is refused.
+pub fn nearest<'a>(
     alloc: Global,
     word: &str,
     names: &[&'a str],

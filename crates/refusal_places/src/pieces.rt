@@ -7,8 +7,13 @@ use model_lex::{DiagCode, ModelOpts};
 use std::alloc::Global;
 use value_text::NoMemory;
 
-// The parts of a part between a mark, with their blanks.
-fn pieces(alloc: Global, file: &[u8], whole: Span, mark: u8) -> Result<Vec<Span>, NoMemory> {
+/// The parts of a part between a mark, with their blanks.
+pub(crate) fn pieces(
+    alloc: Global,
+    file: &[u8],
+    whole: Span,
+    mark: u8,
+) -> Result<Vec<Span>, NoMemory> {
     let bytes = whole.bytes(file);
     let mut parts = Vec::new(alloc);
     let mut start = 0;
@@ -55,6 +60,11 @@ fn refused_piece(
     }
 }
 
+/// What stands behind the colon of a parameter line.
+pub(crate) fn value_list(file: &[u8], line: Span) -> Span {
+    line.part(colon(file, line).saturating_add(1), usize::MAX)
+}
+
 /// The piece of a parameter line behind its colon that is refused by a code. The blank behind each
 /// keeps a carriage return at its end from being part of a line end.
 pub(crate) fn refused_value(
@@ -66,8 +76,7 @@ pub(crate) fn refused_value(
 ) -> Result<Option<Span>, NoMemory>
     requires { AreOpts opts.now }
 {
-    let list = line.part(colon(file, line).saturating_add(1), usize::MAX);
-    refused_piece(alloc, file, list, b" ", opts, code)
+    refused_piece(alloc, file, value_list(file, line), b" ", opts, code)
 }
 
 // The places of the first `{` and of the last `}` of a line, counted from its start.

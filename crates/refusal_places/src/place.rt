@@ -1,6 +1,7 @@
 ghost use Rattle.std.specs.Prelude.{◌≡◌, ◌≤◌, ◌^◌, length, IfOk};
 ghost use Rattle.model_parse.specs.RawModels.{AreOpts};
 
+use crate::column::column_of;
 use crate::file_lines::line_span;
 use crate::pieces::{
     behind_braces, group_order, param_name, refused_member, refused_value, strength,
@@ -8,7 +9,6 @@ use crate::pieces::{
 use crate::refused_term::refused_term;
 use crate::refused_token::{bad_token, refused_token};
 use crate::span::Span;
-use crate::tokens::goes_on;
 use model_lex::{Diag, DiagCode, ModelOpts};
 use std::alloc::Global;
 use std::str::from_utf8;
@@ -81,17 +81,6 @@ fn refused_part(
             refused_term(alloc, file, opts, diag)
         }
     }
-}
-
-// The column of a place of a line: one more than the characters before it.
-fn column_of(before: &[u8]) -> u32 {
-    let mut column: u32 = 1;
-    for byte in before {
-        if !goes_on(*byte) {
-            column = column.saturating_add(1);
-        }
-    }
-    column
 }
 
 // A part of a line as a place of the file.

@@ -3,7 +3,7 @@ ghost use Rattle.std.specs.Prelude.{◌≤◌, ◌^◌, length};
 ghost use Rattle.model_parse.specs.RawModels.{AreOpts};
 
 use crate::span::Span;
-use crate::terms::terms_of;
+use crate::terms::terms_in;
 use crate::token::PlacedToken;
 use crate::tokens::{constraint_tokens, constraints_head};
 use crate::trial::{first_refused, refusal_behind};
@@ -81,7 +81,7 @@ fn term_in(
 ) -> Result<Option<Span>, NoMemory>
     requires { AreOpts opts.now }
 {
-    let terms = terms_of(alloc, file, tokens, diag.line)?;
+    let terms = terms_in(alloc, file, tokens, diag.line)?;
     let trial = term_file(alloc, file, head, terms.as_slice())?;
     let number = first_refused(
         alloc,

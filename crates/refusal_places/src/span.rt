@@ -59,6 +59,12 @@ impl Span {
         let back = last_blanks(&bytes[front..]);
         self.part(front, bytes.len() - back)
     }
+
+    // What stands between the first and the last byte of the part, without blanks.
+    pub(crate) fn inside(&self, file: &[u8]) -> Span {
+        let end = (self.to - self.from).saturating_sub(1);
+        self.part(1, end).trimmed(file)
+    }
 }
 
 // Whether a byte is a space or a tab.

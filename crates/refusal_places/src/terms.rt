@@ -58,12 +58,11 @@ fn term_len(file: &[u8], tokens: &[PlacedToken]) -> usize
     }
 }
 
-/// The terms whose first token stands in a line.
+/// The terms of some tokens, one behind another.
 pub(crate) fn terms_of(
     alloc: Global,
     file: &[u8],
     tokens: &[PlacedToken],
-    line: u32,
 ) -> Result<Vec<Span>, NoMemory> {
     let mut terms = Vec::new(alloc);
     let mut behind = 0;
@@ -76,8 +75,23 @@ pub(crate) fn terms_of(
             continue;
         }
         behind = i + len;
-        if first.span.line == line {
-            terms.push(first.span.up_to(tokens[behind - 1].span))?;
+        terms.push(first.span.up_to(tokens[behind - 1].span))?;
+    }
+    Ok(terms)
+}
+
+/// The terms whose first token stands in a line.
+pub(crate) fn terms_in(
+    alloc: Global,
+    file: &[u8],
+    tokens: &[PlacedToken],
+    line: u32,
+) -> Result<Vec<Span>, NoMemory> {
+    let all = terms_of(alloc, file, tokens)?;
+    let mut terms = Vec::new(alloc);
+    for term in all.as_slice() {
+        if term.line == line {
+            terms.push(*term)?;
         }
     }
     Ok(terms)
