@@ -8,17 +8,19 @@ use Rattle.cov_model.specs.declared.slice.Slice.{Slice}
 use Rattle.cov_model.specs.declared.slice.Slice.TheVariants.{Positive, Negative}
 use Rattle.cov_model.specs.declared.parameter.Param.{Param}
 use Rattle.cov_model.specs.believed.Meaning.{body_holds}
+use Rattle.cov_model.specs.believed.Rows.{contains}
 use Rattle.cov_model.specs.believed.Slices.{slice_values}
 use Rattle.cov_model.specs.believed.Sound.{ModelView, IsSound, IsSoundBody}
 use Rattle.cov_model.specs.Sound.{no_rule}
 use Rattle.cov_model.specs.believed.Valid.{is_row, is_valid, negatives}
 use Rattle.cov_model.specs.believed.Views.{BodyView, Plain, IfThen, IfElse, RuleView}
 use Rattle.definitions.specs.believed.Completion.{completions, is_extendable, meets_rules}
+use Rattle.definitions.specs.believed.Figures.{all_rows}
 use Rattle.definitions.proofs.Members.{Has, all_members, all_pass, any_member, member_of_all, of_any, of_filter, of_map, passes_all}
 use Rattle.model_lint.specs.declared.change.Change.{Change}
 use Rattle.model_lint.specs.declared.change.Change.TheVariants.{LeftOut, Kept, Opposite, WithPremise}
 use Rattle.model_lint.specs.Changes.{IsTestOf, change_at, changed, changed_body, changed_rule, is_marked, kept_alone, least_demand}
-use Rattle.model_lint.specs.believed.Tests.{part}
+use Rattle.model_lint.specs.believed.Tests.{has_test, part}
 use Rattle.model_lint.proofs.Meanings.{body_same, other}
 use Rattle.model_lint.proofs.Members.{any_agree, all_agree}
 
@@ -110,6 +112,12 @@ extends_kept m marks slice cells =
     ∙ any_agree (meets m (map (changed_rule (map kept_alone marks)) m.rules)) (meets m (filter (λ rule. is_marked marks rule.number) m.rules))
     (completions (slice_values m slice) cells) (λ row has. kept_meets m marks m.rules row)
     ∙ sym (extends_part m (is_marked marks) slice cells)
+
+pub has_test_kept : (m : ModelView) (marks : List Bool) (cells : List (Option ℕ))
+    → has_test (changed m (map kept_alone marks)) cells ≡ has_test (part m (is_marked marks)) cells
+has_test_kept m marks cells =
+    any_agree (λ row. is_valid (changed m (map kept_alone marks)) row && contains row cells) (λ row. is_valid (part m (is_marked marks)) row && contains row cells)
+    (all_rows m) (λ row has. ap (λ valid. valid && contains row cells) (valid_kept m marks row))
 
 -- changed models are sound
 body_sound : (params : List Param) (change : Change) (body : BodyView) → IsSoundBody params body → IsSoundBody params (changed_body change body)

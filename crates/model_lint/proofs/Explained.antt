@@ -4,8 +4,7 @@ use Rattle.std.proofs.lemmas.List.Elements.{All-push}
 use Rattle.cov_model.specs.declared.slice.Slice.{Slice}
 use Rattle.cov_model.specs.believed.Sound.{ModelView}
 use Rattle.model_lint.specs.declared.finding.UnusedValue.{UnusedValue}
-use Rattle.model_lint.specs.Tests.{IsConflict, slice_with}
-use Rattle.model_lint.specs.believed.Tests.{value_alone}
+use Rattle.model_lint.specs.believed.Tests.{IsConflict, slice_with, value_alone}
 use Rattle.model_lint.specs.Unused.{IsExplained}
 
 pub one_more : (m : ModelView) (list next : List UnusedValue) (p v : ℕ) (slice : Slice) (cells : List (Option ℕ)) (constraints : List ℕ)

@@ -18,8 +18,7 @@ use Rattle.definitions.specs.believed.Demand.{is_among}
 use Rattle.definitions.proofs.Members.{Has, all_members, among_has, contains_member, has_filter, has_map, of_among, of_filter, of_find, of_map, passes_all, same_answer}
 use Rattle.model_lint.specs.Changes.{IsTestOf, is_marked}
 use Rattle.model_lint.specs.Marks.{IsFalseOn, IsThinTo}
-use Rattle.model_lint.specs.Tests.{IsConflict, rule_numbers}
-use Rattle.model_lint.specs.believed.Tests.{part}
+use Rattle.model_lint.specs.believed.Tests.{IsConflict, part, rule_numbers}
 use Rattle.model_lint.proofs.ChangedModels.{extends_fewer, extends_part, extends_with, meets, valid_part}
 use Rattle.model_lint.proofs.Members.{filter_agree}
 

@@ -2,8 +2,7 @@
 use Rattle.std.specs.Prelude.{ℕ}
 use Rattle.cov_model.specs.believed.Sound.{ModelView}
 use Rattle.model_lint.specs.declared.finding.UnusedValue.{UnusedValue}
-use Rattle.model_lint.specs.Tests.{IsConflict, slice_with}
-use Rattle.model_lint.specs.believed.Tests.{value_alone}
+use Rattle.model_lint.specs.believed.Tests.{IsConflict, slice_with, value_alone}
 
 -- the parameter and the value
 abbrev pub value_of : UnusedValue → ℕ × ℕ

@@ -7,8 +7,7 @@ ghost use Rattle.definitions.specs.believed.Completion.{has_slice, is_extendable
 ghost use Rattle.definitions.specs.SliceRows.{IsSliceOf};
 ghost use Rattle.model_lint.specs.Changes.{IsTestOf, is_marked};
 ghost use Rattle.model_lint.specs.Marks.{IsFalseOn, IsThinTo};
-ghost use Rattle.model_lint.specs.Tests.{IsConflict, rule_numbers};
-ghost use Rattle.model_lint.specs.believed.Tests.{part};
+ghost use Rattle.model_lint.specs.believed.Tests.{IsConflict, part, rule_numbers};
 
 use crate::changing::{changed_model, kept_alone};
 use crate::completer::Completer;

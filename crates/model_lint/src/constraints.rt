@@ -1,12 +1,13 @@
 ghost use Rattle.std.specs.Prelude.{◌≡◌, ◌≤◌, IfOk, length};
+ghost use Rattle.cov_model.specs.Fits.{FitsModel};
 ghost use Rattle.cov_model.specs.Sound.{rule_at};
 ghost use Rattle.cov_model.specs.Views.{body_view};
-ghost use Rattle.model_lint.specs.Changes.{changed, one_changed};
+ghost use Rattle.model_lint.specs.Changes.{changed, is_marked, one_changed};
 ghost use Rattle.model_lint.specs.believed.Constraints.{has_premise, never_applies, never_excludes};
-ghost use Rattle.model_lint.specs.believed.Tests.{has_test, no_values};
+ghost use Rattle.model_lint.specs.believed.Tests.{has_test, no_values, part};
 
 use crate::change::Change;
-use crate::changing::{changed_model, one_changed};
+use crate::changing::{changed_model, kept_alone, one_changed};
 use crate::completer::Completer;
 use crate::seeking::seek_test;
 use cov_model::{Body, Cells, TestModel};
@@ -30,6 +31,28 @@ fn has_test_with<C: Completer>(
     let none = Cells::empty(alloc, model.params().len())?;
     let mut row = Cells::empty(alloc, model.params().len())?;
     seek_test(alloc, completer, &part, &none, &mut row)
+}
+
+/// Whether a test contains a partial row once the constraints without a mark are left out. The mark of a constraint stands
+/// at its number less one (this project's rule).
+///
+/// # Errors
+///
+/// `NoMemory` where memory is refused.
+pub fn has_test_of_marked<C: Completer>(
+    alloc: Global,
+    completer: &C,
+    model: &TestModel,
+    marks: &[bool],
+    cells: &Cells,
+) -> Result<bool, NoMemory>
+    requires fits { FitsModel model.now cells.now }
+    ensures { IfOk result (λ found. found ≡ has_test (part model.now (is_marked marks.now)) cells.now) }
+{
+    let changes = kept_alone(alloc, marks)?;
+    let part = changed_model(alloc, model, changes.as_slice())?;
+    let mut row = Cells::empty(alloc, model.params().len())?;
+    seek_test(alloc, completer, &part, cells, &mut row)
 }
 
 /// Whether a constraint excludes nothing: it is true of every row that is valid without it, that is, that meets the

@@ -2,8 +2,8 @@ ghost use Rattle.std.specs.Prelude.{◌≡◌, ◌<◌, ◌∷◌, ◌++◌, [],
 ghost use Rattle.cov_model.specs.Fits.{FitsModel};
 ghost use Rattle.cov_model.specs.believed.Sound.{param_at};
 ghost use Rattle.definitions.specs.SliceRows.{IsSliceOf};
-ghost use Rattle.model_lint.specs.Tests.{IsConflict, slice_with, unused_in};
-ghost use Rattle.model_lint.specs.believed.Tests.{has_test, is_unused, no_values, unused_values};
+ghost use Rattle.model_lint.specs.Tests.{unused_in};
+ghost use Rattle.model_lint.specs.believed.Tests.{IsConflict, has_test, is_unused, no_values, slice_with, unused_values};
 ghost use Rattle.model_lint.specs.Unused.{IsExplained, value_of};
 
 use crate::completer::{Asker, Completer};

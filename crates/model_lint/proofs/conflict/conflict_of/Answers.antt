@@ -5,7 +5,7 @@ use Rattle.std.proofs.lemmas.Grind.{common_steps}
 use Rattle.definitions.specs.believed.Completion.{is_extendable}
 use Rattle.model_lint.specs.Changes.{is_marked}
 use Rattle.model_lint.specs.Marks.{IsThinTo}
-use Rattle.model_lint.specs.Tests.{rule_numbers}
+use Rattle.model_lint.specs.believed.Tests.{rule_numbers}
 use Rattle.model_lint.proofs.ChangedModels.{extends_whole}
 use Rattle.model_lint.proofs.ThinMarks.{conflict_from}
 use Rattle.model_lint.proofs.conflict.conflict_of.Goals as goal

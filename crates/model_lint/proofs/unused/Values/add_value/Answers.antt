@@ -1,8 +1,7 @@
 use Rattle.std.proofs.Common.{◌≡◌, List, ℕ, Option, arith, subst}
 use Rattle.std.specs.Prelude.{IfSome}
 use Rattle.std.proofs.lemmas.Grind.{common_steps}
-use Rattle.model_lint.specs.Tests.{IsConflict}
-use Rattle.model_lint.specs.believed.Tests.{value_alone}
+use Rattle.model_lint.specs.believed.Tests.{IsConflict, value_alone}
 use Rattle.model_lint.proofs.Explained.{one_more}
 use Rattle.model_lint.proofs.unused.Values.add_value.Goals as goal
 
