@@ -1,3 +1,4 @@
 pub mod FullAnswers
 pub mod SoundTerms
 pub mod Telling
+pub mod LeftOut

@@ -1,8 +1,7 @@
 -- What is wrong or odd about a model. (This project's rule.)
 use Rattle.cov_model.specs.declared.slice.Slice.TheVariants as slices
 use Rattle.cov_model.specs.believed.Sound.{ModelView}
-use Rattle.model_lint.specs.Tests.{IsConflict}
-use Rattle.model_lint.specs.believed.Tests.{no_values}
+use Rattle.model_lint.specs.believed.Tests.{IsConflict, no_values}
 use Rattle.model_lint.specs.Unused.{IsExplained as IsUnusedExplained, value_of}
 use Rattle.model_findings.specs.declared.finding.Finding.{Finding}
 use Rattle.model_findings.specs.declared.finding.Finding.TheVariants as findings

@@ -1,3 +1,4 @@
 pub mod Answers
 pub mod believed
 pub mod Findings
+pub mod Without
