@@ -8,6 +8,7 @@ ghost use Rattle.jeldroft_args.specs.Ranges.{AreMarks, IsStrength};
 ghost use Rattle.jeldroft_files.specs.believed.Models.{StopsModel, opts_of, order_of};
 
 use crate::failure::{Cause, Failure};
+use crate::model_text::ModelText;
 use crate::refused_model::RefusedModel;
 use command_line::{FileKind, Stop, read_whole};
 use cov_model::TestModel;
@@ -54,12 +55,53 @@ fn model_in(alloc: Global, bytes: &[u8], opts: &ModelOpts) -> Result<(TestModel,
     Ok((model, notes))
 }
 
-/// The model of a model file, for tests of so many parameters, with the notes on the file (PICT's guide).
+/// A model file with its model, for tests of so many parameters (PICT's guide).
 ///
 /// # Errors
 ///
 /// A failure of the file: `CannotRead` where the folder failed, `TooLong` where the file has more bytes than a model file
 /// may have, its first refusal, or `OutOfMemory`.
+pub fn read_model_text<'n, F: Folder>(
+    alloc: Global,
+    file: &'n ModelFile,
+    strength: Strength,
+    files: &mut F,
+) -> Result<ModelText, Failure<'n>>
+    requires marks { AreMarks file.now.marks }
+    requires strength { IsStrength strength }
+    ensures model { IfOk result (λ read. IsSound read.model × IfSome ((F.seen files.old).files file.now.name)
+        (λ held. IsLoaded (opts_of file.now strength) held read.model read.notes)) }
+    ensures stops { IfErr result (λ failure. IfSome ((F.seen files.old).files file.now.name)
+        (λ held. StopsModel (opts_of file.now strength) held failure.cause)) }
+    ensures files { KeepsFiles (F.seen files.old) (F.seen files.new) }
+{
+    let name = file.name.as_str();
+    let opts = opts_of(file, strength);
+    let bytes = match read_whole(alloc, FileKind::Model, name, files) {
+        Ok(bytes) => bytes,
+        Err(stop) => return Err(Failure::at(name, stop)),
+    };
+    match model_in(alloc, bytes.as_slice(), &opts) {
+        Ok((model, notes)) => Ok(ModelText {
+            bytes,
+            marks: opts.marks,
+            model,
+            notes,
+        }),
+        Err(stop) => Err(Failure {
+            file: name,
+            cause: Cause::Stop(stop),
+            refused: Some(RefusedModel::new(bytes, opts)),
+            column: None,
+        }),
+    }
+}
+
+/// The model of a model file, for tests of so many parameters, with the notes on the file (PICT's guide).
+///
+/// # Errors
+///
+/// As those of `read_model_text`.
 pub fn read_model_file<'n, F: Folder>(
     alloc: Global,
     file: &'n ModelFile,
@@ -74,19 +116,11 @@ pub fn read_model_file<'n, F: Folder>(
         (λ held. StopsModel (opts_of file.now strength) held failure.cause)) }
     ensures files { KeepsFiles (F.seen files.old) (F.seen files.new) }
 {
-    let name = file.name.as_str();
-    let opts = opts_of(file, strength);
-    let bytes = match read_whole(alloc, FileKind::Model, name, files) {
-        Ok(bytes) => bytes,
-        Err(stop) => return Err(Failure::at(name, stop)),
-    };
-    match model_in(alloc, bytes.as_slice(), &opts) {
-        Ok(read) => Ok(read),
-        Err(stop) => Err(Failure {
-            file: name,
-            cause: Cause::Stop(stop),
-            refused: Some(RefusedModel::new(bytes, opts)),
-            column: None,
-        }),
-    }
+    let ModelText {
+        bytes: _,
+        marks: _,
+        model,
+        notes,
+    } = read_model_text(alloc, file, strength, files)?;
+    Ok((model, notes))
 }

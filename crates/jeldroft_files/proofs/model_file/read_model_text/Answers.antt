@@ -2,7 +2,7 @@ use Rattle.std.proofs.Common.{subst, sym}
 use Rattle.model_parse.specs.RawModels.{AreOpts}
 use Rattle.jeldroft_files.specs.believed.Models.{opts_of}
 use Rattle.jeldroft_files.proofs.Reading.{opts_fit, stops_read}
-use Rattle.jeldroft_files.proofs.model_file.read_model_file.Goals as goal
+use Rattle.jeldroft_files.proofs.model_file.read_model_text.Goals as goal
 
 pub model_in-requires-clause-opts : goal.model_in-requires-clause-opts
 model_in-requires-clause-opts g c = subst AreOpts (sym c.opts_of-opts.ensures) (opts_fit c.args.file.now c.args.strength c.requires.marks c.requires.strength)
