@@ -1,17 +1,23 @@
 //! The words in which findings about a model are told, with the names of its parameters and values.
 //!
-//! - `add_line` adds the line of a finding, in the form that editors and build systems follow,
-//!   `FILE:LINE: warning: WORDS [NAME]`.
-//! - `finding_name`, `finding_line` and `add_words` give its parts.
+//! - `words_of` gives the words of a finding, and `finding_column` the column of what it is about.
+//! - `add_line` adds its line, in the form that editors and build systems follow,
+//!   `FILE:LINE:COLUMN: warning: WORDS [NAME]`.
+//! - `literal_words`, `value_words` and the calls that give lines and names of a model are what such words are made of.
 //!
-//! The words are free. Which findings a model has, `model_findings` says.
+//! The words are free, and so are the columns. Which findings a model has, `model_findings` says.
 #![tactic(auto)]
 
-mod adding;
-mod comparisons;
+mod column;
 mod line;
-mod values;
+mod meant;
+mod names;
+mod sameness;
+mod spelling;
 mod words;
 
-pub use line::{add_line, finding_line, finding_name};
-pub use words::add_words;
+pub use column::finding_column;
+pub use line::add_line;
+pub use names::{first_name, param_line, param_name, rule_line, value_name};
+pub use spelling::{literal_words, value_words};
+pub use words::words_of;

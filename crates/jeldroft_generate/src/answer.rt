@@ -16,7 +16,7 @@ ghost use Rattle.jeldroft_generate.specs.Steps.{EndsAt};
 
 use crate::asked::form_of;
 use crate::dropped_seed::dropped_seeds;
-use crate::findings::finding_lines;
+use crate::findings::{finding_lines, may_be_odd};
 use crate::growing::{grow, make_plan};
 use crate::made::Made;
 use crate::notes::Notes;
@@ -27,7 +27,7 @@ use crate::telling::Summary;
 use crate::tests::Tests;
 use cov_model::TestModel;
 use jeldroft_args::Generate;
-use jeldroft_files::{Failure, read_model_file};
+use jeldroft_files::{Failure, read_model_text};
 use outside_io::Folder;
 use refutation::Omissions;
 use row_text::RowFile;
@@ -85,7 +85,7 @@ fn make_suite<'n, R: Threads + Sync>(
     if let Ok(dropped) = dropped_seeds(alloc, model, seeds, &grown.dropped) {
         notes.dropped = dropped;
     }
-    notes.findings = finding_lines(alloc, args, model, &tests.rows);
+    notes.odd = may_be_odd(alloc, args, model, &tests.rows);
     Ok(made)
 }
 
@@ -130,11 +130,14 @@ pub(crate) fn answer<'n, R: Threads + Sync, F: Folder>(
     ensures answers { (held : Held) → AreHeld args.now (F.seen files.old).files held → Answers (CallsFor args.now held) (IsMadeOf args.now) result }
     ensures files { KeepsFiles (F.seen files.old) (F.seen files.new) }
 {
-    match read_model_file(alloc, &args.model, args.strength, files) {
-        Ok((model, warnings)) => {
-            notes.files.model = warnings;
-            let made = make_of_model(rt, alloc, args, &model, files, notes);
-            notes.files.read = Some(model);
+    match read_model_text(alloc, &args.model, args.strength, files) {
+        Ok(file) => {
+            let made = make_of_model(rt, alloc, args, &file.model, files, notes);
+            if notes.odd {
+                notes.findings = finding_lines(alloc, args, &file);
+            }
+            notes.files.model = file.notes;
+            notes.files.read = Some(file.model);
             made
         }
         Err(failure) => Err(failure),

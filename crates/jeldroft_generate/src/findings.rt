@@ -4,7 +4,9 @@ ghost use Rattle.std.specs.Prelude.{◌<◌, length};
 use cov_model::{Literal, ParamNo, Rel, Rows, Term, TestModel, ValueNo};
 use finding_words::add_line;
 use jeldroft_args::Generate;
+use jeldroft_files::ModelText;
 use model_findings::{Finding, findings, terms_of};
+use refusal_places::ModelPlaces;
 use std::alloc::Global;
 use value_text::{FixedAnswer, NoMemory, like, read_fixed, same_text};
 
@@ -125,45 +127,43 @@ fn is_told(finding: &Finding) -> bool {
     }
 }
 
-// The lines of the findings about a model that are told beside a table.
-fn lines_of(alloc: Global, args: &Generate, model: &TestModel) -> Result<Vec<u8>, NoMemory> {
+// The lines of the findings about the model of a file that are told beside a table.
+fn lines_of(alloc: Global, args: &Generate, file: &ModelText) -> Result<Vec<u8>, NoMemory> {
+    let model = &file.model;
+    let places = ModelPlaces::new(alloc, file.bytes.as_slice(), file.marks, model)?;
     let found = findings(alloc, model, false)?;
     let mut lines = Vec::new(alloc);
     for finding in found.as_slice() {
         if is_told(finding) {
-            add_line(alloc, args.model.name.as_str(), model, finding, &mut lines)?;
+            let name = args.model.name.as_str();
+            add_line(alloc, name, &places, model, finding, &mut lines)?;
         }
     }
     Ok(lines)
 }
 
-// The same, where a value is in none of the tests, or a comparison is with what is no value; else there are none to tell.
-fn lines_where_due(
-    alloc: Global,
-    args: &Generate,
-    model: &TestModel,
-    tests: &Rows,
-) -> Result<Vec<u8>, NoMemory> {
-    if misses_value(alloc, model, tests)? || compares_with_none(alloc, model)? {
-        lines_of(alloc, args, model)
-    } else {
-        Ok(Vec::new(alloc))
+// Whether a value is in none of the tests, or a comparison may be with what is no value.
+fn is_due(alloc: Global, model: &TestModel, tests: &Rows) -> Result<bool, NoMemory> {
+    Ok(misses_value(alloc, model, tests)? || compares_with_none(alloc, model)?)
+}
+
+/// Whether there may be something to tell of a model with these tests: a value is in none of them, or a comparison may be
+/// with what is no value. No where warnings are left out, where a budget is given, since these questions have none, and
+/// where memory was refused.
+pub(crate) fn may_be_odd(alloc: Global, args: &Generate, model: &TestModel, tests: &Rows) -> bool {
+    if args.no_warnings || args.budget.is_some() {
+        return false;
+    }
+    match is_due(alloc, model, tests) {
+        Ok(due) => due,
+        Err(NoMemory) => false,
     }
 }
 
-/// The lines that tell of a model with these tests: that it has none, which values are in none, and which comparisons are
-/// with what is no value. None where warnings are left out, where a budget is given, since these questions have none, and
-/// where memory was refused.
-pub(crate) fn finding_lines(
-    alloc: Global,
-    args: &Generate,
-    model: &TestModel,
-    tests: &Rows,
-) -> Vec<u8> {
-    if args.no_warnings || args.budget.is_some() {
-        return Vec::new(alloc);
-    }
-    match lines_where_due(alloc, args, model, tests) {
+/// The lines that tell of the model of a file that it has no test, which values are in none, and which comparisons are with
+/// what is no value. None where memory was refused.
+pub(crate) fn finding_lines(alloc: Global, args: &Generate, file: &ModelText) -> Vec<u8> {
+    match lines_of(alloc, args, file) {
         Ok(lines) => lines,
         Err(NoMemory) => Vec::new(alloc),
     }

@@ -8,6 +8,8 @@ use value_text::OwnedList;
 pub(crate) struct Notes {
     /// In the model file and in the file of seeds.
     pub files: FileNotes,
+    /// Whether there may be something odd about the model.
+    pub odd: bool,
     /// The lines that tell what is odd about the model.
     pub findings: Vec<u8>,
     /// The seeds that aren't kept.
@@ -19,6 +21,7 @@ impl Notes {
     pub(crate) fn new(alloc: Global) -> Notes {
         Notes {
             files: FileNotes::none(alloc),
+            odd: false,
             findings: Vec::new(alloc),
             dropped: OwnedList::new(alloc),
         }

@@ -1,4 +1,4 @@
 pub mod Ending
-pub mod Lookups
+pub mod Explaining
 pub mod Told
 pub mod Tokens

@@ -12,12 +12,11 @@ use crate::objects::array_of;
 use crate::order::in_order;
 use crate::remark::Remark;
 use crate::remarks::remarks_of;
-use cov_model::TestModel;
 use jeldroft_args::{FindingFormat, Lint, Strength};
-use jeldroft_files::{Failure, read_model_file};
+use jeldroft_files::{Failure, ModelText, read_model_text};
 use model_findings::findings;
-use model_lex::NoteList;
 use outside_io::Folder;
+use refusal_places::ModelPlaces;
 use std::alloc::Global;
 use value_text::NoMemory;
 
@@ -49,31 +48,23 @@ fn text_of(alloc: Global, args: &Lint, told: &[Remark]) -> Result<Vec<u8>, NoMem
     }
 }
 
-// What is told of a model, in order.
-fn told_of(
-    alloc: Global,
-    model: &TestModel,
-    notes: &NoteList,
-    all: bool,
-) -> Result<Vec<Remark>, NoMemory>
-    ensures { IfOk result (λ told. Tells model.now all told.items) }
+// What is told of the model of a file, in order.
+fn told_of(alloc: Global, file: &ModelText, all: bool) -> Result<Vec<Remark>, NoMemory>
+    ensures { IfOk result (λ told. Tells file.now.model all told.items) }
 {
+    let model = &file.model;
+    let places = ModelPlaces::new(alloc, file.bytes.as_slice(), file.marks, model)?;
     let found = findings(alloc, model, all)?;
-    let hints = hints_of(alloc, model, notes.as_slice(), &found)?;
-    let remarks = remarks_of(alloc, model, &found)?;
+    let hints = hints_of(alloc, model, &places, file.notes.as_slice(), &found)?;
+    let remarks = remarks_of(alloc, model, &places, &found)?;
     in_order(remarks, hints)
 }
 
-// What is printed of a model.
-fn report_of(
-    alloc: Global,
-    args: &Lint,
-    model: &TestModel,
-    notes: &NoteList,
-) -> Result<Report, NoMemory>
-    ensures { IfOk result (λ report. IsReport args.now model.now report.text.items report.status) }
+// What is printed of the model of a file.
+fn report_of(alloc: Global, args: &Lint, file: &ModelText) -> Result<Report, NoMemory>
+    ensures { IfOk result (λ report. IsReport args.now file.now.model report.text.items report.status) }
 {
-    let told = told_of(alloc, model, notes, args.all)?;
+    let told = told_of(alloc, file, args.all)?;
     let text = text_of(alloc, args, told.as_slice())?;
     let status = status_with(told.as_slice());
     Ok(Report { text, status })
@@ -91,7 +82,7 @@ pub(crate) fn answer<'n, F: Folder>(
     ensures stops { IfErr result (λ failure. IfSome ((F.seen files.old).files args.now.model.name) (λ held. StopsModel (lint_opts args.now) held failure.cause)) }
     ensures files { KeepsFiles (F.seen files.old) (F.seen files.new) }
 {
-    let (model, notes) = read_model_file(alloc, &args.model, Strength::Number(1), files)?;
-    let report = report_of(alloc, args, &model, &notes)?;
+    let file = read_model_text(alloc, &args.model, Strength::Number(1), files)?;
+    let report = report_of(alloc, args, &file)?;
     Ok(report)
 }

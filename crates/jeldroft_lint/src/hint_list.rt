@@ -11,6 +11,7 @@ use value_text::{NoMemory, OwnedList, Text};
 #[derive(Clone, Copy)]
 pub(crate) struct About<'a> {
     pub(crate) line: u32,
+    pub(crate) column: u32,
     pub(crate) parameter: Option<&'a str>,
     pub(crate) value: Option<&'a str>,
     pub(crate) constraint: Option<u32>,
@@ -51,6 +52,7 @@ fn hint(alloc: Global, kind: Kind, about: About<'_>, words: &str) -> Result<Rema
     Ok(Remark {
         kind,
         line: about.line,
+        column: about.column,
         parameter,
         value,
         constraints,

@@ -5,14 +5,14 @@ ghost use Rattle.jeldroft_lint.specs.believed.Kinds.{is_hint};
 use crate::hint_list::{About, HintList};
 use crate::kind::Kind;
 use crate::likeness::{looks_like_constraint, looks_like_weight};
-use crate::names::{first_name, rule_line};
-use crate::naming::{compares, later_named};
+use crate::naming::later_named;
 use crate::remark::Remark;
-use crate::spelling::{literal_words, value_words};
 use cov_model::{Literal, Param, ParamNo, Rule, Term, TestModel, Value};
-use model_findings::{Finding, FindingList, terms_of};
+use finding_words::{first_name, literal_words, rule_line, value_words};
+use model_findings::{Finding, FindingList, compares, passes_without_comparisons, terms_of};
 use model_lex::{Note, NoteCode};
 use model_lint::{RuleNumbers, UnusedValue};
+use refusal_places::ModelPlaces;
 use std::alloc::Global;
 use value_text::NoMemory;
 
@@ -21,6 +21,12 @@ use value_text::NoMemory;
 struct Hinted<'a> {
     alloc: Global,
     model: &'a TestModel,
+    places: &'a ModelPlaces<'a>,
+}
+
+// Whether a note is on a name of a value that stands in the line of a parameter a second time.
+fn is_repeated(note: &Note, param: &Param) -> bool {
+    note.line == param.line && note.code == NoteCode::RepeatedValueName
 }
 
 impl Hinted<'_> {
@@ -49,10 +55,11 @@ impl Hinted<'_> {
         let name = param.name.as_str();
         let shown = value_words(self.alloc, self.model, value)?;
         let words = format!(in self.alloc;
-            "constraint {number} keeps the invalid value {shown} of {name} from every test; IF ISPOSITIVE([{name}]) THEN .. would let it pass"
+            "constraint {number} keeps the invalid value {shown} of {name} from every test; IF ISPOSITIVE([{name}]) THEN before each constraint that compares {name} would let it pass"
         )?;
         let about = About {
             line: rule_line(self.model, number),
+            column: self.places.constraint(number),
             parameter: Some(name),
             value: Some(first_name(value)),
             constraint: Some(number),
@@ -60,21 +67,21 @@ impl Hinted<'_> {
         list.add(self.alloc, Kind::ConstraintOnInvalid, about, words.as_str())
     }
 
-    // Adds which constraint keeps a value from every test, if the value is invalid.
+    // Adds which constraint keeps a value from every test, if it is invalid and in one without the constraints that
+    // compare values of its parameter.
     fn add_unused(&self, one: &UnusedValue, list: &mut HintList) -> Result<(), NoMemory> {
-        let Some(param) = self.model.params().get(one.parameter as usize) else {
+        let (p, v) = (one.parameter, one.value);
+        let Some(param) = self.model.params().get(p as usize) else {
             return Ok(());
         };
-        let Some(value) = param.values.get(one.value as usize) else {
+        let Some(value) = param.values.get(v as usize) else {
             return Ok(());
         };
-        if !value.negative {
+        if !value.negative || !passes_without_comparisons(self.alloc, self.model, p, v)? {
             return Ok(());
         }
-        match self.first_comparing(&one.constraints, one.parameter)? {
-            0 => Ok(()),
-            number => self.add_kept_out(param, value, number, list),
-        }
+        let number = self.first_comparing(&one.constraints, p)?;
+        self.add_kept_out(param, value, number, list)
     }
 
     // Adds the hints on values that are in no test.
@@ -87,29 +94,24 @@ impl Hinted<'_> {
         Ok(())
     }
 
-    // The name of the parameter that a line declares.
-    fn declared_in(&self, line: u32) -> Option<&str> {
-        match self
-            .model
-            .params()
-            .as_slice()
-            .iter()
-            .find(|param| param.line == line)
-        {
-            Some(param) => Some(param.name.as_str()),
-            None => None,
+    // Adds the names of values that stand in the line of a parameter a second time, of which the reading of the file noted
+    // each.
+    fn add_repeated(
+        &self,
+        param: &Param,
+        notes: &[Note],
+        list: &mut HintList,
+    ) -> Result<(), NoMemory> {
+        let count = notes.iter().filter(|note| is_repeated(note, param)).count();
+        if count == 0 {
+            return Ok(());
         }
-    }
-
-    // Adds the hints that the reading of the file noted.
-    fn add_notes(&self, notes: &[Note], list: &mut HintList) -> Result<(), NoMemory> {
-        for note in notes {
-            if note.code != NoteCode::RepeatedValueName {
-                continue;
-            }
+        let columns = self.places.repeated_names(self.alloc, param)?;
+        for i in 0..count {
             let about = About {
-                line: note.line,
-                parameter: self.declared_in(note.line),
+                line: param.line,
+                column: columns.get(i).copied().unwrap_or(0),
+                parameter: Some(param.name.as_str()),
                 value: None,
                 constraint: None,
             };
@@ -130,6 +132,7 @@ impl Hinted<'_> {
         )?;
         let about = About {
             line: param.line,
+            column: self.places.parameter(param),
             parameter: Some(name),
             value: None,
             constraint: None,
@@ -147,6 +150,7 @@ impl Hinted<'_> {
         )?;
         let about = About {
             line: param.line,
+            column: self.places.value_name(self.alloc, param, name)?,
             parameter: Some(param.name.as_str()),
             value: Some(name),
             constraint: None,
@@ -173,6 +177,7 @@ impl Hinted<'_> {
         let words = format!(in self.alloc; "{name} has one value, which each test has")?;
         let about = About {
             line: param.line,
+            column: self.places.parameter(param),
             parameter: Some(name),
             value: None,
             constraint: None,
@@ -181,8 +186,9 @@ impl Hinted<'_> {
     }
 
     // Adds the hints on parameters.
-    fn add_params(&self, list: &mut HintList) -> Result<(), NoMemory> {
+    fn add_params(&self, notes: &[Note], list: &mut HintList) -> Result<(), NoMemory> {
         for param in self.model.params().as_slice() {
+            self.add_repeated(param, notes, list)?;
             self.add_likeness(param, list)?;
             self.add_weights(param, list)?;
             self.add_single(param, list)?;
@@ -208,6 +214,7 @@ impl Hinted<'_> {
         )?;
         let about = About {
             line: rule.line,
+            column: self.places.constraint(rule.number),
             parameter: Some(name),
             value: Some(first),
             constraint: Some(rule.number),
@@ -262,16 +269,20 @@ impl Hinted<'_> {
 pub(crate) fn hints_of(
     alloc: Global,
     model: &TestModel,
+    places: &ModelPlaces<'_>,
     notes: &[Note],
     found: &FindingList,
 ) -> Result<Vec<Remark>, NoMemory>
     ensures { IfOk result (λ list. All (λ remark. is_hint remark.kind ≡ true) list.items) }
 {
     let mut list = HintList::new(alloc);
-    let hinted = Hinted { alloc, model };
+    let hinted = Hinted {
+        alloc,
+        model,
+        places,
+    };
     hinted.add_each_unused(found, &mut list)?;
-    hinted.add_notes(notes, &mut list)?;
-    hinted.add_params(&mut list)?;
+    hinted.add_params(notes, &mut list)?;
     hinted.add_rules(&mut list)?;
     Ok(list.into_vec())
 }

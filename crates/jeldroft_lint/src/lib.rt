@@ -12,17 +12,12 @@ mod hints;
 mod kind;
 mod likeness;
 mod lines;
-mod meant;
-mod names;
 mod naming;
 mod objects;
 mod order;
 mod remark;
 mod remarks;
 mod run;
-mod sameness;
-mod spelling;
-mod words;
 
 pub use kind::Kind;
 pub use remark::Remark;

@@ -1,7 +1,7 @@
 //! What is told as lines.
 ghost use Rattle.std.specs.Prelude.{◌≡◌, ◌++◌, IfOk, OnOk, codes, decimal, map};
 ghost use Rattle.jeldroft_lint.specs.believed.Kinds.{kind_name};
-ghost use Rattle.jeldroft_lint.specs.believed.Texts.{line_text, lines_text, place_text, shown_byte};
+ghost use Rattle.jeldroft_lint.specs.believed.Texts.{known_text, line_text, lines_text, place_text, shown_byte};
 
 use crate::remark::Remark;
 use std::alloc::Global;
@@ -44,16 +44,27 @@ fn add_words(words: &[u8], into: &mut Vec<u8>) -> Result<(), NoMemory>
     Ok(())
 }
 
-// Adds where a remark stands: the file, and the line where it is about one.
-fn add_place(file: &str, line: u32, into: &mut Vec<u8>) -> Result<(), NoMemory>
-    ensures { OnOk result (into.new.items ≡ into.old.items ++ place_text file.now line) }
+// Adds a line or a column behind a colon, where there is one.
+fn add_known(number: u32, into: &mut Vec<u8>) -> Result<(), NoMemory>
+    ensures { OnOk result (into.new.items ≡ into.old.items ++ known_text number) }
 {
-    add(file, into)?;
-    if line == 0 {
+    if number == 0 {
         return Ok(());
     }
     add(":", into)?;
-    add_number(line, into)
+    add_number(number, into)
+}
+
+// Adds where a remark stands: the file, the line where it is about one, and the column where one is known.
+fn add_place(file: &str, remark: &Remark, into: &mut Vec<u8>) -> Result<(), NoMemory>
+    ensures { OnOk result (into.new.items ≡ into.old.items ++ place_text file.now remark.now) }
+{
+    add(file, into)?;
+    if remark.line == 0 {
+        return Ok(());
+    }
+    add_known(remark.line, into)?;
+    add_known(remark.column, into)
 }
 
 // Adds the name of a remark, and ends its line.
@@ -69,7 +80,7 @@ fn add_name(remark: &Remark, into: &mut Vec<u8>) -> Result<(), NoMemory>
 fn add_line(file: &str, remark: &Remark, into: &mut Vec<u8>) -> Result<(), NoMemory>
     ensures { OnOk result (into.new.items ≡ into.old.items ++ line_text file.now remark.now) }
 {
-    add_place(file, remark.line, into)?;
+    add_place(file, remark, into)?;
     add(": warning: ", into)?;
     add_words(remark.words.as_str().as_bytes(), into)?;
     add_name(remark, into)

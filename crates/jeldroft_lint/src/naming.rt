@@ -1,5 +1,5 @@
-//! Which terms and literals name a parameter or a value.
-use cov_model::{Literal, Param, ParamNo, Term, Value};
+//! Which literals name a value.
+use cov_model::{Literal, Param, Value};
 use value_text::{FixedAnswer, Text, read_fixed, same_text};
 
 // Whether a name equals a literal.
@@ -44,13 +44,4 @@ pub(crate) fn later_named<'a>(
         return None;
     }
     values.iter().find(|value| is_named(value, literal, fold))
-}
-
-/// Whether a term compares values of a parameter. A test of the sign doesn't.
-pub(crate) fn compares(term: &Term, p: ParamNo) -> bool {
-    match term {
-        Term::ValueIs(q, _, _) | Term::OneOf(q, _) | Term::Like(q, _) => *q == p,
-        Term::ParamIs(q, _, r) => *q == p || *r == p,
-        Term::Negative(_) | Term::Positive(_) => false,
-    }
 }

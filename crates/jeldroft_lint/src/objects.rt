@@ -3,7 +3,7 @@ ghost use Rattle.std.specs.Prelude.{◌≡◌, ◌∷◌, [], IfOk, OnOk, codes,
 ghost use Rattle.std.specs.Option.{option_copied};
 ghost use Rattle.json.specs.Token.{key, number, string};
 ghost use Rattle.jeldroft_lint.specs.believed.Kinds.{kind_name};
-ghost use Rattle.jeldroft_lint.specs.believed.Texts.{array_text, array_tokens, line_token, number_tokens, object_tokens, objects_tokens, place_tokens, subject_tokens, text_token};
+ghost use Rattle.jeldroft_lint.specs.believed.Texts.{array_text, array_tokens, known_token, number_tokens, object_tokens, objects_tokens, place_tokens, subject_tokens, text_token};
 ghost use Rattle.jeldroft_lint.specs.Texts.{Adds};
 
 use crate::kind::Kind;
@@ -33,14 +33,14 @@ fn put_text(text: Option<&str>, writer: &mut Writer) -> Result<(), AllocError>
     }
 }
 
-// Writes a line, or null where there is none.
-fn put_line(line: u32, writer: &mut Writer) -> Result<(), AllocError>
-    ensures { OnOk result (Adds writer.old writer.new (line_token line ∷ [])) }
+// Writes a line or a column, or null where there is none.
+fn put_known(number: u32, writer: &mut Writer) -> Result<(), AllocError>
+    ensures { OnOk result (Adds writer.old writer.new (known_token number ∷ [])) }
 {
-    if line == 0 {
+    if number == 0 {
         writer.null()
     } else {
-        writer.u64(u64::from(line))
+        writer.u64(u64::from(number))
     }
 }
 
@@ -50,6 +50,14 @@ fn put_member(name: &str, text: Option<&str>, writer: &mut Writer) -> Result<(),
 {
     writer.key(name)?;
     put_text(text, writer)
+}
+
+// Writes a member that is a line or a column.
+fn put_number(name: &str, number: u32, writer: &mut Writer) -> Result<(), AllocError>
+    ensures { OnOk result (Adds writer.old writer.new (key name.now ∷ known_token number ∷ [])) }
+{
+    writer.key(name)?;
+    put_known(number, writer)
 }
 
 // Writes a member that may have no text.
@@ -73,14 +81,13 @@ fn put_words(words: &Text, writer: &mut Writer) -> Result<(), AllocError>
     put_member("text", Some(words.as_str()), writer)
 }
 
-// Writes where a remark stands; the column isn't known.
-fn put_place(file: &str, line: u32, writer: &mut Writer) -> Result<(), AllocError>
-    ensures { OnOk result (Adds writer.old writer.new (place_tokens file.now line)) }
+// Writes where a remark stands.
+fn put_place(file: &str, remark: &Remark, writer: &mut Writer) -> Result<(), AllocError>
+    ensures { OnOk result (Adds writer.old writer.new (place_tokens file.now remark.now)) }
 {
     put_member("file", Some(file), writer)?;
-    writer.key("line")?;
-    put_line(line, writer)?;
-    put_member("column", None, writer)
+    put_number("line", remark.line, writer)?;
+    put_number("column", remark.column, writer)
 }
 
 // Writes numbers.
@@ -118,7 +125,7 @@ fn put_object(file: &str, remark: &Remark, writer: &mut Writer) -> Result<(), Al
 {
     writer.begin_object()?;
     put_name(remark.kind, writer)?;
-    put_place(file, remark.line, writer)?;
+    put_place(file, remark, writer)?;
     put_subject(remark, writer)?;
     put_words(&remark.words, writer)?;
     writer.end_object()

@@ -12,6 +12,8 @@ pub struct Remark {
     pub kind: Kind,
     /// The line of the model file that it is about, from 1; 0 where it is about none.
     pub line: u32,
+    /// The column, in characters from 1, of what it is about in this line; 0 where none is known.
+    pub column: u32,
     /// The name of the parameter that it is about, if it is about one.
     pub parameter: Option<Text>,
     /// The first name of the value that it is about, if it is about one.

@@ -1,10 +1,14 @@
 -- What is told of a model: a remark for each of its facts, and hints. (This project's rule.)
-use Rattle.std.specs.Prelude.{◌≡◌, ℕ, ◌+◌, ◌*◌, ◌-◌, Bool, true, List, ◌++◌, map, All, Option, Some, None, IsPermutation, slice_index_or}
+use Rattle.std.specs.Prelude.{◌≡◌, ℕ, ◌+◌, ◌*◌, Bool, true, List, [], ◌∷◌, ◌++◌, map, All, Option, Some, None, IsPermutation}
+use Rattle.std.specs.List.{AllZip}
 use Rattle.std.specs.List.Sorted.{IsSortedByKey, IsStableByKey}
 use Rattle.std.specs.Ordering.{nat_cmp}
+use Rattle.cov_model.specs.declared.slice.Slice.TheVariants.{Positive}
 use Rattle.cov_model.specs.believed.Meaning.{value_at}
 use Rattle.cov_model.specs.believed.Sound.{ModelView, first_name, param_at}
+use Rattle.model_lint.specs.believed.Tests.{IsConflict, no_values, slice_with, value_alone}
 use Rattle.model_findings.specs.believed.Findings.{Fact, NoTest, ValueInNoTest, UnknownValue, UnknownElement, ConstantComparison, NeverExcludes, PremiseNeverHolds, facts}
+use Rattle.finding_words.specs.believed.Lines.{rule_line}
 use Rattle.jeldroft_lint.specs.declared.kind.Kind.{Kind}
 use Rattle.jeldroft_lint.specs.declared.kind.Kind.TheVariants as kinds
 use Rattle.jeldroft_lint.specs.declared.remark.Remark.{Remark}
@@ -19,10 +23,6 @@ pub record Gist : Type 0 where
 
 abbrev pub gist_of : Remark → Gist
 gist_of remark = record { kind = remark.kind; line = remark.line; parameter = remark.parameter; value = remark.value }
-
--- the line where the constraint of a number begins
-abbrev pub rule_line : ModelView → ℕ → ℕ
-rule_line m number = slice_index_or (map (λ rule. rule.line) m.rules) (number - 1) 0
 
 abbrev pub about_rule : ModelView → Kind → ℕ → Gist
 about_rule m kind number = record { kind = kind; line = rule_line m number; parameter = None; value = None }
@@ -45,6 +45,17 @@ fact_gist m (ConstantComparison number term) = about_rule m kinds.ConstantCompar
 fact_gist m (NeverExcludes number) = about_rule m kinds.NeverExcludes number
 fact_gist m (PremiseNeverHolds number) = about_rule m kinds.PremiseNeverHolds number
 
+-- the constraints that come with a fact: those that no row of valid values, or none of its slice with the value, meets
+-- together, of which none can be left out; or the one that it is about
+abbrev pub Explains : ModelView → Fact → Remark → Type 0
+Explains m NoTest remark = IsConflict m Positive (no_values m) remark.constraints
+Explains m (ValueInNoTest value) remark = IsConflict m (slice_with m value) (value_alone m value) remark.constraints
+Explains m (UnknownValue number term) remark = remark.constraints ≡ number ∷ []
+Explains m (UnknownElement number term element) remark = remark.constraints ≡ number ∷ []
+Explains m (ConstantComparison number term) remark = remark.constraints ≡ number ∷ []
+Explains m (NeverExcludes number) remark = remark.constraints ≡ number ∷ []
+Explains m (PremiseNeverHolds number) remark = remark.constraints ≡ number ∷ []
+
 -- the place of a remark: by its line, then by its kind, of which there are less than 16
 abbrev pub place_of : Remark → ℕ
 place_of remark = remark.line * 16 + rank_of remark.kind
@@ -56,10 +67,11 @@ pub record IsInOrder (given told : List Remark) : Type 0 where
   pub stable : IsStableByKey place_of nat_cmp given told
 
 -- what is told of a model, those constraints included that never exclude where all is asked for: a remark for each of its
--- facts, and hints
+-- facts, with its constraints, and hints
 pub record Tells (m : ModelView) (all : Bool) (told : List Remark) : Type 0 where
   pub found : List Remark
   pub hints : List Remark
   pub findings : map gist_of found ≡ map (fact_gist m) (facts m all)
+  pub explained : AllZip (Explains m) (facts m all) found
   pub are_hints : All (λ remark. is_hint remark.kind ≡ true) hints
   pub order : IsInOrder (found ++ hints) told

@@ -10,16 +10,16 @@ pub returns-in-Ok-clause-answers : goal.returns-in-Ok-clause-answers
 returns-in-Ok-clause-answers g c = λ held is.
     let args = c.args.args.now in
     let opts = opts_of args.model args.strength in
-    let m = c.in-Ok.model in
+    let m = c.in-Ok.file.model in
     let folder = (g.F.Folder.seen c.args.files.now).files in
-    let read = (g.F.Folder.seen c.read_model_file.new.files).files in
+    let read = (g.F.Folder.seen c.read_model_text.new.files).files in
     calls_for args held m c.make_of_model-made.result
-    (model_given opts held.model m c.in-Ok.warnings
-    (at_held (λ found. IsLoaded opts found m c.in-Ok.warnings) (folder args.model.name) held.model is.model c.in-Ok.ensures.model.1))
-    (c.make_of_model-made.ensures.made held.seeds (told_kept args.seeds folder read held.seeds c.read_model_file.ensures.files is.seeds))
+    (model_given opts held.model m c.in-Ok.file.notes
+    (at_held (λ found. IsLoaded opts found m c.in-Ok.file.notes) (folder args.model.name) held.model is.model c.in-Ok.ensures.model.1))
+    (c.make_of_model-made.ensures.made held.seeds (told_kept args.seeds folder read held.seeds c.read_model_text.ensures.files is.seeds))
 
 pub returns-in-Ok-clause-files : goal.returns-in-Ok-clause-files
-returns-in-Ok-clause-files g c = λ name. c.make_of_model-made.ensures.files name ∙ c.read_model_file.ensures.files name
+returns-in-Ok-clause-files g c = λ name. c.make_of_model-made.ensures.files name ∙ c.read_model_text.ensures.files name
 
 pub returns-in-Err-clause-answers : goal.returns-in-Err-clause-answers
 returns-in-Err-clause-answers g c = λ held is.

@@ -3,8 +3,8 @@ use Rattle.std.specs.Prelude.{slice_get, slice_index_or}
 use Rattle.cov_model.specs.believed.Meaning.{no_value}
 use Rattle.cov_model.specs.believed.Sound.{first_name, no_param}
 use Rattle.cov_model.specs.declared.parameter.Param.{Param}
-use Rattle.jeldroft_lint.proofs.Lookups.{missing}
-use Rattle.jeldroft_lint.proofs.names.value_name.Goals as goal
+use Rattle.finding_words.proofs.Lookups.{missing}
+use Rattle.finding_words.proofs.names.value_name.Goals as goal
 
 pub returns-in-None : goal.returns-in-None
 returns-in-None c =

@@ -19,8 +19,8 @@ fn decimals_of(alloc: Global, parts: u128) -> Result<String, NoMemory> {
     Ok(String::from_str(alloc, digits.as_str().trim_end_matches('0'))?)
 }
 
-/// The digits of a number.
-pub(crate) fn digits_of(alloc: Global, number: Fixed) -> Result<String, NoMemory> {
+// The digits of a number.
+fn digits_of(alloc: Global, number: Fixed) -> Result<String, NoMemory> {
     let scaled = number.scaled();
     let size = scaled.unsigned_abs();
     let sign = if scaled < 0 { "-" } else { "" };
@@ -30,7 +30,11 @@ pub(crate) fn digits_of(alloc: Global, number: Fixed) -> Result<String, NoMemory
 }
 
 /// A literal as it is written in a constraint.
-pub(crate) fn literal_words(alloc: Global, literal: &Literal) -> Result<String, NoMemory> {
+///
+/// # Errors
+///
+/// `NoMemory` where memory is refused.
+pub fn literal_words(alloc: Global, literal: &Literal) -> Result<String, NoMemory> {
     match literal {
         Literal::Words(text) => {
             let text = text.as_str();
@@ -62,11 +66,11 @@ fn push_value(mark: u8, value: &Value, into: &mut String) -> Result<(), NoMemory
 }
 
 /// A value as tables show it: with the mark before its name where it is invalid.
-pub(crate) fn value_words(
-    alloc: Global,
-    model: &TestModel,
-    value: &Value,
-) -> Result<String, NoMemory> {
+///
+/// # Errors
+///
+/// `NoMemory` where memory is refused.
+pub fn value_words(alloc: Global, model: &TestModel, value: &Value) -> Result<String, NoMemory> {
     let mut words = String::new(alloc);
     push_value(model.prefix(), value, &mut words)?;
     Ok(words)

@@ -2,8 +2,8 @@ use Rattle.std.proofs.Common.{◌∙◌, List, ap}
 use Rattle.std.specs.Prelude.{slice_get}
 use Rattle.cov_model.specs.believed.Sound.{no_param}
 use Rattle.cov_model.specs.declared.parameter.Param.{Param}
-use Rattle.jeldroft_lint.proofs.Lookups.{missing}
-use Rattle.jeldroft_lint.proofs.names.param_name.Goals as goal
+use Rattle.finding_words.proofs.Lookups.{missing}
+use Rattle.finding_words.proofs.names.param_name.Goals as goal
 
 pub returns-in-None : goal.returns-in-None
 returns-in-None c =

@@ -1,8 +1,8 @@
 use Rattle.std.proofs.Common.{◌∙◌, ℕ, ap, map}
 use Rattle.std.specs.Prelude.{slice_index_or}
 use Rattle.cov_model.specs.believed.Views.{RuleView}
-use Rattle.jeldroft_lint.proofs.Lookups.{line_found, line_missing}
-use Rattle.jeldroft_lint.proofs.names.rule_line.Goals as goal
+use Rattle.finding_words.proofs.Lookups.{line_found, line_missing}
+use Rattle.finding_words.proofs.names.rule_line.Goals as goal
 
 pub returns-in-Some : goal.returns-in-Some
 returns-in-Some c =

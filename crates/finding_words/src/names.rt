@@ -2,12 +2,12 @@
 ghost use Rattle.std.specs.Prelude.{◌≡◌, slice_index_or};
 ghost use Rattle.cov_model.specs.believed.Meaning.{no_value, value_at};
 ghost use Rattle.cov_model.specs.believed.Sound.{first_name, param_at};
-ghost use Rattle.jeldroft_lint.specs.believed.Remarks.{rule_line};
+ghost use Rattle.finding_words.specs.believed.Lines.{rule_line};
 
 use cov_model::{Param, ParamNo, TestModel, Value, ValueNo};
 
-// The line where the constraint of a number begins; 0 where there is none of this number.
-pub(crate) fn rule_line(model: &TestModel, number: u32) -> u32
+/// The line where the constraint of a number begins; 0 where there is none of this number.
+pub fn rule_line(model: &TestModel, number: u32) -> u32
     ensures { result ≡ rule_line model.now number }
 {
     match model.rules().get((number as usize).saturating_sub(1)) {
@@ -16,8 +16,8 @@ pub(crate) fn rule_line(model: &TestModel, number: u32) -> u32
     }
 }
 
-// The line of the parameter of a number.
-pub(crate) fn param_line(model: &TestModel, p: ParamNo) -> u32
+/// The line of the parameter of a number.
+pub fn param_line(model: &TestModel, p: ParamNo) -> u32
     ensures { result ≡ (param_at model.now.params p).line }
 {
     match model.params().get(p as usize) {
@@ -26,8 +26,8 @@ pub(crate) fn param_line(model: &TestModel, p: ParamNo) -> u32
     }
 }
 
-// The name of the parameter of a number.
-pub(crate) fn param_name(model: &TestModel, p: ParamNo) -> &str
+/// The name of the parameter of a number.
+pub fn param_name(model: &TestModel, p: ParamNo) -> &str
     ensures { result.now ≡ (param_at model.now.params p).name }
 {
     match model.params().get(p as usize) {
@@ -36,8 +36,8 @@ pub(crate) fn param_name(model: &TestModel, p: ParamNo) -> &str
     }
 }
 
-// The first name of a value.
-pub(crate) fn first_name(value: &Value) -> &str
+/// The first name of a value; empty where it has none.
+pub fn first_name(value: &Value) -> &str
     ensures { result.now ≡ first_name value.now }
 {
     match value.names.get(0) {
@@ -56,8 +56,8 @@ fn name_in(param: &Param, v: ValueNo) -> &str
     }
 }
 
-// The same of the parameter of a number.
-pub(crate) fn value_name(model: &TestModel, p: ParamNo, v: ValueNo) -> &str
+/// The first name of the value of a number of the parameter of a number; empty where there is none.
+pub fn value_name(model: &TestModel, p: ParamNo, v: ValueNo) -> &str
     ensures { result.now ≡ first_name (value_at model.now p v) }
 {
     match model.params().get(p as usize) {
