@@ -31,7 +31,7 @@ const WARNINGS: &[Told<'static>] = &[
             "m",
             "A: 1, 2\nB: x, y, z\nIF [A] = 1 THEN [B] = \"x\";\n[B] <> \"z\";\n",
         )],
-        told: "m:2: warning: B = z is in no test: constraint 2 (line 4) forbids it [value-in-no-test]\n",
+        told: "m:2:10: warning: B = z is in no test: constraint 2 (line 4) forbids it [value-in-no-test]\n",
     },
     Told {
         words: GENERATE,
@@ -39,34 +39,34 @@ const WARNINGS: &[Told<'static>] = &[
             "m",
             "A: 1, 2\nB: x, y\nIF [A] = 1 THEN [B] = \"x\";\nIF [A] = 1 THEN [B] = \"y\";\n",
         )],
-        told: "m:1: warning: A = 1 is in no test: constraint 1 (line 3) and constraint 2 (line 4) forbid it together [value-in-no-test]\n",
+        told: "m:1:4: warning: A = 1 is in no test: constraint 1 (line 3) and constraint 2 (line 4) forbid it together [value-in-no-test]\n",
     },
     Told {
         words: GENERATE,
         files: &[("m", "A: 1, ~2\nB: x, y\n[A] = 1;\n")],
-        told: "m:1: warning: A = 2 is in no test: constraint 1 (line 3) forbids it [value-in-no-test]\n",
+        told: "m:1:7: warning: A = ~2 is in no test: constraint 1 (line 3) forbids it [value-in-no-test]\n",
     },
     // no test at all
     Told {
         words: GENERATE,
         files: &[("m", "A: 1, 2\nB: x, y\n[A] = 1;\n[A] = 2;\n")],
-        told: "m: warning: no test is valid: constraint 1 (line 3) and constraint 2 (line 4) are never true together [no-test]\n",
+        told: "m: warning: the model has no test: constraint 1 (line 3) and constraint 2 (line 4) are never true together [no-test]\n",
     },
     // comparisons with what is no value
     Told {
         words: GENERATE,
         files: &[("m", "A: 1, 2\nB: x, y\nIF [B] = \"q\" THEN [A] = 1;\n")],
-        told: "m:3: warning: \"q\" is no value of B (x, y); the comparison is never true [unknown-value]\n",
+        told: "m:3:4: warning: \"q\" is no value of B (x, y); the comparison is never true [unknown-value]\n",
     },
     Told {
         words: GENERATE,
         files: &[("m", "A: 1, 2\nB: x, y\n[B] <> \"q\";\n")],
-        told: "m:3: warning: \"q\" is no value of B (x, y); the comparison is always true [unknown-value]\n",
+        told: "m:3:1: warning: \"q\" is no value of B (x, y); the comparison is always true [unknown-value]\n",
     },
     Told {
         words: GENERATE,
         files: &[("m", "A: 1, 2\nB: x, y\nIF [A] = 2.5 THEN [B] = \"x\";\n")],
-        told: "m:3: warning: 2.5 is no value of A (1, 2); the comparison is never true [unknown-value]\n",
+        told: "m:3:4: warning: 2.5 is no value of A (1, 2); the comparison is never true [unknown-value]\n",
     },
     Told {
         words: GENERATE,
@@ -74,12 +74,12 @@ const WARNINGS: &[Told<'static>] = &[
             "m",
             "A: 1, 2\nB: x, y\nIF [A] = 1 THEN [B] IN {\"x\", \"q\"};\n",
         )],
-        told: "m:3: warning: \"q\" is no value of B (x, y); in the list it changes nothing [unknown-value]\n",
+        told: "m:3:30: warning: \"q\" is no value of B (x, y); in the list it changes nothing [unknown-value]\n",
     },
     Told {
         words: GENERATE,
         files: &[("m", "A: 1, 2\nB: x, y\nIF [B] LIKE \"q*\" THEN [A] = 1;\n")],
-        told: "m:3: warning: no value of B (x, y) matches \"q*\"; the comparison is never true [unknown-value]\n",
+        told: "m:3:4: warning: no value of B (x, y) matches \"q*\"; the comparison is never true [unknown-value]\n",
     },
     // a seed that a constraint forbids
     Told {
