@@ -16,7 +16,7 @@ ghost use Rattle.jeldroft_generate.specs.Steps.{EndsAt};
 
 use crate::asked::form_of;
 use crate::dropped_seed::dropped_seeds;
-use crate::findings::{finding_lines, may_be_odd};
+use crate::findings::{may_be_odd, note_findings};
 use crate::growing::{grow, make_plan};
 use crate::made::Made;
 use crate::notes::Notes;
@@ -133,9 +133,7 @@ pub(crate) fn answer<'n, R: Threads + Sync, F: Folder>(
     match read_model_text(alloc, &args.model, args.strength, files) {
         Ok(file) => {
             let made = make_of_model(rt, alloc, args, &file.model, files, notes);
-            if notes.odd {
-                notes.findings = finding_lines(alloc, args, &file);
-            }
+            note_findings(alloc, args, &file, notes);
             notes.files.model = file.notes;
             notes.files.read = Some(file.model);
             made

@@ -1,6 +1,7 @@
 //! What is odd about the model of a table, where its tests show that there may be something.
 ghost use Rattle.std.specs.Prelude.{◌<◌, length};
 
+use crate::notes::Notes;
 use cov_model::{Literal, ParamNo, Rel, Rows, Term, TestModel, ValueNo};
 use finding_words::add_line;
 use jeldroft_args::Generate;
@@ -160,11 +161,13 @@ pub(crate) fn may_be_odd(alloc: Global, args: &Generate, model: &TestModel, test
     }
 }
 
-/// The lines that tell of the model of a file that it has no test, which values are in none, and which comparisons are with
-/// what is no value. None where memory was refused.
-pub(crate) fn finding_lines(alloc: Global, args: &Generate, file: &ModelText) -> Vec<u8> {
-    match lines_of(alloc, args, file) {
-        Ok(lines) => lines,
-        Err(NoMemory) => Vec::new(alloc),
+/// Keeps the lines that tell of the model of a file that it has no test, which values are in none, and which comparisons are
+/// with what is no value, where there may be some. None where memory was refused.
+pub(crate) fn note_findings(alloc: Global, args: &Generate, file: &ModelText, notes: &mut Notes) {
+    if !notes.odd {
+        return;
+    }
+    if let Ok(lines) = lines_of(alloc, args, file) {
+        notes.findings = lines;
     }
 }
